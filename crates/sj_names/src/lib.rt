@@ -24,6 +24,6 @@ pub use lists::Items;
 pub use local_names::{LabelName, LocalName};
 pub use memory::{NameError, NoMemory};
 pub use method_names::{Member, MethodName, Namespace};
-pub use references::{BaseRef, TypeRef};
+pub use references::{ArrayRef, BaseRef, TypeRef};
 pub use simple_names::{FieldName, SimpleName};
 pub use texts::{Bytes, Text};

@@ -4,7 +4,7 @@ ghost use Rattle.std.specs.Prelude.{◌≡◌, ◌↔◌, IfOk, IsTrue};
 use crate::ClassName;
 use std::alloc::AllocError;
 
-/// A reference to a type. `Array` has the number of dimensions and the base.
+/// A reference to a type.
 #[derive(Drop)]
 pub enum TypeRef {
     Void,
@@ -15,7 +15,14 @@ pub enum TypeRef {
     Int,
     Long,
     Class(ClassName),
-    Array(u8, BaseRef),
+    Array(ArrayRef),
+}
+
+/// A reference to an array type: how many dimensions it has, 1 to 255, and what it has at the bottom.
+#[derive(Drop)]
+pub struct ArrayRef {
+    pub dimensions: u8,
+    pub base: BaseRef,
 }
 
 /// The base of an array: a reference that is neither an array nor `Void`.
@@ -44,7 +51,7 @@ impl TypeRef {
             TypeRef::Int => TypeRef::Int,
             TypeRef::Long => TypeRef::Long,
             TypeRef::Class(name) => TypeRef::Class(name.copied()?),
-            TypeRef::Array(dimensions, base) => TypeRef::Array(*dimensions, base.copied()?),
+            TypeRef::Array(array) => TypeRef::Array(array.copied()?),
         })
     }
 
@@ -61,11 +68,28 @@ impl TypeRef {
             (TypeRef::Int, TypeRef::Int) => true,
             (TypeRef::Long, TypeRef::Long) => true,
             (TypeRef::Class(one), TypeRef::Class(another)) => one.is_same(another),
-            (TypeRef::Array(one, base), TypeRef::Array(another, other_base)) => {
-                *one == *another && base.is_same(other_base)
-            }
+            (TypeRef::Array(one), TypeRef::Array(another)) => one.is_same(another),
             _ => false,
         }
+    }
+}
+
+impl ArrayRef {
+    /// The same reference once more.
+    pub fn copied(&self) -> Result<ArrayRef, AllocError>
+        ensures { IfOk result (λ r. r ≡ self.now) }
+    {
+        Ok(ArrayRef {
+            dimensions: self.dimensions,
+            base: self.base.copied()?,
+        })
+    }
+
+    /// Whether both are the same reference.
+    pub fn is_same(&self, other: &ArrayRef) -> bool
+        ensures { IsTrue result ↔ (self.now ≡ other.now) }
+    {
+        self.dimensions == other.dimensions && self.base.is_same(&other.base)
     }
 }
 
