@@ -1,7 +1,7 @@
 // What the calls answer.
 ghost use Rattle.std.specs.Prelude.{◌≡◌};
 
-use sj_names::{NoMemory, Text};
+use sj_names::{Bytes, NoMemory, Text};
 use std::alloc::{AllocError, AllocFailed};
 use thiserror::Error;
 
@@ -51,4 +51,13 @@ impl From<NoMemory> for OutsideError {
 pub struct Entry {
     pub name: Text,
     pub is_folder: bool,
+}
+
+/// A file that was put: the folder `out`, the number of the edit, the file's name and its bytes.
+#[derive(Drop)]
+pub struct PutFile {
+    pub out: Text,
+    pub edit: u32,
+    pub name: Text,
+    pub bytes: Bytes,
 }

@@ -5,11 +5,17 @@
 #![tactic(auto)]
 
 mod answers;
+mod calls;
 mod folders;
 mod lines;
+mod lines_in_memory;
 mod outputs;
+mod outputs_in_memory;
 
-pub use answers::{Entry, OutsideError};
+pub use answers::{Entry, OutsideError, PutFile};
+pub use calls::Calls;
 pub use folders::Folders;
 pub use lines::Lines;
+pub use lines_in_memory::LinesInMemory;
 pub use outputs::Outputs;
+pub use outputs_in_memory::OutputsInMemory;

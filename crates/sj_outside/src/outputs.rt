@@ -1,7 +1,8 @@
 // The files that are written.
 ghost use Rattle.std.specs.Prelude.{◌≡◌, ℕ, List, [], ◌∷◌, Option, OnOk, OnErr};
+ghost use Rattle.sj_outside.specs.declared.answers.PutFile.{PutFile};
 ghost use Rattle.sj_outside.specs.Faults.{HasCause};
-ghost use Rattle.sj_outside.specs.Writing.{Appends, Written};
+ghost use Rattle.sj_outside.specs.Writing.{Appends};
 
 use crate::OutsideError;
 use std::alloc::Global;
@@ -10,7 +11,7 @@ use std::alloc::Global;
 ///
 /// `puts` is the list of the files that an object holds, where it tells that. `faults` counts what failed, and never falls.
 pub trait Outputs {
-    ghost puts: { Self → Option (List Written) };
+    ghost puts: { Self → Option (List PutFile) };
 
     ghost faults: { Self → ℕ };
 
@@ -25,8 +26,8 @@ pub trait Outputs {
         name: &str,
         bytes: &[u8],
     ) -> Result<(), OutsideError>
-        ensures put { let written : Written = record { out = out.now; edit = edit; name = name.now; bytes = bytes.now } in
-            OnOk result (Appends (puts self.old) (puts self.new) (written ∷ [])) }
+        ensures put { let file : PutFile = record { out = out.now; edit = edit; name = name.now; bytes = bytes.now } in
+            OnOk result (Appends (puts self.old) (puts self.new) (file ∷ [])) }
         ensures unchanged { OnErr result (Appends (puts self.old) (puts self.new) []) }
         ensures cause { HasCause (faults self.old) (faults self.new) result };
 }
