@@ -1,0 +1,5 @@
+pub mod Contents
+pub mod Faults
+pub mod InMemory
+pub mod Reading
+pub mod Writing

@@ -1,0 +1,21 @@
+//! The outside of the linker: the folders that it reads, the files that it writes and the lines that it prints.
+//!
+//! Each is a trait. It has a form in memory, whose calls can be made to fail, and an adapter over real files or standard
+//! output.
+#![tactic(auto)]
+
+mod answers;
+mod calls;
+mod folders;
+mod lines;
+mod lines_in_memory;
+mod outputs;
+mod outputs_in_memory;
+
+pub use answers::{Entry, OutsideError, PutFile};
+pub use calls::Calls;
+pub use folders::Folders;
+pub use lines::Lines;
+pub use lines_in_memory::LinesInMemory;
+pub use outputs::Outputs;
+pub use outputs_in_memory::OutputsInMemory;
