@@ -2,4 +2,6 @@ pub mod Code
 pub mod Erase
 pub mod Operators
 pub mod Term
+pub mod TypeOf
+pub mod Types
 pub mod View

@@ -9,6 +9,7 @@ mod operators;
 mod positions;
 mod trees;
 mod types;
+mod typing;
 
 pub use bodies::Body;
 pub use classes::{ClassDef, ClassKind, FieldDef, MethodDef, ParamDef};
@@ -16,3 +17,4 @@ pub use operators::{BinaryOp, UnaryOp};
 pub use positions::Position;
 pub use trees::{MatchCase, Tree};
 pub use types::IrType;
+pub use typing::type_of;

@@ -1,6 +1,9 @@
 // The operators of the IR, each with the code that stands for it in a file.
 ghost use Rattle.std.specs.Prelude.{◌≡◌};
 ghost use Rattle.sj_trees.specs.Operators.{unary_code, unary_with, binary_code, binary_with};
+ghost use Rattle.sj_trees.specs.TypeOf.{unary_result, binary_result};
+
+use crate::IrType;
 
 /// An operator with one operand.
 #[derive(Clone, Copy, Debug, PartialEq, Eq)]
@@ -77,6 +80,21 @@ impl UnaryOp {
         self as u8
     }
 
+    /// The type of what the operator gives.
+    pub fn result_type(self) -> IrType
+        ensures { result ≡ unary_result self }
+    {
+        match self {
+            UnaryOp::BooleanNot => IrType::Boolean,
+            UnaryOp::CharToInt | UnaryOp::ByteToInt | UnaryOp::ShortToInt | UnaryOp::LongToInt =>
+                IrType::Int,
+            UnaryOp::IntToLong => IrType::Long,
+            UnaryOp::IntToChar => IrType::Char,
+            UnaryOp::IntToByte => IrType::Byte,
+            UnaryOp::IntToShort => IrType::Short,
+        }
+    }
+
     /// The operator that has this code; None where none has.
     pub fn from_code(code: u8) -> Option<UnaryOp>
         ensures { result ≡ unary_with code }
@@ -102,6 +120,55 @@ impl BinaryOp {
         ensures { result ≡ binary_code self }
     {
         self as u8
+    }
+
+    /// The type of what the operator gives.
+    pub fn result_type(self) -> IrType
+        ensures { result ≡ binary_result self }
+    {
+        match self {
+            BinaryOp::StrictEqual
+            | BinaryOp::StrictNotEqual
+            | BinaryOp::BooleanEqual
+            | BinaryOp::BooleanNotEqual
+            | BinaryOp::BooleanOr
+            | BinaryOp::BooleanAnd
+            | BinaryOp::IntEqual
+            | BinaryOp::IntNotEqual
+            | BinaryOp::IntLess
+            | BinaryOp::IntLessOrEqual
+            | BinaryOp::IntGreater
+            | BinaryOp::IntGreaterOrEqual
+            | BinaryOp::LongEqual
+            | BinaryOp::LongNotEqual
+            | BinaryOp::LongLess
+            | BinaryOp::LongLessOrEqual
+            | BinaryOp::LongGreater
+            | BinaryOp::LongGreaterOrEqual => IrType::Boolean,
+            BinaryOp::StringConcatenate => IrType::String,
+            BinaryOp::IntAdd
+            | BinaryOp::IntSubtract
+            | BinaryOp::IntMultiply
+            | BinaryOp::IntDivide
+            | BinaryOp::IntRemainder
+            | BinaryOp::IntOr
+            | BinaryOp::IntAnd
+            | BinaryOp::IntXor
+            | BinaryOp::IntShiftLeft
+            | BinaryOp::IntShiftRightLogical
+            | BinaryOp::IntShiftRightArithmetic => IrType::Int,
+            BinaryOp::LongAdd
+            | BinaryOp::LongSubtract
+            | BinaryOp::LongMultiply
+            | BinaryOp::LongDivide
+            | BinaryOp::LongRemainder
+            | BinaryOp::LongOr
+            | BinaryOp::LongAnd
+            | BinaryOp::LongXor
+            | BinaryOp::LongShiftLeft
+            | BinaryOp::LongShiftRightLogical
+            | BinaryOp::LongShiftRightArithmetic => IrType::Long,
+        }
     }
 
     /// The operator that has this code; None where none has.
