@@ -1,0 +1,2 @@
+pub mod TermLists
+pub mod WorkingLists
