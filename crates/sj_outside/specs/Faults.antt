@@ -20,3 +20,13 @@ IsMissing true old new (Err Failed) = Rose old new
 IsMissing true old new (Err NoMemory) = new ≡ old
 IsMissing true old new (Ok value) = new ≡ old
 IsMissing false old new result = new ≡ old
+
+-- a count of faults after this error: one more where the call failed
+abbrev pub raised_by : OutsideError → ℕ → ℕ
+raised_by Failed count = raised count
+raised_by NoMemory count = count
+
+-- a count of faults after a call
+abbrev pub faults_after : {T : Type 0} → Result T OutsideError → ℕ → ℕ
+faults_after (Ok value) count = count
+faults_after (Err error) count = raised_by error count

@@ -11,6 +11,10 @@ mod lines;
 mod lines_in_memory;
 mod outputs;
 mod outputs_in_memory;
+mod real;
+mod real_folders;
+mod real_lines;
+mod real_outputs;
 
 pub use answers::{Entry, OutsideError, PutFile};
 pub use calls::Calls;
@@ -19,3 +23,6 @@ pub use lines::Lines;
 pub use lines_in_memory::LinesInMemory;
 pub use outputs::Outputs;
 pub use outputs_in_memory::OutputsInMemory;
+pub use real_folders::{MOST_ENTRIES, RealFolders};
+pub use real_lines::RealLines;
+pub use real_outputs::RealOutputs;
