@@ -1,1 +1,2 @@
 pub mod Increasing
+pub mod Fronts

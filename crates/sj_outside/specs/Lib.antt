@@ -4,3 +4,4 @@ pub mod InMemory
 pub mod Increasing
 pub mod Reading
 pub mod Writing
+pub mod View
