@@ -5,3 +5,4 @@ pub mod Increasing
 pub mod Reading
 pub mod Writing
 pub mod View
+pub mod Holding

@@ -6,6 +6,7 @@
 
 mod answers;
 mod calls;
+mod contents;
 mod folders;
 mod folders_in_memory;
 mod lines;
@@ -20,6 +21,7 @@ mod real_outputs;
 
 pub use answers::{Entry, OutsideError, PutFile};
 pub use calls::Calls;
+pub use contents::Contents;
 pub use folders::Folders;
 pub use folders_in_memory::FoldersInMemory;
 pub use lines::Lines;

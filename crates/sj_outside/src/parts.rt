@@ -87,7 +87,7 @@ pub fn found_at<'a>(parts: &'a [Part], path: &str) -> Option<Found<'a>>
     Some(found)
 }
 
-/// How `parts` are listed.
+/// How `parts` are listed, where each folder has names, each of them once.
 #[tactic(auto, using(std::proofs::lemmas::Grind::common_steps, crate::proofs::Fronts::fronts))]
 pub fn entries(alloc: Global, parts: &[Part]) -> Result<Vec<Entry>, NoMemory>
     ensures { IfOk result (λ v. v.items ≡ entries_of (parts_view parts.now)) }
