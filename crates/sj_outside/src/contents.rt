@@ -27,6 +27,7 @@ impl Contents {
     }
 
     /// The parts of the folder at `path`, if one is held there.
+    #[tactic(auto, using(std::proofs::lemmas::Grind::common_steps, crate::proofs::Wellness::wellness))]
     pub(crate) fn folder_at(&self, path: &str) -> Option<&[Part]>
         ensures parts { option_map (λ r. parts_view r.now) result ≡ folder_at (contents_view self.now) path.now }
         ensures well { IfSome result (λ r. IsTrue (is_well (parts_view r.now))) }

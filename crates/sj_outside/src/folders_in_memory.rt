@@ -55,6 +55,7 @@ impl Folders for FoldersInMemory {
     ghost untold = { λ s h. Prim.cc };
 
     /// `Failed` exactly where the call's number is among those that are to fail, or no folder is held at `path`.
+    #[tactic(auto, using(std::proofs::lemmas::Grind::common_steps, crate::proofs::Wellness::wellness))]
     fn list(&mut self, alloc: Global, path: &str) -> Result<Vec<Entry>, OutsideError>
         ensures same { contents_view self.new.contents ≡ contents_view self.old.contents }
         ensures entries { IfOk result (λ v. Lists (Some (contents_view self.old.contents)) path.now v.items) }
