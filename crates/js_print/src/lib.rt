@@ -2,4 +2,5 @@
 #![tactic(auto)]
 
 mod expressions;
+mod statements;
 mod writing;

@@ -1,7 +1,7 @@
 // What puts bytes behind those that are there.
-ghost use Rattle.std.specs.Prelude.{◌≡◌, ◌++◌, ℤ, pos, OnOk, codes, decimal};
+ghost use Rattle.std.specs.Prelude.{◌≡◌, ◌∷◌, OnOk, codes, decimal};
 ghost use Rattle.js_tree.specs.Written.{put, put_each, put_separated, put_more, indent};
-ghost use Rattle.js_tree.specs.Texts.{put_integer, put_number, put_big, put_boolean, put_unit, put_text, put_name};
+ghost use Rattle.js_tree.specs.Texts.{put_integer, put_number, put_big, put_boolean, put_unit, put_text, put_name, put_key, put_keys, put_parameters};
 ghost use Rattle.js_tree.specs.Words.{unit_text, unit_escape, hex_digit};
 ghost use Rattle.std.specs.Prelude.{◌<◌};
 
@@ -147,4 +147,54 @@ fn append_more_names(out: &mut Vec<u8>, names: &[Text]) -> Result<(), NoMemory>
         append(out, name.as_str())?;
     }
     Ok(())
+}
+
+/// Appends a line feed and two spaces for each level.
+fn append_line_break(out: &mut Vec<u8>, level: usize) -> Result<(), NoMemory>
+    ensures { OnOk result (out.new.items ≡ put (10 ∷ indent level) out.old.items) }
+{
+    append(out, "\n")?;
+    append_indent(out, level)
+}
+
+/// Appends a key of a case.
+fn append_key(out: &mut Vec<u8>, key: i32) -> Result<(), NoMemory>
+    ensures { OnOk result (out.new.items ≡ put_key key out.old.items) }
+{
+    append(out, "case ")?;
+    append_number(out, key)?;
+    append(out, ":")
+}
+
+/// Appends the keys of a case, each on a line of this level.
+pub(crate) fn append_keys(out: &mut Vec<u8>, level: usize, keys: &[i32]) -> Result<(), NoMemory>
+    ensures { OnOk result (out.new.items ≡ put_keys level keys.now out.old.items) }
+{
+    match keys {
+        [] => Ok(()),
+        [first, others @ ..] => {
+            append_key(out, *first)?;
+            append_more_keys(out, level, others)
+        }
+    }
+}
+
+/// Appends keys, in front of each a line break.
+fn append_more_keys(out: &mut Vec<u8>, level: usize, keys: &[i32]) -> Result<(), NoMemory>
+    ensures { OnOk result (out.new.items ≡ put_more (10 ∷ indent level) put_key keys.now out.old.items) }
+{
+    for key in keys {
+        append_line_break(out, level)?;
+        append_key(out, *key)?;
+    }
+    Ok(())
+}
+
+/// Appends parameters, in parentheses.
+pub(crate) fn append_parameters(out: &mut Vec<u8>, parameters: &[Text]) -> Result<(), NoMemory>
+    ensures { OnOk result (out.new.items ≡ put_parameters parameters.now out.old.items) }
+{
+    append(out, "(")?;
+    append_names(out, parameters)?;
+    append(out, ")")
 }
