@@ -2,5 +2,9 @@
 #![tactic(auto)]
 
 mod expressions;
+mod items;
+mod modules;
 mod statements;
 mod writing;
+
+pub use modules::{print_module, print_piece};
