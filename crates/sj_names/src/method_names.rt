@@ -5,7 +5,7 @@ use crate::{ClassName, Items, SimpleName, TypeRef};
 use std::alloc::{AllocError, Global};
 
 /// A method name: its simple name, the references of its parameters and of its result. A reflective proxy has no result.
-#[derive(Drop)]
+#[derive(Drop, PartialEq, Eq, PartialOrd, Ord, Hash)]
 pub struct MethodName {
     pub simple: SimpleName,
     pub params: Items<TypeRef>,
@@ -13,7 +13,7 @@ pub struct MethodName {
 }
 
 /// Where a method of a class stands.
-#[derive(Clone, Copy, Debug, PartialEq, Eq, Hash)]
+#[derive(Clone, Copy, Debug, PartialEq, Eq, PartialOrd, Ord, Hash)]
 pub enum Namespace {
     Public,
     PublicStatic,
@@ -23,7 +23,7 @@ pub enum Namespace {
 }
 
 /// A method of a class.
-#[derive(Drop)]
+#[derive(Drop, PartialEq, Eq, PartialOrd, Ord, Hash)]
 pub struct Member {
     pub class: ClassName,
     pub namespace: Namespace,

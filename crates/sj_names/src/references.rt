@@ -5,7 +5,7 @@ use crate::ClassName;
 use std::alloc::AllocError;
 
 /// A reference to a type.
-#[derive(Drop)]
+#[derive(Drop, PartialEq, Eq, PartialOrd, Ord, Hash)]
 pub enum TypeRef {
     Void,
     Boolean,
@@ -19,14 +19,14 @@ pub enum TypeRef {
 }
 
 /// A reference to an array type: how many dimensions it has, 1 to 255, and what it has at the bottom.
-#[derive(Drop)]
+#[derive(Drop, PartialEq, Eq, PartialOrd, Ord, Hash)]
 pub struct ArrayRef {
     pub dimensions: u8,
     pub base: BaseRef,
 }
 
 /// The base of an array: a reference that is neither an array nor `Void`.
-#[derive(Drop)]
+#[derive(Drop, PartialEq, Eq, PartialOrd, Ord, Hash)]
 pub enum BaseRef {
     Boolean,
     Char,
