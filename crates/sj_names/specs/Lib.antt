@@ -1,2 +1,4 @@
 pub mod Counting
+pub mod EntryPoints
 pub mod Grammar
+pub mod Names

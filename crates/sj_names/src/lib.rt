@@ -5,6 +5,7 @@
 
 mod class_names;
 mod counters;
+mod entries;
 mod entry_points;
 mod folders;
 mod lists;
@@ -18,7 +19,8 @@ mod texts;
 
 pub use class_names::ClassName;
 pub use counters::Meter;
-pub use entry_points::EntryPoint;
+pub use entries::Entries;
+pub use entry_points::{EntryPoint, is_public_id};
 pub use folders::{Folder, SourceFile};
 pub use lists::Items;
 pub use local_names::{LabelName, LocalName};
