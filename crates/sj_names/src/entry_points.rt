@@ -7,6 +7,7 @@ use crate::{ClassName, SimpleName, Text};
 use std::alloc::AllocError;
 
 const INIT: &str = "<init>";
+
 const INTERNAL: &str = "internal-";
 
 /// An initializer of a public module: the static method `method;V` of `class`.
