@@ -5,6 +5,7 @@
 
 mod class_names;
 mod counters;
+mod cuts;
 mod entries;
 mod entry_points;
 mod folders;
@@ -27,7 +28,7 @@ pub use laws::tests_decide_the_grammar;
 pub use lists::Items;
 pub use local_names::{LabelName, LocalName};
 pub use memory::{NameError, NoMemory};
-pub use method_names::{Member, MethodName, Namespace};
-pub use references::{ArrayRef, BaseRef, TypeRef};
+pub use method_names::{Member, MethodName, Namespace, is_method_name};
+pub use references::{ArrayRef, BaseRef, TypeRef, is_reference};
 pub use simple_names::{FieldName, SimpleName};
 pub use texts::{Bytes, Text};
