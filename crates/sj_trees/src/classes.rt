@@ -1,6 +1,9 @@
 // Classes and their members.
+ghost use Rattle.std.specs.Prelude.{◌≡◌, ◌↔◌, IfOk, IsTrue};
+
 use crate::{Body, IrType, Position};
 use sj_names::{ClassName, FieldName, Items, LocalName, MethodName, Namespace, Text};
+use std::alloc::AllocError;
 
 /// What a class definition defines.
 #[derive(Clone, Copy, Debug, PartialEq, Eq)]
@@ -55,4 +58,52 @@ pub struct ClassDef {
     pub interfaces: Items<ClassName>,
     pub fields: Items<FieldDef>,
     pub methods: Items<MethodDef>,
+}
+
+impl ParamDef {
+    /// The same parameter once more.
+    pub fn copied(&self) -> Result<ParamDef, AllocError>
+        ensures { IfOk result (λ p. p ≡ self.now) }
+    {
+        Ok(ParamDef {
+            name: self.name.copied()?,
+            mutable: self.mutable,
+            tpe: self.tpe.copied()?,
+        })
+    }
+
+    /// Whether both are the same parameter.
+    pub fn is_same(&self, other: &ParamDef) -> bool
+        ensures { IsTrue result ↔ (self.now ≡ other.now) }
+    {
+        self.mutable == other.mutable
+            && self.name.is_same(&other.name)
+            && self.tpe.is_same(&other.tpe)
+    }
+}
+
+impl FieldDef {
+    /// The same field once more.
+    pub fn copied(&self) -> Result<FieldDef, AllocError>
+        ensures { IfOk result (λ f. f ≡ self.now) }
+    {
+        Ok(FieldDef {
+            pos: self.pos,
+            is_static: self.is_static,
+            mutable: self.mutable,
+            name: self.name.copied()?,
+            tpe: self.tpe.copied()?,
+        })
+    }
+
+    /// Whether both are the same field, at the same position.
+    pub fn is_same(&self, other: &FieldDef) -> bool
+        ensures { IsTrue result ↔ (self.now ≡ other.now) }
+    {
+        self.pos == other.pos
+            && self.is_static == other.is_static
+            && self.mutable == other.mutable
+            && self.name.is_same(&other.name)
+            && self.tpe.is_same(&other.tpe)
+    }
 }

@@ -7,6 +7,7 @@ mod bodies;
 mod classes;
 mod operators;
 mod positions;
+mod refusals;
 mod trees;
 mod types;
 mod typing;
@@ -15,6 +16,10 @@ pub use bodies::Body;
 pub use classes::{ClassDef, ClassKind, FieldDef, MethodDef, ParamDef};
 pub use operators::{BinaryOp, UnaryOp};
 pub use positions::Position;
+pub use refusals::ReadRefusal;
 pub use trees::{MatchCase, Tree};
 pub use types::IrType;
 pub use typing::type_of;
+
+#[cfg(test)]
+mod tests;
