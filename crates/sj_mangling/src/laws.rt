@@ -1,0 +1,8 @@
+// Laws of the definitions, each the contract of a function that does nothing.
+ghost use Rattle.sj_mangling.specs.Mangling.{MangledTextsDiffer};
+
+/// Mangling is injective: two texts that are mangled alike are the same.
+pub fn mangled_texts_differ()
+    ensures { MangledTextsDiffer }
+{
+}
