@@ -6,16 +6,16 @@ use Rattle.std.proofs.lemmas.List.Elements.{All-head, All-tail}
 use Rattle.sj_mangling.specs.Mangling.{is_alphanumeric, mangled_byte, mangled, AreBytes, MangledTextsDiffer}
 
 -- the number of a hexadecimal digit
-digit_number : ℕ → ℕ
+unfoldable pub digit_number : ℕ → ℕ
 digit_number digit = if nat_lt digit 58 then digit - 48 else digit - 87
 
 -- the byte that a mangled text begins with, and the text behind it
-escaped : List ℕ → Option (ℕ × List ℕ)
+unfoldable pub escaped : List ℕ → Option (ℕ × List ℕ)
 escaped [] = None
 escaped (high ∷ []) = if high == 36 then Some (59, []) else None
 escaped (high ∷ low ∷ rest) = if high == 36 then Some (59, low ∷ rest) else Some (digit_number high * 16 + digit_number low, rest)
 
-pub unmangled : List ℕ → Option (ℕ × List ℕ)
+unfoldable pub unmangled : List ℕ → Option (ℕ × List ℕ)
 unmangled [] = None
 unmangled (byte ∷ rest) = if byte == 95 then Some (46, rest) else if byte == 36 then escaped rest else Some (byte, rest)
 
@@ -68,7 +68,7 @@ same_reading x y xs ys e =
 pub no_reading : (y : ℕ) (ys : List ℕ) → ◌≡◌ {A = Option (ℕ × List ℕ)} None (Some (y, ys)) → ⊥
 no_reading y ys e = cc
 
-same_cons : (x y : ℕ) (xs ys : List ℕ) → x ≡ y → xs ≡ ys → x ∷ xs ≡ y ∷ ys
+pub same_cons : (x y : ℕ) (xs ys : List ℕ) → x ≡ y → xs ≡ ys → x ∷ xs ≡ y ∷ ys
 same_cons x y xs ys first rest = cc
 
 pub mangled_texts_differ : MangledTextsDiffer

@@ -1,5 +1,5 @@
 // Names mangled byte by byte.
-ghost use Rattle.std.specs.Prelude.{◌≡◌, ◌++◌, ◌<◌, IfOk, OnOk};
+ghost use Rattle.std.specs.Prelude.{◌≡◌, ◌++◌, ◌∷◌, [], ◌<◌, IfOk, OnOk, string_bytes};
 ghost use Rattle.std.specs.Char.{digit_char};
 ghost use Rattle.sj_names.specs.MethodNames.{spelled_method};
 ghost use Rattle.sj_mangling.specs.Mangling as mangling;
@@ -12,11 +12,9 @@ use std::alloc::Global;
 pub fn mangle(alloc: Global, text: &str) -> Result<Vec<u8>, NoMemory>
     ensures { IfOk result (λ bytes. bytes.items ≡ mangling.mangled text.now) }
 {
-    let mut bytes = Vec::new(alloc);
-    for byte in text.as_bytes() {
-        push_mangled(&mut bytes, *byte)?;
-    }
-    Ok(bytes)
+    let mut name = String::new(alloc);
+    push_mangled(&mut name, text)?;
+    Ok(name.into_bytes())
 }
 
 /// The name of a class, mangled.
@@ -34,22 +32,47 @@ pub fn mangle_method(alloc: Global, method: &MethodName) -> Result<Vec<u8>, NoMe
     mangle(alloc, spelled.as_str())
 }
 
-// Writes a byte of a name, mangled, behind `bytes`.
-fn push_mangled(bytes: &mut Vec<u8>, byte: u8) -> Result<(), NoMemory>
-    ensures { OnOk result (bytes.new.items ≡ bytes.old.items ++ mangling.mangled_byte byte) }
+// Writes `text`, mangled, behind `name`.
+pub(crate) fn push_mangled(name: &mut String, text: &str) -> Result<(), NoMemory>
+    ensures { OnOk result (string_bytes name.new ≡ string_bytes name.old ++ mangling.mangled text.now) }
+{
+    for byte in text.as_bytes() {
+        push_mangled_byte(name, *byte)?;
+    }
+    Ok(())
+}
+
+// Writes a byte of a name, mangled, behind `name`.
+fn push_mangled_byte(name: &mut String, byte: u8) -> Result<(), NoMemory>
+    ensures { OnOk result (string_bytes name.new ≡ string_bytes name.old ++ mangling.mangled_byte byte) }
 {
     if is_alphanumeric(byte) {
-        bytes.push(byte)?;
+        push_ascii(name, byte)
     } else if byte == b'.' {
-        bytes.push(b'_')?;
+        push(name, "_")
     } else if byte == b';' {
-        bytes.push(b'$')?;
-        bytes.push(b'$')?;
+        push(name, "$$")
     } else {
-        bytes.push(b'$')?;
-        bytes.push(hexadecimal_digit(byte / 16))?;
-        bytes.push(hexadecimal_digit(byte % 16))?;
+        push(name, "$")?;
+        push_ascii(name, hexadecimal_digit(byte / 16))?;
+        push_ascii(name, hexadecimal_digit(byte % 16))
     }
+}
+
+// Writes `part` behind `name`.
+pub(crate) fn push(name: &mut String, part: &str) -> Result<(), NoMemory>
+    ensures { OnOk result (string_bytes name.new ≡ string_bytes name.old ++ part.now) }
+{
+    name.push_str(part)?;
+    Ok(())
+}
+
+// Writes an ASCII character behind `name`.
+fn push_ascii(name: &mut String, byte: u8) -> Result<(), NoMemory>
+    requires { byte < 128 }
+    ensures { OnOk result (string_bytes name.new ≡ string_bytes name.old ++ byte ∷ []) }
+{
+    name.push(char::from(byte))?;
     Ok(())
 }
 
@@ -61,7 +84,8 @@ fn is_alphanumeric(byte: u8) -> bool
 
 fn hexadecimal_digit(number: u8) -> u8
     requires { number < 16 }
-    ensures { result ≡ digit_char number }
+    ensures digit { result ≡ digit_char number }
+    ensures ascii { result < 128 }
 {
     if number < 10 { b'0' + number } else { b'a' + (number - 10) }
 }

@@ -1,11 +1,11 @@
 -- A text spells a method name exactly where it is its spelling.
-use Rattle.std.proofs.Common.{◌≡◌, ◌≢◌, ◌≤◌, ◌<◌, ◌+◌, ◌-◌, ℕ, zero, suc, Bool, true, false, List, [], ◌∷◌, ◌++◌, refl, sym, subst, cond, ap, ◌∙◌, length, arith, append_assoc, append-nil, replicate, Option, Some, None, option_map, if◌then◌else◌, MatchOption, inl, inr}
-use Rattle.std.specs.Prelude.{◌==◌, ◌&&◌, ◌||◌, nat_eq, nat_lt, codes, not, ◌↔◌}
+use Rattle.std.proofs.Common.{◌≡◌, ◌≢◌, ℕ, zero, suc, Bool, true, false, List, [], ◌∷◌, ◌++◌, refl, sym, subst, cond, ap, ◌∙◌, length, arith, append_assoc, append-nil, replicate, Option, Some, None, option_map, if◌then◌else◌, MatchOption}
+use Rattle.std.specs.Prelude.{◌==◌, ◌&&◌, ◌||◌, nat_eq, nat_lt, codes, not}
 use Rattle.std.specs.List.{flat_map, All, list_all}
 use Rattle.std.specs.Cmp.Lexicographic.{pointwise, bytes_decides}
 use Rattle.std.proofs.lemmas.Bool.{and_parts, and_from}
 use Rattle.std.proofs.lemmas.List.Elements.{All-cons, All-head, All-tail}
-use Rattle.sj_names.specs.Grammar.{is_name_byte, is_plain_name, is_simple_name, is_class_name, is_dotted}
+use Rattle.sj_names.specs.Grammar.{is_name_byte, is_plain_name, is_simple_name, is_dotted}
 use Rattle.sj_names.specs.Bases.{spelled_base, IsBase}
 use Rattle.sj_names.specs.References.{spelled, IsReference, reference_of}
 use Rattle.sj_names.specs.MethodNames.{spelled_result, spelled_parameters, spelled_method, IsParameter, IsMethodName, longer_first, parts, parameter_of, result_of, with_parameter, signature_of, method_of, method_name_of, ReadsMethodNames}
@@ -41,8 +41,9 @@ unfolding glued joined
 glued-parts [] = refl
 glued-parts (b ∷ text) =
     elim (b == 59) as (λ v. (b == 59) ≡ v → glued (cond v ([] ∷ parts text) (longer_first b (parts text))) ≡ b ∷ text) [
-      true ↦ λ is. let same : 59 ≡ b = grind arith in joined-glued (parts text) (parts-some text) ∙ ap (λ t. 59 ∷ t) (glued-parts text) ∙ ap (λ c. c ∷ text) same
-    | false ↦ λ is. glued-longer b (parts text) ∙ ap (λ t. b ∷ t) (glued-parts text) ] refl
+      | true ↦ λ is. let same : 59 ≡ b = grind arith in joined-glued (parts text) (parts-some text) ∙ ap (λ t. 59 ∷ t) (glued-parts text) ∙ ap (λ c. c ∷ text) same
+      | false ↦ λ is. glued-longer b (parts text) ∙ ap (λ t. b ∷ t) (glued-parts text)
+    ] refl
 
 -- a result and the text that spells it
 abbrev IsResult : Option TypeRef → List ℕ → Type 0
@@ -51,19 +52,20 @@ IsResult outcome text = MatchOption outcome (Unit {0}) IsReference × (spelled_r
 read_result : (text : List ℕ) (outcome : Option TypeRef) → result_of text ≡ Some outcome → IsResult outcome text
 read_result text outcome e =
     elim (pointwise nat_eq text (codes "R")) as (λ v. pointwise nat_eq text (codes "R") ≡ v → (if v then Some None else option_map (λ r. Some r) (reference_of text)) ≡ Some outcome → IsResult outcome text) [
-      true ↦ λ is h. let same : None ≡ outcome = cc in subst (λ o. IsResult o text) same (tt, sym ((bytes_decides text (codes "R")).0 is))
-    | false ↦ λ is h. elim (reference_of text) as (λ v. reference_of text ≡ v → option_map (λ r. Some r) v ≡ Some outcome → IsResult outcome text) [
-          None ↦ λ none k. absurd (cc)
-        | Some r ↦ λ found k. let same : Some r ≡ outcome = cc in subst (λ o. IsResult o text) same ((reads_references text r).0 found) ] refl h
+      | true ↦ λ is h. let same : None ≡ outcome = cc in subst (λ o. IsResult o text) same (tt, sym ((bytes_decides text (codes "R")).0 is))
+      | false ↦ λ is h. elim (reference_of text) as (λ v. reference_of text ≡ v → option_map (λ r. Some r) v ≡ Some outcome → IsResult outcome text) [
+        | None ↦ λ none k. absurd (cc)
+        | Some r ↦ λ found k. let same : Some r ≡ outcome = cc in subst (λ o. IsResult o text) same ((reads_references text r).0 found)
+      ] refl h
     ] refl e
 
 read_parameter : (text : List ℕ) (p : TypeRef) → parameter_of text ≡ Some p → IsParameter p × (spelled p ≡ text)
 read_parameter text p e =
     elim (pointwise nat_eq text (codes "V")) as (λ v. pointwise nat_eq text (codes "V") ≡ v → (if v then None else reference_of text) ≡ Some p → IsParameter p × (spelled p ≡ text)) [
-      true ↦ λ is h. absurd (cc)
-    | false ↦ λ is h.
-        let known = (reads_references text p).0 h in
-        ((known.0, λ void. let letter : text ≡ codes "V" = sym known.1 ∙ ap spelled void in let test = (bytes_decides text (codes "V")).1 letter in cc), known.1)
+      | true ↦ λ is h. absurd (cc)
+      | false ↦ λ is h.
+          let known = (reads_references text p).0 h in
+          ((known.0, λ void. let letter : text ≡ codes "V" = sym known.1 ∙ ap spelled void in let test = (bytes_decides text (codes "V")).1 letter in cc), known.1)
     ] refl e
 
 -- parameters and a result, and the parts that spell them
@@ -113,19 +115,22 @@ unfolding glued
 read_method [] method e = absurd (cc)
 read_method (simple ∷ others) method e =
     elim (is_simple_name simple) as (λ v. is_simple_name simple ≡ v → (if v then option_map (whole simple) (signature_of others) else None) ≡ Some method → IsMethodText method (simple ++ joined others)) [
-      true ↦ λ is h. by_signature is (signature_of others) refl h
-    | false ↦ λ is h. absurd (cc) ] refl e
+      | true ↦ λ is h. by_signature is (signature_of others) refl h
+      | false ↦ λ is h. absurd (cc)
+    ] refl e
   where
     whole : List ℕ → List TypeRef × Option TypeRef → MethodName
     whole simple x = record { simple = simple; params = x.0; result = x.1 }
+
     by_signature : is_simple_name simple ≡ true → (found : Option (List TypeRef × Option TypeRef)) → signature_of others ≡ found → option_map (whole simple) found ≡ Some method → IsMethodText method (simple ++ joined others)
     by_signature is None none h = absurd (cc)
     by_signature is (Some x) found h =
         let same : whole simple x ≡ method = cc in
         let known = read_signature others x found in
-        subst (λ m. IsMethodText m (simple ++ joined others)) same
-            (record { simple = is; params = known.params; result = known.result },
-             append_assoc simple (spelled_parameters x.0) (59 ∷ spelled_result x.1) ∙ ap (λ t. simple ++ t) known.text)
+        subst (λ m. IsMethodText m (simple ++ joined others)) same (
+          record { simple = is; params = known.params; result = known.result },
+          append_assoc simple (spelled_parameters x.0) (59 ∷ spelled_result x.1) ∙ ap (λ t. simple ++ t) known.text,
+        )
 
 -- no spelling holds a semicolon
 lacks_semicolon : List ℕ → Bool
@@ -150,15 +155,17 @@ unfolding lacks_semicolon
 dotted_lacks begun [] e = refl
 dotted_lacks begun (b ∷ bs) e =
     elim (b == 46) as (λ v. (b == 46) ≡ v → cond v (begun && is_dotted false bs) (is_name_byte b && is_dotted true bs) ≡ true → lacks_semicolon (b ∷ bs) ≡ true) [
-      true ↦ λ is h. let other : not (b == 59) ≡ true = grind arith in and_from (not (b == 59)) (lacks_semicolon bs) other (dotted_lacks false bs (and_parts begun (is_dotted false bs) h).1)
-    | false ↦ λ is h. let parts = and_parts (is_name_byte b) (is_dotted true bs) h in and_from (not (b == 59)) (lacks_semicolon bs) (name_byte_lacks b parts.0) (dotted_lacks true bs parts.1) ] refl e
+      | true ↦ λ is h. let other : not (b == 59) ≡ true = grind arith in and_from (not (b == 59)) (lacks_semicolon bs) other (dotted_lacks false bs (and_parts begun (is_dotted false bs) h).1)
+      | false ↦ λ is h. let parts = and_parts (is_name_byte b) (is_dotted true bs) h in and_from (not (b == 59)) (lacks_semicolon bs) (name_byte_lacks b parts.0) (dotted_lacks true bs parts.1)
+    ] refl e
 
 simple_lacks : (bs : List ℕ) → is_simple_name bs ≡ true → lacks_semicolon bs ≡ true
 unfolding lacks_semicolon
 simple_lacks bs e =
     elim (is_plain_name bs) as (λ v. is_plain_name bs ≡ v → (v || pointwise nat_eq bs (codes "<init>")) ≡ true → lacks_semicolon bs ≡ true) [
-      true ↦ λ is h. plain_lacks bs (and_parts (nat_lt 0 (length bs)) (list_all is_name_byte bs) is).1
-    | false ↦ λ is h. subst (λ t. lacks_semicolon t ≡ true) (sym ((bytes_decides bs (codes "<init>")).0 h)) refl ] refl e
+      | true ↦ λ is h. plain_lacks bs (and_parts (nat_lt 0 (length bs)) (list_all is_name_byte bs) is).1
+      | false ↦ λ is h. subst (λ t. lacks_semicolon t ≡ true) (sym ((bytes_decides bs (codes "<init>")).0 h)) refl
+    ] refl e
 
 array_lacks : (n : ℕ) (b : BaseRef) → IsBase b → lacks_semicolon (replicate n 91 ++ spelled_base b) ≡ true
 unfolding lacks_semicolon
@@ -270,6 +277,7 @@ method_name_of-spelled method is =
     whole x = record { simple = method.simple; params = x.0; result = x.1 }
 
 pub reads_method_names : ReadsMethodNames
-reads_method_names text method =
-    ((λ e. let known = read_method (parts text) method e in (known.0, known.1 ∙ glued-parts text)),
-     (λ is. subst (λ t. method_name_of t ≡ Some method) is.1 (method_name_of-spelled method is.0)))
+reads_method_names text method = (
+  (λ e. let known = read_method (parts text) method e in (known.0, known.1 ∙ glued-parts text)),
+  (λ is. subst (λ t. method_name_of t ≡ Some method) is.1 (method_name_of-spelled method is.0)),
+)

@@ -1,15 +1,15 @@
 -- A text spells a reference exactly where it is its spelling.
-use Rattle.std.proofs.Common.{◌≡◌, ◌≢◌, ◌≤◌, ◌<◌, ◌+◌, ◌-◌, ℕ, zero, suc, Bool, true, false, List, [], ◌∷◌, ◌++◌, refl, sym, subst, cond, ap, ◌∙◌, length, arith, replicate, length-append, Option, Some, None, option_map, if◌then◌else◌}
-use Rattle.std.specs.Prelude.{◌==◌, ◌&&◌, nat_eq, nat_lt, codes, ◌↔◌}
+use Rattle.std.proofs.Common.{◌≡◌, ◌≤◌, ◌-◌, ℕ, zero, suc, true, false, List, [], ◌∷◌, ◌++◌, refl, sym, subst, cond, ap, ◌∙◌, length, arith, replicate, length-append, Option, Some, None, option_map, if◌then◌else◌}
+use Rattle.std.specs.Prelude.{◌==◌, nat_eq, nat_lt, codes}
 use Rattle.std.proofs.lemmas.List.{length-replicate}
 use Rattle.std.specs.Cmp.Lexicographic.{pointwise, bytes_decides}
 use Rattle.sj_names.specs.Bases.{spelled_base, IsBase, base_of}
-use Rattle.sj_names.specs.References.{spelled, spelled_array, IsReference, behind_dimensions, dimensions, base_itself, reference, reference_of, ReadsReferences}
+use Rattle.sj_names.specs.References.{spelled, IsReference, behind_dimensions, dimensions, reference, reference_of, ReadsReferences}
 use Rattle.sj_names.specs.declared.references.BaseRef.{BaseRef}
 use Rattle.sj_names.specs.declared.references.BaseRef.TheVariants as base
 use Rattle.sj_names.specs.declared.references.TypeRef.{TypeRef}
 use Rattle.sj_names.specs.declared.references.TypeRef.TheVariants.{Void, Boolean, Char, Byte, Short, Int, Long, Class, Array}
-use Rattle.sj_names.proofs.ReadBases.{IsSpelling, spelling-base_of, base_of-spelled_base}
+use Rattle.sj_names.proofs.ReadBases.{spelling-base_of, base_of-spelled_base}
 
 -- the dimensions and the text behind them
 behind-shorter : (text : List ℕ) → length (behind_dimensions text) ≤ length text
@@ -20,14 +20,15 @@ text-dimensions : (text : List ℕ) → replicate (dimensions text) 91 ++ behind
 text-dimensions [] = refl
 text-dimensions (b ∷ text) =
     elim (b == 91) as (λ v. (b == 91) ≡ v → replicate (suc (length text) - length (cond v (behind_dimensions text) (b ∷ text))) 91 ++ cond v (behind_dimensions text) (b ∷ text) ≡ b ∷ text) [
-      true ↦ λ is.
-        let shorter = behind-shorter text in
-        let more : suc (length text) - length (behind_dimensions text) ≡ suc (dimensions text) = omega arith in
-        let same : 91 ≡ b = grind arith in
-        ap (λ n. replicate n 91 ++ behind_dimensions text) more ∙ ap (λ bs. 91 ∷ bs) (text-dimensions text) ∙ ap (λ c. c ∷ text) same
-    | false ↦ λ is.
-        let none : suc (length text) - suc (length text) ≡ 0 = omega arith in
-        ap (λ n. replicate n 91 ++ (b ∷ text)) none ] refl
+      | true ↦ λ is.
+          let shorter = behind-shorter text in
+          let more : suc (length text) - length (behind_dimensions text) ≡ suc (dimensions text) = omega arith in
+          let same : 91 ≡ b = grind arith in
+          ap (λ n. replicate n 91 ++ behind_dimensions text) more ∙ ap (λ bs. 91 ∷ bs) (text-dimensions text) ∙ ap (λ c. c ∷ text) same
+      | false ↦ λ is.
+          let none : suc (length text) - suc (length text) ≡ 0 = omega arith in
+          ap (λ n. replicate n 91 ++ (b ∷ text)) none
+    ] refl
 
 behind-spelled_base : (n : ℕ) (b : BaseRef) → behind_dimensions (replicate n 91 ++ spelled_base b) ≡ spelled_base b
 behind-spelled_base zero base.Boolean = refl
@@ -70,17 +71,19 @@ of_base text r few (Some b) is e =
     let same : reference (dimensions text) b ≡ r = cc in
     let known = spelling-base_of (behind_dimensions text) b is in
     let bound : dimensions text ≤ 255 = grind arith in
-    subst (λ x. IsSpelled x text) same
-        (IsReference-reference (dimensions text) b bound known.is_base,
-         spelled-reference (dimensions text) b ∙ ap (λ bs. replicate (dimensions text) 91 ++ bs) known.is_text ∙ text-dimensions text)
+    subst (λ x. IsSpelled x text) same (
+      IsReference-reference (dimensions text) b bound known.is_base,
+      spelled-reference (dimensions text) b ∙ ap (λ bs. replicate (dimensions text) 91 ++ bs) known.is_text ∙ text-dimensions text,
+    )
 
 read : (text : List ℕ) (r : TypeRef) → reference_of text ≡ Some r → IsSpelled r text
 read text r e =
     elim (pointwise nat_eq text (codes "V")) as (λ v. pointwise nat_eq text (codes "V") ≡ v → (if v then Some Void else if nat_lt 255 (dimensions text) then None else option_map (reference (dimensions text)) (base_of (behind_dimensions text))) ≡ Some r → IsSpelled r text) [
-      true ↦ λ is h. let same : Void ≡ r = cc in subst (λ x. IsSpelled x text) same (tt, sym ((bytes_decides text (codes "V")).0 is))
-    | false ↦ λ is h. elim (nat_lt 255 (dimensions text)) as (λ v. nat_lt 255 (dimensions text) ≡ v → (if v then None else option_map (reference (dimensions text)) (base_of (behind_dimensions text))) ≡ Some r → IsSpelled r text) [
-          true ↦ λ many k. absurd (cc)
-        | false ↦ λ few k. of_base text r few (base_of (behind_dimensions text)) refl k ] refl h
+      | true ↦ λ is h. let same : Void ≡ r = cc in subst (λ x. IsSpelled x text) same (tt, sym ((bytes_decides text (codes "V")).0 is))
+      | false ↦ λ is h. elim (nat_lt 255 (dimensions text)) as (λ v. nat_lt 255 (dimensions text) ≡ v → (if v then None else option_map (reference (dimensions text)) (base_of (behind_dimensions text))) ≡ Some r → IsSpelled r text) [
+        | true ↦ λ many k. absurd (cc)
+        | false ↦ λ few k. of_base text r few (base_of (behind_dimensions text)) refl k
+      ] refl h
     ] refl e
 
 pub not_void : (n : ℕ) (b : BaseRef) → pointwise nat_eq (replicate n 91 ++ spelled_base b) (codes "V") ≡ false

@@ -1,5 +1,5 @@
 -- The parameters that stand before a semicolon.
-use Rattle.std.proofs.Common.{◌≡◌, ◌≢◌, ◌<◌, ◌+◌, ℕ, Bool, true, false, List, [], ◌∷◌, ◌++◌, refl, sym, subst, cond, ap, ◌∙◌, length, arith, append_assoc, Option, Some, None, is_some, option_map}
+use Rattle.std.proofs.Common.{◌≡◌, ◌≢◌, ℕ, Bool, true, false, List, [], ◌∷◌, ◌++◌, refl, sym, cond, ap, ◌∙◌, arith, append_assoc, Option, Some, None, is_some, option_map}
 use Rattle.std.specs.Prelude.{◌==◌}
 use Rattle.sj_names.specs.References.{behind_dimensions}
 use Rattle.sj_names.specs.MethodNames.{parts, longer_first, signature_of, with_parameter, parameter_of}

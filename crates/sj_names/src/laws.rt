@@ -11,11 +11,9 @@ pub fn tests_decide_the_grammar()
 /// A text spells a reference exactly where it is the spelling of that reference.
 pub fn reads_references()
     ensures { ReadsReferences }
-{
-}
+{}
 
 /// A text spells a method name exactly where it is the spelling of that name. So no two names have one spelling.
 pub fn reads_method_names()
     ensures { ReadsMethodNames }
-{
-}
+{}
