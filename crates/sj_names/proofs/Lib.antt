@@ -1,4 +1,7 @@
 pub mod Locals
 pub mod NameGrammar
 pub mod Parts
+pub mod ReadBases
+pub mod ReadMethodNames
+pub mod ReadReferences
 pub mod Signatures

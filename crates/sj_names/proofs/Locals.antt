@@ -1,6 +1,6 @@
 -- A plain name is the name of a local.
-use Rattle.std.proofs.Common.{◌≡◌, ℕ, true, List, [], ◌∷◌, refl, subst, sym, cond, ap, ◌∙◌}
-use Rattle.std.specs.Prelude.{◌&&◌, length, nat_lt, ◌==◌, Bool}
+use Rattle.std.proofs.Common.{◌≡◌, ℕ, true, List, [], ◌∷◌, refl, cond, ap, ◌∙◌}
+use Rattle.std.specs.Prelude.{◌&&◌, length, nat_lt, ◌==◌}
 use Rattle.std.specs.List.{list_all}
 use Rattle.std.proofs.lemmas.Bool.{and_parts, and_from}
 use Rattle.sj_names.specs.Grammar.{is_name_byte, is_plain_name, is_local_name, is_inner_rest, in_name, one_slash}

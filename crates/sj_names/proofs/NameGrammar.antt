@@ -1,6 +1,6 @@
 -- The tests of names decide the grammar of names.
-use Rattle.std.proofs.Common.{◌≡◌, ◌≢◌, ◌≤◌, ◌<◌, ◌+◌, ℕ, Bool, true, false, List, [], ◌∷◌, ◌++◌, refl, subst, sym, cond, ap, ◌∙◌, length, arith, append_assoc, append-nil, inl, inr, IsTrue, Option, Some, None, if◌then◌else◌}
-use Rattle.std.specs.Prelude.{◌&&◌, ◌||◌, nat_lt, nat_le, not, ◌==◌, ◌↔◌, ◌⊎◌, codes, nat_eq}
+use Rattle.std.proofs.Common.{◌≡◌, ◌≢◌, ℕ, Bool, true, false, List, [], ◌∷◌, ◌++◌, refl, subst, sym, cond, ap, ◌∙◌, length, arith, append_assoc, append-nil, inl, inr, Option, Some, None, if◌then◌else◌}
+use Rattle.std.specs.Prelude.{◌&&◌, ◌||◌, nat_lt, ◌==◌, codes, nat_eq}
 use Rattle.std.specs.List.{list_all, All}
 use Rattle.std.specs.Cmp.Lexicographic.{pointwise, bytes_decides}
 use Rattle.std.proofs.lemmas.Bool.{and_parts, and_from}

@@ -1,5 +1,5 @@
 -- The parts of a text between its semicolons.
-use Rattle.std.proofs.Common.{◌≡◌, ◌≢◌, ◌<◌, ◌+◌, ℕ, suc, Bool, true, false, List, [], ◌∷◌, ◌++◌, refl, sym, cond, ap, ◌∙◌, length, arith, length-append, get_or, Option, Some, None, MatchOption, Bor}
+use Rattle.std.proofs.Common.{◌≡◌, ◌≢◌, ◌<◌, ℕ, suc, false, List, [], ◌∷◌, ◌++◌, refl, ap, ◌∙◌, length, arith, length-append, get_or, Option, Some, None, MatchOption, Bor}
 use Rattle.std.specs.Prelude.{◌==◌}
 use Rattle.sj_names.specs.MethodNames.{parts, longer_first}
 use Rattle.std.proofs.lemmas.Str.Pattern.{IsSplitOnceResult, split_parts}

@@ -1,5 +1,5 @@
 -- The parameters that stand before a semicolon.
-use Rattle.std.proofs.Common.{◌≡◌, ◌≢◌, ◌<◌, ◌+◌, ℕ, Bool, true, false, List, [], ◌∷◌, ◌++◌, refl, sym, subst, cond, ap, ◌∙◌, length, arith, append_assoc, Option, Some, None, is_some, option_map}
+use Rattle.std.proofs.Common.{◌≡◌, ◌≢◌, ℕ, Bool, true, false, List, [], ◌∷◌, ◌++◌, refl, sym, cond, ap, ◌∙◌, arith, append_assoc, Option, Some, None, is_some, option_map}
 use Rattle.std.specs.Prelude.{◌==◌}
 use Rattle.sj_names.specs.References.{behind_dimensions}
 use Rattle.sj_names.specs.MethodNames.{parts, longer_first, signature_of, with_parameter, parameter_of}
@@ -14,7 +14,7 @@ behind_dimensions-base (b ∷ bs) none =
       | false ↦ λ is. refl
     ] refl
 
-parts-some : (text : List ℕ) → parts text ≢ []
+pub parts-some : (text : List ℕ) → parts text ≢ []
 parts-some [] none = cc
 parts-some (b ∷ text) none =
     elim (b == 59) as (λ v. cond v ([] ∷ parts text) (longer_first b (parts text)) ≡ [] → ⊥) [ true ↦ λ h. cc | false ↦ longer (parts text) ] none
@@ -23,7 +23,7 @@ parts-some (b ∷ text) none =
     longer [] h = cc
     longer (first ∷ others) h = cc
 
-signature_of-cons : (first : List ℕ) (others : List (List ℕ)) → others ≢ [] → signature_of (first ∷ others) ≡ with_parameter (parameter_of first) (signature_of others)
+pub signature_of-cons : (first : List ℕ) (others : List (List ℕ)) → others ≢ [] → signature_of (first ∷ others) ≡ with_parameter (parameter_of first) (signature_of others)
 signature_of-cons first [] some = absurd (some refl)
 signature_of-cons first (second ∷ others) some = refl
 

@@ -1,5 +1,5 @@
 -- The bases of array types: their spelling, and what a text spells.
-use Rattle.std.specs.Prelude.{◌≡◌, ℕ, List, [], ◌∷◌, ◌==◌, ◌&&◌, nat_eq, codes, Option, Some, None, IsTrue, if◌then◌else◌}
+use Rattle.std.specs.Prelude.{ℕ, List, [], ◌∷◌, ◌==◌, ◌&&◌, nat_eq, codes, Option, Some, None, IsTrue, if◌then◌else◌}
 use Rattle.std.specs.Cmp.Lexicographic.{pointwise}
 use Rattle.sj_names.specs.Grammar.{is_class_name}
 use Rattle.sj_names.specs.declared.references.BaseRef.{BaseRef}

@@ -13,9 +13,13 @@ abbrev pub spelled_result : Option TypeRef → List ℕ
 spelled_result None = codes "R"
 spelled_result (Some reference) = spelled reference
 
+-- each parameter with a `;` in front
+abbrev pub spelled_parameters : List TypeRef → List ℕ
+spelled_parameters = flat_map (λ parameter. 0x3b ∷ spelled parameter)
+
 -- the simple name, the parameters and the result, with `;` between each two
 abbrev pub spelled_method : MethodName → List ℕ
-spelled_method method = method.simple ++ flat_map (λ parameter. 0x3b ∷ spelled parameter) method.params ++ (0x3b ∷ spelled_result method.result)
+spelled_method method = method.simple ++ spelled_parameters method.params ++ (0x3b ∷ spelled_result method.result)
 
 -- a parameter isn't `V`
 abbrev pub IsParameter : TypeRef → Type 0

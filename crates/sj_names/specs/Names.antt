@@ -1,5 +1,5 @@
 -- The grammar of names, on the bytes of their texts.
-use Rattle.std.specs.Prelude.{◌≡◌, ◌≢◌, ◌↔◌, ◌<◌, ◌≤◌, ◌⊎◌, ℕ, Bool, true, false, List, [], ◌∷◌, ◌++◌, ◌==◌, IsTrue, codes}
+use Rattle.std.specs.Prelude.{◌≡◌, ◌≢◌, ◌↔◌, ◌≤◌, ◌⊎◌, ℕ, false, List, [], ◌∷◌, ◌++◌, ◌==◌, IsTrue, codes}
 use Rattle.std.specs.List.{All, list_any}
 use Rattle.sj_names.specs.Grammar.{is_plain_name, is_simple_name, is_class_name, is_local_name}
 

@@ -4,10 +4,15 @@ use Rattle.std.specs.Cmp.Lexicographic.{pointwise}
 use Rattle.sj_names.specs.Bases as bases
 use Rattle.sj_names.specs.declared.references.BaseRef.{BaseRef}
 use Rattle.sj_names.specs.declared.references.BaseRef.TheVariants as base
+use Rattle.sj_names.specs.declared.references.ArrayRef.{ArrayRef}
 use Rattle.sj_names.specs.declared.references.TypeRef.{TypeRef}
 use Rattle.sj_names.specs.declared.references.TypeRef.TheVariants.{Void, Boolean, Char, Byte, Short, Int, Long, Class, Array}
 
--- a letter, `L` and the name of a class, or a `[` for each dimension and the base
+-- a `[` for each dimension, and the base
+abbrev pub spelled_array : ArrayRef → List ℕ
+spelled_array array = replicate array.dimensions 0x5b ++ bases.spelled_base array.base
+
+-- a letter, `L` and the name of a class, or an array's spelling
 abbrev pub spelled : TypeRef → List ℕ
 spelled Void = codes "V"
 spelled Boolean = codes "Z"
@@ -17,7 +22,7 @@ spelled Short = codes "S"
 spelled Int = codes "I"
 spelled Long = codes "J"
 spelled (Class name) = 0x4c ∷ name
-spelled (Array array) = replicate array.dimensions 0x5b ++ bases.spelled_base array.base
+spelled (Array array) = spelled_array array
 
 -- a reference that has a spelling: a class name in it is one, and an array has 1 to 255 dimensions
 abbrev pub IsReference : TypeRef → Type 0

@@ -24,7 +24,7 @@ pub use counters::Meter;
 pub use entries::Entries;
 pub use entry_points::{EntryPoint, is_public_id};
 pub use folders::{Folder, SourceFile};
-pub use laws::tests_decide_the_grammar;
+pub use laws::{reads_method_names, reads_references, tests_decide_the_grammar};
 pub use lists::Items;
 pub use local_names::{LabelName, LocalName};
 pub use memory::{NameError, NoMemory};

@@ -1,11 +1,11 @@
 // Names of methods, and members of classes.
-ghost use Rattle.std.specs.Prelude.{◌≡◌, ◌↔◌, IfOk, IsTrue, Some, None, is_some};
+ghost use Rattle.std.specs.Prelude.{◌≡◌, ◌↔◌, ◌++◌, ◌∷◌, IfOk, OnOk, IsTrue, string_bytes, Some, None, is_some};
 ghost use Rattle.sj_names.specs.MethodNames as method_names;
 
 use crate::cuts::first_part;
 use crate::naming::is_simple_name;
-use crate::references::is_reference;
-use crate::{ClassName, Items, NameError, SimpleName, TypeRef};
+use crate::references::{is_reference, push};
+use crate::{ClassName, Items, NameError, NoMemory, SimpleName, Text, TypeRef};
 use std::alloc::{AllocError, Global};
 
 /// A method name: its simple name, the references of its parameters and of its result. A reflective proxy has no result.
@@ -56,6 +56,17 @@ impl MethodName {
         })
     }
 
+    /// The spelling of the name.
+    pub fn spelled(&self, alloc: Global) -> Result<Text, NoMemory>
+        ensures { IfOk result (λ text. text ≡ method_names.spelled_method self.now) }
+    {
+        let mut text = String::new(alloc);
+        push(&mut text, self.simple.text())?;
+        push_parameters(&mut text, self.params.as_slice())?;
+        push_result(&mut text, &self.result)?;
+        Ok(Text::from_string(text)?)
+    }
+
     /// The same name once more.
     pub fn copied(&self, alloc: Global) -> Result<MethodName, AllocError>
         ensures { IfOk result (λ m. m ≡ self.now) }
@@ -96,6 +107,28 @@ impl Member {
         self.namespace == other.namespace
             && self.class.is_same(&other.class)
             && self.method.is_same(&other.method)
+    }
+}
+
+// Writes a `;` and the spelling of each parameter behind `text`.
+fn push_parameters(text: &mut String, parameters: &[TypeRef]) -> Result<(), NoMemory>
+    ensures { OnOk result (string_bytes text.new ≡ string_bytes text.old ++ method_names.spelled_parameters parameters.now) }
+{
+    for parameter in parameters {
+        push(text, ";")?;
+        parameter.push_spelled(text)?;
+    }
+    Ok(())
+}
+
+// Writes a `;` and the spelling of the result behind `text`.
+fn push_result(text: &mut String, result_reference: &Option<TypeRef>) -> Result<(), NoMemory>
+    ensures { OnOk result (string_bytes text.new ≡ string_bytes text.old ++ (0x3b ∷ method_names.spelled_result result_reference.now)) }
+{
+    push(text, ";")?;
+    match result_reference {
+        Some(reference) => reference.push_spelled(text),
+        None => push(text, "R"),
     }
 }
 

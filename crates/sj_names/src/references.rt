@@ -1,11 +1,11 @@
 // References to types, as method names and array types hold them.
-ghost use Rattle.std.specs.Prelude.{◌≡◌, ◌↔◌, ◌≤◌, ◌+◌, ◌++◌, IfOk, OnOk, IsTrue, Some, None, is_some, string_bytes};
+ghost use Rattle.std.specs.Prelude.{◌≡◌, ◌↔◌, ◌≤◌, ◌+◌, ◌++◌, ◌∷◌, IfOk, OnOk, IsTrue, Some, None, is_some, string_bytes};
 ghost use Rattle.sj_names.specs.Bases as bases;
 ghost use Rattle.sj_names.specs.References as references;
 
 use crate::cuts::{behind, behind_dimensions};
 use crate::naming::is_class_name;
-use crate::{ClassName, NameError};
+use crate::{ClassName, NameError, NoMemory, Text};
 use std::alloc::{AllocError, Global};
 
 /// A reference to a type.
@@ -42,6 +42,32 @@ pub enum BaseRef {
 }
 
 impl TypeRef {
+    /// The spelling of the reference.
+    pub fn spelled(&self, alloc: Global) -> Result<Text, NoMemory>
+        ensures { IfOk result (λ text. text ≡ references.spelled self.now) }
+    {
+        let mut text = String::new(alloc);
+        self.push_spelled(&mut text)?;
+        Ok(Text::from_string(text)?)
+    }
+
+    // Writes the spelling behind `text`.
+    pub(crate) fn push_spelled(&self, text: &mut String) -> Result<(), NoMemory>
+        ensures { OnOk result (string_bytes text.new ≡ string_bytes text.old ++ references.spelled self.now) }
+    {
+        match self {
+            TypeRef::Void => push(text, "V"),
+            TypeRef::Boolean => push(text, "Z"),
+            TypeRef::Char => push(text, "C"),
+            TypeRef::Byte => push(text, "B"),
+            TypeRef::Short => push(text, "S"),
+            TypeRef::Int => push(text, "I"),
+            TypeRef::Long => push(text, "J"),
+            TypeRef::Class(name) => push_class(text, name),
+            TypeRef::Array(array) => array.push_spelled(text),
+        }
+    }
+
     /// The reference that `text` spells: `V` `Z` `C` `B` `S` `I` `J`, or `L` and the name of a class, or one to 255 times `[`
     /// and then a reference that is neither an array nor `V`. `BadName` exactly where it spells none.
     pub fn parse(alloc: Global, text: &str) -> Result<TypeRef, NameError>
@@ -96,7 +122,33 @@ impl TypeRef {
     }
 }
 
+// Writes `part` behind `text`.
+pub(crate) fn push(text: &mut String, part: &str) -> Result<(), NoMemory>
+    ensures { OnOk result (string_bytes text.new ≡ string_bytes text.old ++ part.now) }
+{
+    text.push_str(part)?;
+    Ok(())
+}
+
+// Writes `L` and the name behind `text`.
+fn push_class(text: &mut String, name: &ClassName) -> Result<(), NoMemory>
+    ensures { OnOk result (string_bytes text.new ≡ string_bytes text.old ++ (0x4c ∷ name.now)) }
+{
+    push(text, "L")?;
+    push(text, name.text())
+}
+
 impl ArrayRef {
+    // Writes the spelling behind `text`.
+    fn push_spelled(&self, text: &mut String) -> Result<(), NoMemory>
+        ensures { OnOk result (string_bytes text.new ≡ string_bytes text.old ++ references.spelled_array self.now) }
+    {
+        for _ in 0..self.dimensions {
+            push(text, "[")?;
+        }
+        self.base.push_spelled(text)
+    }
+
     /// The same reference once more.
     pub fn copied(&self) -> Result<ArrayRef, AllocError>
         ensures { IfOk result (λ r. r ≡ self.now) }
@@ -168,6 +220,21 @@ impl BaseRef {
                 Some(name) => Ok(BaseRef::Class(ClassName::parse(alloc, name)?)),
                 None => Err(NameError::BadName),
             },
+        }
+    }
+
+    // Writes the spelling behind `text`.
+    fn push_spelled(&self, text: &mut String) -> Result<(), NoMemory>
+        ensures { OnOk result (string_bytes text.new ≡ string_bytes text.old ++ bases.spelled_base self.now) }
+    {
+        match self {
+            BaseRef::Boolean => push(text, "Z"),
+            BaseRef::Char => push(text, "C"),
+            BaseRef::Byte => push(text, "B"),
+            BaseRef::Short => push(text, "S"),
+            BaseRef::Int => push(text, "I"),
+            BaseRef::Long => push(text, "J"),
+            BaseRef::Class(name) => push_class(text, name),
         }
     }
 

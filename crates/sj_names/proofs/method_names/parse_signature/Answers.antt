@@ -1,5 +1,4 @@
-use Rattle.std.proofs.Common.{rules, ◌≡◌, sym, Err, None}
-use Rattle.sj_names.specs.declared.memory.NameError.TheVariants.{BadName}
+use Rattle.std.proofs.Common.{rules}
 use Rattle.std.proofs.lemmas.Result.{err_from_is_err_and}
 use Rattle.sj_names.proofs.Signatures.{params-more, params-end}
 use Rattle.sj_names.proofs.method_names.parse_signature.Goals as goal

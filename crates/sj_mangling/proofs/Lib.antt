@@ -1,0 +1,2 @@
+pub mod FunctionNames
+pub mod Injective
