@@ -6,7 +6,10 @@ ghost use Rattle.js_tree.specs.Views.{statement_view, body_view, item_view, modu
 use crate::expressions::append_expression;
 use crate::print_module;
 use crate::statements::append_block;
-use js_tree::{BinaryOperator, HostFunction, HostOperation, JsBody, JsExpr, JsItem, JsModule, JsStmt, SwitchCase, UnaryOperator};
+use js_tree::{
+    BinaryOperator, HostFunction, HostOperation, JsBody, JsExpr, JsItem, JsModule, JsStmt,
+    SwitchCase, UnaryOperator,
+};
 use sj_names::{Items, NoMemory, Text};
 use sj_units::Units;
 use std::alloc::Global;
@@ -23,13 +26,25 @@ fn name(alloc: Global, name: &str) -> Result<JsExpr, NoMemory> {
 
 fn log(alloc: Global, argument: JsExpr) -> Result<JsStmt, NoMemory> {
     let argument = Box::new(alloc, argument)?;
-    Ok(JsStmt::Expression(JsExpr::Host { function: HostFunction::ConsoleLog, argument }))
+    Ok(JsStmt::Expression(JsExpr::Host {
+        function: HostFunction::ConsoleLog,
+        argument,
+    }))
 }
 
-fn binary(alloc: Global, left: JsExpr, operator: BinaryOperator, right: JsExpr) -> Result<JsExpr, NoMemory> {
+fn binary(
+    alloc: Global,
+    left: JsExpr,
+    operator: BinaryOperator,
+    right: JsExpr,
+) -> Result<JsExpr, NoMemory> {
     let left = Box::new(alloc, left)?;
     let right = Box::new(alloc, right)?;
-    Ok(JsExpr::Binary { left, operator, right })
+    Ok(JsExpr::Binary {
+        left,
+        operator,
+        right,
+    })
 }
 
 fn printed_block(alloc: Global, statements: &[JsStmt]) -> Result<Vec<u8>, NoMemory> {
@@ -58,7 +73,12 @@ fn escapes(rt: HostRuntime) -> Result<(), Fail> {
 #[test]
 fn negative_numbers(rt: HostRuntime) -> Result<(), Fail> {
     let alloc = rt.alloc();
-    let quotient = binary(alloc, JsExpr::Number(-2147483648), BinaryOperator::Divide, JsExpr::Number(-1))?;
+    let quotient = binary(
+        alloc,
+        JsExpr::Number(-2147483648),
+        BinaryOperator::Divide,
+        JsExpr::Number(-1),
+    )?;
     let whole = binary(alloc, quotient, BinaryOperator::BitOr, JsExpr::Number(0))?;
     let out = printed(alloc, &whole)?;
     let want: &[u8] = b"(((-2147483648) / (-1)) | 0)";
@@ -80,7 +100,10 @@ fn try_finally(alloc: Global, body: Vec<JsStmt>, last: JsStmt) -> Result<JsStmt,
 
 fn looped(alloc: Global, inner: JsStmt) -> Result<JsStmt, NoMemory> {
     let body = vec![in alloc; inner]?;
-    Ok(JsStmt::While { test: JsExpr::Boolean(true), body })
+    Ok(JsStmt::While {
+        test: JsExpr::Boolean(true),
+        body,
+    })
 }
 
 #[test]
@@ -88,12 +111,19 @@ fn jump_out_of_a_finalizer(rt: HostRuntime) -> Result<(), Fail> {
     let alloc = rt.alloc();
     let leave = JsStmt::BreakTo(Text::from_str(alloc, "l_l")?);
     let inner = vec![in alloc; logged(alloc, &[105, 110])?, leave]?;
-    let turn = looped(alloc, try_finally(alloc, inner, logged(alloc, &[102, 105, 110])?)?)?;
+    let turn = looped(
+        alloc,
+        try_finally(alloc, inner, logged(alloc, &[102, 105, 110])?)?,
+    )?;
     let label = Text::from_str(alloc, "l_l")?;
     let body = vec![in alloc; turn]?;
-    let statements = vec![in alloc; JsStmt::Labeled { label, body }, logged(alloc, &[111, 117, 116])?]?;
+    let statements = vec![in alloc;
+        JsStmt::Labeled { label, body },
+        logged(alloc, &[111, 117, 116])?,
+    ]?;
     let out = printed_block(alloc, &statements)?;
-    let want: &[u8] = b"{\n  l_l: {\n    while (true) {\n      try {\n        console.log(\"in\");\n        break l_l;\n      } finally {\n        console.log(\"fin\");\n      }\n    }\n  }\n  console.log(\"out\");\n}";
+    let want: &[u8] =
+        b"{\n  l_l: {\n    while (true) {\n      try {\n        console.log(\"in\");\n        break l_l;\n      } finally {\n        console.log(\"fin\");\n      }\n    }\n  }\n  console.log(\"out\");\n}";
     assert_eq!(rt; out.as_slice(), want);
     Ok(())
 }
@@ -102,11 +132,23 @@ fn jump_out_of_a_finalizer(rt: HostRuntime) -> Result<(), Fail> {
 fn switch_with_two_keys(rt: HostRuntime) -> Result<(), Fail> {
     let alloc = rt.alloc();
     let keys = Items::from_vec(vec![in alloc; 1, -2]?);
-    let cases = vec![in alloc; SwitchCase { keys, body: vec![in alloc; JsStmt::Break]? }]?;
+    let cases = vec![in alloc;
+        SwitchCase {
+            keys,
+            body: vec![in alloc; JsStmt::Break]?
+        },
+    ]?;
     let default = vec![in alloc; JsStmt::Expression(name(alloc, "x")?)]?;
-    let statements = vec![in alloc; JsStmt::Switch { selector: name(alloc, "x")?, cases, default }]?;
+    let statements = vec![in alloc;
+        JsStmt::Switch {
+            selector: name(alloc, "x")?,
+            cases,
+            default
+        },
+    ]?;
     let out = printed_block(alloc, &statements)?;
-    let want: &[u8] = b"{\n  switch (x) {\n    case 1:\n    case (-2): {\n      break;\n    }\n    default: {\n      x;\n    }\n  }\n}";
+    let want: &[u8] =
+        b"{\n  switch (x) {\n    case 1:\n    case (-2): {\n      break;\n    }\n    default: {\n      x;\n    }\n  }\n}";
     assert_eq!(rt; out.as_slice(), want);
     Ok(())
 }
@@ -117,11 +159,25 @@ fn calls_and_operators(rt: HostRuntime) -> Result<(), Fail> {
     let object = Box::new(alloc, name(alloc, "v_s")?)?;
     let property = Text::from_str(alloc, "charCodeAt")?;
     let arguments = vec![in alloc; JsExpr::Number(0), JsExpr::Null]?;
-    let unit = JsExpr::MethodCall { object, property, arguments };
+    let unit = JsExpr::MethodCall {
+        object,
+        property,
+        arguments,
+    };
     let operand = Box::new(alloc, unit)?;
-    let kind = Box::new(alloc, JsExpr::Unary { operator: UnaryOperator::TypeOf, operand })?;
+    let kind = Box::new(
+        alloc,
+        JsExpr::Unary {
+            operator: UnaryOperator::TypeOf,
+            operand,
+        },
+    )?;
     let eight = Box::new(alloc, JsExpr::Number(8))?;
-    let wrapped = JsExpr::HostOfTwo { function: HostOperation::BigIntAsIntN, first: eight, second: kind };
+    let wrapped = JsExpr::HostOfTwo {
+        function: HostOperation::BigIntAsIntN,
+        first: eight,
+        second: kind,
+    };
     let test = Box::new(alloc, JsExpr::Boolean(false))?;
     let yes = Box::new(alloc, wrapped)?;
     let no = Box::new(alloc, JsExpr::Undefined)?;
@@ -147,7 +203,14 @@ fn function_item(alloc: Global, name: Text, body: JsBody) -> Result<Rc<JsItem>, 
     ensures { IfOk result (λ i. IsItem (item_view i.value)) }
 {
     let parameters = Items::from_vec(Vec::new(alloc));
-    Ok(Rc::new(alloc, JsItem::Function { name, parameters, body })?)
+    Ok(Rc::new(
+        alloc,
+        JsItem::Function {
+            name,
+            parameters,
+            body,
+        },
+    )?)
 }
 
 /// A call without arguments, as an item.
@@ -155,7 +218,10 @@ fn call_item(alloc: Global, function: Text) -> Result<Rc<JsItem>, NoMemory>
     requires { IsName function }
     ensures { IfOk result (λ i. IsItem (item_view i.value)) }
 {
-    let value = JsExpr::Call { function, arguments: Vec::new(alloc) };
+    let value = JsExpr::Call {
+        function,
+        arguments: Vec::new(alloc),
+    };
     Ok(Rc::new(alloc, JsItem::Expression(value))?)
 }
 
@@ -165,7 +231,10 @@ fn hi(alloc: Global) -> Result<JsStmt, NoMemory>
 {
     let units = vec![in alloc; 104, 105]?;
     let argument = Box::new(alloc, JsExpr::Text(Units::from_vec(units)))?;
-    Ok(JsStmt::Expression(JsExpr::Host { function: HostFunction::ConsoleLog, argument }))
+    Ok(JsStmt::Expression(JsExpr::Host {
+        function: HostFunction::ConsoleLog,
+        argument,
+    }))
 }
 
 /// A module of two items.
@@ -177,17 +246,26 @@ fn module_of(alloc: Global, first: Rc<JsItem>, second: Rc<JsItem>) -> Result<JsM
     let items = vec![in alloc; first, second]?;
     let imports = Items::from_vec(Vec::new(alloc));
     let exports = Items::from_vec(Vec::new(alloc));
-    Ok(JsModule { imports, items, exports })
+    Ok(JsModule {
+        imports,
+        items,
+        exports,
+    })
 }
 
 #[test]
 fn first_program(rt: HostRuntime) -> Result<(), Fail> {
     let alloc = rt.alloc();
     let body = alone(alloc, hi(alloc)?)?;
-    let first = function_item(alloc, Text::from_str(alloc, "s_java_lang_Object__main$$V")?, body)?;
+    let first = function_item(
+        alloc,
+        Text::from_str(alloc, "s_java_lang_Object__main$$V")?,
+        body,
+    )?;
     let second = call_item(alloc, Text::from_str(alloc, "s_java_lang_Object__main$$V")?)?;
     let out = print_module(alloc, &module_of(alloc, first, second)?)?;
-    let want: &[u8] = b"function s_java_lang_Object__main$$V() {\n  console.log(\"hi\");\n}\ns_java_lang_Object__main$$V();\n";
+    let want: &[u8] =
+        b"function s_java_lang_Object__main$$V() {\n  console.log(\"hi\");\n}\ns_java_lang_Object__main$$V();\n";
     assert_eq!(rt; out.as_slice(), want);
     Ok(())
 }

@@ -60,6 +60,7 @@ keeps_text us t h = All-from_recursion _ us (each_kept keeps_unit us _ h.second.
 
 mutual
   unfolding SpellsExpression SpellsExpressions SpellsMoreExpressions
+
   pub keeps_expression : (e : Expression) (t : List ℕ) → SpellsExpression e t → IsExpression e
   keeps_expression null_literal t h = tt
   keeps_expression (boolean_literal b) t h = tt
@@ -81,9 +82,11 @@ mutual
   keeps_expression (conditional_of c a b) t h = (keeps_expression c _ h.second.first, keeps_expression a _ h.second.second.second.first, keeps_expression b _ h.second.second.second.second.second.first)
   keeps_expression (host_call f e) t h = keeps_expression e _ h.second.second.first
   keeps_expression (host_call_of_two f a b) t h = (keeps_expression a _ h.second.second.first, keeps_expression b _ h.second.second.second.second.first)
+
   pub keeps_expressions : (es : Expressions) (t : List ℕ) → SpellsExpressions es t → IsExpressions es
   keeps_expressions no_expressions t h = tt
   keeps_expressions (expression e es) t h = (keeps_expression e _ h.first, keeps_more_expressions es _ h.second)
+
   pub keeps_more_expressions : (es : Expressions) (t : List ℕ) → SpellsMoreExpressions es t → IsExpressions es
   keeps_more_expressions no_expressions t h = tt
   keeps_more_expressions (expression e es) t h = (keeps_expression e _ h.second.first, keeps_more_expressions es _ h.second.second)
@@ -103,6 +106,7 @@ lines_of_block level P t h = (h.second.front, h.second.first)
 
 mutual
   unfolding SpellsStatement SpellsLines SpellsCases
+
   pub keeps_statement : (level : ℕ) (x : Statement) (t : List ℕ) → SpellsStatement level x t → IsStatement x
   keeps_statement level (const_of x e) t h = (keeps_name x _ h.second.first, keeps_expression e _ h.second.second.second.first)
   keeps_statement level (let_of x e) t h = (keeps_name x _ h.second.first, keeps_expression e _ h.second.second.second.first)
@@ -124,9 +128,11 @@ mutual
   keeps_statement level (try_catch ss x ts) t h = (keeps_lines (level + 1) ss _ (lines_of_block level _ _ h.second.first).1, keeps_name x _ h.second.second.second.first, keeps_lines (level + 1) ts _ (lines_of_block level _ _ h.second.second.second.second.second).1)
   keeps_statement level (try_finally ss ts) t h = (keeps_lines (level + 1) ss _ (lines_of_block level _ _ h.second.first).1, keeps_lines (level + 1) ts _ (lines_of_block level _ _ h.second.second.second).1)
   keeps_statement level (switch_on e cs ss) t h = (keeps_expression e _ h.second.first, keeps_cases (level + 1) cs _ h.second.second.second.first, keeps_lines (level + 1 + 1) ss _ (lines_of_block (level + 1) _ _ h.second.second.second.second.second.second.first).1)
+
   pub keeps_lines : (level : ℕ) (ss : Statements) (t : List ℕ) → SpellsLines level ss t → AreStatements ss
   keeps_lines level no_statements t h = tt
   keeps_lines level (statement s ss) t h = (keeps_statement level s _ h.second.first, keeps_lines level ss _ h.second.second.second)
+
   pub keeps_cases : (level : ℕ) (cs : Cases) (t : List ℕ) → SpellsCases level cs t → AreCases cs
   keeps_cases level no_cases t h = tt
   keeps_cases level (switch_case ks ss cs) t h = (keeps_keys level ks _ h.second.first, keeps_lines (level + 1) ss _ (lines_of_block level _ _ h.second.second.second.first).1, keeps_cases level cs _ h.second.second.second.second.second)

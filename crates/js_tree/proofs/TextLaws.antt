@@ -48,6 +48,7 @@ text_of_boolean false = literal _
 
 mutual
   unfolding SpellsExpression SpellsExpressions SpellsMoreExpressions
+
   pub text_of_expression : (e : Expression) → IsExpression e → IsText (SpellsExpression e) (put_expression e)
   text_of_expression null_literal k = literal _
   text_of_expression (boolean_literal b) k = text_of_boolean b
@@ -69,9 +70,11 @@ mutual
   text_of_expression (conditional_of c a b) k = behind (literal _) (behind (text_of_expression c k.0) (behind (literal _) (behind (text_of_expression a k.1) (behind (literal _) (behind (text_of_expression b k.2) (literal _))))))
   text_of_expression (host_call f e) k = behind (literal _) (behind (literal _) (behind (text_of_expression e k) (literal _)))
   text_of_expression (host_call_of_two f a b) k = behind (literal _) (behind (literal _) (behind (text_of_expression a k.0) (behind (literal _) (behind (text_of_expression b k.1) (literal _)))))
+
   pub text_of_expressions : (es : Expressions) → IsExpressions es → IsText (SpellsExpressions es) (put_expressions es)
   text_of_expressions no_expressions k = is_nothing
   text_of_expressions (expression e es) k = behind (text_of_expression e k.0) (text_of_more_expressions es k.1)
+
   pub text_of_more_expressions : (es : Expressions) → IsExpressions es → IsText (SpellsMoreExpressions es) (put_more_expressions es)
   text_of_more_expressions no_expressions k = is_nothing
   text_of_more_expressions (expression e es) k = behind (literal _) (behind (text_of_expression e k.0) (text_of_more_expressions es k.1))
@@ -90,6 +93,7 @@ text_of_block level a = behind (literal _) (behind a (behind (literal _) (litera
 
 mutual
   unfolding SpellsStatement SpellsLines SpellsCases
+
   pub text_of_statement : (level : ℕ) (s : Statement) → IsStatement s → IsText (SpellsStatement level s) (put_statement level s)
   text_of_statement level (const_of x e) k = behind (literal _) (behind (text_of_name x k.0) (behind (literal _) (behind (text_of_expression e k.1) (literal _))))
   text_of_statement level (let_of x e) k = behind (literal _) (behind (text_of_name x k.0) (behind (literal _) (behind (text_of_expression e k.1) (literal _))))
@@ -111,9 +115,11 @@ mutual
   text_of_statement level (try_catch ss x ts) k = behind (literal _) (behind (text_of_block level (text_of_lines (level + 1) ss k.0)) (behind (literal _) (behind (text_of_name x k.1) (behind (literal _) (text_of_block level (text_of_lines (level + 1) ts k.2))))))
   text_of_statement level (try_finally ss ts) k = behind (literal _) (behind (text_of_block level (text_of_lines (level + 1) ss k.0)) (behind (literal _) (text_of_block level (text_of_lines (level + 1) ts k.1))))
   text_of_statement level (switch_on e cs ss) k = behind (literal _) (behind (text_of_expression e k.0) (behind (literal _) (behind (text_of_cases (level + 1) cs k.1) (behind (literal _) (behind (literal _) (behind (text_of_block (level + 1) (text_of_lines (level + 1 + 1) ss k.2)) (behind (literal _) (behind (literal _) (literal _)))))))))
+
   pub text_of_lines : (level : ℕ) (ss : Statements) → AreStatements ss → IsText (SpellsLines level ss) (put_lines level ss)
   text_of_lines level no_statements k = is_nothing
   text_of_lines level (statement s ss) k = behind (literal _) (behind (text_of_statement level s k.0) (behind (literal _) (text_of_lines level ss k.1)))
+
   pub text_of_cases : (level : ℕ) (cs : Cases) → AreCases cs → IsText (SpellsCases level cs) (put_cases level cs)
   text_of_cases level no_cases k = is_nothing
   text_of_cases level (switch_case ks ss cs) k = behind (literal _) (behind (text_of_keys level ks k.0) (behind (literal _) (behind (text_of_block level (text_of_lines (level + 1) ss k.1)) (behind (literal _) (text_of_cases level cs k.2)))))

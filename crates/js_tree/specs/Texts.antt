@@ -57,10 +57,12 @@ abbrev mutual
   put_expression (conditional_of c a b) = put (codes "(") ▸ put_expression c ▸ put (codes " ? ") ▸ put_expression a ▸ put (codes " : ") ▸ put_expression b ▸ put (codes ")")
   put_expression (host_call f e) = put (host_text f) ▸ put (codes "(") ▸ put_expression e ▸ put (codes ")")
   put_expression (host_call_of_two f a b) = put (host_of_two_text f) ▸ put (codes "(") ▸ put_expression a ▸ put (codes ", ") ▸ put_expression b ▸ put (codes ")")
+
   -- expressions with a comma and a space between them
   pub put_expressions : Expressions → Putting
   put_expressions no_expressions = nothing
   put_expressions (expression e es) = put_expression e ▸ put_more_expressions es
+
   pub put_more_expressions : Expressions → Putting
   put_more_expressions no_expressions = nothing
   put_more_expressions (expression e es) = put (codes ", ") ▸ put_expression e ▸ put_more_expressions es
@@ -100,10 +102,12 @@ abbrev mutual
   put_statement level (try_catch ss x ts) = put (codes "try ") ▸ put_block_of level (put_lines (level + 1) ss) ▸ put (codes " catch (") ▸ put_name x ▸ put (codes ") ") ▸ put_block_of level (put_lines (level + 1) ts)
   put_statement level (try_finally ss ts) = put (codes "try ") ▸ put_block_of level (put_lines (level + 1) ss) ▸ put (codes " finally ") ▸ put_block_of level (put_lines (level + 1) ts)
   put_statement level (switch_on e cs ss) = put (codes "switch (") ▸ put_expression e ▸ put (codes ") {\n") ▸ put_cases (level + 1) cs ▸ put (indent (level + 1)) ▸ put (codes "default: ") ▸ put_block_of (level + 1) (put_lines (level + 1 + 1) ss) ▸ put (codes "\n") ▸ put (indent level) ▸ put (codes "}")
+
   -- statements, each on its own line of this level
   pub put_lines : ℕ → Statements → Putting
   put_lines level no_statements = nothing
   put_lines level (statement s ss) = put (indent level) ▸ put_statement level s ▸ put (codes "\n") ▸ put_lines level ss
+
   -- cases, each on lines of this level
   pub put_cases : ℕ → Cases → Putting
   put_cases level no_cases = nothing

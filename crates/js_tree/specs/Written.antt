@@ -11,7 +11,6 @@ pub record Is (want text : List ℕ) : Type 0 where
   pub same : text ≡ want
 
 infixr 10 ◌●◌
-
 -- the one and behind it the other
 pub record ◌●◌ (P Q : Grammar) (text : List ℕ) : Type 0 where
   pub front : List ℕ
@@ -56,7 +55,6 @@ abbrev pub nothing : Putting
 nothing out = out
 
 infixr 10 ◌▸◌
-
 -- the one and behind it the other
 abbrev pub ◌▸◌ : Putting → Putting → Putting
 (v ▸ w) out = w (v out)
