@@ -9,6 +9,7 @@ use itoa::Buffer;
 use sj_names::{NoMemory, Text};
 
 /// Appends a text.
+#[tactic(auto, unfolding(js_tree::specs::Written::put))]
 pub(crate) fn append(out: &mut Vec<u8>, text: &str) -> Result<(), NoMemory>
     ensures { OnOk result (out.new.items ≡ put text.now out.old.items) }
 {
@@ -73,6 +74,7 @@ fn hex_digit_of(digit: u8) -> u8
 }
 
 /// Appends `\u` and the four hexadecimal digits of a unit.
+#[tactic(auto, unfolding(js_tree::specs::Written::put))]
 fn append_escape(out: &mut Vec<u8>, unit: u16) -> Result<(), NoMemory>
     ensures { OnOk result (out.new.items ≡ put (unit_escape unit) out.old.items) }
 {
@@ -85,6 +87,7 @@ fn append_escape(out: &mut Vec<u8>, unit: u16) -> Result<(), NoMemory>
 }
 
 /// Appends a unit of a string as it is written in double quotes.
+#[tactic(auto, unfolding(js_tree::specs::Written::put))]
 fn append_unit(out: &mut Vec<u8>, unit: u16) -> Result<(), NoMemory>
     ensures { OnOk result (out.new.items ≡ put_unit unit out.old.items) }
 {
@@ -119,7 +122,7 @@ fn append_units(out: &mut Vec<u8>, units: &[u16]) -> Result<(), NoMemory>
 }
 
 /// Appends two spaces for each level.
-#[tactic(auto, using(crate::proofs::Indents::one_level_more))]
+#[tactic(auto, using(crate::proofs::Indents::no_level, crate::proofs::Indents::one_level_more))]
 pub(crate) fn append_indent(out: &mut Vec<u8>, level: usize) -> Result<(), NoMemory>
     ensures { OnOk result (out.new.items ≡ put (indent level) out.old.items) }
 {
@@ -154,6 +157,7 @@ fn append_more_names(out: &mut Vec<u8>, names: &[Text]) -> Result<(), NoMemory>
 }
 
 /// Appends a line feed and two spaces for each level.
+#[tactic(auto, using(crate::proofs::Indents::line_break))]
 fn append_line_break(out: &mut Vec<u8>, level: usize) -> Result<(), NoMemory>
     ensures { OnOk result (out.new.items ≡ put (10 ∷ indent level) out.old.items) }
 {

@@ -47,7 +47,7 @@ indent level = replicate (2 * level) 32
 abbrev pub Putting : Type 0
 Putting = List ℕ → List ℕ
 
-abbrev pub put : List ℕ → Putting
+unfoldable pub put : List ℕ → Putting
 put text out = out ++ text
 
 -- nothing is put
