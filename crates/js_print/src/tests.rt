@@ -6,10 +6,7 @@ ghost use Rattle.js_tree.specs.Views.{statement_view, body_view, item_view, modu
 use crate::expressions::append_expression;
 use crate::print_module;
 use crate::statements::append_block;
-use js_tree::{
-    BinaryOperator, HostFunction, HostOperation, JsBody, JsExpr, JsItem, JsModule, JsStmt,
-    SwitchCase, UnaryOperator,
-};
+use js_tree::{BinaryOperator, HostFunction, JsBody, JsExpr, JsItem, JsModule, JsStmt, SwitchCase};
 use sj_names::{Items, NoMemory, Text};
 use sj_units::Units;
 use std::alloc::Global;
@@ -89,45 +86,6 @@ fn negative_numbers(rt: HostRuntime) -> Result<(), Fail> {
     Ok(())
 }
 
-fn logged(alloc: Global, line: &[u16]) -> Result<JsStmt, NoMemory> {
-    log(alloc, text(alloc, line)?)
-}
-
-fn try_finally(alloc: Global, body: Vec<JsStmt>, last: JsStmt) -> Result<JsStmt, NoMemory> {
-    let finalizer = vec![in alloc; last]?;
-    Ok(JsStmt::TryFinally { body, finalizer })
-}
-
-fn looped(alloc: Global, inner: JsStmt) -> Result<JsStmt, NoMemory> {
-    let body = vec![in alloc; inner]?;
-    Ok(JsStmt::While {
-        test: JsExpr::Boolean(true),
-        body,
-    })
-}
-
-#[test]
-fn jump_out_of_a_finalizer(rt: HostRuntime) -> Result<(), Fail> {
-    let alloc = rt.alloc();
-    let leave = JsStmt::BreakTo(Text::from_str(alloc, "l_l")?);
-    let inner = vec![in alloc; logged(alloc, &[105, 110])?, leave]?;
-    let turn = looped(
-        alloc,
-        try_finally(alloc, inner, logged(alloc, &[102, 105, 110])?)?,
-    )?;
-    let label = Text::from_str(alloc, "l_l")?;
-    let body = vec![in alloc; turn]?;
-    let statements = vec![in alloc;
-        JsStmt::Labeled { label, body },
-        logged(alloc, &[111, 117, 116])?,
-    ]?;
-    let out = printed_block(alloc, &statements)?;
-    let want: &[u8] =
-        b"{\n  l_l: {\n    while (true) {\n      try {\n        console.log(\"in\");\n        break l_l;\n      } finally {\n        console.log(\"fin\");\n      }\n    }\n  }\n  console.log(\"out\");\n}";
-    assert_eq!(rt; out.as_slice(), want);
-    Ok(())
-}
-
 #[test]
 fn switch_with_two_keys(rt: HostRuntime) -> Result<(), Fail> {
     let alloc = rt.alloc();
@@ -149,40 +107,6 @@ fn switch_with_two_keys(rt: HostRuntime) -> Result<(), Fail> {
     let out = printed_block(alloc, &statements)?;
     let want: &[u8] =
         b"{\n  switch (x) {\n    case 1:\n    case (-2): {\n      break;\n    }\n    default: {\n      x;\n    }\n  }\n}";
-    assert_eq!(rt; out.as_slice(), want);
-    Ok(())
-}
-
-#[test]
-fn calls_and_operators(rt: HostRuntime) -> Result<(), Fail> {
-    let alloc = rt.alloc();
-    let object = Box::new(alloc, name(alloc, "v_s")?)?;
-    let property = Text::from_str(alloc, "charCodeAt")?;
-    let arguments = vec![in alloc; JsExpr::Number(0), JsExpr::Null]?;
-    let unit = JsExpr::MethodCall {
-        object,
-        property,
-        arguments,
-    };
-    let operand = Box::new(alloc, unit)?;
-    let kind = Box::new(
-        alloc,
-        JsExpr::Unary {
-            operator: UnaryOperator::TypeOf,
-            operand,
-        },
-    )?;
-    let eight = Box::new(alloc, JsExpr::Number(8))?;
-    let wrapped = JsExpr::HostOfTwo {
-        function: HostOperation::BigIntAsIntN,
-        first: eight,
-        second: kind,
-    };
-    let test = Box::new(alloc, JsExpr::Boolean(false))?;
-    let yes = Box::new(alloc, wrapped)?;
-    let no = Box::new(alloc, JsExpr::Undefined)?;
-    let out = printed(alloc, &JsExpr::Conditional { test, yes, no })?;
-    let want: &[u8] = b"(false ? BigInt.asIntN(8, (typeof v_s.charCodeAt(0, null))) : (void 0))";
     assert_eq!(rt; out.as_slice(), want);
     Ok(())
 }

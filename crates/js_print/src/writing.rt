@@ -2,7 +2,7 @@
 ghost use Rattle.std.specs.Prelude.{◌≡◌, ◌∷◌, OnOk, codes, decimal};
 ghost use Rattle.js_tree.specs.Written.{put, put_each, put_separated, put_more, indent};
 ghost use Rattle.js_tree.specs.Texts.{put_integer, put_number, put_big, put_boolean, put_unit, put_text, put_name, put_key, put_keys, put_parameters};
-ghost use Rattle.js_tree.specs.Words.{unit_text, unit_escape, hex_digit};
+ghost use Rattle.js_tree.specs.Words.{hex_digit, unit_escape};
 ghost use Rattle.std.specs.Prelude.{◌<◌};
 
 use itoa::Buffer;

@@ -1,14 +1,12 @@
 -- What is spelled keeps the rules: the grammar of a term holds of some text only where the term keeps them.
-use Rattle.std.specs.Prelude.{ℕ, ℤ, pos, negsuc, Bool, true, false, List, [], ◌∷◌, ◌++◌, ◌+◌, ◌<◌, ◌^◌, ◌↔◌, not, nat_lt, codes, decimal, IsTrue, All}
+use Rattle.std.specs.Prelude.{ℕ, ℤ, pos, negsuc, List, [], ◌∷◌, ◌+◌, All}
 use Rattle.std.proofs.Common.{ltb-true}
 use Rattle.std.proofs.lemmas.List.Elements.{All-from_recursion}
-use Rattle.js_tree.specs.Names.{is_name, is_property, is_file, is_empty}
-use Rattle.js_tree.specs.Rules.{is_receiver, IsBelow, IsNumber, IsBig, IsUnit, IsName, IsProperty, IsExpression, IsExpressions, AreKeys, IsStatement, AreStatements, AreCases, IsObjectProperty, IsMember, IsItem, IsPiece, IsImport, IsModule}
-use Rattle.js_tree.specs.Words.{unit_text}
-use Rattle.js_tree.specs.Written.{Grammar, Is, ◌●◌, Where, More, Separated, Each, Putting, put, indent}
-use Rattle.js_tree.specs.Spelling.{SpellsName, SpellsProperty, SpellsInteger, SpellsNumber, SpellsBig, SpellsUnit, SpellsText, SpellsBoolean, SpellsExpression, SpellsExpressions, SpellsMoreExpressions, SpellsKey, SpellsKeys, Block, SpellsStatement, SpellsLines, SpellsCases, SpellsBlock, SpellsObjectProperty, SpellsParameters, SpellsMember, SpellsMembers, SpellsItem, SpellsItemLine, SpellsNames, SpellsFile, SpellsImport, SpellsExports, PieceSpells, Spells}
+use Rattle.js_tree.specs.Rules.{IsBelow, IsNumber, IsBig, IsUnit, IsName, IsProperty, IsExpression, IsExpressions, AreKeys, IsStatement, AreStatements, AreCases, IsObjectProperty, IsMember, IsItem, IsImport, IsModule}
+use Rattle.js_tree.specs.Written.{Grammar, More, Separated, Each}
+use Rattle.js_tree.specs.Spelling.{SpellsName, SpellsProperty, SpellsInteger, SpellsNumber, SpellsBig, SpellsUnit, SpellsText, SpellsExpression, SpellsExpressions, SpellsMoreExpressions, SpellsKey, SpellsKeys, Block, SpellsStatement, SpellsLines, SpellsCases, SpellsBlock, SpellsObjectProperty, SpellsParameters, SpellsMember, SpellsMembers, SpellsItem, SpellsItemLine, SpellsNames, SpellsFile, SpellsImport, SpellsExports, Spells}
 use Rattle.js_tree.specs.declared.items.JsImport.{JsImport}
-use Rattle.js_tree.specs.Terms.{Name, Expression, null_literal, boolean_literal, undefined_literal, number_literal, big_literal, text_literal, name_use, this_use, property_of, index_of, call_of, method_call_of, new_of, new_array_of, list_of, binary_of, unary_of, conditional_of, host_call, host_call_of_two, Expressions, no_expressions, expression, Statement, const_of, let_of, declare_of, expression_statement, assign_name, assign_property, assign_index, super_call, throw_of, return_of, break_nearest, break_to, if_only, if_else, while_of, do_forever, labeled_of, try_catch, try_finally, switch_on, Statements, no_statements, statement, Cases, no_cases, switch_case, Property, Member, constructor_of, method_of, Item, const_item, object_item, let_item, expression_item, function_item, class_item, subclass_item, Piece, Module}
+use Rattle.js_tree.specs.Terms.{Name, Expression, null_literal, boolean_literal, undefined_literal, number_literal, big_literal, text_literal, name_use, this_use, property_of, index_of, call_of, method_call_of, new_of, new_array_of, list_of, binary_of, unary_of, conditional_of, host_call, host_call_of_two, Expressions, no_expressions, expression, Statement, const_of, let_of, declare_of, expression_statement, assign_name, assign_property, assign_index, super_call, throw_of, return_of, break_nearest, break_to, if_only, if_else, while_of, do_forever, labeled_of, try_catch, try_finally, switch_on, Statements, no_statements, statement, Cases, no_cases, switch_case, Property, Member, constructor_of, method_of, Item, const_item, object_item, let_item, expression_item, function_item, class_item, subclass_item, Module}
 use Rattle.std.specs.List.{AllByRecursion}
 
 more_kept : {A : Type 0} {P : A → Grammar} {Keeps : A → Type 0} (separator : List ℕ) →

@@ -1,14 +1,13 @@
 -- Each term that keeps the rules has one text, the one that is put.
-use Rattle.std.specs.Prelude.{◌≡◌, ℕ, ℤ, pos, negsuc, Bool, true, false, List, [], ◌∷◌, ◌++◌, ◌+◌, ◌<◌, ◌^◌, ◌↔◌, not, nat_lt, codes, decimal, IsTrue, All}
+use Rattle.std.specs.Prelude.{◌≡◌, ℕ, ℤ, pos, negsuc, Bool, true, false, List, [], ◌∷◌, ◌+◌, ◌↔◌, not, IsTrue, All}
 use Rattle.std.proofs.Common.{sym, refl, ◌∙◌, subst, lt-ltb}
 use Rattle.std.proofs.lemmas.List.Elements.{recursion_from_All}
-use Rattle.js_tree.specs.Names.{is_name, is_property, is_file, is_empty}
-use Rattle.js_tree.specs.Rules.{is_receiver, IsBelow, IsNumber, IsBig, IsUnit, IsName, IsProperty, IsExpression, IsExpressions, AreKeys, IsStatement, AreStatements, AreCases, IsObjectProperty, IsMember, IsItem, IsPiece, IsImport, IsModule}
-use Rattle.js_tree.specs.Words.{unit_text}
-use Rattle.js_tree.specs.Written.{Grammar, Is, ◌●◌, Where, More, Separated, Each, Putting, put, indent}
+use Rattle.js_tree.specs.Names.{is_file, is_empty}
+use Rattle.js_tree.specs.Rules.{IsBelow, IsNumber, IsBig, IsUnit, IsName, IsProperty, IsExpression, IsExpressions, AreKeys, IsStatement, AreStatements, AreCases, IsObjectProperty, IsMember, IsItem, IsPiece, IsImport, IsModule}
+use Rattle.js_tree.specs.Written.{Grammar, Putting}
 use Rattle.js_tree.specs.Spelling.{SpellsName, SpellsProperty, SpellsInteger, SpellsNumber, SpellsBig, SpellsUnit, SpellsText, SpellsBoolean, SpellsExpression, SpellsExpressions, SpellsMoreExpressions, SpellsKey, SpellsKeys, Block, SpellsStatement, SpellsLines, SpellsCases, SpellsBlock, SpellsObjectProperty, SpellsParameters, SpellsMember, SpellsMembers, SpellsItem, SpellsItemLine, SpellsNames, SpellsFile, SpellsImport, SpellsExports, PieceSpells, Spells}
 use Rattle.js_tree.specs.Texts.{put_name, put_property, put_integer, put_number, put_big, put_unit, put_text, put_boolean, put_expression, put_expressions, put_more_expressions, put_key, put_keys, put_block_of, put_statement, put_lines, put_cases, put_block, put_object_property, put_parameters, put_member, put_members, put_item, put_item_line, put_names, put_file, put_import, put_exports, put_piece, put_module, piece_text, module_text}
-use Rattle.js_tree.proofs.OneText.{IsText, literal, is_nothing, behind, where_holds, more, separated, each}
+use Rattle.js_tree.proofs.OneText.{IsText, literal, is_nothing, behind, where_holds, separated, each}
 use Rattle.js_tree.specs.declared.items.JsImport.{JsImport}
 use Rattle.js_tree.specs.Terms.{Name, Expression, null_literal, boolean_literal, undefined_literal, number_literal, big_literal, text_literal, name_use, this_use, property_of, index_of, call_of, method_call_of, new_of, new_array_of, list_of, binary_of, unary_of, conditional_of, host_call, host_call_of_two, Expressions, no_expressions, expression, Statement, const_of, let_of, declare_of, expression_statement, assign_name, assign_property, assign_index, super_call, throw_of, return_of, break_nearest, break_to, if_only, if_else, while_of, do_forever, labeled_of, try_catch, try_finally, switch_on, Statements, no_statements, statement, Cases, no_cases, switch_case, Property, Member, constructor_of, method_of, Item, const_item, object_item, let_item, expression_item, function_item, class_item, subclass_item, Piece, Module}
 
