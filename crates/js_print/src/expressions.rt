@@ -1,12 +1,22 @@
 // Expressions.
 ghost use Rattle.std.specs.Prelude.{◌≡◌, OnOk, codes};
 ghost use Rattle.js_tree.specs.Written.{put, ◌▸◌};
-ghost use Rattle.js_tree.specs.Texts.{put_expression, put_expressions};
+ghost use Rattle.js_tree.specs.Texts.{put_property, put_expression, put_expressions};
+ghost use Rattle.js_tree.specs.Words.{binary_text};
 ghost use Rattle.js_tree.specs.Views.{expression_view, expressions_view};
 
 use crate::writing::{append, append_big, append_boolean, append_number, append_text};
-use js_tree::JsExpr;
-use sj_names::NoMemory;
+use js_tree::{BinaryOperator, JsExpr};
+use sj_names::{NoMemory, Text};
+
+/// Appends an operator with a space on each side.
+fn append_operator(out: &mut Vec<u8>, operator: BinaryOperator) -> Result<(), NoMemory>
+    ensures { OnOk result (out.new.items ≡ (put (codes " ") ▸ put (binary_text operator) ▸ put (codes " ")) out.old.items) }
+{
+    append(out, " ")?;
+    append(out, operator.text())?;
+    append(out, " ")
+}
 
 /// Appends an expression.
 #[cycle(expression)]
@@ -22,25 +32,26 @@ pub(crate) fn append_expression(out: &mut Vec<u8>, expression: &JsExpr) -> Resul
         JsExpr::Text(units) => append_text(out, units.as_slice()),
         JsExpr::Name(name) => append(out, name.as_str()),
         JsExpr::This => append(out, "this"),
-        JsExpr::Property { object, property } => {
-            append_expression(out, object)?;
-            append(out, ".")?;
-            append(out, property.as_str())
-        }
+        JsExpr::Property { object, property } => append_access(out, object, property),
         JsExpr::Index { object, index } => {
             append_expression(out, object)?;
             append(out, "[")?;
             append_expression(out, index)?;
             append(out, "]")
         }
-        JsExpr::Call { function, arguments } => {
+        JsExpr::Call {
+            function,
+            arguments,
+        } => {
             append(out, function.as_str())?;
             append_arguments(out, arguments)
         }
-        JsExpr::MethodCall { object, property, arguments } => {
-            append_expression(out, object)?;
-            append(out, ".")?;
-            append(out, property.as_str())?;
+        JsExpr::MethodCall {
+            object,
+            property,
+            arguments,
+        } => {
+            append_access(out, object, property)?;
             append_arguments(out, arguments)
         }
         JsExpr::New { class, arguments } => {
@@ -58,12 +69,14 @@ pub(crate) fn append_expression(out: &mut Vec<u8>, expression: &JsExpr) -> Resul
             append_expressions(out, items)?;
             append(out, "]")
         }
-        JsExpr::Binary { left, operator, right } => {
+        JsExpr::Binary {
+            left,
+            operator,
+            right,
+        } => {
             append(out, "(")?;
             append_expression(out, left)?;
-            append(out, " ")?;
-            append(out, operator.text())?;
-            append(out, " ")?;
+            append_operator(out, *operator)?;
             append_expression(out, right)?;
             append(out, ")")
         }
@@ -88,7 +101,11 @@ pub(crate) fn append_expression(out: &mut Vec<u8>, expression: &JsExpr) -> Resul
             append_expression(out, argument)?;
             append(out, ")")
         }
-        JsExpr::HostOfTwo { function, first, second } => {
+        JsExpr::HostOfTwo {
+            function,
+            first,
+            second,
+        } => {
             append(out, function.text())?;
             append(out, "(")?;
             append_expression(out, first)?;
@@ -97,6 +114,20 @@ pub(crate) fn append_expression(out: &mut Vec<u8>, expression: &JsExpr) -> Resul
             append(out, ")")
         }
     }
+}
+
+/// Appends `e.p`
+#[cycle(expression)]
+pub(crate) fn append_access(
+    out: &mut Vec<u8>,
+    object: &JsExpr,
+    property: &Text,
+) -> Result<(), NoMemory>
+    ensures { OnOk result (out.new.items ≡ (put_expression (expression_view object.now) ▸ put (codes ".") ▸ put_property property.now) out.old.items) }
+{
+    append_expression(out, object)?;
+    append(out, ".")?;
+    append(out, property.as_str())
 }
 
 /// Appends the arguments of a call, in parentheses.

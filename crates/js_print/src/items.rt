@@ -5,7 +5,7 @@ ghost use Rattle.js_tree.specs.Texts.{put_object_property, put_member, put_membe
 ghost use Rattle.js_tree.specs.Views.{property_view, member_view, item_view, body_view};
 
 use crate::expressions::append_expression;
-use crate::statements::append_block;
+use crate::statements::{append_assignment, append_block, append_value};
 use crate::writing::{append, append_names, append_parameters};
 use js_tree::{ClassMember, JsBody, JsImport, JsItem, ObjectProperty};
 use sj_names::{NoMemory, Text};
@@ -56,7 +56,11 @@ fn append_member(out: &mut Vec<u8>, member: &ClassMember) -> Result<(), NoMemory
             append_block(out, 1, body.as_slice())?;
             append(out, "\n")
         }
-        ClassMember::Method { name, parameters, body } => {
+        ClassMember::Method {
+            name,
+            parameters,
+            body,
+        } => {
             append(out, "  ")?;
             append(out, name.as_str())?;
             append_parameters(out, parameters.as_slice())?;
@@ -102,10 +106,7 @@ fn append_item(out: &mut Vec<u8>, item: &JsItem) -> Result<(), NoMemory>
     match item {
         JsItem::Const { name, value } => {
             append(out, "const ")?;
-            append(out, name.as_str())?;
-            append(out, " = ")?;
-            append_expression(out, value)?;
-            append(out, ";")
+            append_assignment(out, name, value)
         }
         JsItem::ConstObject { name, properties } => {
             append(out, "const ")?;
@@ -116,16 +117,14 @@ fn append_item(out: &mut Vec<u8>, item: &JsItem) -> Result<(), NoMemory>
         }
         JsItem::Let { name, value } => {
             append(out, "let ")?;
-            append(out, name.as_str())?;
-            append(out, " = ")?;
-            append_expression(out, value)?;
-            append(out, ";")
+            append_assignment(out, name, value)
         }
-        JsItem::Expression(value) => {
-            append_expression(out, value)?;
-            append(out, ";")
-        }
-        JsItem::Function { name, parameters, body } => {
+        JsItem::Expression(value) => append_value(out, value),
+        JsItem::Function {
+            name,
+            parameters,
+            body,
+        } => {
             append(out, "function ")?;
             append(out, name.as_str())?;
             append_function(out, parameters.as_slice(), body)
@@ -136,7 +135,11 @@ fn append_item(out: &mut Vec<u8>, item: &JsItem) -> Result<(), NoMemory>
             append(out, " ")?;
             append_members(out, members)
         }
-        JsItem::Subclass { name, parent, members } => {
+        JsItem::Subclass {
+            name,
+            parent,
+            members,
+        } => {
             append(out, "class ")?;
             append(out, name.as_str())?;
             append(out, " extends ")?;

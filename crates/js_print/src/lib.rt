@@ -5,6 +5,8 @@ mod expressions;
 mod items;
 mod modules;
 mod statements;
+#[cfg(test)]
+mod tests;
 mod writing;
 
 pub use modules::{print_module, print_piece};

@@ -2,13 +2,14 @@
 ghost use Rattle.std.specs.Prelude.{◌≡◌, ◌∷◌, OnOk, codes, decimal};
 ghost use Rattle.js_tree.specs.Written.{put, put_each, put_separated, put_more, indent};
 ghost use Rattle.js_tree.specs.Texts.{put_integer, put_number, put_big, put_boolean, put_unit, put_text, put_name, put_key, put_keys, put_parameters};
-ghost use Rattle.js_tree.specs.Words.{unit_text, unit_escape, hex_digit};
+ghost use Rattle.js_tree.specs.Words.{hex_digit, unit_escape};
 ghost use Rattle.std.specs.Prelude.{◌<◌};
 
 use itoa::Buffer;
 use sj_names::{NoMemory, Text};
 
 /// Appends a text.
+#[tactic(auto, unfolding(js_tree::specs::Written::put))]
 pub(crate) fn append(out: &mut Vec<u8>, text: &str) -> Result<(), NoMemory>
     ensures { OnOk result (out.new.items ≡ put text.now out.old.items) }
 {
@@ -65,10 +66,15 @@ fn hex_digit_of(digit: u8) -> u8
     requires { digit < 16 }
     ensures { result ≡ hex_digit digit }
 {
-    if digit < 10 { b'0' + digit } else { b'a' - 10 + digit }
+    if digit < 10 {
+        b'0' + digit
+    } else {
+        b'a' - 10 + digit
+    }
 }
 
 /// Appends `\u` and the four hexadecimal digits of a unit.
+#[tactic(auto, unfolding(js_tree::specs::Written::put))]
 fn append_escape(out: &mut Vec<u8>, unit: u16) -> Result<(), NoMemory>
     ensures { OnOk result (out.new.items ≡ put (unit_escape unit) out.old.items) }
 {
@@ -81,6 +87,7 @@ fn append_escape(out: &mut Vec<u8>, unit: u16) -> Result<(), NoMemory>
 }
 
 /// Appends a unit of a string as it is written in double quotes.
+#[tactic(auto, unfolding(js_tree::specs::Written::put))]
 fn append_unit(out: &mut Vec<u8>, unit: u16) -> Result<(), NoMemory>
     ensures { OnOk result (out.new.items ≡ put_unit unit out.old.items) }
 {
@@ -115,7 +122,7 @@ fn append_units(out: &mut Vec<u8>, units: &[u16]) -> Result<(), NoMemory>
 }
 
 /// Appends two spaces for each level.
-#[tactic(auto, using(crate::proofs::Indents::one_level_more))]
+#[tactic(auto, using(crate::proofs::Indents::no_level, crate::proofs::Indents::one_level_more))]
 pub(crate) fn append_indent(out: &mut Vec<u8>, level: usize) -> Result<(), NoMemory>
     ensures { OnOk result (out.new.items ≡ put (indent level) out.old.items) }
 {
@@ -150,6 +157,7 @@ fn append_more_names(out: &mut Vec<u8>, names: &[Text]) -> Result<(), NoMemory>
 }
 
 /// Appends a line feed and two spaces for each level.
+#[tactic(auto, using(crate::proofs::Indents::line_break))]
 fn append_line_break(out: &mut Vec<u8>, level: usize) -> Result<(), NoMemory>
     ensures { OnOk result (out.new.items ≡ put (10 ∷ indent level) out.old.items) }
 {

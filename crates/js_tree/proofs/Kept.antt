@@ -1,14 +1,12 @@
 -- What is spelled keeps the rules: the grammar of a term holds of some text only where the term keeps them.
-use Rattle.std.specs.Prelude.{ℕ, ℤ, pos, negsuc, Bool, true, false, List, [], ◌∷◌, ◌++◌, ◌+◌, ◌<◌, ◌^◌, ◌↔◌, not, nat_lt, codes, decimal, IsTrue, All}
+use Rattle.std.specs.Prelude.{ℕ, ℤ, pos, negsuc, List, [], ◌∷◌, ◌+◌, All}
 use Rattle.std.proofs.Common.{ltb-true}
 use Rattle.std.proofs.lemmas.List.Elements.{All-from_recursion}
-use Rattle.js_tree.specs.Names.{is_name, is_property, is_file, is_empty}
-use Rattle.js_tree.specs.Rules.{is_receiver, IsBelow, IsNumber, IsBig, IsUnit, IsName, IsProperty, IsExpression, IsExpressions, AreKeys, IsStatement, AreStatements, AreCases, IsObjectProperty, IsMember, IsItem, IsPiece, IsImport, IsModule}
-use Rattle.js_tree.specs.Words.{unit_text}
-use Rattle.js_tree.specs.Written.{Grammar, Is, ◌●◌, Where, More, Separated, Each, Putting, put, indent}
-use Rattle.js_tree.specs.Spelling.{SpellsName, SpellsProperty, SpellsInteger, SpellsNumber, SpellsBig, SpellsUnit, SpellsText, SpellsBoolean, SpellsExpression, SpellsExpressions, SpellsMoreExpressions, SpellsKey, SpellsKeys, Block, SpellsStatement, SpellsLines, SpellsCases, SpellsBlock, SpellsObjectProperty, SpellsParameters, SpellsMember, SpellsMembers, SpellsItem, SpellsItemLine, SpellsNames, SpellsFile, SpellsImport, SpellsExports, PieceSpells, Spells}
+use Rattle.js_tree.specs.Rules.{IsBelow, IsNumber, IsBig, IsUnit, IsName, IsProperty, IsExpression, IsExpressions, AreKeys, IsStatement, AreStatements, AreCases, IsObjectProperty, IsMember, IsItem, IsImport, IsModule}
+use Rattle.js_tree.specs.Written.{Grammar, More, Separated, Each}
+use Rattle.js_tree.specs.Spelling.{SpellsName, SpellsProperty, SpellsInteger, SpellsNumber, SpellsBig, SpellsUnit, SpellsText, SpellsExpression, SpellsExpressions, SpellsMoreExpressions, SpellsKey, SpellsKeys, Block, SpellsStatement, SpellsLines, SpellsCases, SpellsBlock, SpellsObjectProperty, SpellsParameters, SpellsMember, SpellsMembers, SpellsItem, SpellsItemLine, SpellsNames, SpellsFile, SpellsImport, SpellsExports, Spells}
 use Rattle.js_tree.specs.declared.items.JsImport.{JsImport}
-use Rattle.js_tree.specs.Terms.{Name, Expression, null_literal, boolean_literal, undefined_literal, number_literal, big_literal, text_literal, name_use, this_use, property_of, index_of, call_of, method_call_of, new_of, new_array_of, list_of, binary_of, unary_of, conditional_of, host_call, host_call_of_two, Expressions, no_expressions, expression, Statement, const_of, let_of, declare_of, expression_statement, assign_name, assign_property, assign_index, super_call, throw_of, return_of, break_nearest, break_to, if_only, if_else, while_of, do_forever, labeled_of, try_catch, try_finally, switch_on, Statements, no_statements, statement, Cases, no_cases, switch_case, Property, Member, constructor_of, method_of, Item, const_item, object_item, let_item, expression_item, function_item, class_item, subclass_item, Piece, Module}
+use Rattle.js_tree.specs.Terms.{Name, Expression, null_literal, boolean_literal, undefined_literal, number_literal, big_literal, text_literal, name_use, this_use, property_of, index_of, call_of, method_call_of, new_of, new_array_of, list_of, binary_of, unary_of, conditional_of, host_call, host_call_of_two, Expressions, no_expressions, expression, Statement, const_of, let_of, declare_of, expression_statement, assign_name, assign_property, assign_index, super_call, throw_of, return_of, break_nearest, break_to, if_only, if_else, while_of, do_forever, labeled_of, try_catch, try_finally, switch_on, Statements, no_statements, statement, Cases, no_cases, switch_case, Property, Member, constructor_of, method_of, Item, const_item, object_item, let_item, expression_item, function_item, class_item, subclass_item, Module}
 use Rattle.std.specs.List.{AllByRecursion}
 
 more_kept : {A : Type 0} {P : A → Grammar} {Keeps : A → Type 0} (separator : List ℕ) →
@@ -60,6 +58,7 @@ keeps_text us t h = All-from_recursion _ us (each_kept keeps_unit us _ h.second.
 
 mutual
   unfolding SpellsExpression SpellsExpressions SpellsMoreExpressions
+
   pub keeps_expression : (e : Expression) (t : List ℕ) → SpellsExpression e t → IsExpression e
   keeps_expression null_literal t h = tt
   keeps_expression (boolean_literal b) t h = tt
@@ -81,9 +80,11 @@ mutual
   keeps_expression (conditional_of c a b) t h = (keeps_expression c _ h.second.first, keeps_expression a _ h.second.second.second.first, keeps_expression b _ h.second.second.second.second.second.first)
   keeps_expression (host_call f e) t h = keeps_expression e _ h.second.second.first
   keeps_expression (host_call_of_two f a b) t h = (keeps_expression a _ h.second.second.first, keeps_expression b _ h.second.second.second.second.first)
+
   pub keeps_expressions : (es : Expressions) (t : List ℕ) → SpellsExpressions es t → IsExpressions es
   keeps_expressions no_expressions t h = tt
   keeps_expressions (expression e es) t h = (keeps_expression e _ h.first, keeps_more_expressions es _ h.second)
+
   pub keeps_more_expressions : (es : Expressions) (t : List ℕ) → SpellsMoreExpressions es t → IsExpressions es
   keeps_more_expressions no_expressions t h = tt
   keeps_more_expressions (expression e es) t h = (keeps_expression e _ h.second.first, keeps_more_expressions es _ h.second.second)
@@ -103,6 +104,7 @@ lines_of_block level P t h = (h.second.front, h.second.first)
 
 mutual
   unfolding SpellsStatement SpellsLines SpellsCases
+
   pub keeps_statement : (level : ℕ) (x : Statement) (t : List ℕ) → SpellsStatement level x t → IsStatement x
   keeps_statement level (const_of x e) t h = (keeps_name x _ h.second.first, keeps_expression e _ h.second.second.second.first)
   keeps_statement level (let_of x e) t h = (keeps_name x _ h.second.first, keeps_expression e _ h.second.second.second.first)
@@ -124,9 +126,11 @@ mutual
   keeps_statement level (try_catch ss x ts) t h = (keeps_lines (level + 1) ss _ (lines_of_block level _ _ h.second.first).1, keeps_name x _ h.second.second.second.first, keeps_lines (level + 1) ts _ (lines_of_block level _ _ h.second.second.second.second.second).1)
   keeps_statement level (try_finally ss ts) t h = (keeps_lines (level + 1) ss _ (lines_of_block level _ _ h.second.first).1, keeps_lines (level + 1) ts _ (lines_of_block level _ _ h.second.second.second).1)
   keeps_statement level (switch_on e cs ss) t h = (keeps_expression e _ h.second.first, keeps_cases (level + 1) cs _ h.second.second.second.first, keeps_lines (level + 1 + 1) ss _ (lines_of_block (level + 1) _ _ h.second.second.second.second.second.second.first).1)
+
   pub keeps_lines : (level : ℕ) (ss : Statements) (t : List ℕ) → SpellsLines level ss t → AreStatements ss
   keeps_lines level no_statements t h = tt
   keeps_lines level (statement s ss) t h = (keeps_statement level s _ h.second.first, keeps_lines level ss _ h.second.second.second)
+
   pub keeps_cases : (level : ℕ) (cs : Cases) (t : List ℕ) → SpellsCases level cs t → AreCases cs
   keeps_cases level no_cases t h = tt
   keeps_cases level (switch_case ks ss cs) t h = (keeps_keys level ks _ h.second.first, keeps_lines (level + 1) ss _ (lines_of_block level _ _ h.second.second.second.first).1, keeps_cases level cs _ h.second.second.second.second.second)

@@ -1,3 +1,4 @@
 pub mod Kept
 pub mod OneText
+pub mod Rows
 pub mod TextLaws

@@ -13,6 +13,7 @@ pub record IsText (P : Grammar) (w : Putting) : Type 0 where
   pub only : (other : List ℕ) → P other → other ≡ text
 
 pub literal : (want : List ℕ) → IsText (Is want) (put want)
+unfolding put
 literal want = record { text = want; spelled = record { same = refl }; appended = λ out. refl; only = λ other s. s.same }
 
 pub is_nothing : IsText (Is []) nothing

@@ -1,14 +1,13 @@
 -- Each term that keeps the rules has one text, the one that is put.
-use Rattle.std.specs.Prelude.{◌≡◌, ℕ, ℤ, pos, negsuc, Bool, true, false, List, [], ◌∷◌, ◌++◌, ◌+◌, ◌<◌, ◌^◌, ◌↔◌, not, nat_lt, codes, decimal, IsTrue, All}
+use Rattle.std.specs.Prelude.{◌≡◌, ℕ, ℤ, pos, negsuc, Bool, true, false, List, [], ◌∷◌, ◌+◌, ◌↔◌, not, IsTrue, All}
 use Rattle.std.proofs.Common.{sym, refl, ◌∙◌, subst, lt-ltb}
 use Rattle.std.proofs.lemmas.List.Elements.{recursion_from_All}
-use Rattle.js_tree.specs.Names.{is_name, is_property, is_file, is_empty}
-use Rattle.js_tree.specs.Rules.{is_receiver, IsBelow, IsNumber, IsBig, IsUnit, IsName, IsProperty, IsExpression, IsExpressions, AreKeys, IsStatement, AreStatements, AreCases, IsObjectProperty, IsMember, IsItem, IsPiece, IsImport, IsModule}
-use Rattle.js_tree.specs.Words.{unit_text}
-use Rattle.js_tree.specs.Written.{Grammar, Is, ◌●◌, Where, More, Separated, Each, Putting, put, indent}
+use Rattle.js_tree.specs.Names.{is_file, is_empty}
+use Rattle.js_tree.specs.Rules.{IsBelow, IsNumber, IsBig, IsUnit, IsName, IsProperty, IsExpression, IsExpressions, AreKeys, IsStatement, AreStatements, AreCases, IsObjectProperty, IsMember, IsItem, IsPiece, IsImport, IsModule}
+use Rattle.js_tree.specs.Written.{Grammar, Putting}
 use Rattle.js_tree.specs.Spelling.{SpellsName, SpellsProperty, SpellsInteger, SpellsNumber, SpellsBig, SpellsUnit, SpellsText, SpellsBoolean, SpellsExpression, SpellsExpressions, SpellsMoreExpressions, SpellsKey, SpellsKeys, Block, SpellsStatement, SpellsLines, SpellsCases, SpellsBlock, SpellsObjectProperty, SpellsParameters, SpellsMember, SpellsMembers, SpellsItem, SpellsItemLine, SpellsNames, SpellsFile, SpellsImport, SpellsExports, PieceSpells, Spells}
 use Rattle.js_tree.specs.Texts.{put_name, put_property, put_integer, put_number, put_big, put_unit, put_text, put_boolean, put_expression, put_expressions, put_more_expressions, put_key, put_keys, put_block_of, put_statement, put_lines, put_cases, put_block, put_object_property, put_parameters, put_member, put_members, put_item, put_item_line, put_names, put_file, put_import, put_exports, put_piece, put_module, piece_text, module_text}
-use Rattle.js_tree.proofs.OneText.{IsText, literal, is_nothing, behind, where_holds, more, separated, each}
+use Rattle.js_tree.proofs.OneText.{IsText, literal, is_nothing, behind, where_holds, separated, each}
 use Rattle.js_tree.specs.declared.items.JsImport.{JsImport}
 use Rattle.js_tree.specs.Terms.{Name, Expression, null_literal, boolean_literal, undefined_literal, number_literal, big_literal, text_literal, name_use, this_use, property_of, index_of, call_of, method_call_of, new_of, new_array_of, list_of, binary_of, unary_of, conditional_of, host_call, host_call_of_two, Expressions, no_expressions, expression, Statement, const_of, let_of, declare_of, expression_statement, assign_name, assign_property, assign_index, super_call, throw_of, return_of, break_nearest, break_to, if_only, if_else, while_of, do_forever, labeled_of, try_catch, try_finally, switch_on, Statements, no_statements, statement, Cases, no_cases, switch_case, Property, Member, constructor_of, method_of, Item, const_item, object_item, let_item, expression_item, function_item, class_item, subclass_item, Piece, Module}
 
@@ -48,6 +47,7 @@ text_of_boolean false = literal _
 
 mutual
   unfolding SpellsExpression SpellsExpressions SpellsMoreExpressions
+
   pub text_of_expression : (e : Expression) → IsExpression e → IsText (SpellsExpression e) (put_expression e)
   text_of_expression null_literal k = literal _
   text_of_expression (boolean_literal b) k = text_of_boolean b
@@ -69,9 +69,11 @@ mutual
   text_of_expression (conditional_of c a b) k = behind (literal _) (behind (text_of_expression c k.0) (behind (literal _) (behind (text_of_expression a k.1) (behind (literal _) (behind (text_of_expression b k.2) (literal _))))))
   text_of_expression (host_call f e) k = behind (literal _) (behind (literal _) (behind (text_of_expression e k) (literal _)))
   text_of_expression (host_call_of_two f a b) k = behind (literal _) (behind (literal _) (behind (text_of_expression a k.0) (behind (literal _) (behind (text_of_expression b k.1) (literal _)))))
+
   pub text_of_expressions : (es : Expressions) → IsExpressions es → IsText (SpellsExpressions es) (put_expressions es)
   text_of_expressions no_expressions k = is_nothing
   text_of_expressions (expression e es) k = behind (text_of_expression e k.0) (text_of_more_expressions es k.1)
+
   pub text_of_more_expressions : (es : Expressions) → IsExpressions es → IsText (SpellsMoreExpressions es) (put_more_expressions es)
   text_of_more_expressions no_expressions k = is_nothing
   text_of_more_expressions (expression e es) k = behind (literal _) (behind (text_of_expression e k.0) (text_of_more_expressions es k.1))
@@ -90,6 +92,7 @@ text_of_block level a = behind (literal _) (behind a (behind (literal _) (litera
 
 mutual
   unfolding SpellsStatement SpellsLines SpellsCases
+
   pub text_of_statement : (level : ℕ) (s : Statement) → IsStatement s → IsText (SpellsStatement level s) (put_statement level s)
   text_of_statement level (const_of x e) k = behind (literal _) (behind (text_of_name x k.0) (behind (literal _) (behind (text_of_expression e k.1) (literal _))))
   text_of_statement level (let_of x e) k = behind (literal _) (behind (text_of_name x k.0) (behind (literal _) (behind (text_of_expression e k.1) (literal _))))
@@ -111,9 +114,11 @@ mutual
   text_of_statement level (try_catch ss x ts) k = behind (literal _) (behind (text_of_block level (text_of_lines (level + 1) ss k.0)) (behind (literal _) (behind (text_of_name x k.1) (behind (literal _) (text_of_block level (text_of_lines (level + 1) ts k.2))))))
   text_of_statement level (try_finally ss ts) k = behind (literal _) (behind (text_of_block level (text_of_lines (level + 1) ss k.0)) (behind (literal _) (text_of_block level (text_of_lines (level + 1) ts k.1))))
   text_of_statement level (switch_on e cs ss) k = behind (literal _) (behind (text_of_expression e k.0) (behind (literal _) (behind (text_of_cases (level + 1) cs k.1) (behind (literal _) (behind (literal _) (behind (text_of_block (level + 1) (text_of_lines (level + 1 + 1) ss k.2)) (behind (literal _) (behind (literal _) (literal _)))))))))
+
   pub text_of_lines : (level : ℕ) (ss : Statements) → AreStatements ss → IsText (SpellsLines level ss) (put_lines level ss)
   text_of_lines level no_statements k = is_nothing
   text_of_lines level (statement s ss) k = behind (literal _) (behind (text_of_statement level s k.0) (behind (literal _) (text_of_lines level ss k.1)))
+
   pub text_of_cases : (level : ℕ) (cs : Cases) → AreCases cs → IsText (SpellsCases level cs) (put_cases level cs)
   text_of_cases level no_cases k = is_nothing
   text_of_cases level (switch_case ks ss cs) k = behind (literal _) (behind (text_of_keys level ks k.0) (behind (literal _) (behind (text_of_block level (text_of_lines (level + 1) ss k.1)) (behind (literal _) (text_of_cases level cs k.2)))))

@@ -1,6 +1,6 @@
 -- The rules on the parts of a term: on names, property names, numbers, units, keys, lists that may not be empty, and the
 -- expression before `.` or `[`. They are the condition of printing.
-use Rattle.std.specs.Prelude.{ℕ, ℤ, pos, negsuc, Bool, true, false, List, [], ◌∷◌, ◌<◌, ◌^◌, not, IsTrue, All}
+use Rattle.std.specs.Prelude.{ℕ, ℤ, pos, negsuc, Bool, true, false, List, ◌<◌, ◌^◌, not, IsTrue, All}
 use Rattle.js_tree.specs.Names.{is_name, is_property, is_file, is_empty}
 use Rattle.js_tree.specs.Terms.{Name, Expression, null_literal, boolean_literal, undefined_literal, number_literal, big_literal, text_literal, name_use, this_use, property_of, index_of, call_of, method_call_of, new_of, new_array_of, list_of, binary_of, unary_of, conditional_of, host_call, host_call_of_two, Expressions, no_expressions, expression, Statement, const_of, let_of, declare_of, expression_statement, assign_name, assign_property, assign_index, super_call, throw_of, return_of, break_nearest, break_to, if_only, if_else, while_of, do_forever, labeled_of, try_catch, try_finally, switch_on, Statements, no_statements, statement, Cases, no_cases, switch_case, Property, Member, constructor_of, method_of, Item, const_item, object_item, let_item, expression_item, function_item, class_item, subclass_item, Piece, Module}
 use Rattle.js_tree.specs.declared.items.JsImport.{JsImport}
@@ -57,6 +57,7 @@ abbrev mutual
   IsExpression (conditional_of c a b) = IsExpression c × IsExpression a × IsExpression b
   IsExpression (host_call f e) = IsExpression e
   IsExpression (host_call_of_two f a b) = IsExpression a × IsExpression b
+
   pub IsExpressions : Expressions → Type 0
   IsExpressions no_expressions = Unit {0}
   IsExpressions (expression e es) = IsExpression e × IsExpressions es
@@ -87,9 +88,11 @@ abbrev mutual
   IsStatement (try_catch ss x ts) = AreStatements ss × IsName x × AreStatements ts
   IsStatement (try_finally ss ts) = AreStatements ss × AreStatements ts
   IsStatement (switch_on e cs ss) = IsExpression e × AreCases cs × AreStatements ss
+
   pub AreStatements : Statements → Type 0
   AreStatements no_statements = Unit {0}
   AreStatements (statement s ss) = IsStatement s × AreStatements ss
+
   pub AreCases : Cases → Type 0
   AreCases no_cases = Unit {0}
   AreCases (switch_case ks ss cs) = AreKeys ks × AreStatements ss × AreCases cs

@@ -3,7 +3,7 @@ use Rattle.std.specs.Prelude.{ℕ, ℤ, pos, negsuc, Bool, true, false, List, []
 use Rattle.js_tree.specs.Names.{is_name, is_property, is_file, is_empty}
 use Rattle.js_tree.specs.Rules.{is_receiver}
 use Rattle.js_tree.specs.Words.{binary_text, unary_text, host_text, host_of_two_text, unit_text}
-use Rattle.js_tree.specs.Written.{Grammar, Is, ◌●◌, Where, More, Separated, Each, indent}
+use Rattle.js_tree.specs.Written.{Grammar, Is, ◌●◌, Where, Separated, Each, indent}
 use Rattle.js_tree.specs.Terms.{Name, Expression, null_literal, boolean_literal, undefined_literal, number_literal, big_literal, text_literal, name_use, this_use, property_of, index_of, call_of, method_call_of, new_of, new_array_of, list_of, binary_of, unary_of, conditional_of, host_call, host_call_of_two, Expressions, no_expressions, expression, Statement, const_of, let_of, declare_of, expression_statement, assign_name, assign_property, assign_index, super_call, throw_of, return_of, break_nearest, break_to, if_only, if_else, while_of, do_forever, labeled_of, try_catch, try_finally, switch_on, Statements, no_statements, statement, Cases, no_cases, switch_case, Property, Member, constructor_of, method_of, Item, const_item, object_item, let_item, expression_item, function_item, class_item, subclass_item, Piece, Module}
 use Rattle.js_tree.specs.declared.items.JsImport.{JsImport}
 
@@ -59,10 +59,12 @@ unfoldable mutual
   SpellsExpression (conditional_of c a b) = Is (codes "(") ● SpellsExpression c ● Is (codes " ? ") ● SpellsExpression a ● Is (codes " : ") ● SpellsExpression b ● Is (codes ")")
   SpellsExpression (host_call f e) = Is (host_text f) ● Is (codes "(") ● SpellsExpression e ● Is (codes ")")
   SpellsExpression (host_call_of_two f a b) = Is (host_of_two_text f) ● Is (codes "(") ● SpellsExpression a ● Is (codes ", ") ● SpellsExpression b ● Is (codes ")")
+
   -- expressions with a comma and a space between them
   pub SpellsExpressions : Expressions → Grammar
   SpellsExpressions no_expressions = Is []
   SpellsExpressions (expression e es) = SpellsExpression e ● SpellsMoreExpressions es
+
   pub SpellsMoreExpressions : Expressions → Grammar
   SpellsMoreExpressions no_expressions = Is []
   SpellsMoreExpressions (expression e es) = Is (codes ", ") ● SpellsExpression e ● SpellsMoreExpressions es
@@ -102,10 +104,12 @@ unfoldable mutual
   SpellsStatement level (try_catch ss x ts) = Is (codes "try ") ● Block level (SpellsLines (level + 1) ss) ● Is (codes " catch (") ● SpellsName x ● Is (codes ") ") ● Block level (SpellsLines (level + 1) ts)
   SpellsStatement level (try_finally ss ts) = Is (codes "try ") ● Block level (SpellsLines (level + 1) ss) ● Is (codes " finally ") ● Block level (SpellsLines (level + 1) ts)
   SpellsStatement level (switch_on e cs ss) = Is (codes "switch (") ● SpellsExpression e ● Is (codes ") {\n") ● SpellsCases (level + 1) cs ● Is (indent (level + 1)) ● Is (codes "default: ") ● Block (level + 1) (SpellsLines (level + 1 + 1) ss) ● Is (codes "\n") ● Is (indent level) ● Is (codes "}")
+
   -- statements, each on its own line of this level
   pub SpellsLines : ℕ → Statements → Grammar
   SpellsLines level no_statements = Is []
   SpellsLines level (statement s ss) = Is (indent level) ● SpellsStatement level s ● Is (codes "\n") ● SpellsLines level ss
+
   -- cases, each on lines of this level
   pub SpellsCases : ℕ → Cases → Grammar
   SpellsCases level no_cases = Is []

@@ -1,7 +1,7 @@
 -- The text of a term: the same productions, each put behind what is there.
 use Rattle.std.specs.Prelude.{ℕ, ℤ, pos, negsuc, Bool, true, false, List, [], ◌∷◌, ◌+◌, codes, decimal}
 use Rattle.js_tree.specs.Words.{binary_text, unary_text, host_text, host_of_two_text, unit_text}
-use Rattle.js_tree.specs.Written.{Putting, put, nothing, ◌▸◌, put_more, put_separated, put_each, indent}
+use Rattle.js_tree.specs.Written.{Putting, put, nothing, ◌▸◌, put_separated, put_each, indent}
 use Rattle.js_tree.specs.Terms.{Name, Expression, null_literal, boolean_literal, undefined_literal, number_literal, big_literal, text_literal, name_use, this_use, property_of, index_of, call_of, method_call_of, new_of, new_array_of, list_of, binary_of, unary_of, conditional_of, host_call, host_call_of_two, Expressions, no_expressions, expression, Statement, const_of, let_of, declare_of, expression_statement, assign_name, assign_property, assign_index, super_call, throw_of, return_of, break_nearest, break_to, if_only, if_else, while_of, do_forever, labeled_of, try_catch, try_finally, switch_on, Statements, no_statements, statement, Cases, no_cases, switch_case, Property, Member, constructor_of, method_of, Item, const_item, object_item, let_item, expression_item, function_item, class_item, subclass_item, Piece, Module}
 use Rattle.js_tree.specs.declared.items.JsImport.{JsImport}
 
@@ -57,10 +57,12 @@ abbrev mutual
   put_expression (conditional_of c a b) = put (codes "(") ▸ put_expression c ▸ put (codes " ? ") ▸ put_expression a ▸ put (codes " : ") ▸ put_expression b ▸ put (codes ")")
   put_expression (host_call f e) = put (host_text f) ▸ put (codes "(") ▸ put_expression e ▸ put (codes ")")
   put_expression (host_call_of_two f a b) = put (host_of_two_text f) ▸ put (codes "(") ▸ put_expression a ▸ put (codes ", ") ▸ put_expression b ▸ put (codes ")")
+
   -- expressions with a comma and a space between them
   pub put_expressions : Expressions → Putting
   put_expressions no_expressions = nothing
   put_expressions (expression e es) = put_expression e ▸ put_more_expressions es
+
   pub put_more_expressions : Expressions → Putting
   put_more_expressions no_expressions = nothing
   put_more_expressions (expression e es) = put (codes ", ") ▸ put_expression e ▸ put_more_expressions es
@@ -100,10 +102,12 @@ abbrev mutual
   put_statement level (try_catch ss x ts) = put (codes "try ") ▸ put_block_of level (put_lines (level + 1) ss) ▸ put (codes " catch (") ▸ put_name x ▸ put (codes ") ") ▸ put_block_of level (put_lines (level + 1) ts)
   put_statement level (try_finally ss ts) = put (codes "try ") ▸ put_block_of level (put_lines (level + 1) ss) ▸ put (codes " finally ") ▸ put_block_of level (put_lines (level + 1) ts)
   put_statement level (switch_on e cs ss) = put (codes "switch (") ▸ put_expression e ▸ put (codes ") {\n") ▸ put_cases (level + 1) cs ▸ put (indent (level + 1)) ▸ put (codes "default: ") ▸ put_block_of (level + 1) (put_lines (level + 1 + 1) ss) ▸ put (codes "\n") ▸ put (indent level) ▸ put (codes "}")
+
   -- statements, each on its own line of this level
   pub put_lines : ℕ → Statements → Putting
   put_lines level no_statements = nothing
   put_lines level (statement s ss) = put (indent level) ▸ put_statement level s ▸ put (codes "\n") ▸ put_lines level ss
+
   -- cases, each on lines of this level
   pub put_cases : ℕ → Cases → Putting
   put_cases level no_cases = nothing

@@ -11,7 +11,6 @@ pub record Is (want text : List ℕ) : Type 0 where
   pub same : text ≡ want
 
 infixr 10 ◌●◌
-
 -- the one and behind it the other
 pub record ◌●◌ (P Q : Grammar) (text : List ℕ) : Type 0 where
   pub front : List ℕ
@@ -48,7 +47,7 @@ indent level = replicate (2 * level) 32
 abbrev pub Putting : Type 0
 Putting = List ℕ → List ℕ
 
-abbrev pub put : List ℕ → Putting
+unfoldable pub put : List ℕ → Putting
 put text out = out ++ text
 
 -- nothing is put
@@ -56,7 +55,6 @@ abbrev pub nothing : Putting
 nothing out = out
 
 infixr 10 ◌▸◌
-
 -- the one and behind it the other
 abbrev pub ◌▸◌ : Putting → Putting → Putting
 (v ▸ w) out = w (v out)

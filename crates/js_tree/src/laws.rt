@@ -10,5 +10,4 @@ pub fn each_has_one_text()
     ensures modules { (m : Module) → IsModule m → (bytes : List ℕ) → Spells m bytes ↔ (bytes ≡ module_text m) }
     ensures kept { (m : Module) → (bytes : List ℕ) → Spells m bytes → IsModule m }
     ensures pieces { (p : Piece) → IsPiece p → (bytes : List ℕ) → PieceSpells p bytes ↔ (bytes ≡ piece_text p) }
-{
-}
+{}

@@ -1,4 +1,4 @@
-use Rattle.std.proofs.Common.{◌≡◌, drop, map, codes}
+use Rattle.std.proofs.Common.{◌≡◌, drop, map}
 use Rattle.js_tree.specs.Written.{put_each}
 use Rattle.js_tree.specs.Texts.{put_member}
 use Rattle.js_tree.specs.Views.{member_view}

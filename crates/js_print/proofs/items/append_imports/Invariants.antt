@@ -1,4 +1,4 @@
-use Rattle.std.proofs.Common.{◌≡◌, drop, map, codes}
+use Rattle.std.proofs.Common.{◌≡◌, drop}
 use Rattle.js_tree.specs.Written.{put_each}
 use Rattle.js_tree.specs.Texts.{put_import}
 use Rattle.js_print.proofs.items.append_imports.Given as goal
