@@ -4,3 +4,5 @@ pub mod InMemory
 pub mod Increasing
 pub mod Reading
 pub mod Writing
+pub mod View
+pub mod Holding

@@ -6,11 +6,14 @@
 
 mod answers;
 mod calls;
+mod contents;
 mod folders;
+mod folders_in_memory;
 mod lines;
 mod lines_in_memory;
 mod outputs;
 mod outputs_in_memory;
+mod parts;
 mod real;
 mod real_folders;
 mod real_lines;
@@ -18,7 +21,9 @@ mod real_outputs;
 
 pub use answers::{Entry, OutsideError, PutFile};
 pub use calls::Calls;
+pub use contents::Contents;
 pub use folders::Folders;
+pub use folders_in_memory::FoldersInMemory;
 pub use lines::Lines;
 pub use lines_in_memory::LinesInMemory;
 pub use outputs::Outputs;

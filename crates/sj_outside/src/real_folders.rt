@@ -1,18 +1,17 @@
 // Real folders that are read.
 ghost use Rattle.std.specs.Prelude.{◌≡◌, ◌≤◌, ℕ, [], None, IfOk, IsTrue, length, not, ◌==◌, map};
 ghost use Rattle.std.specs.List.{list_all};
-ghost use Rattle.std.specs.Ordering.{nat_cmp};
+ghost use Rattle.std.specs.Ordering.{nat_cmp, is_lt};
 ghost use Rattle.std.specs.Cmp.Lexicographic.{slice_cmp};
 ghost use Rattle.sj_outside.specs.Contents.{entry_name, are_names, is_name};
 ghost use Rattle.sj_outside.specs.Faults.{HasCause, faults_after};
 ghost use Rattle.sj_outside.specs.Reading.{Lists, Reads};
-ghost use Rattle.sj_outside.specs.Increasing.{are_increasing, is_less};
+ghost use Rattle.sj_outside.specs.Increasing.{are_increasing};
 
 use crate::real::failure;
 use crate::{Entry, Folders, OutsideError};
 use sj_names::Text;
 use std::alloc::Global;
-use std::cmp::Ordering;
 use std::io::{ErrorKind, Read};
 use std::rt::Files;
 use std::{fs, io};
@@ -116,12 +115,9 @@ fn are_increasing(entries: &[Entry]) -> bool
 }
 
 fn is_above(least: &[u8], name: &[u8]) -> bool
-    ensures { result ≡ is_less (slice_cmp nat_cmp least.now name.now) }
+    ensures { result ≡ is_lt (slice_cmp nat_cmp least.now name.now) }
 {
-    match least.cmp(name) {
-        Ordering::Less => true,
-        Ordering::Equal | Ordering::Greater => false,
-    }
+    least.cmp(name).is_lt()
 }
 
 fn is_name(name: &[u8]) -> bool
