@@ -61,13 +61,9 @@ impl Folders for FoldersInMemory {
         ensures entries { IfOk result (λ v. Lists (Some (contents_view self.old.contents)) path.now v.items) }
         ensures names { IfOk result (λ v. IsTrue (are_names (map entry_name v.items))) }
         ensures cause { HasCause self.old.calls.faults self.new.calls.faults result }
-        ensures missing {
-            IsMissing (lacks_folder (Some (contents_view self.old.contents)) path.now) self.old.missing self.new.missing result
-        }
-        ensures fails {
-            IsErrOf result OutsideError.Failed
-            ↔ IsTrue (is_due self.old.calls || lacks_folder (Some (contents_view self.old.contents)) path.now)
-        }
+        ensures missing { IsMissing (lacks_folder (Some (contents_view self.old.contents)) path.now) self.old.missing self.new.missing result }
+        ensures fails { IsErrOf result OutsideError.Failed
+            ↔ IsTrue (is_due self.old.calls || lacks_folder (Some (contents_view self.old.contents)) path.now) }
         ensures calls { self.new.calls ≡ after_call result self.old.calls }
     {
         let is_due = self.calls.begin();
@@ -89,13 +85,9 @@ impl Folders for FoldersInMemory {
         ensures bytes { IfOk result (λ v. Reads (Some (contents_view self.old.contents)) path.now most v.items) }
         ensures most { IfOk result (λ v. length v.items ≤ most) }
         ensures cause { HasCause self.old.calls.faults self.new.calls.faults result }
-        ensures missing {
-            IsMissing (lacks_file (Some (contents_view self.old.contents)) path.now) self.old.missing self.new.missing result
-        }
-        ensures fails {
-            IsErrOf result OutsideError.Failed
-            ↔ IsTrue (is_due self.old.calls || lacks_file (Some (contents_view self.old.contents)) path.now)
-        }
+        ensures missing { IsMissing (lacks_file (Some (contents_view self.old.contents)) path.now) self.old.missing self.new.missing result }
+        ensures fails { IsErrOf result OutsideError.Failed
+            ↔ IsTrue (is_due self.old.calls || lacks_file (Some (contents_view self.old.contents)) path.now) }
         ensures calls { self.new.calls ≡ after_call result self.old.calls }
     {
         let is_due = self.calls.begin();
@@ -116,6 +108,10 @@ fn front(alloc: Global, bytes: &[u8], most: usize) -> Result<Vec<u8>, NoMemory>
     ensures bytes { IfOk result (λ v. v.items ≡ take most bytes.now) }
     ensures most { IfOk result (λ v. length v.items ≤ most) }
 {
-    let front = if bytes.len() > most { &bytes[..most] } else { bytes };
+    let front = if bytes.len() > most {
+        &bytes[..most]
+    } else {
+        bytes
+    };
     Ok(front.to_vec(alloc)?)
 }

@@ -11,6 +11,7 @@ mod folders;
 mod folders_in_memory;
 mod lines;
 mod lines_in_memory;
+mod names;
 mod outputs;
 mod outputs_in_memory;
 mod parts;
@@ -21,7 +22,7 @@ mod real_outputs;
 
 pub use answers::{Entry, OutsideError, PutFile};
 pub use calls::Calls;
-pub use contents::Contents;
+pub use contents::{Contents, ContentsError};
 pub use folders::Folders;
 pub use folders_in_memory::FoldersInMemory;
 pub use lines::Lines;

@@ -1,9 +1,11 @@
 // What folders in memory hold: a tree of names.
-ghost use Rattle.std.specs.Prelude.{◌≡◌, ◌++◌, List, IfOk, option_map};
-ghost use Rattle.sj_outside.specs.Contents.{entries_of, entry_of, folder_held, held_at, held_under, part_named};
+ghost use Rattle.std.specs.Prelude.{◌≡◌, IfOk, map, option_map};
+ghost use Rattle.std.specs.List.{list_any};
+ghost use Rattle.sj_outside.specs.Contents.{entries_of, entry_name, entry_of, is_new, is_same_text, folder_held, held_at, held_under, part_named};
 ghost use Rattle.sj_outside.specs.View.{found_view, part_view, parts_view};
 
 use crate::Entry;
+use crate::names::is_name;
 use sj_names::{Bytes, NoMemory, Text};
 use std::alloc::Global;
 
@@ -74,6 +76,26 @@ fn found_under<'a>(found: Found<'a>, name: &str) -> Option<Found<'a>>
             }
         }
     }
+}
+
+/// Whether `name` is a name that none of the parts has.
+#[tactic(auto, using(std::proofs::lemmas::Grind::common_steps, crate::proofs::Fronts::fronts))]
+pub fn is_new(parts: &[Part], name: &str) -> bool
+    ensures { result ≡ is_new name.now (parts_view parts.now) }
+{
+    is_name(name.as_bytes()) && !has_name(parts, name)
+}
+
+#[tactic(auto, using(std::proofs::lemmas::Grind::common_steps, crate::proofs::Fronts::fronts))]
+fn has_name(parts: &[Part], name: &str) -> bool
+    ensures { result ≡ list_any (is_same_text name.now) (map entry_name (entries_of (parts_view parts.now))) }
+{
+    for part in parts {
+        if name == part.name().as_str() {
+            return true;
+        }
+    }
+    false
 }
 
 /// What is held at `path`.

@@ -1,13 +1,13 @@
 // Real folders that are read.
-ghost use Rattle.std.specs.Prelude.{◌≡◌, ◌≤◌, ℕ, [], None, IfOk, IsTrue, length, not, ◌==◌, map};
-ghost use Rattle.std.specs.List.{list_all};
+ghost use Rattle.std.specs.Prelude.{◌≡◌, ◌≤◌, ℕ, [], None, IfOk, IsTrue, length, map};
 ghost use Rattle.std.specs.Ordering.{nat_cmp, is_lt};
 ghost use Rattle.std.specs.Cmp.Lexicographic.{slice_cmp};
-ghost use Rattle.sj_outside.specs.Contents.{entry_name, are_names, is_name};
+ghost use Rattle.sj_outside.specs.Contents.{entry_name, are_names};
 ghost use Rattle.sj_outside.specs.Faults.{HasCause, faults_after};
 ghost use Rattle.sj_outside.specs.Reading.{Lists, Reads};
 ghost use Rattle.sj_outside.specs.Increasing.{are_increasing};
 
+use crate::names::is_name;
 use crate::real::failure;
 use crate::{Entry, Folders, OutsideError};
 use sj_names::Text;
@@ -118,18 +118,6 @@ fn is_above(least: &[u8], name: &[u8]) -> bool
     ensures { result ≡ is_lt (slice_cmp nat_cmp least.now name.now) }
 {
     least.cmp(name).is_lt()
-}
-
-fn is_name(name: &[u8]) -> bool
-    ensures { result ≡ is_name name.now }
-{
-    !name.is_empty() && has_no_slash(name)
-}
-
-fn has_no_slash(bytes: &[u8]) -> bool
-    ensures { result ≡ list_all (λ b. not (b == 47)) bytes.now }
-{
-    bytes.iter().all(|b| *b != b'/')
 }
 
 fn front_of_file<R: Files>(rt: &R, alloc: Global, path: &str, most: usize) -> io::Result<Vec<u8>>
