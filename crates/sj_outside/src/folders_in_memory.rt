@@ -1,7 +1,7 @@
 // Folders in memory.
 ghost use Rattle.std.specs.Prelude.{◌≡◌, ◌≤◌, ◌↔◌, ◌||◌, Some, IfOk, IsErrOf, IsTrue, length, map, take};
 ghost use Rattle.sj_outside.specs.Contents.{are_names, entry_name};
-ghost use Rattle.sj_outside.specs.Faults.{HasCause, IsMissing};
+ghost use Rattle.sj_outside.specs.Faults.{HasCause, IsMissing, Rose};
 ghost use Rattle.sj_outside.specs.Holding.{contents_view};
 ghost use Rattle.sj_names.specs.Counting.{raised};
 ghost use Rattle.sj_outside.specs.InMemory.{after_call, failed, is_due};
@@ -38,7 +38,8 @@ impl FoldersInMemory {
         ensures contents { self.new.contents ≡ self.old.contents }
         ensures calls { self.new.calls ≡ failed self.old.calls }
         ensures missing { self.new.missing ≡ raised self.old.missing }
-        ensures never_falls { self.old.calls.faults ≤ self.new.calls.faults }
+        ensures faults_rose { Rose self.old.calls.faults self.new.calls.faults }
+        ensures missing_rose { Rose self.old.missing self.new.missing }
     {
         self.calls.fail();
         self.missing = self.missing.saturating_add(1);

@@ -32,3 +32,6 @@ pub use outputs_in_memory::OutputsInMemory;
 pub use real_folders::{MOST_ENTRIES, RealFolders};
 pub use real_lines::RealLines;
 pub use real_outputs::RealOutputs;
+
+#[cfg(test)]
+mod tests;

@@ -1,7 +1,7 @@
 // What the adapters over real files and standard output share.
 ghost use Rattle.std.specs.Prelude.{◌≡◌, ◌≤◌, ◌↔◌};
 ghost use Rattle.std.specs.IoError.{error_kind};
-ghost use Rattle.sj_outside.specs.Faults.{raised_by};
+ghost use Rattle.sj_outside.specs.Faults.{Rose, raised_by};
 
 use crate::OutsideError;
 use std::io;
@@ -11,6 +11,7 @@ use std::io::{ErrorKind, Write};
 pub fn failure(faults: &mut u64, error: io::Error) -> OutsideError
     ensures counted { faults.new ≡ raised_by result faults.old }
     ensures never_falls { faults.old ≤ faults.new }
+    ensures rose { result ≡ OutsideError.Failed → Rose faults.old faults.new }
     ensures memory { (result ≡ OutsideError.NoMemory) ↔ (error_kind error ≡ ErrorKind.OutOfMemory) }
 {
     if error.kind() == ErrorKind::OutOfMemory {
