@@ -1,0 +1,3 @@
+mod Compared
+mod Counted
+mod Marked
