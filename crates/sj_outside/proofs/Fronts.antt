@@ -1,7 +1,7 @@
 -- A part in front of others.
-use Rattle.std.proofs.Common.{◌≡◌, ℕ, Bool, true, false, List, [], ◌∷◌, ◌++◌, refl, cond}
-use Rattle.std.specs.Prelude.{Option, Some, None}
-use Rattle.sj_outside.specs.Contents.{Parts, no_parts, file_part, folder_part, Held, file_held, folder_held, part_named, entries_of, entry_of, is_same_text}
+use Rattle.std.proofs.Common.{◌≡◌, ℕ, List, ◌∷◌, refl, cond}
+use Rattle.std.specs.Prelude.{Some}
+use Rattle.sj_outside.specs.Contents.{Parts, Held, file_held, folder_held, part_named, entries_of, entry_of, is_same_text}
 use Rattle.sj_outside.specs.View.{in_front}
 
 pub part_named-in_front : (name n : List ℕ) (h : Held) (others : Parts) → part_named name (in_front n h others) ≡ cond (is_same_text n name) (Some h) (part_named name others)

@@ -1,7 +1,6 @@
 -- In well-formed contents each folder's names are listed once.
 use Rattle.std.proofs.Common.{◌≡◌, ℕ, Bool, true, false, List, [], ◌∷◌, refl, subst, cond}
-use Rattle.std.specs.Prelude.{◌&&◌, ◌==◌, not, length, map, Option, Some, None, IfSome, option_and_then, IsTrue}
-use Rattle.std.specs.List.{list_any}
+use Rattle.std.specs.Prelude.{◌&&◌, ◌==◌, length, map, Option, Some, None, IfSome, option_and_then}
 use Rattle.std.proofs.lemmas.Bool.{and_parts, and_from}
 use Rattle.sj_outside.specs.Contents.{Parts, no_parts, file_part, folder_part, Held, file_held, folder_held, part_named, held_under, held_below, held_at, path_texts, entries_of, entry_name, are_names, is_new, is_well, is_same_text}
 

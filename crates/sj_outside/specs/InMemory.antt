@@ -1,5 +1,5 @@
 -- The forms in memory, whose calls can be made to fail.
-use Rattle.std.specs.Prelude.{ℕ, Bool, List, nat_eq, Result, Ok, Err}
+use Rattle.std.specs.Prelude.{Bool, nat_eq, Result, Ok, Err}
 use Rattle.std.specs.List.{list_any}
 use Rattle.sj_names.specs.Counting.{raised}
 use Rattle.sj_outside.specs.declared.answers.OutsideError.{OutsideError}
