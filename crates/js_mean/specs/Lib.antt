@@ -1,0 +1,4 @@
+pub mod Meaning
+pub mod Proper
+pub mod Shows
+pub mod States
