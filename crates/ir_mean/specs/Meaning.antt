@@ -1,5 +1,5 @@
 -- The meaning of trees with a bound.
-use Rattle.std.specs.Prelude.{ℕ, zero, suc, Bool, List, [], ◌∷◌, Option, Some, None, if◌then◌else◌}
+use Rattle.std.specs.Prelude.{ℕ, zero, suc, List, [], ◌∷◌, Option, Some, None, if◌then◌else◌}
 use Rattle.sj_trees.specs.declared.classes.MethodDef.{MethodDef}
 use Rattle.sj_trees.specs.declared.classes.ParamDef.{ParamDef}
 use Rattle.sj_trees.specs.declared.types.IrType.{IrType}
@@ -7,7 +7,7 @@ use Rattle.sj_trees.specs.declared.types.IrType.TheVariants.{NoType}
 use Rattle.sj_trees.specs.Term.{Term, Terms, no_terms, more_terms, skip, block_of, log_line, string_literal, apply_static}
 use Rattle.outcomes.specs.Outcome.{Out, done, going, wrong, says, then_do}
 use Rattle.ir_mean.specs.Same.{is_same_text}
-use Rattle.ir_mean.specs.States.{Value, undefined, text, State, Locals, Env, Kind, gives, throws, leaves, Ended, ends, Run, given, onward, go_on}
+use Rattle.ir_mean.specs.States.{Value, undefined, text, Locals, Env, gives, throws, leaves, Ended, ends, Run, given, go_on}
 use Rattle.ir_mean.specs.World.{World, member_of}
 
 -- trees evaluated with one unit less than what stands around them: the bodies of calls and the next turns of loops
@@ -64,13 +64,16 @@ module _ (world : World) where
     step low (string_literal p us) env s = given (text us) env s
     step low (log_line p t) env s = in_order (step low t ∷ []) log env s
     step low _ env s = wrong
+
     -- the trees of a block, one after the other: it gives what the last gives
     pub block : Low → Terms → Run
     block low no_terms env s = wrong
     block low (more_terms t ts) env s = go_on (step low t env s) (rest low ts)
+
     pub rest : Low → Terms → Value → Run
     rest low no_terms v env s = given v env s
     rest low (more_terms t ts) v env s = go_on (step low t env s) (rest low ts)
+
     pub operands : Low → Terms → List Run
     operands low no_terms = []
     operands low (more_terms t ts) = step low t ∷ operands low ts

@@ -1,5 +1,5 @@
 -- Tests of equality on names, as a method is found by its name.
-use Rattle.std.specs.Prelude.{ℕ, Bool, true, false, List, [], ◌∷◌, ◌&&◌, ◌==◌, nat_eq, Option, Some, None}
+use Rattle.std.specs.Prelude.{ℕ, Bool, true, false, List, ◌&&◌, ◌==◌, nat_eq, Option, Some, None}
 use Rattle.std.specs.Cmp.Lexicographic.{pointwise}
 use Rattle.sj_names.specs.declared.references.ArrayRef.{ArrayRef}
 use Rattle.sj_names.specs.declared.references.BaseRef.{BaseRef}

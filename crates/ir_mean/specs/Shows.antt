@@ -1,11 +1,11 @@
 -- What the initializers of a public module show.
-use Rattle.std.specs.Prelude.{ℕ, Bool, List, [], ◌∷◌, slice_get, codes, Option, Some, None, if◌then◌else◌}
+use Rattle.std.specs.Prelude.{ℕ, List, [], ◌∷◌, slice_get, codes, Option, Some, None, if◌then◌else◌}
 use Rattle.sj_names.specs.declared.entry_points.EntryPoint.{EntryPoint}
 use Rattle.sj_names.specs.declared.method_names.Namespace.TheVariants.{PublicStatic}
 use Rattle.sj_names.specs.declared.references.TypeRef.TheVariants.{Void}
 use Rattle.sj_trees.specs.declared.types.IrType.TheVariants.{NoType}
 use Rattle.sj_trees.specs.Term.{Term, no_terms, apply_static}
-use Rattle.outcomes.specs.Outcome.{Out, done, wrong, then_do}
+use Rattle.outcomes.specs.Outcome.{done, wrong, then_do}
 use Rattle.outcomes.specs.Shown.{Thrown, Ending, normal, uncaught, Shown}
 use Rattle.outcomes.specs.Shown as shown
 use Rattle.ir_mean.specs.Same.{is_same_text}

@@ -1,5 +1,5 @@
 -- The classes of a program, and what is found in them.
-use Rattle.std.specs.Prelude.{ℕ, pos, Bool, true, false, List, [], ◌∷◌, ◌&&◌, Option, Some, None, if◌then◌else◌}
+use Rattle.std.specs.Prelude.{ℕ, pos, false, List, [], ◌∷◌, ◌&&◌, Option, Some, None, if◌then◌else◌}
 use Rattle.sj_names.specs.declared.method_names.MethodName.{MethodName}
 use Rattle.sj_names.specs.declared.method_names.Namespace.{Namespace}
 use Rattle.sj_trees.specs.declared.classes.ClassDef.{ClassDef}
@@ -7,7 +7,7 @@ use Rattle.sj_trees.specs.declared.classes.FieldDef.{FieldDef}
 use Rattle.sj_trees.specs.declared.classes.MethodDef.{MethodDef}
 use Rattle.sj_trees.specs.declared.types.IrType.{IrType}
 use Rattle.ir_mean.specs.Same.{is_same_text, is_same_method, is_same_namespace}
-use Rattle.ir_mean.specs.States.{Value, undefined, null, boolean, char, number, long, text, Fields, State}
+use Rattle.ir_mean.specs.States.{Value, undefined, null, boolean, char, number, long, text, State}
 
 -- the classes of a program; no two of a program that is accepted have one name
 abbrev pub World : Type 0

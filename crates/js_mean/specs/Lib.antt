@@ -1,4 +1,5 @@
 pub mod Meaning
 pub mod Proper
+pub mod Rows
 pub mod Shows
 pub mod States

@@ -1,10 +1,10 @@
 -- The meaning of expressions, statements and items with a bound. Sections are those of ECMA-262, 11th edition (2020).
-use Rattle.std.specs.Prelude.{ℕ, zero, suc, Bool, true, false, List, [], ◌∷◌, Option, Some, None, if◌then◌else◌}
+use Rattle.std.specs.Prelude.{ℕ, zero, suc, true, false, List, [], ◌∷◌, Option, Some, None, if◌then◌else◌}
 use Rattle.js_tree.specs.Names.{is_same_text}
 use Rattle.js_tree.specs.Terms.{Name, Expression, text_literal, call_of, host_call, Expressions, no_expressions, expression, Statement, expression_statement, const_of, let_of, declare_of, Statements, no_statements, statement, Item, const_item, object_item, let_item, expression_item, function_item, class_item, subclass_item, Module}
 use Rattle.js_tree.specs.declared.operators.HostFunction.TheVariants.{ConsoleLog}
 use Rattle.outcomes.specs.Outcome.{Out, done, going, wrong, says, then_do}
-use Rattle.js_mean.specs.States.{Value, undefined, text, function, Cell, absent, unset, holds, State, Scope, ExpressionEnd, gives, throws, Evaluation, Completion, normally, breaks, breaks_nearest, returns, thrown_with, StatementEnd, ends, Execution, with_value, in_statement, next_statement, Source, Program}
+use Rattle.js_mean.specs.States.{Value, undefined, text, function, Cell, absent, unset, holds, State, Scope, ExpressionEnd, gives, throws, Evaluation, normally, breaks, breaks_nearest, returns, thrown_with, StatementEnd, ends, Execution, with_value, in_statement, next_statement, Program}
 
 -- statements run with one unit less than what stands around them: the bodies of functions and the next turns of loops
 abbrev pub Low : Type 0
@@ -108,6 +108,7 @@ module _ (program : Program) where
     evaluate low (call_of x es) sc s = then_do (name_value x sc s) (with_value (λ f. in_order (arguments low es) (call low f) sc))
     evaluate low (host_call ConsoleLog e) sc s = in_order (evaluate low e ∷ []) log sc s
     evaluate low _ sc s = wrong
+
     pub arguments : Low → Expressions → List Evaluation
     arguments low no_expressions = []
     arguments low (expression e es) = evaluate low e ∷ arguments low es
@@ -118,6 +119,7 @@ module _ (program : Program) where
     -- 13.5.1
     execute low (expression_statement e) sc s = then_do (evaluate low e sc s) (in_statement sc (λ v s. done (ends normally sc s)))
     execute low _ sc s = wrong
+
     -- 13.2.13
     pub execute_all : Low → Statements → Execution
     execute_all low no_statements sc s = done (ends normally sc s)

@@ -1,5 +1,5 @@
 -- What makes a file wrong before anything runs: the early errors of ECMA-262, 11th edition (2020), that a text of the subset can have.
-use Rattle.std.specs.Prelude.{ℕ, Bool, true, false, List, [], ◌∷◌, ◌++◌, ◌&&◌, not}
+use Rattle.std.specs.Prelude.{Bool, true, false, List, [], ◌∷◌, ◌++◌, ◌&&◌, not}
 use Rattle.std.specs.List.{list_all, list_any}
 use Rattle.js_tree.specs.Names.{is_same_text}
 use Rattle.js_tree.specs.Terms.{Name, Statement, const_of, let_of, declare_of, super_call, break_nearest, break_to, if_only, if_else, while_of, do_forever, labeled_of, try_catch, try_finally, switch_on, Statements, no_statements, statement, Cases, no_cases, switch_case, Member, constructor_of, method_of, Item, const_item, object_item, let_item, expression_item, function_item, class_item, subclass_item, Module}
@@ -48,9 +48,11 @@ abbrev mutual
   is_proper at (try_finally ss ts) = are_distinct (declared ss) && are_proper at ss && are_distinct (declared ts) && are_proper at ts
   is_proper at (switch_on e cs ss) = are_proper_cases (in_loop at) cs && are_distinct (declared ss) && are_proper (in_loop at) ss
   is_proper at _ = true
+
   pub are_proper : Place → Statements → Bool
   are_proper at no_statements = true
   are_proper at (statement s ss) = is_proper at s && are_proper at ss
+
   pub are_proper_cases : Place → Cases → Bool
   are_proper_cases at no_cases = true
   are_proper_cases at (switch_case ks ss cs) = are_distinct (declared ss) && are_proper at ss && are_proper_cases at cs

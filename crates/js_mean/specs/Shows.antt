@@ -1,12 +1,12 @@
 -- What the files of a program show when a public module is loaded.
-use Rattle.std.specs.Prelude.{◌≡◌, ℕ, ℤ, pos, negsuc, ◌^◌, Bool, true, false, List, [], ◌∷◌, ◌++◌, ◌&&◌, nat_lt, codes, Option, Some, None, if◌then◌else◌}
+use Rattle.std.specs.Prelude.{ℕ, ℤ, pos, negsuc, ◌^◌, Bool, List, [], ◌∷◌, ◌++◌, ◌&&◌, nat_lt, codes, Option, Some, None, if◌then◌else◌}
 use Rattle.js_tree.specs.Names.{is_empty}
 use Rattle.js_tree.specs.Spelling.{Spells}
 use Rattle.js_tree.specs.Terms.{Name, Module}
-use Rattle.outcomes.specs.Outcome.{Out, done, wrong, then_do}
+use Rattle.outcomes.specs.Outcome.{done, wrong, then_do}
 use Rattle.outcomes.specs.Shown.{Thrown, Ending, normal, uncaught, Shown}
 use Rattle.outcomes.specs.Shown as shown
-use Rattle.js_mean.specs.States.{Value, undefined, null, boolean, number, big_int, text, object, function, State, ExpressionEnd, gives, throws, Source, Program}
+use Rattle.js_mean.specs.States.{Value, undefined, null, boolean, number, big_int, text, object, function, State, ExpressionEnd, gives, throws, Program}
 use Rattle.js_mean.specs.Proper.{is_proper_module}
 use Rattle.js_mean.specs.Meaning.{module_among, run_items, opening}
 

@@ -1,8 +1,8 @@
 -- Values of the emitted code, what a program keeps while it runs, and how expressions and statements end. Sections are those of
 -- ECMA-262, 11th edition (2020).
-use Rattle.std.specs.Prelude.{◌≡◌, ℕ, ℤ, Bool, true, false, List, [], ◌∷◌, Option, Some, None}
+use Rattle.std.specs.Prelude.{ℕ, ℤ, Bool, List, Option}
 use Rattle.js_tree.specs.Terms.{Name, Module}
-use Rattle.outcomes.specs.Outcome.{Out, done, then_do}
+use Rattle.outcomes.specs.Outcome.{Out, done}
 
 -- a language value (6.1): Numbers here are whole, an object or an array is an address, and a function or a class is known by the file
 -- that declares it at its top and by its name there

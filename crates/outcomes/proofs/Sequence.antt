@@ -1,6 +1,6 @@
 -- Outcomes one behind the other.
-use Rattle.std.proofs.Common.{◌≡◌, refl, sym, ap, List, [], ◌∷◌, ◌++◌, append_assoc, append-nil}
-use Rattle.outcomes.specs.Outcome.{Lines, Line, End, Done, Going, Wrong, Out, done, behind, after, then_do}
+use Rattle.std.proofs.Common.{◌≡◌, refl, ap, ◌++◌, append_assoc, append-nil}
+use Rattle.outcomes.specs.Outcome.{Lines, End, Done, Going, Wrong, Out, done, behind, after, then_do}
 
 pub then_do-left : {A B : Type 0} (a : A) (f : A → Out B) → then_do (done a) f ≡ f a
 then_do-left a f = refl

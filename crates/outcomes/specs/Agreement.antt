@@ -1,5 +1,5 @@
 -- When two meanings with bounds agree.
-use Rattle.std.specs.Prelude.{◌≡◌, ℕ, ◌≤◌, List, ◌++◌}
+use Rattle.std.specs.Prelude.{◌≡◌, ℕ, ◌≤◌, ◌++◌}
 use Rattle.outcomes.specs.Outcome.{Lines, End, Done, Going, Wrong, Out}
 
 pub record IsPrefix (front whole : Lines) : Type 0 where

@@ -14,5 +14,4 @@ pub fn outcomes_in_sequence<A, B, C>()
     ensures left { (a : A) (f : A → Out B) → then_do (done a) f ≡ f a }
     ensures right { (o : Out A) → then_do o done ≡ o }
     ensures associative { (o : Out A) (f : A → Out B) (g : B → Out C) → then_do (then_do o f) g ≡ then_do o (λ a. then_do (f a) g) }
-{
-}
+{}
