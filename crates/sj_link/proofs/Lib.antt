@@ -1,2 +1,5 @@
+pub mod Increasing
+pub mod Printable
 pub mod TermLists
+pub mod Words
 pub mod WorkingLists

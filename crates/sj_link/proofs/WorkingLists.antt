@@ -42,7 +42,7 @@ with_names-append keys (x ∷ xs) ys = with_names-append (insert_key is_same_tex
 
 pub ruleset with_names_steps = (with_names-append)
 
-nothing_in : {A : Type 0} (x : List ℕ) → Contains [] x → A
+pub nothing_in : {A : Type 0} (x : List ℕ) → Contains [] x → A
 nothing_in x h = let p : h.0 < 0 = h.1 in absurd (omega arith)
 
 from-insert : (keys : Names) (n x : List ℕ) → Contains (insert_key is_same_text keys n) x → Contains keys x ⊎ (n ≡ x)

@@ -1,7 +1,9 @@
 -- The module that a class is linked to: a function for each method that is reached, in byte order of the functions' names, and the
 -- call of the entry.
-use Rattle.std.specs.Prelude.{◌≡◌, ℕ, Bool, true, false, List, [], ◌∷◌, ◌++◌, ◌&&◌, ◌↔◌, map, length, codes, Contains, IsTrue, Option, Some, None}
-use Rattle.std.specs.Ordering.{nat_cmp, is_lt}
+use Rattle.std.specs.Prelude.{◌≡◌, ℕ, List, [], ◌∷◌, ◌++◌, ◌↔◌, map, length, codes, Contains, Option, Some, None}
+use Rattle.std.specs.Ordering.{nat_cmp}
+use Rattle.std.specs.declared.cmp.Ordering.TheVariants.{Less}
+use Rattle.std.specs.List.{AllAdjacentBelow}
 use Rattle.std.specs.Cmp.Lexicographic.{slice_cmp}
 use Rattle.sj_trees.specs.declared.classes.ClassDef.{ClassDef}
 use Rattle.sj_trees.specs.Term.{Term, Terms, no_terms, more_terms, block_of, log_line, string_literal, apply_static}
@@ -23,11 +25,14 @@ expression_of _ = undefined_literal
 abbrev pub call_of_method : List ℕ → Expression
 call_of_method name = call_of (function_name name) no_expressions
 
+abbrev pub log_statement : Term → Statement
+log_statement t = expression_statement (host_call ConsoleLog (expression_of t))
+
 abbrev mutual
   -- the statements of a body
   pub statements : Term → List Statement
   statements (block_of p ts) = all_statements ts
-  statements (log_line p t) = expression_statement (host_call ConsoleLog (expression_of t)) ∷ []
+  statements (log_line p t) = log_statement t ∷ []
   statements (apply_static p c n m ts t) = expression_statement (call_of_method m.simple) ∷ []
   statements _ = []
   pub all_statements : Terms → List Statement
@@ -42,18 +47,13 @@ body_statements (Some t) = statements t
 abbrev pub function_of : ClassDef → List ℕ → Item
 function_of c name = function_item (function_name name) [] (statements_of (body_statements (body_of c.methods name)))
 
-abbrev pub is_below_first : List ℕ → List (List ℕ) → Bool
-is_below_first name [] = true
-is_below_first name (other ∷ others) = is_lt (slice_cmp nat_cmp name other)
-
--- each name is below the next
-abbrev pub are_increasing : List (List ℕ) → Bool
-are_increasing [] = true
-are_increasing (name ∷ names) = is_below_first name names && are_increasing names
+-- the function of the one method comes before that of the other
+abbrev pub ComesBefore : List ℕ → List ℕ → Type 0
+ComesBefore name other = slice_cmp nat_cmp (function_name name) (function_name other) ≡ Less
 
 -- these are the methods that are reached, in byte order of their functions' names
 pub record IsOrder (c : ClassDef) (entry : List ℕ) (names : List (List ℕ)) : Type 0 where
-  pub increasing : IsTrue (are_increasing (map function_name names))
+  pub increasing : AllAdjacentBelow ComesBefore names (length names)
   pub exact : (name : List ℕ) → Contains names name ↔ IsReached c entry name
 
 -- the module with these methods

@@ -2,6 +2,8 @@
 #![tactic(auto)]
 
 mod first_form;
+mod linking;
 mod reaching;
 
 pub use first_form::{is_first_class, is_word};
+pub use linking::{link_class, Linked};

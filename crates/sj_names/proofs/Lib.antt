@@ -1,1 +1,4 @@
 pub mod Locals
+pub mod NameGrammar
+pub mod Parts
+pub mod Signatures

@@ -1,2 +1,7 @@
+pub mod Bases
 pub mod Counting
+pub mod EntryPoints
 pub mod Grammar
+pub mod MethodNames
+pub mod Names
+pub mod References

@@ -5,8 +5,11 @@
 
 mod class_names;
 mod counters;
+mod cuts;
+mod entries;
 mod entry_points;
 mod folders;
+mod laws;
 mod lists;
 mod local_names;
 mod memory;
@@ -18,12 +21,14 @@ mod texts;
 
 pub use class_names::ClassName;
 pub use counters::Meter;
-pub use entry_points::EntryPoint;
+pub use entries::Entries;
+pub use entry_points::{EntryPoint, is_public_id};
 pub use folders::{Folder, SourceFile};
+pub use laws::tests_decide_the_grammar;
 pub use lists::Items;
 pub use local_names::{LabelName, LocalName};
 pub use memory::{NameError, NoMemory};
-pub use method_names::{Member, MethodName, Namespace};
-pub use references::{ArrayRef, BaseRef, TypeRef};
+pub use method_names::{Member, MethodName, Namespace, is_method_name};
+pub use references::{ArrayRef, BaseRef, TypeRef, is_reference};
 pub use simple_names::{FieldName, SimpleName};
 pub use texts::{Bytes, Text};

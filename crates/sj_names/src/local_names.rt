@@ -7,9 +7,10 @@ ghost use Rattle.std.specs.Cmp.{partial_equiv_from_equiv};
 ghost use Rattle.std.specs.Cmp.Rules.{hashing};
 ghost use Rattle.std.proofs.Common.{rules};
 ghost use Rattle.sj_names.specs.Grammar.{is_plain_name, is_local_name};
+ghost use Rattle.sj_names.specs.Names.{IsInnerName};
 
 use crate::naming::is_plain_name;
-use crate::{NameError, Text};
+use crate::{NameError, NoMemory, Text};
 use std::alloc::{AllocError, Global};
 use std::cmp::Ordering;
 use std::fmt;
@@ -67,6 +68,16 @@ impl LocalName {
         if !is_plain_name(text) {
             return Err(NameError::BadName);
         }
+        let text = Text::from_str(alloc, text)?;
+        Ok(LocalName { text })
+    }
+
+    /// The name that the inliner makes of another: that name, `/` or `//`, and a number in decimal.
+    #[tactic(auto, using(crate::proofs::NameGrammar::inner_names))]
+    pub fn inner(alloc: Global, text: &str) -> Result<LocalName, NoMemory>
+        requires { IsInnerName text.now }
+        ensures { IfOk result (λ n. n ≡ text.now) }
+    {
         let text = Text::from_str(alloc, text)?;
         Ok(LocalName { text })
     }
@@ -185,6 +196,16 @@ impl LabelName {
         if !is_plain_name(text) {
             return Err(NameError::BadName);
         }
+        let text = Text::from_str(alloc, text)?;
+        Ok(LabelName { text })
+    }
+
+    /// The name that the inliner makes of another: that name, `/` or `//`, and a number in decimal.
+    #[tactic(auto, using(crate::proofs::NameGrammar::inner_names))]
+    pub fn inner(alloc: Global, text: &str) -> Result<LabelName, NoMemory>
+        requires { IsInnerName text.now }
+        ensures { IfOk result (λ n. n ≡ text.now) }
+    {
         let text = Text::from_str(alloc, text)?;
         Ok(LabelName { text })
     }

@@ -1,11 +1,15 @@
 // Names of methods, and members of classes.
-ghost use Rattle.std.specs.Prelude.{◌≡◌, ◌↔◌, IfOk, IsTrue};
+ghost use Rattle.std.specs.Prelude.{◌≡◌, ◌↔◌, IfOk, IsTrue, Some, None, is_some};
+ghost use Rattle.sj_names.specs.MethodNames as method_names;
 
-use crate::{ClassName, Items, SimpleName, TypeRef};
+use crate::cuts::first_part;
+use crate::naming::is_simple_name;
+use crate::references::is_reference;
+use crate::{ClassName, Items, NameError, SimpleName, TypeRef};
 use std::alloc::{AllocError, Global};
 
 /// A method name: its simple name, the references of its parameters and of its result. A reflective proxy has no result.
-#[derive(Drop)]
+#[derive(Drop, PartialEq, Eq, PartialOrd, Ord, Hash)]
 pub struct MethodName {
     pub simple: SimpleName,
     pub params: Items<TypeRef>,
@@ -13,7 +17,7 @@ pub struct MethodName {
 }
 
 /// Where a method of a class stands.
-#[derive(Clone, Copy, Debug, PartialEq, Eq, Hash)]
+#[derive(Clone, Copy, Debug, PartialEq, Eq, PartialOrd, Ord, Hash)]
 pub enum Namespace {
     Public,
     PublicStatic,
@@ -23,7 +27,7 @@ pub enum Namespace {
 }
 
 /// A method of a class.
-#[derive(Drop)]
+#[derive(Drop, PartialEq, Eq, PartialOrd, Ord, Hash)]
 pub struct Member {
     pub class: ClassName,
     pub namespace: Namespace,
@@ -31,6 +35,27 @@ pub struct Member {
 }
 
 impl MethodName {
+    /// The method name that `text` spells: `name;P1;..;Pn;R`, in which no parameter is `V`, and of a reflective proxy the last
+    /// part is the letter `R` alone. `BadName` exactly where it spells none.
+    pub fn parse(alloc: Global, text: &str) -> Result<MethodName, NameError>
+        ensures found { IfOk result (λ m. method_names.method_name_of text.now ≡ Some m) }
+        ensures bad { result ≡ Err NameError.BadName ↔ (method_names.method_name_of text.now ≡ None) }
+    {
+        if !is_method_name(text) {
+            return Err(NameError::BadName);
+        }
+        let Some((simple, rest)) = first_part(text) else {
+            return Err(NameError::BadName);
+        };
+        let simple = SimpleName::parse(alloc, simple)?;
+        let (params, result_reference) = parse_signature(alloc, rest)?;
+        Ok(MethodName {
+            simple,
+            params,
+            result: result_reference,
+        })
+    }
+
     /// The same name once more.
     pub fn copied(&self, alloc: Global) -> Result<MethodName, AllocError>
         ensures { IfOk result (λ m. m ≡ self.now) }
@@ -72,6 +97,83 @@ impl Member {
             && self.class.is_same(&other.class)
             && self.method.is_same(&other.method)
     }
+}
+
+/// Whether `text` spells a method name.
+pub fn is_method_name(text: &str) -> bool
+    ensures { result ≡ is_some (method_names.method_name_of text.now) }
+{
+    match first_part(text) {
+        Some((simple, signature)) => is_simple_name(simple) && is_signature(signature),
+        None => false,
+    }
+}
+
+// Whether `text` spells parameters and a result.
+fn is_signature(text: &str) -> bool
+    ensures { result ≡ is_some (method_names.signature_of (method_names.parts text.now)) }
+{
+    let mut rest = text;
+    while let Some((parameter, behind)) = first_part(rest) {
+        if !is_parameter(parameter) {
+            return false;
+        }
+        rest = behind;
+    }
+    is_result(rest)
+}
+
+// Whether `text` spells a parameter.
+fn is_parameter(text: &str) -> bool
+    ensures { result ≡ is_some (method_names.parameter_of text.now) }
+{
+    text != "V" && is_reference(text)
+}
+
+// Whether `text` spells a result.
+fn is_result(text: &str) -> bool
+    ensures { result ≡ is_some (method_names.result_of text.now) }
+{
+    text == "R" || is_reference(text)
+}
+
+// The parameters and the result that `text` spells.
+fn parse_signature(
+    alloc: Global,
+    text: &str,
+) -> Result<(Items<TypeRef>, Option<TypeRef>), NameError>
+    ensures found { IfOk result (λ x. method_names.signature_of (method_names.parts text.now) ≡ Some x) }
+    ensures bad { result ≡ Err NameError.BadName → method_names.signature_of (method_names.parts text.now) ≡ None }
+{
+    let mut params = Vec::new(alloc);
+    let mut rest = text;
+    while let Some((parameter, behind)) = first_part(rest) {
+        params.push(parse_parameter(alloc, parameter)?)?;
+        rest = behind;
+    }
+    Ok((Items::from_vec(params), parse_result(alloc, rest)?))
+}
+
+// The parameter that `text` spells.
+fn parse_parameter(alloc: Global, text: &str) -> Result<TypeRef, NameError>
+    ensures found { IfOk result (λ r. method_names.parameter_of text.now ≡ Some r) }
+    ensures bad { result ≡ Err NameError.BadName → method_names.parameter_of text.now ≡ None }
+{
+    if text == "V" {
+        return Err(NameError::BadName);
+    }
+    TypeRef::parse(alloc, text)
+}
+
+// The result that `text` spells.
+fn parse_result(alloc: Global, text: &str) -> Result<Option<TypeRef>, NameError>
+    ensures found { IfOk result (λ r. method_names.result_of text.now ≡ Some r) }
+    ensures bad { result ≡ Err NameError.BadName → method_names.result_of text.now ≡ None }
+{
+    if text == "R" {
+        return Ok(None);
+    }
+    Ok(Some(TypeRef::parse(alloc, text)?))
 }
 
 fn copied_references(alloc: Global, references: &[TypeRef]) -> Result<Items<TypeRef>, AllocError>

@@ -1,11 +1,15 @@
 // References to types, as method names and array types hold them.
-ghost use Rattle.std.specs.Prelude.{◌≡◌, ◌↔◌, IfOk, IsTrue};
+ghost use Rattle.std.specs.Prelude.{◌≡◌, ◌↔◌, ◌≤◌, ◌+◌, ◌++◌, IfOk, OnOk, IsTrue, Some, None, is_some, string_bytes};
+ghost use Rattle.sj_names.specs.Bases as bases;
+ghost use Rattle.sj_names.specs.References as references;
 
-use crate::ClassName;
-use std::alloc::AllocError;
+use crate::cuts::{behind, behind_dimensions};
+use crate::naming::is_class_name;
+use crate::{ClassName, NameError};
+use std::alloc::{AllocError, Global};
 
 /// A reference to a type.
-#[derive(Drop)]
+#[derive(Drop, PartialEq, Eq, PartialOrd, Ord, Hash)]
 pub enum TypeRef {
     Void,
     Boolean,
@@ -19,14 +23,14 @@ pub enum TypeRef {
 }
 
 /// A reference to an array type: how many dimensions it has, 1 to 255, and what it has at the bottom.
-#[derive(Drop)]
+#[derive(Drop, PartialEq, Eq, PartialOrd, Ord, Hash)]
 pub struct ArrayRef {
     pub dimensions: u8,
     pub base: BaseRef,
 }
 
 /// The base of an array: a reference that is neither an array nor `Void`.
-#[derive(Drop)]
+#[derive(Drop, PartialEq, Eq, PartialOrd, Ord, Hash)]
 pub enum BaseRef {
     Boolean,
     Char,
@@ -38,6 +42,24 @@ pub enum BaseRef {
 }
 
 impl TypeRef {
+    /// The reference that `text` spells: `V` `Z` `C` `B` `S` `I` `J`, or `L` and the name of a class, or one to 255 times `[`
+    /// and then a reference that is neither an array nor `V`. `BadName` exactly where it spells none.
+    pub fn parse(alloc: Global, text: &str) -> Result<TypeRef, NameError>
+        ensures found { IfOk result (λ r. references.reference_of text.now ≡ Some r) }
+        ensures bad { result ≡ Err NameError.BadName ↔ (references.reference_of text.now ≡ None) }
+    {
+        if text == "V" {
+            return Ok(TypeRef::Void);
+        }
+        let base = behind_dimensions(text);
+        let dimensions = text.len() - base.len();
+        if dimensions > 255 {
+            return Err(NameError::BadName);
+        }
+        let base = BaseRef::parse(alloc, base)?;
+        Ok(reference(dimensions as u8, base))
+    }
+
     /// The same reference once more.
     pub fn copied(&self) -> Result<TypeRef, AllocError>
         ensures { IfOk result (λ r. r ≡ self.now) }
@@ -93,7 +115,77 @@ impl ArrayRef {
     }
 }
 
+// The reference to a base, or to an array of it.
+fn reference(dimensions: u8, base: BaseRef) -> TypeRef
+    ensures { result ≡ references.reference dimensions base }
+{
+    if dimensions == 0 {
+        base.into_reference()
+    } else {
+        TypeRef::Array(ArrayRef { dimensions, base })
+    }
+}
+
+/// Whether `text` spells a reference.
+pub fn is_reference(text: &str) -> bool
+    ensures { result ≡ is_some (references.reference_of text.now) }
+{
+    if text == "V" {
+        return true;
+    }
+    let base = behind_dimensions(text);
+    text.len() - base.len() <= 255 && is_base(base)
+}
+
+// Whether `text` spells a base.
+fn is_base(text: &str) -> bool
+    ensures { result ≡ is_some (bases.base_of text.now) }
+{
+    match text {
+        "Z" | "C" | "B" | "S" | "I" | "J" => true,
+        _ => match behind(text, 'L') {
+            Some(name) => is_class_name(name),
+            None => false,
+        },
+    }
+}
+
 impl BaseRef {
+    /// The base that `text` spells: `Z` `C` `B` `S` `I` `J`, or `L` and the name of a class. `BadName` exactly where it spells
+    /// none.
+    pub fn parse(alloc: Global, text: &str) -> Result<BaseRef, NameError>
+        ensures found { IfOk result (λ r. bases.base_of text.now ≡ Some r) }
+        ensures bad { result ≡ Err NameError.BadName ↔ (bases.base_of text.now ≡ None) }
+    {
+        match text {
+            "Z" => Ok(BaseRef::Boolean),
+            "C" => Ok(BaseRef::Char),
+            "B" => Ok(BaseRef::Byte),
+            "S" => Ok(BaseRef::Short),
+            "I" => Ok(BaseRef::Int),
+            "J" => Ok(BaseRef::Long),
+            _ => match behind(text, 'L') {
+                Some(name) => Ok(BaseRef::Class(ClassName::parse(alloc, name)?)),
+                None => Err(NameError::BadName),
+            },
+        }
+    }
+
+    // The reference to this base itself.
+    fn into_reference(self) -> TypeRef
+        ensures { result ≡ references.base_itself self }
+    {
+        match self {
+            BaseRef::Boolean => TypeRef::Boolean,
+            BaseRef::Char => TypeRef::Char,
+            BaseRef::Byte => TypeRef::Byte,
+            BaseRef::Short => TypeRef::Short,
+            BaseRef::Int => TypeRef::Int,
+            BaseRef::Long => TypeRef::Long,
+            BaseRef::Class(name) => TypeRef::Class(name),
+        }
+    }
+
     /// The same base once more.
     pub fn copied(&self) -> Result<BaseRef, AllocError>
         ensures { IfOk result (λ r. r ≡ self.now) }

@@ -1,0 +1,3 @@
+pub mod Increasing
+pub mod Fronts
+pub mod Wellness

@@ -47,7 +47,7 @@ impl From<NoMemory> for OutsideError {
 }
 
 /// One entry of a folder: a file or a folder.
-#[derive(Drop)]
+#[derive(Debug, PartialEq, Eq, PartialOrd, Ord, Drop)]
 pub struct Entry {
     pub name: Text,
     pub is_folder: bool,

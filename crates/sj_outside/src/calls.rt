@@ -1,5 +1,6 @@
 // Calls that are to fail, for the forms in memory.
-ghost use Rattle.std.specs.Prelude.{◌≡◌, ◌≤◌};
+ghost use Rattle.std.specs.Prelude.{◌≡◌};
+ghost use Rattle.sj_outside.specs.Faults.{Rose};
 ghost use Rattle.sj_outside.specs.InMemory.{counted, failed, is_due};
 
 use sj_names::Items;
@@ -37,7 +38,7 @@ impl Calls {
     /// Counts one more fault.
     pub fn fail(&mut self)
         ensures failed { self.new ≡ failed self.old }
-        ensures never_falls { self.old.faults ≤ self.new.faults }
+        ensures rose { Rose self.old.faults self.new.faults }
     {
         self.faults = self.faults.saturating_add(1);
     }

@@ -6,16 +6,32 @@
 
 mod answers;
 mod calls;
+mod contents;
 mod folders;
+mod folders_in_memory;
 mod lines;
 mod lines_in_memory;
+mod names;
 mod outputs;
 mod outputs_in_memory;
+mod parts;
+mod real;
+mod real_folders;
+mod real_lines;
+mod real_outputs;
 
 pub use answers::{Entry, OutsideError, PutFile};
 pub use calls::Calls;
+pub use contents::{Contents, ContentsError};
 pub use folders::Folders;
+pub use folders_in_memory::FoldersInMemory;
 pub use lines::Lines;
 pub use lines_in_memory::LinesInMemory;
 pub use outputs::Outputs;
 pub use outputs_in_memory::OutputsInMemory;
+pub use real_folders::{MOST_ENTRIES, RealFolders};
+pub use real_lines::RealLines;
+pub use real_outputs::RealOutputs;
+
+#[cfg(test)]
+mod tests;

@@ -1,1 +1,3 @@
+pub mod Exact
 pub mod FirstUnit
+pub mod OneUnit

@@ -1,6 +1,6 @@
 -- Modified UTF-8, which codes each 16-bit unit by itself, surrogates too.
-use Rattle.std.specs.Prelude.{ℕ, ◌+◌, ◌-◌, ◌*◌, ◌/◌, ◌%◌, Bool, List, [], ◌∷◌, ◌==◌, ◌&&◌, ◌||◌, nat_lt, nat_le, Option, Some, None, option_map, if◌then◌else◌}
-use Rattle.std.specs.List.{flat_map}
+use Rattle.std.specs.Prelude.{◌≡◌, ◌↔◌, ◌<◌, ◌^◌, ℕ, ◌+◌, ◌-◌, ◌*◌, ◌/◌, ◌%◌, Bool, List, [], ◌∷◌, ◌==◌, ◌&&◌, ◌||◌, nat_lt, nat_le, Option, Some, None, option_map, if◌then◌else◌}
+use Rattle.std.specs.List.{flat_map, All}
 
 -- the bytes of a unit: 0001 to 007F in one, 0000 and 0080 to 07FF in two, all others in three
 abbrev pub unit_bytes : ℕ → List ℕ
@@ -61,3 +61,11 @@ modified_units (a ∷ b ∷ c ∷ rest) =
     if is_two_bytes a b then option_map (λ units. unit_of_two a b ∷ units) (modified_units (c ∷ rest)) else
     if is_three_bytes a b c then option_map (λ units. unit_of_three a b c ∷ units) (modified_units rest) else
     None
+
+-- a text of 16-bit units
+abbrev pub IsText : List ℕ → Type 0
+IsText units = All (λ unit. unit < 2 ^ 16) units
+
+-- bytes are read as a text exactly where they are the bytes of that text
+abbrev pub ReadsWhatIsWritten : Type 0
+ReadsWhatIsWritten = (bytes units : List ℕ) → (modified_units bytes ≡ Some units) ↔ (IsText units × (modified_bytes units ≡ bytes))

@@ -6,5 +6,5 @@ mod modified;
 mod texts;
 
 pub use errors::{NoMemory, UnitsError};
-pub use modified::{is_modified, read_modified, write_modified};
+pub use modified::{is_modified, read_modified, reads_what_is_written, write_modified};
 pub use texts::Units;

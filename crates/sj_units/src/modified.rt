@@ -9,6 +9,7 @@ use std::alloc::Global;
 /// 0080 to 07FF in two, all others in three. `BadText` exactly where the bytes are no such code.
 pub fn read_modified(alloc: Global, bytes: &[u8]) -> Result<Units, UnitsError>
     ensures units { IfOk result (λ units. modified.modified_units bytes.now ≡ Some units) }
+    ensures bytes { IfOk result (λ units. modified.modified_bytes units ≡ bytes.now) }
     ensures bad { result ≡ Err UnitsError.BadText ↔ (modified.modified_units bytes.now ≡ None) }
 {
     if !is_modified(bytes) {
@@ -22,6 +23,12 @@ pub fn read_modified(alloc: Global, bytes: &[u8]) -> Result<Units, UnitsError>
     }
     Ok(Units::from_vec(units))
 }
+
+/// The law of reading and writing: bytes are read as a text exactly where they are what that text, of 16-bit units, is
+/// written as. So no two texts have the same bytes.
+pub fn reads_what_is_written()
+    ensures { modified.ReadsWhatIsWritten }
+{}
 
 /// Whether `bytes` are modified UTF-8.
 pub fn is_modified(bytes: &[u8]) -> bool
@@ -123,4 +130,29 @@ fn write_unit(bytes: &mut Vec<u8>, unit: u16) -> Result<(), NoMemory>
         bytes.push((0x80 + unit % 0x40) as u8)?;
     }
     Ok(())
+}
+
+#[cfg(test)]
+mod tests {
+    use super::*;
+    use std::test::Fail;
+
+    #[test]
+    fn reads_each_length(rt: HostRuntime) -> Result<(), Fail> {
+        let bytes = [0xc0, 0x80, 0x41, 0xc3, 0xa9, 0xed, 0xa0, 0x80];
+        let units = read_modified(rt.alloc(), bytes.as_slice())?;
+        assert_eq!(rt;
+            units.as_slice(),
+            [0x0000, 0x0041, 0x00e9, 0xd800].as_slice()
+        );
+        let again = write_modified(rt.alloc(), &units)?;
+        assert_eq!(rt; again.as_slice(), bytes.as_slice());
+        Ok(())
+    }
+
+    #[test]
+    fn refuses_a_long_form(rt: HostRuntime) {
+        let outcome = read_modified(rt.alloc(), [0xc1, 0x81].as_slice());
+        assert!(rt; matches!(outcome, Err(UnitsError::BadText)));
+    }
 }

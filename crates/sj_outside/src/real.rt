@@ -1,0 +1,38 @@
+// What the adapters over real files and standard output share.
+ghost use Rattle.std.specs.Prelude.{◌≡◌, ◌≤◌, ◌↔◌};
+ghost use Rattle.std.specs.IoError.{error_kind};
+ghost use Rattle.sj_outside.specs.Faults.{Rose, raised_by};
+
+use crate::OutsideError;
+use std::io;
+use std::io::{ErrorKind, Write};
+
+/// What a refusal by the system comes to. Want of memory is `NoMemory`; everything else is counted in `faults`.
+pub fn failure(faults: &mut u64, error: io::Error) -> OutsideError
+    ensures counted { faults.new ≡ raised_by result faults.old }
+    ensures never_falls { faults.old ≤ faults.new }
+    ensures rose { result ≡ OutsideError.Failed → Rose faults.old faults.new }
+    ensures memory { (result ≡ OutsideError.NoMemory) ↔ (error_kind error ≡ ErrorKind.OutOfMemory) }
+{
+    if error.kind() == ErrorKind::OutOfMemory {
+        return OutsideError::NoMemory;
+    }
+    *faults = faults.saturating_add(1);
+    OutsideError::Failed
+}
+
+/// Writes all of `bytes`. A write that takes nothing is a fault.
+pub fn write_whole<W: Write>(writer: &mut W, bytes: &[u8]) -> io::Result<()> {
+    let mut rest = bytes;
+    for _ in 0..u64::MAX {
+        if rest.is_empty() {
+            return Ok(());
+        }
+        let count = writer.write(rest)?;
+        if count == 0 {
+            break;
+        }
+        rest = &rest[count..];
+    }
+    Err(io::Error::from(ErrorKind::WriteZero))
+}
