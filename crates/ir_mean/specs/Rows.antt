@@ -42,8 +42,11 @@ abbrev pub hi_program : World
 hi_program = object_with (static_method (codes "main") (logs (codes "hi")) ∷ []) ∷ []
 
 -- `main` calls `again`, which logs `x` and calls itself
+abbrev pub again_class : ClassDef
+again_class = object_with (static_method (codes "again") (block_of nowhere (more_terms (logs (codes "x")) (more_terms (calls (codes "again")) no_terms))) ∷ static_method (codes "main") (calls (codes "again")) ∷ [])
+
 abbrev pub again_program : World
-again_program = object_with (static_method (codes "again") (block_of nowhere (more_terms (logs (codes "x")) (more_terms (calls (codes "again")) no_terms))) ∷ static_method (codes "main") (calls (codes "again")) ∷ []) ∷ []
+again_program = again_class ∷ []
 
 -- `main` logs what isn't a text
 abbrev pub skip_program : World

@@ -1,5 +1,5 @@
 -- The methods of a class that can be linked are found by their names.
-use Rattle.std.proofs.Common.{◌≡◌, ℕ, Bool, true, false, List, [], ◌∷◌, ◌&&◌, ◌||◌, refl, sym, ap, ◌∙◌, Option, Some, None, if◌then◌else◌}
+use Rattle.std.proofs.Common.{◌≡◌, Bool, true, false, List, [], ◌∷◌, ◌&&◌, refl, ap, ◌∙◌, Option, Some, None, if◌then◌else◌}
 use Rattle.std.specs.List.{list_all}
 use Rattle.std.specs.Cmp.Lexicographic.{pointwise}
 use Rattle.std.proofs.Math.Bool.{and-true}
@@ -11,8 +11,8 @@ use Rattle.sj_names.specs.declared.references.TypeRef.TheVariants.{Void}
 use Rattle.sj_trees.specs.declared.classes.MethodDef.{MethodDef}
 use Rattle.sj_trees.specs.declared.types.IrType.{IrType}
 use Rattle.sj_trees.specs.declared.types.IrType.TheVariants.{NoType}
-use Rattle.sj_trees.specs.Term.{Term, Terms, no_terms, more_terms}
-use Rattle.sj_link.specs.FirstForm.{is_same_text, is_empty, is_void, is_no_type, is_public_static, is_word, is_first_name, is_first_body, has_first_body, is_first_method, defines, is_empty_terms}
+use Rattle.sj_trees.specs.Term.{Term}
+use Rattle.sj_link.specs.FirstForm.{is_same_text, is_empty, is_void, is_no_type, is_public_static, is_word, is_first_name, is_first_body, has_first_body, is_first_method, defines}
 use Rattle.sj_link.specs.Reached.{body_of}
 use Rattle.ir_mean.specs.Same.{is_same_reference, is_same_result, is_same_method, is_same_namespace}
 use Rattle.ir_mean.specs.World.{method_among}
@@ -43,6 +43,7 @@ first_name-is m h = record { params = empty-is m.params b.right; result = void-i
   where
     a : Both (is_word m.simple && is_empty m.params) (is_void m.result)
     a = both (is_word m.simple && is_empty m.params) (is_void m.result) h
+
     b : Both (is_word m.simple) (is_empty m.params)
     b = both (is_word m.simple) (is_empty m.params) a.left
 
@@ -61,23 +62,27 @@ pub record IsFirstMethod (all : List MethodDef) (d : MethodDef) : Type 0 where
 
 pub first_method-is : (all : List MethodDef) (d : MethodDef) → is_first_method all d ≡ true → IsFirstMethod all d
 first_method-is all d h = record {
-    namespace = static-is d.namespace e.left;
-    name = first_name-is d.name e.right;
-    params = empty-is d.params p.right;
-    result = no_type-is d.result b.right;
-    body = t.0;
-    has_body = t.1;
-    first = t.2;
-  }
+  namespace = static-is d.namespace e.left;
+  name = first_name-is d.name e.right;
+  params = empty-is d.params p.right;
+  result = no_type-is d.result b.right;
+  body = t.0;
+  has_body = t.1;
+  first = t.2;
+}
   where
     a : Both (is_public_static d.namespace && is_first_name d.name && is_empty d.params && is_no_type d.result) (has_first_body all d.body)
     a = both (is_public_static d.namespace && is_first_name d.name && is_empty d.params && is_no_type d.result) (has_first_body all d.body) h
+
     b : Both (is_public_static d.namespace && is_first_name d.name && is_empty d.params) (is_no_type d.result)
     b = both (is_public_static d.namespace && is_first_name d.name && is_empty d.params) (is_no_type d.result) a.left
+
     p : Both (is_public_static d.namespace && is_first_name d.name) (is_empty d.params)
     p = both (is_public_static d.namespace && is_first_name d.name) (is_empty d.params) b.left
+
     e : Both (is_public_static d.namespace) (is_first_name d.name)
     e = both (is_public_static d.namespace) (is_first_name d.name) p.left
+
     t : (t : Term) × (d.body ≡ Some t) × (is_first_body all t ≡ true)
     t = body_there all d.body a.right
 
@@ -96,6 +101,7 @@ found_in all d ds n m static name first h later = go (is_same_text m.simple d.na
   where
     test : (is_same_namespace n d.namespace && is_same_method m d.name) ≡ is_same_text m.simple d.name.simple
     test = same_test all d n m static name first
+
     go : (b : Bool) → is_same_text m.simple d.name.simple ≡ b → Found all (d ∷ ds) n m
     go true e = record {
       method = d;

@@ -1,23 +1,22 @@
 -- The module that a class is linked to: its functions are found by their names, and it has no early error.
-use Rattle.std.proofs.Common.{◌≡◌, ℕ, Bool, true, false, List, [], ◌∷◌, ◌++◌, ◌&&◌, ◌||◌, not, map, codes, refl, sym, ap, ◌∙◌, Contains, Option, Some, None, inl, inr, if◌then◌else◌}
+use Rattle.std.proofs.Common.{◌≡◌, ℕ, Bool, true, false, List, [], ◌∷◌, ◌++◌, ◌&&◌, ◌||◌, not, map, codes, refl, sym, ap, ◌∙◌, Contains, Option, Some, None, inl, inr, if◌then◌else◌, length, suc, ◌+◌, arith, subst, slice_index_or}
 use Rattle.std.specs.Prelude.{◌⊎◌}
-use Rattle.std.specs.List.{list_all, list_any}
-use Rattle.std.specs.Ordering.{nat_cmp, is_lt, is_eq}
-use Rattle.std.specs.declared.cmp.Ordering.{Ordering}
-use Rattle.std.specs.declared.cmp.Ordering.TheVariants.{Less, Equal, Greater}
+use Rattle.std.specs.List.{list_all, AllAdjacentBelow}
+use Rattle.std.specs.Ordering.{nat_cmp, is_eq}
+use Rattle.std.specs.declared.cmp.Ordering.TheVariants.{Less}
 use Rattle.std.specs.Cmp.Lexicographic.{slice_cmp, texts_ties, nat_list_cmp_total}
 use Rattle.std.proofs.lemmas.List.{append_cancel_left, append_cancel_right}
 use Rattle.sj_trees.specs.declared.classes.ClassDef.{ClassDef}
-use Rattle.sj_trees.specs.Term.{Term, Terms, no_terms, more_terms, block_of, log_line, string_literal, apply_static}
-use Rattle.js_tree.specs.Terms.{Name, Expression, Statement, expression_statement, Statements, no_statements, statement, Item, function_item, expression_item, Module}
-use Rattle.js_tree.specs.Views.{statements_of, statements_onto}
+use Rattle.sj_trees.specs.Term.{Term, Terms, no_terms, more_terms, block_of, log_line, apply_static}
+use Rattle.js_tree.specs.Terms.{Name, Expression, Statement, expression_statement, Item, expression_item}
+use Rattle.js_tree.specs.Views.{statements_of}
 use Rattle.sj_link.specs.FirstForm.{is_same_text}
 use Rattle.sj_link.specs.Reached.{body_of}
-use Rattle.sj_link.specs.Link.{function_name, statements, all_statements, body_statements, function_of, call_of_method, are_increasing, is_below_first, module_of}
+use Rattle.sj_link.specs.Link.{function_name, statements, all_statements, body_statements, function_of, call_of_method, ComesBefore, module_of}
 use Rattle.js_mean.specs.States.{Cell, absent, holds, function}
-use Rattle.js_mean.specs.Proper.{Place, is_among, are_distinct, declared, are_proper, is_proper_function, is_proper_item, item_names, is_proper_module}
-use Rattle.js_mean.specs.Meaning.{Code, code_among, bind_declared, item_cell, items_cell, or_outer}
-use Rattle.sj_agree.proofs.Tests.{impossible, Both, both, same_text-refl, same_text-is, nothing_in, in_front_or_behind}
+use Rattle.js_mean.specs.Proper.{Place, is_among, are_distinct, declared, are_proper, is_proper_item, item_names, is_proper_module}
+use Rattle.js_mean.specs.Meaning.{Code, code_among, bind_declared, items_cell, or_outer}
+use Rattle.sj_agree.proofs.Tests.{impossible, same_text-refl, same_text-is, nothing_in, in_front_or_behind}
 
 pub function_name-injective : (x y : List ℕ) → function_name x ≡ function_name y → x ≡ y
 function_name-injective x y e = append_cancel_right x y (codes "$$V") (append_cancel_left (codes "s_java_lang_Object__") (x ++ codes "$$V") (y ++ codes "$$V") e)
@@ -31,9 +30,11 @@ code_found-next c n x ns is h later = go (is_same_text (function_name x) (functi
   where
     chosen : Bool → Option Code
     chosen b = if b then Some (method_code c n) else code_among (map (function_of c) ns ++ is) (function_name x)
+
     behind : is_same_text (function_name x) (function_name n) ≡ false → (n ≡ x) ⊎ Contains ns x → Contains ns x
     behind e (inl same) = impossible (sym e ∙ ap (λ (y : List ℕ). is_same_text (function_name x) (function_name y)) same ∙ same_text-refl (function_name x))
     behind e (inr there) = there
+
     go : (b : Bool) → is_same_text (function_name x) (function_name n) ≡ b → chosen (is_same_text (function_name x) (function_name n)) ≡ Some (method_code c x)
     go true e = ap chosen e ∙ ap (λ y. Some (method_code c y)) (sym (function_name-injective x n (same_text-is (function_name x) (function_name n) e)))
     go false e = ap chosen e ∙ later (behind e (in_front_or_behind n ns x h))
@@ -47,9 +48,11 @@ cell_found-next c f n x ns is h later = go (is_same_text (function_name x) (func
   where
     chosen : Bool → Cell
     chosen b = or_outer (if b then holds false (function f (function_name n)) else absent) (items_cell f (map (function_of c) ns ++ is) (function_name x))
+
     behind : is_same_text (function_name x) (function_name n) ≡ false → (n ≡ x) ⊎ Contains ns x → Contains ns x
     behind e (inl same) = impossible (sym e ∙ ap (λ (y : List ℕ). is_same_text (function_name x) (function_name y)) same ∙ same_text-refl (function_name x))
     behind e (inr there) = there
+
     go : (b : Bool) → is_same_text (function_name x) (function_name n) ≡ b → chosen (is_same_text (function_name x) (function_name n)) ≡ holds false (function f (function_name x))
     go true e = ap chosen e ∙ ap (λ y. holds false (function f y)) (sym (same_text-is (function_name x) (function_name n) e))
     go false e = ap chosen e ∙ later (behind e (in_front_or_behind n ns x h))
@@ -73,6 +76,7 @@ mutual
   plain-statements (log_line p t) = more _ [] nothing
   plain-statements (apply_static p c n m ts t) = more _ [] nothing
   plain-statements _ = nothing
+
   plain-all : (ts : Terms) → Plain (all_statements ts)
   plain-all no_terms = nothing
   plain-all (more_terms t ts) = plain-append (statements t) (all_statements ts) (plain-statements t) (plain-all ts)
@@ -98,8 +102,10 @@ proper-function c x = (λ i. are_distinct (declared-plain ss p i) && are_proper 
   where
     ss : List Statement
     ss = body_statements (body_of c.methods x)
+
     p : Plain ss
     p = plain-body (body_of c.methods x)
+
     at : Place
     at = record { labels = []; breakable = false; super_allowed = false }
 
@@ -111,28 +117,23 @@ names-items : (c : ClassDef) (ns : List (List ℕ)) (e : Expression) → item_na
 names-items c [] e = refl
 names-items c (n ∷ ns) e = ap (λ (xs : List Name). function_name n ∷ xs) (names-items c ns e)
 
-less-is : (o : Ordering) → is_lt o ≡ true → o ≡ Less
-less-is Less h = refl
-less-is Equal h = impossible h
-less-is Greater h = impossible h
+adjacent-first : {X : Type 0} (R : X → X → Type 0) (x y : X) (ys : List X) → AllAdjacentBelow R (x ∷ y ∷ ys) (length (x ∷ y ∷ ys)) → R x y
+adjacent-first R x y ys h = h 0 x (omega arith)
+
+adjacent-rest : {X : Type 0} (R : X → X → Type 0) (x : X) (xs : List X) → AllAdjacentBelow R (x ∷ xs) (length (x ∷ xs)) → AllAdjacentBelow R xs (length xs)
+adjacent-rest R x xs h k d below = let e : suc k + 1 ≡ suc (k + 1) = omega arith in subst (λ j. R (slice_index_or xs k d) (slice_index_or (x ∷ xs) j d)) e (h (suc k) d (omega arith))
 
 different : (x y : List ℕ) → slice_cmp nat_cmp x y ≡ Less → is_same_text x y ≡ false
 different x y e = texts_ties x y ∙ ap is_eq e
 
-not_among : (x y : Name) (ys : List Name) → slice_cmp nat_cmp x y ≡ Less → are_increasing (y ∷ ys) ≡ true → is_among (y ∷ ys) x ≡ false
-not_among x y [] e h = ap (λ b. b || false) (different x y e)
-not_among x y (z ∷ zs) e h = ap (λ b. b || is_among (z ∷ zs) x) (different x y e) ∙ not_among x z zs (nat_list_cmp_total.trans x y z e (less-is (slice_cmp nat_cmp y z) k.left)) k.right
-  where
-    k : Both (is_below_first y (z ∷ zs)) (are_increasing (z ∷ zs))
-    k = both (is_below_first y (z ∷ zs)) (are_increasing (z ∷ zs)) h
+not_among : (x y : List ℕ) (ys : List (List ℕ)) → ComesBefore x y → AllAdjacentBelow ComesBefore (y ∷ ys) (length (y ∷ ys)) → is_among (map function_name (y ∷ ys)) (function_name x) ≡ false
+not_among x y [] e h = ap (λ b. b || false) (different (function_name x) (function_name y) e)
+not_among x y (z ∷ zs) e h = ap (λ b. b || is_among (map function_name (z ∷ zs)) (function_name x)) (different (function_name x) (function_name y) e) ∙ not_among x z zs (nat_list_cmp_total.trans (function_name x) (function_name y) (function_name z) e (adjacent-first ComesBefore y z zs h)) (adjacent-rest ComesBefore y (z ∷ zs) h)
 
-distinct-increasing : (xs : List Name) → are_increasing xs ≡ true → are_distinct xs ≡ true
+distinct-increasing : (xs : List (List ℕ)) → AllAdjacentBelow ComesBefore xs (length xs) → are_distinct (map function_name xs) ≡ true
 distinct-increasing [] h = refl
 distinct-increasing (x ∷ []) h = refl
-distinct-increasing (x ∷ y ∷ ys) h = (λ i. not (not_among x y ys (less-is (slice_cmp nat_cmp x y) k.left) k.right i) && are_distinct (y ∷ ys)) ∙ distinct-increasing (y ∷ ys) k.right
-  where
-    k : Both (is_below_first x (y ∷ ys)) (are_increasing (y ∷ ys))
-    k = both (is_below_first x (y ∷ ys)) (are_increasing (y ∷ ys)) h
+distinct-increasing (x ∷ y ∷ ys) h = (λ i. not (not_among x y ys (adjacent-first ComesBefore x y ys h) (adjacent-rest ComesBefore x (y ∷ ys) h) i) && are_distinct (map function_name (y ∷ ys))) ∙ distinct-increasing (y ∷ ys) (adjacent-rest ComesBefore x (y ∷ ys) h)
 
-pub proper-module : (c : ClassDef) (entry : List ℕ) (names : List (List ℕ)) → are_increasing (map function_name names) ≡ true → is_proper_module (module_of c entry names) ≡ true
-proper-module c entry names h = (λ i. are_distinct (names-items c names (call_of_method entry) i) && true && true && proper-items c names (call_of_method entry) i) ∙ ap (λ b. b && true && true && true) (distinct-increasing (map function_name names) h)
+pub proper-module : (c : ClassDef) (entry : List ℕ) (names : List (List ℕ)) → AllAdjacentBelow ComesBefore names (length names) → is_proper_module (module_of c entry names) ≡ true
+proper-module c entry names h = (λ i. are_distinct (names-items c names (call_of_method entry) i) && true && true && proper-items c names (call_of_method entry) i) ∙ ap (λ b. b && true && true && true) (distinct-increasing names h)
