@@ -4,15 +4,12 @@ use Rattle.js_tree.specs.Names.{is_same_text}
 use Rattle.js_tree.specs.Terms.{Name, Expression, text_literal, call_of, host_call, Expressions, no_expressions, expression, Statement, expression_statement, const_of, let_of, declare_of, Statements, no_statements, statement, Item, const_item, object_item, let_item, expression_item, function_item, class_item, subclass_item, Module}
 use Rattle.js_tree.specs.declared.operators.HostFunction.TheVariants.{ConsoleLog}
 use Rattle.outcomes.specs.Outcome.{Out, done, going, wrong, says, then_do}
+use Rattle.js_mean.specs.Files.{module_among, items_in, owner}
 use Rattle.js_mean.specs.States.{Value, undefined, text, function, Cell, absent, unset, holds, State, Scope, ExpressionEnd, gives, throws, Evaluation, normally, breaks, breaks_nearest, returns, thrown_with, StatementEnd, ends, Execution, with_value, in_statement, next_statement, Program}
 
 -- statements run with one unit less than what stands around them: the bodies of functions and the next turns of loops
 abbrev pub Low : Type 0
 Low = Statements → Execution
-
-abbrev pub module_among : Program → Name → Option Module
-module_among [] f = None
-module_among (x ∷ xs) f = if is_same_text f x.file then x.content else module_among xs f
 
 -- a function: its parameters and its statements
 pub record Code : Type 0 where
@@ -38,8 +35,13 @@ or_outer absent outer = outer
 or_outer (unset const) outer = unset const
 or_outer (holds const v) outer = holds const v
 
-abbrev pub cell_of : Name → Scope → State → Cell
-cell_of x sc s = or_outer (sc.bindings x) (s.tops sc.file x)
+-- the binding of a name at the top of a file, which may be one of another file (8.1.1.5.1)
+abbrev pub top_cell : Option Name → Name → State → Cell
+top_cell None x s = absent
+top_cell (Some f) x s = s.tops f x
+
+abbrev pub cell_of : Program → Name → Scope → State → Cell
+cell_of p x sc s = or_outer (sc.bindings x) (top_cell (owner p sc.file x) x s)
 
 -- the value of a name; a name without a binding, or with one that hasn't started, is an error (8.1.1.1.6, 12.1.6)
 abbrev pub cell_value : Cell → State → Out ExpressionEnd
@@ -47,8 +49,8 @@ cell_value absent s = wrong
 cell_value (unset const) s = wrong
 cell_value (holds const v) s = done (gives v s)
 
-abbrev pub name_value : Name → Evaluation
-name_value x sc s = cell_value (cell_of x sc s) s
+abbrev pub name_value : Program → Name → Evaluation
+name_value p x sc s = cell_value (cell_of p x sc s) s
 
 -- expressions from left to right, and then what is done with their values (12.3.8.1)
 abbrev pub in_order : List Evaluation → (List Value → Evaluation) → Evaluation
@@ -105,7 +107,7 @@ module _ (program : Program) where
     -- 12.2.4.1
     evaluate low (text_literal us) sc s = done (gives (text us) s)
     -- 12.3.6.1: the name first, then the arguments
-    evaluate low (call_of x es) sc s = then_do (name_value x sc s) (with_value (λ f. in_order (arguments low es) (call low f) sc))
+    evaluate low (call_of x es) sc s = then_do (name_value program x sc s) (with_value (λ f. in_order (arguments low es) (call low f) sc))
     evaluate low (host_call ConsoleLog e) sc s = in_order (evaluate low e ∷ []) log sc s
     evaluate low _ sc s = wrong
 
@@ -145,6 +147,11 @@ module _ (program : Program) where
   abbrev pub run_items : ℕ → Name → List Item → State → Out ExpressionEnd
   run_items m f [] s = done (gives undefined s)
   run_items m f (i ∷ is) s = then_do (run_item m f i s) (with_value (λ v. run_items m f is))
+
+  -- the modules of these files in order (15.2.1.16.2)
+  abbrev pub run_files : ℕ → List Name → State → Out ExpressionEnd
+  run_files m [] s = done (gives undefined s)
+  run_files m (f ∷ fs) s = then_do (run_items m f (items_in (module_among program f)) s) (with_value (λ v. run_files m fs))
 
 -- the bindings at the top of a file before anything runs: a function is there, everything else hasn't started (15.2.1.17.4)
 abbrev pub item_cell : Name → Item → Name → Cell

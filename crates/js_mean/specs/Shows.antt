@@ -1,14 +1,14 @@
 -- What the files of a program show when a public module is loaded.
 use Rattle.std.specs.Prelude.{ℕ, ℤ, pos, negsuc, ◌^◌, Bool, List, [], ◌∷◌, ◌++◌, ◌&&◌, nat_lt, codes, Option, Some, None, if◌then◌else◌}
-use Rattle.js_tree.specs.Names.{is_empty}
+use Rattle.std.specs.List.{list_all}
 use Rattle.js_tree.specs.Spelling.{Spells}
 use Rattle.js_tree.specs.Terms.{Name, Module}
 use Rattle.outcomes.specs.Outcome.{done, wrong, then_do}
 use Rattle.outcomes.specs.Shown.{Thrown, Ending, normal, uncaught, Shown}
 use Rattle.outcomes.specs.Shown as shown
 use Rattle.js_mean.specs.States.{Value, undefined, null, boolean, number, big_int, text, object, function, State, ExpressionEnd, gives, throws, Program}
-use Rattle.js_mean.specs.Proper.{is_proper_module}
-use Rattle.js_mean.specs.Meaning.{module_among, run_items, opening}
+use Rattle.js_mean.specs.Files.{running_order, is_good_file}
+use Rattle.js_mean.specs.Meaning.{run_files, opening}
 
 -- a file: its name, and its bytes
 pub record File : Type 0 where
@@ -50,15 +50,10 @@ abbrev pub ending : ExpressionEnd → Shown
 ending (gives v s) = done normal
 ending (throws v s) = uncaught_or_wrong (thrown s v)
 
--- a file that spells a module of which every part is proper; a module with import lines isn't built yet, and is wrong
-abbrev pub file_shows : Program → ℕ → Name → Option Module → Shown
-file_shows p n f None = wrong
-file_shows p n f (Some m) = if (is_proper_module m && is_empty m.imports) then then_do (run_items p n f m.items (opening p)) ending else wrong
-
 -- the file of a module
 abbrev pub file_of : List ℕ → Name
 file_of id = id ++ codes ".js"
 
--- what the public module of this id shows within this bound
+-- what the public module of this id shows within this bound: the files that it reaches are all read and judged before any of them runs
 abbrev pub js_shows : Program → List ℕ → ℕ → Shown
-js_shows p id n = file_shows p n (file_of id) (module_among p (file_of id))
+js_shows p id n = if list_all (is_good_file p) (running_order p (file_of id)) then then_do (run_files p n (running_order p (file_of id)) (opening p)) ending else wrong

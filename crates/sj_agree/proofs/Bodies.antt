@@ -24,6 +24,7 @@ use Rattle.ir_mean.specs.States as ir
 use Rattle.ir_mean.specs.Meaning as ir_meaning
 use Rattle.ir_mean.specs.World.{method_in}
 use Rattle.js_mean.specs.States as js
+use Rattle.js_mean.specs.Files.{owner}
 use Rattle.js_mean.specs.Meaning as js_meaning
 use Rattle.sj_agree.proofs.Tests.{impossible, Both, both, same_text-refl, same_text-is}
 use Rattle.sj_agree.proofs.Finds.{static-is, first_name-is, IsFirstName, Found, finds}
@@ -35,6 +36,7 @@ pub record Linked (c : ClassDef) (names : List (List ℕ)) (f : Name) (p : js.Pr
   pub object : is_object c.name ≡ true
   pub methods : list_all (is_first_method c.methods) c.methods ≡ true
   pub functions : (x : List ℕ) → Contains names x → js_meaning.code_of p f (function_name x) ≡ Some (method_code c x)
+  pub own : (x : Name) → owner p f x ≡ Some f
   pub closed : (x y : List ℕ) → Contains names x → Contains (calls_of c x) y → Contains names y
 
 -- the bodies of these methods and their functions, evaluated with one unit less, are alike
@@ -98,8 +100,8 @@ pub ir_call : (c : ClassDef) (low : ir_meaning.Low) (q : Position) (x : List ℕ
 ir_call c low q x n m t h k d env s = ap (λ b. ir_meaning.call low (method_in (if b then Some c else None) n m) None [] env s) (object-same c.name x h k) ∙ ap (λ o. ir_meaning.call low o None [] env s) d.found ∙ (λ i. ir_meaning.body_call low (d.is_first.result i) (d.is_first.has_body i) None (ir_meaning.parameters (d.is_first.params i) []) env s)
 
 -- the call of a function is its body, with one unit less
-js_call : (p : js.Program) (f : Name) (code : js_meaning.Code) (jlow : js_meaning.Low) (x : Name) (sc : js.Scope) (u : js.State) → js_meaning.code_of p f x ≡ Some code → Inside f sc → u.tops f x ≡ js.holds false (js.function f x) → js_meaning.evaluate p jlow (call_of x no_expressions) sc u ≡ then_do (jlow code.body (js_meaning.function_scope f code []) u) js_meaning.returned
-js_call p f code jlow x sc u there inside top = (λ i. then_do (js_meaning.cell_value (js_meaning.or_outer (inside.free x i) (u.tops (inside.file i) x)) u) (js.with_value (λ g. js_meaning.in_order [] (js_meaning.call p jlow g) sc))) ∙ (λ i. then_do (js_meaning.cell_value (top i) u) (js.with_value (λ g. js_meaning.in_order [] (js_meaning.call p jlow g) sc))) ∙ ap (λ o. js_meaning.code_call jlow f o [] u) there
+js_call : (p : js.Program) (f : Name) (code : js_meaning.Code) (jlow : js_meaning.Low) (x : Name) (sc : js.Scope) (u : js.State) → js_meaning.code_of p f x ≡ Some code → owner p f x ≡ Some f → Inside f sc → u.tops f x ≡ js.holds false (js.function f x) → js_meaning.evaluate p jlow (call_of x no_expressions) sc u ≡ then_do (jlow code.body (js_meaning.function_scope f code []) u) js_meaning.returned
+js_call p f code jlow x sc u there own inside top = (λ i. then_do (js_meaning.cell_value (js_meaning.or_outer (inside.free x i) (js_meaning.top_cell (owner p (inside.file i) x) x u)) u) (js.with_value (λ g. js_meaning.in_order [] (js_meaning.call p jlow g) sc))) ∙ (λ i. then_do (js_meaning.cell_value (js_meaning.top_cell (own i) x u) u) (js.with_value (λ g. js_meaning.in_order [] (js_meaning.call p jlow g) sc))) ∙ (λ i. then_do (js_meaning.cell_value (top i) u) (js.with_value (λ g. js_meaning.in_order [] (js_meaning.call p jlow g) sc))) ∙ ap (λ o. js_meaning.code_call jlow f o [] u) there
 
 comes_back : (d : Direction) (f : Name) (names : List (List ℕ)) (w : World) (env : ir.Env) (a : ir.Ended) (b : js.StatementEnd) → Landed f names w a b → Sim d (Called f names w env) (ir_meaning.returned NoType env a) (js_meaning.returned b)
 comes_back d f names w env a b (landed v x inner s sc u g i r) = sim_done d (Called f names w env) (ir.ends (ir.gives ir.undefined) env s) (js.gives js.undefined u) (came_back v s u g r)
@@ -133,7 +135,7 @@ call_alike d c names f p linked low jlow alike q x n m t object static name ther
     ir_is = ir_call c low q x n m t linked.object object found env s
 
     js_is : js_side ≡ js_body
-    js_is = js_call p f code jlow (function_name m.simple) sc u (linked.functions m.simple reached) inside (same.functions m.simple reached) ∙ ap (λ o. then_do (jlow (statements_of (body_statements o)) (js_meaning.function_scope f code []) u) js_meaning.returned) found.named
+    js_is = js_call p f code jlow (function_name m.simple) sc u (linked.functions m.simple reached) (linked.own (function_name m.simple)) inside (same.functions m.simple reached) ∙ ap (λ o. then_do (jlow (statements_of (body_statements o)) (js_meaning.function_scope f code []) u) js_meaning.returned) found.named
 
     bodies : Sim d (Called f names w env) ir_body js_body
     bodies = sim_then d (Landed f names w) (Called f names w env) (low found.is_first.body outside s) (jlow (statements_of (statements found.is_first.body)) (js_meaning.function_scope f code []) u) (ir_meaning.returned NoType env) js_meaning.returned (alike m.simple reached found.is_first.body found.named found.is_first.first w outside s (js_meaning.function_scope f code []) u (inside_function f c m.simple) same) (comes_back d f names w env)

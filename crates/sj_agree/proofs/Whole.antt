@@ -1,5 +1,5 @@
 -- The file that a class is linked to agrees with the class.
-use Rattle.std.proofs.Common.{◌≡◌, ℕ, true, List, [], ◌∷◌, ◌++◌, ◌&&◌, map, codes, refl, sym, ap, subst, ◌∙◌, Some, None, if◌then◌else◌}
+use Rattle.std.proofs.Common.{◌≡◌, ℕ, true, List, [], ◌∷◌, ◌++◌, ◌&&◌, map, codes, refl, sym, ap, subst, ◌∙◌, Some, None, Option, length, if◌then◌else◌}
 use Rattle.std.specs.List.{list_all}
 use Rattle.sj_names.specs.declared.entry_points.EntryPoint.{EntryPoint}
 use Rattle.sj_names.specs.declared.method_names.Namespace.TheVariants.{PublicStatic}
@@ -21,6 +21,8 @@ use Rattle.ir_mean.specs.World as ir_world
 use Rattle.ir_mean.specs.Meaning as ir_meaning
 use Rattle.ir_mean.specs.Shows as ir_showing
 use Rattle.js_mean.specs.States as js
+use Rattle.js_mean.specs.Proper.{is_among}
+use Rattle.js_mean.specs.Files as files
 use Rattle.js_mean.specs.Meaning as js_meaning
 use Rattle.js_mean.specs.Shows as js_showing
 use Rattle.sj_agree.specs.Agrees.{Agrees}
@@ -74,14 +76,26 @@ past_functions p m f c (n ∷ ns) is s = past_functions p m f c ns is s
 abbrev pub only_program : List ℕ → Module → js.Program
 only_program id m = record { file = js_showing.file_of id; content = Some m } ∷ []
 
-module_there : (id : List ℕ) (m : Module) → js_meaning.module_among (only_program id m) (js_showing.file_of id) ≡ Some m
+module_there : (id : List ℕ) (m : Module) → files.module_among (only_program id m) (js_showing.file_of id) ≡ Some m
 module_there id m = ap (λ b. if b then Some m else None) (same_text-refl (js_showing.file_of id))
+
+-- the origin of a name at the top of a file with this content
+abbrev origin_by : js.Program → Name → Name → Option Module → Option Name
+origin_by p f x content = elim (files.imported_from (files.imports_in content) x) [ None ↦ Some f | Some g ↦ if is_among (files.exports_in (files.module_among p g)) x then files.origin p (length p) g x else None ]
+
+-- the running order of a program of one file with this content
+abbrev order_by : js.Program → Name → Option Module → List Name
+order_by p f content = (files.finish f (files.visit_all (files.visit p (length p)) (files.imports_in content) (record { entered = f ∷ []; finished = [] }))).finished
+
+order_is : (id : List ℕ) (m : Module) → m.imports ≡ [] → files.running_order (only_program id m) (js_showing.file_of id) ≡ js_showing.file_of id ∷ []
+order_is id m none = ap (order_by (only_program id m) (js_showing.file_of id)) (module_there id m) ∙ ap (λ is. (files.finish (js_showing.file_of id) (files.visit_all (files.visit (only_program id m) 1) is (record { entered = js_showing.file_of id ∷ []; finished = [] }))).finished) none
 
 pub linked-is : (c : ClassDef) (entry id : List ℕ) (names : List (List ℕ)) → IsFirstClass c entry → IsOrder c entry names → Linked c names (js_showing.file_of id) (only_program id (module_of c entry names))
 linked-is c entry id names first order = record {
   object = first.object;
   methods = first.methods;
   functions = λ x h. ap (λ o. js_meaning.code_in o (function_name x)) (module_there id (module_of c entry names)) ∙ code_found c x names (expression_item (call_of_method entry) ∷ []) h;
+  own = λ x. ap (λ o. origin_by (only_program id (module_of c entry names)) (js_showing.file_of id) x o) (module_there id (module_of c entry names));
   closed = λ x y h calls. (order.exact y).1 (goes_on x y ((order.exact x).0 h) calls);
 }
 
@@ -106,14 +120,21 @@ abbrev js_call_side : List ℕ → List ℕ → js.Program → ℕ → Out js.Ex
 js_call_side entry id p m = js_meaning.evaluate p (js_meaning.below p m) (call_of_method entry) (js_meaning.top_scope p (js_showing.file_of id)) (js_meaning.opening p)
 
 abbrev end_of_items : js.Program → ℕ → Name → js.ExpressionEnd → Out js.ExpressionEnd
-end_of_items p m f = js.with_value (λ v. js_meaning.run_items p m f [])
+end_of_items p m f b = then_do (js.with_value (λ v. js_meaning.run_items p m f []) b) (js.with_value (λ v. js_meaning.run_files p m []))
+
+-- what the files show, where these run in order
+abbrev files_show : js.Program → ℕ → List Name → Shown
+files_show p m fs = if list_all (files.is_good_file p) fs then then_do (js_meaning.run_files p m fs (js_meaning.opening p)) js_showing.ending else wrong
+
+-- what one file with this content shows
+abbrev content_shows : js.Program → ℕ → Name → Option Module → Shown
+content_shows p m f content = if (files.is_good_module p f content && true) then then_do (then_do (js_meaning.run_items p m f (files.items_in content) (js_meaning.opening p)) (js.with_value (λ v. js_meaning.run_files p m []))) js_showing.ending else wrong
 
 js_is : (c : ClassDef) (entry id : List ℕ) (names : List (List ℕ)) (m : ℕ) → IsOrder c entry names → js_showing.js_shows (only_program id (module_of c entry names)) id m ≡ then_do (js_call_side entry id (only_program id (module_of c entry names)) m) (λ b. then_do (end_of_items (only_program id (module_of c entry names)) m (js_showing.file_of id) b) js_showing.ending)
-js_is c entry id names m order = ap (js_showing.file_shows p m f) (module_there id (module_of c entry names)) ∙ (λ i. if (proper-module c entry names order.increasing i && true) then then_do (past_functions p m f c names (expression_item (call_of_method entry) ∷ []) (js_meaning.opening p) i) js_showing.ending else wrong) ∙ then_do-associative (js_call_side entry id p m) (end_of_items p m f) js_showing.ending
+js_is c entry id names m order = ap (files_show p m) (order_is id (module_of c entry names) refl) ∙ ap (content_shows p m f) (module_there id (module_of c entry names)) ∙ (λ i. if (proper-module c entry names order.increasing i && true && true) then then_do (then_do (past_functions p m f c names (expression_item (call_of_method entry) ∷ []) (js_meaning.opening p) i) (js.with_value (λ v. js_meaning.run_files p m []))) js_showing.ending else wrong) ∙ ap (λ o. then_do o js_showing.ending) (then_do-associative (js_call_side entry id p m) (js.with_value (λ v. js_meaning.run_items p m f [])) (js.with_value (λ v. js_meaning.run_files p m []))) ∙ then_do-associative (js_call_side entry id p m) (end_of_items p m f) js_showing.ending
   where
     p : js.Program
     p = only_program id (module_of c entry names)
-
     f : Name
     f = js_showing.file_of id
 
