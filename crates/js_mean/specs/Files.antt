@@ -5,7 +5,7 @@ use Rattle.std.specs.List.{list_all}
 use Rattle.js_tree.specs.Names.{is_same_text}
 use Rattle.js_tree.specs.Terms.{Name, Item, Module}
 use Rattle.js_tree.specs.declared.items.JsImport.{JsImport}
-use Rattle.js_mean.specs.States.{Source, Program}
+use Rattle.js_mean.specs.States.{Program}
 use Rattle.js_mean.specs.Proper.{is_among, imported_names, is_proper_module}
 
 abbrev pub module_among : Program → Name → Option Module

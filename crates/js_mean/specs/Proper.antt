@@ -26,6 +26,7 @@ pub record Place : Type 0 where
   pub breakable : Bool
   pub super_allowed : Bool
 
+-- inside a loop or a switch
 abbrev pub in_loop : Place → Place
 in_loop at = record at { breakable = true }
 
@@ -33,8 +34,8 @@ abbrev pub in_label : Name → Place → Place
 in_label x at = record at { labels = x ∷ at.labels }
 
 abbrev mutual
-  -- no block declares a name twice (13.2.1), no label stands inside itself (13.13.1), each break has a target (13.9.1, 13.1.3),
-  -- a catch variable counts with its block (13.15.1), and `super()` stands where it may (14.6.1)
+  -- no block declares a name twice (13.2.1), no label stands inside itself (13.13.2, 14.1.2), each break has a target (13.9.1, 14.1.2),
+  -- a catch variable counts with its block (13.15.1), and `super()` stands where it may (14.3.1, 14.6.1)
   pub is_proper : Place → Statement → Bool
   is_proper at super_call = at.super_allowed
   is_proper at break_nearest = at.breakable

@@ -135,6 +135,7 @@ js_is c entry id names m order = ap (files_show p m) (order_is id (module_of c e
   where
     p : js.Program
     p = only_program id (module_of c entry names)
+
     f : Name
     f = js_showing.file_of id
 
