@@ -1,0 +1,6 @@
+pub mod Meaning
+pub mod Rows
+pub mod Same
+pub mod Shows
+pub mod States
+pub mod World

@@ -1,0 +1,66 @@
+-- Values of the IR, what a program keeps while it runs, and how a tree ends.
+use Rattle.std.specs.Prelude.{ℕ, ℤ, Bool, List, Option}
+use Rattle.sj_names.specs.declared.references.ArrayRef.{ArrayRef}
+use Rattle.outcomes.specs.Outcome.{Out, done, then_do}
+
+-- a value; byte, short and int are one kind of number, a char and a unit of a text have 16 bits, and a reference is an address
+pub data Value : Type 0 where
+  undefined : Value
+  null : Value
+  boolean : Bool → Value
+  char : ℕ → Value
+  number : ℤ → Value
+  long : ℤ → Value
+  text : List ℕ → Value
+  reference : ℕ → Value
+
+-- what fields hold: the class that has the field, and its name
+abbrev pub Fields : Type 0
+Fields = List ℕ → List ℕ → Option Value
+
+-- what stands at an address: an object of a class with its fields, or an array with its items
+pub data Stored : Type 0 where
+  object : List ℕ → Fields → Stored
+  array : ArrayRef → List Value → Stored
+
+-- the heap, whose addresses count from 0; the static fields; and the cell of each module class
+pub record State : Type 0 where
+  pub heap : List Stored
+  pub statics : Fields
+  pub cells : List ℕ → Value
+
+-- the locals of a call
+abbrev pub Locals : Type 0
+Locals = List ℕ → Option Value
+
+-- what a body is evaluated in: its This, of which a static method has none, and its locals
+pub record Env : Type 0 where
+  pub this_value : Option Value
+  pub locals : Locals
+
+-- a tree gives a value, or throws one, or has left to a label with one
+pub data Kind : Type 0 where
+  gives : Value → Kind
+  throws : Value → Kind
+  leaves : List ℕ → Value → Kind
+
+-- how a tree ends, with the locals and the state that it leaves
+pub data Ended : Type 0 where
+  ends : Kind → Env → State → Ended
+
+-- the evaluation of a tree
+abbrev pub Run : Type 0
+Run = Env → State → Out Ended
+
+-- what gives the value and does nothing
+abbrev pub given : Value → Run
+given v env s = done (ends (gives v) env s)
+
+abbrev pub onward : (Value → Run) → Ended → Out Ended
+onward f (ends (gives v) env s) = f v env s
+onward f (ends (throws v) env s) = done (ends (throws v) env s)
+onward f (ends (leaves l v) env s) = done (ends (leaves l v) env s)
+
+-- the one, and where it gives a value the other with that value
+abbrev pub go_on : Out Ended → (Value → Run) → Out Ended
+go_on o f = then_do o (onward f)

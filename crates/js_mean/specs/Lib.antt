@@ -1,0 +1,6 @@
+pub mod Files
+pub mod Meaning
+pub mod Proper
+pub mod Rows
+pub mod Shows
+pub mod States
