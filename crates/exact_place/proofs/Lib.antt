@@ -5,3 +5,5 @@ pub mod Lists
 pub mod Tokens
 pub mod Words
 pub mod Whole
+pub mod Numbers
+pub mod First

@@ -6,10 +6,10 @@ use Rattle.exact_place.specs.Place.{Begins}
 use Rattle.exact_place.specs.Tokens.{IsToken, AreNames, word_of, is_front, is_text, Entry, begins_entry, entry_of, ends_before, word_ends, each_ends, is_digit, one_more, digits_value, digits_below, is_nil, begins_number, number_of}
 use Rattle.exact_place.proofs.Steps.{cases, went}
 
-none_some : {A : Type 0} (x : A) → ◌≡◌ {A = Option A} None (Some x) → ⊥
+pub none_some : {A : Type 0} (x : A) → ◌≡◌ {A = Option A} None (Some x) → ⊥
 none_some x e = cc
 
-both : (a b : Bool) → (a && b) ≡ true → (a ≡ true) × (b ≡ true)
+pub both : (a b : Bool) → (a && b) ≡ true → (a ≡ true) × (b ≡ true)
 both true b e = (refl, e)
 both false b e = absurd cc
 

@@ -1,5 +1,6 @@
 -- Tokens: how a run of bytes may go on, and which runs are words.
-use Rattle.std.specs.Prelude.{◌≡◌, ℕ, zero, suc, ◌+◌, ◌-◌, ◌*◌, Bool, true, false, cond, not, ◌&&◌, ◌||◌, nat_lt, nat_le, List, [], ◌∷◌, ◌++◌, Option, Some, None, ◌==◌}
+use Rattle.std.specs.Prelude.{◌≡◌, ℕ, zero, suc, ◌+◌, ◌-◌, ◌*◌, Bool, true, false, cond, not, ◌&&◌, ◌||◌, nat_lt, nat_le, List, [], ◌∷◌, ◌++◌, Option, Some, None, nat_eq, ◌==◌}
+use Rattle.std.specs.Cmp.Lexicographic.{pointwise}
 use Rattle.exact_place.specs.Grammar.{IsRun}
 use Rattle.exact_place.specs.Place.{Begins}
 
@@ -34,10 +35,7 @@ is_front (c ∷ u) [] = false
 is_front (c ∷ u) (d ∷ e) = (c == d) && is_front u e
 
 abbrev pub is_text : List ℕ → List ℕ → Bool
-is_text [] [] = true
-is_text [] (d ∷ e) = false
-is_text (c ∷ u) [] = false
-is_text (c ∷ u) (d ∷ e) = (c == d) && is_text u e
+is_text = pointwise nat_eq
 
 pub record Entry (A : Type 0) : Type 0 where
   pub word : List ℕ
@@ -95,3 +93,8 @@ begins_number nought limit (c ∷ cs) = cond (c == 48) (nought && is_nil cs) (di
 abbrev pub number_of : Bool → ℕ → List ℕ → Option ℕ
 number_of nought limit [] = None
 number_of nought limit (c ∷ cs) = cond (begins_number nought limit (c ∷ cs)) (Some (digits_value 0 (c ∷ cs))) None
+
+-- each word of the table passes the test
+abbrev pub each_word : {A : Type 0} → (List ℕ → Bool) → List (Entry A) → Bool
+each_word test [] = true
+each_word test (e ∷ es) = test e.word && each_word test es
