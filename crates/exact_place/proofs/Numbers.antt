@@ -28,7 +28,7 @@ tells = record {
 folds : FoldsDigits digits_value
 folds = record { empty = λ n. refl; more = λ n c cs r. refl }
 
-own : IsNumeralModel (λ ds. list_all is_digit ds ≡ true) (digits_value 0)
+pub own : IsNumeralModel (λ ds. list_all is_digit ds ≡ true) (digits_value 0)
 own = numerals_by_fold (λ ds. list_all is_digit ds ≡ true) tells digits_value folds
 
 grows : (v : ℕ) (ds : List ℕ) → v ≤ digits_value v ds

@@ -1,3 +1,4 @@
 pub mod WordLaws
 pub mod HeadLaws
 pub mod NumberLaws
+pub mod UnitLaws

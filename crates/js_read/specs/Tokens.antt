@@ -92,11 +92,19 @@ abbrev pub hex_of : ℕ → Option ℕ
 hex_of c = cond (nat_le 48 c && nat_le c 57) (Some (c - 48)) (cond (nat_le 97 c && nat_le c 102) (Some (c - 87)) None)
 
 -- the third digit: units from 0020 to 007E have no escape
+abbrev pub third_digit : ℕ → Option ℕ → Option ℕ
+third_digit high None = None
+third_digit high (Some d) = cond ((nat_le 2 d && nat_le d 6) && high == 0) None (Some (high * 16 + d))
+
 abbrev pub third_of : ℕ → ℕ → Option ℕ
-third_of high c = elim (hex_of c) [ None ↦ None | Some d ↦ cond ((nat_le 2 d && nat_le d 6) && high == 0) None (Some (high * 16 + d)) ]
+third_of high c = third_digit high (hex_of c)
+
+abbrev pub fourth_digit : ℕ → Option ℕ → Option ℕ
+fourth_digit high None = None
+fourth_digit high (Some d) = cond (not (d == 15) && high == 7) None (Some (high * 16 + d))
 
 abbrev pub fourth_of : ℕ → ℕ → Option ℕ
-fourth_of high c = elim (hex_of c) [ None ↦ None | Some d ↦ cond (not (d == 15) && high == 7) None (Some (high * 16 + d)) ]
+fourth_of high c = fourth_digit high (hex_of c)
 
 -- the four digits behind `\u`
 unfoldable pub hex_at : List ℕ → Reading ℕ
