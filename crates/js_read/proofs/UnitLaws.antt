@@ -7,7 +7,7 @@ use Rattle.js_tree.specs.Written.{Grammar, Is, ◌●◌, Where, Each}
 use Rattle.js_tree.specs.Spelling.{SpellsUnit, SpellsText}
 use Rattle.exact_place.specs.Grammar.{Spelling, ◌then◌, Leads, Either, first, second, IsOne, IsValue, IsList, no_items, an_item}
 use Rattle.exact_place.specs.Place.{Law, Stops}
-use Rattle.exact_place.specs.Reading.{one_at}
+use Rattle.exact_place.specs.Reading.{one_at, passes}
 use Rattle.exact_place.proofs.Steps.{cases, went}
 use Rattle.exact_place.proofs.Words.{both, none_some}
 use Rattle.exact_place.proofs.Basic.{law_value, law_one, law_same}
@@ -351,7 +351,7 @@ law_hex {n} = law_after n n _ _ (λ x text p. omega arith) (λ x y back rest q s
     one : Law n (λ c. true) (one_at hex_of) (one_at hex_of) (IsOne hex_of)
     one = law_one hex_of 0 48 refl
 
-law_unit : {n : ℕ} → Law n (λ c. true) unit_at unit_at SpellsUnit
+pub law_unit : {n : ℕ} → Law n (λ c. true) unit_at unit_at SpellsUnit
 unfolding unit_at escape_at
 law_unit = law_same unit_to unit_from
     (law_either (λ c. eqb c 92) (starts_leads _ 92 _ _ refl) (follows_starts _ _ plain_byte _ plain_apart plain_starts)
@@ -372,3 +372,13 @@ law_unit = law_same unit_to unit_from
 
     plain_apart : (c : ℕ) → plain_byte c ≡ true → not (eqb c 92) ≡ true
     plain_apart c e = (both (not (eqb c 34)) (not (eqb c 92)) (both (leb 32 c && leb c 126) _ e).1).1
+
+pub starts_unit : Starts (λ c. not (eqb c 34)) SpellsUnit
+starts_unit u text s = by (unit_from u text s)
+  where
+    by : Unit_text u text → passes (λ c. not (eqb c 34)) text ≡ true
+    by (first p) = rw p.parts refl
+    by (second p) = elim (went ((leb 32 p.byte && leb p.byte 126) && (not (eqb p.byte 34) && not (eqb p.byte 92))) (Some p.byte) None (Some u) p.is) [
+        | inr k ↦ absurd (none_some u k.1)
+        | inl k ↦ rw p.parts (both (not (eqb p.byte 34)) (not (eqb p.byte 92)) (both (leb 32 p.byte && leb p.byte 126) _ k.0).1).0
+      ]
