@@ -449,7 +449,7 @@ starts_wordless = starts_either is_wordless_start _ _
     (starts_wider is_digit is_wordless_start _ (λ c e. or_left (is_digit c) (is_bracket c) e) starts_plain)
     (starts_then is_wordless_start _ _ (starts_wider is_bracket is_wordless_start _ (λ c e. or_right (is_digit c) (is_bracket c) e) starts_bracketed))
 
-wordless_no_word : (c : ℕ) → is_wordless_start c ≡ true → is_word_start c ≡ false
+pub wordless_no_word : (c : ℕ) → is_wordless_start c ≡ true → is_word_start c ≡ false
 wordless_no_word c e = elim (cases (is_digit c)) [
     | inl k ↦ rw k (and_false _)
     | inr k ↦ bracket (rw k at e)

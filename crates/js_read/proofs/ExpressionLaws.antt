@@ -36,7 +36,7 @@ use Rattle.js_read.proofs.Parts.{seq, led}
 use Rattle.js_read.proofs.HeadLaws.{IsHead, IsNewHead, IsParenthesisHead, IsInfix, law_names, law_properties, law_heads, law_new_heads, law_parenthesis_heads, law_infixes}
 use Rattle.js_read.proofs.NumberLaws.{IsPlain, IsBelowZero, law_number, law_below, after_number}
 use Rattle.js_read.proofs.UnitLaws.{law_unit, starts_unit}
-use Rattle.js_read.proofs.ExpressionForms.{IsWordless, MoreForm, ExpressionsForm, HostForm, HostOfTwoForm, NewForm, BigForm, PrimaryForm, SuffixForm, SuffixesForm, AfterForm, InfixForm, TailForm, UnaryForm, ParenthesisWordForm, ParenthesisForm, StringForm, BracketedForm, WordlessForm, ExpressionForm, expression_to, expression_from, wordless_to, wordless_from, wordless_off, starts_heads, starts_plain, starts_bracketed, starts_wordless, is_wordless_start, is_bracket, is_expression_start, starts_expression, expressions_to, expressions_from}
+use Rattle.js_read.proofs.ExpressionForms.{IsWordless, MoreForm, ExpressionsForm, HostForm, HostOfTwoForm, NewForm, BigForm, PrimaryForm, SuffixForm, SuffixesForm, AfterForm, InfixForm, TailForm, UnaryForm, ParenthesisWordForm, ParenthesisForm, StringForm, BracketedForm, WordlessForm, ExpressionForm, expression_to, expression_from, wordless_to, wordless_from, wordless_off, wordless_no_word, starts_heads, starts_plain, starts_bracketed, starts_wordless, is_wordless_start, is_bracket, is_expression_start, starts_expression, expressions_to, expressions_from}
 
 -- what may follow a primary expression, and an expression
 abbrev pub after_primary : ℕ → Bool
@@ -188,3 +188,151 @@ module _ (n m : ℕ) (le : n ≤ m) (read again : List ℕ → Reading Expressio
   pub law_expression_after : (h : Head) → Law n after_expression (expression_after_at read n h) (expression_after_at again m h) (AfterForm h)
   unfolding expression_after_at
   law_expression_after h = law_after n n after_primary after_expression (fits n _) suffixes_follow (law_primary h) (λ e text p. law_suffixes e)
+
+  infix_follows : (a : Expression) (o : Infix) → Follows is_space (InfixForm a o) anything
+  infix_follows a (infixes.Operator op) = follows_leads is_space 32 _ _ anything refl
+  infix_follows a infixes.Question = follows_leads is_space 32 _ _ anything refl
+
+  law_infix_after : (a : Expression) (o : Infix) → Law n anything (infix_after_at read n a o) (infix_after_at again m a o) (InfixForm a o)
+  unfolding infix_after_at
+  law_infix_after a (infixes.Operator op) = law_lead (codes " ") (law_last (λ b. binary_of a op b))
+  law_infix_after a infixes.Question = law_lead (codes " ") (behind anything (λ b. follows_leads after_expression 32 _ _ anything refl) (λ b text p. law_lead (codes " : ") (law_last (λ c. conditional_of a b c))))
+
+  law_tail : (a : Expression) → Law n anything (tail_at read n a) (tail_at again m a) (TailForm a)
+  unfolding tail_at
+  law_tail a = law_lead (codes " ") (law_after n n is_space anything (fits n _) (infix_follows a) law_infixes (λ o text p. law_infix_after a o))
+
+  law_unary : (op : UnaryOperator) → Law n anything (unary_at read n op) (unary_at again m op) (UnaryForm op)
+  unfolding unary_at
+  law_unary op = law_last (λ e. unary_of op e)
+
+  law_parenthesis_after : (h : ParenthesisHead) → Law n anything (parenthesis_after_at read n h) (parenthesis_after_at again m h) (ParenthesisWordForm h)
+  unfolding parenthesis_after_at
+  law_parenthesis_after parentheses.Void = law_lead (codes " 0)") (law_value undefined_literal)
+  law_parenthesis_after parentheses.TypeOf = law_lead (codes " ") (law_unary TypeOf)
+  law_parenthesis_after (parentheses.Expression h) = law_after n n after_expression anything (fits n _) (λ a. follows_leads after_expression 32 _ _ anything refl) (law_expression_after h) (λ a text p. law_tail a)
+
+  -- what stands behind a word that may be a keyword ends the word
+  primary_follows : (h : Head) → Follows ends_word (PrimaryForm h) after_primary
+  primary_follows (heads.Name x) = follows_either ends_word _ _ after_primary (follows_leads ends_word 40 _ _ after_primary refl) (follows_value ends_word _ after_primary ends_primary)
+  primary_follows heads.Null = follows_value ends_word _ after_primary ends_primary
+  primary_follows heads.True = follows_value ends_word _ after_primary ends_primary
+  primary_follows heads.False = follows_value ends_word _ after_primary ends_primary
+  primary_follows heads.This = follows_value ends_word _ after_primary ends_primary
+  primary_follows heads.New = follows_leads ends_word 32 _ _ after_primary refl
+  primary_follows heads.BigInt = follows_either ends_word _ _ after_primary (follows_leads ends_word 40 _ _ after_primary refl) (follows_leads ends_word 46 _ _ after_primary refl)
+  primary_follows heads.Number = follows_leads ends_word 40 _ _ after_primary refl
+  primary_follows heads.Math = follows_leads ends_word 46 _ _ after_primary refl
+  primary_follows heads.String = follows_leads ends_word 46 _ _ after_primary refl
+  primary_follows heads.Console = follows_leads ends_word 46 _ _ after_primary refl
+
+  pub after_follows : (h : Head) → Follows ends_word (AfterForm h) after_expression
+  after_follows h y back rest p st =
+      let tail : Stops after_primary (p.back ++ rest) = suffixes_follow p.value y p.back rest p.second st in
+      rw (p.parts, append_assoc p.front p.back rest) (primary_follows h p.value p.front (p.back ++ rest) p.first tail)
+
+  parenthesis_follows : (h : ParenthesisHead) → Follows ends_word (ParenthesisWordForm h) anything
+  parenthesis_follows parentheses.Void = follows_leads ends_word 32 _ _ anything refl
+  parenthesis_follows parentheses.TypeOf = follows_leads ends_word 32 _ _ anything refl
+  parenthesis_follows (parentheses.Expression h) = λ y back rest p st.
+      let tail : Stops after_expression (p.back ++ rest) = follows_leads after_expression 32 [] _ anything refl y p.back rest p.second st in
+      rw (p.parts, append_assoc p.front p.back rest) (after_follows h p.value p.front (p.back ++ rest) p.first tail)
+
+  module _ (wordless wordless' : List ℕ → Reading Expression) (bare : Law n after_expression wordless wordless' IsWordless) where
+    starts_parenthesis_word : Starts is_word_start (IsParenthesisHead then ParenthesisWordForm)
+    starts_parenthesis_word = starts_then is_word_start _ _ starts
+      where
+        starts : Starts is_word_start IsParenthesisHead
+        starts parentheses.Void text p = rw p.same refl
+        starts parentheses.TypeOf text p = rw p.same refl
+        starts (parentheses.Expression h) text p = starts_heads h text p
+
+    not_word : (c : ℕ) → is_wordless_start c ≡ true → not (is_word_start c) ≡ true
+    not_word c e = rw (wordless_no_word c e) refl
+
+    starts_bare : Starts is_wordless_start (IsWordless then TailForm)
+    starts_bare = starts_then is_wordless_start _ _ (λ e text w. starts_wordless e text (wordless_from e text w))
+
+    law_parenthesis : Law n anything (parenthesis_at read n wordless) (parenthesis_at again m wordless') ParenthesisForm
+    unfolding parenthesis_at
+    law_parenthesis =
+        law_either (λ c. eqb c 33) (starts_leads _ 33 _ _ refl) (follows_either _ _ _ anything (follows_leads _ 45 _ _ anything refl) (follows_either _ _ _ anything (follows_starts _ anything is_word_start _ (apart is_word_start 33 refl) starts_parenthesis_word) (follows_starts _ anything is_wordless_start _ (apart is_wordless_start 33 refl) starts_bare)))
+          (law_lead (codes "!") (law_unary Not))
+        (law_either (λ c. eqb c 45) (starts_leads _ 45 _ _ refl) (follows_either _ _ _ anything (follows_starts _ anything is_word_start _ (apart is_word_start 45 refl) starts_parenthesis_word) (follows_starts _ anything is_wordless_start _ (apart is_wordless_start 45 refl) starts_bare))
+          (law_lead (codes "-") law_below)
+        (law_either is_word_start starts_parenthesis_word (follows_starts _ anything is_wordless_start _ not_word starts_bare)
+          (law_after n n ends_word anything (fits n _) parenthesis_follows law_parenthesis_heads (λ h text p. law_parenthesis_after h))
+          (law_after n n after_expression anything (fits n _) (λ a. follows_leads after_expression 32 _ _ anything refl) bare (λ a text p. law_tail a))))
+
+    law_string : Law n anything (string_at n) (string_at m) StringForm
+    unfolding string_at
+    law_string = law_after n n (λ c. eqb c 34) anything (fits n _) (λ us. follows_leads _ 34 _ _ anything refl)
+        (law_list (λ c. not (eqb c 34)) anything (λ c. eqb c 34) le starts_unit (λ c e. refl) (λ c e. rw e refl) (λ c e. refl) law_unit)
+        (λ us text p. law_lead (codes "\"") (law_value (text_literal us)))
+
+    law_bracketed : Law (suc n) anything (bracketed_at read n wordless) (bracketed_at again m wordless') BracketedForm
+    unfolding bracketed_at
+    law_bracketed =
+        law_either (λ c. eqb c 34) (starts_leads _ 34 _ _ refl) (follows_either _ _ _ anything (follows_leads _ 91 _ _ anything refl) (follows_leads _ 40 _ _ anything refl)) (law_behind 34 [] law_string)
+        (law_either (λ c. eqb c 91) (starts_leads _ 91 _ _ refl) (follows_leads _ 40 _ _ anything refl) (law_behind 91 [] (law_map (λ es. list_of es) (law_expressions 93 refl refl refl refl))) (law_behind 40 [] law_parenthesis))
+
+    longer : (test : ℕ → Bool) (text : List ℕ) → passes test text ≡ true → suc n ≤ n + length text
+    longer test [] e = absurd cc
+    longer test (c ∷ text) e = omega arith
+
+    law_wordless_form : Law (suc n) after_expression (wordless_level read n wordless) (wordless_level again m wordless') WordlessForm
+    unfolding wordless_level
+    law_wordless_form =
+        law_either is_digit starts_plain (follows_starts _ after_expression is_bracket _ (λ c e. bracket_no_digit c e) (starts_then is_bracket _ _ starts_bracketed))
+          (law_narrow after_expression no_number law_number)
+          (law_after (suc n) n after_primary after_expression (λ e text p. longer is_bracket text (starts_bracketed e text p)) suffixes_follow (law_narrow after_primary (λ c e. refl) law_bracketed) (λ e text p. law_suffixes e))
+      where
+        bracket_no_digit : (c : ℕ) → is_bracket c ≡ true → not (is_digit c) ≡ true
+        bracket_no_digit c e = elim (cases (eqb c 34)) [
+            | inl k ↦ this_byte 34 (λ d. not (is_digit d)) refl c k
+            | inr k ↦ elim (cases (eqb c 91)) [
+                | inl l ↦ this_byte 91 (λ d. not (is_digit d)) refl c l
+                | inr l ↦ this_byte 40 (λ d. not (is_digit d)) refl c (rw (k, l) at e)
+              ]
+          ]
+
+    pub law_wordless_level : Law (suc n) after_expression (wordless_level read n wordless) (wordless_level again m wordless') IsWordless
+    law_wordless_level = law_same (λ e text p. record { spelled = wordless_to e text p; off = wordless_off e text p }) wordless_from law_wordless_form
+
+    pub law_expression_level : Law (suc n) after_expression (expression_level read n wordless) (expression_level again m wordless') SpellsExpression
+    unfolding expression_level
+    law_expression_level = law_same expression_to expression_from
+        (law_either is_word_start (starts_then is_word_start _ _ starts_heads) (follows_starts _ after_expression is_wordless_start _ not_word starts_wordless)
+          (law_after (suc n) n ends_word after_expression (λ h text p. longer is_word_start text (starts_heads h text p)) after_follows law_heads (λ h text p. law_expression_after h))
+          law_wordless_form)
+
+-- ---- the knot
+
+record Both (n m : ℕ) : Type 0 where
+  whole : Law n after_expression (expression_at n) (expression_at m) SpellsExpression
+  bare : Law n after_expression (wordless_at n) (wordless_at m) IsWordless
+
+some_expression : Begins SpellsExpression []
+unfolding SpellsExpression
+some_expression = record { value = this_use; more = codes "this"; spelled = record { same = refl } }
+
+some_wordless : Begins IsWordless []
+unfolding SpellsExpression
+some_wordless = record { value = undefined_literal; more = codes "(void 0)"; spelled = record { spelled = record { same = refl }; off = refl } }
+
+both_laws : (n m : ℕ) → n ≤ m → Both n m
+unfolding expression_at wordless_at
+both_laws zero m le = record { whole = law_zero some_expression; bare = law_zero some_wordless }
+both_laws (suc n) zero le = absurd (omega arith)
+both_laws (suc n) (suc m) le =
+    let b = both_laws n m (omega arith) in
+    record {
+      whole = law_expression_level n m (omega arith) (expression_at n) (expression_at m) b.whole (wordless_at n) (wordless_at m) b.bare;
+      bare = law_wordless_level n m (omega arith) (expression_at n) (expression_at m) b.whole (wordless_at n) (wordless_at m) b.bare;
+    }
+
+pub law_expression : (n m : ℕ) → n ≤ m → Law n after_expression (expression_at n) (expression_at m) SpellsExpression
+law_expression n m le = (both_laws n m le).whole
+
+pub law_wordless : (n m : ℕ) → n ≤ m → Law n after_expression (wordless_at n) (wordless_at m) IsWordless
+law_wordless n m le = (both_laws n m le).bare
