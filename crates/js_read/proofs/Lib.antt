@@ -5,3 +5,4 @@ pub mod UnitLaws
 pub mod Parts
 pub mod ExpressionForms
 pub mod ExpressionLaws
+pub mod StatementForms
