@@ -55,3 +55,10 @@ more_from separator P (x ∷ xs) text s =
 pub list_last : {A : Type 0} {P : Spelling A} {xs : List A} {text : List ℕ} → IsList P xs text → (x : A) (behind : List ℕ) → P x behind → IsList P (xs ++ x ∷ []) (text ++ behind)
 list_last {P = P} no_items x behind p = subst (λ (t : List ℕ). IsList P (x ∷ []) t) (append-nil behind) (an_item p no_items)
 list_last {P = P} (an_item {x = y} {xs = ys} {front = front} {back = back} q l) x behind p = subst (λ (t : List ℕ). IsList P (y ∷ (ys ++ x ∷ [])) t) (sym (append_assoc front back behind)) (an_item q (list_last l x behind p))
+
+pub list_same : {A : Type 0} {P Q : Spelling A} {xs : List A} {text : List ℕ} → ((x : A) (t : List ℕ) → P x t → Q x t) → IsList P xs text → IsList Q xs text
+list_same h no_items = no_items
+list_same h (an_item {x = x} {front = front} p l) = an_item (h x front p) (list_same h l)
+
+pub leads_same : {A : Type 0} {P Q : Spelling A} {ws : List ℕ} → ((x : A) (t : List ℕ) → P x t → Q x t) → (x : A) (text : List ℕ) → Leads ws P x text → Leads ws Q x text
+leads_same h x text p = record { back = p.back; second = h x p.back p.second; parts = p.parts }

@@ -15,7 +15,7 @@ use Rattle.js_read.specs.declared.words.StatementHead.TheVariants as statements
 use Rattle.exact_place.specs.Reading.{passes}
 use Rattle.exact_place.specs.Grammar.{Spelling, ◌then◌, Leads, Either, first, second, IsLiteral, IsValue, IsMapped, IsList, no_items, an_item}
 use Rattle.js_read.specs.Words.{is_word_start}
-use Rattle.js_read.proofs.Parts.{seq, led, lead_of, leads, closing, no_more, more_to, more_from}
+use Rattle.js_read.proofs.Parts.{seq, led, lead_of, leads, closing, no_more, more_to, more_from, list_same, leads_same}
 use Rattle.js_read.proofs.HeadLaws.{IsHead, IsStatementHead}
 use Rattle.js_read.proofs.ExpressionForms.{IsWordless, AfterForm, ExpressionForm, WordlessForm, after_to, expression_from, wordless_off, wordless_to}
 
@@ -164,3 +164,325 @@ block_from level ss text s =
     let r = lines_from level ss t.front t.first in
     let whole : s.back ≡ indent level ++ (r.behind ++ codes "}") = t.parts ∙ ap (glue t.front) (lead_of u ∙ ap (glue (indent level)) u.second.same) ∙ sym (append_assoc t.front (indent level) (codes "}")) ∙ ap (λ (x : List ℕ). x ++ codes "}") (sym r.turned) ∙ append_assoc (indent level) r.behind (codes "}") in
     leads ss s (record { back = r.behind ++ codes "}"; parts = whole; second = record { value = statements_list ss; front = r.behind; back = codes "}"; first = r.items; parts = refl; second = record { value = tt; first = record { is = refl }; is = sym (list_statements ss) } } })
+
+-- ---- cases
+
+key_to : (k : ℤ) (text : List ℕ) → CaseKeyForm k text → SpellsKey k text
+unfolding SpellsKey
+key_to k text p =
+    let q = p.second in
+    let t = q.second in
+    let k_is : k ≡ q.value = t.second.same in
+    led (codes "case ") p.back p.parts (seq q.front q.back q.parts (subst (λ (z : ℤ). SpellsNumber z q.front) (sym k_is) q.first) (record { same = t.parts ∙ ap (glue (codes ":")) t.second.empty }))
+
+key_from : (k : ℤ) (text : List ℕ) → SpellsKey k text → CaseKeyForm k text
+unfolding SpellsKey
+key_from k text s =
+    let t = s.second in
+    leads k s (record { value = k; front = t.front; back = t.back; first = t.first; parts = t.parts; second = record { back = []; second = no_more k; parts = t.second.same } })
+
+keys_to : (level : ℕ) (ks : List ℤ) (text : List ℕ) → KeysForm level ks text → SpellsKeys level ks text
+unfolding SpellsKeys Separated
+keys_to level ks text p = rw p.second.is (record { holds = refl; spelled = seq p.front p.back p.parts (key_to p.value p.front p.first) (more_to (list_same (leads_same key_to) p.second.first)) })
+
+keys_from : (level : ℕ) (ks : List ℤ) (text : List ℕ) → SpellsKeys level ks text → KeysForm level ks text
+unfolding SpellsKeys Separated
+keys_from level [] text s = absurd (cc s.holds)
+keys_from level (k ∷ ks) text s =
+    let t = s.spelled in
+    record { value = k; front = t.front; back = t.back; first = key_from k t.front t.first; parts = t.parts; second = record { value = ks; first = list_same (leads_same key_from) (more_from (10 ∷ indent level) SpellsKey ks t.back t.second); is = refl } }
+
+record Cased (level : ℕ) (cs : Cases) (behind : List ℕ) : Type 0 where
+  cases : List ℕ
+  spelled : SpellsCases level cs cases
+  turned : indent level ++ behind ≡ cases ++ indent level
+
+-- a case whose parts are known, and what is behind it
+case_parts : (level : ℕ) (k b back : List ℕ) → indent level ++ ((k ++ (codes " " ++ (b ++ (codes "\n" ++ indent level)))) ++ back) ≡ indent level ++ (k ++ (codes " " ++ (b ++ (codes "\n" ++ (indent level ++ back)))))
+case_parts level k b back =
+    ap (glue (indent level)) (append_assoc k (codes " " ++ (b ++ (codes "\n" ++ indent level))) back ∙ ap (λ (x : List ℕ). k ++ (codes " " ++ x)) (append_assoc b (codes "\n" ++ indent level) back))
+
+case_regroup : (level : ℕ) (k b cases : List ℕ) → indent level ++ (k ++ (codes " " ++ (b ++ (codes "\n" ++ (cases ++ indent level))))) ≡ (indent level ++ (k ++ (codes " " ++ (b ++ (codes "\n" ++ cases))))) ++ indent level
+case_regroup level k b cases =
+    ap (λ (x : List ℕ). indent level ++ (k ++ (codes " " ++ x))) (sym (append_assoc b (codes "\n" ++ cases) (indent level)))
+    ∙ ap (glue (indent level)) (sym (append_assoc k (codes " " ++ (b ++ (codes "\n" ++ cases))) (indent level)))
+    ∙ sym (append_assoc (indent level) (k ++ (codes " " ++ (b ++ (codes "\n" ++ cases)))) (indent level))
+
+cases_to : {level : ℕ} {cs : List Case} {behind : List ℕ} → IsList (CaseForm level) cs behind → Cased level (cases_of cs) behind
+unfolding SpellsCases
+cases_to {level = level} no_items = record { cases = []; spelled = record { same = refl }; turned = append-nil (indent level) }
+cases_to {level = level} (an_item {x = c} {front = front} {back = back} p l) =
+    let r = cases_to l in
+    let q = p.second in
+    let t = q.second in
+    let u = t.second in
+    let v = u.second in
+    let c_is : c ≡ (p.value, t.value) = v.second.same in
+    let front_is : front ≡ p.front ++ (codes " " ++ (t.front ++ (codes "\n" ++ indent level))) =
+      p.parts ∙ ap (glue p.front) (q.parts ∙ ap (glue (codes " ")) (t.parts ∙ ap (glue t.front) (u.parts ∙ ap (glue (codes "\n")) (v.parts ∙ ap (glue (indent level)) v.second.empty ∙ append-nil (indent level))))) in
+    let grown : indent level ++ (front ++ back) ≡ (indent level ++ (p.front ++ (codes " " ++ (t.front ++ (codes "\n" ++ r.cases))))) ++ indent level =
+      ap (λ (x : List ℕ). indent level ++ (x ++ back)) front_is ∙ case_parts level p.front t.front back
+      ∙ ap (λ (x : List ℕ). indent level ++ (p.front ++ (codes " " ++ (t.front ++ (codes "\n" ++ x))))) r.turned ∙ case_regroup level p.front t.front r.cases in
+    record {
+      cases = indent level ++ (p.front ++ (codes " " ++ (t.front ++ (codes "\n" ++ r.cases))));
+      spelled = rw c_is (led (indent level) (p.front ++ (codes " " ++ (t.front ++ (codes "\n" ++ r.cases)))) refl
+        (seq p.front (codes " " ++ (t.front ++ (codes "\n" ++ r.cases))) refl (keys_to level p.value p.front p.first) (led (codes " ") (t.front ++ (codes "\n" ++ r.cases)) refl (seq t.front (codes "\n" ++ r.cases) refl (block_to level t.value t.front t.first) (led (codes "\n") r.cases refl r.spelled)))));
+      turned = grown;
+    }
+
+cases_list : Cases → List Case
+cases_list no_cases = []
+cases_list (switch_case ks ss cs) = (ks, ss) ∷ cases_list cs
+
+list_cases : (cs : Cases) → cases_of (cases_list cs) ≡ cs
+unfolding cases_list
+list_cases no_cases = refl
+list_cases (switch_case ks ss cs) = ap (λ (ds : Cases). switch_case ks ss ds) (list_cases cs)
+
+record Uncased (level : ℕ) (cs : List Case) (cases : List ℕ) : Type 0 where
+  behind : List ℕ
+  items : IsList (CaseForm level) cs behind
+  turned : indent level ++ behind ≡ cases ++ indent level
+
+case_item : (level : ℕ) (ks : List ℤ) (ss : Statements) (k b : List ℕ) → SpellsKeys level ks k → Block level (SpellsLines (level + 1) ss) b → CaseForm level (ks, ss) (k ++ (codes " " ++ (b ++ (codes "\n" ++ indent level))))
+case_item level ks ss k b s t = record { value = ks; front = k; back = codes " " ++ (b ++ (codes "\n" ++ indent level)); first = keys_from level ks k s; parts = refl; second = record { back = b ++ (codes "\n" ++ indent level); parts = refl; second = record { value = ss; front = b; back = codes "\n" ++ indent level; first = block_from level ss b t; parts = refl; second = record { back = indent level; parts = refl; second = record { back = []; second = no_more (ks, ss); parts = sym (append-nil (indent level)) } } } } }
+
+cases_from : (level : ℕ) (cs : Cases) (cases : List ℕ) → SpellsCases level cs cases → Uncased level (cases_list cs) cases
+unfolding SpellsCases cases_list
+cases_from level no_cases cases s = record { behind = []; items = no_items; turned = append-nil (indent level) ∙ ap (λ (x : List ℕ). x ++ indent level) (sym s.same) }
+cases_from level (switch_case ks ss cs) cases s =
+    let t = s.second in
+    let u = t.second in
+    let v = u.second in
+    let w = v.second in
+    let r = cases_from level cs w.back w.second in
+    let whole : cases ≡ indent level ++ (t.front ++ (codes " " ++ (v.front ++ (codes "\n" ++ w.back)))) = lead_of s ∙ ap (glue (indent level)) (t.parts ∙ ap (glue t.front) (lead_of u ∙ ap (glue (codes " ")) (v.parts ∙ ap (glue v.front) (lead_of w)))) in
+    record {
+      behind = (t.front ++ (codes " " ++ (v.front ++ (codes "\n" ++ indent level)))) ++ r.behind;
+      items = an_item (case_item level ks ss t.front v.front t.first v.first) r.items;
+      turned = case_parts level t.front v.front r.behind ∙ ap (λ (x : List ℕ). indent level ++ (t.front ++ (codes " " ++ (v.front ++ (codes "\n" ++ x))))) r.turned ∙ case_regroup level t.front v.front w.back ∙ ap (λ (x : List ℕ). x ++ indent level) (sym whole);
+    }
+
+-- ---- from the level to the grammar
+
+-- the keyword and the byte behind it as one literal
+word_led : {w v front back : List ℕ} → front ≡ w → back ≡ v → front ++ back ≡ w ++ v
+word_led e f = ap₂ (λ (x y : List ℕ). x ++ y) e f
+
+switch_to : (level : ℕ) (e : Expression) (y : Statement) (text front back : List ℕ) → text ≡ codes "switch (" ++ (front ++ (codes ") {\n" ++ back)) → SpellsExpression e front → SwitchForm level e y back → SpellsStatement level y text
+unfolding SpellsStatement
+switch_to level e y text front back parts s p =
+    let q = p.second in
+    let c = cases_to q.first in
+    let d = q.second in
+    let b = d.second in
+    let n = b.second in
+    let i = n.second in
+    let z = i.second in
+    let end : i.back ≡ codes "}" = z.parts ∙ ap (glue (codes "}")) z.second.empty in
+    let whole : back ≡ c.cases ++ (indent (level + 1) ++ q.back) = p.parts ∙ ap (glue (indent (level + 1))) q.parts ∙ sym (append_assoc (indent (level + 1)) q.front q.back) ∙ ap (λ (x : List ℕ). x ++ q.back) c.turned ∙ append_assoc c.cases (indent (level + 1)) q.back in
+    rw z.second.same (led (codes "switch (") (front ++ (codes ") {\n" ++ back)) parts (seq front (codes ") {\n" ++ back) refl s (led (codes ") {\n") back refl (seq c.cases (indent (level + 1) ++ q.back) whole c.spelled (led (indent (level + 1)) q.back refl (led (codes "default: ") d.back d.parts (seq b.front b.back b.parts (block_to (level + 1) b.value b.front b.first) (led (codes "\n") n.back n.parts (led (indent level) i.back i.parts (record { same = end }))))))))))
+
+target_to : (level : ℕ) (e : Expression) (y : Statement) (text front back : List ℕ) → text ≡ front ++ back → SpellsExpression e front → TargetForm level e y back → SpellsStatement level y text
+unfolding SpellsStatement SpellsExpression
+target_to level (name_use x) y text front back parts s (first p) = rw p.second.is (seq front back parts s (led (codes ": ") p.back p.parts (block_to level p.second.value p.back p.second.first)))
+target_to level (name_use x) y text front back parts s (second (first p)) =
+    let q = p.second in
+    rw q.second.is (seq front back parts s (led (codes " = ") p.back p.parts (seq q.front q.back q.parts q.first (record { same = q.second.first.is }))))
+target_to level (name_use x) y text front back parts s (second (second p)) = rw p.second.same (seq front back parts s (record { same = p.parts ∙ ap (glue (codes ";")) p.second.empty }))
+target_to level (property_of o n) y text front back parts s (first p) =
+    let q = p.second in
+    let t = s.second in
+    let dot : s.back ++ back ≡ codes "." ++ (t.back ++ back) = ap (λ (x : List ℕ). x ++ back) (lead_of t) in
+    rw q.second.is (seq s.front (s.back ++ back) (parts ∙ ap (λ (x : List ℕ). x ++ back) s.parts ∙ append_assoc s.front s.back back) s.first
+      (led (codes ".") (t.back ++ back) dot (seq t.back back refl t.second (led (codes " = ") p.back p.parts (seq q.front q.back q.parts q.first (record { same = q.second.first.is }))))))
+target_to level (property_of o n) y text front back parts s (second p) = rw p.second.same (seq front back parts s (record { same = p.parts ∙ ap (glue (codes ";")) p.second.empty }))
+target_to level (index_of o i) y text front back parts s (first p) =
+    let q = p.second in
+    let t = s.second in
+    let u = t.second in
+    let open_is : s.back ++ back ≡ codes "[" ++ (t.back ++ back) = ap (λ (x : List ℕ). x ++ back) (lead_of t) in
+    let inside : t.back ++ back ≡ u.front ++ (u.back ++ back) = ap (λ (x : List ℕ). x ++ back) u.parts ∙ append_assoc u.front u.back back in
+    let close : u.back ++ back ≡ codes "] = " ++ p.back = ap₂ (λ (x y : List ℕ). x ++ y) u.second.same p.parts in
+    rw q.second.is (seq s.front (s.back ++ back) (parts ∙ ap (λ (x : List ℕ). x ++ back) s.parts ∙ append_assoc s.front s.back back) s.first
+      (led (codes "[") (t.back ++ back) open_is (seq u.front (u.back ++ back) inside u.first (led (codes "] = ") p.back close (seq q.front q.back q.parts q.first (record { same = q.second.first.is }))))))
+target_to level (index_of o i) y text front back parts s (second p) = rw p.second.same (seq front back parts s (record { same = p.parts ∙ ap (glue (codes ";")) p.second.empty }))
+target_to level e y text front back parts s p = rw p.second.same (seq front back parts s (record { same = p.parts ∙ ap (glue (codes ";")) p.second.empty }))
+
+-- `e;` behind what is before it
+ended : {f : Expression → Statement} {y : Statement} {text : List ℕ} (p : EndedForm f y text) → (SpellsExpression p.value ● Is (codes ";")) text
+ended p = seq p.front p.back p.parts p.first (record { same = p.second.first.is })
+
+word_to : (level : ℕ) (h : StatementHead) (y : Statement) (text front back : List ℕ) → text ≡ front ++ back → IsStatementHead h front → StatementWordForm level h y back → SpellsStatement level y text
+unfolding SpellsStatement
+word_to level statements.Const y text front back parts n p =
+    let q = p.second in
+    let r = q.second in
+    rw r.second.second.is (led (codes "const ") p.back (parts ∙ word_led n.same p.parts) (seq q.front q.back q.parts q.first (led (codes " = ") r.back r.parts (ended r.second))))
+word_to level statements.Let y text front back parts n p = elim p.second.second [
+    | first r ↦ rw r.second.same (led (codes "let ") p.back (parts ∙ word_led n.same p.parts) (seq p.second.front p.second.back p.second.parts p.second.first (record { same = r.parts ∙ ap (glue (codes ";")) r.second.empty })))
+    | second r ↦ rw r.second.second.is (led (codes "let ") p.back (parts ∙ word_led n.same p.parts) (seq p.second.front p.second.back p.second.parts p.second.first (led (codes " = ") r.back r.parts (ended r.second))))
+  ]
+word_to level statements.Super y text front back parts n p = rw p.second.same (record { same = parts ∙ word_led n.same (p.parts ∙ ap (glue (codes "();")) p.second.empty) })
+word_to level statements.Throw y text front back parts n p = rw p.second.second.is (led (codes "throw ") p.back (parts ∙ word_led n.same p.parts) (ended p.second))
+word_to level statements.Return y text front back parts n p = rw p.second.second.is (led (codes "return ") p.back (parts ∙ word_led n.same p.parts) (ended p.second))
+word_to level statements.Break y text front back parts n (first p) = rw p.second.same (record { same = parts ∙ word_led n.same (p.parts ∙ ap (glue (codes ";")) p.second.empty) })
+word_to level statements.Break y text front back parts n (second p) =
+    let q = p.second in
+    rw q.second.is (led (codes "break ") p.back (parts ∙ word_led n.same p.parts) (seq q.front q.back q.parts q.first (record { same = q.second.first.is })))
+word_to level statements.If y text front back parts n p =
+    let q = p.second in
+    let r = q.second in
+    let b = r.second in
+    elim b.second [
+      | first t ↦ rw t.second.is (led (codes "if (") p.back (parts ∙ word_led n.same p.parts) (seq q.front q.back q.parts q.first (led (codes ") ") r.back r.parts (seq b.front b.back b.parts (block_to level b.value b.front b.first) (led (codes " else ") t.back t.parts (block_to level t.second.value t.back t.second.first))))))
+      | second t ↦
+          let whole : r.back ≡ b.front = b.parts ∙ ap (glue b.front) t.empty ∙ append-nil b.front in
+          rw t.same (led (codes "if (") p.back (parts ∙ word_led n.same p.parts) (seq q.front q.back q.parts q.first (led (codes ") ") r.back r.parts (block_to level b.value r.back (subst (λ (u : List ℕ). BlockForm level b.value u) (sym whole) b.first)))))
+    ]
+word_to level statements.While y text front back parts n p =
+    let q = p.second in
+    let r = q.second in
+    rw r.second.is (led (codes "while (") p.back (parts ∙ word_led n.same p.parts) (seq q.front q.back q.parts q.first (led (codes ") ") r.back r.parts (block_to level r.second.value r.back r.second.first))))
+word_to level statements.Do y text front back parts n p =
+    let q = p.second in
+    rw q.second.is (led (codes "do ") p.back (parts ∙ word_led n.same p.parts) (seq q.front q.back q.parts (block_to level q.value q.front q.first) (record { same = q.second.first.is })))
+word_to level statements.Try y text front back parts n p =
+    let q = p.second in
+    let r = q.second in
+    elim r.second [
+      | first t ↦
+          let x = t.second in
+          let z = x.second in
+          let whole : q.back ≡ codes " catch (" ++ t.back = r.parts ∙ ap (glue (codes " ")) t.parts in
+          rw z.second.is (led (codes "try ") p.back (parts ∙ word_led n.same p.parts) (seq q.front q.back q.parts (block_to level q.value q.front q.first) (led (codes " catch (") t.back whole (seq x.front x.back x.parts x.first (led (codes ") ") z.back z.parts (block_to level z.second.value z.back z.second.first))))))
+      | second t ↦
+          let whole : q.back ≡ codes " finally " ++ t.back = r.parts ∙ ap (glue (codes " ")) t.parts in
+          rw t.second.is (led (codes "try ") p.back (parts ∙ word_led n.same p.parts) (seq q.front q.back q.parts (block_to level q.value q.front q.first) (led (codes " finally ") t.back whole (block_to level t.second.value t.back t.second.first))))
+    ]
+word_to level statements.Switch y text front back parts n p =
+    let q = p.second in
+    let r = q.second in
+    switch_to level q.value y text q.front r.back (parts ∙ word_led n.same p.parts ∙ ap (glue (codes "switch (")) (q.parts ∙ ap (glue q.front) r.parts)) q.first r.second
+word_to level (statements.Expression h) y text front back parts n p =
+    target_to level p.value y text (front ++ p.front) p.back (parts ∙ ap (glue front) p.parts ∙ sym (append_assoc front p.front p.back)) (after_to h p.value front p.front n p.first).spelled p.second
+
+pub statement_to : (level : ℕ) (y : Statement) (text : List ℕ) → StatementForm level y text → SpellsStatement level y text
+statement_to level y text (first p) = word_to level p.value y text p.front p.back p.parts p.first p.second
+statement_to level y text (second p) = target_to level p.value y text p.front p.back p.parts p.first.spelled p.second
+
+-- ---- from the grammar to the level
+
+-- an expression that stands first, and what is behind it
+routed : (level : ℕ) (e : Expression) (y : Statement) (text front back : List ℕ) → text ≡ front ++ back → SpellsExpression e front → TargetForm level e y back → StatementForm level y text
+routed level e y text front back parts s t = elim (expression_from e front s) [
+    | first p ↦ first (record { value = statements.Expression p.value; front = p.front; back = p.back ++ back; first = p.first; second = record { value = e; front = p.back; back = back; first = p.second; second = t; parts = refl }; parts = parts ∙ ap (λ (x : List ℕ). x ++ back) p.parts ∙ append_assoc p.front p.back back })
+    | second p ↦ second (record { value = e; front = front; back = back; first = record { spelled = s; off = wordless_off e front p }; second = t; parts = parts })
+  ]
+
+keyed : (level : ℕ) (h : StatementHead) (y : Statement) (text w back : List ℕ) → text ≡ w ++ back → IsStatementHead h w → StatementWordForm level h y back → StatementForm level y text
+keyed level h y text w back parts n p = first (record { value = h; front = w; back = back; first = n; second = p; parts = parts })
+
+ended_from : (f : Expression → Statement) (e : Expression) (text : List ℕ) → (SpellsExpression e ● Is (codes ";")) text → EndedForm f (f e) text
+ended_from f e text s = record { value = e; front = s.front; back = s.back; first = s.first; second = closing (f e) s.second; parts = s.parts }
+
+block_mapped : (level : ℕ) (f : Statements → Statement) (ss : Statements) (text : List ℕ) → Block level (SpellsLines (level + 1) ss) text → IsMapped f (BlockForm level) (f ss) text
+block_mapped level f ss text s = record { value = ss; first = block_from level ss text s; is = refl }
+
+semicolon : (y : Statement) (text : List ℕ) → Is (codes ";") text → Leads (codes ";") (IsValue y) y text
+semicolon y text s = record { back = []; second = no_more y; parts = s.same }
+
+alone : (level : ℕ) (e : Expression) (text : List ℕ) → Is (codes ";") text → TargetForm level e (expression_statement e) text
+alone level (name_use x) text s = second (second (semicolon _ text s))
+alone level (property_of o p) text s = second (semicolon _ text s)
+alone level (index_of o i) text s = second (semicolon _ text s)
+alone level e text s = semicolon _ text s
+
+pub statement_from : (level : ℕ) (y : Statement) (text : List ℕ) → SpellsStatement level y text → StatementForm level y text
+unfolding SpellsStatement SpellsExpression
+statement_from level (const_of x e) text s =
+    let t = s.second in
+    keyed level statements.Const _ text (codes "const") (codes " " ++ s.back) (lead_of s) (record { same = refl })
+      (record { back = s.back; parts = refl; second = record { value = x; front = t.front; back = t.back; first = t.first; parts = t.parts; second = leads _ t.second (ended_from (λ e. const_of x e) e t.second.back t.second.second) } })
+statement_from level (let_of x e) text s =
+    let t = s.second in
+    keyed level statements.Let _ text (codes "let") (codes " " ++ s.back) (lead_of s) (record { same = refl })
+      (record { back = s.back; parts = refl; second = record { value = x; front = t.front; back = t.back; first = t.first; parts = t.parts; second = second (leads _ t.second (ended_from (λ e. let_of x e) e t.second.back t.second.second)) } })
+statement_from level (declare_of x) text s =
+    let t = s.second in
+    keyed level statements.Let _ text (codes "let") (codes " " ++ s.back) (lead_of s) (record { same = refl })
+      (record { back = s.back; parts = refl; second = record { value = x; front = t.front; back = t.back; first = t.first; parts = t.parts; second = first (semicolon _ t.back t.second) } })
+statement_from level (expression_statement e) text s = routed level e _ text s.front s.back s.parts s.first (alone level e s.back s.second)
+statement_from level (assign_name x e) text s = routed level (name_use x) _ text s.front s.back s.parts s.first (second (first (leads _ s.second (ended_from (λ e. assign_name x e) e s.second.back s.second.second))))
+statement_from level (assign_property o p e) text s =
+    let t = s.second in
+    let u = t.second in
+    let v = u.second in
+    let parts : text ≡ (s.front ++ (codes "." ++ u.front)) ++ u.back = s.parts ∙ ap (glue s.front) (lead_of t ∙ ap (glue (codes ".")) u.parts) ∙ sym (append_assoc s.front (codes "." ++ u.front) u.back) in
+    routed level (property_of o p) _ text (s.front ++ (codes "." ++ u.front)) u.back parts (seq s.front (codes "." ++ u.front) refl s.first (led (codes ".") u.front refl u.first)) (first (leads _ v (ended_from (λ e. assign_property o p e) e v.back v.second)))
+statement_from level (assign_index o i e) text s =
+    let t = s.second in
+    let u = t.second in
+    let v = u.second in
+    let inside : t.back ≡ (u.front ++ codes "]") ++ (codes " = " ++ v.back) = u.parts ∙ ap (glue u.front) (lead_of v) ∙ sym (append_assoc u.front (codes "]") (codes " = " ++ v.back)) in
+    let parts : text ≡ (s.front ++ (codes "[" ++ (u.front ++ codes "]"))) ++ (codes " = " ++ v.back) = s.parts ∙ ap (glue s.front) (lead_of t ∙ ap (glue (codes "[")) inside) ∙ sym (append_assoc s.front (codes "[" ++ (u.front ++ codes "]")) (codes " = " ++ v.back)) in
+    routed level (index_of o i) _ text (s.front ++ (codes "[" ++ (u.front ++ codes "]"))) (codes " = " ++ v.back) parts (seq s.front (codes "[" ++ (u.front ++ codes "]")) refl s.first (led (codes "[") (u.front ++ codes "]") refl (seq u.front (codes "]") refl u.first (record { same = refl }))))
+      (first (record { back = v.back; parts = refl; second = ended_from (λ e. assign_index o i e) e v.back v.second }))
+statement_from level super_call text s = keyed level statements.Super _ text (codes "super") (codes "();") s.same (record { same = refl }) (record { back = []; second = no_more super_call; parts = refl })
+statement_from level (throw_of e) text s = keyed level statements.Throw _ text (codes "throw") (codes " " ++ s.back) (lead_of s) (record { same = refl }) (record { back = s.back; parts = refl; second = ended_from (λ e. throw_of e) e s.back s.second })
+statement_from level (return_of e) text s = keyed level statements.Return _ text (codes "return") (codes " " ++ s.back) (lead_of s) (record { same = refl }) (record { back = s.back; parts = refl; second = ended_from (λ e. return_of e) e s.back s.second })
+statement_from level break_nearest text s = keyed level statements.Break _ text (codes "break") (codes ";") s.same (record { same = refl }) (first (record { back = []; second = no_more break_nearest; parts = refl }))
+statement_from level (break_to x) text s =
+    let t = s.second in
+    keyed level statements.Break _ text (codes "break") (codes " " ++ s.back) (lead_of s) (record { same = refl })
+      (second (record { back = s.back; parts = refl; second = record { value = x; front = t.front; back = t.back; first = t.first; second = closing (break_to x) t.second; parts = t.parts } }))
+statement_from level (if_only c ss) text s =
+    let t = s.second in
+    let u = t.second in
+    keyed level statements.If _ text (codes "if") (codes " (" ++ s.back) (lead_of s) (record { same = refl })
+      (record { back = s.back; parts = refl; second = record { value = c; front = t.front; back = t.back; first = t.first; parts = t.parts; second = leads _ u (record { value = ss; front = u.back; back = []; first = block_from level ss u.back u.second; second = second (no_more (if_only c ss)); parts = sym (append-nil u.back) }) } })
+statement_from level (if_else c ss ts) text s =
+    let t = s.second in
+    let u = t.second in
+    let v = u.second in
+    keyed level statements.If _ text (codes "if") (codes " (" ++ s.back) (lead_of s) (record { same = refl })
+      (record { back = s.back; parts = refl; second = record { value = c; front = t.front; back = t.back; first = t.first; parts = t.parts; second = leads _ u (record { value = ss; front = v.front; back = v.back; first = block_from level ss v.front v.first; second = first (leads _ v.second (block_mapped level (λ ts. if_else c ss ts) ts v.second.back v.second.second)); parts = v.parts }) } })
+statement_from level (while_of c ss) text s =
+    let t = s.second in
+    let u = t.second in
+    keyed level statements.While _ text (codes "while") (codes " (" ++ s.back) (lead_of s) (record { same = refl })
+      (record { back = s.back; parts = refl; second = record { value = c; front = t.front; back = t.back; first = t.first; parts = t.parts; second = leads _ u (block_mapped level (λ ss. while_of c ss) ss u.back u.second) } })
+statement_from level (do_forever ss) text s =
+    let t = s.second in
+    keyed level statements.Do _ text (codes "do") (codes " " ++ s.back) (lead_of s) (record { same = refl })
+      (record { back = s.back; parts = refl; second = record { value = ss; front = t.front; back = t.back; first = block_from level ss t.front t.first; second = closing (do_forever ss) t.second; parts = t.parts } })
+statement_from level (labeled_of x ss) text s = routed level (name_use x) _ text s.front s.back s.parts s.first (first (leads _ s.second (block_mapped level (λ ss. labeled_of x ss) ss s.second.back s.second.second)))
+statement_from level (try_catch ss x ts) text s =
+    let t = s.second in
+    let u = t.second in
+    let v = u.second in
+    keyed level statements.Try _ text (codes "try") (codes " " ++ s.back) (lead_of s) (record { same = refl })
+      (record { back = s.back; parts = refl; second = record { value = ss; front = t.front; back = t.back; first = block_from level ss t.front t.first; parts = t.parts;
+        second = record { back = codes "catch (" ++ u.back; parts = lead_of u; second = first (record { back = u.back; parts = refl; second = record { value = x; front = v.front; back = v.back; first = v.first; parts = v.parts; second = leads _ v.second (block_mapped level (λ ts. try_catch ss x ts) ts v.second.back v.second.second) } }) } } })
+statement_from level (try_finally ss ts) text s =
+    let t = s.second in
+    let u = t.second in
+    keyed level statements.Try _ text (codes "try") (codes " " ++ s.back) (lead_of s) (record { same = refl })
+      (record { back = s.back; parts = refl; second = record { value = ss; front = t.front; back = t.back; first = block_from level ss t.front t.first; parts = t.parts;
+        second = record { back = codes "finally " ++ u.back; parts = lead_of u; second = second (record { back = u.back; parts = refl; second = block_mapped level (λ ts. try_finally ss ts) ts u.back u.second }) } } })
+statement_from level (switch_on e cs ss) text s =
+    let t = s.second in
+    let u = t.second in
+    let v = u.second in
+    let w = v.second in
+    let x = w.second in
+    let y = x.second in
+    let z = y.second in
+    let i = z.second in
+    let r = cases_from (level + 1) cs v.front v.first in
+    let whole : u.back ≡ indent (level + 1) ++ (r.behind ++ w.back) = v.parts ∙ ap (glue v.front) (lead_of w) ∙ sym (append_assoc v.front (indent (level + 1)) w.back) ∙ ap (λ (k : List ℕ). k ++ w.back) (sym r.turned) ∙ append_assoc (indent (level + 1)) r.behind w.back in
+    keyed level statements.Switch _ text (codes "switch") (codes " (" ++ s.back) (lead_of s) (record { same = refl })
+      (record { back = s.back; parts = refl; second = record { value = e; front = t.front; back = t.back; first = t.first; parts = t.parts; second = leads _ u (record { back = r.behind ++ w.back; parts = whole;
+        second = record { value = cases_list cs; front = r.behind; back = w.back; first = r.items; parts = refl;
+          second = leads _ x (record { value = ss; front = y.front; back = y.back; first = block_from (level + 1) ss y.front y.first; parts = y.parts;
+            second = leads _ z (leads _ i (record { back = []; parts = i.second.same; second = record { same = ap (λ (k : Cases). switch_on e k ss) (sym (list_cases cs)); empty = refl } })) }) } }) } })
