@@ -6,3 +6,4 @@ pub mod Parts
 pub mod ExpressionForms
 pub mod ExpressionLaws
 pub mod StatementForms
+pub mod StatementLaws
