@@ -7,3 +7,4 @@ pub mod ExpressionForms
 pub mod ExpressionLaws
 pub mod StatementForms
 pub mod StatementLaws
+pub mod ModuleForms

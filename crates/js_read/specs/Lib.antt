@@ -2,3 +2,4 @@ pub mod Words
 pub mod Tokens
 pub mod Expressions
 pub mod Statements
+pub mod Modules

@@ -4,5 +4,5 @@
 mod words;
 
 pub use words::{
-    Head, Infix, ItemHead, LineHead, MemberHead, NewHead, ParenthesisHead, StatementHead,
+    Head, Infix, ItemHead, LineHead, MemberHead, NewHead, ParenthesisHead, Stage, StatementHead,
 };

@@ -81,3 +81,11 @@ pub enum MemberHead {
     Constructor,
     Method(Text),
 }
+
+/// Where the reader of a module stands: before its first item, behind it, behind its export line.
+#[derive(Clone, Copy)]
+pub enum Stage {
+    Imports,
+    Items,
+    End,
+}
