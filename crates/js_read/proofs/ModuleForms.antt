@@ -306,3 +306,232 @@ import_to i text front back parts n p =
     let i_is : i ≡ record { names = q.value; file = t.value } = cc t.second.second.same in
     rw i_is (led (codes "import { ") p.back (parts ∙ word_led n p.parts) (seq q.front q.back q.parts (names_to q.value q.front q.first) (led (codes " } from \"./") r.back r.parts (seq t.front t.back t.parts t.first (valued t.second)))))
 
+item_line_to : (y : Item) (text front back : List ℕ) → text ≡ front ++ back → SpellsItem y front → Is (codes "\n") back → SpellsItemLine y text
+unfolding SpellsItemLine
+item_line_to y text front back parts s t = seq front back parts s t
+
+-- `e;` and the line feed as one literal
+bare_to : (y : Line) (text : List ℕ) → (IsWordless then λ e. Leads (codes ";\n") (IsValue (item_line (expression_item e)))) y text → (e : Expression) × (y ≡ item_line (expression_item e)) × SpellsItemLine (expression_item e) text
+unfolding SpellsItem
+bare_to y text p =
+    let end : p.back ≡ codes ";" ++ codes "\n" = (valued p.second).same in
+    let whole : text ≡ (p.front ++ codes ";") ++ codes "\n" = p.parts ∙ ap (glue p.front) end ∙ sym (append_assoc p.front (codes ";") (codes "\n")) in
+    (p.value, p.second.second.same, item_line_to (expression_item p.value) text (p.front ++ codes ";") (codes "\n") whole (seq p.front (codes ";") refl p.first.spelled (record { same = refl })) (record { same = refl }))
+
+is_item_line : (imports : Bool) (y : Line) (i : Item) (text : List ℕ) → y ≡ item_line i → SpellsItemLine i text → IsLine imports y text
+is_item_line true y i text e s = rw e s
+is_item_line false y i text e s = rw e s
+
+is_export_line : (imports : Bool) (y : Line) (xs : List Name) (text : List ℕ) → y ≡ export_line xs → (Is (codes "export { ") ● SpellsNames xs ● Is (codes " };\n")) text → IsLine imports y text
+is_export_line true y xs text e s = rw e s
+is_export_line false y xs text e s = rw e s
+
+line_word_to : (imports : Bool) (h : LineHead) (l : Line) (text front back : List ℕ) → text ≡ front ++ back → IsLineHead imports h front → LineWordForm h l back → IsLine imports l text
+line_word_to true lines.Import l text front back parts n p =
+    let q = p.second in
+    let t = q.second.second in
+    rw t.second.second.same (import_to _ text front back parts n.same (record { back = p.back; parts = p.parts; second = record { value = q.value; front = q.front; back = q.back; first = q.first; parts = q.parts;
+      second = record { back = q.second.back; parts = q.second.parts; second = record { value = t.value; front = t.front; back = t.back; first = t.first; parts = t.parts; second = record { back = t.second.back; parts = t.second.parts; second = record { same = refl; empty = t.second.second.empty } } } } } }))
+line_word_to false lines.Import l text front back parts n p = absurd n
+line_word_to true lines.Export l text front back parts n p =
+    let q = p.second in
+    is_export_line true l q.value text q.second.second.same (led (codes "export { ") p.back (parts ∙ word_led n.same p.parts) (seq q.front q.back q.parts (names_to q.value q.front q.first) (valued q.second)))
+line_word_to false lines.Export l text front back parts n p =
+    let q = p.second in
+    is_export_line false l q.value text q.second.second.same (led (codes "export { ") p.back (parts ∙ word_led n.same p.parts) (seq q.front q.back q.parts (names_to q.value q.front q.first) (valued q.second)))
+line_word_to true (lines.Item h) l text front back parts n p =
+    is_item_line true l p.value text p.second.second.same (item_line_to p.value text (front ++ p.front) p.back (parts ∙ ap (glue front) p.parts ∙ sym (append_assoc front p.front p.back)) (item_word_to h p.value (front ++ p.front) front p.front refl n p.first) (valued p.second))
+line_word_to false (lines.Item h) l text front back parts n p =
+    is_item_line false l p.value text p.second.second.same (item_line_to p.value text (front ++ p.front) p.back (parts ∙ ap (glue front) p.parts ∙ sym (append_assoc front p.front p.back)) (item_word_to h p.value (front ++ p.front) front p.front refl n p.first) (valued p.second))
+
+pub line_to : (imports : Bool) (l : Line) (text : List ℕ) → ModuleLineForm imports l text → IsLine imports l text
+line_to imports l text (first p) = line_word_to imports p.value l text p.front p.back p.parts p.first p.second
+line_to imports l text (second p) = let b = bare_to l text p in is_item_line imports l (expression_item b.0) text b.1 b.2
+
+item_head : (imports : Bool) (h : ItemHead) (text : List ℕ) → IsItemHead h text → IsLineHead imports (lines.Item h) text
+item_head true h text n = n
+item_head false h text n = n
+
+export_head : (imports : Bool) → IsLineHead imports lines.Export (codes "export")
+export_head true = record { same = refl }
+export_head false = record { same = refl }
+
+item_line_from : (imports : Bool) (i : Item) (text : List ℕ) → SpellsItemLine i text → ModuleLineForm imports (item_line i) text
+unfolding SpellsItemLine
+item_line_from imports i text s = elim (item_from i s.front s.first) [
+    | inl p ↦
+        let whole : p.back ++ s.back ≡ codes ";\n" = ap₂ (λ (x y : List ℕ). x ++ y) p.second.first.is s.second.same in
+        second (record { value = p.value; front = p.front; back = p.back ++ s.back; first = p.first; parts = s.parts ∙ ap (λ (x : List ℕ). x ++ s.back) p.parts ∙ append_assoc p.front p.back s.back;
+          second = record { back = []; second = record { same = ap (λ (x : Item). item_line x) p.second.is; empty = refl }; parts = whole } })
+    | inr p ↦
+        first (record { value = lines.Item p.head; front = p.front; back = p.back ++ s.back; first = item_head imports p.head p.front p.first; parts = s.parts ∙ ap (λ (x : List ℕ). x ++ s.back) p.parts ∙ append_assoc p.front p.back s.back;
+          second = record { value = i; front = p.back; back = s.back; first = p.second; second = to_value (item_line i) s.second; parts = refl } })
+  ]
+
+export_line_from : (imports : Bool) (xs : List Name) (text : List ℕ) → (Is (codes "export { ") ● SpellsNames xs ● Is (codes " };\n")) text → ModuleLineForm imports (export_line xs) text
+export_line_from imports xs text s =
+    let t = s.second in
+    first (record { value = lines.Export; front = codes "export"; back = codes " { " ++ s.back; first = export_head imports; parts = lead_of s;
+      second = record { back = s.back; parts = refl; second = record { value = xs; front = t.front; back = t.back; first = names_from xs t.front t.first; parts = t.parts; second = to_value (export_line xs) t.second } } })
+
+import_from : (i : JsImport) (text : List ℕ) → SpellsImport i text → ModuleLineForm true (import_line i) text
+unfolding SpellsImport
+import_from i text s =
+    let t = s.second in
+    let u = t.second in
+    let v = u.second in
+    first (record { value = lines.Import; front = codes "import"; back = codes " { " ++ s.back; first = record { same = refl }; parts = lead_of s;
+      second = record { back = s.back; parts = refl; second = record { value = i.names; front = t.front; back = t.back; first = names_from i.names t.front t.first; parts = t.parts;
+        second = leads _ u (record { value = i.file; front = v.front; back = v.back; first = v.first; parts = v.parts; second = to_value (import_line i) v.second }) } } })
+
+pub line_from : (imports : Bool) (l : Line) (text : List ℕ) → IsLine imports l text → ModuleLineForm imports l text
+line_from true (import_line i) text s = import_from i text s
+line_from false (import_line i) text s = absurd s
+line_from true (item_line i) text s = item_line_from true i text s
+line_from false (item_line i) text s = item_line_from false i text s
+line_from true (export_line xs) text s = export_line_from true xs text s
+line_from false (export_line xs) text s = export_line_from false xs text s
+
+-- ---- modules
+
+-- which line may come at a stage
+abbrev pub LineAt : Stage → Spelling Line
+LineAt Imports = IsLine true
+LineAt Items = IsLine false
+LineAt End = λ l text. ⊥
+
+record Nothing (ls : List Line) (text : List ℕ) : Type 0 where
+  no_lines : ls ≡ []
+  empty : text ≡ []
+
+ended_lines : {ls : List Line} {text : List ℕ} → IsWalk LineAt stage_after End ls text → Nothing ls text
+ended_lines walk_ends = record { no_lines = refl; empty = refl }
+ended_lines (walk_on p w) = absurd p
+
+exported : (imports : Bool) (xs : List Name) (ls : List Line) (front back : List ℕ) → IsLine imports (export_line xs) front → IsWalk LineAt stage_after End ls back → SpellsExports xs (front ++ back)
+unfolding SpellsExports SpellsNames
+exported imports [] ls front back p w = absurd (none imports p)
+  where
+    none : (imports : Bool) → IsLine imports (export_line []) front → ⊥
+    none true p = cc p.second.first.holds
+    none false p = cc p.second.first.holds
+exported true (x ∷ xs) ls front back p w = let n = ended_lines w in rw (n.empty, append-nil front) p
+exported false (x ∷ xs) ls front back p w = let n = ended_lines w in rw (n.empty, append-nil front) p
+
+-- items, and the export line that may follow them
+record Itemed (ls : List Line) (text : List ℕ) : Type 0 where
+  no_imports : (module_of ls).imports ≡ []
+  spelled : (Each SpellsItemLine (module_of ls).items ● SpellsExports (module_of ls).exports) text
+
+no_itemed : Itemed [] []
+unfolding module_of Each SpellsExports
+no_itemed = record { no_imports = refl; spelled = seq [] [] refl (record { same = refl }) (record { same = refl }) }
+
+exported_itemed : (imports : Bool) (xs : List Name) (ls : List Line) (front back : List ℕ) → IsLine imports (export_line xs) front → IsWalk LineAt stage_after End ls back → Itemed (export_line xs ∷ ls) (front ++ back)
+unfolding module_of Each
+exported_itemed imports xs ls front back p w =
+    let n = ended_lines w in
+    let s = exported imports xs ls front back p w in
+    record { no_imports = ap (λ (k : List Line). (module_of k).imports) n.no_lines; spelled = seq [] (front ++ back) refl (subst (λ (k : List Line). Each SpellsItemLine (module_of k).items []) (sym n.no_lines) (record { same = refl })) s }
+
+item_itemed : (i : Item) (ls : List Line) (front back : List ℕ) → SpellsItemLine i front → Itemed ls back → Itemed (item_line i ∷ ls) (front ++ back)
+unfolding module_of Each
+item_itemed i ls front back p r =
+    let s = r.spelled in
+    record { no_imports = r.no_imports; spelled = seq (front ++ s.front) s.back (ap (glue front) s.parts ∙ sym (append_assoc front s.front s.back)) (seq front s.front refl p s.first) s.second }
+
+items_to : {ls : List Line} {text : List ℕ} → IsWalk LineAt stage_after Items ls text → Itemed ls text
+items_to walk_ends = no_itemed
+items_to (walk_on {x = import_line i} p w) = absurd p
+items_to (walk_on {x = item_line i} {xs = ls} {front = front} {back = back} p w) = item_itemed i ls front back p (items_to w)
+items_to (walk_on {x = export_line xs} {xs = ls} {front = front} {back = back} p w) = exported_itemed false xs ls front back p w
+
+no_imports_spelled : (ls : List Line) (text : List ℕ) → Itemed ls text → Spells (module_of ls) text
+unfolding Spells Each
+no_imports_spelled ls text r = seq [] text refl (subst (λ (is : List JsImport). Each SpellsImport is []) (sym r.no_imports) (record { same = refl })) r.spelled
+
+import_spelled : (i : JsImport) (ls : List Line) (front back : List ℕ) → SpellsImport i front → Spells (module_of ls) back → Spells (module_of (import_line i ∷ ls)) (front ++ back)
+unfolding Spells Each module_of
+import_spelled i ls front back p s = seq (front ++ s.front) s.back (ap (glue front) s.parts ∙ sym (append_assoc front s.front s.back)) (seq front s.front refl p s.first) s.second
+
+lines_spelled : {ls : List Line} {text : List ℕ} → IsWalk LineAt stage_after Imports ls text → Spells (module_of ls) text
+lines_spelled walk_ends = no_imports_spelled [] [] no_itemed
+lines_spelled (walk_on {x = import_line i} {xs = ls} {front = front} {back = back} p w) = import_spelled i ls front back p (lines_spelled w)
+lines_spelled (walk_on {x = item_line i} {xs = ls} {front = front} {back = back} p w) = no_imports_spelled (item_line i ∷ ls) (front ++ back) (item_itemed i ls front back p (items_to w))
+lines_spelled (walk_on {x = export_line xs} {xs = ls} {front = front} {back = back} p w) = no_imports_spelled (export_line xs ∷ ls) (front ++ back) (exported_itemed true xs ls front back p w)
+
+-- ---- the lines of a module
+
+export_lines : List Name → List Line
+export_lines [] = []
+export_lines (x ∷ xs) = export_line (x ∷ xs) ∷ []
+
+item_lines : List Item → List Name → List Line
+item_lines [] xs = export_lines xs
+item_lines (i ∷ is) xs = item_line i ∷ item_lines is xs
+
+all_lines : List JsImport → List Item → List Name → List Line
+all_lines [] is xs = item_lines is xs
+all_lines (j ∷ js) is xs = import_line j ∷ all_lines js is xs
+
+export_module : (xs : List Name) → module_of (export_lines xs) ≡ record { imports = []; items = []; exports = xs }
+unfolding module_of export_lines
+export_module [] = refl
+export_module (x ∷ xs) = refl
+
+item_module : (is : List Item) (xs : List Name) → module_of (item_lines is xs) ≡ record { imports = []; items = is; exports = xs }
+unfolding module_of item_lines
+item_module [] xs = export_module xs
+item_module (i ∷ is) xs = ap (λ (m : Module). record { imports = m.imports; items = i ∷ m.items; exports = m.exports }) (item_module is xs)
+
+all_module : (js : List JsImport) (is : List Item) (xs : List Name) → module_of (all_lines js is xs) ≡ record { imports = js; items = is; exports = xs }
+unfolding module_of all_lines
+all_module [] is xs = item_module is xs
+all_module (j ∷ js) is xs = ap (λ (m : Module). record { imports = j ∷ m.imports; items = m.items; exports = m.exports }) (all_module js is xs)
+
+export_walk : (s : Stage) → ((xs : List Name) (text : List ℕ) → (Is (codes "export { ") ● SpellsNames xs ● Is (codes " };\n")) text → LineAt s (export_line xs) text) → (xs : List Name) (text : List ℕ) → SpellsExports xs text → IsWalk LineAt stage_after s (export_lines xs) text
+unfolding SpellsExports export_lines
+export_walk s here [] text e = subst (λ (t : List ℕ). IsWalk LineAt stage_after s [] t) (sym e.same) walk_ends
+export_walk s here (x ∷ xs) text e = subst (λ (t : List ℕ). IsWalk LineAt stage_after s (export_line (x ∷ xs) ∷ []) t) (append-nil text) (walk_on (here (x ∷ xs) text e) walk_ends)
+
+item_walk : (is : List Item) (xs : List Name) (text : List ℕ) → (Each SpellsItemLine is ● SpellsExports xs) text → IsWalk LineAt stage_after Items (item_lines is xs) text
+unfolding Each item_lines
+item_walk [] xs text s =
+    let whole : text ≡ s.back = s.parts ∙ ap (λ (x : List ℕ). x ++ s.back) s.first.same in
+    subst (λ (t : List ℕ). IsWalk LineAt stage_after Items (export_lines xs) t) (sym whole) (export_walk Items (λ ys t e. e) xs s.back s.second)
+item_walk (i ∷ is) xs text s =
+    let t = s.first in
+    let whole : text ≡ t.front ++ (t.back ++ s.back) = s.parts ∙ ap (λ (x : List ℕ). x ++ s.back) t.parts ∙ append_assoc t.front t.back s.back in
+    subst (λ (u : List ℕ). IsWalk LineAt stage_after Items (item_line i ∷ item_lines is xs) u) (sym whole) (walk_on t.first (item_walk is xs (t.back ++ s.back) (seq t.back s.back refl t.second s.second)))
+
+first_walk : (is : List Item) (xs : List Name) (text : List ℕ) → (Each SpellsItemLine is ● SpellsExports xs) text → IsWalk LineAt stage_after Imports (item_lines is xs) text
+unfolding Each item_lines
+first_walk [] xs text s =
+    let whole : text ≡ s.back = s.parts ∙ ap (λ (x : List ℕ). x ++ s.back) s.first.same in
+    subst (λ (t : List ℕ). IsWalk LineAt stage_after Imports (export_lines xs) t) (sym whole) (export_walk Imports (λ ys t e. e) xs s.back s.second)
+first_walk (i ∷ is) xs text s =
+    let t = s.first in
+    let whole : text ≡ t.front ++ (t.back ++ s.back) = s.parts ∙ ap (λ (x : List ℕ). x ++ s.back) t.parts ∙ append_assoc t.front t.back s.back in
+    subst (λ (u : List ℕ). IsWalk LineAt stage_after Imports (item_line i ∷ item_lines is xs) u) (sym whole) (walk_on t.first (item_walk is xs (t.back ++ s.back) (seq t.back s.back refl t.second s.second)))
+
+all_walk : (js : List JsImport) (is : List Item) (xs : List Name) (text : List ℕ) → (Each SpellsImport js ● Each SpellsItemLine is ● SpellsExports xs) text → IsWalk LineAt stage_after Imports (all_lines js is xs) text
+unfolding Each all_lines
+all_walk [] is xs text s =
+    let whole : text ≡ s.back = s.parts ∙ ap (λ (x : List ℕ). x ++ s.back) s.first.same in
+    subst (λ (t : List ℕ). IsWalk LineAt stage_after Imports (item_lines is xs) t) (sym whole) (first_walk is xs s.back s.second)
+all_walk (j ∷ js) is xs text s =
+    let t = s.first in
+    let whole : text ≡ t.front ++ (t.back ++ s.back) = s.parts ∙ ap (λ (x : List ℕ). x ++ s.back) t.parts ∙ append_assoc t.front t.back s.back in
+    subst (λ (u : List ℕ). IsWalk LineAt stage_after Imports (import_line j ∷ all_lines js is xs) u) (sym whole) (walk_on t.first (all_walk js is xs (t.back ++ s.back) (seq t.back s.back refl t.second s.second)))
+
+abbrev pub ModuleForm : Spelling Module
+ModuleForm = IsWalk LineAt stage_after Imports then λ ls. IsMapped (λ u. module_of ls) (IsLiteral [])
+
+pub module_to : (m : Module) (text : List ℕ) → ModuleForm m text → Spells m text
+module_to m text p =
+    let whole : text ≡ p.front = p.parts ∙ ap (glue p.front) p.second.first.is ∙ append-nil p.front in
+    rw (p.second.is, whole) (lines_spelled p.first)
+
+pub module_from : (m : Module) (text : List ℕ) → Spells m text → ModuleForm m text
+unfolding Spells
+module_from m text s = record { value = all_lines m.imports m.items m.exports; front = text; back = []; first = all_walk m.imports m.items m.exports text s; second = record { value = tt; first = record { is = refl }; is = sym (all_module m.imports m.items m.exports) }; parts = sym (append-nil text) }
