@@ -8,3 +8,4 @@ pub mod ExpressionLaws
 pub mod StatementForms
 pub mod StatementLaws
 pub mod ModuleForms
+pub mod ModuleLaws

@@ -15,7 +15,7 @@ use Rattle.exact_place.proofs.Numbers.{table_keywords}
 use Rattle.exact_place.proofs.Tokens.{law_run}
 use Rattle.js_read.specs.Words.{begins_name, begins_property, is_word_start, ends_word, expression_words, new_words, parenthesis_words, statement_words, member_words, item_words, later_words, line_words, head_of, new_head_of, parenthesis_head_of, statement_head_of, line_head_of, member_head_of, no_keyword, name_of, property_name_of, infix_words, is_space}
 
-all_front : (test : ℕ → Bool) (front : List ℕ) (c : ℕ) (more : List ℕ) → list_all test (front ++ c ∷ more) ≡ true → list_all test (front ++ c ∷ []) ≡ true
+pub all_front : (test : ℕ → Bool) (front : List ℕ) (c : ℕ) (more : List ℕ) → list_all test (front ++ c ∷ more) ≡ true → list_all test (front ++ c ∷ []) ≡ true
 all_front test [] c more h = let k = both (test c) (list_all test more) h in rw k.0 refl
 all_front test (b ∷ front) c more h = let k = both (test b) (list_all test (front ++ c ∷ more)) h in rw (k.0, all_front test front c more k.1) refl
 
@@ -23,7 +23,7 @@ all_behind : (test : ℕ → Bool) (front : List ℕ) (c : ℕ) → list_all tes
 all_behind test [] c h t = rw t refl
 all_behind test (b ∷ front) c h t = let k = both (test b) (list_all test front) h in rw (k.0, all_behind test front c k.1 t) refl
 
-all_over : (test : ℕ → Bool) (front : List ℕ) (c : ℕ) → test c ≡ false → list_all test (front ++ c ∷ []) ≡ false
+pub all_over : (test : ℕ → Bool) (front : List ℕ) (c : ℕ) → test c ≡ false → list_all test (front ++ c ∷ []) ≡ false
 all_over test [] c t = rw t refl
 all_over test (b ∷ front) c t = rw (all_over test front c t) (and_false (test b))
   where
@@ -108,7 +108,7 @@ either_of false true c d h = inr (inl refl)
 either_of false false true d h = inr (inr (inl refl))
 either_of false false false d h = inr (inr (inr h))
 
-property_begins : (text : List ℕ) → is_property text ≡ true → begins_property text ≡ true
+pub property_begins : (text : List ℕ) → is_property text ≡ true → begins_property text ≡ true
 property_begins text h = elim (either_of (is_name text && not (is_dunder text)) (is_same_text text (codes "length")) (is_same_text text (codes "fill")) (is_same_text text (codes "charCodeAt")) h) [
     | inl a ↦ let k = both (is_name text) (not (is_dunder text)) a in rw (name_begins text k.0, k.1) refl
     | inr r ↦ elim r [
