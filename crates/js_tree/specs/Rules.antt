@@ -57,6 +57,7 @@ abbrev mutual
   IsExpression (conditional_of c a b) = IsExpression c × IsExpression a × IsExpression b
   IsExpression (host_call f e) = IsExpression e
   IsExpression (host_call_of_two f a b) = IsExpression a × IsExpression b
+
   pub IsExpressions : Expressions → Type 0
   IsExpressions no_expressions = Unit {0}
   IsExpressions (expression e es) = IsExpression e × IsExpressions es
@@ -87,9 +88,11 @@ abbrev mutual
   IsStatement (try_catch ss x ts) = AreStatements ss × IsName x × AreStatements ts
   IsStatement (try_finally ss ts) = AreStatements ss × AreStatements ts
   IsStatement (switch_on e cs ss) = IsExpression e × AreCases cs × AreStatements ss
+
   pub AreStatements : Statements → Type 0
   AreStatements no_statements = Unit {0}
   AreStatements (statement s ss) = IsStatement s × AreStatements ss
+
   pub AreCases : Cases → Type 0
   AreCases no_cases = Unit {0}
   AreCases (switch_case ks ss cs) = AreKeys ks × AreStatements ss × AreCases cs

@@ -59,10 +59,12 @@ unfoldable mutual
   SpellsExpression (conditional_of c a b) = Is (codes "(") ● SpellsExpression c ● Is (codes " ? ") ● SpellsExpression a ● Is (codes " : ") ● SpellsExpression b ● Is (codes ")")
   SpellsExpression (host_call f e) = Is (host_text f) ● Is (codes "(") ● SpellsExpression e ● Is (codes ")")
   SpellsExpression (host_call_of_two f a b) = Is (host_of_two_text f) ● Is (codes "(") ● SpellsExpression a ● Is (codes ", ") ● SpellsExpression b ● Is (codes ")")
+
   -- expressions with a comma and a space between them
   pub SpellsExpressions : Expressions → Grammar
   SpellsExpressions no_expressions = Is []
   SpellsExpressions (expression e es) = SpellsExpression e ● SpellsMoreExpressions es
+
   pub SpellsMoreExpressions : Expressions → Grammar
   SpellsMoreExpressions no_expressions = Is []
   SpellsMoreExpressions (expression e es) = Is (codes ", ") ● SpellsExpression e ● SpellsMoreExpressions es
@@ -102,10 +104,12 @@ unfoldable mutual
   SpellsStatement level (try_catch ss x ts) = Is (codes "try ") ● Block level (SpellsLines (level + 1) ss) ● Is (codes " catch (") ● SpellsName x ● Is (codes ") ") ● Block level (SpellsLines (level + 1) ts)
   SpellsStatement level (try_finally ss ts) = Is (codes "try ") ● Block level (SpellsLines (level + 1) ss) ● Is (codes " finally ") ● Block level (SpellsLines (level + 1) ts)
   SpellsStatement level (switch_on e cs ss) = Is (codes "switch (") ● SpellsExpression e ● Is (codes ") {\n") ● SpellsCases (level + 1) cs ● Is (indent (level + 1)) ● Is (codes "default: ") ● Block (level + 1) (SpellsLines (level + 1 + 1) ss) ● Is (codes "\n") ● Is (indent level) ● Is (codes "}")
+
   -- statements, each on its own line of this level
   pub SpellsLines : ℕ → Statements → Grammar
   SpellsLines level no_statements = Is []
   SpellsLines level (statement s ss) = Is (indent level) ● SpellsStatement level s ● Is (codes "\n") ● SpellsLines level ss
+
   -- cases, each on lines of this level
   pub SpellsCases : ℕ → Cases → Grammar
   SpellsCases level no_cases = Is []

@@ -11,7 +11,6 @@ pub record Is (want text : List ℕ) : Type 0 where
   pub same : text ≡ want
 
 infixr 10 ◌●◌
-
 -- the one and behind it the other
 pub record ◌●◌ (P Q : Grammar) (text : List ℕ) : Type 0 where
   pub front : List ℕ
@@ -51,20 +50,23 @@ Putting = List ℕ → List ℕ
 abbrev pub put : List ℕ → Putting
 put text out = out ++ text
 
-infixr 10 ◌▸◌
+-- nothing is put
+abbrev pub nothing : Putting
+nothing out = out
 
+infixr 10 ◌▸◌
 -- the one and behind it the other
 abbrev pub ◌▸◌ : Putting → Putting → Putting
 (v ▸ w) out = w (v out)
 
 abbrev pub put_more : {A : Type 0} → List ℕ → (A → Putting) → List A → Putting
-put_more separator w [] = λ out. out
+put_more separator w [] = nothing
 put_more separator w (x ∷ xs) = put separator ▸ w x ▸ put_more separator w xs
 
 abbrev pub put_separated : {A : Type 0} → List ℕ → (A → Putting) → List A → Putting
-put_separated separator w [] = λ out. out
+put_separated separator w [] = nothing
 put_separated separator w (x ∷ xs) = w x ▸ put_more separator w xs
 
 abbrev pub put_each : {A : Type 0} → (A → Putting) → List A → Putting
-put_each w [] = λ out. out
+put_each w [] = nothing
 put_each w (x ∷ xs) = w x ▸ put_each w xs

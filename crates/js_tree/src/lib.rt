@@ -7,6 +7,7 @@
 mod bodies;
 mod expressions;
 mod items;
+mod laws;
 mod operators;
 mod statements;
 
@@ -15,5 +16,6 @@ pub use expressions::JsExpr;
 pub use items::{
     Binding, ClassMember, JsImport, JsItem, JsMember, JsModule, JsPiece, ObjectProperty,
 };
+pub use laws::each_has_one_text;
 pub use operators::{BinaryOperator, HostFunction, HostOperation, UnaryOperator};
 pub use statements::{JsStmt, SwitchCase};

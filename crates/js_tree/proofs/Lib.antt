@@ -1,0 +1,3 @@
+pub mod Kept
+pub mod OneText
+pub mod TextLaws
