@@ -9,3 +9,5 @@ pub mod StatementForms
 pub mod StatementLaws
 pub mod ModuleForms
 pub mod ModuleLaws
+pub mod Runs
+pub mod Loops

@@ -3,3 +3,5 @@ pub mod Tokens
 pub mod Expressions
 pub mod Statements
 pub mod Modules
+pub mod Gives
+pub mod Runs
