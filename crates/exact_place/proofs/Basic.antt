@@ -72,9 +72,9 @@ unfolding literal_at
 literal_takes [] bytes rest u e = (good_is tt u bytes rest e).rest
 literal_takes (w ∷ ws) [] rest u e = absurd cc
 literal_takes (w ∷ ws) (c ∷ bytes) rest u e = elim (went (eqb c w) (literal_at ws bytes) (stopped (c ∷ bytes)) (Ok (u, rest)) e) [
-    | inl k ↦ rw (eqb-true c w k.0, literal_takes ws bytes rest u k.1) refl
-    | inr k ↦ absurd (not_good c bytes u rest k.1)
-  ]
+  | inl k ↦ rw (eqb-true c w k.0, literal_takes ws bytes rest u k.1) refl
+  | inr k ↦ absurd (not_good c bytes u rest k.1)
+]
   where
     not_good : (c : ℕ) (bytes : List ℕ) (u : Unit {0}) (rest : List ℕ) → ◌≡◌ {A = Reading (Unit {0})} (stopped (c ∷ bytes)) (Ok (u, rest)) → ⊥
     not_good c bytes u rest e = cc
@@ -98,9 +98,9 @@ unfolding literal_at
 literal_halts [] bytes left e = absurd cc
 literal_halts (w ∷ ws) [] left e = record { front = []; more = w ∷ ws; back = []; parts = refl; left_is = sym (bad_is _ _ e); want_is = refl; dead = tt }
 literal_halts (w ∷ ws) (c ∷ bytes) left e = elim (went (eqb c w) (literal_at ws bytes) (stopped (c ∷ bytes)) (Err left) e) [
-    | inl k ↦ longer c bytes (eqb-true c w k.0) (literal_halts ws bytes left k.1)
-    | inr k ↦ record { front = []; more = w ∷ ws; back = c ∷ bytes; parts = refl; left_is = sym (bad_is _ _ k.1); want_is = refl; dead = λ more. rw k.0 refl }
-  ]
+  | inl k ↦ longer c bytes (eqb-true c w k.0) (literal_halts ws bytes left k.1)
+  | inr k ↦ record { front = []; more = w ∷ ws; back = c ∷ bytes; parts = refl; left_is = sym (bad_is _ _ k.1); want_is = refl; dead = λ more. rw k.0 refl }
+]
   where
     on : (front back : List ℕ) → Dead (literal_at ws) front back → Dead (literal_at (w ∷ ws)) (w ∷ front) back
     on front [] d = tt
@@ -216,9 +216,9 @@ law_map {A} {B} {n} {stop} {read} {again} {P} f law = record {
 
     halts : (bytes : List ℕ) (left : ℕ) → map_at f read bytes ≡ Err left → Halts n (map_at f again) (IsMapped f P) bytes left
     halts bytes left e = elim (bind_err (read bytes) (λ x. Ok (f x.0, x.1)) left e) [
-        | inl k ↦ let h = law.halts bytes left k in record { front = h.front; back = h.back; parts = h.parts; left_is = h.left_is; begins = λ lt. begin h.front (h.begins lt); dead = λ lt. dead h.front h.back (h.dead lt) }
-        | inr k ↦ absurd (never (f k.0) k.1 left k.3)
-      ]
+      | inl k ↦ let h = law.halts bytes left k in record { front = h.front; back = h.back; parts = h.parts; left_is = h.left_is; begins = λ lt. begin h.front (h.begins lt); dead = λ lt. dead h.front h.back (h.dead lt) }
+      | inr k ↦ absurd (never (f k.0) k.1 left k.3)
+    ]
       where
         never : (y : B) (mid : List ℕ) (left : ℕ) → ◌≡◌ {A = Reading B} (Ok (y, mid)) (Err left) → ⊥
         never y mid left e = cc

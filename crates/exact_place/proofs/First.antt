@@ -10,9 +10,9 @@ use Rattle.exact_place.proofs.Sequence.{Starts, Follows}
 -- a byte of the class is not this one
 pub apart : (test : ℕ → Bool) (b : ℕ) → test b ≡ false → (c : ℕ) → test c ≡ true → not (eqb c b) ≡ true
 apart test b off c on = elim (cases (eqb c b)) [
-    | inl e ↦ absurd (let same : c ≡ b = eqb-true c b e in let on' : test b ≡ true = subst (λ (d : ℕ). test d ≡ true) same on in let both : true ≡ false = sym on' ∙ off in cc both)
-    | inr e ↦ rw e refl
-  ]
+  | inl e ↦ absurd (let same : c ≡ b = eqb-true c b e in let on' : test b ≡ true = subst (λ (d : ℕ). test d ≡ true) same on in let both : true ≡ false = sym on' ∙ off in cc both)
+  | inr e ↦ rw e refl
+]
 
 pub any : (stop : ℕ → Bool) (c : ℕ) → stop c ≡ true → true ≡ true
 any stop c e = refl

@@ -38,9 +38,9 @@ module _ {S A : Type 0} (test : S → ℕ → Bool) (P : S → Spelling A) (next
   follows_walk : {s : S} {xs : List A} {back : List ℕ} (rest : List ℕ) → IsWalk P next s xs back → Stops stop rest → Stops inside (back ++ rest)
   follows_walk rest walk_ends st = stops_narrow stop inside out rest st
   follows_walk rest (walk_on {s = s} {x = x} {front = front} {back = back} p w) st = elim (turn s) [
-      | open_turn starts go off law ↦ rw (append_assoc front back rest) (first_in (test s) inside go front (back ++ rest) (starts x front p))
-      | shut_turn never off ↦ absurd (never x front p)
-    ]
+    | open_turn starts go off law ↦ rw (append_assoc front back rest) (first_in (test s) inside go front (back ++ rest) (starts x front p))
+    | shut_turn never off ↦ absurd (never x front p)
+  ]
 
   abbrev Split : S → Spelling (List A)
   Split s = Either (P s then λ x. IsMapped (λ xs. x ∷ xs) (IsWalk P next (next s x))) (IsValue [])
@@ -69,8 +69,8 @@ module _ {S A : Type 0} (test : S → ℕ → Bool) (P : S → Spelling A) (next
   open_walk n m lk s starts off law inner =
       law_same (to_walk s) (λ y text. from_walk s {y = y} {text = text})
       (law_either (test s) (starts_split s starts) (empty s off)
-        (law_after (suc n) n inside stop (λ x text p. longer n (test s) text (starts x text p)) (behind s) (law_within (suc n) lk law) (λ x text p. law_map (λ xs. x ∷ xs) (inner x)))
-        (law_value []))
+      (law_after (suc n) n inside stop (λ x text p. longer n (test s) text (starts x text p)) (behind s) (law_within (suc n) lk law) (λ x text p. law_map (λ xs. x ∷ xs) (inner x)))
+      (law_value []))
 
   shut_walk : (n m : ℕ) (s : S) → ((x : A) (text : List ℕ) → P s x text → ⊥) → ((c : ℕ) → test s c ≡ false)
       → Law (suc n) stop (walk_at (suc n) test read next s) (walk_at (suc m) test again next s) (IsWalk P next s)
@@ -89,9 +89,9 @@ module _ {S A : Type 0} (test : S → ℕ → Bool) (P : S → Spelling A) (next
 
       from : (y : List A) (text : List ℕ) → IsWalk P next s y text → IsValue [] y text
       from y text w = elim (from_walk s w) [
-          | first p ↦ absurd (never p.value p.front p.first)
-          | second q ↦ q
-        ]
+        | first p ↦ absurd (never p.value p.front p.first)
+        | second q ↦ q
+      ]
 
   pub law_walk : (n m : ℕ) → n ≤ m → n ≤ k → (s : S) → Law n stop (walk_at n test read next s) (walk_at m test again next s) (IsWalk P next s)
   unfolding walk_at

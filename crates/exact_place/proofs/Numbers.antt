@@ -66,12 +66,12 @@ decimal_some (suc v) text is c cs e n = omega arith
 pub number_is : (nought : Bool) (limit v : ℕ) (text : List ℕ) → 0 < limit → limit ≤ 2 ^ 64 → number_of nought limit text ≡ Some v → IsRead nought limit v text
 number_is nought limit v [] some small e = absurd (none_some v e)
 number_is nought limit v (c ∷ cs) some small e = elim (went (begins_number nought limit (c ∷ cs)) (Some (digits_value 0 (c ∷ cs))) None (Some v) e) [
-    | inr k ↦ absurd (none_some v k.1)
-    | inl k ↦ elim (went (eqb c 48) (nought && is_nil cs) (digits_below limit 0 (c ∷ cs)) true k.0) [
-        | inl z ↦ alone (eqb-true c 48 z.0) (both nought (is_nil cs) z.1) k.1
-        | inr z ↦ long (eqb-false c 48 z.0) (below_to limit 0 (c ∷ cs) some z.1) k.1
-      ]
+  | inr k ↦ absurd (none_some v k.1)
+  | inl k ↦ elim (went (eqb c 48) (nought && is_nil cs) (digits_below limit 0 (c ∷ cs)) true k.0) [
+    | inl z ↦ alone (eqb-true c 48 z.0) (both nought (is_nil cs) z.1) k.1
+    | inr z ↦ long (eqb-false c 48 z.0) (below_to limit 0 (c ∷ cs) some z.1) k.1
   ]
+]
   where
     nil_is : (cs : List ℕ) → is_nil cs ≡ true → cs ≡ []
     nil_is [] e = refl
@@ -122,9 +122,9 @@ number_from nought limit v text small r = by_text text r.is
     by_text : (text : List ℕ) → text ≡ decimal v → number_of nought limit text ≡ Some v
     by_text [] is = absurd (let k : length {A = ℕ} [] ≡ length (decimal v) = ap (λ (t : List ℕ). length t) is in omega (arith, decimal_nonempty v (omega (arith, r.below, small)), k))
     by_text (c ∷ cs) is = elim (zero_or v refl) [
-        | inl z ↦ nothing z
-        | inr p ↦ long c cs is p
-      ]
+      | inl z ↦ nothing z
+      | inr p ↦ long c cs is p
+    ]
       where
         zero_or : (w : ℕ) → w ≡ v → (v ≡ 0) ⊎ (0 < v)
         zero_or zero e = inl (sym e)
@@ -152,9 +152,9 @@ AllEntries R (e ∷ es) = R e.value e.word × AllEntries R es
 pub table_is : {A : Type 0} (R : A → List ℕ → Type 0) (es : List (Entry A)) → AllEntries R es → (text : List ℕ) (x : A) → entry_of es text ≡ Some x → R x text
 table_is R [] h text x e = absurd (none_some x e)
 table_is {A} R (d ∷ ds) h text x e = elim (went _ (Some d.value) (entry_of ds text) (Some x) e) [
-    | inl f ↦ here f.0 f.1
-    | inr f ↦ table_is R ds h.1 text x f.1
-  ]
+  | inl f ↦ here f.0 f.1
+  | inr f ↦ table_is R ds h.1 text x f.1
+]
   where
     value_is : (a b : A) → Some a ≡ Some b → a ≡ b
     value_is a b e = cc e

@@ -87,21 +87,21 @@ law_after {A} {B} n k before stop {read} {again} {P} {next} {next'} {Q} bound fo
 
     halts : (bytes : List ℕ) (left : ℕ) → after_at read next bytes ≡ Err left → Halts n (after_at again next') (P then Q) bytes left
     halts bytes left e = elim (bind_err (read bytes) (λ x. next x.0 x.1) left e) [
-        | inl f ↦ let h = law.halts bytes left f in record { front = h.front; back = h.back; parts = h.parts; left_is = h.left_is; begins = λ lt. begin (h.begins lt); dead = λ lt. dead_first h.front h.back (h.dead lt) }
-        | inr f ↦
-            let t = law.takes bytes f.0 f.1 f.2 in
-            let h = (laws f.0 t.text t.spelled).halts f.1 left f.3 in
-            let enough : n ≤ k + length t.text = bound f.0 t.text t.spelled in
-            let len : length (t.text ++ h.front) ≡ length t.text + length h.front = length-append t.text h.front in
-            record {
-              front = t.text ++ h.front;
-              back = h.back;
-              parts = t.parts ∙ ap (λ (r : List ℕ). t.text ++ r) h.parts ∙ sym (append_assoc t.text h.front h.back);
-              left_is = h.left_is;
-              begins = λ lt. begins_then P Q f.0 t.text t.spelled h.front (h.begins (omega arith));
-              dead = λ lt. dead_second f.0 t.text h.front f.1 h.back h.parts t.steady (h.dead (omega arith));
-            }
-      ]
+      | inl f ↦ let h = law.halts bytes left f in record { front = h.front; back = h.back; parts = h.parts; left_is = h.left_is; begins = λ lt. begin (h.begins lt); dead = λ lt. dead_first h.front h.back (h.dead lt) }
+      | inr f ↦
+          let t = law.takes bytes f.0 f.1 f.2 in
+          let h = (laws f.0 t.text t.spelled).halts f.1 left f.3 in
+          let enough : n ≤ k + length t.text = bound f.0 t.text t.spelled in
+          let len : length (t.text ++ h.front) ≡ length t.text + length h.front = length-append t.text h.front in
+          record {
+            front = t.text ++ h.front;
+            back = h.back;
+            parts = t.parts ∙ ap (λ (r : List ℕ). t.text ++ r) h.parts ∙ sym (append_assoc t.text h.front h.back);
+            left_is = h.left_is;
+            begins = λ lt. begins_then P Q f.0 t.text t.spelled h.front (h.begins (omega arith));
+            dead = λ lt. dead_second f.0 t.text h.front f.1 h.back h.parts t.steady (h.dead (omega arith));
+          }
+    ]
 
 -- ---- a literal first
 
@@ -168,9 +168,9 @@ law_either {A} {n} {stop} {one} {one'} {two} {two'} {P} {Q} test starts follows 
 
     takes : (bytes : List ℕ) (x : A) (rest : List ℕ) → either_at test one two bytes ≡ Ok (x, rest) → Takes (either_at test one' two') (Either P Q) bytes x rest
     takes bytes x rest e = elim (went (passes test bytes) (one bytes) (two bytes) (Ok (x, rest)) e) [
-        | inl k ↦ let t = law_one.takes bytes x rest k.1 in record { text = t.text; spelled = first t.spelled; parts = t.parts; steady = steady_first bytes t.text x rest k.0 t.parts t.steady }
-        | inr k ↦ let t = law_two.takes bytes x rest k.1 in record { text = t.text; spelled = second t.spelled; parts = t.parts; steady = steady_second bytes t.text x rest k.0 t.parts t.steady }
-      ]
+      | inl k ↦ let t = law_one.takes bytes x rest k.1 in record { text = t.text; spelled = first t.spelled; parts = t.parts; steady = steady_first bytes t.text x rest k.0 t.parts t.steady }
+      | inr k ↦ let t = law_two.takes bytes x rest k.1 in record { text = t.text; spelled = second t.spelled; parts = t.parts; steady = steady_second bytes t.text x rest k.0 t.parts t.steady }
+    ]
 
     reads : (x : A) (text rest : List ℕ) → length text < n → Either P Q x text → Stops stop rest → either_at test one' two' (text ++ rest) ≡ Ok (x, rest)
     reads x text rest lt (first p) s =
@@ -190,9 +190,9 @@ law_either {A} {n} {stop} {one} {one'} {two} {two'} {P} {Q} test starts follows 
 
     halts : (bytes : List ℕ) (left : ℕ) → either_at test one two bytes ≡ Err left → Halts n (either_at test one' two') (Either P Q) bytes left
     halts bytes left e = elim (went (passes test bytes) (one bytes) (two bytes) (Err left) e) [
-        | inl k ↦ let h = law_one.halts bytes left k.1 in record { front = h.front; back = h.back; parts = h.parts; left_is = h.left_is; begins = λ lt. begin_first h.front (h.begins lt); dead = λ lt. dead_first bytes h.front h.back k.0 h.parts (h.dead lt) }
-        | inr k ↦ let h = law_two.halts bytes left k.1 in record { front = h.front; back = h.back; parts = h.parts; left_is = h.left_is; begins = λ lt. begin_second h.front (h.begins lt); dead = λ lt. dead_second bytes h.front h.back k.0 h.parts (h.dead lt) }
-      ]
+      | inl k ↦ let h = law_one.halts bytes left k.1 in record { front = h.front; back = h.back; parts = h.parts; left_is = h.left_is; begins = λ lt. begin_first h.front (h.begins lt); dead = λ lt. dead_first bytes h.front h.back k.0 h.parts (h.dead lt) }
+      | inr k ↦ let h = law_two.halts bytes left k.1 in record { front = h.front; back = h.back; parts = h.parts; left_is = h.left_is; begins = λ lt. begin_second h.front (h.begins lt); dead = λ lt. dead_second bytes h.front h.back k.0 h.parts (h.dead lt) }
+    ]
 
 -- by a test of what was read before
 pub law_chosen : {A : Type 0} {n : ℕ} {stop : ℕ → Bool} {one one' two two' : List ℕ → Reading A} {P Q : Spelling A} (b : Bool)

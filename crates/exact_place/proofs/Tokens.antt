@@ -31,19 +31,19 @@ module _ {A : Type 0} (alive : List ℕ → Bool) (accept : List ℕ → Option 
       let f = found_good (accept front) [] [] x rest e in
       record { text = []; parts = f.1; is = rw (append-nil front) f.0; steady = λ c back r more. absurd (let k : [] ≡ c ∷ back = f.1 ∙ r in cc k) }
   run_takes front (c ∷ bytes) x rest e = elim (went (alive (front ++ c ∷ [])) (run_at alive accept (front ++ c ∷ []) bytes) (found_at (accept front) (c ∷ bytes) (c ∷ bytes)) (Ok (x, rest)) e) [
-      | inl k ↦ let r = run_takes (front ++ c ∷ []) bytes x rest k.1 in record {
-          text = c ∷ r.text;
-          parts = ap (λ (t : List ℕ). c ∷ t) r.parts;
-          is = rw (← cons_assoc front r.text c) r.is;
-          steady = λ d back is more. rw k.0 (r.steady d back is more);
-        }
-      | inr k ↦ let f = found_good (accept front) (c ∷ bytes) (c ∷ bytes) x rest k.1 in record {
-          text = [];
-          parts = f.1;
-          is = rw (append-nil front) f.0;
-          steady = λ d back is more. let same : c ∷ bytes ≡ d ∷ back = f.1 ∙ is in let head : c ≡ d = cc same in rw (← head, k.0, f.0) refl;
-        }
-    ]
+    | inl k ↦ let r = run_takes (front ++ c ∷ []) bytes x rest k.1 in record {
+      text = c ∷ r.text;
+      parts = ap (λ (t : List ℕ). c ∷ t) r.parts;
+      is = rw (← cons_assoc front r.text c) r.is;
+      steady = λ d back is more. rw k.0 (r.steady d back is more);
+    }
+    | inr k ↦ let f = found_good (accept front) (c ∷ bytes) (c ∷ bytes) x rest k.1 in record {
+      text = [];
+      parts = f.1;
+      is = rw (append-nil front) f.0;
+      steady = λ d back is more. let same : c ∷ bytes ≡ d ∷ back = f.1 ∙ is in let head : c ≡ d = cc same in rw (← head, k.0, f.0) refl;
+    }
+  ]
 
   record Halted (front bytes : List ℕ) (left : ℕ) : Type 0 where
     text : List ℕ
@@ -59,23 +59,23 @@ module _ {A : Type 0} (alive : List ℕ → Bool) (accept : List ℕ → Option 
       let f = found_bad (accept front) [] [] left e in
       record { text = []; back = []; parts = refl; left_is = f.1; live = rw (append-nil front) a; dead = λ c rest is more. absurd (cc is) }
   run_halts front (c ∷ bytes) left a e = elim (went (alive (front ++ c ∷ [])) (run_at alive accept (front ++ c ∷ []) bytes) (found_at (accept front) (c ∷ bytes) (c ∷ bytes)) (Err left) e) [
-      | inl k ↦ let r = run_halts (front ++ c ∷ []) bytes left k.0 k.1 in record {
-          text = c ∷ r.text;
-          back = r.back;
-          parts = ap (λ (t : List ℕ). c ∷ t) r.parts;
-          left_is = r.left_is;
-          live = rw (← cons_assoc front r.text c) r.live;
-          dead = λ d rest is more. rw k.0 (r.dead d rest is more);
-        }
-      | inr k ↦ let f = found_bad (accept front) (c ∷ bytes) (c ∷ bytes) left k.1 in record {
-          text = [];
-          back = c ∷ bytes;
-          parts = refl;
-          left_is = f.1;
-          live = rw (append-nil front) a;
-          dead = λ d rest is more. let head : c ≡ d = cc is in rw (← head, k.0, f.0) refl;
-        }
-    ]
+    | inl k ↦ let r = run_halts (front ++ c ∷ []) bytes left k.0 k.1 in record {
+      text = c ∷ r.text;
+      back = r.back;
+      parts = ap (λ (t : List ℕ). c ∷ t) r.parts;
+      left_is = r.left_is;
+      live = rw (← cons_assoc front r.text c) r.live;
+      dead = λ d rest is more. rw k.0 (r.dead d rest is more);
+    }
+    | inr k ↦ let f = found_bad (accept front) (c ∷ bytes) (c ∷ bytes) left k.1 in record {
+      text = [];
+      back = c ∷ bytes;
+      parts = refl;
+      left_is = f.1;
+      live = rw (append-nil front) a;
+      dead = λ d rest is more. let head : c ≡ d = cc is in rw (← head, k.0, f.0) refl;
+    }
+  ]
 
   run_reads : (closed : (front : List ℕ) (c : ℕ) (more : List ℕ) → alive (front ++ c ∷ more) ≡ true → alive (front ++ c ∷ []) ≡ true)
       (front text : List ℕ) (x : A) (rest : List ℕ) → alive (front ++ text) ≡ true → accept (front ++ text) ≡ Some x

@@ -61,12 +61,15 @@ module _ {A : Type 0} (P : Spelling A) (read : ℕ → List ℕ → Reading A) (
       let h = (laws n n (omega arith)).halts bytes left e in
       let len : length bytes ≡ length h.front + length h.back = ap (λ (t : List ℕ). length t) h.parts ∙ length-append h.front h.back in
       let short : length h.front < n = omega (arith, len) in
-      let front_is : take (length h.front) bytes ≡ h.front = take_front bytes h.front h.back h.parts in
-      (length h.front, omega (arith, len, h.left_is), record {
-        within = omega (arith, len);
-        begins = subst (λ (u : List ℕ). Begins P u) (sym front_is) (h.begins short);
-        longest = λ inside b. longer bytes n left e h.front h.back h.parts h.left_is short inside b;
-      })
+      let front_is : take (length h.front) bytes ≡ h.front = take_front bytes h.front h.back h.parts in (
+        length h.front,
+        omega (arith, len, h.left_is),
+        record {
+          within = omega (arith, len);
+          begins = subst (λ (u : List ℕ). Begins P u) (sym front_is) (h.begins short);
+          longest = λ inside b. longer bytes n left e h.front h.back h.parts h.left_is short inside b;
+        },
+      )
     where
       longer : (bytes : List ℕ) (n left : ℕ) → read n bytes ≡ Err left → (front back : List ℕ) → bytes ≡ front ++ back → left ≡ length back → length front < n → length front < length bytes → Begins P (take (length front + 1) bytes) → ⊥
       longer bytes n left e front [] parts is short inside b = let k : length bytes ≡ length front = ap (λ (t : List ℕ). length t) (parts ∙ append-nil front) in omega (arith, k)

@@ -83,47 +83,47 @@ front_rest (c ∷ u) (d ∷ e) h =
 ends_here : (stop : ℕ → Bool) (u e : List ℕ) (c : ℕ) → ends_before stop u e ≡ true → stop c ≡ true → is_front (u ++ c ∷ []) e ≡ false
 ends_here stop [] [] c h s = refl
 ends_here stop [] (d ∷ e) c h s = elim (cases (eqb c d)) [
-    | inl k ↦ let same : c ≡ d = eqb-true c d k in absurd (not_both (stop c) s (rw same h))
-    | inr k ↦ rw k refl
-  ]
+  | inl k ↦ let same : c ≡ d = eqb-true c d k in absurd (not_both (stop c) s (rw same h))
+  | inr k ↦ rw k refl
+]
   where
     not_both : (b : Bool) → b ≡ true → not b ≡ true → ⊥
     not_both true e s = cc
     not_both false e s = cc
 ends_here stop (b ∷ u) [] c h s = refl
 ends_here stop (b ∷ u) (d ∷ e) c h s = elim (went (eqb b d) (ends_before stop u e) true true h) [
-    | inl k ↦ rw (k.0, ends_here stop u e c k.1 s) refl
-    | inr k ↦ rw k.0 refl
-  ]
+  | inl k ↦ rw (k.0, ends_here stop u e c k.1 s) refl
+  | inr k ↦ rw k.0 refl
+]
 
 module _ {A : Type 0} (stop : ℕ → Bool) where
   entry_closed : (es : List (Entry A)) (front : List ℕ) (c : ℕ) (more : List ℕ) → begins_entry es (front ++ c ∷ more) ≡ true → begins_entry es (front ++ c ∷ []) ≡ true
   entry_closed [] front c more h = absurd cc
   entry_closed (e ∷ es) front c more h = elim (or_either (is_front (front ++ c ∷ more) e.word) (begins_entry es (front ++ c ∷ more)) h) [
-      | inl k ↦ or_left _ _ (front_closed front c more e.word k)
-      | inr k ↦ or_right _ _ (entry_closed es front c more k)
-    ]
+    | inl k ↦ or_left _ _ (front_closed front c more e.word k)
+    | inr k ↦ or_right _ _ (entry_closed es front c more k)
+  ]
 
   entry_accepts : (es : List (Entry A)) (text : List ℕ) (x : A) → entry_of es text ≡ Some x → begins_entry es text ≡ true
   entry_accepts [] text x h = absurd (none_some x h)
   entry_accepts (e ∷ es) text x h = elim (went (is_text text e.word) (Some e.value) (entry_of es text) (Some x) h) [
-      | inl k ↦ or_left _ _ (text_front text e.word k.0)
-      | inr k ↦ or_right _ _ (entry_accepts es text x k.1)
-    ]
+    | inl k ↦ or_left _ _ (text_front text e.word k.0)
+    | inr k ↦ or_right _ _ (entry_accepts es text x k.1)
+  ]
 
   -- the word of an entry is accepted, by this entry or an earlier one
   entry_found : (es : List (Entry A)) (front : List ℕ) → begins_entry es front ≡ true → (more : List ℕ) × (x : A) × (entry_of es (front ++ more) ≡ Some x)
   entry_found [] front h = absurd cc
   entry_found (e ∷ es) front h = elim (cases (is_front front e.word)) [
-      | inl k ↦ let r = front_rest front e.word k in (r.0, e.value, rw (r.1, text_same e.word) refl)
-      | inr k ↦ behind (entry_found es front (rw k at h))
-    ]
+    | inl k ↦ let r = front_rest front e.word k in (r.0, e.value, rw (r.1, text_same e.word) refl)
+    | inr k ↦ behind (entry_found es front (rw k at h))
+  ]
     where
       behind : (more : List ℕ) × (x : A) × (entry_of es (front ++ more) ≡ Some x) → (more : List ℕ) × (x : A) × (entry_of (e ∷ es) (front ++ more) ≡ Some x)
       behind r = elim (cases (is_text (front ++ r.0) e.word)) [
-          | inl k ↦ (r.0, e.value, rw k refl)
-          | inr k ↦ (r.0, r.1, rw k r.2)
-        ]
+        | inl k ↦ (r.0, e.value, rw k refl)
+        | inr k ↦ (r.0, r.1, rw k r.2)
+      ]
 
   word_over : (u : List ℕ) (c : ℕ) (es : List (Entry A)) → word_ends stop u es ≡ true → stop c ≡ true → begins_entry es (u ++ c ∷ []) ≡ false
   word_over u c [] h s = refl
@@ -161,13 +161,13 @@ below_closed limit v (b ∷ front) c more h =
 
 number_closed : (nought : Bool) (limit : ℕ) (front : List ℕ) (c : ℕ) (more : List ℕ) → begins_number nought limit (front ++ c ∷ more) ≡ true → begins_number nought limit (front ++ c ∷ []) ≡ true
 number_closed nought limit [] c more h = elim (went (eqb c 48) (nought && is_nil more) (digits_below limit 0 (c ∷ more)) true h) [
-    | inl k ↦ rw (k.0, (both nought (is_nil more) k.1).0) refl
-    | inr k ↦ rw k.0 (below_closed limit 0 [] c more k.1)
-  ]
+  | inl k ↦ rw (k.0, (both nought (is_nil more) k.1).0) refl
+  | inr k ↦ rw k.0 (below_closed limit 0 [] c more k.1)
+]
 number_closed nought limit (b ∷ front) c more h = elim (went (eqb b 48) (nought && is_nil (front ++ c ∷ more)) (digits_below limit 0 ((b ∷ front) ++ c ∷ more)) true h) [
-    | inl k ↦ absurd (not_nil front (both nought (is_nil (front ++ c ∷ more)) k.1).1)
-    | inr k ↦ rw k.0 (below_closed limit 0 (b ∷ front) c more k.1)
-  ]
+  | inl k ↦ absurd (not_nil front (both nought (is_nil (front ++ c ∷ more)) k.1).1)
+  | inr k ↦ rw k.0 (below_closed limit 0 (b ∷ front) c more k.1)
+]
   where
     not_nil : (front : List ℕ) → is_nil (front ++ c ∷ more) ≡ true → ⊥
     not_nil [] e = cc
@@ -176,25 +176,25 @@ number_closed nought limit (b ∷ front) c more h = elim (went (eqb b 48) (nough
 below_over : (limit v : ℕ) (text : List ℕ) (c : ℕ) → is_digit c ≡ false → digits_below limit v (text ++ c ∷ []) ≡ false
 below_over limit v [] c s = rw s refl
 below_over limit v (b ∷ text) c s = elim (cases (is_digit b)) [
-    | inr k ↦ rw k refl
-    | inl k ↦ elim (cases (ltb (one_more v b) limit)) [
-        | inr l ↦ rw (k, l) refl
-        | inl l ↦ rw (k, l) (below_over limit (one_more v b) text c s)
-      ]
+  | inr k ↦ rw k refl
+  | inl k ↦ elim (cases (ltb (one_more v b) limit)) [
+    | inr l ↦ rw (k, l) refl
+    | inl l ↦ rw (k, l) (below_over limit (one_more v b) text c s)
   ]
+]
 
 number_over : (nought : Bool) (limit : ℕ) (text : List ℕ) (c : ℕ) → is_digit c ≡ false → begins_number nought limit (text ++ c ∷ []) ≡ false
 number_over nought limit [] c s = elim (cases (eqb c 48)) [
-    | inl k ↦ absurd (digit_zero (eqb-true c 48 k))
-    | inr k ↦ rw (k, s) refl
-  ]
+  | inl k ↦ absurd (digit_zero (eqb-true c 48 k))
+  | inr k ↦ rw (k, s) refl
+]
   where
     digit_zero : c ≡ 48 → ⊥
     digit_zero e = let f : is_digit 48 ≡ false = subst (λ (d : ℕ). is_digit d ≡ false) e s in cc f
 number_over nought limit (b ∷ text) c s = elim (cases (eqb b 48)) [
-    | inl k ↦ rw (k, not_nil text) (and_false nought)
-    | inr k ↦ rw k (below_over limit 0 (b ∷ text) c s)
-  ]
+  | inl k ↦ rw (k, not_nil text) (and_false nought)
+  | inr k ↦ rw k (below_over limit 0 (b ∷ text) c s)
+]
   where
     not_nil : (text : List ℕ) → is_nil (text ++ c ∷ []) ≡ false
     not_nil [] = refl
@@ -217,9 +217,9 @@ digits_token nought limit stop apart big = record {
     accepts : (text : List ℕ) (x : ℕ) → number_of nought limit text ≡ Some x → begins_number nought limit text ≡ true
     accepts [] x e = refl
     accepts (c ∷ text) x e = elim (cases (begins_number nought limit (c ∷ text))) [
-        | inl k ↦ k
-        | inr k ↦ absurd (none_some x (rw k at e))
-      ]
+      | inl k ↦ k
+      | inr k ↦ absurd (none_some x (rw k at e))
+    ]
 
     live : (front : List ℕ) → begins_number nought limit front ≡ true → Begins (IsRun (number_of nought limit)) front
     live [] a = record { value = 1; more = 49 ∷ []; spelled = record { is = let k : ltb 1 limit ≡ true = lt-ltb 1 limit big in rw k refl } }

@@ -25,35 +25,29 @@ pub trait Readable {
 /// A text spells one value at most.
 pub fn one_value<G: Readable>()
     ensures { (x y : G.Value) (text : List ℕ) → G.spells x text → G.spells y text → x ≡ y }
-{
-}
+{}
 
 /// What is spelled is read, all of it.
 pub fn spelled_is_read<G: Readable>()
     ensures { (x : G.Value) (text : List ℕ) (n : ℕ) → length text < n → G.spells x text → G.reading n text ≡ Ok (x, []) }
-{
-}
+{}
 
 /// What is read, all of it, is spelled.
 pub fn read_is_spelled<G: Readable>()
     ensures { (x : G.Value) (bytes : List ℕ) (n : ℕ) → G.reading n bytes ≡ Ok (x, []) → G.spells x bytes }
-{
-}
+{}
 
 /// Where reading stops, the bytes before are the longest front that begins a text.
 pub fn place_is_exact<G: Readable>()
     ensures { (bytes : List ℕ) (n left : ℕ) → length bytes < n → G.reading n bytes ≡ Err left → (place : ℕ) × (place + left ≡ length bytes) × Place G.spells bytes place }
-{
-}
+{}
 
 /// The reader of a literal keeps the law.
 pub fn literals()
     ensures { (n : ℕ) (stop : ℕ → Bool) (want : List ℕ) → Law n stop (literal_at want) (literal_at want) (IsLiteral want) }
-{
-}
+{}
 
 /// The reader of decimal numbers below a limit keeps the law.
 pub fn decimal_numbers()
     ensures { (n limit : ℕ) (nought : Bool) → 1 < limit → Law n (λ c. not (is_digit c)) (run_at (begins_number nought limit) (number_of nought limit) []) (run_at (begins_number nought limit) (number_of nought limit) []) (IsRun (number_of nought limit)) }
-{
-}
+{}
