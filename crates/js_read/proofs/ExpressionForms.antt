@@ -178,9 +178,9 @@ new_to news.Array e text one two parts n p =
 big_to : (e : Expression) (front back : List ℕ) → front ≡ codes "BigInt" → BigForm e back → Received e (front ++ back)
 big_to e front back is (first p) = host_to BigInt e (front ++ back) p.back (joined is p.parts) p.second
 big_to e front back is (second p) = elim p.second [
-    | first q ↦ host_of_two_to BigIntAsIntN e (front ++ back) q.back (joined is (p.parts ∙ ap (λ (x : List ℕ). codes ".as" ++ x) q.parts)) q.second
-    | second q ↦ host_of_two_to BigIntAsUintN e (front ++ back) q.back (joined is (p.parts ∙ ap (λ (x : List ℕ). codes ".as" ++ x) q.parts)) q.second
-  ]
+  | first q ↦ host_of_two_to BigIntAsIntN e (front ++ back) q.back (joined is (p.parts ∙ ap (λ (x : List ℕ). codes ".as" ++ x) q.parts)) q.second
+  | second q ↦ host_of_two_to BigIntAsUintN e (front ++ back) q.back (joined is (p.parts ∙ ap (λ (x : List ℕ). codes ".as" ++ x) q.parts)) q.second
+]
 
 primary_to : (h : Head) (e : Expression) (front back : List ℕ) → IsHead h front → PrimaryForm h e back → Received e (front ++ back)
 unfolding SpellsExpression SpellsBoolean
@@ -261,12 +261,12 @@ parenthesis_to : (e : Expression) (text back : List ℕ) → text ≡ codes "(" 
 unfolding SpellsExpression
 parenthesis_to e text back parts (first p) = unary_to Not e text p.back (parts ∙ ap (λ (x : List ℕ). codes "(" ++ x) p.parts) p.second
 parenthesis_to e text back parts (second q) = elim q [
-    | first p ↦ let whole : text ≡ codes "(-" ++ p.back = parts ∙ ap (λ (x : List ℕ). codes "(" ++ x) p.parts in rw whole (below_received p.second)
-    | second r ↦ elim r [
-        | first p ↦ by p.front p.back p.value p.first p.second (parts ∙ ap (λ (x : List ℕ). codes "(" ++ x) p.parts)
-        | second p ↦ tail_to p.value e text p.front p.back (parts ∙ ap (λ (x : List ℕ). codes "(" ++ x) p.parts) p.first.spelled p.second
-      ]
+  | first p ↦ let whole : text ≡ codes "(-" ++ p.back = parts ∙ ap (λ (x : List ℕ). codes "(" ++ x) p.parts in rw whole (below_received p.second)
+  | second r ↦ elim r [
+    | first p ↦ by p.front p.back p.value p.first p.second (parts ∙ ap (λ (x : List ℕ). codes "(" ++ x) p.parts)
+    | second p ↦ tail_to p.value e text p.front p.back (parts ∙ ap (λ (x : List ℕ). codes "(" ++ x) p.parts) p.first.spelled p.second
   ]
+]
   where
     by : (front back : List ℕ) (h : ParenthesisHead) → IsParenthesisHead h front → ParenthesisWordForm h e back → text ≡ codes "(" ++ (front ++ back) → Received e text
     by front back parentheses.Void n p parts =
@@ -284,9 +284,9 @@ bracketed_to e text (first p) =
     let r = q.second in
     rw r.second.same (record { spelled = led (codes "\"") p.back p.parts (seq q.front q.back q.parts (each_to q.first) (record { same = r.parts ∙ ap (λ (x : List ℕ). codes "\"" ++ x) r.second.empty })); receiver = refl })
 bracketed_to e text (second q) = elim q [
-    | first p ↦ rw p.second.is (record { spelled = led (codes "[") p.back p.parts (expressions_to 93 p.second.value p.back p.second.first); receiver = refl })
-    | second p ↦ parenthesis_to e text p.back p.parts p.second
-  ]
+  | first p ↦ rw p.second.is (record { spelled = led (codes "[") p.back p.parts (expressions_to 93 p.second.value p.back p.second.first); receiver = refl })
+  | second p ↦ parenthesis_to e text p.back p.parts p.second
+]
 
 plain_spelled : {e : Expression} {text : List ℕ} → IsPlain e text → SpellsExpression e text
 unfolding SpellsExpression
@@ -376,21 +376,27 @@ more_of e front text behind s parts r (first p) q =
     let a = p.second in
     let whole : text ≡ p.front ++ (p.back ++ behind) = parts ∙ ap (λ (x : List ℕ). x ++ behind) p.parts ∙ append_assoc p.front p.back behind in
     first (record {
-      value = p.value; front = p.front; back = p.back ++ behind; first = p.first;
+      value = p.value;
+      front = p.front;
+      back = p.back ++ behind;
+      first = p.first;
       second = record { value = a.value; front = a.front; back = a.back ++ behind; first = a.first; second = suffixes_more a.value e a.back behind s a.second q; parts = ap (λ (x : List ℕ). x ++ behind) a.parts ∙ append_assoc a.front a.back behind };
       parts = whole;
     })
 more_of e front text behind s parts r (second p) q = elim p [
-    | first n ↦ absurd (no_receiver n r)
-    | second b ↦ second (second (record { value = b.value; front = b.front; back = b.back ++ behind; first = b.first; second = suffixes_more b.value e b.back behind s b.second q; parts = parts ∙ ap (λ (x : List ℕ). x ++ behind) b.parts ∙ append_assoc b.front b.back behind }))
-  ]
+  | first n ↦ absurd (no_receiver n r)
+  | second b ↦ second (second (record { value = b.value; front = b.front; back = b.back ++ behind; first = b.first; second = suffixes_more b.value e b.back behind s b.second q; parts = parts ∙ ap (λ (x : List ℕ). x ++ behind) b.parts ∙ append_assoc b.front b.back behind }))
+]
 
 -- an expression behind `(`, and what stands behind it
 headed : (a e : Expression) (text front back : List ℕ) → text ≡ front ++ back → SpellsExpression a front → passes is_word_start front ≡ false ⊎ (IsHead then AfterForm) a front → TailForm a e back → ParenthesisForm e text
 headed a e text front back parts s (inl off) t = second (second (second (record { value = a; front = front; back = back; first = record { spelled = s; off = off }; second = t; parts = parts })))
 headed a e text front back parts s (inr p) t =
     second (second (first (record {
-      value = parentheses.Expression p.value; front = p.front; back = p.back ++ back; first = p.first;
+      value = parentheses.Expression p.value;
+      front = p.front;
+      back = p.back ++ back;
+      first = p.first;
       second = record { value = a; front = p.back; back = back; first = p.second; second = t; parts = refl };
       parts = parts ∙ ap (λ (x : List ℕ). x ++ back) p.parts ∙ append_assoc p.front p.back back;
     })))
@@ -451,9 +457,9 @@ starts_wordless = starts_either is_wordless_start _ _
 
 pub wordless_no_word : (c : ℕ) → is_wordless_start c ≡ true → is_word_start c ≡ false
 wordless_no_word c e = elim (cases (is_digit c)) [
-    | inl k ↦ rw k (and_false _)
-    | inr k ↦ bracket (rw k at e)
-  ]
+  | inl k ↦ rw k (and_false _)
+  | inr k ↦ bracket (rw k at e)
+]
   where
     and_false : (b : Bool) → (b && false) ≡ false
     and_false true = refl
@@ -464,12 +470,12 @@ wordless_no_word c e = elim (cases (is_digit c)) [
 
     bracket : is_bracket c ≡ true → is_word_start c ≡ false
     bracket e = elim (cases (eqb c 34)) [
-        | inl k ↦ this 34 k refl
-        | inr k ↦ elim (cases (eqb c 91)) [
-            | inl l ↦ this 91 l refl
-            | inr l ↦ this 40 (rw (k, l) at e) refl
-          ]
+      | inl k ↦ this 34 k refl
+      | inr k ↦ elim (cases (eqb c 91)) [
+        | inl l ↦ this 91 l refl
+        | inr l ↦ this 40 (rw (k, l) at e) refl
       ]
+    ]
 
 off_of : (text : List ℕ) → passes is_wordless_start text ≡ true → passes is_word_start text ≡ false
 off_of [] e = refl
@@ -566,26 +572,26 @@ expression_from this_use text s = keyword heads.This this_use text (codes "this"
 expression_from (property_of e p) text s =
     let t = s.second in
     more_of e s.front text s.back (property_suffix p) s.parts s.first.holds (expression_from e s.front s.first.spelled)
-      (first (leads _ t (record { value = p; front = t.back; back = []; first = t.second; second = second (no_more (property_suffix p)); parts = sym (append-nil t.back) })))
+    (first (leads _ t (record { value = p; front = t.back; back = []; first = t.second; second = second (no_more (property_suffix p)); parts = sym (append-nil t.back) })))
 expression_from (index_of e i) text s =
     let t = s.second in
     let u = t.second in
     more_of e s.front text s.back (index_suffix i) s.parts s.first.holds (expression_from e s.front s.first.spelled)
-      (second (leads _ t (record { value = i; front = u.front; back = u.back; first = u.first; second = closing (index_suffix i) u.second; parts = u.parts })))
+    (second (leads _ t (record { value = i; front = u.front; back = u.back; first = u.first; second = closing (index_suffix i) u.second; parts = u.parts })))
 expression_from (call_of x es) text s = worded (heads.Name x) _ text s.front s.back s.parts s.first (first (arguments_from (λ us. call_of x us) es s.back s.second))
 expression_from (method_call_of e p es) text s =
     let t = s.second in
     let u = t.second in
     more_of e s.front text s.back (method_suffix p es) s.parts s.first.holds (expression_from e s.front s.first.spelled)
-      (first (leads _ t (record { value = p; front = u.front; back = u.back; first = u.first; second = first (arguments_from (λ us. method_suffix p us) es u.back u.second); parts = u.parts })))
+    (first (leads _ t (record { value = p; front = u.front; back = u.back; first = u.first; second = first (arguments_from (λ us. method_suffix p us) es u.back u.second); parts = u.parts })))
 expression_from (new_of x es) text s =
     let t = s.second in
     worded heads.New _ text (codes "new") (codes " " ++ s.back) (lead_of s) (record { same = refl })
-      (record { back = s.back; second = record { value = news.Name x; front = t.front; back = t.back; first = t.first; second = arguments_from (λ us. new_of x us) es t.back t.second; parts = t.parts }; parts = refl })
+    (record { back = s.back; second = record { value = news.Name x; front = t.front; back = t.back; first = t.first; second = arguments_from (λ us. new_of x us) es t.back t.second; parts = t.parts }; parts = refl })
 expression_from (new_array_of e) text s =
     let t = s.second in
     worded heads.New _ text (codes "new") (codes " Array(" ++ s.back) (lead_of s) (record { same = refl })
-      (record { back = codes "Array(" ++ s.back; second = record { value = news.Array; front = codes "Array"; back = codes "(" ++ s.back; first = record { same = refl }; second = record { back = s.back; second = record { value = e; front = t.front; back = t.back; first = t.first; second = closing (new_array_of e) t.second; parts = t.parts }; parts = refl }; parts = refl }; parts = refl })
+    (record { back = codes "Array(" ++ s.back; second = record { value = news.Array; front = codes "Array"; back = codes "(" ++ s.back; first = record { same = refl }; second = record { back = s.back; second = record { value = e; front = t.front; back = t.back; first = t.first; second = closing (new_array_of e) t.second; parts = t.parts }; parts = refl }; parts = refl }; parts = refl })
 expression_from (list_of es) text s = bracketed _ text (second (first (leads _ s (record { value = es; first = expressions_from 93 es s.back s.second; is = refl }))))
 expression_from (binary_of a op b) text s =
     let t = s.second in
@@ -594,7 +600,7 @@ expression_from (binary_of a op b) text s =
     let w = v.second in
     let x = w.second in
     in_parentheses _ text s.back (lead_of s) (headed a _ s.back t.front t.back t.parts t.first (word_or_not a t.front (expression_from a t.front t.first))
-      (leads _ u (record { value = infixes.Operator op; front = v.front; back = v.back; first = v.first; second = leads _ w (record { value = b; front = x.front; back = x.back; first = x.first; second = closing (binary_of a op b) x.second; parts = x.parts }); parts = v.parts })))
+    (leads _ u (record { value = infixes.Operator op; front = v.front; back = v.back; first = v.first; second = leads _ w (record { value = b; front = x.front; back = x.back; first = x.first; second = closing (binary_of a op b) x.second; parts = x.parts }); parts = v.parts })))
 expression_from (unary_of Not e) text s =
     let t = s.second in
     in_parentheses _ text s.back (lead_of s) (first (leads _ t (unary_from Not e t.back t.second)))
@@ -608,8 +614,18 @@ expression_from (conditional_of c a b) text s =
     let w = v.second in
     let x = w.second in
     in_parentheses _ text s.back (lead_of s) (headed c _ s.back t.front t.back t.parts t.first (word_or_not c t.front (expression_from c t.front t.first))
-      (record { back = codes "? " ++ u.back; parts = lead_of u; second = record { value = infixes.Question; front = codes "?"; back = codes " " ++ u.back; first = record { same = refl }; parts = refl;
-        second = record { back = u.back; parts = refl; second = record { value = a; front = v.front; back = v.back; first = v.first; parts = v.parts; second = leads _ w (record { value = b; front = x.front; back = x.back; first = x.first; second = closing (conditional_of c a b) x.second; parts = x.parts }) } } } }))
+    (record {
+      back = codes "? " ++ u.back;
+      parts = lead_of u;
+      second = record {
+        value = infixes.Question;
+        front = codes "?";
+        back = codes " " ++ u.back;
+        first = record { same = refl };
+        parts = refl;
+        second = record { back = u.back; parts = refl; second = record { value = a; front = v.front; back = v.back; first = v.first; parts = v.parts; second = leads _ w (record { value = b; front = x.front; back = x.back; first = x.first; second = closing (conditional_of c a b) x.second; parts = x.parts }) } };
+      };
+    }))
 expression_from (host_call f e) text s =
     let t = s.second in
     host_word f e text t.back (s.parts ∙ ap₂ (λ (x y : List ℕ). x ++ y) s.first.same (lead_of t)) (host_from f e t.back t.second)
@@ -622,6 +638,6 @@ starts_expression e text s = starts_form e text (expression_from e text s)
 
 pub wordless_from : (e : Expression) (text : List ℕ) → IsWordless e text → WordlessForm e text
 wordless_from e text w = elim (expression_from e text w.spelled) [
-    | first p ↦ absurd (let on : passes is_word_start text ≡ true = starts_then is_word_start IsHead AfterForm starts_heads e text p in let k : true ≡ false = sym on ∙ w.off in cc k)
-    | second p ↦ p
-  ]
+  | first p ↦ absurd (let on : passes is_word_start text ≡ true = starts_then is_word_start IsHead AfterForm starts_heads e text p in let k : true ≡ false = sym on ∙ w.off in cc k)
+  | second p ↦ p
+]

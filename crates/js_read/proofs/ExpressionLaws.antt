@@ -73,9 +73,9 @@ turned false e = refl
 
 no_number : (c : ℕ) → after_expression c ≡ true → after_number c ≡ true
 no_number c e = elim (cases (after_number c)) [
-    | inl k ↦ k
-    | inr k ↦ absurd (clash (elim (cases (is_digit c)) [ inl d ↦ digit d | inr d ↦ elim (cases (eqb c 110)) [ inl l ↦ letter (eqb-true c 110 l) | inr l ↦ absurd (let t : after_number c ≡ true = rw (d, l) refl in let b : true ≡ false = sym t ∙ k in cc b) ] ]))
-  ]
+  | inl k ↦ k
+  | inr k ↦ absurd (clash (elim (cases (is_digit c)) [ inl d ↦ digit d | inr d ↦ elim (cases (eqb c 110)) [ inl l ↦ letter (eqb-true c 110 l) | inr l ↦ absurd (let t : after_number c ≡ true = rw (d, l) refl in let b : true ≡ false = sym t ∙ k in cc b) ] ]))
+]
   where
     clash : is_name_character c ≡ true → ⊥
     clash t = let f = turned (is_name_character c) (ends_primary c (after_both c e).1) in let b : true ≡ false = sym t ∙ f in cc b
@@ -95,9 +95,9 @@ suffix_apart c e = turned (is_suffix c) e
 
 suffix_after : (c : ℕ) → is_suffix c ≡ true → after_primary c ≡ true
 suffix_after c e = elim (cases (eqb c 46)) [
-    | inl k ↦ this_byte 46 after_primary refl c k
-    | inr k ↦ this_byte 91 after_primary refl c (rw k at e)
-  ]
+  | inl k ↦ this_byte 46 after_primary refl c k
+  | inr k ↦ this_byte 91 after_primary refl c (rw k at e)
+]
 
 starts_suffix : Starts is_suffix SuffixForm
 starts_suffix = starts_either is_suffix _ _ (starts_leads is_suffix 46 _ _ refl) (starts_leads is_suffix 91 _ _ refl)
@@ -121,9 +121,9 @@ module _ (n m : ℕ) (le : n ≤ m) (read again : List ℕ → Reading Expressio
   unfolding expressions_at
   law_expressions close is start after items =
       law_either (λ c. eqb c close) (starts_mapped _ _ _ (starts_literal _ close [] is)) (follows_starts _ anything is_expression_start _ (apart is_expression_start close start) (starts_then is_expression_start _ _ starts_expression))
-        (law_map (λ u. no_expressions) (law_literal (close ∷ [])))
-        (behind anything (λ e. follows_then after_expression _ _ anything (follows_list after_expression is_comma _ after_expression (λ c k. this_byte 44 after_expression refl c k) (starts_leads is_comma 44 _ _ refl) (same after_expression)) (λ es. follows_mapped after_expression _ _ anything (follows_literal after_expression close [] anything after)))
-          (λ e text p. law_after n n after_items anything (fits n _) (λ es. follows_mapped after_items _ _ anything (follows_literal after_items close [] anything items)) law_more (λ es text p. law_map (λ u. expression e (expressions_of es)) (law_literal (close ∷ [])))))
+      (law_map (λ u. no_expressions) (law_literal (close ∷ [])))
+      (behind anything (λ e. follows_then after_expression _ _ anything (follows_list after_expression is_comma _ after_expression (λ c k. this_byte 44 after_expression refl c k) (starts_leads is_comma 44 _ _ refl) (same after_expression)) (λ es. follows_mapped after_expression _ _ anything (follows_literal after_expression close [] anything after)))
+      (λ e text p. law_after n n after_items anything (fits n _) (λ es. follows_mapped after_items _ _ anything (follows_literal after_items close [] anything items)) law_more (λ es text p. law_map (λ u. expression e (expressions_of es)) (law_literal (close ∷ [])))))
 
   law_arguments : Law n anything (expressions_at read n 41) (expressions_at again m 41) (ExpressionsForm 41)
   law_arguments = law_expressions 41 refl refl refl refl
@@ -175,7 +175,7 @@ module _ (n m : ℕ) (le : n ≤ m) (read again : List ℕ → Reading Expressio
   unfolding suffix_at
   law_suffix = law_either (λ c. eqb c 46) (starts_leads _ 46 _ _ refl) (follows_leads _ 91 _ _ after_primary refl)
       (law_lead (codes ".") (law_after n n ends_word after_primary (fits n _) (λ p. follows_either ends_word _ _ after_primary (follows_leads ends_word 40 _ _ after_primary refl) (follows_value ends_word _ after_primary ends_primary)) law_properties (λ p text q.
-        law_either (λ c. eqb c 40) (starts_leads _ 40 _ _ refl) (follows_value _ _ after_primary no_parenthesis) (law_lead (codes "(") (law_map (λ es. method_suffix p es) (narrow law_arguments))) (law_value (property_suffix p)))))
+      law_either (λ c. eqb c 40) (starts_leads _ 40 _ _ refl) (follows_value _ _ after_primary no_parenthesis) (law_lead (codes "(") (law_map (λ es. method_suffix p es) (narrow law_arguments))) (law_value (property_suffix p)))))
       (narrow (law_lead (codes "[") (behind anything (λ i. follows_mapped after_expression _ _ anything (follows_literal after_expression 93 [] anything refl)) (λ i text p. law_map (λ u. index_suffix i) (law_literal (codes "]"))))))
 
   law_suffixes : (e : Expression) → Law n after_expression (suffixes_at read n e) (suffixes_at again m e) (SuffixesForm e)
@@ -257,12 +257,12 @@ module _ (n m : ℕ) (le : n ≤ m) (read again : List ℕ → Reading Expressio
     unfolding parenthesis_at
     law_parenthesis =
         law_either (λ c. eqb c 33) (starts_leads _ 33 _ _ refl) (follows_either _ _ _ anything (follows_leads _ 45 _ _ anything refl) (follows_either _ _ _ anything (follows_starts _ anything is_word_start _ (apart is_word_start 33 refl) starts_parenthesis_word) (follows_starts _ anything is_wordless_start _ (apart is_wordless_start 33 refl) starts_bare)))
-          (law_lead (codes "!") (law_unary Not))
+        (law_lead (codes "!") (law_unary Not))
         (law_either (λ c. eqb c 45) (starts_leads _ 45 _ _ refl) (follows_either _ _ _ anything (follows_starts _ anything is_word_start _ (apart is_word_start 45 refl) starts_parenthesis_word) (follows_starts _ anything is_wordless_start _ (apart is_wordless_start 45 refl) starts_bare))
-          (law_lead (codes "-") law_below)
+        (law_lead (codes "-") law_below)
         (law_either is_word_start starts_parenthesis_word (follows_starts _ anything is_wordless_start _ not_word starts_bare)
-          (law_after n n ends_word anything (fits n _) parenthesis_follows law_parenthesis_heads (λ h text p. law_parenthesis_after h))
-          (law_after n n after_expression anything (fits n _) (λ a. follows_leads after_expression 32 _ _ anything refl) bare (λ a text p. law_tail a))))
+        (law_after n n ends_word anything (fits n _) parenthesis_follows law_parenthesis_heads (λ h text p. law_parenthesis_after h))
+        (law_after n n after_expression anything (fits n _) (λ a. follows_leads after_expression 32 _ _ anything refl) bare (λ a text p. law_tail a))))
 
     law_string : Law n anything (string_at n) (string_at m) StringForm
     unfolding string_at
@@ -284,17 +284,17 @@ module _ (n m : ℕ) (le : n ≤ m) (read again : List ℕ → Reading Expressio
     unfolding wordless_level
     law_wordless_form =
         law_either is_digit starts_plain (follows_starts _ after_expression is_bracket _ (λ c e. bracket_no_digit c e) (starts_then is_bracket _ _ starts_bracketed))
-          (law_narrow after_expression no_number law_number)
-          (law_after (suc n) n after_primary after_expression (λ e text p. longer is_bracket text (starts_bracketed e text p)) suffixes_follow (law_narrow after_primary (λ c e. refl) law_bracketed) (λ e text p. law_suffixes e))
+        (law_narrow after_expression no_number law_number)
+        (law_after (suc n) n after_primary after_expression (λ e text p. longer is_bracket text (starts_bracketed e text p)) suffixes_follow (law_narrow after_primary (λ c e. refl) law_bracketed) (λ e text p. law_suffixes e))
       where
         bracket_no_digit : (c : ℕ) → is_bracket c ≡ true → not (is_digit c) ≡ true
         bracket_no_digit c e = elim (cases (eqb c 34)) [
-            | inl k ↦ this_byte 34 (λ d. not (is_digit d)) refl c k
-            | inr k ↦ elim (cases (eqb c 91)) [
-                | inl l ↦ this_byte 91 (λ d. not (is_digit d)) refl c l
-                | inr l ↦ this_byte 40 (λ d. not (is_digit d)) refl c (rw (k, l) at e)
-              ]
+          | inl k ↦ this_byte 34 (λ d. not (is_digit d)) refl c k
+          | inr k ↦ elim (cases (eqb c 91)) [
+            | inl l ↦ this_byte 91 (λ d. not (is_digit d)) refl c l
+            | inr l ↦ this_byte 40 (λ d. not (is_digit d)) refl c (rw (k, l) at e)
           ]
+        ]
 
     pub law_wordless_level : Law (suc n) after_expression (wordless_level read n wordless) (wordless_level again m wordless') IsWordless
     law_wordless_level = law_same (λ e text p. record { spelled = wordless_to e text p; off = wordless_off e text p }) wordless_from law_wordless_form
@@ -303,8 +303,8 @@ module _ (n m : ℕ) (le : n ≤ m) (read again : List ℕ → Reading Expressio
     unfolding expression_level
     law_expression_level = law_same expression_to expression_from
         (law_either is_word_start (starts_then is_word_start _ _ starts_heads) (follows_starts _ after_expression is_wordless_start _ not_word starts_wordless)
-          (law_after (suc n) n ends_word after_expression (λ h text p. longer is_word_start text (starts_heads h text p)) after_follows law_heads (λ h text p. law_expression_after h))
-          law_wordless_form)
+        (law_after (suc n) n ends_word after_expression (λ h text p. longer is_word_start text (starts_heads h text p)) after_follows law_heads (λ h text p. law_expression_after h))
+        law_wordless_form)
 
 -- ---- the knot
 

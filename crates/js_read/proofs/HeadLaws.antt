@@ -39,9 +39,9 @@ word_is : {A : Type 0} (R : A → List ℕ → Type 0) (name : List ℕ → Bool
     → ((text : List ℕ) → name text ≡ true → R (of text) text) → ((text : List ℕ) (x : A) → keyword text ≡ Some x → R x text)
     → (text : List ℕ) (x : A) → word_of name of keyword text ≡ Some x → R x text
 word_is {A} R name of keyword names keywords text x e = elim (went (name text) (Some (of text)) (keyword text) (Some x) e) [
-    | inl k ↦ let same : of text ≡ x = value_is (of text) x k.1 in subst (λ (y : A). R y text) same (names text k.0)
-    | inr k ↦ keywords text x k.1
-  ]
+  | inl k ↦ let same : of text ≡ x = value_is (of text) x k.1 in subst (λ (y : A). R y text) same (names text k.0)
+  | inr k ↦ keywords text x k.1
+]
   where
     value_is : (a b : A) → Some a ≡ Some b → a ≡ b
     value_is a b e = cc e

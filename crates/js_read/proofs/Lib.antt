@@ -9,5 +9,4 @@ pub mod StatementForms
 pub mod StatementLaws
 pub mod ModuleForms
 pub mod ModuleLaws
-pub mod Runs
-pub mod Loops
+pub mod WholeModules

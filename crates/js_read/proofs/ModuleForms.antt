@@ -114,8 +114,14 @@ parameters_from [] text s =
 parameters_from (x ∷ xs) text s =
     let t = s.second in
     let u = t.first in
-    leads _ s (second (record { value = x ∷ xs; front = t.front; back = t.back; parts = t.parts; second = to_value (x ∷ xs) t.second;
-      first = record { value = x; front = u.front; back = u.back; first = u.first; parts = u.parts; second = record { value = xs; first = more_from (codes ", ") SpellsName xs u.back u.second; is = refl } } }))
+    leads _ s (second (record {
+      value = x ∷ xs;
+      front = t.front;
+      back = t.back;
+      parts = t.parts;
+      second = to_value (x ∷ xs) t.second;
+      first = record { value = x; front = u.front; back = u.back; first = u.first; parts = u.parts; second = record { value = xs; first = more_from (codes ", ") SpellsName xs u.back u.second; is = refl } };
+    }))
 
 property_to : (p : Property) (text : List ℕ) → PropertyForm p text → SpellsObjectProperty p text
 unfolding SpellsObjectProperty
@@ -154,9 +160,29 @@ member_behind h xs ss text one two parts n t =
     let b = u.second in
     let ps = parameters_from xs t.front t.first in
     let whole : two ≡ codes "(" ++ (ps.back ++ t.back) = t.parts ∙ ap (λ (x : List ℕ). x ++ t.back) ps.parts in
-    record { back = one ++ two; parts = parts; second = record { value = h; front = one; back = two; first = n; parts = refl;
-      second = record { back = ps.back ++ t.back; parts = whole; second = record { value = xs; front = ps.back; back = t.back; first = ps.second; parts = refl;
-        second = leads _ u (record { value = ss; front = b.front; back = b.back; first = block_from 1 ss b.front b.first; parts = b.parts; second = to_value (member_of h xs ss) b.second }) } } } }
+    record {
+      back = one ++ two;
+      parts = parts;
+      second = record {
+        value = h;
+        front = one;
+        back = two;
+        first = n;
+        parts = refl;
+        second = record {
+          back = ps.back ++ t.back;
+          parts = whole;
+          second = record {
+            value = xs;
+            front = ps.back;
+            back = t.back;
+            first = ps.second;
+            parts = refl;
+            second = leads _ u (record { value = ss; front = b.front; back = b.back; first = block_from 1 ss b.front b.first; parts = b.parts; second = to_value (member_of h xs ss) b.second });
+          };
+        };
+      };
+    }
 
 member_from : (m : Member) (text : List ℕ) → SpellsMember m text → MemberForm m text
 unfolding SpellsMember SpellsBlock
@@ -211,7 +237,7 @@ item_word_to items.Function y text front back parts n p =
     let t = r.second in
     let u = t.second in
     rw u.second.is (led (codes "function ") p.back (parts ∙ word_led n.same p.parts) (seq q.front q.back q.parts q.first (seq (codes "(" ++ t.front) t.back (r.parts ∙ ap (glue (codes "(")) t.parts) (parameters_to t.value (codes "(" ++ t.front) t.front refl t.first)
-      (led (codes " ") u.back u.parts (block_to 0 u.second.value u.back u.second.first)))))
+    (led (codes " ") u.back u.parts (block_to 0 u.second.value u.back u.second.first)))))
 item_word_to items.Class y text front back parts n p =
     let q = p.second in
     let r = q.second in
@@ -244,8 +270,14 @@ unfolding Separated
 object_from x [] text s = first (to_value _ (record { same = s.parts ∙ ap₂ (λ (x y : List ℕ). x ++ y) s.first.same s.second.same }))
 object_from x (p ∷ ps) text s =
     let t = s.first in
-    second (record { value = p ∷ ps; front = s.front; back = s.back; parts = s.parts; second = to_value _ s.second;
-      first = record { value = p; front = t.front; back = t.back; first = property_from p t.front t.first; parts = t.parts; second = record { value = ps; first = list_same (leads_same property_from) (more_from (codes ", ") SpellsObjectProperty ps t.back t.second); is = refl } } })
+    second (record {
+      value = p ∷ ps;
+      front = s.front;
+      back = s.back;
+      parts = s.parts;
+      second = to_value _ s.second;
+      first = record { value = p; front = t.front; back = t.back; first = property_from p t.front t.first; parts = t.parts; second = record { value = ps; first = list_same (leads_same property_from) (more_from (codes ", ") SpellsObjectProperty ps t.back t.second); is = refl } };
+    })
 
 worded : (h : ItemHead) (y : Item) (text w back : List ℕ) → text ≡ w ++ back → IsItemHead h w → ItemWordForm h y back → ItemParts y text
 worded h y text w back parts n p = record { head = h; front = w; back = back; first = n; second = p; parts = parts }
@@ -257,21 +289,21 @@ item_from (const_item x e) text s =
     let t = s.second in
     let u = t.second in
     inr (worded items.Const _ text (codes "const") (codes " " ++ s.back) (lead_of s) (record { same = refl })
-      (record { back = s.back; parts = refl; second = record { value = x; front = t.front; back = t.back; first = t.first; parts = t.parts; second = leads _ u (second (item_ended_from (λ e. const_item x e) e u.back u.second)) } }))
+    (record { back = s.back; parts = refl; second = record { value = x; front = t.front; back = t.back; first = t.first; parts = t.parts; second = leads _ u (second (item_ended_from (λ e. const_item x e) e u.back u.second)) } }))
 item_from (object_item x ps) text s =
     let t = s.second in
     let u = t.second in
     inr (worded items.Const _ text (codes "const") (codes " " ++ s.back) (lead_of s) (record { same = refl })
-      (record { back = s.back; parts = refl; second = record { value = x; front = t.front; back = t.back; first = t.first; parts = t.parts; second = record { back = codes "{" ++ u.back; parts = lead_of u; second = first (record { back = u.back; parts = refl; second = object_from x ps u.back u.second }) } } }))
+    (record { back = s.back; parts = refl; second = record { value = x; front = t.front; back = t.back; first = t.first; parts = t.parts; second = record { back = codes "{" ++ u.back; parts = lead_of u; second = first (record { back = u.back; parts = refl; second = object_from x ps u.back u.second }) } } }))
 item_from (let_item x e) text s =
     let t = s.second in
     let u = t.second in
     inr (worded items.Let _ text (codes "let") (codes " " ++ s.back) (lead_of s) (record { same = refl })
-      (record { back = s.back; parts = refl; second = record { value = x; front = t.front; back = t.back; first = t.first; parts = t.parts; second = leads _ u (item_ended_from (λ e. let_item x e) e u.back u.second) } }))
+    (record { back = s.back; parts = refl; second = record { value = x; front = t.front; back = t.back; first = t.first; parts = t.parts; second = leads _ u (item_ended_from (λ e. let_item x e) e u.back u.second) } }))
 item_from (expression_item e) text s = elim (expression_from e s.front s.first) [
-    | first p ↦ inr (record { head = items.Expression p.value; front = p.front; back = p.back ++ s.back; first = p.first; second = record { value = e; front = p.back; back = s.back; first = p.second; second = closing (expression_item e) s.second; parts = refl }; parts = s.parts ∙ ap (λ (x : List ℕ). x ++ s.back) p.parts ∙ append_assoc p.front p.back s.back })
-    | second p ↦ inl (record { value = e; front = s.front; back = s.back; first = record { spelled = s.first; off = wordless_off e s.front p }; second = closing (expression_item e) s.second; parts = s.parts })
-  ]
+  | first p ↦ inr (record { head = items.Expression p.value; front = p.front; back = p.back ++ s.back; first = p.first; second = record { value = e; front = p.back; back = s.back; first = p.second; second = closing (expression_item e) s.second; parts = refl }; parts = s.parts ∙ ap (λ (x : List ℕ). x ++ s.back) p.parts ∙ append_assoc p.front p.back s.back })
+  | second p ↦ inl (record { value = e; front = s.front; back = s.back; first = record { spelled = s.first; off = wordless_off e s.front p }; second = closing (expression_item e) s.second; parts = s.parts })
+]
 item_from (function_item x xs ss) text s =
     let t = s.second in
     let u = t.second in
@@ -279,21 +311,56 @@ item_from (function_item x xs ss) text s =
     let ps = parameters_from xs u.front u.first in
     let whole : t.back ≡ codes "(" ++ (ps.back ++ u.back) = u.parts ∙ ap (λ (x : List ℕ). x ++ u.back) ps.parts in
     inr (worded items.Function _ text (codes "function") (codes " " ++ s.back) (lead_of s) (record { same = refl })
-      (record { back = s.back; parts = refl; second = record { value = x; front = t.front; back = t.back; first = t.first; parts = t.parts; second = record { back = ps.back ++ u.back; parts = whole; second = record { value = xs; front = ps.back; back = u.back; first = ps.second; parts = refl;
-        second = leads _ v (record { value = ss; first = block_from 0 ss v.back v.second; is = refl }) } } } }))
+    (record {
+      back = s.back;
+      parts = refl;
+      second = record {
+        value = x;
+        front = t.front;
+        back = t.back;
+        first = t.first;
+        parts = t.parts;
+        second = record {
+          back = ps.back ++ u.back;
+          parts = whole;
+          second = record {
+            value = xs;
+            front = ps.back;
+            back = u.back;
+            first = ps.second;
+            parts = refl;
+            second = leads _ v (record { value = ss; first = block_from 0 ss v.back v.second; is = refl });
+          };
+        };
+      };
+    }))
 item_from (class_item x ms) text s =
     let t = s.second in
     let u = t.second in
     inr (worded items.Class _ text (codes "class") (codes " " ++ s.back) (lead_of s) (record { same = refl })
-      (record { back = s.back; parts = refl; second = record { value = x; front = t.front; back = t.back; first = t.first; parts = t.parts; second = leads _ u (first (record { value = ms; first = members_from ms u.back u.second; is = refl })) } }))
+    (record { back = s.back; parts = refl; second = record { value = x; front = t.front; back = t.back; first = t.first; parts = t.parts; second = leads _ u (first (record { value = ms; first = members_from ms u.back u.second; is = refl })) } }))
 item_from (subclass_item x y ms) text s =
     let t = s.second in
     let u = t.second in
     let v = u.second in
     let w = v.second in
     inr (worded items.Class _ text (codes "class") (codes " " ++ s.back) (lead_of s) (record { same = refl })
-      (record { back = s.back; parts = refl; second = record { value = x; front = t.front; back = t.back; first = t.first; parts = t.parts; second = record { back = codes "extends " ++ u.back; parts = lead_of u;
-        second = second (record { back = u.back; parts = refl; second = record { value = y; front = v.front; back = v.back; first = v.first; parts = v.parts; second = leads _ w (record { value = ms; first = members_from ms w.back w.second; is = refl }) } }) } } }))
+    (record {
+      back = s.back;
+      parts = refl;
+      second = record {
+        value = x;
+        front = t.front;
+        back = t.back;
+        first = t.first;
+        parts = t.parts;
+        second = record {
+          back = codes "extends " ++ u.back;
+          parts = lead_of u;
+          second = second (record { back = u.back; parts = refl; second = record { value = y; front = v.front; back = v.back; first = v.first; parts = v.parts; second = leads _ w (record { value = ms; first = members_from ms w.back w.second; is = refl }) } });
+        };
+      };
+    }))
 
 -- ---- lines
 
@@ -330,8 +397,18 @@ line_word_to : (imports : Bool) (h : LineHead) (l : Line) (text front back : Lis
 line_word_to true lines.Import l text front back parts n p =
     let q = p.second in
     let t = q.second.second in
-    rw t.second.second.same (import_to _ text front back parts n.same (record { back = p.back; parts = p.parts; second = record { value = q.value; front = q.front; back = q.back; first = q.first; parts = q.parts;
-      second = record { back = q.second.back; parts = q.second.parts; second = record { value = t.value; front = t.front; back = t.back; first = t.first; parts = t.parts; second = record { back = t.second.back; parts = t.second.parts; second = record { same = refl; empty = t.second.second.empty } } } } } }))
+    rw t.second.second.same (import_to _ text front back parts n.same (record {
+      back = p.back;
+      parts = p.parts;
+      second = record {
+        value = q.value;
+        front = q.front;
+        back = q.back;
+        first = q.first;
+        parts = q.parts;
+        second = record { back = q.second.back; parts = q.second.parts; second = record { value = t.value; front = t.front; back = t.back; first = t.first; parts = t.parts; second = record { back = t.second.back; parts = t.second.parts; second = record { same = refl; empty = t.second.second.empty } } } };
+      };
+    }))
 line_word_to false lines.Import l text front back parts n p = absurd n
 line_word_to true lines.Export l text front back parts n p =
     let q = p.second in
@@ -359,20 +436,38 @@ export_head false = record { same = refl }
 item_line_from : (imports : Bool) (i : Item) (text : List ℕ) → SpellsItemLine i text → ModuleLineForm imports (item_line i) text
 unfolding SpellsItemLine
 item_line_from imports i text s = elim (item_from i s.front s.first) [
-    | inl p ↦
-        let whole : p.back ++ s.back ≡ codes ";\n" = ap₂ (λ (x y : List ℕ). x ++ y) p.second.first.is s.second.same in
-        second (record { value = p.value; front = p.front; back = p.back ++ s.back; first = p.first; parts = s.parts ∙ ap (λ (x : List ℕ). x ++ s.back) p.parts ∙ append_assoc p.front p.back s.back;
-          second = record { back = []; second = record { same = ap (λ (x : Item). item_line x) p.second.is; empty = refl }; parts = whole } })
-    | inr p ↦
-        first (record { value = lines.Item p.head; front = p.front; back = p.back ++ s.back; first = item_head imports p.head p.front p.first; parts = s.parts ∙ ap (λ (x : List ℕ). x ++ s.back) p.parts ∙ append_assoc p.front p.back s.back;
-          second = record { value = i; front = p.back; back = s.back; first = p.second; second = to_value (item_line i) s.second; parts = refl } })
-  ]
+  | inl p ↦
+      let whole : p.back ++ s.back ≡ codes ";\n" = ap₂ (λ (x y : List ℕ). x ++ y) p.second.first.is s.second.same in
+      second (record {
+        value = p.value;
+        front = p.front;
+        back = p.back ++ s.back;
+        first = p.first;
+        parts = s.parts ∙ ap (λ (x : List ℕ). x ++ s.back) p.parts ∙ append_assoc p.front p.back s.back;
+        second = record { back = []; second = record { same = ap (λ (x : Item). item_line x) p.second.is; empty = refl }; parts = whole };
+      })
+  | inr p ↦
+      first (record {
+        value = lines.Item p.head;
+        front = p.front;
+        back = p.back ++ s.back;
+        first = item_head imports p.head p.front p.first;
+        parts = s.parts ∙ ap (λ (x : List ℕ). x ++ s.back) p.parts ∙ append_assoc p.front p.back s.back;
+        second = record { value = i; front = p.back; back = s.back; first = p.second; second = to_value (item_line i) s.second; parts = refl };
+      })
+]
 
 export_line_from : (imports : Bool) (xs : List Name) (text : List ℕ) → (Is (codes "export { ") ● SpellsNames xs ● Is (codes " };\n")) text → ModuleLineForm imports (export_line xs) text
 export_line_from imports xs text s =
     let t = s.second in
-    first (record { value = lines.Export; front = codes "export"; back = codes " { " ++ s.back; first = export_head imports; parts = lead_of s;
-      second = record { back = s.back; parts = refl; second = record { value = xs; front = t.front; back = t.back; first = names_from xs t.front t.first; parts = t.parts; second = to_value (export_line xs) t.second } } })
+    first (record {
+      value = lines.Export;
+      front = codes "export";
+      back = codes " { " ++ s.back;
+      first = export_head imports;
+      parts = lead_of s;
+      second = record { back = s.back; parts = refl; second = record { value = xs; front = t.front; back = t.back; first = names_from xs t.front t.first; parts = t.parts; second = to_value (export_line xs) t.second } };
+    })
 
 import_from : (i : JsImport) (text : List ℕ) → SpellsImport i text → ModuleLineForm true (import_line i) text
 unfolding SpellsImport
@@ -380,9 +475,25 @@ import_from i text s =
     let t = s.second in
     let u = t.second in
     let v = u.second in
-    first (record { value = lines.Import; front = codes "import"; back = codes " { " ++ s.back; first = record { same = refl }; parts = lead_of s;
-      second = record { back = s.back; parts = refl; second = record { value = i.names; front = t.front; back = t.back; first = names_from i.names t.front t.first; parts = t.parts;
-        second = leads _ u (record { value = i.file; front = v.front; back = v.back; first = v.first; parts = v.parts; second = to_value (import_line i) v.second }) } } })
+    first (record {
+      value = lines.Import;
+      front = codes "import";
+      back = codes " { " ++ s.back;
+      first = record { same = refl };
+      parts = lead_of s;
+      second = record {
+        back = s.back;
+        parts = refl;
+        second = record {
+          value = i.names;
+          front = t.front;
+          back = t.back;
+          first = names_from i.names t.front t.first;
+          parts = t.parts;
+          second = leads _ u (record { value = i.file; front = v.front; back = v.back; first = v.first; parts = v.parts; second = to_value (import_line i) v.second });
+        };
+      };
+    })
 
 pub line_from : (imports : Bool) (l : Line) (text : List ℕ) → IsLine imports l text → ModuleLineForm imports l text
 line_from true (import_line i) text s = import_from i text s

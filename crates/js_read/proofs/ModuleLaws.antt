@@ -85,9 +85,9 @@ law_file_front = law_same to from (law_run no_file_character (word_token (λ x. 
 
     to : (u text : List ℕ) → IsRun (word_of is_file_front (λ x. x) no_keyword) u text → IsFront u text
     to u text p = elim (went (is_file_front text) (Some text) None (Some u) p.is) [
-        | inl k ↦ let e = value_is text u k.1 in record { is = e; front = subst (λ (v : List ℕ). is_file_front v ≡ true) e k.0 }
-        | inr k ↦ absurd (none_some u k.1)
-      ]
+      | inl k ↦ let e = value_is text u k.1 in record { is = e; front = subst (λ (v : List ℕ). is_file_front v ≡ true) e k.0 }
+      | inr k ↦ absurd (none_some u k.1)
+    ]
 
     from : (u text : List ℕ) → IsFront u text → IsRun (word_of is_file_front (λ x. x) no_keyword) u text
     from u text p = record { is = rw (p.is, p.front) refl }
@@ -97,9 +97,9 @@ FileForm = IsFront then λ u. Leads (codes ".js") (IsValue (u ++ codes ".js"))
 
 not_dot : (b : ℕ) → is_file_character b ≡ true → eqb b 46 ≡ false
 not_dot b e = elim (cases (eqb b 46)) [
-    | inl k ↦ absurd (let f : is_file_character 46 ≡ true = subst (λ (d : ℕ). is_file_character d ≡ true) (eqb-true b 46 k) e in cc f)
-    | inr k ↦ k
-  ]
+  | inl k ↦ absurd (let f : is_file_character 46 ≡ true = subst (λ (d : ℕ). is_file_character d ≡ true) (eqb-true b 46 k) e in cc f)
+  | inr k ↦ k
+]
 
 rest_file : (begun : Bool) (u : List ℕ) → begins_file u ≡ true → (begun || not (is_empty u)) ≡ true → is_file_rest begun (u ++ codes ".js") ≡ true
 rest_file true [] h k = refl
@@ -117,15 +117,15 @@ record FileParts (begun : Bool) (f : List ℕ) : Type 0 where
 file_rest : (begun : Bool) (f : List ℕ) → is_file_rest begun f ≡ true → FileParts begun f
 file_rest begun [] h = absurd cc
 file_rest begun (b ∷ f) h = elim (went (eqb b 46) (begun && is_same_text f (codes "js")) (is_file_character b && is_file_rest true f) true h) [
-    | inl k ↦
-        let l = both begun (is_same_text f (codes "js")) k.1 in
-        let rest : f ≡ codes "js" = same_text f (codes "js") (sym l.1) in
-        record { front = []; is = ap₂ (λ (x : ℕ) (y : List ℕ). x ∷ y) (eqb-true b 46 k.0) rest; file = refl; some = rw l.0 refl }
-    | inr k ↦
-        let l = both (is_file_character b) (is_file_rest true f) k.1 in
-        let r = file_rest true f l.1 in
-        record { front = b ∷ r.front; is = ap (λ (y : List ℕ). b ∷ y) r.is; file = both_true (is_file_character b) (begins_file r.front) l.0 r.file; some = or_true begun }
-  ]
+  | inl k ↦
+      let l = both begun (is_same_text f (codes "js")) k.1 in
+      let rest : f ≡ codes "js" = same_text f (codes "js") (sym l.1) in
+      record { front = []; is = ap₂ (λ (x : ℕ) (y : List ℕ). x ∷ y) (eqb-true b 46 k.0) rest; file = refl; some = rw l.0 refl }
+  | inr k ↦
+      let l = both (is_file_character b) (is_file_rest true f) k.1 in
+      let r = file_rest true f l.1 in
+      record { front = b ∷ r.front; is = ap (λ (y : List ℕ). b ∷ y) r.is; file = both_true (is_file_character b) (begins_file r.front) l.0 r.file; some = or_true begun }
+]
   where
     or_true : (b : Bool) → (b || true) ≡ true
     or_true true = refl
@@ -144,8 +144,14 @@ file_form : (f text : List ℕ) → SpellsFile f text → FileForm f text
 unfolding SpellsFile
 file_form f text s =
     let r = file_rest false f s.holds in
-    record { value = r.front; front = r.front; back = codes ".js"; first = record { is = refl; front = rw (r.file, r.some) refl }; parts = s.spelled.same ∙ r.is;
-      second = record { back = []; second = record { same = r.is; empty = refl }; parts = refl } }
+    record {
+      value = r.front;
+      front = r.front;
+      back = codes ".js";
+      first = record { is = refl; front = rw (r.file, r.some) refl };
+      parts = s.spelled.same ∙ r.is;
+      second = record { back = []; second = record { same = r.is; empty = refl }; parts = refl };
+    }
 
 law_file : {n : ℕ} → Law n anything file_at file_at SpellsFile
 unfolding file_at no_file_character
@@ -247,7 +253,7 @@ module _ (n m : ℕ) (le : n ≤ m) where
       (law_after n n anything anything (fits n _) (λ xs y back rest q st. open_end (back ++ rest)) law_parameters (λ xs text p. law_lead (codes " ") (law_map (λ ss. function_item x xs ss) (law_body 0))))))
   law_item_word items.Class = law_lead (codes " ") (named anything (λ x. follows_leads ends_word 32 _ _ anything refl) (λ x text p. law_lead (codes " ")
       (law_either (λ c. eqb c 123) (starts_mapped _ _ _ (starts_leads _ 123 _ _ refl)) (follows_leads _ 101 _ _ anything refl) (law_map (λ ms. class_item x ms) law_members)
-        (law_lead (codes "extends ") (named anything (λ y. follows_leads ends_word 32 _ _ anything refl) (λ y text p. law_lead (codes " ") (law_map (λ ms. subclass_item x y ms) law_members)))))))
+      (law_lead (codes "extends ") (named anything (λ y. follows_leads ends_word 32 _ _ anything refl) (λ y text p. law_lead (codes " ") (law_map (λ ms. subclass_item x y ms) law_members)))))))
   law_item_word (items.Expression h) = law_after n n after_expression anything (fits n _) (λ e. follows_mapped after_expression _ _ anything (follows_literal after_expression 59 [] anything refl)) (law_expression_after n m le (expression_at n) (expression_at m) (law_expression n m le) h) (λ e text p. law_map (λ u. expression_item e) (law_literal (codes ";")))
 
   item_follows : (h : ItemHead) → Follows ends_word (ItemWordForm h) anything
@@ -296,8 +302,8 @@ module _ (n m : ℕ) (le : n ≤ m) where
   unfolding line_at
   law_line imports = law_same (line_to imports) (line_from imports)
       (law_either is_word_start (starts_then is_word_start _ _ (starts_line_head imports)) (follows_starts _ anything is_wordless_start _ not_word (starts_then is_wordless_start _ _ starts_bare))
-        (law_after n n ends_word anything (fits n _) line_follows (law_line_heads imports) (λ h text p. law_line_word h))
-        (law_after n n after_expression anything (fits n _) (λ e. follows_leads after_expression 59 _ _ anything refl) (law_wordless n m le) (λ e text p. law_lead (codes ";\n") (law_value (item_line (expression_item e))))))
+      (law_after n n ends_word anything (fits n _) line_follows (law_line_heads imports) (λ h text p. law_line_word h))
+      (law_after n n after_expression anything (fits n _) (λ e. follows_leads after_expression 59 _ _ anything refl) (law_wordless n m le) (λ e text p. law_lead (codes ";\n") (law_value (item_line (expression_item e))))))
 
   starts_line : (imports : Bool) → Starts anything (IsLine imports)
   starts_line imports l text s =

@@ -40,8 +40,8 @@ no_digit_is c e = turned (is_digit c) e
 law_digits_below : {n : ℕ} (nought : Bool) (limit : ℕ) → 1 < limit → limit ≤ 2 ^ 64 → Law n no_digit (λ bytes. run_at (begins_number nought limit) (number_of nought limit) [] bytes) (λ bytes. run_at (begins_number nought limit) (number_of nought limit) [] bytes) (IsDecimal nought limit)
 law_digits_below nought limit big small =
     law_same (λ v text p. let r = number_is nought limit v text (omega arith) small p.is in record { is = r.is; below = r.below; some = r.some })
-      (λ v text p. record { is = number_from nought limit v text small (record { is = p.is; below = p.below; some = p.some }) })
-      (law_run no_digit (digits_token nought limit no_digit no_digit_is big))
+    (λ v text p. record { is = number_from nought limit v text small (record { is = p.is; below = p.below; some = p.some }) })
+    (law_run no_digit (digits_token nought limit no_digit no_digit_is big))
 
 law_digits : {n : ℕ} → Law n no_digit digits_at digits_at (IsDecimal true (2 ^ 63))
 unfolding digits_at
@@ -158,19 +158,22 @@ integer_is : (limit v : ℕ) (suffix front : List ℕ) → v < limit + 1 → 0 <
 unfolding SpellsInteger
 integer_is limit v suffix front lt some is =
     let back : v - 1 + 1 ≡ v = omega arith in
-    record { holds = lt-ltb (v - 1) limit (omega arith); spelled = record {
-      front = codes "(-";
-      back = front ++ (suffix ++ codes ")");
-      first = record { same = refl };
-      second = record {
-        front = front;
-        back = suffix ++ codes ")";
-        first = record { same = is ∙ ap decimal (sym back) };
-        second = record { front = suffix; back = codes ")"; first = record { same = refl }; second = record { same = refl }; parts = refl };
+    record {
+      holds = lt-ltb (v - 1) limit (omega arith);
+      spelled = record {
+        front = codes "(-";
+        back = front ++ (suffix ++ codes ")");
+        first = record { same = refl };
+        second = record {
+          front = front;
+          back = suffix ++ codes ")";
+          first = record { same = is ∙ ap decimal (sym back) };
+          second = record { front = suffix; back = codes ")"; first = record { same = refl }; second = record { same = refl }; parts = refl };
+          parts = refl;
+        };
         parts = refl;
       };
-      parts = refl;
-    } }
+    }
 
 below_big_is : (v : ℕ) (front back : List ℕ) (e : Expression) → IsDecimal false (2 ^ 63 + 1) v front → Leads (codes "n)") (IsValue (big_literal (negsuc (v - 1)))) e back → IsBelowZero e (front ++ back)
 unfolding SpellsBig
@@ -202,7 +205,7 @@ negative_of limit v suffix text p =
     let t = s.second in
     let u = t.second in
     let whole : codes "(-" ++ text ≡ codes "(-" ++ (t.front ++ (suffix ++ codes ")")) =
-      s.parts ∙ ap (λ (x : List ℕ). x ++ s.back) s.first.same ∙ ap (λ (x : List ℕ). codes "(-" ++ x) (t.parts ∙ ap (λ (x : List ℕ). t.front ++ x) (u.parts ∙ ap (λ (x : List ℕ). x ++ u.back) u.first.same ∙ ap (λ (x : List ℕ). suffix ++ x) u.second.same)) in
+    s.parts ∙ ap (λ (x : List ℕ). x ++ s.back) s.first.same ∙ ap (λ (x : List ℕ). codes "(-" ++ x) (t.parts ∙ ap (λ (x : List ℕ). t.front ++ x) (u.parts ∙ ap (λ (x : List ℕ). x ++ u.back) u.first.same ∙ ap (λ (x : List ℕ). suffix ++ x) u.second.same)) in
     let tail : text ≡ t.front ++ (suffix ++ codes ")") = cc whole in
     record { front = t.front; is = t.first.same; below = ltb-true v limit p.holds; parts = tail }
 

@@ -219,14 +219,14 @@ cases_to {level = level} (an_item {x = c} {front = front} {back = back} p l) =
     let v = u.second in
     let c_is : c ≡ (p.value, t.value) = v.second.same in
     let front_is : front ≡ p.front ++ (codes " " ++ (t.front ++ (codes "\n" ++ indent level))) =
-      p.parts ∙ ap (glue p.front) (q.parts ∙ ap (glue (codes " ")) (t.parts ∙ ap (glue t.front) (u.parts ∙ ap (glue (codes "\n")) (v.parts ∙ ap (glue (indent level)) v.second.empty ∙ append-nil (indent level))))) in
+    p.parts ∙ ap (glue p.front) (q.parts ∙ ap (glue (codes " ")) (t.parts ∙ ap (glue t.front) (u.parts ∙ ap (glue (codes "\n")) (v.parts ∙ ap (glue (indent level)) v.second.empty ∙ append-nil (indent level))))) in
     let grown : indent level ++ (front ++ back) ≡ (indent level ++ (p.front ++ (codes " " ++ (t.front ++ (codes "\n" ++ r.cases))))) ++ indent level =
-      ap (λ (x : List ℕ). indent level ++ (x ++ back)) front_is ∙ case_parts level p.front t.front back
-      ∙ ap (λ (x : List ℕ). indent level ++ (p.front ++ (codes " " ++ (t.front ++ (codes "\n" ++ x))))) r.turned ∙ case_regroup level p.front t.front r.cases in
+    ap (λ (x : List ℕ). indent level ++ (x ++ back)) front_is ∙ case_parts level p.front t.front back
+    ∙ ap (λ (x : List ℕ). indent level ++ (p.front ++ (codes " " ++ (t.front ++ (codes "\n" ++ x))))) r.turned ∙ case_regroup level p.front t.front r.cases in
     record {
       cases = indent level ++ (p.front ++ (codes " " ++ (t.front ++ (codes "\n" ++ r.cases))));
       spelled = rw c_is (led (indent level) (p.front ++ (codes " " ++ (t.front ++ (codes "\n" ++ r.cases)))) refl
-        (seq p.front (codes " " ++ (t.front ++ (codes "\n" ++ r.cases))) refl (keys_to level p.value p.front p.first) (led (codes " ") (t.front ++ (codes "\n" ++ r.cases)) refl (seq t.front (codes "\n" ++ r.cases) refl (block_to level t.value t.front t.first) (led (codes "\n") r.cases refl r.spelled)))));
+          (seq p.front (codes " " ++ (t.front ++ (codes "\n" ++ r.cases))) refl (keys_to level p.value p.front p.first) (led (codes " ") (t.front ++ (codes "\n" ++ r.cases)) refl (seq t.front (codes "\n" ++ r.cases) refl (block_to level t.value t.front t.first) (led (codes "\n") r.cases refl r.spelled)))));
       turned = grown;
     }
 
@@ -295,7 +295,7 @@ target_to level (property_of o n) y text front back parts s (first p) =
     let t = s.second in
     let dot : s.back ++ back ≡ codes "." ++ (t.back ++ back) = ap (λ (x : List ℕ). x ++ back) (lead_of t) in
     rw q.second.is (seq s.front (s.back ++ back) (parts ∙ ap (λ (x : List ℕ). x ++ back) s.parts ∙ append_assoc s.front s.back back) s.first
-      (led (codes ".") (t.back ++ back) dot (seq t.back back refl t.second (led (codes " = ") p.back p.parts (seq q.front q.back q.parts q.first (record { same = q.second.first.is }))))))
+    (led (codes ".") (t.back ++ back) dot (seq t.back back refl t.second (led (codes " = ") p.back p.parts (seq q.front q.back q.parts q.first (record { same = q.second.first.is }))))))
 target_to level (property_of o n) y text front back parts s (second p) = rw p.second.same (seq front back parts s (record { same = p.parts ∙ ap (glue (codes ";")) p.second.empty }))
 target_to level (index_of o i) y text front back parts s (first p) =
     let q = p.second in
@@ -305,7 +305,7 @@ target_to level (index_of o i) y text front back parts s (first p) =
     let inside : t.back ++ back ≡ u.front ++ (u.back ++ back) = ap (λ (x : List ℕ). x ++ back) u.parts ∙ append_assoc u.front u.back back in
     let close : u.back ++ back ≡ codes "] = " ++ p.back = ap₂ (λ (x y : List ℕ). x ++ y) u.second.same p.parts in
     rw q.second.is (seq s.front (s.back ++ back) (parts ∙ ap (λ (x : List ℕ). x ++ back) s.parts ∙ append_assoc s.front s.back back) s.first
-      (led (codes "[") (t.back ++ back) open_is (seq u.front (u.back ++ back) inside u.first (led (codes "] = ") p.back close (seq q.front q.back q.parts q.first (record { same = q.second.first.is }))))))
+    (led (codes "[") (t.back ++ back) open_is (seq u.front (u.back ++ back) inside u.first (led (codes "] = ") p.back close (seq q.front q.back q.parts q.first (record { same = q.second.first.is }))))))
 target_to level (index_of o i) y text front back parts s (second p) = rw p.second.same (seq front back parts s (record { same = p.parts ∙ ap (glue (codes ";")) p.second.empty }))
 target_to level e y text front back parts s p = rw p.second.same (seq front back parts s (record { same = p.parts ∙ ap (glue (codes ";")) p.second.empty }))
 
@@ -320,9 +320,9 @@ word_to level statements.Const y text front back parts n p =
     let r = q.second in
     rw r.second.second.is (led (codes "const ") p.back (parts ∙ word_led n.same p.parts) (seq q.front q.back q.parts q.first (led (codes " = ") r.back r.parts (ended r.second))))
 word_to level statements.Let y text front back parts n p = elim p.second.second [
-    | first r ↦ rw r.second.same (led (codes "let ") p.back (parts ∙ word_led n.same p.parts) (seq p.second.front p.second.back p.second.parts p.second.first (record { same = r.parts ∙ ap (glue (codes ";")) r.second.empty })))
-    | second r ↦ rw r.second.second.is (led (codes "let ") p.back (parts ∙ word_led n.same p.parts) (seq p.second.front p.second.back p.second.parts p.second.first (led (codes " = ") r.back r.parts (ended r.second))))
-  ]
+  | first r ↦ rw r.second.same (led (codes "let ") p.back (parts ∙ word_led n.same p.parts) (seq p.second.front p.second.back p.second.parts p.second.first (record { same = r.parts ∙ ap (glue (codes ";")) r.second.empty })))
+  | second r ↦ rw r.second.second.is (led (codes "let ") p.back (parts ∙ word_led n.same p.parts) (seq p.second.front p.second.back p.second.parts p.second.first (led (codes " = ") r.back r.parts (ended r.second))))
+]
 word_to level statements.Super y text front back parts n p = rw p.second.same (record { same = parts ∙ word_led n.same (p.parts ∙ ap (glue (codes "();")) p.second.empty) })
 word_to level statements.Throw y text front back parts n p = rw p.second.second.is (led (codes "throw ") p.back (parts ∙ word_led n.same p.parts) (ended p.second))
 word_to level statements.Return y text front back parts n p = rw p.second.second.is (led (codes "return ") p.back (parts ∙ word_led n.same p.parts) (ended p.second))
@@ -376,9 +376,9 @@ statement_to level y text (second p) = target_to level p.value y text p.front p.
 -- an expression that stands first, and what is behind it
 routed : (level : ℕ) (e : Expression) (y : Statement) (text front back : List ℕ) → text ≡ front ++ back → SpellsExpression e front → TargetForm level e y back → StatementForm level y text
 routed level e y text front back parts s t = elim (expression_from e front s) [
-    | first p ↦ first (record { value = statements.Expression p.value; front = p.front; back = p.back ++ back; first = p.first; second = record { value = e; front = p.back; back = back; first = p.second; second = t; parts = refl }; parts = parts ∙ ap (λ (x : List ℕ). x ++ back) p.parts ∙ append_assoc p.front p.back back })
-    | second p ↦ second (record { value = e; front = front; back = back; first = record { spelled = s; off = wordless_off e front p }; second = t; parts = parts })
-  ]
+  | first p ↦ first (record { value = statements.Expression p.value; front = p.front; back = p.back ++ back; first = p.first; second = record { value = e; front = p.back; back = back; first = p.second; second = t; parts = refl }; parts = parts ∙ ap (λ (x : List ℕ). x ++ back) p.parts ∙ append_assoc p.front p.back back })
+  | second p ↦ second (record { value = e; front = front; back = back; first = record { spelled = s; off = wordless_off e front p }; second = t; parts = parts })
+]
 
 keyed : (level : ℕ) (h : StatementHead) (y : Statement) (text w back : List ℕ) → text ≡ w ++ back → IsStatementHead h w → StatementWordForm level h y back → StatementForm level y text
 keyed level h y text w back parts n p = first (record { value = h; front = w; back = back; first = n; second = p; parts = parts })
@@ -403,15 +403,15 @@ unfolding SpellsStatement SpellsExpression
 statement_from level (const_of x e) text s =
     let t = s.second in
     keyed level statements.Const _ text (codes "const") (codes " " ++ s.back) (lead_of s) (record { same = refl })
-      (record { back = s.back; parts = refl; second = record { value = x; front = t.front; back = t.back; first = t.first; parts = t.parts; second = leads _ t.second (ended_from (λ e. const_of x e) e t.second.back t.second.second) } })
+    (record { back = s.back; parts = refl; second = record { value = x; front = t.front; back = t.back; first = t.first; parts = t.parts; second = leads _ t.second (ended_from (λ e. const_of x e) e t.second.back t.second.second) } })
 statement_from level (let_of x e) text s =
     let t = s.second in
     keyed level statements.Let _ text (codes "let") (codes " " ++ s.back) (lead_of s) (record { same = refl })
-      (record { back = s.back; parts = refl; second = record { value = x; front = t.front; back = t.back; first = t.first; parts = t.parts; second = second (leads _ t.second (ended_from (λ e. let_of x e) e t.second.back t.second.second)) } })
+    (record { back = s.back; parts = refl; second = record { value = x; front = t.front; back = t.back; first = t.first; parts = t.parts; second = second (leads _ t.second (ended_from (λ e. let_of x e) e t.second.back t.second.second)) } })
 statement_from level (declare_of x) text s =
     let t = s.second in
     keyed level statements.Let _ text (codes "let") (codes " " ++ s.back) (lead_of s) (record { same = refl })
-      (record { back = s.back; parts = refl; second = record { value = x; front = t.front; back = t.back; first = t.first; parts = t.parts; second = first (semicolon _ t.back t.second) } })
+    (record { back = s.back; parts = refl; second = record { value = x; front = t.front; back = t.back; first = t.first; parts = t.parts; second = first (semicolon _ t.back t.second) } })
 statement_from level (expression_statement e) text s = routed level e _ text s.front s.back s.parts s.first (alone level e s.back s.second)
 statement_from level (assign_name x e) text s = routed level (name_use x) _ text s.front s.back s.parts s.first (second (first (leads _ s.second (ended_from (λ e. assign_name x e) e s.second.back s.second.second))))
 statement_from level (assign_property o p e) text s =
@@ -427,7 +427,7 @@ statement_from level (assign_index o i e) text s =
     let inside : t.back ≡ (u.front ++ codes "]") ++ (codes " = " ++ v.back) = u.parts ∙ ap (glue u.front) (lead_of v) ∙ sym (append_assoc u.front (codes "]") (codes " = " ++ v.back)) in
     let parts : text ≡ (s.front ++ (codes "[" ++ (u.front ++ codes "]"))) ++ (codes " = " ++ v.back) = s.parts ∙ ap (glue s.front) (lead_of t ∙ ap (glue (codes "[")) inside) ∙ sym (append_assoc s.front (codes "[" ++ (u.front ++ codes "]")) (codes " = " ++ v.back)) in
     routed level (index_of o i) _ text (s.front ++ (codes "[" ++ (u.front ++ codes "]"))) (codes " = " ++ v.back) parts (seq s.front (codes "[" ++ (u.front ++ codes "]")) refl s.first (led (codes "[") (u.front ++ codes "]") refl (seq u.front (codes "]") refl u.first (record { same = refl }))))
-      (first (record { back = v.back; parts = refl; second = ended_from (λ e. assign_index o i e) e v.back v.second }))
+    (first (record { back = v.back; parts = refl; second = ended_from (λ e. assign_index o i e) e v.back v.second }))
 statement_from level super_call text s = keyed level statements.Super _ text (codes "super") (codes "();") s.same (record { same = refl }) (record { back = []; second = no_more super_call; parts = refl })
 statement_from level (throw_of e) text s = keyed level statements.Throw _ text (codes "throw") (codes " " ++ s.back) (lead_of s) (record { same = refl }) (record { back = s.back; parts = refl; second = ended_from (λ e. throw_of e) e s.back s.second })
 statement_from level (return_of e) text s = keyed level statements.Return _ text (codes "return") (codes " " ++ s.back) (lead_of s) (record { same = refl }) (record { back = s.back; parts = refl; second = ended_from (λ e. return_of e) e s.back s.second })
@@ -435,41 +435,61 @@ statement_from level break_nearest text s = keyed level statements.Break _ text 
 statement_from level (break_to x) text s =
     let t = s.second in
     keyed level statements.Break _ text (codes "break") (codes " " ++ s.back) (lead_of s) (record { same = refl })
-      (second (record { back = s.back; parts = refl; second = record { value = x; front = t.front; back = t.back; first = t.first; second = closing (break_to x) t.second; parts = t.parts } }))
+    (second (record { back = s.back; parts = refl; second = record { value = x; front = t.front; back = t.back; first = t.first; second = closing (break_to x) t.second; parts = t.parts } }))
 statement_from level (if_only c ss) text s =
     let t = s.second in
     let u = t.second in
     keyed level statements.If _ text (codes "if") (codes " (" ++ s.back) (lead_of s) (record { same = refl })
-      (record { back = s.back; parts = refl; second = record { value = c; front = t.front; back = t.back; first = t.first; parts = t.parts; second = leads _ u (record { value = ss; front = u.back; back = []; first = block_from level ss u.back u.second; second = second (no_more (if_only c ss)); parts = sym (append-nil u.back) }) } })
+    (record { back = s.back; parts = refl; second = record { value = c; front = t.front; back = t.back; first = t.first; parts = t.parts; second = leads _ u (record { value = ss; front = u.back; back = []; first = block_from level ss u.back u.second; second = second (no_more (if_only c ss)); parts = sym (append-nil u.back) }) } })
 statement_from level (if_else c ss ts) text s =
     let t = s.second in
     let u = t.second in
     let v = u.second in
     keyed level statements.If _ text (codes "if") (codes " (" ++ s.back) (lead_of s) (record { same = refl })
-      (record { back = s.back; parts = refl; second = record { value = c; front = t.front; back = t.back; first = t.first; parts = t.parts; second = leads _ u (record { value = ss; front = v.front; back = v.back; first = block_from level ss v.front v.first; second = first (leads _ v.second (block_mapped level (λ ts. if_else c ss ts) ts v.second.back v.second.second)); parts = v.parts }) } })
+    (record { back = s.back; parts = refl; second = record { value = c; front = t.front; back = t.back; first = t.first; parts = t.parts; second = leads _ u (record { value = ss; front = v.front; back = v.back; first = block_from level ss v.front v.first; second = first (leads _ v.second (block_mapped level (λ ts. if_else c ss ts) ts v.second.back v.second.second)); parts = v.parts }) } })
 statement_from level (while_of c ss) text s =
     let t = s.second in
     let u = t.second in
     keyed level statements.While _ text (codes "while") (codes " (" ++ s.back) (lead_of s) (record { same = refl })
-      (record { back = s.back; parts = refl; second = record { value = c; front = t.front; back = t.back; first = t.first; parts = t.parts; second = leads _ u (block_mapped level (λ ss. while_of c ss) ss u.back u.second) } })
+    (record { back = s.back; parts = refl; second = record { value = c; front = t.front; back = t.back; first = t.first; parts = t.parts; second = leads _ u (block_mapped level (λ ss. while_of c ss) ss u.back u.second) } })
 statement_from level (do_forever ss) text s =
     let t = s.second in
     keyed level statements.Do _ text (codes "do") (codes " " ++ s.back) (lead_of s) (record { same = refl })
-      (record { back = s.back; parts = refl; second = record { value = ss; front = t.front; back = t.back; first = block_from level ss t.front t.first; second = closing (do_forever ss) t.second; parts = t.parts } })
+    (record { back = s.back; parts = refl; second = record { value = ss; front = t.front; back = t.back; first = block_from level ss t.front t.first; second = closing (do_forever ss) t.second; parts = t.parts } })
 statement_from level (labeled_of x ss) text s = routed level (name_use x) _ text s.front s.back s.parts s.first (first (leads _ s.second (block_mapped level (λ ss. labeled_of x ss) ss s.second.back s.second.second)))
 statement_from level (try_catch ss x ts) text s =
     let t = s.second in
     let u = t.second in
     let v = u.second in
     keyed level statements.Try _ text (codes "try") (codes " " ++ s.back) (lead_of s) (record { same = refl })
-      (record { back = s.back; parts = refl; second = record { value = ss; front = t.front; back = t.back; first = block_from level ss t.front t.first; parts = t.parts;
-        second = record { back = codes "catch (" ++ u.back; parts = lead_of u; second = first (record { back = u.back; parts = refl; second = record { value = x; front = v.front; back = v.back; first = v.first; parts = v.parts; second = leads _ v.second (block_mapped level (λ ts. try_catch ss x ts) ts v.second.back v.second.second) } }) } } })
+    (record {
+      back = s.back;
+      parts = refl;
+      second = record {
+        value = ss;
+        front = t.front;
+        back = t.back;
+        first = block_from level ss t.front t.first;
+        parts = t.parts;
+        second = record { back = codes "catch (" ++ u.back; parts = lead_of u; second = first (record { back = u.back; parts = refl; second = record { value = x; front = v.front; back = v.back; first = v.first; parts = v.parts; second = leads _ v.second (block_mapped level (λ ts. try_catch ss x ts) ts v.second.back v.second.second) } }) };
+      };
+    })
 statement_from level (try_finally ss ts) text s =
     let t = s.second in
     let u = t.second in
     keyed level statements.Try _ text (codes "try") (codes " " ++ s.back) (lead_of s) (record { same = refl })
-      (record { back = s.back; parts = refl; second = record { value = ss; front = t.front; back = t.back; first = block_from level ss t.front t.first; parts = t.parts;
-        second = record { back = codes "finally " ++ u.back; parts = lead_of u; second = second (record { back = u.back; parts = refl; second = block_mapped level (λ ts. try_finally ss ts) ts u.back u.second }) } } })
+    (record {
+      back = s.back;
+      parts = refl;
+      second = record {
+        value = ss;
+        front = t.front;
+        back = t.back;
+        first = block_from level ss t.front t.first;
+        parts = t.parts;
+        second = record { back = codes "finally " ++ u.back; parts = lead_of u; second = second (record { back = u.back; parts = refl; second = block_mapped level (λ ts. try_finally ss ts) ts u.back u.second }) };
+      };
+    })
 statement_from level (switch_on e cs ss) text s =
     let t = s.second in
     let u = t.second in
@@ -482,7 +502,33 @@ statement_from level (switch_on e cs ss) text s =
     let r = cases_from (level + 1) cs v.front v.first in
     let whole : u.back ≡ indent (level + 1) ++ (r.behind ++ w.back) = v.parts ∙ ap (glue v.front) (lead_of w) ∙ sym (append_assoc v.front (indent (level + 1)) w.back) ∙ ap (λ (k : List ℕ). k ++ w.back) (sym r.turned) ∙ append_assoc (indent (level + 1)) r.behind w.back in
     keyed level statements.Switch _ text (codes "switch") (codes " (" ++ s.back) (lead_of s) (record { same = refl })
-      (record { back = s.back; parts = refl; second = record { value = e; front = t.front; back = t.back; first = t.first; parts = t.parts; second = leads _ u (record { back = r.behind ++ w.back; parts = whole;
-        second = record { value = cases_list cs; front = r.behind; back = w.back; first = r.items; parts = refl;
-          second = leads _ x (record { value = ss; front = y.front; back = y.back; first = block_from (level + 1) ss y.front y.first; parts = y.parts;
-            second = leads _ z (leads _ i (record { back = []; parts = i.second.same; second = record { same = ap (λ (k : Cases). switch_on e k ss) (sym (list_cases cs)); empty = refl } })) }) } }) } })
+    (record {
+      back = s.back;
+      parts = refl;
+      second = record {
+        value = e;
+        front = t.front;
+        back = t.back;
+        first = t.first;
+        parts = t.parts;
+        second = leads _ u (record {
+          back = r.behind ++ w.back;
+          parts = whole;
+          second = record {
+            value = cases_list cs;
+            front = r.behind;
+            back = w.back;
+            first = r.items;
+            parts = refl;
+            second = leads _ x (record {
+              value = ss;
+              front = y.front;
+              back = y.back;
+              first = block_from (level + 1) ss y.front y.first;
+              parts = y.parts;
+              second = leads _ z (leads _ i (record { back = []; parts = i.second.same; second = record { same = ap (λ (k : Cases). switch_on e k ss) (sym (list_cases cs)); empty = refl } }));
+            });
+          };
+        });
+      };
+    })

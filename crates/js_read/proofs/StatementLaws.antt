@@ -207,8 +207,8 @@ module _ (n m : ℕ) (le : n ≤ m) (read again : ℕ → List ℕ → Reading S
   unfolding statement_level
   law_statement_level level = law_same (statement_to level) (statement_from level)
       (law_either is_word_start (starts_then is_word_start _ _ starts_statement_word) (follows_starts _ after_statement is_wordless_start _ not_word (starts_then is_wordless_start _ _ starts_bare))
-        (law_after (suc n) n ends_word after_statement (λ h text p. longer is_word_start text (starts_statement_word h text p)) (word_follows level) law_statement_heads (λ h text p. law_word level h))
-        (law_after (suc n) n after_expression after_statement (λ e text p. longer is_wordless_start text (starts_bare e text p)) (λ e y back rest p st. target_follows level e y back rest p (open_end rest)) (law_wordless (suc n) (suc m) (omega arith)) (λ e text p. narrow (law_target level e))))
+      (law_after (suc n) n ends_word after_statement (λ h text p. longer is_word_start text (starts_statement_word h text p)) (word_follows level) law_statement_heads (λ h text p. law_word level h))
+      (law_after (suc n) n after_expression after_statement (λ e text p. longer is_wordless_start text (starts_bare e text p)) (λ e y back rest p st. target_follows level e y back rest p (open_end rest)) (law_wordless (suc n) (suc m) (omega arith)) (λ e text p. narrow (law_target level e))))
     where
       open_end : (bytes : List ℕ) → Stops anything bytes
       open_end [] = tt

@@ -27,12 +27,12 @@ record IsHex (c d : ℕ) : Type 0 where
 
 hex_is : (c d : ℕ) → hex_of c ≡ Some d → IsHex c d
 hex_is c d e = elim (went (leb 48 c && leb c 57) (Some (c - 48)) (cond (leb 97 c && leb c 102) (Some (c - 87)) None) (Some d) e) [
-    | inl k ↦ digit (both (leb 48 c) (leb c 57) k.0) (some_is (c - 48) d k.1)
-    | inr k ↦ elim (went (leb 97 c && leb c 102) (Some (c - 87)) None (Some d) k.1) [
-        | inl l ↦ letter (both (leb 97 c) (leb c 102) l.0) (some_is (c - 87) d l.1)
-        | inr l ↦ absurd (none_some d l.1)
-      ]
+  | inl k ↦ digit (both (leb 48 c) (leb c 57) k.0) (some_is (c - 48) d k.1)
+  | inr k ↦ elim (went (leb 97 c && leb c 102) (Some (c - 87)) None (Some d) k.1) [
+    | inl l ↦ letter (both (leb 97 c) (leb c 102) l.0) (some_is (c - 87) d l.1)
+    | inr l ↦ absurd (none_some d l.1)
   ]
+]
   where
     digit : (leb 48 c ≡ true) × (leb c 57 ≡ true) → c - 48 ≡ d → IsHex c d
     digit r is =
@@ -50,9 +50,9 @@ hex_is c d e = elim (went (leb 48 c && leb c 57) (Some (c - 48)) (cond (leb 97 c
 
 hex_from : (d : ℕ) → d < 16 → hex_of (hex_digit d) ≡ Some d
 hex_from d lt = elim (cases (ltb d 10)) [
-    | inl k ↦ rw k (digit (ltb-true d 10 k))
-    | inr k ↦ rw k (letter (ltb-false d 10 k))
-  ]
+  | inl k ↦ rw k (digit (ltb-true d 10 k))
+  | inr k ↦ rw k (letter (ltb-false d 10 k))
+]
   where
     digit : d < 10 → hex_of (48 + d) ≡ Some d
     digit s = rw (le-leb 48 (48 + d) (omega arith), le-leb (48 + d) 57 (omega arith)) (ap Some (omega arith))
@@ -83,11 +83,11 @@ third_is high c v e = by (hex_of c) refl e
     by : (o : Option ℕ) → hex_of c ≡ o → third_digit high o ≡ Some v → IsThird high c v
     by None is e = absurd (none_some v e)
     by (Some d) is e = elim (went ((leb 2 d && leb d 6) && eqb high 0) None (Some (high * 16 + d)) (Some v) e) [
-        | inl k ↦ absurd (none_some v k.1)
-        | inr k ↦
-            let h = hex_is c d is in
-            record { digit = d; below = h.below; is = h.is; value = sym (some_is (high * 16 + d) v k.1); apart = λ z low up. off d low up z k.0 }
-      ]
+      | inl k ↦ absurd (none_some v k.1)
+      | inr k ↦
+          let h = hex_is c d is in
+          record { digit = d; below = h.below; is = h.is; value = sym (some_is (high * 16 + d) v k.1); apart = λ z low up. off d low up z k.0 }
+    ]
       where
         off : (d : ℕ) → 2 ≤ d → d ≤ 6 → high ≡ 0 → ((leb 2 d && leb d 6) && eqb high 0) ≡ false → ⊥
         off d low up z f =
@@ -108,20 +108,20 @@ fourth_is high c v e = by (hex_of c) refl e
     by : (o : Option ℕ) → hex_of c ≡ o → fourth_digit high o ≡ Some v → IsFourth high c v
     by None is e = absurd (none_some v e)
     by (Some d) is e = elim (went (not (eqb d 15) && eqb high 7) None (Some (high * 16 + d)) (Some v) e) [
-        | inl k ↦ absurd (none_some v k.1)
-        | inr k ↦
-            let h = hex_is c d is in
-            record { digit = d; below = h.below; is = h.is; value = sym (some_is (high * 16 + d) v k.1); last = λ z. on d z k.0 }
-      ]
+      | inl k ↦ absurd (none_some v k.1)
+      | inr k ↦
+          let h = hex_is c d is in
+          record { digit = d; below = h.below; is = h.is; value = sym (some_is (high * 16 + d) v k.1); last = λ z. on d z k.0 }
+    ]
       where
         on : (d : ℕ) → high ≡ 7 → (not (eqb d 15) && eqb high 7) ≡ false → d ≡ 15
         on d z f = elim (cases (eqb d 15)) [
-            | inl k ↦ eqb-true d 15 k
-            | inr k ↦
-                let go : (not (eqb d 15) && eqb high 7) ≡ true = rw (k, eq-eqb high 7 z) refl in
-                let both : true ≡ false = sym go ∙ f in
-                absurd (cc both)
-          ]
+          | inl k ↦ eqb-true d 15 k
+          | inr k ↦
+              let go : (not (eqb d 15) && eqb high 7) ≡ true = rw (k, eq-eqb high 7 z) refl in
+              let both : true ≡ false = sym go ∙ f in
+              absurd (cc both)
+        ]
 
 third_from : (high d : ℕ) → d < 16 → (high ≡ 0 → 2 ≤ d → d ≤ 6 → ⊥) → third_of high (hex_digit d) ≡ Some (high * 16 + d)
 third_from high d lt n = ap (third_digit high) (hex_from d lt) ∙ (by ((leb 2 d && leb d 6) && eqb high 0) refl)
@@ -153,9 +153,9 @@ Escaped u = (u < 32) ⊎ (126 < u)
 escaped_text : (u : ℕ) → Escaped u → unit_text u ≡ unit_escape u
 unfolding Escaped
 escaped_text u e = elim e [
-    | inl lt ↦ rw (differs u 34 (omega arith), differs u 92 (omega arith), not_le 32 u lt) refl
-    | inr gt ↦ rw (differs u 34 (omega arith), differs u 92 (omega arith), le-leb 32 u (omega arith), not_le u 126 gt) refl
-  ]
+  | inl lt ↦ rw (differs u 34 (omega arith), differs u 92 (omega arith), not_le 32 u lt) refl
+  | inr gt ↦ rw (differs u 34 (omega arith), differs u 92 (omega arith), le-leb 32 u (omega arith), not_le u 126 gt) refl
+]
   where
     differs : (a b : ℕ) → (a ≡ b → ⊥) → eqb a b ≡ false
     differs a b n = elim (cases (eqb a b)) [ inl e ↦ absurd (n (eqb-true a b e)) | inr e ↦ e ]
@@ -196,13 +196,19 @@ hex_digits u text p =
     let three = third_is (p.value * 16 + q.value) r.first.byte r.value r.first.is in
     let four = fourth_is r.value r.second.byte u r.second.is in
     let whole : text ≡ p.first.byte ∷ q.first.byte ∷ r.first.byte ∷ r.second.byte ∷ [] =
-      p.parts ∙ ap₂ (λ (x y : List ℕ). x ++ y) p.first.parts (q.parts ∙ ap₂ (λ (x y : List ℕ). x ++ y) q.first.parts (r.parts ∙ ap₂ (λ (x y : List ℕ). x ++ y) r.first.parts r.second.parts)) in
+    p.parts ∙ ap₂ (λ (x y : List ℕ). x ++ y) p.first.parts (q.parts ∙ ap₂ (λ (x y : List ℕ). x ++ y) q.first.parts (r.parts ∙ ap₂ (λ (x y : List ℕ). x ++ y) r.first.parts r.second.parts)) in
     let spelled : p.first.byte ∷ q.first.byte ∷ r.first.byte ∷ r.second.byte ∷ [] ≡ hex_digit p.value ∷ hex_digit q.value ∷ hex_digit three.digit ∷ hex_digit four.digit ∷ [] =
-      ap (λ (x : ℕ). x ∷ q.first.byte ∷ r.first.byte ∷ r.second.byte ∷ []) one.is ∙ ap (λ (x : ℕ). hex_digit p.value ∷ x ∷ r.first.byte ∷ r.second.byte ∷ []) two.is
-      ∙ ap (λ (x : ℕ). hex_digit p.value ∷ hex_digit q.value ∷ x ∷ r.second.byte ∷ []) three.is ∙ ap (λ (x : ℕ). hex_digit p.value ∷ hex_digit q.value ∷ hex_digit three.digit ∷ x ∷ []) four.is in
+    ap (λ (x : ℕ). x ∷ q.first.byte ∷ r.first.byte ∷ r.second.byte ∷ []) one.is ∙ ap (λ (x : ℕ). hex_digit p.value ∷ x ∷ r.first.byte ∷ r.second.byte ∷ []) two.is
+    ∙ ap (λ (x : ℕ). hex_digit p.value ∷ hex_digit q.value ∷ x ∷ r.second.byte ∷ []) three.is ∙ ap (λ (x : ℕ). hex_digit p.value ∷ hex_digit q.value ∷ hex_digit three.digit ∷ x ∷ []) four.is in
     record {
-      a = p.value; b = q.value; c = three.digit; d = four.digit;
-      a_below = one.below; b_below = two.below; c_below = three.below; d_below = four.below;
+      a = p.value;
+      b = q.value;
+      c = three.digit;
+      d = four.digit;
+      a_below = one.below;
+      b_below = two.below;
+      c_below = three.below;
+      d_below = four.below;
       value = omega (arith, four.value, three.value);
       escaped = far u p.value q.value r.value three.digit four.digit three.below four.below three.value four.value three.apart four.last;
       is = whole ∙ spelled;
@@ -210,21 +216,21 @@ hex_digits u text p =
   where
     far : (u a b v c d : ℕ) → c < 16 → d < 16 → v ≡ (a * 16 + b) * 16 + c → u ≡ v * 16 + d → (a * 16 + b ≡ 0 → 2 ≤ c → c ≤ 6 → ⊥) → (v ≡ 7 → d ≡ 15) → Escaped u
     far u a b v c d c_lt d_lt v_is u_is apart last = elim (cases (eqb (a * 16 + b) 0)) [
-        | inr k ↦ inr (let n : a * 16 + b ≡ 0 → ⊥ = eqb-false (a * 16 + b) 0 k in omega arith)
-        | inl k ↦ low (eqb-true (a * 16 + b) 0 k)
-      ]
+      | inr k ↦ inr (let n : a * 16 + b ≡ 0 → ⊥ = eqb-false (a * 16 + b) 0 k in omega arith)
+      | inl k ↦ low (eqb-true (a * 16 + b) 0 k)
+    ]
       where
         low : a * 16 + b ≡ 0 → Escaped u
         low z = elim (cases (ltb c 2)) [
-            | inl k ↦ inl (let lt : c < 2 = ltb-true c 2 k in omega arith)
-            | inr k ↦ elim (cases (leb c 6)) [
-                | inl l ↦ absurd (apart z (ltb-false c 2 k) (leb-true c 6 l))
-                | inr l ↦ elim (cases (eqb c 7)) [
-                    | inl m ↦ inr (let same : c ≡ 7 = eqb-true c 7 m in let end : d ≡ 15 = last (omega arith) in omega arith)
-                    | inr m ↦ inr (let n : c ≡ 7 → ⊥ = eqb-false c 7 m in let over : 6 < c = leb-false c 6 l in omega arith)
-                  ]
-              ]
+          | inl k ↦ inl (let lt : c < 2 = ltb-true c 2 k in omega arith)
+          | inr k ↦ elim (cases (leb c 6)) [
+            | inl l ↦ absurd (apart z (ltb-false c 2 k) (leb-true c 6 l))
+            | inr l ↦ elim (cases (eqb c 7)) [
+              | inl m ↦ inr (let same : c ≡ 7 = eqb-true c 7 m in let end : d ≡ 15 = last (omega arith) in omega arith)
+              | inr m ↦ inr (let n : c ≡ 7 → ⊥ = eqb-false c 7 m in let over : 6 < c = leb-false c 6 l in omega arith)
+            ]
           ]
+        ]
 
 escape_is : (u a b c d : ℕ) → a < 16 → b < 16 → c < 16 → d < 16 → u ≡ ((a * 16 + b) * 16 + c) * 16 + d → unit_escape u ≡ 92 ∷ 117 ∷ hex_digit a ∷ hex_digit b ∷ hex_digit c ∷ hex_digit d ∷ []
 escape_is u a b c d al bl cl dl is =
@@ -237,9 +243,9 @@ escape_is u a b c d al bl cl dl is =
 unit_to : (u : ℕ) (text : List ℕ) → Unit_text u text → SpellsUnit u text
 unfolding SpellsUnit
 unit_to u text (first p) = elim p.second [
-    | first q ↦ by_digits (hex_digits u q.back q.second) (p.parts ∙ ap (λ (x : List ℕ). codes "\\" ++ x) q.parts)
-    | second q ↦ simple q.byte q.is (p.parts ∙ ap (λ (x : List ℕ). codes "\\" ++ x) q.parts)
-  ]
+  | first q ↦ by_digits (hex_digits u q.back q.second) (p.parts ∙ ap (λ (x : List ℕ). codes "\\" ++ x) q.parts)
+  | second q ↦ simple q.byte q.is (p.parts ∙ ap (λ (x : List ℕ). codes "\\" ++ x) q.parts)
+]
   where
     by_digits : {back : List ℕ} → Digits u back → text ≡ codes "\\" ++ (codes "u" ++ back) → Where (ltb u (2 ^ 16)) (Is (unit_text u)) text
     by_digits {back} g parts =
@@ -253,16 +259,16 @@ unit_to u text (first p) = elim p.second [
 
     simple : (c : ℕ) → simple_unit c ≡ Some u → text ≡ codes "\\" ++ (c ∷ []) → Where (ltb u (2 ^ 16)) (Is (unit_text u)) text
     simple c e parts = elim (went (eqb c 34 || eqb c 92) (Some c) None (Some u) e) [
-        | inr k ↦ absurd (none_some u k.1)
-        | inl k ↦ elim (cases (eqb c 34)) [
-            | inl l ↦ known c 34 (eqb-true c 34 l) (some_is c u k.1) parts refl refl
-            | inr l ↦ known c 92 (eqb-true c 92 (rw l at k.0)) (some_is c u k.1) parts refl refl
-          ]
+      | inr k ↦ absurd (none_some u k.1)
+      | inl k ↦ elim (cases (eqb c 34)) [
+        | inl l ↦ known c 34 (eqb-true c 34 l) (some_is c u k.1) parts refl refl
+        | inr l ↦ known c 92 (eqb-true c 92 (rw l at k.0)) (some_is c u k.1) parts refl refl
       ]
+    ]
 unit_to u text (second p) = elim (went ((leb 32 p.byte && leb p.byte 126) && (not (eqb p.byte 34) && not (eqb p.byte 92))) (Some p.byte) None (Some u) p.is) [
-    | inr k ↦ absurd (none_some u k.1)
-    | inl k ↦ plain (some_is p.byte u k.1) (both (leb 32 p.byte && leb p.byte 126) _ k.0)
-  ]
+  | inr k ↦ absurd (none_some u k.1)
+  | inl k ↦ plain (some_is p.byte u k.1) (both (leb 32 p.byte && leb p.byte 126) _ k.0)
+]
   where
     turned : (b : Bool) → not b ≡ true → b ≡ false
     turned true e = absurd cc
@@ -279,21 +285,21 @@ unit_to u text (second p) = elim (went ((leb 32 p.byte && leb p.byte 126) && (no
 unit_from : (u : ℕ) (text : List ℕ) → SpellsUnit u text → Unit_text u text
 unfolding SpellsUnit Escaped
 unit_from u text p = elim (cases (eqb u 34)) [
-    | inl k ↦ known 34 (eqb-true u 34 k) refl refl
-    | inr k ↦ elim (cases (eqb u 92)) [
-        | inl l ↦ known 92 (eqb-true u 92 l) refl refl
-        | inr l ↦ elim (cases (leb 32 u && leb u 126)) [
-            | inl m ↦ second (record { byte = u; is = rw (m, k, l) refl; parts = p.spelled.same ∙ rw (k, l, m) refl })
-            | inr m ↦ digits (far m)
-          ]
-      ]
+  | inl k ↦ known 34 (eqb-true u 34 k) refl refl
+  | inr k ↦ elim (cases (eqb u 92)) [
+    | inl l ↦ known 92 (eqb-true u 92 l) refl refl
+    | inr l ↦ elim (cases (leb 32 u && leb u 126)) [
+      | inl m ↦ second (record { byte = u; is = rw (m, k, l) refl; parts = p.spelled.same ∙ rw (k, l, m) refl })
+      | inr m ↦ digits (far m)
+    ]
   ]
+]
   where
     far : (leb 32 u && leb u 126) ≡ false → Escaped u
     far m = elim (cases (leb 32 u)) [
-        | inr n ↦ inl (leb-false 32 u n)
-        | inl n ↦ inr (leb-false u 126 (rw n at m))
-      ]
+      | inr n ↦ inl (leb-false 32 u n)
+      | inl n ↦ inr (leb-false u 126 (rw n at m))
+    ]
 
     known : (v : ℕ) → u ≡ v → simple_unit v ≡ Some v → unit_text v ≡ 92 ∷ v ∷ [] → Unit_text u text
     known v is ok spelled =
@@ -311,13 +317,19 @@ unit_from u text p = elim (cases (eqb u 34)) [
         let third : high * 16 + c ≡ u / 16 = omega arith in
         let value : (high * 16 + c) * 16 + d ≡ u = omega arith in
         let hex : Hex u (hex_digit a ∷ hex_digit b ∷ hex_digit c ∷ hex_digit d ∷ []) = record {
-          value = a; front = hex_digit a ∷ []; back = hex_digit b ∷ hex_digit c ∷ hex_digit d ∷ [];
+          value = a;
+          front = hex_digit a ∷ [];
+          back = hex_digit b ∷ hex_digit c ∷ hex_digit d ∷ [];
           first = record { byte = hex_digit a; is = hex_from a (omega arith); parts = refl };
           second = record {
-            value = b; front = hex_digit b ∷ []; back = hex_digit c ∷ hex_digit d ∷ [];
+            value = b;
+            front = hex_digit b ∷ [];
+            back = hex_digit c ∷ hex_digit d ∷ [];
             first = record { byte = hex_digit b; is = hex_from b (omega arith); parts = refl };
             second = record {
-              value = high * 16 + c; front = hex_digit c ∷ []; back = hex_digit d ∷ [];
+              value = high * 16 + c;
+              front = hex_digit c ∷ [];
+              back = hex_digit d ∷ [];
               first = record { byte = hex_digit c; is = third_from high c (omega arith) (λ z low up. near far z low up); parts = refl };
               second = record { byte = hex_digit d; is = fourth_from (high * 16 + c) d (omega arith) (λ z. last far (sym third ∙ z)) ∙ ap Some value; parts = refl };
               parts = refl;
@@ -355,8 +367,8 @@ pub law_unit : {n : ℕ} → Law n (λ c. true) unit_at unit_at SpellsUnit
 unfolding unit_at escape_at
 law_unit = law_same unit_to unit_from
     (law_either (λ c. eqb c 92) (starts_leads _ 92 _ _ refl) (follows_starts _ _ plain_byte _ plain_apart plain_starts)
-      (law_lead (codes "\\") (law_either (λ c. eqb c 117) (starts_leads _ 117 _ _ refl) (follows_starts _ _ simple_byte _ (λ c e. apart simple_byte 117 refl c e) simple_starts) (law_lead (codes "u") law_hex) (law_one simple_unit 34 34 refl)))
-      (law_one plain_unit 65 65 refl))
+    (law_lead (codes "\\") (law_either (λ c. eqb c 117) (starts_leads _ 117 _ _ refl) (follows_starts _ _ simple_byte _ (λ c e. apart simple_byte 117 refl c e) simple_starts) (law_lead (codes "u") law_hex) (law_one simple_unit 34 34 refl)))
+    (law_one plain_unit 65 65 refl))
   where
     simple_byte : ℕ → Bool
     simple_byte c = eqb c 34 || eqb c 92
@@ -379,6 +391,6 @@ starts_unit u text s = by (unit_from u text s)
     by : Unit_text u text → passes (λ c. not (eqb c 34)) text ≡ true
     by (first p) = rw p.parts refl
     by (second p) = elim (went ((leb 32 p.byte && leb p.byte 126) && (not (eqb p.byte 34) && not (eqb p.byte 92))) (Some p.byte) None (Some u) p.is) [
-        | inr k ↦ absurd (none_some u k.1)
-        | inl k ↦ rw p.parts (both (not (eqb p.byte 34)) (not (eqb p.byte 92)) (both (leb 32 p.byte && leb p.byte 126) _ k.0).1).0
-      ]
+      | inr k ↦ absurd (none_some u k.1)
+      | inl k ↦ rw p.parts (both (not (eqb p.byte 34)) (not (eqb p.byte 92)) (both (leb 32 p.byte && leb p.byte 126) _ k.0).1).0
+    ]

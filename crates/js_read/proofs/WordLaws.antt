@@ -110,15 +110,15 @@ either_of false false false d h = inr (inr (inr h))
 
 pub property_begins : (text : List ℕ) → is_property text ≡ true → begins_property text ≡ true
 property_begins text h = elim (either_of (is_name text && not (is_dunder text)) (is_same_text text (codes "length")) (is_same_text text (codes "fill")) (is_same_text text (codes "charCodeAt")) h) [
-    | inl a ↦ let k = both (is_name text) (not (is_dunder text)) a in rw (name_begins text k.0, k.1) refl
+  | inl a ↦ let k = both (is_name text) (not (is_dunder text)) a in rw (name_begins text k.0, k.1) refl
+  | inr r ↦ elim r [
+    | inl a ↦ rw (same_text text (codes "length") (sym a)) refl
     | inr r ↦ elim r [
-        | inl a ↦ rw (same_text text (codes "length") (sym a)) refl
-        | inr r ↦ elim r [
-            | inl a ↦ rw (same_text text (codes "fill") (sym a)) refl
-            | inr a ↦ rw (same_text text (codes "charCodeAt") (sym a)) refl
-          ]
-      ]
+      | inl a ↦ rw (same_text text (codes "fill") (sym a)) refl
+      | inr a ↦ rw (same_text text (codes "charCodeAt") (sym a)) refl
+    ]
   ]
+]
 
 property_grows : (front : List ℕ) → begins_property front ≡ true → is_property (front ++ 36 ∷ []) ≡ true
 property_grows front h =

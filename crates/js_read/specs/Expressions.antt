@@ -141,6 +141,7 @@ unfoldable mutual
   pub expression_at : ℕ → List ℕ → Reading Expression
   expression_at zero bytes = stopped bytes
   expression_at (suc n) bytes = expression_level (expression_at n) n (wordless_at n) bytes
+
   pub wordless_at : ℕ → List ℕ → Reading Expression
   wordless_at zero bytes = stopped bytes
   wordless_at (suc n) bytes = wordless_level (expression_at n) n (wordless_at n) bytes

@@ -1,10 +1,13 @@
-//! Reading the emitted subset of ECMAScript 2020: the one module that a text spells, or the exact place where it spells none.
+//! The emitted subset of ECMAScript 2020 as a reader takes it: a reader on lists of bytes for every production, and the law that it
+//! reads exactly what spells a module and stops exactly where no module goes on.
+//!
+//! `specs/` has the readers, `proofs/` the law of each of them. The functions here only state what follows for modules.
 #![tactic(auto)]
 
-mod bytes;
-mod lists;
-mod names;
-mod stop;
+mod laws;
 mod words;
 
-pub use stop::JsError;
+pub use laws::{one_module, place_is_exact, read_module_is_spelled, spelled_module_is_read};
+pub use words::{
+    Head, Infix, ItemHead, LineHead, MemberHead, NewHead, ParenthesisHead, Stage, StatementHead,
+};
