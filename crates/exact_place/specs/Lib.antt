@@ -1,0 +1,4 @@
+pub mod Reading
+pub mod Grammar
+pub mod Place
+pub mod Tokens

@@ -1,0 +1,12 @@
+pub mod WordLaws
+pub mod HeadLaws
+pub mod NumberLaws
+pub mod UnitLaws
+pub mod Parts
+pub mod ExpressionForms
+pub mod ExpressionLaws
+pub mod StatementForms
+pub mod StatementLaws
+pub mod ModuleForms
+pub mod ModuleLaws
+pub mod WholeModules
