@@ -1,0 +1,5 @@
+pub mod Code
+pub mod Erase
+pub mod Operators
+pub mod Term
+pub mod View

@@ -1,0 +1,18 @@
+//! The trees of the IR, the classes that hold them, and the types of trees.
+//!
+//! A contract sees a tree by its `view`, a term without pointers, and every other type of this crate as it is declared.
+#![tactic(auto)]
+
+mod bodies;
+mod classes;
+mod operators;
+mod positions;
+mod trees;
+mod types;
+
+pub use bodies::Body;
+pub use classes::{ClassDef, ClassKind, FieldDef, MethodDef, ParamDef};
+pub use operators::{BinaryOp, UnaryOp};
+pub use positions::Position;
+pub use trees::{MatchCase, Tree};
+pub use types::IrType;
