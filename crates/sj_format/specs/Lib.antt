@@ -1,4 +1,9 @@
+pub mod Codes
 pub mod Reading
 pub mod Spelling
 pub mod Tables
 pub mod References
+pub mod Types
+pub mod Trees
+pub mod Classes
+pub mod Files

@@ -3,13 +3,14 @@ use Rattle.std.specs.Prelude.{ℕ, Bool, List, nat_lt, if◌then◌else◌}
 use Rattle.std.specs.List.{slice_get}
 use Rattle.std.specs.Str.{is_utf8}
 use Rattle.sj_names.specs.declared.method_names.MethodName.{MethodName}
+use Rattle.sj_units.specs.Modified.{modified_units}
 use Rattle.sj_format.specs.declared.faults.Code.TheVariants.{BadIndex, BadName, BadText}
 use Rattle.sj_format.specs.Reading.{Reading, ◌>>=◌, number_at, bytes_at, found, tested}
 use Rattle.sj_format.specs.Spelling.{Spelling, ◌then◌, Gives_value, IsNumber, IsBytes, Found, Tested}
 
--- what the class names by an index: how many source files there are, the names as texts, the method names, and the strings as units
+-- what the class names by an index: the source files and the names as texts, the method names, and the strings as units
 pub record Tables : Type 0 where
-  pub files : ℕ
+  pub files : List (List ℕ)
   pub names : List (List ℕ)
   pub methods : List MethodName
   pub strings : List (List ℕ)
@@ -41,3 +42,10 @@ text_at bytes = number_at 4 bytes >>= λ n. bytes_at n.0 n.1 >>= λ t. tested Ba
 
 abbrev pub IsText : Spelling (List ℕ)
 IsText = IsNumber 4 then λ n. IsBytes n then λ t. Tested (is_utf8 t) t
+
+-- a string: its length in four bytes, and its bytes, which are modified UTF-8
+abbrev pub string_at : List ℕ → Reading (List ℕ)
+string_at bytes = number_at 4 bytes >>= λ n. bytes_at n.0 n.1 >>= λ t. found BadText (modified_units t.0) n.1 t.1
+
+abbrev pub IsString : Spelling (List ℕ)
+IsString = IsNumber 4 then λ n. IsBytes n then λ t. Found (modified_units t)
