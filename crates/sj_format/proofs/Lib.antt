@@ -5,3 +5,4 @@ pub mod ExactTypes
 pub mod ExactTrees
 pub mod ExactClasses
 pub mod ExactFiles
+pub mod ExactAnswers

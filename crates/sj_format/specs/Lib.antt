@@ -1,4 +1,6 @@
+pub mod Answers
 pub mod Codes
+pub mod Faults
 pub mod Reading
 pub mod Spelling
 pub mod Tables

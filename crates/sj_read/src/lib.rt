@@ -2,7 +2,9 @@
 #![tactic(auto)]
 
 mod fields;
+mod file_tables;
 mod items;
+mod leaves;
 mod names;
 mod references;
 mod stops;
