@@ -42,6 +42,14 @@ impl ClassName {
         self.text.as_str()
     }
 
+    /// The name that `text` is, which is known to be one.
+    pub fn of_text(text: Text) -> ClassName
+        requires { IsTrue (is_class_name text) }
+        ensures { result ≡ text }
+    {
+        ClassName { text }
+    }
+
     /// The same name once more, which shares the bytes.
     pub fn copied(&self) -> Result<ClassName, AllocError>
         ensures { IfOk result (λ n. n ≡ self.now) }

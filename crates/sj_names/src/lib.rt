@@ -29,6 +29,7 @@ pub use lists::Items;
 pub use local_names::{LabelName, LocalName};
 pub use memory::{NameError, NoMemory};
 pub use method_names::{Member, MethodName, Namespace, is_method_name};
+pub use naming::{is_class_name, is_plain_name, is_simple_name};
 pub use references::{ArrayRef, BaseRef, TypeRef, is_reference};
 pub use simple_names::{FieldName, SimpleName};
 pub use texts::{Bytes, Text};

@@ -43,6 +43,15 @@ impl LocalName {
         self.text.as_str()
     }
 
+    /// The name that `text` is, which is known to be one.
+    #[tactic(auto, using(crate::proofs::Locals::plain_names))]
+    pub fn of_text(text: Text) -> LocalName
+        requires { IsTrue (is_plain_name text) }
+        ensures { result ≡ text }
+    {
+        LocalName { text }
+    }
+
     /// The same name once more, which shares the bytes.
     pub fn copied(&self) -> Result<LocalName, AllocError>
         ensures { IfOk result (λ n. n ≡ self.now) }
@@ -169,6 +178,15 @@ impl LabelName {
         ensures name { IsTrue (is_local_name self.now) }
     {
         self.text.as_str()
+    }
+
+    /// The name that `text` is, which is known to be one.
+    #[tactic(auto, using(crate::proofs::Locals::plain_names))]
+    pub fn of_text(text: Text) -> LabelName
+        requires { IsTrue (is_plain_name text) }
+        ensures { result ≡ text }
+    {
+        LabelName { text }
     }
 
     /// The same name once more, which shares the bytes.

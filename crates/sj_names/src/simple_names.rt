@@ -42,6 +42,14 @@ impl SimpleName {
         self.text.as_str()
     }
 
+    /// The name that `text` is, which is known to be one.
+    pub fn of_text(text: Text) -> SimpleName
+        requires { IsTrue (is_simple_name text) }
+        ensures { result ≡ text }
+    {
+        SimpleName { text }
+    }
+
     /// The same name once more, which shares the bytes.
     pub fn copied(&self) -> Result<SimpleName, AllocError>
         ensures { IfOk result (λ n. n ≡ self.now) }
@@ -157,6 +165,14 @@ impl FieldName {
         ensures name { IsTrue (is_plain_name self.now) }
     {
         self.text.as_str()
+    }
+
+    /// The name that `text` is, which is known to be one.
+    pub fn of_text(text: Text) -> FieldName
+        requires { IsTrue (is_plain_name text) }
+        ensures { result ≡ text }
+    {
+        FieldName { text }
     }
 
     /// The same name once more, which shares the bytes.

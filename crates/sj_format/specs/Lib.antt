@@ -1,0 +1,11 @@
+pub mod Answers
+pub mod Codes
+pub mod Faults
+pub mod Reading
+pub mod Spelling
+pub mod Tables
+pub mod References
+pub mod Types
+pub mod Trees
+pub mod Classes
+pub mod Files
