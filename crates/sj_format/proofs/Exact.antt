@@ -45,19 +45,19 @@ pub exact_from : {A B : Type 0} (read : List ℕ → Reading A) (P : Spelling A)
     → Exact read P → ((front : List ℕ) (x : A) → Exact (next front x) (Q x)) → Exact (λ bytes. read bytes >>= λ x. next bytes x.0 x.1) (P then Q)
 exact_from {A = A} read P next Q first second = record {
   takes = λ bytes y rest e.
-    let b = bind_ok (read bytes) (λ x. next bytes x.0 x.1) (y, rest) e in
-    let one = first.takes bytes b.0.0 b.0.1 b.1 in
-    let two = (second bytes b.0.0).takes b.0.1 y rest b.2 in
-    record {
-      text = one.text ++ two.text;
-      spelled = record { value = b.0.0; front = one.text; back = two.text; first = one.spelled; second = two.spelled; parts = refl };
-      parts = one.parts ∙ ap (λ (t : List ℕ). one.text ++ t) two.parts ∙ sym (append_assoc one.text two.text rest);
-    };
+      let b = bind_ok (read bytes) (λ x. next bytes x.0 x.1) (y, rest) e in
+      let one = first.takes bytes b.0.0 b.0.1 b.1 in
+      let two = (second bytes b.0.0).takes b.0.1 y rest b.2 in
+      record {
+        text = one.text ++ two.text;
+        spelled = record { value = b.0.0; front = one.text; back = two.text; first = one.spelled; second = two.spelled; parts = refl };
+        parts = one.parts ∙ ap (λ (t : List ℕ). one.text ++ t) two.parts ∙ sym (append_assoc one.text two.text rest);
+      };
   again = λ y text rest p.
-    let whole : text ++ rest ≡ p.front ++ (p.back ++ rest) = ap (λ (t : List ℕ). t ++ rest) p.parts ∙ append_assoc p.front p.back rest in
-    let one = first.again p.value p.front (p.back ++ rest) p.first in
-    let two = (second (text ++ rest) p.value).again y p.back rest p.second in
-    ap (λ (t : List ℕ). read t >>= λ x. next (text ++ rest) x.0 x.1) whole ∙ ap (λ (r : Reading A). r >>= λ x. next (text ++ rest) x.0 x.1) one ∙ two;
+      let whole : text ++ rest ≡ p.front ++ (p.back ++ rest) = ap (λ (t : List ℕ). t ++ rest) p.parts ∙ append_assoc p.front p.back rest in
+      let one = first.again p.value p.front (p.back ++ rest) p.first in
+      let two = (second (text ++ rest) p.value).again y p.back rest p.second in
+      ap (λ (t : List ℕ). read t >>= λ x. next (text ++ rest) x.0 x.1) whole ∙ ap (λ (r : Reading A). r >>= λ x. next (text ++ rest) x.0 x.1) one ∙ two;
 }
 
 -- the same where what follows doesn't look back

@@ -31,8 +31,8 @@ reads_failure bytes f e =
       right = fails;
       each_class = λ class is. absurd ((one_answer bytes).not_both class f.code (length bytes - f.left) is fails);
       each_failure = λ code place other.
-        let same = (one_answer bytes).one_failure code f.code place (length bytes - f.left) other fails in
-        ap (λ (c : Code). refused c place) same.0 ∙ ap (λ (p : ℕ). refused f.code p) same.1;
+          let same = (one_answer bytes).one_failure code f.code place (length bytes - f.left) other fails in
+          ap (λ (c : Code). refused c place) same.0 ∙ ap (λ (p : ℕ). refused f.code p) same.1;
     }
 
 pub reads_nothing : (bytes : List ℕ) → Reads bytes (Err NoMemory)

@@ -73,7 +73,7 @@ one_answer bytes = record {
   some = some_answer bytes (file_of bytes) refl;
   one_class = λ class other is_one is_other. same_class class other (sym (file_read bytes class is_one) ∙ file_read bytes other is_other);
   one_failure = λ code other place another one two.
-    let same : one.fault ≡ two.fault = same_fault one.fault two.fault (sym one.first ∙ two.first) in
-    (one.code_is ∙ ap (λ (f : Fault). f.code) same ∙ sym two.code_is, one.place_is ∙ ap (λ (f : Fault). length bytes - f.left) same ∙ sym two.place_is);
+      let same : one.fault ≡ two.fault = same_fault one.fault two.fault (sym one.first ∙ two.first) in
+      (one.code_is ∙ ap (λ (f : Fault). f.code) same ∙ sym two.code_is, one.place_is ∙ ap (λ (f : Fault). length bytes - f.left) same ∙ sym two.place_is);
   not_both = λ class code place is fails. never_both class fails.fault (sym (file_read bytes class is) ∙ fails.first);
 }

@@ -62,6 +62,7 @@ mutual
   body_is_spelled all (log_line p t) h us rest = (text_is_expression t h, rest)
   body_is_spelled all (apply_static p c n m ts t) h us rest = ((function_is_name m.simple (call_word all c n m ts t h), tt), rest)
   body_is_spelled all _ h us rest = rest
+
   bodies_are_spelled : (all : List MethodDef) (ts : Terms) → are_first_bodies all ts ≡ true → (us : Statements) → AreStatements us → AreStatements (statements_onto (all_statements ts) us)
   bodies_are_spelled all no_terms h us rest = rest
   bodies_are_spelled all (more_terms t ts) h us rest =
@@ -103,7 +104,9 @@ linked c entry name old new slice m n first word same found moved sorted distinc
   where
     into : (x : List ℕ) → Contains new x → IsReached c entry x
     into x h = subst (λ (y : List ℕ). IsReached c y x) same ((found x).0 (Contains-permutation new old x (IsPermutation-sym old new moved) h))
+
     back : (x : List ℕ) → IsReached c entry x → Contains new x
     back x h = Contains-permutation old new x moved ((found x).1 (subst (λ (y : List ℕ). IsReached c y x) (sym same) h))
+
     words : (x : List ℕ) → Contains new x → is_word x ≡ true
     words x h = reached_words c entry first word x (into x h)

@@ -21,8 +21,8 @@ false_is_not_true e = cc
 pub class_methods : (c : ClassDef) (entry : List ℕ) → is_first_class c entry ≡ true → list_all (is_first_method c.methods) c.methods ≡ true
 class_methods c entry h =
     (and_parts (list_all are_printable c.files && is_object c.name && is_plain_class c.kind && has_no_superclass c.superclass && is_empty c.interfaces && is_empty c.fields) (list_all (is_first_method c.methods) c.methods)
-        (and_parts (list_all are_printable c.files && is_object c.name && is_plain_class c.kind && has_no_superclass c.superclass && is_empty c.interfaces && is_empty c.fields && list_all (is_first_method c.methods) c.methods) (are_distinct c.methods)
-            (and_parts (list_all are_printable c.files && is_object c.name && is_plain_class c.kind && has_no_superclass c.superclass && is_empty c.interfaces && is_empty c.fields && list_all (is_first_method c.methods) c.methods && are_distinct c.methods) (defines c.methods entry) h).0).0).1
+    (and_parts (list_all are_printable c.files && is_object c.name && is_plain_class c.kind && has_no_superclass c.superclass && is_empty c.interfaces && is_empty c.fields && list_all (is_first_method c.methods) c.methods) (are_distinct c.methods)
+    (and_parts (list_all are_printable c.files && is_object c.name && is_plain_class c.kind && has_no_superclass c.superclass && is_empty c.interfaces && is_empty c.fields && list_all (is_first_method c.methods) c.methods && are_distinct c.methods) (defines c.methods entry) h).0).0).1
 
 -- a body that is found is of the form
 pub body_is_first : (all methods : List MethodDef) (name : List ℕ) (t : Term) → list_all (is_first_method all) methods ≡ true → body_of methods name ≡ Some t → is_first_body all t ≡ true
@@ -31,8 +31,10 @@ body_is_first all (d ∷ ds) name t h e = go (is_same_text name d.name.simple) r
   where
     parts : (is_first_method all d ≡ true) × (list_all (is_first_method all) ds ≡ true)
     parts = and_parts (is_first_method all d) (list_all (is_first_method all) ds) h
+
     has_body : has_first_body all d.body ≡ true
     has_body = (and_parts (is_public_static d.namespace && is_first_name d.name && is_empty d.params && is_no_type d.result) (has_first_body all d.body) parts.0).1
+
     go : (b : Bool) → is_same_text name d.name.simple ≡ b → (body_of ds name ≡ Some t → is_first_body all t ≡ true) → is_first_body all t ≡ true
     go true b later = ap (has_first_body all) (sym e ∙ ap (λ v. if v then d.body else body_of ds name) b) ∙ has_body
     go false b later = later (sym (ap (λ v. if v then d.body else body_of ds name) b) ∙ e)
@@ -53,6 +55,7 @@ mutual
   called_words all (block_of p ts) h x in_it = all_called_words all ts (and_parts (not (is_empty_terms ts)) (are_first_bodies all ts) h).1 x in_it
   called_words all (apply_static p c n m ts t) h x in_it = elim (Contains-push_cases [] m.simple x in_it) [ inl none ↦ nothing_in x none | inr e ↦ subst (λ (y : List ℕ). is_word y ≡ true) e (call_word all c n m ts t h) ]
   called_words all _ h x in_it = nothing_in x in_it
+
   pub all_called_words : (all : List MethodDef) (ts : Terms) → are_first_bodies all ts ≡ true → (x : List ℕ) → Contains (all_called ts) x → is_word x ≡ true
   all_called_words all no_terms h x in_it = nothing_in x in_it
   all_called_words all (more_terms t ts) h x in_it = elim (Contains-append_cases (called t) (all_called ts) x in_it) [ inl first ↦ called_words all t (and_parts (is_first_body all t) (are_first_bodies all ts) h).0 x first | inr later ↦ all_called_words all ts (and_parts (is_first_body all t) (are_first_bodies all ts) h).1 x later ]

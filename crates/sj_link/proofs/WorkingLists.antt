@@ -86,11 +86,11 @@ pub record Working (c : ClassDef) (entry : List ℕ) (next : ℕ) (keys : Names)
 
 pub working_begins : (c : ClassDef) (entry : List ℕ) → Working c entry 0 (entry ∷ [])
 working_begins c entry = record {
-    within = omega arith;
-    begins = Contains-push [] entry;
-    sound = λ x h. only (Contains-push_cases [] entry x h);
-    closed = λ a b h calls. nothing_in a h;
-  }
+  within = omega arith;
+  begins = Contains-push [] entry;
+  sound = λ x h. only (Contains-push_cases [] entry x h);
+  closed = λ a b h calls. nothing_in a h;
+}
   where
     only : {x : List ℕ} → Contains [] x ⊎ (entry ≡ x) → IsReached c entry x
     only {x} (inl none) = nothing_in x none
@@ -101,29 +101,37 @@ read_at name next keys at = sym (unwrap_or-slice_get keys next name) ∙ ap (λ 
 
 pub working_goes_on : (c : ClassDef) (entry name : List ℕ) (next : ℕ) (keys : Names) → Working c entry next keys → slice_get keys next ≡ Some name → Working c entry (next + 1) (with_names keys (calls_of c name))
 working_goes_on c entry name next keys w at = record {
-    within = grown;
-    begins = into-with_names keys ns entry w.begins;
-    sound = λ x h. reached x (from-with_names keys ns x h);
-    closed = λ a b h calls. called a b (Contains-push_cases (take next keys) name a (subst (λ (l : Names). Contains l a) front h)) calls;
-  }
+  within = grown;
+  begins = into-with_names keys ns entry w.begins;
+  sound = λ x h. reached x (from-with_names keys ns x h);
+  closed = λ a b h calls. called a b (Contains-push_cases (take next keys) name a (subst (λ (l : Names). Contains l a) front h)) calls;
+}
   where
     ns : Names
     ns = calls_of c name
+
     below : next < length keys
     below = slice_get_within keys next name at
+
     there : Contains keys name
     there = subst (λ (y : List ℕ). Contains keys y) (read_at name next keys at) (Contains-get_or keys next name below)
+
     more : Names
     more = (with_names-grows keys (calls_of c name)).more
+
     grown_by : with_names keys (calls_of c name) ≡ keys ++ more
     grown_by = (with_names-grows keys (calls_of c name)).parts
+
     grown : next + 1 ≤ length (with_names keys (calls_of c name))
     grown = omega (arith, below, ap length grown_by, length-append {A = List ℕ})
+
     front : take (next + 1) (with_names keys (calls_of c name)) ≡ take next keys ++ name ∷ []
     front = ap (λ (l : Names). take (next + 1) l) grown_by ∙ take-append-le (next + 1) keys more (omega (arith, below)) ∙ take_more keys next name below ∙ ap (λ y. take next keys ++ y ∷ []) (read_at name next keys at)
+
     reached : (x : List ℕ) → Contains keys x ⊎ Contains (calls_of c name) x → IsReached c entry x
     reached x (inl old) = w.sound x old
     reached x (inr new) = goes_on name x (w.sound name there) new
+
     called : (a b : List ℕ) → Contains (take next keys) a ⊎ (name ≡ a) → Contains (calls_of c a) b → Contains (with_names keys (calls_of c name)) b
     called a b (inl old) calls = into-with_names keys (calls_of c name) b (w.closed a b old calls)
     called a b (inr e) calls = each-with_names keys (calls_of c name) b (subst (λ (y : List ℕ). Contains (calls_of c y) b) (sym e) calls)
@@ -140,6 +148,7 @@ working_ends c entry next keys w over x = (w.sound x, found x)
   where
     all : take next keys ≡ keys
     all = let e : next ≡ length keys = le_both w.within over in ap (λ n. take n keys) e ∙ take-length keys
+
     found : (y : List ℕ) → IsReached c entry y → Contains keys y
     found y starts = w.begins
     found y (goes_on caller callee before calls) = w.closed caller callee (subst (λ (l : Names). Contains l caller) (sym all) (found caller before)) calls

@@ -80,6 +80,7 @@ abbrev mutual
   is_first_body methods (log_line p t) = is_printable_text t
   is_first_body methods (apply_static p c n m ts t) = is_object c && is_public_static n && is_first_name m && defines methods m.simple && is_empty_terms ts && is_no_type t
   is_first_body methods _ = false
+
   pub are_first_bodies : List MethodDef → Terms → Bool
   are_first_bodies methods no_terms = true
   are_first_bodies methods (more_terms t ts) = is_first_body methods t && are_first_bodies methods ts

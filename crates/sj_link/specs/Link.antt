@@ -35,6 +35,7 @@ abbrev mutual
   statements (log_line p t) = log_statement t ∷ []
   statements (apply_static p c n m ts t) = expression_statement (call_of_method m.simple) ∷ []
   statements _ = []
+
   pub all_statements : Terms → List Statement
   all_statements no_terms = []
   all_statements (more_terms t ts) = statements t ++ all_statements ts

@@ -12,6 +12,7 @@ abbrev mutual
   called (block_of p ts) = all_called ts
   called (apply_static p c n m ts t) = m.simple ∷ []
   called _ = []
+
   pub all_called : Terms → List (List ℕ)
   all_called no_terms = []
   all_called (more_terms t ts) = called t ++ all_called ts

@@ -97,14 +97,18 @@ fn is_no_type(tpe: &IrType) -> bool
 fn is_first_name(name: &MethodName) -> bool
     ensures { result ≡ form.is_first_name name.now }
 {
-    is_word(name.simple.text().as_bytes()) && name.params.as_slice().is_empty() && is_void(&name.result)
+    is_word(name.simple.text().as_bytes())
+        && name.params.as_slice().is_empty()
+        && is_void(&name.result)
 }
 
 /// Whether a method of the simple name `name` is among `methods`.
 fn defines(methods: &[MethodDef], name: &str) -> bool
     ensures { result ≡ form.defines methods.now name.now }
 {
-    methods.iter().any(|method| name == method.name.simple.text())
+    methods
+        .iter()
+        .any(|method| name == method.name.simple.text())
 }
 
 fn is_logged(tree: &Tree) -> bool

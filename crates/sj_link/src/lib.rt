@@ -6,4 +6,4 @@ mod linking;
 mod reaching;
 
 pub use first_form::{is_first_class, is_word};
-pub use linking::{link_class, Linked};
+pub use linking::{Linked, link_class};

@@ -49,7 +49,12 @@ fn name_of_word(alloc: Global, word: &str) -> Result<SimpleName, NoMemory>
     }
 }
 
-fn module_with(alloc: Global, class: &ClassDef, entry: &str, names: &[SimpleName]) -> Result<JsModule, NoMemory>
+fn module_with(
+    alloc: Global,
+    class: &ClassDef,
+    entry: &str,
+    names: &[SimpleName],
+) -> Result<JsModule, NoMemory>
     ensures { IfOk result (λ m. module_view m ≡ link.module_of class.now entry.now names.now) }
 {
     let mut items = Vec::new(alloc);
@@ -132,7 +137,11 @@ fn put_statements(alloc: Global, tree: &Tree, statements: &mut Vec<JsStmt>) -> R
 }
 
 #[cycle(statements)]
-fn put_all_statements(alloc: Global, trees: &[Tree], statements: &mut Vec<JsStmt>) -> Result<(), NoMemory>
+fn put_all_statements(
+    alloc: Global,
+    trees: &[Tree],
+    statements: &mut Vec<JsStmt>,
+) -> Result<(), NoMemory>
     ensures { OnOk result (map statement_view statements.new.items ≡ map statement_view statements.old.items ++ link.all_statements (terms_view trees.now)) }
 {
     for each in trees {

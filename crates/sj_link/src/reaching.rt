@@ -9,7 +9,11 @@ use sj_trees::{Body, ClassDef, MethodDef, Tree};
 use std::alloc::Global;
 
 /// The methods that chains of calls reach from `entry`, each once.
-pub fn reached(alloc: Global, class: &ClassDef, entry: SimpleName) -> Result<IndexSet<SimpleName>, NoMemory>
+pub fn reached(
+    alloc: Global,
+    class: &ClassDef,
+    entry: SimpleName,
+) -> Result<IndexSet<SimpleName>, NoMemory>
     ensures { IfOk result (λ found. (name : List ℕ) → Contains found.keys name ↔ IsReached class.now entry name) }
 {
     let mut found = IndexSet::new(alloc);
@@ -23,7 +27,11 @@ pub fn reached(alloc: Global, class: &ClassDef, entry: SimpleName) -> Result<Ind
     Ok(found)
 }
 
-fn add_calls_of(class: &ClassDef, name: &SimpleName, found: &mut IndexSet<SimpleName>) -> Result<(), NoMemory>
+fn add_calls_of(
+    class: &ClassDef,
+    name: &SimpleName,
+    found: &mut IndexSet<SimpleName>,
+) -> Result<(), NoMemory>
     ensures { OnOk result (found.new.keys ≡ with_names found.old.keys (calls_of class.now name.now)) }
 {
     match body_named(class.methods.as_slice(), name) {

@@ -25,7 +25,12 @@ impl Model for FileTables {
 
 impl FileTables {
     // These four tables.
-    pub fn new(files: Vec<Text>, names: Vec<NameEntry>, methods: Vec<MethodName>, strings: Vec<Units>) -> FileTables
+    pub fn new(
+        files: Vec<Text>,
+        names: Vec<NameEntry>,
+        methods: Vec<MethodName>,
+        strings: Vec<Units>,
+    ) -> FileTables
         ensures { result ≡ record { files = files.items; names = names.items; methods = methods.items; strings = strings.items } }
     {
         FileTables {

@@ -27,7 +27,12 @@ pub trait Item {
 }
 
 // This many things.
-pub fn many<'a, I: Item>(alloc: Global, item: &I, count: u32, bytes: &'a [u8]) -> Result<(Vec<I::Value>, &'a [u8]), Stop>
+pub fn many<'a, I: Item>(
+    alloc: Global,
+    item: &I,
+    count: u32,
+    bytes: &'a [u8],
+) -> Result<(Vec<I::Value>, &'a [u8]), Stop>
     ensures { Gives (λ x. (map I.seen x.0.items, x.1.now)) result (many_at (I.reading item.now) count bytes.now) }
 {
     let mut items = Vec::new(alloc);
@@ -41,7 +46,11 @@ pub fn many<'a, I: Item>(alloc: Global, item: &I, count: u32, bytes: &'a [u8]) -
 }
 
 // A count, and so many things.
-pub fn list_of<'a, I: Item>(alloc: Global, item: &I, bytes: &'a [u8]) -> Result<(Vec<I::Value>, &'a [u8]), Stop>
+pub fn list_of<'a, I: Item>(
+    alloc: Global,
+    item: &I,
+    bytes: &'a [u8],
+) -> Result<(Vec<I::Value>, &'a [u8]), Stop>
     ensures { Gives (λ x. (map I.seen x.0.items, x.1.now)) result (list_at (I.reading item.now) bytes.now) }
 {
     let (count, rest) = number_of(bytes)?;

@@ -17,7 +17,13 @@ use std::alloc::Global;
 
 // A form without trees in it.
 #[tactic(auto, unfolding(sj_format::specs::Trees::leaf_at))]
-pub fn leaf_of<'a>(alloc: Global, tables: &FileTables, tag: LeafTag, position: Position, bytes: &'a [u8]) -> Result<(Tree, &'a [u8]), Stop>
+pub fn leaf_of<'a>(
+    alloc: Global,
+    tables: &FileTables,
+    tag: LeafTag,
+    position: Position,
+    bytes: &'a [u8],
+) -> Result<(Tree, &'a [u8]), Stop>
     ensures { Gives (λ x. (view x.0, x.1.now)) result (leaf_at tables.now tag position bytes.now) }
 {
     match tag {

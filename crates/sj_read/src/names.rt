@@ -2,8 +2,10 @@
 ghost use Rattle.std.specs.Prelude.{◌≡◌, IfOk, Some, None, if◌then◌else◌};
 ghost use Rattle.sj_names.specs.Grammar.{is_class_name, is_plain_name, is_simple_name};
 
-use sj_names::{ClassName, FieldName, LabelName, LocalName, SimpleName, Text};
-use sj_names::{is_class_name, is_plain_name, is_simple_name};
+use sj_names::{
+    ClassName, FieldName, LabelName, LocalName, SimpleName, Text, is_class_name, is_plain_name,
+    is_simple_name,
+};
 use std::alloc::AllocError;
 use std::marker::Model;
 

@@ -73,7 +73,10 @@ fn array_of<'a>(names: &[NameEntry], bytes: &'a [u8]) -> Result<(ArrayRef, &'a [
 
 // An array with its code.
 #[tactic(auto, unfolding(sj_format::specs::References::array_reference_at))]
-pub fn array_reference_of<'a>(names: &[NameEntry], bytes: &'a [u8]) -> Result<(ArrayRef, &'a [u8]), Stop>
+pub fn array_reference_of<'a>(
+    names: &[NameEntry],
+    bytes: &'a [u8],
+) -> Result<(ArrayRef, &'a [u8]), Stop>
     ensures { Gives (λ x. (x.0, x.1.now)) result (array_reference_at names.now bytes.now) }
 {
     let (code, rest) = byte_of(bytes)?;
@@ -85,7 +88,12 @@ pub fn array_reference_of<'a>(names: &[NameEntry], bytes: &'a [u8]) -> Result<(A
 
 // A reference other than V behind its code, which begins at `front`.
 #[tactic(auto, unfolding(sj_format::specs::References::reference_of))]
-fn reference_behind<'a>(names: &[NameEntry], code: u8, front: &[u8], rest: &'a [u8]) -> Result<(TypeRef, &'a [u8]), Stop>
+fn reference_behind<'a>(
+    names: &[NameEntry],
+    code: u8,
+    front: &[u8],
+    rest: &'a [u8],
+) -> Result<(TypeRef, &'a [u8]), Stop>
     ensures { Gives (λ x. (x.0, x.1.now)) result (reference_of names.now code front.now rest.now) }
 {
     if code == 8 {
@@ -140,7 +148,11 @@ fn result_of<'a>(names: &[NameEntry], bytes: &'a [u8]) -> Result<(Option<TypeRef
 }
 
 // The references of parameters.
-fn parameters_of<'a>(alloc: Global, names: &[NameEntry], bytes: &'a [u8]) -> Result<(Items<TypeRef>, &'a [u8]), Stop>
+fn parameters_of<'a>(
+    alloc: Global,
+    names: &[NameEntry],
+    bytes: &'a [u8],
+) -> Result<(Items<TypeRef>, &'a [u8]), Stop>
     ensures { Gives (λ x. (x.0, x.1.now)) result (list_at (parameter_at names.now) bytes.now) }
 {
     let (params, rest) = list_of(alloc, &ParameterItem(names), bytes)?;
@@ -154,7 +166,7 @@ pub struct MethodNameItem<'t>(pub &'t [NameEntry]);
 impl Item for MethodNameItem<'_> {
     ghost use Rattle.sj_names.specs.declared.method_names.MethodName.{MethodName};
     ghost use Rattle.sj_format.specs.References.{method_name_at};
-ghost use Rattle.sj_format.specs.Reading.{list_at};
+    ghost use Rattle.sj_format.specs.Reading.{list_at};
 
     type Value = MethodName;
 

@@ -80,7 +80,10 @@ impl Item for StringItem {
 }
 
 // The name of a class at an index.
-pub fn class_name_of<'a>(names: &[NameEntry], bytes: &'a [u8]) -> Result<(ClassName, &'a [u8]), Stop>
+pub fn class_name_of<'a>(
+    names: &[NameEntry],
+    bytes: &'a [u8],
+) -> Result<(ClassName, &'a [u8]), Stop>
     ensures { Gives (λ x. (x.0, x.1.now)) result (name_at is_class_name names.now bytes.now) }
 {
     let (entry, rest) = entry_of(names, bytes)?;
@@ -91,7 +94,10 @@ pub fn class_name_of<'a>(names: &[NameEntry], bytes: &'a [u8]) -> Result<(ClassN
 }
 
 // A simple name at an index.
-pub fn simple_name_of<'a>(names: &[NameEntry], bytes: &'a [u8]) -> Result<(SimpleName, &'a [u8]), Stop>
+pub fn simple_name_of<'a>(
+    names: &[NameEntry],
+    bytes: &'a [u8],
+) -> Result<(SimpleName, &'a [u8]), Stop>
     ensures { Gives (λ x. (x.0, x.1.now)) result (name_at is_simple_name names.now bytes.now) }
 {
     let (entry, rest) = entry_of(names, bytes)?;
@@ -102,7 +108,10 @@ pub fn simple_name_of<'a>(names: &[NameEntry], bytes: &'a [u8]) -> Result<(Simpl
 }
 
 // The name of a field at an index.
-pub fn field_name_of<'a>(names: &[NameEntry], bytes: &'a [u8]) -> Result<(FieldName, &'a [u8]), Stop>
+pub fn field_name_of<'a>(
+    names: &[NameEntry],
+    bytes: &'a [u8],
+) -> Result<(FieldName, &'a [u8]), Stop>
     ensures { Gives (λ x. (x.0, x.1.now)) result (name_at is_plain_name names.now bytes.now) }
 {
     let (entry, rest) = entry_of(names, bytes)?;
@@ -113,7 +122,10 @@ pub fn field_name_of<'a>(names: &[NameEntry], bytes: &'a [u8]) -> Result<(FieldN
 }
 
 // The name of a local variable at an index.
-pub fn local_name_of<'a>(names: &[NameEntry], bytes: &'a [u8]) -> Result<(LocalName, &'a [u8]), Stop>
+pub fn local_name_of<'a>(
+    names: &[NameEntry],
+    bytes: &'a [u8],
+) -> Result<(LocalName, &'a [u8]), Stop>
     ensures { Gives (λ x. (x.0, x.1.now)) result (name_at is_plain_name names.now bytes.now) }
 {
     let (entry, rest) = entry_of(names, bytes)?;
@@ -124,7 +136,10 @@ pub fn local_name_of<'a>(names: &[NameEntry], bytes: &'a [u8]) -> Result<(LocalN
 }
 
 // The name of a label at an index.
-pub fn label_name_of<'a>(names: &[NameEntry], bytes: &'a [u8]) -> Result<(LabelName, &'a [u8]), Stop>
+pub fn label_name_of<'a>(
+    names: &[NameEntry],
+    bytes: &'a [u8],
+) -> Result<(LabelName, &'a [u8]), Stop>
     ensures { Gives (λ x. (x.0, x.1.now)) result (name_at is_plain_name names.now bytes.now) }
 {
     let (entry, rest) = entry_of(names, bytes)?;
@@ -135,7 +150,11 @@ pub fn label_name_of<'a>(names: &[NameEntry], bytes: &'a [u8]) -> Result<(LabelN
 }
 
 // The name of a method at an index.
-pub fn method_name_of<'a>(alloc: Global, methods: &[MethodName], bytes: &'a [u8]) -> Result<(MethodName, &'a [u8]), Stop>
+pub fn method_name_of<'a>(
+    alloc: Global,
+    methods: &[MethodName],
+    bytes: &'a [u8],
+) -> Result<(MethodName, &'a [u8]), Stop>
     ensures { Gives (λ x. (x.0, x.1.now)) result (entry_at methods.now bytes.now) }
 {
     let (method, rest) = entry_of(methods, bytes)?;
@@ -143,7 +162,11 @@ pub fn method_name_of<'a>(alloc: Global, methods: &[MethodName], bytes: &'a [u8]
 }
 
 // The string at an index.
-pub fn units_of<'a>(alloc: Global, strings: &[Units], bytes: &'a [u8]) -> Result<(Units, &'a [u8]), Stop>
+pub fn units_of<'a>(
+    alloc: Global,
+    strings: &[Units],
+    bytes: &'a [u8],
+) -> Result<(Units, &'a [u8]), Stop>
     ensures { Gives (λ x. (x.0, x.1.now)) result (entry_at strings.now bytes.now) }
 {
     let (units, rest) = entry_of(strings, bytes)?;

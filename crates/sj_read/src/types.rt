@@ -21,7 +21,12 @@ use sj_trees::{BinaryOp, ClassKind, IrType, UnaryOp};
 const OBJECT: &str = "java.lang.Object";
 
 // What a code stands for that begins at `front`.
-fn coded_of<'a, T: Drop>(meaning: Option<T>, reserved: Option<Form>, front: &[u8], rest: &'a [u8]) -> Result<(T, &'a [u8]), Stop>
+fn coded_of<'a, T: Drop>(
+    meaning: Option<T>,
+    reserved: Option<Form>,
+    front: &[u8],
+    rest: &'a [u8],
+) -> Result<(T, &'a [u8]), Stop>
     ensures { Gives (λ x. (x.0, x.1.now)) result (coded meaning reserved front.now rest.now) }
 {
     match (meaning, reserved) {
@@ -44,7 +49,12 @@ pub fn member_tag_of(bytes: &[u8]) -> Result<(MemberTag, &[u8]), Stop>
     ensures { Gives (λ x. (x.0, x.1.now)) result (code_at (among member_tags) (among reserved_members) bytes.now) }
 {
     let (code, rest) = byte_of(bytes)?;
-    coded_of(MemberTag::from_code(code), reserved_member(code), bytes, rest)
+    coded_of(
+        MemberTag::from_code(code),
+        reserved_member(code),
+        bytes,
+        rest,
+    )
 }
 
 // The kind of a class.
@@ -68,7 +78,12 @@ pub fn unary_of(bytes: &[u8]) -> Result<(UnaryOp, &[u8]), Stop>
     ensures { Gives (λ x. (x.0, x.1.now)) result (unary_at bytes.now) }
 {
     let (code, rest) = byte_of(bytes)?;
-    coded_of(UnaryOp::from_code(code), reserved_operator(code), bytes, rest)
+    coded_of(
+        UnaryOp::from_code(code),
+        reserved_operator(code),
+        bytes,
+        rest,
+    )
 }
 
 // An operator with two operands.
@@ -76,7 +91,12 @@ pub fn binary_of(bytes: &[u8]) -> Result<(BinaryOp, &[u8]), Stop>
     ensures { Gives (λ x. (x.0, x.1.now)) result (binary_at bytes.now) }
 {
     let (code, rest) = byte_of(bytes)?;
-    coded_of(BinaryOp::from_code(code), reserved_operator(code), bytes, rest)
+    coded_of(
+        BinaryOp::from_code(code),
+        reserved_operator(code),
+        bytes,
+        rest,
+    )
 }
 
 // The type of a class.

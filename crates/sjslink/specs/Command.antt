@@ -20,4 +20,3 @@ command (link ∷ option ∷ value ∷ entries ∷ out ∷ folder ∷ []) =
     then Some (record { entries = entries; out = out; folder = folder })
     else None
 command _ = None
-

@@ -97,7 +97,10 @@ fn are_id_bytes(bytes: &[u8]) -> bool
 fn is_public_id(bytes: &[u8]) -> bool
     ensures { result ≡ entry.is_public_id bytes.now }
 {
-    are_id_bytes(bytes) && bytes.len() <= 64 && begins_with_letter(bytes) && !bytes.starts_with(b"internal-")
+    are_id_bytes(bytes)
+        && bytes.len() <= 64
+        && begins_with_letter(bytes)
+        && !bytes.starts_with(b"internal-")
 }
 
 fn begins_with_letter(bytes: &[u8]) -> bool

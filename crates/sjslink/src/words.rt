@@ -20,8 +20,7 @@ pub fn link_words(words: &[String]) -> Option<LinkWords<'_>>
                 && value.as_str() == "off"
                 && is_operand(entries.as_str())
                 && is_operand(out.as_str())
-                && is_operand(folder.as_str()) =>
-        {
+                && is_operand(folder.as_str()) => {
             Some(LinkWords {
                 entries: entries.as_str(),
                 out: out.as_str(),

@@ -3,7 +3,6 @@ use Rattle.sjslink.specs.EntryLine.{is_word, is_public_id}
 use Rattle.sjslink.proofs.Lines.{IsCut, false_is_not_true, class_stands, id_stands, word_stands, line_has_space, id_is_text, word_is_text}
 use Rattle.sjslink.proofs.entry_line.entry_line.Goals as goal
 
-
 pub returns-in_default : goal.returns-in_default
 returns-in_default c line is = line_has_space _ _ line is c.without_line_feed.ensures c.in_default.ensures
 
