@@ -126,11 +126,7 @@ fn append_statement(out: &mut Vec<u8>, level: usize, statement: &JsStmt) -> Resu
             append_head(out, "while (", test)?;
             append_block(out, level, body)
         }
-        JsStmt::DoForever(body) => {
-            append(out, "do ")?;
-            append_block(out, level, body)?;
-            append(out, " while (true);")
-        }
+        JsStmt::DoForever(body) => append_forever(out, level, body),
         JsStmt::Labeled { label, body } => {
             append(out, label.as_str())?;
             append(out, ": ")?;
@@ -167,6 +163,16 @@ fn append_statement(out: &mut Vec<u8>, level: usize, statement: &JsStmt) -> Resu
             append(out, "}")
         }
     }
+}
+
+/// Appends a loop without an end.
+#[cycle(statement)]
+fn append_forever(out: &mut Vec<u8>, level: usize, body: &[JsStmt]) -> Result<(), NoMemory>
+    ensures { OnOk result (out.new.items ≡ (put (codes "do ") ▸ put_block level (statements_view body.now) ▸ put (codes " while (true);")) out.old.items) }
+{
+    append(out, "do ")?;
+    append_block(out, level, body)?;
+    append(out, " while (true);")
 }
 
 /// Appends the default of a `switch`, on lines of this level.

@@ -1,14 +1,17 @@
 -- How one line of the entries file is cut.
 use Rattle.std.proofs.Common.{◌≡◌, ℕ, Bool, true, false, List, [], ◌∷◌, ◌++◌, refl, sym, ap, ◌∙◌, subst, not, length, get_or, ◌<◌, suc, zero, arith, take, drop}
-use Rattle.std.specs.Prelude.{codes, IsUtf8, IsTrue, ◌&&◌, nat_lt, nat_le, ◌==◌, nat_eq}
+use Rattle.std.specs.Prelude.{codes, IsUtf8, IsTrue, ◌&&◌, nat_lt, nat_le, ◌==◌, nat_eq, slice_index}
 use Rattle.std.specs.List.{list_all, starts_with}
 use Rattle.std.specs.Str.{IsAscii}
 use Rattle.std.specs.Cmp.Lexicographic.{pointwise}
 use Rattle.std.proofs.lemmas.Bool.{and_parts, and_from}
 use Rattle.std.proofs.lemmas.Bool.Decides.{nat_tests}
 use Rattle.std.proofs.lemmas.Str.{IsUtf8-from_ascii}
-use Rattle.std.proofs.lemmas.List.Folds.{list_all-append}
-use Rattle.sjslink.specs.EntryLine.{is_no_space, is_id_byte, is_letter_or_digit, is_public_id, is_word, IsEntryLine, EntryLine, without_line_feed, begins_with_letter}
+use Rattle.std.proofs.lemmas.Slice.Eq.{bytes_eq-Decides}
+use Rattle.std.proofs.lemmas.List.{take-append-drop}
+use Rattle.sj_names.specs.EntryPoints.{is_public_id, is_id_byte, is_letter}
+use Rattle.sj_link.specs.FirstForm.{is_letter_or_digit, is_word}
+use Rattle.sjslink.specs.EntryLine.{is_no_space, IsEntryLine, EntryLine, without_line_feed}
 
 pub false_is_not_true : {A : Type 0} → false ≡ true → A
 false_is_not_true e = cc
@@ -50,7 +53,10 @@ list_all-ascii p f (x ∷ xs) h zero = f x (and_parts (p x) (list_all p xs) h).0
 list_all-ascii p f (x ∷ xs) h (suc i) = list_all-ascii p f xs (and_parts (p x) (list_all p xs) h).1 i
 
 id_bytes : (xs : List ℕ) → is_public_id xs ≡ true → list_all is_id_byte xs ≡ true
-id_bytes xs h = (and_parts (list_all is_id_byte xs) (nat_le (length xs) 64) (and_parts (list_all is_id_byte xs && nat_le (length xs) 64) (begins_with_letter xs) (and_parts (list_all is_id_byte xs && nat_le (length xs) 64 && begins_with_letter xs) (not (starts_with nat_eq xs (codes "internal-"))) h).0).0).0
+id_bytes xs h =
+    let a = and_parts (nat_le 1 (length xs) && nat_le (length xs) 64 && list_all is_id_byte xs && is_letter (slice_index xs 0)) (not (starts_with nat_eq xs (codes "internal-"))) h in
+    let b = and_parts (nat_le 1 (length xs) && nat_le (length xs) 64 && list_all is_id_byte xs) (is_letter (slice_index xs 0)) a.0 in
+    (and_parts (nat_le 1 (length xs) && nat_le (length xs) 64) (list_all is_id_byte xs) b.0).1
 
 pub ids_no_space : (xs : List ℕ) → is_public_id xs ≡ true → list_all is_no_space xs ≡ true
 ids_no_space xs h = list_all-weaker is_id_byte is_no_space id_no_space xs (id_bytes xs h)
@@ -95,3 +101,14 @@ id_stands bytes front back line is cut = ap is_public_id (cut_front bytes front 
 pub word_stands : (bytes front back method : List ℕ) (line : EntryLine) → IsEntryLine bytes line → IsCut bytes front back → method ≡ drop 17 back → is_word method ≡ true
 word_stands bytes front back method line is cut e =
     ap is_word (e ∙ ap (λ bs. drop 17 bs) (cut_back bytes front back line is cut)) ∙ is.is_name
+
+-- what was cut so is an entry line
+pub line_is : (bytes front back method id word : List ℕ) → IsCut bytes front back → pointwise nat_eq (take 17 back) (codes "java.lang.Object ") ≡ true → method ≡ drop 17 back → id ≡ front → word ≡ method → is_public_id id ≡ true → is_word method ≡ true → IsEntryLine bytes (record { module_id = id; method = word })
+line_is bytes front back method id word cut class behind same_id same_word good_id good_word =
+    let object : take 17 back ≡ codes "java.lang.Object " = (bytes_eq-Decides (take 17 back) (codes "java.lang.Object ")).0 class in
+    let parts : back ≡ codes "java.lang.Object " ++ word = sym (take-append-drop 17 back) ∙ ap (λ bs. bs ++ drop 17 back) object ∙ ap (λ bs. codes "java.lang.Object " ++ bs) (sym behind ∙ sym same_word) in
+    record {
+      spelled = cut.parts ∙ ap (λ bs. front ++ 32 ∷ bs) parts ∙ ap (λ bs. bs ++ 32 ∷ (codes "java.lang.Object " ++ word)) (sym same_id);
+      is_id = good_id;
+      is_name = ap is_word same_word ∙ good_word;
+    }

@@ -20,3 +20,4 @@ command (link ∷ option ∷ value ∷ entries ∷ out ∷ folder ∷ []) =
     then Some (record { entries = entries; out = out; folder = folder })
     else None
 command _ = None
+

@@ -1,2 +1,5 @@
 pub mod Command
 pub mod EntryLine
+pub mod Input
+pub mod Loading
+pub mod Output

@@ -4,9 +4,12 @@ ghost use Rattle.std.specs.List.{list_all};
 ghost use Rattle.sjslink.specs.EntryLine.{is_no_space};
 ghost use Rattle.sjslink.specs.EntryLine as entry;
 
+use sj_link::is_word;
+use sj_names::is_public_id;
 use std::str;
 
 /// The entry that is written in the entries file: a public module and a method of `java.lang.Object`.
+#[derive(Drop)]
 pub struct EntryLine<'b> {
     pub module_id: &'b str,
     pub method: &'b str,
@@ -24,15 +27,15 @@ pub fn entry_line(bytes: &[u8]) -> Option<EntryLine<'_>>
     let Some(method) = behind.strip_prefix(OBJECT) else {
         return None;
     };
+    let Ok(module_id) = str::from_utf8(module_id) else {
+        return None;
+    };
     if !is_public_id(module_id) {
         return None;
     }
     if !is_word(method) {
         return None;
     }
-    let Ok(module_id) = str::from_utf8(module_id) else {
-        return None;
-    };
     let Ok(method) = str::from_utf8(method) else {
         return None;
     };
@@ -60,54 +63,4 @@ fn cut_at_space(line: &[u8]) -> Option<(&[u8], &[u8])>
         }
     }
     None
-}
-
-// Whether `bytes` are one or more ASCII letters and digits.
-fn is_word(bytes: &[u8]) -> bool
-    ensures { result ≡ entry.is_word bytes.now }
-{
-    !bytes.is_empty() && are_letters_or_digits(bytes)
-}
-
-fn are_letters_or_digits(bytes: &[u8]) -> bool
-    ensures { result ≡ list_all entry.is_letter_or_digit bytes.now }
-{
-    bytes.iter().all(|byte| is_letter_or_digit(*byte))
-}
-
-fn is_letter_or_digit(byte: u8) -> bool
-    ensures { result ≡ entry.is_letter_or_digit byte }
-{
-    byte.is_ascii_lowercase() || byte.is_ascii_uppercase() || byte.is_ascii_digit()
-}
-
-fn is_id_byte(byte: u8) -> bool
-    ensures { result ≡ entry.is_id_byte byte }
-{
-    byte.is_ascii_lowercase() || byte.is_ascii_digit() || byte == b'-'
-}
-
-fn are_id_bytes(bytes: &[u8]) -> bool
-    ensures { result ≡ list_all entry.is_id_byte bytes.now }
-{
-    bytes.iter().all(|byte| is_id_byte(*byte))
-}
-
-// Whether `bytes` are a public id.
-fn is_public_id(bytes: &[u8]) -> bool
-    ensures { result ≡ entry.is_public_id bytes.now }
-{
-    are_id_bytes(bytes)
-        && bytes.len() <= 64
-        && begins_with_letter(bytes)
-        && !bytes.starts_with(b"internal-")
-}
-
-fn begins_with_letter(bytes: &[u8]) -> bool
-    ensures { result ≡ entry.begins_with_letter bytes.now }
-{
-    match bytes {
-        [] => false,
-        [first, ..] => first.is_ascii_lowercase(),
-    }
 }

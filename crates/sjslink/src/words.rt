@@ -3,6 +3,7 @@ ghost use Rattle.std.specs.Prelude.{◌≡◌, map, option_map, string_bytes};
 ghost use Rattle.sjslink.specs.Command.{command, is_operand};
 
 /// What the words of a link command name.
+#[derive(Drop)]
 pub struct LinkWords<'w> {
     pub entries: &'w str,
     pub out: &'w str,
@@ -20,7 +21,8 @@ pub fn link_words(words: &[String]) -> Option<LinkWords<'_>>
                 && value.as_str() == "off"
                 && is_operand(entries.as_str())
                 && is_operand(out.as_str())
-                && is_operand(folder.as_str()) => {
+                && is_operand(folder.as_str()) =>
+        {
             Some(LinkWords {
                 entries: entries.as_str(),
                 out: out.as_str(),
