@@ -17,8 +17,9 @@ use Rattle.sj_mangling.proofs.Injective.{unmangled, mangled-cons, same_reading, 
 dotted_tail : (begun : Bool) (b : ℕ) (bs : List ℕ) → is_dotted begun (b ∷ bs) ≡ true → (next : Bool) × (is_dotted next bs ≡ true)
 dotted_tail begun b bs e =
     elim (b == 46) as (λ v. cond v (begun && is_dotted false bs) (is_name_byte b && is_dotted true bs) ≡ true → (next : Bool) × (is_dotted next bs ≡ true)) [
-      true ↦ λ h. (false, (and_parts begun (is_dotted false bs) h).1)
-    | false ↦ λ h. (true, (and_parts (is_name_byte b) (is_dotted true bs) h).1) ] e
+      | true ↦ λ h. (false, (and_parts begun (is_dotted false bs) h).1)
+      | false ↦ λ h. (true, (and_parts (is_name_byte b) (is_dotted true bs) h).1)
+    ] e
 
 dot_tail : (begun : Bool) (b : ℕ) (bs : List ℕ) → 46 ≡ b → is_dotted begun (b ∷ bs) ≡ true → is_dotted false bs ≡ true
 dot_tail begun b bs dot e =
@@ -96,8 +97,11 @@ function_names_differ one other class another method further class_is another_is
     let rest : List ℕ = mangled class ++ (95 ∷ 95 ∷ mangled (spelled_method method)) in
     let behind : List ℕ = mangled another ++ (95 ∷ 95 ∷ mangled (spelled_method further)) in
     let named = same_namespace one other rest behind
-        (sym (namespace_of-function one rest) ∙ ap namespace_of (sym (grouped one class method) ∙ same ∙ grouped other another further) ∙ namespace_of-function other behind) in
+    (sym (namespace_of-function one rest) ∙ ap namespace_of (sym (grouped one class method) ∙ same ∙ grouped other another further) ∙ namespace_of-function other behind) in
     let parts = split_class false false class another (mangled (spelled_method method)) (mangled (spelled_method further)) class_is another_is class_bytes another_bytes named.1 in
-    let spelled = mangled_texts_differ (spelled_method method) (spelled_method further) method_bytes further_bytes parts.1 in
-    (named.0, parts.0, same_method method further
-        (sym ((reads_method_names (spelled_method method) method).1 (method_is, refl)) ∙ ap method_name_of spelled ∙ (reads_method_names (spelled_method further) further).1 (further_is, refl)))
+    let spelled = mangled_texts_differ (spelled_method method) (spelled_method further) method_bytes further_bytes parts.1 in (
+      named.0,
+      parts.0,
+      same_method method further
+          (sym ((reads_method_names (spelled_method method) method).1 (method_is, refl)) ∙ ap method_name_of spelled ∙ (reads_method_names (spelled_method further) further).1 (further_is, refl)),
+    )

@@ -37,7 +37,7 @@ escaped-digits byte rest small =
     let high : byte / 16 < 16 = omega arith in
     let low : byte % 16 < 16 = omega arith in
     let whole : digit_number (digit_char (byte / 16)) * 16 + digit_number (digit_char (byte % 16)) ≡ byte =
-        rw (digit_number-digit_char (byte / 16) high, digit_number-digit_char (byte % 16) low) (omega arith) in
+    rw (digit_number-digit_char (byte / 16) high, digit_number-digit_char (byte % 16) low) (omega arith) in
     rw (digit_char-plain (byte / 16) high) (ap (λ b. Some (b, rest)) whole)
 
 -- a mangled byte is read back, whatever follows

@@ -85,7 +85,11 @@ fn function_prefix(namespace: Namespace) -> &'static str
 }
 
 /// A binding of a class, as `c_C`.
-pub fn class_binding(alloc: Global, binding: ClassBinding, class: &ClassName) -> Result<Text, NoMemory>
+pub fn class_binding(
+    alloc: Global,
+    binding: ClassBinding,
+    class: &ClassName,
+) -> Result<Text, NoMemory>
     ensures { IfOk result (λ name. name ≡ bindings.class_binding binding class.now) }
 {
     let mut name = String::new(alloc);
@@ -110,7 +114,12 @@ fn class_prefix(binding: ClassBinding) -> &'static str
 }
 
 /// A binding of a field of a class, as `t_C__f`.
-pub fn field_binding(alloc: Global, binding: FieldBinding, class: &ClassName, field: &FieldName) -> Result<Text, NoMemory>
+pub fn field_binding(
+    alloc: Global,
+    binding: FieldBinding,
+    class: &ClassName,
+    field: &FieldName,
+) -> Result<Text, NoMemory>
     ensures { IfOk result (λ name. name ≡ bindings.field_binding binding class.now field.now) }
 {
     let mut name = String::new(alloc);
@@ -132,7 +141,11 @@ fn field_prefix(binding: FieldBinding) -> &'static str
 }
 
 /// A binding of a method name, as `m_M`.
-pub fn method_binding(alloc: Global, binding: MethodBinding, method: &MethodName) -> Result<Text, NoMemory>
+pub fn method_binding(
+    alloc: Global,
+    binding: MethodBinding,
+    method: &MethodName,
+) -> Result<Text, NoMemory>
     ensures { IfOk result (λ name. name ≡ bindings.method_binding binding method.now) }
 {
     let spelled = method.spelled(alloc)?;

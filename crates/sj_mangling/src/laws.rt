@@ -5,11 +5,9 @@ ghost use Rattle.sj_mangling.specs.Mangling.{MangledTextsDiffer};
 /// Mangling is injective: two texts that are mangled alike are the same.
 pub fn mangled_texts_differ()
     ensures { MangledTextsDiffer }
-{
-}
+{}
 
 /// Two members with one function name have the same namespace, class and name.
 pub fn function_names_differ()
     ensures { FunctionNamesDiffer }
-{
-}
+{}

@@ -87,5 +87,9 @@ fn hexadecimal_digit(number: u8) -> u8
     ensures digit { result ≡ digit_char number }
     ensures ascii { result < 128 }
 {
-    if number < 10 { b'0' + number } else { b'a' + (number - 10) }
+    if number < 10 {
+        b'0' + number
+    } else {
+        b'a' + (number - 10)
+    }
 }
