@@ -1,0 +1,57 @@
+// Why a case isn't decided.
+use hex::FromHexError;
+use sj_names::NameError;
+use sj_units::UnitsError;
+use std::alloc::{AllocError, AllocFailed};
+
+/// The case isn't decided: no memory was left, or its text isn't hexadecimal.
+#[derive(Clone, Copy, Debug)]
+pub struct Undecided;
+
+impl From<AllocError> for Undecided {
+    fn from(_error: AllocError) -> Undecided {
+        Undecided
+    }
+}
+
+impl<T: Drop> From<AllocFailed<T>> for Undecided {
+    fn from(_error: AllocFailed<T>) -> Undecided {
+        Undecided
+    }
+}
+
+impl From<sj_names::NoMemory> for Undecided {
+    fn from(_error: sj_names::NoMemory) -> Undecided {
+        Undecided
+    }
+}
+
+impl From<sj_units::NoMemory> for Undecided {
+    fn from(_error: sj_units::NoMemory) -> Undecided {
+        Undecided
+    }
+}
+
+impl From<FromHexError> for Undecided {
+    fn from(_error: FromHexError) -> Undecided {
+        Undecided
+    }
+}
+
+/// What a call that may refuse a text has taken: none where it refused.
+pub fn taken_name<T: Drop>(outcome: Result<T, NameError>) -> Result<Option<T>, Undecided> {
+    match outcome {
+        Ok(name) => Ok(Some(name)),
+        Err(NameError::BadName) => Ok(None),
+        Err(NameError::NoMemory) => Err(Undecided),
+    }
+}
+
+/// What a call that may refuse bytes has taken: none where it refused.
+pub fn taken_units<T: Drop>(outcome: Result<T, UnitsError>) -> Result<Option<T>, Undecided> {
+    match outcome {
+        Ok(units) => Ok(Some(units)),
+        Err(UnitsError::BadText) => Ok(None),
+        Err(UnitsError::NoMemory) => Err(Undecided),
+    }
+}

@@ -1,0 +1,31 @@
+// Cases of modified UTF-8.
+use crate::outcome::{Undecided, taken_units};
+use sj_units::{Units, read_modified, write_modified};
+use std::alloc::Global;
+
+/// Whether the case is met: the bytes, in hexadecimal, are read exactly where `verdict` is `ok`, as the units told, four
+/// hexadecimal digits each, and are written again.
+pub fn is_met(alloc: Global, bytes: &str, verdict: &str, units: &str) -> Result<bool, Undecided> {
+    let bytes = hex::decode(alloc, bytes)?;
+    let Some(read) = taken_units(read_modified(alloc, bytes.as_slice()))? else {
+        return Ok(verdict == "bad");
+    };
+    let expected = hex::decode(alloc, units)?;
+    let written = write_modified(alloc, &read)?;
+    let big = big_endian(alloc, &read)?;
+    Ok(
+        verdict == "ok"
+            && big.as_slice() == expected.as_slice()
+            && written.as_slice() == bytes.as_slice(),
+    )
+}
+
+// The units as bytes, high ones first.
+fn big_endian(alloc: Global, units: &Units) -> Result<Vec<u8>, Undecided> {
+    let mut bytes = Vec::new(alloc);
+    for unit in units.as_slice() {
+        bytes.push((*unit >> 8) as u8)?;
+        bytes.push((*unit & 0xff) as u8)?;
+    }
+    Ok(bytes)
+}
