@@ -7,3 +7,4 @@ pub mod Bounds
 pub mod Right
 pub mod Whole
 pub mod Again
+pub mod Reading

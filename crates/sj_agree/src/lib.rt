@@ -12,11 +12,12 @@ ghost use Rattle.outcomes.specs.Outcome.{Going};
 ghost use Rattle.outcomes.specs.Shown.{Shown};
 ghost use Rattle.ir_mean.specs.Rows.{again_class, again_program, once};
 ghost use Rattle.ir_mean.specs.Shows.{ir_shows};
-ghost use Rattle.js_mean.specs.Shows.{js_shows};
+ghost use Rattle.js_mean.specs.Shows.{File, IsRead, js_shows};
+ghost use Rattle.js_mean.specs.States.{Program};
 ghost use Rattle.sj_trees.specs.declared.classes.ClassDef.{ClassDef};
 ghost use Rattle.sj_link.specs.FirstForm.{is_first_class};
 ghost use Rattle.sj_link.specs.Link.{IsLink};
-ghost use Rattle.sj_agree.specs.Agrees.{Agrees};
+ghost use Rattle.sj_agree.specs.Agrees.{Agrees, SpellsOne};
 ghost use Rattle.sj_agree.specs.First.{only_entry, only_file, again_module, again_linked};
 
 /// The theorem on the classes that can be linked so far: let a class be one of them with `entry` as its entry, let `m` be the module
@@ -25,6 +26,11 @@ ghost use Rattle.sj_agree.specs.First.{only_entry, only_file, again_module, agai
 /// round: where the one is going, its lines are the first of the other's, and otherwise the two are equal. Neither is wrong at any bound.
 pub fn linked_file_agrees()
     ensures { (c : ClassDef) (entry id : List ℕ) (m : Module) (methods : ℕ) (bytes : List ℕ) → IsTrue (is_first_class c entry) → IsLink c entry m methods → Spells m bytes → Agrees (c ∷ []) (only_entry id entry) (only_file id bytes) id }
+{}
+
+/// Files are read as one program at most, where bytes spell at most one module: so to agree as they are read is to agree.
+pub fn files_are_read_in_one_way()
+    ensures { SpellsOne → (files : List File) (one other : Program) → IsRead files one → IsRead files other → one ≡ other }
 {}
 
 /// Both meanings of one program: `main` calls `again`, which logs `x` and calls itself. Within the bound `n` of 1 or more the class and
