@@ -6,3 +6,5 @@ pub mod Bodies
 pub mod Bounds
 pub mod Right
 pub mod Whole
+pub mod Again
+pub mod Reading
