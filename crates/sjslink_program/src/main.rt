@@ -1,6 +1,9 @@
 //! The command `sjslink`, over real folders, files and standard output.
 #![tactic(auto)]
 
+#[cfg(test)]
+mod tests;
+
 use sj_outside::{RealFolders, RealLines, RealOutputs};
 use sjslink::{Status, run};
 use std::io;
