@@ -5,8 +5,6 @@ mod expressions;
 mod items;
 mod modules;
 mod statements;
-#[cfg(test)]
-mod tests;
 mod writing;
 
 pub use modules::{print_module, print_piece};
