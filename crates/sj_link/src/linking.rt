@@ -103,7 +103,7 @@ fn text_of(alloc: Global, tree: &Tree) -> Result<JsExpr, NoMemory>
     ensures { IfOk result (λ e. expression_view e ≡ link.expression_of (view tree.now)) }
 {
     match tree {
-        Tree::StringLiteral(_, units) => Ok(JsExpr::Text(units.copied(alloc)?)),
+        Tree::StringLiteral(_, units) => Ok(JsExpr::Text(units.copied()?)),
         _ => Ok(JsExpr::Undefined),
     }
 }

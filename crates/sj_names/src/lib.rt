@@ -16,6 +16,7 @@ mod memory;
 mod method_names;
 mod naming;
 mod references;
+mod shared;
 mod simple_names;
 mod texts;
 
@@ -31,5 +32,6 @@ pub use memory::{NameError, NoMemory};
 pub use method_names::{Member, MethodName, Namespace, is_method_name};
 pub use naming::{is_class_name, is_plain_name, is_simple_name};
 pub use references::{ArrayRef, BaseRef, TypeRef, is_reference};
+pub use shared::Shared;
 pub use simple_names::{FieldName, SimpleName};
 pub use texts::{Bytes, Text};

@@ -5,14 +5,14 @@ ghost use Rattle.sj_names.specs.MethodNames as method_names;
 use crate::cuts::first_part;
 use crate::naming::is_simple_name;
 use crate::references::{is_reference, push};
-use crate::{ClassName, Items, NameError, NoMemory, SimpleName, Text, TypeRef};
+use crate::{ClassName, NameError, NoMemory, Shared, SimpleName, Text, TypeRef};
 use std::alloc::{AllocError, Global};
 
 /// A method name: its simple name, the references of its parameters and of its result. A reflective proxy has no result.
 #[derive(Drop, PartialEq, Eq, PartialOrd, Ord, Hash)]
 pub struct MethodName {
     pub simple: SimpleName,
-    pub params: Items<TypeRef>,
+    pub params: Shared<TypeRef>,
     pub result: Option<TypeRef>,
 }
 
@@ -67,13 +67,13 @@ impl MethodName {
         Ok(Text::from_string(text)?)
     }
 
-    /// The same name once more.
-    pub fn copied(&self, alloc: Global) -> Result<MethodName, AllocError>
+    /// The same name once more, which shares its texts and its parameters.
+    pub fn copied(&self) -> Result<MethodName, AllocError>
         ensures { IfOk result (λ m. m ≡ self.now) }
     {
         Ok(MethodName {
             simple: self.simple.copied()?,
-            params: copied_references(alloc, self.params.as_slice())?,
+            params: self.params.copied()?,
             result: copied_result(&self.result)?,
         })
     }
@@ -89,14 +89,14 @@ impl MethodName {
 }
 
 impl Member {
-    /// The same member once more.
-    pub fn copied(&self, alloc: Global) -> Result<Member, AllocError>
+    /// The same member once more, which shares its names.
+    pub fn copied(&self) -> Result<Member, AllocError>
         ensures { IfOk result (λ m. m ≡ self.now) }
     {
         Ok(Member {
             class: self.class.copied()?,
             namespace: self.namespace,
-            method: self.method.copied(alloc)?,
+            method: self.method.copied()?,
         })
     }
 
@@ -174,7 +174,7 @@ fn is_result(text: &str) -> bool
 fn parse_signature(
     alloc: Global,
     text: &str,
-) -> Result<(Items<TypeRef>, Option<TypeRef>), NameError>
+) -> Result<(Shared<TypeRef>, Option<TypeRef>), NameError>
     ensures found { IfOk result (λ x. method_names.signature_of (method_names.parts text.now) ≡ Some x) }
     ensures bad { result ≡ Err NameError.BadName → method_names.signature_of (method_names.parts text.now) ≡ None }
 {
@@ -184,7 +184,8 @@ fn parse_signature(
         params.push(parse_parameter(alloc, parameter)?)?;
         rest = behind;
     }
-    Ok((Items::from_vec(params), parse_result(alloc, rest)?))
+    let result_reference = parse_result(alloc, rest)?;
+    Ok((Shared::from_vec(params)?, result_reference))
 }
 
 // The parameter that `text` spells.
@@ -207,16 +208,6 @@ fn parse_result(alloc: Global, text: &str) -> Result<Option<TypeRef>, NameError>
         return Ok(None);
     }
     Ok(Some(TypeRef::parse(alloc, text)?))
-}
-
-fn copied_references(alloc: Global, references: &[TypeRef]) -> Result<Items<TypeRef>, AllocError>
-    ensures { IfOk result (λ r. r ≡ references.now) }
-{
-    let mut copies = Vec::new(alloc);
-    for reference in references {
-        copies.push(reference.copied()?)?;
-    }
-    Ok(Items::from_vec(copies))
 }
 
 fn copied_result(result_reference: &Option<TypeRef>) -> Result<Option<TypeRef>, AllocError>

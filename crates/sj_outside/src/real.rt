@@ -5,7 +5,7 @@ ghost use Rattle.sj_outside.specs.Faults.{Rose, raised_by};
 
 use crate::OutsideError;
 use std::io;
-use std::io::{ErrorKind, Write};
+use std::io::ErrorKind;
 
 /// What a refusal by the system comes to. Want of memory is `NoMemory`; everything else is counted in `faults`.
 pub fn failure(faults: &mut u64, error: io::Error) -> OutsideError
@@ -19,20 +19,4 @@ pub fn failure(faults: &mut u64, error: io::Error) -> OutsideError
     }
     *faults = faults.saturating_add(1);
     OutsideError::Failed
-}
-
-/// Writes all of `bytes`. A write that takes nothing is a fault.
-pub fn write_whole<W: Write>(writer: &mut W, bytes: &[u8]) -> io::Result<()> {
-    let mut rest = bytes;
-    for _ in 0..u64::MAX {
-        if rest.is_empty() {
-            return Ok(());
-        }
-        let count = writer.write(rest)?;
-        if count == 0 {
-            break;
-        }
-        rest = &rest[count..];
-    }
-    Err(io::Error::from(ErrorKind::WriteZero))
 }

@@ -3,10 +3,11 @@ ghost use Rattle.std.specs.Prelude.{◌≡◌, ℕ, [], None, OnOk, OnErr};
 ghost use Rattle.sj_outside.specs.Faults.{HasCause, faults_after};
 ghost use Rattle.sj_outside.specs.Writing.{Appends};
 
-use crate::real::{failure, write_whole};
+use crate::real::failure;
 use crate::{Lines, OutsideError};
 use std::alloc::Global;
 use std::io;
+use std::io::Write;
 
 /// Standard output. It doesn't tell what was printed.
 #[derive(Drop)]
@@ -36,7 +37,7 @@ impl<R: Print> Lines for RealLines<'_, R> {
         ensures cause { HasCause self.old.faults self.new.faults result }
         ensures counted { self.new.faults ≡ faults_after result self.old.faults }
     {
-        match write_whole(&mut io::writer(self.rt), text) {
+        match io::writer(self.rt).write_all(text) {
             Ok(()) => Ok(()),
             Err(error) => Err(failure(&mut self.faults, error)),
         }

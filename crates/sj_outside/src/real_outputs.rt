@@ -4,9 +4,10 @@ ghost use Rattle.sj_outside.specs.declared.answers.PutFile.{PutFile};
 ghost use Rattle.sj_outside.specs.Faults.{HasCause, faults_after};
 ghost use Rattle.sj_outside.specs.Writing.{Appends};
 
-use crate::real::{failure, write_whole};
+use crate::real::failure;
 use crate::{Outputs, OutsideError};
 use std::alloc::Global;
+use std::io::Write;
 use std::rt::Files;
 use std::{fs, io};
 
@@ -66,5 +67,5 @@ fn put_file<R: Files>(
     fs::create_dir_all(rt, folder.as_str())?;
     let path = format!(in alloc; "{folder}/{name}")?;
     let mut file = fs::create(rt, path.as_str())?;
-    write_whole(&mut file, bytes)
+    file.write_all(bytes)
 }

@@ -21,7 +21,7 @@ pub fn read_modified(alloc: Global, bytes: &[u8]) -> Result<Units, UnitsError>
         units.push(unit)?;
         rest = after;
     }
-    Ok(Units::from_vec(units))
+    Ok(Units::from_vec(units)?)
 }
 
 /// The law of reading and writing: bytes are read as a text exactly where they are what that text, of 16-bit units, is
