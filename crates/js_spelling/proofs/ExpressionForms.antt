@@ -21,21 +21,21 @@ use Rattle.js_tree.specs.declared.operators.HostFunction.{HostFunction}
 use Rattle.js_tree.specs.declared.operators.HostFunction.TheVariants.{BigInt, Number, StringFromCharCode, ConsoleLog}
 use Rattle.js_tree.specs.declared.operators.HostOperation.{HostOperation}
 use Rattle.js_tree.specs.declared.operators.HostOperation.TheVariants.{BigIntAsIntN, BigIntAsUintN, MathImul}
-use Rattle.js_read.specs.declared.words.Head.{Head}
-use Rattle.js_read.specs.declared.words.Head.TheVariants as heads
-use Rattle.js_read.specs.declared.words.NewHead.{NewHead}
-use Rattle.js_read.specs.declared.words.NewHead.TheVariants as news
-use Rattle.js_read.specs.declared.words.ParenthesisHead.{ParenthesisHead}
-use Rattle.js_read.specs.declared.words.ParenthesisHead.TheVariants as parentheses
-use Rattle.js_read.specs.declared.words.Infix.{Infix}
-use Rattle.js_read.specs.declared.words.Infix.TheVariants as infixes
+use Rattle.js_spelling.specs.declared.words.Head.{Head}
+use Rattle.js_spelling.specs.declared.words.Head.TheVariants as heads
+use Rattle.js_spelling.specs.declared.words.NewHead.{NewHead}
+use Rattle.js_spelling.specs.declared.words.NewHead.TheVariants as news
+use Rattle.js_spelling.specs.declared.words.ParenthesisHead.{ParenthesisHead}
+use Rattle.js_spelling.specs.declared.words.ParenthesisHead.TheVariants as parentheses
+use Rattle.js_spelling.specs.declared.words.Infix.{Infix}
+use Rattle.js_spelling.specs.declared.words.Infix.TheVariants as infixes
 use Rattle.exact_place.specs.Reading.{passes}
 use Rattle.exact_place.specs.Grammar.{Spelling, ◌then◌, Leads, Either, first, second, IsLiteral, IsValue, IsMapped, IsList, no_items, an_item}
-use Rattle.js_read.specs.Words.{is_word_start}
-use Rattle.js_read.specs.Expressions.{Suffix, property_suffix, method_suffix, index_suffix, with_suffix, with_suffixes}
-use Rattle.js_read.proofs.Parts.{seq, led, lead_of, leads, closing, closed, no_more, each_to, each_from, list_last}
-use Rattle.js_read.proofs.HeadLaws.{IsHead, IsNewHead, IsParenthesisHead, IsInfix}
-use Rattle.js_read.proofs.NumberLaws.{IsPlain, plain_number, plain_big, IsBelowZero, below_number, below_big}
+use Rattle.js_spelling.specs.Words.{is_word_start}
+use Rattle.js_spelling.specs.Expressions.{Suffix, property_suffix, method_suffix, index_suffix, with_suffix, with_suffixes}
+use Rattle.js_spelling.proofs.Parts.{seq, led, lead_of, leads, closing, closed, no_more, each_to, each_from, list_last}
+use Rattle.js_spelling.proofs.HeadLaws.{IsHead, IsNewHead, IsParenthesisHead, IsInfix}
+use Rattle.js_spelling.proofs.NumberLaws.{IsPlain, plain_number, plain_big, IsBelowZero, below_number, below_big}
 
 -- ---- the level
 

@@ -14,25 +14,25 @@ use Rattle.exact_place.proofs.Steps.{went}
 use Rattle.exact_place.proofs.Basic.{law_same}
 use Rattle.exact_place.proofs.Words.{none_some}
 use Rattle.exact_place.proofs.Numbers.{AllEntries, table_is}
-use Rattle.js_read.specs.declared.words.Head.{Head}
-use Rattle.js_read.specs.declared.words.Head.TheVariants as heads
-use Rattle.js_read.specs.declared.words.NewHead.{NewHead}
-use Rattle.js_read.specs.declared.words.NewHead.TheVariants as news
-use Rattle.js_read.specs.declared.words.ParenthesisHead.{ParenthesisHead}
-use Rattle.js_read.specs.declared.words.ParenthesisHead.TheVariants as parentheses
-use Rattle.js_read.specs.declared.words.Infix.{Infix}
-use Rattle.js_read.specs.declared.words.Infix.TheVariants as infixes
-use Rattle.js_read.specs.declared.words.StatementHead.{StatementHead}
-use Rattle.js_read.specs.declared.words.StatementHead.TheVariants as statements
-use Rattle.js_read.specs.declared.words.ItemHead.{ItemHead}
-use Rattle.js_read.specs.declared.words.ItemHead.TheVariants as items
-use Rattle.js_read.specs.declared.words.LineHead.{LineHead}
-use Rattle.js_read.specs.declared.words.LineHead.TheVariants as lines
-use Rattle.js_read.specs.declared.words.MemberHead.{MemberHead}
-use Rattle.js_read.specs.declared.words.MemberHead.TheVariants as members
-use Rattle.js_read.specs.Words.{begins_name, begins_property, is_word_start, ends_word, expression_words, new_words, parenthesis_words, statement_words, item_words, later_words, line_words, member_words, head_of, new_head_of, parenthesis_head_of, statement_head_of, line_head_of, member_head_of, no_keyword, name_of, property_name_of, infix_words, is_space}
-use Rattle.js_read.specs.Tokens.{name_at, property_at, head_at, new_head_at, parenthesis_head_at, statement_head_at, line_head_at, member_head_at, infix_at}
-use Rattle.js_read.proofs.WordLaws.{law_head, law_new_head, law_parenthesis_head, law_statement_head, law_line_head, law_member_head, law_name, law_property_name, law_infix}
+use Rattle.js_spelling.specs.declared.words.Head.{Head}
+use Rattle.js_spelling.specs.declared.words.Head.TheVariants as heads
+use Rattle.js_spelling.specs.declared.words.NewHead.{NewHead}
+use Rattle.js_spelling.specs.declared.words.NewHead.TheVariants as news
+use Rattle.js_spelling.specs.declared.words.ParenthesisHead.{ParenthesisHead}
+use Rattle.js_spelling.specs.declared.words.ParenthesisHead.TheVariants as parentheses
+use Rattle.js_spelling.specs.declared.words.Infix.{Infix}
+use Rattle.js_spelling.specs.declared.words.Infix.TheVariants as infixes
+use Rattle.js_spelling.specs.declared.words.StatementHead.{StatementHead}
+use Rattle.js_spelling.specs.declared.words.StatementHead.TheVariants as statements
+use Rattle.js_spelling.specs.declared.words.ItemHead.{ItemHead}
+use Rattle.js_spelling.specs.declared.words.ItemHead.TheVariants as items
+use Rattle.js_spelling.specs.declared.words.LineHead.{LineHead}
+use Rattle.js_spelling.specs.declared.words.LineHead.TheVariants as lines
+use Rattle.js_spelling.specs.declared.words.MemberHead.{MemberHead}
+use Rattle.js_spelling.specs.declared.words.MemberHead.TheVariants as members
+use Rattle.js_spelling.specs.Words.{begins_name, begins_property, is_word_start, ends_word, expression_words, new_words, parenthesis_words, statement_words, item_words, later_words, line_words, member_words, head_of, new_head_of, parenthesis_head_of, statement_head_of, line_head_of, member_head_of, no_keyword, name_of, property_name_of, infix_words, is_space}
+use Rattle.js_spelling.specs.Tokens.{name_at, property_at, head_at, new_head_at, parenthesis_head_at, statement_head_at, line_head_at, member_head_at, infix_at}
+use Rattle.js_spelling.proofs.WordLaws.{law_head, law_new_head, law_parenthesis_head, law_statement_head, law_line_head, law_member_head, law_name, law_property_name, law_infix}
 
 -- what a name or a keyword is, from the reader's answer
 word_is : {A : Type 0} (R : A → List ℕ → Type 0) (name : List ℕ → Bool) (of : List ℕ → A) (keyword : List ℕ → Option A)

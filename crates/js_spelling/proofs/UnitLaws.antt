@@ -14,7 +14,7 @@ use Rattle.exact_place.proofs.Basic.{law_value, law_one, law_same}
 use Rattle.exact_place.proofs.Sequence.{Starts, Follows, law_after, law_lead, law_either}
 use Rattle.exact_place.proofs.Lists.{law_list}
 use Rattle.exact_place.proofs.First.{apart, starts_leads, follows_leads, follows_starts}
-use Rattle.js_read.specs.Tokens.{plain_unit, hex_of, third_digit, third_of, fourth_digit, fourth_of, hex_at, escape_at, unit_at, string_at}
+use Rattle.js_spelling.specs.Tokens.{plain_unit, hex_of, third_digit, third_of, fourth_digit, fourth_of, hex_at, escape_at, unit_at, string_at}
 
 -- ---- hexadecimal digits
 

@@ -6,18 +6,18 @@ use Rattle.exact_place.specs.Tokens.{word_of}
 use Rattle.js_tree.specs.Names.{is_file_character, is_empty}
 use Rattle.js_tree.specs.Terms.{Name, Expression, Statements, Property, Member, constructor_of, method_of, Item, const_item, object_item, let_item, expression_item, function_item, class_item, subclass_item, Module}
 use Rattle.js_tree.specs.declared.items.JsImport.{JsImport}
-use Rattle.js_read.specs.declared.words.ItemHead.{ItemHead}
-use Rattle.js_read.specs.declared.words.ItemHead.TheVariants as items
-use Rattle.js_read.specs.declared.words.LineHead.{LineHead}
-use Rattle.js_read.specs.declared.words.LineHead.TheVariants as lines
-use Rattle.js_read.specs.declared.words.MemberHead.{MemberHead}
-use Rattle.js_read.specs.declared.words.MemberHead.TheVariants as members
-use Rattle.js_read.specs.declared.words.Stage.{Stage}
-use Rattle.js_read.specs.declared.words.Stage.TheVariants.{Imports, Items, End}
-use Rattle.js_read.specs.Words.{is_word_start, no_keyword}
-use Rattle.js_read.specs.Tokens.{name_at, property_at, line_head_at, member_head_at}
-use Rattle.js_read.specs.Expressions.{is_comma, expression_at, wordless_at, expression_after_at}
-use Rattle.js_read.specs.Statements.{block_at, statement_at}
+use Rattle.js_spelling.specs.declared.words.ItemHead.{ItemHead}
+use Rattle.js_spelling.specs.declared.words.ItemHead.TheVariants as items
+use Rattle.js_spelling.specs.declared.words.LineHead.{LineHead}
+use Rattle.js_spelling.specs.declared.words.LineHead.TheVariants as lines
+use Rattle.js_spelling.specs.declared.words.MemberHead.{MemberHead}
+use Rattle.js_spelling.specs.declared.words.MemberHead.TheVariants as members
+use Rattle.js_spelling.specs.declared.words.Stage.{Stage}
+use Rattle.js_spelling.specs.declared.words.Stage.TheVariants.{Imports, Items, End}
+use Rattle.js_spelling.specs.Words.{is_word_start, no_keyword}
+use Rattle.js_spelling.specs.Tokens.{name_at, property_at, line_head_at, member_head_at}
+use Rattle.js_spelling.specs.Expressions.{is_comma, expression_at, wordless_at, expression_after_at}
+use Rattle.js_spelling.specs.Statements.{block_at, statement_at}
 
 -- A line of a module, or an item on its lines.
 pub data Line : Type 0 where

@@ -7,22 +7,22 @@ use Rattle.js_tree.specs.Words.{binary_text}
 use Rattle.js_tree.specs.declared.operators.BinaryOperator.{BinaryOperator}
 use Rattle.js_tree.specs.declared.operators.BinaryOperator.TheVariants.{Add, Subtract, Multiply, Divide, Remainder, BitAnd, BitOr, BitXor, ShiftLeft, ShiftRight, ShiftRightUnsigned, StrictEqual, StrictNotEqual, Less, LessOrEqual, Greater, GreaterOrEqual, And, Or, In, InstanceOf}
 use Rattle.exact_place.specs.Tokens.{Entry, entry_of, word_of, begins_entry}
-use Rattle.js_read.specs.declared.words.Head.{Head}
-use Rattle.js_read.specs.declared.words.Head.TheVariants as heads
-use Rattle.js_read.specs.declared.words.NewHead.{NewHead}
-use Rattle.js_read.specs.declared.words.NewHead.TheVariants as news
-use Rattle.js_read.specs.declared.words.ParenthesisHead.{ParenthesisHead}
-use Rattle.js_read.specs.declared.words.ParenthesisHead.TheVariants as parentheses
-use Rattle.js_read.specs.declared.words.Infix.{Infix}
-use Rattle.js_read.specs.declared.words.Infix.TheVariants as infixes
-use Rattle.js_read.specs.declared.words.StatementHead.{StatementHead}
-use Rattle.js_read.specs.declared.words.StatementHead.TheVariants as statements
-use Rattle.js_read.specs.declared.words.ItemHead.{ItemHead}
-use Rattle.js_read.specs.declared.words.ItemHead.TheVariants as items
-use Rattle.js_read.specs.declared.words.LineHead.{LineHead}
-use Rattle.js_read.specs.declared.words.LineHead.TheVariants as lines
-use Rattle.js_read.specs.declared.words.MemberHead.{MemberHead}
-use Rattle.js_read.specs.declared.words.MemberHead.TheVariants as members
+use Rattle.js_spelling.specs.declared.words.Head.{Head}
+use Rattle.js_spelling.specs.declared.words.Head.TheVariants as heads
+use Rattle.js_spelling.specs.declared.words.NewHead.{NewHead}
+use Rattle.js_spelling.specs.declared.words.NewHead.TheVariants as news
+use Rattle.js_spelling.specs.declared.words.ParenthesisHead.{ParenthesisHead}
+use Rattle.js_spelling.specs.declared.words.ParenthesisHead.TheVariants as parentheses
+use Rattle.js_spelling.specs.declared.words.Infix.{Infix}
+use Rattle.js_spelling.specs.declared.words.Infix.TheVariants as infixes
+use Rattle.js_spelling.specs.declared.words.StatementHead.{StatementHead}
+use Rattle.js_spelling.specs.declared.words.StatementHead.TheVariants as statements
+use Rattle.js_spelling.specs.declared.words.ItemHead.{ItemHead}
+use Rattle.js_spelling.specs.declared.words.ItemHead.TheVariants as items
+use Rattle.js_spelling.specs.declared.words.LineHead.{LineHead}
+use Rattle.js_spelling.specs.declared.words.LineHead.TheVariants as lines
+use Rattle.js_spelling.specs.declared.words.MemberHead.{MemberHead}
+use Rattle.js_spelling.specs.declared.words.MemberHead.TheVariants as members
 
 abbrev pub entry : {A : Type 0} → List ℕ → A → Entry A
 entry word value = record { word = word; value = value }

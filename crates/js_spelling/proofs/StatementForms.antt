@@ -8,16 +8,16 @@ use Rattle.js_tree.specs.Written.{Grammar, Is, ◌●◌, Where, More, Separated
 use Rattle.js_tree.specs.Spelling.{SpellsName, SpellsProperty, SpellsNumber, SpellsExpression, SpellsKey, SpellsKeys, Block, SpellsBlock, SpellsStatement, SpellsLines, SpellsCases}
 use Rattle.js_tree.specs.Terms.{Name, Expression, name_use, property_of, index_of, Statement, const_of, let_of, declare_of, expression_statement, assign_name, assign_property, assign_index, super_call, throw_of, return_of, break_nearest, break_to, if_only, if_else, while_of, do_forever, labeled_of, try_catch, try_finally, switch_on, Statements, no_statements, statement, Cases, no_cases, switch_case}
 use Rattle.js_tree.specs.Views.{statements_of, Case, cases_of}
-use Rattle.js_read.specs.declared.words.Head.{Head}
-use Rattle.js_read.specs.declared.words.Head.TheVariants as heads
-use Rattle.js_read.specs.declared.words.StatementHead.{StatementHead}
-use Rattle.js_read.specs.declared.words.StatementHead.TheVariants as statements
+use Rattle.js_spelling.specs.declared.words.Head.{Head}
+use Rattle.js_spelling.specs.declared.words.Head.TheVariants as heads
+use Rattle.js_spelling.specs.declared.words.StatementHead.{StatementHead}
+use Rattle.js_spelling.specs.declared.words.StatementHead.TheVariants as statements
 use Rattle.exact_place.specs.Reading.{passes}
 use Rattle.exact_place.specs.Grammar.{Spelling, ◌then◌, Leads, Either, first, second, IsLiteral, IsValue, IsMapped, IsList, no_items, an_item}
-use Rattle.js_read.specs.Words.{is_word_start}
-use Rattle.js_read.proofs.Parts.{seq, led, lead_of, leads, closing, no_more, more_to, more_from, list_same, leads_same}
-use Rattle.js_read.proofs.HeadLaws.{IsHead, IsStatementHead}
-use Rattle.js_read.proofs.ExpressionForms.{IsWordless, AfterForm, ExpressionForm, WordlessForm, after_to, expression_from, wordless_off, wordless_to}
+use Rattle.js_spelling.specs.Words.{is_word_start}
+use Rattle.js_spelling.proofs.Parts.{seq, led, lead_of, leads, closing, no_more, more_to, more_from, list_same, leads_same}
+use Rattle.js_spelling.proofs.HeadLaws.{IsHead, IsStatementHead}
+use Rattle.js_spelling.proofs.ExpressionForms.{IsWordless, AfterForm, ExpressionForm, WordlessForm, after_to, expression_from, wordless_off, wordless_to}
 
 -- ---- the level
 

@@ -4,11 +4,11 @@ use Rattle.exact_place.specs.Reading.{Reading, ◌>>=◌, stopped, value_at, lit
 use Rattle.js_tree.specs.Written.{indent}
 use Rattle.js_tree.specs.Terms.{Name, Expression, name_use, property_of, index_of, Statement, const_of, let_of, declare_of, expression_statement, assign_name, assign_property, assign_index, super_call, throw_of, return_of, break_nearest, break_to, if_only, if_else, while_of, do_forever, labeled_of, try_catch, try_finally, switch_on, Statements, no_statements, statement, Cases}
 use Rattle.js_tree.specs.Views.{statements_of, Case, cases_of}
-use Rattle.js_read.specs.declared.words.StatementHead.{StatementHead}
-use Rattle.js_read.specs.declared.words.StatementHead.TheVariants as statements
-use Rattle.js_read.specs.Words.{is_word_start}
-use Rattle.js_read.specs.Tokens.{name_at, statement_head_at, key_at}
-use Rattle.js_read.specs.Expressions.{expression_at, wordless_at, expression_after_at}
+use Rattle.js_spelling.specs.declared.words.StatementHead.{StatementHead}
+use Rattle.js_spelling.specs.declared.words.StatementHead.TheVariants as statements
+use Rattle.js_spelling.specs.Words.{is_word_start}
+use Rattle.js_spelling.specs.Tokens.{name_at, statement_head_at, key_at}
+use Rattle.js_spelling.specs.Expressions.{expression_at, wordless_at, expression_after_at}
 
 -- `case K:`
 unfoldable pub case_key_at : List ℕ → Reading ℤ

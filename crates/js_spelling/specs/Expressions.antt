@@ -10,16 +10,16 @@ use Rattle.js_tree.specs.declared.operators.HostFunction.{HostFunction}
 use Rattle.js_tree.specs.declared.operators.HostFunction.TheVariants.{BigInt, Number, StringFromCharCode, ConsoleLog}
 use Rattle.js_tree.specs.declared.operators.HostOperation.{HostOperation}
 use Rattle.js_tree.specs.declared.operators.HostOperation.TheVariants.{BigIntAsIntN, BigIntAsUintN, MathImul}
-use Rattle.js_read.specs.declared.words.Head.{Head}
-use Rattle.js_read.specs.declared.words.Head.TheVariants as heads
-use Rattle.js_read.specs.declared.words.NewHead.{NewHead}
-use Rattle.js_read.specs.declared.words.NewHead.TheVariants as news
-use Rattle.js_read.specs.declared.words.ParenthesisHead.{ParenthesisHead}
-use Rattle.js_read.specs.declared.words.ParenthesisHead.TheVariants as parentheses
-use Rattle.js_read.specs.declared.words.Infix.{Infix}
-use Rattle.js_read.specs.declared.words.Infix.TheVariants as infixes
-use Rattle.js_read.specs.Words.{is_word_start}
-use Rattle.js_read.specs.Tokens.{name_at, property_at, head_at, new_head_at, parenthesis_head_at, infix_at, number_at, below_at, string_at}
+use Rattle.js_spelling.specs.declared.words.Head.{Head}
+use Rattle.js_spelling.specs.declared.words.Head.TheVariants as heads
+use Rattle.js_spelling.specs.declared.words.NewHead.{NewHead}
+use Rattle.js_spelling.specs.declared.words.NewHead.TheVariants as news
+use Rattle.js_spelling.specs.declared.words.ParenthesisHead.{ParenthesisHead}
+use Rattle.js_spelling.specs.declared.words.ParenthesisHead.TheVariants as parentheses
+use Rattle.js_spelling.specs.declared.words.Infix.{Infix}
+use Rattle.js_spelling.specs.declared.words.Infix.TheVariants as infixes
+use Rattle.js_spelling.specs.Words.{is_word_start}
+use Rattle.js_spelling.specs.Tokens.{name_at, property_at, head_at, new_head_at, parenthesis_head_at, infix_at, number_at, below_at, string_at}
 
 -- What may stand behind an expression and goes on with it.
 pub data Suffix : Type 0 where

@@ -3,7 +3,7 @@ ghost use Rattle.std.specs.Prelude.{◌≡◌, ℕ, List, [], suc, ◌+◌, leng
 ghost use Rattle.exact_place.specs.Place.{Place};
 ghost use Rattle.js_tree.specs.Terms.{Module};
 ghost use Rattle.js_tree.specs.Spelling.{Spells};
-ghost use Rattle.js_read.specs.Modules.{module_at};
+ghost use Rattle.js_spelling.specs.Modules.{module_at};
 
 /// A text spells one module at most.
 pub fn one_module()

@@ -13,7 +13,7 @@ use Rattle.exact_place.proofs.Steps.{cases, went}
 use Rattle.exact_place.proofs.Words.{both, none_some, word_token, table_token}
 use Rattle.exact_place.proofs.Numbers.{table_keywords}
 use Rattle.exact_place.proofs.Tokens.{law_run}
-use Rattle.js_read.specs.Words.{begins_name, begins_property, is_word_start, ends_word, expression_words, new_words, parenthesis_words, statement_words, member_words, item_words, later_words, line_words, head_of, new_head_of, parenthesis_head_of, statement_head_of, line_head_of, member_head_of, no_keyword, name_of, property_name_of, infix_words, is_space}
+use Rattle.js_spelling.specs.Words.{begins_name, begins_property, is_word_start, ends_word, expression_words, new_words, parenthesis_words, statement_words, member_words, item_words, later_words, line_words, head_of, new_head_of, parenthesis_head_of, statement_head_of, line_head_of, member_head_of, no_keyword, name_of, property_name_of, infix_words, is_space}
 
 pub all_front : (test : ℕ → Bool) (front : List ℕ) (c : ℕ) (more : List ℕ) → list_all test (front ++ c ∷ more) ≡ true → list_all test (front ++ c ∷ []) ≡ true
 all_front test [] c more h = let k = both (test c) (list_all test more) h in rw k.0 refl

@@ -3,14 +3,14 @@ use Rattle.std.specs.Prelude.{ℕ, ℤ, pos, negsuc, ◌+◌, ◌-◌, ◌*◌, 
 use Rattle.exact_place.specs.Reading.{Reading, ◌>>=◌, value_at, one_at, literal_at, run_at, after_at, lead_at, map_at, either_at, list_at}
 use Rattle.exact_place.specs.Tokens.{begins_entry, entry_of, begins_number, number_of, is_digit}
 use Rattle.js_tree.specs.Terms.{Expression, number_literal, big_literal, text_literal}
-use Rattle.js_read.specs.declared.words.Head.{Head}
-use Rattle.js_read.specs.declared.words.NewHead.{NewHead}
-use Rattle.js_read.specs.declared.words.ParenthesisHead.{ParenthesisHead}
-use Rattle.js_read.specs.declared.words.Infix.{Infix}
-use Rattle.js_read.specs.declared.words.StatementHead.{StatementHead}
-use Rattle.js_read.specs.declared.words.LineHead.{LineHead}
-use Rattle.js_read.specs.declared.words.MemberHead.{MemberHead}
-use Rattle.js_read.specs.Words.{begins_name, begins_property, name_of, property_name_of, head_of, new_head_of, parenthesis_head_of, statement_head_of, line_head_of, member_head_of, infix_words}
+use Rattle.js_spelling.specs.declared.words.Head.{Head}
+use Rattle.js_spelling.specs.declared.words.NewHead.{NewHead}
+use Rattle.js_spelling.specs.declared.words.ParenthesisHead.{ParenthesisHead}
+use Rattle.js_spelling.specs.declared.words.Infix.{Infix}
+use Rattle.js_spelling.specs.declared.words.StatementHead.{StatementHead}
+use Rattle.js_spelling.specs.declared.words.LineHead.{LineHead}
+use Rattle.js_spelling.specs.declared.words.MemberHead.{MemberHead}
+use Rattle.js_spelling.specs.Words.{begins_name, begins_property, name_of, property_name_of, head_of, new_head_of, parenthesis_head_of, statement_head_of, line_head_of, member_head_of, infix_words}
 
 -- ---- words
 
@@ -110,9 +110,13 @@ fourth_of high c = fourth_digit high (hex_of c)
 unfoldable pub hex_at : List ℕ → Reading ℕ
 hex_at = after_at (one_at hex_of) (λ a. after_at (one_at hex_of) (λ b. after_at (one_at (third_of (a * 16 + b))) (λ v. one_at (fourth_of v))))
 
+-- the quote and the backslash stand behind a backslash
+abbrev pub simple_escape : ℕ → Option ℕ
+simple_escape c = cond (c == 34 || c == 92) (Some c) None
+
 -- behind a backslash
 unfoldable pub escape_at : List ℕ → Reading ℕ
-escape_at = either_at (λ c. c == 117) (lead_at (codes "u") hex_at) (one_at (λ c. cond (c == 34 || c == 92) (Some c) None))
+escape_at = either_at (λ c. c == 117) (lead_at (codes "u") hex_at) (one_at simple_escape)
 
 unfoldable pub unit_at : List ℕ → Reading ℕ
 unit_at = either_at (λ c. c == 92) (lead_at (codes "\\") escape_at) (one_at plain_unit)

@@ -2,13 +2,13 @@
 use Rattle.std.proofs.Common.{◌≡◌, ℕ, zero, suc, ◌+◌, ◌<◌, ◌≤◌, List, [], ◌∷◌, ◌++◌, length, Result, Ok, Err, refl, sym, ap, subst, ◌∙◌, arith}
 use Rattle.js_tree.specs.Terms.{Module}
 use Rattle.js_tree.specs.Spelling.{Spells}
-use Rattle.js_read.specs.declared.words.Stage.TheVariants.{Imports}
+use Rattle.js_spelling.specs.declared.words.Stage.TheVariants.{Imports}
 use Rattle.exact_place.specs.Reading.{Reading, map_at, end_at}
 use Rattle.exact_place.specs.Place.{Place, Law}
 use Rattle.exact_place.proofs.Steps.{good_is, bind_ok}
 use Rattle.exact_place.proofs.Whole.{whole_reads, whole_takes, whole_place, one_value}
-use Rattle.js_read.specs.Modules.{Line, module_of, module_lines_at, module_at}
-use Rattle.js_read.proofs.ModuleLaws.{law_module}
+use Rattle.js_spelling.specs.Modules.{Line, module_of, module_lines_at, module_at}
+use Rattle.js_spelling.proofs.ModuleLaws.{law_module}
 
 pub one_module : (m k : Module) (text : List ℕ) → Spells m text → Spells k text → m ≡ k
 one_module = one_value Spells module_at law_module

@@ -12,14 +12,14 @@ use Rattle.js_tree.specs.declared.operators.HostFunction.{HostFunction}
 use Rattle.js_tree.specs.declared.operators.HostFunction.TheVariants.{BigInt, Number, StringFromCharCode, ConsoleLog}
 use Rattle.js_tree.specs.declared.operators.HostOperation.{HostOperation}
 use Rattle.js_tree.specs.declared.operators.HostOperation.TheVariants.{BigIntAsIntN, BigIntAsUintN, MathImul}
-use Rattle.js_read.specs.declared.words.Head.{Head}
-use Rattle.js_read.specs.declared.words.Head.TheVariants as heads
-use Rattle.js_read.specs.declared.words.NewHead.{NewHead}
-use Rattle.js_read.specs.declared.words.NewHead.TheVariants as news
-use Rattle.js_read.specs.declared.words.ParenthesisHead.{ParenthesisHead}
-use Rattle.js_read.specs.declared.words.ParenthesisHead.TheVariants as parentheses
-use Rattle.js_read.specs.declared.words.Infix.{Infix}
-use Rattle.js_read.specs.declared.words.Infix.TheVariants as infixes
+use Rattle.js_spelling.specs.declared.words.Head.{Head}
+use Rattle.js_spelling.specs.declared.words.Head.TheVariants as heads
+use Rattle.js_spelling.specs.declared.words.NewHead.{NewHead}
+use Rattle.js_spelling.specs.declared.words.NewHead.TheVariants as news
+use Rattle.js_spelling.specs.declared.words.ParenthesisHead.{ParenthesisHead}
+use Rattle.js_spelling.specs.declared.words.ParenthesisHead.TheVariants as parentheses
+use Rattle.js_spelling.specs.declared.words.Infix.{Infix}
+use Rattle.js_spelling.specs.declared.words.Infix.TheVariants as infixes
 use Rattle.exact_place.specs.Reading.{Reading, stopped, passes, after_at, map_at, literal_at}
 use Rattle.exact_place.specs.Grammar.{Spelling, ◌then◌, Leads, Either, first, second, IsLiteral, IsValue, IsMapped, IsList, no_items, an_item}
 use Rattle.exact_place.specs.Place.{Begins, Stops, Law}
@@ -29,14 +29,14 @@ use Rattle.exact_place.proofs.Basic.{law_zero, law_value, law_literal, law_map, 
 use Rattle.exact_place.proofs.Sequence.{Starts, Follows, law_after, law_lead, law_behind, law_either}
 use Rattle.exact_place.proofs.Lists.{law_list}
 use Rattle.exact_place.proofs.First.{apart, starts_leads, starts_literal, starts_mapped, starts_then, starts_either, starts_wider, follows_starts, follows_leads, follows_literal, follows_value, follows_mapped, follows_either, follows_list, follows_then}
-use Rattle.js_read.specs.Words.{is_word_start, ends_word, is_space}
-use Rattle.js_read.specs.Tokens.{name_at, property_at, head_at, new_head_at, parenthesis_head_at, infix_at, number_at, below_at, string_at}
-use Rattle.js_read.specs.Expressions.{Suffix, property_suffix, method_suffix, index_suffix, with_suffix, with_suffixes, is_suffix, is_comma, more_at, expressions_at, host_at, host_of_two_at, new_after_at, big_after_at, primary_at, suffix_at, suffixes_at, expression_after_at, infix_after_at, tail_at, unary_at, parenthesis_after_at, parenthesis_at, bracketed_at, wordless_level, expression_level, expression_at, wordless_at}
-use Rattle.js_read.proofs.Parts.{seq, led}
-use Rattle.js_read.proofs.HeadLaws.{IsHead, IsNewHead, IsParenthesisHead, IsInfix, law_names, law_properties, law_heads, law_new_heads, law_parenthesis_heads, law_infixes}
-use Rattle.js_read.proofs.NumberLaws.{IsPlain, IsBelowZero, law_number, law_below, after_number}
-use Rattle.js_read.proofs.UnitLaws.{law_unit, starts_unit}
-use Rattle.js_read.proofs.ExpressionForms.{IsWordless, MoreForm, ExpressionsForm, HostForm, HostOfTwoForm, NewForm, BigForm, PrimaryForm, SuffixForm, SuffixesForm, AfterForm, InfixForm, TailForm, UnaryForm, ParenthesisWordForm, ParenthesisForm, StringForm, BracketedForm, WordlessForm, ExpressionForm, expression_to, expression_from, wordless_to, wordless_from, wordless_off, wordless_no_word, starts_heads, starts_plain, starts_bracketed, starts_wordless, is_wordless_start, is_bracket, is_expression_start, starts_expression, expressions_to, expressions_from}
+use Rattle.js_spelling.specs.Words.{is_word_start, ends_word, is_space}
+use Rattle.js_spelling.specs.Tokens.{name_at, property_at, head_at, new_head_at, parenthesis_head_at, infix_at, number_at, below_at, string_at}
+use Rattle.js_spelling.specs.Expressions.{Suffix, property_suffix, method_suffix, index_suffix, with_suffix, with_suffixes, is_suffix, is_comma, more_at, expressions_at, host_at, host_of_two_at, new_after_at, big_after_at, primary_at, suffix_at, suffixes_at, expression_after_at, infix_after_at, tail_at, unary_at, parenthesis_after_at, parenthesis_at, bracketed_at, wordless_level, expression_level, expression_at, wordless_at}
+use Rattle.js_spelling.proofs.Parts.{seq, led}
+use Rattle.js_spelling.proofs.HeadLaws.{IsHead, IsNewHead, IsParenthesisHead, IsInfix, law_names, law_properties, law_heads, law_new_heads, law_parenthesis_heads, law_infixes}
+use Rattle.js_spelling.proofs.NumberLaws.{IsPlain, IsBelowZero, law_number, law_below, after_number}
+use Rattle.js_spelling.proofs.UnitLaws.{law_unit, starts_unit}
+use Rattle.js_spelling.proofs.ExpressionForms.{IsWordless, MoreForm, ExpressionsForm, HostForm, HostOfTwoForm, NewForm, BigForm, PrimaryForm, SuffixForm, SuffixesForm, AfterForm, InfixForm, TailForm, UnaryForm, ParenthesisWordForm, ParenthesisForm, StringForm, BracketedForm, WordlessForm, ExpressionForm, expression_to, expression_from, wordless_to, wordless_from, wordless_off, wordless_no_word, starts_heads, starts_plain, starts_bracketed, starts_wordless, is_wordless_start, is_bracket, is_expression_start, starts_expression, expressions_to, expressions_from}
 
 -- what may follow a primary expression, and an expression
 abbrev pub after_primary : ℕ → Bool

@@ -17,7 +17,7 @@ use Rattle.exact_place.proofs.First.{apart, starts_leads, follows_leads, follows
 use Rattle.exact_place.proofs.Tokens.{law_run}
 use Rattle.exact_place.proofs.Words.{both, digits_token}
 use Rattle.exact_place.proofs.Numbers.{number_is, number_from, IsRead, own}
-use Rattle.js_read.specs.Tokens.{digits_at, below_digits_at, number_end_at, number_at, below_end_at, below_at, key_digits_at, below_key_digits_at, key_at}
+use Rattle.js_spelling.specs.Tokens.{digits_at, below_digits_at, number_end_at, number_at, below_end_at, below_at, key_digits_at, below_key_digits_at, key_at}
 
 -- ---- digits
 

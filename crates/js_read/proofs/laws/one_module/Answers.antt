@@ -1,5 +1,0 @@
-use Rattle.js_read.proofs.WholeModules.{one_module}
-use Rattle.js_read.proofs.laws.one_module.Goals as goal
-
-pub returns : goal.returns
-returns c = one_module
