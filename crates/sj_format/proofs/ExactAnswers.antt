@@ -5,7 +5,7 @@ use Rattle.sj_format.specs.declared.faults.Fault.{Fault}
 use Rattle.sj_format.specs.declared.faults.Code.{Code}
 use Rattle.sj_format.specs.declared.faults.ReadRefusal.{ReadRefusal}
 use Rattle.sj_format.specs.declared.faults.ReadRefusal.TheVariants.{Bad, NoMemory}
-use Rattle.sj_format.specs.Files.{file_of, FileIs, Fails}
+use Rattle.sj_format.specs.Files.{file_of, Fails}
 use Rattle.sj_format.specs.Answers.{Reads}
 use Rattle.sj_format.proofs.ExactFiles.{file_found, one_answer}
 

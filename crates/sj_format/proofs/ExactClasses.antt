@@ -1,5 +1,5 @@
 -- Classes and their members.
-use Rattle.std.proofs.Common.{◌≡◌, ℕ, List, length, Ok}
+use Rattle.std.proofs.Common.{length}
 use Rattle.sj_names.specs.Grammar.{is_plain_name, is_class_name}
 use Rattle.sj_format.specs.declared.codes.MemberTag.{MemberTag}
 use Rattle.sj_format.specs.declared.codes.MemberTag.TheVariants as tags

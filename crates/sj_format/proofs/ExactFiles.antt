@@ -9,7 +9,7 @@ use Rattle.sj_format.specs.declared.faults.Code.{Code}
 use Rattle.sj_format.specs.declared.faults.Code.TheVariants.{BadMagic, BadVersion}
 use Rattle.sj_format.specs.Reading.{Reading, ◌>>=◌}
 use Rattle.sj_format.specs.Files.{magic_at, IsMagic, version_at, IsVersion, tables_at, IsTables, contents_at, IsContents, ended, file_of, FileIs, Fails, HasOneAnswer}
-use Rattle.sj_format.proofs.Exact.{Exact, Takes, bind_ok, exact_from, exact_then, exact_value, exact_tested, exact_number, exact_bytes, exact_list}
+use Rattle.sj_format.proofs.Exact.{Exact, bind_ok, exact_from, exact_then, exact_value, exact_tested, exact_number, exact_bytes, exact_list}
 use Rattle.sj_format.proofs.ExactTables.{exact_text, exact_string}
 use Rattle.sj_format.proofs.ExactReferences.{exact_method_name}
 use Rattle.sj_format.proofs.ExactClasses.{exact_class}

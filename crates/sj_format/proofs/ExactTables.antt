@@ -1,11 +1,11 @@
 -- The tables and their entries.
-use Rattle.std.proofs.Common.{◌≡◌, ℕ, Bool, List, ltb}
+use Rattle.std.proofs.Common.{ℕ, Bool, List, ltb}
 use Rattle.std.specs.List.{slice_get}
 use Rattle.std.specs.Str.{is_utf8}
 use Rattle.sj_units.specs.Modified.{modified_units}
 use Rattle.sj_format.specs.declared.faults.Code.TheVariants.{BadIndex, BadName, BadText}
 use Rattle.sj_format.specs.Tables.{below_at, IsBelow, entry_at, IsEntry, name_at, IsName, text_at, IsText, string_at, IsString}
-use Rattle.sj_format.proofs.Exact.{Exact, exact_from, exact_then, exact_value, exact_found, exact_tested, exact_number, exact_bytes}
+use Rattle.sj_format.proofs.Exact.{Exact, exact_from, exact_then, exact_found, exact_tested, exact_number, exact_bytes}
 
 pub exact_below : (limit : ℕ) → Exact (below_at limit) (IsBelow limit)
 exact_below limit = exact_from _ _ _ _ (exact_number 4) (λ front n. exact_tested BadIndex (ltb n limit) n front)

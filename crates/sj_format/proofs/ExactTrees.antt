@@ -1,11 +1,10 @@
 -- Trees.
-use Rattle.std.proofs.Common.{◌≡◌, ℕ, zero, suc, List, length, Ok, Err, Result}
+use Rattle.std.proofs.Common.{ℕ, zero, suc, List, length, Err}
 use Rattle.std.specs.Int.{w8, w16, w32, w64}
 use Rattle.sj_names.specs.Grammar.{is_plain_name, is_class_name}
 use Rattle.sj_trees.specs.declared.positions.Position.{Position}
 use Rattle.sj_trees.specs.Operators.{unary_with, binary_with}
 use Rattle.sj_trees.specs.Term.{Term}
-use Rattle.sj_format.specs.declared.faults.Fault.{Fault}
 use Rattle.sj_format.specs.declared.faults.Code.TheVariants.{TooDeep}
 use Rattle.sj_format.specs.declared.codes.Tag.{Tag}
 use Rattle.sj_format.specs.declared.codes.Tag.TheVariants.{Leaf, Statement, Branch, Call, Operation}

@@ -1,14 +1,15 @@
 -- Marks, codes, signed numbers, positions and types.
-use Rattle.std.proofs.Common.{◌≡◌, ℕ, ℤ, Bool, true, false, List, eqb, Ok, Option, Some, None, cond}
+use Rattle.std.proofs.Common.{ℕ, Bool, true, false, List, eqb, Option, Some, None}
 use Rattle.std.specs.Int.{Width, cast_signed}
 use Rattle.sj_names.specs.Grammar.{is_class_name}
 use Rattle.sj_trees.specs.declared.types.IrType.TheVariants.{Array}
 use Rattle.sj_format.specs.declared.faults.Form.{Form}
 use Rattle.sj_format.specs.declared.faults.Code.TheVariants.{BadTag, Unsupported}
 use Rattle.sj_format.specs.Codes.{among, plain_types, reserved_types, namespaces, reserved_namespaces}
-use Rattle.sj_format.specs.Reading.{Reading, fault, found}
-use Rattle.sj_format.specs.Spelling.{Spelling, Found, Gives_value}
-use Rattle.sj_format.specs.Types.{coded, code_at, IsCode, mark_with, mark_at, IsMark, option_of, option_at, IsOptionOf, IsOption, signed_at, IsSigned, position_at, IsPosition, namespace_at, IsNamespace, class_type, type_of, type_at, IsTypeOf, IsType}
+use Rattle.sj_format.specs.Reading.{Reading, fault}
+use Rattle.sj_format.specs.Spelling.{Spelling, Found}
+use Rattle.sj_trees.specs.Types.{class_type}
+use Rattle.sj_format.specs.Types.{coded, code_at, IsCode, mark_with, mark_at, IsMark, option_of, option_at, IsOptionOf, IsOption, signed_at, IsSigned, position_at, IsPosition, namespace_at, IsNamespace, type_of, type_at, IsTypeOf, IsType}
 use Rattle.sj_format.proofs.Exact.{Exact, exact_from, exact_then, exact_value, exact_never, exact_found, exact_chosen, exact_byte, exact_number}
 use Rattle.sj_format.proofs.ExactTables.{exact_below, exact_name}
 use Rattle.sj_format.proofs.ExactReferences.{exact_array_reference}

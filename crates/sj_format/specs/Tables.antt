@@ -6,7 +6,7 @@ use Rattle.sj_names.specs.declared.method_names.MethodName.{MethodName}
 use Rattle.sj_units.specs.Modified.{modified_units}
 use Rattle.sj_format.specs.declared.faults.Code.TheVariants.{BadIndex, BadName, BadText}
 use Rattle.sj_format.specs.Reading.{Reading, ◌>>=◌, number_at, bytes_at, found, tested}
-use Rattle.sj_format.specs.Spelling.{Spelling, ◌then◌, Gives_value, IsNumber, IsBytes, Found, Tested}
+use Rattle.sj_format.specs.Spelling.{Spelling, ◌then◌, IsNumber, IsBytes, Found, Tested}
 
 -- what the class names by an index: the source files and the names as texts, the method names, and the strings as units
 pub record Tables : Type 0 where

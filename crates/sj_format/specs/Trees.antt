@@ -1,5 +1,5 @@
 -- Trees: a tag, a position, and the parts of the form in order.
-use Rattle.std.specs.Prelude.{ℕ, zero, suc, ℤ, List, length, Option, Ok, Err}
+use Rattle.std.specs.Prelude.{ℕ, zero, suc, List, length, Ok, Err}
 use Rattle.std.specs.Int.{w8, w16, w32, w64}
 use Rattle.sj_names.specs.Grammar.{is_plain_name, is_class_name}
 use Rattle.sj_trees.specs.declared.operators.UnaryOp.{UnaryOp}

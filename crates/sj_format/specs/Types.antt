@@ -1,12 +1,12 @@
 -- Marks, codes, signed numbers, positions and types.
-use Rattle.std.specs.Prelude.{ℕ, ℤ, Bool, true, false, List, [], ◌∷◌, Option, Some, None, Ok, Err, ◌==◌, nat_eq, codes, if◌then◌else◌}
-use Rattle.std.specs.Cmp.Lexicographic.{pointwise}
+use Rattle.std.specs.Prelude.{ℕ, ℤ, Bool, true, false, List, Option, Some, None, Ok, Err, ◌==◌, if◌then◌else◌}
 use Rattle.std.specs.Int.{Width, cast_signed}
 use Rattle.sj_names.specs.Grammar.{is_class_name}
 use Rattle.sj_names.specs.declared.method_names.Namespace.{Namespace}
 use Rattle.sj_trees.specs.declared.positions.Position.{Position}
 use Rattle.sj_trees.specs.declared.types.IrType.{IrType}
-use Rattle.sj_trees.specs.declared.types.IrType.TheVariants.{Any, Class, Array}
+use Rattle.sj_trees.specs.declared.types.IrType.TheVariants.{Array}
+use Rattle.sj_trees.specs.Types.{class_type}
 use Rattle.sj_format.specs.declared.faults.Form.{Form}
 use Rattle.sj_format.specs.declared.faults.Code.TheVariants.{BadTag, Unsupported}
 use Rattle.sj_format.specs.Codes.{among, plain_types, reserved_types, namespaces, reserved_namespaces}
@@ -76,10 +76,6 @@ namespace_at bytes = code_at (among namespaces) (among reserved_namespaces) byte
 
 abbrev pub IsNamespace : Spelling Namespace
 IsNamespace = IsCode (among namespaces)
-
--- the type of a class: there is none of `java.lang.Object` beside any
-abbrev pub class_type : List ℕ → IrType
-class_type name = if pointwise nat_eq name (codes "java.lang.Object") then Any else Class name
 
 -- a type behind its code: 12 and a class name, 13 and an array reference, or a code alone
 unfoldable pub type_of : List (List ℕ) → ℕ → List ℕ → List ℕ → Reading IrType

@@ -4,7 +4,8 @@ use Rattle.sj_trees.specs.Term.{Term, Terms, no_terms, more_terms, var_def, skip
 use Rattle.sj_trees.specs.declared.operators.BinaryOp.{BinaryOp}
 use Rattle.sj_trees.specs.declared.operators.UnaryOp.{UnaryOp}
 use Rattle.sj_trees.specs.declared.types.IrType.{IrType}
-use Rattle.sj_trees.specs.declared.types.IrType.TheVariants.{Nothing, Undefined, Boolean, Char, Byte, Short, Int, Long, String, Null, Class, Array, NoType}
+use Rattle.sj_trees.specs.declared.types.IrType.TheVariants.{Nothing, Undefined, Boolean, Char, Byte, Short, Int, Long, String, Null, Array, NoType}
+use Rattle.sj_trees.specs.Types.{class_type}
 
 -- the type of what an operator with one operand gives
 abbrev pub unary_result : UnaryOp → IrType
@@ -83,8 +84,8 @@ abbrev mutual
   type_of_term (try_finally p e d) = type_of_term e
   type_of_term (throw p e) = Nothing
   type_of_term (match_on p e cs d t) = t
-  type_of_term (new_object p c m es) = Class c
-  type_of_term (load_module p c) = Class c
+  type_of_term (new_object p c m es) = class_type c
+  type_of_term (load_module p c) = class_type c
   type_of_term (store_module p c e) = NoType
   type_of_term (select p e c f t) = t
   type_of_term (select_static p c f t) = t

@@ -1,6 +1,6 @@
 // What no clause says: that the tables are those of the format, and that a call with memory succeeds.
 use super::*;
-use sj_names::{ArrayRef, BaseRef};
+use sj_names::{ArrayRef, BaseRef, ClassName};
 use std::alloc::{AllocError, Global};
 use std::test::Fail;
 
@@ -89,6 +89,11 @@ fn types_of_items(rt: HostRuntime) -> Result<(), Fail> {
         dimensions: 2,
         base: BaseRef::Byte,
     };
+    let objects = ArrayRef {
+        dimensions: 1,
+        base: BaseRef::Class(ClassName::parse(rt.alloc(), "java.lang.Object")?),
+    };
+    assert!(rt; IrType::of_items(&objects)?.is_same(&IrType::Any));
     assert!(rt; IrType::of_items(&one)?.is_same(&IrType::Byte));
     assert!(rt; IrType::of_items(&two)?.is_same(&IrType::Array(one)));
     Ok(())

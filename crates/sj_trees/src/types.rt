@@ -1,9 +1,11 @@
 // The types of the IR.
 ghost use Rattle.std.specs.Prelude.{◌≡◌, ◌↔◌, IfOk, IsTrue};
-ghost use Rattle.sj_trees.specs.Types.{base_type, element_type};
+ghost use Rattle.sj_trees.specs.Types.{class_type, base_type, element_type, reference_type};
 
-use sj_names::{ArrayRef, BaseRef, ClassName};
+use sj_names::{ArrayRef, BaseRef, ClassName, TypeRef};
 use std::alloc::AllocError;
+
+const OBJECT: &str = "java.lang.Object";
 
 /// A type of the IR.
 #[derive(Drop)]
@@ -24,7 +26,7 @@ pub enum IrType {
     String,
     /// The null value.
     Null,
-    /// The instances of a class, and null.
+    /// The instances of a class other than `java.lang.Object`, and null.
     Class(ClassName),
     /// Arrays, and null.
     Array(ArrayRef),
@@ -78,6 +80,34 @@ impl IrType {
         }
     }
 
+    /// The type of a class: any for `java.lang.Object`, else the class type.
+    pub fn of_class(name: ClassName) -> IrType
+        ensures { result ≡ class_type name }
+    {
+        if name.text() == OBJECT {
+            IrType::Any
+        } else {
+            IrType::Class(name)
+        }
+    }
+
+    /// The type that a reference stands for: none for `V`.
+    pub fn of_reference(reference: &TypeRef) -> Result<IrType, AllocError>
+        ensures { IfOk result (λ t. t ≡ reference_type reference.now) }
+    {
+        Ok(match reference {
+            TypeRef::Void => IrType::NoType,
+            TypeRef::Boolean => IrType::Boolean,
+            TypeRef::Char => IrType::Char,
+            TypeRef::Byte => IrType::Byte,
+            TypeRef::Short => IrType::Short,
+            TypeRef::Int => IrType::Int,
+            TypeRef::Long => IrType::Long,
+            TypeRef::Class(name) => IrType::of_class(name.copied()?),
+            TypeRef::Array(array) => IrType::Array(array.copied()?),
+        })
+    }
+
     /// The type that the base of an array stands for.
     pub fn of_base(base: &BaseRef) -> Result<IrType, AllocError>
         ensures { IfOk result (λ t. t ≡ base_type base.now) }
@@ -89,7 +119,7 @@ impl IrType {
             BaseRef::Short => IrType::Short,
             BaseRef::Int => IrType::Int,
             BaseRef::Long => IrType::Long,
-            BaseRef::Class(name) => IrType::Class(name.copied()?),
+            BaseRef::Class(name) => IrType::of_class(name.copied()?),
         })
     }
 

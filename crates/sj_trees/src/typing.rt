@@ -29,7 +29,9 @@ pub fn type_of(alloc: Global, tree: &Tree) -> Result<IrType, NoMemory>
         | Tree::AsInstanceOf(_, _, tpe)
         | Tree::VarRef(_, _, tpe)
         | Tree::This(_, tpe) => tpe.copied()?,
-        Tree::New(_, class, _, _) | Tree::LoadModule(_, class) => IrType::Class(class.copied()?),
+        Tree::New(_, class, _, _) | Tree::LoadModule(_, class) => {
+            IrType::of_class(class.copied()?)
+        }
         Tree::NewArray(_, array, _) | Tree::ArrayValue(_, array, _) => IrType::Array(
             array.copied()?,
         ),
