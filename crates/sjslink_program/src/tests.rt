@@ -45,7 +45,12 @@ struct Ran {
     text: LinesInMemory,
 }
 
-fn ran(alloc: Global, texts: &[&str], class: &[u8], failing: [u64; 3]) -> Result<Ran, Fail> {
+fn run_in_memory(
+    alloc: Global,
+    texts: &[&str],
+    class: &[u8],
+    failing: [u64; 3],
+) -> Result<Ran, Fail> {
     let mut folders = FoldersInMemory::new(contents(alloc, class)?, vec![in alloc; failing[0]]?);
     let mut puts = OutputsInMemory::new(alloc, vec![in alloc; failing[1]]?);
     let mut text = LinesInMemory::new(alloc, vec![in alloc; failing[2]]?);
@@ -65,7 +70,7 @@ const NEVER: [u64; 3] = [0, 0, 0];
 
 #[test]
 fn one_class_is_linked(rt: HostRuntime) -> Result<(), Fail> {
-    let ran = ran(rt.alloc(), LINK, HI, NEVER)?;
+    let ran = run_in_memory(rt.alloc(), LINK, HI, NEVER)?;
     assert_eq!(rt; ran.status, Status::Done);
     assert_eq!(rt; ran.puts.puts.len(), 1);
     assert_eq!(rt; ran.puts.puts[0].out.as_str(), "out");
@@ -81,7 +86,7 @@ fn one_class_is_linked(rt: HostRuntime) -> Result<(), Fail> {
 
 #[test]
 fn reached_methods_are_linked_in_order(rt: HostRuntime) -> Result<(), Fail> {
-    let again = ran(rt.alloc(), LINK, AGAIN, NEVER)?;
+    let again = run_in_memory(rt.alloc(), LINK, AGAIN, NEVER)?;
     assert_eq!(rt; again.status, Status::Done);
     assert_eq!(rt; again.puts.puts.len(), 1);
     assert_eq!(rt;
@@ -92,7 +97,7 @@ fn reached_methods_are_linked_in_order(rt: HostRuntime) -> Result<(), Fail> {
         again.text.text.as_slice(),
         b"edit 1 ok modules=1 read=1 checked=2 optimised=0 emitted=2\n".as_slice()
     );
-    let unused = ran(rt.alloc(), LINK, UNUSED, NEVER)?;
+    let unused = run_in_memory(rt.alloc(), LINK, UNUSED, NEVER)?;
     assert_eq!(rt; unused.status, Status::Done);
     assert_eq!(rt; unused.puts.puts.len(), 1);
     assert_eq!(rt; unused.puts.puts[0].bytes.as_slice(), HI_MODULE.as_bytes());
@@ -101,11 +106,11 @@ fn reached_methods_are_linked_in_order(rt: HostRuntime) -> Result<(), Fail> {
 
 #[test]
 fn what_is_not_built_or_no_command_is_told(rt: HostRuntime) -> Result<(), Fail> {
-    let empty = ran(rt.alloc(), LINK, b"", NEVER)?;
+    let empty = run_in_memory(rt.alloc(), LINK, b"", NEVER)?;
     assert_eq!(rt; empty.status, Status::NotBuilt);
     assert_eq!(rt; empty.puts.puts.len(), 0);
     assert_eq!(rt; empty.text.text.as_slice(), b"not built\n".as_slice());
-    let usage = ran(rt.alloc(), &["link", "e", "out", "f1"], HI, NEVER)?;
+    let usage = run_in_memory(rt.alloc(), &["link", "e", "out", "f1"], HI, NEVER)?;
     assert_eq!(rt; usage.status, Status::Usage);
     assert_eq!(rt; usage.puts.puts.len(), 0);
     assert_eq!(rt;
@@ -118,16 +123,16 @@ fn what_is_not_built_or_no_command_is_told(rt: HostRuntime) -> Result<(), Fail> 
 #[test]
 fn each_failing_call_ends_the_run(rt: HostRuntime) -> Result<(), Fail> {
     for failing in 1..=3 {
-        let read = ran(rt.alloc(), LINK, AGAIN, [failing, 0, 0])?;
+        let read = run_in_memory(rt.alloc(), LINK, AGAIN, [failing, 0, 0])?;
         assert_eq!(rt; read.status, Status::ReadFault);
         assert_eq!(rt; read.puts.puts.len(), 0);
         assert_eq!(rt; read.text.text.len(), 0);
     }
-    let put = ran(rt.alloc(), LINK, AGAIN, [0, 1, 0])?;
+    let put = run_in_memory(rt.alloc(), LINK, AGAIN, [0, 1, 0])?;
     assert_eq!(rt; put.status, Status::WriteFault);
     assert_eq!(rt; put.puts.puts.len(), 0);
     assert_eq!(rt; put.text.text.len(), 0);
-    let line = ran(rt.alloc(), LINK, AGAIN, [0, 0, 1])?;
+    let line = run_in_memory(rt.alloc(), LINK, AGAIN, [0, 0, 1])?;
     assert_eq!(rt; line.status, Status::WriteFault);
     assert_eq!(rt; line.puts.puts.len(), 1);
     assert_eq!(rt; line.text.text.len(), 0);
