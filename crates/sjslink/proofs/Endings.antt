@@ -1,6 +1,5 @@
 -- How the endings of a run follow from those of its parts.
-use Rattle.std.proofs.Common.{◌≡◌, ℕ, List, [], ◌∷◌, ◌++◌, refl, sym, ap, ◌∙◌, subst, append-nil, Option, Some, None, ◌⊎◌, inl, inr}
-use Rattle.std.specs.Prelude.{⊤}
+use Rattle.std.proofs.Common.{◌≡◌, ℕ, List, [], ◌∷◌, refl, sym, subst, append-nil, Option, Some, ◌⊎◌, inr}
 use Rattle.sj_outside.specs.Contents.{Parts}
 use Rattle.sj_outside.specs.Writing.{Appends, Writes, WritesFront, Event, put, line}
 use Rattle.sj_outside.specs.declared.answers.PutFile.{PutFile}
@@ -10,7 +9,7 @@ use Rattle.sjslink.specs.declared.answers.Status.TheVariants.{Done, SomeRefused,
 use Rattle.sjslink.specs.declared.loading.LinkedFile.{LinkedFile}
 use Rattle.sjslink.specs.Command.{LinkWords, command}
 use Rattle.sjslink.specs.Loading.{HasLink}
-use Rattle.sjslink.specs.Output.{Output, IsOutput, linked, IsWhole, AtEnd, Ends, all_written, faulted, out_of_memory, report_line, IsUsageAnswer}
+use Rattle.sjslink.specs.Output.{IsOutput, linked, IsWhole, AtEnd, Ends, all_written, faulted, out_of_memory, report_line, IsUsageAnswer}
 
 at_end : (s : Status) (P : Type 0) → P → AtEnd s P
 at_end Done P p = p

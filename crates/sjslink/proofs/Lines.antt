@@ -1,6 +1,6 @@
 -- How one line of the entries file is cut.
-use Rattle.std.proofs.Common.{◌≡◌, ℕ, Bool, true, false, List, [], ◌∷◌, ◌++◌, refl, sym, ap, ◌∙◌, subst, not, length, get_or, ◌<◌, suc, zero, arith, take, drop}
-use Rattle.std.specs.Prelude.{codes, IsUtf8, IsTrue, ◌&&◌, nat_lt, nat_le, ◌==◌, nat_eq, slice_index}
+use Rattle.std.proofs.Common.{◌≡◌, ℕ, Bool, true, false, List, [], ◌∷◌, ◌++◌, refl, sym, ap, ◌∙◌, subst, not, length, ◌<◌, suc, zero, arith, take, drop}
+use Rattle.std.specs.Prelude.{codes, IsUtf8, ◌&&◌, nat_lt, nat_le, nat_eq, slice_index}
 use Rattle.std.specs.List.{list_all, starts_with}
 use Rattle.std.specs.Str.{IsAscii}
 use Rattle.std.specs.Cmp.Lexicographic.{pointwise}

@@ -1,5 +1,5 @@
 -- What the parts of loading find.
-use Rattle.std.proofs.Common.{◌≡◌, ℕ, ◌+◌, ◌≤◌, ◌<◌, Bool, true, false, List, [], ◌∷◌, ◌++◌, refl, sym, ap, ◌∙◌, subst, Option, Some, None, take, drop, get_or, length, map, arith, min, not}
+use Rattle.std.proofs.Common.{◌≡◌, ℕ, ◌+◌, ◌≤◌, ◌<◌, Bool, true, false, List, [], ◌∷◌, ◌++◌, refl, sym, ap, ◌∙◌, subst, Option, Some, None, take, drop, get_or, length, arith, min, not}
 use Rattle.std.specs.Prelude.{◌↔◌, option_map, IsTrue, is_some, ◌==◌, nat_lt, if◌then◌else◌, codes}
 use Rattle.std.specs.List.{list_all}
 use Rattle.std.proofs.lemmas.Bool.{and_parts}
@@ -8,7 +8,7 @@ use Rattle.std.proofs.lemmas.Slice.Eq.{bytes_eq-Decides}
 use Rattle.std.proofs.lemmas.List.{take_all, length-take}
 use Rattle.sj_trees.specs.declared.classes.ClassDef.{ClassDef}
 use Rattle.sj_outside.specs.declared.answers.Entry.{Entry}
-use Rattle.sj_outside.specs.Contents.{Parts, no_parts, file_part, folder_part, folder_at, file_at, entries_of, is_name, held_at, held_under, folder_held, file_held, file_of, folder_of, Held, part_named, is_same_text}
+use Rattle.sj_outside.specs.Contents.{Parts, no_parts, file_part, folder_part, folder_at, file_at, entries_of, is_name, held_at, folder_held, file_held, file_of, folder_of, Held, part_named, is_same_text}
 use Rattle.sj_outside.specs.Reading.{Reads, Lists, lacks_file}
 use Rattle.sj_outside.proofs.Listed.{held_at-joined}
 use Rattle.std.specs.Prelude.{option_and_then}
@@ -16,7 +16,7 @@ use Rattle.sj_format.specs.Files.{FileIs, Fails}
 use Rattle.sj_format.specs.declared.faults.Code.{Code}
 use Rattle.sj_format.proofs.ExactFiles.{one_answer}
 use Rattle.sjslink.specs.EntryLine.{EntryLine, IsEntryLine, without_line_feed}
-use Rattle.sjslink.specs.Input.{HasEntry, HasClass, most_entries, most_class, is_class_file, Program, IsProgram}
+use Rattle.sjslink.specs.Input.{HasEntry, HasClass, most_class, is_class_file, Program, IsProgram}
 use Rattle.sj_outside.specs.declared.answers.OutsideError.{OutsideError}
 use Rattle.sj_outside.specs.Faults.{IsMissing}
 use Rattle.sj_format.specs.declared.faults.ReadRefusal.{ReadRefusal}

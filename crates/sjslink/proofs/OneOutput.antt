@@ -1,26 +1,20 @@
 -- There is one output.
-use Rattle.std.proofs.Common.{◌≡◌, ℕ, zero, suc, ◌+◌, ◌<◌, List, [], ◌∷◌, ◌++◌, length, get_or, refl, sym, ap, subst, ◌∙◌, ◌⊎◌, inl, inr, Option, Some, None, Contains, arith}
-use Rattle.std.specs.Prelude.{◌↔◌}
-use Rattle.std.specs.Ordering.{nat_cmp, ordering_reverse}
-use Rattle.std.specs.declared.cmp.Ordering.{Ordering}
+use Rattle.std.proofs.Common.{◌≡◌, ℕ, zero, suc, ◌+◌, List, [], ◌∷◌, length, get_or, refl, sym, ap, subst, ◌∙◌, ◌⊎◌, inl, inr, Option, Some, None, Contains, arith}
+use Rattle.std.specs.Ordering.{ordering_reverse}
 use Rattle.std.specs.declared.cmp.Ordering.TheVariants.{Less, Greater}
 use Rattle.std.specs.List.{AllAdjacentBelow}
-use Rattle.std.specs.Cmp.Lexicographic.{slice_cmp}
 use Rattle.std.proofs.lemmas.Cmp.{nat_list_cmp_total}
 use Rattle.js_tree.specs.Terms.{Module}
 use Rattle.js_tree.specs.Spelling.{Spells}
-use Rattle.js_tree.specs.Texts.{module_text}
 use Rattle.js_tree.proofs.Kept.{module_kept}
 use Rattle.js_tree.proofs.TextLaws.{module_spelled}
 use Rattle.sj_trees.specs.declared.classes.ClassDef.{ClassDef}
-use Rattle.sj_link.specs.Reached.{IsReached}
-use Rattle.sj_link.specs.Link.{ComesBefore, function_name, IsOrder, IsLink, module_of}
-use Rattle.sj_outside.specs.Contents.{Parts}
+use Rattle.sj_link.specs.Link.{ComesBefore, function_name, IsOrder, module_of}
 use Rattle.sj_outside.specs.Writing.{put, line}
 use Rattle.sjslink.specs.declared.answers.Status.TheVariants.{Done}
-use Rattle.sjslink.specs.Command.{LinkWords, command}
+use Rattle.sjslink.specs.Command.{LinkWords}
 use Rattle.sjslink.specs.Input.{Program, IsProgram}
-use Rattle.sjslink.specs.Output.{Output, IsOutput, no_command, not_built, linked, IsLinked, file_put, report_line}
+use Rattle.sjslink.specs.Output.{Output, no_command, not_built, linked, IsLinked, file_put, report_line}
 use Rattle.sjslink.specs.Headline.{HasOneOutput}
 use Rattle.sjslink.proofs.Showing.{names_one_program}
 

@@ -1,8 +1,7 @@
 -- What is put shows what the class shows.
-use Rattle.std.proofs.Common.{◌≡◌, ℕ, List, [], ◌∷◌, ◌++◌, refl, sym, ap, subst, ◌∙◌, ◌⊎◌, inl, inr, Option, Some, None}
+use Rattle.std.proofs.Common.{◌≡◌, ℕ, List, [], ◌∷◌, ◌++◌, refl, sym, ap, subst, ◌∙◌, ◌⊎◌, inl, inr, Option}
 use Rattle.std.specs.List.{flat_map}
 use Rattle.std.proofs.lemmas.Grind.{flat_map-append}
-use Rattle.js_mean.specs.Shows.{File, IsRead}
 use Rattle.js_spelling.proofs.WholeModules.{one_module}
 use Rattle.sj_agree.specs.Agrees.{Agrees}
 use Rattle.sj_agree.specs.First.{only_entry, only_file}
@@ -13,7 +12,7 @@ use Rattle.sj_outside.specs.Writing.{Appends, put_in}
 use Rattle.sj_outside.specs.declared.answers.PutFile.{PutFile}
 use Rattle.sjslink.specs.declared.answers.Status.{Status}
 use Rattle.sjslink.specs.declared.answers.Status.TheVariants.{Done, Usage, NotBuilt}
-use Rattle.sjslink.specs.Command.{LinkWords, command}
+use Rattle.sjslink.specs.Command.{LinkWords}
 use Rattle.sjslink.specs.Input.{Program, IsProgram}
 use Rattle.sjslink.specs.Output.{Output, IsOutput, no_command, not_built, linked, IsLinked, IsWhole, IsFront, nothing, front_of, AtEnd, file_put}
 use Rattle.sjslink.specs.Headline.{ShowsTheSame, NamesOneProgram, ReadsOneProgram}

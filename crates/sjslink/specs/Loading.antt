@@ -1,15 +1,14 @@
 -- What the parts of loading answer, over folders that tell what they hold.
-use Rattle.std.specs.Prelude.{◌≡◌, ℕ, ◌≤◌, ◌<◌, List, Bool, true, false, Some, Option, None, Result, Ok, Err, IsTrue, ⊤, length, is_some}
+use Rattle.std.specs.Prelude.{◌≡◌, ℕ, ◌≤◌, List, Some, Option, None, Result, Ok, Err, IsTrue, ⊤, is_some}
 use Rattle.sj_trees.specs.declared.classes.ClassDef.{ClassDef}
 use Rattle.sj_outside.specs.Contents.{Parts, no_parts, file_part, folder_at, file_at}
 use Rattle.sj_outside.specs.Faults.{Rose}
 use Rattle.sj_outside.specs.declared.answers.OutsideError.{OutsideError}
 use Rattle.sj_outside.specs.declared.answers.OutsideError.TheVariants as Outside
-use Rattle.sj_format.specs.Files.{FileIs}
 use Rattle.sj_link.specs.FirstForm.{is_first_class}
 use Rattle.sjslink.specs.Command.{LinkWords}
 use Rattle.sjslink.specs.EntryLine.{EntryLine}
-use Rattle.sjslink.specs.Input.{HasEntry, HasClass, Program, IsProgram, is_class_file, most_class}
+use Rattle.sjslink.specs.Input.{Program, IsProgram, is_class_file}
 use Rattle.sjslink.specs.Output.{IsLinked, module_file}
 use Rattle.sjslink.specs.declared.loading.LoadError.{LoadError}
 use Rattle.sjslink.specs.declared.loading.LoadError.TheVariants.{NotBuilt, ReadFault, NoMemory}

@@ -1,6 +1,5 @@
-use Rattle.std.proofs.Common.{◌≡◌, ℕ, List, [], ◌∷◌, map, sym, ap, subst, ◌∙◌, inl, Some, None}
+use Rattle.std.proofs.Common.{◌≡◌, [], ◌∷◌, map, sym, ap, subst, ◌∙◌, inl, Some, None}
 use Rattle.std.specs.Prelude.{string_bytes}
-use Rattle.sj_outside.specs.Contents.{Parts}
 use Rattle.sj_outside.specs.Writing.{line}
 use Rattle.sj_outside.proofs.Laws.{Appends-none}
 use Rattle.sjslink.specs.Command.{command}
