@@ -1,0 +1,5 @@
+use Rattle.sjslink.proofs.OneOutput.{has_one_output}
+use Rattle.sjslink.proofs.laws.output_is_one.Goals as goal
+
+pub returns : goal.returns
+returns c = has_one_output

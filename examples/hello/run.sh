@@ -1,0 +1,16 @@
+#!/usr/bin/env bash
+# Links the class of this folder, and runs the module that is written under node, or prints it where there is no node.
+set -euo pipefail
+cd "$(dirname "${BASH_SOURCE[0]}")"
+
+out="$(mktemp -d)"
+trap 'rm -rf "$out"' EXIT
+
+../../sjslink.sh link --optimize off entries "$out" classes
+
+if command -v node > /dev/null; then
+  cp "$out/1/main.js" "$out/main.mjs"
+  node "$out/main.mjs"
+else
+  cat "$out/1/main.js"
+fi
