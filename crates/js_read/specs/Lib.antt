@@ -1,0 +1,4 @@
+pub mod Fronts
+pub mod Gives
+pub mod Lines
+pub mod Runs

@@ -1,0 +1,122 @@
+// Lines of a module.
+ghost use Rattle.std.specs.Prelude.{◌≡◌, ◌++◌, IfOk, codes, true};
+ghost use Rattle.std.specs.List.{list_all};
+ghost use Rattle.exact_place.specs.Reading.{after_at, lead_at, value_at};
+ghost use Rattle.js_tree.specs.Names.{is_file_character};
+ghost use Rattle.js_read.specs.Gives.{Gives};
+ghost use Rattle.js_read.specs.Lines.{line_view};
+ghost use Rattle.js_spelling.specs.Modules as reading;
+ghost use Rattle.js_spelling.specs.declared.words.LineHead.TheVariants as heads;
+
+use crate::bytes::{literal, next_is_word_start};
+use crate::expressions::wordless_of;
+use crate::heads::line_head_of;
+use crate::items::{item_after, names_of};
+use crate::names::{file_text, has_nothing, split_file};
+use crate::stop::Stop;
+use js_spelling::{ItemHead, LineHead};
+use js_tree::{JsImport, JsItem};
+use sj_names::{Items, Text};
+use std::alloc::Global;
+
+/// A line of a module, or an item on its lines.
+#[derive(Drop)]
+pub enum Line {
+    Import(JsImport),
+    Item(JsItem),
+    Export(Items<Text>),
+}
+
+/// What a reader of lines gives: the line and the rest.
+type Read<'a> = Result<(Line, &'a [u8]), Stop>;
+
+/// The characters of a file's name before `.js`.
+#[tactic(auto, using(crate::proofs::FileSteps::file_steps))]
+fn file_front_of(bytes: &[u8]) -> Result<(&[u8], &[u8]), Stop>
+    ensures gives { Gives (λ x. (x.0.now, x.1.now)) result (reading.file_front_at bytes.now) }
+    ensures characters { IfOk result (λ x. list_all is_file_character x.0.now ≡ true) }
+{
+    let (front, rest) = split_file(bytes);
+    if has_nothing(front) {
+        Err(Stop::Bad(rest.len()))
+    } else {
+        Ok((front, rest))
+    }
+}
+
+/// The name of a file.
+#[tactic(auto, unfolding(js_spelling::specs::Modules::file_at))]
+fn file_of<'a>(alloc: Global, bytes: &'a [u8]) -> Result<(Text, &'a [u8]), Stop>
+    ensures { Gives (λ x. (x.0, x.1.now)) result (reading.file_at bytes.now) }
+{
+    let (front, rest) = file_front_of(bytes)?;
+    let rest = literal(b".js", rest)?;
+    Ok((file_text(alloc, front)?, rest))
+}
+
+/// The file of an import line, behind its names.
+fn import_of<'a>(alloc: Global, names: Items<Text>, bytes: &'a [u8]) -> Read<'a>
+    ensures { Gives (λ x. (line_view x.0, x.1.now)) result (lead_at (codes " } from \"./") (after_at reading.file_at (λ f. lead_at (codes "\";\n") (value_at (reading.import_line (record { names = names; file = f }))))) bytes.now) }
+{
+    let rest = literal(b" } from \"./", bytes)?;
+    let (file, rest) = file_of(alloc, rest)?;
+    let rest = literal(b"\";\n", rest)?;
+    Ok((Line::Import(JsImport { names, file }), rest))
+}
+
+/// What stands behind `import`.
+#[tactic(auto, unfolding(js_spelling::specs::Modules::line_after_at))]
+fn import_after<'a>(alloc: Global, fuel: usize, bytes: &'a [u8]) -> Read<'a>
+    ensures { Gives (λ x. (line_view x.0, x.1.now)) result (reading.line_after_at fuel heads.Import bytes.now) }
+{
+    let rest = literal(b" { ", bytes)?;
+    let (names, rest) = names_of(alloc, fuel, rest)?;
+    import_of(alloc, names, rest)
+}
+
+/// What stands behind `export`.
+#[tactic(auto, unfolding(js_spelling::specs::Modules::line_after_at))]
+fn export_after<'a>(alloc: Global, fuel: usize, bytes: &'a [u8]) -> Read<'a>
+    ensures { Gives (λ x. (line_view x.0, x.1.now)) result (reading.line_after_at fuel heads.Export bytes.now) }
+{
+    let rest = literal(b" { ", bytes)?;
+    let (names, rest) = names_of(alloc, fuel, rest)?;
+    let rest = literal(b" };\n", rest)?;
+    Ok((Line::Export(names), rest))
+}
+
+/// An item and its line feed, behind its first word.
+#[tactic(auto, unfolding(js_spelling::specs::Modules::line_after_at))]
+fn item_line_after<'a>(alloc: Global, fuel: usize, head: ItemHead, bytes: &'a [u8]) -> Read<'a>
+    ensures { Gives (λ x. (line_view x.0, x.1.now)) result (reading.line_after_at fuel (heads.Item head) bytes.now) }
+{
+    let (item, rest) = item_after(alloc, fuel, head, bytes)?;
+    let rest = literal(b"\n", rest)?;
+    Ok((Line::Item(item), rest))
+}
+
+/// A line behind its first word.
+fn line_after<'a>(alloc: Global, fuel: usize, head: LineHead, bytes: &'a [u8]) -> Read<'a>
+    ensures { Gives (λ x. (line_view x.0, x.1.now)) result (reading.line_after_at fuel head bytes.now) }
+{
+    match head {
+        LineHead::Import => import_after(alloc, fuel, bytes),
+        LineHead::Export => export_after(alloc, fuel, bytes),
+        LineHead::Item(head) => item_line_after(alloc, fuel, head, bytes),
+    }
+}
+
+/// A line, where an import may come or not any more.
+#[tactic(auto, unfolding(js_spelling::specs::Modules::line_at))]
+pub fn line_of<'a>(alloc: Global, fuel: usize, imports: bool, bytes: &'a [u8]) -> Read<'a>
+    ensures { Gives (λ x. (line_view x.0, x.1.now)) result (reading.line_at fuel imports bytes.now) }
+{
+    if next_is_word_start(bytes) {
+        let (head, rest) = line_head_of(alloc, imports, bytes)?;
+        line_after(alloc, fuel, head, rest)
+    } else {
+        let (expression, rest) = wordless_of(alloc, fuel, bytes)?;
+        let rest = literal(b";\n", rest)?;
+        Ok((Line::Item(JsItem::Expression(expression)), rest))
+    }
+}
