@@ -1,0 +1,4 @@
+pub mod Orders
+pub mod ByName
+pub mod Counts
+pub mod Twice

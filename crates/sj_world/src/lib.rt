@@ -1,0 +1,12 @@
+//! Worlds of classes: what stands above a class, which type is a subtype of which, and which method a call runs.
+//!
+//! A contract sees a world as the list of its classes, in the order of the bytes of their names.
+#![tactic(auto)]
+
+mod known;
+mod order;
+mod resolving;
+mod worlds;
+
+pub use resolving::Resolution;
+pub use worlds::WorldError;
