@@ -1,5 +1,6 @@
 -- What stands above a class: its parents, its ancestors, the chain of its superclasses.
 use Rattle.std.specs.Prelude.{◌≡◌, ℕ, Bool, true, false, List, [], ◌∷◌, ◌++◌, Option, Some, None, Contains, if◌then◌else◌}
+use Rattle.std.specs.List.{filter}
 use Rattle.sj_trees.specs.declared.classes.ClassDef.{ClassDef}
 use Rattle.sj_world.specs.Paths.{Path}
 use Rattle.sj_world.specs.Known.{Name, Classes, class_of, is_known, is_hijacked, stands_as, object}
@@ -12,16 +13,23 @@ listed (Some name) = name ∷ []
 abbrev pub written : ClassDef → List Name
 written c = listed c.superclass ++ c.interfaces
 
--- D is the superclass or an interface of C, as the folder writes it
-pub record IsWritten (w : Classes) (below above : Name) : Type 0 where
-  pub class : ClassDef
-  pub is_class : class_of w below ≡ Some class
-  pub among : Contains (written class) above
+abbrev pub written_in : Option ClassDef → List Name
+written_in None = []
+written_in (Some c) = written c
 
--- D stands one step above C: what is written and known, and above every known class `java.lang.Object`
-pub data IsParent (w : Classes) (below : Name) : Name → Type 0 where
-  by_text : (above : Name) → IsWritten w (stands_as below) above → is_known w above ≡ true → IsParent w below above
-  by_rule : is_known w below ≡ true → IsParent w below object
+-- what the folder writes directly above the class of this name
+abbrev pub written_above : Classes → Name → List Name
+written_above w name = written_in (class_of w name)
+
+abbrev pub IsWritten : Classes → Name → Name → Type 0
+IsWritten w below above = Contains (written_above w below) above
+
+-- what stands one step above a class that is known: `java.lang.Object`, and what is written and known
+abbrev pub parents : Classes → Name → List Name
+parents w name = if is_known w name then object ∷ filter (is_known w) (written_above w (stands_as name)) else []
+
+abbrev pub IsParent : Classes → Name → Name → Type 0
+IsParent w below above = Contains (parents w below) above
 
 -- the class itself, where it is known, and what a path of parents leads to
 pub record IsAncestor (w : Classes) (below above : Name) : Type 0 where

@@ -1,7 +1,7 @@
 -- The classes of a world by their names, and the classes that every world knows.
 use Rattle.std.specs.Prelude.{ℕ, Bool, true, false, List, [], ◌∷◌, ◌||◌, Option, Some, None, is_some, nat_eq, codes, if◌then◌else◌}
 use Rattle.std.specs.Cmp.Lexicographic.{pointwise}
-use Rattle.std.specs.List.{list_any}
+use Rattle.indexmap.specs.IndexSet.{insert_key}
 use Rattle.sj_trees.specs.declared.classes.ClassDef.{ClassDef}
 
 -- the text of a class's name
@@ -39,3 +39,8 @@ is_known w name = is_some (class_of w name) || is_hijacked name
 -- is what stands above `java.lang.Integer`
 abbrev pub stands_as : Name → Name
 stands_as name = if is_same name (codes "java.lang.Byte") || is_same name (codes "java.lang.Short") then integer else name
+
+-- names with others put behind them, those that aren't there yet
+abbrev pub with_names : List Name → List Name → List Name
+with_names names [] = names
+with_names names (n ∷ ns) = with_names (insert_key is_same names n) ns

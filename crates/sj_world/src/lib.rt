@@ -3,6 +3,9 @@
 //! A contract sees a world as the list of its classes, in the order of the bytes of their names.
 #![tactic(auto)]
 
+mod above;
+mod chains;
+mod cycles;
 mod known;
 mod order;
 mod resolving;
