@@ -6,3 +6,4 @@ pub mod Worklist
 pub mod Found
 pub mod OnCycles
 pub mod Climbed
+pub mod Lined

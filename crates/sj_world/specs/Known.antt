@@ -1,6 +1,7 @@
 -- The classes of a world by their names, and the classes that every world knows.
 use Rattle.std.specs.Prelude.{ℕ, Bool, true, false, List, [], ◌∷◌, ◌||◌, Option, Some, None, is_some, nat_eq, codes, if◌then◌else◌}
 use Rattle.std.specs.Cmp.Lexicographic.{pointwise}
+use Rattle.std.specs.List.{list_any}
 use Rattle.indexmap.specs.IndexSet.{insert_key}
 use Rattle.sj_trees.specs.declared.classes.ClassDef.{ClassDef}
 
@@ -22,9 +23,11 @@ abbrev pub integer : Name
 integer = codes "java.lang.Integer"
 
 -- the eight classes whose instances are primitive values
+abbrev pub hijacked : List Name
+hijacked = codes "java.lang.Void" ∷ codes "java.lang.Boolean" ∷ codes "java.lang.Character" ∷ codes "java.lang.Byte" ∷ codes "java.lang.Short" ∷ codes "java.lang.Integer" ∷ codes "java.lang.Long" ∷ codes "java.lang.String" ∷ []
+
 abbrev pub is_hijacked : Name → Bool
-is_hijacked name = is_same name (codes "java.lang.Void") || is_same name (codes "java.lang.Boolean") || is_same name (codes "java.lang.Character") || is_same name (codes "java.lang.Byte")
-    || is_same name (codes "java.lang.Short") || is_same name (codes "java.lang.Integer") || is_same name (codes "java.lang.Long") || is_same name (codes "java.lang.String")
+is_hijacked name = list_any (is_same name) hijacked
 
 -- the class of this name
 abbrev pub class_of : Classes → Name → Option ClassDef
@@ -39,6 +42,11 @@ is_known w name = is_some (class_of w name) || is_hijacked name
 -- is what stands above `java.lang.Integer`
 abbrev pub stands_as : Name → Name
 stands_as name = if is_same name (codes "java.lang.Byte") || is_same name (codes "java.lang.Short") then integer else name
+
+-- the names of the classes
+abbrev pub names_of : Classes → List Name
+names_of [] = []
+names_of (c ∷ w) = c.name ∷ names_of w
 
 -- names with others put behind them, those that aren't there yet
 abbrev pub with_names : List Name → List Name → List Name

@@ -1,7 +1,7 @@
 pub mod Paths
 pub mod Known
 pub mod Ancestors
-pub mod Tables
 pub mod Refusals
+pub mod Tables
 pub mod Subtypes
 pub mod Resolution

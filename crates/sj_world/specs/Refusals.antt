@@ -54,3 +54,9 @@ abbrev pub IsRefused : Classes → WorldError → Type 0
 IsRefused given (DuplicateClass name) = IsLeastTwice given name
 IsRefused given (Cycle name) = IsCyclic given name
 IsRefused given NoMemory = Unit {0}
+
+-- why classes in order are refused: the least on a cycle
+abbrev pub IsRefusedForCycle : Classes → WorldError → Type 0
+IsRefusedForCycle w (DuplicateClass name) = ⊥
+IsRefusedForCycle w (Cycle name) = IsLeastOnCycle w name
+IsRefusedForCycle w NoMemory = Unit {0}

@@ -7,9 +7,10 @@ mod above;
 mod chains;
 mod cycles;
 mod known;
+mod lines;
 mod order;
 mod resolving;
 mod worlds;
 
 pub use resolving::Resolution;
-pub use worlds::WorldError;
+pub use worlds::{World, WorldError};
