@@ -64,3 +64,6 @@ module _ (w : Classes) (sorted : IsInOrder w) where
 
       differs : (j : ℕ) (y : ClassDef) → slice_get w j ≡ Some y → is_same y.name name ≡ false
       differs j y h = at_side j y h (grind arith)
+
+pub name_is : (w : Classes) (name : Name) (x : ClassDef) → Some x ≡ class_of w name → x.name ≡ name
+name_is w name x e = name_of_class w name x (sym e)

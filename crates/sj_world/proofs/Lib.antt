@@ -7,3 +7,6 @@ pub mod Found
 pub mod OnCycles
 pub mod Climbed
 pub mod Lined
+pub mod Subtyped
+pub mod Searches
+pub mod Bodies

@@ -5,7 +5,7 @@ use Rattle.std.specs.List.{list_any}
 use Rattle.std.specs.Ordering.{is_eq}
 use Rattle.std.specs.BTreeMap.{BTreeMap}
 use Rattle.std.specs.Cmp.Lexicographic.{texts_ties}
-use Rattle.std.proofs.lemmas.Option.{MatchOption-at_some}
+use Rattle.std.proofs.lemmas.Option.{slice_get_within, get_or_from_slice_get}
 use Rattle.std.proofs.lemmas.List.Elements.{Contains-append_left, Contains-append_right, Contains-append_cases, Contains-push, Contains-push_cases}
 use Rattle.sj_trees.specs.declared.classes.ClassDef.{ClassDef}
 use Rattle.sj_world.specs.declared.lines.Line.{Line}
@@ -103,3 +103,6 @@ lined_whole w lines l = record { right = λ name. right name (line_at lines name
     right : (name : Name) → (o : Option Line) → line_at lines name ≡ o → MatchOption (line_at lines name) (is_known w name ≡ false) (IsLine w name)
     right name None e = subst (λ (o : Option Line). MatchOption o (is_known w name ≡ false) (IsLine w name)) (sym e) (unknown name e (is_known w name) refl)
     right name (Some line) e = subst (λ (o : Option Line). MatchOption o (is_known w name ≡ false) (IsLine w name)) (sym e) (l.sound name line e)
+
+pub found_name : (names : Names) (i : ℕ) (x text : Name) → slice_get names i ≡ Some x → is_same text x ≡ true → Some x ≡ cond (list_any (is_same text) names) (Some text) None
+found_name names i x text at e = ap Some (sym (same_name text x e)) ∙ sym (ap (λ (b : Bool). cond b (Some text) None) ((among names text).1 (i, slice_get_within names i x at, get_or_from_slice_get names i x text at ∙ sym (same_name text x e))))

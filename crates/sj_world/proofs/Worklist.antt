@@ -64,7 +64,6 @@ from-with_names keys (n ∷ ns) x h = elim (from-with_names (insert_key is_same 
 into-with_names : (keys ns : Names) (x : List ℕ) → Contains keys x → Contains (with_names keys ns) x
 into-with_names keys ns x h = let g = with_names-grows keys ns in subst (λ (l : Names). Contains l x) (sym g.parts) (Contains-append_left keys g.more x h)
 
-
 each-with_names : (keys ns : Names) (x : List ℕ) → Contains ns x → Contains (with_names keys ns) x
 each-with_names keys [] x h = nothing_in x h
 each-with_names keys (n ∷ ns) x h = elim (Contains-append_cases (n ∷ []) ns x h) [ inl first ↦ at_first (Contains-push_cases [] n x first) | inr later ↦ each-with_names (insert_key is_same keys n) ns x later ]

@@ -4,4 +4,5 @@ pub mod Ancestors
 pub mod Refusals
 pub mod Tables
 pub mod Subtypes
+pub mod Under
 pub mod Resolution

@@ -7,7 +7,8 @@ use Rattle.std.specs.Prelude.{Bool, false, MatchOption, if◌then◌else◌}
 use Rattle.std.specs.Ordering.{is_eq}
 use Rattle.std.specs.BTreeMap.{BTreeMap, get}
 use Rattle.sj_world.specs.declared.lines.Line.{Line}
-use Rattle.sj_world.specs.Known.{Name, Classes, is_known}
+use Rattle.sj_world.specs.declared.lines.Tables.{Tables}
+use Rattle.sj_world.specs.Known.{Name, Classes, is_known, hijacked}
 use Rattle.sj_world.specs.Refusals.{IsInOrder, HasNoCycle}
 use Rattle.sj_world.specs.Ancestors.{IsAncestor, IsNext}
 
@@ -41,8 +42,13 @@ pub record IsAdded (w : Classes) (name : Name) (before after : BTreeMap Name Lin
   pub is_line : IsLine w name line
   pub gets : (other : Name) → line_at after other ≡ (if is_eq (slice_cmp nat_cmp name other) then Some line else line_at before other)
 
--- the tables of a world are right
-pub record IsBuilt (w : Classes) (lines : BTreeMap Name Line) : Type 0 where
+-- the tables of classes
+pub record AreTables (w : Classes) (tables : Tables) : Type 0 where
+  pub lines_right : AreLines w tables.lines
+  pub hijacked_right : tables.hijacked ≡ hijacked
+
+-- classes in order, none above itself, with their tables
+pub record IsBuilt (w : Classes) (tables : Tables) : Type 0 where
   pub in_order : IsInOrder w
   pub no_cycle : HasNoCycle w
-  pub tables : AreLines w lines
+  pub right : AreTables w tables

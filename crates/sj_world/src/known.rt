@@ -6,6 +6,7 @@ ghost use Rattle.sj_world.specs.Refusals.{IsInOrder};
 use sj_trees::ClassDef;
 
 pub const OBJECT: &str = "java.lang.Object";
+
 pub const INTEGER: &str = "java.lang.Integer";
 
 // Whether `name` is one of the eight classes whose instances are primitive values.

@@ -8,8 +8,10 @@ mod chains;
 mod cycles;
 mod known;
 mod lines;
+mod members;
 mod order;
 mod resolving;
+mod subtypes;
 mod worlds;
 
 pub use resolving::Resolution;

@@ -3,7 +3,7 @@ ghost use Rattle.std.specs.Prelude.{◌≡◌, ◌++◌, ◌∷◌, [], true, If
 ghost use Rattle.sj_names.specs.Grammar.{is_class_name};
 ghost use Rattle.sj_world.specs.Known as known;
 ghost use Rattle.sj_world.specs.Known.{is_known, hijacked, names_of};
-ghost use Rattle.sj_world.specs.Tables.{IsLine, IsAdded, AreLines};
+ghost use Rattle.sj_world.specs.Tables.{IsLine, IsAdded, AreLines, AreTables};
 ghost use Rattle.sj_world.specs.Refusals.{IsInOrder};
 
 use crate::above::ancestors_of;
@@ -21,8 +21,32 @@ pub struct Line {
     pub chain: Items<ClassName>,
 }
 
-/// What stands above each known class.
-pub fn lines_of(alloc: Global, classes: &[ClassDef]) -> Result<BTreeMap<ClassName, Line>, NoMemory>
+/// What stands above each known class, and the names of the eight that every world knows.
+#[derive(Drop)]
+pub struct Tables {
+    pub lines: BTreeMap<ClassName, Line>,
+    pub hijacked: Items<ClassName>,
+}
+
+/// The tables of these classes.
+pub fn tables_of(alloc: Global, classes: &[ClassDef]) -> Result<Tables, NoMemory>
+    requires { IsInOrder classes.now }
+    ensures { IfOk result (AreTables classes.now) }
+{
+    let hijacked = hijacked_names(alloc)?;
+    let lines = lines_of(alloc, classes)?;
+    Ok(Tables { lines, hijacked })
+}
+
+fn hijacked_names(alloc: Global) -> Result<Items<ClassName>, NoMemory>
+    ensures { IfOk result (λ names. names ≡ hijacked) }
+{
+    let mut names = Vec::new(alloc);
+    add_hijacked(alloc, &mut names)?;
+    Ok(Items::from_vec(names))
+}
+
+fn lines_of(alloc: Global, classes: &[ClassDef]) -> Result<BTreeMap<ClassName, Line>, NoMemory>
     requires { IsInOrder classes.now }
     ensures { IfOk result (AreLines classes.now) }
 {

@@ -1,17 +1,17 @@
 // Worlds.
-ghost use Rattle.std.specs.Prelude.{◌≡◌, false, MatchResult, MatchOption, option_map};
-ghost use Rattle.sj_world.specs.Known.{class_of, is_known};
+ghost use Rattle.std.specs.Prelude.{◌≡◌, true, false, if◌then◌else◌, MatchResult, MatchOption, option_map};
+ghost use Rattle.std.specs.List.{list_any};
+ghost use Rattle.sj_world.specs.Known.{class_of, is_known, is_hijacked, is_same};
 ghost use Rattle.sj_world.specs.Tables.{AreAncestors, AreChain};
 ghost use Rattle.sj_world.specs.Refusals.{IsInOrder, HasNoCycle, IsWorldOf, IsRefused, IsRefusedForCycle};
 
 use crate::cycles::least_on_cycle;
 use crate::known::class_in;
-use crate::lines::{Line, lines_of};
+use crate::lines::{Tables, tables_of};
 use crate::order::in_order;
 use sj_names::{ClassName, NoMemory};
 use sj_trees::ClassDef;
 use std::alloc::{AllocError, AllocFailed, Global};
-use std::collections::BTreeMap;
 use std::marker::Model;
 use thiserror::Error;
 
@@ -63,7 +63,7 @@ impl From<NoMemory> for WorldError {
 #[derive(Drop)]
 pub struct World {
     classes: Vec<ClassDef>,
-    lines: BTreeMap<ClassName, Line>,
+    tables: Tables,
 }
 
 impl Model for World {
@@ -80,7 +80,7 @@ impl Model for World {
 
     ghost view = { λ w. w.classes.items };
 
-    ghost invariant = { λ w. IsBuilt w.classes.items w.lines };
+    ghost invariant = { λ w. IsBuilt w.classes.items w.tables };
 }
 
 impl World {
@@ -91,8 +91,8 @@ impl World {
     {
         let classes = in_order(classes)?;
         no_cycle(alloc, &classes)?;
-        let lines = lines_of(alloc, &classes)?;
-        Ok(World { classes, lines })
+        let tables = tables_of(alloc, &classes)?;
+        Ok(World { classes, tables })
     }
 
     /// The classes, in the order of the bytes of their names.
@@ -116,7 +116,7 @@ impl World {
     pub fn ancestors(&self, name: &ClassName) -> Option<&[ClassName]>
         ensures { MatchOption result (is_known self.now name.now ≡ false) (λ names. AreAncestors self.now name.now names.now) }
     {
-        match self.lines.get(name) {
+        match self.tables.lines.get(name) {
             Some(line) => Some(line.ancestors.as_slice()),
             None => None,
         }
@@ -126,11 +126,31 @@ impl World {
     pub fn chain(&self, name: &ClassName) -> Option<&[ClassName]>
         ensures { MatchOption result (is_known self.now name.now ≡ false) (λ names. AreChain self.now name.now names.now) }
     {
-        match self.lines.get(name) {
+        match self.tables.lines.get(name) {
             Some(line) => Some(line.chain.as_slice()),
             None => None,
         }
     }
+
+    // The name of one of the eight hijacked classes.
+    pub(crate) fn hijacked_name(&self, text: &str) -> Option<&ClassName>
+        requires { is_hijacked text.now ≡ true }
+        ensures { option_map (λ name. name.now) result ≡ Some text.now }
+    {
+        name_in(self.tables.hijacked.as_slice(), text)
+    }
+}
+
+// The name with this text.
+fn name_in<'n>(names: &'n [ClassName], text: &str) -> Option<&'n ClassName>
+    ensures { option_map (λ name. name.now) result ≡ (if list_any (is_same text.now) names.now then Some text.now else None) }
+{
+    for name in names {
+        if text == name.text() {
+            return Some(name);
+        }
+    }
+    None
 }
 
 // That no class stands above itself; else the least that does.
