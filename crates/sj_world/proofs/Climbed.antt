@@ -1,7 +1,7 @@
 -- The chain of superclasses of a class, found step by step.
 use Rattle.std.proofs.Common.{◌≡◌, ℕ, zero, suc, ◌+◌, ◌≤◌, ◌<◌, Bool, true, false, List, [], ◌∷◌, ◌++◌, Contains, slice_get, take, Option, Some, None, refl, sym, ap, ◌∙◌, subst, length, arith, inl, inr, cond}
 use Rattle.std.specs.Prelude.{◌⊎◌, ◌↔◌}
-use Rattle.std.specs.List.{list_any}
+use Rattle.std.specs.List.{list_any, IsDistinct}
 use Rattle.std.proofs.lemmas.List.{length-append}
 use Rattle.std.proofs.lemmas.List.Elements.{Contains-push}
 use Rattle.std.proofs.lemmas.Option.{slice_get_within}
@@ -81,8 +81,8 @@ climbing_goes_on w name at next keys c here =
 pub climbing_at : (w : Classes) (name : Name) (next : ℕ) (keys others : Names) → others ≡ keys → Climbing w name next keys → Climbing w name next others
 climbing_at w name next keys others e c = subst (λ (l : Names). Climbing w name next l) (sym e) c
 
-pub climbed : (w : Classes) (name : Name) (next : ℕ) (keys : Names) → Climbing w name next keys → length keys ≤ next → AreChain w name keys
-climbed w name next keys c over = record { begins = c.begins; linked = c.links.linked; closed = λ a b h up. c.work.closed a b (subst (λ (l : Names). Contains l a) (sym all) h) (leads a b up) }
+pub climbed : (w : Classes) (name : Name) (next : ℕ) (keys : Names) → Climbing w name next keys → length keys ≤ next → IsDistinct is_same keys → AreChain w name keys
+climbed w name next keys c over once = record { once = once; begins = c.begins; linked = c.links.linked; closed = λ a b h up. c.work.closed a b (subst (λ (l : Names). Contains l a) (sym all) h) (leads a b up) }
   where
     le_both : {m n : ℕ} → m ≤ n → n ≤ m → m ≡ n
     le_both p q = omega arith

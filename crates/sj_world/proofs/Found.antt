@@ -3,10 +3,11 @@ use Rattle.std.proofs.Common.{◌≡◌, ℕ, ◌≤◌, true, List, [], ◌∷�
 use Rattle.std.specs.Prelude.{◌↔◌, ◌⊎◌}
 use Rattle.std.specs.Ordering.{nat_cmp}
 use Rattle.std.specs.Cmp.Lexicographic.{slice_cmp}
+use Rattle.std.specs.List.{IsDistinct}
 use Rattle.std.specs.List.Sorted.{IsSorted, IsPermutation}
 use Rattle.std.proofs.lemmas.List.Sorted.{Contains-permutation, IsPermutation-sym}
 use Rattle.std.proofs.lemmas.List.Elements.{Contains-push, Contains-push_cases}
-use Rattle.sj_world.specs.Known.{Name, Classes, is_known, with_names}
+use Rattle.sj_world.specs.Known.{Name, Classes, is_same, is_known, with_names}
 use Rattle.sj_world.specs.Paths.{Path}
 use Rattle.sj_world.specs.Ancestors.{IsAncestor, IsParent, parents}
 use Rattle.sj_world.specs.Tables.{AreAncestors}
@@ -30,8 +31,9 @@ ancestors_found w name next keys known work over x =
     let both = working_ends (parents w) (name ∷ []) next keys work over x in
     (λ h. record { known = known; path = reached_from (parents w) name x (both.0 h) }, λ a. both.1 (reached_by (parents w) name x a.path))
 
-pub ancestors_sorted : (w : Classes) (name : Name) (keys list names : Names) → ((x : Name) → Contains keys x ↔ IsAncestor w name x) → list ≡ keys → IsPermutation list names → IsSorted (slice_cmp nat_cmp) names → AreAncestors w name names
-ancestors_sorted w name keys list names exact e p sorted = record {
-  sorted = sorted;
-  exact = λ x. (λ h. (exact x).0 (subst (λ (l : Names). Contains l x) e (Contains-permutation names list x (IsPermutation-sym list names p) h)), λ a. Contains-permutation list names x p (subst (λ (l : Names). Contains l x) (sym e) ((exact x).1 a)));
-}
+pub ancestors_sorted : (w : Classes) (name : Name) (keys sorted list : Names) → ((x : Name) → Contains keys x ↔ IsAncestor w name x) → IsPermutation keys sorted → IsSorted (slice_cmp nat_cmp) sorted → IsDistinct is_same sorted → list ≡ sorted → AreAncestors w name list
+ancestors_sorted w name keys sorted list exact p up once e = subst (AreAncestors w name) (sym e) (record {
+  sorted = up;
+  once = once;
+  exact = λ x. (λ h. (exact x).0 (Contains-permutation sorted keys x (IsPermutation-sym keys sorted p) h), λ a. Contains-permutation keys sorted x p ((exact x).1 a));
+})

@@ -10,3 +10,5 @@ pub mod Lined
 pub mod Subtyped
 pub mod Searches
 pub mod Bodies
+pub mod LawsHold
+pub mod Once

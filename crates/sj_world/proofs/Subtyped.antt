@@ -85,7 +85,7 @@ module _ (w : Classes) where
   under_array (Array a) b (inr k) = arrays_of_arrays a b refl refl k.dimensions k.base
   under_array _ b h = absurd h
 
-  under_sub : (s t : IrType) → IsUnder w s t → IsSub w s t
+  pub under_sub : (s t : IrType) → IsUnder w s t → IsSub w s t
   under_sub s Any h = to_any refl h
   under_sub s (Class d) h = under_class s d h
   under_sub s (Array b) h = under_array s b h
@@ -103,16 +103,20 @@ module _ (w : Classes) where
   class_above String c d e a = subst (λ (o : Option Name). IsAncestorOfAny w o d) (sym e) a
   class_above _ c d e a = cc
 
+  -- a subtype is equal, nothing, or below by what is above
+  pub parted : (s t : IrType) → IsSub w s t → (s ≡ t) ⊎ ((s ≡ Nothing) ⊎ IsUnder w s t)
+  parted s t (equal e) = inl e
+  parted s t (from_nothing e) = inr (inl e)
+  parted s t (to_any e n) = inr (inr (subst (IsUnder w s) (sym e) n))
+  parted s t (null_to_class d e f) = inr (inr (subst (IsUnder w s) (sym f) (subst (λ (x : IrType). IsUnderClass w x d) (sym e) tt)))
+  parted s t (null_to_array b e f) = inr (inr (subst (IsUnder w s) (sym f) (subst (λ (x : IrType). IsUnderArray w x b) (sym e) tt)))
+  parted s t (class_to_class c d e f a) = inr (inr (subst (IsUnder w s) (sym f) (subst (λ (x : IrType). IsUnderClass w x d) (sym e) a)))
+  parted s t (primitive_to_class c d e f a) = inr (inr (subst (IsUnder w s) (sym f) (class_above s c d e a)))
+  parted s t (arrays_alike a b e f g h) = inr (inr (subst (IsUnder w s) (sym f) (subst (λ (x : IrType). IsUnderArray w x b) (sym e) (inl (record { dimensions = g; bases = h })))))
+  parted s t (arrays_of_arrays a b e f g h) = inr (inr (subst (IsUnder w s) (sym f) (subst (λ (x : IrType). IsUnderArray w x b) (sym e) (inr (record { dimensions = g; base = h })))))
+
   sub_under : (s t : IrType) → IsSub w s t → (s ≡ t → ⊥) → (s ≡ Nothing → ⊥) → IsUnder w s t
-  sub_under s t (equal e) differ some = absurd (differ e)
-  sub_under s t (from_nothing e) differ some = absurd (some e)
-  sub_under s t (to_any e n) differ some = subst (IsUnder w s) (sym e) n
-  sub_under s t (null_to_class d e f) differ some = subst (IsUnder w s) (sym f) (subst (λ (x : IrType). IsUnderClass w x d) (sym e) tt)
-  sub_under s t (null_to_array b e f) differ some = subst (IsUnder w s) (sym f) (subst (λ (x : IrType). IsUnderArray w x b) (sym e) tt)
-  sub_under s t (class_to_class c d e f a) differ some = subst (IsUnder w s) (sym f) (subst (λ (x : IrType). IsUnderClass w x d) (sym e) a)
-  sub_under s t (primitive_to_class c d e f a) differ some = subst (IsUnder w s) (sym f) (class_above s c d e a)
-  sub_under s t (arrays_alike a b e f g h) differ some = subst (IsUnder w s) (sym f) (subst (λ (x : IrType). IsUnderArray w x b) (sym e) (inl (record { dimensions = g; bases = h })))
-  sub_under s t (arrays_of_arrays a b e f g h) differ some = subst (IsUnder w s) (sym f) (subst (λ (x : IrType). IsUnderArray w x b) (sym e) (inr (record { dimensions = g; base = h })))
+  sub_under s t h differ some = elim (parted s t h) [ inl e ↦ absurd (differ e) | inr (inl e) ↦ absurd (some e) | inr (inr k) ↦ k ]
 
   pub sub_tested : (s t : IrType) (r : Bool) → IsTrue r ↔ IsUnder w s t → (s ≡ t → ⊥) → (s ≡ Nothing → ⊥) → IsTrue r ↔ IsSub w s t
   sub_tested s t r both differ some = (λ h. under_sub s t (both.0 h), λ k. both.1 (sub_under s t k differ some))

@@ -6,3 +6,4 @@ pub mod Tables
 pub mod Subtypes
 pub mod Under
 pub mod Resolution
+pub mod Laws

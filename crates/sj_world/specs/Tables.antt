@@ -2,26 +2,29 @@
 use Rattle.std.specs.Prelude.{◌≡◌, ◌↔◌, ℕ, ◌+◌, List, Some, Contains, slice_get, Option}
 use Rattle.std.specs.Ordering.{nat_cmp}
 use Rattle.std.specs.Cmp.Lexicographic.{slice_cmp}
+use Rattle.std.specs.List.{IsDistinct}
 use Rattle.std.specs.List.Sorted.{IsSorted}
 use Rattle.std.specs.Prelude.{Bool, false, MatchOption, if◌then◌else◌}
 use Rattle.std.specs.Ordering.{is_eq}
 use Rattle.std.specs.BTreeMap.{BTreeMap, get}
 use Rattle.sj_world.specs.declared.lines.Line.{Line}
 use Rattle.sj_world.specs.declared.lines.Tables.{Tables}
-use Rattle.sj_world.specs.Known.{Name, Classes, is_known, hijacked}
+use Rattle.sj_world.specs.Known.{Name, Classes, is_same, is_known, hijacked}
 use Rattle.sj_world.specs.Refusals.{IsInOrder, HasNoCycle}
 use Rattle.sj_world.specs.Ancestors.{IsAncestor, IsNext}
 
--- the ancestors of a class in the order of their bytes
+-- the ancestors of a class in the order of their bytes, each once
 pub record AreAncestors (w : Classes) (name : Name) (names : List Name) : Type 0 where
   pub sorted : IsSorted (slice_cmp nat_cmp) names
+  pub once : IsDistinct is_same names
   pub exact : (other : Name) → Contains names other ↔ IsAncestor w name other
 
--- the classes on the chain of a class from itself upward
+-- the classes on the chain of a class from itself upward, each once
 pub record AreChain (w : Classes) (name : Name) (names : List Name) : Type 0 where
   pub begins : slice_get names 0 ≡ Some name
   pub linked : (i : ℕ) (a b : Name) → slice_get names i ≡ Some a → slice_get names (i + 1) ≡ Some b → IsNext w a b
   pub closed : (a b : Name) → Contains names a → IsNext w a b → Contains names b
+  pub once : IsDistinct is_same names
 
 -- what is kept of one class
 pub record IsLine (w : Classes) (name : Name) (line : Line) : Type 0 where

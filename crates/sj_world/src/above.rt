@@ -25,10 +25,9 @@ pub fn ancestors_of(
     requires known { known.is_known classes.now name.now ≡ true }
     ensures { IfOk result (λ names. AreAncestors classes.now name.now names.items) }
 {
-    let found = reached(alloc, classes, object, name)?;
-    let mut names = listed(alloc, &found)?;
-    names.sort()?;
-    Ok(names)
+    let mut found = reached(alloc, classes, object, name)?;
+    found.sort_unstable()?;
+    listed(alloc, &found)
 }
 
 // The class and what paths of parents lead to from it, each once.

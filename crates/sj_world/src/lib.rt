@@ -7,6 +7,7 @@ mod above;
 mod chains;
 mod cycles;
 mod known;
+mod laws;
 mod lines;
 mod members;
 mod order;
@@ -14,5 +15,6 @@ mod resolving;
 mod subtypes;
 mod worlds;
 
+pub use laws::{ancestors_rise, bodies_are_inherited, calls_resolve_once, subtypes_are_ordered};
 pub use resolving::Resolution;
 pub use worlds::{World, WorldError};

@@ -12,4 +12,4 @@ pub loop-next-preserved : goal.loop-next-preserved
 loop-next-preserved c = climbing_at c.args.classes.now c.args.name.now _ _ _ c.in_ok-add_next.ensures (climbing_goes_on c.args.classes.now c.args.name.now c.in_ok-at.at c.loop-next.next c.loop-next.found.keys c.loop-next.invariant (c.index.ensures ∙ ap Some (sym c.in_ok-at.ensures)))
 
 pub returns : goal.returns
-returns c = climbed c.args.classes.now c.args.name.now c.loop-next.next c.loop-next.found.keys c.loop-next.invariant (omega arith)
+returns c = climbed c.args.classes.now c.args.name.now c.loop-next.next c.loop-next.found.keys c.loop-next.invariant (omega arith) c.len.ensures.unique
