@@ -76,6 +76,21 @@ module _ (w : Classes) (c : Name) (m : MethodName) (names : List Name) (chain : 
   pub nearest_is : (d : MethodDef) (owner : Name) → IsFirstBody w m names d owner → IsNearest w c m d owner
   nearest_is d owner f = record { passes = passes d owner f f.place owner (omega arith) f.stands; body = f.body }
 
+-- only `java.lang.Byte` and `java.lang.Short` stand as another class
+module _ (c : Name) (free : is_hijacked c ≡ false) where
+  other_than : (i : ℕ) → i < length hijacked → (b : Bool) → is_same c (get_or hijacked i c) ≡ b → is_same c (get_or hijacked i c) ≡ false
+  other_than i lt true e = let k : false ≡ true = sym free ∙ (among hijacked c).1 (i, lt, sym (same_name c (get_or hijacked i c) e)) in cc
+  other_than i lt false e = e
+
+  not_byte : is_same c (codes "java.lang.Byte") ≡ false
+  not_byte = other_than 3 (omega arith) (is_same c (codes "java.lang.Byte")) refl
+
+  not_short : is_same c (codes "java.lang.Short") ≡ false
+  not_short = other_than 4 (omega arith) (is_same c (codes "java.lang.Short")) refl
+
+  pub stands_itself : stands_as c ≡ c
+  stands_itself = ap (λ (b : Bool). cond (b || is_same c (codes "java.lang.Short")) integer c) not_byte ∙ ap (λ (b : Bool). cond b integer c) not_short
+
 -- a class that isn't known has no superclass, and stands alone on its chain
 module _ (w : Classes) (c : Name) (unknown : is_known w c ≡ false) where
   absent : (o : Option ClassDef) → class_of w c ≡ o → class_of w c ≡ None
@@ -88,21 +103,8 @@ module _ (w : Classes) (c : Name) (unknown : is_known w c ≡ false) where
   not_hijacked : is_hijacked c ≡ false
   not_hijacked = sym (ap (λ (o : Option ClassDef). is_some o || is_hijacked c) is_absent) ∙ unknown
 
-  other_than : (i : ℕ) → i < length hijacked → (b : Bool) → is_same c (get_or hijacked i c) ≡ b → is_same c (get_or hijacked i c) ≡ false
-  other_than i lt true e = let k : false ≡ true = sym not_hijacked ∙ (among hijacked c).1 (i, lt, sym (same_name c (get_or hijacked i c) e)) in cc
-  other_than i lt false e = e
-
-  not_byte : is_same c (codes "java.lang.Byte") ≡ false
-  not_byte = other_than 3 (omega arith) (is_same c (codes "java.lang.Byte")) refl
-
-  not_short : is_same c (codes "java.lang.Short") ≡ false
-  not_short = other_than 4 (omega arith) (is_same c (codes "java.lang.Short")) refl
-
-  stands_itself : stands_as c ≡ c
-  stands_itself = ap (λ (b : Bool). cond (b || is_same c (codes "java.lang.Short")) integer c) not_byte ∙ ap (λ (b : Bool). cond b integer c) not_short
-
   alone : next_on_chain w c ≡ None
-  alone = ap (λ (n : Name). superclass_in (class_of w n) n) stands_itself ∙ ap (λ (o : Option ClassDef). superclass_in o c) is_absent ∙ ap (λ (b : Bool). cond b (Some object) None) not_hijacked
+  alone = ap (λ (n : Name). superclass_in (class_of w n) n) (stands_itself c not_hijacked) ∙ ap (λ (o : Option ClassDef). superclass_in o c) is_absent ∙ ap (λ (b : Bool). cond b (Some object) None) not_hijacked
 
   only_itself : (d : Name) → IsOnChain w c d → d ≡ c
   only_itself d stay = refl

@@ -12,3 +12,4 @@ pub mod Searches
 pub mod Bodies
 pub mod LawsHold
 pub mod Once
+pub mod Grows

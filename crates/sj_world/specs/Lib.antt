@@ -7,3 +7,4 @@ pub mod Subtypes
 pub mod Under
 pub mod Resolution
 pub mod Laws
+pub mod Rows

@@ -15,6 +15,9 @@ mod resolving;
 mod subtypes;
 mod worlds;
 
-pub use laws::{ancestors_rise, bodies_are_inherited, calls_resolve_once, subtypes_are_ordered};
+pub use laws::{
+    ancestors_grow, ancestors_rise, bodies_are_inherited, calls_resolve_once, subtypes_are_ordered,
+    worked_worlds,
+};
 pub use resolving::Resolution;
 pub use worlds::{World, WorldError};
