@@ -66,8 +66,8 @@ module _ (w : Classes) (c : Name) (m : MethodName) (names : List Name) (chain : 
   pub none_on_chain : HaveNoBody w m names → HasNoneOnChain w c m
   none_on_chain none = record { none = λ d on_chain. let k = contained d on_chain in none.none k.0 d (stands_at names d k) }
 
-  passes : (d : MethodDef) (owner : Name) → (f : IsFirstBody w m names d owner) → (i : ℕ) (n : Name) → i ≤ f.place → slice_get names i ≡ Some n → Passes w m c n
-  passes d owner f zero n le at = let s : Some c ≡ Some n = sym chain.begins ∙ at in let e : c ≡ n = cc in subst (Passes w m c) e begin
+  passes : (d : MethodDef) (owner : Name) → (f : IsFirstBody w m names d owner) → (i : ℕ) (n : Name) → i ≤ f.place → slice_get names i ≡ Some n → Passes w (HasNoBody w m) c n
+  passes d owner f zero n le at = let s : Some c ≡ Some n = sym chain.begins ∙ at in let e : c ≡ n = cc in subst (Passes w (HasNoBody w m) c) e begin
   passes d owner f (suc i) n le at = up (get_or names i n) n (passes d owner f i (get_or names i n) (omega arith) here) (f.none_before i (get_or names i n) (omega arith) here) (chain.linked i (get_or names i n) n here (subst (λ (k : ℕ). slice_get names k ≡ Some n) (omega arith) at))
     where
       here : slice_get names i ≡ Some (get_or names i n)

@@ -112,7 +112,7 @@ subtypes_transitive w topped s t u h k = sub_more w topped s t u h k
 pub bodies_inherited : BodiesInherited
 bodies_inherited w c d m body owner none next nearest = record { passes = from owner nearest.passes; body = nearest.body }
   where
-    from : (o : Name) → Passes w m d o → Passes w m c o
+    from : (o : Name) → Passes w (HasNoBody w m) d o → Passes w (HasNoBody w m) c o
     from o begin = up c d begin none next
     from o (up b e before lacks step) = up b o (from b before) lacks step
 

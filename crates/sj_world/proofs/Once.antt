@@ -37,11 +37,11 @@ module _ (w : Classes) (m : MethodName) where
   longer c b d (here _) none next = further c d d none next (here d)
   longer c b d (further _ e _ lacks step rest) none next = further c e d lacks step (longer e b d rest none next)
 
-  from_front : (c o : Name) → Passes w m c o → Front c o
+  from_front : (c o : Name) → Passes w (HasNoBody w m) c o → Front c o
   from_front c o begin = here c
   from_front c o (up b d before none next) = longer c b o (from_front c b before) none next
 
-  on_chain : (c o : Name) → Passes w m c o → IsOnChain w c o
+  on_chain : (c o : Name) → Passes w (HasNoBody w m) c o → IsOnChain w c o
   on_chain c o begin = stay
   on_chain c o (up b d before none next) = on b o (on_chain c b before) next
 

@@ -6,5 +6,6 @@ pub mod Tables
 pub mod Subtypes
 pub mod Under
 pub mod Resolution
+pub mod Calls
 pub mod Laws
 pub mod Rows

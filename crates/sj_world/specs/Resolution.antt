@@ -31,14 +31,14 @@ pub record IsBodyAt (w : Classes) (m : MethodName) (name : Name) (d : MethodDef)
 pub record HasNoBody (w : Classes) (m : MethodName) (name : Name) : Type 0 where
   pub none : (d : MethodDef) → IsBodyAt w m name d → ⊥
 
--- D stands on the chain of C, and no class before it has a body for m
-pub data Passes (w : Classes) (m : MethodName) (c : Name) : Name → Type 0 where
-  begin : Passes w m c c
-  up : (b d : Name) → Passes w m c b → HasNoBody w m b → IsNext w b d → Passes w m c d
+-- D stands on the chain of C, and each class before it lacks what is looked for
+pub data Passes (w : Classes) (Lacks : Name → Type 0) (c : Name) : Name → Type 0 where
+  begin : Passes w Lacks c c
+  up : (b d : Name) → Passes w Lacks c b → Lacks b → IsNext w b d → Passes w Lacks c d
 
 -- the first class on the chain of C with a body for m
 pub record IsNearest (w : Classes) (c : Name) (m : MethodName) (d : MethodDef) (owner : Name) : Type 0 where
-  pub passes : Passes w m c owner
+  pub passes : Passes w (HasNoBody w m) c owner
   pub body : IsBodyAt w m owner d
 
 -- no class on the chain of C has a body for m
