@@ -13,8 +13,7 @@ pub fn ancestors_rise()
 /// Where no class stands above `java.lang.Object` or writes a hijacked class, a class has more ancestors than its superclass.
 pub fn ancestors_grow()
     ensures { AncestorsGrow }
-{
-}
+{}
 
 /// Each type is a subtype of itself; and where nothing stands above `java.lang.Object`, a subtype's subtype is a subtype.
 pub fn subtypes_are_ordered()
@@ -46,5 +45,4 @@ pub fn worked_worlds()
     ensures chain_of_interface { next_on_chain family (codes "J") ≡ None }
     ensures inherited_interface { IsAncestor family (codes "B") (codes "I") }
     ensures cycle { IsOnCycle ring (codes "A") }
-{
-}
+{}

@@ -21,3 +21,6 @@ pub use laws::{
 };
 pub use resolving::Resolution;
 pub use worlds::{World, WorldError};
+
+#[cfg(test)]
+mod tests;
