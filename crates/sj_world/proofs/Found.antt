@@ -1,0 +1,39 @@
+-- What a worklist over parents finds: the ancestors.
+use Rattle.std.proofs.Common.{◌≡◌, ℕ, ◌≤◌, true, List, [], ◌∷◌, Contains, refl, sym, ap, ◌∙◌, subst, length, inl, inr, arith}
+use Rattle.std.specs.Prelude.{◌↔◌, ◌⊎◌}
+use Rattle.std.specs.Ordering.{nat_cmp}
+use Rattle.std.specs.Cmp.Lexicographic.{slice_cmp}
+use Rattle.std.specs.List.{IsDistinct}
+use Rattle.std.specs.List.Sorted.{IsSorted, IsPermutation}
+use Rattle.std.proofs.lemmas.List.Sorted.{Contains-permutation, IsPermutation-sym}
+use Rattle.std.proofs.lemmas.List.Elements.{Contains-push, Contains-push_cases}
+use Rattle.sj_world.specs.Known.{Name, Classes, is_same, is_known, with_names}
+use Rattle.sj_world.specs.Paths.{Path}
+use Rattle.sj_world.specs.Ancestors.{IsAncestor, IsParent, parents}
+use Rattle.sj_world.specs.Tables.{AreAncestors}
+use Rattle.sj_world.proofs.Worklist.{Names, Leads, Reached, Working, working_ends, nothing_in}
+
+only_start : (a x : Name) → Contains (a ∷ []) x → a ≡ x
+only_start a x h = go (Contains-push_cases [] a x h)
+  where
+    go : Contains [] x ⊎ (a ≡ x) → a ≡ x
+    go (inl none) = nothing_in x none
+    go (inr e) = e
+
+pub reached_from : (step : Name → Names) (a x : Name) → Reached step (a ∷ []) x → Path (Leads step) a x
+reached_from step a x r = subst (λ (s : Name). Path (Leads step) s x) (sym (only_start a r.from r.begins)) r.path
+
+pub reached_by : (step : Name → Names) (a x : Name) → Path (Leads step) a x → Reached step (a ∷ []) x
+reached_by step a x path = record { from = a; begins = Contains-push [] a; path = path }
+
+pub ancestors_found : (w : Classes) (name : Name) (next : ℕ) (keys : Names) → is_known w name ≡ true → Working (parents w) (name ∷ []) next keys → length keys ≤ next → (x : Name) → Contains keys x ↔ IsAncestor w name x
+ancestors_found w name next keys known work over x =
+    let both = working_ends (parents w) (name ∷ []) next keys work over x in
+    (λ h. record { known = known; path = reached_from (parents w) name x (both.0 h) }, λ a. both.1 (reached_by (parents w) name x a.path))
+
+pub ancestors_sorted : (w : Classes) (name : Name) (keys sorted list : Names) → ((x : Name) → Contains keys x ↔ IsAncestor w name x) → IsPermutation keys sorted → IsSorted (slice_cmp nat_cmp) sorted → IsDistinct is_same sorted → list ≡ sorted → AreAncestors w name list
+ancestors_sorted w name keys sorted list exact p up once e = subst (AreAncestors w name) (sym e) (record {
+  sorted = up;
+  once = once;
+  exact = λ x. (λ h. (exact x).0 (Contains-permutation sorted keys x (IsPermutation-sym keys sorted p) h), λ a. Contains-permutation keys sorted x p ((exact x).1 a));
+})

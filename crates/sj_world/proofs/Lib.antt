@@ -1,0 +1,15 @@
+pub mod Orders
+pub mod ByName
+pub mod Counts
+pub mod Twice
+pub mod Worklist
+pub mod Found
+pub mod OnCycles
+pub mod Climbed
+pub mod Lined
+pub mod Subtyped
+pub mod Searches
+pub mod Bodies
+pub mod LawsHold
+pub mod Once
+pub mod Grows

@@ -1,0 +1,48 @@
+// Laws of worlds, and worked worlds.
+ghost use Rattle.std.specs.Prelude.{◌≡◌, ◌∷◌, [], Some, None, codes};
+ghost use Rattle.sj_world.specs.Known.{object};
+ghost use Rattle.sj_world.specs.Ancestors.{parents, next_on_chain, IsAncestor, IsOnCycle};
+ghost use Rattle.sj_world.specs.Rows.{family, ring, number};
+ghost use Rattle.sj_world.specs.Laws.{AncestorsRise, AncestorsGrow, SubtypesReflexive, SubtypesTransitive, BodiesInherited, ResolvesOnce};
+
+/// An ancestor's ancestor is an ancestor.
+pub fn ancestors_rise()
+    ensures { AncestorsRise }
+{}
+
+/// Where no class stands above `java.lang.Object` or writes a hijacked class, a class has more ancestors than its superclass.
+pub fn ancestors_grow()
+    ensures { AncestorsGrow }
+{}
+
+/// Each type is a subtype of itself; and where nothing stands above `java.lang.Object`, a subtype's subtype is a subtype.
+pub fn subtypes_are_ordered()
+    ensures reflexive { SubtypesReflexive }
+    ensures transitive { SubtypesTransitive }
+{}
+
+/// A class without a body for a method takes the body that its superclass takes from the chain.
+pub fn bodies_are_inherited()
+    ensures { BodiesInherited }
+{}
+
+/// A call resolves in one way.
+pub fn calls_resolve_once()
+    ensures { ResolvesOnce }
+{}
+
+/// Worked worlds. Above `B` stand `java.lang.Object` and `A`; above `N`, whose superclass isn't there, `java.lang.Object` alone; above
+/// `java.lang.Byte`, which isn't there, what stands above `java.lang.Integer`; above a class that isn't known nothing. The chain of
+/// an interface ends with it. In a ring of two each stands on a cycle.
+pub fn worked_worlds()
+    ensures below_class { parents family (codes "B") ≡ object ∷ codes "A" ∷ [] }
+    ensures with_interface { parents family (codes "A") ≡ object ∷ object ∷ codes "J" ∷ [] }
+    ensures below_absent { parents family (codes "N") ≡ object ∷ [] }
+    ensures byte { parents family (codes "java.lang.Byte") ≡ object ∷ number ∷ [] }
+    ensures long { parents family (codes "java.lang.Long") ≡ object ∷ [] }
+    ensures unknown { parents family (codes "Gone") ≡ [] }
+    ensures chain_of_byte { next_on_chain family (codes "java.lang.Byte") ≡ Some number }
+    ensures chain_of_interface { next_on_chain family (codes "J") ≡ None }
+    ensures inherited_interface { IsAncestor family (codes "B") (codes "I") }
+    ensures cycle { IsOnCycle ring (codes "A") }
+{}

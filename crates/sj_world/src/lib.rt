@@ -1,0 +1,26 @@
+//! Worlds of classes: what stands above a class, which type is a subtype of which, and which method a call runs.
+//!
+//! A contract sees a world as the list of its classes, in the order of the bytes of their names.
+#![tactic(auto)]
+
+mod above;
+mod chains;
+mod cycles;
+mod known;
+mod laws;
+mod lines;
+mod members;
+mod order;
+mod resolving;
+mod subtypes;
+mod worlds;
+
+pub use laws::{
+    ancestors_grow, ancestors_rise, bodies_are_inherited, calls_resolve_once, subtypes_are_ordered,
+    worked_worlds,
+};
+pub use resolving::Resolution;
+pub use worlds::{World, WorldError};
+
+#[cfg(test)]
+mod tests;

@@ -1,0 +1,165 @@
+// Worlds.
+ghost use Rattle.std.specs.Prelude.{◌≡◌, true, false, if◌then◌else◌, MatchResult, MatchOption, option_map};
+ghost use Rattle.std.specs.List.{list_any};
+ghost use Rattle.sj_world.specs.Known.{class_of, is_known, is_hijacked, is_same};
+ghost use Rattle.sj_world.specs.Tables.{AreAncestors, AreChain};
+ghost use Rattle.sj_world.specs.Refusals.{IsInOrder, HasNoCycle, IsWorldOf, IsRefused, IsRefusedForCycle};
+
+use crate::cycles::least_on_cycle;
+use crate::known::class_in;
+use crate::lines::{Tables, tables_of};
+use crate::order::in_order;
+use sj_names::{ClassName, NoMemory};
+use sj_trees::ClassDef;
+use std::alloc::{AllocError, AllocFailed, Global};
+use std::marker::Model;
+use thiserror::Error;
+
+/// Why classes make no world.
+#[derive(Debug, Drop, Error)]
+pub enum WorldError {
+    /// The least name that two classes have.
+    #[error("the class {0} is defined twice")]
+    DuplicateClass(ClassName),
+    /// The least class that stands above itself.
+    #[error("the class {0} stands above itself")]
+    Cycle(ClassName),
+    /// No memory was left.
+    #[error("no memory is left")]
+    NoMemory,
+}
+
+impl From<AllocError> for WorldError {
+    ghost use Rattle.sj_world.specs.declared.worlds.WorldError.TheVariants.{NoMemory};
+
+    ghost from_gives = { λ _ e. e ≡ NoMemory };
+
+    fn from(_error: AllocError) -> WorldError {
+        WorldError::NoMemory
+    }
+}
+
+impl<T: Drop> From<AllocFailed<T>> for WorldError {
+    ghost use Rattle.sj_world.specs.declared.worlds.WorldError.TheVariants.{NoMemory};
+
+    ghost from_gives = { λ _ e. e ≡ NoMemory };
+
+    fn from(_error: AllocFailed<T>) -> WorldError {
+        WorldError::NoMemory
+    }
+}
+
+impl From<NoMemory> for WorldError {
+    ghost use Rattle.sj_world.specs.declared.worlds.WorldError.TheVariants.{NoMemory};
+
+    ghost from_gives = { λ _ e. e ≡ NoMemory };
+
+    fn from(_error: NoMemory) -> WorldError {
+        WorldError::NoMemory
+    }
+}
+
+/// Classes of different names, none of which stands above itself.
+#[derive(Drop)]
+pub struct World {
+    classes: Vec<ClassDef>,
+    tables: Tables,
+}
+
+impl Model for World {
+    ghost use Rattle.std.specs.Prelude.{List};
+    ghost use Rattle.sj_trees.specs.declared.classes.ClassDef.{ClassDef};
+    ghost use Rattle.sj_world.specs.Tables.{IsBuilt};
+
+    ghost Value = { List ClassDef };
+
+    ghost use Rattle.std.specs.Coded.{coded_list};
+    ghost use Rattle.sj_trees.specs.contracts.classes.ClassDef as class;
+
+    ghost coded = { coded_list class.the_row.coded };
+
+    ghost view = { λ w. w.classes.items };
+
+    ghost invariant = { λ w. IsBuilt w.classes.items w.tables };
+}
+
+impl World {
+    /// The world of these classes; else the least name that two of them have; else, where no name comes twice, the least class
+    /// that stands above itself.
+    pub fn new(alloc: Global, classes: Vec<ClassDef>) -> Result<World, WorldError>
+        ensures { MatchResult result (IsWorldOf classes.items) (IsRefused classes.items) }
+    {
+        let classes = in_order(classes)?;
+        no_cycle(alloc, &classes)?;
+        let tables = tables_of(alloc, &classes)?;
+        Ok(World { classes, tables })
+    }
+
+    /// The classes, in the order of the bytes of their names.
+    pub fn classes(&self) -> &[ClassDef]
+        ensures all { result.now ≡ self.now }
+        ensures in_order { IsInOrder self.now }
+        ensures no_cycle { HasNoCycle self.now }
+    {
+        &self.classes
+    }
+
+    /// The class of this name.
+    pub fn class(&self, name: &ClassName) -> Option<&ClassDef>
+        ensures { option_map (λ c. c.now) result ≡ class_of self.now name.now }
+    {
+        class_in(&self.classes, name.text())
+    }
+
+    /// The ancestors of a class, in the order of the bytes of their names. A class that isn't known has none; known are those of
+    /// the world and the eight hijacked classes.
+    pub fn ancestors(&self, name: &ClassName) -> Option<&[ClassName]>
+        ensures { MatchOption result (is_known self.now name.now ≡ false) (λ names. AreAncestors self.now name.now names.now) }
+    {
+        match self.tables.lines.get(name) {
+            Some(line) => Some(line.ancestors.as_slice()),
+            None => None,
+        }
+    }
+
+    /// The class, its superclass, and so on, each once. A class that isn't known has no chain.
+    pub fn chain(&self, name: &ClassName) -> Option<&[ClassName]>
+        ensures { MatchOption result (is_known self.now name.now ≡ false) (λ names. AreChain self.now name.now names.now) }
+    {
+        match self.tables.lines.get(name) {
+            Some(line) => Some(line.chain.as_slice()),
+            None => None,
+        }
+    }
+
+    // The name of one of the eight hijacked classes.
+    pub(crate) fn hijacked_name(&self, text: &str) -> Option<&ClassName>
+        requires { is_hijacked text.now ≡ true }
+        ensures { option_map (λ name. name.now) result ≡ Some text.now }
+    {
+        name_in(self.tables.hijacked.as_slice(), text)
+    }
+}
+
+// The name with this text.
+fn name_in<'n>(names: &'n [ClassName], text: &str) -> Option<&'n ClassName>
+    ensures { option_map (λ name. name.now) result ≡ (if list_any (is_same text.now) names.now then Some text.now else None) }
+{
+    for name in names {
+        if text == name.text() {
+            return Some(name);
+        }
+    }
+    None
+}
+
+// That no class stands above itself; else the least that does.
+fn no_cycle(alloc: Global, classes: &[ClassDef]) -> Result<(), WorldError>
+    requires { IsInOrder classes.now }
+    ensures { MatchResult result (λ _. HasNoCycle classes.now) (IsRefusedForCycle classes.now) }
+{
+    match least_on_cycle(alloc, classes)? {
+        Some(name) => Err(WorldError::Cycle(name.copied()?)),
+        None => Ok(()),
+    }
+}
