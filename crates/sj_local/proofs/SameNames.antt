@@ -1,0 +1,71 @@
+-- Names of methods that compare as equal are one.
+use Rattle.std.proofs.Common.{◌≡◌, Bool, Option, Some, None, refl, ap}
+use Rattle.std.specs.Prelude.{nat_eq, ◌&&◌}
+use Rattle.std.specs.Bool.{Decides}
+use Rattle.std.specs.Cmp.Lexicographic.{pointwise}
+use Rattle.std.specs.Option.{option_eq}
+use Rattle.std.proofs.lemmas.Bool.{and_parts, and_from}
+use Rattle.std.proofs.lemmas.Bool.Decides.{Decides-eqb}
+use Rattle.std.proofs.lemmas.Slice.Eq.{bytes_eq-Decides, slice_eq-Decides}
+use Rattle.sj_names.specs.declared.references.ArrayRef.{ArrayRef}
+use Rattle.sj_names.specs.declared.references.BaseRef.{BaseRef}
+use Rattle.sj_names.specs.declared.references.TypeRef.{TypeRef}
+use Rattle.sj_names.specs.declared.method_names.Namespace.{Namespace}
+use Rattle.sj_names.specs.contracts.references.BaseRefPartialEq.TheImpl as base_eq
+use Rattle.sj_names.specs.contracts.references.ArrayRefPartialEq.TheImpl as array_eq
+use Rattle.sj_names.specs.contracts.references.TypeRefPartialEq.TheImpl as type_eq
+use Rattle.sj_names.specs.contracts.method_names.NamespacePartialEq.TheImpl as namespace_eq
+use Rattle.sj_local.specs.declared.members.MethodKey.{MethodKey}
+
+base_decides : (a b : BaseRef) → Decides (base_eq.ghosts.eq a b) (a ≡ b)
+base_decides BaseRef.Boolean BaseRef.Boolean = (λ h. refl, λ h. refl)
+base_decides BaseRef.Char BaseRef.Char = (λ h. refl, λ h. refl)
+base_decides BaseRef.Byte BaseRef.Byte = (λ h. refl, λ h. refl)
+base_decides BaseRef.Short BaseRef.Short = (λ h. refl, λ h. refl)
+base_decides BaseRef.Int BaseRef.Int = (λ h. refl, λ h. refl)
+base_decides BaseRef.Long BaseRef.Long = (λ h. refl, λ h. refl)
+base_decides (BaseRef.Class c) (BaseRef.Class d) = (λ h. ap BaseRef.Class ((bytes_eq-Decides c d).0 h), λ h. (bytes_eq-Decides c d).1 (cc))
+base_decides _ _ = (λ h. cc, λ h. cc)
+
+and_decides : {P Q : Type 0} (b c : Bool) → Decides b P → Decides c Q → Decides (b && c) (P × Q)
+and_decides b c p q = (λ h. (p.0 (and_parts b c h).0, q.0 (and_parts b c h).1), λ h. and_from b c (p.1 h.0) (q.1 h.1))
+
+array_decides : (r s : ArrayRef) → Decides (array_eq.ghosts.eq r s) (r ≡ s)
+array_decides r s =
+    let both = and_decides (nat_eq r.dimensions s.dimensions) (base_eq.ghosts.eq r.base s.base) (Decides-eqb r.dimensions s.dimensions) (base_decides r.base s.base) in
+    (λ h. λ i. record { dimensions = (both.0 h).0 i; base = (both.0 h).1 i }, λ h. both.1 (ap (λ (x : ArrayRef). x.dimensions) h, ap (λ (x : ArrayRef). x.base) h))
+
+type_decides : (a b : TypeRef) → Decides (type_eq.ghosts.eq a b) (a ≡ b)
+type_decides TypeRef.Void TypeRef.Void = (λ h. refl, λ h. refl)
+type_decides TypeRef.Boolean TypeRef.Boolean = (λ h. refl, λ h. refl)
+type_decides TypeRef.Char TypeRef.Char = (λ h. refl, λ h. refl)
+type_decides TypeRef.Byte TypeRef.Byte = (λ h. refl, λ h. refl)
+type_decides TypeRef.Short TypeRef.Short = (λ h. refl, λ h. refl)
+type_decides TypeRef.Int TypeRef.Int = (λ h. refl, λ h. refl)
+type_decides TypeRef.Long TypeRef.Long = (λ h. refl, λ h. refl)
+type_decides (TypeRef.Class c) (TypeRef.Class d) = (λ h. ap TypeRef.Class ((bytes_eq-Decides c d).0 h), λ h. (bytes_eq-Decides c d).1 (cc))
+type_decides (TypeRef.Array r) (TypeRef.Array s) = (λ h. ap TypeRef.Array ((array_decides r s).0 h), λ h. (array_decides r s).1 (cc))
+type_decides _ _ = (λ h. cc, λ h. cc)
+
+result_decides : (x y : Option TypeRef) → Decides (option_eq type_eq.ghosts.eq x y) (x ≡ y)
+result_decides None None = (λ h. refl, λ h. refl)
+result_decides (Some r) (Some s) = (λ h. ap Some ((type_decides r s).0 h), λ h. (type_decides r s).1 (cc))
+result_decides None (Some s) = (λ h. cc, λ h. cc)
+result_decides (Some r) None = (λ h. cc, λ h. cc)
+
+namespace_decides : (a b : Namespace) → Decides (namespace_eq.ghosts.eq a b) (a ≡ b)
+namespace_decides Namespace.Public Namespace.Public = (λ h. refl, λ h. refl)
+namespace_decides Namespace.PublicStatic Namespace.PublicStatic = (λ h. refl, λ h. refl)
+namespace_decides Namespace.Private Namespace.Private = (λ h. refl, λ h. refl)
+namespace_decides Namespace.PrivateStatic Namespace.PrivateStatic = (λ h. refl, λ h. refl)
+namespace_decides Namespace.Constructor Namespace.Constructor = (λ h. refl, λ h. refl)
+namespace_decides _ _ = (λ h. cc, λ h. cc)
+
+pub key_decides : (a b : MethodKey) → Decides (namespace_eq.ghosts.eq a.namespace b.namespace && (pointwise nat_eq a.name.simple b.name.simple && (pointwise type_eq.ghosts.eq a.name.params b.name.params && option_eq type_eq.ghosts.eq a.name.result b.name.result))) (a ≡ b)
+key_decides a b =
+    let types = and_decides (pointwise type_eq.ghosts.eq a.name.params b.name.params) (option_eq type_eq.ghosts.eq a.name.result b.name.result) (slice_eq-Decides type_decides a.name.params b.name.params _ refl) (result_decides a.name.result b.name.result) in
+    let name = and_decides (pointwise nat_eq a.name.simple b.name.simple) (pointwise type_eq.ghosts.eq a.name.params b.name.params && option_eq type_eq.ghosts.eq a.name.result b.name.result) (bytes_eq-Decides a.name.simple b.name.simple) types in
+    let both = and_decides (namespace_eq.ghosts.eq a.namespace b.namespace) _ (namespace_decides a.namespace b.namespace) name in (
+      λ h. λ i. record { namespace = (both.0 h).0 i; name = record { simple = (both.0 h).1.0 i; params = (both.0 h).1.1.0 i; result = (both.0 h).1.1.1 i } },
+      λ h. both.1 (ap (λ (k : MethodKey). k.namespace) h, (ap (λ (k : MethodKey). k.name.simple) h, (ap (λ (k : MethodKey). k.name.params) h, ap (λ (k : MethodKey). k.name.result) h))),
+    )

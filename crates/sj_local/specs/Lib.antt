@@ -1,0 +1,9 @@
+pub mod Broken
+pub mod ClassRules
+pub mod Firsts
+pub mod MemberRules
+pub mod Methods
+pub mod Names
+pub mod Nodes
+pub mod TreeRules
+pub mod Walks
