@@ -1,0 +1,4 @@
+pub mod ManyLemmas
+pub mod PartsLemmas
+pub mod SortedLemmas
+pub mod TreeLemmas

@@ -1,0 +1,43 @@
+// Why a reader stops.
+ghost use Rattle.std.specs.Prelude.{◌≡◌};
+ghost use Rattle.sj_format.specs.Reading.{fault};
+
+use sj_format::{Code, Fault};
+use std::alloc::{AllocError, AllocFailed};
+
+/// Why a reader stops: at a fault of the file, or for want of memory.
+#[derive(Clone, Copy, Debug, PartialEq, Eq)]
+pub enum Stop {
+    NoMemory,
+    Bad(Fault),
+}
+
+impl From<AllocError> for Stop {
+    ghost use Rattle.sj_read.specs.declared.stops.Stop.TheVariants.{NoMemory};
+
+    ghost from_gives = { λ _ e. e ≡ NoMemory };
+
+    fn from(_error: AllocError) -> Stop {
+        Stop::NoMemory
+    }
+}
+
+impl<T: Drop> From<AllocFailed<T>> for Stop {
+    ghost use Rattle.sj_read.specs.declared.stops.Stop.TheVariants.{NoMemory};
+
+    ghost from_gives = { λ _ e. e ≡ NoMemory };
+
+    fn from(_error: AllocFailed<T>) -> Stop {
+        Stop::NoMemory
+    }
+}
+
+// The fault of this code where `bytes` are left.
+pub fn bad(code: Code, bytes: &[u8]) -> Stop
+    ensures { result ≡ Stop.Bad (fault code bytes.now) }
+{
+    Stop::Bad(Fault {
+        code,
+        left: bytes.len(),
+    })
+}
