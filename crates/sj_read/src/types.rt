@@ -1,8 +1,8 @@
 // Types and codes.
-ghost use Rattle.std.specs.Prelude.{◌≡◌, Option, nat_eq, codes};
+ghost use Rattle.std.specs.Prelude.{◌≡◌};
 ghost use Rattle.sj_trees.specs.Operators.{unary_with, binary_with};
 ghost use Rattle.sj_format.specs.Codes.{among, tree_tags, reserved_trees, kinds, reserved_kinds, member_tags, reserved_members, plain_types, reserved_types};
-ghost use Rattle.sj_format.specs.Types.{coded, code_at, namespace_at, class_type, type_of, type_at};
+ghost use Rattle.sj_format.specs.Types.{coded, code_at, namespace_at, type_of, type_at};
 ghost use Rattle.sj_format.specs.Trees.{unary_at, binary_at};
 ghost use Rattle.sj_read.specs.Stops.{Gives};
 
@@ -15,10 +15,8 @@ use sj_format::{
     Code, Form, MemberTag, Tag, kind_with, namespace_with, plain_type, reserved_kind,
     reserved_member, reserved_namespace, reserved_operator, reserved_tree, reserved_type,
 };
-use sj_names::{ClassName, Namespace};
+use sj_names::Namespace;
 use sj_trees::{BinaryOp, ClassKind, IrType, UnaryOp};
-
-const OBJECT: &str = "java.lang.Object";
 
 // What a code stands for that begins at `front`.
 fn coded_of<'a, T: Drop>(
@@ -99,17 +97,6 @@ pub fn binary_of(bytes: &[u8]) -> Result<(BinaryOp, &[u8]), Stop>
     )
 }
 
-// The type of a class.
-fn class_type(name: ClassName) -> IrType
-    ensures { result ≡ class_type name }
-{
-    if name.text() == OBJECT {
-        IrType::Any
-    } else {
-        IrType::Class(name)
-    }
-}
-
 // A type.
 #[tactic(auto, unfolding(sj_format::specs::Types::type_of))]
 pub fn type_of<'a>(names: &[NameEntry], bytes: &'a [u8]) -> Result<(IrType, &'a [u8]), Stop>
@@ -118,7 +105,7 @@ pub fn type_of<'a>(names: &[NameEntry], bytes: &'a [u8]) -> Result<(IrType, &'a 
     let (code, rest) = byte_of(bytes)?;
     if code == 12 {
         let (class, rest) = class_name_of(names, rest)?;
-        return Ok((class_type(class), rest));
+        return Ok((IrType::of_class(class), rest));
     }
     if code == 13 {
         let (array, rest) = array_reference_of(names, rest)?;
