@@ -1,0 +1,98 @@
+#!/bin/sh
+# Measures World::new and its answers (README.md, beside this script).
+set -eu
+
+root=$(cd "$(dirname "$0")/../.." && pwd)
+work=$(mktemp -d)
+trap 'rm -rf "$work"' EXIT
+
+mkdir -p "$work/crates/worlds_bench/src"
+for crate in sj_names sj_units sj_trees sj_world; do
+    mkdir -p "$work/crates/$crate"
+    for part in src specs proofs; do
+        cp -R "$root/crates/$crate/$part" "$work/crates/$crate/"
+    done
+    grep "^$crate:" "$root/crates.txt" >> "$work/crates.txt"
+done
+echo 'worlds_bench: anyhow sj_names sj_trees sj_world' >> "$work/crates.txt"
+cp "$root/HANDLES" "$work/"
+git init -q "$work"
+
+cat > "$work/crates/worlds_bench/src/main.rt" <<'PROGRAM'
+//! The time of World::new, and of subtype tests and resolutions in the world.
+#![tactic(auto)]
+
+use anyhow::Result;
+use sj_names::{ClassName, Items, MethodName};
+use sj_trees::{ClassDef, ClassKind, IrType, Position};
+use sj_world::World;
+use std::alloc::Global;
+use std::time::Instant;
+
+const CLASSES: u32 = 20_000;
+
+fn name(alloc: Global, number: u32) -> Result<ClassName> {
+    if number == 0 {
+        return Ok(ClassName::parse(alloc, "java.lang.Object")?);
+    }
+    let text = format!(in alloc; "library.part{}.Class{number}", number % 97)?;
+    Ok(ClassName::parse(alloc, text.as_str())?)
+}
+
+// Every third class stands below java.lang.Object, and each of the others below the one before it.
+fn class(alloc: Global, number: u32) -> Result<ClassDef> {
+    let above = if number % 3 == 1 { 0 } else { number - 1 };
+    let superclass = if number == 0 { None } else { Some(name(alloc, above)?) };
+    Ok(ClassDef {
+        pos: Position { file: 0, line: 0, column: 0 },
+        files: Items::from_vec(Vec::new(alloc)),
+        name: name(alloc, number)?,
+        kind: ClassKind::Class,
+        superclass,
+        interfaces: Items::from_vec(Vec::new(alloc)),
+        fields: Items::from_vec(Vec::new(alloc)),
+        methods: Items::from_vec(Vec::new(alloc)),
+    })
+}
+
+fn main(rt: HostRuntime) -> Result<()> {
+    let alloc = rt.alloc();
+    let mut classes = Vec::new(alloc);
+    for number in 0..CLASSES {
+        classes.push(class(alloc, number)?)?;
+    }
+    let start = Instant::now(&rt)?;
+    let world = World::new(alloc, classes)?;
+    println!(rt; "World::new, {CLASSES} classes: {} ms", start.elapsed(&rt)?.as_millis())?;
+    let below = name(alloc, CLASSES - 1)?;
+    let above = IrType::Class(name(alloc, 1)?);
+    let sub = IrType::Class(below.copied()?);
+    let method = MethodName::parse(alloc, "run;V")?;
+    let start = Instant::now(&rt)?;
+    let mut yes = 0u32;
+    for _ in 0..1_000_000 {
+        if world.is_sub(&sub, &above) {
+            yes = yes.wrapping_add(1);
+        }
+    }
+    println!(rt; "is_sub, a million times: {} ms ({yes} yes)", start.elapsed(&rt)?.as_millis())?;
+    let start = Instant::now(&rt)?;
+    for _ in 0..1_000_000 {
+        world.resolve(&below, &method);
+    }
+    println!(rt; "resolve, a million times: {} ms", start.elapsed(&rt)?.as_millis())?;
+    Ok(())
+}
+PROGRAM
+
+cd "$work/crates/worlds_bench"
+# The lines of the proof go to standard error, and what the program prints to standard output.
+if ! rt run 2> "$work/log"; then
+    cat "$work/log" >&2
+    exit 1
+fi
+python3 - out/worlds_bench <<'PEAK'
+import resource, subprocess, sys
+subprocess.run([sys.argv[1]], stdout=subprocess.DEVNULL, check=True)
+print("highest memory in use:", resource.getrusage(resource.RUSAGE_CHILDREN).ru_maxrss // 1024, "MB")
+PEAK
