@@ -10,7 +10,7 @@ use Rattle.sj_trees.specs.declared.classes.ClassDef.{ClassDef}
 use Rattle.sj_trees.specs.declared.classes.MethodDef.{MethodDef}
 use Rattle.sj_world.specs.Known.{Name, Classes, class_of, object}
 use Rattle.sj_world.specs.Paths.{Path, stay, on, IsFirst}
-use Rattle.sj_world.specs.Ancestors.{IsAncestor, IsParent, IsNext, IsOnChain, next_on_chain}
+use Rattle.sj_world.specs.Ancestors.{IsAncestor, IsParent, Way, by_path, is_object, IsNext, IsOnChain, next_on_chain}
 use Rattle.sj_world.specs.Refusals.{is_before}
 use Rattle.sj_world.specs.Subtypes.{IsSub, IsSubBase, equal, from_nothing, equal_bases, classes}
 use Rattle.sj_world.specs.Under.{IsUnder, IsUnderClass, IsUnderArray, AreAlike, IsDeeper}
@@ -23,7 +23,12 @@ joined Step a b c first stay = first
 joined Step a b c first (on d e path step) = on d c (joined Step a b d first path) step
 
 pub ancestors_rise : AncestorsRise
-ancestors_rise w a b c first second = record { known = first.known; path = joined (IsParent w) a b c first.path second.path }
+ancestors_rise w topped a b c first second = record { known = first.known; way = go first.way second.way }
+  where
+    go : Way w a b → Way w b c → Way w a c
+    go _ (is_object e) = is_object e
+    go (by_path lower) (by_path upper) = by_path (joined (IsParent w) a b c lower upper)
+    go (is_object e) (by_path upper) = is_object (topped.top c (subst (λ (x : Name). IsAncestor w x c) e second))
 
 pub subtypes_reflexive : SubtypesReflexive
 subtypes_reflexive w t = equal refl
@@ -35,25 +40,25 @@ module _ (w : Classes) where
   not_no_array : (s : IrType) (b : ArrayRef) → IsUnderArray w s b → s ≡ NoType → ⊥
   not_no_array s b h e = subst (λ (x : IrType). IsUnderArray w x b) e h
 
-  class_more : (s : IrType) (c d : Name) → IsUnderClass w s c → IsAncestor w c d → IsUnderClass w s d
-  class_more Null c d h a = tt
-  class_more (Class k) c d h a = ancestors_rise w k c d h a
-  class_more Undefined c d h a = ancestors_rise w (codes "java.lang.Void") c d h a
-  class_more Boolean c d h a = ancestors_rise w (codes "java.lang.Boolean") c d h a
-  class_more Char c d h a = ancestors_rise w (codes "java.lang.Character") c d h a
-  class_more Byte c d h a = ancestors_rise w (codes "java.lang.Byte") c d h a
-  class_more Short c d h a = ancestors_rise w (codes "java.lang.Short") c d h a
-  class_more Int c d h a = ancestors_rise w (codes "java.lang.Integer") c d h a
-  class_more Long c d h a = ancestors_rise w (codes "java.lang.Long") c d h a
-  class_more String c d h a = ancestors_rise w (codes "java.lang.String") c d h a
-  class_more _ c d h a = absurd h
-
-  base_more : (a b c : BaseRef) → IsSubBase w a b → IsSubBase w b c → IsSubBase w a c
-  base_more a b c (equal_bases e) h = subst (λ (x : BaseRef). IsSubBase w x c) (sym e) h
-  base_more a b c (classes p q e f h) (equal_bases k) = subst (λ (x : BaseRef). IsSubBase w a x) k (classes p q e f h)
-  base_more a b c (classes p q e f h) (classes r s g k l) = let same : BaseRef.Class q ≡ BaseRef.Class r = sym f ∙ g in let n : q ≡ r = cc in classes p s e k (ancestors_rise w p q s h (subst (λ (x : Name). IsAncestor w x s) (sym n) l))
-
   module _ (topped : IsTopped w) where
+    class_more : (s : IrType) (c d : Name) → IsUnderClass w s c → IsAncestor w c d → IsUnderClass w s d
+    class_more Null c d h a = tt
+    class_more (Class k) c d h a = ancestors_rise w topped k c d h a
+    class_more Undefined c d h a = ancestors_rise w topped (codes "java.lang.Void") c d h a
+    class_more Boolean c d h a = ancestors_rise w topped (codes "java.lang.Boolean") c d h a
+    class_more Char c d h a = ancestors_rise w topped (codes "java.lang.Character") c d h a
+    class_more Byte c d h a = ancestors_rise w topped (codes "java.lang.Byte") c d h a
+    class_more Short c d h a = ancestors_rise w topped (codes "java.lang.Short") c d h a
+    class_more Int c d h a = ancestors_rise w topped (codes "java.lang.Integer") c d h a
+    class_more Long c d h a = ancestors_rise w topped (codes "java.lang.Long") c d h a
+    class_more String c d h a = ancestors_rise w topped (codes "java.lang.String") c d h a
+    class_more _ c d h a = absurd h
+
+    base_more : (a b c : BaseRef) → IsSubBase w a b → IsSubBase w b c → IsSubBase w a c
+    base_more a b c (equal_bases e) h = subst (λ (x : BaseRef). IsSubBase w x c) (sym e) h
+    base_more a b c (classes p q e f h) (equal_bases k) = subst (λ (x : BaseRef). IsSubBase w a x) k (classes p q e f h)
+    base_more a b c (classes p q e f h) (classes r s g k l) = let same : BaseRef.Class q ≡ BaseRef.Class r = sym f ∙ g in let n : q ≡ r = cc in classes p s e k (ancestors_rise w topped p q s h (subst (λ (x : Name). IsAncestor w x s) (sym n) l))
+
     base_topped : (b c : BaseRef) → b ≡ BaseRef.Class object → IsSubBase w b c → c ≡ BaseRef.Class object
     base_topped b c e (equal_bases f) = sym f ∙ e
     base_topped b c e (classes p q f g h) = let same : BaseRef.Class p ≡ BaseRef.Class object = sym f ∙ e in let n : p ≡ object = cc in g ∙ ap (λ (x : Name). BaseRef.Class x) (topped.top q (subst (λ (x : Name). IsAncestor w x q) n h))

@@ -53,7 +53,7 @@ from-insert keys n x h = go (list_any (is_same n) keys) refl
 in_front : (n x : List ℕ) (ns : Names) → n ≡ x → Contains (n ∷ ns) x
 in_front n x ns e = subst (λ (y : List ℕ). Contains (n ∷ ns) y) e (Contains-append_left (n ∷ []) ns n (Contains-push [] n))
 
-from-with_names : (keys ns : Names) (x : List ℕ) → Contains (with_names keys ns) x → Contains keys x ⊎ Contains ns x
+pub from-with_names : (keys ns : Names) (x : List ℕ) → Contains (with_names keys ns) x → Contains keys x ⊎ Contains ns x
 from-with_names keys [] x h = inl h
 from-with_names keys (n ∷ ns) x h = elim (from-with_names (insert_key is_same keys n) ns x h) [ inl old ↦ older (from-insert keys n x old) | inr new ↦ inr (Contains-append_right (n ∷ []) ns x new) ]
   where
@@ -61,10 +61,10 @@ from-with_names keys (n ∷ ns) x h = elim (from-with_names (insert_key is_same 
     older (inl there) = inl there
     older (inr e) = inr (in_front n x ns e)
 
-into-with_names : (keys ns : Names) (x : List ℕ) → Contains keys x → Contains (with_names keys ns) x
+pub into-with_names : (keys ns : Names) (x : List ℕ) → Contains keys x → Contains (with_names keys ns) x
 into-with_names keys ns x h = let g = with_names-grows keys ns in subst (λ (l : Names). Contains l x) (sym g.parts) (Contains-append_left keys g.more x h)
 
-each-with_names : (keys ns : Names) (x : List ℕ) → Contains ns x → Contains (with_names keys ns) x
+pub each-with_names : (keys ns : Names) (x : List ℕ) → Contains ns x → Contains (with_names keys ns) x
 each-with_names keys [] x h = nothing_in x h
 each-with_names keys (n ∷ ns) x h = elim (Contains-append_cases (n ∷ []) ns x h) [ inl first ↦ at_first (Contains-push_cases [] n x first) | inr later ↦ each-with_names (insert_key is_same keys n) ns x later ]
   where

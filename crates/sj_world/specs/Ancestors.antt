@@ -24,17 +24,22 @@ written_above w name = written_in (class_of w name)
 abbrev pub IsWritten : Classes → Name → Name → Type 0
 IsWritten w below above = Contains (written_above w below) above
 
--- what stands one step above a class that is known: `java.lang.Object`, and what is written and known
+-- what stands one step above a class that is known: what is written and known
 abbrev pub parents : Classes → Name → List Name
-parents w name = if is_known w name then object ∷ filter (is_known w) (written_above w (stands_as name)) else []
+parents w name = if is_known w name then filter (is_known w) (written_above w (stands_as name)) else []
 
 abbrev pub IsParent : Classes → Name → Name → Type 0
 IsParent w below above = Contains (parents w below) above
 
--- the class itself, where it is known, and what a path of parents leads to
+-- how one class stands above another: a path of parents leads to it, or it is `java.lang.Object`
+pub data Way (w : Classes) (below above : Name) : Type 0 where
+  by_path : Path (IsParent w) below above → Way w below above
+  is_object : above ≡ object → Way w below above
+
+-- the ancestors of a known class: itself, what stands above it, and `java.lang.Object`
 pub record IsAncestor (w : Classes) (below above : Name) : Type 0 where
   pub known : is_known w below ≡ true
-  pub path : Path (IsParent w) below above
+  pub way : Way w below above
 
 -- a class that stands above itself, by what is written
 pub record IsOnCycle (w : Classes) (name : Name) : Type 0 where

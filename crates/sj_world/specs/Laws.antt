@@ -10,16 +10,16 @@ use Rattle.sj_world.specs.Tables.{AreAncestors}
 use Rattle.sj_world.specs.Subtypes.{IsSub}
 use Rattle.sj_world.specs.Resolution.{HasNoBody, IsNearest, Answer, Resolves}
 
--- an ancestor's ancestor is an ancestor
-abbrev pub AncestorsRise : Type 0
-AncestorsRise = (w : Classes) (a b c : Name) → IsAncestor w a b → IsAncestor w b c → IsAncestor w a c
-
-abbrev pub SubtypesReflexive : Type 0
-SubtypesReflexive = (w : Classes) (t : IrType) → IsSub w t t
-
 -- nothing stands above `java.lang.Object`
 pub record IsTopped (w : Classes) : Type 0 where
   pub top : (d : Name) → IsAncestor w object d → d ≡ object
+
+-- an ancestor's ancestor is an ancestor
+abbrev pub AncestorsRise : Type 0
+AncestorsRise = (w : Classes) → IsTopped w → (a b c : Name) → IsAncestor w a b → IsAncestor w b c → IsAncestor w a c
+
+abbrev pub SubtypesReflexive : Type 0
+SubtypesReflexive = (w : Classes) (t : IrType) → IsSub w t t
 
 abbrev pub SubtypesTransitive : Type 0
 SubtypesTransitive = (w : Classes) → IsTopped w → (s t u : IrType) → IsSub w s t → IsSub w t u → IsSub w s u

@@ -24,6 +24,14 @@ family = empty_class (codes "A") Kinds.Class (Some object) (codes "J" ∷ [])
     ∷ empty_class object Kinds.Class None []
     ∷ []
 
+-- a world that breaks a local rule: `java.lang.Object` below `Top`; `A` with nothing written above it, `B` below `java.lang.Object`
+abbrev pub capped : Classes
+capped = empty_class (codes "A") Kinds.Class None []
+    ∷ empty_class (codes "B") Kinds.Class (Some object) []
+    ∷ empty_class (codes "Top") Kinds.Class None []
+    ∷ empty_class object Kinds.Class (Some (codes "Top")) []
+    ∷ []
+
 -- `A` below `B` below `A`
 abbrev pub ring : Classes
 ring = empty_class (codes "A") Kinds.Class (Some (codes "B")) [] ∷ empty_class (codes "B") Kinds.Class (Some (codes "A")) [] ∷ []

@@ -3,6 +3,7 @@ ghost use Rattle.std.specs.Prelude.{◌≡◌, ◌↔◌, ◌∷◌, [], IfOk, O
 ghost use Rattle.std.specs.List.{filter};
 ghost use Rattle.sj_world.specs.Known as known;
 ghost use Rattle.sj_world.specs.Known.{with_names};
+ghost use Rattle.sj_world.specs.Paths.{Path};
 ghost use Rattle.sj_world.specs.Ancestors as ancestors;
 ghost use Rattle.sj_world.specs.Tables.{AreAncestors, AreChain};
 ghost use Rattle.sj_world.specs.Refusals.{IsInOrder};
@@ -25,13 +26,13 @@ pub fn ancestors_of(
     requires known { known.is_known classes.now name.now ≡ true }
     ensures { IfOk result (λ names. AreAncestors classes.now name.now names.items) }
 {
-    let mut found = reached(alloc, classes, object, name)?;
+    let mut found = found_above(alloc, classes, object, name)?;
     found.sort_unstable()?;
     listed(alloc, &found)
 }
 
-// The class and what paths of parents lead to from it, each once.
-fn reached(
+// The ancestors of a known class, each once.
+fn found_above(
     alloc: Global,
     classes: &[ClassDef],
     object: &ClassName,
@@ -42,12 +43,26 @@ fn reached(
     requires known { known.is_known classes.now name.now ≡ true }
     ensures { IfOk result (λ found. (x : known.Name) → Contains found.keys x ↔ ancestors.IsAncestor classes.now name.now x) }
 {
+    let mut found = reached(alloc, classes, name)?;
+    found.insert(object.copied()?)?;
+    Ok(found)
+}
+
+// The class and what paths of parents lead to from it, each once.
+fn reached(
+    alloc: Global,
+    classes: &[ClassDef],
+    name: &ClassName,
+) -> Result<IndexSet<ClassName>, NoMemory>
+    requires { IsInOrder classes.now }
+    ensures { IfOk result (λ found. (x : known.Name) → Contains found.keys x ↔ Path (ancestors.IsParent classes.now) name.now x) }
+{
     let mut found = IndexSet::new(alloc);
     found.insert(name.copied()?)?;
     let mut next = 0;
     while next < found.len() {
         let at = found[next].copied()?;
-        add_parents(classes, object, &at, &mut found)?;
+        add_parents(classes, &at, &mut found)?;
         next += 1;
     }
     Ok(found)
@@ -67,18 +82,15 @@ pub fn listed(alloc: Global, names: &IndexSet<ClassName>) -> Result<Vec<ClassNam
 // Adds the parents of a class.
 fn add_parents(
     classes: &[ClassDef],
-    object: &ClassName,
     name: &ClassName,
     found: &mut IndexSet<ClassName>,
 ) -> Result<(), NoMemory>
-    requires in_order { IsInOrder classes.now }
-    requires object { object.now ≡ known.object }
+    requires { IsInOrder classes.now }
     ensures { OnOk result (found.new.keys ≡ with_names found.old.keys (ancestors.parents classes.now name.now)) }
 {
     if !is_known(classes, name.text()) {
         return Ok(());
     }
-    found.insert(object.copied()?)?;
     match class_in(classes, stands_as(name.text())) {
         Some(class) => Ok(add_known_of(classes, class, found)?),
         None => Ok(()),

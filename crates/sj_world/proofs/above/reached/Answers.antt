@@ -3,7 +3,7 @@ use Rattle.indexmap.specs.IndexSet.{insert_key}
 use Rattle.sj_world.specs.Known.{Name, is_same}
 use Rattle.sj_world.specs.Ancestors.{parents}
 use Rattle.sj_world.proofs.Worklist.{Names, working_begins, working_goes_on, working_at}
-use Rattle.sj_world.proofs.Found.{ancestors_found}
+use Rattle.sj_world.proofs.Found.{paths_found}
 use Rattle.sj_world.proofs.above.reached.Goals as goal
 
 pub loop-next-init : goal.loop-next-init
@@ -13,4 +13,4 @@ pub loop-next-preserved : goal.loop-next-preserved
 loop-next-preserved c = working_at (parents c.args.classes.now) (c.args.name.now ∷ []) _ _ _ c.in_ok-add_parents.ensures (working_goes_on (parents c.args.classes.now) (c.args.name.now ∷ []) c.in_ok-at.at c.loop-next.next c.loop-next.found.keys c.loop-next.invariant (c.index.ensures ∙ ap Some (sym c.in_ok-at.ensures)))
 
 pub returns : goal.returns
-returns c = ancestors_found c.args.classes.now c.args.name.now c.loop-next.next c.loop-next.found.keys c.requires.known c.loop-next.invariant (omega arith)
+returns c = paths_found c.args.classes.now c.args.name.now c.loop-next.next c.loop-next.found.keys c.loop-next.invariant (omega arith)

@@ -1,0 +1,80 @@
+// Whether a query has the answer that stands behind it.
+use crate::types::type_of;
+use anyhow::Result;
+use sj_names::{ClassName, MethodName};
+use sj_world::{Resolution, World, WorldError};
+use std::alloc::Global;
+use std::result;
+
+pub fn is_met(
+    alloc: Global,
+    world: &result::Result<World, WorldError>,
+    kind: &str,
+    query: &str,
+) -> Result<bool> {
+    match world {
+        Ok(world) => is_met_in(alloc, world, kind, query),
+        Err(error) => Ok(kind == "refused" && is_refusal(error, query)),
+    }
+}
+
+fn is_met_in(alloc: Global, world: &World, kind: &str, query: &str) -> Result<bool> {
+    let Some((first, rest)) = query.split_once('\t') else {
+        return Ok(false);
+    };
+    match kind {
+        "ancestors" => has_ancestors(alloc, world, first, rest),
+        "sub" => is_subtype(alloc, world, first, rest),
+        "resolve" => is_resolved(alloc, world, first, rest),
+        _ => Ok(false),
+    }
+}
+
+fn is_refusal(error: &WorldError, query: &str) -> bool {
+    match (error, query.split_once('\t')) {
+        (WorldError::DuplicateClass(name), Some(("duplicate", other))) => name.text() == other,
+        (WorldError::Cycle(name), Some(("cycle", other))) => name.text() == other,
+        _ => false,
+    }
+}
+
+fn is_subtype(alloc: Global, world: &World, sub: &str, rest: &str) -> Result<bool> {
+    let Some((above, answer)) = rest.split_once('\t') else {
+        return Ok(false);
+    };
+    let sub = type_of(alloc, sub)?;
+    let above = type_of(alloc, above)?;
+    Ok(world.is_sub(&sub, &above) == (answer == "yes"))
+}
+
+fn has_ancestors(alloc: Global, world: &World, name: &str, answer: &str) -> Result<bool> {
+    let name = ClassName::parse(alloc, name)?;
+    match world.ancestors(&name) {
+        Some(names) => Ok(are_listed(names, answer)),
+        None => Ok(answer == "none"),
+    }
+}
+
+// Whether the names are these, with commas between.
+fn are_listed(names: &[ClassName], list: &str) -> bool {
+    let mut words = list.split(',');
+    for name in names {
+        if words.next() != Some(name.text()) {
+            return false;
+        }
+    }
+    words.next().is_none()
+}
+
+fn is_resolved(alloc: Global, world: &World, class: &str, rest: &str) -> Result<bool> {
+    let Some((method, answer)) = rest.split_once('\t') else {
+        return Ok(false);
+    };
+    let class = ClassName::parse(alloc, class)?;
+    let method = MethodName::parse(alloc, method)?;
+    match world.resolve(&class, &method) {
+        Resolution::Target(_, owner) => Ok(answer.strip_prefix("target\t") == Some(owner.text())),
+        Resolution::Abstract => Ok(answer == "abstract"),
+        Resolution::Missing => Ok(answer == "missing"),
+    }
+}
