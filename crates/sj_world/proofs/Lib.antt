@@ -13,3 +13,4 @@ pub mod Bodies
 pub mod LawsHold
 pub mod Once
 pub mod Grows
+pub mod Puts
