@@ -14,3 +14,4 @@ pub mod LawsHold
 pub mod Once
 pub mod Grows
 pub mod Rows
+pub mod Puts

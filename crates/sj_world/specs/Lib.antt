@@ -8,4 +8,5 @@ pub mod Under
 pub mod Resolution
 pub mod Calls
 pub mod Laws
+pub mod Linked
 pub mod Rows

@@ -9,6 +9,7 @@ mod cycles;
 mod known;
 mod laws;
 mod lines;
+mod linked;
 mod members;
 mod order;
 mod resolving;
@@ -19,6 +20,7 @@ pub use laws::{
     ancestors_grow, ancestors_rise, bodies_are_inherited, calls_resolve_once, subtypes_are_ordered,
     worked_worlds,
 };
+pub use linked::{Fact, LinkedWorld, MethodEntry};
 pub use resolving::Resolution;
 pub use worlds::{World, WorldError};
 

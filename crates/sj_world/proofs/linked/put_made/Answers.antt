@@ -1,0 +1,23 @@
+use Rattle.std.proofs.Common.{◌≡◌, ◌∷◌, [], length, sym, ap, ◌∙◌, arith}
+use Rattle.std.specs.Vec.Iter.{into_iter_items}
+use Rattle.sj_world.specs.declared.linked.Fact.TheVariants.{Made}
+use Rattle.sj_world.proofs.Puts.{put_more, put_all, nothing_left}
+use Rattle.sj_world.proofs.linked.put_made.Goals as goal
+
+pub loop-class-preserved : goal.loop-class-preserved
+loop-class-preserved c =
+    let at = c.loop-class in
+    let steps : into_iter_items at.class-iterator ≡ c.in-Some.class ∷ into_iter_items c.next.new.self = c.in-Some.ensures.steps.0 in
+    record {
+      put = put_more Made _ _ _ c.in-Some.class _ _ steps c.in_ok-push.ensures.items at.invariant.put;
+      count =
+          let was = at.invariant.count in
+          let gone = c.in-Some.ensures.steps.1 in
+          let short = ap length steps in
+          omega arith;
+    }
+
+pub returns : goal.returns
+returns c =
+    let at = c.loop-class in
+    put_all Made _ _ _ (nothing_left _ (sym at.invariant.count ∙ c.in-None.ensures.steps.0)) at.invariant.put
