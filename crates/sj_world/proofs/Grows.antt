@@ -9,7 +9,7 @@ use Rattle.std.proofs.lemmas.List.Elements.{Contains-append_left, Contains-appen
 use Rattle.sj_trees.specs.declared.classes.ClassDef.{ClassDef}
 use Rattle.sj_world.specs.Known.{Name, Classes, is_same, class_of, is_known, is_hijacked, hijacked, stands_as, object, integer}
 use Rattle.sj_world.specs.Paths.{Path, stay, on}
-use Rattle.sj_world.specs.Ancestors.{IsAncestor, IsParent, Way, by_path, is_object, IsWritten, IsOnCycle, IsNext, parents, written, written_in, written_above, listed, next_on_chain, superclass_in, superclass_of_absent}
+use Rattle.sj_world.specs.Ancestors.{IsAncestor, IsParent, Way, by_path, is_object, IsWritten, IsOnCycle, IsNext, parents, written, written_in, written_above, above_in, directly_above, listed, next_on_chain, superclass_in, superclass_of_absent}
 use Rattle.sj_world.specs.Refusals.{HasNoCycle}
 use Rattle.sj_world.specs.Tables.{AreAncestors}
 use Rattle.sj_world.specs.Laws.{AncestorsGrow, IsPlain}
@@ -60,15 +60,19 @@ only_one a x h = go (Contains-push_cases [] a x h)
     go (inr e) = e
 
 module _ (w : Classes) where
-  parent_written : (b x : Name) → IsParent w b x → IsWritten w (stands_as b) x
-  parent_written b x h = go (is_known w b) refl
+  parent_cases : (b x : Name) → IsParent w b x → (object ≡ x) ⊎ IsWritten w (stands_as b) x
+  parent_cases b x h = go (class_of w (stands_as b)) refl
     where
-      go : (k : Bool) → is_known w b ≡ k → IsWritten w (stands_as b) x
-      go true e = from_filter (is_known w) (written_above w (stands_as b)) x (subst (λ (l : List Name). Contains l x) (ap (λ (k : Bool). cond k (filter (is_known w) (written_above w (stands_as b))) []) e) h)
-      go false e = nothing_in x (subst (λ (l : List Name). Contains l x) (ap (λ (k : Bool). cond k (filter (is_known w) (written_above w (stands_as b))) []) e) h)
+      above : Contains (above_in (class_of w (stands_as b)) (stands_as b)) x
+      above = from_filter (is_known w) (directly_above w (stands_as b)) x h
 
-  parent_at : (b x : Name) → is_known w b ≡ true → Contains (filter (is_known w) (written_above w (stands_as b))) x → IsParent w b x
-  parent_at b x e h = subst (λ (l : List Name). Contains l x) (sym (ap (λ (k : Bool). cond k (filter (is_known w) (written_above w (stands_as b))) []) e)) h
+      absent : (k : Bool) → is_hijacked (stands_as b) ≡ k → Contains (listed (superclass_of_absent (stands_as b))) x → object ≡ x
+      absent true e there = only_one object x (subst (λ (o : Option Name). Contains (listed o) x) (ap (λ (k : Bool). cond k (Some object) None) e) there)
+      absent false e there = nothing_in x (subst (λ (o : Option Name). Contains (listed o) x) (ap (λ (k : Bool). cond k (Some object) None) e) there)
+
+      go : (o : Option ClassDef) → class_of w (stands_as b) ≡ o → (object ≡ x) ⊎ IsWritten w (stands_as b) x
+      go (Some c) e = inr (subst (λ (o : Option ClassDef). Contains (written_in o) x) (sym e) (subst (λ (o : Option ClassDef). Contains (above_in o (stands_as b)) x) e above))
+      go None e = inl (absent (is_hijacked (stands_as b)) refl (subst (λ (o : Option ClassDef). Contains (above_in o (stands_as b)) x) e above))
 
   -- the superclass of a class that is known stands one step above it
   record Above (c d : Name) : Type 0 where
@@ -99,25 +103,34 @@ module _ (w : Classes) where
           absent true h = let s : Some object ≡ Some d = sym (ap (λ (b : Bool). cond b (Some object) None) h) ∙ said in let t : object ≡ d = cc in record { known = stands_known c (ap (λ (o : Option ClassDef). is_some o || is_hijacked (stands_as c)) e ∙ h); how = inr (h, t) }
           absent false h = let s : None ≡ Some d = sym (ap (λ (b : Bool). cond b (Some object) None) h) ∙ said in cc
 
+  next_parent : (c d : Name) → IsNext w c d → is_known w d ≡ true → IsParent w c d
+  next_parent c d next known = into_filter (is_known w) (directly_above w (stands_as c)) d known (go (class_of w (stands_as c)) next)
+    where
+      listed_one : (o : Option Name) → o ≡ Some d → Contains (listed o) d
+      listed_one o e = subst (λ (n : Option Name). Contains (listed n) d) (sym e) (Contains-push [] d)
+
+      go : (o : Option ClassDef) → superclass_in o (stands_as c) ≡ Some d → Contains (above_in o (stands_as c)) d
+      go None e = listed_one (superclass_of_absent (stands_as c)) e
+      go (Some x) e = Contains-append_left (listed x.superclass) x.interfaces d (listed_one x.superclass e)
+
+  -- what stands above the superclass of a class stands above the class
+  from_next : (c d x : Name) → IsNext w c d → IsAncestor w d x → IsAncestor w c x
+  from_next c d x next a = record { known = (next_above c d next).known; way = go a.way }
+    where
+      go : Way w d x → Way w c x
+      go (by_path path) = by_path (joined (IsParent w) c d x (on c d stay (next_parent c d next a.known)) path)
+      go (is_object e) = is_object e
+
   module _ (plain : IsPlain w) where
-    -- no path of parents leads away from `java.lang.Object`
-    ends_at_object : (x : Name) → Path (IsParent w) object x → object ≡ x
-    ends_at_object x stay = refl
-    ends_at_object x (on b _ path step) = absurd (plain.topped x (subst (λ (n : Name). IsWritten w (stands_as n) x) (sym (ends_at_object b path)) (parent_written b x step)))
-
-    -- what stands above the superclass of a class stands above the class
-    from_next : (c d x : Name) → IsNext w c d → IsAncestor w d x → IsAncestor w c x
-    from_next c d x next a = record { known = (next_above c d next).known; way = go (next_above c d next).how a.way }
+    -- a path of parents from a class that isn't hijacked ends at `java.lang.Object`, or is one of what is written
+    climbs : (d x : Name) → is_hijacked d ≡ false → Path (IsParent w) d x → (object ≡ x) ⊎ (Path (IsWritten w) d x × (is_hijacked x ≡ false))
+    climbs d x h stay = inr (stay, h)
+    climbs d x h (on b _ path step) = go (climbs d b h path) (parent_cases b x step)
       where
-        go : IsWritten w (stands_as c) d ⊎ ((is_hijacked (stands_as c) ≡ true) × (object ≡ d)) → Way w d x → Way w c x
-        go how (is_object e) = is_object e
-        go (inl text) (by_path path) = by_path (joined (IsParent w) c d x (on c d stay (parent_at c d (next_above c d next).known (into_filter (is_known w) (written_above w (stands_as c)) d a.known text))) path)
-        go (inr rule) (by_path path) = is_object (sym (ends_at_object x (subst (λ (n : Name). Path (IsParent w) n x) (sym rule.1) path)))
-
-    -- a path of parents from a class that isn't hijacked is one of what is written
-    climbs : (d x : Name) → is_hijacked d ≡ false → Path (IsParent w) d x → Path (IsWritten w) d x × (is_hijacked x ≡ false)
-    climbs d x h stay = (stay, h)
-    climbs d x h (on b _ path step) = let up = climbs d b h path in let text : IsWritten w b x = subst (λ (n : Name). IsWritten w n x) (stands_itself b up.1) (parent_written b x step) in (on b x up.0 text, plain.apart b x text)
+        go : (object ≡ b) ⊎ (Path (IsWritten w) d b × (is_hijacked b ≡ false)) → (object ≡ x) ⊎ IsWritten w (stands_as b) x → (object ≡ x) ⊎ (Path (IsWritten w) d x × (is_hijacked x ≡ false))
+        go before (inl top) = inl top
+        go (inl top) (inr text) = absurd (plain.topped x (subst (λ (n : Name). IsWritten w (stands_as n) x) (sym top) text))
+        go (inr up) (inr text) = let named : IsWritten w b x = subst (λ (n : Name). IsWritten w n x) (stands_itself b up.1) text in inr (on b x up.0 named, plain.apart b x named)
 
     -- nothing leads into a hijacked class
     no_way_in : (d c : Name) → is_hijacked c ≡ true → IsNext w c d → Path (IsParent w) d c → ⊥
@@ -126,10 +139,14 @@ module _ (w : Classes) where
         go : IsWritten w (stands_as c) d ⊎ ((is_hijacked (stands_as c) ≡ true) × (object ≡ d)) → ⊥
         go (inl text) = let t : true ≡ false = sym h ∙ plain.apart (stands_as c) d text in cc
         go (inr rule) = let t : true ≡ false = sym h ∙ ap is_hijacked (sym rule.1) in cc
-    no_way_in d c h next (on b _ path step) = let t : true ≡ false = sym h ∙ plain.apart (stands_as b) c (parent_written b c step) in cc
+    no_way_in d c h next (on b _ path step) = go (parent_cases b c step)
+      where
+        go : (object ≡ c) ⊎ IsWritten w (stands_as b) c → ⊥
+        go (inl top) = let t : true ≡ false = sym h ∙ ap is_hijacked (sym top) in cc
+        go (inr text) = let t : true ≡ false = sym h ∙ plain.apart (stands_as b) c text in cc
 
     never_back : HasNoCycle w → (c d : Name) → IsNext w c d → Way w d c → ⊥
-    never_back none c d next way_back = go (is_hijacked c) refl way_back
+    never_back none c d next above = go (is_hijacked c) refl above
       where
         text : is_hijacked c ≡ false → IsWritten w c d
         text e = way (next_above c d next).how
@@ -138,11 +155,15 @@ module _ (w : Classes) where
             way (inl t) = subst (λ (n : Name). IsWritten w n d) (stands_itself c e) t
             way (inr rule) = let t : false ≡ true = sym e ∙ subst (λ (n : Name). is_hijacked n ≡ true) (stands_itself c e) rule.0 in cc
 
+        back : is_hijacked c ≡ false → (object ≡ c) ⊎ (Path (IsWritten w) d c × (is_hijacked c ≡ false)) → ⊥
+        back e (inl top) = plain.topped d (subst (λ (n : Name). IsWritten w n d) (sym top) (text e))
+        back e (inr up) = none.none c (record { parent = d; up = text e; back = up.0 })
+
         go : (b : Bool) → is_hijacked c ≡ b → Way w d c → ⊥
         go true e (by_path path) = no_way_in d c e next path
         go true e (is_object top) = let t : true ≡ false = sym e ∙ ap is_hijacked top in cc
-        go false e (by_path path) = none.none c (record { parent = d; up = text e; back = (climbs d c (plain.apart c d (text e)) path).0 })
-        go false e (is_object top) = plain.topped d (subst (λ (n : Name). IsWritten w n d) top (text e))
+        go false e (by_path path) = back e (climbs d c (plain.apart c d (text e)) path)
+        go false e (is_object top) = back e (inl (sym top))
 
 all_from : (P : Name → Type 0) (xs : List Name) → ((x : Name) → Contains xs x → P x) → AllByRecursion P xs
 all_from P [] h = tt
@@ -163,4 +184,4 @@ ancestors_grow w none plain c d below above next under over =
 
     inside : (q : Name) → Contains (c ∷ []) q ⊎ Contains above q → Contains below q
     inside q (inl first) = (under.exact q).1 (record { known = (next_above w c d next).known; way = by_path (subst (λ (n : Name). Path (IsParent w) c n) (only_one c q first) stay) })
-    inside q (inr rest) = (under.exact q).1 (from_next w plain c d q next ((over.exact q).0 rest))
+    inside q (inr rest) = (under.exact q).1 (from_next w c d q next ((over.exact q).0 rest))

@@ -24,9 +24,21 @@ written_above w name = written_in (class_of w name)
 abbrev pub IsWritten : Classes → Name → Name → Type 0
 IsWritten w below above = Contains (written_above w below) above
 
--- what stands one step above a class that is known: what is written and known
+-- the superclass of what an absent class is taken as: of the eight it is `java.lang.Object`
+abbrev pub superclass_of_absent : Name → Option Name
+superclass_of_absent name = if is_hijacked name then Some object else None
+
+-- what stands directly above a class: what it writes, and where it is absent what it is taken to write
+abbrev pub above_in : Option ClassDef → Name → List Name
+above_in None name = listed (superclass_of_absent name)
+above_in (Some c) name = written c
+
+abbrev pub directly_above : Classes → Name → List Name
+directly_above w name = above_in (class_of w name) name
+
+-- what stands one step above a class, of that what is known
 abbrev pub parents : Classes → Name → List Name
-parents w name = if is_known w name then filter (is_known w) (written_above w (stands_as name)) else []
+parents w name = filter (is_known w) (directly_above w (stands_as name))
 
 abbrev pub IsParent : Classes → Name → Name → Type 0
 IsParent w below above = Contains (parents w below) above
@@ -46,10 +58,6 @@ pub record IsOnCycle (w : Classes) (name : Name) : Type 0 where
   pub parent : Name
   pub up : IsWritten w name parent
   pub back : Path (IsWritten w) parent name
-
--- the superclass of what an absent class is taken as: of the eight it is `java.lang.Object`
-abbrev pub superclass_of_absent : Name → Option Name
-superclass_of_absent name = if is_hijacked name then Some object else None
 
 abbrev pub superclass_in : Option ClassDef → Name → Option Name
 superclass_in None name = superclass_of_absent name

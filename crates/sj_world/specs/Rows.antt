@@ -24,7 +24,7 @@ family = empty_class (codes "A") Kinds.Class (Some object) (codes "J" ∷ [])
     ∷ empty_class object Kinds.Class None []
     ∷ []
 
--- a world that breaks a local rule: `java.lang.Object` below `Top`; `A` with nothing written above it, `B` below `java.lang.Object`
+-- a world that breaks a local rule: `java.lang.Object` below `Top`; `A` that writes nothing above it; `B` below `java.lang.Object`
 abbrev pub capped : Classes
 capped = empty_class (codes "A") Kinds.Class None []
     ∷ empty_class (codes "B") Kinds.Class (Some object) []

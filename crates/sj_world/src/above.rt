@@ -43,7 +43,7 @@ fn found_above(
     requires known { known.is_known classes.now name.now ≡ true }
     ensures { IfOk result (λ found. (x : known.Name) → Contains found.keys x ↔ ancestors.IsAncestor classes.now name.now x) }
 {
-    let mut found = reached(alloc, classes, name)?;
+    let mut found = reached(alloc, classes, object, name)?;
     found.insert(object.copied()?)?;
     Ok(found)
 }
@@ -52,9 +52,11 @@ fn found_above(
 fn reached(
     alloc: Global,
     classes: &[ClassDef],
+    object: &ClassName,
     name: &ClassName,
 ) -> Result<IndexSet<ClassName>, NoMemory>
-    requires { IsInOrder classes.now }
+    requires in_order { IsInOrder classes.now }
+    requires object { object.now ≡ known.object }
     ensures { IfOk result (λ found. (x : known.Name) → Contains found.keys x ↔ Path (ancestors.IsParent classes.now) name.now x) }
 {
     let mut found = IndexSet::new(alloc);
@@ -62,7 +64,7 @@ fn reached(
     let mut next = 0;
     while next < found.len() {
         let at = found[next].copied()?;
-        add_parents(classes, &at, &mut found)?;
+        add_parents(classes, object, &at, &mut found)?;
         next += 1;
     }
     Ok(found)
@@ -82,17 +84,18 @@ pub fn listed(alloc: Global, names: &IndexSet<ClassName>) -> Result<Vec<ClassNam
 // Adds the parents of a class.
 fn add_parents(
     classes: &[ClassDef],
+    object: &ClassName,
     name: &ClassName,
     found: &mut IndexSet<ClassName>,
 ) -> Result<(), NoMemory>
-    requires { IsInOrder classes.now }
+    requires in_order { IsInOrder classes.now }
+    requires object { object.now ≡ known.object }
     ensures { OnOk result (found.new.keys ≡ with_names found.old.keys (ancestors.parents classes.now name.now)) }
 {
-    if !is_known(classes, name.text()) {
-        return Ok(());
-    }
-    match class_in(classes, stands_as(name.text())) {
-        Some(class) => Ok(add_known_of(classes, class, found)?),
+    let name = stands_as(name.text());
+    match class_in(classes, name) {
+        Some(class) => add_known_of(classes, class, found),
+        None if is_hijacked(name) => add_known(classes, object, found),
         None => Ok(()),
     }
 }

@@ -12,6 +12,9 @@ returns-clause-object_above_absent c = record { known = refl; way = is_object re
 pub returns-clause-above_object_by_path : goal.returns-clause-above_object_by_path
 returns-clause-above_object_by_path c = record { known = refl; way = by_path (on object (codes "Top") (on (codes "B") object stay (0, omega arith, refl)) (0, omega arith, refl)) }
 
+pub returns-clause-above_object_from_absent : goal.returns-clause-above_object_from_absent
+returns-clause-above_object_from_absent c = record { known = refl; way = by_path (on object (codes "Top") (on (codes "java.lang.Integer") object stay (0, omega arith, refl)) (0, omega arith, refl)) }
+
 pub returns-clause-above_object_not_by_path : goal.returns-clause-above_object_not_by_path
 returns-clause-above_object_not_by_path c = not_above_a
 
