@@ -44,7 +44,11 @@ fn main(rt: HostRuntime) -> Result<()> {
             }
             Err(JsError::NoMemory) => false,
         };
-        if same { right = right.wrapping_add(1); } else { wrong = wrong.wrapping_add(1); }
+        if same {
+            right = right.wrapping_add(1);
+        } else {
+            wrong = wrong.wrapping_add(1);
+        }
     }
     println!(rt; "{right} right, {wrong} wrong")?;
     Ok(())
