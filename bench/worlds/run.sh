@@ -41,7 +41,7 @@ fn name(alloc: Global, number: u32) -> Result<ClassName> {
 
 // Every third class stands below java.lang.Object, and each of the others below the one before it.
 fn class(alloc: Global, number: u32) -> Result<ClassDef> {
-    let above = if number % 3 == 1 { 0 } else { number - 1 };
+    let above = if number % 3 == 1 { 0 } else { number.saturating_sub(1) };
     let superclass = if number == 0 { None } else { Some(name(alloc, above)?) };
     Ok(ClassDef {
         pos: Position { file: 0, line: 0, column: 0 },
