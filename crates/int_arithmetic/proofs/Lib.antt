@@ -1,0 +1,4 @@
+pub mod Exact
+pub mod Fits
+pub mod Operators
+pub mod Words

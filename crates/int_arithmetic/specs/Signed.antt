@@ -1,0 +1,66 @@
+-- Signed arithmetic at 32 bits, on integers.
+use Rattle.std.specs.Prelude.{ℕ, ◌-◌, ◌/◌, ◌%◌, ◌^◌, Bool, ℤ, pos, negsuc, ◌+ℤ◌, ◌-ℤ◌, ◌*ℤ◌, nat_lt, bit_and, bit_or, bit_xor, int_div, int_rem}
+use Rattle.std.specs.Int.{cast_signed, cast_unsigned, int_shr, w8, w16, w32}
+
+-- what is left of z when a multiple of n is taken away: from 0 to n - 1
+abbrev pub modulo : ℤ → ℕ → ℕ
+modulo (pos a) n = a % n
+modulo (negsuc a) n = n - 1 - a % n
+
+-- the number from -2 ^ 31 to 2 ^ 31 - 1 that differs from z by a multiple of 2 ^ 32
+abbrev pub wrapped : ℤ → ℤ
+wrapped z = cast_signed w32 (modulo z (2 ^ 32))
+
+-- the same at 8 and at 16 bits
+abbrev pub wrapped_to_byte : ℤ → ℤ
+wrapped_to_byte z = cast_signed w8 (modulo z (2 ^ 8))
+
+abbrev pub wrapped_to_short : ℤ → ℤ
+wrapped_to_short z = cast_signed w16 (modulo z (2 ^ 16))
+
+-- z is one of the numbers of 32 bits
+abbrev pub is_signed_32 : ℤ → Bool
+is_signed_32 (pos n) = nat_lt n (2 ^ 31)
+is_signed_32 (negsuc n) = nat_lt n (2 ^ 31)
+
+abbrev pub sum : ℤ → ℤ → ℤ
+sum a b = wrapped (a +ℤ b)
+
+abbrev pub difference : ℤ → ℤ → ℤ
+difference a b = wrapped (a -ℤ b)
+
+abbrev pub product : ℤ → ℤ → ℤ
+product a b = wrapped (a *ℤ b)
+
+-- rounded toward zero; the least number over -1 wraps
+abbrev pub quotient : ℤ → ℤ → ℤ
+quotient a b = wrapped (int_div a b)
+
+-- with the sign of the dividend
+abbrev pub remainder : ℤ → ℤ → ℤ
+remainder a b = int_rem a b
+
+-- bit by bit, in two's complement
+abbrev pub bits_or : ℤ → ℤ → ℤ
+bits_or a b = cast_signed w32 (bit_or (cast_unsigned w32 a) (cast_unsigned w32 b))
+
+abbrev pub bits_and : ℤ → ℤ → ℤ
+bits_and a b = cast_signed w32 (bit_and (cast_unsigned w32 a) (cast_unsigned w32 b))
+
+abbrev pub bits_xor : ℤ → ℤ → ℤ
+bits_xor a b = cast_signed w32 (bit_xor (cast_unsigned w32 a) (cast_unsigned w32 b))
+
+-- by how many places to shift: the low five bits
+abbrev pub places : ℤ → ℕ
+places b = modulo b 32
+
+abbrev pub shifted_left : ℤ → ℤ → ℤ
+shifted_left a b = wrapped (a *ℤ pos (2 ^ places b))
+
+-- copies of the sign come in from the left
+abbrev pub shifted_right : ℤ → ℤ → ℤ
+shifted_right a b = int_shr a (places b)
+
+-- zeros come in from the left
+abbrev pub shifted_right_with_zeros : ℤ → ℤ → ℤ
+shifted_right_with_zeros a b = cast_signed w32 (cast_unsigned w32 a / 2 ^ places b)

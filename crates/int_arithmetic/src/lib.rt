@@ -1,0 +1,49 @@
+//! Signed arithmetic at 32 bits on integers, the operators of ECMA-262, 11th edition (2020), on whole Numbers, and the laws that join
+//! the two.
+//!
+//! `specs/` has both. The functions here are laws: they do nothing when they run, and their clauses are theorems.
+#![tactic(auto)]
+
+ghost use Rattle.std.specs.Prelude.{◌≡◌, ◌≢◌, true, ℤ, pos, negsuc, ◌+ℤ◌, ◌-ℤ◌, FitsSigned};
+ghost use Rattle.std.specs.Int.{w32};
+ghost use Rattle.int_arithmetic.specs.Signed.{sum, difference, product, quotient, remainder, bits_or, bits_and, bits_xor, shifted_left, shifted_right, shifted_right_with_zeros, wrapped, wrapped_to_byte, wrapped_to_short};
+ghost use Rattle.int_arithmetic.specs.Numbers.{or_numbers, and_numbers, xor_numbers, left_shift, signed_right_shift, unsigned_right_shift, imul, quotient_or_zero, remainder_or_zero, is_exact};
+
+/// A law: on numbers of 32 bits, what the emitted code computes for an operator by the Numbers of ECMA-262 is what the operator gives.
+/// So `(a + b) | 0` is the sum that wraps, `Math.imul(a, b)` the product, `(a / b) | 0` the quotient that rounds toward zero, `(a << 24)
+/// >> 24` the byte of a number, and so on. Division is by any number but zero.
+pub fn templates_keep_numbers()
+    ensures sums { (a b : ℤ) → or_numbers (a +ℤ b) (pos 0) ≡ sum a b }
+    ensures differences { (a b : ℤ) → or_numbers (a -ℤ b) (pos 0) ≡ difference a b }
+    ensures products { (a b : ℤ) → FitsSigned w32 a → FitsSigned w32 b → imul a b ≡ product a b }
+    ensures quotients { (a b : ℤ) → b ≢ pos 0 → quotient_or_zero a b ≡ quotient a b }
+    ensures remainders { (a b : ℤ) → FitsSigned w32 b → b ≢ pos 0 → remainder_or_zero a b ≡ remainder a b }
+    ensures ors { (a b : ℤ) → FitsSigned w32 a → FitsSigned w32 b → or_numbers a b ≡ bits_or a b }
+    ensures ands { (a b : ℤ) → FitsSigned w32 a → FitsSigned w32 b → and_numbers a b ≡ bits_and a b }
+    ensures xors { (a b : ℤ) → FitsSigned w32 a → FitsSigned w32 b → xor_numbers a b ≡ bits_xor a b }
+    ensures left_shifts { (a b : ℤ) → FitsSigned w32 a → left_shift a b ≡ shifted_left a b }
+    ensures right_shifts { (a b : ℤ) → FitsSigned w32 a → signed_right_shift a b ≡ shifted_right a b }
+    ensures right_shifts_with_zeros { (a b : ℤ) → FitsSigned w32 a → or_numbers (unsigned_right_shift a b) (pos 0) ≡ shifted_right_with_zeros a b }
+    ensures bytes { (a : ℤ) → signed_right_shift (left_shift a (pos 24)) (pos 24) ≡ wrapped_to_byte a }
+    ensures shorts { (a : ℤ) → signed_right_shift (left_shift a (pos 16)) (pos 16) ≡ wrapped_to_short a }
+{}
+
+/// A law: sums and differences of numbers of 32 bits are exact Numbers, and what wraps has 32 bits.
+pub fn numbers_stay_in_range()
+    ensures sums { (a b : ℤ) → FitsSigned w32 a → FitsSigned w32 b → is_exact (a +ℤ b) ≡ true }
+    ensures differences { (a b : ℤ) → FitsSigned w32 a → FitsSigned w32 b → is_exact (a -ℤ b) ≡ true }
+    ensures wraps { (z : ℤ) → FitsSigned w32 (wrapped z) }
+    ensures keeps { (z : ℤ) → FitsSigned w32 z → wrapped z ≡ z }
+{}
+
+/// Worked values: the greatest number and 1 make the least, the least over -1 is the least, a remainder has the dividend's sign, and
+/// shifts count by the low five bits.
+pub fn worked_values()
+    ensures greatest { sum (pos 2147483647) (pos 1) ≡ negsuc 2147483647 }
+    ensures least { quotient (negsuc 2147483647) (negsuc 0) ≡ negsuc 2147483647 }
+    ensures signs { remainder (negsuc 6) (pos 4) ≡ negsuc 2 }
+    ensures places { shifted_left (pos 1) (pos 33) ≡ pos 2 }
+    ensures zeros { shifted_right_with_zeros (negsuc 0) (pos 28) ≡ pos 15 }
+    ensures copies { shifted_right (negsuc 15) (pos 2) ≡ negsuc 3 }
+    ensures byte { wrapped_to_byte (pos 200) ≡ negsuc 55 }
+{}
