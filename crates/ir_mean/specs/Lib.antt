@@ -1,4 +1,5 @@
 pub mod Meaning
+pub mod Operators
 pub mod Rows
 pub mod Same
 pub mod Shows

@@ -9,7 +9,7 @@ use Rattle.outcomes.specs.Outcome.{done, wrong, then_do}
 use Rattle.outcomes.specs.Shown.{Thrown, Ending, normal, uncaught, Shown}
 use Rattle.outcomes.specs.Shown as shown
 use Rattle.ir_mean.specs.Same.{is_same_text}
-use Rattle.ir_mean.specs.States.{Value, undefined, null, boolean, char, number, long, text, reference, Stored, object, array, State, Env, gives, throws, leaves, Ended, ends}
+use Rattle.ir_mean.specs.States.{Value, undefined, null, boolean, char, number, long, text, reference, Stored, object, array, State, Env, gives, throws, leaves, stops, Ended, ends}
 use Rattle.ir_mean.specs.World.{World, opening}
 use Rattle.ir_mean.specs.Meaning.{meaning}
 
@@ -50,6 +50,7 @@ abbrev pub next_or_end : (State → Shown) → Ended → Shown
 next_or_end next (ends (gives v) env s) = next s
 next_or_end next (ends (throws v) env s) = uncaught_or_wrong (thrown s v)
 next_or_end next (ends (leaves l v) env s) = wrong
+next_or_end next (ends stops env s) = wrong
 
 -- these initializers, one after the other, each evaluated with this bound
 abbrev pub all_show : World → ℕ → List EntryPoint → State → Shown

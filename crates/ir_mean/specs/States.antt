@@ -38,11 +38,12 @@ pub record Env : Type 0 where
   pub this_value : Option Value
   pub locals : Locals
 
--- a tree gives a value, or throws one, or has left to a label with one
+-- a tree gives a value, or throws one, or has left to a label with one. Inside a loop alone: its condition doesn't hold any more.
 pub data Kind : Type 0 where
   gives : Value → Kind
   throws : Value → Kind
   leaves : List ℕ → Value → Kind
+  stops : Kind
 
 -- how a tree ends, with the locals and the state that it leaves
 pub data Ended : Type 0 where
@@ -60,6 +61,7 @@ abbrev pub onward : (Value → Run) → Ended → Out Ended
 onward f (ends (gives v) env s) = f v env s
 onward f (ends (throws v) env s) = done (ends (throws v) env s)
 onward f (ends (leaves l v) env s) = done (ends (leaves l v) env s)
+onward f (ends stops env s) = done (ends stops env s)
 
 -- the one, and where it gives a value the other with that value
 abbrev pub go_on : Out Ended → (Value → Run) → Out Ended

@@ -1,5 +1,6 @@
 pub mod Files
 pub mod Meaning
+pub mod Operators
 pub mod Proper
 pub mod Rows
 pub mod Shows

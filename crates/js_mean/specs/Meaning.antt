@@ -1,11 +1,19 @@
 -- The meaning of expressions, statements and items with a bound. Sections are those of ECMA-262, 11th edition (2020).
-use Rattle.std.specs.Prelude.{ℕ, zero, suc, true, false, List, [], ◌∷◌, Option, Some, None, if◌then◌else◌}
+use Rattle.std.specs.Prelude.{ℕ, zero, suc, Bool, true, false, not, List, [], ◌∷◌, ℤ, pos, Option, Some, None, if◌then◌else◌}
+use Rattle.std.specs.List.{list_any}
+use Rattle.int_arithmetic.specs.Numbers.{is_exact, quotient_or_zero, remainder_or_zero}
 use Rattle.js_tree.specs.Names.{is_same_text}
-use Rattle.js_tree.specs.Terms.{Name, Expression, text_literal, call_of, host_call, Expressions, no_expressions, expression, Statement, expression_statement, const_of, let_of, declare_of, Statements, no_statements, statement, Item, const_item, object_item, let_item, expression_item, function_item, class_item, subclass_item, Module}
+use Rattle.js_tree.specs.Terms.{Name, Expression, null_literal, boolean_literal, undefined_literal, number_literal, text_literal, name_use, call_of, binary_of, unary_of, conditional_of, host_call, host_call_of_two, Expressions, no_expressions, expression, Statement, const_of, let_of, declare_of, expression_statement, assign_name, return_of, break_nearest, break_to, if_only, if_else, while_of, do_forever, labeled_of, switch_on, Statements, no_statements, statement, Cases, no_cases, switch_case, Item, const_item, object_item, let_item, expression_item, function_item, class_item, subclass_item, Module}
+use Rattle.js_tree.specs.declared.operators.BinaryOperator.{BinaryOperator}
+use Rattle.js_tree.specs.declared.operators.BinaryOperator.TheVariants.{And, Or, BitOr, Divide, Remainder}
+use Rattle.js_tree.specs.declared.operators.HostOperation.TheVariants.{MathImul}
+use Rattle.js_tree.specs.declared.operators.UnaryOperator.TheVariants.{Not}
 use Rattle.js_tree.specs.declared.operators.HostFunction.TheVariants.{ConsoleLog}
 use Rattle.outcomes.specs.Outcome.{Out, done, going, wrong, says, then_do}
 use Rattle.js_mean.specs.Files.{module_among, items_in, owner}
-use Rattle.js_mean.specs.States.{Value, undefined, text, function, Cell, absent, unset, holds, State, Scope, ExpressionEnd, gives, throws, Evaluation, normally, breaks, breaks_nearest, returns, thrown_with, StatementEnd, ends, Execution, with_value, in_statement, next_statement, Program}
+use Rattle.js_mean.specs.Operators.{to_boolean, to_number, is_strictly_equal, binary_value, imul_value}
+use Rattle.js_mean.specs.Proper.{declared, is_among}
+use Rattle.js_mean.specs.States.{Value, undefined, null, boolean, number, text, function, Cell, absent, unset, holds, State, Scope, ExpressionEnd, gives, throws, Evaluation, normally, breaks, breaks_nearest, returns, thrown_with, StatementEnd, ends, Execution, with_value, in_statement, next_statement, Program}
 
 -- statements run with one unit less than what stands around them: the bodies of functions and the next turns of loops
 abbrev pub Low : Type 0
@@ -95,6 +103,139 @@ abbrev pub code_call : Low → Name → Option Code → List Value → State →
 code_call low f None vs s = wrong
 code_call low f (Some c) vs s = then_do (low c.body (function_scope f c vs) s) returned
 
+abbrev pub value_or_wrong : Option Value → Evaluation
+value_or_wrong (Some v) sc s = done (gives v s)
+value_or_wrong None sc s = wrong
+
+abbrev pub binary : BinaryOperator → List Value → Evaluation
+binary op (v ∷ w ∷ []) sc s = value_or_wrong (binary_value op v w) sc s
+binary op _ sc s = wrong
+
+-- `!` (12.5.9.1)
+abbrev pub negated : List Value → Evaluation
+negated (v ∷ []) sc s = done (gives (boolean (not (to_boolean v))) s)
+negated _ sc s = wrong
+
+abbrev pub multiplied : List Value → Evaluation
+multiplied (v ∷ w ∷ []) sc s = value_or_wrong (imul_value v w) sc s
+multiplied _ sc s = wrong
+
+-- `/` or `%` of two operands, which stands under `| 0`, and what the whole gives on Numbers
+pub record Ratio : Type 0 where
+  pub left : Evaluation
+  pub right : Evaluation
+  pub whole : ℤ → ℤ → ℤ
+
+abbrev pub whole_number : (ℤ → ℤ → ℤ) → Option ℤ → Option ℤ → Value → Evaluation
+whole_number f (Some a) (Some b) (number (pos zero)) sc s = done (gives (number (f a b)) s)
+whole_number f _ _ _ sc s = wrong
+
+abbrev pub ratio : (ℤ → ℤ → ℤ) → List Value → Evaluation
+ratio f (v ∷ w ∷ z ∷ []) sc s = whole_number f (to_number v) (to_number w) z sc s
+ratio f _ sc s = wrong
+
+-- `|` (12.12.3), with what its left operand is where that is a ratio
+abbrev pub bits_or : Option Ratio → Evaluation → Evaluation → Evaluation
+bits_or None left right sc s = in_order (left ∷ right ∷ []) (binary BitOr) sc s
+bits_or (Some r) left right sc s = in_order (r.left ∷ r.right ∷ right ∷ []) (ratio r.whole) sc s
+
+-- one of two, by a condition (12.14.3)
+abbrev pub chosen : Evaluation → Evaluation → List Value → Evaluation
+chosen first second (v ∷ []) sc s = elim (to_boolean v) [ true ↦ first sc s | false ↦ second sc s ]
+chosen first second _ sc s = wrong
+
+-- `&&` and `||` (12.13.3): the left value decides whether the right operand is evaluated
+abbrev pub both_of : Evaluation → Value → Evaluation
+both_of second v sc s = elim (to_boolean v) [ true ↦ second sc s | false ↦ done (gives v s) ]
+
+abbrev pub one_of : Evaluation → Value → Evaluation
+one_of second v sc s = elim (to_boolean v) [ true ↦ done (gives v s) | false ↦ second sc s ]
+
+-- a Number literal is a whole Number
+abbrev pub literal : ℤ → Evaluation
+literal z sc s = if is_exact z then done (gives (number z) s) else wrong
+
+-- the scope with a binding that has started (8.1.1.1.4)
+abbrev pub start : Bool → Name → Value → Scope → Scope
+start const x v sc = record { file = sc.file; this_value = sc.this_value; bindings = binding x (holds const v) sc.bindings }
+
+-- the statements of a block see its names, which haven't started (13.2.13, 13.2.14), and behind it those around it are there again
+abbrev pub enter : Statements → Scope → Scope
+enter ss sc = record { file = sc.file; this_value = sc.this_value; bindings = bind_declared ss sc.bindings }
+
+abbrev pub leave : Statements → Scope → Scope → Scope
+leave ss outer inner = record { file = inner.file; this_value = inner.this_value; bindings = λ y. if is_among (declared ss) y then outer.bindings y else inner.bindings y }
+
+abbrev pub leaving : Statements → Scope → StatementEnd → Out StatementEnd
+leaving ss outer (ends k inner s) = done (ends k (leave ss outer inner) s)
+
+abbrev pub in_block : Statements → Execution → Execution
+in_block ss run sc s = then_do (run (enter ss sc) s) (leaving ss sc)
+
+-- the next turn of a loop, unless the turn breaks (13.7.1.2)
+abbrev pub next_turn : Execution → StatementEnd → Out StatementEnd
+next_turn next (ends normally sc s) = next sc s
+next_turn next (ends breaks_nearest sc s) = done (ends normally sc s)
+next_turn next (ends (breaks x) sc s) = done (ends (breaks x) sc s)
+next_turn next (ends (returns v) sc s) = done (ends (returns v) sc s)
+next_turn next (ends (thrown_with v) sc s) = done (ends (thrown_with v) sc s)
+
+-- a break to this label has come to its place (13.13.14)
+abbrev pub arrive : Name → StatementEnd → Out StatementEnd
+arrive x (ends (breaks y) sc s) = if is_same_text y x then done (ends normally sc s) else done (ends (breaks y) sc s)
+arrive x (ends normally sc s) = done (ends normally sc s)
+arrive x (ends breaks_nearest sc s) = done (ends breaks_nearest sc s)
+arrive x (ends (returns v) sc s) = done (ends (returns v) sc s)
+arrive x (ends (thrown_with v) sc s) = done (ends (thrown_with v) sc s)
+
+-- a break of the switch itself (13.12.11)
+abbrev pub behind_switch : StatementEnd → Out StatementEnd
+behind_switch (ends breaks_nearest sc s) = done (ends normally sc s)
+behind_switch (ends normally sc s) = done (ends normally sc s)
+behind_switch (ends (breaks x) sc s) = done (ends (breaks x) sc s)
+behind_switch (ends (returns v) sc s) = done (ends (returns v) sc s)
+behind_switch (ends (thrown_with v) sc s) = done (ends (thrown_with v) sc s)
+
+-- a case of a switch: its keys and its block
+pub record Clause : Type 0 where
+  pub keys : List ℤ
+  pub block : Execution
+
+-- these blocks, and behind them the default's
+abbrev pub fall : List Clause → Execution → Execution
+fall [] default sc s = default sc s
+fall (c ∷ cs) default sc s = then_do (c.block sc s) (next_statement (fall cs default))
+
+-- from the first case on that has a key equal to the value (13.12.9)
+abbrev pub from_case : List Clause → Execution → Value → Execution
+from_case [] default v sc s = default sc s
+from_case (c ∷ cs) default v sc s = elim (list_any (λ z. is_strictly_equal v (number z)) c.keys) [ true ↦ then_do (c.block sc s) (next_statement (fall cs default)) | false ↦ from_case cs default v sc s ]
+
+-- one of two statements, by a condition (13.6.7)
+abbrev pub taken : Execution → Execution → Value → Execution
+taken first second v sc s = elim (to_boolean v) [ true ↦ first sc s | false ↦ second sc s ]
+
+-- what does nothing
+abbrev pub nothing : Execution
+nothing sc s = done (ends normally sc s)
+
+-- an assignment to a binding at the top of the file itself; one to an import is an error (8.1.1.5)
+abbrev pub assign_top : Bool → Name → Value → Cell → Execution
+assign_top true x v (holds false w) sc s = done (ends normally sc (record { heap = s.heap; tops = λ f y. if is_same_text f sc.file then binding x (holds false v) (s.tops f) y else s.tops f y }))
+assign_top _ x v _ sc s = wrong
+
+abbrev pub is_own : Name → Option Name → Bool
+is_own f None = false
+is_own f (Some g) = is_same_text g f
+
+-- an assignment to a name, behind the evaluation of its right side (12.15.4, 8.1.1.1.5): to a constant, to a binding that hasn't started or
+-- to none it is an error
+abbrev pub assign : Program → Name → Value → Cell → Execution
+assign p x v (holds false w) sc s = done (ends normally (start false x v sc) s)
+assign p x v (holds true w) sc s = wrong
+assign p x v (unset const) sc s = wrong
+assign p x v absent sc s = assign_top (is_own sc.file (owner p sc.file x)) x v (top_cell (owner p sc.file x) x s) sc s
+
 module _ (program : Program) where
   -- a call (12.3.6.2): what is called is a function; its body runs with one unit less (9.2.1)
   abbrev pub call : Low → Value → List Value → Evaluation
@@ -105,22 +246,71 @@ module _ (program : Program) where
     -- an expression, by its production; one that isn't built yet is wrong, as is whatever the standard answers by an error
     pub evaluate : Low → Expression → Evaluation
     -- 12.2.4.1
+    evaluate low null_literal sc s = done (gives null s)
+    evaluate low (boolean_literal b) sc s = done (gives (boolean b) s)
+    evaluate low (number_literal z) sc s = literal z sc s
     evaluate low (text_literal us) sc s = done (gives (text us) s)
+    -- 12.5.4.1
+    evaluate low undefined_literal sc s = done (gives undefined s)
+    -- 12.1.6
+    evaluate low (name_use x) sc s = name_value program x sc s
     -- 12.3.6.1: the name first, then the arguments
     evaluate low (call_of x es) sc s = then_do (name_value program x sc s) (with_value (λ f. in_order (arguments low es) (call low f) sc))
+    evaluate low (binary_of e And g) sc s = then_do (evaluate low e sc s) (with_value (λ v. both_of (evaluate low g) v sc))
+    evaluate low (binary_of e Or g) sc s = then_do (evaluate low e sc s) (with_value (λ v. one_of (evaluate low g) v sc))
+    evaluate low (binary_of e BitOr g) sc s = bits_or (ratio_of low e) (evaluate low e) (evaluate low g) sc s
+    evaluate low (binary_of e op g) sc s = in_order (evaluate low e ∷ evaluate low g ∷ []) (binary op) sc s
+    evaluate low (unary_of Not e) sc s = in_order (evaluate low e ∷ []) negated sc s
+    evaluate low (conditional_of c e g) sc s = in_order (evaluate low c ∷ []) (chosen (evaluate low e) (evaluate low g)) sc s
     evaluate low (host_call ConsoleLog e) sc s = in_order (evaluate low e ∷ []) log sc s
+    evaluate low (host_call_of_two MathImul e g) sc s = in_order (evaluate low e ∷ evaluate low g ∷ []) multiplied sc s
     evaluate low _ sc s = wrong
+
+    -- `/` or `%`, which stands under `| 0`
+    pub ratio_of : Low → Expression → Option Ratio
+    ratio_of low (binary_of e Divide g) = Some (record { left = evaluate low e; right = evaluate low g; whole = quotient_or_zero })
+    ratio_of low (binary_of e Remainder g) = Some (record { left = evaluate low e; right = evaluate low g; whole = remainder_or_zero })
+    ratio_of low _ = None
 
     pub arguments : Low → Expressions → List Evaluation
     arguments low no_expressions = []
     arguments low (expression e es) = evaluate low e ∷ arguments low es
 
+  -- an expression of a statement, and then what is done with its value
+  abbrev pub with_expression : Low → Expression → (Value → Execution) → Execution
+  with_expression low e act sc s = then_do (evaluate low e sc s) (in_statement sc (λ v. act v sc))
+
   abbrev mutual
     -- a statement, by its production; one that isn't built yet is wrong
     pub execute : Low → Statement → Execution
+    -- 13.3.1.4
+    execute low (const_of x e) sc s = with_expression low e (λ v sc s. done (ends normally (start true x v sc) s)) sc s
+    execute low (let_of x e) sc s = with_expression low e (λ v sc s. done (ends normally (start false x v sc) s)) sc s
+    execute low (declare_of x) sc s = done (ends normally (start false x undefined sc) s)
     -- 13.5.1
-    execute low (expression_statement e) sc s = then_do (evaluate low e sc s) (in_statement sc (λ v s. done (ends normally sc s)))
+    execute low (expression_statement e) sc s = with_expression low e (λ v. nothing) sc s
+    execute low (assign_name x e) sc s = with_expression low e (λ v sc. assign program x v (sc.bindings x) sc) sc s
+    -- 13.10.1
+    execute low (return_of e) sc s = with_expression low e (λ v sc s. done (ends (returns v) sc s)) sc s
+    -- 13.9.3
+    execute low break_nearest sc s = done (ends breaks_nearest sc s)
+    execute low (break_to x) sc s = done (ends (breaks x) sc s)
+    -- 13.6.7
+    execute low (if_only c ss) sc s = with_expression low c (taken (in_block ss (execute_all low ss)) nothing) sc s
+    execute low (if_else c ss ts) sc s = with_expression low c (taken (in_block ss (execute_all low ss)) (in_block ts (execute_all low ts))) sc s
+    -- 13.7.3.6: the next turn has one unit less
+    execute low (while_of c ss) sc s = with_expression low c (taken (λ sc s. then_do (in_block ss (execute_all low ss) sc s) (next_turn (low (statement (while_of c ss) no_statements)))) nothing) sc s
+    -- 13.7.2.6
+    execute low (do_forever ss) sc s = then_do (in_block ss (execute_all low ss) sc s) (next_turn (low (statement (do_forever ss) no_statements)))
+    -- 13.13.14
+    execute low (labeled_of x ss) sc s = then_do (in_block ss (execute_all low ss) sc s) (arrive x)
+    -- 13.12.11
+    execute low (switch_on e cs ss) sc s = then_do (with_expression low e (from_case (clauses low cs) (in_block ss (execute_all low ss))) sc s) behind_switch
     execute low _ sc s = wrong
+
+    pub clauses : Low → Cases → List Clause
+    clauses low no_cases = []
+    clauses low (switch_case ks ss cs) = record { keys = ks; block = in_block ss (execute_all low ss) } ∷ clauses low cs
 
     -- 13.2.13
     pub execute_all : Low → Statements → Execution

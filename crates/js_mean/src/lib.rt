@@ -1,14 +1,17 @@
 //! The meaning of the emitted code, after ECMA-262, 11th edition (2020), with a bound on the depth of calls and the turns of loops.
 //!
 //! `specs/` has values, states and scopes, the meaning of each production, what makes a file wrong before anything runs, and what the
-//! files of a program show. Built so far are function items, expression statements, calls by name, `console.log` and strings; each
-//! other production is wrong where it is met. Import and export lines are built whole. The one function here is a law.
+//! files of a program show. Built so far are function items; the statements but for properties, indices, `super`, `throw` and `try`; and
+//! the expressions of names, calls by name, Numbers, booleans and strings, whose operators work on Numbers and booleans. Each other
+//! production is wrong where it is met. Import and export lines are built whole. The functions here are laws.
 #![tactic(auto)]
 
-ghost use Rattle.std.specs.Prelude.{◌≡◌, ℕ, List, [], ◌∷◌, codes};
-ghost use Rattle.outcomes.specs.Outcome.{Going, Wrong, Done};
+ghost use Rattle.std.specs.Prelude.{◌≡◌, ℕ, List, [], ◌∷◌, ℤ, pos, negsuc, codes};
+ghost use Rattle.outcomes.specs.Outcome.{Going, Wrong, Done, done, going, wrong};
 ghost use Rattle.outcomes.specs.Shown.{Shown, normal};
 ghost use Rattle.js_mean.specs.Shows.{js_shows};
+ghost use Rattle.js_mean.specs.States.{gives, number};
+ghost use Rattle.js_mean.specs.Meaning.{opening};
 ghost use Rattle.js_mean.specs.Rows.{
   hi_program,
   again_program,
@@ -18,6 +21,17 @@ ghost use Rattle.js_mean.specs.Rows.{
   import_program,
   circle_program,
   circular_name_program,
+  one_function,
+  called_with,
+  triples,
+  counts,
+  falls,
+  breaks_out,
+  writes_constant,
+  uses_before_start,
+  shadows,
+  remainder_by_four,
+  bare_ratio,
 };
 
 /// Worked programs of the emitted code; the function does nothing when it runs. A function that logs `hi` has shown nothing within the
@@ -39,4 +53,23 @@ pub fn worked_programs()
     ensures circle { js_shows circle_program (codes "main") 1 ≡ record { lines = codes "lib" ∷ codes "main" ∷ []; end = Done normal } }
     ensures circular_name { js_shows circular_name_program (codes "main") 1 ≡ record { lines = []; end = Wrong } }
     ensures argument_first { js_shows argument_program (codes "main") 1 ≡ record { lines = codes "f" ∷ codes "g" ∷ []; end = Done normal } }
+{}
+
+/// Worked functions of one parameter. A loop that triples gives 27 for 1 within the bound 4: one unit is for the call, and three are for the
+/// turns behind the first. A case without `break` falls into the next, and a break leaves the switch. A break to a label leaves the loops inside it. A
+/// constant can't be written, and a binding that hasn't started can't be read, also where one around it has that name; behind a block the
+/// outer binding is there again. A remainder has the dividend's sign, and a quotient that isn't under `| 0` has no meaning.
+pub fn worked_functions()
+    ensures loop_of_1 { called_with triples 4 (pos 1) ≡ done (gives (number (pos 27)) (opening (one_function triples))) }
+    ensures loop_going { called_with triples 3 (pos 1) ≡ going }
+    ensures loop_without_condition { called_with counts 3 (pos 8) ≡ done (gives (number (pos 11)) (opening (one_function counts))) }
+    ensures falls_through { called_with falls 1 (negsuc 0) ≡ done (gives (number (pos 20)) (opening (one_function falls))) }
+    ensures default { called_with falls 1 (pos 3) ≡ done (gives (number (pos 30)) (opening (one_function falls))) }
+    ensures break_to_label { called_with breaks_out 1 (negsuc 0) ≡ done (gives (number (pos 2)) (opening (one_function breaks_out))) }
+    ensures return_from_loop { called_with breaks_out 1 (pos 0) ≡ done (gives (number (pos 1)) (opening (one_function breaks_out))) }
+    ensures constant { called_with writes_constant 1 (pos 0) ≡ wrong }
+    ensures before_start { called_with uses_before_start 1 (pos 0) ≡ wrong }
+    ensures shadowed { called_with shadows 1 (pos 0) ≡ done (gives (number (pos 3)) (opening (one_function shadows))) }
+    ensures remainder { called_with remainder_by_four 1 (negsuc 6) ≡ done (gives (number (negsuc 2)) (opening (one_function remainder_by_four))) }
+    ensures ratio { called_with bare_ratio 1 (pos 4) ≡ wrong }
 {}

@@ -47,6 +47,7 @@ onward-associative : (k : ir.Value → ir.Run) (g : ir.Value → ir.Run) (e : ir
 onward-associative k g (ir.ends (ir.gives v) env s) = refl
 onward-associative k g (ir.ends (ir.throws v) env s) = refl
 onward-associative k g (ir.ends (ir.leaves l v) env s) = refl
+onward-associative k g (ir.ends ir.stops env s) = refl
 
 pub go_on-associative : (o : Out ir.Ended) (k g : ir.Value → ir.Run) → ir.go_on (ir.go_on o k) g ≡ ir.go_on o (λ v env s. ir.go_on (k v env s) g)
 go_on-associative o k g = then_do-associative o (ir.onward k) (ir.onward g) ∙ ap (then_do o) (fun_ext (onward-associative k g))
@@ -55,6 +56,7 @@ onward-given : (e : ir.Ended) → ir.onward ir.given e ≡ done e
 onward-given (ir.ends (ir.gives v) env s) = refl
 onward-given (ir.ends (ir.throws v) env s) = refl
 onward-given (ir.ends (ir.leaves l v) env s) = refl
+onward-given (ir.ends ir.stops env s) = refl
 
 pub go_on-given : (o : Out ir.Ended) → ir.go_on o ir.given ≡ o
 go_on-given o = ap (then_do o) (fun_ext onward-given) ∙ then_do-right o
