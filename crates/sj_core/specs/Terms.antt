@@ -1,0 +1,70 @@
+-- The terms of the core: methods whose statements and expressions are apart, without pointers.
+use Rattle.std.specs.Prelude.{ℕ, ℤ, Bool, List, Option}
+use Rattle.sj_names.specs.declared.method_names.Member.{Member}
+use Rattle.sj_names.specs.declared.method_names.Namespace.{Namespace}
+use Rattle.sj_trees.specs.declared.operators.BinaryOp.{BinaryOp}
+use Rattle.sj_trees.specs.declared.operators.UnaryOp.{UnaryOp}
+use Rattle.sj_trees.specs.declared.positions.Position.{Position}
+
+-- a variable of the IR by its name, or one by its number, which holds an operand
+pub data Variable : Type 0 where
+  named : List ℕ → Variable
+  numbered : ℕ → Variable
+
+mutual
+  pub data Expression : Type 0 where
+    undefined_value : Expression
+    null_value : Expression
+    boolean_value : Bool → Expression
+    number_value : ℤ → Expression
+    text_value : List ℕ → Expression
+    variable_use : Variable → Expression
+    boxed_char : Expression → Expression
+    choice_of : Expression → Expression → Expression → Expression
+    static_call : Member → Expressions → Expression
+    unary_of : UnaryOp → Expression → Expression
+    binary_of : BinaryOp → Expression → Expression → Expression
+
+  pub data Expressions : Type 0 where
+    no_expressions : Expressions
+    expression : Expression → Expressions → Expressions
+
+-- where a statement comes from: the position of a tree, if its line has one
+abbrev pub Origin : Type 0
+Origin = Option Position
+
+mutual
+  pub data Statement : Type 0 where
+    constant_of : Origin → Variable → Expression → Statement
+    define_of : Origin → Variable → Expression → Statement
+    declare_of : Origin → Variable → Statement
+    assign_to : Origin → Variable → Expression → Statement
+    evaluate_of : Origin → Expression → Statement
+    return_of : Origin → Expression → Statement
+    log_of : Origin → Expression → Statement
+    leave_label : Origin → List ℕ → Statement
+    break_nearest : Origin → Statement
+    if_of : Origin → Expression → Statements → Statements → Statement
+    while_of : Origin → Expression → Statements → Statement
+    loop_of : Origin → Statements → Statement
+    labeled_of : Origin → List ℕ → Statements → Statement
+    switch_of : Origin → Expression → Cases → Statements → Statement
+
+  pub data Statements : Type 0 where
+    no_statements : Statements
+    statement : Statement → Statements → Statements
+
+  -- the cases of a switch before its default: keys and statements
+  pub data Cases : Type 0 where
+    no_cases : Cases
+    switch_case : List ℤ → Statements → Cases → Cases
+
+pub record Method : Type 0 where
+  pub namespace : Namespace
+  pub params : List (List ℕ)
+  pub body : Statements
+
+-- the one and behind them the others
+abbrev pub followed : Statements → Statements → Statements
+followed no_statements ts = ts
+followed (statement s ss) ts = statement s (followed ss ts)

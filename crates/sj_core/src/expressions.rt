@@ -1,0 +1,34 @@
+// Expressions of the core.
+use sj_names::{LocalName, Member};
+use sj_trees::{BinaryOp, UnaryOp};
+use sj_units::Units;
+
+/// A variable of a method: one of the IR, or one that holds an operand.
+#[derive(Drop)]
+pub enum CoreVariable {
+    /// A local variable or a parameter of the IR.
+    Local(LocalName),
+    /// The variable of this number, which holds the value of an operand. They count from 1.
+    Numbered(u64),
+}
+
+/// An expression. A contract sees the term that it stands for, `expression_view`.
+#[derive(Drop)]
+#[cycle(core_expression)]
+pub enum CoreExpression {
+    Undefined,
+    Null,
+    Boolean(bool),
+    /// A byte, a short or an int.
+    Number(i32),
+    Text(Units),
+    Variable(CoreVariable),
+    /// A char as an object that holds it.
+    Boxed(Box<CoreExpression>),
+    /// One of two by a condition.
+    Choice(Box<CoreExpression>, Box<CoreExpression>, Box<CoreExpression>),
+    /// A call of a static method with its arguments.
+    StaticCall(Member, Vec<CoreExpression>),
+    Unary(UnaryOp, Box<CoreExpression>),
+    Binary(BinaryOp, Box<CoreExpression>, Box<CoreExpression>),
+}

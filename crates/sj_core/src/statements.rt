@@ -1,0 +1,45 @@
+// Statements of the core.
+use crate::{CoreExpression, CoreVariable};
+use sj_names::{Items, LabelName};
+use sj_trees::Position;
+
+/// A statement: first the position of the tree that it was written for, if its line has one. A contract sees the term that it stands for,
+/// `statement_view`.
+#[derive(Drop)]
+#[cycle(core_statement)]
+pub enum CoreStatement {
+    /// A variable that keeps its first value.
+    Constant(Option<Position>, CoreVariable, CoreExpression),
+    /// A variable with its first value.
+    Define(Option<Position>, CoreVariable, CoreExpression),
+    /// A variable without a value.
+    Declare(Option<Position>, CoreVariable),
+    Assign(Option<Position>, CoreVariable, CoreExpression),
+    /// An expression whose value isn't used.
+    Evaluate(Option<Position>, CoreExpression),
+    Return(Option<Position>, CoreExpression),
+    /// A text is logged as a line.
+    Log(Option<Position>, CoreExpression),
+    /// The labelled block ends.
+    Leave(Option<Position>, LabelName),
+    /// The nearest loop or switch ends.
+    Break(Option<Position>),
+    /// A choice: the condition, and the statements of both branches.
+    If(Option<Position>, CoreExpression, Vec<CoreStatement>, Vec<CoreStatement>),
+    /// A loop that tests in front.
+    While(Option<Position>, CoreExpression, Vec<CoreStatement>),
+    /// A loop that a break alone ends.
+    Loop(Option<Position>, Vec<CoreStatement>),
+    /// A block that a `Leave` may end.
+    Labeled(Option<Position>, LabelName, Vec<CoreStatement>),
+    /// A choice by a number: the selector, the cases and the default.
+    Switch(Option<Position>, CoreExpression, Vec<CoreCase>, Vec<CoreStatement>),
+}
+
+/// A case of a switch: the numbers that choose it, and its statements.
+#[derive(Drop)]
+#[cycle(core_statement)]
+pub struct CoreCase {
+    pub keys: Items<i32>,
+    pub body: Vec<CoreStatement>,
+}

@@ -1,0 +1,20 @@
+-- Where a char becomes an object that holds it.
+use Rattle.std.specs.Prelude.{Bool, true, false, ◌&&◌, not, List, [], ◌∷◌, if◌then◌else◌}
+use Rattle.sj_core.specs.Terms.{Expression, boxed_char}
+use Rattle.sj_names.specs.declared.references.TypeRef.{TypeRef}
+use Rattle.sj_trees.specs.Types.{reference_type}
+use Rattle.sj_trees.specs.declared.types.IrType.{IrType}
+use Rattle.sj_trees.specs.declared.types.IrType.TheVariants.{Char}
+
+abbrev pub is_char : IrType → Bool
+is_char Char = true
+is_char _ = false
+
+-- an expression of the second type where the first is expected
+abbrev pub coerced : IrType → IrType → Expression → Expression
+coerced expected own e = if (is_char own && not (is_char expected)) then boxed_char e else e
+
+-- arguments of these types where the parameters have those references
+abbrev pub coerced_arguments : List TypeRef → List IrType → List Expression → List Expression
+coerced_arguments (r ∷ rs) (t ∷ ts) (e ∷ es) = coerced (reference_type r) t e ∷ coerced_arguments rs ts es
+coerced_arguments _ _ es = es

@@ -1,0 +1,4 @@
+pub mod Coercions
+pub mod Desugar
+pub mod Plain
+pub mod Spill
