@@ -1,7 +1,7 @@
 -- Bodies for a method: of a class, along a chain, of interfaces.
-use Rattle.std.proofs.Common.{◌≡◌, ℕ, zero, suc, ◌+◌, ◌≤◌, ◌<◌, Bool, true, false, List, [], ◌∷◌, Contains, slice_get, Option, Some, None, MatchOption, IsTrue, refl, sym, ap, ◌∙◌, subst, length, get_or, arith, inl, inr, ◌||◌, cond}
+use Rattle.std.proofs.Common.{◌≡◌, ℕ, zero, suc, ◌+◌, ◌≤◌, ◌<◌, Bool, true, false, List, Contains, slice_get, Option, Some, None, MatchOption, IsTrue, refl, sym, ap, ◌∙◌, subst, length, get_or, arith, inl, inr, ◌||◌, cond}
 use Rattle.std.specs.Prelude.{◌⊎◌, ◌↔◌, is_some, codes}
-use Rattle.std.specs.Ordering.{nat_cmp, is_lt}
+use Rattle.std.specs.Ordering.{nat_cmp}
 use Rattle.std.specs.Cmp.Lexicographic.{slice_cmp, nat_list_cmp_total}
 use Rattle.std.specs.List.Sorted.{IsSorted}
 use Rattle.std.proofs.lemmas.List.Sorted.{sorted_far, ranks_by}
@@ -11,11 +11,11 @@ use Rattle.sj_trees.specs.declared.classes.ClassDef.{ClassDef}
 use Rattle.sj_trees.specs.declared.classes.MethodDef.{MethodDef}
 use Rattle.sj_trees.specs.declared.classes.ClassKind.TheVariants.{Interface}
 use Rattle.sj_world.specs.Known.{Name, Classes, is_same, class_of, is_known, is_hijacked, hijacked, stands_as, integer, object}
-use Rattle.sj_world.specs.Paths.{Path, stay, on, IsFirst, HasNone}
-use Rattle.sj_world.specs.Ancestors.{IsAncestor, IsNext, IsOnChain, next_on_chain, superclass_in, superclass_of_absent}
-use Rattle.sj_world.specs.Tables.{AreChain, AreAncestors}
+use Rattle.sj_world.specs.Paths.{stay, on, IsFirst, HasNone}
+use Rattle.sj_world.specs.Ancestors.{IsAncestor, IsOnChain, next_on_chain, superclass_in}
+use Rattle.sj_world.specs.Tables.{AreChain}
 use Rattle.sj_world.specs.Refusals.{is_before}
-use Rattle.sj_world.specs.Resolution.{IsBody, IsBodyAt, HasNoBody, HaveNoBody, IsFirstBody, Passes, begin, up, IsNearest, HasNoneOnChain, IsDefault, IsNoDefault, IsOverride, IsOverridden, IsCandidate, IsNoCandidate, IsLeastCandidate, HasNoCandidate, HasPublic, IsDeclaredAt, IsDeclared, Answer, missing, ResolvesAbove, by_default, undeclared, declared}
+use Rattle.sj_world.specs.Resolution.{IsBody, IsBodyAt, HasNoBody, HaveNoBody, IsFirstBody, Passes, begin, up, IsNearest, HasNoneOnChain, IsDefault, IsNoDefault, IsOverride, IsOverridden, IsCandidate, IsNoCandidate, IsLeastCandidate, HasNoCandidate, IsDeclaredAt, IsDeclared, Answer, missing, ResolvesAbove, by_default, undeclared, declared}
 use Rattle.sj_world.proofs.Orders.{same_name}
 use Rattle.sj_world.proofs.OnCycles.{among}
 use Rattle.sj_world.proofs.Searches.{NoneYet, Some_body, Some_candidate, none_more, none_whole, none_among, stands_at, contains_at}
@@ -59,22 +59,23 @@ pub have_no_body : (w : Classes) (m : MethodName) (names : List Name) (i : ℕ) 
 have_no_body w m names i before over = record { none = λ j n at. record { none = λ d b. (none_whole (Some_body w m) names i before over).none j n at (record { method = d; is_body = b }) } }
 
 module _ (w : Classes) (c : Name) (m : MethodName) (names : List Name) (chain : AreChain w c names) where
-  contained : (d : Name) → IsOnChain w c d → Contains names d
+  pub contained : (d : Name) → IsOnChain w c d → Contains names d
   contained d stay = contains_at names 0 c chain.begins
   contained d (on b e path next) = chain.closed b e (contained b path) next
 
   pub none_on_chain : HaveNoBody w m names → HasNoneOnChain w c m
   none_on_chain none = record { none = λ d on_chain. let k = contained d on_chain in none.none k.0 d (stands_at names d k) }
 
-  passes : (d : MethodDef) (owner : Name) → (f : IsFirstBody w m names d owner) → (i : ℕ) (n : Name) → i ≤ f.place → slice_get names i ≡ Some n → Passes w (HasNoBody w m) c n
-  passes d owner f zero n le at = let s : Some c ≡ Some n = sym chain.begins ∙ at in let e : c ≡ n = cc in subst (Passes w (HasNoBody w m) c) e begin
-  passes d owner f (suc i) n le at = up (get_or names i n) n (passes d owner f i (get_or names i n) (omega arith) here) (f.none_before i (get_or names i n) (omega arith) here) (chain.linked i (get_or names i n) n here (subst (λ (k : ℕ). slice_get names k ≡ Some n) (omega arith) at))
+  -- each class of the list before a place lacks it, so the chain passes to that place
+  pub passes : (Lacks : Name → Type 0) (place : ℕ) → ((i : ℕ) (n : Name) → i < place → slice_get names i ≡ Some n → Lacks n) → (i : ℕ) (n : Name) → i ≤ place → slice_get names i ≡ Some n → Passes w Lacks c n
+  passes Lacks place before zero n le at = let s : Some c ≡ Some n = sym chain.begins ∙ at in let e : c ≡ n = cc in subst (Passes w Lacks c) e begin
+  passes Lacks place before (suc i) n le at = up (get_or names i n) n (passes Lacks place before i (get_or names i n) (omega arith) here) (before i (get_or names i n) (omega arith) here) (chain.linked i (get_or names i n) n here (subst (λ (k : ℕ). slice_get names k ≡ Some n) (omega arith) at))
     where
       here : slice_get names i ≡ Some (get_or names i n)
       here = slice_get-get_or names i n (omega (arith, slice_get_within names (suc i) n at))
 
   pub nearest_is : (d : MethodDef) (owner : Name) → IsFirstBody w m names d owner → IsNearest w c m d owner
-  nearest_is d owner f = record { passes = passes d owner f f.place owner (omega arith) f.stands; body = f.body }
+  nearest_is d owner f = record { passes = passes (HasNoBody w m) f.place f.none_before f.place owner (omega arith) f.stands; body = f.body }
 
 -- only `java.lang.Byte` and `java.lang.Short` stand as another class
 module _ (c : Name) (free : is_hijacked c ≡ false) where
@@ -109,6 +110,9 @@ module _ (w : Classes) (c : Name) (unknown : is_known w c ≡ false) where
   only_itself : (d : Name) → IsOnChain w c d → d ≡ c
   only_itself d stay = refl
   only_itself d (on b e path next) = let n : None ≡ Some e = sym alone ∙ subst (λ (x : Name). next_on_chain w x ≡ Some e) (only_itself b path) next in cc
+
+  pub absent_on_chain : (d : Name) → IsOnChain w c d → class_of w d ≡ None
+  absent_on_chain d on_chain = subst (λ (n : Name). class_of w n ≡ None) (sym (only_itself d on_chain)) is_absent
 
   pub unknown_none_on_chain : (m : MethodName) → HasNoneOnChain w c m
   unknown_none_on_chain m = record { none = λ d on_chain. record { none = λ k b. none d k b (only_itself d on_chain) } }

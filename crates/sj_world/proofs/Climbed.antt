@@ -1,6 +1,6 @@
 -- The chain of superclasses of a class, found step by step.
-use Rattle.std.proofs.Common.{◌≡◌, ℕ, zero, suc, ◌+◌, ◌≤◌, ◌<◌, Bool, true, false, List, [], ◌∷◌, ◌++◌, Contains, slice_get, take, Option, Some, None, refl, sym, ap, ◌∙◌, subst, length, arith, inl, inr, cond}
-use Rattle.std.specs.Prelude.{◌⊎◌, ◌↔◌}
+use Rattle.std.proofs.Common.{◌≡◌, ℕ, zero, suc, ◌+◌, ◌≤◌, Bool, true, false, [], ◌∷◌, ◌++◌, Contains, slice_get, take, Option, Some, None, refl, sym, ap, ◌∙◌, subst, length, arith, inl, inr, cond}
+use Rattle.std.specs.Prelude.{◌⊎◌}
 use Rattle.std.specs.List.{list_any, IsDistinct}
 use Rattle.std.proofs.lemmas.List.{length-append}
 use Rattle.std.proofs.lemmas.List.Elements.{Contains-push}
@@ -10,7 +10,7 @@ use Rattle.indexmap.specs.IndexSet.{insert_key}
 use Rattle.sj_world.specs.Known.{Name, Classes, is_same, with_names}
 use Rattle.sj_world.specs.Ancestors.{IsNext, next_on_chain, listed}
 use Rattle.sj_world.specs.Tables.{AreChain}
-use Rattle.sj_world.proofs.Worklist.{Names, Working, working_begins, working_goes_on, working_ends, Reached}
+use Rattle.sj_world.proofs.Worklist.{Names, Working, working_begins, working_goes_on}
 
 abbrev pub step : Classes → Name → Names
 step w name = listed (next_on_chain w name)

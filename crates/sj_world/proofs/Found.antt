@@ -1,5 +1,5 @@
 -- What a worklist over parents finds, and with `java.lang.Object` the ancestors.
-use Rattle.std.proofs.Common.{◌≡◌, ℕ, ◌≤◌, true, List, [], ◌∷◌, Contains, refl, sym, ap, ◌∙◌, subst, length, inl, inr, arith}
+use Rattle.std.proofs.Common.{◌≡◌, ℕ, ◌≤◌, true, [], ◌∷◌, Contains, sym, subst, length, inl, inr}
 use Rattle.std.specs.Prelude.{◌↔◌, ◌⊎◌}
 use Rattle.std.specs.Ordering.{nat_cmp}
 use Rattle.std.specs.Cmp.Lexicographic.{slice_cmp}
@@ -8,7 +8,7 @@ use Rattle.std.specs.List.Sorted.{IsSorted, IsPermutation}
 use Rattle.std.proofs.lemmas.List.Sorted.{Contains-permutation, IsPermutation-sym}
 use Rattle.std.proofs.lemmas.List.Elements.{Contains-push, Contains-push_cases}
 use Rattle.indexmap.specs.IndexSet.{insert_key}
-use Rattle.sj_world.specs.Known.{Name, Classes, is_same, is_known, with_names, object}
+use Rattle.sj_world.specs.Known.{Name, Classes, is_same, is_known, object}
 use Rattle.sj_world.specs.Paths.{Path}
 use Rattle.sj_world.specs.Ancestors.{IsAncestor, IsParent, Way, by_path, is_object, parents}
 use Rattle.sj_world.specs.Tables.{AreAncestors}

@@ -1,19 +1,17 @@
 -- A class has more ancestors than its superclass.
-use Rattle.std.proofs.Common.{◌≡◌, ℕ, zero, suc, ◌+◌, ◌≤◌, ◌<◌, Bool, true, false, List, [], ◌∷◌, ◌++◌, Contains, Option, Some, None, refl, sym, ap, ◌∙◌, subst, length, arith, inl, inr, ◌||◌, cond}
-use Rattle.std.specs.Prelude.{◌⊎◌, ◌↔◌, is_some, codes}
-use Rattle.std.specs.List.{IsDistinct, AllByRecursion, list_any, filter}
+use Rattle.std.proofs.Common.{◌≡◌, ◌≤◌, Bool, true, false, List, [], ◌∷◌, Contains, Option, Some, None, refl, sym, ap, ◌∙◌, subst, length, arith, inl, inr, ◌||◌, cond}
+use Rattle.std.specs.Prelude.{◌⊎◌, is_some}
+use Rattle.std.specs.List.{IsDistinct, AllByRecursion, filter}
 use Rattle.std.specs.Cmp.Lexicographic.{nat_list_eq_equiv}
-use Rattle.std.specs.Set.{is_member}
 use Rattle.std.proofs.lemmas.Map.Made.{length-le_from_is_member}
 use Rattle.std.proofs.lemmas.List.Elements.{Contains-append_left, Contains-append_right, Contains-append_cases, Contains-push, Contains-push_cases}
 use Rattle.sj_trees.specs.declared.classes.ClassDef.{ClassDef}
-use Rattle.sj_world.specs.Known.{Name, Classes, is_same, class_of, is_known, is_hijacked, hijacked, stands_as, object, integer}
+use Rattle.sj_world.specs.Known.{Name, Classes, is_same, class_of, is_known, is_hijacked, stands_as, object}
 use Rattle.sj_world.specs.Paths.{Path, stay, on}
-use Rattle.sj_world.specs.Ancestors.{IsAncestor, IsParent, Way, by_path, is_object, IsWritten, IsOnCycle, IsNext, parents, written, written_in, written_above, above_in, directly_above, listed, next_on_chain, superclass_in, superclass_of_absent}
+use Rattle.sj_world.specs.Ancestors.{IsAncestor, IsParent, Way, by_path, is_object, IsWritten, IsNext, written_in, above_in, directly_above, listed, superclass_in, superclass_of_absent}
 use Rattle.sj_world.specs.Refusals.{HasNoCycle}
-use Rattle.sj_world.specs.Tables.{AreAncestors}
 use Rattle.sj_world.specs.Laws.{AncestorsGrow, IsPlain}
-use Rattle.sj_world.proofs.Orders.{same_name, is_same_itself}
+use Rattle.sj_world.proofs.Orders.{same_name}
 use Rattle.sj_world.proofs.Worklist.{nothing_in}
 use Rattle.sj_world.proofs.OnCycles.{among}
 use Rattle.sj_world.proofs.Bodies.{stands_itself}

@@ -1,5 +1,5 @@
 -- The laws of worlds.
-use Rattle.std.proofs.Common.{◌≡◌, ℕ, zero, suc, ◌+◌, ◌≤◌, ◌<◌, Bool, true, false, List, [], ◌∷◌, Contains, slice_get, Option, Some, None, refl, sym, ap, ◌∙◌, subst, length, arith, inl, inr}
+use Rattle.std.proofs.Common.{◌≡◌, ℕ, ◌<◌, slice_get, Some, refl, sym, ap, ◌∙◌, subst, arith, inl, inr}
 use Rattle.std.specs.Prelude.{◌⊎◌, codes}
 use Rattle.sj_names.specs.declared.references.ArrayRef.{ArrayRef}
 use Rattle.sj_names.specs.declared.references.BaseRef.{BaseRef}
@@ -8,14 +8,13 @@ use Rattle.sj_trees.specs.declared.types.IrType.{IrType}
 use Rattle.sj_trees.specs.declared.types.IrType.TheVariants.{Any, Nothing, Undefined, Boolean, Char, Byte, Short, Int, Long, String, Null, Class, Array, NoType}
 use Rattle.sj_trees.specs.declared.classes.ClassDef.{ClassDef}
 use Rattle.sj_trees.specs.declared.classes.MethodDef.{MethodDef}
-use Rattle.sj_world.specs.Known.{Name, Classes, class_of, object}
-use Rattle.sj_world.specs.Paths.{Path, stay, on, IsFirst}
-use Rattle.sj_world.specs.Ancestors.{IsAncestor, IsParent, Way, by_path, is_object, IsNext, IsOnChain, next_on_chain}
-use Rattle.sj_world.specs.Refusals.{is_before}
+use Rattle.sj_world.specs.Known.{Name, Classes, object}
+use Rattle.sj_world.specs.Paths.{Path, stay, on}
+use Rattle.sj_world.specs.Ancestors.{IsAncestor, IsParent, Way, by_path, is_object}
 use Rattle.sj_world.specs.Subtypes.{IsSub, IsSubBase, equal, from_nothing, equal_bases, classes}
 use Rattle.sj_world.specs.Under.{IsUnder, IsUnderClass, IsUnderArray, AreAlike, IsDeeper}
-use Rattle.sj_world.specs.Resolution.{IsBody, IsBodyAt, HasNoBody, Passes, begin, up, IsNearest, HasNoneOnChain, IsDefault, IsCandidate, IsLeastCandidate, HasNoCandidate, IsDeclared, Answer, target, abstract, missing, ResolvesAbove, by_default, undeclared, declared, Resolves, by_chain, by_ancestors}
-use Rattle.sj_world.specs.Laws.{AncestorsRise, SubtypesReflexive, SubtypesTransitive, BodiesInherited, ResolvesOnce, IsTopped}
+use Rattle.sj_world.specs.Resolution.{IsBodyAt, HasNoBody, Passes, begin, up}
+use Rattle.sj_world.specs.Laws.{AncestorsRise, SubtypesReflexive, SubtypesTransitive, BodiesInherited, IsTopped}
 use Rattle.sj_world.proofs.Subtyped.{parted, under_sub}
 
 pub joined : {X : Type 0} (Step : X → X → Type 0) (a b c : X) → Path Step a b → Path Step b c → Path Step a c

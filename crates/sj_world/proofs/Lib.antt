@@ -10,6 +10,8 @@ pub mod Lined
 pub mod Subtyped
 pub mod Searches
 pub mod Bodies
+pub mod Spelled
+pub mod Targets
 pub mod LawsHold
 pub mod Once
 pub mod Grows

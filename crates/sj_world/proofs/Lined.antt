@@ -1,6 +1,6 @@
 -- Lines that are added one after the other.
-use Rattle.std.proofs.Common.{◌≡◌, ℕ, ◌≤◌, Bool, true, false, List, [], ◌∷◌, ◌++◌, Contains, slice_get, Option, Some, None, MatchOption, refl, sym, ap, ◌∙◌, subst, length, take, arith, inl, inr, cond, ◌||◌}
-use Rattle.std.specs.Prelude.{◌⊎◌, is_some, IsSome}
+use Rattle.std.proofs.Common.{◌≡◌, ℕ, Bool, true, false, [], ◌∷◌, ◌++◌, Contains, slice_get, Option, Some, None, MatchOption, refl, sym, ap, ◌∙◌, subst, inl, inr, cond, ◌||◌}
+use Rattle.std.specs.Prelude.{◌⊎◌, is_some}
 use Rattle.std.specs.List.{list_any}
 use Rattle.std.specs.Ordering.{is_eq}
 use Rattle.std.specs.BTreeMap.{BTreeMap}

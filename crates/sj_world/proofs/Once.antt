@@ -1,5 +1,5 @@
 -- A call resolves in one way.
-use Rattle.std.proofs.Common.{◌≡◌, ℕ, Bool, true, false, List, Contains, Option, Some, None, refl, sym, ap, ◌∙◌, subst, inl, inr}
+use Rattle.std.proofs.Common.{◌≡◌, true, false, Some, refl, sym, ap, ◌∙◌, subst, inl, inr}
 use Rattle.std.specs.Prelude.{◌⊎◌}
 use Rattle.std.specs.declared.cmp.Ordering.{Ordering}
 use Rattle.std.specs.declared.cmp.Ordering.TheVariants.{Less, Equal, Greater}
@@ -8,10 +8,10 @@ use Rattle.std.specs.Cmp.Lexicographic.{nat_list_cmp_total}
 use Rattle.sj_names.specs.declared.method_names.MethodName.{MethodName}
 use Rattle.sj_trees.specs.declared.classes.MethodDef.{MethodDef}
 use Rattle.sj_world.specs.Known.{Name, Classes}
-use Rattle.sj_world.specs.Paths.{Path, stay, on}
-use Rattle.sj_world.specs.Ancestors.{IsAncestor, IsNext, IsOnChain, next_on_chain}
+use Rattle.sj_world.specs.Paths.{stay, on}
+use Rattle.sj_world.specs.Ancestors.{IsAncestor, IsNext, IsOnChain}
 use Rattle.sj_world.specs.Refusals.{is_before}
-use Rattle.sj_world.specs.Resolution.{IsBodyAt, HasNoBody, Passes, begin, up, IsNearest, HasNoneOnChain, IsDefault, IsCandidate, IsLeastCandidate, HasNoCandidate, IsDeclared, Answer, target, abstract, missing, ResolvesAbove, by_default, undeclared, declared, Resolves, by_chain, by_ancestors}
+use Rattle.sj_world.specs.Resolution.{IsBodyAt, HasNoBody, Passes, begin, up, IsNearest, IsDefault, IsLeastCandidate, Answer, target, ResolvesAbove, by_default, undeclared, declared, by_chain, by_ancestors}
 use Rattle.sj_world.specs.Laws.{ResolvesOnce}
 use Rattle.sj_world.proofs.Orders.{compared, same_name, same_compared}
 use Rattle.sj_world.proofs.LawsHold.{same_body}

@@ -1,7 +1,7 @@
 -- What doesn't stand above a class in a worked world.
-use Rattle.std.proofs.Common.{◌≡◌, List, [], ◌∷◌, Contains, refl, sym, subst}
+use Rattle.std.proofs.Common.{◌≡◌, refl, sym, subst}
 use Rattle.std.specs.Prelude.{codes}
-use Rattle.sj_world.specs.Known.{Name, object}
+use Rattle.sj_world.specs.Known.{Name}
 use Rattle.sj_world.specs.Paths.{Path, stay, on}
 use Rattle.sj_world.specs.Ancestors.{IsAncestor, IsParent, Way, by_path, is_object}
 use Rattle.sj_world.specs.Rows.{capped}

@@ -1,5 +1,5 @@
 -- Searches along a list.
-use Rattle.std.proofs.Common.{◌≡◌, ℕ, ◌+◌, ◌≤◌, ◌<◌, List, Contains, slice_get, Some, None, refl, sym, ap, ◌∙◌, subst, length, arith, inl, inr}
+use Rattle.std.proofs.Common.{◌≡◌, ℕ, ◌+◌, ◌≤◌, ◌<◌, List, Contains, slice_get, Some, sym, ap, ◌∙◌, subst, length, arith, inl, inr}
 use Rattle.std.specs.Prelude.{◌⊎◌}
 use Rattle.std.proofs.lemmas.Option.{slice_get_within, get_or_from_slice_get, slice_get-get_or}
 use Rattle.sj_names.specs.declared.method_names.MethodName.{MethodName}
@@ -46,6 +46,27 @@ module _ {X : Type 0} (Has : X → Type 0) (xs : List X) where
 
   pub none_among : (x : X) → HasNone Has xs → Contains xs x → Has x → ⊥
   none_among x all c h = all.none c.0 x (stands_at xs x c) h
+
+-- all of the first items have the property
+pub record AllYet {X : Type 0} (Has : X → Type 0) (xs : List X) (n : ℕ) : Type 0 where
+  pub all : (i : ℕ) (x : X) → i < n → slice_get xs i ≡ Some x → Has x
+
+module _ {X : Type 0} (Has : X → Type 0) (xs : List X) where
+  pub all_begins : AllYet Has xs 0
+  all_begins = record { all = λ i x lt at. absurd (omega arith) }
+
+  pub all_more : (n : ℕ) (x : X) → AllYet Has xs n → slice_get xs n ≡ Some x → Has x → AllYet Has xs (n + 1)
+  all_more n x before at has = record { all = λ i y lt there. split i y there (places i lt) }
+    where
+      places : (i : ℕ) → i < n + 1 → (i < n) ⊎ (i ≡ n)
+      places i lt = grind arith
+
+      split : (i : ℕ) (y : X) → slice_get xs i ≡ Some y → (i < n) ⊎ (i ≡ n) → Has y
+      split i y there (inl lt) = before.all i y lt there
+      split i y there (inr e) = let s : Some x ≡ Some y = sym at ∙ ap (slice_get xs) (sym e) ∙ there in let k : x ≡ y = cc in subst Has k has
+
+  pub all_whole : (n : ℕ) (x : X) → AllYet Has xs n → length xs ≤ n → Contains xs x → Has x
+  all_whole n x before over c = before.all c.0 x (omega (arith, c.1)) (stands_at xs x c)
 
 pub contains_at : {X : Type 0} (xs : List X) (i : ℕ) (x : X) → slice_get xs i ≡ Some x → Contains xs x
 contains_at xs i x at = (i, slice_get_within xs i x at, get_or_from_slice_get xs i x x at)

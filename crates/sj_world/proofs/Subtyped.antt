@@ -1,20 +1,20 @@
 -- Subtypes by the type above, and names that stand among names in order.
-use Rattle.std.proofs.Common.{◌≡◌, ℕ, ◌+◌, ◌≤◌, ◌<◌, Bool, true, false, List, [], ◌∷◌, Contains, Option, Some, None, Result, Ok, Err, IsTrue, refl, sym, ap, ◌∙◌, subst, length, get_or, arith, inl, inr}
+use Rattle.std.proofs.Common.{◌≡◌, ℕ, ◌≤◌, ◌<◌, Bool, true, false, List, Contains, Option, Some, Result, Ok, Err, IsTrue, refl, sym, subst, length, get_or, arith, inl, inr}
 use Rattle.std.specs.Prelude.{◌⊎◌, ◌↔◌, is_ok, codes}
 use Rattle.std.specs.Ordering.{nat_cmp}
 use Rattle.std.specs.Cmp.Lexicographic.{slice_cmp, nat_list_cmp_total}
-use Rattle.std.specs.declared.cmp.Ordering.TheVariants.{Less, Equal, Greater}
+use Rattle.std.specs.declared.cmp.Ordering.TheVariants.{Less, Greater}
 use Rattle.std.specs.List.Sorted.{IsSorted, IsSearchInRange, IsBinarySearchResult, IsPartitionPoint}
 use Rattle.std.proofs.lemmas.List.Sorted.{searchable_from_sorted}
 use Rattle.sj_names.specs.declared.references.ArrayRef.{ArrayRef}
 use Rattle.sj_names.specs.declared.references.BaseRef.{BaseRef}
 use Rattle.sj_trees.specs.declared.types.IrType.{IrType}
-use Rattle.sj_trees.specs.declared.types.IrType.TheVariants.{Any, Nothing, Undefined, Boolean, Char, Byte, Short, Int, Long, String, Null, Class, Array, NoType}
-use Rattle.sj_world.specs.Known.{Name, Classes, is_same, is_known, object}
+use Rattle.sj_trees.specs.declared.types.IrType.TheVariants.{Any, Nothing, Undefined, Boolean, Char, Byte, Short, Int, Long, String, Null, Class, Array}
+use Rattle.sj_world.specs.Known.{Name, Classes, is_same}
 use Rattle.sj_world.specs.Ancestors.{IsAncestor}
 use Rattle.sj_world.specs.Tables.{AreAncestors}
 use Rattle.sj_world.specs.Subtypes.{IsSub, IsSubBase, hijacked_class, equal, from_nothing, to_any, null_to_class, null_to_array, class_to_class, primitive_to_class, arrays_alike, arrays_of_arrays, equal_bases, classes}
-use Rattle.sj_world.specs.Under.{IsUnder, IsUnderClass, IsUnderArray, IsAncestorOfAny, IsClassUnder, AreAlike, IsDeeper}
+use Rattle.sj_world.specs.Under.{IsUnder, IsUnderClass, IsUnderArray, IsAncestorOfAny, IsClassUnder, AreAlike}
 use Rattle.sj_world.proofs.Orders.{compared, same_name, same_compared, is_same_itself, differs_less, differs_greater}
 
 differs_not : (a b : Name) → a ≡ b → is_same a b ≡ false → ⊥

@@ -1,17 +1,14 @@
 -- The least name that comes twice among classes in order.
-use Rattle.std.proofs.Common.{◌≡◌, ℕ, zero, suc, ◌+◌, ◌-◌, ◌<◌, ◌≤◌, List, [], ◌∷◌, Bool, true, false, length, slice_get, get_or, Some, refl, sym, ap, ◌∙◌, subst, arith, inl, inr}
+use Rattle.std.proofs.Common.{◌≡◌, ℕ, zero, suc, ◌+◌, ◌-◌, ◌<◌, ◌≤◌, Bool, true, false, length, slice_get, get_or, Some, sym, subst, arith, inl, inr}
 use Rattle.std.specs.Prelude.{◌⊎◌, count_by}
-use Rattle.std.specs.declared.cmp.Ordering.{Ordering}
-use Rattle.std.specs.declared.cmp.Ordering.TheVariants.{Less, Equal, Greater}
-use Rattle.std.specs.Ordering.{is_lt}
 use Rattle.std.specs.Cmp.Lexicographic.{nat_list_cmp_total}
 use Rattle.std.specs.List.Sorted.{IsSortedBy, IsPermutation}
-use Rattle.std.proofs.lemmas.List.Sorted.{sorted_far, ranks_by, sum_by-IsPermutation, IsPermutation-sym}
+use Rattle.std.proofs.lemmas.List.Sorted.{sorted_far, ranks_by, sum_by-IsPermutation}
 use Rattle.std.proofs.lemmas.Option.{slice_get_within, get_or_from_slice_get, slice_get-get_or}
 use Rattle.sj_trees.specs.declared.classes.ClassDef.{ClassDef}
 use Rattle.sj_world.specs.Known.{Name, Classes, is_same}
-use Rattle.sj_world.specs.Refusals.{IsInOrder, IsTwice, IsLeastTwice, IsSortedFrom, is_before}
-use Rattle.sj_world.proofs.Orders.{compared, same_name, is_same_itself, not_before_itself, before_trans, before_or_not, differs_after}
+use Rattle.sj_world.specs.Refusals.{IsInOrder, IsTwice, IsLeastTwice, is_before}
+use Rattle.sj_world.proofs.Orders.{same_name, is_same_itself, not_before_itself, before_trans, before_or_not, differs_after}
 use Rattle.sj_world.proofs.Counts.{Two, counts_two, two_counted}
 
 abbrev pub is_lower : ClassDef → ClassDef → Bool

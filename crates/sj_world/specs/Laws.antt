@@ -1,5 +1,5 @@
 -- Laws of worlds.
-use Rattle.std.specs.Prelude.{◌≡◌, ◌<◌, true, false, List, Some, length}
+use Rattle.std.specs.Prelude.{◌≡◌, ◌<◌, false, List, length}
 use Rattle.sj_names.specs.declared.method_names.MethodName.{MethodName}
 use Rattle.sj_trees.specs.declared.types.IrType.{IrType}
 use Rattle.sj_trees.specs.declared.classes.MethodDef.{MethodDef}

@@ -7,6 +7,7 @@ pub mod Subtypes
 pub mod Under
 pub mod Resolution
 pub mod Calls
+pub mod Spellings
 pub mod Laws
 pub mod Linked
 pub mod Rows

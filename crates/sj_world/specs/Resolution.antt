@@ -8,7 +8,7 @@ use Rattle.sj_trees.specs.declared.classes.ClassKind.TheVariants.{Interface}
 use Rattle.sj_world.specs.declared.resolving.Resolution.{Resolution}
 use Rattle.sj_world.specs.declared.resolving.Resolution.TheVariants.{Target, Abstract, Missing}
 use Rattle.sj_world.specs.Known.{Name, Classes, class_of}
-use Rattle.sj_world.specs.Paths.{Path, IsFirst, HasNone}
+use Rattle.sj_world.specs.Paths.{IsFirst}
 use Rattle.sj_world.specs.Ancestors.{IsAncestor, IsNext, IsOnChain}
 use Rattle.sj_world.specs.Refusals.{is_before}
 

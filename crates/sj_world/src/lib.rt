@@ -12,7 +12,10 @@ mod lines;
 mod linked;
 mod members;
 mod order;
+mod receivers;
+mod reflective;
 mod resolving;
+mod spellings;
 mod subtypes;
 mod worlds;
 
@@ -21,6 +24,8 @@ pub use laws::{
     worked_worlds,
 };
 pub use linked::{Fact, LinkedWorld, MethodEntry};
+pub use members::Owned;
+pub use receivers::receiver_class;
 pub use resolving::Resolution;
 pub use worlds::{World, WorldError};
 

@@ -2,7 +2,7 @@
 use crate::types::type_of;
 use anyhow::Result;
 use sj_names::{ClassName, MethodName};
-use sj_world::{Resolution, World, WorldError};
+use sj_world::{Owned, Resolution, World, WorldError};
 use std::alloc::Global;
 use std::result;
 
@@ -26,6 +26,7 @@ fn is_met_in(alloc: Global, world: &World, kind: &str, query: &str) -> Result<bo
         "ancestors" => has_ancestors(alloc, world, first, rest),
         "sub" => is_subtype(alloc, world, first, rest),
         "resolve" => is_resolved(alloc, world, first, rest),
+        "proxy" => has_proxy_target(alloc, world, first, rest),
         _ => Ok(false),
     }
 }
@@ -77,4 +78,24 @@ fn is_resolved(alloc: Global, world: &World, class: &str, rest: &str) -> Result<
         Resolution::Abstract => Ok(answer == "abstract"),
         Resolution::Missing => Ok(answer == "missing"),
     }
+}
+
+fn has_proxy_target(alloc: Global, world: &World, class: &str, rest: &str) -> Result<bool> {
+    let Some((proxy, answer)) = rest.split_once('\t') else {
+        return Ok(false);
+    };
+    let class = ClassName::parse(alloc, class)?;
+    let proxy = MethodName::parse(alloc, proxy)?;
+    match world.proxy_target(&class, &proxy) {
+        Some(found) => is_target(alloc, &found, answer),
+        None => Ok(answer == "none"),
+    }
+}
+
+fn is_target(alloc: Global, found: &Owned<'_>, answer: &str) -> Result<bool> {
+    let Some((owner, target)) = answer.split_once('\t') else {
+        return Ok(false);
+    };
+    let target = MethodName::parse(alloc, target)?;
+    Ok(found.owner.text() == owner && found.method.name.is_same(&target))
 }

@@ -1,5 +1,6 @@
 //! Compares worlds with the answers of an independent reference. The input is blocks of lines: `world`, `class FILE` for each class, and
-//! then `sub TYPE TYPE ANSWER`, `ancestors NAME ANSWER`, `resolve NAME METHOD ANSWER` or `refused WHY NAME`, with tabs between.
+//! then `sub TYPE TYPE ANSWER`, `ancestors NAME ANSWER`, `resolve NAME METHOD ANSWER`, `proxy NAME METHOD ANSWER` or `refused WHY NAME`,
+//! with tabs between.
 #![tactic(auto)]
 
 mod answers;

@@ -1,4 +1,4 @@
-use Rattle.std.proofs.Common.{sym, ◌∙◌, ap, ◌≡◌, Some, arith, List, [], ◌∷◌, ◌++◌, take}
+use Rattle.std.proofs.Common.{sym, ◌∙◌, ap, Some, [], ◌∷◌, ◌++◌}
 use Rattle.sj_world.proofs.Worklist.{Names, taken_more}
 use Rattle.sj_world.proofs.above.listed.Goals as goal
 

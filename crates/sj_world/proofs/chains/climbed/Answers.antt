@@ -1,4 +1,4 @@
-use Rattle.std.proofs.Common.{sym, ◌∙◌, ap, ◌≡◌, Some, arith, ◌∷◌, []}
+use Rattle.std.proofs.Common.{sym, ◌∙◌, ap, Some, arith, ◌∷◌, []}
 use Rattle.indexmap.specs.IndexSet.{insert_key}
 use Rattle.sj_world.specs.Known.{Name, is_same}
 use Rattle.sj_world.proofs.Worklist.{Names}

@@ -1,4 +1,4 @@
-use Rattle.std.proofs.Common.{sym, ◌∙◌, ap, ◌≡◌, Some, arith, []}
+use Rattle.std.proofs.Common.{sym, ◌∙◌, ap, Some, arith}
 use Rattle.sj_world.specs.Known.{with_names}
 use Rattle.sj_world.specs.Ancestors.{written_above}
 use Rattle.sj_world.proofs.Worklist.{Names, working_begins, working_goes_on, working_at}

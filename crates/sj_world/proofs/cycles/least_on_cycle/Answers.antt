@@ -1,4 +1,4 @@
-use Rattle.std.proofs.Common.{refl, ◌≡◌, true, false, Bool, sym, ◌∙◌, arith}
+use Rattle.std.proofs.Common.{refl, arith}
 use Rattle.std.proofs.lemmas.Option.{slice_get_read}
 use Rattle.sj_world.proofs.OnCycles.{none_more, none_whole, least_on_cycle, off_cycle}
 use Rattle.sj_world.proofs.cycles.least_on_cycle.Goals as goal

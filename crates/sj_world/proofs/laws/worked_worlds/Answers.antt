@@ -1,6 +1,6 @@
 use Rattle.std.proofs.Common.{refl, arith}
 use Rattle.std.specs.Prelude.{codes}
-use Rattle.sj_world.specs.Paths.{Path, stay, on}
+use Rattle.sj_world.specs.Paths.{stay, on}
 use Rattle.sj_world.specs.Known.{object}
 use Rattle.sj_world.specs.Ancestors.{by_path, is_object}
 use Rattle.sj_world.proofs.Rows.{not_above_a}

@@ -1,4 +1,4 @@
-use Rattle.std.proofs.Common.{◌≡◌, sym, ◌∙◌, arith, true, false}
+use Rattle.std.proofs.Common.{sym, ◌∙◌, arith}
 use Rattle.sj_world.proofs.Twice.{least_twice_at, rising_more_at, rising_whole}
 use Rattle.sj_world.proofs.order.first_twice.Goals as goal
 

@@ -1,4 +1,4 @@
-use Rattle.std.proofs.Common.{◌≡◌, Bool, sym, subst, IsTrue, Contains}
+use Rattle.std.proofs.Common.{Bool, sym, subst, IsTrue, Contains}
 use Rattle.std.specs.Prelude.{◌↔◌}
 use Rattle.sj_world.proofs.Subtyped.{found_in}
 use Rattle.sj_world.proofs.subtypes.stands_in.Goals as goal

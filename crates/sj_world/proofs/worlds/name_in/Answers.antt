@@ -1,6 +1,6 @@
-use Rattle.std.proofs.Common.{◌≡◌, sym, ◌∙◌, ap, refl, arith}
+use Rattle.std.proofs.Common.{sym, ◌∙◌, ap, refl, arith}
 use Rattle.std.proofs.lemmas.Option.{slice_get_read}
-use Rattle.sj_world.specs.Known.{Name, is_same}
+use Rattle.sj_world.specs.Known.{is_same}
 use Rattle.sj_world.proofs.Lined.{found_name}
 use Rattle.sj_world.proofs.worlds.name_in.Goals as goal
 

@@ -1,5 +1,5 @@
 use Rattle.sj_world.proofs.Bodies.{weaker, no_body, body_is}
-use Rattle.std.proofs.Common.{◌∙◌, ◌≡◌}
+use Rattle.std.proofs.Common.{◌∙◌}
 use Rattle.sj_world.proofs.ByName.{name_is}
 use Rattle.sj_world.proofs.worlds.World.body_at.Goals as goal
 

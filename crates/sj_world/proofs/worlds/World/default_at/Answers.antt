@@ -1,6 +1,5 @@
 use Rattle.sj_world.proofs.Bodies.{weaker, no_default, default_is}
-use Rattle.std.proofs.Common.{◌∙◌, ◌≡◌, rules, sym}
-use Rattle.sj_trees.specs.declared.classes.ClassKind.TheVariants.{Interface}
+use Rattle.std.proofs.Common.{◌∙◌, rules}
 use Rattle.sj_world.proofs.ByName.{name_is}
 use Rattle.sj_world.proofs.worlds.World.default_at.Goals as goal
 

@@ -1,4 +1,3 @@
-use Rattle.sj_world.specs.Resolution.{IsBodyAt}
 use Rattle.sj_world.proofs.Searches.{NoneYet, Some_body}
 use Rattle.sj_world.proofs.worlds.World.first_body.Given as goal
 
