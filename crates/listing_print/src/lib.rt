@@ -1,13 +1,11 @@
-// A library with one function.
+//! The printer of listings: it gives the one listing of a class.
 #![tactic(auto)]
 
-ghost use Rattle.std.specs.Prelude.{◌≡◌};
-ghost use Rattle.listing_print.specs.Echo.{echo_of};
+mod classes;
+mod forms;
+mod literals;
+mod parts;
+mod trees;
+mod writing;
 
-// The `ensures` clause is the contract: what `echo` returns is `echo_of` of its argument, a definition
-// in `specs/Echo.antt`, which a caller's clause can cite too.
-pub fn echo(x: usize) -> usize
-    ensures { result ≡ echo_of x }
-{
-    x
-}
+pub use classes::print_listing;
