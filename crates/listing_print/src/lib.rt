@@ -1,0 +1,11 @@
+//! The printer of listings: it gives the one listing of a class.
+#![tactic(auto)]
+
+mod classes;
+mod forms;
+mod literals;
+mod parts;
+mod trees;
+mod writing;
+
+pub use classes::print_listing;

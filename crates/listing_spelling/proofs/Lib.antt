@@ -1,0 +1,14 @@
+pub mod OneText
+pub mod Rows
+pub mod Fields
+pub mod Spots
+pub mod Escapes
+pub mod Values
+pub mod NameLaws
+pub mod Languages
+pub mod Literals
+pub mod TreeForms
+pub mod TreeLaws
+pub mod ClassLaws
+pub mod Whole
+pub mod Kept

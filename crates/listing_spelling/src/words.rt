@@ -1,0 +1,120 @@
+// The words that forms begin with, and how far the text of a name has come.
+
+/// The name of a form of trees.
+#[derive(Clone, Copy)]
+pub enum Form {
+    Leaf(LeafForm),
+    Statement(StatementForm),
+    Branch(BranchForm),
+    Call(CallForm),
+    Operation(OperationForm),
+}
+
+/// A form without trees in it.
+#[derive(Clone, Copy)]
+pub enum LeafForm {
+    Skip,
+    LoadModule,
+    SelectStatic,
+    Undefined,
+    Null,
+    BooleanLiteral,
+    CharLiteral,
+    ByteLiteral,
+    ShortLiteral,
+    IntLiteral,
+    LongLiteral,
+    StringLiteral,
+    VarRef,
+    This,
+}
+
+/// A form that sets, leaves, throws or writes, or holds statements in a row.
+#[derive(Clone, Copy)]
+pub enum StatementForm {
+    VarDef,
+    Block,
+    Labeled,
+    Assign,
+    Return,
+    Throw,
+    StoreModule,
+    Log,
+}
+
+/// A form that chooses, repeats or catches.
+#[derive(Clone, Copy)]
+pub enum BranchForm {
+    If,
+    While,
+    DoWhile,
+    TryCatch,
+    TryFinally,
+    Match,
+}
+
+/// A form that calls a method or reads a field of an object.
+#[derive(Clone, Copy)]
+pub enum CallForm {
+    New,
+    Select,
+    Apply,
+    ApplyStatically,
+    ApplyStatic,
+}
+
+/// An operator, an array's form or a test.
+#[derive(Clone, Copy)]
+pub enum OperationForm {
+    UnaryOp,
+    BinaryOp,
+    NewArray,
+    ArrayValue,
+    ArrayLength,
+    ArraySelect,
+    IsInstanceOf,
+    AsInstanceOf,
+}
+
+/// Where the text of a name, a reference or a method name has come to.
+#[derive(Clone, Copy)]
+pub enum Spot {
+    /// In front of the name of a field, a local or a label.
+    NameStart,
+    /// Behind some of its characters.
+    Name,
+    /// In front of a part of a class name.
+    PartStart,
+    /// Behind some of the characters of the part.
+    Part,
+    /// In front of a reference to an array.
+    ArrayStart,
+    /// Behind this many dimensions.
+    ArrayBase(u8),
+    /// Behind an array's letter.
+    ArrayEnd,
+    /// In front of a method name.
+    MethodStart,
+    /// Behind `<`, and so on to `<init`.
+    Less,
+    LessI,
+    LessIn,
+    LessIni,
+    LessInit,
+    /// Behind `<init>`.
+    InitEnd,
+    /// Behind some of the characters of a method's plain name.
+    Simple,
+    /// In front of a parameter or a result.
+    TypeStart,
+    /// Behind this many dimensions of one.
+    TypeBase(u8),
+    /// In front of a part of the class name of one.
+    TypePartStart,
+    /// Behind some of the characters of the part.
+    TypePart,
+    /// Behind the letter of one.
+    TypeEnd,
+    /// Behind what is only a result.
+    Last,
+}
