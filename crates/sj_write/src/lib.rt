@@ -1,0 +1,11 @@
+//! The writer of class files.
+#![tactic(auto)]
+
+mod classes;
+mod entries;
+mod files;
+mod references;
+mod trees;
+mod writer;
+
+pub use files::write_class;

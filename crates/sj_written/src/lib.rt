@@ -1,0 +1,2 @@
+//! The file that a class is written as.
+#![tactic(auto)]
