@@ -4,6 +4,7 @@
 mod classes;
 mod entries;
 mod files;
+mod numbers;
 mod references;
 mod trees;
 mod writer;

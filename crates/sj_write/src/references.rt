@@ -1,32 +1,25 @@
 // Types, references and the names of methods.
+ghost use Rattle.std.specs.Prelude.{◌≡◌, OnOk, map};
+ghost use Rattle.sj_written.specs.Fields.{name_field, ◌▸◌, byte, list_fields};
+ghost use Rattle.sj_written.specs.References.{type_fields, array_fields, base_fields, reference_fields, result_fields, method_name_fields};
+ghost use Rattle.sj_write.specs.Writing.{put};
+
 use crate::writer::ClassWriter;
 use sj_names::{ArrayRef, BaseRef, ClassName, MethodName, NoMemory, TypeRef};
 use sj_trees::IrType;
 
-// The name of the class that stands in a reference.
-pub fn class_in(reference: &TypeRef) -> Option<&ClassName> {
-    match reference {
-        TypeRef::Class(name) => Some(name),
-        TypeRef::Array(array) => class_in_base(&array.base),
-        _ => None,
-    }
-}
-
-fn class_in_base(base: &BaseRef) -> Option<&ClassName> {
-    match base {
-        BaseRef::Class(name) => Some(name),
-        _ => None,
-    }
-}
-
 impl ClassWriter {
     // A code and the name of a class.
-    fn coded_name(&mut self, code: u8, name: &ClassName) -> Result<(), NoMemory> {
+    fn coded_name(&mut self, code: u8, name: &ClassName) -> Result<(), NoMemory>
+        ensures { OnOk result (self.new ≡ put (byte code ▸ name_field name.now) self.old) }
+    {
         self.byte(code)?;
         self.name(name.text())
     }
 
-    pub fn type_field(&mut self, tpe: &IrType) -> Result<(), NoMemory> {
+    pub fn type_field(&mut self, tpe: &IrType) -> Result<(), NoMemory>
+        ensures { OnOk result (self.new ≡ put (type_fields tpe.now) self.old) }
+    {
         match tpe {
             IrType::Any => self.byte(1),
             IrType::Nothing => self.byte(2),
@@ -49,13 +42,17 @@ impl ClassWriter {
     }
 
     // A reference to an array.
-    pub fn array_reference(&mut self, array: &ArrayRef) -> Result<(), NoMemory> {
+    pub fn array_reference(&mut self, array: &ArrayRef) -> Result<(), NoMemory>
+        ensures { OnOk result (self.new ≡ put (array_fields array.now) self.old) }
+    {
         self.byte(9)?;
         self.byte(array.dimensions)?;
         self.base(&array.base)
     }
 
-    fn base(&mut self, base: &BaseRef) -> Result<(), NoMemory> {
+    fn base(&mut self, base: &BaseRef) -> Result<(), NoMemory>
+        ensures { OnOk result (self.new ≡ put (base_fields base.now) self.old) }
+    {
         match base {
             BaseRef::Boolean => self.byte(2),
             BaseRef::Char => self.byte(3),
@@ -67,7 +64,9 @@ impl ClassWriter {
         }
     }
 
-    fn reference(&mut self, reference: &TypeRef) -> Result<(), NoMemory> {
+    fn reference(&mut self, reference: &TypeRef) -> Result<(), NoMemory>
+        ensures { OnOk result (self.new ≡ put (reference_fields reference.now) self.old) }
+    {
         match reference {
             TypeRef::Void => self.byte(1),
             TypeRef::Boolean => self.byte(2),
@@ -82,13 +81,17 @@ impl ClassWriter {
     }
 
     // The entry of a method name in its table.
-    pub fn method_name(&mut self, method: &MethodName) -> Result<(), NoMemory> {
+    pub fn method_name(&mut self, method: &MethodName) -> Result<(), NoMemory>
+        ensures { OnOk result (self.new ≡ put (method_name_fields method.now) self.old) }
+    {
         self.name(method.simple.text())?;
         self.references(method.params.as_slice())?;
         self.outcome(&method.result)
     }
 
-    fn references(&mut self, references: &[TypeRef]) -> Result<(), NoMemory> {
+    fn references(&mut self, references: &[TypeRef]) -> Result<(), NoMemory>
+        ensures { OnOk result (self.new ≡ put (list_fields reference_fields references.now) self.old) }
+    {
         self.count(references.len())?;
         for each in references {
             self.reference(each)?;
@@ -97,7 +100,9 @@ impl ClassWriter {
     }
 
     // The reference of a result, or 0 where a reflective proxy has none.
-    fn outcome(&mut self, outcome: &Option<TypeRef>) -> Result<(), NoMemory> {
+    fn outcome(&mut self, outcome: &Option<TypeRef>) -> Result<(), NoMemory>
+        ensures { OnOk result (self.new ≡ put (result_fields outcome.now) self.old) }
+    {
         match outcome {
             Some(reference) => self.reference(reference),
             None => self.byte(0),

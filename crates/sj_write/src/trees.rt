@@ -1,10 +1,18 @@
 // Trees.
+ghost use Rattle.std.specs.Prelude.{◌≡◌, OnOk, map};
+ghost use Rattle.sj_trees.specs.View.{view, terms_view, cases_view};
+ghost use Rattle.sj_written.specs.Fields.{◌▸◌, byte, position_fields};
+ghost use Rattle.sj_written.specs.Trees.{namespace_code, keys_fields, term_fields, terms_fields, cases_fields};
+ghost use Rattle.sj_write.specs.Writing.{put, HasFiles};
+
 use crate::writer::ClassWriter;
 use sj_names::{Namespace, NoMemory, Text};
 use sj_trees::{MatchCase, Position, Tree};
 
 // The code of a namespace.
-pub fn namespace_code(namespace: Namespace) -> u8 {
+pub fn namespace_code(namespace: Namespace) -> u8
+    ensures { result ≡ namespace_code namespace }
+{
     match namespace {
         Namespace::Public => 0,
         Namespace::PublicStatic => 1,
@@ -16,13 +24,19 @@ pub fn namespace_code(namespace: Namespace) -> u8 {
 
 impl ClassWriter {
     // The tag of a tree, and its position.
-    fn head(&mut self, files: &[Text], tag: u8, position: Position) -> Result<(), NoMemory> {
+    fn head(&mut self, files: &[Text], tag: u8, position: Position) -> Result<(), NoMemory>
+        requires { HasFiles (position_fields files.now position) }
+        ensures { OnOk result (self.new ≡ put (byte tag ▸ position_fields files.now position) self.old) }
+    {
         self.byte(tag)?;
         self.position(files, position)
     }
 
     #[cycle(tree)]
-    pub fn tree(&mut self, files: &[Text], tree: &Tree) -> Result<(), NoMemory> {
+    pub fn tree(&mut self, files: &[Text], tree: &Tree) -> Result<(), NoMemory>
+        requires { HasFiles (term_fields files.now (view tree.now)) }
+        ensures { OnOk result (self.new ≡ put (term_fields files.now (view tree.now)) self.old) }
+    {
         match tree {
             Tree::VarDef(position, name, tpe, mutable, value) => {
                 self.head(files, 1, *position)?;
@@ -233,7 +247,11 @@ impl ClassWriter {
 
     // How many trees there are, and the trees.
     #[cycle(tree)]
-    fn trees(&mut self, files: &[Text], trees: &[Tree]) -> Result<(), NoMemory> {
+    #[tactic(auto, using(std::proofs::lemmas::Grind::common_steps, crate::proofs::Steps::counting))]
+    fn trees(&mut self, files: &[Text], trees: &[Tree]) -> Result<(), NoMemory>
+        requires { HasFiles (terms_fields files.now (terms_view trees.now)) }
+        ensures { OnOk result (self.new ≡ put (terms_fields files.now (terms_view trees.now)) self.old) }
+    {
         self.count(trees.len())?;
         for each in trees {
             self.tree(files, each)?;
@@ -243,7 +261,11 @@ impl ClassWriter {
 
     // How many cases there are, and the cases.
     #[cycle(tree)]
-    fn cases(&mut self, files: &[Text], cases: &[MatchCase]) -> Result<(), NoMemory> {
+    #[tactic(auto, using(std::proofs::lemmas::Grind::common_steps, crate::proofs::Steps::counting))]
+    fn cases(&mut self, files: &[Text], cases: &[MatchCase]) -> Result<(), NoMemory>
+        requires { HasFiles (cases_fields files.now (cases_view cases.now)) }
+        ensures { OnOk result (self.new ≡ put (cases_fields files.now (cases_view cases.now)) self.old) }
+    {
         self.count(cases.len())?;
         for each in cases {
             self.keys(each.keys.as_slice())?;
@@ -253,7 +275,9 @@ impl ClassWriter {
     }
 
     // How many keys a case has, and the keys.
-    fn keys(&mut self, keys: &[i32]) -> Result<(), NoMemory> {
+    fn keys(&mut self, keys: &[i32]) -> Result<(), NoMemory>
+        ensures { OnOk result (self.new ≡ put (keys_fields keys.now) self.old) }
+    {
         self.count(keys.len())?;
         for each in keys {
             self.number(each.cast_unsigned())?;
