@@ -78,8 +78,9 @@ closed_more methods names new more c m h x g = has_extended same_text text_decid
 either_method : (table : List MethodName) (m n : MethodName) → HasMethod (with_entry same_method table m) n → HasMethod table n ⊎ (n ≡ m)
 either_method table m n h =
     elim (entries_came same_method method_decides table (m ∷ []) n h) [
-      inl e ↦ inl e
-    | inr e ↦ inr ((method_decides n m).0 (only (same_method n m) e)) ]
+      | inl e ↦ inl e
+      | inr e ↦ inr ((method_decides n m).0 (only (same_method n m) e))
+    ]
   where
     only : (b : Bool) → (b || false) ≡ true → b ≡ true
     only true e = refl
@@ -104,8 +105,9 @@ put_method_by m w false e c = record {
   strings = refl;
   closed = λ n h x g.
       elim (either_method w.tables.methods m n h) [
-        inl old ↦ has_extended same_text text_decides w.tables.names _ x (entries_extend same_text text_decides w.tables.names (names_in_method m)) (c n old x g)
-      | inr is ↦ entries_have same_text text_decides w.tables.names (names_in_method m) x (subst (λ (k : MethodName). HasText (names_in_method k) x) is g) ];
+        | inl old ↦ has_extended same_text text_decides w.tables.names _ x (entries_extend same_text text_decides w.tables.names (names_in_method m)) (c n old x g)
+        | inr is ↦ entries_have same_text text_decides w.tables.names (names_in_method m) x (subst (λ (k : MethodName). HasText (names_in_method k) x) is g)
+      ];
   text = λ t on. ap (bytes_behind w) (method_index w.tables.methods t.methods m on.methods);
 }
 
@@ -114,18 +116,29 @@ puts nothing w c = record { files = refl; names = refl; methods = refl; strings 
 puts (number_field n x) w c = record { files = refl; names = refl; methods = refl; strings = refl; closed = c; text = λ t on. refl }
 puts (plain_field bytes) w c = record { files = refl; names = refl; methods = refl; strings = refl; closed = c; text = λ t on. refl }
 puts (name_field x) w c = record {
-  files = refl; names = refl; methods = refl; strings = refl;
+  files = refl;
+  names = refl;
+  methods = refl;
+  strings = refl;
   closed = closed_more w.tables.methods w.tables.names (with_entry same_text w.tables.names x) (entry_extends same_text text_decides w.tables.names x) c;
   text = λ t on. ap (bytes_behind w) (entered_index w.tables.names t.names x on.names);
 }
 puts (method_field m) w c = put_method_by m w (list_any (same_method m) w.tables.methods) refl c
 puts (string_field u) w c = record {
-  files = refl; names = refl; methods = refl; strings = refl; closed = c;
+  files = refl;
+  names = refl;
+  methods = refl;
+  strings = refl;
+  closed = c;
   text = λ t on. ap (bytes_behind w) (entered_index w.tables.strings t.strings u on.strings);
 }
 puts (file_field None) w c = record { files = refl; names = refl; methods = refl; strings = refl; closed = c; text = λ t on. sym (append-nil w.text) }
 puts (file_field (Some text)) w c = record {
-  files = refl; names = refl; methods = refl; strings = refl; closed = c;
+  files = refl;
+  names = refl;
+  methods = refl;
+  strings = refl;
+  closed = c;
   text = λ t on. ap (bytes_behind w) (entered_index w.tables.files t.files text on.files);
 }
 puts (both fs gs) w c =
@@ -201,8 +214,9 @@ each_known : (names : List (List ℕ)) (ms : List MethodName) → ((m : MethodNa
 each_known names [] known x h = absurd (true≢false (sym h))
 each_known names (m ∷ ms) known x h =
     elim (has_either same_text text_decides (names_used (method_name_fields m)) (names_used (each method_name_fields ms)) x h) [
-      inl e ↦ known m (has_head same_method method_decides m ms) x (subst (λ (l : List (List ℕ)). HasText l x) (method_names m) e)
-    | inr e ↦ each_known names ms (λ n g y f. known n (has_tail same_method method_decides m n ms g) y f) x e ]
+      | inl e ↦ known m (has_head same_method method_decides m ms) x (subst (λ (l : List (List ℕ)). HasText l x) (method_names m) e)
+      | inr e ↦ each_known names ms (λ n g y f. known n (has_tail same_method method_decides m n ms g) y f) x e
+    ]
 
 nothing_known : (names : List (List ℕ)) → Closed (knowing names).tables
 nothing_known names m h x g = absurd (true≢false (sym h))
@@ -216,7 +230,7 @@ methods_written t closed =
     p.text v.tables (goes_self v.tables) ∙ ap (λ (l : List ℕ). big_bytes 4 (length t.methods) ++ l) (each_spelled v.tables t t.methods same)
 
 -- what is finished behind the fields of the class is the file that the class is written as
-pub finished_is : (class : ClassDef) → finished (put (class_fields class) unwritten) ≡ written_class class
+pub finished_is : (class : ClassDef) → finished [] (put (class_fields class) unwritten) ≡ written_class class
 finished_is class =
     let fs = class_fields class in
     let w = put fs unwritten in

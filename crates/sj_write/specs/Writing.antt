@@ -73,6 +73,6 @@ HasFiles (file_field None) = ⊥
 HasFiles (both fs gs) = HasFiles fs × HasFiles gs
 HasFiles other = Unit {0}
 
--- the file with what is written: the header, the tables and the bytes behind them
-abbrev pub finished : Writing → List ℕ
-finished w = header_bytes ++ table_bytes counted_bytes w.tables.files ++ table_bytes counted_bytes w.tables.names ++ (put (list_fields method_name_fields w.tables.methods) (knowing w.tables.names)).text ++ table_bytes (λ u. counted_bytes (modified_bytes u)) w.tables.strings ++ w.text
+-- the bytes in front, and behind them the file with what is written: the header, the tables and the bytes behind them
+abbrev pub finished : List ℕ → Writing → List ℕ
+finished front w = front ++ header_bytes ++ table_bytes counted_bytes w.tables.files ++ table_bytes counted_bytes w.tables.names ++ (put (list_fields method_name_fields w.tables.methods) (knowing w.tables.names)).text ++ table_bytes (λ u. counted_bytes (modified_bytes u)) w.tables.strings ++ w.text

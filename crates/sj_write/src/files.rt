@@ -41,7 +41,7 @@ pub fn write_class(alloc: Global, c: &ClassDef) -> Result<Vec<u8>, NoMemory>
 
 // Appends the header, the tables and the bytes behind them.
 fn append_file(alloc: Global, file: &mut Vec<u8>, written: ClassWriter) -> Result<(), NoMemory>
-    ensures { OnOk result (file.new.items ≡ file.old.items ++ finished written) }
+    ensures { OnOk result (file.new.items ≡ finished file.old.items written) }
 {
     let parts = written.into_parts();
     append_header(file)?;

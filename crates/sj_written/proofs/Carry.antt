@@ -1,16 +1,16 @@
 -- Fields that one file spells are spelled again over other tables.
-use Rattle.std.proofs.Common.{◌≡◌, ℕ, zero, suc, ◌+◌, ◌<◌, ◌^◌, ◌≤◌, Bool, true, false, cond, List, [], ◌∷◌, ◌++◌, length, map, slice_get, Option, Some, None, refl, sym, ap, ◌∙◌, subst, append-nil, lt_of_lt_of_le, lt_trans, arith}
+use Rattle.std.proofs.Common.{◌≡◌, ℕ, ◌<◌, ◌^◌, Bool, true, false, List, [], ◌∷◌, length, slice_get, Option, Some, None, refl, sym, ap, ◌∙◌, subst, append-nil, lt_trans, arith}
 use Rattle.std.specs.List.{list_any}
 use Rattle.byteorder.specs.Endian.{big_bytes}
 use Rattle.sj_names.specs.declared.method_names.MethodName.{MethodName}
-use Rattle.sj_format.specs.Spelling.{Spelling, ◌then◌, Gives_value, Never, Found, Tested, IsByte, IsNumber, IsEach, IsList}
+use Rattle.sj_format.specs.Spelling.{Spelling, ◌then◌, Gives_value, Found, Tested, IsByte, IsNumber}
 use Rattle.sj_format.specs.Tables.{Tables, IsEntry, IsName}
 use Rattle.sj_format.specs.Types.{IsCode}
-use Rattle.sj_written.specs.Fields.{Fields, nothing, number_field, plain_field, name_field, method_field, string_field, file_field, both, ◌▸◌, byte, count, each, list_fields}
+use Rattle.sj_written.specs.Fields.{Fields, nothing, number_field, plain_field, name_field, method_field, string_field, file_field, both, ◌▸◌, byte}
 use Rattle.sj_written.specs.References.{names_in_method}
 use Rattle.sj_written.specs.Tables.{same_text, same_method, index_of}
 use Rattle.sj_written.specs.Written.{spelled}
-use Rattle.sj_written.proofs.Bytes.{AreBytes, step, number_fits, number_spelled}
+use Rattle.sj_written.proofs.Bytes.{number_spelled}
 use Rattle.sj_written.proofs.Same.{text_decides, method_decides}
 use Rattle.sj_written.proofs.Entries.{Has, found, below, has_at}
 

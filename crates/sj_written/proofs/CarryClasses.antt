@@ -1,8 +1,7 @@
 -- Classes and their members.
-use Rattle.std.proofs.Common.{◌≡◌, ℕ, zero, suc, ◌+◌, ◌<◌, ◌^◌, Bool, true, false, List, [], ◌∷◌, ◌++◌, length, map, Option, Some, None, refl, sym, ap, ◌∙◌, subst, append-nil, append_assoc, map-id, arith}
+use Rattle.std.proofs.Common.{◌≡◌, ℕ, zero, suc, ◌+◌, ◌<◌, ◌^◌, List, [], ◌∷◌, ◌++◌, length, map, Option, Some, None, refl, sym, ap, ◌∙◌, subst, append-nil, append_assoc, map-id, arith}
 use Rattle.std.specs.Prelude.{option_map}
 use Rattle.sj_names.specs.Grammar.{is_plain_name, is_class_name}
-use Rattle.sj_names.specs.declared.method_names.MethodName.{MethodName}
 use Rattle.sj_trees.specs.Term.{Term}
 use Rattle.sj_trees.specs.declared.positions.Position.{Position}
 use Rattle.sj_trees.specs.declared.classes.ParamDef.{ParamDef}
@@ -15,27 +14,27 @@ use Rattle.sj_format.specs.declared.members.MemberDef.TheVariants.{Field, Method
 use Rattle.sj_format.specs.declared.codes.MemberTag.{MemberTag}
 use Rattle.sj_format.specs.declared.codes.MemberTag.TheVariants as tags
 use Rattle.sj_format.specs.Codes.{among, kinds, member_tags}
-use Rattle.sj_format.specs.Spelling.{Spelling, ◌then◌, Gives_value, IsNumber, IsBytes, IsEach, IsList}
+use Rattle.sj_format.specs.Spelling.{Spelling, ◌then◌, Gives_value, IsBytes, IsEach, IsList}
 use Rattle.sj_format.specs.Tables.{Tables, IsName}
 use Rattle.sj_format.specs.Types.{IsCode, IsOption}
 use Rattle.sj_format.specs.Classes.{IsBody, IsParam, IsField, IsMethod, IsMemberOf, IsMember, IsClass, fields_in, methods_in}
-use Rattle.sj_written.specs.Fields.{Fields, nothing, name_field, plain_field, ◌▸◌, byte, count, each, list_fields, option_fields}
+use Rattle.sj_written.specs.Fields.{Fields, name_field, plain_field, ◌▸◌, byte, count, each, list_fields, option_fields}
 use Rattle.sj_written.specs.Trees.{term_fields}
 use Rattle.sj_written.specs.Classes.{kind_code, param_fields, field_fields, method_fields, members_fields, class_fields}
 use Rattle.sj_written.specs.Renumbered.{renumbered_position, renumbered, renumbered_field, renumbered_method, renumbered_class}
 use Rattle.sj_written.specs.Written.{spelled}
 use Rattle.sj_written.proofs.Bytes.{AreBytes, step, number_fits, number_spelled}
-use Rattle.sj_written.proofs.Carry.{Carried, IsFit, Covers, join, last, last_of, value, carried_number, carried_code, carried_name, carried_method}
-use Rattle.sj_written.proofs.CarryLists.{carried_list, carried_each, carried_mark, carried_option, carried_bytes}
+use Rattle.sj_written.proofs.Carry.{Carried, join, last, value, carried_code, carried_name, carried_method}
+use Rattle.sj_written.proofs.CarryLists.{carried_list, carried_mark, carried_option, carried_bytes}
 use Rattle.sj_written.proofs.CarryNames.{carried_type}
-use Rattle.sj_written.proofs.CarryTrees.{number, Known, PositionCarried, carried_position, carried_namespace, TreeCarried, carried_tree, length_map}
+use Rattle.sj_written.proofs.CarryTrees.{number, Known, carried_position, carried_namespace, carried_tree, length_map}
 
 carried_param : (old : Tables) (p : ParamDef) (text : List ℕ) → IsParam old p text → AreBytes text → Carried old (λ new text. IsParam new p text) (λ new. param_fields p) (param_fields p)
 unfolding IsParam
 carried_param old p text h b =
     step h b (λ name f1 k1 h1 b1 h b. step h b (λ mutable f2 k2 h2 b2 h b. step h b (λ tpe f3 k3 h3 b3 h b.
-      subst (λ (p : ParamDef). Carried old (λ new text. IsParam new p text) (λ new. param_fields p) (param_fields p)) (sym h.is)
-        (join _ (carried_name is_plain_name old name _ h1) (join _ (carried_mark mutable) (last _ (carried_type old tpe _ h3 b3)))))))
+    subst (λ (p : ParamDef). Carried old (λ new text. IsParam new p text) (λ new. param_fields p) (param_fields p)) (sym h.is)
+    (join _ (carried_name is_plain_name old name _ h1) (join _ (carried_mark mutable) (last _ (carried_type old tpe _ h3 b3)))))))
 
 carried_params : (old : Tables) (ps : List ParamDef) (text : List ℕ) → IsList (IsParam old) ps text → AreBytes text → Carried old (λ new text. IsList (IsParam new) ps text) (λ new. list_fields param_fields ps) (list_fields param_fields ps)
 carried_params old ps text h b =
@@ -85,18 +84,18 @@ carried_field : (old : Tables) (d : FieldDef) (text : List ℕ) → IsField old 
 unfolding IsField
 carried_field old d text h b =
     step h b (λ pos f1 k1 h1 b1 h b. step h b (λ is_static f2 k2 h2 b2 h b. step h b (λ mutable f3 k3 h3 b3 h b. step h b (λ name f4 k4 h4 b4 h b. step h b (λ tpe f5 k5 h5 b5 h b.
-      subst (FieldCarried old) (sym h.is)
-        (tagged_field old (record { pos = pos; is_static = is_static; mutable = mutable; name = name; tpe = tpe }) _ _
-          (join _ (carried_position old pos _ h1 b1) (join _ (carried_mark is_static) (join _ (carried_mark mutable) (join _ (carried_name is_plain_name old name _ h4) (last _ (carried_type old tpe _ h5 b5))))))))))))
+    subst (FieldCarried old) (sym h.is)
+    (tagged_field old (record { pos = pos; is_static = is_static; mutable = mutable; name = name; tpe = tpe }) _ _
+    (join _ (carried_position old pos _ h1 b1) (join _ (carried_mark is_static) (join _ (carried_mark mutable) (join _ (carried_name is_plain_name old name _ h4) (last _ (carried_type old tpe _ h5 b5))))))))))))
 
 carried_method_def : (old : Tables) → Known old → (d : MethodDef) (text : List ℕ) → IsMethod old d text → AreBytes text → MethodCarried old d
 unfolding IsMethod
 carried_method_def old known d text h b =
     step h b (λ pos f1 k1 h1 b1 h b. step h b (λ namespace f2 k2 h2 b2 h b. step h b (λ name f3 k3 h3 b3 h b. step h b (λ params f4 k4 h4 b4 h b. step h b (λ result f5 k5 h5 b5 h b. step h b (λ body f6 k6 h6 b6 h b. step h b (λ hash f7 k7 h7 b7 h b.
-      subst (MethodCarried old) (sym h.is)
-        (tagged_method old (record { pos = pos; namespace = namespace; name = name; params = params; result = result; body = body; hash = hash }) _ _
-          (join _ (carried_position old pos _ h1 b1) (join _ (carried_namespace namespace) (join _ (carried_method old name _ known h3) (join _ (carried_params old params _ h4 b4) (join _ (carried_type old result _ h5 b5)
-          (join _ (carried_option old (IsBody old) (λ new. IsBody new) (λ new. renumbered (number old new)) (λ new. term_fields new.files) (term_fields old.files) (carried_body old known) body _ h6 b6) (last _ (carried_hash old hash _ h7 b7))))))))))))))))
+    subst (MethodCarried old) (sym h.is)
+    (tagged_method old (record { pos = pos; namespace = namespace; name = name; params = params; result = result; body = body; hash = hash }) _ _
+    (join _ (carried_position old pos _ h1 b1) (join _ (carried_namespace namespace) (join _ (carried_method old name _ known h3) (join _ (carried_params old params _ h4 b4) (join _ (carried_type old result _ h5 b5)
+    (join _ (carried_option old (IsBody old) (λ new. IsBody new) (λ new. renumbered (number old new)) (λ new. term_fields new.files) (term_fields old.files) (carried_body old known) body _ h6 b6) (last _ (carried_hash old hash _ h7 b7))))))))))))))))
 
 -- the fields and the methods among members, each list by itself
 record MembersCarried (old : Tables) (ms : List MemberDef) : Type 0 where
@@ -129,26 +128,29 @@ unfolding IsEach
 carried_members old known zero ms text h b = subst (λ (ns : List MemberDef). (length ns ≡ 0) × MembersCarried old ns) (sym h.is) (refl, no_member old)
 carried_members old known (suc n) ms text h b =
     step h b (λ m f1 k1 h1 b1 h b. step h b (λ rest f2 k2 h2 b2 h b.
-      let others = carried_members old known n rest _ h2 b2 in
-      subst (λ (ns : List MemberDef). (length ns ≡ suc n) × MembersCarried old ns) (sym h.is) (ap suc others.0, one_member old known m rest _ h1 b1 others.1)))
+    let others = carried_members old known n rest _ h2 b2 in
+    subst (λ (ns : List MemberDef). (length ns ≡ suc n) × MembersCarried old ns) (sym h.is) (ap suc others.0, one_member old known m rest _ h1 b1 others.1)))
 
 each_joined : {A : Type 0} (P : Spelling A) (n m : ℕ) (xs ys : List A) (front back : List ℕ) → IsEach P n xs front → IsEach P m ys back → IsEach P (n + m) (xs ++ ys) (front ++ back)
 unfolding IsEach
 each_joined P zero m xs ys front back p q =
     let sum : m ≡ zero + m = omega arith in
     subst (λ (k : ℕ). IsEach P k (xs ++ ys) (front ++ back)) sum
-      (subst (λ (zs : List _). IsEach P m (zs ++ ys) (front ++ back)) (sym p.is) (subst (λ (t : List ℕ). IsEach P m ys (t ++ back)) (sym p.nothing) q))
+    (subst (λ (zs : List _). IsEach P m (zs ++ ys) (front ++ back)) (sym p.is) (subst (λ (t : List ℕ). IsEach P m ys (t ++ back)) (sym p.nothing) q))
 each_joined P (suc n) m xs ys front back p q =
     let rest = p.second in
     let joined = each_joined P n m rest.value ys rest.front back rest.first q in
     let sum : suc (n + m) ≡ suc n + m = omega arith in
     subst (λ (k : ℕ). IsEach P k (xs ++ ys) (front ++ back)) sum
-      (subst (λ (zs : List _). IsEach P (suc (n + m)) (zs ++ ys) (front ++ back)) (sym rest.second.is)
-        (record {
-          value = p.value; front = p.front; back = rest.front ++ back; first = p.first;
-          second = record { value = rest.value ++ ys; front = rest.front ++ back; back = []; first = joined; second = record { is = refl; nothing = refl }; parts = sym (append-nil (rest.front ++ back)) };
-          parts = ap (λ (t : List ℕ). t ++ back) (p.parts ∙ ap (λ (t : List ℕ). p.front ++ t) (rest.parts ∙ ap (λ (t : List ℕ). rest.front ++ t) rest.second.nothing ∙ append-nil rest.front)) ∙ append_assoc p.front rest.front back;
-        }))
+    (subst (λ (zs : List _). IsEach P (suc (n + m)) (zs ++ ys) (front ++ back)) (sym rest.second.is)
+    (record {
+      value = p.value;
+      front = p.front;
+      back = rest.front ++ back;
+      first = p.first;
+      second = record { value = rest.value ++ ys; front = rest.front ++ back; back = []; first = joined; second = record { is = refl; nothing = refl }; parts = sym (append-nil (rest.front ++ back)) };
+      parts = ap (λ (t : List ℕ). t ++ back) (p.parts ∙ ap (λ (t : List ℕ). p.front ++ t) (rest.parts ∙ ap (λ (t : List ℕ). rest.front ++ t) rest.second.nothing ∙ append-nil rest.front)) ∙ append_assoc p.front rest.front back;
+    }))
 
 fields_of : (f : FieldDef → FieldDef) (g : MethodDef → MethodDef) (fs : List FieldDef) (ms : List MethodDef) → fields_in (map (λ d. Field (f d)) fs ++ map (λ d. Method (g d)) ms) ≡ map f fs
 fields_of f g [] [] = refl
@@ -162,9 +164,9 @@ methods_of f g (d ∷ fs) ms = methods_of f g fs ms
 
 carried_rest : (old : Tables) (pos : Position) (name : List ℕ) (kind : ClassKind) (superclass : Option (List ℕ)) (interfaces : List (List ℕ)) (ms : List MemberDef) → length ms < 256 ^ 4 → MembersCarried old ms
     → Carried old (λ new text. (◌then◌ {B = ClassDef} (IsList (IsMember new)) (λ members. Gives_value (record { pos = renumbered_position (number old new) pos; files = new.files; name = name; kind = kind; superclass = superclass; interfaces = interfaces; fields = fields_in members; methods = methods_in members })))
-        (record { pos = renumbered_position (number old new) pos; files = new.files; name = name; kind = kind; superclass = superclass; interfaces = interfaces; fields = map (renumbered_field (number old new)) (fields_in ms); methods = map (renumbered_method (number old new)) (methods_in ms) }) text)
-      (λ new. members_fields new.files (map (renumbered_field (number old new)) (fields_in ms)) (map (renumbered_method (number old new)) (methods_in ms)))
-      (members_fields old.files (fields_in ms) (methods_in ms))
+    (record { pos = renumbered_position (number old new) pos; files = new.files; name = name; kind = kind; superclass = superclass; interfaces = interfaces; fields = map (renumbered_field (number old new)) (fields_in ms); methods = map (renumbered_method (number old new)) (methods_in ms) }) text)
+    (λ new. members_fields new.files (map (renumbered_field (number old new)) (fields_in ms)) (map (renumbered_method (number old new)) (methods_in ms)))
+    (members_fields old.files (fields_in ms) (methods_in ms))
 carried_rest old pos name kind superclass interfaces ms few all =
     let fs = fields_in ms in
     let gs = methods_in ms in
@@ -201,8 +203,8 @@ pub carried_class : (old : Tables) → Known old → (c : ClassDef) (text : List
 unfolding IsClass
 carried_class old known c text h b =
     step h b (λ pos f1 k1 h1 b1 h b. step h b (λ name f2 k2 h2 b2 h b. step h b (λ kind f3 k3 h3 b3 h b. step h b (λ superclass f4 k4 h4 b4 h b. step h b (λ interfaces f5 k5 h5 b5 h b. step h b (λ ms f6 k6 h6 b6 h b.
-      step h6 b6 (λ n f7 k7 h7 b7 h8 b8.
-        let all = carried_members old known n ms _ h8 b8 in
-        let few : length ms < 256 ^ 4 = subst (λ (m : ℕ). m < 256 ^ 4) (sym all.0) (number_fits 4 n _ h7 b7) in
-        subst (λ (c : ClassDef). (c.files ≡ old.files) × ClassCarried old c) (sym h.is)
-          (refl, join _ (carried_position old pos _ h1 b1) (join _ (carried_name is_class_name old name _ h2) (join _ (carried_kind kind) (join _ (carried_superclass old superclass _ h4 b4) (join _ (carried_names old interfaces _ h5 b5) (carried_rest old pos name kind superclass interfaces ms few all.1)))))))))))))
+    step h6 b6 (λ n f7 k7 h7 b7 h8 b8.
+    let all = carried_members old known n ms _ h8 b8 in
+    let few : length ms < 256 ^ 4 = subst (λ (m : ℕ). m < 256 ^ 4) (sym all.0) (number_fits 4 n _ h7 b7) in
+    subst (λ (c : ClassDef). (c.files ≡ old.files) × ClassCarried old c) (sym h.is)
+    (refl, join _ (carried_position old pos _ h1 b1) (join _ (carried_name is_class_name old name _ h2) (join _ (carried_kind kind) (join _ (carried_superclass old superclass _ h4 b4) (join _ (carried_names old interfaces _ h5 b5) (carried_rest old pos name kind superclass interfaces ms few all.1)))))))))))))

@@ -1,5 +1,5 @@
 -- References, names of methods and types.
-use Rattle.std.proofs.Common.{◌≡◌, ℕ, ◌<◌, ◌^◌, ◌⊎◌, Bool, true, false, cond, eqb, ltb, List, [], ◌∷◌, ◌++◌, length, map, Option, Some, None, refl, sym, ap, ◌∙◌, subst, inl, inr, eqb→eq, append-nil, map-id, arith}
+use Rattle.std.proofs.Common.{◌≡◌, ℕ, ◌<◌, ◌⊎◌, Bool, true, false, cond, eqb, ltb, List, [], ◌∷◌, length, Option, Some, None, refl, sym, ap, ◌∙◌, subst, inl, inr, append-nil, map-id, arith}
 use Rattle.std.specs.Prelude.{nat_eq, codes}
 use Rattle.std.specs.Cmp.Lexicographic.{pointwise}
 use Rattle.std.specs.List.{AllByRecursion}
@@ -11,15 +11,15 @@ use Rattle.sj_names.specs.declared.method_names.MethodName.{MethodName}
 use Rattle.sj_trees.specs.declared.types.IrType.{IrType}
 use Rattle.sj_trees.specs.Types.{class_type}
 use Rattle.sj_format.specs.Codes.{among, plain_types}
-use Rattle.sj_format.specs.Spelling.{Spelling, ◌then◌, Gives_value, Found, Tested, chosen, IsByte, IsNumber, IsEach, IsList}
+use Rattle.sj_format.specs.Spelling.{Spelling, ◌then◌, Gives_value, Found, Tested, chosen, IsByte, IsList}
 use Rattle.sj_format.specs.Tables.{Tables, IsName}
 use Rattle.sj_format.specs.References.{plain_base, IsBase, IsArray, IsArrayReference, plain_reference, IsReference, IsParameter, IsResult, IsMethodName}
-use Rattle.sj_format.specs.Types.{IsCode, IsTypeOf, IsType}
-use Rattle.sj_written.specs.Fields.{Fields, nothing, number_field, name_field, ◌▸◌, byte, count, each, list_fields}
+use Rattle.sj_format.specs.Types.{IsTypeOf, IsType}
+use Rattle.sj_written.specs.Fields.{Fields, nothing, name_field, ◌▸◌, byte, count, each, list_fields}
 use Rattle.sj_written.specs.References.{base_fields, array_fields, reference_fields, result_fields, method_name_fields, type_fields}
 use Rattle.sj_written.specs.Written.{spelled}
-use Rattle.sj_written.proofs.Bytes.{AreBytes, step, number_fits}
-use Rattle.sj_written.proofs.Carry.{Carried, IsFit, Covers, join, last, last_of, value, carried_number, carried_code, carried_name, found_is, tested_is, carried_byte, byte_carried}
+use Rattle.sj_written.proofs.Bytes.{AreBytes, step}
+use Rattle.sj_written.proofs.Carry.{Carried, join, last, last_of, carried_name, found_is, tested_is, carried_byte, byte_carried}
 use Rattle.sj_written.proofs.CarryLists.{as_value, carried_list}
 
 -- a byte, and a test that it passed
@@ -45,12 +45,27 @@ record IsPlainBase (base : BaseRef) : Type 0 where
 
 plain_base_found : (code : ℕ) (base : BaseRef) → plain_base code ≡ Some base → IsPlainBase base
 plain_base_found code base e =
-    elim (cond_cases (eqb code 2) BaseRef.Boolean _ base e) [ inl x ↦ subst IsPlainBase x (record { code = 2; fields = refl; small = omega arith; is_base = refl; no_class = refl }) | inr e ↦
-    elim (cond_cases (eqb code 3) BaseRef.Char _ base e) [ inl x ↦ subst IsPlainBase x (record { code = 3; fields = refl; small = omega arith; is_base = refl; no_class = refl }) | inr e ↦
-    elim (cond_cases (eqb code 4) BaseRef.Byte _ base e) [ inl x ↦ subst IsPlainBase x (record { code = 4; fields = refl; small = omega arith; is_base = refl; no_class = refl }) | inr e ↦
-    elim (cond_cases (eqb code 5) BaseRef.Short _ base e) [ inl x ↦ subst IsPlainBase x (record { code = 5; fields = refl; small = omega arith; is_base = refl; no_class = refl }) | inr e ↦
-    elim (cond_cases (eqb code 6) BaseRef.Int _ base e) [ inl x ↦ subst IsPlainBase x (record { code = 6; fields = refl; small = omega arith; is_base = refl; no_class = refl }) | inr e ↦
-    elim (cond_cases (eqb code 7) BaseRef.Long _ base e) [ inl x ↦ subst IsPlainBase x (record { code = 7; fields = refl; small = omega arith; is_base = refl; no_class = refl }) | inr e ↦ absurd cc ] ] ] ] ] ]
+    elim (cond_cases (eqb code 2) BaseRef.Boolean _ base e) [
+      | inl x ↦ subst IsPlainBase x (record { code = 2; fields = refl; small = omega arith; is_base = refl; no_class = refl })
+      | inr e ↦
+          elim (cond_cases (eqb code 3) BaseRef.Char _ base e) [
+            | inl x ↦ subst IsPlainBase x (record { code = 3; fields = refl; small = omega arith; is_base = refl; no_class = refl })
+            | inr e ↦
+                elim (cond_cases (eqb code 4) BaseRef.Byte _ base e) [
+                  | inl x ↦ subst IsPlainBase x (record { code = 4; fields = refl; small = omega arith; is_base = refl; no_class = refl })
+                  | inr e ↦
+                      elim (cond_cases (eqb code 5) BaseRef.Short _ base e) [
+                        | inl x ↦ subst IsPlainBase x (record { code = 5; fields = refl; small = omega arith; is_base = refl; no_class = refl })
+                        | inr e ↦
+                            elim (cond_cases (eqb code 6) BaseRef.Int _ base e) [
+                              | inl x ↦ subst IsPlainBase x (record { code = 6; fields = refl; small = omega arith; is_base = refl; no_class = refl })
+                              | inr e ↦
+                                  elim (cond_cases (eqb code 7) BaseRef.Long _ base e) [ inl x ↦ subst IsPlainBase x (record { code = 7; fields = refl; small = omega arith; is_base = refl; no_class = refl }) | inr e ↦ absurd cc ]
+                            ]
+                      ]
+                ]
+          ]
+    ]
 
 abbrev CarriedBase : Tables → BaseRef → Type 0
 CarriedBase old base = Carried old (λ new text. IsBase new.names base text) (λ new. base_fields base) (base_fields base)
@@ -58,16 +73,16 @@ CarriedBase old base = Carried old (λ new text. IsBase new.names base text) (λ
 plain_base_carried : (old : Tables) (base : BaseRef) → IsPlainBase base → CarriedBase old base
 plain_base_carried old base p =
     subst (λ (fs : Fields). Carried old (λ new text. IsBase new.names base text) (λ new. fs) fs) (sym p.fields)
-      (record {
-        inside = omega (arith, p.small);
-        same = λ new cover. refl;
-        again = λ new fit cover. record { value = p.code; front = spelled new (byte p.code); back = []; first = carried_byte p.code p.small; second = subst (λ (b : Bool). chosen b (IsName is_class_name new.names then λ c. Gives_value (BaseRef.Class c)) (Found (plain_base p.code)) base []) (sym p.no_class) (subst (λ (o : Option BaseRef). Found o base []) (sym p.is_base) (record { is = refl; nothing = refl })); parts = sym (append-nil (spelled new (byte p.code))) };
-      })
+    (record {
+      inside = omega (arith, p.small);
+      same = λ new cover. refl;
+      again = λ new fit cover. record { value = p.code; front = spelled new (byte p.code); back = []; first = carried_byte p.code p.small; second = subst (λ (b : Bool). chosen b (IsName is_class_name new.names then λ c. Gives_value (BaseRef.Class c)) (Found (plain_base p.code)) base []) (sym p.no_class) (subst (λ (o : Option BaseRef). Found o base []) (sym p.is_base) (record { is = refl; nothing = refl })); parts = sym (append-nil (spelled new (byte p.code))) };
+    })
 
 base_by : (old : Tables) (base : BaseRef) (code : ℕ) (b : Bool) (text : List ℕ) → chosen b (IsName is_class_name old.names then λ c. Gives_value (BaseRef.Class c)) (Found (plain_base code)) base text → AreBytes text → CarriedBase old base
 base_by old base code true text h b =
     step h b (λ c front back p bp h b. as_value (λ base new text. IsBase new.names base text) (λ base new. base_fields base) base_fields (BaseRef.Class c) base h.is
-      (join (λ new. 8) (byte_carried 8 (omega arith)) (last _ (carried_name is_class_name old c _ p))))
+    (join (λ new. 8) (byte_carried 8 (omega arith)) (last _ (carried_name is_class_name old c _ p))))
 base_by old base code false text h b = plain_base_carried old base (plain_base_found code base (found_is (plain_base code) base text h))
 
 pub carried_base : (old : Tables) (base : BaseRef) (text : List ℕ) → IsBase old.names base text → AreBytes text → CarriedBase old base
@@ -81,22 +96,22 @@ dimensions_carried n small some = last_of (λ new. n) (byte_carried n small) (λ
 carried_dimensions : (old : Tables) (n : ℕ) (text : List ℕ) → (IsByte then λ n. Tested (ltb 0 n) n) n text → AreBytes text → Carried old (λ new text. (IsByte then λ n. Tested (ltb 0 n) n) n text) (λ new. byte n) (byte n)
 carried_dimensions old n text h b =
     step h b (λ m front back p bp h b.
-      let test = tested_is (ltb 0 m) m n back h in
-      let small : n < 256 = subst (λ (k : ℕ). k < 256) (sym test.1) (byte_fits m front p bp) in
-      dimensions_carried n small (ap (ltb 0) test.1 ∙ test.0))
+    let test = tested_is (ltb 0 m) m n back h in
+    let small : n < 256 = subst (λ (k : ℕ). k < 256) (sym test.1) (byte_fits m front p bp) in
+    dimensions_carried n small (ap (ltb 0) test.1 ∙ test.0))
 
 pub carried_array : (old : Tables) (a : ArrayRef) (text : List ℕ) → IsArray old.names a text → AreBytes text → Carried old (λ new text. IsArray new.names a text) (λ new. byte a.dimensions ▸ base_fields a.base) (byte a.dimensions ▸ base_fields a.base)
 unfolding IsArray
 carried_array old a text h b =
     step h b (λ n front back p bp h b. step h b (λ base front back q bq h b.
-      as_value (λ a new text. IsArray new.names a text) (λ a new. byte a.dimensions ▸ base_fields a.base) (λ a. byte a.dimensions ▸ base_fields a.base) (record { dimensions = n; base = base }) a h.is
-        (join (λ new. n) (carried_dimensions old n _ p bp) (last (λ new. base) (carried_base old base _ q bq)))))
+    as_value (λ a new text. IsArray new.names a text) (λ a new. byte a.dimensions ▸ base_fields a.base) (λ a. byte a.dimensions ▸ base_fields a.base) (record { dimensions = n; base = base }) a h.is
+    (join (λ new. n) (carried_dimensions old n _ p bp) (last (λ new. base) (carried_base old base _ q bq)))))
 
 pub carried_array_reference : (old : Tables) (a : ArrayRef) (text : List ℕ) → IsArrayReference old.names a text → AreBytes text → Carried old (λ new text. IsArrayReference new.names a text) (λ new. array_fields a) (array_fields a)
 unfolding IsArrayReference
 carried_array_reference old a text h b =
     step h b (λ code front back p bp h b. step h b (λ nine front back q bq h b.
-      join (λ new. 9) (byte_carried 9 (omega arith)) (nine_then old a (carried_array old a _ h b))))
+    join (λ new. 9) (byte_carried 9 (omega arith)) (nine_then old a (carried_array old a _ h b))))
   where
     nine_then : (old : Tables) (a : ArrayRef) → Carried old (λ new text. IsArray new.names a text) (λ new. byte a.dimensions ▸ base_fields a.base) (byte a.dimensions ▸ base_fields a.base)
         → Carried old (λ new text. (◌then◌ {A = ℕ} (Tested (eqb 9 9) 9) (λ nine. IsArray new.names)) a text) (λ new. byte a.dimensions ▸ base_fields a.base) (byte a.dimensions ▸ base_fields a.base)
@@ -121,12 +136,27 @@ record IsPlainReference (r : TypeRef) : Type 0 where
 
 plain_reference_found : (code : ℕ) (r : TypeRef) → plain_reference code ≡ Some r → IsPlainReference r
 plain_reference_found code r e =
-    elim (cond_cases (eqb code 2) TypeRef.Boolean _ r e) [ inl x ↦ subst IsPlainReference x (record { code = 2; fields = refl; small = omega arith; is_reference = refl; none = refl; void = refl; no_class = refl; no_array = refl }) | inr e ↦
-    elim (cond_cases (eqb code 3) TypeRef.Char _ r e) [ inl x ↦ subst IsPlainReference x (record { code = 3; fields = refl; small = omega arith; is_reference = refl; none = refl; void = refl; no_class = refl; no_array = refl }) | inr e ↦
-    elim (cond_cases (eqb code 4) TypeRef.Byte _ r e) [ inl x ↦ subst IsPlainReference x (record { code = 4; fields = refl; small = omega arith; is_reference = refl; none = refl; void = refl; no_class = refl; no_array = refl }) | inr e ↦
-    elim (cond_cases (eqb code 5) TypeRef.Short _ r e) [ inl x ↦ subst IsPlainReference x (record { code = 5; fields = refl; small = omega arith; is_reference = refl; none = refl; void = refl; no_class = refl; no_array = refl }) | inr e ↦
-    elim (cond_cases (eqb code 6) TypeRef.Int _ r e) [ inl x ↦ subst IsPlainReference x (record { code = 6; fields = refl; small = omega arith; is_reference = refl; none = refl; void = refl; no_class = refl; no_array = refl }) | inr e ↦
-    elim (cond_cases (eqb code 7) TypeRef.Long _ r e) [ inl x ↦ subst IsPlainReference x (record { code = 7; fields = refl; small = omega arith; is_reference = refl; none = refl; void = refl; no_class = refl; no_array = refl }) | inr e ↦ absurd cc ] ] ] ] ] ]
+    elim (cond_cases (eqb code 2) TypeRef.Boolean _ r e) [
+      | inl x ↦ subst IsPlainReference x (record { code = 2; fields = refl; small = omega arith; is_reference = refl; none = refl; void = refl; no_class = refl; no_array = refl })
+      | inr e ↦
+          elim (cond_cases (eqb code 3) TypeRef.Char _ r e) [
+            | inl x ↦ subst IsPlainReference x (record { code = 3; fields = refl; small = omega arith; is_reference = refl; none = refl; void = refl; no_class = refl; no_array = refl })
+            | inr e ↦
+                elim (cond_cases (eqb code 4) TypeRef.Byte _ r e) [
+                  | inl x ↦ subst IsPlainReference x (record { code = 4; fields = refl; small = omega arith; is_reference = refl; none = refl; void = refl; no_class = refl; no_array = refl })
+                  | inr e ↦
+                      elim (cond_cases (eqb code 5) TypeRef.Short _ r e) [
+                        | inl x ↦ subst IsPlainReference x (record { code = 5; fields = refl; small = omega arith; is_reference = refl; none = refl; void = refl; no_class = refl; no_array = refl })
+                        | inr e ↦
+                            elim (cond_cases (eqb code 6) TypeRef.Int _ r e) [
+                              | inl x ↦ subst IsPlainReference x (record { code = 6; fields = refl; small = omega arith; is_reference = refl; none = refl; void = refl; no_class = refl; no_array = refl })
+                              | inr e ↦
+                                  elim (cond_cases (eqb code 7) TypeRef.Long _ r e) [ inl x ↦ subst IsPlainReference x (record { code = 7; fields = refl; small = omega arith; is_reference = refl; none = refl; void = refl; no_class = refl; no_array = refl }) | inr e ↦ absurd cc ]
+                            ]
+                      ]
+                ]
+          ]
+    ]
 
 -- a reference, by its code and what stands behind it
 record CarriedReference (old : Tables) (r : TypeRef) : Type 0 where
@@ -141,7 +171,12 @@ record CarriedReference (old : Tables) (r : TypeRef) : Type 0 where
 reference_plain : (old : Tables) (r : TypeRef) → IsPlainReference r → CarriedReference old r
 unfolding IsReference
 reference_plain old r p = record {
-  code = p.code; none = p.none; void = p.void; small = p.small; behind = nothing; fields = inr (p.fields, refl);
+  code = p.code;
+  none = p.none;
+  void = p.void;
+  small = p.small;
+  behind = nothing;
+  fields = inr (p.fields, refl);
   carried = record {
     inside = tt;
     same = λ new cover. refl;
@@ -156,12 +191,22 @@ reference_by : (old : Tables) (r : TypeRef) (code : ℕ) (b c : Bool) (text : Li
 unfolding IsReference
 reference_by old r code true c text h b =
     step h b (λ name front back p bp h b. subst (CarriedReference old) (sym h.is) (record {
-      code = 8; none = refl; void = refl; small = omega arith; behind = name_field name; fields = inl refl;
+      code = 8;
+      none = refl;
+      void = refl;
+      small = omega arith;
+      behind = name_field name;
+      fields = inl refl;
       carried = last (λ new. name) (carried_name is_class_name old name _ p);
     }))
 reference_by old r code false true text h b =
     step h b (λ a front back p bp h b. subst (CarriedReference old) (sym h.is) (record {
-      code = 9; none = refl; void = refl; small = omega arith; behind = byte a.dimensions ▸ base_fields a.base; fields = inl refl;
+      code = 9;
+      none = refl;
+      void = refl;
+      small = omega arith;
+      behind = byte a.dimensions ▸ base_fields a.base;
+      fields = inl refl;
       carried = last (λ new. a) (carried_array old a _ p bp);
     }))
 reference_by old r code false false text h b = reference_plain old r (plain_reference_found code r (found_is (plain_reference code) r text h))
@@ -185,8 +230,8 @@ code_and {old = old} {Q = Q} x code behind fs small (inr e) one =
 pub carried_parameter : (old : Tables) (r : TypeRef) (text : List ℕ) → IsParameter old.names r text → AreBytes text → Carried old (λ new text. IsParameter new.names r text) (λ new. reference_fields r) (reference_fields r)
 carried_parameter old r text h b =
     step h b (λ code front back p bp h b.
-      let one = carried_reference old r code back h b in
-      code_and {Q = λ new code. IsReference new.names code} r one.code one.behind (reference_fields r) one.small one.fields one.carried)
+    let one = carried_reference old r code back h b in
+    code_and {Q = λ new code. IsReference new.names code} r one.code one.behind (reference_fields r) one.small one.fields one.carried)
 
 -- ---- results
 
@@ -218,8 +263,8 @@ pub carried_method_name : (old : Tables) (m : MethodName) (text : List ℕ) → 
 unfolding IsMethodName
 carried_method_name old m text h b =
     step h b (λ simple front back p bp h b. step h b (λ params front back q bq h b. step h b (λ outcome front back r br h b.
-      as_value (λ m new text. IsMethodName new.names m text) (λ m new. method_name_fields m) method_name_fields (record { simple = simple; params = params; result = outcome }) m h.is
-        (join (λ new. simple) (carried_name is_simple_name old simple _ p) (join (λ new. params) (carried_params old params _ q bq) (last (λ new. outcome) (carried_result old outcome _ r br)))))))
+    as_value (λ m new text. IsMethodName new.names m text) (λ m new. method_name_fields m) method_name_fields (record { simple = simple; params = params; result = outcome }) m h.is
+    (join (λ new. simple) (carried_name is_simple_name old simple _ p) (join (λ new. params) (carried_params old params _ q bq) (last (λ new. outcome) (carried_result old outcome _ r br)))))))
   where
     carried_params : (old : Tables) (params : List TypeRef) (text : List ℕ) → IsList (IsParameter old.names) params text → AreBytes text → Carried old (λ new text. IsList (IsParameter new.names) params text) (λ new. list_fields reference_fields params) (list_fields reference_fields params)
     carried_params old params text h b =
@@ -246,10 +291,30 @@ plain t code f s i c a = record { code = code; fields = f; small = s; is_type = 
 
 all_plain : AllByRecursion (λ (row : ℕ × IrType). IsPlainType row.1) plain_types
 all_plain = (
-    plain _ 1 refl (omega arith) refl refl refl, (plain _ 2 refl (omega arith) refl refl refl, (plain _ 3 refl (omega arith) refl refl refl, (plain _ 4 refl (omega arith) refl refl refl,
-    (plain _ 5 refl (omega arith) refl refl refl, (plain _ 6 refl (omega arith) refl refl refl, (plain _ 7 refl (omega arith) refl refl refl, (plain _ 8 refl (omega arith) refl refl refl,
-    (plain _ 9 refl (omega arith) refl refl refl, (plain _ 10 refl (omega arith) refl refl refl, (plain _ 11 refl (omega arith) refl refl refl, (plain _ 14 refl (omega arith) refl refl refl, tt)))))))))))
-  )
+  plain _ 1 refl (omega arith) refl refl refl,
+  (
+    plain _ 2 refl (omega arith) refl refl refl,
+    (
+      plain _ 3 refl (omega arith) refl refl refl,
+      (
+        plain _ 4 refl (omega arith) refl refl refl,
+        (
+          plain _ 5 refl (omega arith) refl refl refl,
+          (
+            plain _ 6 refl (omega arith) refl refl refl,
+            (
+              plain _ 7 refl (omega arith) refl refl refl,
+              (
+                plain _ 8 refl (omega arith) refl refl refl,
+                (plain _ 9 refl (omega arith) refl refl refl, (plain _ 10 refl (omega arith) refl refl refl, (plain _ 11 refl (omega arith) refl refl refl, (plain _ 14 refl (omega arith) refl refl refl, tt)))),
+              ),
+            ),
+          ),
+        ),
+      ),
+    ),
+  ),
+)
 
 abbrev CarriedType : Tables → IrType → Type 0
 CarriedType old t = Carried old (λ new text. IsType new.names t text) (λ new. type_fields t) (type_fields t)
@@ -258,17 +323,17 @@ plain_type_carried : (old : Tables) (t : IrType) → IsPlainType t → CarriedTy
 unfolding IsTypeOf
 plain_type_carried old t p =
     subst (λ (fs : Fields). Carried old (λ new text. IsType new.names t text) (λ new. fs) fs) (sym p.fields)
-      (last_of (λ new. p.code) (byte_carried p.code p.small) (λ new.
-        subst (λ (b : Bool). chosen b (IsName is_class_name new.names then λ c. Gives_value (class_type c)) (chosen (eqb p.code 13) (IsArrayReference new.names then λ a. Gives_value (IrType.Array a)) (Found (among plain_types p.code))) t []) (sym p.no_class)
-        (subst (λ (b : Bool). chosen b (IsArrayReference new.names then λ a. Gives_value (IrType.Array a)) (Found (among plain_types p.code)) t []) (sym p.no_array)
-        (subst (λ (o : Option IrType). Found o t []) (sym p.is_type) (record { is = refl; nothing = refl })))))
+    (last_of (λ new. p.code) (byte_carried p.code p.small) (λ new.
+    subst (λ (b : Bool). chosen b (IsName is_class_name new.names then λ c. Gives_value (class_type c)) (chosen (eqb p.code 13) (IsArrayReference new.names then λ a. Gives_value (IrType.Array a)) (Found (among plain_types p.code))) t []) (sym p.no_class)
+    (subst (λ (b : Bool). chosen b (IsArrayReference new.names then λ a. Gives_value (IrType.Array a)) (Found (among plain_types p.code)) t []) (sym p.no_array)
+    (subst (λ (o : Option IrType). Found o t []) (sym p.is_type) (record { is = refl; nothing = refl })))))
 
 class_by : (old : Tables) (c : List ℕ) (b : Bool) (text : List ℕ) → pointwise nat_eq c (codes "java.lang.Object") ≡ b → IsName is_class_name old.names c text → CarriedType old (class_type c)
 unfolding IsTypeOf
 class_by old c true text e h = subst (λ (b : Bool). CarriedType old (cond b IrType.Any (IrType.Class c))) (sym e) (plain_type_carried old IrType.Any (plain _ 1 refl (omega arith) refl refl refl))
 class_by old c false text e h =
     subst (λ (b : Bool). CarriedType old (cond b IrType.Any (IrType.Class c))) (sym e)
-      (join (λ new. 12) (byte_carried 12 (omega arith)) (class_again old c e (carried_name is_class_name old c text h)))
+    (join (λ new. 12) (byte_carried 12 (omega arith)) (class_again old c e (carried_name is_class_name old c text h)))
   where
     class_again : (old : Tables) (c : List ℕ) → pointwise nat_eq c (codes "java.lang.Object") ≡ false → Carried old (λ new text. IsName is_class_name new.names c text) (λ new. name_field c) (name_field c)
         → Carried old (λ new text. (IsName is_class_name new.names then λ c. Gives_value (class_type c)) (IrType.Class c) text) (λ new. name_field c) (name_field c)

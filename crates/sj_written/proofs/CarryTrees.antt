@@ -1,5 +1,5 @@
 -- Trees.
-use Rattle.std.proofs.Common.{◌≡◌, ℕ, zero, suc, ◌<◌, ◌^◌, ◌*◌, Bool, true, false, cond, ltb, List, [], ◌∷◌, ◌++◌, length, map, slice_get, Option, Some, None, refl, sym, ap, ◌∙◌, subst, append-nil, ltb-true, lt-ltb, arith, map-id}
+use Rattle.std.proofs.Common.{◌≡◌, ℕ, zero, suc, ◌<◌, ◌^◌, Bool, ltb, List, [], ◌∷◌, length, map, slice_get, Option, Some, None, refl, sym, ap, ◌∙◌, subst, append-nil, ltb-true, lt-ltb, arith, map-id}
 use Rattle.std.specs.Prelude.{ℤ}
 use Rattle.std.specs.Int.{Width, w8, w16, w32, w64, cast_signed, cast_unsigned}
 use Rattle.std.proofs.lemmas.Int.{of_z-to_z}
@@ -11,7 +11,7 @@ use Rattle.sj_trees.specs.declared.operators.BinaryOp.{BinaryOp}
 use Rattle.sj_trees.specs.declared.positions.Position.{Position}
 use Rattle.sj_trees.specs.Operators.{unary_with, unary_code, binary_with, binary_code}
 use Rattle.sj_trees.proofs.Codes.{unary_code-unary_with, binary_code-binary_with}
-use Rattle.sj_trees.specs.Term.{Term, Terms, Cases, no_terms, more_terms, no_cases, more_cases, var_def, skip, block_of, labeled, assign, return_to, if_then, while_loop, do_while, try_catch, try_finally, throw, match_on, new_object, load_module, store_module, select, select_static, apply, apply_statically, apply_static, unary_op, binary_op, new_array, array_value, array_length, array_select, is_instance_of, as_instance_of, undefined_literal, null_literal, boolean_literal, char_literal, byte_literal, short_literal, int_literal, long_literal, string_literal, var_ref, this_ref, log_line}
+use Rattle.sj_trees.specs.Term.{Term, Terms, Cases, more_terms, more_cases, block_of, match_on, new_object, apply, apply_statically, apply_static, array_value}
 use Rattle.sj_trees.specs.View.{Case, terms_of, cases_of}
 use Rattle.sj_format.specs.declared.codes.Tag.{Tag}
 use Rattle.sj_format.specs.declared.codes.Tag.TheVariants.{Leaf, Statement, Branch, Call, Operation}
@@ -26,21 +26,21 @@ use Rattle.sj_format.specs.declared.codes.CallTag.TheVariants as call
 use Rattle.sj_format.specs.declared.codes.OperationTag.{OperationTag}
 use Rattle.sj_format.specs.declared.codes.OperationTag.TheVariants as operation
 use Rattle.sj_format.specs.Codes.{among, tree_tags, namespaces}
-use Rattle.sj_format.specs.Spelling.{Spelling, ◌then◌, Gives_value, Never, Tested, IsByte, IsNumber, IsEach, IsList}
-use Rattle.sj_format.specs.Tables.{Tables, IsBelow, IsEntry, IsName}
-use Rattle.sj_format.specs.Types.{IsCode, IsSigned, IsPosition, IsNamespace, IsType}
+use Rattle.sj_format.specs.Spelling.{Tested, IsList}
+use Rattle.sj_format.specs.Tables.{Tables, IsBelow}
+use Rattle.sj_format.specs.Types.{IsSigned, IsPosition, IsNamespace}
 use Rattle.sj_format.specs.Trees.{IsUnary, IsBinary, IsCase, IsLeaf, IsStatement, IsBranch, IsCall, IsOperation, IsForm, IsTree}
-use Rattle.sj_written.specs.Fields.{Fields, nothing, number_field, name_field, file_field, ◌▸◌, byte, mark, signed, count, each, list_fields, position_fields}
-use Rattle.sj_written.specs.References.{names_in_method, type_fields, array_fields}
+use Rattle.sj_written.specs.Fields.{Fields, file_field, ◌▸◌, byte, signed, count, each, list_fields, position_fields}
+use Rattle.sj_written.specs.References.{names_in_method}
 use Rattle.sj_written.specs.Tables.{same_text, index_of}
 use Rattle.sj_written.specs.Trees.{namespace_code, keys_fields, count_terms, count_cases, term_fields, each_term, each_case, terms_fields, cases_fields}
 use Rattle.sj_written.specs.Renumbered.{renumbered_position, renumbered, renumbered_all, renumbered_cases}
 use Rattle.sj_written.specs.Written.{spelled}
-use Rattle.sj_written.proofs.Entries.{Has, found, below, has_at}
+use Rattle.sj_written.proofs.Entries.{found, below, has_at}
 use Rattle.sj_written.proofs.Same.{text_decides}
 use Rattle.sj_written.proofs.Bytes.{AreBytes, step, number_fits, number_spelled}
-use Rattle.sj_written.proofs.Carry.{Carried, IsFit, Covers, HasText, HasMethod, join, last, last_of, value, byte_carried, carried_byte, carried_number, carried_code, carried_name, carried_string, carried_method, found_is, tested_is}
-use Rattle.sj_written.proofs.CarryLists.{carried_list, carried_each, carried_mark}
+use Rattle.sj_written.proofs.Carry.{Carried, HasText, HasMethod, join, last, last_of, value, carried_number, carried_code, carried_name, carried_string, carried_method, found_is, tested_is}
+use Rattle.sj_written.proofs.CarryLists.{carried_list, carried_mark}
 use Rattle.sj_written.proofs.CarryNames.{carried_type, carried_array_reference, byte_fits}
 
 -- the number in the new table of the text that a number names in the old one
@@ -82,12 +82,12 @@ pub carried_position : (old : Tables) (p : Position) (text : List ℕ) → IsPos
 unfolding IsPosition
 carried_position old p text h b =
     step h b (λ file f1 k1 h1 b1 h b. step h b (λ line f2 k2 h2 b2 h b. step h b (λ column f3 k3 h3 b3 h b.
-      step h1 b1 (λ n f4 k4 h4 b4 t b5.
-        let test = tested_is (ltb n (length old.files)) n file k4 t in
-        let there : file < length old.files = ltb-true file (length old.files) (ap (λ (m : ℕ). ltb m (length old.files)) test.1 ∙ test.0) in
-        let at = some_at old.files file there in
-        subst (PositionCarried old) (sym h.is)
-          (join _ (file_carried old file at.0 (slice_get old.files file) refl at.1) (join _ (carried_number 4 line (number_fits 4 line _ h2 b2)) (last _ (carried_number 4 column (number_fits 4 column _ h3 b3)))))))))
+    step h1 b1 (λ n f4 k4 h4 b4 t b5.
+    let test = tested_is (ltb n (length old.files)) n file k4 t in
+    let there : file < length old.files = ltb-true file (length old.files) (ap (λ (m : ℕ). ltb m (length old.files)) test.1 ∙ test.0) in
+    let at = some_at old.files file there in
+    subst (PositionCarried old) (sym h.is)
+    (join _ (file_carried old file at.0 (slice_get old.files file) refl at.1) (join _ (carried_number 4 line (number_fits 4 line _ h2 b2)) (last _ (carried_number 4 column (number_fits 4 column _ h3 b3)))))))))
 
 -- ---- parts of trees
 
@@ -101,24 +101,24 @@ carried_namespace Namespace.Constructor = carried_code (among namespaces) 4 Name
 carried_unary : (old : Tables) (o : UnaryOp) (text : List ℕ) → IsUnary o text → AreBytes text → Carried old (λ new text. IsUnary o text) (λ new. byte (unary_code o)) (byte (unary_code o))
 carried_unary old o text h b =
     step h b (λ code front back p bp h b.
-      let is = found_is (unary_with code) o back h in
-      let same : unary_code o ≡ code = unary_code-unary_with code o is in
-      subst (λ (c : ℕ). Carried old (λ new text. IsUnary o text) (λ new. byte c) (byte c)) (sym same) (carried_code unary_with code o (byte_fits code front p bp) is))
+    let is = found_is (unary_with code) o back h in
+    let same : unary_code o ≡ code = unary_code-unary_with code o is in
+    subst (λ (c : ℕ). Carried old (λ new text. IsUnary o text) (λ new. byte c) (byte c)) (sym same) (carried_code unary_with code o (byte_fits code front p bp) is))
 
 carried_binary : (old : Tables) (o : BinaryOp) (text : List ℕ) → IsBinary o text → AreBytes text → Carried old (λ new text. IsBinary o text) (λ new. byte (binary_code o)) (byte (binary_code o))
 carried_binary old o text h b =
     step h b (λ code front back p bp h b.
-      let is = found_is (binary_with code) o back h in
-      let same : binary_code o ≡ code = binary_code-binary_with code o is in
-      subst (λ (c : ℕ). Carried old (λ new text. IsBinary o text) (λ new. byte c) (byte c)) (sym same) (carried_code binary_with code o (byte_fits code front p bp) is))
+    let is = found_is (binary_with code) o back h in
+    let same : binary_code o ≡ code = binary_code-binary_with code o is in
+    subst (λ (c : ℕ). Carried old (λ new text. IsBinary o text) (λ new. byte c) (byte c)) (sym same) (carried_code binary_with code o (byte_fits code front p bp) is))
 
 carried_signed : (old : Tables) (w : Width) (n : ℕ) (z : ℤ) (text : List ℕ) → ((x : ℕ) → x < 256 ^ n → cast_unsigned w (cast_signed w x) ≡ x) → IsSigned w n z text → AreBytes text → Carried old (λ new text. IsSigned w n z text) (λ new. signed w n z) (signed w n z)
 carried_signed old w n z text again h b =
     step h b (λ x front back p bp h b.
-      let small = number_fits n x front p bp in
-      let back_again : cast_unsigned w z ≡ x = ap (cast_unsigned w) h.is ∙ again x small in
-      let fits : cast_unsigned w z < 256 ^ n = subst (λ (m : ℕ). m < 256 ^ n) (sym back_again) small in
-      last_of (λ new. cast_unsigned w z) (carried_number n (cast_unsigned w z) fits) (λ new. record { is = h.is ∙ ap (cast_signed w) (sym back_again); nothing = refl }))
+    let small = number_fits n x front p bp in
+    let back_again : cast_unsigned w z ≡ x = ap (cast_unsigned w) h.is ∙ again x small in
+    let fits : cast_unsigned w z < 256 ^ n = subst (λ (m : ℕ). m < 256 ^ n) (sym back_again) small in
+    last_of (λ new. cast_unsigned w z) (carried_number n (cast_unsigned w z) fits) (λ new. record { is = h.is ∙ ap (cast_signed w) (sym back_again); nothing = refl }))
 
 -- ---- trees
 
@@ -152,6 +152,7 @@ terms_listed sources ts = λ i. count (counted ts i) ▸ listed ts i
     counted : (ts : List Term) → length ts ≡ count_terms (terms_of ts)
     counted [] = refl
     counted (t ∷ ts) = ap suc (counted ts)
+
     listed : (ts : List Term) → each (term_fields sources) ts ≡ each_term sources (terms_of ts)
     listed [] = refl
     listed (t ∷ ts) = ap (λ (fs : Fields). term_fields sources t ▸ fs) (listed ts)
@@ -164,9 +165,9 @@ carried_terms : (old : Tables) (d : ℕ) → Inner old d → (ts : List Term) (t
     → Carried old (λ new text. IsList (IsTree d new) (map (renumbered (number old new)) ts) text) (λ new. terms_fields new.files (renumbered_all (number old new) (terms_of ts))) (terms_fields old.files (terms_of ts))
 carried_terms old d inner ts text h b =
     refield _ _ _ _
-      (λ new. ap (λ (n : ℕ). count n ▸ each (term_fields new.files) (map (renumbered (number old new)) ts)) (sym (length_map (renumbered (number old new)) ts)) ∙ terms_listed new.files (map (renumbered (number old new)) ts) ∙ ap (terms_fields new.files) (renumbered_terms_of (number old new) ts))
-      (terms_listed old.files ts)
-      (carried_list old (IsTree d old) (λ new. IsTree d new) (λ new. renumbered (number old new)) (λ new. term_fields new.files) (term_fields old.files) inner ts text h b)
+    (λ new. ap (λ (n : ℕ). count n ▸ each (term_fields new.files) (map (renumbered (number old new)) ts)) (sym (length_map (renumbered (number old new)) ts)) ∙ terms_listed new.files (map (renumbered (number old new)) ts) ∙ ap (terms_fields new.files) (renumbered_terms_of (number old new) ts))
+    (terms_listed old.files ts)
+    (carried_list old (IsTree d old) (λ new. IsTree d new) (λ new. renumbered (number old new)) (λ new. term_fields new.files) (term_fields old.files) inner ts text h b)
 
 -- ---- cases
 
@@ -186,6 +187,7 @@ cases_listed sources cs = λ i. count (counted cs i) ▸ listed cs i
     counted : (cs : List Case) → length cs ≡ count_cases (cases_of cs)
     counted [] = refl
     counted (c ∷ cs) = ap suc (counted cs)
+
     listed : (cs : List Case) → each (case_fields sources) cs ≡ each_case sources (cases_of cs)
     listed [] = refl
     listed (c ∷ cs) = ap (λ (fs : Fields). case_fields sources c ▸ fs) (listed cs)
@@ -200,16 +202,16 @@ carried_case : (old : Tables) (d : ℕ) → Inner old d → (c : Case) (text : L
 unfolding IsCase
 carried_case old d inner c text h b =
     step h b (λ keys f1 k1 h1 b1 h b. step h b (λ body f2 k2 h2 b2 h b.
-      subst (λ (c : Case). Carried old (λ new text. IsCase (IsTree d new) (moved_case (number old new) c) text) (λ new. case_fields new.files (moved_case (number old new) c)) (case_fields old.files c)) (sym h.is)
-        (join _ (carried_keys old keys _ h1 b1) (last _ (inner body _ h2 b2)))))
+    subst (λ (c : Case). Carried old (λ new text. IsCase (IsTree d new) (moved_case (number old new) c) text) (λ new. case_fields new.files (moved_case (number old new) c)) (case_fields old.files c)) (sym h.is)
+    (join _ (carried_keys old keys _ h1 b1) (last _ (inner body _ h2 b2)))))
 
 carried_cases : (old : Tables) (d : ℕ) → Inner old d → (cs : List Case) (text : List ℕ) → IsList (IsCase (IsTree d old)) cs text → AreBytes text
     → Carried old (λ new text. IsList (IsCase (IsTree d new)) (map (moved_case (number old new)) cs) text) (λ new. cases_fields new.files (renumbered_cases (number old new) (cases_of cs))) (cases_fields old.files (cases_of cs))
 carried_cases old d inner cs text h b =
     refield _ _ _ _
-      (λ new. ap (λ (n : ℕ). count n ▸ each (case_fields new.files) (map (moved_case (number old new)) cs)) (sym (length_map (moved_case (number old new)) cs)) ∙ cases_listed new.files (map (moved_case (number old new)) cs) ∙ ap (cases_fields new.files) (renumbered_cases_of (number old new) cs))
-      (cases_listed old.files cs)
-      (carried_list old (IsCase (IsTree d old)) (λ new. IsCase (IsTree d new)) (λ new. moved_case (number old new)) (λ new. case_fields new.files) (case_fields old.files) (carried_case old d inner) cs text h b)
+    (λ new. ap (λ (n : ℕ). count n ▸ each (case_fields new.files) (map (moved_case (number old new)) cs)) (sym (length_map (moved_case (number old new)) cs)) ∙ cases_listed new.files (map (moved_case (number old new)) cs) ∙ ap (cases_fields new.files) (renumbered_cases_of (number old new) cs))
+    (cases_listed old.files cs)
+    (carried_list old (IsCase (IsTree d old)) (λ new. IsCase (IsTree d new)) (λ new. moved_case (number old new)) (λ new. case_fields new.files) (case_fields old.files) (carried_case old d inner) cs text h b)
 
 -- ---- forms
 
@@ -268,6 +270,7 @@ carried_operation old d inner operation.ArrayLength p pos y text h b = step h b 
 carried_operation old d inner operation.ArraySelect p pos y text h b = step h b (λ x1 f1 k1 h1 b1 h b. step h b (λ x2 f2 k2 h2 b2 h b. step h b (λ x3 f3 k3 h3 b3 h b. subst (TreeCarried old (suc d)) (sym h.is) (head d 27 (Operation operation.ArraySelect) p _ (omega arith) refl pos (join _ (inner x1 _ h1 b1) (join _ (inner x2 _ h2 b2) (last _ (carried_type old x3 _ h3 b3))))))))
 carried_operation old d inner operation.IsInstanceOf p pos y text h b = step h b (λ x1 f1 k1 h1 b1 h b. step h b (λ x2 f2 k2 h2 b2 h b. subst (TreeCarried old (suc d)) (sym h.is) (head d 28 (Operation operation.IsInstanceOf) p _ (omega arith) refl pos (join _ (inner x1 _ h1 b1) (last _ (carried_type old x2 _ h2 b2))))))
 carried_operation old d inner operation.AsInstanceOf p pos y text h b = step h b (λ x1 f1 k1 h1 b1 h b. step h b (λ x2 f2 k2 h2 b2 h b. subst (TreeCarried old (suc d)) (sym h.is) (head d 29 (Operation operation.AsInstanceOf) p _ (omega arith) refl pos (join _ (inner x1 _ h1 b1) (last _ (carried_type old x2 _ h2 b2))))))
+
 carried_form : (old : Tables) (d : ℕ) (inner : Inner old d) (known : Known old) (tag : Tag) (p : Position) → PositionCarried old p → (y : Term) (text : List ℕ) → IsForm (IsTree d old) old tag p y text → AreBytes text → TreeCarried old (suc d) y
 carried_form old d inner known (Leaf tag) p pos y text h b = carried_leaf old d tag p pos y text h b
 carried_form old d inner known (Statement tag) p pos y text h b = carried_statement old d inner tag p pos y text h b
@@ -280,4 +283,4 @@ unfolding IsTree
 carried_tree old known zero y text h b = absurd h.never
 carried_tree old known (suc d) y text h b =
     step h b (λ tag f1 k1 h1 b1 h b. step h b (λ p f2 k2 h2 b2 h b.
-      carried_form old d (carried_tree old known d) known tag p (carried_position old p _ h2 b2) y _ h b))
+    carried_form old d (carried_tree old known d) known tag p (carried_position old p _ h2 b2) y _ h b))

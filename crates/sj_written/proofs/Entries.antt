@@ -1,9 +1,9 @@
 -- Tables that hold each entry once.
-use Rattle.std.proofs.Common.{◌≡◌, ℕ, zero, suc, ◌+◌, ◌<◌, ◌≤◌, ◌⊎◌, Bool, true, false, cond, not, ◌||◌, List, [], ◌∷◌, ◌++◌, length, Option, Some, None, slice_get, refl, sym, ap, ◌∙◌, subst, inl, inr, true≢false, append_assoc, append-nil, one-add, arith}
+use Rattle.std.proofs.Common.{◌≡◌, ℕ, zero, suc, ◌+◌, ◌<◌, ◌⊎◌, Bool, true, false, cond, not, ◌||◌, List, [], ◌∷◌, ◌++◌, length, Some, slice_get, refl, sym, ap, ◌∙◌, subst, inl, inr, true≢false, append_assoc, append-nil, one-add, arith}
 use Rattle.std.proofs.lemmas.List.Folds.{list_any-append}
 use Rattle.std.specs.Bool.{Decides}
 use Rattle.std.specs.List.{list_any, IsDistinct, AllByRecursion}
-use Rattle.sj_written.specs.Tables.{with_entry, with_entries, each_once, index_of}
+use Rattle.sj_written.specs.Tables.{with_entry, with_entries, index_of}
 
 or_left : (b c : Bool) → b ≡ true → (b || c) ≡ true
 or_left b c e = ap (λ (d : Bool). d || c) e
@@ -75,8 +75,9 @@ module _ {A : Type 0} (same : A → A → Bool) (decides : (x y : A) → Decides
   entries_have table [] y h = absurd (true≢false (sym h))
   entries_have table (x ∷ xs) y h =
       elim (or_cases (same y x) (list_any (same y) xs) h) [
-        inl e ↦ has_extended _ _ y (entries_extend (with_entry same table x) xs) (subst (λ (z : A). Has (with_entry same table x) z) (sym ((decides y x).0 e)) (entry_has table x))
-      | inr e ↦ entries_have (with_entry same table x) xs y e ]
+        | inl e ↦ has_extended _ _ y (entries_extend (with_entry same table x) xs) (subst (λ (z : A). Has (with_entry same table x) z) (sym ((decides y x).0 e)) (entry_has table x))
+        | inr e ↦ entries_have (with_entry same table x) xs y e
+      ]
 
   pub entries_then : (table xs ys : List A) → with_entries same table (xs ++ ys) ≡ with_entries same (with_entries same table xs) ys
   entries_then table [] ys = refl
@@ -93,15 +94,17 @@ module _ {A : Type 0} (same : A → A → Bool) (decides : (x y : A) → Decides
   came_by table x y true e h = inl (sym (ap (λ (c : Bool). list_any (same y) (cond c table (table ++ x ∷ []))) e) ∙ h)
   came_by table x y false e h =
       elim (has_either table (x ∷ []) y (sym (ap (λ (c : Bool). list_any (same y) (cond c table (table ++ x ∷ []))) e) ∙ h)) [
-        inl f ↦ inl f
-      | inr f ↦ elim (or_cases (same y x) false f) [ inl g ↦ inr g | inr g ↦ absurd (true≢false (sym g)) ] ]
+        | inl f ↦ inl f
+        | inr f ↦ elim (or_cases (same y x) false f) [ inl g ↦ inr g | inr g ↦ absurd (true≢false (sym g)) ]
+      ]
 
   pub entries_came : (table xs : List A) (y : A) → Has (with_entries same table xs) y → Has table y ⊎ Has xs y
   entries_came table [] y h = inl h
   entries_came table (x ∷ xs) y h =
       elim (entries_came (with_entry same table x) xs y h) [
-        inl e ↦ elim (came_by table x y (list_any (same x) table) refl e) [ inl f ↦ inl f | inr f ↦ inr (or_left (same y x) (list_any (same y) xs) f) ]
-      | inr e ↦ inr (or_right (same y x) (list_any (same y) xs) e) ]
+        | inl e ↦ elim (came_by table x y (list_any (same x) table) refl e) [ inl f ↦ inl f | inr f ↦ inr (or_left (same y x) (list_any (same y) xs) f) ]
+        | inr e ↦ inr (or_right (same y x) (list_any (same y) xs) e)
+      ]
 
   apart : (x y : A) → same x y ≡ false → (b : Bool) → same y x ≡ b → same y x ≡ false
   apart x y h true e = absurd (true≢false (sym ((decides x y).1 (sym ((decides y x).0 e))) ∙ h))

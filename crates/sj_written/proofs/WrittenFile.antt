@@ -1,30 +1,28 @@
 -- What a class of a file is written as is a file again.
-use Rattle.std.proofs.Common.{◌≡◌, ℕ, zero, suc, ◌+◌, ◌<◌, ◌≤◌, ◌^◌, ◌⊎◌, ◌↔◌, ◌||◌, Bool, true, false, cond, List, [], ◌∷◌, ◌++◌, length, map, slice_get, get_or, Option, Some, None, refl, sym, ap, ◌∙◌, subst, inl, inr, append_assoc, append-nil, true≢false, lt_of_le_of_lt, arith}
-use Rattle.std.specs.Prelude.{nat_eq, codes}
+use Rattle.std.proofs.Common.{◌≡◌, ℕ, zero, suc, ◌<◌, ◌≤◌, ◌^◌, ◌||◌, Bool, true, false, List, [], ◌∷◌, ◌++◌, length, Option, Some, None, refl, sym, ap, ◌∙◌, subst, inl, inr, append_assoc, append-nil, true≢false, lt_of_le_of_lt, arith}
+use Rattle.std.specs.Prelude.{codes}
 use Rattle.std.specs.Cmp.{IsEquivalence}
-use Rattle.std.specs.Cmp.Lexicographic.{pointwise}
 use Rattle.std.specs.Bool.{Decides}
-use Rattle.std.specs.List.{All, AllByRecursion, list_any, flat_map, IsDistinct}
+use Rattle.std.specs.List.{All, flat_map, IsDistinct}
 use Rattle.std.specs.Str.{is_utf8}
 use Rattle.std.proofs.lemmas.Map.Made.{length-le_from_is_member}
 use Rattle.byteorder.specs.Endian.{big_bytes}
-use Rattle.sj_names.specs.declared.references.ArrayRef.{ArrayRef}
 use Rattle.sj_names.specs.declared.references.BaseRef.{BaseRef}
 use Rattle.sj_names.specs.declared.references.TypeRef.{TypeRef}
 use Rattle.sj_names.specs.declared.method_names.MethodName.{MethodName}
-use Rattle.sj_units.specs.Modified.{modified_units, modified_bytes, IsText as IsUnits, ReadsWhatIsWritten}
+use Rattle.sj_units.specs.Modified.{modified_units, modified_bytes, ReadsWhatIsWritten}
 use Rattle.sj_trees.specs.declared.classes.ClassDef.{ClassDef}
-use Rattle.sj_format.specs.Spelling.{Spelling, ◌then◌, Gives_value, Found, Tested, IsNumber, IsBytes, IsEach, IsList}
+use Rattle.sj_format.specs.Spelling.{Spelling, ◌then◌, Found, Tested, IsNumber, IsBytes, IsEach, IsList}
 use Rattle.sj_format.specs.Tables.{Tables, IsText, IsString}
 use Rattle.sj_format.specs.References.{IsMethodName}
 use Rattle.sj_format.specs.Classes.{IsClass}
 use Rattle.sj_format.specs.Files.{IsMagic, IsVersion, IsTables, IsContents, FileIs}
-use Rattle.sj_written.specs.Fields.{Fields, nothing, number_field, plain_field, name_field, method_field, string_field, file_field, both, ◌▸◌, count, each, list_fields}
+use Rattle.sj_written.specs.Fields.{Fields, nothing, number_field, plain_field, name_field, method_field, string_field, file_field, both, each}
 use Rattle.sj_written.specs.References.{base_fields, reference_fields, result_fields, method_name_fields, names_in_base, names_in_reference, names_in_result, names_in_method}
 use Rattle.sj_written.specs.Classes.{class_fields}
 use Rattle.sj_written.specs.Renumbered.{renumbered_class}
-use Rattle.sj_written.specs.Tables.{same_text, same_method, with_entries, each_once, files_used, names_used, methods_used, strings_used, tables_of}
-use Rattle.sj_written.specs.Written.{spelled, counted_bytes, table_bytes, tables_bytes, header_bytes, written_class}
+use Rattle.sj_written.specs.Tables.{same_text, same_method, each_once, files_used, names_used, methods_used, strings_used, tables_of}
+use Rattle.sj_written.specs.Written.{spelled, counted_bytes, table_bytes, tables_bytes, header_bytes}
 use Rattle.sj_written.specs.Laws.{IsOfSomeFile, IsReadBack, IsTableOf, AreTablesOf, EntriesAreCompared}
 use Rattle.sj_written.proofs.Bytes.{AreBytes, step, number_fits, number_spelled}
 use Rattle.sj_written.proofs.Entries.{Has, has_front, has_back, has_either, has_one, entries_extend, entries_have, entries_came, entries_then, entries_distinct}
@@ -50,11 +48,14 @@ module _ {A : Type 0} (same : A → A → Bool) (decides : (x y : A) → Decides
   each_tells P Fact tells zero xs text h b = subst (λ (ys : List A). (length ys ≡ 0) × ((x : A) → Has same decides ys x → Fact x)) (sym h.is) (refl, λ x has. absurd (true≢false (sym has)))
   each_tells P Fact tells (suc n) xs text h b =
       step h b (λ y f1 k1 h1 b1 h b. step h b (λ ys f2 k2 h2 b2 h b.
-        let rest = each_tells P Fact tells n ys f2 h2 b2 in
-        subst (λ (zs : List A). (length zs ≡ suc n) × ((x : A) → Has same decides zs x → Fact x)) (sym h.is)
-          (ap suc rest.0, λ x has. elim (has_either same decides (y ∷ []) ys x has) [
-            inl one ↦ subst Fact (sym (is_one x y one)) (tells y f1 h1 b1)
-          | inr others ↦ rest.1 x others ])))
+      let rest = each_tells P Fact tells n ys f2 h2 b2 in
+      subst (λ (zs : List A). (length zs ≡ suc n) × ((x : A) → Has same decides zs x → Fact x)) (sym h.is) (
+        ap suc rest.0,
+        λ x has. elim (has_either same decides (y ∷ []) ys x has) [
+          | inl one ↦ subst Fact (sym (is_one x y one)) (tells y f1 h1 b1)
+          | inr others ↦ rest.1 x others
+        ],
+      )))
     where
       is_one : (x y : A) → Has same decides (y ∷ []) x → x ≡ y
       is_one x y one = (decides x y).0 (only (same x y) one)
@@ -68,7 +69,10 @@ module _ {A : Type 0} (same : A → A → Bool) (decides : (x y : A) → Decides
   unfolding IsEach
   each_written P bytes [] all = record { is = refl; nothing = refl }
   each_written P bytes (x ∷ xs) all = record {
-    value = x; front = bytes x; back = flat_map bytes xs; first = all x (has_head x xs);
+    value = x;
+    front = bytes x;
+    back = flat_map bytes xs;
+    first = all x (has_head x xs);
     second = record { value = xs; front = flat_map bytes xs; back = []; first = each_written P bytes xs (λ y h. all y (has_tail x y xs h)); second = record { is = refl; nothing = refl }; parts = sym (append-nil (flat_map bytes xs)) };
     parts = refl;
   }
@@ -245,7 +249,7 @@ covers_method t s m c u =
       u m.simple (has_head same_text text_decides m.simple behind),
       (
         (c.1.0.0, covers_references t s m.params c.1.0.1 (λ x h. u x (has_tail same_text text_decides m.simple x behind (has_front same_text text_decides (flat_map names_in_reference m.params) (names_in_result m.result) x h)))),
-        covers_result t s m.result c.1.1 (λ x h. u x (has_tail same_text text_decides m.simple x behind (has_back same_text text_decides (flat_map names_in_reference m.params) (names_in_result m.result) x h)))
+        covers_result t s m.result c.1.1 (λ x h. u x (has_tail same_text text_decides m.simple x behind (has_back same_text text_decides (flat_map names_in_reference m.params) (names_in_result m.result) x h))),
       ),
     )
 
@@ -257,28 +261,34 @@ counted bytes few = record { value = length bytes; front = big_bytes 4 (length b
 text_again : (x text : List ℕ) → IsText x text → AreBytes text → IsText x (counted_bytes x)
 text_again x text h b =
     step h b (λ n f1 k1 h1 b1 h b. step h b (λ t f2 k2 h2 b2 h b.
-      let test = tested_is (is_utf8 t) t x k2 h in
-      let size : length x ≡ n = ap length (test.1 ∙ h2.same) ∙ h2.count in
-      let few : length x < 256 ^ 4 = subst (λ (m : ℕ). m < 256 ^ 4) (sym size) (number_fits 4 n f1 h1 b1) in
-      record {
-        value = length x; front = big_bytes 4 (length x); back = x; first = number_spelled 4 (length x) few;
-        second = record { value = x; front = x; back = []; first = record { count = refl; same = refl }; second = subst (λ (c : Bool). Tested c x x []) (sym (ap is_utf8 test.1 ∙ test.0)) (record { is = refl; nothing = refl }); parts = sym (append-nil x) };
-        parts = refl;
-      }))
+    let test = tested_is (is_utf8 t) t x k2 h in
+    let size : length x ≡ n = ap length (test.1 ∙ h2.same) ∙ h2.count in
+    let few : length x < 256 ^ 4 = subst (λ (m : ℕ). m < 256 ^ 4) (sym size) (number_fits 4 n f1 h1 b1) in
+    record {
+      value = length x;
+      front = big_bytes 4 (length x);
+      back = x;
+      first = number_spelled 4 (length x) few;
+      second = record { value = x; front = x; back = []; first = record { count = refl; same = refl }; second = subst (λ (c : Bool). Tested c x x []) (sym (ap is_utf8 test.1 ∙ test.0)) (record { is = refl; nothing = refl }); parts = sym (append-nil x) };
+      parts = refl;
+    }))
 
 string_again : ReadsWhatIsWritten → (u text : List ℕ) → IsString u text → AreBytes text → IsString u (counted_bytes (modified_bytes u))
 string_again law u text h b =
     step h b (λ n f1 k1 h1 b1 h b. step h b (λ t f2 k2 h2 b2 h b.
-      let units : modified_units t ≡ Some u = found_is (modified_units t) u k2 h in
-      let back : modified_bytes u ≡ t = ((law t u).0 units).1 in
-      let again : modified_units (modified_bytes u) ≡ Some u = ap modified_units back ∙ units in
-      let size : length (modified_bytes u) ≡ n = ap length (back ∙ h2.same) ∙ h2.count in
-      let few : length (modified_bytes u) < 256 ^ 4 = subst (λ (m : ℕ). m < 256 ^ 4) (sym size) (number_fits 4 n f1 h1 b1) in
-      record {
-        value = length (modified_bytes u); front = big_bytes 4 (length (modified_bytes u)); back = modified_bytes u; first = number_spelled 4 (length (modified_bytes u)) few;
-        second = record { value = modified_bytes u; front = modified_bytes u; back = []; first = record { count = refl; same = refl }; second = subst (λ (o : Option (List ℕ)). Found o u []) (sym again) (record { is = refl; nothing = refl }); parts = sym (append-nil (modified_bytes u)) };
-        parts = refl;
-      }))
+    let units : modified_units t ≡ Some u = found_is (modified_units t) u k2 h in
+    let back : modified_bytes u ≡ t = ((law t u).0 units).1 in
+    let again : modified_units (modified_bytes u) ≡ Some u = ap modified_units back ∙ units in
+    let size : length (modified_bytes u) ≡ n = ap length (back ∙ h2.same) ∙ h2.count in
+    let few : length (modified_bytes u) < 256 ^ 4 = subst (λ (m : ℕ). m < 256 ^ 4) (sym size) (number_fits 4 n f1 h1 b1) in
+    record {
+      value = length (modified_bytes u);
+      front = big_bytes 4 (length (modified_bytes u));
+      back = modified_bytes u;
+      first = number_spelled 4 (length (modified_bytes u)) few;
+      second = record { value = modified_bytes u; front = modified_bytes u; back = []; first = record { count = refl; same = refl }; second = subst (λ (o : Option (List ℕ)). Found o u []) (sym again) (record { is = refl; nothing = refl }); parts = sym (append-nil (modified_bytes u)) };
+      parts = refl;
+    }))
 
 abbrev MethodNameCarried : Tables → MethodName → Type 0
 MethodNameCarried old m = Carried old (λ new text. IsMethodName new.names m text) (λ new. method_name_fields m) (method_name_fields m)
@@ -294,19 +304,19 @@ list_tells : {A : Type 0} (same : A → A → Bool) (decides : (x y : A) → Dec
     → (length xs < 256 ^ 4) × ((x : A) → Has same decides xs x → Fact x)
 list_tells same decides P Fact tells xs text h b =
     step h b (λ n f1 k1 h1 b1 h b.
-      let all = each_tells same decides P Fact tells n xs k1 h b in
-      (subst (λ (m : ℕ). m < 256 ^ 4) (sym all.0) (number_fits 4 n f1 h1 b1), all.1))
+    let all = each_tells same decides P Fact tells n xs k1 h b in
+    (subst (λ (m : ℕ). m < 256 ^ 4) (sym all.0) (number_fits 4 n f1 h1 b1), all.1))
 
 are_old : ReadsWhatIsWritten → (old : Tables) (text : List ℕ) → IsTables old text → AreBytes text → AreOld old
 unfolding IsTables
 are_old law old text h b =
     step h b (λ files f1 k1 h1 b1 h b. step h b (λ names f2 k2 h2 b2 h b. step h b (λ methods f3 k3 h3 b3 h b. step h b (λ strings f4 k4 h4 b4 h b.
-      let t : Tables = record { files = files; names = names; methods = methods; strings = strings } in
-      let fs = list_tells same_text text_decides IsText (λ x. IsText x (counted_bytes x)) text_again files f1 h1 b1 in
-      let ns = list_tells same_text text_decides IsText (λ x. IsText x (counted_bytes x)) text_again names f2 h2 b2 in
-      let ms = list_tells same_method method_decides (IsMethodName names) (MethodNameCarried t) (λ m text h b. carried_method_name t m text h b) methods f3 h3 b3 in
-      let ss = list_tells same_text text_decides IsString (λ u. IsString u (counted_bytes (modified_bytes u))) (string_again law) strings f4 h4 b4 in
-      subst AreOld (sym h.is) (record { fit = record { files = fs.0; names = ns.0; methods = ms.0; strings = ss.0 }; files = fs.1; names = ns.1; methods = ms.1; strings = ss.1 })))))
+    let t : Tables = record { files = files; names = names; methods = methods; strings = strings } in
+    let fs = list_tells same_text text_decides IsText (λ x. IsText x (counted_bytes x)) text_again files f1 h1 b1 in
+    let ns = list_tells same_text text_decides IsText (λ x. IsText x (counted_bytes x)) text_again names f2 h2 b2 in
+    let ms = list_tells same_method method_decides (IsMethodName names) (MethodNameCarried t) (λ m text h b. carried_method_name t m text h b) methods f3 h3 b3 in
+    let ss = list_tells same_text text_decides IsString (λ u. IsString u (counted_bytes (modified_bytes u))) (string_again law) strings f4 h4 b4 in
+    subst AreOld (sym h.is) (record { fit = record { files = fs.0; names = ns.0; methods = ms.0; strings = ss.0 }; files = fs.1; names = ns.1; methods = ms.1; strings = ss.1 })))))
 
 known : (old : Tables) → AreOld old → Known old
 known old are m h x g = (uses_inside old (method_name_fields m) (are.methods m h).inside).1 x (subst (λ (l : List (List ℕ)). HasText l x) (sym (method_names m)) g)
@@ -344,8 +354,9 @@ own_names (string_field u) m h x g = no_method m h
 own_names (file_field None) m h x g = no_method m h
 own_names (file_field (Some text)) m h x g = no_method m h
 own_names (both fs gs) m h x g = elim (has_either same_method method_decides (methods_used fs) (methods_used gs) m h) [
-    inl e ↦ has_front same_text text_decides (names_used fs) (names_used gs) x (own_names fs m e x g)
-  | inr e ↦ has_back same_text text_decides (names_used fs) (names_used gs) x (own_names gs m e x g) ]
+  | inl e ↦ has_front same_text text_decides (names_used fs) (names_used gs) x (own_names fs m e x g)
+  | inr e ↦ has_back same_text text_decides (names_used fs) (names_used gs) x (own_names gs m e x g)
+]
 
 tables_spelled : (new : Tables) → IsList IsText new.files (table_bytes counted_bytes new.files) → IsList IsText new.names (table_bytes counted_bytes new.names)
     → IsList (IsMethodName new.names) new.methods (table_bytes (λ m. spelled new (method_name_fields m)) new.methods) → IsList IsString new.strings (table_bytes (λ u. counted_bytes (modified_bytes u)) new.strings) → IsTables new (tables_bytes new)
@@ -356,11 +367,23 @@ tables_spelled new files names methods strings =
     let methods_text = table_bytes (λ m. spelled new (method_name_fields m)) new.methods in
     let strings_text = table_bytes (λ u. counted_bytes (modified_bytes u)) new.strings in
     record {
-      value = new.files; front = files_text; back = names_text ++ (methods_text ++ strings_text); first = files; parts = append_assoc (files_text ++ names_text) methods_text strings_text ∙ append_assoc files_text names_text (methods_text ++ strings_text);
+      value = new.files;
+      front = files_text;
+      back = names_text ++ (methods_text ++ strings_text);
+      first = files;
+      parts = append_assoc (files_text ++ names_text) methods_text strings_text ∙ append_assoc files_text names_text (methods_text ++ strings_text);
       second = record {
-        value = new.names; front = names_text; back = methods_text ++ strings_text; first = names; parts = refl;
+        value = new.names;
+        front = names_text;
+        back = methods_text ++ strings_text;
+        first = names;
+        parts = refl;
         second = record {
-          value = new.methods; front = methods_text; back = strings_text; first = methods; parts = refl;
+          value = new.methods;
+          front = methods_text;
+          back = strings_text;
+          first = methods;
+          parts = refl;
           second = record { value = new.strings; front = strings_text; back = []; first = strings; second = record { is = refl; nothing = refl }; parts = sym (append-nil strings_text) };
         };
       };
@@ -370,13 +393,13 @@ new_tables : (old : Tables) (fs : Fields) → AreOld old → IsIn old fs → IsT
 new_tables old fs are u =
     let fit = new_fit old fs are.fit u in
     tables_spelled (tables_of fs)
-      (list_written same_text text_decides IsText counted_bytes (tables_of fs).files fit.files (λ x h. are.files x (u.0 x (once_came same_text text_decides (files_used fs) x h))))
-      (list_written same_text text_decides IsText counted_bytes (tables_of fs).names fit.names (λ x h. are.names x (u.1 x (once_came same_text text_decides (names_used fs) x h))))
-      (list_written same_method method_decides (IsMethodName (tables_of fs).names) (λ m. spelled (tables_of fs) (method_name_fields m)) (tables_of fs).methods fit.methods (λ m h.
-        let used = once_came same_method method_decides (methods_used fs) m h in
-        let carried = are.methods m (u.2 m used) in
-        carried.again (tables_of fs) fit (covers_method old (tables_of fs) m carried.inside (λ x g. (new_in fs).1 x (own_names fs m used x g)))))
-      (list_written same_text text_decides IsString (λ v. counted_bytes (modified_bytes v)) (tables_of fs).strings fit.strings (λ v h. are.strings v (u.3 v (once_came same_text text_decides (strings_used fs) v h))))
+    (list_written same_text text_decides IsText counted_bytes (tables_of fs).files fit.files (λ x h. are.files x (u.0 x (once_came same_text text_decides (files_used fs) x h))))
+    (list_written same_text text_decides IsText counted_bytes (tables_of fs).names fit.names (λ x h. are.names x (u.1 x (once_came same_text text_decides (names_used fs) x h))))
+    (list_written same_method method_decides (IsMethodName (tables_of fs).names) (λ m. spelled (tables_of fs) (method_name_fields m)) (tables_of fs).methods fit.methods (λ m h.
+    let used = once_came same_method method_decides (methods_used fs) m h in
+    let carried = are.methods m (u.2 m used) in
+    carried.again (tables_of fs) fit (covers_method old (tables_of fs) m carried.inside (λ x g. (new_in fs).1 x (own_names fs m used x g)))))
+    (list_written same_text text_decides IsString (λ v. counted_bytes (modified_bytes v)) (tables_of fs).strings fit.strings (λ v h. are.strings v (u.3 v (once_came same_text text_decides (strings_used fs) v h))))
 
 -- ---- the file
 
@@ -385,7 +408,9 @@ is_magic = record { value = 0xCAFE4A53; front = big_bytes 4 0xCAFE4A53; back = [
 
 is_version : IsVersion (codes "1.0-i1") (big_bytes 2 6 ++ codes "1.0-i1")
 is_version = record {
-  value = codes "1.0-i1"; front = big_bytes 2 6 ++ codes "1.0-i1"; back = [];
+  value = codes "1.0-i1";
+  front = big_bytes 2 6 ++ codes "1.0-i1";
+  back = [];
   first = record { value = 6; front = big_bytes 2 6; back = codes "1.0-i1"; first = number_spelled 2 6 (omega arith); second = record { count = refl; same = refl }; parts = refl };
   second = record { is = refl; nothing = refl };
   parts = sym (append-nil (big_bytes 2 6 ++ codes "1.0-i1"));
@@ -397,9 +422,16 @@ contents tables class text ts c =
     let behind = tables_bytes tables ++ text in
     let version = big_bytes 2 6 ++ codes "1.0-i1" in
     record {
-      value = 0xCAFE4A53; front = big_bytes 4 0xCAFE4A53; back = version ++ behind; first = is_magic;
+      value = 0xCAFE4A53;
+      front = big_bytes 4 0xCAFE4A53;
+      back = version ++ behind;
+      first = is_magic;
       second = record {
-        value = codes "1.0-i1"; front = version; back = behind; first = is_version; parts = refl;
+        value = codes "1.0-i1";
+        front = version;
+        back = behind;
+        first = is_version;
+        parts = refl;
         second = record { value = tables; front = tables_bytes tables; back = text; first = ts; second = c; parts = refl };
       };
       parts = append_assoc header_bytes (tables_bytes tables) text ∙ ap (λ (l : List ℕ). l ++ behind) (append_assoc (big_bytes 4 0xCAFE4A53) (big_bytes 2 6) (codes "1.0-i1")) ∙ append_assoc (big_bytes 4 0xCAFE4A53) version behind;
@@ -429,9 +461,9 @@ pub opened : ReadsWhatIsWritten → (file : List ℕ) (class : ClassDef) → Are
 unfolding FileIs IsContents
 opened law file class b h =
     step h b (λ magic f1 k1 h1 b1 h b. step h b (λ version f2 k2 h2 b2 h b. step h b (λ tables f3 k3 h3 b3 h b.
-      let are = are_old law tables f3 h3 b3 in
-      let c = carried_class tables (known tables are) class k3 h b in
-      record { old = tables; files = c.0; are = are; carried = c.1 })))
+    let are = are_old law tables f3 h3 b3 in
+    let c = carried_class tables (known tables are) class k3 h b in
+    record { old = tables; files = c.0; are = are; carried = c.1 })))
 
 all_bytes : (bytes : List ℕ) → All (λ b. b < 256) bytes → AreBytes bytes
 all_bytes [] all = tt

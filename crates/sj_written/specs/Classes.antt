@@ -1,5 +1,5 @@
 -- The fields of a class behind the tables: those of the class, then those of its fields, then those of its methods.
-use Rattle.std.specs.Prelude.{ℕ, ◌+◌, List, length, Option}
+use Rattle.std.specs.Prelude.{ℕ, ◌+◌, List, length}
 use Rattle.sj_trees.specs.declared.classes.ParamDef.{ParamDef}
 use Rattle.sj_trees.specs.declared.classes.FieldDef.{FieldDef}
 use Rattle.sj_trees.specs.declared.classes.MethodDef.{MethodDef}

@@ -1,5 +1,5 @@
 -- A class as the fields of its file, one behind the other.
-use Rattle.std.specs.Prelude.{ℕ, zero, ◌+◌, ℤ, Bool, true, false, List, [], ◌∷◌, length, slice_get, Option, Some, None}
+use Rattle.std.specs.Prelude.{ℕ, ℤ, Bool, true, false, List, [], ◌∷◌, length, slice_get, Option, Some, None}
 use Rattle.std.specs.Int.{Width, cast_unsigned}
 use Rattle.sj_names.specs.declared.method_names.MethodName.{MethodName}
 use Rattle.sj_trees.specs.declared.positions.Position.{Position}

@@ -6,7 +6,7 @@ use Rattle.sj_names.specs.declared.references.ArrayRef.{ArrayRef}
 use Rattle.sj_names.specs.declared.references.TypeRef.{TypeRef}
 use Rattle.sj_names.specs.declared.method_names.MethodName.{MethodName}
 use Rattle.sj_trees.specs.declared.types.IrType.{IrType}
-use Rattle.sj_written.specs.Fields.{Fields, number_field, name_field, ◌▸◌, byte, list_fields}
+use Rattle.sj_written.specs.Fields.{Fields, name_field, ◌▸◌, byte, list_fields}
 
 -- the base of an array
 abbrev pub base_fields : BaseRef → Fields

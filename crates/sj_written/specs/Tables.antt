@@ -1,11 +1,11 @@
 -- The tables of a class: each entry once, in the order of first use.
-use Rattle.std.specs.Prelude.{◌≡◌, ◌↔◌, ℕ, Bool, List, [], ◌∷◌, ◌++◌, nat_eq, if◌then◌else◌, Some}
+use Rattle.std.specs.Prelude.{ℕ, Bool, List, [], ◌∷◌, ◌++◌, nat_eq, if◌then◌else◌, Some}
 use Rattle.std.specs.List.{list_any, position_or_len}
 use Rattle.std.specs.Cmp.Lexicographic.{pointwise}
 use Rattle.sj_names.specs.declared.method_names.MethodName.{MethodName}
 use Rattle.sj_names.specs.contracts.method_names.MethodNamePartialEq.TheImpl as method_eq
 use Rattle.sj_format.specs.Tables.{Tables}
-use Rattle.sj_written.specs.Fields.{Fields, nothing, number_field, plain_field, name_field, method_field, string_field, file_field, both}
+use Rattle.sj_written.specs.Fields.{Fields, name_field, method_field, string_field, file_field, both}
 use Rattle.sj_written.specs.References.{names_in_method}
 
 -- whether two texts, or two strings, are one

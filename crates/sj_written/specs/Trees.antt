@@ -1,8 +1,7 @@
 -- The fields of trees: a tag, a position, and the parts of the form in order.
-use Rattle.std.specs.Prelude.{ℕ, suc, ◌+◌, ℤ, List}
+use Rattle.std.specs.Prelude.{ℕ, suc, ℤ, List}
 use Rattle.std.specs.Int.{w8, w16, w32, w64}
 use Rattle.sj_names.specs.declared.method_names.Namespace.{Namespace}
-use Rattle.sj_trees.specs.declared.positions.Position.{Position}
 use Rattle.sj_trees.specs.Operators.{unary_code, binary_code}
 use Rattle.sj_trees.specs.Term.{Term, Terms, Cases, no_terms, more_terms, no_cases, more_cases, var_def, skip, block_of, labeled, assign, return_to, if_then, while_loop, do_while, try_catch, try_finally, throw, match_on, new_object, load_module, store_module, select, select_static, apply, apply_statically, apply_static, unary_op, binary_op, new_array, array_value, array_length, array_select, is_instance_of, as_instance_of, undefined_literal, null_literal, boolean_literal, char_literal, byte_literal, short_literal, int_literal, long_literal, string_literal, var_ref, this_ref, log_line}
 use Rattle.sj_written.specs.Fields.{Fields, nothing, number_field, name_field, method_field, string_field, ◌▸◌, byte, mark, signed, count, list_fields, position_fields}

@@ -2,11 +2,12 @@
 //! as, spelled in the same way.
 #![tactic(auto)]
 
-use anyhow::{Result, anyhow};
+use anyhow::Result;
 use sj_names::Meter;
 use sj_read::read_class;
 use sj_write::write_class;
 
+#[tactic(auto, using(std::proofs::lemmas::Grind::common_steps, crate::proofs::Files::reading))]
 fn main(rt: HostRuntime) -> Result<()> {
     let alloc = rt.alloc();
     for line in rt.lines(alloc) {
