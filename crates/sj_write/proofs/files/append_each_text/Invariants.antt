@@ -1,0 +1,8 @@
+use Rattle.std.proofs.Common.{◌≡◌, ◌++◌, drop}
+use Rattle.std.specs.List.{flat_map}
+use Rattle.sj_units.specs.Modified.{modified_bytes}
+use Rattle.sj_written.specs.Written.{counted_bytes}
+use Rattle.sj_write.proofs.files.append_each_text.Given as goal
+
+abbrev pub invariant-loop-each : goal.invariant-loop-each
+invariant-loop-each l = l.file.items ++ flat_map counted_bytes (drop l.each-index l.texts) ≡ l.initial.file.items ++ flat_map counted_bytes l.texts

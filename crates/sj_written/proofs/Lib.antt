@@ -1,0 +1,9 @@
+pub mod Entries
+pub mod Same
+pub mod Bytes
+pub mod Carry
+pub mod CarryLists
+pub mod CarryNames
+pub mod CarryTrees
+pub mod CarryClasses
+pub mod WrittenFile
