@@ -1,13 +1,14 @@
 // Class files.
-ghost use Rattle.std.specs.Prelude.{◌≡◌, ◌++◌, OnOk, IfOk, map, length};
+ghost use Rattle.std.specs.Prelude.{◌≡◌, [], ◌++◌, OnOk, IfOk, map, length};
 ghost use Rattle.std.specs.List.{flat_map};
 ghost use Rattle.byteorder.specs.Endian.{big_bytes};
 ghost use Rattle.sj_units.specs.Modified.{modified_bytes};
 ghost use Rattle.sj_written.specs.Fields.{list_fields};
 ghost use Rattle.sj_written.specs.References.{method_name_fields};
+ghost use Rattle.sj_written.specs.Classes.{class_fields};
 ghost use Rattle.sj_written.specs.Written.{header_bytes, counted_bytes, table_bytes, written_class};
 ghost use Rattle.sj_written.specs.Laws.{IsOfSomeFile};
-ghost use Rattle.sj_write.specs.Writing.{Writing, put, knowing, finished, HasFiles};
+ghost use Rattle.sj_write.specs.Writing.{put, unwritten, knowing, finished, HasFiles};
 
 use crate::entries::StringEntry;
 use crate::numbers::{append, append_count, append_number, append_short};
@@ -27,15 +28,30 @@ const VERSION: &str = "1.0-i1";
 /// The file that a class is written as, for the class of some file: the header, the tables of what the class uses, each entry
 /// once and in the order of first use, and the class with its fields in front of its methods. The hashes of methods are kept.
 /// Numbers are big-endian. `NoMemory` where no memory is left.
-#[tactic(auto, using(std::proofs::lemmas::Grind::common_steps, crate::proofs::Put::writing))]
 pub fn write_class(alloc: Global, c: &ClassDef) -> Result<Vec<u8>, NoMemory>
     requires { IsOfSomeFile c.now }
     ensures { IfOk result (λ file. file.items ≡ written_class c.now) }
 {
+    let written = class_written(alloc, c)?;
+    file_of(alloc, written)
+}
+
+// What is written of the class behind the tables, with what it uses.
+fn class_written(alloc: Global, c: &ClassDef) -> Result<ClassWriter, NoMemory>
+    requires { HasFiles (class_fields c.now) }
+    ensures { IfOk result (λ written. written ≡ put (class_fields c.now) unwritten) }
+{
     let mut writer = ClassWriter::new(alloc);
     writer.class(c)?;
+    Ok(writer)
+}
+
+// The file with what is written.
+fn file_of(alloc: Global, written: ClassWriter) -> Result<Vec<u8>, NoMemory>
+    ensures { IfOk result (λ file. file.items ≡ finished [] written) }
+{
     let mut file = Vec::new(alloc);
-    append_file(alloc, &mut file, writer)?;
+    append_file(alloc, &mut file, written)?;
     Ok(file)
 }
 
