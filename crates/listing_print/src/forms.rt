@@ -6,7 +6,7 @@ ghost use Rattle.listing_spelling.specs.Texts.{◌▹◌, put_end, put_form, put
 
 use crate::parts::{integer_part, mark_part, name_part, natural_part, text_part, type_part};
 use crate::writing::append;
-use sj_names::NoMemory;
+use sj_names::{ClassName, FieldName, LocalName, NoMemory};
 use sj_trees::IrType;
 use sj_units::Units;
 use std::alloc::Global;
@@ -28,11 +28,15 @@ pub(crate) fn append_alone(out: &mut Vec<u8>, word: &str) -> Result<(), NoMemory
 }
 
 /// Appends a form of a class.
-pub(crate) fn append_class_form(out: &mut Vec<u8>, word: &str, class: &str) -> Result<(), NoMemory>
+pub(crate) fn append_class_form(
+    out: &mut Vec<u8>,
+    word: &str,
+    class: &ClassName,
+) -> Result<(), NoMemory>
     ensures { OnOk result (out.new.items ≡ put_form word.now (put_name class.now ▹ put_end) out.old.items) }
 {
     open(out, word)?;
-    name_part(out, class)?;
+    name_part(out, class.text())?;
     append(out, ")")
 }
 
@@ -41,15 +45,15 @@ pub(crate) fn append_static_field(
     out: &mut Vec<u8>,
     alloc: Global,
     word: &str,
-    class: &str,
-    field: &str,
+    class: &ClassName,
+    field: &FieldName,
     tpe: &IrType,
 ) -> Result<(), NoMemory>
     ensures { OnOk result (out.new.items ≡ put_form word.now (put_name class.now ▹ put_name field.now ▹ put_type tpe.now ▹ put_end) out.old.items) }
 {
     open(out, word)?;
-    name_part(out, class)?;
-    name_part(out, field)?;
+    name_part(out, class.text())?;
+    name_part(out, field.text())?;
     type_part(out, alloc, tpe)?;
     append(out, ")")
 }
@@ -60,32 +64,6 @@ pub(crate) fn append_mark_form(out: &mut Vec<u8>, word: &str, mark: bool) -> Res
 {
     open(out, word)?;
     mark_part(out, mark)?;
-    append(out, ")")
-}
-
-/// Appends a form of a number that isn't negative.
-pub(crate) fn append_natural_form(
-    out: &mut Vec<u8>,
-    word: &str,
-    number: u64,
-) -> Result<(), NoMemory>
-    ensures { OnOk result (out.new.items ≡ put_form word.now (put_natural number ▹ put_end) out.old.items) }
-{
-    open(out, word)?;
-    natural_part(out, number)?;
-    append(out, ")")
-}
-
-/// Appends a form of a number.
-pub(crate) fn append_integer_form(
-    out: &mut Vec<u8>,
-    word: &str,
-    number: i64,
-) -> Result<(), NoMemory>
-    ensures { OnOk result (out.new.items ≡ put_form word.now (put_integer number ▹ put_end) out.old.items) }
-{
-    open(out, word)?;
-    integer_part(out, number)?;
     append(out, ")")
 }
 
@@ -103,13 +81,13 @@ pub(crate) fn append_typed_name(
     out: &mut Vec<u8>,
     alloc: Global,
     word: &str,
-    name: &str,
+    name: &LocalName,
     tpe: &IrType,
 ) -> Result<(), NoMemory>
     ensures { OnOk result (out.new.items ≡ put_form word.now (put_name name.now ▹ put_type tpe.now ▹ put_end) out.old.items) }
 {
     open(out, word)?;
-    name_part(out, name)?;
+    name_part(out, name.text())?;
     type_part(out, alloc, tpe)?;
     append(out, ")")
 }
@@ -125,5 +103,50 @@ pub(crate) fn append_type_form(
 {
     open(out, word)?;
     type_part(out, alloc, tpe)?;
+    append(out, ")")
+}
+
+/// Appends a 16-bit unit.
+pub(crate) fn append_char(out: &mut Vec<u8>, unit: u16) -> Result<(), NoMemory>
+    ensures { OnOk result (out.new.items ≡ put_form (codes "CharLiteral") (put_natural unit ▹ put_end) out.old.items) }
+{
+    open(out, "CharLiteral")?;
+    natural_part(out, u64::from(unit))?;
+    append(out, ")")
+}
+
+/// Appends a number of 8 bits.
+pub(crate) fn append_byte(out: &mut Vec<u8>, number: i8) -> Result<(), NoMemory>
+    ensures { OnOk result (out.new.items ≡ put_form (codes "ByteLiteral") (put_integer number ▹ put_end) out.old.items) }
+{
+    open(out, "ByteLiteral")?;
+    integer_part(out, i64::from(number))?;
+    append(out, ")")
+}
+
+/// Appends a number of 16 bits.
+pub(crate) fn append_short(out: &mut Vec<u8>, number: i16) -> Result<(), NoMemory>
+    ensures { OnOk result (out.new.items ≡ put_form (codes "ShortLiteral") (put_integer number ▹ put_end) out.old.items) }
+{
+    open(out, "ShortLiteral")?;
+    integer_part(out, i64::from(number))?;
+    append(out, ")")
+}
+
+/// Appends a number of 32 bits.
+pub(crate) fn append_int(out: &mut Vec<u8>, number: i32) -> Result<(), NoMemory>
+    ensures { OnOk result (out.new.items ≡ put_form (codes "IntLiteral") (put_integer number ▹ put_end) out.old.items) }
+{
+    open(out, "IntLiteral")?;
+    integer_part(out, i64::from(number))?;
+    append(out, ")")
+}
+
+/// Appends a number of 64 bits.
+pub(crate) fn append_long(out: &mut Vec<u8>, number: i64) -> Result<(), NoMemory>
+    ensures { OnOk result (out.new.items ≡ put_form (codes "LongLiteral") (put_integer number ▹ put_end) out.old.items) }
+{
+    open(out, "LongLiteral")?;
+    integer_part(out, number)?;
     append(out, ")")
 }

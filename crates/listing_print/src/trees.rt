@@ -5,15 +5,18 @@ ghost use Rattle.sj_trees.specs.View.{view, terms_view, cases_view};
 ghost use Rattle.listing_spelling.specs.Texts.{◌▹◌, put_end, put_form, put_bracketed, put_list, put_name, put_method_name, put_array, put_mark, put_integer, put_unary_op, put_binary_op, put_namespace, put_type, put_tree, put_trees, put_more_trees, put_cases, put_more_cases};
 
 use crate::forms::{
-    append_alone, append_class_form, append_integer_form, append_mark_form, append_natural_form,
-    append_static_field, append_text_form, append_type_form, append_typed_name, open,
+    append_alone, append_byte, append_char, append_class_form, append_int, append_long,
+    append_mark_form, append_short, append_static_field, append_text_form, append_type_form,
+    append_typed_name, open,
 };
 use crate::parts::{
     array_part, binary_part, mark_part, method_part, name_part, namespace_part, type_part,
     unary_part,
 };
 use crate::writing::{append, append_integer};
-use sj_names::{ArrayRef, MethodName, Namespace, NoMemory};
+use sj_names::{
+    ArrayRef, ClassName, FieldName, LabelName, LocalName, MethodName, Namespace, NoMemory,
+};
 use sj_trees::{BinaryOp, IrType, MatchCase, Tree, UnaryOp};
 use std::alloc::Global;
 
@@ -132,7 +135,7 @@ fn append_definition(
     out: &mut Vec<u8>,
     alloc: Global,
     word: &str,
-    name: &str,
+    name: &LocalName,
     tpe: &IrType,
     mark: bool,
     value: &Tree,
@@ -140,7 +143,7 @@ fn append_definition(
     ensures { OnOk result (out.new.items ≡ put_form word.now (put_name name.now ▹ put_type tpe.now ▹ put_mark mark ▹ put_tree (view value.now) ▹ put_end) out.old.items) }
 {
     open(out, word)?;
-    name_part(out, name)?;
+    name_part(out, name.text())?;
     type_part(out, alloc, tpe)?;
     mark_part(out, mark)?;
     tree_part(out, alloc, value)?;
@@ -163,14 +166,14 @@ fn append_named_block(
     out: &mut Vec<u8>,
     alloc: Global,
     word: &str,
-    name: &str,
+    name: &LabelName,
     tpe: &IrType,
     body: &Tree,
 ) -> Result<(), NoMemory>
     ensures { OnOk result (out.new.items ≡ put_form word.now (put_name name.now ▹ put_type tpe.now ▹ put_tree (view body.now) ▹ put_end) out.old.items) }
 {
     open(out, word)?;
-    name_part(out, name)?;
+    name_part(out, name.text())?;
     type_part(out, alloc, tpe)?;
     tree_part(out, alloc, body)?;
     append(out, ")")
@@ -183,13 +186,13 @@ fn append_jump(
     alloc: Global,
     word: &str,
     value: &Tree,
-    name: &str,
+    name: &LabelName,
 ) -> Result<(), NoMemory>
     ensures { OnOk result (out.new.items ≡ put_form word.now (put_tree (view value.now) ▹ put_name name.now ▹ put_end) out.old.items) }
 {
     open(out, word)?;
     tree_part(out, alloc, value)?;
-    name_part(out, name)?;
+    name_part(out, name.text())?;
     append(out, ")")
 }
 
@@ -209,14 +212,14 @@ fn append_new(
     out: &mut Vec<u8>,
     alloc: Global,
     word: &str,
-    class: &str,
+    class: &ClassName,
     method: &MethodName,
     arguments: &[Tree],
 ) -> Result<(), NoMemory>
     ensures { OnOk result (out.new.items ≡ put_form word.now (put_name class.now ▹ put_method_name method.now ▹ put_bracketed (put_trees (terms_view arguments.now)) ▹ put_end) out.old.items) }
 {
     open(out, word)?;
-    name_part(out, class)?;
+    name_part(out, class.text())?;
     method_part(out, alloc, method)?;
     trees_part(out, alloc, arguments)?;
     append(out, ")")
@@ -228,13 +231,13 @@ fn append_class_and_tree(
     out: &mut Vec<u8>,
     alloc: Global,
     word: &str,
-    class: &str,
+    class: &ClassName,
     value: &Tree,
 ) -> Result<(), NoMemory>
     ensures { OnOk result (out.new.items ≡ put_form word.now (put_name class.now ▹ put_tree (view value.now) ▹ put_end) out.old.items) }
 {
     open(out, word)?;
-    name_part(out, class)?;
+    name_part(out, class.text())?;
     tree_part(out, alloc, value)?;
     append(out, ")")
 }
@@ -246,16 +249,16 @@ fn append_field_of(
     alloc: Global,
     word: &str,
     object: &Tree,
-    class: &str,
-    field: &str,
+    class: &ClassName,
+    field: &FieldName,
     tpe: &IrType,
 ) -> Result<(), NoMemory>
     ensures { OnOk result (out.new.items ≡ put_form word.now (put_tree (view object.now) ▹ put_name class.now ▹ put_name field.now ▹ put_type tpe.now ▹ put_end) out.old.items) }
 {
     open(out, word)?;
     tree_part(out, alloc, object)?;
-    name_part(out, class)?;
-    name_part(out, field)?;
+    name_part(out, class.text())?;
+    name_part(out, field.text())?;
     type_part(out, alloc, tpe)?;
     append(out, ")")
 }
@@ -266,7 +269,7 @@ fn append_static_call(
     out: &mut Vec<u8>,
     alloc: Global,
     word: &str,
-    class: &str,
+    class: &ClassName,
     namespace: Namespace,
     method: &MethodName,
     arguments: &[Tree],
@@ -275,12 +278,7 @@ fn append_static_call(
     ensures { OnOk result (out.new.items ≡ put_form word.now (put_name class.now ▹ put_namespace namespace ▹ put_method_name method.now ▹ put_bracketed (put_trees (terms_view arguments.now)) ▹ put_type tpe.now ▹ put_end) out.old.items) }
 {
     open(out, word)?;
-    name_part(out, class)?;
-    namespace_part(out, namespace)?;
-    method_part(out, alloc, method)?;
-    trees_part(out, alloc, arguments)?;
-    type_part(out, alloc, tpe)?;
-    append(out, ")")
+    last_static_call(out, alloc, class, namespace, method, arguments, tpe)
 }
 
 /// Appends a form of an operator and its operand.
@@ -401,6 +399,24 @@ fn last_call(
     append(out, ")")
 }
 
+/// Appends a class, a namespace, a method, its arguments, the type of the call and `)`.
+#[cycle(trees)]
+fn last_static_call(
+    out: &mut Vec<u8>,
+    alloc: Global,
+    class: &ClassName,
+    namespace: Namespace,
+    method: &MethodName,
+    arguments: &[Tree],
+    tpe: &IrType,
+) -> Result<(), NoMemory>
+    ensures { OnOk result (out.new.items ≡ (put_name class.now ▹ put_namespace namespace ▹ put_method_name method.now ▹ put_bracketed (put_trees (terms_view arguments.now)) ▹ put_type tpe.now ▹ put_end) out.old.items) }
+{
+    name_part(out, class.text())?;
+    namespace_part(out, namespace)?;
+    last_call(out, alloc, method, arguments, tpe)
+}
+
 /// Appends a tree: its form and its parts, in parentheses.
 #[cycle(trees)]
 pub(crate) fn append_tree(out: &mut Vec<u8>, alloc: Global, tree: &Tree) -> Result<(), NoMemory>
@@ -408,29 +424,18 @@ pub(crate) fn append_tree(out: &mut Vec<u8>, alloc: Global, tree: &Tree) -> Resu
 {
     match tree {
         Tree::VarDef(_, name, tpe, mutable, value) => append_definition(
-            out,
-            alloc,
-            "VarDef",
-            name.text(),
-            tpe,
-            *mutable,
-            value,
+            out, alloc, "VarDef", name, tpe, *mutable, value,
         ),
         Tree::Skip(_) => append_alone(out, "Skip"),
         Tree::Block(_, trees) => append_list(out, alloc, "Block", trees),
         Tree::Labeled(_, label, tpe, body) => append_named_block(
-            out,
-            alloc,
-            "Labeled",
-            label.text(),
-            tpe,
-            body,
+            out, alloc, "Labeled", label, tpe, body,
         ),
         Tree::Assign(_, target, value) => {
             first_tree(out, alloc, "Assign", target)?;
             last_tree(out, alloc, value)
         }
-        Tree::Return(_, value, label) => append_jump(out, alloc, "Return", value, label.text()),
+        Tree::Return(_, value, label) => append_jump(out, alloc, "Return", value, label),
         Tree::If(_, condition, consequent, alternative, tpe) => {
             first_tree(out, alloc, "If", condition)?;
             tree_part(out, alloc, consequent)?;
@@ -460,36 +465,25 @@ pub(crate) fn append_tree(out: &mut Vec<u8>, alloc: Global, tree: &Tree) -> Resu
             last_tree_and_type(out, alloc, default, tpe)
         }
         Tree::New(_, class, method, arguments) => append_new(
-            out,
-            alloc,
-            "New",
-            class.text(),
-            method,
-            arguments,
+            out, alloc, "New", class, method, arguments,
         ),
-        Tree::LoadModule(_, class) => append_class_form(out, "LoadModule", class.text()),
+        Tree::LoadModule(_, class) => append_class_form(out, "LoadModule", class),
         Tree::StoreModule(_, class, value) => append_class_and_tree(
             out,
             alloc,
             "StoreModule",
-            class.text(),
+            class,
             value,
         ),
         Tree::Select(_, qualifier, class, field, tpe) => append_field_of(
-            out,
-            alloc,
-            "Select",
-            qualifier,
-            class.text(),
-            field.text(),
-            tpe,
+            out, alloc, "Select", qualifier, class, field, tpe,
         ),
         Tree::SelectStatic(_, class, field, tpe) => append_static_field(
             out,
             alloc,
             "SelectStatic",
-            class.text(),
-            field.text(),
+            class,
+            field,
             tpe,
         ),
         Tree::Apply(_, receiver, method, arguments, tpe) => {
@@ -498,15 +492,13 @@ pub(crate) fn append_tree(out: &mut Vec<u8>, alloc: Global, tree: &Tree) -> Resu
         }
         Tree::ApplyStatically(_, receiver, class, namespace, method, arguments, tpe) => {
             first_tree(out, alloc, "ApplyStatically", receiver)?;
-            name_part(out, class.text())?;
-            namespace_part(out, *namespace)?;
-            last_call(out, alloc, method, arguments, tpe)
+            last_static_call(out, alloc, class, *namespace, method, arguments, tpe)
         }
         Tree::ApplyStatic(_, class, namespace, method, arguments, tpe) => append_static_call(
             out,
             alloc,
             "ApplyStatic",
-            class.text(),
+            class,
             *namespace,
             method,
             arguments,
@@ -539,13 +531,13 @@ pub(crate) fn append_tree(out: &mut Vec<u8>, alloc: Global, tree: &Tree) -> Resu
         Tree::Undefined(_) => append_alone(out, "Undefined"),
         Tree::Null(_) => append_alone(out, "Null"),
         Tree::BooleanLiteral(_, value) => append_mark_form(out, "BooleanLiteral", *value),
-        Tree::CharLiteral(_, value) => append_natural_form(out, "CharLiteral", u64::from(*value)),
-        Tree::ByteLiteral(_, value) => append_integer_form(out, "ByteLiteral", i64::from(*value)),
-        Tree::ShortLiteral(_, value) => append_integer_form(out, "ShortLiteral", i64::from(*value)),
-        Tree::IntLiteral(_, value) => append_integer_form(out, "IntLiteral", i64::from(*value)),
-        Tree::LongLiteral(_, value) => append_integer_form(out, "LongLiteral", *value),
+        Tree::CharLiteral(_, value) => append_char(out, *value),
+        Tree::ByteLiteral(_, value) => append_byte(out, *value),
+        Tree::ShortLiteral(_, value) => append_short(out, *value),
+        Tree::IntLiteral(_, value) => append_int(out, *value),
+        Tree::LongLiteral(_, value) => append_long(out, *value),
         Tree::StringLiteral(_, text) => append_text_form(out, "StringLiteral", text),
-        Tree::VarRef(_, name, tpe) => append_typed_name(out, alloc, "VarRef", name.text(), tpe),
+        Tree::VarRef(_, name, tpe) => append_typed_name(out, alloc, "VarRef", name, tpe),
         Tree::This(_, tpe) => append_type_form(out, alloc, "This", tpe),
         Tree::Log(_, value) => append_single(out, alloc, "Log", value),
     }
