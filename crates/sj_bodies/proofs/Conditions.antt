@@ -1,66 +1,18 @@
--- What is asked of a plain tree where it stands.
-use Rattle.std.proofs.Common.{◌≡◌, ℕ, Bool, true, false, List, [], ◌∷◌, refl, ap, ◌∙◌, ◌⊎◌}
-use Rattle.std.specs.Prelude.{ℤ, pos, ◌≢◌, ◌&&◌, not, FitsSigned, if◌then◌else◌}
-use Rattle.std.specs.Int.{w32}
+-- Where no char stands where another type is expected, nothing is coerced.
+use Rattle.std.proofs.Common.{◌≡◌, Bool, List, [], ◌∷◌, refl, ap}
+use Rattle.std.specs.Prelude.{if◌then◌else◌}
 use Rattle.sj_core.specs.Terms as core
-use Rattle.sj_desugar.specs.Coercions.{is_char, coerced, coerced_arguments}
-use Rattle.sj_desugar.specs.Desugar.{member, types_of}
-use Rattle.sj_names.specs.declared.method_names.Member.{Member}
+use Rattle.sj_desugar.specs.Coercions.{coerced, coerced_arguments}
 use Rattle.sj_names.specs.declared.references.TypeRef.{TypeRef}
-use Rattle.sj_trees.specs.Term.{Term, Terms, no_terms, more_terms, if_then, apply_static, unary_op, binary_op, undefined_literal, null_literal, boolean_literal, byte_literal, short_literal, int_literal, string_literal, var_ref}
-use Rattle.sj_trees.specs.TypeOf.{type_of_term}
 use Rattle.sj_trees.specs.Types.{reference_type}
-use Rattle.sj_trees.specs.declared.operators.BinaryOp.{BinaryOp}
-use Rattle.sj_trees.specs.declared.operators.BinaryOp.TheVariants.{IntDivide, IntRemainder}
 use Rattle.sj_trees.specs.declared.types.IrType.{IrType}
-use Rattle.sj_bodies.proofs.Operators.{is_simple}
-use Rattle.sj_bodies.proofs.Templates.{is_simple_unary}
-
--- no char stands where another type is expected
-abbrev pub NoBox : IrType → IrType → Type 0
-NoBox expected own = (is_char own && not (is_char expected)) ≡ false
+use Rattle.sj_bodies.specs.Conditions.{NoBox, NoBoxes}
 
 pub coerced-same : (expected own : IrType) (e : core.Expression) → NoBox expected own → coerced expected own e ≡ e
 coerced-same expected own e h = ap (λ (b : Bool). if b then core.boxed_char e else e) h
-
-abbrev pub NoBoxes : List TypeRef → List IrType → Type 0
-NoBoxes (r ∷ rs) (t ∷ ts) = NoBox (reference_type r) t × NoBoxes rs ts
-NoBoxes _ _ = Unit {0}
 
 pub arguments-same : (rs : List TypeRef) (ts : List IrType) (es : List core.Expression) → NoBoxes rs ts → coerced_arguments rs ts es ≡ es
 arguments-same [] ts es h = refl
 arguments-same (r ∷ rs) [] es h = refl
 arguments-same (r ∷ rs) (t ∷ ts) [] h = refl
 arguments-same (r ∷ rs) (t ∷ ts) (e ∷ es) h = λ i. coerced-same (reference_type r) t e h.0 i ∷ arguments-same rs ts es h.1 i
-
-pub data IsDivision : BinaryOp → Type 0 where
-  a_quotient : IsDivision IntDivide
-  a_remainder : IsDivision IntRemainder
-
--- a literal other than zero
-pub data IsDivisor : Term → Type 0 where
-  divisor : (p : _) (z : ℤ) → FitsSigned w32 z → z ≢ pos 0 → IsDivisor (int_literal p z)
-
--- the members that are linked, and the locals in scope
-module _ (is_linked : Member → Bool) (scope : List ℕ → Type 0) where
-  abbrev mutual
-    -- a plain tree of the forms that are built, whose locals are in scope, whose calls are of linked members, whose literals are of their types, and
-    -- in which no char stands where another type is expected
-    pub Plain : Term → Type 0
-    Plain (if_then p c a b t) = Plain c × Plain a × Plain b × NoBox t (type_of_term a) × NoBox t (type_of_term b)
-    Plain (apply_static p c n m ts t) = (is_linked (member c n m) ≡ true) × NoBoxes m.params (types_of ts) × AllPlain ts
-    Plain (unary_op p o e) = (is_simple_unary o ≡ true) × Plain e
-    Plain (binary_op p o e d) = ((is_simple o ≡ true) × Plain e × Plain d) ⊎ (IsDivision o × Plain e × IsDivisor d)
-    Plain (undefined_literal p) = Unit {0}
-    Plain (null_literal p) = Unit {0}
-    Plain (boolean_literal p b) = Unit {0}
-    Plain (byte_literal p z) = FitsSigned w32 z
-    Plain (short_literal p z) = FitsSigned w32 z
-    Plain (int_literal p z) = FitsSigned w32 z
-    Plain (string_literal p us) = Unit {0}
-    Plain (var_ref p x t) = scope x
-    Plain _ = ⊥
-
-    pub AllPlain : Terms → Type 0
-    AllPlain no_terms = Unit {0}
-    AllPlain (more_terms t ts) = Plain t × AllPlain ts

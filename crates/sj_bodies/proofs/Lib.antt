@@ -2,6 +2,5 @@ pub mod Conditions
 pub mod Operators
 pub mod Orders
 pub mod Plain
-pub mod Settings
 pub mod Templates
 pub mod Worlds

@@ -21,6 +21,7 @@ use Rattle.js_mean.specs.States as js
 use Rattle.js_tree.specs.declared.operators.BinaryOperator.TheVariants as Op
 use Rattle.sj_trees.specs.declared.operators.BinaryOp.{BinaryOp}
 use Rattle.sj_trees.specs.declared.operators.BinaryOp.TheVariants.{BooleanEqual, BooleanNotEqual, BooleanOr, BooleanAnd, IntAdd, IntSubtract, IntMultiply, IntDivide, IntRemainder, IntOr, IntAnd, IntXor, IntShiftLeft, IntShiftRightLogical, IntShiftRightArithmetic, IntEqual, IntNotEqual, IntLess, IntLessOrEqual, IntGreater, IntGreaterOrEqual}
+use Rattle.sj_bodies.specs.Conditions.{is_simple}
 use Rattle.sj_bodies.proofs.Worlds.{World, SameValue, same_boolean, same_number}
 
 pub same-boolean : (a b : Bool) → js_operators.is_same_boolean a b ≡ ir_operators.is_same_boolean a b
@@ -102,29 +103,6 @@ template_value IntLessOrEqual v w = js_operators.binary_value Op.LessOrEqual v w
 template_value IntGreater v w = js_operators.binary_value Op.Greater v w
 template_value IntGreaterOrEqual v w = js_operators.binary_value Op.GreaterOrEqual v w
 template_value _ v w = None
-
--- the operators that are built, but for division
-abbrev pub is_simple : BinaryOp → Bool
-is_simple BooleanEqual = true
-is_simple BooleanNotEqual = true
-is_simple BooleanOr = true
-is_simple BooleanAnd = true
-is_simple IntAdd = true
-is_simple IntSubtract = true
-is_simple IntMultiply = true
-is_simple IntOr = true
-is_simple IntAnd = true
-is_simple IntXor = true
-is_simple IntShiftLeft = true
-is_simple IntShiftRightLogical = true
-is_simple IntShiftRightArithmetic = true
-is_simple IntEqual = true
-is_simple IntNotEqual = true
-is_simple IntLess = true
-is_simple IntLessOrEqual = true
-is_simple IntGreater = true
-is_simple IntGreaterOrEqual = true
-is_simple _ = false
 
 pub impossible : {A : Type 0} → false ≡ true → A
 impossible h = absurd (cc)

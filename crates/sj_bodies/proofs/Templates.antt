@@ -28,9 +28,10 @@ use Rattle.sj_trees.specs.declared.operators.BinaryOp.TheVariants.{BooleanEqual,
 use Rattle.sj_trees.specs.declared.operators.UnaryOp.{UnaryOp}
 use Rattle.sj_trees.specs.declared.operators.UnaryOp.TheVariants.{BooleanNot, ByteToInt, ShortToInt, IntToByte, IntToShort}
 use Rattle.sj_bodies.proofs.Worlds.{World, Grows, grows-refl, SameValue, same_boolean, same_number, SameValues, one_more, no_values}
-use Rattle.sj_bodies.proofs.Operators.{template_value, or_zero_value, boolean_of, Given, GivenIf, is_simple, impossible, values_alike}
+use Rattle.sj_bodies.specs.Conditions.{is_simple, is_simple_unary}
+use Rattle.sj_bodies.proofs.Operators.{template_value, or_zero_value, boolean_of, Given, GivenIf, impossible, values_alike}
 use Rattle.sj_bodies.proofs.Orders.{ActsAlike, OperandAlike, OperandsAlike, no_operands, more_operands, in_order_alike, in_order-then}
-use Rattle.sj_bodies.proofs.Settings.{Setting, SameState, Valued, valued, shown}
+use Rattle.sj_bodies.specs.Settings.{Setting, SameState, Valued, valued, shown}
 
 -- an act on two values by what they give
 abbrev pub by_value : (js.Value → js.Value → Option js.Value) → List js.Value → js.Evaluation
@@ -72,14 +73,15 @@ multiplied-act (v ∷ w ∷ x ∷ xs) sc u = refl
 pub same_act : (es : List js.Evaluation) (act act' : List js.Value → js.Evaluation) (sc : js.Scope) (u : js.State) → ((xs : List js.Value) (sc : js.Scope) (u : js.State) → act xs sc u ≡ act' xs sc u) → js_meaning.in_order es act sc u ≡ js_meaning.in_order es act' sc u
 same_act es act act' sc u h = ap (λ (f : List js.Value → js.Evaluation). js_meaning.in_order es f sc u) (fun_ext (λ xs. fun_ext (λ sc. fun_ext (λ u. h xs sc u))))
 
-module _ (p : js.Program) (low : js_meaning.Low) where
-  zero_literal : js.Evaluation
-  zero_literal = js_meaning.evaluate p low (tree.number_literal (pos 0))
+scope_free : (o : Option js.Value) (sc sc' : js.Scope) (u : js.State) → js_meaning.value_or_wrong o sc u ≡ js_meaning.value_or_wrong o sc' u
+scope_free None sc sc' u = refl
+scope_free (Some v) sc sc' u = refl
 
+module _ (p : js.Program) (low : js_meaning.Low) where
   -- `| 0` behind a value
   or_zero_next : (o : Option js.Value) (sc sc' : js.Scope) (u : js.State) → then_do (js_meaning.value_or_wrong o sc u) (js.with_value (λ v. js_meaning.in_order (js_meaning.evaluate p low (tree.number_literal (pos 0)) ∷ []) (λ vs. js_meaning.binary Op.BitOr (v ∷ vs)) sc')) ≡ js_meaning.value_or_wrong (or_zero_value o) sc u
   or_zero_next None sc sc' u = refl
-  or_zero_next (Some v) sc sc' u = refl
+  or_zero_next (Some v) sc sc' u = scope_free (js_operators.binary_value Op.BitOr v (js.number (pos 0))) sc' sc u
 
   or_zero_act : (f : js.Value → js.Value → Option js.Value) (sc' : js.Scope) (xs : List js.Value) (sc : js.Scope) (u : js.State) → then_do (by_value f xs sc u) (js.with_value (λ v. js_meaning.in_order (js_meaning.evaluate p low (tree.number_literal (pos 0)) ∷ []) (λ vs. js_meaning.binary Op.BitOr (v ∷ vs)) sc')) ≡ by_value (λ v w. or_zero_value (f v w)) xs sc u
   or_zero_act f sc' [] sc u = refl
@@ -139,7 +141,7 @@ module _ (p : js.Program) (low : js_meaning.Low) where
     binary_shown IntGreaterOrEqual h = plain_operator Op.GreaterOrEqual
     binary_shown _ h = impossible h
 
-value_alike : (z : Setting) (base w : World) (env : ir.Env) (sc : js.Scope) (s : ir.State) (u : js.State) (o : Option ir.Value) (t : Option js.Value) → GivenIf w o t → Grows base w → SameState z w s u → Sim z.direction (Valued z base env) (ir_meaning.value_or_wrong o env s) (js_meaning.value_or_wrong t sc u)
+pub value_alike : (z : Setting) (base w : World) (env : ir.Env) (sc : js.Scope) (s : ir.State) (u : js.State) (o : Option ir.Value) (t : Option js.Value) → GivenIf w o t → Grows base w → SameState z w s u → Sim z.direction (Valued z base env) (ir_meaning.value_or_wrong o env s) (js_meaning.value_or_wrong t sc u)
 value_alike z base w env sc s u None t h g same = sim_wrong z.direction (Valued z base env) (js_meaning.value_or_wrong t sc u)
 value_alike z base w env sc s u (Some v) t h g same = subst (λ o. Sim z.direction (Valued z base env) (done (ir.ends (ir.gives v) env s)) (js_meaning.value_or_wrong o sc u)) (sym h.is) (sim_done z.direction (Valued z base env) (ir.ends (ir.gives v) env s) (js.gives h.value u) (valued w v h.value s u g h.alike same))
 
@@ -163,14 +165,6 @@ one_template_value ShortToInt v = Some v
 one_template_value IntToByte v = shifted_back (pos 24) (js_operators.binary_value Op.ShiftLeft v (js.number (pos 24)))
 one_template_value IntToShort v = shifted_back (pos 16) (js_operators.binary_value Op.ShiftLeft v (js.number (pos 16)))
 one_template_value _ v = None
-
-abbrev pub is_simple_unary : UnaryOp → Bool
-is_simple_unary BooleanNot = true
-is_simple_unary ByteToInt = true
-is_simple_unary ShortToInt = true
-is_simple_unary IntToByte = true
-is_simple_unary IntToShort = true
-is_simple_unary _ = false
 
 abbrev pub by_one_value : (js.Value → Option js.Value) → List js.Value → js.Evaluation
 by_one_value f (v ∷ []) sc u = js_meaning.value_or_wrong (f v) sc u
@@ -205,7 +199,7 @@ alone_shown e sc u = sym (ap (then_do (e sc u)) (fun_ext (λ b. valued-again b s
 module _ (p : js.Program) (low : js_meaning.Low) where
   shift_next : (n : ℕ) (e : numbers.is_exact (pos n) ≡ true) (o : Option js.Value) (sc sc' : js.Scope) (u : js.State) → then_do (js_meaning.value_or_wrong o sc u) (js.with_value (λ v. js_meaning.in_order (js_meaning.evaluate p low (tree.number_literal (pos n)) ∷ []) (λ vs. js_meaning.binary Op.ShiftRight (v ∷ vs)) sc')) ≡ js_meaning.value_or_wrong (shifted_back (pos n) o) sc u
   shift_next n e None sc sc' u = refl
-  shift_next n e (Some v) sc sc' u = ap (λ (t : Bool). then_do (if t then done (js.gives (js.number (pos n)) u) else wrong) (js.with_value (λ w. js_meaning.binary Op.ShiftRight (v ∷ w ∷ []) sc'))) e
+  shift_next n e (Some v) sc sc' u = ap (λ (t : Bool). then_do (if t then done (js.gives (js.number (pos n)) u) else wrong) (js.with_value (λ w. js_meaning.binary Op.ShiftRight (v ∷ w ∷ []) sc'))) e ∙ scope_free (js_operators.binary_value Op.ShiftRight v (js.number (pos n))) sc' sc u
 
   abbrev back : ℕ → js.Scope → js.Value → js.State → Out js.ExpressionEnd
   back n sc v = js_meaning.in_order (js_meaning.evaluate p low (tree.number_literal (pos n)) ∷ []) (λ vs. js_meaning.binary Op.ShiftRight (v ∷ vs)) sc

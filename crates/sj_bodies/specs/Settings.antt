@@ -1,5 +1,5 @@
 -- What a body is compared in: the two programs, how things are named, and what the levels below give.
-use Rattle.std.proofs.Common.{◌≡◌, ℕ, Bool, true, false, List, [], ◌∷◌, length, Option, Some, None}
+use Rattle.std.specs.Prelude.{◌≡◌, ℕ, Bool, true, false, List, [], ◌∷◌, length, Option, Some, None}
 use Rattle.js_tree.specs.Terms.{Name, Expression, Statements}
 use Rattle.outcomes.specs.Outcome.{Out}
 use Rattle.outcomes.specs.Agreement.{Direction, Sim}
@@ -12,7 +12,7 @@ use Rattle.js_mean.specs.States as js
 use Rattle.sj_core.specs.Terms as core
 use Rattle.sj_emit_expr.specs.Templates.{member_name, expression_template, statement_templates}
 use Rattle.sj_names.specs.declared.method_names.Member.{Member}
-use Rattle.sj_bodies.proofs.Worlds.{World, Grows, SameValue, SameValues}
+use Rattle.sj_bodies.specs.Worlds.{World, Grows, SameValue, SameValues}
 
 pub record Setting : Type 0 where
   pub direction : Direction
@@ -58,3 +58,12 @@ pub record Lawful (z : Setting) : Type 0 where
   pub functions_differ : (x : core.Variable) (m : Member) → z.name x ≡ member_name m → ⊥
   pub own : (m : Member) → owner z.program z.file (member_name m) ≡ Some z.file
   pub calls : (m : Member) → z.is_linked m ≡ true → CallsAlike z m
+
+-- what a local holds, and the binding that stands for it
+pub data Holding (w : World) : Option ir.Value → js.Cell → Type 0 where
+  holding : (v : ir.Value) (x : js.Value) → SameValue w v x → Holding w (Some v) (js.holds false x)
+
+-- the locals in scope stand for each other
+pub record Sees (z : Setting) (scope : List ℕ → Type 0) (w : World) (env : ir.Env) (sc : js.Scope) : Type 0 where
+  pub inside : Inside z sc
+  pub locals : (x : List ℕ) → scope x → Holding w (env.locals x) (sc.bindings (z.name (core.named x)))
