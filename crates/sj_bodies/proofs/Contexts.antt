@@ -101,10 +101,10 @@ module _ (z : Setting) (lawful : Lawful z) where
 
   -- a binding that is no local in scope and may not be written otherwise
   pub started-ready : (scope : List ℕ → Type 0) (q : core.Variable → Type 0) (const : Bool) (y : core.Variable) (v : js.Value) (w : World) (env : ir.Env) (sc : js.Scope) → ((x : List ℕ) → scope x → core.named x ≡ y → ⊥) → ((x : core.Variable) → q x → x ≡ y → ⊥) → Ready z scope q w env sc → Ready z scope q w env (js_meaning.start const (z.name y) v sc)
-  started-ready scope q const y v w env sc out no r = record {
+  started-ready scope q const y v w env sc out unwritten r = record {
     sees = record { inside = started-inside const y v sc r.sees.inside; locals = λ x i. subst (Holding w (env.locals x)) (sym (started-other const y (core.named x) v sc (out x i))) (r.sees.locals x i) };
-    «open» = λ x i. record { value = (r.«open» x i).value; is = started-other const y x v sc (no x i) ∙ (r.«open» x i).is };
+    «open» = λ x i. record { value = (r.«open» x i).value; is = started-other const y x v sc (unwritten x i) ∙ (r.«open» x i).is };
   }
 
   pub started-keeps : (p : core.Variable → Type 0) (const : Bool) (y : core.Variable) (v : js.Value) (sc : js.Scope) → (p y → ⊥) → Keeps z p sc (js_meaning.start const (z.name y) v sc)
-  started-keeps p const y v sc no = record { same = λ x i. started-other const y x v sc (λ e. no (subst p e i)) }
+  started-keeps p const y v sc unkept = record { same = λ x i. started-other const y x v sc (λ e. unkept (subst p e i)) }

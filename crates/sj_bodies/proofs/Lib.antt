@@ -3,6 +3,7 @@ pub mod Contexts
 pub mod Operators
 pub mod Orders
 pub mod Plain
+pub mod Spills
 pub mod Statements
 pub mod Templates
 pub mod Worlds

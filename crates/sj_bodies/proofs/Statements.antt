@@ -1,5 +1,7 @@
 -- Statements one behind the other, and what a single one does.
-use Rattle.std.proofs.Common.{◌≡◌, ℕ, Bool, true, false, List, [], ◌∷◌, Some, None, Option, refl, sym, ap, ◌∙◌, subst}
+use Rattle.std.proofs.Common.{◌≡◌, ℕ, Bool, true, false, List, [], ◌∷◌, Some, None, Option, refl, sym, ap, ◌∙◌, subst, if◌then◌else◌}
+use Rattle.std.specs.Prelude.{nat_eq}
+use Rattle.std.specs.Cmp.Lexicographic.{pointwise}
 use mathlib.Core.Path.{fun_ext}
 use Rattle.outcomes.specs.Outcome.{Out, done, wrong, then_do}
 use Rattle.outcomes.specs.Agreement.{Sim}
@@ -14,14 +16,14 @@ use Rattle.sj_core.specs.Terms as core
 use Rattle.sj_core.specs.Terms.{followed}
 use Rattle.sj_desugar.specs.Coercions.{coerced}
 use Rattle.sj_desugar.specs.Desugar.{has_no_value, finish, target_of}
-use Rattle.sj_desugar.specs.Spill.{Destination, discard, to_variable, to_result}
+use Rattle.sj_desugar.specs.Spill.{Destination, discard, to_variable, to_result, Code, one}
 use Rattle.sj_emit_expr.specs.Templates.{statement_template}
 use Rattle.sj_trees.specs.declared.positions.Position.{Position}
 use Rattle.sj_trees.specs.declared.types.IrType.{IrType}
 use Rattle.sj_bodies.specs.Conditions.{NoBox}
-use Rattle.sj_bodies.specs.Settings.{Setting, shown, run, SameState, Valued, valued, Lawful}
+use Rattle.sj_bodies.specs.Settings.{Setting, shown, run, SameState, Valued, valued, Lawful, Holding, Sees}
 use Rattle.sj_bodies.proofs.Conditions.{coerced-same}
-use Rattle.sj_bodies.proofs.Contexts.{Context, Writes, Sound, IsOpen, Ready, ready-lift, Keeps, keeps-refl, keeps-trans, Arrives, let_go, stored, returned, Came, gave, left, started-here, started-other, started-ready, started-keeps}
+use Rattle.sj_bodies.proofs.Contexts.{Context, Writes, Sound, IsOpen, Ready, ready-lift, Keeps, keeps-refl, keeps-trans, Arrives, let_go, stored, returned, Came, gave, left, started-here, started-other, started-inside, started-ready, started-keeps}
 use Rattle.sj_bodies.proofs.Worlds.{World, Grows, grows-refl, grows-trans, SameValue}
 
 pub next-done : (e : js.StatementEnd) → js.next_statement (λ sc s. done (js.ends js.normally sc s)) e ≡ done e
@@ -87,6 +89,21 @@ module _ (z : Setting) (lawful : Lawful z) where
   Fits (to_variable x expected) t = (has_no_value t ≡ false) × NoBox expected t
   Fits (to_result expected) t = (has_no_value t ≡ false) × NoBox expected t
 
+  started-open : (x y : core.Variable) (j : js.Value) (sc : js.Scope) → IsOpen (sc.bindings (z.name y)) → IsOpen ((js_meaning.start false (z.name x) j sc).bindings (z.name y))
+  started-open x y j sc h = go (pointwise nat_eq (z.name y) (z.name x)) refl
+    where
+      go : (b : Bool) → pointwise nat_eq (z.name y) (z.name x) ≡ b → IsOpen ((js_meaning.start false (z.name x) j sc).bindings (z.name y))
+      go true e = record { value = j; is = ap (λ (t : Bool). if t then js.holds false j else sc.bindings (z.name y)) e }
+      go false e = record { value = h.value; is = ap (λ (t : Bool). if t then js.holds false j else sc.bindings (z.name y)) e ∙ h.is }
+
   -- the destination may be written, and holds no local in scope
   pub stores : (c : Context) (x : core.Variable) (i : IrType) (w : World) (before : js.Scope) → Sound z c → c.writable x → (y : World) (v : ir.Value) (j : js.Value) (env : ir.Env) (s : ir.State) (sc : js.Scope) (u : js.State) → Grows w y → SameValue y v j → Ready z c.scope c.writable y env sc → Keeps z c.kept before sc → SameState z y s u → Came z c c.scope (to_variable x i) w before (ir.ends (ir.gives v) env s) (js.ends js.normally (js_meaning.start false (z.name x) j sc) u)
-  stores c x i w before sound wr y v j env s sc u g alike r ks same = ?
+  stores c x i w before sound wr y v j env s sc u g alike r ks same = gave y v env s (js_meaning.start false (z.name x) j sc) u js.normally g (stored x i j alike (started-here z lawful false x j sc)) (record { sees = sees_still; «open» = λ q h. started-open x q j sc (r.«open» q h) }) (keeps-trans z c.kept before sc (js_meaning.start false (z.name x) j sc) ks (started-keeps z lawful c.kept false x j sc (λ h. sound.apart x wr h))) same
+    where
+      sees_still : Sees z c.scope y env (js_meaning.start false (z.name x) j sc)
+      sees_still = record { inside = started-inside z lawful false x j sc r.sees.inside; locals = λ q h. subst (Holding y (env.locals q)) (sym (started-other z lawful false x (core.named q) j sc (λ e. sound.hidden q (subst c.writable (sym e) wr) h))) (r.sees.locals q h) }
+
+  pub finish_alike : (c : Context) (k : Destination) (p : Position) (t : IrType) (e : core.Expression) (i : ℕ) → Sound z c → Writes c.writable k → Fits k t → (w from : World) (before : js.Scope) (env : ir.Env) (o : Out ir.Ended) (sc : js.Scope) (u : js.State) → Grows from w → Keeps z c.kept before sc → Ready z c.scope c.writable w env sc → Sim z.direction (Valued z w env) o (shown z e sc u) → Ends c c.scope k from before o (finish k p t false e i).statements sc u
+  finish_alike c discard p t e i sound wr fits w from before env o sc u g ks r alike = ends-one c c.scope discard from before o (core.evaluate_of (Some p) e) sc u (value_statement (Came z c c.scope discard from before) w env sc u o e (λ v. js_meaning.nothing sc) alike (λ y v x s u h a same. sim_done z.direction (Came z c c.scope discard from before) (ir.ends (ir.gives v) env s) (js.ends js.normally sc u) (gave y v env s sc u js.normally (grows-trans from w y g h) let_go (ready-lift z c.scope c.writable w y env sc h r) ks same)))
+  finish_alike c (to_variable x expected) p t e i sound wr fits w from before env o sc u g ks r alike = subst (λ b. Ends c c.scope (to_variable x expected) from before o (elim b as (λ b. Code) [ true ↦ one (core.evaluate_of (Some p) e) i | false ↦ one (core.assign_to (Some p) x (coerced expected t e)) i ]).statements sc u) (sym fits.0) (subst (λ d. Ends c c.scope (to_variable x expected) from before o (core.statement (core.assign_to (Some p) x d) core.no_statements) sc u) (sym (coerced-same expected t e fits.1)) (ends-one c c.scope (to_variable x expected) from before o (core.assign_to (Some p) x e) sc u (value_statement (Came z c c.scope (to_variable x expected) from before) w env sc u o e (λ v. js_meaning.assign z.program (z.name x) v (sc.bindings (z.name x)) sc) alike (λ y v j s u h a same. subst (λ q. Sim z.direction (Came z c c.scope (to_variable x expected) from before) (done (ir.ends (ir.gives v) env s)) q) (sym (assigned x j sc u (r.«open» x wr))) (sim_done z.direction (Came z c c.scope (to_variable x expected) from before) (ir.ends (ir.gives v) env s) (js.ends js.normally (js_meaning.start false (z.name x) j sc) u) (stores c x expected from before sound wr y v j env s sc u (grows-trans from w y g h) a (ready-lift z c.scope c.writable w y env sc h r) ks same))))))
+  finish_alike c (to_result expected) p t e i sound wr fits w from before env o sc u g ks r alike = subst (λ b. Ends c c.scope (to_result expected) from before o (elim b as (λ b. Code) [ true ↦ one (core.evaluate_of (Some p) e) i | false ↦ one (core.return_of (Some p) (coerced expected t e)) i ]).statements sc u) (sym fits.0) (subst (λ d. Ends c c.scope (to_result expected) from before o (core.statement (core.return_of (Some p) d) core.no_statements) sc u) (sym (coerced-same expected t e fits.1)) (ends-one c c.scope (to_result expected) from before o (core.return_of (Some p) e) sc u (value_statement (Came z c c.scope (to_result expected) from before) w env sc u o e (λ v u. done (js.ends (js.returns v) sc u)) alike (λ y v j s u h a same. sim_done z.direction (Came z c c.scope (to_result expected) from before) (ir.ends (ir.gives v) env s) (js.ends (js.returns j) sc u) (gave y v env s sc u (js.returns j) (grows-trans from w y g h) (returned expected j a) (ready-lift z c.scope c.writable w y env sc h r) ks same)))))
