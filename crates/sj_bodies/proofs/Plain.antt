@@ -46,7 +46,7 @@ holding-lift u w _ _ g (holding v x a) = holding v x (value-lift u w v x g a)
 pub sees-lift : (z : Setting) (scope : List ℕ → Type 0) (u w : World) (env : ir.Env) (sc : js.Scope) → Grows u w → Sees z scope u env sc → Sees z scope w env sc
 sees-lift z scope u w env sc g h = record { inside = h.inside; locals = λ x i. holding-lift u w (env.locals x) (sc.bindings (z.name (core.named x))) g (h.locals x i) }
 
-fits-exact : (n : ℤ) → FitsSigned w32 n → numbers.is_exact n ≡ true
+pub fits-exact : (n : ℤ) → FitsSigned w32 n → numbers.is_exact n ≡ true
 fits-exact (pos n) f = let h : n < 2 ^ 31 = f.sfits in grind arith
 fits-exact (negsuc n) f = let h : n < 2 ^ 31 = f.sfits in grind arith
 
