@@ -52,15 +52,16 @@ run-followed z core.no_statements b sc u = refl
 run-followed z (core.statement s ss) b sc u = ap (λ (f : js.Execution). then_do (act_of z s sc u) (js.next_statement f)) (fun_ext (λ sc. fun_ext (λ u. run-followed z ss b sc u))) ∙ sym (then_do-associative (act_of z s sc u) (js.next_statement (run z ss)) (js.next_statement (run z b)) ∙ ap (then_do (act_of z s sc u)) (fun_ext (next-associative (run z ss) (run z b))))
 
 module _ (z : Setting) (lawful : Lawful z) where
+  -- what leaves to a label passes by what comes behind
+  pub leaves_on : (c : Context) (scope : List ℕ → Type 0) (k : Destination) (from : World) (before : js.Scope) (second : js.Execution) (y : World) (l : List ℕ) (v : ir.Value) (env : ir.Env) (s : ir.State) (sc : js.Scope) (u : js.State) (e : js.Completion) (d : Destination) → target_of c.targets l ≡ d → Grows from y → Arrives z y v sc (js.breaks (z.label l)) d e → Ready z c.scope c.writable y env sc → Keeps z c.kept before sc → SameState z y s u → Sim z.direction (Came z c scope k from before) (done (ir.ends (ir.leaves l v) env s)) (js.next_statement second (js.ends e sc u))
+  leaves_on c scope k from before second y l v env s sc u _ _ t g let_go r ks same = sim_done z.direction (Came z c scope k from before) (ir.ends (ir.leaves l v) env s) (js.ends (js.breaks (z.label l)) sc u) (left y l v env s sc u (js.breaks (z.label l)) g (subst (λ d. Arrives z y v sc (js.breaks (z.label l)) d (js.breaks (z.label l))) (sym t) let_go) r ks same)
+  leaves_on c scope k from before second y l v env s sc u _ _ t g (stored x i j q h) r ks same = sim_done z.direction (Came z c scope k from before) (ir.ends (ir.leaves l v) env s) (js.ends (js.breaks (z.label l)) sc u) (left y l v env s sc u (js.breaks (z.label l)) g (subst (λ d. Arrives z y v sc (js.breaks (z.label l)) d (js.breaks (z.label l))) (sym t) (stored x i j q h)) r ks same)
+  leaves_on c scope k from before second y l v env s sc u _ _ t g (returned i j q) r ks same = sim_done z.direction (Came z c scope k from before) (ir.ends (ir.leaves l v) env s) (js.ends (js.returns j) sc u) (left y l v env s sc u (js.returns j) g (subst (λ d. Arrives z y v sc (js.breaks (z.label l)) d (js.returns j)) (sym t) (returned i j q)) r ks same)
+
   -- a first tree whose value is given up, and what comes behind it
   pub came_then : (c : Context) (first scope : List ℕ → Type 0) (k : Destination) (w : World) (sc : js.Scope) (f : ir.Value → ir.Run) (second : js.Execution) → ((y : World) (v : ir.Value) (env : ir.Env) (s : ir.State) (sc' : js.Scope) (u : js.State) → Grows w y → Ready z first c.writable y env sc' → Keeps z c.kept sc sc' → SameState z y s u → Sim z.direction (Came z c scope k w sc) (f v env s) (second sc' u)) → (a : ir.Ended) (b : js.StatementEnd) → Came z c first discard w sc a b → Sim z.direction (Came z c scope k w sc) (ir.onward f a) (js.next_statement second b)
   came_then c first scope k w sc f second goes _ _ (gave y v env s sc' u _ g let_go r ks same) = goes y v env s sc' u g r ks same
-  came_then c first scope k w sc f second goes _ _ (left y l v env s sc' u e g a r ks same) = leaves_on y l v env s sc' u e (target_of c.targets l) refl g a r ks same
-    where
-      leaves_on : (y : World) (l : List ℕ) (v : ir.Value) (env : ir.Env) (s : ir.State) (sc' : js.Scope) (u : js.State) (e : js.Completion) (d : Destination) → target_of c.targets l ≡ d → Grows w y → Arrives z y v sc' (js.breaks (z.label l)) d e → Ready z c.scope c.writable y env sc' → Keeps z c.kept sc sc' → SameState z y s u → Sim z.direction (Came z c scope k w sc) (done (ir.ends (ir.leaves l v) env s)) (js.next_statement second (js.ends e sc' u))
-      leaves_on y l v env s sc' u _ _ t g let_go r ks same = sim_done z.direction (Came z c scope k w sc) (ir.ends (ir.leaves l v) env s) (js.ends (js.breaks (z.label l)) sc' u) (left y l v env s sc' u (js.breaks (z.label l)) g (subst (λ d. Arrives z y v sc' (js.breaks (z.label l)) d (js.breaks (z.label l))) (sym t) let_go) r ks same)
-      leaves_on y l v env s sc' u _ _ t g (stored x i j q h) r ks same = sim_done z.direction (Came z c scope k w sc) (ir.ends (ir.leaves l v) env s) (js.ends (js.breaks (z.label l)) sc' u) (left y l v env s sc' u (js.breaks (z.label l)) g (subst (λ d. Arrives z y v sc' (js.breaks (z.label l)) d (js.breaks (z.label l))) (sym t) (stored x i j q h)) r ks same)
-      leaves_on y l v env s sc' u _ _ t g (returned i j q) r ks same = sim_done z.direction (Came z c scope k w sc) (ir.ends (ir.leaves l v) env s) (js.ends (js.returns j) sc' u) (left y l v env s sc' u (js.returns j) g (subst (λ d. Arrives z y v sc' (js.breaks (z.label l)) d (js.returns j)) (sym t) (returned i j q)) r ks same)
+  came_then c first scope k w sc f second goes _ _ (left y l v env s sc' u e g a r ks same) = leaves_on c scope k w sc second y l v env s sc' u e (target_of c.targets l) refl g a r ks same
 
   -- an expression of a statement, and what is done with its value
   pub valued_then : (F : ir.Ended → js.StatementEnd → Type 0) (w : World) (env : ir.Env) (sc : js.Scope) (f : ir.Value → ir.Run) (g : js.Value → js.State → Out js.StatementEnd) → ((y : World) (v : ir.Value) (x : js.Value) (s : ir.State) (u : js.State) → Grows w y → SameValue y v x → SameState z y s u → Sim z.direction F (f v env s) (g x u)) → (a : ir.Ended) (b : js.ExpressionEnd) → Valued z w env a b → Sim z.direction F (ir.onward f a) (js.in_statement sc g b)
