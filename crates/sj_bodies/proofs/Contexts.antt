@@ -22,6 +22,7 @@ pub record Context : Type 1 where
   pub writable : core.Variable → Type 0
   pub kept : core.Variable → Type 0
   pub targets : Targets
+  pub turning : Type 0
 
 abbrev pub Writes : (core.Variable → Type 0) → Destination → Type 0
 Writes q discard = Unit {0}
@@ -69,10 +70,11 @@ pub data Arrives (z : Setting) (w : World) (v : ir.Value) (sc : js.Scope) (usual
   stored : (x : core.Variable) (t : IrType) (j : js.Value) → SameValue w v j → sc.bindings (z.name x) ≡ js.holds false j → Arrives z w v sc usual (to_variable x t) usual
   returned : (t : IrType) (j : js.Value) → SameValue w v j → Arrives z w v sc usual (to_result t) (js.returns j)
 
--- how a tree and its statements came to their end
+-- how a tree and its statements came to their end; inside a loop's turn, its condition may not hold any more
 pub data Came (z : Setting) (c : Context) (scope : List ℕ → Type 0) (k : Destination) (from : World) (before : js.Scope) : ir.Ended → js.StatementEnd → Type 0 where
   gave : (w : World) (v : ir.Value) (env : ir.Env) (s : ir.State) (sc : js.Scope) (u : js.State) (e : js.Completion) → Grows from w → Arrives z w v sc js.normally k e → Ready z scope c.writable w env sc → Keeps z c.kept before sc → SameState z w s u → Came z c scope k from before (ir.ends (ir.gives v) env s) (js.ends e sc u)
   left : (w : World) (l : List ℕ) (v : ir.Value) (env : ir.Env) (s : ir.State) (sc : js.Scope) (u : js.State) (e : js.Completion) → Grows from w → Arrives z w v sc (js.breaks (z.label l)) (target_of c.targets l) e → Ready z c.scope c.writable w env sc → Keeps z c.kept before sc → SameState z w s u → Came z c scope k from before (ir.ends (ir.leaves l v) env s) (js.ends e sc u)
+  stopped : (w : World) (env : ir.Env) (s : ir.State) (sc : js.Scope) (u : js.State) → c.turning → Grows from w → Ready z c.scope c.writable w env sc → Keeps z c.kept before sc → SameState z w s u → Came z c scope k from before (ir.ends ir.stops env s) (js.ends js.breaks_nearest sc u)
 
 -- texts that aren't equal
 pub differs : (a b : List ℕ) → (a ≡ b → ⊥) → pointwise nat_eq a b ≡ false

@@ -1,5 +1,6 @@
 pub mod Conditions
 pub mod Contexts
+pub mod Numbers
 pub mod Operators
 pub mod Orders
 pub mod Plain

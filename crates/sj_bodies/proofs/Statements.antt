@@ -23,7 +23,7 @@ use Rattle.sj_trees.specs.declared.types.IrType.{IrType}
 use Rattle.sj_bodies.specs.Conditions.{NoBox}
 use Rattle.sj_bodies.specs.Settings.{Setting, shown, run, SameState, Valued, valued, Lawful, Holding, Sees}
 use Rattle.sj_bodies.proofs.Conditions.{coerced-same}
-use Rattle.sj_bodies.proofs.Contexts.{Context, Writes, Sound, IsOpen, Ready, ready-lift, Keeps, keeps-refl, keeps-trans, Arrives, let_go, stored, returned, Came, gave, left, started-here, started-other, started-inside, started-ready, started-keeps}
+use Rattle.sj_bodies.proofs.Contexts.{Context, Writes, Sound, IsOpen, Ready, ready-lift, Keeps, keeps-refl, keeps-trans, Arrives, let_go, stored, returned, Came, gave, left, stopped, started-here, started-other, started-inside, started-ready, started-keeps}
 use Rattle.sj_bodies.proofs.Worlds.{World, Grows, grows-refl, grows-trans, SameValue}
 
 pub next-done : (e : js.StatementEnd) → js.next_statement (λ sc s. done (js.ends js.normally sc s)) e ≡ done e
@@ -62,6 +62,7 @@ module _ (z : Setting) (lawful : Lawful z) where
   pub came_then : (c : Context) (first scope : List ℕ → Type 0) (k : Destination) (w : World) (sc : js.Scope) (f : ir.Value → ir.Run) (second : js.Execution) → ((y : World) (v : ir.Value) (env : ir.Env) (s : ir.State) (sc' : js.Scope) (u : js.State) → Grows w y → Ready z first c.writable y env sc' → Keeps z c.kept sc sc' → SameState z y s u → Sim z.direction (Came z c scope k w sc) (f v env s) (second sc' u)) → (a : ir.Ended) (b : js.StatementEnd) → Came z c first discard w sc a b → Sim z.direction (Came z c scope k w sc) (ir.onward f a) (js.next_statement second b)
   came_then c first scope k w sc f second goes _ _ (gave y v env s sc' u _ g let_go r ks same) = goes y v env s sc' u g r ks same
   came_then c first scope k w sc f second goes _ _ (left y l v env s sc' u e g a r ks same) = leaves_on c scope k w sc second y l v env s sc' u e (target_of c.targets l) refl g a r ks same
+  came_then c first scope k w sc f second goes _ _ (stopped y env s sc' u t g r ks same) = sim_done z.direction (Came z c scope k w sc) (ir.ends ir.stops env s) (js.ends js.breaks_nearest sc' u) (stopped y env s sc' u t g r ks same)
 
   -- an expression of a statement, and what is done with its value
   pub valued_then : (F : ir.Ended → js.StatementEnd → Type 0) (w : World) (env : ir.Env) (sc : js.Scope) (f : ir.Value → ir.Run) (g : js.Value → js.State → Out js.StatementEnd) → ((y : World) (v : ir.Value) (x : js.Value) (s : ir.State) (u : js.State) → Grows w y → SameValue y v x → SameState z y s u → Sim z.direction F (f v env s) (g x u)) → (a : ir.Ended) (b : js.ExpressionEnd) → Valued z w env a b → Sim z.direction F (ir.onward f a) (js.in_statement sc g b)
