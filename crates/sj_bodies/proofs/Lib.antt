@@ -1,0 +1,10 @@
+pub mod Conditions
+pub mod Contexts
+pub mod Numbers
+pub mod Operators
+pub mod Orders
+pub mod Plain
+pub mod Spills
+pub mod Statements
+pub mod Templates
+pub mod Worlds

@@ -1,0 +1,160 @@
+-- The operators of the IR and their templates, on operands that are alike.
+use Rattle.std.proofs.Common.{◌≡◌, ℕ, zero, suc, ◌<◌, ◌≤◌, ◌^◌, ◌%◌, ◌/◌, Bool, true, false, List, [], ◌∷◌, Some, None, Option, refl, sym, ap, ◌∙◌, subst, arith, if◌then◌else◌}
+use Rattle.std.specs.Prelude.{ℤ, pos, negsuc, ◌+ℤ◌, ◌-ℤ◌, ◌≢◌, not, ◌&&◌, ◌||◌, int_lt, int_le, bit_and, bit_or, bit_xor, FitsSigned}
+use Rattle.std.specs.Ordering.{int_eq}
+use Rattle.std.specs.Int.{cast_unsigned, w32}
+use Rattle.std.proofs.Math.Nat.{div-le_self}
+use Rattle.std.proofs.lemmas.Nat.{or_lt, xor_lt, and_le_l}
+use Rattle.int_arithmetic.specs.Numbers.{is_exact}
+use Rattle.int_arithmetic.specs.Signed as signed
+use Rattle.int_arithmetic.proofs.Exact.{sum-exact, difference-exact}
+use Rattle.int_arithmetic.proofs.Fits.{wrapped-fits, shifted_right-fits, remainder-fits, byte-fits, short-fits}
+use Rattle.int_arithmetic.proofs.Operators.{sum-is, difference-is, product-is, quotient-is, remainder-is, or-is, and-is, xor-is, left_shift-is, right_shift-is, zero_shift-is, to_byte-is, to_short-is}
+use Rattle.int_arithmetic.proofs.Words.{cast-fits, uint-below, uint-is}
+use Rattle.outcomes.specs.Outcome.{Out, done, wrong, then_do}
+use Rattle.outcomes.specs.Agreement.{Sim}
+use Rattle.outcomes.proofs.Simulation.{sim_done, sim_wrong}
+use Rattle.ir_mean.specs.Operators as ir_operators
+use Rattle.ir_mean.specs.States as ir
+use Rattle.js_mean.specs.Operators as js_operators
+use Rattle.js_mean.specs.States as js
+use Rattle.js_tree.specs.declared.operators.BinaryOperator.TheVariants as Op
+use Rattle.sj_trees.specs.declared.operators.BinaryOp.{BinaryOp}
+use Rattle.sj_trees.specs.declared.operators.BinaryOp.TheVariants.{BooleanEqual, BooleanNotEqual, BooleanOr, BooleanAnd, IntAdd, IntSubtract, IntMultiply, IntDivide, IntRemainder, IntOr, IntAnd, IntXor, IntShiftLeft, IntShiftRightLogical, IntShiftRightArithmetic, IntEqual, IntNotEqual, IntLess, IntLessOrEqual, IntGreater, IntGreaterOrEqual}
+use Rattle.sj_bodies.specs.Conditions.{is_simple}
+use Rattle.sj_bodies.proofs.Worlds.{World, SameValue, same_boolean, same_number}
+
+pub same-boolean : (a b : Bool) → js_operators.is_same_boolean a b ≡ ir_operators.is_same_boolean a b
+same-boolean true b = refl
+same-boolean false b = refl
+
+pub word-fits : (a : ℤ) → FitsSigned w32 a → cast_unsigned w32 a < 2 ^ 32
+word-fits a f = subst (λ (n : ℕ). n < 2 ^ 32) (uint-is a f) (uint-below a)
+
+and_below : (m n : ℕ) → m < 2 ^ 32 → bit_and m n < 2 ^ 32
+and_below m n h = let k : bit_and m n ≤ m = and_le_l m n in omega arith
+
+quotient_below : (m n : ℕ) → m < 2 ^ 32 → m / n < 2 ^ 32
+quotient_below m n h = let k : m / n ≤ m = div-le_self m n in omega arith
+
+pub or-fits : (a b : ℤ) → FitsSigned w32 a → FitsSigned w32 b → FitsSigned w32 (signed.bits_or a b)
+or-fits a b f g = cast-fits (bit_or (cast_unsigned w32 a) (cast_unsigned w32 b)) (or_lt 32 (cast_unsigned w32 a) (cast_unsigned w32 b) (word-fits a f) (word-fits b g))
+
+pub and-fits : (a b : ℤ) → FitsSigned w32 a → FitsSigned w32 b → FitsSigned w32 (signed.bits_and a b)
+and-fits a b f g = cast-fits (bit_and (cast_unsigned w32 a) (cast_unsigned w32 b)) (and_below (cast_unsigned w32 a) (cast_unsigned w32 b) (word-fits a f))
+
+pub xor-fits : (a b : ℤ) → FitsSigned w32 a → FitsSigned w32 b → FitsSigned w32 (signed.bits_xor a b)
+xor-fits a b f g = cast-fits (bit_xor (cast_unsigned w32 a) (cast_unsigned w32 b)) (xor_lt 32 (cast_unsigned w32 a) (cast_unsigned w32 b) (word-fits a f) (word-fits b g))
+
+pub zero_shift-fits : (a b : ℤ) → FitsSigned w32 a → FitsSigned w32 (signed.shifted_right_with_zeros a b)
+zero_shift-fits a b f = cast-fits (cast_unsigned w32 a / 2 ^ signed.places b) (quotient_below (cast_unsigned w32 a) (2 ^ signed.places b) (word-fits a f))
+
+-- what the template of an operator computes from the values of its operands
+
+
+
+-- `((a + b) | 0)`, where the sum is exact
+abbrev pub or_zero_value : Option js.Value → Option js.Value
+or_zero_value None = None
+or_zero_value (Some v) = js_operators.binary_value Op.BitOr v (js.number (pos 0))
+
+sum_value : (a b : ℤ) → is_exact (a +ℤ b) ≡ true → or_zero_value (js_operators.exact (a +ℤ b)) ≡ Some (js.number (signed.sum a b))
+sum_value a b e = ap (λ (t : Bool). or_zero_value (if t then Some (js.number (a +ℤ b)) else None)) e ∙ ap (λ (z : ℤ). Some (js.number z)) (sum-is a b)
+
+difference_value : (a b : ℤ) → is_exact (a -ℤ b) ≡ true → or_zero_value (js_operators.exact (a -ℤ b)) ≡ Some (js.number (signed.difference a b))
+difference_value a b e = ap (λ (t : Bool). or_zero_value (if t then Some (js.number (a -ℤ b)) else None)) e ∙ ap (λ (z : ℤ). Some (js.number z)) (difference-is a b)
+
+-- `(!(!(a | b)))`
+abbrev pub boolean_of : Option js.Value → Option js.Value
+boolean_of None = None
+boolean_of (Some v) = Some (js.boolean (not (not (js_operators.to_boolean v))))
+
+pub or_boolean : (a b : Bool) → boolean_of (js_operators.binary_value Op.BitOr (js.boolean a) (js.boolean b)) ≡ Some (js.boolean (a || b))
+or_boolean true true = refl
+or_boolean true false = refl
+or_boolean false true = refl
+or_boolean false false = refl
+
+pub and_boolean : (a b : Bool) → boolean_of (js_operators.binary_value Op.BitAnd (js.boolean a) (js.boolean b)) ≡ Some (js.boolean (a && b))
+and_boolean true true = refl
+and_boolean true false = refl
+and_boolean false true = refl
+and_boolean false false = refl
+
+-- what the template of an operator gives on two values, if its meaning has one
+abbrev pub template_value : BinaryOp → js.Value → js.Value → Option js.Value
+template_value BooleanEqual v w = js_operators.binary_value Op.StrictEqual v w
+template_value BooleanNotEqual v w = js_operators.binary_value Op.StrictNotEqual v w
+template_value BooleanOr v w = boolean_of (js_operators.binary_value Op.BitOr v w)
+template_value BooleanAnd v w = boolean_of (js_operators.binary_value Op.BitAnd v w)
+template_value IntAdd v w = or_zero_value (js_operators.binary_value Op.Add v w)
+template_value IntSubtract v w = or_zero_value (js_operators.binary_value Op.Subtract v w)
+template_value IntMultiply v w = js_operators.imul_value v w
+template_value IntOr v w = js_operators.binary_value Op.BitOr v w
+template_value IntAnd v w = js_operators.binary_value Op.BitAnd v w
+template_value IntXor v w = js_operators.binary_value Op.BitXor v w
+template_value IntShiftLeft v w = js_operators.binary_value Op.ShiftLeft v w
+template_value IntShiftRightLogical v w = or_zero_value (js_operators.binary_value Op.ShiftRightUnsigned v w)
+template_value IntShiftRightArithmetic v w = js_operators.binary_value Op.ShiftRight v w
+template_value IntEqual v w = js_operators.binary_value Op.StrictEqual v w
+template_value IntNotEqual v w = js_operators.binary_value Op.StrictNotEqual v w
+template_value IntLess v w = js_operators.binary_value Op.Less v w
+template_value IntLessOrEqual v w = js_operators.binary_value Op.LessOrEqual v w
+template_value IntGreater v w = js_operators.binary_value Op.Greater v w
+template_value IntGreaterOrEqual v w = js_operators.binary_value Op.GreaterOrEqual v w
+template_value _ v w = None
+
+pub impossible : {A : Type 0} → false ≡ true → A
+impossible h = absurd (cc)
+
+-- a value of the IR, and what stands for it
+pub record Given (w : World) (v : ir.Value) (o : Option js.Value) : Type 0 where
+  pub value : js.Value
+  pub is : o ≡ Some value
+  pub alike : SameValue w v value
+
+-- where the IR's operator gives a value, its template gives what stands for it
+abbrev pub GivenIf : World → Option ir.Value → Option js.Value → Type 0
+GivenIf w None o = Unit {0}
+GivenIf w (Some v) o = Given w v o
+
+number_given : (w : World) (z : ℤ) (o : Option js.Value) → o ≡ Some (js.number z) → FitsSigned w32 z → Given w (ir.number z) o
+number_given w z o e f = record { value = js.number z; is = e; alike = same_number z f }
+
+boolean_given : (w : World) (b : Bool) (o : Option js.Value) → o ≡ Some (js.boolean b) → Given w (ir.boolean b) o
+boolean_given w b o e = record { value = js.boolean b; is = e; alike = same_boolean b }
+
+booleans_alike : (w : World) (op : BinaryOp) (a b : Bool) → GivenIf w (ir_operators.boolean_value op a b) (template_value op (js.boolean a) (js.boolean b))
+booleans_alike w BooleanEqual a b = boolean_given w (ir_operators.is_same_boolean a b) _ (ap (λ (c : Bool). Some (js.boolean c)) (same-boolean a b))
+booleans_alike w BooleanNotEqual a b = boolean_given w (not (ir_operators.is_same_boolean a b)) _ (ap (λ (c : Bool). Some (js.boolean (not c))) (same-boolean a b))
+booleans_alike w BooleanOr a b = boolean_given w (a || b) _ (or_boolean a b)
+booleans_alike w BooleanAnd a b = boolean_given w (a && b) _ (and_boolean a b)
+booleans_alike w _ a b = tt
+
+numbers_alike : (w : World) (op : BinaryOp) (a b : ℤ) → FitsSigned w32 a → FitsSigned w32 b → is_simple op ≡ true → GivenIf w (ir_operators.number_value op a b) (template_value op (js.number a) (js.number b))
+numbers_alike w IntAdd a b f g h = number_given w (signed.sum a b) _ (sum_value a b (sum-exact a b f g)) (wrapped-fits (a +ℤ b))
+numbers_alike w IntSubtract a b f g h = number_given w (signed.difference a b) _ (difference_value a b (difference-exact a b f g)) (wrapped-fits (a -ℤ b))
+numbers_alike w IntMultiply a b f g h = number_given w (signed.product a b) _ (ap (λ (z : ℤ). Some (js.number z)) (product-is a b f g)) (wrapped-fits _)
+numbers_alike w IntOr a b f g h = number_given w (signed.bits_or a b) _ (ap (λ (z : ℤ). Some (js.number z)) (or-is a b f g)) (or-fits a b f g)
+numbers_alike w IntAnd a b f g h = number_given w (signed.bits_and a b) _ (ap (λ (z : ℤ). Some (js.number z)) (and-is a b f g)) (and-fits a b f g)
+numbers_alike w IntXor a b f g h = number_given w (signed.bits_xor a b) _ (ap (λ (z : ℤ). Some (js.number z)) (xor-is a b f g)) (xor-fits a b f g)
+numbers_alike w IntShiftLeft a b f g h = number_given w (signed.shifted_left a b) _ (ap (λ (z : ℤ). Some (js.number z)) (left_shift-is a b f)) (wrapped-fits _)
+numbers_alike w IntShiftRightLogical a b f g h = number_given w (signed.shifted_right_with_zeros a b) _ (ap (λ (z : ℤ). Some (js.number z)) (zero_shift-is a b f)) (zero_shift-fits a b f)
+numbers_alike w IntShiftRightArithmetic a b f g h = number_given w (signed.shifted_right a b) _ (ap (λ (z : ℤ). Some (js.number z)) (right_shift-is a b f)) (shifted_right-fits a b f)
+numbers_alike w IntEqual a b f g h = boolean_given w (int_eq a b) _ refl
+numbers_alike w IntNotEqual a b f g h = boolean_given w (not (int_eq a b)) _ refl
+numbers_alike w IntLess a b f g h = boolean_given w (int_lt a b) _ refl
+numbers_alike w IntLessOrEqual a b f g h = boolean_given w (int_le a b) _ refl
+numbers_alike w IntGreater a b f g h = boolean_given w (int_lt b a) _ refl
+numbers_alike w IntGreaterOrEqual a b f g h = boolean_given w (int_le b a) _ refl
+numbers_alike w BooleanEqual a b f g h = tt
+numbers_alike w BooleanNotEqual a b f g h = tt
+numbers_alike w BooleanOr a b f g h = tt
+numbers_alike w BooleanAnd a b f g h = tt
+numbers_alike w _ a b f g h = impossible h
+
+-- the operators but for division
+pub values_alike : (w : World) (op : BinaryOp) (v1 v2 : ir.Value) (x1 x2 : js.Value) → is_simple op ≡ true → SameValue w v1 x1 → SameValue w v2 x2 → GivenIf w (ir_operators.binary_value op v1 v2) (template_value op x1 x2)
+values_alike w op _ _ _ _ h (same_boolean a) (same_boolean b) = booleans_alike w op a b
+values_alike w op _ _ _ _ h (same_number a f) (same_number b g) = numbers_alike w op a b f g h
+values_alike w op _ _ _ _ h _ _ = tt

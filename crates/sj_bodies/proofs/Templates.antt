@@ -1,0 +1,220 @@
+-- The templates of operators compute what they are to compute, from operands in order.
+use Rattle.std.proofs.Common.{◌≡◌, ℕ, zero, suc, Bool, true, false, List, [], ◌∷◌, Some, None, Option, refl, sym, ap, ◌∙◌, subst}
+use Rattle.std.specs.Prelude.{ℤ, pos, negsuc, ◌≢◌, not, FitsSigned, if◌then◌else◌}
+use Rattle.std.specs.Int.{w32}
+use mathlib.Core.Path.{fun_ext}
+use Rattle.int_arithmetic.specs.Numbers as numbers
+use Rattle.int_arithmetic.specs.Signed as signed
+use Rattle.int_arithmetic.proofs.Fits.{wrapped-fits, remainder-fits, byte-fits, short-fits}
+use Rattle.int_arithmetic.proofs.Operators.{quotient-is, remainder-is, to_byte-is, to_short-is}
+use Rattle.outcomes.specs.Outcome.{Out, done, wrong, then_do}
+use Rattle.outcomes.specs.Agreement.{Sim}
+use Rattle.outcomes.proofs.Sequence.{then_do-right, then_do-associative}
+use Rattle.outcomes.proofs.Simulation.{sim_done, sim_wrong}
+use Rattle.ir_mean.specs.Meaning as ir_meaning
+use Rattle.ir_mean.specs.Operators as ir_operators
+use Rattle.ir_mean.specs.States as ir
+use Rattle.js_mean.specs.Meaning as js_meaning
+use Rattle.js_mean.specs.Operators as js_operators
+use Rattle.js_mean.specs.States as js
+use Rattle.js_tree.specs.Terms as tree
+use Rattle.js_tree.specs.declared.operators.BinaryOperator.{BinaryOperator}
+use Rattle.js_tree.specs.declared.operators.BinaryOperator.TheVariants as Op
+use Rattle.js_tree.specs.declared.operators.UnaryOperator.TheVariants.{Not}
+use Rattle.sj_core.specs.Terms as core
+use Rattle.sj_emit_expr.specs.Templates.{unary_template, binary_template, is_nonzero_literal, expression_template}
+use Rattle.sj_trees.specs.declared.operators.BinaryOp.{BinaryOp}
+use Rattle.sj_trees.specs.declared.operators.BinaryOp.TheVariants.{BooleanEqual, BooleanNotEqual, BooleanOr, BooleanAnd, IntAdd, IntSubtract, IntMultiply, IntDivide, IntRemainder, IntOr, IntAnd, IntXor, IntShiftLeft, IntShiftRightLogical, IntShiftRightArithmetic, IntEqual, IntNotEqual, IntLess, IntLessOrEqual, IntGreater, IntGreaterOrEqual}
+use Rattle.sj_trees.specs.declared.operators.UnaryOp.{UnaryOp}
+use Rattle.sj_trees.specs.declared.operators.UnaryOp.TheVariants.{BooleanNot, ByteToInt, ShortToInt, IntToByte, IntToShort}
+use Rattle.sj_bodies.proofs.Worlds.{World, Grows, grows-refl, SameValue, same_boolean, same_number, SameValues, one_more, no_values}
+use Rattle.sj_bodies.specs.Conditions.{is_simple, is_simple_unary}
+use Rattle.sj_bodies.proofs.Operators.{template_value, or_zero_value, boolean_of, Given, GivenIf, impossible, values_alike}
+use Rattle.sj_bodies.proofs.Orders.{ActsAlike, OperandAlike, OperandsAlike, no_operands, more_operands, in_order_alike, in_order-then}
+use Rattle.sj_bodies.specs.Settings.{Setting, SameState, Valued, valued, shown}
+
+-- an act on two values by what they give
+abbrev pub by_value : (js.Value → js.Value → Option js.Value) → List js.Value → js.Evaluation
+by_value f (v ∷ w ∷ []) sc u = js_meaning.value_or_wrong (f v w) sc u
+by_value f _ sc u = wrong
+
+-- no template is a bare quotient or remainder
+not_ratio-unary : (p : js.Program) (low : js_meaning.Low) (o : UnaryOp) (e : tree.Expression) → js_meaning.ratio_of p low e ≡ None → js_meaning.ratio_of p low (unary_template o e) ≡ None
+not_ratio-unary p low UnaryOp.CharToInt e h = h
+not_ratio-unary p low ByteToInt e h = h
+not_ratio-unary p low ShortToInt e h = h
+not_ratio-unary p low _ e h = refl
+
+not_ratio-binary : (p : js.Program) (low : js_meaning.Low) (b : Bool) (o : BinaryOp) (e g : tree.Expression) → js_meaning.ratio_of p low (binary_template b o e g) ≡ None
+not_ratio-binary p low true IntDivide e g = refl
+not_ratio-binary p low false IntDivide e g = refl
+not_ratio-binary p low true IntRemainder e g = refl
+not_ratio-binary p low false IntRemainder e g = refl
+not_ratio-binary p low b _ e g = refl
+
+pub not_ratio : (z : Setting) (e : core.Expression) → js_meaning.ratio_of z.program z.js_low (expression_template z.name z.label e) ≡ None
+not_ratio z (core.unary_of o e) = not_ratio-unary z.program z.js_low o (expression_template z.name z.label e) (not_ratio z e)
+not_ratio z (core.binary_of o e g) = not_ratio-binary z.program z.js_low (is_nonzero_literal g) o (expression_template z.name z.label e) (expression_template z.name z.label g)
+not_ratio z _ = refl
+
+binary-act : (op : BinaryOperator) (xs : List js.Value) (sc : js.Scope) (u : js.State) → js_meaning.binary op xs sc u ≡ by_value (js_operators.binary_value op) xs sc u
+binary-act op [] sc u = refl
+binary-act op (v ∷ []) sc u = refl
+binary-act op (v ∷ w ∷ []) sc u = refl
+binary-act op (v ∷ w ∷ x ∷ xs) sc u = refl
+
+multiplied-act : (xs : List js.Value) (sc : js.Scope) (u : js.State) → js_meaning.multiplied xs sc u ≡ by_value js_operators.imul_value xs sc u
+multiplied-act [] sc u = refl
+multiplied-act (v ∷ []) sc u = refl
+multiplied-act (v ∷ w ∷ []) sc u = refl
+multiplied-act (v ∷ w ∷ x ∷ xs) sc u = refl
+
+-- operands in order with one act are operands in order with another that does the same
+pub same_act : (es : List js.Evaluation) (act act' : List js.Value → js.Evaluation) (sc : js.Scope) (u : js.State) → ((xs : List js.Value) (sc : js.Scope) (u : js.State) → act xs sc u ≡ act' xs sc u) → js_meaning.in_order es act sc u ≡ js_meaning.in_order es act' sc u
+same_act es act act' sc u h = ap (λ (f : List js.Value → js.Evaluation). js_meaning.in_order es f sc u) (fun_ext (λ xs. fun_ext (λ sc. fun_ext (λ u. h xs sc u))))
+
+scope_free : (o : Option js.Value) (sc sc' : js.Scope) (u : js.State) → js_meaning.value_or_wrong o sc u ≡ js_meaning.value_or_wrong o sc' u
+scope_free None sc sc' u = refl
+scope_free (Some v) sc sc' u = refl
+
+module _ (p : js.Program) (low : js_meaning.Low) where
+  -- `| 0` behind a value
+  or_zero_next : (o : Option js.Value) (sc sc' : js.Scope) (u : js.State) → then_do (js_meaning.value_or_wrong o sc u) (js.with_value (λ v. js_meaning.in_order (js_meaning.evaluate p low (tree.number_literal (pos 0)) ∷ []) (λ vs. js_meaning.binary Op.BitOr (v ∷ vs)) sc')) ≡ js_meaning.value_or_wrong (or_zero_value o) sc u
+  or_zero_next None sc sc' u = refl
+  or_zero_next (Some v) sc sc' u = scope_free (js_operators.binary_value Op.BitOr v (js.number (pos 0))) sc' sc u
+
+  or_zero_act : (f : js.Value → js.Value → Option js.Value) (sc' : js.Scope) (xs : List js.Value) (sc : js.Scope) (u : js.State) → then_do (by_value f xs sc u) (js.with_value (λ v. js_meaning.in_order (js_meaning.evaluate p low (tree.number_literal (pos 0)) ∷ []) (λ vs. js_meaning.binary Op.BitOr (v ∷ vs)) sc')) ≡ by_value (λ v w. or_zero_value (f v w)) xs sc u
+  or_zero_act f sc' [] sc u = refl
+  or_zero_act f sc' (v ∷ []) sc u = refl
+  or_zero_act f sc' (v ∷ w ∷ []) sc u = or_zero_next (f v w) sc sc' u
+  or_zero_act f sc' (v ∷ w ∷ x ∷ xs) sc u = refl
+
+  -- `(e | 0)` of what two operands give
+  or_zero_shown : (inner : tree.Expression) (es : List js.Evaluation) (f : js.Value → js.Value → Option js.Value) (sc : js.Scope) (u : js.State) → js_meaning.ratio_of p low inner ≡ None → js_meaning.evaluate p low inner sc u ≡ js_meaning.in_order es (by_value f) sc u → js_meaning.evaluate p low (tree.binary_of inner Op.BitOr (tree.number_literal (pos 0))) sc u ≡ js_meaning.in_order es (by_value (λ v w. or_zero_value (f v w))) sc u
+  or_zero_shown inner es f sc u r h = ap (λ t. js_meaning.bits_or t (js_meaning.evaluate p low inner) (js_meaning.evaluate p low (tree.number_literal (pos 0))) sc u) r ∙ ap (λ o. then_do o (js.with_value (λ v. js_meaning.in_order (js_meaning.evaluate p low (tree.number_literal (pos 0)) ∷ []) (λ vs. js_meaning.binary Op.BitOr (v ∷ vs)) sc))) h ∙ in_order-then es (by_value f) (λ v. js_meaning.in_order (js_meaning.evaluate p low (tree.number_literal (pos 0)) ∷ []) (λ vs. js_meaning.binary Op.BitOr (v ∷ vs)) sc) sc u ∙ same_act es (λ xs sc' u. then_do (by_value f xs sc' u) (js.with_value (λ v. js_meaning.in_order (js_meaning.evaluate p low (tree.number_literal (pos 0)) ∷ []) (λ vs. js_meaning.binary Op.BitOr (v ∷ vs)) sc))) (by_value (λ v w. or_zero_value (f v w))) sc u (or_zero_act f sc)
+
+  -- a bitwise or whose left operand is no ratio
+  or_shown : (e g : tree.Expression) (sc : js.Scope) (u : js.State) → js_meaning.ratio_of p low e ≡ None → js_meaning.evaluate p low (tree.binary_of e Op.BitOr g) sc u ≡ js_meaning.in_order (js_meaning.evaluate p low e ∷ js_meaning.evaluate p low g ∷ []) (by_value (js_operators.binary_value Op.BitOr)) sc u
+  or_shown e g sc u r = ap (λ t. js_meaning.bits_or t (js_meaning.evaluate p low e) (js_meaning.evaluate p low g) sc u) r ∙ same_act (js_meaning.evaluate p low e ∷ js_meaning.evaluate p low g ∷ []) (js_meaning.binary Op.BitOr) (by_value (js_operators.binary_value Op.BitOr)) sc u (binary-act Op.BitOr)
+
+  abbrev not_twice : js.Scope → js.Value → js.State → Out js.ExpressionEnd
+  not_twice sc v u = then_do (js_meaning.negated (v ∷ []) sc u) (js.with_value (λ w. js_meaning.negated (w ∷ []) sc))
+
+  negated_next : (o : Option js.Value) (sc sc' : js.Scope) (u : js.State) → then_do (then_do (js_meaning.value_or_wrong o sc u) (js.with_value (λ v. js_meaning.negated (v ∷ []) sc'))) (js.with_value (λ w. js_meaning.negated (w ∷ []) sc')) ≡ js_meaning.value_or_wrong (boolean_of o) sc u
+  negated_next None sc sc' u = refl
+  negated_next (Some v) sc sc' u = refl
+
+  negated_act : (f : js.Value → js.Value → Option js.Value) (sc' : js.Scope) (xs : List js.Value) (sc : js.Scope) (u : js.State) → then_do (then_do (by_value f xs sc u) (js.with_value (λ v. js_meaning.negated (v ∷ []) sc'))) (js.with_value (λ w. js_meaning.negated (w ∷ []) sc')) ≡ by_value (λ v w. boolean_of (f v w)) xs sc u
+  negated_act f sc' [] sc u = refl
+  negated_act f sc' (v ∷ []) sc u = refl
+  negated_act f sc' (v ∷ w ∷ []) sc u = negated_next (f v w) sc sc' u
+  negated_act f sc' (v ∷ w ∷ x ∷ xs) sc u = refl
+
+  -- `(!(!e))` of what two operands give
+  negated_shown : (inner : tree.Expression) (es : List js.Evaluation) (f : js.Value → js.Value → Option js.Value) (sc : js.Scope) (u : js.State) → js_meaning.evaluate p low inner sc u ≡ js_meaning.in_order es (by_value f) sc u → js_meaning.evaluate p low (tree.unary_of Not (tree.unary_of Not inner)) sc u ≡ js_meaning.in_order es (by_value (λ v w. boolean_of (f v w))) sc u
+  negated_shown inner es f sc u h = ap (λ o. then_do (then_do o (js.with_value (λ v. js_meaning.negated (v ∷ []) sc))) (js.with_value (λ w. js_meaning.negated (w ∷ []) sc))) h ∙ ap (λ o. then_do o (js.with_value (λ w. js_meaning.negated (w ∷ []) sc))) (in_order-then es (by_value f) (λ v. js_meaning.negated (v ∷ []) sc) sc u) ∙ in_order-then es (λ xs sc' u. then_do (by_value f xs sc' u) (js.with_value (λ v. js_meaning.negated (v ∷ []) sc))) (λ w. js_meaning.negated (w ∷ []) sc) sc u ∙ same_act es (λ xs sc' u. then_do (then_do (by_value f xs sc' u) (js.with_value (λ v. js_meaning.negated (v ∷ []) sc))) (js.with_value (λ w. js_meaning.negated (w ∷ []) sc))) (by_value (λ v w. boolean_of (f v w))) sc u (negated_act f sc)
+
+  module _ (b : Bool) (e g : tree.Expression) (r : js_meaning.ratio_of p low e ≡ None) (sc : js.Scope) (u : js.State) where
+    plain_operator : (op : BinaryOperator) → js_meaning.in_order (js_meaning.evaluate p low e ∷ js_meaning.evaluate p low g ∷ []) (js_meaning.binary op) sc u ≡ js_meaning.in_order (js_meaning.evaluate p low e ∷ js_meaning.evaluate p low g ∷ []) (by_value (js_operators.binary_value op)) sc u
+    plain_operator op = same_act (js_meaning.evaluate p low e ∷ js_meaning.evaluate p low g ∷ []) (js_meaning.binary op) (by_value (js_operators.binary_value op)) sc u (binary-act op)
+
+    -- the template of an operator evaluates its operands in order, and then gives what it is to give
+    pub binary_shown : (o : BinaryOp) → is_simple o ≡ true → (js_meaning.evaluate p low (binary_template b o e g) sc u ≡ js_meaning.in_order (js_meaning.evaluate p low e ∷ js_meaning.evaluate p low g ∷ []) (by_value (template_value o)) sc u)
+    binary_shown BooleanEqual h = plain_operator Op.StrictEqual
+    binary_shown BooleanNotEqual h = plain_operator Op.StrictNotEqual
+    binary_shown BooleanOr h = negated_shown (tree.binary_of e Op.BitOr g) (js_meaning.evaluate p low e ∷ js_meaning.evaluate p low g ∷ []) (js_operators.binary_value Op.BitOr) sc u (or_shown e g sc u r)
+    binary_shown BooleanAnd h = negated_shown (tree.binary_of e Op.BitAnd g) (js_meaning.evaluate p low e ∷ js_meaning.evaluate p low g ∷ []) (js_operators.binary_value Op.BitAnd) sc u (plain_operator Op.BitAnd)
+    binary_shown IntAdd h = or_zero_shown (tree.binary_of e Op.Add g) (js_meaning.evaluate p low e ∷ js_meaning.evaluate p low g ∷ []) (js_operators.binary_value Op.Add) sc u refl (plain_operator Op.Add)
+    binary_shown IntSubtract h = or_zero_shown (tree.binary_of e Op.Subtract g) (js_meaning.evaluate p low e ∷ js_meaning.evaluate p low g ∷ []) (js_operators.binary_value Op.Subtract) sc u refl (plain_operator Op.Subtract)
+    binary_shown IntMultiply h = same_act (js_meaning.evaluate p low e ∷ js_meaning.evaluate p low g ∷ []) js_meaning.multiplied (by_value js_operators.imul_value) sc u multiplied-act
+    binary_shown IntOr h = or_shown e g sc u r
+    binary_shown IntAnd h = plain_operator Op.BitAnd
+    binary_shown IntXor h = plain_operator Op.BitXor
+    binary_shown IntShiftLeft h = plain_operator Op.ShiftLeft
+    binary_shown IntShiftRightLogical h = or_zero_shown (tree.binary_of e Op.ShiftRightUnsigned g) (js_meaning.evaluate p low e ∷ js_meaning.evaluate p low g ∷ []) (js_operators.binary_value Op.ShiftRightUnsigned) sc u refl (plain_operator Op.ShiftRightUnsigned)
+    binary_shown IntShiftRightArithmetic h = plain_operator Op.ShiftRight
+    binary_shown IntEqual h = plain_operator Op.StrictEqual
+    binary_shown IntNotEqual h = plain_operator Op.StrictNotEqual
+    binary_shown IntLess h = plain_operator Op.Less
+    binary_shown IntLessOrEqual h = plain_operator Op.LessOrEqual
+    binary_shown IntGreater h = plain_operator Op.Greater
+    binary_shown IntGreaterOrEqual h = plain_operator Op.GreaterOrEqual
+    binary_shown _ h = impossible h
+
+pub value_alike : (z : Setting) (base w : World) (env : ir.Env) (sc : js.Scope) (s : ir.State) (u : js.State) (o : Option ir.Value) (t : Option js.Value) → GivenIf w o t → Grows base w → SameState z w s u → Sim z.direction (Valued z base env) (ir_meaning.value_or_wrong o env s) (js_meaning.value_or_wrong t sc u)
+value_alike z base w env sc s u None t h g same = sim_wrong z.direction (Valued z base env) (js_meaning.value_or_wrong t sc u)
+value_alike z base w env sc s u (Some v) t h g same = subst (λ o. Sim z.direction (Valued z base env) (done (ir.ends (ir.gives v) env s)) (js_meaning.value_or_wrong o sc u)) (sym h.is) (sim_done z.direction (Valued z base env) (ir.ends (ir.gives v) env s) (js.gives h.value u) (valued w v h.value s u g h.alike same))
+
+-- the act of an operator, and that of its template
+pub binary_acts : (z : Setting) (base : World) (env : ir.Env) (sc : js.Scope) (o : BinaryOp) → is_simple o ≡ true → ActsAlike z base base env (ir_meaning.binary o) (by_value (template_value o)) sc
+binary_acts z base env sc o h w _ _ s u g no_values same = sim_wrong z.direction (Valued z base env) _
+binary_acts z base env sc o h w _ _ s u g (one_more v x _ _ a no_values) same = sim_wrong z.direction (Valued z base env) _
+binary_acts z base env sc o h w _ _ s u g (one_more v1 x1 _ _ a (one_more v2 x2 _ _ b no_values)) same = value_alike z base w env sc s u (ir_operators.binary_value o v1 v2) (template_value o x1 x2) (values_alike w o v1 v2 x1 x2 h a b) g same
+binary_acts z base env sc o h w _ _ s u g (one_more v1 x1 _ _ a (one_more v2 x2 _ _ b (one_more v3 x3 vs xs c d))) same = sim_wrong z.direction (Valued z base env) _
+
+-- `>>` behind a value
+abbrev pub shifted_back : ℤ → Option js.Value → Option js.Value
+shifted_back n None = None
+shifted_back n (Some v) = js_operators.binary_value Op.ShiftRight v (js.number n)
+
+-- what the template of an operator on one operand gives
+abbrev pub one_template_value : UnaryOp → js.Value → Option js.Value
+one_template_value BooleanNot v = Some (js.boolean (not (js_operators.to_boolean v)))
+one_template_value ByteToInt v = Some v
+one_template_value ShortToInt v = Some v
+one_template_value IntToByte v = shifted_back (pos 24) (js_operators.binary_value Op.ShiftLeft v (js.number (pos 24)))
+one_template_value IntToShort v = shifted_back (pos 16) (js_operators.binary_value Op.ShiftLeft v (js.number (pos 16)))
+one_template_value _ v = None
+
+abbrev pub by_one_value : (js.Value → Option js.Value) → List js.Value → js.Evaluation
+by_one_value f (v ∷ []) sc u = js_meaning.value_or_wrong (f v) sc u
+by_one_value f _ sc u = wrong
+
+one_value_alike : (w : World) (o : UnaryOp) (v : ir.Value) (x : js.Value) → SameValue w v x → GivenIf w (ir_operators.unary_value o v) (one_template_value o x)
+one_value_alike w BooleanNot _ _ (same_boolean b) = record { value = js.boolean (not b); is = refl; alike = same_boolean (not b) }
+one_value_alike w ByteToInt _ _ (same_number a f) = record { value = js.number a; is = refl; alike = same_number a f }
+one_value_alike w ShortToInt _ _ (same_number a f) = record { value = js.number a; is = refl; alike = same_number a f }
+one_value_alike w IntToByte _ _ (same_number a f) = record { value = js.number (signed.wrapped_to_byte a); is = ap (λ (b : ℤ). Some (js.number b)) (to_byte-is a); alike = same_number (signed.wrapped_to_byte a) (byte-fits a) }
+one_value_alike w IntToShort _ _ (same_number a f) = record { value = js.number (signed.wrapped_to_short a); is = ap (λ (b : ℤ). Some (js.number b)) (to_short-is a); alike = same_number (signed.wrapped_to_short a) (short-fits a) }
+one_value_alike w _ _ _ _ = tt
+
+pub unary_acts : (z : Setting) (base : World) (env : ir.Env) (sc : js.Scope) (o : UnaryOp) → ActsAlike z base base env (ir_meaning.unary o) (by_one_value (one_template_value o)) sc
+unary_acts z base env sc o w _ _ s u g no_values same = sim_wrong z.direction (Valued z base env) _
+unary_acts z base env sc o w _ _ s u g (one_more v x _ _ a no_values) same = value_alike z base w env sc s u (ir_operators.unary_value o v) (one_template_value o x) (one_value_alike w o v x a) g same
+unary_acts z base env sc o w _ _ s u g (one_more v1 x1 _ _ a (one_more v2 x2 vs xs b c)) same = sim_wrong z.direction (Valued z base env) _
+
+negated_one : (xs : List js.Value) (sc : js.Scope) (u : js.State) → js_meaning.negated xs sc u ≡ by_one_value (one_template_value BooleanNot) xs sc u
+negated_one [] sc u = refl
+negated_one (v ∷ []) sc u = refl
+negated_one (v ∷ w ∷ xs) sc u = refl
+
+valued-again : (b : js.ExpressionEnd) (sc : js.Scope) → js.with_value (λ v s. by_one_value Some (v ∷ []) sc s) b ≡ done b
+valued-again (js.gives v s) sc = refl
+valued-again (js.throws v s) sc = refl
+
+-- an expression by itself is one operand that is handed on
+alone_shown : (e : js.Evaluation) (sc : js.Scope) (u : js.State) → e sc u ≡ js_meaning.in_order (e ∷ []) (by_one_value Some) sc u
+alone_shown e sc u = sym (ap (then_do (e sc u)) (fun_ext (λ b. valued-again b sc)) ∙ then_do-right (e sc u))
+
+module _ (p : js.Program) (low : js_meaning.Low) where
+  shift_next : (n : ℕ) (e : numbers.is_exact (pos n) ≡ true) (o : Option js.Value) (sc sc' : js.Scope) (u : js.State) → then_do (js_meaning.value_or_wrong o sc u) (js.with_value (λ v. js_meaning.in_order (js_meaning.evaluate p low (tree.number_literal (pos n)) ∷ []) (λ vs. js_meaning.binary Op.ShiftRight (v ∷ vs)) sc')) ≡ js_meaning.value_or_wrong (shifted_back (pos n) o) sc u
+  shift_next n e None sc sc' u = refl
+  shift_next n e (Some v) sc sc' u = ap (λ (t : Bool). then_do (if t then done (js.gives (js.number (pos n)) u) else wrong) (js.with_value (λ w. js_meaning.binary Op.ShiftRight (v ∷ w ∷ []) sc'))) e ∙ scope_free (js_operators.binary_value Op.ShiftRight v (js.number (pos n))) sc' sc u
+
+  abbrev back : ℕ → js.Scope → js.Value → js.State → Out js.ExpressionEnd
+  back n sc v = js_meaning.in_order (js_meaning.evaluate p low (tree.number_literal (pos n)) ∷ []) (λ vs. js_meaning.binary Op.ShiftRight (v ∷ vs)) sc
+
+  one_shift : (n : ℕ) (e : numbers.is_exact (pos n) ≡ true) (sc : js.Scope) (x : js.Value) (u : js.State) → js_meaning.in_order (js_meaning.evaluate p low (tree.number_literal (pos n)) ∷ []) (λ vs sc' u. then_do (js_meaning.binary Op.ShiftLeft (x ∷ vs) sc' u) (js.with_value (back n sc))) sc u ≡ js_meaning.value_or_wrong (shifted_back (pos n) (js_operators.binary_value Op.ShiftLeft x (js.number (pos n)))) sc u
+  one_shift n e sc x u = ap (λ (t : Bool). then_do (if t then done (js.gives (js.number (pos n)) u) else wrong) (js.with_value (λ w q. then_do (js_meaning.binary Op.ShiftLeft (x ∷ w ∷ []) sc q) (js.with_value (back n sc))))) e ∙ shift_next n e (js_operators.binary_value Op.ShiftLeft x (js.number (pos n))) sc sc u
+
+  pub cut_shown : (n : ℕ) (e : numbers.is_exact (pos n) ≡ true) (g : tree.Expression) (sc : js.Scope) (u : js.State) → js_meaning.evaluate p low (tree.binary_of (tree.binary_of g Op.ShiftLeft (tree.number_literal (pos n))) Op.ShiftRight (tree.number_literal (pos n))) sc u ≡ js_meaning.in_order (js_meaning.evaluate p low g ∷ []) (by_one_value (λ v. shifted_back (pos n) (js_operators.binary_value Op.ShiftLeft v (js.number (pos n))))) sc u
+  cut_shown n e g sc u = in_order-then (js_meaning.evaluate p low g ∷ js_meaning.evaluate p low (tree.number_literal (pos n)) ∷ []) (js_meaning.binary Op.ShiftLeft) (back n sc) sc u ∙ ap (λ f. then_do (js_meaning.evaluate p low g sc u) (js.with_value f)) (fun_ext (λ x. fun_ext (λ q. one_shift n e sc x q)))
+
+  module _ (e : tree.Expression) (sc : js.Scope) (u : js.State) where
+    pub unary_shown : (o : UnaryOp) → is_simple_unary o ≡ true → (js_meaning.evaluate p low (unary_template o e) sc u ≡ js_meaning.in_order (js_meaning.evaluate p low e ∷ []) (by_one_value (one_template_value o)) sc u)
+    unary_shown BooleanNot h = same_act (js_meaning.evaluate p low e ∷ []) js_meaning.negated (by_one_value (one_template_value BooleanNot)) sc u negated_one
+    unary_shown ByteToInt h = alone_shown (js_meaning.evaluate p low e) sc u
+    unary_shown ShortToInt h = alone_shown (js_meaning.evaluate p low e) sc u
+    unary_shown IntToByte h = cut_shown 24 refl e sc u
+    unary_shown IntToShort h = cut_shown 16 refl e sc u
+    unary_shown _ h = impossible h

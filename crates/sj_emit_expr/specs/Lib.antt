@@ -1,0 +1,4 @@
+pub mod Names
+pub mod Rows
+pub mod Templates
+pub mod Uses

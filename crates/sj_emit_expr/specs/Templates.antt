@@ -1,0 +1,140 @@
+-- The emitted text of each expression and statement of the core: one line a form and an operator.
+use Rattle.std.specs.Prelude.{ℕ, zero, suc, Bool, true, false, List, [], ◌∷◌, ℤ, pos, negsuc, codes, map}
+use Rattle.js_tree.specs.Terms as js
+use Rattle.js_tree.specs.Terms.{Name, null_literal, boolean_literal, undefined_literal, number_literal, text_literal, name_use, call_of, new_of, binary_of, conditional_of, host_call, host_call_of_two, const_of, let_of, expression_statement, assign_name, break_to, if_only, if_else, do_forever, switch_on}
+use Rattle.js_tree.specs.declared.operators.BinaryOperator.{BinaryOperator}
+use Rattle.js_tree.specs.declared.operators.BinaryOperator.TheVariants.{Add, Subtract, Divide, Remainder, BitAnd, BitOr, BitXor, ShiftLeft, ShiftRight, ShiftRightUnsigned, StrictEqual, StrictNotEqual, Less, LessOrEqual, Greater, GreaterOrEqual}
+use Rattle.js_tree.specs.declared.operators.HostFunction.TheVariants.{ConsoleLog}
+use Rattle.js_tree.specs.declared.operators.HostOperation.TheVariants.{MathImul}
+use Rattle.js_tree.specs.declared.operators.UnaryOperator.TheVariants.{Not}
+use Rattle.sj_core.specs.Terms as core
+use Rattle.sj_core.specs.Terms.{Variable, undefined_value, null_value, boolean_value, number_value, text_value, variable_use, boxed_char, choice_of, static_call, constant_of, define_of, assign_to, evaluate_of, log_of, leave_label, if_of, loop_of, switch_of, Method}
+use Rattle.sj_emit_expr.specs.Names.{variable_name, label_name}
+use Rattle.sj_mangling.specs.Bindings.{function_name}
+use Rattle.sj_names.specs.declared.method_names.Member.{Member}
+use Rattle.sj_trees.specs.declared.operators.BinaryOp.{BinaryOp}
+use Rattle.sj_trees.specs.declared.operators.BinaryOp.TheVariants.{BooleanEqual, BooleanNotEqual, BooleanOr, BooleanAnd, IntAdd, IntSubtract, IntMultiply, IntDivide, IntRemainder, IntOr, IntAnd, IntXor, IntShiftLeft, IntShiftRightLogical, IntShiftRightArithmetic, IntEqual, IntNotEqual, IntLess, IntLessOrEqual, IntGreater, IntGreaterOrEqual}
+use Rattle.sj_trees.specs.declared.operators.UnaryOp.{UnaryOp}
+use Rattle.sj_trees.specs.declared.operators.UnaryOp.TheVariants.{BooleanNot, CharToInt, ByteToInt, ShortToInt, IntToByte, IntToShort}
+
+abbrev pub whole : ℕ → js.Expression
+whole n = number_literal (pos n)
+
+abbrev pub negated : js.Expression → js.Expression
+negated e = js.unary_of Not e
+
+-- `(e | 0)`
+abbrev pub or_zero : js.Expression → js.Expression
+or_zero e = binary_of e BitOr (whole 0)
+
+-- `((e << n) >> n)`
+abbrev pub cut : ℕ → js.Expression → js.Expression
+cut n e = binary_of (binary_of e ShiftLeft (whole n)) ShiftRight (whole n)
+
+-- an operator that isn't built yet stands as undefined
+abbrev pub unary_template : UnaryOp → js.Expression → js.Expression
+unary_template BooleanNot e = negated e
+unary_template CharToInt e = e
+unary_template ByteToInt e = e
+unary_template ShortToInt e = e
+unary_template IntToByte e = cut 24 e
+unary_template IntToShort e = cut 16 e
+unary_template _ e = undefined_literal
+
+-- a literal other than zero
+abbrev pub is_nonzero_literal : core.Expression → Bool
+is_nonzero_literal undefined_value = true
+is_nonzero_literal null_value = true
+is_nonzero_literal (boolean_value b) = true
+is_nonzero_literal (number_value (pos zero)) = false
+is_nonzero_literal (number_value z) = true
+is_nonzero_literal (text_value us) = true
+is_nonzero_literal _ = false
+
+-- by whether the right operand is a literal other than zero, which alone a division here has
+abbrev pub binary_template : Bool → BinaryOp → js.Expression → js.Expression → js.Expression
+binary_template nonzero BooleanEqual e g = binary_of e StrictEqual g
+binary_template nonzero BooleanNotEqual e g = binary_of e StrictNotEqual g
+binary_template nonzero BooleanOr e g = negated (negated (binary_of e BitOr g))
+binary_template nonzero BooleanAnd e g = negated (negated (binary_of e BitAnd g))
+binary_template nonzero IntAdd e g = or_zero (binary_of e Add g)
+binary_template nonzero IntSubtract e g = or_zero (binary_of e Subtract g)
+binary_template nonzero IntMultiply e g = host_call_of_two MathImul e g
+binary_template true IntDivide e g = or_zero (binary_of e Divide g)
+binary_template false IntDivide e g = call_of (codes "$id") (js.expression e (js.expression g js.no_expressions))
+binary_template true IntRemainder e g = or_zero (binary_of e Remainder g)
+binary_template false IntRemainder e g = call_of (codes "$im") (js.expression e (js.expression g js.no_expressions))
+binary_template nonzero IntOr e g = binary_of e BitOr g
+binary_template nonzero IntAnd e g = binary_of e BitAnd g
+binary_template nonzero IntXor e g = binary_of e BitXor g
+binary_template nonzero IntShiftLeft e g = binary_of e ShiftLeft g
+binary_template nonzero IntShiftRightLogical e g = or_zero (binary_of e ShiftRightUnsigned g)
+binary_template nonzero IntShiftRightArithmetic e g = binary_of e ShiftRight g
+binary_template nonzero IntEqual e g = binary_of e StrictEqual g
+binary_template nonzero IntNotEqual e g = binary_of e StrictNotEqual g
+binary_template nonzero IntLess e g = binary_of e Less g
+binary_template nonzero IntLessOrEqual e g = binary_of e LessOrEqual g
+binary_template nonzero IntGreater e g = binary_of e Greater g
+binary_template nonzero IntGreaterOrEqual e g = binary_of e GreaterOrEqual g
+binary_template nonzero _ e g = undefined_literal
+
+abbrev pub member_name : Member → Name
+member_name m = function_name m.namespace m.class m.method
+
+-- a choice whose second branch has no statements is written without it
+abbrev pub choice_template : js.Expression → js.Statements → js.Statements → js.Statement
+choice_template c ss js.no_statements = if_only c ss
+choice_template c ss (js.statement t ts) = if_else c ss (js.statement t ts)
+
+-- for any names of variables and labels
+module _ (name : Variable → Name) (label : List ℕ → Name) where
+  abbrev mutual
+    pub expression_template : core.Expression → js.Expression
+    expression_template undefined_value = undefined_literal
+    expression_template null_value = null_literal
+    expression_template (boolean_value b) = boolean_literal b
+    expression_template (number_value z) = number_literal z
+    expression_template (text_value us) = text_literal us
+    expression_template (variable_use x) = name_use (name x)
+    expression_template (boxed_char e) = new_of (codes "$C") (js.expression (expression_template e) js.no_expressions)
+    expression_template (choice_of c e g) = conditional_of (expression_template c) (expression_template e) (expression_template g)
+    expression_template (static_call m es) = call_of (member_name m) (expression_templates es)
+    expression_template (core.unary_of o e) = unary_template o (expression_template e)
+    expression_template (core.binary_of o e g) = binary_template (is_nonzero_literal g) o (expression_template e) (expression_template g)
+
+    pub expression_templates : core.Expressions → js.Expressions
+    expression_templates core.no_expressions = js.no_expressions
+    expression_templates (core.expression e es) = js.expression (expression_template e) (expression_templates es)
+
+  abbrev mutual
+    pub statement_template : core.Statement → js.Statement
+    statement_template (constant_of p x e) = const_of (name x) (expression_template e)
+    statement_template (define_of p x e) = let_of (name x) (expression_template e)
+    statement_template (core.declare_of p x) = js.declare_of (name x)
+    statement_template (assign_to p x e) = assign_name (name x) (expression_template e)
+    statement_template (evaluate_of p e) = expression_statement (expression_template e)
+    statement_template (core.return_of p e) = js.return_of (expression_template e)
+    statement_template (log_of p e) = expression_statement (host_call ConsoleLog (expression_template e))
+    statement_template (leave_label p l) = break_to (label l)
+    statement_template (core.break_nearest p) = js.break_nearest
+    statement_template (if_of p c ss ts) = choice_template (expression_template c) (statement_templates ss) (statement_templates ts)
+    statement_template (core.while_of p c ss) = js.while_of (expression_template c) (statement_templates ss)
+    statement_template (loop_of p ss) = do_forever (statement_templates ss)
+    statement_template (core.labeled_of p l ss) = js.labeled_of (label l) (statement_templates ss)
+    statement_template (switch_of p e cs ss) = switch_on (expression_template e) (case_templates cs) (statement_templates ss)
+
+    pub statement_templates : core.Statements → js.Statements
+    statement_templates core.no_statements = js.no_statements
+    statement_templates (core.statement s ss) = js.statement (statement_template s) (statement_templates ss)
+
+    pub case_templates : core.Cases → js.Cases
+    case_templates core.no_cases = js.no_cases
+    case_templates (core.switch_case ks ss cs) = js.switch_case ks (statement_templates ss) (case_templates cs)
+
+-- the parameters of a function, and its statements
+abbrev pub parameter_names : List (List ℕ) → List Name
+parameter_names [] = []
+parameter_names (x ∷ xs) = variable_name (core.named x) ∷ parameter_names xs
+
+abbrev pub body_template : Method → js.Statements
+body_template m = statement_templates variable_name label_name m.body

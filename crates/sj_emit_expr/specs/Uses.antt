@@ -1,0 +1,72 @@
+-- The bindings that a method's function uses, each with the class that owns it, in order of first use in the text.
+use Rattle.std.specs.Prelude.{ℕ, Bool, true, false, ◌&&◌, List, [], ◌∷◌, ◌++◌, nat_eq, codes, if◌then◌else◌}
+use Rattle.std.specs.Cmp.Lexicographic.{pointwise}
+use Rattle.std.specs.List.{list_any}
+use Rattle.js_tree.specs.declared.items.Binding.{Binding}
+use Rattle.sj_core.specs.Terms.{Expression, boxed_char, choice_of, static_call, unary_of, binary_of, Expressions, no_expressions, expression, Statement, constant_of, define_of, declare_of, assign_to, evaluate_of, return_of, log_of, leave_label, break_nearest, if_of, while_of, loop_of, labeled_of, switch_of, Statements, no_statements, statement, Cases, no_cases, switch_case}
+use Rattle.sj_emit_expr.specs.Templates.{member_name, is_nonzero_literal}
+use Rattle.sj_names.specs.declared.method_names.Member.{Member}
+use Rattle.sj_trees.specs.declared.operators.BinaryOp.{BinaryOp}
+use Rattle.sj_trees.specs.declared.operators.BinaryOp.TheVariants.{IntDivide, IntRemainder}
+
+abbrev pub object_binding : List ℕ → Binding
+object_binding x = record { owner = codes "java.lang.Object"; name = x }
+
+abbrev pub function_binding : Member → Binding
+function_binding m = record { owner = m.class; name = member_name m }
+
+-- the helper that an operator calls
+abbrev pub helper_of : Bool → BinaryOp → List Binding
+helper_of false IntDivide = object_binding (codes "$id") ∷ []
+helper_of false IntRemainder = object_binding (codes "$im") ∷ []
+helper_of _ _ = []
+
+abbrev mutual
+  -- each use in the order of the text
+  pub uses_in : Expression → List Binding
+  uses_in (boxed_char e) = object_binding (codes "$C") ∷ uses_in e
+  uses_in (choice_of c e g) = uses_in c ++ uses_in e ++ uses_in g
+  uses_in (static_call m es) = function_binding m ∷ uses_in_all es
+  uses_in (unary_of o e) = uses_in e
+  uses_in (binary_of o e g) = helper_of (is_nonzero_literal g) o ++ uses_in e ++ uses_in g
+  uses_in _ = []
+
+  pub uses_in_all : Expressions → List Binding
+  uses_in_all no_expressions = []
+  uses_in_all (expression e es) = uses_in e ++ uses_in_all es
+
+abbrev mutual
+  pub uses_of : Statement → List Binding
+  uses_of (constant_of p x e) = uses_in e
+  uses_of (define_of p x e) = uses_in e
+  uses_of (declare_of p x) = []
+  uses_of (assign_to p x e) = uses_in e
+  uses_of (evaluate_of p e) = uses_in e
+  uses_of (return_of p e) = uses_in e
+  uses_of (log_of p e) = uses_in e
+  uses_of (leave_label p l) = []
+  uses_of (break_nearest p) = []
+  uses_of (if_of p c ss ts) = uses_in c ++ uses_of_all ss ++ uses_of_all ts
+  uses_of (while_of p c ss) = uses_in c ++ uses_of_all ss
+  uses_of (loop_of p ss) = uses_of_all ss
+  uses_of (labeled_of p l ss) = uses_of_all ss
+  uses_of (switch_of p e cs ss) = uses_in e ++ uses_of_cases cs ++ uses_of_all ss
+
+  pub uses_of_all : Statements → List Binding
+  uses_of_all no_statements = []
+  uses_of_all (statement s ss) = uses_of s ++ uses_of_all ss
+
+  pub uses_of_cases : Cases → List Binding
+  uses_of_cases no_cases = []
+  uses_of_cases (switch_case ks ss cs) = uses_of_all ss ++ uses_of_cases cs
+
+abbrev pub is_same_binding : Binding → Binding → Bool
+is_same_binding a b = pointwise nat_eq a.owner b.owner && pointwise nat_eq a.name b.name
+
+-- each once, where it comes first, but for those that are there already
+abbrev pub once_each : List Binding → List Binding → List Binding
+once_each seen [] = []
+once_each seen (b ∷ bs) = if list_any (is_same_binding b) seen then once_each seen bs else (b ∷ once_each (b ∷ seen) bs)
+
+abbrev pub uses : Statements → List Binding
+uses ss = once_each [] (uses_of_all ss)
