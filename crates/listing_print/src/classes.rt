@@ -173,10 +173,10 @@ fn superclass_part(out: &mut Vec<u8>, superclass: &Option<ClassName>) -> Result<
     ensures { OnOk result (out.new.items ≡ (put (codes " ") ▸ put_superclass superclass.now) out.old.items) }
 {
     append(out, " ")?;
-    match superclass {
-        Some(name) => append_name(out, name.text()),
-        None => append(out, "-"),
-    }
+    let Some(name) = superclass else {
+        return append(out, "-");
+    };
+    append_name(out, name.text())
 }
 
 /// Appends names with a space in front of each.

@@ -67,7 +67,8 @@ pub(crate) fn integer_part(out: &mut Vec<u8>, number: i64) -> Result<(), NoMemor
 pub(crate) fn unary_part(out: &mut Vec<u8>, operator: UnaryOp) -> Result<(), NoMemory>
     ensures { OnOk result (out.new.items ≡ (put (codes " ") ▸ put_unary_op operator) out.old.items) }
 {
-    natural_part(out, u64::from(operator.code()))
+    append(out, " ")?;
+    append_natural(out, u64::from(operator.code()))
 }
 
 pub(crate) fn binary_part(out: &mut Vec<u8>, operator: BinaryOp) -> Result<(), NoMemory>
