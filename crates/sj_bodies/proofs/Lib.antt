@@ -1,5 +1,7 @@
+pub mod Blocks
 pub mod Conditions
 pub mod Contexts
+pub mod Declared
 pub mod Numbers
 pub mod Operators
 pub mod Orders
