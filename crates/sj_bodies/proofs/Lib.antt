@@ -1,5 +1,8 @@
+pub mod Blocks
 pub mod Conditions
 pub mod Contexts
+pub mod Declared
+pub mod Fine
 pub mod Numbers
 pub mod Operators
 pub mod Orders

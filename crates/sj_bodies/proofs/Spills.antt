@@ -36,8 +36,19 @@ keeping c p = record { scope = c.scope; writable = c.writable; kept = p; targets
 abbrev pub writing : Context → core.Variable → Context
 writing c x = record { scope = c.scope; writable = λ y. (y ≡ x) ⊎ c.writable y; kept = c.kept; targets = c.targets; turning = c.turning }
 
-abbrev pub one_more_kept : Context → core.Variable → core.Variable → Type 0
-one_more_kept c x y = (y ≡ x) ⊎ c.kept y
+-- more is kept, but no more locals
+pub record Extends (c : Context) (p : core.Variable → Type 0) : Type 0 where
+  pub more : (y : core.Variable) → c.kept y → p y
+  pub names : (x : List ℕ) → p (core.named x) → c.kept (core.named x)
+
+pub extends-refl : (c : Context) → Extends c c.kept
+extends-refl c = record { more = λ y h. h; names = λ x h. h }
+
+pub numbered-named : (x : List ℕ) (j : ℕ) → core.named x ≡ core.numbered j → ⊥
+numbered-named x j e = absurd (cc)
+
+pub extends-more : (c : Context) (p : core.Variable → Type 0) (j : ℕ) → Extends c p → Extends c (λ y. (y ≡ core.numbered j) ⊎ p y)
+extends-more c p j e = record { more = λ y h. inr (e.more y h); names = λ x h. ⊎_elim (λ i. absurd (numbered-named x j i)) (e.names x) h }
 
 module _ (z : Setting) (lawful : Lawful z) where
   -- a tree and its statements, in a context, with a destination and numbers from this on
@@ -58,7 +69,7 @@ module _ (z : Setting) (lawful : Lawful z) where
 
   -- what is known of an operand: it is plain; or it isn't, and its statements bring its value to a variable, whatever more is kept
   abbrev pub OperandDoes : Context → ℕ → Term → Type 1
-  OperandDoes c j t = ((is_plain t ≡ true) × Plain z.is_linked c.scope t) ⊎ ((is_plain t ≡ false) × (is_fixed z.is_mutable t ≡ false) × Onward c.targets t × ((p : core.Variable → Type 0) (i : ℕ) → j ≤ i → Sound z (keeping c p) → Ahead (keeping c p) i → Does (writing (keeping c p) (core.numbered i)) (to_variable (core.numbered i) (type_of_term t)) (suc i) t))
+  OperandDoes c j t = ((is_plain t ≡ true) × Plain z.is_linked c.scope t) ⊎ ((is_plain t ≡ false) × (is_fixed z.is_mutable t ≡ false) × Onward c.targets t × ((p : core.Variable → Type 0) (i : ℕ) → j ≤ i → Extends c p → Sound z (keeping c p) → Ahead (keeping c p) i → Does (writing (keeping c p) (core.numbered i)) (to_variable (core.numbered i) (type_of_term t)) (suc i) t))
 
   abbrev pub OperandsDo : Context → ℕ → List Term → Type 1
   OperandsDo c j [] = Unit {1}
@@ -86,7 +97,7 @@ module _ (z : Setting) (lawful : Lawful z) where
   Final c k from before p j start at n act rest_of = (q : core.Variable → Type 0) (i : ℕ) (rs : List ir.Run) (es : List core.Expression) (w : World) (env : ir.Env) (s : ir.State) (sc : js.Scope) (u : js.State) → ((y : core.Variable) → p y → q y) → Sound z (keeping c q) → Ahead (keeping c q) i → j ≤ i → Grows at w → Ready z c.scope c.writable w env sc → Keeps z c.kept before sc → Keeps z p start sc → SameState z w s u → Sized rs n → OperandsAlike z w env sc rs (all_shown z lawful c.scope es) → Ends z lawful c c.scope k from before (ir_meaning.in_order rs act env s) (rest_of es i).statements sc u
 
   abbrev pub SpillDoes : Context → Destination → World → js.Scope → List Term → Type 1
-  SpillDoes c k from before ts = (p : core.Variable → Type 0) (j : ℕ) (act : List ir.Value → ir.Run) (rest_of : List core.Expression → ℕ → Code) (w : World) (env : ir.Env) (s : ir.State) (sc : js.Scope) (u : js.State) → OperandsDo c j ts → ((y : core.Variable) → c.kept y → p y) → Sound z (keeping c p) → Ahead (keeping c p) j → Final c k from before p j sc w (count ts) act rest_of → Grows from w → Ready z c.scope c.writable w env sc → Keeps z c.kept before sc → SameState z w s u → Ends z lawful c c.scope k from before (ir_meaning.in_order (runs ts) act env s) (then_use (spill (operands_in c.targets ts) j) rest_of).statements sc u
+  SpillDoes c k from before ts = (p : core.Variable → Type 0) (j : ℕ) (act : List ir.Value → ir.Run) (rest_of : List core.Expression → ℕ → Code) (w : World) (env : ir.Env) (s : ir.State) (sc : js.Scope) (u : js.State) → OperandsDo c j ts → Extends c p → Sound z (keeping c p) → Ahead (keeping c p) j → Final c k from before p j sc w (count ts) act rest_of → Grows from w → Ready z c.scope c.writable w env sc → Keeps z c.kept before sc → SameState z w s u → Ends z lawful c c.scope k from before (ir_meaning.in_order (runs ts) act env s) (then_use (spill (operands_in c.targets ts) j) rest_of).statements sc u
 
   plain_operand : (c : Context) (j : ℕ) (t : Term) → is_plain t ≡ true → OperandDoes c j t → Plain z.is_linked c.scope t
   plain_operand c j t e (inl h) = h.1
@@ -146,10 +157,7 @@ module _ (z : Setting) (lawful : Lawful z) where
   fixed_alike : (p : core.Variable → Type 0) (y w : World) (env env' : ir.Env) (sc sc' : js.Scope) (t : Term) (f : FixedRun p y env sc t) → Grows y w → Keeps z p sc sc' → OperandAlike z w env' sc' (ir.given f.value) (shown z (expression_of t))
   fixed_alike p y w env env' sc sc' t f g ks k s u h same = subst (λ q. Sim z.direction (Valued z k env') (done (ir.ends (ir.gives f.value) env' s)) q) (sym (f.goes_on sc' u ks)) (sim_done z.direction (Valued z k env') (ir.ends (ir.gives f.value) env' s) (js.gives f.js_value u) (valued k f.value f.js_value s u (grows-refl k) (value-lift y k f.value f.js_value (grows-trans y w k g h) f.alike) same))
 
-  numbered-named : (x : List ℕ) (j : ℕ) → core.named x ≡ core.numbered j → ⊥
-  numbered-named x j e = absurd (cc)
-
-  numbered-same : (i j : ℕ) → core.numbered i ≡ core.numbered j → i ≡ j
+  pub numbered-same : (i j : ℕ) → core.numbered i ≡ core.numbered j → i ≡ j
   numbered-same i j e = cc
 
   pub sound-kept : (c : Context) (p : core.Variable → Type 0) (j : ℕ) → Sound z (keeping c p) → Ahead (keeping c p) j → Sound z (keeping c (λ y. (y ≡ core.numbered j) ⊎ p y))
@@ -183,7 +191,7 @@ module _ (z : Setting) (lawful : Lawful z) where
   spill_all c k from before t ts e p j act made w env s sc u ds sound ahead final r ks same = final p j (runs (t ∷ ts)) (texts (operands_in c.targets (t ∷ ts))) w env s sc u (λ y h. h) sound ahead (omega arith) (grows-refl w) r ks (keeps-refl z p sc) same (runs-sized (t ∷ ts)) (all_plain_alike c j (t ∷ ts) e ds w env sc r.sees)
 
   -- a fixed operand in front of one that isn't plain
-  spill_fixed : (c : Context) (k : Destination) (from : World) (before : js.Scope) (t : Term) (ts : List Term) → SpillDoes c k from before ts → is_fixed z.is_mutable t ≡ true → Plain z.is_linked c.scope t → (p : core.Variable → Type 0) (j : ℕ) (act : List ir.Value → ir.Run) (made : List core.Expression → ℕ → Code) (w : World) (env : ir.Env) (s : ir.State) (sc : js.Scope) (u : js.State) → OperandsDo c j ts → ((y : core.Variable) → c.kept y → p y) → Sound z (keeping c p) → Ahead (keeping c p) j → Final c k from before p j sc w (count (t ∷ ts)) act made → Grows from w → Ready z c.scope c.writable w env sc → Keeps z c.kept before sc → SameState z w s u → Ends z lawful c c.scope k from before (ir_meaning.in_order (runs (t ∷ ts)) act env s) (then_use (spill (operands_in c.targets ts) j) (λ es. made (expression_of t ∷ es))).statements sc u
+  spill_fixed : (c : Context) (k : Destination) (from : World) (before : js.Scope) (t : Term) (ts : List Term) → SpillDoes c k from before ts → is_fixed z.is_mutable t ≡ true → Plain z.is_linked c.scope t → (p : core.Variable → Type 0) (j : ℕ) (act : List ir.Value → ir.Run) (made : List core.Expression → ℕ → Code) (w : World) (env : ir.Env) (s : ir.State) (sc : js.Scope) (u : js.State) → OperandsDo c j ts → Extends c p → Sound z (keeping c p) → Ahead (keeping c p) j → Final c k from before p j sc w (count (t ∷ ts)) act made → Grows from w → Ready z c.scope c.writable w env sc → Keeps z c.kept before sc → SameState z w s u → Ends z lawful c c.scope k from before (ir_meaning.in_order (runs (t ∷ ts)) act env s) (then_use (spill (operands_in c.targets ts) j) (λ es. made (expression_of t ∷ es))).statements sc u
   spill_fixed c k from before t ts others e plain p j act made w env s sc u ds sub sound ahead final g r ks same = subst (λ o. Ends z lawful c c.scope k from before (ir.go_on o (λ v. ir_meaning.in_order (runs ts) (λ vs. act (v ∷ vs)))) (then_use (spill (operands_in c.targets ts) j) (λ es. made (expression_of t ∷ es))).statements sc u) (sym (f.gives s)) (others p j (λ vs. act (f.value ∷ vs)) (λ es. made (expression_of t ∷ es)) w env s sc u ds sub sound ahead (λ q i rs es y env' s' sc' u' more so ah l h ready kb kp states sized operands. final q i (ir.given f.value ∷ rs) (expression_of t ∷ es) y env' s' sc' u' more so ah l h ready kb kp states (one_left (ir.given f.value) rs (count ts) sized) (more_operands (ir.given f.value) (shown z (expression_of t)) rs (all_shown z lawful c.scope es) (fixed_alike p w y env env' sc sc' t f h kp) operands)) g r ks same)
     where
       f : FixedRun p w env sc t
@@ -197,14 +205,14 @@ module _ (z : Setting) (lawful : Lawful z) where
   numbered_open c p j ahead x h e = ahead.writable j (omega arith) (subst c.writable e h)
 
   -- a plain operand that isn't fixed, in front of one that isn't plain: a constant
-  spill_constant : (c : Context) (k : Destination) (from : World) (before : js.Scope) (t : Term) (ts : List Term) → SpillDoes c k from before ts → Plain z.is_linked c.scope t → (p : core.Variable → Type 0) (j : ℕ) (act : List ir.Value → ir.Run) (made : List core.Expression → ℕ → Code) (w : World) (env : ir.Env) (s : ir.State) (sc : js.Scope) (u : js.State) → OperandsDo c j ts → ((y : core.Variable) → c.kept y → p y) → Sound z (keeping c p) → Ahead (keeping c p) j → Final c k from before p j sc w (count (t ∷ ts)) act made → Grows from w → Ready z c.scope c.writable w env sc → Keeps z c.kept before sc → SameState z w s u → Ends z lawful c c.scope k from before (ir_meaning.in_order (runs (t ∷ ts)) act env s) (core.statement (core.constant_of (Some (position_of t)) (core.numbered j) (expression_of t)) (then_use (spill (operands_in c.targets ts) (suc j)) (λ es. made (core.variable_use (core.numbered j) ∷ es))).statements) sc u
+  spill_constant : (c : Context) (k : Destination) (from : World) (before : js.Scope) (t : Term) (ts : List Term) → SpillDoes c k from before ts → Plain z.is_linked c.scope t → (p : core.Variable → Type 0) (j : ℕ) (act : List ir.Value → ir.Run) (made : List core.Expression → ℕ → Code) (w : World) (env : ir.Env) (s : ir.State) (sc : js.Scope) (u : js.State) → OperandsDo c j ts → Extends c p → Sound z (keeping c p) → Ahead (keeping c p) j → Final c k from before p j sc w (count (t ∷ ts)) act made → Grows from w → Ready z c.scope c.writable w env sc → Keeps z c.kept before sc → SameState z w s u → Ends z lawful c c.scope k from before (ir_meaning.in_order (runs (t ∷ ts)) act env s) (core.statement (core.constant_of (Some (position_of t)) (core.numbered j) (expression_of t)) (then_use (spill (operands_in c.targets ts) (suc j)) (λ es. made (core.variable_use (core.numbered j) ∷ es))).statements) sc u
   spill_constant c k from before t ts others plain p j act made w env s sc u ds sub sound ahead final g r ks same = valued_seq (Came z c c.scope k from before) w env sc u (ir_meaning.step z.classes z.low t env s) (expression_of t) (λ v. ir_meaning.in_order (runs ts) (λ vs. act (v ∷ vs))) (λ v u. done (js.ends js.normally (js_meaning.start true (z.name (core.numbered j)) v sc) u)) (run z (then_use (spill (operands_in c.targets ts) (suc j)) (λ es. made (core.variable_use (core.numbered j) ∷ es))).statements) (plain_alike z lawful c.scope t plain w env s sc u r.sees same) goes
     where
       goes : (y : World) (v : ir.Value) (x : js.Value) (s : ir.State) (u : js.State) → Grows w y → SameValue y v x → SameState z y s u → Ends z lawful c c.scope k from before (ir_meaning.in_order (runs ts) (λ vs. act (v ∷ vs)) env s) (then_use (spill (operands_in c.targets ts) (suc j)) (λ es. made (core.variable_use (core.numbered j) ∷ es))).statements (js_meaning.start true (z.name (core.numbered j)) x sc) u
-      goes y v x s u h alike same = others (λ a. (a ≡ core.numbered j) ⊎ p a) (suc j) (λ vs. act (v ∷ vs)) (λ es. made (core.variable_use (core.numbered j) ∷ es)) y env s (js_meaning.start true (z.name (core.numbered j)) x sc) u (operands-later c j (suc j) ts (omega arith) ds) (λ a b. inr (sub a b)) (sound-kept c p j sound ahead) (ahead-kept c p j (suc j) (omega arith) ahead) (saved_final c k from before p j (suc j) (count ts) w y sc (js_meaning.start true (z.name (core.numbered j)) x sc) act made v x true (omega arith) final h (started-keeps z lawful p true (core.numbered j) x sc (ahead.kept j (omega arith))) alike (started-here z lawful true (core.numbered j) x sc)) (grows-trans from w y g h) (ready-lift z c.scope c.writable w y env (js_meaning.start true (z.name (core.numbered j)) x sc) h (started-ready z lawful c.scope c.writable true (core.numbered j) x w env sc (λ a b. numbered-named a j) (numbered_open c p j ahead) r)) (keeps-trans z c.kept before sc (js_meaning.start true (z.name (core.numbered j)) x sc) ks (started-keeps z lawful c.kept true (core.numbered j) x sc (λ b. ahead.kept j (omega arith) (sub (core.numbered j) b)))) same
+      goes y v x s u h alike same = others (λ a. (a ≡ core.numbered j) ⊎ p a) (suc j) (λ vs. act (v ∷ vs)) (λ es. made (core.variable_use (core.numbered j) ∷ es)) y env s (js_meaning.start true (z.name (core.numbered j)) x sc) u (operands-later c j (suc j) ts (omega arith) ds) (extends-more c p j sub) (sound-kept c p j sound ahead) (ahead-kept c p j (suc j) (omega arith) ahead) (saved_final c k from before p j (suc j) (count ts) w y sc (js_meaning.start true (z.name (core.numbered j)) x sc) act made v x true (omega arith) final h (started-keeps z lawful p true (core.numbered j) x sc (ahead.kept j (omega arith))) alike (started-here z lawful true (core.numbered j) x sc)) (grows-trans from w y g h) (ready-lift z c.scope c.writable w y env (js_meaning.start true (z.name (core.numbered j)) x sc) h (started-ready z lawful c.scope c.writable true (core.numbered j) x w env sc (λ a b. numbered-named a j) (numbered_open c p j ahead) r)) (keeps-trans z c.kept before sc (js_meaning.start true (z.name (core.numbered j)) x sc) ks (started-keeps z lawful c.kept true (core.numbered j) x sc (λ b. ahead.kept j (omega arith) (sub.more (core.numbered j) b)))) same
 
   -- an operand that isn't plain: a variable, and the statements that bring its value there
-  spill_code_does : (c : Context) (k : Destination) (from : World) (before : js.Scope) (t : Term) (ts : List Term) → SpillDoes c k from before ts → Onward c.targets t → (p : core.Variable → Type 0) (j : ℕ) → Does (writing (keeping c p) (core.numbered j)) (to_variable (core.numbered j) (type_of_term t)) (suc j) t → (act : List ir.Value → ir.Run) (made : List core.Expression → ℕ → Code) (w : World) (env : ir.Env) (s : ir.State) (sc : js.Scope) (u : js.State) → OperandsDo c j ts → ((y : core.Variable) → c.kept y → p y) → Sound z (keeping c p) → Ahead (keeping c p) j → Final c k from before p j sc w (count (t ∷ ts)) act made → Grows from w → Ready z c.scope c.writable w env sc → Keeps z c.kept before sc → SameState z w s u → Ends z lawful c c.scope k from before (ir_meaning.in_order (runs (t ∷ ts)) act env s) (core.statement (core.declare_of (Some (position_of t)) (core.numbered j)) (followed (into z.is_mutable c.targets (to_variable (core.numbered j) (type_of_term t)) (suc j) t).statements (then_use (spill (operands_in c.targets ts) (into z.is_mutable c.targets (to_variable (core.numbered j) (type_of_term t)) (suc j) t).next) (λ es. made (core.variable_use (core.numbered j) ∷ es))).statements)) sc u
+  spill_code_does : (c : Context) (k : Destination) (from : World) (before : js.Scope) (t : Term) (ts : List Term) → SpillDoes c k from before ts → Onward c.targets t → (p : core.Variable → Type 0) (j : ℕ) → Does (writing (keeping c p) (core.numbered j)) (to_variable (core.numbered j) (type_of_term t)) (suc j) t → (act : List ir.Value → ir.Run) (made : List core.Expression → ℕ → Code) (w : World) (env : ir.Env) (s : ir.State) (sc : js.Scope) (u : js.State) → OperandsDo c j ts → Extends c p → Sound z (keeping c p) → Ahead (keeping c p) j → Final c k from before p j sc w (count (t ∷ ts)) act made → Grows from w → Ready z c.scope c.writable w env sc → Keeps z c.kept before sc → SameState z w s u → Ends z lawful c c.scope k from before (ir_meaning.in_order (runs (t ∷ ts)) act env s) (core.statement (core.declare_of (Some (position_of t)) (core.numbered j)) (followed (into z.is_mutable c.targets (to_variable (core.numbered j) (type_of_term t)) (suc j) t).statements (then_use (spill (operands_in c.targets ts) (into z.is_mutable c.targets (to_variable (core.numbered j) (type_of_term t)) (suc j) t).next) (λ es. made (core.variable_use (core.numbered j) ∷ es))).statements)) sc u
   spill_code_does c k from before t ts others onward p j does act made w env s sc u ds sub sound ahead final g r ks same = subst (λ q. Sim z.direction (Came z c c.scope k from before) (ir.go_on (ir_meaning.step z.classes z.low t env s) f) q) (sym (run-followed z code.statements rest started u)) (sim_then z.direction (Came z (writing (keeping c p) x) c.scope (to_variable x (type_of_term t)) w started) (Came z c c.scope k from before) (ir_meaning.step z.classes z.low t env s) (run z code.statements started u) (ir.onward f) (js.next_statement (run z rest)) (does w env s started u (record { sees = r1.sees; «open» = open1 }) same) each)
     where
       x : core.Variable
@@ -233,20 +241,20 @@ module _ (z : Setting) (lawful : Lawful z) where
       kept_here = ahead.kept j (omega arith)
 
       each : (a : ir.Ended) (b : js.StatementEnd) → Came z (writing (keeping c p) x) c.scope (to_variable x (type_of_term t)) w started a b → Sim z.direction (Came z c c.scope k from before) (ir.onward f a) (js.next_statement (run z rest) b)
-      each _ _ (gave y v env' s' sc2 u' _ h (stored _ _ q a e) r2 k2 states) = others (λ b. (b ≡ x) ⊎ p b) code.next (λ vs. act (v ∷ vs)) (λ es. made (core.variable_use x ∷ es)) y env' s' sc2 u' (operands-later c j code.next ts (omega (arith, onward (to_variable x (type_of_term t)) (suc j))) ds) (λ a b. inr (sub a b)) (sound-kept c p j sound ahead) (ahead-kept c p j code.next (onward (to_variable x (type_of_term t)) (suc j)) ahead) (saved_final c k from before p j code.next (count ts) w y sc sc2 act made v q false (onward (to_variable x (type_of_term t)) (suc j)) final h (keeps-trans z p sc started sc2 (started-keeps z lawful p false x js.undefined sc kept_here) k2) a e) (grows-trans from w y g h) (record { sees = r2.sees; «open» = λ a b. r2.«open» a (inr b) }) (keeps-trans z c.kept before sc sc2 ks (keeps-trans z c.kept sc started sc2 (started-keeps z lawful c.kept false x js.undefined sc (λ b. kept_here (sub x b))) (record { same = λ a b. k2.same a (sub a b) }))) states
-      each _ _ (left y l v env' s' sc2 u' e h a r2 k2 states) = leaves_on z lawful c c.scope k from before (run z rest) y l v env' s' sc2 u' e (target_of c.targets l) refl (grows-trans from w y g h) a (record { sees = r2.sees; «open» = λ a b. r2.«open» a (inr b) }) (keeps-trans z c.kept before sc sc2 ks (keeps-trans z c.kept sc started sc2 (started-keeps z lawful c.kept false x js.undefined sc (λ b. kept_here (sub x b))) (record { same = λ a b. k2.same a (sub a b) }))) states
+      each _ _ (gave y v env' s' sc2 u' _ h (stored _ _ q a e) r2 k2 states) = others (λ b. (b ≡ x) ⊎ p b) code.next (λ vs. act (v ∷ vs)) (λ es. made (core.variable_use x ∷ es)) y env' s' sc2 u' (operands-later c j code.next ts (omega (arith, onward (to_variable x (type_of_term t)) (suc j))) ds) (extends-more c p j sub) (sound-kept c p j sound ahead) (ahead-kept c p j code.next (onward (to_variable x (type_of_term t)) (suc j)) ahead) (saved_final c k from before p j code.next (count ts) w y sc sc2 act made v q false (onward (to_variable x (type_of_term t)) (suc j)) final h (keeps-trans z p sc started sc2 (started-keeps z lawful p false x js.undefined sc kept_here) k2) a e) (grows-trans from w y g h) (record { sees = r2.sees; «open» = λ a b. r2.«open» a (inr b) }) (keeps-trans z c.kept before sc sc2 ks (keeps-trans z c.kept sc started sc2 (started-keeps z lawful c.kept false x js.undefined sc (λ b. kept_here (sub.more x b))) (record { same = λ a b. k2.same a (sub.more a b) }))) states
+      each _ _ (left y l v env' s' sc2 u' e h a r2 k2 states) = leaves_on z lawful c c.scope k from before (run z rest) y l v env' s' sc2 u' e (target_of c.targets l) refl (grows-trans from w y g h) a (record { sees = r2.sees; «open» = λ a b. r2.«open» a (inr b) }) (keeps-trans z c.kept before sc sc2 ks (keeps-trans z c.kept sc started sc2 (started-keeps z lawful c.kept false x js.undefined sc (λ b. kept_here (sub.more x b))) (record { same = λ a b. k2.same a (sub.more a b) }))) states
 
-      each _ _ (stopped y env' s' sc2 u' t h r2 k2 states) = sim_done z.direction (Came z c c.scope k from before) (ir.ends ir.stops env' s') (js.ends js.breaks_nearest sc2 u') (stopped y env' s' sc2 u' t (grows-trans from w y g h) (record { sees = r2.sees; «open» = λ a b. r2.«open» a (inr b) }) (keeps-trans z c.kept before sc sc2 ks (keeps-trans z c.kept sc started sc2 (started-keeps z lawful c.kept false x js.undefined sc (λ b. kept_here (sub x b))) (record { same = λ a b. k2.same a (sub a b) }))) states)
+      each _ _ (stopped y env' s' sc2 u' t h r2 k2 states) = sim_done z.direction (Came z c c.scope k from before) (ir.ends ir.stops env' s') (js.ends js.breaks_nearest sc2 u') (stopped y env' s' sc2 u' t (grows-trans from w y g h) (record { sees = r2.sees; «open» = λ a b. r2.«open» a (inr b) }) (keeps-trans z c.kept before sc sc2 ks (keeps-trans z c.kept sc started sc2 (started-keeps z lawful c.kept false x js.undefined sc (λ b. kept_here (sub.more x b))) (record { same = λ a b. k2.same a (sub.more a b) }))) states)
 
   -- one operand, by whether it and all behind it are plain, whether it is fixed, and whether it is plain
-  spill_one : (c : Context) (k : Destination) (from : World) (before : js.Scope) (t : Term) (ts : List Term) → SpillDoes c k from before ts → (a f b : Bool) → (is_plain t && all_plain (operands_in c.targets ts)) ≡ a → is_fixed z.is_mutable t ≡ f → is_plain t ≡ b → (p : core.Variable → Type 0) (j : ℕ) (act : List ir.Value → ir.Run) (made : List core.Expression → ℕ → Code) (w : World) (env : ir.Env) (s : ir.State) (sc : js.Scope) (u : js.State) → OperandsDo c j (t ∷ ts) → ((y : core.Variable) → c.kept y → p y) → Sound z (keeping c p) → Ahead (keeping c p) j → Final c k from before p j sc w (count (t ∷ ts)) act made → Grows from w → Ready z c.scope c.writable w env sc → Keeps z c.kept before sc → SameState z w s u → Ends z lawful c c.scope k from before (ir_meaning.in_order (runs (t ∷ ts)) act env s) (then_use (spill_case a f b (operand z.is_mutable t (λ k j. into z.is_mutable c.targets k j t)) (operands_in c.targets ts) (spill (operands_in c.targets ts)) j) made).statements sc u
+  spill_one : (c : Context) (k : Destination) (from : World) (before : js.Scope) (t : Term) (ts : List Term) → SpillDoes c k from before ts → (a f b : Bool) → (is_plain t && all_plain (operands_in c.targets ts)) ≡ a → is_fixed z.is_mutable t ≡ f → is_plain t ≡ b → (p : core.Variable → Type 0) (j : ℕ) (act : List ir.Value → ir.Run) (made : List core.Expression → ℕ → Code) (w : World) (env : ir.Env) (s : ir.State) (sc : js.Scope) (u : js.State) → OperandsDo c j (t ∷ ts) → Extends c p → Sound z (keeping c p) → Ahead (keeping c p) j → Final c k from before p j sc w (count (t ∷ ts)) act made → Grows from w → Ready z c.scope c.writable w env sc → Keeps z c.kept before sc → SameState z w s u → Ends z lawful c c.scope k from before (ir_meaning.in_order (runs (t ∷ ts)) act env s) (then_use (spill_case a f b (operand z.is_mutable t (λ k j. into z.is_mutable c.targets k j t)) (operands_in c.targets ts) (spill (operands_in c.targets ts)) j) made).statements sc u
   spill_one c k from before t ts others true f b e1 e2 e3 p j act made w env s sc u ds sub sound ahead final g r ks same = spill_all c k from before t ts e1 p j act made w env s sc u ds sound ahead final r ks same
   spill_one c k from before t ts others false true b e1 e2 e3 p j act made w env s sc u (inl d, ds) sub sound ahead final g r ks same = spill_fixed c k from before t ts others e2 d.1 p j act made w env s sc u ds sub sound ahead final g r ks same
   spill_one c k from before t ts others false true b e1 e2 e3 p j act made w env s sc u (inr d, ds) sub sound ahead final g r ks same = impossible (sym d.1 ∙ e2)
   spill_one c k from before t ts others false false true e1 e2 e3 p j act made w env s sc u (inl d, ds) sub sound ahead final g r ks same = spill_constant c k from before t ts others d.1 p j act made w env s sc u ds sub sound ahead final g r ks same
   spill_one c k from before t ts others false false true e1 e2 e3 p j act made w env s sc u (inr d, ds) sub sound ahead final g r ks same = impossible (sym d.0 ∙ e3)
   spill_one c k from before t ts others false false false e1 e2 e3 p j act made w env s sc u (inl d, ds) sub sound ahead final g r ks same = impossible (sym e3 ∙ d.0)
-  spill_one c k from before t ts others false false false e1 e2 e3 p j act made w env s sc u (inr d, ds) sub sound ahead final g r ks same = subst (λ ss. Ends z lawful c c.scope k from before (ir_meaning.in_order (runs (t ∷ ts)) act env s) (core.statement (core.declare_of (Some (position_of t)) (core.numbered j)) ss) sc u) (sym (followed-associative code.statements (spill (operands_in c.targets ts) code.next).statements (made (core.variable_use (core.numbered j) ∷ (spill (operands_in c.targets ts) code.next).expressions) (spill (operands_in c.targets ts) code.next).next).statements)) (spill_code_does c k from before t ts others d.2 p j (d.3 p j (omega arith) sound ahead) act made w env s sc u ds sub sound ahead final g r ks same)
+  spill_one c k from before t ts others false false false e1 e2 e3 p j act made w env s sc u (inr d, ds) sub sound ahead final g r ks same = subst (λ ss. Ends z lawful c c.scope k from before (ir_meaning.in_order (runs (t ∷ ts)) act env s) (core.statement (core.declare_of (Some (position_of t)) (core.numbered j)) ss) sc u) (sym (followed-associative code.statements (spill (operands_in c.targets ts) code.next).statements (made (core.variable_use (core.numbered j) ∷ (spill (operands_in c.targets ts) code.next).expressions) (spill (operands_in c.targets ts) code.next).next).statements)) (spill_code_does c k from before t ts others d.2 p j (d.3 p j (omega arith) sub sound ahead) act made w env s sc u ds sub sound ahead final g r ks same)
     where
       code : Code
       code = into z.is_mutable c.targets (to_variable (core.numbered j) (type_of_term t)) (suc j) t
