@@ -7,7 +7,7 @@ work=$(mktemp -d)
 trap 'rm -rf "$work"' EXIT
 
 mkdir -p "$work/crates/modules_bench/src"
-for crate in sj_names sj_units exact_place js_tree js_spelling js_print js_read; do
+for crate in sj_names sj_units exact_place js_tree js_spelling js_print js_scan js_statements js_read; do
     mkdir -p "$work/crates/$crate"
     for part in src specs proofs; do
         [ ! -d "$root/crates/$crate/$part" ] || cp -R "$root/crates/$crate/$part" "$work/crates/$crate/"

@@ -1,15 +1,2 @@
-pub mod Ascii
-pub mod ExpressionSteps
-pub mod FileSteps
-pub mod HeadSteps
-pub mod Indents
-pub mod Infixes
-pub mod Keywords
-pub mod Literals
-pub mod Loops
 pub mod ModuleLoop
-pub mod NumberSteps
-pub mod Runs
-pub mod StatementSteps
-pub mod SuffixLoop
 pub mod WholeSteps

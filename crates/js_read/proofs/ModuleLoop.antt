@@ -1,20 +1,17 @@
 -- Reading the lines of a module one after the other, as a loop does.
-use Rattle.std.proofs.Common.{◌≡◌, ℕ, zero, suc, ◌+◌, ◌-◌, ◌<◌, ◌≤◌, Bool, true, false, cond, List, [], ◌∷◌, ◌++◌, length, map, Result, Ok, Err, refl, sym, ap, ◌∙◌, append_assoc, append-nil, arith}
-use Rattle.std.proofs.lemmas.List.{map_push}
+use Rattle.std.proofs.Common.{◌≡◌, ℕ, suc, ◌+◌, ◌-◌, ◌<◌, ◌≤◌, true, false, List, [], ◌∷◌, ◌++◌, length, Ok, Err, refl, sym, ap, ◌∙◌, append_assoc, append-nil, arith}
 use Rattle.exact_place.specs.Reading.{Reading, ◌>>=◌, passes, walk_at, end_at, map_at}
 use Rattle.js_tree.specs.Terms.{Name, Item, Module}
-use Rattle.js_tree.specs.Views.{item_view}
 use Rattle.js_tree.specs.declared.items.JsImport.{JsImport}
-use Rattle.js_tree.specs.declared.items.JsItem.{JsItem}
 use Rattle.js_spelling.specs.declared.words.Stage.{Stage}
 use Rattle.js_spelling.specs.declared.words.Stage.TheVariants as stages
 use Rattle.js_spelling.specs.Modules.{Line, import_line, item_line, export_line, line_at, is_imports, goes_on, stage_after, module_of, module_lines_at, module_at}
-use Rattle.js_read.specs.declared.stop.Stop.{Stop}
-use Rattle.js_read.specs.declared.stop.Stop.TheVariants as stops
+use Rattle.js_scan.specs.declared.stop.Stop.{Stop}
+use Rattle.js_scan.specs.declared.stop.Stop.TheVariants as stops
 use Rattle.js_read.specs.declared.modules.Reached.{Reached}
 use Rattle.js_read.specs.declared.modules.Reached.TheVariants as reached
 use Rattle.js_read.specs.Fronts.{stage_of, exports_onto}
-use Rattle.js_read.specs.Gives.{Fails}
+use Rattle.js_scan.specs.Gives.{Fails}
 
 abbrev pub onto : List JsImport → List Item → Reached → Module → Module
 onto is ts r m = record { imports = is ++ m.imports; items = ts ++ m.items; exports = exports_onto r m.exports }

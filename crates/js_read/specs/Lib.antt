@@ -1,4 +1,2 @@
 pub mod Fronts
-pub mod Gives
 pub mod Lines
-pub mod Runs

@@ -1,20 +1,15 @@
 // Lines of a module.
-ghost use Rattle.std.specs.Prelude.{◌≡◌, ◌++◌, IfOk, codes, true};
-ghost use Rattle.std.specs.List.{list_all};
+ghost use Rattle.std.specs.Prelude.{◌≡◌, codes};
 ghost use Rattle.exact_place.specs.Reading.{after_at, lead_at, value_at};
-ghost use Rattle.js_tree.specs.Names.{is_file_character};
-ghost use Rattle.js_read.specs.Gives.{Gives};
+ghost use Rattle.js_scan.specs.Gives.{Gives};
 ghost use Rattle.js_read.specs.Lines.{line_view};
 ghost use Rattle.js_spelling.specs.Modules as reading;
 ghost use Rattle.js_spelling.specs.declared.words.LineHead.TheVariants as heads;
 
-use crate::bytes::{literal, next_is_word_start};
-use crate::expressions::wordless_of;
-use crate::heads::line_head_of;
 use crate::items::{item_after, names_of};
-use crate::names::{file_text, has_nothing, split_file};
-use crate::stop::Stop;
+use js_scan::{Stop, file_of, line_head_of, literal, next_is_word_start};
 use js_spelling::{ItemHead, LineHead};
+use js_statements::wordless_of;
 use js_tree::{JsImport, JsItem};
 use sj_names::{Items, Text};
 use std::alloc::Global;
@@ -29,30 +24,6 @@ pub enum Line {
 
 /// What a reader of lines gives: the line and the rest.
 type Read<'a> = Result<(Line, &'a [u8]), Stop>;
-
-/// The characters of a file's name before `.js`.
-#[tactic(auto, using(crate::proofs::FileSteps::file_steps))]
-fn file_front_of(bytes: &[u8]) -> Result<(&[u8], &[u8]), Stop>
-    ensures gives { Gives (λ x. (x.0.now, x.1.now)) result (reading.file_front_at bytes.now) }
-    ensures characters { IfOk result (λ x. list_all is_file_character x.0.now ≡ true) }
-{
-    let (front, rest) = split_file(bytes);
-    if has_nothing(front) {
-        Err(Stop::Bad(rest.len()))
-    } else {
-        Ok((front, rest))
-    }
-}
-
-/// The name of a file.
-#[tactic(auto, unfolding(js_spelling::specs::Modules::file_at))]
-fn file_of<'a>(alloc: Global, bytes: &'a [u8]) -> Result<(Text, &'a [u8]), Stop>
-    ensures { Gives (λ x. (x.0, x.1.now)) result (reading.file_at bytes.now) }
-{
-    let (front, rest) = file_front_of(bytes)?;
-    let rest = literal(b".js", rest)?;
-    Ok((file_text(alloc, front)?, rest))
-}
 
 /// The file of an import line, behind its names.
 fn import_of<'a>(alloc: Global, names: Items<Text>, bytes: &'a [u8]) -> Read<'a>

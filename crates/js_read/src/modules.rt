@@ -5,14 +5,15 @@ ghost use Rattle.exact_place.specs.Reading.{passes, map_at, end_at};
 ghost use Rattle.js_tree.specs.Terms.{Module};
 ghost use Rattle.js_tree.specs.Spelling.{Spells};
 ghost use Rattle.js_tree.specs.Views.{module_view};
-ghost use Rattle.js_read.specs.Gives.{Fails, Gives};
+ghost use Rattle.js_scan.specs.Gives.{Fails, Gives};
 ghost use Rattle.js_read.specs.Lines.{line_view};
 ghost use Rattle.js_read.specs.Fronts.{stage_of, exports_onto, module_onto};
 ghost use Rattle.js_read.specs.declared.lines.Line.TheVariants as lines;
 ghost use Rattle.js_spelling.specs.Modules as reading;
 
+use crate::errors::JsError;
 use crate::lines::{Line, line_of};
-use crate::stop::{JsError, Stop};
+use js_scan::Stop;
 use js_tree::{JsImport, JsItem, JsModule};
 use sj_names::{Items, NoMemory, Text};
 use std::alloc::Global;

@@ -1,8 +1,11 @@
-//! Reads vectors from the standard input and checks each answer of `read_module`.
+//! Reads vectors from the standard input, and checks each answer of `read_module` and that what was read is printed as it was.
 #![tactic(auto)]
 
 use anyhow::Result;
+use js_print::print_module;
 use js_read::{JsError, read_module};
+use js_tree::each_has_one_text;
+use std::alloc::Global;
 
 fn main(rt: HostRuntime) -> Result<()> {
     let mut right = 0u32;
@@ -10,26 +13,30 @@ fn main(rt: HostRuntime) -> Result<()> {
     let alloc = rt.alloc();
     for line in rt.lines(alloc) {
         let line = line?;
-        let mut fields = line.split('\t');
-        let text = hex::decode(alloc, fields.next().unwrap_or(""))?;
-        let want = fields.next().unwrap_or("");
-        let place = fields.next().unwrap_or("").parse::<u64>().unwrap_or(0);
-        let same = match read_module(alloc, &text) {
-            Ok(_) => want == "ok",
-            Err(JsError::BadJs(at)) => {
-                if want != "bad" || at != place {
-                    println!(rt; "{at} {place} {line}")?;
-                }
-                want == "bad" && at == place
-            }
-            Err(JsError::NoMemory) => false,
-        };
-        if same {
+        if is_answered(alloc, line.as_str())? {
             right = right.wrapping_add(1);
         } else {
             wrong = wrong.wrapping_add(1);
+            println!(rt; "{line}")?;
         }
     }
     println!(rt; "{right} right, {wrong} wrong")?;
     Ok(())
+}
+
+// Whether the text of a line has the answer that stands behind it: `ok` and the printed text, or `bad` and the place.
+fn is_answered(alloc: Global, line: &str) -> Result<bool> {
+    let mut fields = line.split('\t');
+    let text = hex::decode(alloc, fields.next().unwrap_or(""))?;
+    let kind = fields.next().unwrap_or("");
+    let answer = fields.next().unwrap_or("");
+    match read_module(alloc, &text) {
+        Ok(module) => {
+            each_has_one_text();
+            let printed = print_module(alloc, &module)?;
+            Ok(kind == "ok" && printed == hex::decode(alloc, answer)?)
+        }
+        Err(JsError::BadJs(place)) => Ok(kind == "bad" && answer.parse::<u64>() == Ok(place)),
+        Err(JsError::NoMemory) => Ok(false),
+    }
 }

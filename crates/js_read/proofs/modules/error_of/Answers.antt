@@ -1,5 +1,5 @@
 use Rattle.std.proofs.Common.{◌≡◌, ℕ, ◌-◌, length, sym}
-use Rattle.js_read.specs.declared.stop.JsError.TheVariants.{BadJs}
+use Rattle.js_read.specs.declared.errors.JsError.TheVariants.{BadJs}
 use Rattle.js_read.proofs.WholeSteps.{whole_place}
 use Rattle.js_read.proofs.modules.error_of.Goals as goal
 

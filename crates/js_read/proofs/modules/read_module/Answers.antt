@@ -1,5 +1,5 @@
 use Rattle.std.proofs.Common.{◌≡◌, Result, Err}
-use Rattle.js_read.specs.declared.stop.JsError.TheVariants.{BadJs}
+use Rattle.js_read.specs.declared.errors.JsError.TheVariants.{BadJs}
 use Rattle.js_read.proofs.modules.read_module.Goals as goal
 
 err_is : {A B : Type 0} (a b : B) → ◌≡◌ {A = Result A B} (Err a) (Err b) → a ≡ b

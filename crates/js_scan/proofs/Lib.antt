@@ -1,0 +1,10 @@
+pub mod Ascii
+pub mod FileSteps
+pub mod HeadSteps
+pub mod Indents
+pub mod Infixes
+pub mod Keywords
+pub mod Literals
+pub mod Loops
+pub mod NumberSteps
+pub mod Runs

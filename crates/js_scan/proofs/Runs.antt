@@ -1,0 +1,92 @@
+-- Runs of characters.
+use Rattle.std.proofs.Common.{◌≡◌, ℕ, ◌+◌, ◌<◌, ◌≤◌, Bool, true, false, not, ◌&&◌, List, [], ◌∷◌, ◌++◌, take, drop, Option, refl, sym, ◌∙◌, append-nil, take-append-drop, ◌⊎◌, eqb}
+use Rattle.std.proofs.lemmas.Bool.{eqb-true}
+use Rattle.std.specs.List.{list_all}
+use Rattle.exact_place.specs.Reading.{passes, found_at, run_at}
+use Rattle.exact_place.proofs.Steps.{cons_assoc}
+use Rattle.exact_place.proofs.Words.{both}
+use Rattle.js_tree.specs.Names.{is_name_character, is_digit, is_dunder, is_file_character}
+use Rattle.js_spelling.specs.Words.{begins_name, begins_property, is_word_start}
+use Rattle.js_spelling.specs.Modules.{begins_file}
+use Rattle.js_scan.specs.Runs.{IsSplit, IsLongest}
+use Rattle.js_spelling.proofs.WordLaws.{all_over}
+
+-- a run that goes on to its end
+run_all : {A : Type 0} (alive : List ℕ → Bool) (accept : List ℕ → Option A) (closed : (front : List ℕ) (c : ℕ) (more : List ℕ) → alive (front ++ c ∷ more) ≡ true → alive (front ++ c ∷ []) ≡ true)
+    (front word rest : List ℕ) → alive (front ++ word) ≡ true → ((c : ℕ) (back : List ℕ) → rest ≡ c ∷ back → alive ((front ++ word) ++ c ∷ []) ≡ false)
+    → run_at alive accept front (word ++ rest) ≡ found_at (accept (front ++ word)) rest rest
+unfolding run_at
+run_all alive accept closed front [] [] a over = rw append-nil refl
+run_all alive accept closed front [] (c ∷ rest) a over =
+    let off : alive (front ++ c ∷ []) ≡ false = rw append-nil at (over c rest refl) in
+    rw (off, append-nil) refl
+run_all alive accept closed front (c ∷ word) rest a over =
+    let on : alive (front ++ c ∷ []) ≡ true = closed front c word a in
+    let regroup : (front ++ c ∷ []) ++ word ≡ front ++ c ∷ word = cons_assoc front word c in
+    rw (on, ← regroup) (run_all alive accept closed (front ++ c ∷ []) word rest (rw regroup a) (λ d back e. rw regroup (over d back e)))
+
+pub run_split : {A : Type 0} (alive : List ℕ → Bool) (accept : List ℕ → Option A) (closed : (front : List ℕ) (c : ℕ) (more : List ℕ) → alive (front ++ c ∷ more) ≡ true → alive (front ++ c ∷ []) ≡ true)
+    (bytes word rest : List ℕ) → IsSplit alive bytes word rest → run_at alive accept [] bytes ≡ found_at (accept word) rest rest
+run_split alive accept closed bytes word rest s = rw s.parts (run_all alive accept closed [] word rest s.whole s.over)
+
+-- ---- the longest runs
+
+ends_name : (word : List ℕ) (c : ℕ) → is_name_character c ≡ false → begins_name (word ++ c ∷ []) ≡ false
+ends_name word c n = by word (all_over is_name_character word c n)
+  where
+    by : (word : List ℕ) → list_all is_name_character (word ++ c ∷ []) ≡ false → begins_name (word ++ c ∷ []) ≡ false
+    by [] h = rw h refl
+    by (b ∷ word) h = rw h refl
+
+word_all : (word rest : List ℕ) → passes is_word_start (word ++ rest) ≡ true → list_all is_name_character word ≡ true → begins_name word ≡ true
+word_all [] rest s a = refl
+word_all (b ∷ word) rest s a = let k = both (is_name_character b) (not (is_digit b)) s in rw (a, k.1) refl
+
+pub name_split : (bytes : List ℕ) (n : ℕ) → passes is_word_start bytes ≡ true → IsLongest is_name_character bytes n → IsSplit begins_name bytes (take n bytes) (drop n bytes)
+name_split bytes n s l = record {
+  parts = sym (take-append-drop n bytes);
+  whole = word_all (take n bytes) (drop n bytes) (rw take-append-drop s) l.all;
+  over = λ c back e. ends_name (take n bytes) c (l.over c back e);
+}
+
+pub no_name_split : (bytes : List ℕ) → passes is_word_start bytes ≡ false → IsSplit begins_name bytes (take 0 bytes) (drop 0 bytes)
+no_name_split bytes s = record { parts = refl; whole = refl; over = over bytes s }
+  where
+    over : (bytes : List ℕ) → passes is_word_start bytes ≡ false → (c : ℕ) (back : List ℕ) → bytes ≡ c ∷ back → begins_name (c ∷ []) ≡ false
+    over [] s c back e = absurd (cc e)
+    over (b ∷ bytes) s c back e = let head : b ≡ c = cc e in rw (← head) (by (is_name_character b) (is_digit b) s)
+      where
+        by : (a d : Bool) → (a && not d) ≡ false → ((a && true) && not d) ≡ false
+        by true d h = h
+        by false d h = refl
+
+pub dunder_split : (bytes : List ℕ) → is_dunder bytes ≡ true → IsSplit begins_property bytes (take 1 bytes) (drop 1 bytes)
+dunder_split [] d = absurd cc
+dunder_split (b ∷ []) d = absurd cc
+dunder_split (b ∷ c ∷ bytes) d = by (both _ _ d)
+  where
+    by : (eqb b 95 ≡ true) × (eqb c 95 ≡ true) → IsSplit begins_property (b ∷ c ∷ bytes) (b ∷ []) (c ∷ bytes)
+    by k = let same : b ≡ 95 = eqb-true b 95 k.0 in record { parts = refl; whole = rw same refl; over = λ e back f. let head : c ≡ e = cc f in let two : c ≡ 95 = eqb-true c 95 k.1 in rw (← head, same, two) refl }
+
+pub property_split : (bytes word rest : List ℕ) → is_dunder bytes ≡ false → IsSplit begins_name bytes word rest → IsSplit begins_property bytes word rest
+property_split bytes word rest d s = record {
+  parts = s.parts;
+  whole = rw (s.whole, front word rest (rw (← s.parts) d)) refl;
+  over = λ c back e. rw (s.over c back e) refl;
+}
+  where
+    front : (word rest : List ℕ) → is_dunder (word ++ rest) ≡ false → is_dunder word ≡ false
+    front [] rest d = refl
+    front (b ∷ []) rest d = refl
+    front (b ∷ c ∷ word) rest d = d
+
+pub file_split : (bytes : List ℕ) (n : ℕ) → IsLongest is_file_character bytes n → IsSplit begins_file bytes (take n bytes) (drop n bytes)
+file_split bytes n l = record { parts = sym (take-append-drop n bytes); whole = l.all; over = λ c back e. all_over is_file_character (take n bytes) c (l.over c back e) }
+
+pub ruleset name_runs = (name_split, no_name_split, dunder_split, property_split, file_split)
+
+-- ---- one character more
+
+pub longest_more : (test : ℕ → Bool) (front : List ℕ) (c : ℕ) → list_all test front ≡ true → test c ≡ true → list_all test (front ++ c ∷ []) ≡ true
+longest_more test [] c a t = rw t refl
+longest_more test (b ∷ front) c a t = let k = both (test b) (list_all test front) a in rw (k.0, longest_more test front c k.1 t) refl

@@ -1,0 +1,3 @@
+pub mod ExpressionSteps
+pub mod StatementSteps
+pub mod SuffixLoop

@@ -1,0 +1,236 @@
+// Statements that hold no statement.
+ghost use Rattle.std.specs.Prelude.{◌≡◌, ◌==◌, codes};
+ghost use Rattle.exact_place.specs.Reading.{after_at, either_at, lead_at, map_at, literal_at, value_at};
+ghost use Rattle.js_tree.specs.Terms as terms;
+ghost use Rattle.js_tree.specs.Views as views;
+ghost use Rattle.js_scan.specs.Gives.{Gives};
+ghost use Rattle.js_spelling.specs.Statements as reading;
+ghost use Rattle.js_spelling.specs.Tokens.{name_at};
+
+use crate::expressions::expression_of;
+use js_scan::{Stop, literal, name_of, next_is};
+use js_tree::{JsExpr, JsStmt};
+use sj_names::Text;
+use std::alloc::Global;
+
+/// What a reader of statements gives: the statement and the rest.
+pub type Read<'a> = Result<(JsStmt, &'a [u8]), Stop>;
+
+/// The value of a constant, behind its name.
+#[tactic(auto, unfolding(js_spelling::specs::Statements::ended_at))]
+fn const_value_of<'a>(alloc: Global, fuel: usize, name: Text, bytes: &'a [u8]) -> Read<'a>
+    ensures { Gives (λ x. (views.statement_view x.0, x.1.now)) result (lead_at (codes " = ") (reading.ended_at (reading.statement_at fuel) fuel (λ e. terms.const_of name e)) bytes.now) }
+{
+    let rest = literal(b" = ", bytes)?;
+    let (value, rest) = expression_of(alloc, fuel, rest)?;
+    let rest = literal(b";", rest)?;
+    Ok((JsStmt::Const { name, value }, rest))
+}
+
+/// What stands behind `const`.
+pub fn const_after<'a>(alloc: Global, fuel: usize, bytes: &'a [u8]) -> Read<'a>
+    ensures { Gives (λ x. (views.statement_view x.0, x.1.now)) result ((lead_at (codes " ") (after_at name_at (λ x. lead_at (codes " = ") (reading.ended_at (reading.statement_at fuel) fuel (λ e. terms.const_of x e))))) bytes.now) }
+{
+    let rest = literal(b" ", bytes)?;
+    let (name, rest) = name_of(alloc, rest)?;
+    const_value_of(alloc, fuel, name, rest)
+}
+
+/// The first value of a variable, behind its name.
+#[tactic(auto, unfolding(js_spelling::specs::Statements::ended_at))]
+fn let_value_of<'a>(alloc: Global, fuel: usize, name: Text, bytes: &'a [u8]) -> Read<'a>
+    ensures { Gives (λ x. (views.statement_view x.0, x.1.now)) result (lead_at (codes " = ") (reading.ended_at (reading.statement_at fuel) fuel (λ e. terms.let_of name e)) bytes.now) }
+{
+    let rest = literal(b" = ", bytes)?;
+    let (value, rest) = expression_of(alloc, fuel, rest)?;
+    let rest = literal(b";", rest)?;
+    Ok((JsStmt::Let { name, value }, rest))
+}
+
+/// What stands behind the name of a variable.
+fn declared_of<'a>(alloc: Global, fuel: usize, name: Text, bytes: &'a [u8]) -> Read<'a>
+    ensures { Gives (λ x. (views.statement_view x.0, x.1.now)) result ((either_at (λ c. c == 59) (lead_at (codes ";") (value_at (terms.declare_of name))) (lead_at (codes " = ") (reading.ended_at (reading.statement_at fuel) fuel (λ e. terms.let_of name e)))) bytes.now) }
+{
+    if next_is(59, bytes) {
+        let rest = literal(b";", bytes)?;
+        Ok((JsStmt::Declare(name), rest))
+    } else {
+        let_value_of(alloc, fuel, name, bytes)
+    }
+}
+
+/// What stands behind `let`.
+pub fn let_after<'a>(alloc: Global, fuel: usize, bytes: &'a [u8]) -> Read<'a>
+    ensures { Gives (λ x. (views.statement_view x.0, x.1.now)) result ((lead_at (codes " ") (after_at name_at (λ x. either_at (λ c. c == 59) (lead_at (codes ";") (value_at (terms.declare_of x))) (lead_at (codes " = ") (reading.ended_at (reading.statement_at fuel) fuel (λ e. terms.let_of x e)))))) bytes.now) }
+{
+    let rest = literal(b" ", bytes)?;
+    let (name, rest) = name_of(alloc, rest)?;
+    declared_of(alloc, fuel, name, rest)
+}
+
+/// What stands behind `super`.
+pub fn super_after(bytes: &[u8]) -> Read
+    ensures { Gives (λ x. (views.statement_view x.0, x.1.now)) result ((lead_at (codes "();") (value_at terms.super_call)) bytes.now) }
+{
+    let rest = literal(b"();", bytes)?;
+    Ok((JsStmt::SuperCall, rest))
+}
+
+/// What stands behind `throw`.
+#[tactic(auto, unfolding(js_spelling::specs::Statements::ended_at))]
+pub fn throw_after<'a>(alloc: Global, fuel: usize, bytes: &'a [u8]) -> Read<'a>
+    ensures { Gives (λ x. (views.statement_view x.0, x.1.now)) result ((lead_at (codes " ") (reading.ended_at (reading.statement_at fuel) fuel (λ e. terms.throw_of e))) bytes.now) }
+{
+    let rest = literal(b" ", bytes)?;
+    let (value, rest) = expression_of(alloc, fuel, rest)?;
+    let rest = literal(b";", rest)?;
+    Ok((JsStmt::Throw(value), rest))
+}
+
+/// What stands behind `return`.
+#[tactic(auto, unfolding(js_spelling::specs::Statements::ended_at))]
+pub fn return_after<'a>(alloc: Global, fuel: usize, bytes: &'a [u8]) -> Read<'a>
+    ensures { Gives (λ x. (views.statement_view x.0, x.1.now)) result ((lead_at (codes " ") (reading.ended_at (reading.statement_at fuel) fuel (λ e. terms.return_of e))) bytes.now) }
+{
+    let rest = literal(b" ", bytes)?;
+    let (value, rest) = expression_of(alloc, fuel, rest)?;
+    let rest = literal(b";", rest)?;
+    Ok((JsStmt::Return(value), rest))
+}
+
+/// What stands behind `break`.
+pub fn break_after<'a>(alloc: Global, bytes: &'a [u8]) -> Read<'a>
+    ensures { Gives (λ x. (views.statement_view x.0, x.1.now)) result ((either_at (λ c. c == 59) (lead_at (codes ";") (value_at terms.break_nearest)) (lead_at (codes " ") (after_at name_at (λ x. map_at (λ u. terms.break_to x) (literal_at (codes ";")))))) bytes.now) }
+{
+    if next_is(59, bytes) {
+        let rest = literal(b";", bytes)?;
+        Ok((JsStmt::Break, rest))
+    } else {
+        let rest = literal(b" ", bytes)?;
+        let (label, rest) = name_of(alloc, rest)?;
+        let rest = literal(b";", rest)?;
+        Ok((JsStmt::BreakTo(label), rest))
+    }
+}
+
+/// The semicolon behind an expression that is the statement.
+pub fn expression_end(expression: JsExpr, bytes: &[u8]) -> Read
+    ensures { Gives (λ x. (views.statement_view x.0, x.1.now)) result ((lead_at (codes ";") (value_at (terms.expression_statement (views.expression_view expression)))) bytes.now) }
+{
+    let rest = literal(b";", bytes)?;
+    Ok((JsStmt::Expression(expression), rest))
+}
+
+/// The new value of a name.
+#[tactic(auto, unfolding(js_spelling::specs::Statements::ended_at))]
+fn assign_name_of<'a>(alloc: Global, fuel: usize, name: Text, bytes: &'a [u8]) -> Read<'a>
+    ensures { Gives (λ x. (views.statement_view x.0, x.1.now)) result (lead_at (codes " = ") (reading.ended_at (reading.statement_at fuel) fuel (λ e. terms.assign_name name e)) bytes.now) }
+{
+    let rest = literal(b" = ", bytes)?;
+    let (value, rest) = expression_of(alloc, fuel, rest)?;
+    let rest = literal(b";", rest)?;
+    Ok((JsStmt::Assign { name, value }, rest))
+}
+
+/// The new value of a property.
+#[tactic(auto, unfolding(js_spelling::specs::Statements::ended_at))]
+fn assign_property_of<'a>(
+    alloc: Global,
+    fuel: usize,
+    object: Box<JsExpr>,
+    property: Text,
+    bytes: &'a [u8],
+) -> Read<'a>
+    ensures { Gives (λ x. (views.statement_view x.0, x.1.now)) result (lead_at (codes " = ") (reading.ended_at (reading.statement_at fuel) fuel (λ e. terms.assign_property (views.expression_view object.value) property e)) bytes.now) }
+{
+    let rest = literal(b" = ", bytes)?;
+    let (value, rest) = expression_of(alloc, fuel, rest)?;
+    let rest = literal(b";", rest)?;
+    let object = Box::into_inner(object);
+    Ok((
+        JsStmt::AssignProperty {
+            object,
+            property,
+            value,
+        },
+        rest,
+    ))
+}
+
+/// The new value of an element.
+#[tactic(auto, unfolding(js_spelling::specs::Statements::ended_at))]
+fn assign_index_of<'a>(
+    alloc: Global,
+    fuel: usize,
+    object: Box<JsExpr>,
+    index: Box<JsExpr>,
+    bytes: &'a [u8],
+) -> Read<'a>
+    ensures { Gives (λ x. (views.statement_view x.0, x.1.now)) result (lead_at (codes " = ") (reading.ended_at (reading.statement_at fuel) fuel (λ e. terms.assign_index (views.expression_view object.value) (views.expression_view index.value) e)) bytes.now) }
+{
+    let rest = literal(b" = ", bytes)?;
+    let (value, rest) = expression_of(alloc, fuel, rest)?;
+    let rest = literal(b";", rest)?;
+    let object = Box::into_inner(object);
+    let index = Box::into_inner(index);
+    Ok((
+        JsStmt::AssignIndex {
+            object,
+            index,
+            value,
+        },
+        rest,
+    ))
+}
+
+/// What stands behind a name that stands first, where no block follows.
+pub fn name_target_of<'a>(alloc: Global, fuel: usize, name: Text, bytes: &'a [u8]) -> Read<'a>
+    ensures { Gives (λ x. (views.statement_view x.0, x.1.now)) result ((either_at (λ c. c == 32) (lead_at (codes " = ") (reading.ended_at (reading.statement_at fuel) fuel (λ e. terms.assign_name name e))) (lead_at (codes ";") (value_at (terms.expression_statement (terms.name_use name))))) bytes.now) }
+{
+    if next_is(32, bytes) {
+        assign_name_of(alloc, fuel, name, bytes)
+    } else {
+        expression_end(JsExpr::Name(name), bytes)
+    }
+}
+
+/// What stands behind a property that stands first.
+pub fn property_target_of<'a>(
+    alloc: Global,
+    fuel: usize,
+    object: Box<JsExpr>,
+    property: Text,
+    bytes: &'a [u8],
+) -> Read<'a>
+    ensures { Gives (λ x. (views.statement_view x.0, x.1.now)) result ((either_at (λ c. c == 32) (lead_at (codes " = ") (reading.ended_at (reading.statement_at fuel) fuel (λ e. terms.assign_property (views.expression_view object.value) property e))) (lead_at (codes ";") (value_at (terms.expression_statement (terms.property_of (views.expression_view object.value) property))))) bytes.now) }
+{
+    if next_is(32, bytes) {
+        assign_property_of(alloc, fuel, object, property, bytes)
+    } else {
+        expression_end(JsExpr::Property { object, property }, bytes)
+    }
+}
+
+/// What stands behind an element that stands first.
+pub fn index_target_of<'a>(
+    alloc: Global,
+    fuel: usize,
+    object: Box<JsExpr>,
+    index: Box<JsExpr>,
+    bytes: &'a [u8],
+) -> Read<'a>
+    ensures { Gives (λ x. (views.statement_view x.0, x.1.now)) result ((either_at (λ c. c == 32) (lead_at (codes " = ") (reading.ended_at (reading.statement_at fuel) fuel (λ e. terms.assign_index (views.expression_view object.value) (views.expression_view index.value) e))) (lead_at (codes ";") (value_at (terms.expression_statement (terms.index_of (views.expression_view object.value) (views.expression_view index.value)))))) bytes.now) }
+{
+    if next_is(32, bytes) {
+        assign_index_of(alloc, fuel, object, index, bytes)
+    } else {
+        expression_end(JsExpr::Index { object, index }, bytes)
+    }
+}
+
+/// The loop with no end over these statements.
+pub fn forever(body: Vec<JsStmt>) -> JsStmt
+    ensures { views.statement_view result ≡ terms.do_forever (views.statements_view body.items) }
+{
+    JsStmt::DoForever(body)
+}
