@@ -25,11 +25,14 @@ cat > "$work/crates/worlds_bench/src/main.rt" <<'PROGRAM'
 use anyhow::Result;
 use sj_names::{ClassName, Items, MethodName};
 use sj_trees::{ClassDef, ClassKind, IrType, Position};
-use sj_world::World;
+use sj_world::{Resolution, World};
 use std::alloc::Global;
 use std::time::Instant;
 
 const CLASSES: u32 = 20_000;
+
+// The last class that stands three below java.lang.Object.
+const DEEPEST: u32 = 19_998;
 
 fn name(alloc: Global, number: u32) -> Result<ClassName> {
     if number == 0 {
@@ -55,33 +58,59 @@ fn class(alloc: Global, number: u32) -> Result<ClassDef> {
     })
 }
 
-fn main(rt: HostRuntime) -> Result<()> {
-    let alloc = rt.alloc();
+fn classes(alloc: Global) -> Result<Vec<ClassDef>> {
     let mut classes = Vec::new(alloc);
     for number in 0..CLASSES {
         classes.push(class(alloc, number)?)?;
     }
-    let start = Instant::now(&rt)?;
-    let world = World::new(alloc, classes)?;
-    println!(rt; "World::new, {CLASSES} classes: {} ms", start.elapsed(&rt)?.as_millis())?;
-    let below = name(alloc, CLASSES - 1)?;
-    let above = IrType::Class(name(alloc, 1)?);
-    let sub = IrType::Class(below.copied()?);
-    let method = MethodName::parse(alloc, "run;V")?;
-    let start = Instant::now(&rt)?;
+    Ok(classes)
+}
+
+fn report(rt: &HostRuntime, what: &str, start: &Instant, yes: u32) -> Result<()> {
+    let time = start.elapsed(rt)?.as_millis();
+    println!(rt; "{what}: {time} ms ({yes} yes)")?;
+    Ok(())
+}
+
+fn ask_subtypes(alloc: Global, world: &World) -> Result<u32> {
+    let sub = IrType::Class(name(alloc, DEEPEST)?);
+    let above = IrType::Class(name(alloc, DEEPEST - 2)?);
     let mut yes = 0u32;
     for _ in 0..1_000_000 {
         if world.is_sub(&sub, &above) {
             yes = yes.wrapping_add(1);
         }
     }
-    println!(rt; "is_sub, a million times: {} ms ({yes} yes)", start.elapsed(&rt)?.as_millis())?;
-    let start = Instant::now(&rt)?;
+    Ok(yes)
+}
+
+fn ask_resolutions(alloc: Global, world: &World) -> Result<u32> {
+    let below = name(alloc, DEEPEST)?;
+    let method = MethodName::parse(alloc, "run;V")?;
+    let mut yes = 0u32;
     for _ in 0..1_000_000 {
-        world.resolve(&below, &method);
+        if let Resolution::Target(_, _) = world.resolve(&below, &method) {
+            yes = yes.wrapping_add(1);
+        }
     }
-    println!(rt; "resolve, a million times: {} ms", start.elapsed(&rt)?.as_millis())?;
-    Ok(())
+    Ok(yes)
+}
+
+fn ask(rt: &HostRuntime, world: &World) -> Result<()> {
+    let start = Instant::now(rt)?;
+    let yes = ask_subtypes(rt.alloc(), world)?;
+    report(rt, "is_sub, a million times", &start, yes)?;
+    let start = Instant::now(rt)?;
+    let yes = ask_resolutions(rt.alloc(), world)?;
+    report(rt, "resolve, a million times", &start, yes)
+}
+
+fn main(rt: HostRuntime) -> Result<()> {
+    let classes = classes(rt.alloc())?;
+    let start = Instant::now(&rt)?;
+    let world = World::new(rt.alloc(), classes)?;
+    report(&rt, "World::new, 20000 classes", &start, CLASSES)?;
+    ask(&rt, &world)
 }
 PROGRAM
 
