@@ -7,5 +7,3 @@ use Rattle.sj_written.specs.Laws.{IsOfSomeFile}
 
 pub class_read : (file : List ℕ) (class : ClassDef) → All (λ b. b < 256) file → Reads file (Ok class) → IsOfSomeFile class
 class_read file class bytes reads = record { file = file; bytes = bytes; is_file = reads.right }
-
-pub ruleset reading = (class_read)

@@ -3,23 +3,29 @@
 #![tactic(auto)]
 
 use anyhow::Result;
-use sj_names::Meter;
+use sj_names::{Meter, NoMemory};
 use sj_read::read_class;
 use sj_write::write_class;
+use std::alloc::Global;
+use std::result;
 
-#[tactic(auto, using(std::proofs::lemmas::Grind::common_steps, crate::proofs::Files::reading))]
 fn main(rt: HostRuntime) -> Result<()> {
     let alloc = rt.alloc();
     for line in rt.lines(alloc) {
         let line = line?;
         let file = hex::decode(alloc, line.as_str())?;
-        match read_class(alloc, &file, &mut Meter::new()) {
-            Ok(class) => {
-                let written = write_class(alloc, &class)?;
-                println!(rt; "{}", hex::encode(alloc, &written)?)?;
-            }
-            Err(_) => println!(rt; "no class")?,
+        match written_again(alloc, &file)? {
+            Some(written) => println!(rt; "{}", hex::encode(alloc, &written)?)?,
+            None => println!(rt; "no class")?,
         }
     }
     Ok(())
+}
+
+// The file that the class of this file is written as; None where the bytes are no file.
+fn written_again(alloc: Global, file: &[u8]) -> result::Result<Option<Vec<u8>>, NoMemory> {
+    match read_class(alloc, file, &mut Meter::new()) {
+        Ok(class) => Ok(Some(write_class(alloc, &class)?)),
+        Err(_) => Ok(None),
+    }
 }
