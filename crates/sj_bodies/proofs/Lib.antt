@@ -3,6 +3,7 @@ pub mod Conditions
 pub mod Contexts
 pub mod Declared
 pub mod Fine
+pub mod Forms
 pub mod Numbers
 pub mod Operators
 pub mod Orders
