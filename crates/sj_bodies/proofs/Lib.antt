@@ -4,6 +4,7 @@ pub mod Contexts
 pub mod Declared
 pub mod Fine
 pub mod Forms
+pub mod Jumps
 pub mod Numbers
 pub mod Operators
 pub mod Orders

@@ -51,8 +51,6 @@ zero_shift-fits a b f = cast-fits (cast_unsigned w32 a / 2 ^ signed.places b) (q
 
 -- what the template of an operator computes from the values of its operands
 
-
-
 -- `((a + b) | 0)`, where the sum is exact
 abbrev pub or_zero_value : Option js.Value → Option js.Value
 or_zero_value None = None

@@ -243,7 +243,6 @@ module _ (z : Setting) (lawful : Lawful z) where
       each : (a : ir.Ended) (b : js.StatementEnd) → Came z (writing (keeping c p) x) c.scope (to_variable x (type_of_term t)) w started a b → Sim z.direction (Came z c c.scope k from before) (ir.onward f a) (js.next_statement (run z rest) b)
       each _ _ (gave y v env' s' sc2 u' _ h (stored _ _ q a e) r2 k2 states) = others (λ b. (b ≡ x) ⊎ p b) code.next (λ vs. act (v ∷ vs)) (λ es. made (core.variable_use x ∷ es)) y env' s' sc2 u' (operands-later c j code.next ts (omega (arith, onward (to_variable x (type_of_term t)) (suc j))) ds) (extends-more c p j sub) (sound-kept c p j sound ahead) (ahead-kept c p j code.next (onward (to_variable x (type_of_term t)) (suc j)) ahead) (saved_final c k from before p j code.next (count ts) w y sc sc2 act made v q false (onward (to_variable x (type_of_term t)) (suc j)) final h (keeps-trans z p sc started sc2 (started-keeps z lawful p false x js.undefined sc kept_here) k2) a e) (grows-trans from w y g h) (record { sees = r2.sees; «open» = λ a b. r2.«open» a (inr b) }) (keeps-trans z c.kept before sc sc2 ks (keeps-trans z c.kept sc started sc2 (started-keeps z lawful c.kept false x js.undefined sc (λ b. kept_here (sub.more x b))) (record { same = λ a b. k2.same a (sub.more a b) }))) states
       each _ _ (left y l v env' s' sc2 u' e h a r2 k2 states) = leaves_on z lawful c c.scope k from before (run z rest) y l v env' s' sc2 u' e (target_of c.targets l) refl (grows-trans from w y g h) a (record { sees = r2.sees; «open» = λ a b. r2.«open» a (inr b) }) (keeps-trans z c.kept before sc sc2 ks (keeps-trans z c.kept sc started sc2 (started-keeps z lawful c.kept false x js.undefined sc (λ b. kept_here (sub.more x b))) (record { same = λ a b. k2.same a (sub.more a b) }))) states
-
       each _ _ (stopped y env' s' sc2 u' t h r2 k2 states) = sim_done z.direction (Came z c c.scope k from before) (ir.ends ir.stops env' s') (js.ends js.breaks_nearest sc2 u') (stopped y env' s' sc2 u' t (grows-trans from w y g h) (record { sees = r2.sees; «open» = λ a b. r2.«open» a (inr b) }) (keeps-trans z c.kept before sc sc2 ks (keeps-trans z c.kept sc started sc2 (started-keeps z lawful c.kept false x js.undefined sc (λ b. kept_here (sub.more x b))) (record { same = λ a b. k2.same a (sub.more a b) }))) states)
 
   -- one operand, by whether it and all behind it are plain, whether it is fixed, and whether it is plain
