@@ -5,6 +5,7 @@ pub mod Declared
 pub mod Fine
 pub mod Forms
 pub mod Jumps
+pub mod Loops
 pub mod Numbers
 pub mod Operators
 pub mod Orders
