@@ -6,6 +6,7 @@ pub mod Fine
 pub mod Forms
 pub mod Jumps
 pub mod Loops
+pub mod Main
 pub mod Numbers
 pub mod Operators
 pub mod Orders
@@ -13,4 +14,6 @@ pub mod Plain
 pub mod Spills
 pub mod Statements
 pub mod Templates
+pub mod Trees
+pub mod Turns
 pub mod Worlds
