@@ -6,7 +6,6 @@ pub mod Fine
 pub mod Forms
 pub mod Jumps
 pub mod Loops
-pub mod Main
 pub mod Numbers
 pub mod Operators
 pub mod Orders
