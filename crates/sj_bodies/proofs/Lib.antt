@@ -3,6 +3,9 @@ pub mod Conditions
 pub mod Contexts
 pub mod Declared
 pub mod Fine
+pub mod Forms
+pub mod Jumps
+pub mod Loops
 pub mod Numbers
 pub mod Operators
 pub mod Orders
@@ -10,4 +13,6 @@ pub mod Plain
 pub mod Spills
 pub mod Statements
 pub mod Templates
+pub mod Trees
+pub mod Turns
 pub mod Worlds

@@ -91,7 +91,7 @@ module _ (z : Setting) (lawful : Lawful z) where
   Fits (to_variable x expected) t = (has_no_value t ≡ false) × NoBox expected t
   Fits (to_result expected) t = (has_no_value t ≡ false) × NoBox expected t
 
-  started-open : (x y : core.Variable) (j : js.Value) (sc : js.Scope) → IsOpen (sc.bindings (z.name y)) → IsOpen ((js_meaning.start false (z.name x) j sc).bindings (z.name y))
+  pub started-open : (x y : core.Variable) (j : js.Value) (sc : js.Scope) → IsOpen (sc.bindings (z.name y)) → IsOpen ((js_meaning.start false (z.name x) j sc).bindings (z.name y))
   started-open x y j sc h = go (pointwise nat_eq (z.name y) (z.name x)) refl
     where
       go : (b : Bool) → pointwise nat_eq (z.name y) (z.name x) ≡ b → IsOpen ((js_meaning.start false (z.name x) j sc).bindings (z.name y))
