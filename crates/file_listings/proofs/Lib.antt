@@ -1,0 +1,5 @@
+pub mod Ensures
+pub mod ListedNames
+pub mod ListedTrees
+pub mod ListedClasses
+pub mod Bare

@@ -1,0 +1,12 @@
+// The law that joins class files and listings.
+ghost use Rattle.file_listings.specs.Listed.{EachFileIsListed, EachListedIsBare};
+
+/// Each class that some bytes are the file of has a listing.
+pub fn each_class_of_a_file_has_a_listing()
+    ensures { EachFileIsListed }
+{}
+
+/// What is listed is a class with every position zero, one source file with the empty name, and no hash.
+pub fn each_listed_class_is_bare()
+    ensures { EachListedIsBare }
+{}
