@@ -2,49 +2,62 @@
 //! the number of the code, the place, and the form that isn't supported.
 #![tactic(auto)]
 
-mod classes;
-mod listing;
-mod trees;
+ghost use Rattle.std.specs.Prelude.{◌<◌};
+ghost use Rattle.std.specs.List.{All};
 
 use anyhow::Result;
-use listing::Listing;
+use file_listings::each_class_of_a_file_has_a_listing;
+use listing_print::print_listing;
 use sj_format::{Code, ReadRefusal};
-use sj_names::Meter;
+use sj_names::{Meter, NoMemory};
 use sj_read::read_class;
-use std::alloc::{AllocError, Global};
-use std::result;
+use std::alloc::Global;
+use std::{result, str};
 
 fn main(rt: HostRuntime) -> Result<()> {
     let alloc = rt.alloc();
     for line in rt.lines(alloc) {
         let line = line?;
-        let bytes = hex::decode(alloc, line.as_str())?;
-        let mut listing = Listing::new(alloc);
-        list_file(alloc, &bytes, &mut listing)?;
-        println!(rt; "{}", listing.text())?;
+        let file = hex::decode(alloc, line.as_str())?;
+        let answer = answer(alloc, &file)?;
+        println!(rt; "{answer}")?;
     }
     Ok(())
 }
 
 // What the reader answers to a file.
-fn list_file(alloc: Global, file: &[u8], listing: &mut Listing) -> result::Result<(), AllocError> {
+fn answer(alloc: Global, file: &[u8]) -> result::Result<String, NoMemory> {
+    read_each(file);
+    each_class_of_a_file_has_a_listing();
     match read_class(alloc, file, &mut Meter::new()) {
         Ok(class) => {
-            listing.word("ok ")?;
-            listing.class_def(&class)
+            let listing = print_listing(alloc, &class)?;
+            listed(alloc, listing.as_slice())
         }
-        Err(ReadRefusal::Bad { code, place }) => list_fault(code, place, listing),
-        Err(ReadRefusal::NoMemory) => listing.word("no memory"),
+        Err(ReadRefusal::Bad { code, place }) => fault(alloc, code, place),
+        Err(ReadRefusal::NoMemory) => Err(NoMemory),
     }
 }
 
-fn list_fault(code: Code, place: u64, listing: &mut Listing) -> result::Result<(), AllocError> {
-    listing.word("bad")?;
-    listing.number(i64::from(code.number()))?;
-    listing.number((place & 0x7fff_ffff) as i64)?;
-    listing.word(" ")?;
-    listing.word(match code.form() {
+fn listed(alloc: Global, listing: &[u8]) -> result::Result<String, NoMemory> {
+    let text = str::from_utf8(listing).unwrap_or("no text");
+    Ok(format!(in alloc; "ok {text}")?)
+}
+
+fn fault(alloc: Global, code: Code, place: u64) -> result::Result<String, NoMemory> {
+    let number = code.number();
+    let form = match code.form() {
         Some(form) => form.name(),
         None => "-",
-    })
+    };
+    Ok(format!(in alloc; "bad {number} {place} {form}")?)
+}
+
+// Each element is a byte, which reading it tells.
+fn read_each(bytes: &[u8])
+    ensures { All (λ b. b < 256) bytes.now }
+{
+    for byte in bytes {
+        let _byte = *byte;
+    }
 }
