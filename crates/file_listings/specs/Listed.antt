@@ -4,6 +4,8 @@ use Rattle.sj_trees.specs.declared.classes.ClassDef.{ClassDef}
 use Rattle.sj_format.specs.Files.{FileIs}
 use Rattle.listing_spelling.specs.Rules.{HasListing, bare}
 use Rattle.listing_spelling.specs.Spelling.{Lists}
+use Rattle.sj_written.specs.Classes.{NamesItsFiles}
+use Rattle.sj_written.specs.Written.{written_class}
 
 abbrev pub AreBytes : List ℕ → Type 0
 AreBytes bytes = All (λ b. b < 256) bytes
@@ -15,3 +17,11 @@ EachFileIsListed = (bytes : List ℕ) (class : ClassDef) → AreBytes bytes → 
 -- a listing is that of a class without positions, source files and hashes
 abbrev pub EachListedIsBare : Type 0
 EachListedIsBare = (class : ClassDef) (text : List ℕ) → Lists class text → bare class ≡ class
+
+-- each position of a class that is listed names one of its source files
+abbrev pub EachListedNamesItsFiles : Type 0
+EachListedNamesItsFiles = (class : ClassDef) (text : List ℕ) → Lists class text → NamesItsFiles class
+
+-- a class that is listed and has a file is written as the file of a class with the same listing
+abbrev pub EachListedIsMade : Type 0
+EachListedIsMade = (class : ClassDef) (text file : List ℕ) → Lists class text → AreBytes file → FileIs file class → (other : ClassDef) × FileIs (written_class class) other × (bare other ≡ class)

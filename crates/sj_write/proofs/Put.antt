@@ -19,7 +19,7 @@ use Rattle.sj_written.proofs.Entries.{Has, Extends, extends_self, extends_then, 
 use Rattle.sj_written.proofs.Carry.{Covers}
 use Rattle.sj_written.proofs.WrittenFile.{method_names, has_head, has_tail, opened_file}
 use Rattle.sj_written.proofs.Same.{text_decides, method_decides}
-use Rattle.sj_write.specs.Writing.{Writing, unwritten, knowing, with_bytes, with_index, with_names, with_methods, entered, all_entered, method_entered, put, finished, HasFiles}
+use Rattle.sj_write.specs.Writing.{Writing, unwritten, knowing, with_bytes, with_index, with_names, with_methods, entered, all_entered, method_entered, put, finished}
 
 abbrev HasText : List (List ℕ) → List ℕ → Type 0
 HasText = Has same_text text_decides
@@ -252,21 +252,4 @@ finished_is class =
         together : (h a b c d : List ℕ) → h ++ a ++ b ++ c ++ d ≡ h ++ (a ++ b ++ c ++ d)
         together h a b c d = ap (λ (l : List ℕ). l ++ c ++ d) (append_assoc h a b) ∙ ap (λ (l : List ℕ). l ++ d) (append_assoc h (a ++ b) c) ∙ append_assoc h (a ++ b ++ c) d
 
--- ---- the condition
-
-has_files : (t : Tables) (fs : Fields) → Covers t fs → HasFiles fs
-has_files t nothing c = tt
-has_files t (number_field n x) c = tt
-has_files t (plain_field bytes) c = tt
-has_files t (name_field x) c = tt
-has_files t (method_field m) c = tt
-has_files t (string_field u) c = tt
-has_files t (file_field None) c = c
-has_files t (file_field (Some text)) c = tt
-has_files t (both fs gs) c = (has_files t fs c.0, has_files t gs c.1)
-
--- each position of the class of a file has its source file
-pub files_there : (class : ClassDef) → IsOfSomeFile class → HasFiles (class_fields class)
-files_there class is = let o = opened_file reads_what_is_written class is in has_files o.old (class_fields class) o.carried.inside
-
-pub ruleset writing = (finished_is, files_there)
+pub ruleset writing = (finished_is)

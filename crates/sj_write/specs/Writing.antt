@@ -67,12 +67,6 @@ put (file_field None) w = w
 put (file_field (Some text)) w = with_index (index_of same_text w.tables.files text) (with_files (with_entry same_text w.tables.files text) w)
 put (both fs gs) w = put gs (put fs w)
 
--- each position has its source file
-abbrev pub HasFiles : Fields → Type 0
-HasFiles (file_field None) = ⊥
-HasFiles (both fs gs) = HasFiles fs × HasFiles gs
-HasFiles other = Unit {0}
-
 -- the bytes in front, and behind them the file with what is written: the header, the tables and the bytes behind them
 abbrev pub finished : List ℕ → Writing → List ℕ
 finished front w = front ++ header_bytes ++ table_bytes counted_bytes w.tables.files ++ table_bytes counted_bytes w.tables.names ++ (put (list_fields method_name_fields w.tables.methods) (knowing w.tables.names)).text ++ table_bytes (λ u. counted_bytes (modified_bytes u)) w.tables.strings ++ w.text

@@ -1,9 +1,9 @@
 // A class and its members.
 ghost use Rattle.std.specs.Prelude.{◌≡◌, OnOk, map};
-ghost use Rattle.sj_written.specs.Fields.{name_field, plain_field, each, list_fields, option_fields};
+ghost use Rattle.sj_written.specs.Fields.{HasFiles, name_field, plain_field, each, list_fields, option_fields};
 ghost use Rattle.sj_written.specs.Trees.{term_fields};
 ghost use Rattle.sj_written.specs.Classes.{kind_code, param_fields, field_fields, method_fields, members_fields, class_fields};
-ghost use Rattle.sj_write.specs.Writing.{put, HasFiles};
+ghost use Rattle.sj_write.specs.Writing.{put};
 
 use crate::trees::namespace_code;
 use crate::writer::ClassWriter;

@@ -3,12 +3,11 @@ ghost use Rattle.std.specs.Prelude.{◌≡◌, [], ◌++◌, OnOk, IfOk, map, le
 ghost use Rattle.std.specs.List.{flat_map};
 ghost use Rattle.byteorder.specs.Endian.{big_bytes};
 ghost use Rattle.sj_units.specs.Modified.{modified_bytes};
-ghost use Rattle.sj_written.specs.Fields.{list_fields};
+ghost use Rattle.sj_written.specs.Fields.{HasFiles, list_fields};
 ghost use Rattle.sj_written.specs.References.{method_name_fields};
-ghost use Rattle.sj_written.specs.Classes.{class_fields};
+ghost use Rattle.sj_written.specs.Classes.{class_fields, NamesItsFiles};
 ghost use Rattle.sj_written.specs.Written.{header_bytes, counted_bytes, table_bytes, written_class};
-ghost use Rattle.sj_written.specs.Laws.{IsOfSomeFile};
-ghost use Rattle.sj_write.specs.Writing.{put, unwritten, knowing, finished, HasFiles};
+ghost use Rattle.sj_write.specs.Writing.{put, unwritten, knowing, finished};
 
 use crate::entries::StringEntry;
 use crate::numbers::{append, append_count, append_number, append_short};
@@ -25,11 +24,11 @@ const MAGIC: u32 = 0xCAFE_4A53;
 // The version of the format.
 const VERSION: &str = "1.0-i1";
 
-/// The file that a class is written as, for the class of some file: the header, the tables of what the class uses, each entry
-/// once and in the order of first use, and the class with its fields in front of its methods. The hashes of methods are kept.
-/// Numbers are big-endian. `NoMemory` where no memory is left.
+/// The file that a class is written as, each position of which names one of its source files: the header, the tables of what the
+/// class uses, each entry once and in the order of first use, and the class with its fields in front of its methods. The hashes of
+/// methods are kept. Numbers are big-endian. `NoMemory` where no memory is left.
 pub fn write_class(alloc: Global, c: &ClassDef) -> Result<Vec<u8>, NoMemory>
-    requires { IsOfSomeFile c.now }
+    requires { NamesItsFiles c.now }
     ensures { IfOk result (λ file. file.items ≡ written_class c.now) }
 {
     let written = class_written(alloc, c)?;

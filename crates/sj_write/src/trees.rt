@@ -1,9 +1,9 @@
 // Trees.
 ghost use Rattle.std.specs.Prelude.{◌≡◌, OnOk, map};
 ghost use Rattle.sj_trees.specs.View.{view, terms_view, cases_view};
-ghost use Rattle.sj_written.specs.Fields.{◌▸◌, byte, position_fields};
+ghost use Rattle.sj_written.specs.Fields.{HasFiles, ◌▸◌, byte, position_fields};
 ghost use Rattle.sj_written.specs.Trees.{namespace_code, keys_fields, term_fields, terms_fields, cases_fields};
-ghost use Rattle.sj_write.specs.Writing.{put, HasFiles};
+ghost use Rattle.sj_write.specs.Writing.{put};
 
 use crate::writer::ClassWriter;
 use sj_names::{Namespace, NoMemory, Text};

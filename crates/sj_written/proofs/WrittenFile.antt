@@ -17,9 +17,9 @@ use Rattle.sj_format.specs.Tables.{Tables, IsText, IsString}
 use Rattle.sj_format.specs.References.{IsMethodName}
 use Rattle.sj_format.specs.Classes.{IsClass}
 use Rattle.sj_format.specs.Files.{IsMagic, IsVersion, IsTables, IsContents, FileIs}
-use Rattle.sj_written.specs.Fields.{Fields, nothing, number_field, plain_field, name_field, method_field, string_field, file_field, both, each}
+use Rattle.sj_written.specs.Fields.{Fields, HasFiles, nothing, number_field, plain_field, name_field, method_field, string_field, file_field, both, each}
 use Rattle.sj_written.specs.References.{base_fields, reference_fields, result_fields, method_name_fields, names_in_base, names_in_reference, names_in_result, names_in_method}
-use Rattle.sj_written.specs.Classes.{class_fields}
+use Rattle.sj_written.specs.Classes.{class_fields, NamesItsFiles}
 use Rattle.sj_written.specs.Renumbered.{renumbered_class}
 use Rattle.sj_written.specs.Tables.{same_text, same_method, each_once, files_used, names_used, methods_used, strings_used, tables_of}
 use Rattle.sj_written.specs.Written.{spelled, counted_bytes, table_bytes, tables_bytes, header_bytes}
@@ -471,6 +471,20 @@ all_bytes (b ∷ bytes) all = (all 0 0 (omega arith), all_bytes bytes (λ k d h.
 
 pub opened_file : ReadsWhatIsWritten → (class : ClassDef) → IsOfSomeFile class → Opened class
 opened_file law class is = opened law is.file class (all_bytes is.file is.bytes) is.is_file
+
+has_files : (t : Tables) (fs : Fields) → Covers t fs → HasFiles fs
+has_files t nothing c = tt
+has_files t (number_field n x) c = tt
+has_files t (plain_field bytes) c = tt
+has_files t (name_field x) c = tt
+has_files t (method_field m) c = tt
+has_files t (string_field u) c = tt
+has_files t (file_field None) c = c
+has_files t (file_field (Some text)) c = tt
+has_files t (both fs gs) c = (has_files t fs c.0, has_files t gs c.1)
+
+pub files_there : ReadsWhatIsWritten → (class : ClassDef) → IsOfSomeFile class → NamesItsFiles class
+files_there law class is = let o = opened_file law class is in has_files o.old (class_fields class) o.carried.inside
 
 pub read_back : ReadsWhatIsWritten → (class : ClassDef) → IsOfSomeFile class → IsReadBack class
 read_back law class is = let o = opened_file law class is in written_again o.old class o.are o.carried

@@ -5,7 +5,7 @@ use Rattle.sj_trees.specs.declared.classes.FieldDef.{FieldDef}
 use Rattle.sj_trees.specs.declared.classes.MethodDef.{MethodDef}
 use Rattle.sj_trees.specs.declared.classes.ClassKind.{ClassKind}
 use Rattle.sj_trees.specs.declared.classes.ClassDef.{ClassDef}
-use Rattle.sj_written.specs.Fields.{Fields, name_field, method_field, plain_field, ◌▸◌, byte, mark, count, each, list_fields, option_fields, position_fields}
+use Rattle.sj_written.specs.Fields.{Fields, HasFiles, name_field, method_field, plain_field, ◌▸◌, byte, mark, count, each, list_fields, option_fields, position_fields}
 use Rattle.sj_written.specs.References.{type_fields}
 use Rattle.sj_written.specs.Trees.{term_fields, namespace_code}
 
@@ -35,3 +35,7 @@ members_fields sources fs ms = count (length fs + length ms) ▸ each (field_fie
 -- a class
 abbrev pub class_fields : ClassDef → Fields
 class_fields c = position_fields c.files c.pos ▸ name_field c.name ▸ byte (kind_code c.kind) ▸ option_fields name_field c.superclass ▸ list_fields name_field c.interfaces ▸ members_fields c.files c.fields c.methods
+
+-- each position of the class names one of its source files
+abbrev pub NamesItsFiles : ClassDef → Type 0
+NamesItsFiles c = HasFiles (class_fields c)

@@ -55,3 +55,9 @@ option_fields fields (Some x) = mark true ▸ fields x
 -- a position in these source files: its file, line and column
 abbrev pub position_fields : List (List ℕ) → Position → Fields
 position_fields sources p = file_field (slice_get sources p.file) ▸ number_field 4 p.line ▸ number_field 4 p.column
+
+-- each position has its source file
+abbrev pub HasFiles : Fields → Type 0
+HasFiles (file_field None) = ⊥
+HasFiles (both fs gs) = HasFiles fs × HasFiles gs
+HasFiles other = Unit {0}

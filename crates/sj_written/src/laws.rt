@@ -2,6 +2,7 @@
 ghost use Rattle.std.specs.Prelude.{List, ℕ};
 ghost use Rattle.sj_trees.specs.declared.classes.ClassDef.{ClassDef};
 ghost use Rattle.sj_written.specs.Fields.{Fields};
+ghost use Rattle.sj_written.specs.Classes.{NamesItsFiles};
 ghost use Rattle.sj_written.specs.Laws.{IsOfSomeFile, IsReadBack, AreTablesOf, EntriesAreCompared};
 
 /// What a class of some file is written as is read back as the same class, apart from the numbers of its source files; every
@@ -14,4 +15,9 @@ pub fn written_classes_are_read_back()
 pub fn tables_hold_each_entry_once()
     ensures tables { (fields : Fields) → AreTablesOf fields }
     ensures compared { EntriesAreCompared }
+{}
+
+/// Each position of the class of a file names one of its source files.
+pub fn classes_of_files_name_their_files()
+    ensures { (class : ClassDef) → IsOfSomeFile class → NamesItsFiles class }
 {}

@@ -4,4 +4,6 @@
 
 mod laws;
 
-pub use laws::{tables_hold_each_entry_once, written_classes_are_read_back};
+pub use laws::{
+    classes_of_files_name_their_files, tables_hold_each_entry_once, written_classes_are_read_back,
+};

@@ -1,9 +1,12 @@
 -- What is read is the class of a file.
 use Rattle.std.proofs.Common.{ℕ, ◌<◌, List, Ok}
 use Rattle.std.specs.List.{All}
+use Rattle.sj_units.proofs.Exact as units
 use Rattle.sj_trees.specs.declared.classes.ClassDef.{ClassDef}
 use Rattle.sj_format.specs.Answers.{Reads}
-use Rattle.sj_written.specs.Laws.{IsOfSomeFile}
+use Rattle.sj_written.specs.Classes.{NamesItsFiles}
+use Rattle.sj_written.proofs.WrittenFile.{files_there}
 
-pub class_read : (file : List ℕ) (class : ClassDef) → All (λ b. b < 256) file → Reads file (Ok class) → IsOfSomeFile class
-class_read file class bytes reads = record { file = file; bytes = bytes; is_file = reads.right }
+-- each position of a class that is read names one of its source files
+pub names_files : (file : List ℕ) (class : ClassDef) → All (λ b. b < 256) file → Reads file (Ok class) → NamesItsFiles class
+names_files file class bytes reads = files_there units.reads_what_is_written class (record { file = file; bytes = bytes; is_file = reads.right })

@@ -1,7 +1,8 @@
 use Rattle.std.proofs.Common.{◌≡◌, drop}
 use Rattle.sj_trees.specs.View.{terms_view, cases_view}
 use Rattle.sj_written.specs.Trees.{each_term, each_case}
-use Rattle.sj_write.specs.Writing.{put, HasFiles}
+use Rattle.sj_write.specs.Writing.{put}
+use Rattle.sj_written.specs.Fields.{HasFiles}
 use Rattle.sj_write.proofs.writer.ClassWriter.+tree.Given as goal
 
 abbrev pub invariant-trees-loop-each : goal.invariant-trees-loop-each
