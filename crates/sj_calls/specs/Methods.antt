@@ -34,8 +34,8 @@ IsParameter [] x = ⊥
 IsParameter (d ∷ ds) x = (x ≡ d.name) ⊎ IsParameter ds x
 
 -- the body is fine where it brings its value out of the method, with the parameters in scope, and it defines no parameter again
-pub record FineMethod (p : Place) (d : MethodDef) (e : Term) : Type 0 where
-  pub fine : Fine (is_mutable_in d e) p.is_linked (IsParameter d.params) [] (result_destination d.result) e
+pub record FineMethod (is_linked : Member → Bool) (d : MethodDef) (e : Term) : Type 0 where
+  pub fine : Fine (is_mutable_in d e) is_linked (IsParameter d.params) [] (result_destination d.result) e
   pub fresh : (x : List ℕ) → Own e x → IsParameter d.params x → ⊥
 
 -- a member of the classes with a body that is fine, whose function stands in the file
@@ -45,7 +45,7 @@ pub record Linked (p : Place) (m : Member) : Type 0 where
   pub found : member_of p.classes m.class m.namespace m.method ≡ Some definition
   pub has_body : definition.body ≡ Some its_body
   pub emitted : js_meaning.code_of p.program p.file (member_name m) ≡ Some (function_of p definition its_body)
-  pub fine : FineMethod p definition its_body
+  pub fine : FineMethod p.is_linked definition its_body
 
 -- a call of a member by the IR, and a call of its function, with a bound on what its body does
 abbrev pub ir_call : Place → Member → List ir.Value → ir.Env → ir.State → ℕ → Out ir.Ended
