@@ -1,11 +1,11 @@
 -- A block of statements sees the bindings around it, and leaves them as they are.
-use Rattle.std.proofs.Common.{◌≡◌, ℕ, zero, suc, ◌≤◌, Bool, true, false, ◌||◌, List, [], ◌∷◌, Some, None, Option, refl, sym, ap, ◌∙◌, subst, if◌then◌else◌}
+use Rattle.std.proofs.Common.{◌≡◌, ℕ, Bool, true, false, ◌||◌, List, refl, sym, ap, ◌∙◌, subst, if◌then◌else◌}
 use Rattle.std.specs.Prelude.{nat_eq}
 use Rattle.std.specs.Cmp.Lexicographic.{pointwise}
-use Rattle.outcomes.specs.Outcome.{Out, done, wrong, then_do}
+use Rattle.outcomes.specs.Outcome.{Out, done}
 use Rattle.outcomes.specs.Agreement.{Sim}
-use Rattle.outcomes.proofs.Sequence.{then_do-right, then_do-associative}
-use Rattle.outcomes.proofs.Simulation.{sim_done, sim_wrong, sim_then, sim_weaken}
+use Rattle.outcomes.proofs.Sequence.{then_do-right}
+use Rattle.outcomes.proofs.Simulation.{sim_done, sim_then}
 use Rattle.ir_mean.specs.States as ir
 use Rattle.js_mean.specs.Meaning as js_meaning
 use Rattle.js_mean.specs.Proper.{is_among, declared}
@@ -14,14 +14,14 @@ use Rattle.js_tree.specs.Terms as tree
 use Rattle.js_tree.specs.Terms.{Name}
 use Rattle.sj_core.specs.Terms as core
 use Rattle.sj_desugar.specs.Desugar.{target_of}
-use Rattle.sj_desugar.specs.Spill.{Destination, discard, to_variable, to_result}
+use Rattle.sj_desugar.specs.Spill.{Destination}
 use Rattle.sj_emit_expr.specs.Templates.{member_name, statement_templates}
 use Rattle.sj_names.specs.declared.method_names.Member.{Member}
-use Rattle.sj_bodies.specs.Settings.{Setting, run, SameState, Inside, Lawful, Holding, Sees}
-use Rattle.sj_bodies.proofs.Contexts.{Context, Writes, Sound, Ahead, IsOpen, Ready, Keeps, Arrives, let_go, stored, returned, Came, gave, left, stopped}
-use Rattle.sj_bodies.proofs.Declared.{Declares, Named, declared-named, IsNew}
+use Rattle.sj_bodies.specs.Settings.{Setting, run, Lawful, Holding}
+use Rattle.sj_bodies.proofs.Contexts.{Context, Writes, Sound, Ahead, Ready, Keeps, Arrives, let_go, stored, returned, Came, gave, left, stopped}
+use Rattle.sj_bodies.proofs.Declared.{Declares, declared-named, IsNew}
 use Rattle.sj_bodies.proofs.Operators.{impossible}
-use Rattle.sj_bodies.proofs.Worlds.{World, Grows}
+use Rattle.sj_bodies.proofs.Worlds.{World}
 
 or_false : (a b : Bool) → (a || b) ≡ false → (a ≡ false) × (b ≡ false)
 or_false true b h = impossible (sym h)

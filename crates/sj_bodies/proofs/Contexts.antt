@@ -1,21 +1,19 @@
 -- What a tree is written in: the locals in scope, the variables that may be written, those that keep what they hold, and the labels.
-use Rattle.std.proofs.Common.{◌≡◌, ℕ, zero, suc, ◌≤◌, Bool, true, false, List, [], ◌∷◌, Some, None, Option, refl, sym, ap, ◌∙◌, subst, cond, if◌then◌else◌}
+use Rattle.std.proofs.Common.{◌≡◌, ℕ, ◌≤◌, Bool, true, false, List, refl, sym, ap, ◌∙◌, subst, if◌then◌else◌}
 use Rattle.std.specs.Prelude.{nat_eq}
 use Rattle.std.specs.Cmp.Lexicographic.{pointwise}
 use Rattle.std.proofs.lemmas.Slice.Eq.{bytes_eq-Decides}
-use Rattle.ir_mean.specs.Meaning as ir_meaning
 use Rattle.ir_mean.specs.States as ir
 use Rattle.js_mean.specs.Meaning as js_meaning
 use Rattle.js_mean.specs.States as js
 use Rattle.sj_core.specs.Terms as core
-use Rattle.sj_desugar.specs.Desugar.{Targets, Target, target_of}
+use Rattle.sj_desugar.specs.Desugar.{Targets, target_of}
 use Rattle.sj_desugar.specs.Spill.{Destination, discard, to_variable, to_result}
 use Rattle.sj_emit_expr.specs.Templates.{member_name}
-use Rattle.sj_names.specs.declared.method_names.Member.{Member}
 use Rattle.sj_trees.specs.declared.types.IrType.{IrType}
-use Rattle.sj_bodies.specs.Settings.{Place, Setting, SameState, Inside, Lawful, Holding, holding, Sees}
-use Rattle.sj_bodies.proofs.Plain.{holding-lift, sees-lift}
-use Rattle.sj_bodies.proofs.Worlds.{World, Grows, grows-refl, grows-trans, SameValue, value-lift}
+use Rattle.sj_bodies.specs.Settings.{Place, Setting, SameState, Inside, Lawful, Holding, Sees}
+use Rattle.sj_bodies.proofs.Plain.{sees-lift}
+use Rattle.sj_bodies.proofs.Worlds.{World, Grows, SameValue}
 
 pub record Context : Type 1 where
   pub scope : List ℕ → Type 0

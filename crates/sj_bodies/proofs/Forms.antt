@@ -1,11 +1,10 @@
 -- One lemma for each form that isn't plain, over the parts of the form.
-use Rattle.std.proofs.Common.{◌≡◌, ℕ, zero, suc, ◌≤◌, ◌<◌, Bool, true, false, ◌&&◌, List, [], ◌∷◌, Some, None, Option, refl, sym, ap, ◌∙◌, subst, arith, ◌⊎◌, inl, inr, ⊎_elim, if◌then◌else◌}
-use Rattle.std.specs.Prelude.{not, nat_eq}
+use Rattle.std.proofs.Common.{◌≡◌, ℕ, zero, suc, ◌≤◌, Bool, true, false, List, [], ◌∷◌, Some, Option, refl, sym, ap, ◌∙◌, subst, arith, ◌⊎◌, inl, inr, ⊎_elim, if◌then◌else◌}
+use Rattle.std.specs.Prelude.{nat_eq}
 use Rattle.std.specs.Cmp.Lexicographic.{pointwise}
-use mathlib.Core.Path.{fun_ext}
-use Rattle.outcomes.specs.Outcome.{Out, done, wrong, then_do, says}
+use Rattle.outcomes.specs.Outcome.{Out, done, wrong, then_do}
 use Rattle.outcomes.specs.Agreement.{Sim}
-use Rattle.outcomes.proofs.Sequence.{then_do-right, then_do-associative}
+use Rattle.outcomes.proofs.Sequence.{then_do-right}
 use Rattle.outcomes.proofs.Simulation.{sim_done, sim_wrong, sim_then, sim_weaken, sim_says}
 use Rattle.ir_mean.specs.Meaning as ir_meaning
 use Rattle.ir_mean.specs.States as ir
@@ -14,27 +13,23 @@ use Rattle.js_mean.specs.States as js
 use Rattle.sj_core.specs.Terms as core
 use Rattle.sj_core.specs.Terms.{followed}
 use Rattle.sj_desugar.specs.Coercions.{coerced}
-use Rattle.sj_desugar.specs.Desugar.{Targets, Target, target_of, into, expression_of, first_of, finish, operand, labeled_code, leaving_code, wrapped, branches, break_unless, has_no_value}
-use Rattle.sj_desugar.specs.Plain.{is_plain, is_fixed}
-use Rattle.sj_desugar.specs.Spill.{Destination, discard, to_variable, to_result, Code, one, put_first, joined, then_code, then_use, spill}
-use Rattle.sj_emit_expr.specs.Templates.{statement_templates, statement_template, expression_template, choice_template}
+use Rattle.sj_desugar.specs.Desugar.{target_of, first_of, finish, operand, branches}
+use Rattle.sj_desugar.specs.Spill.{Destination, discard, to_variable, to_result, Code, one, put_first, then_use, spill}
+use Rattle.sj_emit_expr.specs.Templates.{statement_templates}
 use Rattle.sj_trees.specs.Term.{Term}
-use Rattle.sj_trees.specs.TypeOf.{type_of_term}
 use Rattle.sj_trees.specs.declared.positions.Position.{Position}
 use Rattle.sj_trees.specs.declared.types.IrType.{IrType}
 use Rattle.sj_bodies.specs.Conditions.{NoBox}
-use Rattle.sj_bodies.specs.Settings.{Setting, shown, run, SameState, Inside, Valued, valued, Lawful, Holding, holding, Sees}
+use Rattle.sj_bodies.specs.Settings.{Setting, shown, run, SameState, Valued, valued, Lawful, Holding, holding, Sees}
 use Rattle.sj_bodies.proofs.Conditions.{coerced-same}
-use Rattle.sj_bodies.proofs.Blocks.{Outside, Undeclared, undeclared, block_alike}
-use Rattle.sj_bodies.proofs.Contexts.{Context, Writes, Sound, Ahead, IsOpen, Ready, ready-lift, Keeps, keeps-refl, keeps-trans, Arrives, let_go, stored, returned, Came, gave, left, stopped, differs, equals, is-equal, started-here, started-other, started-inside, started-ready, started-keeps}
-use Rattle.sj_bodies.proofs.Declared.{Own, Declares, IsNew}
-use Rattle.sj_bodies.specs.Fine.{FitsIn, IsDiscard, is_discard}
+use Rattle.sj_bodies.proofs.Blocks.{Outside, Undeclared, block_alike}
+use Rattle.sj_bodies.proofs.Contexts.{Context, Writes, Sound, Ahead, IsOpen, Ready, ready-lift, Keeps, keeps-refl, keeps-trans, Arrives, let_go, stored, Came, gave, left, stopped, equals, is-equal, started-here, started-other, started-inside, started-ready, started-keeps}
+use Rattle.sj_bodies.specs.Fine.{FitsIn}
 use Rattle.sj_bodies.proofs.Operators.{impossible}
 use Rattle.sj_bodies.proofs.Orders.{OperandAlike, OperandsAlike, no_operands, more_operands, in_order_alike, ActsAlike}
-use Rattle.sj_bodies.proofs.Plain.{all_shown, holding-lift}
-use Rattle.sj_bodies.proofs.Spills.{keeping, writing, Extends, extends-refl, Does, Final, OperandDoes, OperandsDo, Onward, runs, operands_in, count, Sized, none_left, one_left, spill_does, numbered-named, numbered-same}
-use Rattle.sj_bodies.proofs.Statements.{run-one, run-followed, act_of, value_statement, leaves_on, came_then, ends-one, assigned, started-open, finish_alike, Ends, stores}
-use Rattle.sj_bodies.proofs.Worlds.{World, Grows, grows-refl, grows-trans, SameValue, same_undefined, same_null, same_boolean, same_number, same_text, value-lift, SameValues, no_values, one_more}
+use Rattle.sj_bodies.proofs.Spills.{keeping, writing, Extends, extends-refl, Final, OperandsDo, runs, operands_in, count, none_left, one_left, spill_does, numbered-named, numbered-same}
+use Rattle.sj_bodies.proofs.Statements.{act_of, ends-one, assigned, started-open, finish_alike, Ends}
+use Rattle.sj_bodies.proofs.Worlds.{World, Grows, grows-refl, grows-trans, SameValue, same_undefined, same_null, same_boolean, same_number, same_text, no_values, one_more}
 
 pub writes-more : (q p : core.Variable → Type 0) (k : Destination) → ((y : core.Variable) → q y → p y) → Writes q k → Writes p k
 writes-more q p discard h w = tt

@@ -1,32 +1,28 @@
 -- Labels, returns to them, and loops.
-use Rattle.std.proofs.Common.{◌≡◌, ℕ, zero, suc, ◌≤◌, ◌<◌, Bool, true, false, ◌&&◌, List, [], ◌∷◌, Some, None, Option, refl, sym, ap, ◌∙◌, subst, arith, ◌⊎◌, inl, inr, ⊎_elim, if◌then◌else◌}
-use Rattle.std.specs.Prelude.{not, nat_eq}
+use Rattle.std.proofs.Common.{◌≡◌, ℕ, Bool, true, false, List, [], ◌∷◌, Some, refl, sym, ap, ◌∙◌, subst, if◌then◌else◌}
+use Rattle.std.specs.Prelude.{nat_eq}
 use Rattle.std.specs.Cmp.Lexicographic.{pointwise}
-use mathlib.Core.Path.{fun_ext}
-use Rattle.outcomes.specs.Outcome.{Out, done, wrong, then_do}
+use Rattle.outcomes.specs.Outcome.{Out, done, then_do}
 use Rattle.outcomes.specs.Agreement.{Sim}
-use Rattle.outcomes.proofs.Sequence.{then_do-right, then_do-associative}
-use Rattle.outcomes.proofs.Simulation.{sim_done, sim_wrong, sim_then, sim_weaken}
+use Rattle.outcomes.proofs.Sequence.{then_do-right}
+use Rattle.outcomes.proofs.Simulation.{sim_done, sim_then}
 use Rattle.ir_mean.specs.Meaning as ir_meaning
 use Rattle.ir_mean.specs.States as ir
 use Rattle.js_mean.specs.Meaning as js_meaning
 use Rattle.js_mean.specs.States as js
 use Rattle.sj_core.specs.Terms as core
 use Rattle.sj_core.specs.Terms.{followed}
-use Rattle.sj_desugar.specs.Desugar.{Targets, Target, target_of, first_of, labeled_code, leaving_code, wrapped, break_unless}
-use Rattle.sj_desugar.specs.Spill.{Destination, discard, to_variable, to_result, Code, one, put_first}
+use Rattle.sj_desugar.specs.Desugar.{target_of, labeled_code, leaving_code}
+use Rattle.sj_desugar.specs.Spill.{Destination, discard, to_variable, to_result, Code}
 use Rattle.sj_emit_expr.specs.Templates.{statement_templates}
 use Rattle.sj_trees.specs.declared.positions.Position.{Position}
 use Rattle.sj_trees.specs.declared.types.IrType.{IrType}
-use Rattle.sj_bodies.specs.Settings.{Setting, shown, run, SameState, Valued, valued, Lawful}
+use Rattle.sj_bodies.specs.Settings.{Setting, run, SameState, Lawful}
 use Rattle.sj_bodies.proofs.Blocks.{Undeclared, block_alike}
-use Rattle.sj_bodies.proofs.Contexts.{Context, Writes, Sound, Ahead, Ready, ready-lift, Keeps, keeps-refl, keeps-trans, Arrives, let_go, stored, returned, Came, gave, left, stopped, differs, equals, is-equal}
-use Rattle.sj_bodies.specs.Fine.{IsDiscard, is_discard}
-use Rattle.sj_bodies.proofs.Forms.{OneFinal, act_alike, rebased}
+use Rattle.sj_bodies.proofs.Contexts.{Context, Writes, Sound, Ready, Arrives, let_go, stored, returned, Came, gave, left, stopped, differs, equals, is-equal}
 use Rattle.sj_bodies.proofs.Operators.{impossible}
-use Rattle.sj_bodies.proofs.Orders.{OperandAlike}
-use Rattle.sj_bodies.proofs.Statements.{run-one, run-followed, act_of, leaves_on, ends-one, Ends}
-use Rattle.sj_bodies.proofs.Worlds.{World, Grows, grows-refl, grows-trans, SameValue, same_undefined, same_null, same_boolean, same_number, same_text}
+use Rattle.sj_bodies.proofs.Statements.{run-followed, leaves_on, ends-one, Ends}
+use Rattle.sj_bodies.proofs.Worlds.{World}
 
 module _ (z : Setting) (lawful : Lawful z) where
   -- a context with one more label

@@ -1,9 +1,8 @@
 -- Loops: a turn, and the next with one unit less.
-use Rattle.std.proofs.Common.{◌≡◌, ℕ, zero, suc, ◌≤◌, Bool, true, false, List, [], ◌∷◌, Some, None, Option, refl, sym, ap, ◌∙◌, subst, arith}
-use mathlib.Core.Path.{fun_ext}
-use Rattle.outcomes.specs.Outcome.{Out, done, wrong, then_do}
+use Rattle.std.proofs.Common.{◌≡◌, ℕ, ◌≤◌, true, false, List, [], ◌∷◌, Some, None, refl, sym, ap, ◌∙◌, subst}
+use Rattle.outcomes.specs.Outcome.{Out, done, then_do}
 use Rattle.outcomes.specs.Agreement.{Sim}
-use Rattle.outcomes.proofs.Sequence.{then_do-right, then_do-associative}
+use Rattle.outcomes.proofs.Sequence.{then_do-associative}
 use Rattle.outcomes.proofs.Simulation.{sim_done, sim_wrong, sim_then}
 use Rattle.ir_mean.specs.Meaning as ir_meaning
 use Rattle.ir_mean.specs.States as ir
@@ -11,13 +10,12 @@ use Rattle.js_mean.specs.Meaning as js_meaning
 use Rattle.js_mean.specs.States as js
 use Rattle.sj_core.specs.Terms as core
 use Rattle.sj_desugar.specs.Desugar.{target_of, first_of, wrapped, break_unless}
-use Rattle.sj_desugar.specs.Spill.{Destination, discard, to_variable, to_result, Code, put_first}
+use Rattle.sj_desugar.specs.Spill.{Destination, discard, Code, put_first}
 use Rattle.sj_emit_expr.specs.Templates.{statement_templates}
-use Rattle.sj_trees.specs.declared.operators.UnaryOp.TheVariants.{BooleanNot}
 use Rattle.sj_trees.specs.declared.positions.Position.{Position}
 use Rattle.sj_bodies.specs.Settings.{Setting, shown, run, SameState, Valued, valued, Lawful}
 use Rattle.sj_bodies.proofs.Blocks.{Undeclared, block_alike}
-use Rattle.sj_bodies.proofs.Contexts.{Context, Writes, Sound, Ahead, Ready, ready-lift, Keeps, keeps-refl, keeps-trans, Arrives, let_go, stored, returned, Came, gave, left, stopped}
+use Rattle.sj_bodies.proofs.Contexts.{Context, Sound, Ahead, Ready, ready-lift, Keeps, keeps-refl, Arrives, let_go, stored, returned, Came, gave, left, stopped}
 use Rattle.sj_bodies.specs.Fine.{IsDiscard, is_discard}
 use Rattle.sj_bodies.proofs.Forms.{OneFinal, rebased}
 use Rattle.sj_bodies.proofs.Orders.{OperandAlike}

@@ -1,17 +1,17 @@
 -- The theorem on trees: one induction, both directions.
 use Rattle.std.specs.Prelude.{ℤ}
-use Rattle.std.proofs.Common.{◌≡◌, ℕ, zero, suc, ◌≤◌, Bool, true, false, List, [], ◌∷◌, Some, None, refl, sym, ap, ◌∙◌, subst, arith, ◌⊎◌, inl, inr, ⊎_elim}
+use Rattle.std.proofs.Common.{◌≡◌, ℕ, Bool, true, false, List, [], ◌∷◌, Some, refl, sym, ap, ◌∙◌, subst, ◌⊎◌, inl, inr, ⊎_elim}
 use mathlib.Core.Path.{fun_ext}
-use Rattle.outcomes.specs.Outcome.{Out, done, then_do}
+use Rattle.outcomes.specs.Outcome.{done}
 use Rattle.outcomes.specs.Agreement.{Sim}
-use Rattle.outcomes.proofs.Simulation.{sim_done, sim_wrong, sim_then, sim_weaken}
+use Rattle.outcomes.proofs.Simulation.{sim_wrong, sim_then, sim_weaken}
 use Rattle.ir_mean.specs.Meaning as ir_meaning
 use Rattle.ir_mean.specs.States as ir
 use Rattle.js_mean.specs.States as js
 use Rattle.sj_core.specs.Terms as core
 use Rattle.sj_desugar.specs.Coercions.{coerced}
-use Rattle.sj_desugar.specs.Desugar.{Targets, target_of, into, block, expression_of, first_of, second_of, finish, branches, cases, switch_code}
-use Rattle.sj_desugar.specs.Spill.{Destination, discard, to_variable, to_result, Code, one}
+use Rattle.sj_desugar.specs.Desugar.{target_of, into, block, first_of, second_of, finish, branches, cases, switch_code}
+use Rattle.sj_desugar.specs.Spill.{Destination, discard, to_variable, Code, one}
 use Rattle.sj_trees.specs.Term.{Term, Terms, no_terms, more_terms, Cases, no_cases, more_cases, var_def, skip, block_of, labeled, assign, return_to, if_then, while_loop, do_while, match_on, apply_static, unary_op, binary_op, undefined_literal, null_literal, boolean_literal, byte_literal, short_literal, int_literal, string_literal, var_ref, log_line}
 use Rattle.sj_trees.specs.TypeOf.{type_of_term, unary_result, binary_result}
 use Rattle.sj_trees.specs.declared.operators.BinaryOp.{BinaryOp}
@@ -24,7 +24,7 @@ use Rattle.sj_bodies.specs.Settings.{Setting, run, SameState, Lawful}
 use Rattle.sj_bodies.proofs.Blocks.{Outside, undeclared}
 use Rattle.sj_bodies.proofs.Contexts.{Context, Writes, Sound, Ahead, Ready, Keeps, keeps-refl, Came}
 use Rattle.sj_bodies.proofs.Declared.{Own, OwnAll, OwnCases, new}
-use Rattle.sj_bodies.specs.Fine.{IsDiscard, is_discard, FitsIn, FineOperand, Fine, FineBlock, FineOperands, FineCases}
+use Rattle.sj_bodies.specs.Fine.{IsDiscard, is_discard, FitsIn, FineOperand, FineBlock, FineOperands, FineCases}
 use Rattle.sj_bodies.proofs.Forms.{of_operands, one_final, two_final, silent, assign_final, log_final, if_final, came-narrow, rebased, ahead-later, TwoFinal}
 use Rattle.sj_bodies.proofs.Jumps.{labelling, sound-labelling, labeled_alike, return_alike}
 use Rattle.sj_bodies.proofs.Matches.{settled, sound-settled, ahead-settled, outside-settled, undeclared-settled, undeclared-case, CasesAlike, no_case, without_keys, with_keys, match_final}
@@ -35,7 +35,7 @@ use Rattle.sj_bodies.proofs.Spills.{Does, OperandDoes, OperandsDo, numbered-name
 use Rattle.sj_bodies.proofs.Statements.{run-followed, came_then, finish_alike, Ends}
 use Rattle.sj_bodies.proofs.Trees.{LowAlike, outside-part, behind, go_on-given, FineHere, TreeDoes, operand_does, define_does, quiet, value_of, local_at, finish_one, list_of, call_does, division_does}
 use Rattle.sj_bodies.proofs.Turns.{while_does, do_does}
-use Rattle.sj_bodies.proofs.Worlds.{World, Grows, grows-refl, grows-trans}
+use Rattle.sj_bodies.proofs.Worlds.{World, Grows, grows-refl}
 
 module _ (z : Setting) (lawful : Lawful z) (low : LowAlike z) where
   abbrev BlockDoes : Terms → Type 1

@@ -1,15 +1,15 @@
 -- Operands in order, on both sides.
-use Rattle.std.proofs.Common.{◌≡◌, ℕ, List, [], ◌∷◌, refl, sym, ap, ◌∙◌, subst}
+use Rattle.std.proofs.Common.{◌≡◌, List, [], ◌∷◌, refl, ap, ◌∙◌}
 use mathlib.Core.Path.{fun_ext}
-use Rattle.outcomes.specs.Outcome.{Out, done, then_do}
+use Rattle.outcomes.specs.Outcome.{Out, then_do}
 use Rattle.outcomes.specs.Agreement.{Sim}
-use Rattle.outcomes.proofs.Sequence.{then_do-right, then_do-associative}
-use Rattle.outcomes.proofs.Simulation.{sim_done, sim_then, sim_weaken}
+use Rattle.outcomes.proofs.Sequence.{then_do-associative}
+use Rattle.outcomes.proofs.Simulation.{sim_then}
 use Rattle.ir_mean.specs.Meaning as ir_meaning
 use Rattle.ir_mean.specs.States as ir
 use Rattle.js_mean.specs.Meaning as js_meaning
 use Rattle.js_mean.specs.States as js
-use Rattle.sj_bodies.proofs.Worlds.{World, Grows, grows-refl, grows-trans, SameValue, value-lift, SameValues, no_values, one_more, values-lift}
+use Rattle.sj_bodies.proofs.Worlds.{World, Grows, grows-refl, grows-trans, SameValue, value-lift, SameValues, no_values, one_more}
 use Rattle.sj_bodies.specs.Settings.{Setting, SameState, Valued, valued}
 
 -- values that operands gave, in a world that has grown from the second, and what is done with them, in one that has grown from the first

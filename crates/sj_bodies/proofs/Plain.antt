@@ -9,7 +9,7 @@ use Rattle.int_arithmetic.proofs.Fits.{wrapped-fits, remainder-fits}
 use Rattle.int_arithmetic.proofs.Operators.{quotient-is, remainder-is}
 use Rattle.outcomes.specs.Outcome.{Out, done, wrong, then_do}
 use Rattle.outcomes.specs.Agreement.{Sim}
-use Rattle.outcomes.proofs.Simulation.{sim_done, sim_wrong, sim_then, sim_weaken}
+use Rattle.outcomes.proofs.Simulation.{sim_done, sim_wrong, sim_weaken}
 use Rattle.ir_mean.specs.Meaning as ir_meaning
 use Rattle.ir_mean.specs.Operators as ir_operators
 use Rattle.ir_mean.specs.States as ir
@@ -19,7 +19,6 @@ use Rattle.js_mean.specs.Meaning as js_meaning
 use Rattle.js_mean.specs.Operators as js_operators
 use Rattle.js_mean.specs.States as js
 use Rattle.js_tree.specs.Terms as tree
-use Rattle.js_tree.specs.declared.operators.BinaryOperator.TheVariants as Op
 use Rattle.sj_core.specs.Terms as core
 use Rattle.sj_core.specs.Views.{expressions_of}
 use Rattle.sj_desugar.specs.Coercions.{coerced, coerced_arguments}
@@ -29,16 +28,16 @@ use Rattle.sj_names.specs.declared.method_names.Member.{Member}
 use Rattle.sj_trees.specs.Term.{Term, Terms, no_terms, more_terms, if_then, apply_static, unary_op, binary_op, undefined_literal, null_literal, boolean_literal, byte_literal, short_literal, int_literal, string_literal, var_ref}
 use Rattle.sj_trees.specs.TypeOf.{type_of_term}
 use Rattle.sj_trees.specs.declared.operators.BinaryOp.{BinaryOp}
-use Rattle.sj_trees.specs.declared.operators.BinaryOp.TheVariants.{IntDivide, IntRemainder}
+use Rattle.sj_trees.specs.declared.operators.BinaryOp.TheVariants.{IntDivide}
 use Rattle.sj_trees.specs.declared.operators.UnaryOp.{UnaryOp}
 use Rattle.sj_trees.specs.declared.positions.Position.{Position}
-use Rattle.sj_bodies.specs.Conditions.{is_simple, is_simple_unary, NoBox, NoBoxes, IsDivision, a_quotient, a_remainder, IsDivisor, divisor, Plain, AllPlain}
+use Rattle.sj_bodies.specs.Conditions.{is_simple, is_simple_unary, IsDivision, a_quotient, a_remainder, IsDivisor, divisor, Plain, AllPlain}
 use Rattle.sj_bodies.proofs.Conditions.{coerced-same, arguments-same}
-use Rattle.sj_bodies.proofs.Operators.{impossible, template_value, Given, GivenIf}
+use Rattle.sj_bodies.proofs.Operators.{template_value, GivenIf}
 use Rattle.sj_bodies.proofs.Orders.{ActsAlike, OperandAlike, OperandsAlike, no_operands, more_operands, valued-weaken, in_order_alike}
-use Rattle.sj_bodies.specs.Settings.{Setting, shown, SameState, Inside, Valued, valued, CallsAlike, Lawful, Holding, holding, Sees}
+use Rattle.sj_bodies.specs.Settings.{Setting, shown, SameState, Inside, Valued, valued, Lawful, Holding, holding, Sees}
 use Rattle.sj_bodies.proofs.Templates.{not_ratio, by_value, by_one_value, one_template_value, binary_shown, binary_acts, unary_shown, unary_acts, value_alike}
-use Rattle.sj_bodies.proofs.Worlds.{World, Grows, grows-refl, grows-trans, SameValue, same_undefined, same_null, same_boolean, same_number, same_text, value-lift, SameValues, no_values, one_more}
+use Rattle.sj_bodies.proofs.Worlds.{World, Grows, grows-refl, SameValue, same_undefined, same_null, same_boolean, same_number, same_text, value-lift, no_values, one_more}
 
 pub holding-lift : (u w : World) (o : Option ir.Value) (cell : js.Cell) → Grows u w → Holding u o cell → Holding w o cell
 holding-lift u w _ _ g (holding v x a) = holding v x (value-lift u w v x g a)

@@ -1,11 +1,11 @@
 -- Spilling keeps the order of evaluation.
-use Rattle.std.proofs.Common.{◌≡◌, ℕ, zero, suc, ◌≤◌, ◌<◌, Bool, true, false, ◌&&◌, List, [], ◌∷◌, Some, None, Option, refl, sym, ap, ◌∙◌, subst, arith, ◌⊎◌, inl, inr, ⊎_elim, if◌then◌else◌}
+use Rattle.std.proofs.Common.{◌≡◌, ℕ, zero, suc, ◌≤◌, Bool, true, false, ◌&&◌, List, [], ◌∷◌, Some, Option, refl, sym, ap, ◌∙◌, subst, arith, ◌⊎◌, inl, inr, ⊎_elim, if◌then◌else◌}
 use Rattle.std.specs.Prelude.{not, ℤ, FitsSigned}
 use Rattle.std.specs.Int.{w32}
 use Rattle.outcomes.specs.Outcome.{Out, done, wrong, then_do}
 use Rattle.outcomes.specs.Agreement.{Sim}
-use Rattle.outcomes.proofs.Sequence.{then_do-right, then_do-associative}
-use Rattle.outcomes.proofs.Simulation.{sim_done, sim_wrong, sim_then, sim_weaken}
+use Rattle.outcomes.proofs.Sequence.{then_do-associative}
+use Rattle.outcomes.proofs.Simulation.{sim_done, sim_then}
 use Rattle.ir_mean.specs.Meaning as ir_meaning
 use Rattle.ir_mean.specs.States as ir
 use Rattle.js_mean.specs.Files.{owner}
@@ -15,18 +15,18 @@ use Rattle.sj_core.specs.Terms as core
 use Rattle.sj_core.specs.Terms.{followed}
 use Rattle.sj_desugar.specs.Desugar.{operand, into, operands, expression_of, position_of, target_of, Targets}
 use Rattle.sj_desugar.specs.Plain.{is_plain, is_fixed}
-use Rattle.sj_desugar.specs.Spill.{Destination, discard, to_variable, to_result, Code, Operand, all_plain, texts, Spilled, spill, spill_case, then_use}
-use Rattle.sj_trees.specs.Term.{Term, Terms, no_terms, more_terms, var_def, skip, block_of, labeled, assign, return_to, if_then, while_loop, do_while, match_on, apply_static, unary_op, binary_op, undefined_literal, null_literal, boolean_literal, byte_literal, short_literal, int_literal, string_literal, var_ref, this_ref, log_line}
+use Rattle.sj_desugar.specs.Spill.{Destination, to_variable, Code, Operand, all_plain, texts, spill, spill_case, then_use}
+use Rattle.sj_trees.specs.Term.{Term, if_then, apply_static, unary_op, binary_op, undefined_literal, null_literal, boolean_literal, byte_literal, short_literal, int_literal, string_literal, var_ref}
 use Rattle.sj_trees.specs.TypeOf.{type_of_term}
 use Rattle.sj_trees.specs.declared.positions.Position.{Position}
 use Rattle.sj_trees.specs.declared.types.IrType.{IrType}
 use Rattle.sj_bodies.specs.Conditions.{Plain}
-use Rattle.sj_bodies.specs.Settings.{Setting, shown, run, SameState, Inside, Valued, valued, Lawful, Holding, holding, Sees}
+use Rattle.sj_bodies.specs.Settings.{Setting, shown, run, SameState, Valued, valued, Lawful, Holding, holding, Sees}
 use Rattle.sj_bodies.proofs.Operators.{impossible}
-use Rattle.sj_bodies.proofs.Plain.{all_shown, plain_alike, as_operand, sees-lift, fits-exact}
-use Rattle.sj_bodies.proofs.Orders.{OperandAlike, OperandsAlike, no_operands, more_operands, operands-lift}
-use Rattle.sj_bodies.proofs.Contexts.{Context, Writes, Sound, Ahead, IsOpen, Ready, ready-lift, Keeps, keeps-refl, keeps-trans, Arrives, let_go, stored, returned, Came, gave, left, stopped, started-here, started-other, started-inside, started-ready, started-keeps}
-use Rattle.sj_bodies.proofs.Statements.{run-one, run-followed, act_of, valued_then, value_statement, leaves_on, Ends}
+use Rattle.sj_bodies.proofs.Plain.{all_shown, plain_alike, as_operand, fits-exact}
+use Rattle.sj_bodies.proofs.Orders.{OperandAlike, OperandsAlike, no_operands, more_operands}
+use Rattle.sj_bodies.proofs.Contexts.{Context, Sound, Ahead, IsOpen, Ready, ready-lift, Keeps, keeps-refl, keeps-trans, stored, Came, gave, left, stopped, started-here, started-ready, started-keeps}
+use Rattle.sj_bodies.proofs.Statements.{run-followed, leaves_on, Ends}
 use Rattle.sj_bodies.proofs.Worlds.{World, Grows, grows-refl, grows-trans, SameValue, same_undefined, same_null, same_boolean, same_number, same_text, value-lift}
 
 -- a context in which further variables keep what they hold, and one in which one more may be written

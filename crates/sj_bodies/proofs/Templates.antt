@@ -1,15 +1,14 @@
 -- The templates of operators compute what they are to compute, from operands in order.
-use Rattle.std.proofs.Common.{◌≡◌, ℕ, zero, suc, Bool, true, false, List, [], ◌∷◌, Some, None, Option, refl, sym, ap, ◌∙◌, subst}
-use Rattle.std.specs.Prelude.{ℤ, pos, negsuc, ◌≢◌, not, FitsSigned, if◌then◌else◌}
-use Rattle.std.specs.Int.{w32}
+use Rattle.std.proofs.Common.{◌≡◌, ℕ, Bool, true, false, List, [], ◌∷◌, Some, None, Option, refl, sym, ap, ◌∙◌, subst}
+use Rattle.std.specs.Prelude.{ℤ, pos, not, if◌then◌else◌}
 use mathlib.Core.Path.{fun_ext}
 use Rattle.int_arithmetic.specs.Numbers as numbers
 use Rattle.int_arithmetic.specs.Signed as signed
-use Rattle.int_arithmetic.proofs.Fits.{wrapped-fits, remainder-fits, byte-fits, short-fits}
-use Rattle.int_arithmetic.proofs.Operators.{quotient-is, remainder-is, to_byte-is, to_short-is}
+use Rattle.int_arithmetic.proofs.Fits.{byte-fits, short-fits}
+use Rattle.int_arithmetic.proofs.Operators.{to_byte-is, to_short-is}
 use Rattle.outcomes.specs.Outcome.{Out, done, wrong, then_do}
 use Rattle.outcomes.specs.Agreement.{Sim}
-use Rattle.outcomes.proofs.Sequence.{then_do-right, then_do-associative}
+use Rattle.outcomes.proofs.Sequence.{then_do-right}
 use Rattle.outcomes.proofs.Simulation.{sim_done, sim_wrong}
 use Rattle.ir_mean.specs.Meaning as ir_meaning
 use Rattle.ir_mean.specs.Operators as ir_operators
@@ -27,11 +26,11 @@ use Rattle.sj_trees.specs.declared.operators.BinaryOp.{BinaryOp}
 use Rattle.sj_trees.specs.declared.operators.BinaryOp.TheVariants.{BooleanEqual, BooleanNotEqual, BooleanOr, BooleanAnd, IntAdd, IntSubtract, IntMultiply, IntDivide, IntRemainder, IntOr, IntAnd, IntXor, IntShiftLeft, IntShiftRightLogical, IntShiftRightArithmetic, IntEqual, IntNotEqual, IntLess, IntLessOrEqual, IntGreater, IntGreaterOrEqual}
 use Rattle.sj_trees.specs.declared.operators.UnaryOp.{UnaryOp}
 use Rattle.sj_trees.specs.declared.operators.UnaryOp.TheVariants.{BooleanNot, ByteToInt, ShortToInt, IntToByte, IntToShort}
-use Rattle.sj_bodies.proofs.Worlds.{World, Grows, grows-refl, SameValue, same_boolean, same_number, SameValues, one_more, no_values}
+use Rattle.sj_bodies.proofs.Worlds.{World, Grows, SameValue, same_boolean, same_number, one_more, no_values}
 use Rattle.sj_bodies.specs.Conditions.{is_simple, is_simple_unary}
-use Rattle.sj_bodies.proofs.Operators.{template_value, or_zero_value, boolean_of, Given, GivenIf, impossible, values_alike}
-use Rattle.sj_bodies.proofs.Orders.{ActsAlike, OperandAlike, OperandsAlike, no_operands, more_operands, in_order_alike, in_order-then}
-use Rattle.sj_bodies.specs.Settings.{Setting, SameState, Valued, valued, shown}
+use Rattle.sj_bodies.proofs.Operators.{template_value, or_zero_value, boolean_of, GivenIf, impossible, values_alike}
+use Rattle.sj_bodies.proofs.Orders.{ActsAlike, in_order-then}
+use Rattle.sj_bodies.specs.Settings.{Setting, SameState, Valued, valued}
 
 -- an act on two values by what they give
 abbrev pub by_value : (js.Value → js.Value → Option js.Value) → List js.Value → js.Evaluation

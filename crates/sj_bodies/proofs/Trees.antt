@@ -1,51 +1,44 @@
 -- Each tree of the forms that are built, and its statements.
-use Rattle.std.proofs.Common.{◌≡◌, ℕ, zero, suc, ◌≤◌, Bool, true, false, ◌&&◌, List, [], ◌∷◌, Some, None, Option, refl, sym, ap, ◌∙◌, subst, arith, ◌⊎◌, inl, inr, ⊎_elim}
+use Rattle.std.proofs.Common.{◌≡◌, ℕ, suc, Bool, true, false, ◌&&◌, List, [], ◌∷◌, Some, None, Option, refl, sym, ap, ◌∙◌, subst, ◌⊎◌, inl, inr, ⊎_elim}
 use Rattle.std.specs.Prelude.{ℤ, pos, ◌≢◌, FitsSigned}
 use Rattle.std.specs.Int.{w32}
 use mathlib.Core.Path.{fun_ext}
-use Rattle.outcomes.specs.Outcome.{Out, done, wrong, then_do}
+use Rattle.outcomes.specs.Outcome.{Out, done, then_do}
 use Rattle.outcomes.specs.Agreement.{Sim}
-use Rattle.outcomes.proofs.Sequence.{then_do-right, then_do-associative}
-use Rattle.outcomes.proofs.Simulation.{sim_done, sim_wrong, sim_then, sim_weaken}
+use Rattle.outcomes.proofs.Sequence.{then_do-right}
 use Rattle.ir_mean.specs.Meaning as ir_meaning
 use Rattle.ir_mean.specs.States as ir
 use Rattle.ir_mean.specs.World as ir_world
-use Rattle.js_mean.specs.Meaning as js_meaning
 use Rattle.js_mean.specs.States as js
 use Rattle.sj_core.specs.Terms as core
 use Rattle.sj_core.specs.Terms.{followed}
 use Rattle.sj_core.specs.Views.{expressions_of}
-use Rattle.sj_desugar.specs.Coercions.{coerced, coerced_arguments}
-use Rattle.sj_desugar.specs.Desugar.{Targets, target_of, into, block, operands, operand, expression_of, first_of, second_of, finish, member, types_of, wrapped, break_unless, branches}
+use Rattle.sj_desugar.specs.Coercions.{coerced_arguments}
+use Rattle.sj_desugar.specs.Desugar.{Targets, into, operands, operand, expression_of, first_of, second_of, finish, member, types_of}
 use Rattle.sj_desugar.specs.Plain.{is_plain, is_fixed}
-use Rattle.sj_desugar.specs.Spill.{Destination, discard, to_variable, to_result, Code, one, put_first, Operand, spill, spill_case, then_use, then_code}
+use Rattle.sj_desugar.specs.Spill.{Destination, discard, to_variable, Code, Operand, spill, spill_case, then_use}
 use Rattle.sj_emit_expr.specs.Templates.{statement_templates}
 use Rattle.sj_names.specs.declared.method_names.MethodName.{MethodName}
 use Rattle.sj_names.specs.declared.method_names.Namespace.{Namespace}
-use Rattle.sj_trees.specs.Term.{Term, Terms, no_terms, more_terms, Cases, no_cases, more_cases, var_def, skip, block_of, labeled, assign, return_to, if_then, while_loop, do_while, match_on, apply_static, unary_op, binary_op, undefined_literal, null_literal, boolean_literal, byte_literal, short_literal, int_literal, string_literal, var_ref, log_line}
-use Rattle.sj_trees.specs.TypeOf.{type_of_term, unary_result, binary_result}
+use Rattle.sj_trees.specs.Term.{Term, Terms, no_terms, more_terms, var_def, apply_static, binary_op, int_literal}
+use Rattle.sj_trees.specs.TypeOf.{type_of_term, binary_result}
 use Rattle.sj_trees.specs.declared.operators.BinaryOp.{BinaryOp}
-use Rattle.sj_trees.specs.declared.operators.UnaryOp.{UnaryOp}
 use Rattle.sj_trees.specs.declared.positions.Position.{Position}
 use Rattle.sj_trees.specs.declared.types.IrType.{IrType}
-use Rattle.sj_trees.specs.declared.types.IrType.TheVariants.{Undefined, Null, Boolean, Byte, Short, Int, String}
-use Rattle.sj_bodies.specs.Conditions.{is_simple, is_simple_unary, NoBox, NoBoxes, IsDivision, IsDivisor, divisor, Plain}
-use Rattle.sj_bodies.specs.Settings.{Setting, shown, run, SameState, Valued, valued, Lawful, Holding, holding, Sees}
-use Rattle.sj_bodies.proofs.Blocks.{Outside, Undeclared, undeclared}
-use Rattle.sj_bodies.proofs.Conditions.{coerced-same, arguments-same}
-use Rattle.sj_bodies.proofs.Contexts.{Context, Writes, Sound, Ahead, Ready, ready-lift, Keeps, keeps-refl, Arrives, let_go, Came, gave, left, stopped}
-use Rattle.sj_bodies.proofs.Declared.{Own, OwnAll, Declares, IsNew, new}
-use Rattle.sj_bodies.specs.Fine.{FitsIn, IsDiscard, is_discard, IsTrueLiteral, true_literal, FineOperand, Fine, FineBlock, FineOperands}
-use Rattle.sj_bodies.proofs.Forms.{sound-writing, ahead-writing, outside-writing, of_operands, one_final, two_final, silent, quiet_alike, assign_final, log_final, if_final, came-narrow, rebased, narrower, defining, sound-defining, ahead-defining, define_alike, OneFinal, TwoFinal}
-use Rattle.sj_bodies.proofs.Jumps.{labelling, sound-labelling, labeled_alike, return_alike}
-use Rattle.sj_bodies.proofs.Loops.{in_turn, stop, Alike, sound-turn, ahead-turn, while_alike, forever_alike, test_final}
+use Rattle.sj_bodies.specs.Conditions.{NoBoxes, IsDivision, Plain}
+use Rattle.sj_bodies.specs.Settings.{Setting, shown, SameState, Valued, Lawful, Holding, holding}
+use Rattle.sj_bodies.proofs.Blocks.{Outside}
+use Rattle.sj_bodies.proofs.Conditions.{arguments-same}
+use Rattle.sj_bodies.proofs.Contexts.{Context, Writes, Sound, Ahead, Ready, Came}
+use Rattle.sj_bodies.proofs.Declared.{Own}
+use Rattle.sj_bodies.specs.Fine.{FitsIn, FineOperand, Fine}
+use Rattle.sj_bodies.proofs.Forms.{sound-writing, ahead-writing, outside-writing, of_operands, one_final, quiet_alike, defining, sound-defining, ahead-defining, define_alike, OneFinal}
 use Rattle.sj_bodies.proofs.Numbers.{onward}
-use Rattle.sj_bodies.proofs.Operators.{impossible}
-use Rattle.sj_bodies.proofs.Orders.{OperandAlike, OperandsAlike, no_operands, more_operands}
-use Rattle.sj_bodies.proofs.Plain.{all_shown, plain_alike, as_operand, call_alike, unary_alike, binary_alike, division_alike, division_act}
-use Rattle.sj_bodies.proofs.Spills.{keeping, writing, Extends, Does, Final, OperandDoes, OperandsDo, runs, operands_in, count}
-use Rattle.sj_bodies.proofs.Statements.{run-followed, came_then, finish_alike, Ends}
-use Rattle.sj_bodies.proofs.Worlds.{World, Grows, grows-refl, grows-trans, SameValue, same_undefined, same_null, same_boolean, same_number, same_text}
+use Rattle.sj_bodies.proofs.Orders.{OperandAlike}
+use Rattle.sj_bodies.proofs.Plain.{plain_alike, as_operand, call_alike, division_alike, division_act}
+use Rattle.sj_bodies.proofs.Spills.{keeping, writing, Does, Final, OperandDoes, OperandsDo, runs, operands_in, count}
+use Rattle.sj_bodies.proofs.Statements.{finish_alike, Ends}
+use Rattle.sj_bodies.proofs.Worlds.{World}
 
 -- the level below: each tree of the forms that are built, and its statements, with one unit less
 abbrev pub LowAlike : Setting → Type 1

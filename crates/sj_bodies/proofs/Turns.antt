@@ -1,35 +1,32 @@
 -- Loops as trees, by what is known of their condition and their body.
-use Rattle.std.proofs.Common.{◌≡◌, ℕ, zero, suc, ◌≤◌, Bool, true, false, List, [], ◌∷◌, Some, None, refl, sym, ap, ◌∙◌, subst, arith, ◌⊎◌, inl, inr, ⊎_elim}
-use Rattle.outcomes.specs.Outcome.{Out, done, then_do}
+use Rattle.std.proofs.Common.{◌≡◌, ℕ, ◌≤◌, true, false, List, [], ◌∷◌, Some, refl, sym, ap, subst, arith, ◌⊎◌, inl, inr, ⊎_elim}
 use Rattle.outcomes.specs.Agreement.{Sim}
-use Rattle.outcomes.proofs.Simulation.{sim_done, sim_then}
+use Rattle.outcomes.proofs.Simulation.{sim_then}
 use Rattle.ir_mean.specs.Meaning as ir_meaning
 use Rattle.ir_mean.specs.States as ir
-use Rattle.js_mean.specs.Meaning as js_meaning
 use Rattle.js_mean.specs.States as js
 use Rattle.sj_core.specs.Terms as core
 use Rattle.sj_core.specs.Terms.{followed}
 use Rattle.sj_desugar.specs.Desugar.{Targets, into, operand, expression_of, first_of, wrapped, break_unless}
 use Rattle.sj_desugar.specs.Plain.{is_plain}
-use Rattle.sj_desugar.specs.Spill.{Destination, discard, to_variable, to_result, Code, one, put_first, no_code, Operand, Spilled, spill, then_use, then_code}
+use Rattle.sj_desugar.specs.Spill.{Destination, discard, to_variable, Code, one, put_first, no_code, Operand, Spilled, spill, then_use, then_code}
 use Rattle.sj_emit_expr.specs.Templates.{statement_templates}
 use Rattle.sj_trees.specs.Term.{Term, while_loop, do_while, boolean_literal}
 use Rattle.sj_trees.specs.TypeOf.{type_of_term}
 use Rattle.sj_trees.specs.declared.positions.Position.{Position}
-use Rattle.sj_bodies.specs.Conditions.{Plain}
-use Rattle.sj_bodies.specs.Settings.{Setting, shown, run, SameState, Lawful}
+use Rattle.sj_bodies.specs.Settings.{Setting, run, SameState, Lawful}
 use Rattle.sj_bodies.proofs.Blocks.{Outside, Undeclared, undeclared}
-use Rattle.sj_bodies.proofs.Contexts.{Context, Writes, Sound, Ahead, Ready, Keeps, keeps-refl, let_go, Came, gave, left, stopped}
+use Rattle.sj_bodies.proofs.Contexts.{Context, Writes, Sound, Ahead, Ready, Came}
 use Rattle.sj_bodies.proofs.Declared.{Own, Declares, IsNew, EachNew, new, new-more, spill-new, declares-followed}
 use Rattle.sj_bodies.specs.Fine.{IsDiscard, is_discard, IsTrueLiteral, true_literal, FineOperand, Fine}
-use Rattle.sj_bodies.proofs.Forms.{of_operands, one_final, silent, rebased, ahead-later, OneFinal}
+use Rattle.sj_bodies.proofs.Forms.{of_operands, one_final, silent, rebased, ahead-later}
 use Rattle.sj_bodies.proofs.Loops.{in_turn, stop, Alike, sound-turn, ahead-turn, while_alike, forever_alike, test_final}
 use Rattle.sj_bodies.proofs.Numbers.{EachOnward, onward, spill-onward}
 use Rattle.sj_bodies.proofs.Plain.{plain_alike, as_operand}
-use Rattle.sj_bodies.proofs.Spills.{Does, runs, operands_in}
+use Rattle.sj_bodies.proofs.Spills.{Does}
 use Rattle.sj_bodies.proofs.Statements.{run-followed, came_then, Ends}
 use Rattle.sj_bodies.proofs.Trees.{LowAlike, outside-part, TreeDoes, operand_does}
-use Rattle.sj_bodies.proofs.Worlds.{World, Grows, grows-refl}
+use Rattle.sj_bodies.proofs.Worlds.{World}
 
 outside-turn : (c : Context) (k : Destination) (own : List ℕ → Type 0) → Outside c own → Outside (in_turn c k) own
 outside-turn c k own out = record { scope = out.scope; writable = out.writable; kept = out.kept }

@@ -1,6 +1,6 @@
 -- What is asked of a tree where it is written: a tree of the forms that are built, with its locals in scope where they are used, and
 -- operands that spilling can bring to a variable.
-use Rattle.std.specs.Prelude.{◌≡◌, ℕ, Bool, true, false, List, [], ◌∷◌, ◌⊎◌, ℤ, FitsSigned}
+use Rattle.std.specs.Prelude.{◌≡◌, ℕ, Bool, true, false, List, ◌∷◌, ◌⊎◌, FitsSigned}
 use Rattle.std.specs.Int.{w32}
 use Rattle.sj_core.specs.Terms as core
 use Rattle.sj_desugar.specs.Desugar.{Targets, target_of, member, types_of, has_no_value}

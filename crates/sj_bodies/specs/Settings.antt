@@ -1,7 +1,6 @@
 -- What a body is compared in: the two programs, how things are named, and what the levels below give.
-use Rattle.std.specs.Prelude.{◌≡◌, ℕ, Bool, true, false, List, [], ◌∷◌, length, Option, Some, None}
-use Rattle.js_tree.specs.Terms.{Name, Expression, Statements}
-use Rattle.outcomes.specs.Outcome.{Out}
+use Rattle.std.specs.Prelude.{◌≡◌, ℕ, Bool, true, false, List, length, Option, Some, None}
+use Rattle.js_tree.specs.Terms.{Name}
 use Rattle.outcomes.specs.Agreement.{Direction, Sim}
 use Rattle.ir_mean.specs.Meaning as ir_meaning
 use Rattle.ir_mean.specs.States as ir

@@ -1,8 +1,8 @@
 -- A call: its parameters are bound, and behind its body the locals of the caller are there again.
-use Rattle.std.proofs.Common.{◌≡◌, ℕ, zero, suc, Bool, true, false, List, [], ◌∷◌, Some, None, Option, refl, sym, ap, ◌∙◌, subst, ◌⊎◌, inl, inr, ⊎_elim, if◌then◌else◌}
+use Rattle.std.proofs.Common.{◌≡◌, ℕ, Bool, true, false, List, [], ◌∷◌, Some, None, refl, sym, ap, ◌∙◌, subst, ◌⊎◌, inl, inr, ⊎_elim, if◌then◌else◌}
 use Rattle.std.specs.Prelude.{nat_eq}
 use Rattle.std.specs.Cmp.Lexicographic.{pointwise}
-use Rattle.outcomes.specs.Outcome.{Out, done, wrong, then_do}
+use Rattle.outcomes.specs.Outcome.{Out, done, then_do}
 use Rattle.outcomes.specs.Agreement.{Direction, Sim}
 use Rattle.outcomes.proofs.Simulation.{sim_done, sim_wrong, sim_then}
 use Rattle.ir_mean.specs.Meaning as ir_meaning
@@ -13,25 +13,23 @@ use Rattle.js_mean.specs.Proper.{is_among, declared}
 use Rattle.js_mean.specs.States as js
 use Rattle.js_tree.specs.Terms.{Name}
 use Rattle.sj_core.specs.Terms as core
-use Rattle.sj_desugar.specs.Desugar.{into, is_mutable_in, result_destination, names_of, desugared}
+use Rattle.sj_desugar.specs.Desugar.{is_mutable_in, result_destination, names_of, desugared}
 use Rattle.sj_desugar.specs.Plain.{is_no_type}
-use Rattle.sj_desugar.specs.Spill.{Destination, discard, to_variable, to_result}
+use Rattle.sj_desugar.specs.Spill.{Destination, discard, to_result}
 use Rattle.sj_emit_expr.specs.Templates.{member_name, statement_templates}
 use Rattle.sj_names.specs.declared.method_names.Member.{Member}
-use Rattle.sj_trees.specs.Term.{Term}
-use Rattle.sj_trees.specs.declared.classes.MethodDef.{MethodDef}
 use Rattle.sj_trees.specs.declared.classes.ParamDef.{ParamDef}
 use Rattle.sj_trees.specs.declared.types.IrType.{IrType}
 use Rattle.sj_trees.specs.declared.types.IrType.TheVariants.{NoType}
 use Rattle.sj_bodies.specs.Locals.{Own}
-use Rattle.sj_bodies.specs.Settings.{Place, Setting, SameState, Inside, Valued, valued, CallsAlike, NamesDiffer, Holding, holding, Sees}
-use Rattle.sj_bodies.proofs.Blocks.{Outside, Undeclared, undeclared, bind-undeclared}
-use Rattle.sj_bodies.proofs.Contexts.{Context, Writes, Sound, Ahead, Ready, Arrives, let_go, stored, returned, Came, gave, left, stopped, differs, equals, is-equal}
-use Rattle.sj_bodies.proofs.Declared.{Declares, declared-named}
+use Rattle.sj_bodies.specs.Settings.{Place, Setting, SameState, Valued, valued, NamesDiffer, Holding, holding}
+use Rattle.sj_bodies.proofs.Blocks.{Outside, bind-undeclared}
+use Rattle.sj_bodies.proofs.Contexts.{Context, Writes, Sound, Ahead, Ready, let_go, returned, Came, gave, left, stopped, differs, equals, is-equal}
+use Rattle.sj_bodies.proofs.Declared.{declared-named}
 use Rattle.sj_bodies.proofs.Operators.{impossible}
 use Rattle.sj_bodies.proofs.Trees.{LowAlike}
-use Rattle.sj_bodies.proofs.Worlds.{World, Grows, SameValue, same_undefined, SameValues, no_values, one_more}
-use Rattle.sj_calls.specs.Methods.{parameters_in, function_of, IsParameter, FineMethod, Linked}
+use Rattle.sj_bodies.proofs.Worlds.{World, SameValue, same_undefined, SameValues, no_values, one_more}
+use Rattle.sj_calls.specs.Methods.{parameters_in, function_of, IsParameter, Linked}
 
 -- what the body of a method is written in: its parameters, of which those that aren't mutable keep what they hold
 abbrev pub Kept : (List ℕ → Bool) → (List ℕ → Type 0) → core.Variable → Type 0

@@ -1,5 +1,5 @@
 -- The functions of a module are found by their names.
-use Rattle.std.proofs.Common.{◌≡◌, ◌<◌, ℕ, Bool, true, false, List, [], ◌∷◌, ◌++◌, ◌&&◌, ◌||◌, not, map, refl, sym, ap, ◌∙◌, subst, Contains, Option, Some, None, ◌⊎◌, inl, inr, ⊎_elim, if◌then◌else◌, arith}
+use Rattle.std.proofs.Common.{◌≡◌, ◌<◌, Bool, true, false, List, [], ◌∷◌, ◌++◌, ◌||◌, not, map, refl, sym, ap, ◌∙◌, subst, Contains, Some, ◌⊎◌, inl, inr, ⊎_elim, if◌then◌else◌, arith}
 use Rattle.std.proofs.lemmas.Bool.{and_parts}
 use Rattle.std.proofs.lemmas.List.Elements.{Contains-push_cases, Contains-append_cases}
 use Rattle.js_mean.specs.Meaning.{Code, code_among, items_cell, or_outer}

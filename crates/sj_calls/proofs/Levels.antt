@@ -1,6 +1,6 @@
 -- All levels: trees and calls are alike at bounds that stand to each other as the direction says.
 use Rattle.std.proofs.Common.{◌≡◌, ℕ, zero, suc, Bool, true, List, arith}
-use Rattle.outcomes.specs.Agreement.{Direction, forward, backward, Within, Sim}
+use Rattle.outcomes.specs.Agreement.{Direction, forward, backward, Within}
 use Rattle.outcomes.proofs.Simulation.{sim_over, sim_going}
 use Rattle.ir_mean.specs.Meaning as ir_meaning
 use Rattle.ir_mean.specs.States as ir
@@ -9,7 +9,7 @@ use Rattle.js_mean.specs.States as js
 use Rattle.sj_desugar.specs.Desugar.{into, is_mutable_in}
 use Rattle.sj_emit_expr.specs.Templates.{statement_templates}
 use Rattle.sj_names.specs.declared.method_names.Member.{Member}
-use Rattle.sj_bodies.specs.Settings.{Place, Setting, SameState, CallsAlike, NamesDiffer, Lawful}
+use Rattle.sj_bodies.specs.Settings.{Place, Setting, SameState, NamesDiffer, Lawful}
 use Rattle.sj_bodies.proofs.Contexts.{Came}
 use Rattle.sj_bodies.proofs.Main.{does}
 use Rattle.sj_bodies.proofs.Trees.{LowAlike}

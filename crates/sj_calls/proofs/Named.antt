@@ -1,5 +1,5 @@
 -- Functions whose variables and labels have the names of the emitted code.
-use Rattle.std.proofs.Common.{◌≡◌, ◌≤◌, ℕ, Bool, true, List, [], ◌∷◌, Some, refl, sym, ap, ◌∙◌}
+use Rattle.std.proofs.Common.{◌≡◌, ℕ, Bool, true, List, [], ◌∷◌, Some, refl, sym, ap, ◌∙◌}
 use Rattle.outcomes.specs.Agreement.{forward, backward}
 use Rattle.outcomes.proofs.Simulation.{sim_weaken}
 use Rattle.ir_mean.specs.States as ir
@@ -14,14 +14,13 @@ use Rattle.sj_emit_expr.specs.Names.{variable_name, label_name}
 use Rattle.sj_emit_expr.specs.Templates.{member_name, unary_template, binary_template, is_nonzero_literal, choice_template, expression_template, expression_templates, statement_template, statement_templates, case_templates}
 use Rattle.js_tree.specs.declared.operators.HostFunction.TheVariants.{ConsoleLog}
 use Rattle.std.specs.Prelude.{codes}
-use Rattle.sj_mangling.specs.Mangling.{AreBytes}
 use Rattle.sj_names.specs.declared.method_names.Member.{Member}
 use Rattle.sj_trees.specs.Term.{Term}
 use Rattle.sj_trees.specs.declared.classes.MethodDef.{MethodDef}
 use Rattle.sj_bodies.specs.Settings.{Place, SameState, Valued, valued, NamesDiffer}
 use Rattle.sj_bodies.proofs.Worlds.{World, SameValues}
 use Rattle.sj_calls.specs.Methods.{parameters_in, function_of, Linked, ir_call, js_call, CallsAgree}
-use Rattle.sj_calls.specs.Names.{emitted_in, IsGood, GoodExpression, GoodExpressions, GoodStatement, GoodStatements, GoodCases, GoodParameters, GoodMethod, LinkedByName}
+use Rattle.sj_calls.specs.Names.{emitted_in, GoodExpression, GoodExpressions, GoodStatement, GoodStatements, GoodCases, GoodParameters, GoodMethod, LinkedByName}
 use Rattle.sj_calls.proofs.Levels.{calls_agree}
 use Rattle.sj_calls.proofs.Safe.{safe_name, safe_label, name-same, label-same, safe-variables, safe-labels, safe-functions}
 

@@ -1,14 +1,13 @@
 -- A file that has the functions of methods and calls initializers shows what these show.
-use Rattle.std.proofs.Common.{◌≡◌, ℕ, zero, suc, Bool, true, false, List, [], ◌∷◌, ◌++◌, ◌&&◌, map, refl, sym, ap, ◌∙◌, subst, Contains, Option, Some, None, if◌then◌else◌, length}
+use Rattle.std.proofs.Common.{◌≡◌, ℕ, Bool, true, false, List, [], ◌∷◌, ◌++◌, ◌&&◌, map, refl, sym, ap, ◌∙◌, subst, Contains, Option, Some, None, if◌then◌else◌, length}
 use Rattle.std.specs.List.{list_all}
 use Rattle.std.proofs.lemmas.Bool.{and_parts}
 use Rattle.std.proofs.lemmas.List.Elements.{Contains-append_left, Contains-append_right, Contains-push}
-use Rattle.outcomes.specs.Outcome.{Out, done, wrong, then_do}
-use Rattle.outcomes.specs.Shown.{Ending, normal, Shown}
+use Rattle.outcomes.specs.Outcome.{Out, wrong, then_do}
+use Rattle.outcomes.specs.Shown.{normal, Shown}
 use Rattle.outcomes.specs.Agreement.{Direction, forward, backward, Within, Sim, IsNotWrong, Agree}
 use Rattle.outcomes.proofs.Sequence.{then_do-associative}
 use Rattle.outcomes.proofs.Simulation.{sim_done, sim_then, agree-from_sim}
-use Rattle.ir_mean.specs.Meaning as ir_meaning
 use Rattle.ir_mean.specs.Shows as ir_showing
 use Rattle.ir_mean.specs.States as ir
 use Rattle.ir_mean.specs.World as ir_world
@@ -27,7 +26,7 @@ use Rattle.sj_bodies.specs.Settings.{Place, SameState, Valued, valued}
 use Rattle.sj_bodies.specs.Worlds.{World, no_values}
 use Rattle.sj_bodies.proofs.Contexts.{equals}
 use Rattle.sj_calls.specs.Files.{EmittedMethod, function_item_of, initializer_member, call_item_of, module_with, program_with, IsEmitted, HasFunction}
-use Rattle.sj_calls.specs.Methods.{parameters_in, function_of, Linked, ir_call, js_call, CallsAgree}
+use Rattle.sj_calls.specs.Methods.{parameters_in, function_of, ir_call, js_call}
 use Rattle.sj_calls.specs.Names.{emitted_in, LinkedByName}
 use Rattle.sj_calls.proofs.Items.{code_with, code_found, cell_found}
 use Rattle.sj_calls.proofs.Named.{named_calls_agree}

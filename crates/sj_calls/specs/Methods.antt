@@ -1,15 +1,15 @@
 -- Methods that are linked, what is asked of each, and when the calls of one and of its function are alike.
-use Rattle.std.specs.Prelude.{◌≡◌, ◌≤◌, ℕ, Bool, true, List, [], ◌∷◌, ◌⊎◌, Option, Some, None}
+use Rattle.std.specs.Prelude.{◌≡◌, ◌≤◌, ℕ, Bool, List, [], ◌∷◌, ◌⊎◌, Some, None}
 use Rattle.js_tree.specs.Terms.{Name}
 use Rattle.outcomes.specs.Outcome.{Out}
-use Rattle.outcomes.specs.Agreement.{Direction, forward, backward, Sim}
+use Rattle.outcomes.specs.Agreement.{forward, backward, Sim}
 use Rattle.ir_mean.specs.Meaning as ir_meaning
 use Rattle.ir_mean.specs.States as ir
 use Rattle.ir_mean.specs.World.{member_of}
 use Rattle.js_mean.specs.Meaning as js_meaning
 use Rattle.js_mean.specs.States as js
 use Rattle.sj_core.specs.Terms.{named}
-use Rattle.sj_desugar.specs.Desugar.{desugared, is_mutable_in, result_destination, names_of}
+use Rattle.sj_desugar.specs.Desugar.{desugared, is_mutable_in, result_destination}
 use Rattle.sj_emit_expr.specs.Templates.{member_name, statement_templates}
 use Rattle.sj_names.specs.declared.method_names.Member.{Member}
 use Rattle.sj_trees.specs.Term.{Term}
@@ -17,7 +17,7 @@ use Rattle.sj_trees.specs.declared.classes.MethodDef.{MethodDef}
 use Rattle.sj_trees.specs.declared.classes.ParamDef.{ParamDef}
 use Rattle.sj_bodies.specs.Fine.{Fine}
 use Rattle.sj_bodies.specs.Locals.{Own}
-use Rattle.sj_bodies.specs.Settings.{Place, Setting, SameState, Valued}
+use Rattle.sj_bodies.specs.Settings.{Place, Valued}
 use Rattle.sj_bodies.specs.Worlds.{World}
 
 -- the parameters of a function

@@ -1,5 +1,5 @@
 -- The names that emitted functions have for their variables and labels, and when no two are one.
-use Rattle.std.specs.Prelude.{◌≡◌, ◌<◌, ◌^◌, ℕ, Bool, true, List, [], ◌∷◌, Some}
+use Rattle.std.specs.Prelude.{◌<◌, ◌^◌, ℕ, Bool, List, [], ◌∷◌}
 use Rattle.ir_mean.specs.World as ir_world
 use Rattle.js_mean.specs.States as js
 use Rattle.js_tree.specs.Terms.{Name}
