@@ -67,7 +67,7 @@ writes-nothing : (q : core.Variable → Type 0) (t : IrType) (k : Destination) �
 writes-nothing q _ _ gives_up = tt
 writes-nothing q _ _ (hands_on t h) = tt
 
-result-same : (t : IrType) (v : ir.Value) → is_no_type t ≡ false → ir_meaning.result_value t v ≡ v
+pub result-same : (t : IrType) (v : ir.Value) → is_no_type t ≡ false → ir_meaning.result_value t v ≡ v
 result-same NoType v h = impossible (sym h)
 result-same t v h = refl
 

@@ -1,0 +1,4 @@
+pub mod Covered
+pub mod Mutable
+pub mod Right
+pub mod Values
