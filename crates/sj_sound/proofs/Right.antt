@@ -178,7 +178,7 @@ module _ (sub : IrType → IrType → Type 0) (law : IsSubtyping sub) (is_linked
   test_right s t first _ env st none (a_boolean false) e h = ended env st none e
 
   -- arguments and parameters
-  data ValuesFit : List ir.Value → List TypeRef → Type 0 where
+  pub data ValuesFit : List ir.Value → List TypeRef → Type 0 where
     none_left : ValuesFit [] []
     one_fits : (v : ir.Value) (r : TypeRef) (vs : List ir.Value) (rs : List TypeRef) → HasType sub law v (reference_type r) → ValuesFit vs rs → ValuesFit (v ∷ vs) (r ∷ rs)
 
@@ -194,7 +194,7 @@ module _ (sub : IrType → IrType → Type 0) (law : IsSubtyping sub) (is_linked
       go y c true k = let same : d ≡ c = cc in subst (λ (a : ParamDef). HoldsType (Some v) a.tpe) same (holds_type v d.tpe i)
       go y c false k = h.hold y c k
 
-  nothing_there : (x : List ℕ) (d : ParamDef) → ◌≡◌ {A = Option ParamDef} None (Some d) → HoldsType None d.tpe
+  pub nothing_there : (x : List ℕ) (d : ParamDef) → ◌≡◌ {A = Option ParamDef} None (Some d) → HoldsType None d.tpe
   nothing_there x d e = impossible (cc)
 
   bound : (ds : List ParamDef) (rs : List TypeRef) (vs : List ir.Value) → HaveTypes ds rs → ValuesFit vs rs → Bound ds vs
@@ -210,7 +210,7 @@ module _ (sub : IrType → IrType → Type 0) (law : IsSubtyping sub) (is_linked
   abbrev pub LowRight : ir_meaning.Low → Type 0
   LowRight low = (t : Term) (s : Scene) → HaveValues s.locals → Typed sub is_linked s t → Fresh s (Own t) → (env : ir.Env) (st : ir.State) → EnvTyped s.locals env → Right s (type_of_term t) (low t env st)
 
-  no_label : {A : Type 0} (l : List ℕ) (r : IrType) → ◌≡◌ {A = Option IrType} None (Some r) → A
+  pub no_label : {A : Type 0} (l : List ℕ) (r : IrType) → ◌≡◌ {A = Option IrType} None (Some r) → A
   no_label l r e = impossible (cc)
 
   result-type : (t : IrType) (v : ir.Value) → GivesType v t → GivesType (ir_meaning.result_value t v) t
@@ -225,7 +225,7 @@ module _ (sub : IrType → IrType → Type 0) (law : IsSubtyping sub) (is_linked
       go true e = inl (is_none t e)
       go false e = subst (λ x. GivesType x t) (sym (result-same t v e)) (inr h)
 
-  call_right : (low : ir_meaning.Low) → LowRight low → (m : Member) → RightMember sub w is_linked m → (s : Scene) (t : IrType) → t ≡ call_type m.method.result → (vs : List ir.Value) → ValuesFit vs m.method.params → (env : ir.Env) (st : ir.State) → EnvTyped s.locals env → Right s t (ir_meaning.call low (member_of w m.class m.namespace m.method) None vs env st)
+  pub call_right : (low : ir_meaning.Low) → LowRight low → (m : Member) → RightMember sub w is_linked m → (s : Scene) (t : IrType) → t ≡ call_type m.method.result → (vs : List ir.Value) → ValuesFit vs m.method.params → (env : ir.Env) (st : ir.State) → EnvTyped s.locals env → Right s t (ir_meaning.call low (member_of w m.class m.namespace m.method) None vs env st)
   call_right low right m l s t is vs fit env st e = subst (λ o. Right s t o) (sym called) (comes_then (CameRight scene l.definition.params l.definition.result) (CameRight s s.locals t) (low l.its_body inner st) (ir_meaning.returned l.definition.result env) (yields-right scene l.definition.params l.its_body l.definition.result (low l.its_body inner st).end l.rules.yields (right l.its_body scene l.rules.values l.rules.typed l.rules.fresh inner st (record { holds = b.hold }))) back)
     where
       scene : Scene
@@ -251,8 +251,6 @@ module _ (sub : IrType → IrType → Type 0) (law : IsSubtyping sub) (is_linked
     abbrev TreeRight : Term → Type 0
     TreeRight t = (s : Scene) → HaveValues s.locals → Typed sub is_linked s t → Fresh s (Own t) → (env : ir.Env) (st : ir.State) → EnvTyped s.locals env → Right s (type_of_term t) (step t env st)
 
-    local_in : (p : Position) (x : List ℕ) (t : IrType) (b : Bool) → ParamDef
-    local_in p x t b = record { name = x; «mutable» = b; tpe = t }
 
     -- a definition: the local is in scope behind it
     definition_right : (p : Position) (x : List ℕ) (t : IrType) (b : Bool) (e : Term) → TreeRight e → (s : Scene) → HaveValues s.locals → Typed sub is_linked s (var_def p x t b e) → Fresh s (Own (var_def p x t b e)) → (env : ir.Env) (st : ir.State) → EnvTyped s.locals env → Comes (CameRight s (record { name = x; «mutable» = b; tpe = t } ∷ s.locals) NoType) (step (var_def p x t b e) env st).end
@@ -270,8 +268,6 @@ module _ (sub : IrType → IrType → Type 0) (law : IsSubtyping sub) (is_linked
     string_not : String ≡ NoType → ⊥
     string_not = value-not String (refl, refl)
 
-    stop : ir.Run
-    stop env s = record { lines = []; end = Done (ir.ends ir.stops env s) }
 
     -- a condition, and what is done where it holds
     tested_right : (c : Term) (first : ir.Run) (s : Scene) (t : IrType) → t ≡ NoType → (env : ir.Env) (st : ir.State) → Right s (type_of_term c) (step c env st) → sub (type_of_term c) Boolean → ((env : ir.Env) (st : ir.State) → EnvTyped s.locals env → Comes (Turned s t) (first env st).end) → Comes (Turned s t) (ir_meaning.in_order (step c ∷ []) (ir_meaning.branch first (λ env s. record { lines = []; end = Done (ir.ends ir.stops env s) })) env st).end
