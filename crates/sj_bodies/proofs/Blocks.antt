@@ -1,11 +1,11 @@
 -- A block of statements sees the bindings around it, and leaves them as they are.
-use Rattle.std.proofs.Common.{◌≡◌, ℕ, zero, suc, ◌≤◌, Bool, true, false, ◌||◌, List, [], ◌∷◌, Some, None, Option, refl, sym, ap, ◌∙◌, subst, if◌then◌else◌}
+use Rattle.std.proofs.Common.{◌≡◌, ℕ, Bool, true, false, ◌||◌, List, refl, sym, ap, ◌∙◌, subst, if◌then◌else◌}
 use Rattle.std.specs.Prelude.{nat_eq}
 use Rattle.std.specs.Cmp.Lexicographic.{pointwise}
-use Rattle.outcomes.specs.Outcome.{Out, done, wrong, then_do}
+use Rattle.outcomes.specs.Outcome.{Out, done}
 use Rattle.outcomes.specs.Agreement.{Sim}
-use Rattle.outcomes.proofs.Sequence.{then_do-right, then_do-associative}
-use Rattle.outcomes.proofs.Simulation.{sim_done, sim_wrong, sim_then, sim_weaken}
+use Rattle.outcomes.proofs.Sequence.{then_do-right}
+use Rattle.outcomes.proofs.Simulation.{sim_done, sim_then}
 use Rattle.ir_mean.specs.States as ir
 use Rattle.js_mean.specs.Meaning as js_meaning
 use Rattle.js_mean.specs.Proper.{is_among, declared}
@@ -14,14 +14,14 @@ use Rattle.js_tree.specs.Terms as tree
 use Rattle.js_tree.specs.Terms.{Name}
 use Rattle.sj_core.specs.Terms as core
 use Rattle.sj_desugar.specs.Desugar.{target_of}
-use Rattle.sj_desugar.specs.Spill.{Destination, discard, to_variable, to_result}
+use Rattle.sj_desugar.specs.Spill.{Destination}
 use Rattle.sj_emit_expr.specs.Templates.{member_name, statement_templates}
 use Rattle.sj_names.specs.declared.method_names.Member.{Member}
-use Rattle.sj_bodies.specs.Settings.{Setting, run, SameState, Inside, Lawful, Holding, Sees}
-use Rattle.sj_bodies.proofs.Contexts.{Context, Writes, Sound, Ahead, IsOpen, Ready, Keeps, Arrives, let_go, stored, returned, Came, gave, left, stopped}
-use Rattle.sj_bodies.proofs.Declared.{Declares, Named, declared-named, IsNew}
+use Rattle.sj_bodies.specs.Settings.{Setting, run, Lawful, Holding}
+use Rattle.sj_bodies.proofs.Contexts.{Context, Writes, Sound, Ahead, Ready, Keeps, Arrives, let_go, stored, returned, Came, gave, left, stopped}
+use Rattle.sj_bodies.proofs.Declared.{Declares, declared-named, IsNew}
 use Rattle.sj_bodies.proofs.Operators.{impossible}
-use Rattle.sj_bodies.proofs.Worlds.{World, Grows}
+use Rattle.sj_bodies.proofs.Worlds.{World}
 
 or_false : (a b : Bool) → (a || b) ≡ false → (a ≡ false) × (b ≡ false)
 or_false true b h = impossible (sym h)
@@ -64,22 +64,22 @@ undeclared c own j ss out ahead h = record {
 
 module _ (z : Setting) (lawful : Lawful z) (c : Context) (ss : core.Statements) (free : Undeclared c ss) where
   abbrev shown_statements : tree.Statements
-  shown_statements = statement_templates z.name z.label ss
+  shown_statements = statement_templates z.place.name z.place.label ss
 
   -- a variable that isn't declared is no declared name
-  not_declared : (y : core.Variable) → (Declares ss y → ⊥) → is_among (declared shown_statements) (z.name y) ≡ false
-  not_declared y h = go (is_among (declared shown_statements) (z.name y)) refl
+  not_declared : (y : core.Variable) → (Declares ss y → ⊥) → is_among (declared shown_statements) (z.place.name y) ≡ false
+  not_declared y h = go (is_among (declared shown_statements) (z.place.name y)) refl
     where
-      go : (b : Bool) → is_among (declared shown_statements) (z.name y) ≡ b → is_among (declared shown_statements) (z.name y) ≡ false
+      go : (b : Bool) → is_among (declared shown_statements) (z.place.name y) ≡ b → is_among (declared shown_statements) (z.place.name y) ≡ false
       go false e = e
-      go true e = let n = declared-named z ss (z.name y) e in absurd (h (subst (Declares ss) (lawful.names_differ n.variable y n.name) n.declares))
+      go true e = let n = declared-named z ss (z.place.name y) e in absurd (h (subst (Declares ss) (lawful.names.variables n.variable y n.name) n.declares))
 
   no_function : (m : Member) → is_among (declared shown_statements) (member_name m) ≡ false
   no_function m = go (is_among (declared shown_statements) (member_name m)) refl
     where
       go : (b : Bool) → is_among (declared shown_statements) (member_name m) ≡ b → is_among (declared shown_statements) (member_name m) ≡ false
       go false e = e
-      go true e = let n = declared-named z ss (member_name m) e in absurd (lawful.functions_differ n.variable m n.name)
+      go true e = let n = declared-named z ss (member_name m) e in absurd (lawful.names.functions n.variable m n.name)
 
   entered : (sc : js.Scope) (n : Name) → is_among (declared shown_statements) n ≡ false → (js_meaning.enter shown_statements sc).bindings n ≡ sc.bindings n
   entered sc n h = bind-undeclared shown_statements sc.bindings n h
@@ -87,31 +87,35 @@ module _ (z : Setting) (lawful : Lawful z) (c : Context) (ss : core.Statements) 
   behind_block : (outer inner : js.Scope) (n : Name) → is_among (declared shown_statements) n ≡ false → (js_meaning.leave shown_statements outer inner).bindings n ≡ inner.bindings n
   behind_block outer inner n h = ap (λ (b : Bool). if b then outer.bindings n else inner.bindings n) h
 
-  enter-ready : (w : World) (env : ir.Env) (sc : js.Scope) → Ready z c.scope c.writable w env sc → Ready z c.scope c.writable w env (js_meaning.enter shown_statements sc)
+  enter-ready : (w : World) (env : ir.Env) (sc : js.Scope) → Ready z.place c.scope c.writable w env sc → Ready z.place c.scope c.writable w env (js_meaning.enter shown_statements sc)
   enter-ready w env sc r = record {
-    sees = record { inside = record { file = r.sees.inside.file; free = λ m. entered sc (member_name m) (no_function m) ∙ r.sees.inside.free m }; locals = λ x i. subst (Holding w (env.locals x)) (sym (entered sc (z.name (core.named x)) (not_declared (core.named x) (free.scope x i)))) (r.sees.locals x i) };
-    «open» = λ y i. record { value = (r.«open» y i).value; is = entered sc (z.name y) (not_declared y (free.writable y i)) ∙ (r.«open» y i).is };
+    sees = record { inside = record { file = r.sees.inside.file; free = λ m. entered sc (member_name m) (no_function m) ∙ r.sees.inside.free m }; locals = λ x i. subst (Holding w (env.locals x)) (sym (entered sc (z.place.name (core.named x)) (not_declared (core.named x) (free.scope x i)))) (r.sees.locals x i) };
+    «open» = λ y i. record { value = (r.«open» y i).value; is = entered sc (z.place.name y) (not_declared y (free.writable y i)) ∙ (r.«open» y i).is };
   }
 
-  leave-ready : (w : World) (env : ir.Env) (outer inner : js.Scope) → Ready z c.scope c.writable w env inner → Ready z c.scope c.writable w env (js_meaning.leave shown_statements outer inner)
+  leave-ready : (w : World) (env : ir.Env) (outer inner : js.Scope) → Ready z.place c.scope c.writable w env inner → Ready z.place c.scope c.writable w env (js_meaning.leave shown_statements outer inner)
   leave-ready w env outer inner r = record {
-    sees = record { inside = record { file = r.sees.inside.file; free = λ m. behind_block outer inner (member_name m) (no_function m) ∙ r.sees.inside.free m }; locals = λ x i. subst (Holding w (env.locals x)) (sym (behind_block outer inner (z.name (core.named x)) (not_declared (core.named x) (free.scope x i)))) (r.sees.locals x i) };
-    «open» = λ y i. record { value = (r.«open» y i).value; is = behind_block outer inner (z.name y) (not_declared y (free.writable y i)) ∙ (r.«open» y i).is };
+    sees = record { inside = record { file = r.sees.inside.file; free = λ m. behind_block outer inner (member_name m) (no_function m) ∙ r.sees.inside.free m }; locals = λ x i. subst (Holding w (env.locals x)) (sym (behind_block outer inner (z.place.name (core.named x)) (not_declared (core.named x) (free.scope x i)))) (r.sees.locals x i) };
+    «open» = λ y i. record { value = (r.«open» y i).value; is = behind_block outer inner (z.place.name y) (not_declared y (free.writable y i)) ∙ (r.«open» y i).is };
   }
 
-  leave-keeps : (outer inner : js.Scope) → Keeps z c.kept (js_meaning.enter shown_statements outer) inner → Keeps z c.kept outer (js_meaning.leave shown_statements outer inner)
-  leave-keeps outer inner ks = record { same = λ y i. behind_block outer inner (z.name y) (not_declared y (free.kept y i)) ∙ ks.same y i ∙ entered outer (z.name y) (not_declared y (free.kept y i)) }
+  leave-keeps : (outer inner : js.Scope) → Keeps z.place c.kept (js_meaning.enter shown_statements outer) inner → Keeps z.place c.kept outer (js_meaning.leave shown_statements outer inner)
+  leave-keeps outer inner ks = record { same = λ y i. behind_block outer inner (z.place.name y) (not_declared y (free.kept y i)) ∙ ks.same y i ∙ entered outer (z.place.name y) (not_declared y (free.kept y i)) }
 
-  leave-arrives : (w : World) (v : ir.Value) (outer inner : js.Scope) (usual : js.Completion) (k : Destination) (e : js.Completion) → Writes c.writable k → Arrives z w v inner usual k e → Arrives z w v (js_meaning.leave shown_statements outer inner) usual k e
+  leave-arrives : (w : World) (v : ir.Value) (outer inner : js.Scope) (usual : js.Completion) (k : Destination) (e : js.Completion) → Writes c.writable k → Arrives z.place w v inner usual k e → Arrives z.place w v (js_meaning.leave shown_statements outer inner) usual k e
   leave-arrives w v outer inner usual _ _ wr let_go = let_go
-  leave-arrives w v outer inner usual _ _ wr (stored x t j a h) = stored x t j a (behind_block outer inner (z.name x) (not_declared x (free.writable x wr)) ∙ h)
+  leave-arrives w v outer inner usual _ _ wr (stored x t j a h) = stored x t j a (behind_block outer inner (z.place.name x) (not_declared x (free.writable x wr)) ∙ h)
   leave-arrives w v outer inner usual _ _ wr (returned t j a) = returned t j a
 
-  leaving_alike : (k : Destination) (w : World) (sc : js.Scope) → Sound z c → Writes c.writable k → (a : ir.Ended) (b : js.StatementEnd) → Came z c c.scope k w (js_meaning.enter shown_statements sc) a b → Sim z.direction (Came z c c.scope k w sc) (done a) (js_meaning.leaving shown_statements sc b)
-  leaving_alike k w sc sound wr _ _ (gave y v env s sc' u e g a r ks same) = sim_done z.direction (Came z c c.scope k w sc) (ir.ends (ir.gives v) env s) (js.ends e (js_meaning.leave shown_statements sc sc') u) (gave y v env s (js_meaning.leave shown_statements sc sc') u e g (leave-arrives y v sc sc' js.normally k e wr a) (leave-ready y env sc sc' r) (leave-keeps sc sc' ks) same)
-  leaving_alike k w sc sound wr _ _ (left y l v env s sc' u e g a r ks same) = sim_done z.direction (Came z c c.scope k w sc) (ir.ends (ir.leaves l v) env s) (js.ends e (js_meaning.leave shown_statements sc sc') u) (left y l v env s (js_meaning.leave shown_statements sc sc') u e g (leave-arrives y v sc sc' (js.breaks (z.label l)) (target_of c.targets l) e (sound.reached l) a) (leave-ready y env sc sc' r) (leave-keeps sc sc' ks) same)
-  leaving_alike k w sc sound wr _ _ (stopped y env s sc' u t g r ks same) = sim_done z.direction (Came z c c.scope k w sc) (ir.ends ir.stops env s) (js.ends js.breaks_nearest (js_meaning.leave shown_statements sc sc') u) (stopped y env s (js_meaning.leave shown_statements sc sc') u t g (leave-ready y env sc sc' r) (leave-keeps sc sc' ks) same)
+  leaving_alike : (k : Destination) (w : World) (sc : js.Scope) → Sound z.is_mutable c → Writes c.writable k → (a : ir.Ended) (b : js.StatementEnd) → Came z.place c c.scope k w (js_meaning.enter shown_statements sc) a b → Sim z.direction (Came z.place c c.scope k w sc) (done a) (js_meaning.leaving shown_statements sc b)
+  leaving_alike k w sc sound wr _ _ (gave y v env s sc' u e g a r ks same) = sim_done z.direction (Came z.place c c.scope k w sc) (ir.ends (ir.gives v) env s) (js.ends e (js_meaning.leave shown_statements sc sc') u) (gave y v env s (js_meaning.leave shown_statements sc sc') u e g (leave-arrives y v sc sc' js.normally k e wr a) (leave-ready y env sc sc' r) (leave-keeps sc sc' ks) same)
+  leaving_alike k w sc sound wr _ _ (left y l v env s sc' u e g a r ks same) = sim_done z.direction (Came z.place c c.scope k w sc) (ir.ends (ir.leaves l v) env s) (js.ends e (js_meaning.leave shown_statements sc sc') u) (left y l v env s (js_meaning.leave shown_statements sc sc') u e g (leave-arrives y v sc sc' (js.breaks (z.place.label l)) (target_of c.targets l) e (sound.reached l) a) (leave-ready y env sc sc' r) (leave-keeps sc sc' ks) same)
+  leaving_alike k w sc sound wr _ _ (stopped y env s sc' u t g r ks same) = sim_done z.direction (Came z.place c c.scope k w sc) (ir.ends ir.stops env s) (js.ends js.breaks_nearest (js_meaning.leave shown_statements sc sc') u) (stopped y env s (js_meaning.leave shown_statements sc sc') u t g (leave-ready y env sc sc' r) (leave-keeps sc sc' ks) same)
+
+  -- what stands in a block with the names that these statements declare
+  pub scoped_alike : (k : Destination) (w : World) (env : ir.Env) (sc : js.Scope) (u : js.State) (o : Out ir.Ended) (x : js.Execution) → Sound z.is_mutable c → Writes c.writable k → Ready z.place c.scope c.writable w env sc → (Ready z.place c.scope c.writable w env (js_meaning.enter shown_statements sc) → Sim z.direction (Came z.place c c.scope k w (js_meaning.enter shown_statements sc)) o (x (js_meaning.enter shown_statements sc) u)) → Sim z.direction (Came z.place c c.scope k w sc) o (js_meaning.in_block shown_statements x sc u)
+  scoped_alike k w env sc u o x sound wr r inner = subst (λ q. Sim z.direction (Came z.place c c.scope k w sc) q (js_meaning.in_block shown_statements x sc u)) (then_do-right o) (sim_then z.direction (Came z.place c c.scope k w (js_meaning.enter shown_statements sc)) (Came z.place c c.scope k w sc) o (x (js_meaning.enter shown_statements sc) u) done (js_meaning.leaving shown_statements sc) (inner (enter-ready w env sc r)) (leaving_alike k w sc sound wr))
 
   -- a tree whose statements stand in a block of their own
-  pub block_alike : (k : Destination) (w : World) (env : ir.Env) (sc : js.Scope) (u : js.State) (o : Out ir.Ended) → Sound z c → Writes c.writable k → Ready z c.scope c.writable w env sc → (Ready z c.scope c.writable w env (js_meaning.enter shown_statements sc) → Sim z.direction (Came z c c.scope k w (js_meaning.enter shown_statements sc)) o (run z ss (js_meaning.enter shown_statements sc) u)) → Sim z.direction (Came z c c.scope k w sc) o (js_meaning.in_block shown_statements (run z ss) sc u)
-  block_alike k w env sc u o sound wr r inner = subst (λ x. Sim z.direction (Came z c c.scope k w sc) x (js_meaning.in_block shown_statements (run z ss) sc u)) (then_do-right o) (sim_then z.direction (Came z c c.scope k w (js_meaning.enter shown_statements sc)) (Came z c c.scope k w sc) o (run z ss (js_meaning.enter shown_statements sc) u) done (js_meaning.leaving shown_statements sc) (inner (enter-ready w env sc r)) (leaving_alike k w sc sound wr))
+  pub block_alike : (k : Destination) (w : World) (env : ir.Env) (sc : js.Scope) (u : js.State) (o : Out ir.Ended) → Sound z.is_mutable c → Writes c.writable k → Ready z.place c.scope c.writable w env sc → (Ready z.place c.scope c.writable w env (js_meaning.enter shown_statements sc) → Sim z.direction (Came z.place c c.scope k w (js_meaning.enter shown_statements sc)) o (run z ss (js_meaning.enter shown_statements sc) u)) → Sim z.direction (Came z.place c c.scope k w sc) o (js_meaning.in_block shown_statements (run z ss) sc u)
+  block_alike k w env sc u o = scoped_alike k w env sc u o (run z ss)

@@ -1,21 +1,19 @@
 -- What a tree is written in: the locals in scope, the variables that may be written, those that keep what they hold, and the labels.
-use Rattle.std.proofs.Common.{◌≡◌, ℕ, zero, suc, ◌≤◌, Bool, true, false, List, [], ◌∷◌, Some, None, Option, refl, sym, ap, ◌∙◌, subst, cond, if◌then◌else◌}
+use Rattle.std.proofs.Common.{◌≡◌, ℕ, ◌≤◌, Bool, true, false, List, refl, sym, ap, ◌∙◌, subst, if◌then◌else◌}
 use Rattle.std.specs.Prelude.{nat_eq}
 use Rattle.std.specs.Cmp.Lexicographic.{pointwise}
 use Rattle.std.proofs.lemmas.Slice.Eq.{bytes_eq-Decides}
-use Rattle.ir_mean.specs.Meaning as ir_meaning
 use Rattle.ir_mean.specs.States as ir
 use Rattle.js_mean.specs.Meaning as js_meaning
 use Rattle.js_mean.specs.States as js
 use Rattle.sj_core.specs.Terms as core
-use Rattle.sj_desugar.specs.Desugar.{Targets, Target, target_of}
+use Rattle.sj_desugar.specs.Desugar.{Targets, target_of}
 use Rattle.sj_desugar.specs.Spill.{Destination, discard, to_variable, to_result}
 use Rattle.sj_emit_expr.specs.Templates.{member_name}
-use Rattle.sj_names.specs.declared.method_names.Member.{Member}
 use Rattle.sj_trees.specs.declared.types.IrType.{IrType}
-use Rattle.sj_bodies.specs.Settings.{Setting, SameState, Inside, Lawful, Holding, holding, Sees}
-use Rattle.sj_bodies.proofs.Plain.{holding-lift, sees-lift}
-use Rattle.sj_bodies.proofs.Worlds.{World, Grows, grows-refl, grows-trans, SameValue, value-lift}
+use Rattle.sj_bodies.specs.Settings.{Place, Setting, SameState, Inside, Lawful, Holding, Sees}
+use Rattle.sj_bodies.proofs.Plain.{sees-lift}
+use Rattle.sj_bodies.proofs.Worlds.{World, Grows, SameValue}
 
 pub record Context : Type 1 where
   pub scope : List ℕ → Type 0
@@ -31,11 +29,11 @@ Writes q (to_result t) = Unit {0}
 
 -- what may be written isn't kept and is no local in scope; a local in scope is kept where it isn't mutable, and no mutable one is; and the
 -- values that leave to a label go where it may be written
-pub record Sound (z : Setting) (c : Context) : Type 0 where
+pub record Sound (is_mutable : List ℕ → Bool) (c : Context) : Type 0 where
   pub apart : (y : core.Variable) → c.writable y → c.kept y → ⊥
   pub hidden : (x : List ℕ) → c.writable (core.named x) → c.scope x → ⊥
-  pub constant : (x : List ℕ) → c.scope x → z.is_mutable x ≡ false → c.kept (core.named x)
-  pub changing : (x : List ℕ) → c.kept (core.named x) → z.is_mutable x ≡ true → ⊥
+  pub constant : (x : List ℕ) → c.scope x → is_mutable x ≡ false → c.kept (core.named x)
+  pub changing : (x : List ℕ) → c.kept (core.named x) → is_mutable x ≡ true → ⊥
   pub reached : (l : List ℕ) → Writes c.writable (target_of c.targets l)
 
 -- no variable for an operand from this number on is in use
@@ -48,33 +46,33 @@ pub record IsOpen (cell : js.Cell) : Type 0 where
   pub value : js.Value
   pub is : cell ≡ js.holds false value
 
-pub record Ready (z : Setting) (scope : List ℕ → Type 0) (writable : core.Variable → Type 0) (w : World) (env : ir.Env) (sc : js.Scope) : Type 0 where
-  pub sees : Sees z scope w env sc
-  pub «open» : (y : core.Variable) → writable y → IsOpen (sc.bindings (z.name y))
+pub record Ready (p : Place) (scope : List ℕ → Type 0) (writable : core.Variable → Type 0) (w : World) (env : ir.Env) (sc : js.Scope) : Type 0 where
+  pub sees : Sees p scope w env sc
+  pub «open» : (y : core.Variable) → writable y → IsOpen (sc.bindings (p.name y))
 
-pub ready-lift : (z : Setting) (scope : List ℕ → Type 0) (q : core.Variable → Type 0) (u w : World) (env : ir.Env) (sc : js.Scope) → Grows u w → Ready z scope q u env sc → Ready z scope q w env sc
+pub ready-lift : (z : Setting) (scope : List ℕ → Type 0) (q : core.Variable → Type 0) (u w : World) (env : ir.Env) (sc : js.Scope) → Grows u w → Ready z.place scope q u env sc → Ready z.place scope q w env sc
 ready-lift z scope q u w env sc g r = record { sees = sees-lift z scope u w env sc g r.sees; «open» = r.«open» }
 
-pub record Keeps (z : Setting) (kept : core.Variable → Type 0) (before behind : js.Scope) : Type 0 where
-  pub same : (y : core.Variable) → kept y → behind.bindings (z.name y) ≡ before.bindings (z.name y)
+pub record Keeps (p : Place) (kept : core.Variable → Type 0) (before behind : js.Scope) : Type 0 where
+  pub same : (y : core.Variable) → kept y → behind.bindings (p.name y) ≡ before.bindings (p.name y)
 
-pub keeps-refl : (z : Setting) (p : core.Variable → Type 0) (sc : js.Scope) → Keeps z p sc sc
+pub keeps-refl : (z : Setting) (p : core.Variable → Type 0) (sc : js.Scope) → Keeps z.place p sc sc
 keeps-refl z p sc = record { same = λ y h. refl }
 
-pub keeps-trans : (z : Setting) (p : core.Variable → Type 0) (a b c : js.Scope) → Keeps z p a b → Keeps z p b c → Keeps z p a c
+pub keeps-trans : (z : Setting) (p : core.Variable → Type 0) (a b c : js.Scope) → Keeps z.place p a b → Keeps z.place p b c → Keeps z.place p a c
 keeps-trans z p a b c h k = record { same = λ y i. k.same y i ∙ h.same y i }
 
 -- a value has come to a destination: nowhere, to a variable, or out of the function; else the completion is this one
-pub data Arrives (z : Setting) (w : World) (v : ir.Value) (sc : js.Scope) (usual : js.Completion) : Destination → js.Completion → Type 0 where
-  let_go : Arrives z w v sc usual discard usual
-  stored : (x : core.Variable) (t : IrType) (j : js.Value) → SameValue w v j → sc.bindings (z.name x) ≡ js.holds false j → Arrives z w v sc usual (to_variable x t) usual
-  returned : (t : IrType) (j : js.Value) → SameValue w v j → Arrives z w v sc usual (to_result t) (js.returns j)
+pub data Arrives (p : Place) (w : World) (v : ir.Value) (sc : js.Scope) (usual : js.Completion) : Destination → js.Completion → Type 0 where
+  let_go : Arrives p w v sc usual discard usual
+  stored : (x : core.Variable) (t : IrType) (j : js.Value) → SameValue w v j → sc.bindings (p.name x) ≡ js.holds false j → Arrives p w v sc usual (to_variable x t) usual
+  returned : (t : IrType) (j : js.Value) → SameValue w v j → Arrives p w v sc usual (to_result t) (js.returns j)
 
 -- how a tree and its statements came to their end; inside a loop's turn, its condition may not hold any more
-pub data Came (z : Setting) (c : Context) (scope : List ℕ → Type 0) (k : Destination) (from : World) (before : js.Scope) : ir.Ended → js.StatementEnd → Type 0 where
-  gave : (w : World) (v : ir.Value) (env : ir.Env) (s : ir.State) (sc : js.Scope) (u : js.State) (e : js.Completion) → Grows from w → Arrives z w v sc js.normally k e → Ready z scope c.writable w env sc → Keeps z c.kept before sc → SameState z w s u → Came z c scope k from before (ir.ends (ir.gives v) env s) (js.ends e sc u)
-  left : (w : World) (l : List ℕ) (v : ir.Value) (env : ir.Env) (s : ir.State) (sc : js.Scope) (u : js.State) (e : js.Completion) → Grows from w → Arrives z w v sc (js.breaks (z.label l)) (target_of c.targets l) e → Ready z c.scope c.writable w env sc → Keeps z c.kept before sc → SameState z w s u → Came z c scope k from before (ir.ends (ir.leaves l v) env s) (js.ends e sc u)
-  stopped : (w : World) (env : ir.Env) (s : ir.State) (sc : js.Scope) (u : js.State) → c.turning → Grows from w → Ready z c.scope c.writable w env sc → Keeps z c.kept before sc → SameState z w s u → Came z c scope k from before (ir.ends ir.stops env s) (js.ends js.breaks_nearest sc u)
+pub data Came (p : Place) (c : Context) (scope : List ℕ → Type 0) (k : Destination) (from : World) (before : js.Scope) : ir.Ended → js.StatementEnd → Type 0 where
+  gave : (w : World) (v : ir.Value) (env : ir.Env) (s : ir.State) (sc : js.Scope) (u : js.State) (e : js.Completion) → Grows from w → Arrives p w v sc js.normally k e → Ready p scope c.writable w env sc → Keeps p c.kept before sc → SameState p w s u → Came p c scope k from before (ir.ends (ir.gives v) env s) (js.ends e sc u)
+  left : (w : World) (l : List ℕ) (v : ir.Value) (env : ir.Env) (s : ir.State) (sc : js.Scope) (u : js.State) (e : js.Completion) → Grows from w → Arrives p w v sc (js.breaks (p.label l)) (target_of c.targets l) e → Ready p c.scope c.writable w env sc → Keeps p c.kept before sc → SameState p w s u → Came p c scope k from before (ir.ends (ir.leaves l v) env s) (js.ends e sc u)
+  stopped : (w : World) (env : ir.Env) (s : ir.State) (sc : js.Scope) (u : js.State) → c.turning → Grows from w → Ready p c.scope c.writable w env sc → Keeps p c.kept before sc → SameState p w s u → Came p c scope k from before (ir.ends ir.stops env s) (js.ends js.breaks_nearest sc u)
 
 -- texts that aren't equal
 pub differs : (a b : List ℕ) → (a ≡ b → ⊥) → pointwise nat_eq a b ≡ false
@@ -92,21 +90,21 @@ is-equal a b = (bytes_eq-Decides a b).0
 
 module _ (z : Setting) (lawful : Lawful z) where
   -- a binding that is started
-  pub started-here : (const : Bool) (y : core.Variable) (v : js.Value) (sc : js.Scope) → (js_meaning.start const (z.name y) v sc).bindings (z.name y) ≡ js.holds const v
-  started-here const y v sc = ap (λ (t : Bool). if t then js.holds const v else sc.bindings (z.name y)) (equals (z.name y))
+  pub started-here : (const : Bool) (y : core.Variable) (v : js.Value) (sc : js.Scope) → (js_meaning.start const (z.place.name y) v sc).bindings (z.place.name y) ≡ js.holds const v
+  started-here const y v sc = ap (λ (t : Bool). if t then js.holds const v else sc.bindings (z.place.name y)) (equals (z.place.name y))
 
-  pub started-other : (const : Bool) (y x : core.Variable) (v : js.Value) (sc : js.Scope) → (x ≡ y → ⊥) → (js_meaning.start const (z.name y) v sc).bindings (z.name x) ≡ sc.bindings (z.name x)
-  started-other const y x v sc h = ap (λ (t : Bool). if t then js.holds const v else sc.bindings (z.name x)) (differs (z.name x) (z.name y) (λ e. h (lawful.names_differ x y e)))
+  pub started-other : (const : Bool) (y x : core.Variable) (v : js.Value) (sc : js.Scope) → (x ≡ y → ⊥) → (js_meaning.start const (z.place.name y) v sc).bindings (z.place.name x) ≡ sc.bindings (z.place.name x)
+  started-other const y x v sc h = ap (λ (t : Bool). if t then js.holds const v else sc.bindings (z.place.name x)) (differs (z.place.name x) (z.place.name y) (λ e. h (lawful.names.variables x y e)))
 
-  pub started-inside : (const : Bool) (y : core.Variable) (v : js.Value) (sc : js.Scope) → Inside z sc → Inside z (js_meaning.start const (z.name y) v sc)
-  started-inside const y v sc i = record { file = i.file; free = λ m. ap (λ (t : Bool). if t then js.holds const v else sc.bindings (member_name m)) (differs (member_name m) (z.name y) (λ e. lawful.functions_differ y m (sym e))) ∙ i.free m }
+  pub started-inside : (const : Bool) (y : core.Variable) (v : js.Value) (sc : js.Scope) → Inside z.place sc → Inside z.place (js_meaning.start const (z.place.name y) v sc)
+  started-inside const y v sc i = record { file = i.file; free = λ m. ap (λ (t : Bool). if t then js.holds const v else sc.bindings (member_name m)) (differs (member_name m) (z.place.name y) (λ e. lawful.names.functions y m (sym e))) ∙ i.free m }
 
   -- a binding that is no local in scope and may not be written otherwise
-  pub started-ready : (scope : List ℕ → Type 0) (q : core.Variable → Type 0) (const : Bool) (y : core.Variable) (v : js.Value) (w : World) (env : ir.Env) (sc : js.Scope) → ((x : List ℕ) → scope x → core.named x ≡ y → ⊥) → ((x : core.Variable) → q x → x ≡ y → ⊥) → Ready z scope q w env sc → Ready z scope q w env (js_meaning.start const (z.name y) v sc)
+  pub started-ready : (scope : List ℕ → Type 0) (q : core.Variable → Type 0) (const : Bool) (y : core.Variable) (v : js.Value) (w : World) (env : ir.Env) (sc : js.Scope) → ((x : List ℕ) → scope x → core.named x ≡ y → ⊥) → ((x : core.Variable) → q x → x ≡ y → ⊥) → Ready z.place scope q w env sc → Ready z.place scope q w env (js_meaning.start const (z.place.name y) v sc)
   started-ready scope q const y v w env sc out unwritten r = record {
     sees = record { inside = started-inside const y v sc r.sees.inside; locals = λ x i. subst (Holding w (env.locals x)) (sym (started-other const y (core.named x) v sc (out x i))) (r.sees.locals x i) };
     «open» = λ x i. record { value = (r.«open» x i).value; is = started-other const y x v sc (unwritten x i) ∙ (r.«open» x i).is };
   }
 
-  pub started-keeps : (p : core.Variable → Type 0) (const : Bool) (y : core.Variable) (v : js.Value) (sc : js.Scope) → (p y → ⊥) → Keeps z p sc (js_meaning.start const (z.name y) v sc)
+  pub started-keeps : (p : core.Variable → Type 0) (const : Bool) (y : core.Variable) (v : js.Value) (sc : js.Scope) → (p y → ⊥) → Keeps z.place p sc (js_meaning.start const (z.place.name y) v sc)
   started-keeps p const y v sc unkept = record { same = λ x i. started-other const y x v sc (λ e. unkept (subst p e i)) }

@@ -1,5 +1,5 @@
 -- What statements declare: the locals of their tree, and variables for operands from their first number on.
-use Rattle.std.proofs.Common.{◌≡◌, ℕ, zero, suc, ◌≤◌, Bool, true, false, ◌&&◌, ◌||◌, List, [], ◌∷◌, Some, None, refl, sym, ap, ◌∙◌, subst, arith, ◌⊎◌, inl, inr, ⊎_elim}
+use Rattle.std.proofs.Common.{◌≡◌, ℕ, suc, ◌≤◌, Bool, true, false, ◌&&◌, ◌||◌, List, [], ◌∷◌, Some, refl, sym, subst, arith, ◌⊎◌, inl, inr, ⊎_elim}
 use Rattle.std.specs.Prelude.{nat_eq}
 use Rattle.std.specs.Cmp.Lexicographic.{pointwise}
 use Rattle.js_mean.specs.Proper.{is_among, declared}
@@ -8,18 +8,19 @@ use Rattle.sj_core.specs.Terms as core
 use Rattle.sj_core.specs.Terms.{followed}
 use Rattle.sj_core.specs.Views.{expressions_of}
 use Rattle.sj_desugar.specs.Coercions.{coerced, coerced_arguments}
-use Rattle.sj_desugar.specs.Desugar.{operand, into, block, operands, cases, finish, has_no_value, target_of, Targets, expression_of, labeled_code, leaving_code, wrapped, branches, break_unless, one_case, switch_code, first_of, second_of, member, types_of}
-use Rattle.sj_desugar.specs.Plain.{is_plain, is_fixed}
-use Rattle.sj_desugar.specs.Spill.{Destination, discard, to_variable, to_result, Code, one, put_first, Operand, all_plain, Spilled, spill, spill_case, then_use, then_code}
+use Rattle.sj_desugar.specs.Desugar.{operand, into, block, operands, cases, finish, has_no_value, target_of, Targets, expression_of, labeled_code, leaving_code, wrapped, branches, break_unless, switch_code, first_of, second_of, member, types_of}
+use Rattle.sj_desugar.specs.Plain.{is_plain}
+use Rattle.sj_desugar.specs.Spill.{Destination, discard, to_variable, to_result, Code, one, put_first, Operand, all_plain, spill, spill_case, then_use, then_code}
 use Rattle.sj_emit_expr.specs.Templates.{statement_templates}
-use Rattle.sj_trees.specs.Term.{Term, Terms, no_terms, more_terms, Cases, no_cases, more_cases, var_def, skip, block_of, labeled, assign, return_to, if_then, while_loop, do_while, match_on, apply_static, unary_op, binary_op, undefined_literal, null_literal, boolean_literal, byte_literal, short_literal, int_literal, string_literal, var_ref, log_line}
+use Rattle.sj_trees.specs.Term.{Term, Terms, no_terms, more_terms, var_def, block_of, labeled, assign, return_to, if_then, while_loop, do_while, match_on, apply_static, unary_op, binary_op, undefined_literal, null_literal, boolean_literal, byte_literal, short_literal, int_literal, string_literal, var_ref, log_line}
 use Rattle.sj_trees.specs.TypeOf.{type_of_term, unary_result, binary_result}
 use Rattle.sj_trees.specs.declared.positions.Position.{Position}
 use Rattle.sj_trees.specs.declared.types.IrType.{IrType}
 use Rattle.sj_trees.specs.declared.types.IrType.TheVariants.{Undefined, Null, Boolean, Byte, Short, Int, String}
-use Rattle.sj_bodies.specs.Settings.{Setting, Lawful}
+use Rattle.sj_bodies.specs.Settings.{Setting}
+pub use Rattle.sj_bodies.specs.Locals.{Own, OwnAll, OwnCases}
 use Rattle.sj_bodies.proofs.Contexts.{is-equal}
-use Rattle.sj_bodies.proofs.Numbers.{EachOnward, spill-onward, onward, block-onward, operands-onward}
+use Rattle.sj_bodies.proofs.Numbers.{EachOnward, onward, operands-onward}
 use Rattle.sj_bodies.proofs.Operators.{impossible}
 
 abbrev pub DeclaresOne : core.Statement → core.Variable → Type 0
@@ -41,24 +42,24 @@ declares-followed (core.statement s ss) b y (inr h) = ⊎_elim (λ i. inl (inr i
 -- the variable that a declared name stands for
 pub record Named (z : Setting) (ss : core.Statements) (n : Name) : Type 0 where
   pub variable : core.Variable
-  pub name : z.name variable ≡ n
+  pub name : z.place.name variable ≡ n
   pub declares : Declares ss variable
 
 later : (z : Setting) (s : core.Statement) (ss : core.Statements) (n : Name) → Named z ss n → Named z (core.statement s ss) n
 later z s ss n h = record { variable = h.variable; name = h.name; declares = inr h.declares }
 
-here_or_later : (z : Setting) (s : core.Statement) (ss : core.Statements) (n : Name) (x : core.Variable) (rest : Bool) → DeclaresOne s x → (pointwise nat_eq n (z.name x) || rest) ≡ true → (rest ≡ true → Named z ss n) → Named z (core.statement s ss) n
-here_or_later z s ss n x rest d h k = go (pointwise nat_eq n (z.name x)) refl h
+here_or_later : (z : Setting) (s : core.Statement) (ss : core.Statements) (n : Name) (x : core.Variable) (rest : Bool) → DeclaresOne s x → (pointwise nat_eq n (z.place.name x) || rest) ≡ true → (rest ≡ true → Named z ss n) → Named z (core.statement s ss) n
+here_or_later z s ss n x rest d h k = go (pointwise nat_eq n (z.place.name x)) refl h
   where
-    go : (b : Bool) → pointwise nat_eq n (z.name x) ≡ b → (b || rest) ≡ true → Named z (core.statement s ss) n
-    go true e h = record { variable = x; name = sym (is-equal n (z.name x) e); declares = inl d }
+    go : (b : Bool) → pointwise nat_eq n (z.place.name x) ≡ b → (b || rest) ≡ true → Named z (core.statement s ss) n
+    go true e h = record { variable = x; name = sym (is-equal n (z.place.name x) e); declares = inl d }
     go false e h = later z s ss n (k h)
 
-pub declared-named : (z : Setting) (ss : core.Statements) (n : Name) → is_among (declared (statement_templates z.name z.label ss)) n ≡ true → Named z ss n
+pub declared-named : (z : Setting) (ss : core.Statements) (n : Name) → is_among (declared (statement_templates z.place.name z.place.label ss)) n ≡ true → Named z ss n
 declared-named z core.no_statements n h = impossible h
-declared-named z (core.statement (core.constant_of p x e) ss) n h = here_or_later z (core.constant_of p x e) ss n x (is_among (declared (statement_templates z.name z.label ss)) n) refl h (declared-named z ss n)
-declared-named z (core.statement (core.define_of p x e) ss) n h = here_or_later z (core.define_of p x e) ss n x (is_among (declared (statement_templates z.name z.label ss)) n) refl h (declared-named z ss n)
-declared-named z (core.statement (core.declare_of p x) ss) n h = here_or_later z (core.declare_of p x) ss n x (is_among (declared (statement_templates z.name z.label ss)) n) refl h (declared-named z ss n)
+declared-named z (core.statement (core.constant_of p x e) ss) n h = here_or_later z (core.constant_of p x e) ss n x (is_among (declared (statement_templates z.place.name z.place.label ss)) n) refl h (declared-named z ss n)
+declared-named z (core.statement (core.define_of p x e) ss) n h = here_or_later z (core.define_of p x e) ss n x (is_among (declared (statement_templates z.place.name z.place.label ss)) n) refl h (declared-named z ss n)
+declared-named z (core.statement (core.declare_of p x) ss) n h = here_or_later z (core.declare_of p x) ss n x (is_among (declared (statement_templates z.place.name z.place.label ss)) n) refl h (declared-named z ss n)
 declared-named z (core.statement (core.if_of p c a core.no_statements) ss) n h = later z (core.if_of p c a core.no_statements) ss n (declared-named z ss n h)
 declared-named z (core.statement (core.if_of p c a (core.statement t ts)) ss) n h = later z (core.if_of p c a (core.statement t ts)) ss n (declared-named z ss n h)
 declared-named z (core.statement s ss) n h = later z s ss n (declared-named z ss n h)
@@ -90,32 +91,6 @@ spill-case-new own false false false o os j y l h rest (inr d) = ⊎_elim (λ i.
 pub spill-new : (own : List ℕ → Type 0) (os : List Operand) → EachOnward os → EachNew own os → (j : ℕ) (y : core.Variable) → Declares (spill os j).statements y → IsNew own j y
 spill-new own [] l h j y d = absurd d
 spill-new own (o ∷ os) l h j y d = spill-case-new own (o.plain && all_plain os) o.fixed o.plain o os j y l.0 h.0 (λ i. spill-new own os l.1 h.1 i y) d
-
-abbrev mutual
-  -- the locals that a tree of the forms that are built defines
-  pub Own : Term → List ℕ → Type 0
-  Own (var_def p x t b e) y = (x ≡ y) ⊎ Own e y
-  Own (block_of p ts) y = OwnAll ts y
-  Own (labeled p l t e) y = Own e y
-  Own (assign p d e) y = Own e y
-  Own (return_to p e l) y = Own e y
-  Own (if_then p c a b t) y = Own c y ⊎ (Own a y ⊎ Own b y)
-  Own (while_loop p c b) y = Own c y ⊎ Own b y
-  Own (do_while p b c) y = Own b y ⊎ Own c y
-  Own (match_on p e cs d t) y = Own e y ⊎ (OwnCases cs y ⊎ Own d y)
-  Own (apply_static p c n m ts t) y = OwnAll ts y
-  Own (unary_op p o e) y = Own e y
-  Own (binary_op p o e d) y = Own e y ⊎ Own d y
-  Own (log_line p e) y = Own e y
-  Own _ y = ⊥
-
-  pub OwnAll : Terms → List ℕ → Type 0
-  OwnAll no_terms y = ⊥
-  OwnAll (more_terms t ts) y = Own t y ⊎ OwnAll ts y
-
-  pub OwnCases : Cases → List ℕ → Type 0
-  OwnCases no_cases y = ⊥
-  OwnCases (more_cases ks t cs) y = Own t y ⊎ OwnCases cs y
 
 no_declaration : (b : Bool) (p : Position) (e : core.Expression) (s : core.Statement) (j : ℕ) (y : core.Variable) → (DeclaresOne s y → ⊥) → Declares (elim b as (λ b. Code) [ true ↦ one (core.evaluate_of (Some p) e) j | false ↦ one s j ]).statements y → ⊥
 no_declaration true p e s j y h (inl d) = d

@@ -1,32 +1,28 @@
 -- Labels, returns to them, and loops.
-use Rattle.std.proofs.Common.{◌≡◌, ℕ, zero, suc, ◌≤◌, ◌<◌, Bool, true, false, ◌&&◌, List, [], ◌∷◌, Some, None, Option, refl, sym, ap, ◌∙◌, subst, arith, ◌⊎◌, inl, inr, ⊎_elim, if◌then◌else◌}
-use Rattle.std.specs.Prelude.{not, nat_eq}
+use Rattle.std.proofs.Common.{◌≡◌, ℕ, Bool, true, false, List, [], ◌∷◌, Some, refl, sym, ap, ◌∙◌, subst, if◌then◌else◌}
+use Rattle.std.specs.Prelude.{nat_eq}
 use Rattle.std.specs.Cmp.Lexicographic.{pointwise}
-use mathlib.Core.Path.{fun_ext}
-use Rattle.outcomes.specs.Outcome.{Out, done, wrong, then_do}
+use Rattle.outcomes.specs.Outcome.{Out, done, then_do}
 use Rattle.outcomes.specs.Agreement.{Sim}
-use Rattle.outcomes.proofs.Sequence.{then_do-right, then_do-associative}
-use Rattle.outcomes.proofs.Simulation.{sim_done, sim_wrong, sim_then, sim_weaken}
+use Rattle.outcomes.proofs.Sequence.{then_do-right}
+use Rattle.outcomes.proofs.Simulation.{sim_done, sim_then}
 use Rattle.ir_mean.specs.Meaning as ir_meaning
 use Rattle.ir_mean.specs.States as ir
 use Rattle.js_mean.specs.Meaning as js_meaning
 use Rattle.js_mean.specs.States as js
 use Rattle.sj_core.specs.Terms as core
 use Rattle.sj_core.specs.Terms.{followed}
-use Rattle.sj_desugar.specs.Desugar.{Targets, Target, target_of, first_of, labeled_code, leaving_code, wrapped, break_unless}
-use Rattle.sj_desugar.specs.Spill.{Destination, discard, to_variable, to_result, Code, one, put_first}
+use Rattle.sj_desugar.specs.Desugar.{target_of, labeled_code, leaving_code}
+use Rattle.sj_desugar.specs.Spill.{Destination, discard, to_variable, to_result, Code}
 use Rattle.sj_emit_expr.specs.Templates.{statement_templates}
 use Rattle.sj_trees.specs.declared.positions.Position.{Position}
 use Rattle.sj_trees.specs.declared.types.IrType.{IrType}
-use Rattle.sj_bodies.specs.Settings.{Setting, shown, run, SameState, Valued, valued, Lawful}
+use Rattle.sj_bodies.specs.Settings.{Setting, run, SameState, Lawful}
 use Rattle.sj_bodies.proofs.Blocks.{Undeclared, block_alike}
-use Rattle.sj_bodies.proofs.Contexts.{Context, Writes, Sound, Ahead, Ready, ready-lift, Keeps, keeps-refl, keeps-trans, Arrives, let_go, stored, returned, Came, gave, left, stopped, differs, equals, is-equal}
-use Rattle.sj_bodies.proofs.Fine.{IsDiscard, is_discard}
-use Rattle.sj_bodies.proofs.Forms.{OneFinal, act_alike, rebased}
+use Rattle.sj_bodies.proofs.Contexts.{Context, Writes, Sound, Ready, Arrives, let_go, stored, returned, Came, gave, left, stopped, differs, equals, is-equal}
 use Rattle.sj_bodies.proofs.Operators.{impossible}
-use Rattle.sj_bodies.proofs.Orders.{OperandAlike}
-use Rattle.sj_bodies.proofs.Statements.{run-one, run-followed, act_of, leaves_on, ends-one, Ends}
-use Rattle.sj_bodies.proofs.Worlds.{World, Grows, grows-refl, grows-trans, SameValue, same_undefined, same_null, same_boolean, same_number, same_text}
+use Rattle.sj_bodies.proofs.Statements.{run-followed, leaves_on, ends-one, Ends}
+use Rattle.sj_bodies.proofs.Worlds.{World}
 
 module _ (z : Setting) (lawful : Lawful z) where
   -- a context with one more label
@@ -39,7 +35,7 @@ module _ (z : Setting) (lawful : Lawful z) where
   other_target : (c : Context) (l m : List ℕ) (k : Destination) → pointwise nat_eq m l ≡ false → target_of (record { label = l; goes_to = k } ∷ c.targets) m ≡ target_of c.targets m
   other_target c l m k e = ap (λ (b : Bool). if b then k else target_of c.targets m) e
 
-  pub sound-labelling : (c : Context) (l : List ℕ) (k : Destination) → Sound z c → Writes c.writable k → Sound z (labelling c l k)
+  pub sound-labelling : (c : Context) (l : List ℕ) (k : Destination) → Sound z.is_mutable c → Writes c.writable k → Sound z.is_mutable (labelling c l k)
   sound-labelling c l k sound wr = record {
     apart = sound.apart;
     hidden = sound.hidden;
@@ -52,83 +48,83 @@ module _ (z : Setting) (lawful : Lawful z) where
       go m true e = subst (Writes c.writable) (sym (same_target c l m k e)) wr
       go m false e = subst (Writes c.writable) (sym (other_target c l m k e)) (sound.reached m)
 
-  arrive-js : (l m : List ℕ) (b : Bool) (sc : js.Scope) (u : js.State) → pointwise nat_eq (z.label m) (z.label l) ≡ b → js_meaning.arrive (z.label l) (js.ends (js.breaks (z.label m)) sc u) ≡ (if b then done (js.ends js.normally sc u) else done (js.ends (js.breaks (z.label m)) sc u))
-  arrive-js l m b sc u e = ap (λ (b : Bool). if b then done (js.ends js.normally sc u) else done (js.ends (js.breaks (z.label m)) sc u)) e
+  arrive-js : (l m : List ℕ) (b : Bool) (sc : js.Scope) (u : js.State) → pointwise nat_eq (z.place.label m) (z.place.label l) ≡ b → js_meaning.arrive (z.place.label l) (js.ends (js.breaks (z.place.label m)) sc u) ≡ (if b then done (js.ends js.normally sc u) else done (js.ends (js.breaks (z.place.label m)) sc u))
+  arrive-js l m b sc u e = ap (λ (b : Bool). if b then done (js.ends js.normally sc u) else done (js.ends (js.breaks (z.place.label m)) sc u)) e
 
-  label-other : (l m : List ℕ) → pointwise nat_eq m l ≡ false → pointwise nat_eq (z.label m) (z.label l) ≡ false
-  label-other l m e = differs (z.label m) (z.label l) (λ h. impossible (sym (subst (λ x. pointwise nat_eq x l ≡ false) (lawful.labels_differ m l h) e) ∙ equals l))
+  label-other : (l m : List ℕ) → pointwise nat_eq m l ≡ false → pointwise nat_eq (z.place.label m) (z.place.label l) ≡ false
+  label-other l m e = differs (z.place.label m) (z.place.label l) (λ h. impossible (sym (subst (λ x. pointwise nat_eq x l ≡ false) (lawful.names.labels m l h) e) ∙ equals l))
 
-  label-same : (l m : List ℕ) → pointwise nat_eq m l ≡ true → pointwise nat_eq (z.label m) (z.label l) ≡ true
-  label-same l m e = subst (λ x. pointwise nat_eq (z.label m) (z.label x) ≡ true) (is-equal m l e) (equals (z.label m))
+  label-same : (l m : List ℕ) → pointwise nat_eq m l ≡ true → pointwise nat_eq (z.place.label m) (z.place.label l) ≡ true
+  label-same l m e = subst (λ x. pointwise nat_eq (z.place.label m) (z.place.label x) ≡ true) (is-equal m l e) (equals (z.place.label m))
 
   -- what leaves to a label has come to the labelled block, which is no end of the function
-  arrive_block : (c : Context) (l : List ℕ) (k : Destination) (plain : (t : IrType) → k ≡ to_result t → ⊥) (w : World) (sc : js.Scope) (a : ir.Ended) (b : js.StatementEnd) → Came z (labelling c l k) c.scope k w sc a b → Sim z.direction (Came z c c.scope k w sc) (ir_meaning.arrive l a) (js_meaning.arrive (z.label l) b)
-  arrive_block c l k plain w sc _ _ (stopped y env s sc' u t g r ks same) = sim_done z.direction (Came z c c.scope k w sc) (ir.ends ir.stops env s) (js.ends js.breaks_nearest sc' u) (stopped y env s sc' u t g r ks same)
+  arrive_block : (c : Context) (l : List ℕ) (k : Destination) (plain : (t : IrType) → k ≡ to_result t → ⊥) (w : World) (sc : js.Scope) (a : ir.Ended) (b : js.StatementEnd) → Came z.place (labelling c l k) c.scope k w sc a b → Sim z.direction (Came z.place c c.scope k w sc) (ir_meaning.arrive l a) (js_meaning.arrive (z.place.label l) b)
+  arrive_block c l k plain w sc _ _ (stopped y env s sc' u t g r ks same) = sim_done z.direction (Came z.place c c.scope k w sc) (ir.ends ir.stops env s) (js.ends js.breaks_nearest sc' u) (stopped y env s sc' u t g r ks same)
   arrive_block c l k plain w sc _ _ (gave y v env s sc' u e g a r ks same) = passes k e a refl
     where
-      passes : (d : Destination) (e : js.Completion) → Arrives z y v sc' js.normally d e → k ≡ d → Sim z.direction (Came z c c.scope k w sc) (done (ir.ends (ir.gives v) env s)) (js_meaning.arrive (z.label l) (js.ends e sc' u))
-      passes _ _ let_go q = sim_done z.direction (Came z c c.scope k w sc) (ir.ends (ir.gives v) env s) (js.ends js.normally sc' u) (gave y v env s sc' u js.normally g (subst (λ d. Arrives z y v sc' js.normally d js.normally) (sym q) let_go) r ks same)
-      passes _ _ (stored x t j i h) q = sim_done z.direction (Came z c c.scope k w sc) (ir.ends (ir.gives v) env s) (js.ends js.normally sc' u) (gave y v env s sc' u js.normally g (subst (λ d. Arrives z y v sc' js.normally d js.normally) (sym q) (stored x t j i h)) r ks same)
+      passes : (d : Destination) (e : js.Completion) → Arrives z.place y v sc' js.normally d e → k ≡ d → Sim z.direction (Came z.place c c.scope k w sc) (done (ir.ends (ir.gives v) env s)) (js_meaning.arrive (z.place.label l) (js.ends e sc' u))
+      passes _ _ let_go q = sim_done z.direction (Came z.place c c.scope k w sc) (ir.ends (ir.gives v) env s) (js.ends js.normally sc' u) (gave y v env s sc' u js.normally g (subst (λ d. Arrives z.place y v sc' js.normally d js.normally) (sym q) let_go) r ks same)
+      passes _ _ (stored x t j i h) q = sim_done z.direction (Came z.place c c.scope k w sc) (ir.ends (ir.gives v) env s) (js.ends js.normally sc' u) (gave y v env s sc' u js.normally g (subst (λ d. Arrives z.place y v sc' js.normally d js.normally) (sym q) (stored x t j i h)) r ks same)
       passes _ _ (returned t j i) q = absurd (plain t q)
   arrive_block c l k plain w sc _ _ (left y m v env s sc' u e g a r ks same) = go (pointwise nat_eq m l) refl
     where
-      comes : (d : Destination) (e : js.Completion) → Arrives z y v sc' (js.breaks (z.label m)) d e → k ≡ d → pointwise nat_eq (z.label m) (z.label l) ≡ true → Sim z.direction (Came z c c.scope k w sc) (done (ir.ends (ir.gives v) env s)) (js_meaning.arrive (z.label l) (js.ends e sc' u))
-      comes _ _ let_go q h = subst (λ o. Sim z.direction (Came z c c.scope k w sc) (done (ir.ends (ir.gives v) env s)) o) (sym (arrive-js l m true sc' u h)) (sim_done z.direction (Came z c c.scope k w sc) (ir.ends (ir.gives v) env s) (js.ends js.normally sc' u) (gave y v env s sc' u js.normally g (subst (λ d. Arrives z y v sc' js.normally d js.normally) (sym q) let_go) r ks same))
-      comes _ _ (stored x t j i f) q h = subst (λ o. Sim z.direction (Came z c c.scope k w sc) (done (ir.ends (ir.gives v) env s)) o) (sym (arrive-js l m true sc' u h)) (sim_done z.direction (Came z c c.scope k w sc) (ir.ends (ir.gives v) env s) (js.ends js.normally sc' u) (gave y v env s sc' u js.normally g (subst (λ d. Arrives z y v sc' js.normally d js.normally) (sym q) (stored x t j i f)) r ks same))
+      comes : (d : Destination) (e : js.Completion) → Arrives z.place y v sc' (js.breaks (z.place.label m)) d e → k ≡ d → pointwise nat_eq (z.place.label m) (z.place.label l) ≡ true → Sim z.direction (Came z.place c c.scope k w sc) (done (ir.ends (ir.gives v) env s)) (js_meaning.arrive (z.place.label l) (js.ends e sc' u))
+      comes _ _ let_go q h = subst (λ o. Sim z.direction (Came z.place c c.scope k w sc) (done (ir.ends (ir.gives v) env s)) o) (sym (arrive-js l m true sc' u h)) (sim_done z.direction (Came z.place c c.scope k w sc) (ir.ends (ir.gives v) env s) (js.ends js.normally sc' u) (gave y v env s sc' u js.normally g (subst (λ d. Arrives z.place y v sc' js.normally d js.normally) (sym q) let_go) r ks same))
+      comes _ _ (stored x t j i f) q h = subst (λ o. Sim z.direction (Came z.place c c.scope k w sc) (done (ir.ends (ir.gives v) env s)) o) (sym (arrive-js l m true sc' u h)) (sim_done z.direction (Came z.place c c.scope k w sc) (ir.ends (ir.gives v) env s) (js.ends js.normally sc' u) (gave y v env s sc' u js.normally g (subst (λ d. Arrives z.place y v sc' js.normally d js.normally) (sym q) (stored x t j i f)) r ks same))
       comes _ _ (returned t j i) q h = absurd (plain t q)
 
-      goes_on : (d : Destination) (e : js.Completion) → Arrives z y v sc' (js.breaks (z.label m)) d e → target_of c.targets m ≡ d → pointwise nat_eq (z.label m) (z.label l) ≡ false → Sim z.direction (Came z c c.scope k w sc) (done (ir.ends (ir.leaves m v) env s)) (js_meaning.arrive (z.label l) (js.ends e sc' u))
-      goes_on _ _ let_go q h = subst (λ o. Sim z.direction (Came z c c.scope k w sc) (done (ir.ends (ir.leaves m v) env s)) o) (sym (arrive-js l m false sc' u h)) (sim_done z.direction (Came z c c.scope k w sc) (ir.ends (ir.leaves m v) env s) (js.ends (js.breaks (z.label m)) sc' u) (left y m v env s sc' u (js.breaks (z.label m)) g (subst (λ d. Arrives z y v sc' (js.breaks (z.label m)) d (js.breaks (z.label m))) (sym q) let_go) r ks same))
-      goes_on _ _ (stored x t j i f) q h = subst (λ o. Sim z.direction (Came z c c.scope k w sc) (done (ir.ends (ir.leaves m v) env s)) o) (sym (arrive-js l m false sc' u h)) (sim_done z.direction (Came z c c.scope k w sc) (ir.ends (ir.leaves m v) env s) (js.ends (js.breaks (z.label m)) sc' u) (left y m v env s sc' u (js.breaks (z.label m)) g (subst (λ d. Arrives z y v sc' (js.breaks (z.label m)) d (js.breaks (z.label m))) (sym q) (stored x t j i f)) r ks same))
-      goes_on _ _ (returned t j i) q h = sim_done z.direction (Came z c c.scope k w sc) (ir.ends (ir.leaves m v) env s) (js.ends (js.returns j) sc' u) (left y m v env s sc' u (js.returns j) g (subst (λ d. Arrives z y v sc' (js.breaks (z.label m)) d (js.returns j)) (sym q) (returned t j i)) r ks same)
+      goes_on : (d : Destination) (e : js.Completion) → Arrives z.place y v sc' (js.breaks (z.place.label m)) d e → target_of c.targets m ≡ d → pointwise nat_eq (z.place.label m) (z.place.label l) ≡ false → Sim z.direction (Came z.place c c.scope k w sc) (done (ir.ends (ir.leaves m v) env s)) (js_meaning.arrive (z.place.label l) (js.ends e sc' u))
+      goes_on _ _ let_go q h = subst (λ o. Sim z.direction (Came z.place c c.scope k w sc) (done (ir.ends (ir.leaves m v) env s)) o) (sym (arrive-js l m false sc' u h)) (sim_done z.direction (Came z.place c c.scope k w sc) (ir.ends (ir.leaves m v) env s) (js.ends (js.breaks (z.place.label m)) sc' u) (left y m v env s sc' u (js.breaks (z.place.label m)) g (subst (λ d. Arrives z.place y v sc' (js.breaks (z.place.label m)) d (js.breaks (z.place.label m))) (sym q) let_go) r ks same))
+      goes_on _ _ (stored x t j i f) q h = subst (λ o. Sim z.direction (Came z.place c c.scope k w sc) (done (ir.ends (ir.leaves m v) env s)) o) (sym (arrive-js l m false sc' u h)) (sim_done z.direction (Came z.place c c.scope k w sc) (ir.ends (ir.leaves m v) env s) (js.ends (js.breaks (z.place.label m)) sc' u) (left y m v env s sc' u (js.breaks (z.place.label m)) g (subst (λ d. Arrives z.place y v sc' (js.breaks (z.place.label m)) d (js.breaks (z.place.label m))) (sym q) (stored x t j i f)) r ks same))
+      goes_on _ _ (returned t j i) q h = sim_done z.direction (Came z.place c c.scope k w sc) (ir.ends (ir.leaves m v) env s) (js.ends (js.returns j) sc' u) (left y m v env s sc' u (js.returns j) g (subst (λ d. Arrives z.place y v sc' (js.breaks (z.place.label m)) d (js.returns j)) (sym q) (returned t j i)) r ks same)
 
-      go : (b : Bool) → pointwise nat_eq m l ≡ b → Sim z.direction (Came z c c.scope k w sc) (ir_meaning.arrive l (ir.ends (ir.leaves m v) env s)) (js_meaning.arrive (z.label l) (js.ends e sc' u))
-      go true h = subst (λ (b : Bool). Sim z.direction (Came z c c.scope k w sc) (if b then ir.given v env s else done (ir.ends (ir.leaves m v) env s)) (js_meaning.arrive (z.label l) (js.ends e sc' u))) (sym h) (comes (target_of (record { label = l; goes_to = k } ∷ c.targets) m) e a (sym (same_target c l m k h)) (label-same l m h))
-      go false h = subst (λ (b : Bool). Sim z.direction (Came z c c.scope k w sc) (if b then ir.given v env s else done (ir.ends (ir.leaves m v) env s)) (js_meaning.arrive (z.label l) (js.ends e sc' u))) (sym h) (goes_on (target_of (record { label = l; goes_to = k } ∷ c.targets) m) e a (sym (other_target c l m k h)) (label-other l m h))
+      go : (b : Bool) → pointwise nat_eq m l ≡ b → Sim z.direction (Came z.place c c.scope k w sc) (ir_meaning.arrive l (ir.ends (ir.leaves m v) env s)) (js_meaning.arrive (z.place.label l) (js.ends e sc' u))
+      go true h = subst (λ (b : Bool). Sim z.direction (Came z.place c c.scope k w sc) (if b then ir.given v env s else done (ir.ends (ir.leaves m v) env s)) (js_meaning.arrive (z.place.label l) (js.ends e sc' u))) (sym h) (comes (target_of (record { label = l; goes_to = k } ∷ c.targets) m) e a (sym (same_target c l m k h)) (label-same l m h))
+      go false h = subst (λ (b : Bool). Sim z.direction (Came z.place c c.scope k w sc) (if b then ir.given v env s else done (ir.ends (ir.leaves m v) env s)) (js_meaning.arrive (z.place.label l) (js.ends e sc' u))) (sym h) (goes_on (target_of (record { label = l; goes_to = k } ∷ c.targets) m) e a (sym (other_target c l m k h)) (label-other l m h))
 
   -- the same where the labelled block is the end of the function, and so has no label in the emitted code
-  arrive_end : (c : Context) (l : List ℕ) (t : IrType) (w : World) (sc : js.Scope) (a : ir.Ended) (b : js.StatementEnd) → Came z (labelling c l (to_result t)) c.scope (to_result t) w sc a b → Sim z.direction (Came z c c.scope (to_result t) w sc) (ir_meaning.arrive l a) (done b)
-  arrive_end c l t w sc _ _ (stopped y env s sc' u h g r ks same) = sim_done z.direction (Came z c c.scope (to_result t) w sc) (ir.ends ir.stops env s) (js.ends js.breaks_nearest sc' u) (stopped y env s sc' u h g r ks same)
-  arrive_end c l t w sc _ _ (gave y v env s sc' u e g a r ks same) = sim_done z.direction (Came z c c.scope (to_result t) w sc) (ir.ends (ir.gives v) env s) (js.ends e sc' u) (gave y v env s sc' u e g a r ks same)
+  arrive_end : (c : Context) (l : List ℕ) (t : IrType) (w : World) (sc : js.Scope) (a : ir.Ended) (b : js.StatementEnd) → Came z.place (labelling c l (to_result t)) c.scope (to_result t) w sc a b → Sim z.direction (Came z.place c c.scope (to_result t) w sc) (ir_meaning.arrive l a) (done b)
+  arrive_end c l t w sc _ _ (stopped y env s sc' u h g r ks same) = sim_done z.direction (Came z.place c c.scope (to_result t) w sc) (ir.ends ir.stops env s) (js.ends js.breaks_nearest sc' u) (stopped y env s sc' u h g r ks same)
+  arrive_end c l t w sc _ _ (gave y v env s sc' u e g a r ks same) = sim_done z.direction (Came z.place c c.scope (to_result t) w sc) (ir.ends (ir.gives v) env s) (js.ends e sc' u) (gave y v env s sc' u e g a r ks same)
   arrive_end c l t w sc _ _ (left y m v env s sc' u e g a r ks same) = go (pointwise nat_eq m l) refl
     where
-      comes : (d : Destination) (e : js.Completion) → Arrives z y v sc' (js.breaks (z.label m)) d e → to_result t ≡ d → Arrives z y v sc' js.normally (to_result t) e
+      comes : (d : Destination) (e : js.Completion) → Arrives z.place y v sc' (js.breaks (z.place.label m)) d e → to_result t ≡ d → Arrives z.place y v sc' js.normally (to_result t) e
       comes _ _ let_go q = absurd (cc)
       comes _ _ (stored x i j f h) q = absurd (cc)
       comes _ _ (returned i j f) q = returned t j f
 
-      go : (b : Bool) → pointwise nat_eq m l ≡ b → Sim z.direction (Came z c c.scope (to_result t) w sc) (ir_meaning.arrive l (ir.ends (ir.leaves m v) env s)) (done (js.ends e sc' u))
-      go true h = subst (λ (b : Bool). Sim z.direction (Came z c c.scope (to_result t) w sc) (if b then ir.given v env s else done (ir.ends (ir.leaves m v) env s)) (done (js.ends e sc' u))) (sym h) (sim_done z.direction (Came z c c.scope (to_result t) w sc) (ir.ends (ir.gives v) env s) (js.ends e sc' u) (gave y v env s sc' u e g (comes (target_of (record { label = l; goes_to = to_result t } ∷ c.targets) m) e a (sym (same_target c l m (to_result t) h))) r ks same))
-      go false h = subst (λ (b : Bool). Sim z.direction (Came z c c.scope (to_result t) w sc) (if b then ir.given v env s else done (ir.ends (ir.leaves m v) env s)) (done (js.ends e sc' u))) (sym h) (sim_done z.direction (Came z c c.scope (to_result t) w sc) (ir.ends (ir.leaves m v) env s) (js.ends e sc' u) (left y m v env s sc' u e g (subst (λ d. Arrives z y v sc' (js.breaks (z.label m)) d e) (other_target c l m (to_result t) h) a) r ks same))
+      go : (b : Bool) → pointwise nat_eq m l ≡ b → Sim z.direction (Came z.place c c.scope (to_result t) w sc) (ir_meaning.arrive l (ir.ends (ir.leaves m v) env s)) (done (js.ends e sc' u))
+      go true h = subst (λ (b : Bool). Sim z.direction (Came z.place c c.scope (to_result t) w sc) (if b then ir.given v env s else done (ir.ends (ir.leaves m v) env s)) (done (js.ends e sc' u))) (sym h) (sim_done z.direction (Came z.place c c.scope (to_result t) w sc) (ir.ends (ir.gives v) env s) (js.ends e sc' u) (gave y v env s sc' u e g (comes (target_of (record { label = l; goes_to = to_result t } ∷ c.targets) m) e a (sym (same_target c l m (to_result t) h))) r ks same))
+      go false h = subst (λ (b : Bool). Sim z.direction (Came z.place c c.scope (to_result t) w sc) (if b then ir.given v env s else done (ir.ends (ir.leaves m v) env s)) (done (js.ends e sc' u))) (sym h) (sim_done z.direction (Came z.place c c.scope (to_result t) w sc) (ir.ends (ir.leaves m v) env s) (js.ends e sc' u) (left y m v env s sc' u e g (subst (λ d. Arrives z.place y v sc' (js.breaks (z.place.label m)) d e) (other_target c l m (to_result t) h) a) r ks same))
 
-  block_labeled : (c : Context) (l : List ℕ) (k : Destination) (plain : (t : IrType) → k ≡ to_result t → ⊥) (p : Position) (r : ir.Run) (code : Code) → Sound z (labelling c l k) → Writes c.writable k → Undeclared (labelling c l k) code.statements → ((w : World) (env : ir.Env) (s : ir.State) (sc : js.Scope) (u : js.State) → Ready z c.scope c.writable w env sc → SameState z w s u → Sim z.direction (Came z (labelling c l k) c.scope k w sc) (r env s) (run z code.statements sc u)) → (w : World) (env : ir.Env) (s : ir.State) (sc : js.Scope) (u : js.State) → Ready z c.scope c.writable w env sc → SameState z w s u → Ends z lawful c c.scope k w sc (then_do (r env s) (ir_meaning.arrive l)) (core.statement (core.labeled_of (Some p) l code.statements) core.no_statements) sc u
-  block_labeled c l k plain p r code sound wr free does w env s sc u ready same = ends-one z lawful c c.scope k w sc (then_do (r env s) (ir_meaning.arrive l)) (core.labeled_of (Some p) l code.statements) sc u (sim_then z.direction (Came z (labelling c l k) c.scope k w sc) (Came z c c.scope k w sc) (r env s) (js_meaning.in_block (statement_templates z.name z.label code.statements) (run z code.statements) sc u) (ir_meaning.arrive l) (js_meaning.arrive (z.label l)) (block_alike z lawful (labelling c l k) code.statements free k w env sc u (r env s) sound wr ready (λ inner. does w env s (js_meaning.enter (statement_templates z.name z.label code.statements) sc) u inner same)) (arrive_block c l k plain w sc))
+  block_labeled : (c : Context) (l : List ℕ) (k : Destination) (plain : (t : IrType) → k ≡ to_result t → ⊥) (p : Position) (r : ir.Run) (code : Code) → Sound z.is_mutable (labelling c l k) → Writes c.writable k → Undeclared (labelling c l k) code.statements → ((w : World) (env : ir.Env) (s : ir.State) (sc : js.Scope) (u : js.State) → Ready z.place c.scope c.writable w env sc → SameState z.place w s u → Sim z.direction (Came z.place (labelling c l k) c.scope k w sc) (r env s) (run z code.statements sc u)) → (w : World) (env : ir.Env) (s : ir.State) (sc : js.Scope) (u : js.State) → Ready z.place c.scope c.writable w env sc → SameState z.place w s u → Ends z lawful c c.scope k w sc (then_do (r env s) (ir_meaning.arrive l)) (core.statement (core.labeled_of (Some p) l code.statements) core.no_statements) sc u
+  block_labeled c l k plain p r code sound wr free does w env s sc u ready same = ends-one z lawful c c.scope k w sc (then_do (r env s) (ir_meaning.arrive l)) (core.labeled_of (Some p) l code.statements) sc u (sim_then z.direction (Came z.place (labelling c l k) c.scope k w sc) (Came z.place c c.scope k w sc) (r env s) (js_meaning.in_block (statement_templates z.place.name z.place.label code.statements) (run z code.statements) sc u) (ir_meaning.arrive l) (js_meaning.arrive (z.place.label l)) (block_alike z lawful (labelling c l k) code.statements free k w env sc u (r env s) sound wr ready (λ inner. does w env s (js_meaning.enter (statement_templates z.place.name z.place.label code.statements) sc) u inner same)) (arrive_block c l k plain w sc))
 
-  pub labeled_alike : (c : Context) (l : List ℕ) (k : Destination) (p : Position) (r : ir.Run) (code : Code) → Sound z (labelling c l k) → Writes c.writable k → Undeclared (labelling c l k) code.statements → ((w : World) (env : ir.Env) (s : ir.State) (sc : js.Scope) (u : js.State) → Ready z c.scope c.writable w env sc → SameState z w s u → Sim z.direction (Came z (labelling c l k) c.scope k w sc) (r env s) (run z code.statements sc u)) → (w : World) (env : ir.Env) (s : ir.State) (sc : js.Scope) (u : js.State) → Ready z c.scope c.writable w env sc → SameState z w s u → Ends z lawful c c.scope k w sc (then_do (r env s) (ir_meaning.arrive l)) (labeled_code k p l code).statements sc u
+  pub labeled_alike : (c : Context) (l : List ℕ) (k : Destination) (p : Position) (r : ir.Run) (code : Code) → Sound z.is_mutable (labelling c l k) → Writes c.writable k → Undeclared (labelling c l k) code.statements → ((w : World) (env : ir.Env) (s : ir.State) (sc : js.Scope) (u : js.State) → Ready z.place c.scope c.writable w env sc → SameState z.place w s u → Sim z.direction (Came z.place (labelling c l k) c.scope k w sc) (r env s) (run z code.statements sc u)) → (w : World) (env : ir.Env) (s : ir.State) (sc : js.Scope) (u : js.State) → Ready z.place c.scope c.writable w env sc → SameState z.place w s u → Ends z lawful c c.scope k w sc (then_do (r env s) (ir_meaning.arrive l)) (labeled_code k p l code).statements sc u
   labeled_alike c l discard p r code sound wr free does w env s sc u ready same = block_labeled c l discard (λ t e. absurd (cc)) p r code sound wr free does w env s sc u ready same
   labeled_alike c l (to_variable x i) p r code sound wr free does w env s sc u ready same = block_labeled c l (to_variable x i) (λ t e. absurd (cc)) p r code sound wr free does w env s sc u ready same
-  labeled_alike c l (to_result t) p r code sound wr free does w env s sc u ready same = subst (λ o. Sim z.direction (Came z c c.scope (to_result t) w sc) (then_do (r env s) (ir_meaning.arrive l)) o) (then_do-right (run z code.statements sc u)) (sim_then z.direction (Came z (labelling c l (to_result t)) c.scope (to_result t) w sc) (Came z c c.scope (to_result t) w sc) (r env s) (run z code.statements sc u) (ir_meaning.arrive l) done (does w env s sc u ready same) (arrive_end c l t w sc))
+  labeled_alike c l (to_result t) p r code sound wr free does w env s sc u ready same = subst (λ o. Sim z.direction (Came z.place c c.scope (to_result t) w sc) (then_do (r env s) (ir_meaning.arrive l)) o) (then_do-right (run z code.statements sc u)) (sim_then z.direction (Came z.place (labelling c l (to_result t)) c.scope (to_result t) w sc) (Came z.place c c.scope (to_result t) w sc) (r env s) (run z code.statements sc u) (ir_meaning.arrive l) done (does w env s sc u ready same) (arrive_end c l t w sc))
 
   -- a return to a label: the value has come where it goes, and the jump behind it
   abbrev leaving : List ℕ → ir.Ended → Out ir.Ended
   leaving l = ir.onward (λ v. ir_meaning.in_order [] (λ vs. ir_meaning.leave l (v ∷ vs)))
 
-  jump : (c : Context) (k : Destination) (p : Position) (l : List ℕ) (w : World) (sc : js.Scope) (d : Destination) → target_of c.targets l ≡ d → ((t : IrType) → d ≡ to_result t → ⊥) → (a : ir.Ended) (b : js.StatementEnd) → Came z c c.scope d w sc a b → Sim z.direction (Came z c c.scope k w sc) (leaving l a) (js.next_statement (run z (core.statement (core.leave_label (Some p) l) core.no_statements)) b)
-  jump c k p l w sc d t plain _ _ (stopped y env s sc' u h g r ks same) = sim_done z.direction (Came z c c.scope k w sc) (ir.ends ir.stops env s) (js.ends js.breaks_nearest sc' u) (stopped y env s sc' u h g r ks same)
+  jump : (c : Context) (k : Destination) (p : Position) (l : List ℕ) (w : World) (sc : js.Scope) (d : Destination) → target_of c.targets l ≡ d → ((t : IrType) → d ≡ to_result t → ⊥) → (a : ir.Ended) (b : js.StatementEnd) → Came z.place c c.scope d w sc a b → Sim z.direction (Came z.place c c.scope k w sc) (leaving l a) (js.next_statement (run z (core.statement (core.leave_label (Some p) l) core.no_statements)) b)
+  jump c k p l w sc d t plain _ _ (stopped y env s sc' u h g r ks same) = sim_done z.direction (Came z.place c c.scope k w sc) (ir.ends ir.stops env s) (js.ends js.breaks_nearest sc' u) (stopped y env s sc' u h g r ks same)
   jump c k p l w sc d t plain _ _ (left y m v env s sc' u e g a r ks same) = leaves_on z lawful c c.scope k w sc (run z (core.statement (core.leave_label (Some p) l) core.no_statements)) y m v env s sc' u e (target_of c.targets m) refl g a r ks same
   jump c k p l w sc d t plain _ _ (gave y v env s sc' u e g a r ks same) = passes d e a t plain
     where
-      passes : (d : Destination) (e : js.Completion) → Arrives z y v sc' js.normally d e → target_of c.targets l ≡ d → ((t : IrType) → d ≡ to_result t → ⊥) → Sim z.direction (Came z c c.scope k w sc) (done (ir.ends (ir.leaves l v) env s)) (js.next_statement (run z (core.statement (core.leave_label (Some p) l) core.no_statements)) (js.ends e sc' u))
-      passes _ _ let_go q plain = sim_done z.direction (Came z c c.scope k w sc) (ir.ends (ir.leaves l v) env s) (js.ends (js.breaks (z.label l)) sc' u) (left y l v env s sc' u (js.breaks (z.label l)) g (subst (λ d. Arrives z y v sc' (js.breaks (z.label l)) d (js.breaks (z.label l))) (sym q) let_go) r ks same)
-      passes _ _ (stored x i j f h) q plain = sim_done z.direction (Came z c c.scope k w sc) (ir.ends (ir.leaves l v) env s) (js.ends (js.breaks (z.label l)) sc' u) (left y l v env s sc' u (js.breaks (z.label l)) g (subst (λ d. Arrives z y v sc' (js.breaks (z.label l)) d (js.breaks (z.label l))) (sym q) (stored x i j f h)) r ks same)
+      passes : (d : Destination) (e : js.Completion) → Arrives z.place y v sc' js.normally d e → target_of c.targets l ≡ d → ((t : IrType) → d ≡ to_result t → ⊥) → Sim z.direction (Came z.place c c.scope k w sc) (done (ir.ends (ir.leaves l v) env s)) (js.next_statement (run z (core.statement (core.leave_label (Some p) l) core.no_statements)) (js.ends e sc' u))
+      passes _ _ let_go q plain = sim_done z.direction (Came z.place c c.scope k w sc) (ir.ends (ir.leaves l v) env s) (js.ends (js.breaks (z.place.label l)) sc' u) (left y l v env s sc' u (js.breaks (z.place.label l)) g (subst (λ d. Arrives z.place y v sc' (js.breaks (z.place.label l)) d (js.breaks (z.place.label l))) (sym q) let_go) r ks same)
+      passes _ _ (stored x i j f h) q plain = sim_done z.direction (Came z.place c c.scope k w sc) (ir.ends (ir.leaves l v) env s) (js.ends (js.breaks (z.place.label l)) sc' u) (left y l v env s sc' u (js.breaks (z.place.label l)) g (subst (λ d. Arrives z.place y v sc' (js.breaks (z.place.label l)) d (js.breaks (z.place.label l))) (sym q) (stored x i j f h)) r ks same)
       passes _ _ (returned i j f) q plain = absurd (plain i refl)
 
-  jump_end : (c : Context) (k : Destination) (l : List ℕ) (w : World) (sc : js.Scope) (i : IrType) → target_of c.targets l ≡ to_result i → (a : ir.Ended) (b : js.StatementEnd) → Came z c c.scope (to_result i) w sc a b → Sim z.direction (Came z c c.scope k w sc) (leaving l a) (done b)
-  jump_end c k l w sc i t _ _ (stopped y env s sc' u h g r ks same) = sim_done z.direction (Came z c c.scope k w sc) (ir.ends ir.stops env s) (js.ends js.breaks_nearest sc' u) (stopped y env s sc' u h g r ks same)
-  jump_end c k l w sc i t _ _ (left y m v env s sc' u e g a r ks same) = sim_done z.direction (Came z c c.scope k w sc) (ir.ends (ir.leaves m v) env s) (js.ends e sc' u) (left y m v env s sc' u e g a r ks same)
-  jump_end c k l w sc i t _ _ (gave y v env s sc' u _ g (returned _ j f) r ks same) = sim_done z.direction (Came z c c.scope k w sc) (ir.ends (ir.leaves l v) env s) (js.ends (js.returns j) sc' u) (left y l v env s sc' u (js.returns j) g (subst (λ d. Arrives z y v sc' (js.breaks (z.label l)) d (js.returns j)) (sym t) (returned i j f)) r ks same)
+  jump_end : (c : Context) (k : Destination) (l : List ℕ) (w : World) (sc : js.Scope) (i : IrType) → target_of c.targets l ≡ to_result i → (a : ir.Ended) (b : js.StatementEnd) → Came z.place c c.scope (to_result i) w sc a b → Sim z.direction (Came z.place c c.scope k w sc) (leaving l a) (done b)
+  jump_end c k l w sc i t _ _ (stopped y env s sc' u h g r ks same) = sim_done z.direction (Came z.place c c.scope k w sc) (ir.ends ir.stops env s) (js.ends js.breaks_nearest sc' u) (stopped y env s sc' u h g r ks same)
+  jump_end c k l w sc i t _ _ (left y m v env s sc' u e g a r ks same) = sim_done z.direction (Came z.place c c.scope k w sc) (ir.ends (ir.leaves m v) env s) (js.ends e sc' u) (left y m v env s sc' u e g a r ks same)
+  jump_end c k l w sc i t _ _ (gave y v env s sc' u _ g (returned _ j f) r ks same) = sim_done z.direction (Came z.place c c.scope k w sc) (ir.ends (ir.leaves l v) env s) (js.ends (js.returns j) sc' u) (left y l v env s sc' u (js.returns j) g (subst (λ d. Arrives z.place y v sc' (js.breaks (z.place.label l)) d (js.returns j)) (sym t) (returned i j f)) r ks same)
 
-  pub return_alike : (c : Context) (k d : Destination) (p : Position) (l : List ℕ) (r : ir.Run) (code : Code) → target_of c.targets l ≡ d → (w : World) (env : ir.Env) (s : ir.State) (sc : js.Scope) (u : js.State) → Sim z.direction (Came z c c.scope d w sc) (r env s) (run z code.statements sc u) → Ends z lawful c c.scope k w sc (ir_meaning.in_order (r ∷ []) (ir_meaning.leave l) env s) (leaving_code d p l code).statements sc u
-  return_alike c k discard p l r code t w env s sc u alike = subst (λ o. Sim z.direction (Came z c c.scope k w sc) (then_do (r env s) (leaving l)) o) (sym (run-followed z code.statements (core.statement (core.leave_label (Some p) l) core.no_statements) sc u)) (sim_then z.direction (Came z c c.scope discard w sc) (Came z c c.scope k w sc) (r env s) (run z code.statements sc u) (leaving l) (js.next_statement (run z (core.statement (core.leave_label (Some p) l) core.no_statements))) alike (jump c k p l w sc discard t (λ i e. absurd (cc))))
-  return_alike c k (to_variable x i) p l r code t w env s sc u alike = subst (λ o. Sim z.direction (Came z c c.scope k w sc) (then_do (r env s) (leaving l)) o) (sym (run-followed z code.statements (core.statement (core.leave_label (Some p) l) core.no_statements) sc u)) (sim_then z.direction (Came z c c.scope (to_variable x i) w sc) (Came z c c.scope k w sc) (r env s) (run z code.statements sc u) (leaving l) (js.next_statement (run z (core.statement (core.leave_label (Some p) l) core.no_statements))) alike (jump c k p l w sc (to_variable x i) t (λ i e. absurd (cc))))
-  return_alike c k (to_result i) p l r code t w env s sc u alike = subst (λ o. Sim z.direction (Came z c c.scope k w sc) (then_do (r env s) (leaving l)) o) (then_do-right (run z code.statements sc u)) (sim_then z.direction (Came z c c.scope (to_result i) w sc) (Came z c c.scope k w sc) (r env s) (run z code.statements sc u) (leaving l) done alike (jump_end c k l w sc i t))
+  pub return_alike : (c : Context) (k d : Destination) (p : Position) (l : List ℕ) (r : ir.Run) (code : Code) → target_of c.targets l ≡ d → (w : World) (env : ir.Env) (s : ir.State) (sc : js.Scope) (u : js.State) → Sim z.direction (Came z.place c c.scope d w sc) (r env s) (run z code.statements sc u) → Ends z lawful c c.scope k w sc (ir_meaning.in_order (r ∷ []) (ir_meaning.leave l) env s) (leaving_code d p l code).statements sc u
+  return_alike c k discard p l r code t w env s sc u alike = subst (λ o. Sim z.direction (Came z.place c c.scope k w sc) (then_do (r env s) (leaving l)) o) (sym (run-followed z code.statements (core.statement (core.leave_label (Some p) l) core.no_statements) sc u)) (sim_then z.direction (Came z.place c c.scope discard w sc) (Came z.place c c.scope k w sc) (r env s) (run z code.statements sc u) (leaving l) (js.next_statement (run z (core.statement (core.leave_label (Some p) l) core.no_statements))) alike (jump c k p l w sc discard t (λ i e. absurd (cc))))
+  return_alike c k (to_variable x i) p l r code t w env s sc u alike = subst (λ o. Sim z.direction (Came z.place c c.scope k w sc) (then_do (r env s) (leaving l)) o) (sym (run-followed z code.statements (core.statement (core.leave_label (Some p) l) core.no_statements) sc u)) (sim_then z.direction (Came z.place c c.scope (to_variable x i) w sc) (Came z.place c c.scope k w sc) (r env s) (run z code.statements sc u) (leaving l) (js.next_statement (run z (core.statement (core.leave_label (Some p) l) core.no_statements))) alike (jump c k p l w sc (to_variable x i) t (λ i e. absurd (cc))))
+  return_alike c k (to_result i) p l r code t w env s sc u alike = subst (λ o. Sim z.direction (Came z.place c c.scope k w sc) (then_do (r env s) (leaving l)) o) (then_do-right (run z code.statements sc u)) (sim_then z.direction (Came z.place c c.scope (to_result i) w sc) (Came z.place c c.scope k w sc) (r env s) (run z code.statements sc u) (leaving l) done alike (jump_end c k l w sc i t))

@@ -2,10 +2,11 @@ pub mod Blocks
 pub mod Conditions
 pub mod Contexts
 pub mod Declared
-pub mod Fine
 pub mod Forms
 pub mod Jumps
 pub mod Loops
+pub mod Main
+pub mod Matches
 pub mod Numbers
 pub mod Operators
 pub mod Orders

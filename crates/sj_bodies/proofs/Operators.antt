@@ -1,6 +1,6 @@
 -- The operators of the IR and their templates, on operands that are alike.
-use Rattle.std.proofs.Common.{◌≡◌, ℕ, zero, suc, ◌<◌, ◌≤◌, ◌^◌, ◌%◌, ◌/◌, Bool, true, false, List, [], ◌∷◌, Some, None, Option, refl, sym, ap, ◌∙◌, subst, arith, if◌then◌else◌}
-use Rattle.std.specs.Prelude.{ℤ, pos, negsuc, ◌+ℤ◌, ◌-ℤ◌, ◌≢◌, not, ◌&&◌, ◌||◌, int_lt, int_le, bit_and, bit_or, bit_xor, FitsSigned}
+use Rattle.std.proofs.Common.{◌≡◌, ℕ, ◌<◌, ◌≤◌, ◌^◌, ◌/◌, Bool, true, false, Some, None, Option, refl, ap, ◌∙◌, subst, arith, if◌then◌else◌}
+use Rattle.std.specs.Prelude.{ℤ, pos, ◌+ℤ◌, ◌-ℤ◌, not, ◌&&◌, ◌||◌, int_lt, int_le, bit_and, bit_or, bit_xor, FitsSigned}
 use Rattle.std.specs.Ordering.{int_eq}
 use Rattle.std.specs.Int.{cast_unsigned, w32}
 use Rattle.std.proofs.Math.Nat.{div-le_self}
@@ -8,19 +8,16 @@ use Rattle.std.proofs.lemmas.Nat.{or_lt, xor_lt, and_le_l}
 use Rattle.int_arithmetic.specs.Numbers.{is_exact}
 use Rattle.int_arithmetic.specs.Signed as signed
 use Rattle.int_arithmetic.proofs.Exact.{sum-exact, difference-exact}
-use Rattle.int_arithmetic.proofs.Fits.{wrapped-fits, shifted_right-fits, remainder-fits, byte-fits, short-fits}
-use Rattle.int_arithmetic.proofs.Operators.{sum-is, difference-is, product-is, quotient-is, remainder-is, or-is, and-is, xor-is, left_shift-is, right_shift-is, zero_shift-is, to_byte-is, to_short-is}
+use Rattle.int_arithmetic.proofs.Fits.{wrapped-fits, shifted_right-fits}
+use Rattle.int_arithmetic.proofs.Operators.{sum-is, difference-is, product-is, or-is, and-is, xor-is, left_shift-is, right_shift-is, zero_shift-is}
 use Rattle.int_arithmetic.proofs.Words.{cast-fits, uint-below, uint-is}
-use Rattle.outcomes.specs.Outcome.{Out, done, wrong, then_do}
-use Rattle.outcomes.specs.Agreement.{Sim}
-use Rattle.outcomes.proofs.Simulation.{sim_done, sim_wrong}
 use Rattle.ir_mean.specs.Operators as ir_operators
 use Rattle.ir_mean.specs.States as ir
 use Rattle.js_mean.specs.Operators as js_operators
 use Rattle.js_mean.specs.States as js
 use Rattle.js_tree.specs.declared.operators.BinaryOperator.TheVariants as Op
 use Rattle.sj_trees.specs.declared.operators.BinaryOp.{BinaryOp}
-use Rattle.sj_trees.specs.declared.operators.BinaryOp.TheVariants.{BooleanEqual, BooleanNotEqual, BooleanOr, BooleanAnd, IntAdd, IntSubtract, IntMultiply, IntDivide, IntRemainder, IntOr, IntAnd, IntXor, IntShiftLeft, IntShiftRightLogical, IntShiftRightArithmetic, IntEqual, IntNotEqual, IntLess, IntLessOrEqual, IntGreater, IntGreaterOrEqual}
+use Rattle.sj_trees.specs.declared.operators.BinaryOp.TheVariants.{BooleanEqual, BooleanNotEqual, BooleanOr, BooleanAnd, IntAdd, IntSubtract, IntMultiply, IntOr, IntAnd, IntXor, IntShiftLeft, IntShiftRightLogical, IntShiftRightArithmetic, IntEqual, IntNotEqual, IntLess, IntLessOrEqual, IntGreater, IntGreaterOrEqual}
 use Rattle.sj_bodies.specs.Conditions.{is_simple}
 use Rattle.sj_bodies.proofs.Worlds.{World, SameValue, same_boolean, same_number}
 

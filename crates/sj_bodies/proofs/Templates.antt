@@ -1,15 +1,14 @@
 -- The templates of operators compute what they are to compute, from operands in order.
-use Rattle.std.proofs.Common.{◌≡◌, ℕ, zero, suc, Bool, true, false, List, [], ◌∷◌, Some, None, Option, refl, sym, ap, ◌∙◌, subst}
-use Rattle.std.specs.Prelude.{ℤ, pos, negsuc, ◌≢◌, not, FitsSigned, if◌then◌else◌}
-use Rattle.std.specs.Int.{w32}
+use Rattle.std.proofs.Common.{◌≡◌, ℕ, Bool, true, false, List, [], ◌∷◌, Some, None, Option, refl, sym, ap, ◌∙◌, subst}
+use Rattle.std.specs.Prelude.{ℤ, pos, not, if◌then◌else◌}
 use mathlib.Core.Path.{fun_ext}
 use Rattle.int_arithmetic.specs.Numbers as numbers
 use Rattle.int_arithmetic.specs.Signed as signed
-use Rattle.int_arithmetic.proofs.Fits.{wrapped-fits, remainder-fits, byte-fits, short-fits}
-use Rattle.int_arithmetic.proofs.Operators.{quotient-is, remainder-is, to_byte-is, to_short-is}
+use Rattle.int_arithmetic.proofs.Fits.{byte-fits, short-fits}
+use Rattle.int_arithmetic.proofs.Operators.{to_byte-is, to_short-is}
 use Rattle.outcomes.specs.Outcome.{Out, done, wrong, then_do}
 use Rattle.outcomes.specs.Agreement.{Sim}
-use Rattle.outcomes.proofs.Sequence.{then_do-right, then_do-associative}
+use Rattle.outcomes.proofs.Sequence.{then_do-right}
 use Rattle.outcomes.proofs.Simulation.{sim_done, sim_wrong}
 use Rattle.ir_mean.specs.Meaning as ir_meaning
 use Rattle.ir_mean.specs.Operators as ir_operators
@@ -27,11 +26,11 @@ use Rattle.sj_trees.specs.declared.operators.BinaryOp.{BinaryOp}
 use Rattle.sj_trees.specs.declared.operators.BinaryOp.TheVariants.{BooleanEqual, BooleanNotEqual, BooleanOr, BooleanAnd, IntAdd, IntSubtract, IntMultiply, IntDivide, IntRemainder, IntOr, IntAnd, IntXor, IntShiftLeft, IntShiftRightLogical, IntShiftRightArithmetic, IntEqual, IntNotEqual, IntLess, IntLessOrEqual, IntGreater, IntGreaterOrEqual}
 use Rattle.sj_trees.specs.declared.operators.UnaryOp.{UnaryOp}
 use Rattle.sj_trees.specs.declared.operators.UnaryOp.TheVariants.{BooleanNot, ByteToInt, ShortToInt, IntToByte, IntToShort}
-use Rattle.sj_bodies.proofs.Worlds.{World, Grows, grows-refl, SameValue, same_boolean, same_number, SameValues, one_more, no_values}
+use Rattle.sj_bodies.proofs.Worlds.{World, Grows, SameValue, same_boolean, same_number, one_more, no_values}
 use Rattle.sj_bodies.specs.Conditions.{is_simple, is_simple_unary}
-use Rattle.sj_bodies.proofs.Operators.{template_value, or_zero_value, boolean_of, Given, GivenIf, impossible, values_alike}
-use Rattle.sj_bodies.proofs.Orders.{ActsAlike, OperandAlike, OperandsAlike, no_operands, more_operands, in_order_alike, in_order-then}
-use Rattle.sj_bodies.specs.Settings.{Setting, SameState, Valued, valued, shown}
+use Rattle.sj_bodies.proofs.Operators.{template_value, or_zero_value, boolean_of, GivenIf, impossible, values_alike}
+use Rattle.sj_bodies.proofs.Orders.{ActsAlike, in_order-then}
+use Rattle.sj_bodies.specs.Settings.{Setting, SameState, Valued, valued}
 
 -- an act on two values by what they give
 abbrev pub by_value : (js.Value → js.Value → Option js.Value) → List js.Value → js.Evaluation
@@ -52,9 +51,9 @@ not_ratio-binary p low true IntRemainder e g = refl
 not_ratio-binary p low false IntRemainder e g = refl
 not_ratio-binary p low b _ e g = refl
 
-pub not_ratio : (z : Setting) (e : core.Expression) → js_meaning.ratio_of z.program z.js_low (expression_template z.name z.label e) ≡ None
-not_ratio z (core.unary_of o e) = not_ratio-unary z.program z.js_low o (expression_template z.name z.label e) (not_ratio z e)
-not_ratio z (core.binary_of o e g) = not_ratio-binary z.program z.js_low (is_nonzero_literal g) o (expression_template z.name z.label e) (expression_template z.name z.label g)
+pub not_ratio : (z : Setting) (e : core.Expression) → js_meaning.ratio_of z.place.program z.js_low (expression_template z.place.name z.place.label e) ≡ None
+not_ratio z (core.unary_of o e) = not_ratio-unary z.place.program z.js_low o (expression_template z.place.name z.place.label e) (not_ratio z e)
+not_ratio z (core.binary_of o e g) = not_ratio-binary z.place.program z.js_low (is_nonzero_literal g) o (expression_template z.place.name z.place.label e) (expression_template z.place.name z.place.label g)
 not_ratio z _ = refl
 
 binary-act : (op : BinaryOperator) (xs : List js.Value) (sc : js.Scope) (u : js.State) → js_meaning.binary op xs sc u ≡ by_value (js_operators.binary_value op) xs sc u
@@ -141,16 +140,16 @@ module _ (p : js.Program) (low : js_meaning.Low) where
     binary_shown IntGreaterOrEqual h = plain_operator Op.GreaterOrEqual
     binary_shown _ h = impossible h
 
-pub value_alike : (z : Setting) (base w : World) (env : ir.Env) (sc : js.Scope) (s : ir.State) (u : js.State) (o : Option ir.Value) (t : Option js.Value) → GivenIf w o t → Grows base w → SameState z w s u → Sim z.direction (Valued z base env) (ir_meaning.value_or_wrong o env s) (js_meaning.value_or_wrong t sc u)
-value_alike z base w env sc s u None t h g same = sim_wrong z.direction (Valued z base env) (js_meaning.value_or_wrong t sc u)
-value_alike z base w env sc s u (Some v) t h g same = subst (λ o. Sim z.direction (Valued z base env) (done (ir.ends (ir.gives v) env s)) (js_meaning.value_or_wrong o sc u)) (sym h.is) (sim_done z.direction (Valued z base env) (ir.ends (ir.gives v) env s) (js.gives h.value u) (valued w v h.value s u g h.alike same))
+pub value_alike : (z : Setting) (base w : World) (env : ir.Env) (sc : js.Scope) (s : ir.State) (u : js.State) (o : Option ir.Value) (t : Option js.Value) → GivenIf w o t → Grows base w → SameState z.place w s u → Sim z.direction (Valued z.place base env) (ir_meaning.value_or_wrong o env s) (js_meaning.value_or_wrong t sc u)
+value_alike z base w env sc s u None t h g same = sim_wrong z.direction (Valued z.place base env) (js_meaning.value_or_wrong t sc u)
+value_alike z base w env sc s u (Some v) t h g same = subst (λ o. Sim z.direction (Valued z.place base env) (done (ir.ends (ir.gives v) env s)) (js_meaning.value_or_wrong o sc u)) (sym h.is) (sim_done z.direction (Valued z.place base env) (ir.ends (ir.gives v) env s) (js.gives h.value u) (valued w v h.value s u g h.alike same))
 
 -- the act of an operator, and that of its template
 pub binary_acts : (z : Setting) (base : World) (env : ir.Env) (sc : js.Scope) (o : BinaryOp) → is_simple o ≡ true → ActsAlike z base base env (ir_meaning.binary o) (by_value (template_value o)) sc
-binary_acts z base env sc o h w _ _ s u g no_values same = sim_wrong z.direction (Valued z base env) _
-binary_acts z base env sc o h w _ _ s u g (one_more v x _ _ a no_values) same = sim_wrong z.direction (Valued z base env) _
+binary_acts z base env sc o h w _ _ s u g no_values same = sim_wrong z.direction (Valued z.place base env) _
+binary_acts z base env sc o h w _ _ s u g (one_more v x _ _ a no_values) same = sim_wrong z.direction (Valued z.place base env) _
 binary_acts z base env sc o h w _ _ s u g (one_more v1 x1 _ _ a (one_more v2 x2 _ _ b no_values)) same = value_alike z base w env sc s u (ir_operators.binary_value o v1 v2) (template_value o x1 x2) (values_alike w o v1 v2 x1 x2 h a b) g same
-binary_acts z base env sc o h w _ _ s u g (one_more v1 x1 _ _ a (one_more v2 x2 _ _ b (one_more v3 x3 vs xs c d))) same = sim_wrong z.direction (Valued z base env) _
+binary_acts z base env sc o h w _ _ s u g (one_more v1 x1 _ _ a (one_more v2 x2 _ _ b (one_more v3 x3 vs xs c d))) same = sim_wrong z.direction (Valued z.place base env) _
 
 -- `>>` behind a value
 abbrev pub shifted_back : ℤ → Option js.Value → Option js.Value
@@ -179,9 +178,9 @@ one_value_alike w IntToShort _ _ (same_number a f) = record { value = js.number 
 one_value_alike w _ _ _ _ = tt
 
 pub unary_acts : (z : Setting) (base : World) (env : ir.Env) (sc : js.Scope) (o : UnaryOp) → ActsAlike z base base env (ir_meaning.unary o) (by_one_value (one_template_value o)) sc
-unary_acts z base env sc o w _ _ s u g no_values same = sim_wrong z.direction (Valued z base env) _
+unary_acts z base env sc o w _ _ s u g no_values same = sim_wrong z.direction (Valued z.place base env) _
 unary_acts z base env sc o w _ _ s u g (one_more v x _ _ a no_values) same = value_alike z base w env sc s u (ir_operators.unary_value o v) (one_template_value o x) (one_value_alike w o v x a) g same
-unary_acts z base env sc o w _ _ s u g (one_more v1 x1 _ _ a (one_more v2 x2 vs xs b c)) same = sim_wrong z.direction (Valued z base env) _
+unary_acts z base env sc o w _ _ s u g (one_more v1 x1 _ _ a (one_more v2 x2 vs xs b c)) same = sim_wrong z.direction (Valued z.place base env) _
 
 negated_one : (xs : List js.Value) (sc : js.Scope) (u : js.State) → js_meaning.negated xs sc u ≡ by_one_value (one_template_value BooleanNot) xs sc u
 negated_one [] sc u = refl

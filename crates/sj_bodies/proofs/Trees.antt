@@ -1,55 +1,48 @@
 -- Each tree of the forms that are built, and its statements.
-use Rattle.std.proofs.Common.{◌≡◌, ℕ, zero, suc, ◌≤◌, Bool, true, false, ◌&&◌, List, [], ◌∷◌, Some, None, Option, refl, sym, ap, ◌∙◌, subst, arith, ◌⊎◌, inl, inr, ⊎_elim}
+use Rattle.std.proofs.Common.{◌≡◌, ℕ, suc, Bool, true, false, ◌&&◌, List, [], ◌∷◌, Some, None, Option, refl, sym, ap, ◌∙◌, subst, ◌⊎◌, inl, inr, ⊎_elim}
 use Rattle.std.specs.Prelude.{ℤ, pos, ◌≢◌, FitsSigned}
 use Rattle.std.specs.Int.{w32}
 use mathlib.Core.Path.{fun_ext}
-use Rattle.outcomes.specs.Outcome.{Out, done, wrong, then_do}
+use Rattle.outcomes.specs.Outcome.{Out, done, then_do}
 use Rattle.outcomes.specs.Agreement.{Sim}
-use Rattle.outcomes.proofs.Sequence.{then_do-right, then_do-associative}
-use Rattle.outcomes.proofs.Simulation.{sim_done, sim_wrong, sim_then, sim_weaken}
+use Rattle.outcomes.proofs.Sequence.{then_do-right}
 use Rattle.ir_mean.specs.Meaning as ir_meaning
 use Rattle.ir_mean.specs.States as ir
 use Rattle.ir_mean.specs.World as ir_world
-use Rattle.js_mean.specs.Meaning as js_meaning
 use Rattle.js_mean.specs.States as js
 use Rattle.sj_core.specs.Terms as core
 use Rattle.sj_core.specs.Terms.{followed}
 use Rattle.sj_core.specs.Views.{expressions_of}
-use Rattle.sj_desugar.specs.Coercions.{coerced, coerced_arguments}
-use Rattle.sj_desugar.specs.Desugar.{Targets, target_of, into, block, operands, operand, expression_of, first_of, second_of, finish, member, types_of, wrapped, break_unless, branches}
+use Rattle.sj_desugar.specs.Coercions.{coerced_arguments}
+use Rattle.sj_desugar.specs.Desugar.{Targets, into, operands, operand, expression_of, first_of, second_of, finish, member, types_of}
 use Rattle.sj_desugar.specs.Plain.{is_plain, is_fixed}
-use Rattle.sj_desugar.specs.Spill.{Destination, discard, to_variable, to_result, Code, one, put_first, Operand, spill, spill_case, then_use, then_code}
+use Rattle.sj_desugar.specs.Spill.{Destination, discard, to_variable, Code, Operand, spill, spill_case, then_use}
 use Rattle.sj_emit_expr.specs.Templates.{statement_templates}
 use Rattle.sj_names.specs.declared.method_names.MethodName.{MethodName}
 use Rattle.sj_names.specs.declared.method_names.Namespace.{Namespace}
-use Rattle.sj_trees.specs.Term.{Term, Terms, no_terms, more_terms, Cases, no_cases, more_cases, var_def, skip, block_of, labeled, assign, return_to, if_then, while_loop, do_while, match_on, apply_static, unary_op, binary_op, undefined_literal, null_literal, boolean_literal, byte_literal, short_literal, int_literal, string_literal, var_ref, log_line}
-use Rattle.sj_trees.specs.TypeOf.{type_of_term, unary_result, binary_result}
+use Rattle.sj_trees.specs.Term.{Term, Terms, no_terms, more_terms, var_def, apply_static, binary_op, int_literal}
+use Rattle.sj_trees.specs.TypeOf.{type_of_term, binary_result}
 use Rattle.sj_trees.specs.declared.operators.BinaryOp.{BinaryOp}
-use Rattle.sj_trees.specs.declared.operators.UnaryOp.{UnaryOp}
 use Rattle.sj_trees.specs.declared.positions.Position.{Position}
 use Rattle.sj_trees.specs.declared.types.IrType.{IrType}
-use Rattle.sj_trees.specs.declared.types.IrType.TheVariants.{Undefined, Null, Boolean, Byte, Short, Int, String}
-use Rattle.sj_bodies.specs.Conditions.{is_simple, is_simple_unary, NoBox, NoBoxes, IsDivision, IsDivisor, divisor, Plain}
-use Rattle.sj_bodies.specs.Settings.{Setting, shown, run, SameState, Valued, valued, Lawful, Holding, holding, Sees}
-use Rattle.sj_bodies.proofs.Blocks.{Outside, Undeclared, undeclared}
-use Rattle.sj_bodies.proofs.Conditions.{coerced-same, arguments-same}
-use Rattle.sj_bodies.proofs.Contexts.{Context, Writes, Sound, Ahead, Ready, ready-lift, Keeps, keeps-refl, Arrives, let_go, Came, gave, left, stopped}
-use Rattle.sj_bodies.proofs.Declared.{Own, OwnAll, Declares, IsNew, new}
-use Rattle.sj_bodies.proofs.Fine.{FitsIn, IsDiscard, is_discard, IsTrueLiteral, true_literal, FineOperand, Fine, FineBlock, FineOperands}
-use Rattle.sj_bodies.proofs.Forms.{sound-writing, ahead-writing, outside-writing, of_operands, one_final, two_final, silent, quiet_alike, assign_final, log_final, if_final, came-narrow, rebased, narrower, defining, sound-defining, ahead-defining, define_alike, OneFinal, TwoFinal}
-use Rattle.sj_bodies.proofs.Jumps.{labelling, sound-labelling, labeled_alike, return_alike}
-use Rattle.sj_bodies.proofs.Loops.{in_turn, stop, Alike, sound-turn, ahead-turn, while_alike, forever_alike, test_final}
+use Rattle.sj_bodies.specs.Conditions.{NoBoxes, IsDivision, Plain}
+use Rattle.sj_bodies.specs.Settings.{Setting, shown, SameState, Valued, Lawful, Holding, holding}
+use Rattle.sj_bodies.proofs.Blocks.{Outside}
+use Rattle.sj_bodies.proofs.Conditions.{arguments-same}
+use Rattle.sj_bodies.proofs.Contexts.{Context, Writes, Sound, Ahead, Ready, Came}
+use Rattle.sj_bodies.proofs.Declared.{Own}
+use Rattle.sj_bodies.specs.Fine.{FitsIn, FineOperand, Fine}
+use Rattle.sj_bodies.proofs.Forms.{sound-writing, ahead-writing, outside-writing, of_operands, one_final, quiet_alike, defining, sound-defining, ahead-defining, define_alike, OneFinal}
 use Rattle.sj_bodies.proofs.Numbers.{onward}
-use Rattle.sj_bodies.proofs.Operators.{impossible}
-use Rattle.sj_bodies.proofs.Orders.{OperandAlike, OperandsAlike, no_operands, more_operands}
-use Rattle.sj_bodies.proofs.Plain.{all_shown, plain_alike, as_operand, call_alike, unary_alike, binary_alike, division_alike, division_act}
-use Rattle.sj_bodies.proofs.Spills.{keeping, writing, Extends, Does, Final, OperandDoes, OperandsDo, runs, operands_in, count}
-use Rattle.sj_bodies.proofs.Statements.{run-followed, came_then, finish_alike, Ends}
-use Rattle.sj_bodies.proofs.Worlds.{World, Grows, grows-refl, grows-trans, SameValue, same_undefined, same_null, same_boolean, same_number, same_text}
+use Rattle.sj_bodies.proofs.Orders.{OperandAlike}
+use Rattle.sj_bodies.proofs.Plain.{plain_alike, as_operand, call_alike, division_alike, division_act}
+use Rattle.sj_bodies.proofs.Spills.{keeping, writing, Does, Final, OperandDoes, OperandsDo, runs, operands_in, count}
+use Rattle.sj_bodies.proofs.Statements.{finish_alike, Ends}
+use Rattle.sj_bodies.proofs.Worlds.{World}
 
 -- the level below: each tree of the forms that are built, and its statements, with one unit less
 abbrev pub LowAlike : Setting → Type 1
-LowAlike z = (c : Context) (k : Destination) (j : ℕ) (t : Term) → Sound z c → Ahead c j → Outside c (Own t) → Writes c.writable k → Fine z.is_mutable z.is_linked c.scope c.targets k t → (w : World) (env : ir.Env) (s : ir.State) (sc : js.Scope) (u : js.State) → Ready z c.scope c.writable w env sc → SameState z w s u → Sim z.direction (Came z c c.scope k w sc) (z.low t env s) (z.js_low (statement_templates z.name z.label (into z.is_mutable c.targets k j t).statements) sc u)
+LowAlike z = (c : Context) (k : Destination) (j : ℕ) (t : Term) → Sound z.is_mutable c → Ahead c j → Outside c (Own t) → Writes c.writable k → Fine z.is_mutable z.place.is_linked c.scope c.targets k t → (w : World) (env : ir.Env) (s : ir.State) (sc : js.Scope) (u : js.State) → Ready z.place c.scope c.writable w env sc → SameState z.place w s u → Sim z.direction (Came z.place c c.scope k w sc) (z.low t env s) (z.js_low (statement_templates z.place.name z.place.label (into z.is_mutable c.targets k j t).statements) sc u)
 
 pub outside-part : (c : Context) (own part : List ℕ → Type 0) → ((x : List ℕ) → part x → own x) → Outside c own → Outside c part
 outside-part c own part h out = record { scope = λ x i. out.scope x (h x i); writable = λ x i. out.writable x (h x i); kept = λ x i. out.kept x (h x i) }
@@ -69,22 +62,22 @@ go_on-given o = ap (then_do o) (fun_ext onward-given) ∙ then_do-right o
 
 module _ (z : Setting) (lawful : Lawful z) (low : LowAlike z) where
   abbrev pub FineHere : Context → Destination → Term → Type 0
-  FineHere c k t = Fine z.is_mutable z.is_linked c.scope c.targets k t
+  FineHere c k t = Fine z.is_mutable z.place.is_linked c.scope c.targets k t
 
   -- the theorem on one tree
   abbrev pub TreeDoes : Term → Type 1
-  TreeDoes t = (c : Context) (k : Destination) (j : ℕ) → Sound z c → Ahead c j → Outside c (Own t) → Writes c.writable k → FineHere c k t → Does z lawful c k j t
+  TreeDoes t = (c : Context) (k : Destination) (j : ℕ) → Sound z.is_mutable c → Ahead c j → Outside c (Own t) → Writes c.writable k → FineHere c k t → Does z lawful c k j t
 
-  pub operand_does : (c : Context) (j : ℕ) (t : Term) → TreeDoes t → Outside c (Own t) → FineOperand z.is_mutable z.is_linked c.scope t (λ y. FineHere c (to_variable y (type_of_term t)) t) → OperandDoes z lawful c j t
+  pub operand_does : (c : Context) (j : ℕ) (t : Term) → TreeDoes t → Outside c (Own t) → FineOperand z.is_mutable z.place.is_linked c.scope t (λ y. FineHere c (to_variable y (type_of_term t)) t) → OperandDoes z lawful c j t
   operand_does c j t does out (inl h) = inl h
   operand_does c j t does out (inr h) = inr (h.0, h.1, (λ k i. onward z.is_mutable c.targets t k i), λ p i l ext sound ahead. does (writing (keeping c p) (core.numbered i)) (to_variable (core.numbered i) (type_of_term t)) (suc i) (sound-writing z lawful (keeping c p) i sound ahead) (ahead-writing z lawful (keeping c p) i ahead) (outside-writing z lawful c p i (Own t) ext out) (inl refl) (h.2 (core.numbered i)))
 
   -- a definition by what is known of its right side
-  pub define_does : (p : Position) (x : List ℕ) (t : IrType) (b : Bool) (e : Term) → TreeDoes e → (c : Context) (j : ℕ) → Sound z c → Ahead c j → Outside c (Own (var_def p x t b e)) → FineHere c discard (var_def p x t b e) → (w : World) (env : ir.Env) (s : ir.State) (sc : js.Scope) (u : js.State) → Ready z c.scope c.writable w env sc → SameState z w s u → Ends z lawful c (λ y. (y ≡ x) ⊎ c.scope y) discard w sc (ir_meaning.step z.classes z.low (var_def p x t b e) env s) (into z.is_mutable c.targets discard j (var_def p x t b e)).statements sc u
-  define_does p x t b e does c j sound ahead out fine = define_alike z lawful c p x t (type_of_term e) (ir_meaning.step z.classes z.low e) (expression_of e) (into z.is_mutable c.targets (to_variable (core.named x) t) j e) j (is_plain e) sound (out.scope x (inl refl)) (out.writable x (inl refl)) (out.kept x (inl refl)) (⊎_elim (λ h. inl (h.0, h.2, λ w env sc sees. as_operand z lawful c.scope e (plain_alike z lawful c.scope e h.1) w env sc sees)) (λ h. inr (h.0, does (defining z lawful c x) (to_variable (core.named x) t) j (sound-defining z lawful c x sound (out.scope x (inl refl)) (out.kept x (inl refl))) (ahead-defining z lawful c x j ahead) (record { scope = λ y o. out.scope y (inr o); writable = λ y o wr. ⊎_elim (λ i. fine.1 (subst (Own e) (cc) o)) (out.writable y (inr o)) wr; kept = λ y o. out.kept y (inr o) }) (inl refl) h.1)) fine.2)
+  pub define_does : (p : Position) (x : List ℕ) (t : IrType) (b : Bool) (e : Term) → TreeDoes e → (c : Context) (j : ℕ) → Sound z.is_mutable c → Ahead c j → Outside c (Own (var_def p x t b e)) → FineHere c discard (var_def p x t b e) → (w : World) (env : ir.Env) (s : ir.State) (sc : js.Scope) (u : js.State) → Ready z.place c.scope c.writable w env sc → SameState z.place w s u → Ends z lawful c (λ y. (y ≡ x) ⊎ c.scope y) discard w sc (ir_meaning.step z.place.classes z.low (var_def p x t b e) env s) (into z.is_mutable c.targets discard j (var_def p x t b e)).statements sc u
+  define_does p x t b e does c j sound ahead out fine = define_alike z lawful c p x t (type_of_term e) (ir_meaning.step z.place.classes z.low e) (expression_of e) (into z.is_mutable c.targets (to_variable (core.named x) t) j e) j (is_plain e) sound (out.scope x (inl refl)) (out.writable x (inl refl)) (out.kept x (inl refl)) (⊎_elim (λ h. inl (h.0, h.2, λ w env sc sees. as_operand z lawful c.scope e (plain_alike z lawful c.scope e h.1) w env sc sees)) (λ h. inr (h.0, does (defining z lawful c x) (to_variable (core.named x) t) j (sound-defining z lawful c x sound (out.scope x (inl refl)) (out.kept x (inl refl))) (ahead-defining z lawful c x j ahead) (record { scope = λ y o. out.scope y (inr o); writable = λ y o wr. ⊎_elim (λ i. fine.1 (subst (Own e) (cc) o)) (out.writable y (inr o)) wr; kept = λ y o. out.kept y (inr o) }) (inl refl) h.1)) fine.2)
 
-  pub quiet : (t : Term) (c : Context) (k : Destination) (p : Position) (i : IrType) (e : core.Expression) (j : ℕ) (v : ir.Env → ir.Value) → Sound z c → Writes c.writable k → FitsIn k i → Plain z.is_linked c.scope t → expression_of t ≡ e → ((w : World) (env : ir.Env) (s : ir.State) (sc : js.Scope) → Ready z c.scope c.writable w env sc → ir_meaning.step z.classes z.low t env s ≡ done (ir.ends (ir.gives (v env)) env s)) → (w : World) (env : ir.Env) (s : ir.State) (sc : js.Scope) (u : js.State) → Ready z c.scope c.writable w env sc → SameState z w s u → Ends z lawful c c.scope k w sc (ir_meaning.step z.classes z.low t env s) (finish k p i true e j).statements sc u
-  quiet t c k p i e j v sound wr fits plain is at w env s sc u r same = quiet_alike z lawful c k p i e j sound wr fits w env s sc u (ir_meaning.step z.classes z.low t env s) (v env) (at w env s sc r) r same (subst (λ d. Sim z.direction (Valued z w env) (ir_meaning.step z.classes z.low t env s) (shown z d sc u)) is (plain_alike z lawful c.scope t plain w env s sc u r.sees same))
+  pub quiet : (t : Term) (c : Context) (k : Destination) (p : Position) (i : IrType) (e : core.Expression) (j : ℕ) (v : ir.Env → ir.Value) → Sound z.is_mutable c → Writes c.writable k → FitsIn k i → Plain z.place.is_linked c.scope t → expression_of t ≡ e → ((w : World) (env : ir.Env) (s : ir.State) (sc : js.Scope) → Ready z.place c.scope c.writable w env sc → ir_meaning.step z.place.classes z.low t env s ≡ done (ir.ends (ir.gives (v env)) env s)) → (w : World) (env : ir.Env) (s : ir.State) (sc : js.Scope) (u : js.State) → Ready z.place c.scope c.writable w env sc → SameState z.place w s u → Ends z lawful c c.scope k w sc (ir_meaning.step z.place.classes z.low t env s) (finish k p i true e j).statements sc u
+  quiet t c k p i e j v sound wr fits plain is at w env s sc u r same = quiet_alike z lawful c k p i e j sound wr fits w env s sc u (ir_meaning.step z.place.classes z.low t env s) (v env) (at w env s sc r) r same (subst (λ d. Sim z.direction (Valued z.place w env) (ir_meaning.step z.place.classes z.low t env s) (shown z d sc u)) is (plain_alike z lawful c.scope t plain w env s sc u r.sees same))
 
   abbrev pub value_of : Option ir.Value → ir.Value
   value_of None = ir.undefined
@@ -93,7 +86,7 @@ module _ (z : Setting) (lawful : Lawful z) (low : LowAlike z) where
   pub local_at : (w : World) (o : Option ir.Value) (cell : js.Cell) (env : ir.Env) (s : ir.State) → Holding w o cell → ir_meaning.local_value o env s ≡ done (ir.ends (ir.gives (value_of o)) env s)
   local_at w _ _ env s (holding v x a) = refl
 
-  pub finish_one : (c : Context) (k : Destination) (p : Position) (t : IrType) (act : List ir.Value → ir.Run) (f : core.Expression → core.Expression) (j : ℕ) → Sound z c → Writes c.writable k → FitsIn k t → ((r : ir.Run) (e : core.Expression) (w : World) (env : ir.Env) (s : ir.State) (sc : js.Scope) (u : js.State) → OperandAlike z w env sc r (shown z e) → SameState z w s u → Sim z.direction (Valued z w env) (ir_meaning.in_order (r ∷ []) act env s) (shown z (f e) sc u)) → (w : World) (sc : js.Scope) → OneFinal z lawful c k w sc j act (λ es. finish k p t false (f (first_of es)))
+  pub finish_one : (c : Context) (k : Destination) (p : Position) (t : IrType) (act : List ir.Value → ir.Run) (f : core.Expression → core.Expression) (j : ℕ) → Sound z.is_mutable c → Writes c.writable k → FitsIn k t → ((r : ir.Run) (e : core.Expression) (w : World) (env : ir.Env) (s : ir.State) (sc : js.Scope) (u : js.State) → OperandAlike z w env sc r (shown z e) → SameState z.place w s u → Sim z.direction (Valued z.place w env) (ir_meaning.in_order (r ∷ []) act env s) (shown z (f e) sc u)) → (w : World) (sc : js.Scope) → OneFinal z lawful c k w sc j act (λ es. finish k p t false (f (first_of es)))
   finish_one c k p t act f j sound wr fits alike from before i r e w env s sc u ahead l g ready ks same operand = finish_alike z lawful c k p t (f e) i sound wr fits w from before env (ir_meaning.in_order (r ∷ []) act env s) sc u g ks ready (alike r e w env s sc u operand same)
 
   -- a divisor that is a literal stays where it stands
@@ -111,16 +104,16 @@ module _ (z : Setting) (lawful : Lawful z) (low : LowAlike z) where
   operands-list ls no_terms = refl
   operands-list ls (more_terms t ts) = ap (λ os. operand z.is_mutable t (λ k j. into z.is_mutable ls k j t) ∷ os) (operands-list ls ts)
 
-  runs-list : (ts : Terms) → ir_meaning.operands z.classes z.low ts ≡ runs z lawful (list_of ts)
+  runs-list : (ts : Terms) → ir_meaning.operands z.place.classes z.low ts ≡ runs z lawful (list_of ts)
   runs-list no_terms = refl
-  runs-list (more_terms t ts) = ap (λ rs. ir_meaning.step z.classes z.low t ∷ rs) (runs-list ts)
+  runs-list (more_terms t ts) = ap (λ rs. ir_meaning.step z.place.classes z.low t ∷ rs) (runs-list ts)
 
   -- a call, by what is known of its arguments
-  pub call_does : (p : Position) (c : Context) (k : Destination) (j : ℕ) (m : MethodName) (cn : List ℕ) (n : Namespace) (ts : Terms) (t : IrType) → Sound z c → Ahead c j → Writes c.writable k → FitsIn k t → z.is_linked (member cn n m) ≡ true → NoBoxes m.params (types_of ts) → OperandsDo z lawful c j (list_of ts) → Does z lawful c k j (apply_static p cn n m ts t)
-  call_does p c k j m cn n ts t sound ahead wr fits linked boxes ds w env s sc u r same = subst (λ os. Ends z lawful c c.scope k w sc (ir_meaning.in_order (ir_meaning.operands z.classes z.low ts) act env s) (then_use (spill os j) made).statements sc u) (sym (operands-list c.targets ts)) (subst (λ rs. Ends z lawful c c.scope k w sc (ir_meaning.in_order rs act env s) (then_use (spill (operands_in z lawful c.targets (list_of ts)) j) made).statements sc u) (sym (runs-list ts)) (of_operands z lawful c k (list_of ts) j act made sound ahead ds final w env s sc u r same))
+  pub call_does : (p : Position) (c : Context) (k : Destination) (j : ℕ) (m : MethodName) (cn : List ℕ) (n : Namespace) (ts : Terms) (t : IrType) → Sound z.is_mutable c → Ahead c j → Writes c.writable k → FitsIn k t → z.place.is_linked (member cn n m) ≡ true → NoBoxes m.params (types_of ts) → OperandsDo z lawful c j (list_of ts) → Does z lawful c k j (apply_static p cn n m ts t)
+  call_does p c k j m cn n ts t sound ahead wr fits linked boxes ds w env s sc u r same = subst (λ os. Ends z lawful c c.scope k w sc (ir_meaning.in_order (ir_meaning.operands z.place.classes z.low ts) act env s) (then_use (spill os j) made).statements sc u) (sym (operands-list c.targets ts)) (subst (λ rs. Ends z lawful c c.scope k w sc (ir_meaning.in_order rs act env s) (then_use (spill (operands_in z lawful c.targets (list_of ts)) j) made).statements sc u) (sym (runs-list ts)) (of_operands z lawful c k (list_of ts) j act made sound ahead ds final w env s sc u r same))
     where
       act : List ir.Value → ir.Run
-      act = ir_meaning.call z.low (ir_world.member_of z.classes cn n m) None
+      act = ir_meaning.call z.low (ir_world.member_of z.place.classes cn n m) None
 
       made : List core.Expression → ℕ → Code
       made es = finish k p t false (core.static_call (member cn n m) (expressions_of (coerced_arguments m.params (types_of ts) es)))
@@ -129,5 +122,5 @@ module _ (z : Setting) (lawful : Lawful z) (low : LowAlike z) where
       final from before q i rs es w env s sc u more so ah l g ready kb ks same sized alike = finish_alike z lawful c k p t (core.static_call (member cn n m) (expressions_of (coerced_arguments m.params (types_of ts) es))) i sound wr fits w from before env (ir_meaning.in_order rs act env s) sc u g kb ready (call_alike z lawful c.scope (member cn n m) rs (coerced_arguments m.params (types_of ts) es) es (arguments-same m.params (types_of ts) es boxes) linked w env s sc u ready.sees.inside alike same)
 
   -- a division, by what is known of its dividend
-  pub division_does : (p : Position) (c : Context) (k : Destination) (j : ℕ) (o : BinaryOp) (e : Term) (q : Position) (n : ℤ) → IsDivision o → FitsSigned w32 n → n ≢ pos 0 → Sound z c → Ahead c j → Writes c.writable k → FitsIn k (binary_result o) → OperandDoes z lawful c j e → Does z lawful c k j (binary_op p o e (int_literal q n))
-  division_does p c k j o e q n d f ne sound ahead wr fits dividend w env s sc u r same = subst (λ code. Ends z lawful c c.scope k w sc (ir_meaning.in_order (ir_meaning.step z.classes z.low e ∷ []) (division_act z lawful c.scope o n) env s) code.statements sc u) (sym (divisor_stays (is_fixed z.is_mutable e) (is_plain e) (operand z.is_mutable e (λ k j. into z.is_mutable c.targets k j e)) q n c.targets k p o j)) (of_operands z lawful c k (e ∷ []) j (division_act z lawful c.scope o n) (λ es. finish k p (binary_result o) false (core.binary_of o (first_of es) (core.number_value n))) sound ahead (dividend, tt) (one_final z lawful c k j (division_act z lawful c.scope o n) (λ es. finish k p (binary_result o) false (core.binary_of o (first_of es) (core.number_value n))) (finish_one c k p (binary_result o) (division_act z lawful c.scope o n) (λ x. core.binary_of o x (core.number_value n)) j sound wr fits (λ a x w env s sc u alike same. division_alike z lawful c.scope o a x n d f ne w env s sc u alike same))) w env s sc u r same)
+  pub division_does : (p : Position) (c : Context) (k : Destination) (j : ℕ) (o : BinaryOp) (e : Term) (q : Position) (n : ℤ) → IsDivision o → FitsSigned w32 n → n ≢ pos 0 → Sound z.is_mutable c → Ahead c j → Writes c.writable k → FitsIn k (binary_result o) → OperandDoes z lawful c j e → Does z lawful c k j (binary_op p o e (int_literal q n))
+  division_does p c k j o e q n d f ne sound ahead wr fits dividend w env s sc u r same = subst (λ code. Ends z lawful c c.scope k w sc (ir_meaning.in_order (ir_meaning.step z.place.classes z.low e ∷ []) (division_act z lawful c.scope o n) env s) code.statements sc u) (sym (divisor_stays (is_fixed z.is_mutable e) (is_plain e) (operand z.is_mutable e (λ k j. into z.is_mutable c.targets k j e)) q n c.targets k p o j)) (of_operands z lawful c k (e ∷ []) j (division_act z lawful c.scope o n) (λ es. finish k p (binary_result o) false (core.binary_of o (first_of es) (core.number_value n))) sound ahead (dividend, tt) (one_final z lawful c k j (division_act z lawful c.scope o n) (λ es. finish k p (binary_result o) false (core.binary_of o (first_of es) (core.number_value n))) (finish_one c k p (binary_result o) (division_act z lawful c.scope o n) (λ x. core.binary_of o x (core.number_value n)) j sound wr fits (λ a x w env s sc u alike same. division_alike z lawful c.scope o a x n d f ne w env s sc u alike same))) w env s sc u r same)

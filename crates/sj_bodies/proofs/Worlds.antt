@@ -1,7 +1,5 @@
 -- Worlds grow, and what stands for each other goes on to do so.
-use Rattle.std.proofs.Common.{◌≡◌, ℕ, Bool, List, [], ◌∷◌, ◌++◌, refl, sym, ap, ◌∙◌, length, append_assoc, append-nil}
-use Rattle.std.specs.Prelude.{ℤ, FitsSigned}
-use Rattle.std.specs.Int.{w32}
+use Rattle.std.proofs.Common.{List, [], ◌++◌, sym, ap, ◌∙◌, append_assoc, append-nil}
 use Rattle.ir_mean.specs.States as ir
 use Rattle.js_mean.specs.States as js
 pub use Rattle.sj_bodies.specs.Worlds.{World, Grows, SameValue, same_undefined, same_null, same_boolean, same_number, same_text, SameValues, no_values, one_more}

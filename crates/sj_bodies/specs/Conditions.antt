@@ -1,5 +1,5 @@
 -- What is asked of a plain tree where it stands.
-use Rattle.std.specs.Prelude.{◌≡◌, ℕ, Bool, true, false, List, [], ◌∷◌, ◌⊎◌, ℤ, pos, ◌≢◌, ◌&&◌, not, FitsSigned}
+use Rattle.std.specs.Prelude.{◌≡◌, ℕ, Bool, true, false, List, ◌∷◌, ◌⊎◌, ℤ, pos, ◌≢◌, ◌&&◌, not, FitsSigned}
 use Rattle.std.specs.Int.{w32}
 use Rattle.sj_desugar.specs.Coercions.{is_char}
 use Rattle.sj_desugar.specs.Desugar.{member, types_of}

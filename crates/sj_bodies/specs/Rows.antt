@@ -1,6 +1,6 @@
 -- A worked method: its class, and the program of its function.
-use Rattle.std.specs.Prelude.{ℕ, List, [], ◌∷◌, ℤ, codes, Some}
-use Rattle.js_tree.specs.Terms.{Name, Statements, call_of, no_expressions, expression, number_literal, function_item}
+use Rattle.std.specs.Prelude.{ℕ, [], ◌∷◌, ℤ, codes, Some}
+use Rattle.js_tree.specs.Terms.{call_of, no_expressions, expression, number_literal, function_item}
 use Rattle.outcomes.specs.Outcome.{Out}
 use Rattle.ir_mean.specs.Rows.{int_method}
 use Rattle.js_mean.specs.Meaning as js_meaning

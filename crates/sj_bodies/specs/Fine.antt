@@ -1,6 +1,6 @@
--- What is asked of a tree where it is written. A match isn't covered yet.
-use Rattle.std.proofs.Common.{◌≡◌, ℕ, Bool, true, false, List, [], ◌∷◌, ◌⊎◌}
-use Rattle.std.specs.Prelude.{ℤ, FitsSigned}
+-- What is asked of a tree where it is written: a tree of the forms that are built, with its locals in scope where they are used, and
+-- operands that spilling can bring to a variable.
+use Rattle.std.specs.Prelude.{◌≡◌, ℕ, Bool, true, false, List, ◌∷◌, ◌⊎◌, FitsSigned}
 use Rattle.std.specs.Int.{w32}
 use Rattle.sj_core.specs.Terms as core
 use Rattle.sj_desugar.specs.Desugar.{Targets, target_of, member, types_of, has_no_value}
@@ -13,7 +13,7 @@ use Rattle.sj_trees.specs.declared.positions.Position.{Position}
 use Rattle.sj_trees.specs.declared.types.IrType.{IrType}
 use Rattle.sj_trees.specs.declared.types.IrType.TheVariants.{Undefined, Null, Boolean, Byte, Short, Int, String}
 use Rattle.sj_bodies.specs.Conditions.{is_simple, is_simple_unary, NoBox, NoBoxes, IsDivision, IsDivisor, Plain}
-use Rattle.sj_bodies.proofs.Declared.{Own, OwnAll}
+use Rattle.sj_bodies.specs.Locals.{Own, OwnAll}
 
 pub data IsDiscard : Destination → Type 0 where
   is_discard : IsDiscard discard
@@ -43,6 +43,7 @@ module _ (is_mutable : List ℕ → Bool) (is_linked : Member → Bool) where
     Fine g ls k (if_then p c a b t) = FineOperand g c (λ y. Fine g ls (to_variable y (type_of_term c)) c) × Fine g ls k a × Fine g ls k b
     Fine g ls k (while_loop p c b) = ((IsDiscard k × FineOperand g c (λ y. Fine g ls (to_variable y (type_of_term c)) c)) ⊎ IsTrueLiteral c) × Fine g ls discard b
     Fine g ls k (do_while p b c) = ((IsDiscard k × FineOperand g c (λ y. Fine g ls (to_variable y (type_of_term c)) c)) ⊎ IsTrueLiteral c) × Fine g ls discard b
+    Fine g ls k (match_on p e cs d t) = FineOperand g e (λ y. Fine g ls (to_variable y (type_of_term e)) e) × FineCases g ls k cs × Fine g ls k d
     Fine g ls k (apply_static p c n m ts t) = FitsIn k t × (is_linked (member c n m) ≡ true) × NoBoxes m.params (types_of ts) × FineOperands g ls k ts
     Fine g ls k (unary_op p o e) = FitsIn k (unary_result o) × (is_simple_unary o ≡ true) × FineOperand g e (λ y. Fine g ls (to_variable y (type_of_term e)) e)
     Fine g ls k (binary_op p o e d) = FitsIn k (binary_result o) × (((is_simple o ≡ true) × FineOperand g e (λ y. Fine g ls (to_variable y (type_of_term e)) e) × FineOperand g d (λ y. Fine g ls (to_variable y (type_of_term d)) d)) ⊎ (IsDivision o × FineOperand g e (λ y. Fine g ls (to_variable y (type_of_term e)) e) × IsDivisor d))
@@ -67,3 +68,7 @@ module _ (is_mutable : List ℕ → Bool) (is_linked : Member → Bool) where
     pub FineOperands : (List ℕ → Type 0) → Targets → Destination → Terms → Type 0
     FineOperands g ls k no_terms = Unit {0}
     FineOperands g ls k (more_terms t ts) = FineOperand g t (λ y. Fine g ls (to_variable y (type_of_term t)) t) × FineOperands g ls k ts
+
+    pub FineCases : (List ℕ → Type 0) → Targets → Destination → Cases → Type 0
+    FineCases g ls k no_cases = Unit {0}
+    FineCases g ls k (more_cases ns t cs) = Fine g ls k t × FineCases g ls k cs

@@ -1,0 +1,164 @@
+-- A file that has the functions of methods and calls initializers shows what these show.
+use Rattle.std.proofs.Common.{◌≡◌, ℕ, Bool, true, false, List, [], ◌∷◌, ◌++◌, ◌&&◌, map, refl, sym, ap, ◌∙◌, subst, Contains, Option, Some, None, if◌then◌else◌, length}
+use Rattle.std.specs.List.{list_all}
+use Rattle.std.proofs.lemmas.Bool.{and_parts}
+use Rattle.std.proofs.lemmas.List.Elements.{Contains-append_left, Contains-append_right, Contains-push}
+use Rattle.outcomes.specs.Outcome.{Out, wrong, then_do}
+use Rattle.outcomes.specs.Shown.{normal, Shown}
+use Rattle.outcomes.specs.Agreement.{Direction, forward, backward, Within, Sim, IsNotWrong, Agree}
+use Rattle.outcomes.proofs.Sequence.{then_do-associative}
+use Rattle.outcomes.proofs.Simulation.{sim_done, sim_then, agree-from_sim}
+use Rattle.ir_mean.specs.Shows as ir_showing
+use Rattle.ir_mean.specs.States as ir
+use Rattle.ir_mean.specs.World as ir_world
+use Rattle.js_mean.specs.Files as files
+use Rattle.js_mean.specs.Meaning as js_meaning
+use Rattle.js_mean.specs.Proper.{is_among, are_distinct, item_names, is_proper_item, is_proper_module}
+use Rattle.js_mean.specs.Shows as js_showing
+use Rattle.js_mean.specs.States as js
+use Rattle.js_tree.specs.Terms.{Name, Item, Module, call_of, no_expressions}
+use Rattle.sj_core.specs.Terms.{named}
+use Rattle.sj_desugar.specs.Desugar.{desugared}
+use Rattle.sj_emit_expr.specs.Templates.{member_name, parameter_names}
+use Rattle.sj_names.specs.declared.entry_points.EntryPoint.{EntryPoint}
+use Rattle.sj_names.specs.declared.method_names.Member.{Member}
+use Rattle.sj_bodies.specs.Settings.{Place, SameState, Valued, valued}
+use Rattle.sj_bodies.specs.Worlds.{World, no_values}
+use Rattle.sj_bodies.proofs.Contexts.{equals}
+use Rattle.sj_calls.specs.Files.{EmittedMethod, function_item_of, initializer_member, call_item_of, module_with, program_with, IsEmitted, HasFunction}
+use Rattle.sj_calls.specs.Methods.{parameters_in, function_of, ir_call, js_call}
+use Rattle.sj_calls.specs.Names.{emitted_in, LinkedByName}
+use Rattle.sj_calls.proofs.Items.{code_with, code_found, cell_found}
+use Rattle.sj_calls.proofs.Named.{named_calls_agree}
+
+-- a program of one file, and what is found in it
+abbrev alone : Name → Module → js.Program
+alone f m = record { file = f; content = Some m } ∷ []
+
+module_there : (f : Name) (m : Module) → files.module_among (alone f m) f ≡ Some m
+module_there f m = ap (λ b. if b then Some m else None) (equals f)
+
+abbrev origin_by : js.Program → Name → Name → Option Module → Option Name
+origin_by p f x content = elim (files.imported_from (files.imports_in content) x) [ None ↦ Some f | Some g ↦ if is_among (files.exports_in (files.module_among p g)) x then files.origin p (length p) g x else None ]
+
+own_name : (f : Name) (m : Module) (x : Name) → m.imports ≡ [] → files.owner (alone f m) f x ≡ Some f
+own_name f m x none = ap (origin_by (alone f m) f x) (module_there f m) ∙ ap (λ is. elim (files.imported_from is x) as (λ o. Option Name) [ None ↦ Some f | Some g ↦ if is_among (files.exports_in (files.module_among (alone f m) g)) x then files.origin (alone f m) 1 g x else None ]) none
+
+abbrev order_by : js.Program → Name → Option Module → List Name
+order_by p f content = (files.finish f (files.visit_all (files.visit p (length p)) (files.imports_in content) (record { entered = f ∷ []; finished = [] }))).finished
+
+order_is : (f : Name) (m : Module) → m.imports ≡ [] → files.running_order (alone f m) f ≡ f ∷ []
+order_is f m none = ap (order_by (alone f m) f) (module_there f m) ∙ ap (λ is. (files.finish f (files.visit_all (files.visit (alone f m) 1) is (record { entered = f ∷ []; finished = [] }))).finished) none
+
+-- functions do nothing as items
+past_functions : (p : js.Program) (k : ℕ) (f : Name) (fs : List EmittedMethod) (is : List Item) (u : js.State) → js_meaning.run_items p k f (map function_item_of fs ++ is) u ≡ js_meaning.run_items p k f is u
+past_functions p k f [] is u = refl
+past_functions p k f (g ∷ gs) is u = past_functions p k f gs is u
+
+module _ (w : ir_world.World) (id : List ℕ) (fs : List EmittedMethod) (es : List EntryPoint) (is_linked : Member → Bool) where
+  abbrev file : Name
+  file = js_showing.file_of id
+
+  abbrev program : js.Program
+  program = program_with id fs es
+
+  abbrev place : Place
+  place = emitted_in w program file is_linked
+
+  parameters-are : (xs : List (List ℕ)) → parameter_names xs ≡ parameters_in place xs
+  parameters-are [] = refl
+  parameters-are (x ∷ xs) = ap (λ ns. place.name (named x) ∷ ns) (parameters-are xs)
+
+  code-is : (e : EmittedMethod) → code_with e ≡ function_of place e.definition e.its_body
+  code-is e = λ i. record { parameters = parameters-are (desugared e.definition e.its_body).params i; body = (code_with e).body }
+
+  linked_by : is_proper_module (module_with fs es) ≡ true → (e : EmittedMethod) → Contains fs e → IsEmitted w is_linked e → LinkedByName place e.member
+  linked_by proper e listed h = record {
+    linked = record {
+      definition = e.definition;
+      its_body = e.its_body;
+      found = h.found;
+      has_body = h.has_body;
+      emitted = ap (λ o. js_meaning.code_in o (member_name e.member)) (module_there file (module_with fs es)) ∙ code_found fs (map call_item_of es) e listed distinct ∙ ap Some (code-is e);
+      fine = h.fine;
+    };
+    names = h.names;
+  }
+    where
+      names : Bool
+      names = are_distinct (item_names (map function_item_of fs ++ map call_item_of es))
+
+      distinct : are_distinct (item_names (map function_item_of fs ++ map call_item_of es)) ≡ true
+      distinct = (and_parts names true (and_parts (names && true) true (and_parts (names && true && true) (list_all is_proper_item (map function_item_of fs ++ map call_item_of es)) proper).0).0).0
+
+  module _ (proper : is_proper_module (module_with fs es) ≡ true) (emitted : (e : EmittedMethod) → Contains fs e → IsEmitted w is_linked e) (functions : (m : Member) → is_linked m ≡ true → HasFunction fs m) where
+    linked : (m : Member) → is_linked m ≡ true → LinkedByName place m
+    linked m l = let h = functions m l in subst (LinkedByName place) h.is (linked_by proper h.method h.listed (emitted h.method h.listed))
+
+    opening_same : SameState place [] (ir_world.opening w) (js_meaning.opening program)
+    opening_same = record {
+      addresses = refl;
+      functions = λ m l. let h = functions m l in ap (λ o. js_meaning.module_cell file o (member_name m)) (module_there file (module_with fs es)) ∙ subst (λ x. js_meaning.items_cell file (map function_item_of fs ++ map call_item_of es) (member_name x) ≡ js.holds false (js.function file (member_name x))) h.is (cell_found file fs (map call_item_of es) h.method h.listed);
+    }
+
+    own : (m : Member) → is_linked m ≡ true → files.owner program file (member_name m) ≡ Some file
+    own m l = own_name file (module_with fs es) (member_name m) refl
+
+    -- an initializer, and the item that calls it
+    abbrev item_run : EntryPoint → ℕ → js.State → Out js.ExpressionEnd
+    item_run e k u = js_meaning.evaluate program (js_meaning.below program k) (call_of (member_name (initializer_member e)) no_expressions) (js_meaning.top_scope program file) u
+
+    item_is : (e : EntryPoint) (k : ℕ) (y : World) (s : ir.State) (u : js.State) → is_linked (initializer_member e) ≡ true → SameState place y s u → item_run e k u ≡ js_call place (initializer_member e) [] u k
+    item_is e k y s u l same = ap (λ o. called (js_meaning.top_cell o name u)) (own (initializer_member e) l) ∙ ap called (same.functions (initializer_member e) l)
+      where
+        name : Name
+        name = member_name (initializer_member e)
+
+        called : js.Cell → Out js.ExpressionEnd
+        called cell = then_do (js_meaning.cell_value cell u) (js.with_value (λ g. js_meaning.in_order [] (js_meaning.call program (js_meaning.below program k) g) (js_meaning.top_scope program file)))
+
+    item_alike : (d : Direction) (n k : ℕ) → Within d n k → (e : EntryPoint) → is_linked (initializer_member e) ≡ true → (y : World) (s : ir.State) (u : js.State) → SameState place y s u → Sim d (Valued place y ir_showing.outside) (ir_call place (initializer_member e) [] ir_showing.outside s n) (item_run e k u)
+    item_alike forward n k h e l y s u same = subst (λ o. Sim forward (Valued place y ir_showing.outside) (ir_call place (initializer_member e) [] ir_showing.outside s n) o) (sym (item_is e k y s u l same)) ((named_calls_agree w program file is_linked own linked (initializer_member e) l y [] [] ir_showing.outside s u no_values same).there n k h)
+    item_alike backward n k h e l y s u same = subst (λ o. Sim backward (Valued place y ir_showing.outside) (ir_call place (initializer_member e) [] ir_showing.outside s n) o) (sym (item_is e k y s u l same)) ((named_calls_agree w program file is_linked own linked (initializer_member e) l y [] [] ir_showing.outside s u no_values same).back n k h)
+
+    -- the end of the file
+    abbrev ended : ℕ → Out js.ExpressionEnd → Shown
+    ended k o = then_do (then_do o (js.with_value (λ v. js_meaning.run_files program k []))) js_showing.ending
+
+    abbrev calls : List EntryPoint → ℕ → js.State → Out js.ExpressionEnd
+    calls is k u = js_meaning.run_items program k file (map call_item_of is) u
+
+    calls_alike : (d : Direction) (n k : ℕ) → Within d n k → (is : List EntryPoint) → ((e : EntryPoint) → Contains is e → is_linked (initializer_member e) ≡ true) → (y : World) (s : ir.State) (u : js.State) → SameState place y s u → Sim d ◌≡◌ (ir_showing.all_show w n is s) (ended k (calls is k u))
+    calls_alike d n k h [] all y s u same = sim_done d ◌≡◌ normal normal refl
+    calls_alike d n k h (e ∷ is) all y s u same = subst (λ o. Sim d ◌≡◌ (ir_showing.all_show w n (e ∷ is) s) o) (sym regrouped) (sim_then d (Valued place y ir_showing.outside) ◌≡◌ (ir_call place (initializer_member e) [] ir_showing.outside s n) (item_run e k u) (ir_showing.next_or_end (ir_showing.all_show w n is)) behind (item_alike d n k h e (all e (Contains-append_left (e ∷ []) is e (Contains-push [] e))) y s u same) (next d n k is y (λ z v s u same. calls_alike d n k h is (λ x i. all x (Contains-append_right (e ∷ []) is x i)) z s u same)))
+      where
+        rest : js.ExpressionEnd → Out js.ExpressionEnd
+        rest = js.with_value (λ v. js_meaning.run_items program k file (map call_item_of is))
+
+        end : js.ExpressionEnd → Out js.ExpressionEnd
+        end = js.with_value (λ v. js_meaning.run_files program k [])
+
+        behind : js.ExpressionEnd → Shown
+        behind b = then_do (then_do (rest b) end) js_showing.ending
+
+        regrouped : ended k (calls (e ∷ is) k u) ≡ then_do (item_run e k u) behind
+        regrouped = ap (λ o. then_do o js_showing.ending) (then_do-associative (item_run e k u) rest end) ∙ then_do-associative (item_run e k u) (λ b. then_do (rest b) end) js_showing.ending
+
+        next : (d : Direction) (n k : ℕ) (is : List EntryPoint) (y : World) → ((z : World) (v : ir.Value) (s : ir.State) (u : js.State) → SameState place z s u → Sim d ◌≡◌ (ir_showing.all_show w n is s) (ended k (calls is k u))) → (a : ir.Ended) (b : js.ExpressionEnd) → Valued place y ir_showing.outside a b → Sim d ◌≡◌ (ir_showing.next_or_end (ir_showing.all_show w n is) a) (then_do (then_do (js.with_value (λ v. js_meaning.run_items program k file (map call_item_of is)) b) (js.with_value (λ v. js_meaning.run_files program k []))) js_showing.ending)
+        next d n k is y others _ _ (valued z v x s u g a same) = others z v s u same
+
+    -- what the file shows
+    abbrev order_shows : ℕ → List Name → Shown
+    order_shows k names = if list_all (files.is_good_file program) names then then_do (js_meaning.run_files program k names (js_meaning.opening program)) js_showing.ending else wrong
+
+    abbrev content_shows : ℕ → Option Module → Shown
+    content_shows k content = if (files.is_good_module program file content && true) then then_do (then_do (js_meaning.run_items program k file (files.items_in content) (js_meaning.opening program)) (js.with_value (λ v. js_meaning.run_files program k []))) js_showing.ending else wrong
+
+    js_is : (k : ℕ) → js_showing.js_shows program id k ≡ ended k (calls es k (js_meaning.opening program))
+    js_is k = ap (order_shows k) (order_is file (module_with fs es) refl) ∙ ap (content_shows k) (module_there file (module_with fs es)) ∙ (λ i. if (proper i && true && true) then ended k (past_functions program k file fs (map call_item_of es) (js_meaning.opening program) i) else wrong)
+
+    pub shows_alike : ((e : EntryPoint) → Contains es e → is_linked (initializer_member e) ≡ true) → (d : Direction) (n k : ℕ) → Within d n k → Sim d ◌≡◌ (ir_showing.all_show w n es (ir_world.opening w)) (js_showing.js_shows program id k)
+    shows_alike all d n k h = subst (λ o. Sim d ◌≡◌ (ir_showing.all_show w n es (ir_world.opening w)) o) (sym (js_is k)) (calls_alike d n k h es all [] (ir_world.opening w) (js_meaning.opening program) opening_same)
+
+pub file_agrees : (w : ir_world.World) (entries : List EntryPoint) (id : List ℕ) (fs : List EmittedMethod) (is_linked : Member → Bool) → is_proper_module (module_with fs (ir_showing.initializers entries id)) ≡ true → ((e : EmittedMethod) → Contains fs e → IsEmitted w is_linked e) → ((m : Member) → is_linked m ≡ true → HasFunction fs m) → ((e : EntryPoint) → Contains (ir_showing.initializers entries id) e → is_linked (initializer_member e) ≡ true) → ((n : ℕ) → IsNotWrong (ir_showing.ir_shows w entries id n).end) → Agree (ir_showing.ir_shows w entries id) (js_showing.js_shows (program_with id fs (ir_showing.initializers entries id)) id)
+file_agrees w entries id fs is_linked proper emitted functions all right = agree-from_sim (ir_showing.ir_shows w entries id) (js_showing.js_shows (program_with id fs (ir_showing.initializers entries id)) id) (shows_alike w id fs (ir_showing.initializers entries id) is_linked proper emitted functions all) right

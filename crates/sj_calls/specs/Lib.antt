@@ -1,0 +1,3 @@
+pub mod Files
+pub mod Methods
+pub mod Names

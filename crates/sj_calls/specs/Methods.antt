@@ -1,0 +1,62 @@
+-- Methods that are linked, what is asked of each, and when the calls of one and of its function are alike.
+use Rattle.std.specs.Prelude.{◌≡◌, ◌≤◌, ℕ, Bool, List, [], ◌∷◌, ◌⊎◌, Some, None}
+use Rattle.js_tree.specs.Terms.{Name}
+use Rattle.outcomes.specs.Outcome.{Out}
+use Rattle.outcomes.specs.Agreement.{forward, backward, Sim}
+use Rattle.ir_mean.specs.Meaning as ir_meaning
+use Rattle.ir_mean.specs.States as ir
+use Rattle.ir_mean.specs.World.{member_of}
+use Rattle.js_mean.specs.Meaning as js_meaning
+use Rattle.js_mean.specs.States as js
+use Rattle.sj_core.specs.Terms.{named}
+use Rattle.sj_desugar.specs.Desugar.{desugared, is_mutable_in, result_destination}
+use Rattle.sj_emit_expr.specs.Templates.{member_name, statement_templates}
+use Rattle.sj_names.specs.declared.method_names.Member.{Member}
+use Rattle.sj_trees.specs.Term.{Term}
+use Rattle.sj_trees.specs.declared.classes.MethodDef.{MethodDef}
+use Rattle.sj_trees.specs.declared.classes.ParamDef.{ParamDef}
+use Rattle.sj_bodies.specs.Fine.{Fine}
+use Rattle.sj_bodies.specs.Locals.{Own}
+use Rattle.sj_bodies.specs.Settings.{Place, Valued}
+use Rattle.sj_bodies.specs.Worlds.{World}
+
+-- the parameters of a function
+abbrev pub parameters_in : Place → List (List ℕ) → List Name
+parameters_in p [] = []
+parameters_in p (x ∷ xs) = p.name (named x) ∷ parameters_in p xs
+
+-- the emitted function of a method with this body
+abbrev pub function_of : Place → MethodDef → Term → js_meaning.Code
+function_of p d e = record { parameters = parameters_in p (desugared d e).params; body = statement_templates p.name p.label (desugared d e).body }
+
+abbrev pub IsParameter : List ParamDef → List ℕ → Type 0
+IsParameter [] x = ⊥
+IsParameter (d ∷ ds) x = (x ≡ d.name) ⊎ IsParameter ds x
+
+-- the body is fine where it brings its value out of the method, with the parameters in scope, and it defines no parameter again
+pub record FineMethod (is_linked : Member → Bool) (d : MethodDef) (e : Term) : Type 0 where
+  pub fine : Fine (is_mutable_in d e) is_linked (IsParameter d.params) [] (result_destination d.result) e
+  pub fresh : (x : List ℕ) → Own e x → IsParameter d.params x → ⊥
+
+-- a member of the classes with a body that is fine, whose function stands in the file
+pub record Linked (p : Place) (m : Member) : Type 0 where
+  pub definition : MethodDef
+  pub its_body : Term
+  pub found : member_of p.classes m.class m.namespace m.method ≡ Some definition
+  pub has_body : definition.body ≡ Some its_body
+  pub emitted : js_meaning.code_of p.program p.file (member_name m) ≡ Some (function_of p definition its_body)
+  pub fine : FineMethod p.is_linked definition its_body
+
+-- a call of a member by the IR, and a call of its function, with a bound on what its body does
+abbrev pub ir_call : Place → Member → List ir.Value → ir.Env → ir.State → ℕ → Out ir.Ended
+ir_call p m vs env s n = ir_meaning.call (ir_meaning.below p.classes n) (member_of p.classes m.class m.namespace m.method) None vs env s
+
+abbrev pub js_call : Place → Member → List js.Value → js.State → ℕ → Out js.ExpressionEnd
+js_call p m xs u n = js_meaning.code_call (js_meaning.below p.program n) p.file (js_meaning.code_of p.program p.file (member_name m)) xs u
+
+-- what the call shows within a bound the call of the function shows within each bound that isn't less, and the other way round: where the one
+-- is done, the other is too, with the same lines and with a value and a state that stand for the one's; where it is going, its lines are the
+-- first of the other's. A call that is wrong by the IR promises nothing.
+pub record CallsAgree (p : Place) (m : Member) (w : World) (vs : List ir.Value) (xs : List js.Value) (env : ir.Env) (s : ir.State) (u : js.State) : Type 0 where
+  pub there : (n k : ℕ) → n ≤ k → Sim forward (Valued p w env) (ir_call p m vs env s n) (js_call p m xs u k)
+  pub back : (n k : ℕ) → k ≤ n → Sim backward (Valued p w env) (ir_call p m vs env s n) (js_call p m xs u k)

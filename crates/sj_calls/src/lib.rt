@@ -1,0 +1,48 @@
+//! The agreement of the two meanings for calls: what a call of a method comes to by the IR, a call of its emitted function comes to by
+//! ECMA-262, at every bound.
+//!
+//! `specs/` has what is asked of a method and of the names in its function. The functions here are laws: they do nothing when they run, and
+//! their clauses are theorems.
+#![tactic(auto)]
+
+ghost use Rattle.std.specs.Prelude.{◌≡◌, ℕ, Bool, true, List, Some};
+ghost use Rattle.std.specs.List.{Contains};
+ghost use Rattle.outcomes.specs.Agreement.{IsNotWrong, Agree};
+ghost use Rattle.ir_mean.specs.Shows.{initializers, ir_shows};
+ghost use Rattle.ir_mean.specs.States as ir;
+ghost use Rattle.ir_mean.specs.World as ir_world;
+ghost use Rattle.js_mean.specs.Files.{owner};
+ghost use Rattle.js_mean.specs.Proper.{is_proper_module};
+ghost use Rattle.js_mean.specs.Shows.{js_shows};
+ghost use Rattle.js_mean.specs.States as js;
+ghost use Rattle.js_tree.specs.Terms.{Name};
+ghost use Rattle.sj_emit_expr.specs.Templates.{member_name};
+ghost use Rattle.sj_names.specs.declared.entry_points.EntryPoint.{EntryPoint};
+ghost use Rattle.sj_names.specs.declared.method_names.Member.{Member};
+ghost use Rattle.sj_bodies.specs.Settings.{Place, SameState, NamesDiffer};
+ghost use Rattle.sj_bodies.specs.Worlds.{World, SameValues};
+ghost use Rattle.sj_calls.specs.Files.{EmittedMethod, initializer_member, module_with, program_with, IsEmitted, HasFunction};
+ghost use Rattle.sj_calls.specs.Methods.{Linked, CallsAgree};
+ghost use Rattle.sj_calls.specs.Names.{emitted_in, LinkedByName};
+
+/// The theorem on calls, for any names of variables and labels that differ: let each linked member be a method of the classes whose body is fine
+/// and whose emitted function stands in the file. Then a call of a linked member by the IR and a call of its function agree where the
+/// arguments and the states stand for each other: what the one shows within a bound, the other shows within each bound that isn't less.
+pub fn calls_agree()
+    ensures { (p : Place) → NamesDiffer p → ((m : Member) → p.is_linked m ≡ true → Linked p m) → (m : Member) → p.is_linked m ≡ true → (w : World) (vs : List ir.Value) (xs : List js.Value) (env : ir.Env) (s : ir.State) (u : js.State) → SameValues w vs xs → SameState p w s u → CallsAgree p m w vs xs env s u }
+{}
+
+/// The same for the names that the emitted code has: let further each local, label and parameter that occurs in the function of a linked member
+/// be a text of bytes, and each of its variables for operands have a number of 64 bits; and let the name of its function be one that its own
+/// file declares.
+pub fn named_calls_agree()
+    ensures { (classes : ir_world.World) (program : js.Program) (file : Name) (is_linked : Member → Bool) → ((m : Member) → is_linked m ≡ true → owner program file (member_name m) ≡ Some file) → ((m : Member) → is_linked m ≡ true → LinkedByName (emitted_in classes program file is_linked) m) → (m : Member) → is_linked m ≡ true → (w : World) (vs : List ir.Value) (xs : List js.Value) (env : ir.Env) (s : ir.State) (u : js.State) → SameValues w vs xs → SameState (emitted_in classes program file is_linked) w s u → CallsAgree (emitted_in classes program file is_linked) m w vs xs env s u }
+{}
+
+/// The theorem on files: take a module that has the functions of these methods in this order and then calls the initializers of a public module,
+/// and that has no early error. Let each method be that of its member in the classes, with a fine body and good names, let each member that is
+/// called have one of the functions, and let the initializers be among them. Then the file shows of the public module what the classes show,
+/// unless the classes are wrong at some bound: what the one shows within any bound the other shows within some bound, and the other way round.
+pub fn file_of_functions_agrees()
+    ensures { (w : ir_world.World) (entries : List EntryPoint) (id : List ℕ) (fs : List EmittedMethod) (is_linked : Member → Bool) → is_proper_module (module_with fs (initializers entries id)) ≡ true → ((e : EmittedMethod) → Contains fs e → IsEmitted w is_linked e) → ((m : Member) → is_linked m ≡ true → HasFunction fs m) → ((e : EntryPoint) → Contains (initializers entries id) e → is_linked (initializer_member e) ≡ true) → ((n : ℕ) → IsNotWrong (ir_shows w entries id n).end) → Agree (ir_shows w entries id) (js_shows (program_with id fs (initializers entries id)) id) }
+{}

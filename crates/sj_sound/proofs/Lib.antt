@@ -1,0 +1,6 @@
+pub mod Covered
+pub mod Mutable
+pub mod Right
+pub mod Same
+pub mod Values
+pub mod Whole

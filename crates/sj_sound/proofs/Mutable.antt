@@ -1,0 +1,173 @@
+-- The mutable locals that a tree defines are among those that desugaring takes for mutable.
+use Rattle.std.proofs.Common.{◌≡◌, ℕ, Bool, true, false, List, [], ◌∷◌, ◌||◌, ◌⊎◌, inl, inr, ⊎_elim, refl, sym, ap, ◌∙◌, subst}
+use Rattle.sj_desugar.specs.Desugar.{is_mutable_in}
+use Rattle.sj_desugar.specs.Plain.{is_among, if_mutable, mutable_in, mutable_in_all, mutable_in_cases, mutable_params}
+use Rattle.sj_names.specs.declared.method_names.Member.{Member}
+use Rattle.sj_trees.specs.Term.{Term, Terms, no_terms, more_terms, Cases, no_cases, more_cases, var_def, skip, block_of, labeled, assign, return_to, if_then, while_loop, do_while, match_on, apply_static, unary_op, binary_op, undefined_literal, null_literal, boolean_literal, byte_literal, short_literal, int_literal, string_literal, var_ref, log_line}
+use Rattle.sj_trees.specs.declared.classes.MethodDef.{MethodDef}
+use Rattle.sj_trees.specs.declared.classes.ParamDef.{ParamDef}
+use Rattle.sj_trees.specs.declared.types.IrType.{IrType}
+use Rattle.std.specs.Prelude.{Option, Some, None, nat_eq, if◌then◌else◌}
+use Rattle.std.specs.Cmp.Lexicographic.{pointwise}
+use Rattle.sj_bodies.specs.Conditions.{IsDivisor, divisor}
+use Rattle.sj_bodies.proofs.Contexts.{equals, is-equal}
+use Rattle.sj_bodies.proofs.Operators.{impossible}
+use Rattle.sj_sound.specs.Typing.{Scene, local_of, behind, in_label, Typed, TypedBlock, TypedAll, TypedCases}
+
+abbrev mutual
+  -- the mutable locals that a tree defines
+  pub Mutates : Term → List ℕ → Type 0
+  Mutates (var_def p x t b e) y = ((b ≡ true) × (y ≡ x)) ⊎ Mutates e y
+  Mutates (block_of p ts) y = MutatesAll ts y
+  Mutates (labeled p l t e) y = Mutates e y
+  Mutates (assign p d e) y = Mutates e y
+  Mutates (return_to p e l) y = Mutates e y
+  Mutates (if_then p c a b t) y = Mutates c y ⊎ (Mutates a y ⊎ Mutates b y)
+  Mutates (while_loop p c b) y = Mutates c y ⊎ Mutates b y
+  Mutates (do_while p b c) y = Mutates b y ⊎ Mutates c y
+  Mutates (match_on p e cs d t) y = Mutates e y ⊎ (MutatesCases cs y ⊎ Mutates d y)
+  Mutates (apply_static p c n m ts t) y = MutatesAll ts y
+  Mutates (unary_op p o e) y = Mutates e y
+  Mutates (binary_op p o e d) y = Mutates e y ⊎ Mutates d y
+  Mutates (log_line p e) y = Mutates e y
+  Mutates _ y = ⊥
+
+  pub MutatesAll : Terms → List ℕ → Type 0
+  MutatesAll no_terms y = ⊥
+  MutatesAll (more_terms t ts) y = Mutates t y ⊎ MutatesAll ts y
+
+  pub MutatesCases : Cases → List ℕ → Type 0
+  MutatesCases no_cases y = ⊥
+  MutatesCases (more_cases ns t cs) y = Mutates t y ⊎ MutatesCases cs y
+
+-- the name is among these, also where others stand in front
+abbrev Keeps : (List (List ℕ) → List (List ℕ)) → List ℕ → Type 0
+Keeps f y = (xs : List (List ℕ)) → is_among xs y ≡ true → is_among (f xs) y ≡ true
+
+behind_one : (a b : Bool) → b ≡ true → (a || b) ≡ true
+behind_one true b h = refl
+behind_one false b h = h
+
+at_front : (a b : Bool) → a ≡ true → (a || b) ≡ true
+at_front true b h = refl
+at_front false b h = impossible h
+
+if-keeps : (b : Bool) (x y : List ℕ) → Keeps (if_mutable b x) y
+if-keeps true x y xs h = behind_one (pointwise nat_eq y x) (is_among xs y) h
+if-keeps false x y xs h = h
+
+if-here : (b : Bool) (x y : List ℕ) (xs : List (List ℕ)) → b ≡ true → y ≡ x → is_among (if_mutable b x xs) y ≡ true
+if-here true x y xs h e = at_front (pointwise nat_eq y x) (is_among xs y) (ap (pointwise nat_eq y) (sym e) ∙ equals y)
+if-here false x y xs h e = impossible h
+
+keeps-divisor : (d : Term) → IsDivisor d → (y : List ℕ) → Keeps (mutable_in d) y
+keeps-divisor _ (divisor p n f ne) y xs i = i
+
+no_divisor : (d : Term) → IsDivisor d → (y : List ℕ) → Mutates d y → ⊥
+no_divisor _ (divisor p n f ne) y h = h
+
+module _ (sub : IrType → IrType → Type 0) (is_linked : Member → Bool) (y : List ℕ) where
+  mutual
+    pub keeps : (t : Term) (s : Scene) → Typed sub is_linked s t → Keeps (mutable_in t) y
+    keeps (var_def p x t b e) s h xs i = if-keeps b x y (mutable_in e xs) (keeps e s h.3 xs i)
+    keeps (skip p) s h xs i = i
+    keeps (block_of p ts) s h xs i = keeps-block ts s h xs i
+    keeps (labeled p l t e) s h xs i = keeps e (in_label l t s) h.2 xs i
+    keeps (assign p (var_ref q x t) e) s h xs i = keeps e s h.2 xs i
+    keeps (return_to p e l) s h xs i = keeps e s h.1 xs i
+    keeps (if_then p c a b t) s h xs i = keeps c s h.4 (mutable_in a (mutable_in b xs)) (keeps a s h.5 (mutable_in b xs) (keeps b s h.6 xs i))
+    keeps (while_loop p c b) s h xs i = keeps c s h.1 (mutable_in b xs) (keeps b s h.2 xs i)
+    keeps (do_while p b c) s h xs i = keeps b s h.1 (mutable_in c xs) (keeps c s h.2 xs i)
+    keeps (match_on p e cs d t) s h xs i = keeps e s h.3 (mutable_in_cases cs (mutable_in d xs)) (keeps-cases cs s t h.4 (mutable_in d xs) (keeps d s h.5 xs i))
+    keeps (apply_static p c n m ts t) s h xs i = keeps-all ts s h.3 xs i
+    keeps (unary_op p o e) s h xs i = keeps e s h.2 xs i
+    keeps (binary_op p o e d) s (inl h) xs i = keeps e s h.3 (mutable_in d xs) (keeps d s h.4 xs i)
+    keeps (binary_op p o e d) s (inr h) xs i = keeps e s h.2 (mutable_in d xs) (keeps-divisor d h.3 y xs i)
+    keeps (undefined_literal p) s h xs i = i
+    keeps (null_literal p) s h xs i = i
+    keeps (boolean_literal p b) s h xs i = i
+    keeps (byte_literal p n) s h xs i = i
+    keeps (short_literal p n) s h xs i = i
+    keeps (int_literal p n) s h xs i = i
+    keeps (string_literal p us) s h xs i = i
+    keeps (var_ref p x t) s h xs i = i
+    keeps (log_line p e) s h xs i = keeps e s h.1 xs i
+    keeps _ s h xs i = absurd h
+
+    keeps-block : (ts : Terms) (s : Scene) → TypedBlock sub is_linked s ts → Keeps (mutable_in_all ts) y
+    keeps-block no_terms s h xs i = absurd h
+    keeps-block (more_terms t no_terms) s h xs i = keeps t s h xs i
+    keeps-block (more_terms t (more_terms u us)) s h xs i = keeps t s h.0 (mutable_in_all (more_terms u us) xs) (keeps-block (more_terms u us) (behind t s) h.2 xs i)
+
+    keeps-all : (ts : Terms) (s : Scene) → TypedAll sub is_linked s ts → Keeps (mutable_in_all ts) y
+    keeps-all no_terms s h xs i = i
+    keeps-all (more_terms t ts) s h xs i = keeps t s h.0 (mutable_in_all ts xs) (keeps-all ts s h.1 xs i)
+
+    keeps-cases : (cs : Cases) (s : Scene) (r : IrType) → TypedCases sub is_linked s r cs → Keeps (mutable_in_cases cs) y
+    keeps-cases no_cases s r h xs i = i
+    keeps-cases (more_cases ns t cs) s r h xs i = keeps t s h.1 (mutable_in_cases cs xs) (keeps-cases cs s r h.2 xs i)
+
+  mutual
+    pub among : (t : Term) (s : Scene) → Typed sub is_linked s t → Mutates t y → (xs : List (List ℕ)) → is_among (mutable_in t xs) y ≡ true
+    among (var_def p x t b e) s h (inl m) xs = if-here b x y (mutable_in e xs) m.0 m.1
+    among (var_def p x t b e) s h (inr m) xs = if-keeps b x y (mutable_in e xs) (among e s h.3 m xs)
+    among (block_of p ts) s h m xs = among-block ts s h m xs
+    among (labeled p l t e) s h m xs = among e (in_label l t s) h.2 m xs
+    among (assign p (var_ref q x t) e) s h m xs = among e s h.2 m xs
+    among (assign p d e) s h m xs = absurd h
+    among (return_to p e l) s h m xs = among e s h.1 m xs
+    among (if_then p c a b t) s h (inl m) xs = among c s h.4 m (mutable_in a (mutable_in b xs))
+    among (if_then p c a b t) s h (inr (inl m)) xs = keeps c s h.4 (mutable_in a (mutable_in b xs)) (among a s h.5 m (mutable_in b xs))
+    among (if_then p c a b t) s h (inr (inr m)) xs = keeps c s h.4 (mutable_in a (mutable_in b xs)) (keeps a s h.5 (mutable_in b xs) (among b s h.6 m xs))
+    among (while_loop p c b) s h (inl m) xs = among c s h.1 m (mutable_in b xs)
+    among (while_loop p c b) s h (inr m) xs = keeps c s h.1 (mutable_in b xs) (among b s h.2 m xs)
+    among (do_while p b c) s h (inl m) xs = among b s h.1 m (mutable_in c xs)
+    among (do_while p b c) s h (inr m) xs = keeps b s h.1 (mutable_in c xs) (among c s h.2 m xs)
+    among (match_on p e cs d t) s h (inl m) xs = among e s h.3 m (mutable_in_cases cs (mutable_in d xs))
+    among (match_on p e cs d t) s h (inr (inl m)) xs = keeps e s h.3 (mutable_in_cases cs (mutable_in d xs)) (among-cases cs s t h.4 m (mutable_in d xs))
+    among (match_on p e cs d t) s h (inr (inr m)) xs = keeps e s h.3 (mutable_in_cases cs (mutable_in d xs)) (keeps-cases cs s t h.4 (mutable_in d xs) (among d s h.5 m xs))
+    among (apply_static p c n m ts t) s h i xs = among-all ts s h.3 i xs
+    among (unary_op p o e) s h m xs = among e s h.2 m xs
+    among (binary_op p o e d) s (inl h) (inl m) xs = among e s h.3 m (mutable_in d xs)
+    among (binary_op p o e d) s (inl h) (inr m) xs = keeps e s h.3 (mutable_in d xs) (among d s h.4 m xs)
+    among (binary_op p o e d) s (inr h) (inl m) xs = among e s h.2 m (mutable_in d xs)
+    among (binary_op p o e d) s (inr h) (inr m) xs = absurd (no_divisor d h.3 y m)
+    among (log_line p e) s h m xs = among e s h.1 m xs
+    among _ s h m xs = absurd m
+
+    among-block : (ts : Terms) (s : Scene) → TypedBlock sub is_linked s ts → MutatesAll ts y → (xs : List (List ℕ)) → is_among (mutable_in_all ts xs) y ≡ true
+    among-block no_terms s h m xs = absurd h
+    among-block (more_terms t no_terms) s h (inl m) xs = among t s h m xs
+    among-block (more_terms t no_terms) s h (inr m) xs = absurd m
+    among-block (more_terms t (more_terms u us)) s h (inl m) xs = among t s h.0 m (mutable_in_all (more_terms u us) xs)
+    among-block (more_terms t (more_terms u us)) s h (inr m) xs = keeps t s h.0 (mutable_in_all (more_terms u us) xs) (among-block (more_terms u us) (behind t s) h.2 m xs)
+
+    among-all : (ts : Terms) (s : Scene) → TypedAll sub is_linked s ts → MutatesAll ts y → (xs : List (List ℕ)) → is_among (mutable_in_all ts xs) y ≡ true
+    among-all no_terms s h m xs = absurd m
+    among-all (more_terms t ts) s h (inl m) xs = among t s h.0 m (mutable_in_all ts xs)
+    among-all (more_terms t ts) s h (inr m) xs = keeps t s h.0 (mutable_in_all ts xs) (among-all ts s h.1 m xs)
+
+    among-cases : (cs : Cases) (s : Scene) (r : IrType) → TypedCases sub is_linked s r cs → MutatesCases cs y → (xs : List (List ℕ)) → is_among (mutable_in_cases cs xs) y ≡ true
+    among-cases no_cases s r h m xs = absurd m
+    among-cases (more_cases ns t cs) s r h (inl m) xs = among t s h.1 m (mutable_in_cases cs xs)
+    among-cases (more_cases ns t cs) s r h (inr m) xs = keeps t s h.1 (mutable_in_cases cs xs) (among-cases cs s r h.2 m xs)
+
+params-keep : (ds : List ParamDef) (y : List ℕ) → Keeps (mutable_params ds) y
+params-keep [] y xs h = h
+params-keep (d ∷ ds) y xs h = if-keeps d.«mutable» d.name y (mutable_params ds xs) (params-keep ds y xs h)
+
+-- a mutable parameter
+params-among : (ds : List ParamDef) (y : List ℕ) (d : ParamDef) → local_of ds y ≡ Some d → d.«mutable» ≡ true → (xs : List (List ℕ)) → is_among (mutable_params ds xs) y ≡ true
+params-among [] y d e m xs = impossible (cc)
+params-among (c ∷ cs) y d e m xs = go (pointwise nat_eq y c.name) refl e (λ k. params-among cs y d k m xs)
+  where
+    go : (b : Bool) → pointwise nat_eq y c.name ≡ b → (if b then Some c else local_of cs y) ≡ Some d → (local_of cs y ≡ Some d → is_among (mutable_params cs xs) y ≡ true) → is_among (if_mutable c.«mutable» c.name (mutable_params cs xs)) y ≡ true
+    go true i k later = let same : c ≡ d = cc in if-here c.«mutable» c.name y (mutable_params cs xs) (ap (λ (a : ParamDef). a.«mutable») same ∙ m) (is-equal y c.name i)
+    go false i k later = if-keeps c.«mutable» c.name y (mutable_params cs xs) (later k)
+
+-- what is a mutable local is taken for one
+pub mutable-known : (sub : IrType → IrType → Type 0) (is_linked : Member → Bool) (d : MethodDef) (e : Term) (s : Scene) → Typed sub is_linked s e → (y : List ℕ) → Mutates e y → is_mutable_in d e y ≡ true
+mutable-known sub is_linked d e s h y m = params-keep d.params y (mutable_in e []) (among sub is_linked y e s h m [])
+
+pub parameter-known : (d : MethodDef) (e : Term) (y : List ℕ) (p : ParamDef) → local_of d.params y ≡ Some p → p.«mutable» ≡ true → is_mutable_in d e y ≡ true
+parameter-known d e y p i m = params-among d.params y p i m (mutable_in e [])

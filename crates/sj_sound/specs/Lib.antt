@@ -1,0 +1,4 @@
+pub mod Linked
+pub mod Rules
+pub mod Subtyping
+pub mod Typing

@@ -1,0 +1,147 @@
+-- The rules of trees of the forms that are built, over a relation of subtypes: the types of their parts, and the locals and labels that they use.
+use Rattle.std.specs.Prelude.{◌≡◌, ℕ, Bool, true, false, List, [], ◌∷◌, ◌⊎◌, ℤ, FitsSigned, nat_eq, Option, Some, None, if◌then◌else◌}
+use Rattle.std.specs.Int.{w32}
+use Rattle.std.specs.Cmp.Lexicographic.{pointwise}
+use Rattle.sj_desugar.specs.Coercions.{is_char}
+use Rattle.sj_desugar.specs.Desugar.{member, has_no_value}
+use Rattle.sj_names.specs.declared.method_names.Member.{Member}
+use Rattle.sj_names.specs.declared.references.TypeRef.{TypeRef}
+use Rattle.sj_trees.specs.Term.{Term, Terms, no_terms, more_terms, Cases, no_cases, more_cases, var_def, skip, block_of, labeled, assign, return_to, if_then, while_loop, do_while, match_on, apply_static, unary_op, binary_op, undefined_literal, null_literal, boolean_literal, byte_literal, short_literal, int_literal, string_literal, var_ref, log_line}
+use Rattle.sj_trees.specs.TypeOf.{type_of_term}
+use Rattle.sj_trees.specs.Types.{reference_type}
+use Rattle.sj_trees.specs.declared.classes.ParamDef.{ParamDef}
+use Rattle.sj_trees.specs.declared.operators.BinaryOp.{BinaryOp}
+use Rattle.sj_trees.specs.declared.operators.BinaryOp.TheVariants.{BooleanEqual, BooleanNotEqual, BooleanOr, BooleanAnd}
+use Rattle.sj_trees.specs.declared.operators.UnaryOp.{UnaryOp}
+use Rattle.sj_trees.specs.declared.operators.UnaryOp.TheVariants.{BooleanNot, ByteToInt, ShortToInt}
+use Rattle.sj_trees.specs.declared.types.IrType.{IrType}
+use Rattle.sj_trees.specs.declared.types.IrType.TheVariants.{Any, Boolean, Byte, Short, Int, String, NoType}
+use Rattle.sj_bodies.specs.Conditions.{is_simple, is_simple_unary, IsDivision, IsDivisor}
+use Rattle.sj_bodies.specs.Locals.{Own, OwnAll}
+
+-- a label with the type of what leaves to it
+pub record Label : Type 0 where
+  pub name : List ℕ
+  pub tpe : IrType
+
+-- what a tree stands in: the locals in scope and the labels around it, the innermost first
+pub record Scene : Type 0 where
+  pub locals : List ParamDef
+  pub labels : List Label
+
+-- the innermost local of a name, and the type of the innermost label
+abbrev pub local_of : List ParamDef → List ℕ → Option ParamDef
+local_of [] x = None
+local_of (d ∷ ds) x = if pointwise nat_eq x d.name then Some d else local_of ds x
+
+abbrev pub type_of_label : List Label → List ℕ → Option IrType
+type_of_label [] l = None
+type_of_label (b ∷ bs) l = if pointwise nat_eq l b.name then Some b.tpe else type_of_label bs l
+
+-- a type of which there are values, other than char, whose values aren't built yet
+abbrev pub HasValue : IrType → Type 0
+HasValue t = (has_no_value t ≡ false) × (is_char t ≡ false)
+
+-- none, or a type of which there are values
+abbrev pub IsResult : IrType → Type 0
+IsResult t = (t ≡ NoType) ⊎ HasValue t
+
+-- a local in scope, with its type; and one that is mutable
+pub record IsLocal (s : Scene) (x : List ℕ) (t : IrType) : Type 0 where
+  pub local : ParamDef
+  pub is : local_of s.locals x ≡ Some local
+  pub type_is : local.tpe ≡ t
+
+pub record IsVariable (s : Scene) (x : List ℕ) (t : IrType) : Type 0 where
+  pub local : ParamDef
+  pub is : local_of s.locals x ≡ Some local
+  pub type_is : local.tpe ≡ t
+  pub mutable : local.mutable ≡ true
+
+-- the type of a call: that of its result, and any for a reflective call
+abbrev pub call_type : Option TypeRef → IrType
+call_type None = Any
+call_type (Some r) = reference_type r
+
+-- the type of an operand of an operator that is built
+abbrev pub unary_operand : UnaryOp → IrType
+unary_operand BooleanNot = Boolean
+unary_operand ByteToInt = Byte
+unary_operand ShortToInt = Short
+unary_operand _ = Int
+
+abbrev pub binary_operand : BinaryOp → IrType
+binary_operand BooleanEqual = Boolean
+binary_operand BooleanNotEqual = Boolean
+binary_operand BooleanOr = Boolean
+binary_operand BooleanAnd = Boolean
+binary_operand _ = Int
+
+-- what a statement of a block defines for those behind it
+abbrev pub Defines : Term → List ℕ → Type 0
+Defines (var_def p x t b e) y = x ≡ y
+Defines _ y = ⊥
+
+abbrev pub behind : Term → Scene → Scene
+behind (var_def p x t b e) s = record { locals = record { name = x; «mutable» = b; tpe = t } ∷ s.locals; labels = s.labels }
+behind _ s = s
+
+abbrev pub in_label : List ℕ → IrType → Scene → Scene
+in_label l t s = record { locals = s.locals; labels = record { name = l; tpe = t } ∷ s.labels }
+
+module _ (sub : IrType → IrType → Type 0) (is_linked : Member → Bool) where
+  -- there is no value to yield, or the tree's fits
+  abbrev pub Yields : Term → IrType → Type 0
+  Yields e t = (t ≡ NoType) ⊎ sub (type_of_term e) t
+
+  pub record ReturnsTo (s : Scene) (l : List ℕ) (e : Term) : Type 0 where
+    pub tpe : IrType
+    pub is : type_of_label s.labels l ≡ Some tpe
+    pub yields : Yields e tpe
+
+  -- arguments are as many as the parameters, of which each has a value, and fit their types
+  abbrev pub ArgumentsFit : Terms → List TypeRef → Type 0
+  ArgumentsFit no_terms [] = Unit {0}
+  ArgumentsFit (more_terms e es) (r ∷ rs) = sub (type_of_term e) (reference_type r) × HasValue (reference_type r) × ArgumentsFit es rs
+  ArgumentsFit _ _ = ⊥
+
+  abbrev mutual
+    -- a tree of the forms that are built that keeps the rules; a local is defined once in a method, and no type is char
+    pub Typed : Scene → Term → Type 0
+    Typed s (var_def p x t b e) = sub (type_of_term e) t × HasValue t × (Own e x → ⊥) × Typed s e
+    Typed s (skip p) = Unit {0}
+    Typed s (block_of p ts) = TypedBlock s ts
+    Typed s (labeled p l t e) = Yields e t × IsResult t × Typed (in_label l t s) e
+    Typed s (assign p (var_ref q x t) e) = IsVariable s x t × sub (type_of_term e) t × Typed s e
+    Typed s (return_to p e l) = ReturnsTo s l e × Typed s e
+    Typed s (if_then p c a b t) = sub (type_of_term c) Boolean × Yields a t × Yields b t × (is_char t ≡ false) × Typed s c × Typed s a × Typed s b
+    Typed s (while_loop p c b) = sub (type_of_term c) Boolean × Typed s c × Typed s b
+    Typed s (do_while p b c) = sub (type_of_term c) Boolean × Typed s b × Typed s c
+    Typed s (match_on p e cs d t) = sub (type_of_term e) Int × Yields d t × (is_char t ≡ false) × Typed s e × TypedCases s t cs × Typed s d
+    Typed s (apply_static p c n m ts t) = (is_linked (member c n m) ≡ true) × IsResult t × ArgumentsFit ts m.params × TypedAll s ts × (t ≡ call_type m.result)
+    Typed s (unary_op p o e) = (is_simple_unary o ≡ true) × sub (type_of_term e) (unary_operand o) × Typed s e
+    Typed s (binary_op p o e d) = ((is_simple o ≡ true) × sub (type_of_term e) (binary_operand o) × sub (type_of_term d) (binary_operand o) × Typed s e × Typed s d) ⊎ (IsDivision o × sub (type_of_term e) Int × Typed s e × IsDivisor d)
+    Typed s (undefined_literal p) = Unit {0}
+    Typed s (null_literal p) = Unit {0}
+    Typed s (boolean_literal p b) = Unit {0}
+    Typed s (byte_literal p z) = FitsSigned w32 z
+    Typed s (short_literal p z) = FitsSigned w32 z
+    Typed s (int_literal p z) = FitsSigned w32 z
+    Typed s (string_literal p us) = Unit {0}
+    Typed s (var_ref p x t) = IsLocal s x t
+    Typed s (log_line p e) = sub (type_of_term e) String × Typed s e
+    Typed s _ = ⊥
+
+    -- a block isn't empty, and what a statement defines no later one defines again
+    pub TypedBlock : Scene → Terms → Type 0
+    TypedBlock s no_terms = ⊥
+    TypedBlock s (more_terms t no_terms) = Typed s t
+    TypedBlock s (more_terms t (more_terms u us)) = Typed s t × ((x : List ℕ) → Defines t x → OwnAll (more_terms u us) x → ⊥) × TypedBlock (behind t s) (more_terms u us)
+
+    pub TypedAll : Scene → Terms → Type 0
+    TypedAll s no_terms = Unit {0}
+    TypedAll s (more_terms t ts) = Typed s t × TypedAll s ts
+
+    pub TypedCases : Scene → IrType → Cases → Type 0
+    TypedCases s t no_cases = Unit {0}
+    TypedCases s t (more_cases ns e cs) = Yields e t × Typed s e × TypedCases s t cs

@@ -1,0 +1,41 @@
+//! Bodies that keep the rules of their forms: they are covered by the agreement of the two meanings, and they are never wrong.
+//!
+//! `specs/` has the rules as one definition over trees. The functions here are laws: they do nothing when they run, and their clauses are
+//! theorems.
+#![tactic(auto)]
+
+ghost use Rattle.std.specs.Prelude.{◌≡◌, ℕ, Bool, true, List};
+ghost use Rattle.std.specs.List.{Contains};
+ghost use Rattle.outcomes.specs.Agreement.{Agree};
+ghost use Rattle.ir_mean.specs.Shows.{initializers, ir_shows};
+ghost use Rattle.ir_mean.specs.World.{World};
+ghost use Rattle.js_mean.specs.Proper.{is_proper_module};
+ghost use Rattle.js_mean.specs.Shows.{js_shows};
+ghost use Rattle.sj_names.specs.declared.entry_points.EntryPoint.{EntryPoint};
+ghost use Rattle.sj_names.specs.declared.method_names.Member.{Member};
+ghost use Rattle.sj_trees.specs.Term.{Term};
+ghost use Rattle.sj_trees.specs.declared.classes.MethodDef.{MethodDef};
+ghost use Rattle.sj_calls.specs.Files.{EmittedMethod, module_with, program_with};
+ghost use Rattle.sj_calls.specs.Methods.{FineMethod};
+ghost use Rattle.sj_sound.specs.Linked.{have_functions, IsRight};
+ghost use Rattle.sj_sound.specs.Rules.{KeepsRules};
+ghost use Rattle.sj_sound.specs.Subtyping.{IsSubtyping, IsSubSimply};
+
+/// Subtyping among types that name no class has the properties that are asked of subtyping.
+pub fn simple_subtypes_are_ordered()
+    ensures { IsSubtyping IsSubSimply }
+{}
+
+/// A method whose body keeps the rules is covered by the theorem on calls.
+pub fn bodies_are_covered()
+    ensures { (is_linked : Member → Bool) (d : MethodDef) (e : Term) → KeepsRules IsSubSimply is_linked d e → FineMethod is_linked d e }
+{}
+
+/// The theorem on programs of such methods: take a module that has the functions of these methods in this order and then calls the initializers
+/// of a public module, and that has no early error. Let each method be that of its member in the classes, with the types that its name
+/// tells, with a body that keeps the rules and calls these methods alone, and with good names; and let the initializers be among them. Then
+/// the file shows of the public module what the classes show: what the one shows within any bound the other shows within some bound, and the
+/// other way round, and neither is wrong at any bound.
+pub fn program_of_bodies_agrees()
+    ensures { (w : World) (entries : List EntryPoint) (id : List ℕ) (fs : List EmittedMethod) → is_proper_module (module_with fs (initializers entries id)) ≡ true → ((e : EmittedMethod) → Contains fs e → IsRight w fs e) → have_functions fs (initializers entries id) ≡ true → Agree (ir_shows w entries id) (js_shows (program_with id fs (initializers entries id)) id) }
+{}
