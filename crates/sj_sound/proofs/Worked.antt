@@ -1,13 +1,12 @@
 -- The worked program keeps the rules.
-use Rattle.std.proofs.Common.{◌≡◌, ◌<◌, ◌^◌, ℕ, Bool, true, false, List, [], ◌∷◌, codes, Some, None, Option, refl, sym, ap, subst, ◌⊎◌, inl, inr, ⊎_elim, Contains, arith, if◌then◌else◌}
-use Rattle.std.specs.Prelude.{ℤ, pos, nat_eq, FitsSigned}
+use Rattle.std.proofs.Common.{◌≡◌, ◌<◌, ◌^◌, ℕ, Bool, true, false, List, [], ◌∷◌, codes, Some, None, refl, subst, inl, inr, ⊎_elim, Contains, arith, if◌then◌else◌}
+use Rattle.std.specs.Prelude.{pos, nat_eq, FitsSigned}
 use Rattle.std.specs.Cmp.Lexicographic.{pointwise}
 use Rattle.std.specs.Int.{w32}
 use Rattle.std.proofs.lemmas.List.Elements.{All-cons, All-nil}
 use Rattle.outcomes.specs.Agreement.{Agree}
-use Rattle.ir_mean.specs.Rows.{once, triples, p_use}
-use Rattle.ir_mean.specs.Shows.{ir_shows, initializers}
-use Rattle.js_mean.specs.Proper.{is_proper_module}
+use Rattle.ir_mean.specs.Rows.{once, triples}
+use Rattle.ir_mean.specs.Shows.{ir_shows}
 use Rattle.js_mean.specs.Shows.{js_shows}
 use Rattle.sj_mangling.specs.Mangling.{AreBytes}
 use Rattle.sj_names.specs.declared.method_names.Member.{Member}
@@ -15,12 +14,12 @@ use Rattle.sj_trees.specs.declared.classes.ParamDef.{ParamDef}
 use Rattle.sj_trees.specs.declared.types.IrType.TheVariants.{Int}
 use Rattle.sj_bodies.specs.Locals.{Own}
 use Rattle.sj_bodies.proofs.Operators.{impossible}
-use Rattle.sj_calls.specs.Files.{EmittedMethod, module_with, program_with}
+use Rattle.sj_calls.specs.Files.{EmittedMethod, program_with}
 use Rattle.sj_calls.proofs.Items.{nothing_in, in_front_or_behind}
-use Rattle.sj_sound.specs.Linked.{has_function, have_functions, IsRight}
+use Rattle.sj_sound.specs.Linked.{has_function, IsRight}
 use Rattle.sj_sound.specs.Rules.{KeepsRules}
 use Rattle.sj_sound.specs.Subtyping.{IsSubSimply, equal}
-use Rattle.sj_sound.specs.Typing.{Scene, local_of, HasValue, IsLocal, IsVariable, Typed}
+use Rattle.sj_sound.specs.Typing.{Scene, local_of, HasValue, IsLocal, IsVariable}
 use Rattle.sj_sound.specs.Worked.{tests_it, main_method, tripling_method, worked_world, emitted, worked_methods}
 use Rattle.sj_sound.proofs.Whole.{program_agrees}
 

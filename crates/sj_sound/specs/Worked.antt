@@ -1,8 +1,7 @@
 -- A worked program of two methods: one triples in a loop, and the other tests what it gives.
-use Rattle.std.specs.Prelude.{ℕ, List, [], ◌∷◌, pos, codes, Some}
+use Rattle.std.specs.Prelude.{List, [], ◌∷◌, pos, codes}
 use Rattle.ir_mean.specs.Rows.{nowhere, object_name, object_with, static_method, int_method, int_call, triples, logs}
 use Rattle.ir_mean.specs.World.{World}
-use Rattle.sj_names.specs.declared.method_names.Member.{Member}
 use Rattle.sj_trees.specs.Term.{Term, if_then, int_literal, binary_op}
 use Rattle.sj_trees.specs.declared.classes.MethodDef.{MethodDef}
 use Rattle.sj_trees.specs.declared.operators.BinaryOp.TheVariants.{IntEqual}
