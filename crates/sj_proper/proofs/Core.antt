@@ -59,7 +59,7 @@ module _ (z : Setting) (variables : (x y : core.Variable) → z.place.name x ≡
   abbrev templates : core.Statements → tree.Statements
   templates = statement_templates z.place.name z.place.label
 
-  not_again : (x : core.Variable) (ss : core.Statements) → (Declares ss x → ⊥) → is_among (declared (templates ss)) (z.place.name x) ≡ false
+  pub not_again : (x : core.Variable) (ss : core.Statements) → (Declares ss x → ⊥) → is_among (declared (templates ss)) (z.place.name x) ≡ false
   not_again x ss h = go (is_among (declared (templates ss)) (z.place.name x)) refl
     where
       go : (b : Bool) → is_among (declared (templates ss)) (z.place.name x) ≡ b → is_among (declared (templates ss)) (z.place.name x) ≡ false

@@ -1,3 +1,4 @@
 pub mod Core
 pub mod Good
+pub mod Modules
 pub mod Trees
