@@ -5,9 +5,10 @@
 //! are theorems.
 #![tactic(auto)]
 
-ghost use Rattle.std.specs.Prelude.{◌≡◌, ℕ, true, List, [], ◌∷◌};
+ghost use Rattle.std.specs.Prelude.{◌≡◌, ℕ, true, List, [], codes};
 ghost use Rattle.std.specs.List.{Contains};
 ghost use Rattle.outcomes.specs.Agreement.{Agree};
+ghost use Rattle.ir_mean.specs.Rows.{once};
 ghost use Rattle.ir_mean.specs.Shows.{initializers, ir_shows};
 ghost use Rattle.ir_mean.specs.World.{World};
 ghost use Rattle.js_mean.specs.Proper.{is_proper_item, is_proper_module};
@@ -19,6 +20,7 @@ ghost use Rattle.sj_calls.specs.Files.{EmittedMethod, function_item_of, module_w
 ghost use Rattle.sj_calls.specs.Methods.{IsParameter};
 ghost use Rattle.sj_calls.specs.Names.{GoodMethod};
 ghost use Rattle.sj_sound.specs.Linked.{have_functions};
+ghost use Rattle.sj_sound.specs.Worked.{worked_world, worked_methods};
 ghost use Rattle.sj_proper.specs.Once.{Once};
 ghost use Rattle.sj_proper.specs.Program.{AreDistinct, HaveOwnMembers, IsWhole};
 
@@ -41,4 +43,9 @@ pub fn modules_have_no_early_error()
 /// the other way round, and neither is wrong at any bound.
 pub fn linked_bodies_agree()
     ensures { (w : World) (entries : List EntryPoint) (id : List ℕ) (fs : List EmittedMethod) → ((e : EmittedMethod) → Contains fs e → IsWhole w fs e) → HaveOwnMembers fs → have_functions fs (initializers entries id) ≡ true → Agree (ir_shows w entries id) (js_shows (program_with id fs (initializers entries id)) id) }
+{}
+
+/// The premises of the theorem on programs can be met: by the two methods of the worked program.
+pub fn worked_bodies_agree()
+    ensures { Agree (ir_shows worked_world once (codes "main")) (js_shows (program_with (codes "main") worked_methods once) (codes "main")) }
 {}

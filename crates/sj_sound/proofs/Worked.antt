@@ -72,10 +72,10 @@ tripling_rules = record {
 p_bytes : AreBytes (codes "p")
 p_bytes = All-cons (λ b. b < 2 ^ 8) 112 [] (omega arith) (All-nil (λ b. b < 2 ^ 8))
 
-main_right : IsRight worked_world worked_methods (emitted main_method tests_it)
+pub main_right : IsRight worked_world worked_methods (emitted main_method tests_it)
 main_right = record { found = refl; has_body = refl; parameters = tt; result_is = refl; rules = main_rules; names = (tt, ((((tt, tt), tt), (tt, tt), (tt, tt)), tt)) }
 
-tripling_right : IsRight worked_world worked_methods (emitted tripling_method triples)
+pub tripling_right : IsRight worked_world worked_methods (emitted tripling_method triples)
 tripling_right = record { found = refl; has_body = refl; parameters = (refl, tt); result_is = refl; rules = tripling_rules; names = ((p_bytes, tt), (((p_bytes, tt), ((p_bytes, (p_bytes, tt)), tt)), (p_bytes, tt))) }
 
 each_right : (e : EmittedMethod) → Contains worked_methods e → IsRight worked_world worked_methods e
