@@ -75,7 +75,7 @@ module _ (classes : ir_world.World) (program : js.Program) (file : Name) (is_lin
   parameters-same [] h = refl
   parameters-same (x ∷ xs) h = λ i. name-same (core.named x) h.0 i ∷ parameters-same xs h.1 i
 
-  function-same : (d : MethodDef) (e : Term) → GoodMethod (desugared d e) → function_of safe d e ≡ function_of real d e
+  pub function-same : (d : MethodDef) (e : Term) → GoodMethod (desugared d e) → function_of safe d e ≡ function_of real d e
   function-same d e h = λ i. record { parameters = parameters-same (desugared d e).params h.0 i; body = statements-same (desugared d e).body h.1 i }
 
   linked-safe : (m : Member) → LinkedByName real m → Linked safe m

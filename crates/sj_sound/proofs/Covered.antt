@@ -1,11 +1,11 @@
 -- A body that keeps the rules is fine.
-use Rattle.std.proofs.Common.{◌≡◌, ℕ, Bool, true, false, ◌&&◌, List, [], ◌∷◌, Some, None, Option, refl, sym, ap, ◌∙◌, subst, ◌⊎◌, inl, inr, ⊎_elim, if◌then◌else◌}
+use Rattle.std.proofs.Common.{◌≡◌, ℕ, Bool, true, false, ◌&&◌, List, [], ◌∷◌, Some, refl, sym, ap, ◌∙◌, subst, ◌⊎◌, inl, inr, ⊎_elim, if◌then◌else◌}
 use Rattle.std.specs.Prelude.{not, nat_eq}
 use Rattle.std.specs.Cmp.Lexicographic.{pointwise}
 use Rattle.std.proofs.lemmas.Bool.{and_parts}
 use Rattle.sj_core.specs.Terms as core
 use Rattle.sj_desugar.specs.Coercions.{is_char}
-use Rattle.sj_desugar.specs.Desugar.{Targets, target_of, member, types_of, has_no_value}
+use Rattle.sj_desugar.specs.Desugar.{Targets, target_of, types_of, has_no_value}
 use Rattle.sj_desugar.specs.Plain.{is_plain, are_plain, is_fixed, is_no_type}
 use Rattle.sj_desugar.specs.Spill.{Destination, discard, to_variable, to_result}
 use Rattle.sj_names.specs.declared.method_names.Member.{Member}
@@ -20,15 +20,14 @@ use Rattle.sj_trees.specs.declared.operators.UnaryOp.{UnaryOp}
 use Rattle.sj_trees.specs.declared.operators.UnaryOp.TheVariants.{BooleanNot, ByteToInt, ShortToInt, IntToByte, IntToShort}
 use Rattle.sj_trees.specs.declared.positions.Position.{Position}
 use Rattle.sj_trees.specs.declared.types.IrType.{IrType}
-use Rattle.sj_trees.specs.declared.types.IrType.TheVariants.{Boolean, Int, String, NoType, Nothing, Null, Undefined, Byte, Short}
-use Rattle.sj_bodies.specs.Conditions.{is_simple, is_simple_unary, NoBox, NoBoxes, IsDivision, IsDivisor, divisor, Plain, AllPlain}
+use Rattle.sj_trees.specs.declared.types.IrType.TheVariants.{Boolean, Int, String, NoType, Null, Undefined, Byte, Short}
+use Rattle.sj_bodies.specs.Conditions.{is_simple_unary, NoBox, NoBoxes, Plain, AllPlain}
 use Rattle.sj_bodies.specs.Fine.{IsDiscard, is_discard, IsTrueLiteral, true_literal, FitsIn, FineOperand, Fine, FineBlock, FineOperands, FineCases}
-use Rattle.sj_bodies.specs.Locals.{Own, OwnAll}
 use Rattle.sj_bodies.proofs.Contexts.{is-equal}
 use Rattle.sj_bodies.proofs.Operators.{impossible}
 use Rattle.sj_calls.specs.Methods.{IsParameter}
 use Rattle.sj_sound.specs.Subtyping.{IsSubtyping}
-use Rattle.sj_sound.specs.Typing.{Label, Scene, local_of, type_of_label, HasValue, IsResult, IsLocal, IsVariable, unary_operand, binary_operand, Defines, behind, in_label, Yields, ReturnsTo, ArgumentsFit, Typed, TypedBlock, TypedAll, TypedCases}
+use Rattle.sj_sound.specs.Typing.{Label, Scene, local_of, type_of_label, HasValue, IsResult, IsLocal, unary_operand, binary_operand, behind, in_label, Yields, ArgumentsFit, Typed, TypedBlock, TypedAll, TypedCases}
 use Rattle.sj_sound.proofs.Mutable.{Mutates, MutatesAll, MutatesCases}
 
 -- a local of this name is among those in scope

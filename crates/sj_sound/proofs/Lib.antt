@@ -4,3 +4,4 @@ pub mod Right
 pub mod Same
 pub mod Values
 pub mod Whole
+pub mod Worked

@@ -1,5 +1,5 @@
 -- The mutable locals that a tree defines are among those that desugaring takes for mutable.
-use Rattle.std.proofs.Common.{◌≡◌, ℕ, Bool, true, false, List, [], ◌∷◌, ◌||◌, ◌⊎◌, inl, inr, ⊎_elim, refl, sym, ap, ◌∙◌, subst}
+use Rattle.std.proofs.Common.{◌≡◌, ℕ, Bool, true, false, List, [], ◌∷◌, ◌||◌, ◌⊎◌, inl, inr, refl, sym, ap, ◌∙◌}
 use Rattle.sj_desugar.specs.Desugar.{is_mutable_in}
 use Rattle.sj_desugar.specs.Plain.{is_among, if_mutable, mutable_in, mutable_in_all, mutable_in_cases, mutable_params}
 use Rattle.sj_names.specs.declared.method_names.Member.{Member}
@@ -7,7 +7,7 @@ use Rattle.sj_trees.specs.Term.{Term, Terms, no_terms, more_terms, Cases, no_cas
 use Rattle.sj_trees.specs.declared.classes.MethodDef.{MethodDef}
 use Rattle.sj_trees.specs.declared.classes.ParamDef.{ParamDef}
 use Rattle.sj_trees.specs.declared.types.IrType.{IrType}
-use Rattle.std.specs.Prelude.{Option, Some, None, nat_eq, if◌then◌else◌}
+use Rattle.std.specs.Prelude.{Some, nat_eq, if◌then◌else◌}
 use Rattle.std.specs.Cmp.Lexicographic.{pointwise}
 use Rattle.sj_bodies.specs.Conditions.{IsDivisor, divisor}
 use Rattle.sj_bodies.proofs.Contexts.{equals, is-equal}

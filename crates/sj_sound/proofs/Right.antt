@@ -9,32 +9,28 @@ use Rattle.ir_mean.specs.Meaning as ir_meaning
 use Rattle.ir_mean.specs.Operators.{unary_value, binary_value}
 use Rattle.ir_mean.specs.States as ir
 use Rattle.ir_mean.specs.World.{World, member_of}
-use Rattle.sj_desugar.specs.Desugar.{member, has_no_value}
+use Rattle.sj_desugar.specs.Desugar.{member}
 use Rattle.sj_desugar.specs.Plain.{is_no_type}
 use Rattle.sj_names.specs.declared.method_names.Member.{Member}
-use Rattle.sj_names.specs.declared.method_names.MethodName.{MethodName}
-use Rattle.sj_names.specs.declared.method_names.Namespace.{Namespace}
 use Rattle.sj_names.specs.declared.references.TypeRef.{TypeRef}
 use Rattle.sj_trees.specs.Term.{Term, Terms, no_terms, more_terms, Cases, no_cases, more_cases, var_def, skip, block_of, labeled, assign, return_to, if_then, while_loop, do_while, match_on, apply_static, unary_op, binary_op, undefined_literal, null_literal, boolean_literal, byte_literal, short_literal, int_literal, string_literal, var_ref, log_line}
 use Rattle.sj_trees.specs.TypeOf.{type_of_term, type_of_last, loop_type, unary_result, binary_result}
 use Rattle.sj_trees.specs.Types.{reference_type}
-use Rattle.sj_trees.specs.declared.classes.MethodDef.{MethodDef}
 use Rattle.sj_trees.specs.declared.classes.ParamDef.{ParamDef}
 use Rattle.sj_trees.specs.declared.operators.BinaryOp.{BinaryOp}
-use Rattle.sj_trees.specs.declared.operators.UnaryOp.{UnaryOp}
 use Rattle.sj_trees.specs.declared.positions.Position.{Position}
 use Rattle.sj_trees.specs.declared.types.IrType.{IrType}
 use Rattle.sj_trees.specs.declared.types.IrType.TheVariants.{Undefined, Null, Boolean, Byte, Short, Int, String, NoType, Nothing}
-use Rattle.sj_bodies.specs.Conditions.{is_simple, is_simple_unary, IsDivision, IsDivisor, divisor}
+use Rattle.sj_bodies.specs.Conditions.{IsDivision, IsDivisor, divisor}
 use Rattle.sj_bodies.specs.Fine.{IsTrueLiteral, true_literal}
 use Rattle.sj_bodies.specs.Locals.{Own, OwnAll, OwnCases}
 use Rattle.sj_bodies.proofs.Contexts.{is-equal}
 use Rattle.sj_bodies.proofs.Operators.{impossible}
 use Rattle.sj_calls.specs.Methods.{IsParameter}
 use Rattle.sj_calls.proofs.Calls.{result-same}
-use Rattle.sj_sound.specs.Rules.{KeepsRules, HaveTypes, RightMember}
+use Rattle.sj_sound.specs.Rules.{HaveTypes, RightMember}
 use Rattle.sj_sound.specs.Subtyping.{IsSubtyping}
-use Rattle.sj_sound.specs.Typing.{Label, Scene, local_of, type_of_label, HasValue, IsResult, IsLocal, IsVariable, unary_operand, binary_operand, Defines, behind, in_label, call_type, Yields, ReturnsTo, ArgumentsFit, Typed, TypedBlock, TypedAll, TypedCases}
+use Rattle.sj_sound.specs.Typing.{Scene, local_of, type_of_label, HasValue, unary_operand, binary_operand, behind, in_label, call_type, Yields, ArgumentsFit, Typed, TypedBlock, TypedAll, TypedCases}
 use Rattle.sj_sound.proofs.Covered.{local-there, HaveValues, values-behind, value-not, true-or-none, unary-operand-value, binary-operand-value}
 use Rattle.sj_sound.proofs.Values.{HasType, has_type, of_undefined, of_null, of_boolean, of_byte, of_short, of_int, of_text, IsBoolean, a_boolean, IsNumber, a_number, IsText, a_text, wider, as_boolean, as_int, as_text, Gives, some_of, unary_gives, binary_gives, division_gives}
 
@@ -251,7 +247,6 @@ module _ (sub : IrType → IrType → Type 0) (law : IsSubtyping sub) (is_linked
     abbrev TreeRight : Term → Type 0
     TreeRight t = (s : Scene) → HaveValues s.locals → Typed sub is_linked s t → Fresh s (Own t) → (env : ir.Env) (st : ir.State) → EnvTyped s.locals env → Right s (type_of_term t) (step t env st)
 
-
     -- a definition: the local is in scope behind it
     definition_right : (p : Position) (x : List ℕ) (t : IrType) (b : Bool) (e : Term) → TreeRight e → (s : Scene) → HaveValues s.locals → Typed sub is_linked s (var_def p x t b e) → Fresh s (Own (var_def p x t b e)) → (env : ir.Env) (st : ir.State) → EnvTyped s.locals env → Comes (CameRight s (record { name = x; «mutable» = b; tpe = t } ∷ s.locals) NoType) (step (var_def p x t b e) env st).end
     definition_right p x t b e does s v h fresh env st i = one_right s (record { name = x; «mutable» = b; tpe = t } ∷ s.locals) (type_of_term e) NoType (step e) (ir_meaning.define x) env st (does s v h.3 (λ y o. fresh y (inr o)) env st i) (λ q env st g i. gave ir.undefined (ir_meaning.set_local x q env) st (inl refl) (env-set s.locals (record { name = x; «mutable» = b; tpe = t }) env q (operand-type q (type_of_term e) t g h.0 (value-not t h.1)) i))
@@ -267,7 +262,6 @@ module _ (sub : IrType → IrType → Type 0) (law : IsSubtyping sub) (is_linked
 
     string_not : String ≡ NoType → ⊥
     string_not = value-not String (refl, refl)
-
 
     -- a condition, and what is done where it holds
     tested_right : (c : Term) (first : ir.Run) (s : Scene) (t : IrType) → t ≡ NoType → (env : ir.Env) (st : ir.State) → Right s (type_of_term c) (step c env st) → sub (type_of_term c) Boolean → ((env : ir.Env) (st : ir.State) → EnvTyped s.locals env → Comes (Turned s t) (first env st).end) → Comes (Turned s t) (ir_meaning.in_order (step c ∷ []) (ir_meaning.branch first (λ env s. record { lines = []; end = Done (ir.ends ir.stops env s) })) env st).end

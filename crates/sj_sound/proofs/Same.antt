@@ -1,12 +1,11 @@
 -- Members that are told to be the same are.
-use Rattle.std.proofs.Common.{◌≡◌, ℕ, Bool, true, false, List, [], ◌∷◌, ◌&&◌, ◌||◌, ◌==◌, Some, None, Option, refl, sym, ap, subst, Contains}
+use Rattle.std.proofs.Common.{◌≡◌, Bool, true, false, List, [], ◌∷◌, ◌&&◌, ◌||◌, ◌==◌, Some, None, Option, refl, sym, ap, subst}
 use Rattle.std.specs.Bool.{Decides}
 use Rattle.std.proofs.lemmas.Bool.{and_parts}
 use Rattle.std.proofs.lemmas.Bool.Decides.{Decides-eqb}
 use Rattle.std.proofs.lemmas.List.Elements.{Contains-append_left, Contains-append_right, Contains-push}
 use Rattle.std.proofs.lemmas.Slice.Eq.{slice_eq-Decides}
 use Rattle.std.specs.Cmp.Lexicographic.{pointwise}
-use Rattle.std.specs.List.{list_any}
 use Rattle.ir_mean.specs.Same.{is_same_text, is_same_base, is_same_array, is_same_reference, is_same_result, is_same_method, is_same_namespace}
 use Rattle.sj_names.specs.declared.references.ArrayRef.{ArrayRef}
 use Rattle.sj_names.specs.declared.references.BaseRef.{BaseRef}
@@ -48,6 +47,7 @@ array-same a b h =
     let e = (Decides-eqb a.dimensions b.dimensions).0 p.0 in
     let f = base-same a.base b.base p.1 in
     λ i. record { dimensions = e i; base = f i }
+
 array-refl : (a : ArrayRef) → is_same_array a a ≡ true
 array-refl a = both-true (a.dimensions == a.dimensions) (is_same_base a.base a.base) ((Decides-eqb a.dimensions a.dimensions).1 refl) (base-refl a.base)
 

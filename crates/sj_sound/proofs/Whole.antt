@@ -1,8 +1,7 @@
 -- A program of methods that keep the rules, and its file.
-use Rattle.std.proofs.Common.{◌≡◌, ℕ, Bool, true, false, List, [], ◌∷◌, ◌&&◌, Some, None, Option, refl, sym, ap, ◌∙◌, subst, ◌⊎◌, inl, inr, ⊎_elim, Contains}
-use Rattle.std.specs.List.{list_all}
+use Rattle.std.proofs.Common.{◌≡◌, ℕ, Bool, true, List, [], ◌∷◌, refl, sym, ap, ◌∙◌, subst, ◌⊎◌, inl, inr, ⊎_elim, Contains}
 use Rattle.std.proofs.lemmas.Bool.{and_parts}
-use Rattle.outcomes.specs.Outcome.{Out, End, Done, Going, Wrong, then_do}
+use Rattle.outcomes.specs.Outcome.{End, Done, Going, Wrong}
 use Rattle.outcomes.specs.Agreement.{IsNotWrong, Agree}
 use Rattle.ir_mean.specs.Meaning as ir_meaning
 use Rattle.ir_mean.specs.Shows as ir_showing
@@ -13,17 +12,16 @@ use Rattle.js_mean.specs.Proper.{is_proper_module}
 use Rattle.js_mean.specs.Shows as js_showing
 use Rattle.sj_desugar.specs.Desugar.{result_destination, is_mutable_in}
 use Rattle.sj_desugar.specs.Plain.{is_no_type}
-use Rattle.sj_desugar.specs.Spill.{Destination, discard, to_result}
+use Rattle.sj_desugar.specs.Spill.{Destination}
 use Rattle.sj_names.specs.declared.entry_points.EntryPoint.{EntryPoint}
 use Rattle.sj_names.specs.declared.method_names.Member.{Member}
-use Rattle.sj_names.specs.declared.method_names.MethodName.{MethodName}
 use Rattle.sj_trees.specs.Term.{Term}
 use Rattle.sj_trees.specs.TypeOf.{type_of_term}
 use Rattle.sj_trees.specs.declared.classes.MethodDef.{MethodDef}
 use Rattle.sj_trees.specs.declared.types.IrType.{IrType}
-use Rattle.sj_trees.specs.declared.types.IrType.TheVariants.{NoType, Nothing, Any, Undefined}
+use Rattle.sj_trees.specs.declared.types.IrType.TheVariants.{NoType, Nothing, Any}
 use Rattle.sj_bodies.proofs.Operators.{impossible}
-use Rattle.sj_calls.specs.Files.{EmittedMethod, initializer_member, module_with, program_with, IsEmitted, HasFunction}
+use Rattle.sj_calls.specs.Files.{EmittedMethod, initializer_member, module_with, program_with, IsEmitted}
 use Rattle.sj_calls.specs.Methods.{FineMethod}
 use Rattle.sj_calls.proofs.Calls.{Way, gives_up, hands_on, way}
 use Rattle.sj_calls.proofs.Items.{nothing_in, in_front_or_behind}
@@ -31,7 +29,7 @@ use Rattle.sj_calls.proofs.Whole as calls
 use Rattle.sj_sound.specs.Linked.{has_function, have_functions, IsRight}
 use Rattle.sj_sound.specs.Rules.{KeepsRules, RightMember}
 use Rattle.sj_sound.specs.Subtyping.{IsSubtyping, is_lowest, IsSubSimply, equal, from_nothing, to_any}
-use Rattle.sj_sound.specs.Typing.{Scene, Typed}
+use Rattle.sj_sound.specs.Typing.{Scene}
 use Rattle.sj_sound.proofs.Covered.{Asks, fine}
 use Rattle.sj_sound.proofs.Mutable.{mutable-known, parameter-known}
 use Rattle.sj_sound.proofs.Right.{Comes, comes_then, CameRight, gave, left, EnvTyped, none_left, call_right, bodies_right, no_label, nothing_there}

@@ -2,3 +2,4 @@ pub mod Linked
 pub mod Rules
 pub mod Subtyping
 pub mod Typing
+pub mod Worked

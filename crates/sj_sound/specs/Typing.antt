@@ -1,5 +1,5 @@
 -- The rules of trees of the forms that are built, over a relation of subtypes: the types of their parts, and the locals and labels that they use.
-use Rattle.std.specs.Prelude.{◌≡◌, ℕ, Bool, true, false, List, [], ◌∷◌, ◌⊎◌, ℤ, FitsSigned, nat_eq, Option, Some, None, if◌then◌else◌}
+use Rattle.std.specs.Prelude.{◌≡◌, ℕ, Bool, true, false, List, [], ◌∷◌, ◌⊎◌, FitsSigned, nat_eq, Option, Some, None, if◌then◌else◌}
 use Rattle.std.specs.Int.{w32}
 use Rattle.std.specs.Cmp.Lexicographic.{pointwise}
 use Rattle.sj_desugar.specs.Coercions.{is_char}

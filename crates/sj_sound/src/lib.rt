@@ -4,9 +4,12 @@
 //! theorems.
 #![tactic(auto)]
 
-ghost use Rattle.std.specs.Prelude.{◌≡◌, ℕ, Bool, true, List};
+ghost use Rattle.std.specs.Prelude.{◌≡◌, ℕ, Bool, true, List, [], ◌∷◌, codes};
 ghost use Rattle.std.specs.List.{Contains};
 ghost use Rattle.outcomes.specs.Agreement.{Agree};
+ghost use Rattle.outcomes.specs.Outcome.{Done, Going};
+ghost use Rattle.outcomes.specs.Shown.{normal};
+ghost use Rattle.ir_mean.specs.Rows.{once};
 ghost use Rattle.ir_mean.specs.Shows.{initializers, ir_shows};
 ghost use Rattle.ir_mean.specs.World.{World};
 ghost use Rattle.js_mean.specs.Proper.{is_proper_module};
@@ -20,6 +23,7 @@ ghost use Rattle.sj_calls.specs.Methods.{FineMethod};
 ghost use Rattle.sj_sound.specs.Linked.{have_functions, IsRight};
 ghost use Rattle.sj_sound.specs.Rules.{KeepsRules};
 ghost use Rattle.sj_sound.specs.Subtyping.{IsSubtyping, IsSubSimply};
+ghost use Rattle.sj_sound.specs.Worked.{worked_world, worked_methods};
 
 /// Subtyping among types that name no class has the properties that are asked of subtyping.
 pub fn simple_subtypes_are_ordered()
@@ -38,4 +42,14 @@ pub fn bodies_are_covered()
 /// other way round, and neither is wrong at any bound.
 pub fn program_of_bodies_agrees()
     ensures { (w : World) (entries : List EntryPoint) (id : List ℕ) (fs : List EmittedMethod) → is_proper_module (module_with fs (initializers entries id)) ≡ true → ((e : EmittedMethod) → Contains fs e → IsRight w fs e) → have_functions fs (initializers entries id) ≡ true → Agree (ir_shows w entries id) (js_shows (program_with id fs (initializers entries id)) id) }
+{}
+
+/// The premises of the theorem on programs can be met: `main` tests whether `f`, which triples in a loop, gives 27 for 1. The class and its
+/// file both log `yes` within the bound 5, one unit for each call and three for the turns behind the first, and are going within the bound 4.
+pub fn worked_program_agrees()
+    ensures agrees { Agree (ir_shows worked_world once (codes "main")) (js_shows (program_with (codes "main") worked_methods once) (codes "main")) }
+    ensures class_within_4 { ir_shows worked_world once (codes "main") 4 ≡ record { lines = []; end = Going } }
+    ensures file_within_4 { js_shows (program_with (codes "main") worked_methods once) (codes "main") 4 ≡ record { lines = []; end = Going } }
+    ensures class_within_5 { ir_shows worked_world once (codes "main") 5 ≡ record { lines = codes "yes" ∷ []; end = Done normal } }
+    ensures file_within_5 { js_shows (program_with (codes "main") worked_methods once) (codes "main") 5 ≡ record { lines = codes "yes" ∷ []; end = Done normal } }
 {}

@@ -1,4 +1,3 @@
-use Rattle.sj_sound.specs.Subtyping.{IsSubSimply}
 use Rattle.sj_sound.proofs.Whole as whole
 use Rattle.sj_sound.proofs.simple_subtypes_are_ordered.Goals as goal
 

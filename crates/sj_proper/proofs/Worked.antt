@@ -1,0 +1,55 @@
+-- The worked program has the properties that are asked of programs.
+use Rattle.std.proofs.Common.{◌≡◌, ◌≢◌, ℕ, List, [], ◌∷◌, codes, refl, sym, ap, subst, ⊎_elim, Contains}
+use Rattle.std.proofs.lemmas.List.Elements.{All-cons, All-nil}
+use Rattle.outcomes.specs.Agreement.{Agree}
+use Rattle.ir_mean.specs.Rows.{once, triples}
+use Rattle.ir_mean.specs.Shows.{ir_shows}
+use Rattle.js_mean.specs.Shows.{js_shows}
+use Rattle.sj_names.specs.declared.method_names.Member.{Member}
+use Rattle.sj_names.specs.MethodNames.{spelled_method, IsParameter}
+use Rattle.sj_names.specs.declared.references.TypeRef.{TypeRef}
+use Rattle.sj_names.specs.declared.references.TypeRef.TheVariants.{Int}
+use Rattle.sj_calls.specs.Files.{EmittedMethod, program_with}
+use Rattle.sj_calls.proofs.Items.{nothing_in, in_front_or_behind}
+use Rattle.sj_calls.proofs.Safe.{bytes-are}
+use Rattle.sj_sound.specs.Worked.{tests_it, main_method, tripling_method, worked_world, emitted, worked_methods}
+use Rattle.sj_sound.proofs.Worked.{main_right, tripling_right}
+use Rattle.sj_proper.specs.Program.{HaveOwnMembers, IsWhole}
+use Rattle.sj_proper.proofs.Modules.{linked_agrees}
+
+main_whole : IsWhole worked_world worked_methods (emitted main_method tests_it)
+main_whole = record {
+  right = main_right;
+  once = (((tt, tt, λ x o k. k), tt, λ x o k. k), tt, tt, (λ x o k. k), (λ x o k. k), (λ x o k. k));
+  parameters = tt;
+  class_name = refl;
+  method_name = record { simple = refl; params = All-nil IsParameter; result = tt };
+  class_bytes = bytes-are (emitted main_method tests_it).member.class refl;
+  method_bytes = bytes-are (spelled_method (emitted main_method tests_it).member.method) refl;
+}
+
+tripling_whole : IsWhole worked_world worked_methods (emitted tripling_method triples)
+tripling_whole = record {
+  right = tripling_right;
+  once = (((tt, tt, λ x o k. k), ((tt, tt, λ x o k. k)), λ x o k. ⊎_elim (λ i. i) (λ i. i) k), (tt, tt, λ x o k. k), λ x o k. ⊎_elim (λ i. i) (λ i. i) k);
+  parameters = ((λ i. i), tt);
+  class_name = refl;
+  method_name = record { simple = refl; params = All-cons IsParameter Int [] (tt, λ e. cc) (All-nil IsParameter); result = tt };
+  class_bytes = bytes-are (emitted tripling_method triples).member.class refl;
+  method_bytes = bytes-are (spelled_method (emitted tripling_method triples).member.method) refl;
+}
+
+each_whole : (e : EmittedMethod) → Contains worked_methods e → IsWhole worked_world worked_methods e
+each_whole e h = ⊎_elim (λ same. subst (IsWhole worked_world worked_methods) same main_whole) (λ later. ⊎_elim (λ same. subst (IsWhole worked_world worked_methods) same tripling_whole) (λ none. nothing_in e none) (in_front_or_behind (emitted tripling_method triples) [] e later)) (in_front_or_behind (emitted main_method tests_it) (emitted tripling_method triples ∷ []) e h)
+
+other : (o : EmittedMethod) → Contains (emitted tripling_method triples ∷ []) o → (emitted main_method tests_it).member ≡ o.member → ⊥
+other o h e = ⊎_elim (λ same. differ (subst (λ (x : EmittedMethod). (emitted main_method tests_it).member ≡ x.member) (sym same) e)) (λ none. nothing_in o none) (in_front_or_behind (emitted tripling_method triples) [] o h)
+  where
+    differ : (emitted main_method tests_it).member ≡ (emitted tripling_method triples).member → ⊥
+    differ e = let names : codes "main" ≡ codes "f" = ap (λ (m : Member). m.method.simple) e in cc
+
+own_members : HaveOwnMembers worked_methods
+own_members = (other, ((λ o h e. nothing_in o h), tt))
+
+pub worked_agrees : Agree (ir_shows worked_world once (codes "main")) (js_shows (program_with (codes "main") worked_methods once) (codes "main"))
+worked_agrees = linked_agrees worked_world once (codes "main") worked_methods each_whole own_members refl

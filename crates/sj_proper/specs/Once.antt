@@ -1,0 +1,38 @@
+-- No two definitions of a tree have one name, no label stands inside itself, and each jump is to a label around it.
+use Rattle.std.specs.Prelude.{◌≡◌, ℕ, List, [], ◌∷◌, ◌⊎◌}
+use Rattle.sj_trees.specs.Term.{Term, Terms, no_terms, more_terms, Cases, no_cases, more_cases, var_def, skip, block_of, labeled, assign, return_to, if_then, while_loop, do_while, match_on, apply_static, unary_op, binary_op, log_line}
+use Rattle.sj_bodies.specs.Locals.{Own, OwnAll, OwnCases}
+
+abbrev pub IsAmong : List (List ℕ) → List ℕ → Type 0
+IsAmong [] x = ⊥
+IsAmong (y ∷ ys) x = (x ≡ y) ⊎ IsAmong ys x
+
+-- two sets of names have none in common
+abbrev pub Apart : (List ℕ → Type 0) → (List ℕ → Type 0) → Type 0
+Apart one other = (x : List ℕ) → one x → other x → ⊥
+
+abbrev mutual
+  -- with the labels around the tree
+  pub Once : List (List ℕ) → Term → Type 0
+  Once ls (var_def p x t b e) = (Own e x → ⊥) × Once ls e
+  Once ls (block_of p ts) = OnceAll ls ts
+  Once ls (labeled p l t e) = (IsAmong ls l → ⊥) × Once (l ∷ ls) e
+  Once ls (assign p d e) = Once ls e
+  Once ls (return_to p e l) = IsAmong ls l × Once ls e
+  Once ls (if_then p c a b t) = Once ls c × Once ls a × Once ls b × Apart (Own c) (Own a) × Apart (Own c) (Own b) × Apart (Own a) (Own b)
+  Once ls (while_loop p c b) = Once ls c × Once ls b × Apart (Own c) (Own b)
+  Once ls (do_while p b c) = Once ls b × Once ls c × Apart (Own b) (Own c)
+  Once ls (match_on p e cs d t) = Once ls e × OnceCases ls cs × Once ls d × Apart (Own e) (OwnCases cs) × Apart (Own e) (Own d) × Apart (OwnCases cs) (Own d)
+  Once ls (apply_static p c n m ts t) = OnceAll ls ts
+  Once ls (unary_op p o e) = Once ls e
+  Once ls (binary_op p o e d) = Once ls e × Once ls d × Apart (Own e) (Own d)
+  Once ls (log_line p e) = Once ls e
+  Once ls _ = Unit {0}
+
+  pub OnceAll : List (List ℕ) → Terms → Type 0
+  OnceAll ls no_terms = Unit {0}
+  OnceAll ls (more_terms t ts) = Once ls t × OnceAll ls ts × Apart (Own t) (OwnAll ts)
+
+  pub OnceCases : List (List ℕ) → Cases → Type 0
+  OnceCases ls no_cases = Unit {0}
+  OnceCases ls (more_cases ns t cs) = Once ls t × OnceCases ls cs × Apart (Own t) (OwnCases cs)
