@@ -1,0 +1,140 @@
+// Where the next character of a name leads.
+ghost use Rattle.std.specs.Prelude.{◌≡◌, ◌<◌};
+ghost use Rattle.sj_names.specs.Grammar.{is_name_byte};
+ghost use Rattle.listing_spelling.specs.Names as names;
+ghost use Rattle.listing_spelling.specs.declared.words.Spot.TheVariants.{ArrayBase, ArrayEnd, PartStart, TypeBase, TypeEnd, TypePartStart};
+
+use listing_spelling::Spot;
+
+/// Whether the character may stand in a plain name.
+fn is_name_character(c: u32) -> bool
+    ensures { result ≡ is_name_byte c }
+{
+    c > 32 && c != 127 && c != 46 && c != 59 && c != 91 && c != 47 && c != 60 && c != 62
+}
+
+/// On with a character of a name.
+fn on_name(c: u32, spot: Spot) -> Option<Spot>
+    ensures { result ≡ names.on_name c spot }
+{
+    if is_name_character(c) {
+        Some(spot)
+    } else {
+        None
+    }
+}
+
+/// On with this character.
+fn on(want: u32, c: u32, spot: Spot) -> Option<Spot>
+    ensures { result ≡ names.on want c spot }
+{
+    if c == want { Some(spot) } else { None }
+}
+
+fn is_letter(c: u32) -> bool
+    ensures { result ≡ names.is_letter c }
+{
+    c == 90 || c == 67 || c == 66 || c == 83 || c == 73 || c == 74
+}
+
+/// Behind dimensions of an array.
+fn array_step(dimensions: u8, c: u32) -> Option<Spot>
+    ensures { result ≡ names.base_step dimensions c (λ m. ArrayBase m) ArrayEnd PartStart }
+{
+    if c == 91 && dimensions < 255 {
+        Some(Spot::ArrayBase(dimensions + 1))
+    } else if is_letter(c) {
+        Some(Spot::ArrayEnd)
+    } else if c == 76 {
+        Some(Spot::PartStart)
+    } else {
+        None
+    }
+}
+
+/// Behind dimensions of a parameter or a result.
+fn type_step(dimensions: u8, c: u32) -> Option<Spot>
+    ensures { result ≡ names.base_step dimensions c (λ m. TypeBase m) TypeEnd TypePartStart }
+{
+    if c == 91 && dimensions < 255 {
+        Some(Spot::TypeBase(dimensions + 1))
+    } else if is_letter(c) {
+        Some(Spot::TypeEnd)
+    } else if c == 76 {
+        Some(Spot::TypePartStart)
+    } else {
+        None
+    }
+}
+
+/// The spot behind one character more, if it may stand there.
+pub fn step(spot: Spot, c: u32) -> Option<Spot>
+    ensures { result ≡ names.step spot c }
+{
+    match spot {
+        Spot::NameStart | Spot::Name => on_name(c, Spot::Name),
+        Spot::PartStart => on_name(c, Spot::Part),
+        Spot::Part => {
+            if c == 46 {
+                Some(Spot::PartStart)
+            } else {
+                on_name(c, Spot::Part)
+            }
+        }
+        Spot::ArrayStart => on(91, c, Spot::ArrayBase(1)),
+        Spot::ArrayBase(dimensions) => array_step(dimensions, c),
+        Spot::MethodStart => {
+            if c == 60 {
+                Some(Spot::Less)
+            } else {
+                on_name(c, Spot::Simple)
+            }
+        }
+        Spot::Less => on(105, c, Spot::LessI),
+        Spot::LessI => on(110, c, Spot::LessIn),
+        Spot::LessIn => on(105, c, Spot::LessIni),
+        Spot::LessIni => on(116, c, Spot::LessInit),
+        Spot::LessInit => on(62, c, Spot::InitEnd),
+        Spot::InitEnd | Spot::TypeEnd => on(59, c, Spot::TypeStart),
+        Spot::Simple => {
+            if c == 59 {
+                Some(Spot::TypeStart)
+            } else {
+                on_name(c, Spot::Simple)
+            }
+        }
+        Spot::TypeStart => {
+            if c == 86 || c == 82 {
+                Some(Spot::Last)
+            } else {
+                type_step(0, c)
+            }
+        }
+        Spot::TypeBase(dimensions) => type_step(dimensions, c),
+        Spot::TypePartStart => on_name(c, Spot::TypePart),
+        Spot::TypePart => {
+            if c == 59 {
+                Some(Spot::TypeStart)
+            } else if c == 46 {
+                Some(Spot::TypePartStart)
+            } else {
+                on_name(c, Spot::TypePart)
+            }
+        }
+        Spot::ArrayEnd | Spot::Last => None,
+    }
+}
+
+/// The spot behind a character.
+pub fn moved(spot: Spot, c: u32) -> Spot
+    ensures { result ≡ names.moved spot c }
+{
+    step(spot, c).unwrap_or(spot)
+}
+
+/// Whether each character that no rule names may stand here.
+pub fn is_open(spot: Spot) -> bool
+    ensures { result ≡ names.is_open spot }
+{
+    step(spot, 97).is_some()
+}
