@@ -1,0 +1,76 @@
+// The emitted text of expressions.
+ghost use Rattle.std.specs.Prelude.{◌≡◌, IfOk};
+ghost use Rattle.js_tree.specs.Views as js;
+ghost use Rattle.sj_core.specs.Views as core;
+ghost use Rattle.sj_emit_expr.specs.Names.{variable_name, label_name};
+ghost use Rattle.sj_emit_expr.specs.Templates as templates;
+
+use crate::names::variable_name;
+use crate::operators::{binary_template, boxed_char, is_nonzero_literal, unary_template};
+use js_tree::JsExpr;
+use sj_core::CoreExpression;
+use sj_mangling::function_name;
+use sj_names::NoMemory;
+use std::alloc::Global;
+
+/// The expression that an expression of the core is emitted as.
+#[cycle(expression)]
+pub fn emit_expression(alloc: Global, expression: &CoreExpression) -> Result<JsExpr, NoMemory>
+    ensures { IfOk result (λ e. js.expression_view e ≡ templates.expression_template variable_name label_name (core.expression_view expression.now)) }
+{
+    match expression {
+        CoreExpression::Undefined => Ok(JsExpr::Undefined),
+        CoreExpression::Null => Ok(JsExpr::Null),
+        CoreExpression::Boolean(value) => Ok(JsExpr::Boolean(*value)),
+        CoreExpression::Number(value) => Ok(JsExpr::Number(*value)),
+        CoreExpression::Text(units) => Ok(JsExpr::Text(units.copied()?)),
+        CoreExpression::Variable(variable) => Ok(JsExpr::Name(variable_name(alloc, variable)?)),
+        CoreExpression::Boxed(operand) => {
+            let operand = emit_expression(alloc, operand)?;
+            boxed_char(alloc, operand)
+        }
+        CoreExpression::Choice(test, yes, no) => {
+            let test = emit_boxed(alloc, test)?;
+            let yes = emit_boxed(alloc, yes)?;
+            let no = emit_boxed(alloc, no)?;
+            Ok(JsExpr::Conditional { test, yes, no })
+        }
+        CoreExpression::StaticCall(member, arguments) => {
+            let function = function_name(alloc, member)?;
+            let arguments = emit_expressions(alloc, arguments)?;
+            Ok(JsExpr::Call {
+                function,
+                arguments,
+            })
+        }
+        CoreExpression::Unary(op, operand) => {
+            let operand = emit_expression(alloc, operand)?;
+            unary_template(alloc, *op, operand)
+        }
+        CoreExpression::Binary(op, left, right) => {
+            let nonzero = is_nonzero_literal(right);
+            let left = emit_expression(alloc, left)?;
+            let right = emit_expression(alloc, right)?;
+            binary_template(alloc, nonzero, *op, left, right)
+        }
+    }
+}
+
+#[cycle(expression)]
+fn emit_boxed(alloc: Global, expression: &CoreExpression) -> Result<Box<JsExpr>, NoMemory>
+    ensures { IfOk result (λ e. js.expression_view e.value ≡ templates.expression_template variable_name label_name (core.expression_view expression.now)) }
+{
+    Ok(Box::new(alloc, emit_expression(alloc, expression)?)?)
+}
+
+#[cycle(expression)]
+#[tactic(auto, using(std::proofs::lemmas::Grind::common_steps, crate::proofs::Lists::pushes))]
+fn emit_expressions(alloc: Global, expressions: &[CoreExpression]) -> Result<Vec<JsExpr>, NoMemory>
+    ensures { IfOk result (λ es. js.expressions_view es.items ≡ templates.expression_templates variable_name label_name (core.expressions_view expressions.now)) }
+{
+    let mut emitted = Vec::new(alloc);
+    for each in expressions {
+        emitted.push(emit_expression(alloc, each)?)?;
+    }
+    Ok(emitted)
+}

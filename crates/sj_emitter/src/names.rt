@@ -1,0 +1,52 @@
+// The names of variables and labels.
+ghost use Rattle.std.specs.Prelude.{◌≡◌, ◌++◌, IfOk, codes, decimal};
+ghost use Rattle.sj_core.specs.Terms as core;
+ghost use Rattle.sj_core.specs.Views.{variable_view};
+ghost use Rattle.sj_emit_expr.specs.Names as names;
+ghost use Rattle.sj_emit_expr.specs.Templates as templates;
+
+use sj_core::CoreVariable;
+use sj_mangling::{LocalBinding, local_binding};
+use sj_names::{Items, LabelName, LocalName, NoMemory, Text};
+use std::alloc::Global;
+
+/// The name of a variable: `v_x` for a local of the IR, `$k` for the k-th that holds an operand.
+pub fn variable_name(alloc: Global, variable: &CoreVariable) -> Result<Text, NoMemory>
+    ensures { IfOk result (λ name. name ≡ names.variable_name (variable_view variable.now)) }
+{
+    match variable {
+        CoreVariable::Local(name) => local_name(alloc, name),
+        CoreVariable::Numbered(number) => numbered_name(alloc, *number),
+    }
+}
+
+fn local_name(alloc: Global, name: &LocalName) -> Result<Text, NoMemory>
+    ensures { IfOk result (λ text. text ≡ names.variable_name (core.named name.now)) }
+{
+    local_binding(alloc, LocalBinding::Local, name.text())
+}
+
+fn numbered_name(alloc: Global, number: u64) -> Result<Text, NoMemory>
+    ensures { IfOk result (λ name. name ≡ codes "$" ++ decimal number) }
+{
+    let text = format!(in alloc; "${number}")?;
+    Ok(Text::from_string(text)?)
+}
+
+/// The name of a label, `l_x`.
+pub fn label_name(alloc: Global, label: &LabelName) -> Result<Text, NoMemory>
+    ensures { IfOk result (λ name. name ≡ names.label_name label.now) }
+{
+    local_binding(alloc, LocalBinding::Label, label.text())
+}
+
+/// The names of parameters, in order.
+pub fn parameter_names(alloc: Global, params: &[LocalName]) -> Result<Items<Text>, NoMemory>
+    ensures { IfOk result (λ names. names ≡ templates.parameter_names params.now) }
+{
+    let mut texts = Vec::new(alloc);
+    for param in params {
+        texts.push(local_name(alloc, param)?)?;
+    }
+    Ok(Items::from_vec(texts))
+}

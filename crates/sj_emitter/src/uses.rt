@@ -1,0 +1,217 @@
+// The bindings that a function uses.
+ghost use Rattle.std.specs.Prelude.{◌≡◌, IfOk, OnOk, codes};
+ghost use Rattle.std.specs.List.{list_any};
+ghost use Rattle.sj_core.specs.Views as core;
+ghost use Rattle.sj_emit_expr.specs.Uses as uses;
+ghost use Rattle.sj_emitter.specs.Collecting.{with_use, with_uses};
+
+use crate::operators::is_nonzero_literal;
+use js_tree::Binding;
+use sj_core::{CoreCase, CoreExpression, CoreStatement};
+use sj_mangling::function_name;
+use sj_names::{ClassName, Items, Member, NoMemory, Text};
+use sj_trees::BinaryOp;
+use std::alloc::Global;
+
+const OBJECT: &str = "java.lang.Object";
+
+fn is_same_binding(one: &Binding, other: &Binding) -> bool
+    ensures { result ≡ uses.is_same_binding one.now other.now }
+{
+    one.owner.text() == other.owner.text() && one.name.as_str() == other.name.as_str()
+}
+
+fn is_used(bindings: &[Binding], binding: &Binding) -> bool
+    ensures { result ≡ list_any (uses.is_same_binding binding.now) bindings.now }
+{
+    bindings.iter().any(|each| is_same_binding(binding, each))
+}
+
+// Adds a binding behind others, if it isn't there.
+fn add(bindings: &mut Vec<Binding>, binding: Binding) -> Result<(), NoMemory>
+    ensures { OnOk result (bindings.new.items ≡ with_use bindings.old.items binding) }
+{
+    if !is_used(bindings, &binding) {
+        bindings.push(binding)?;
+    }
+    Ok(())
+}
+
+// A binding of `java.lang.Object`.
+fn object_binding(alloc: Global, name: &str) -> Result<Binding, NoMemory>
+    ensures { IfOk result (λ b. b ≡ uses.object_binding name.now) }
+{
+    let owner = Text::from_str(alloc, OBJECT)?;
+    let name = Text::from_str(alloc, name)?;
+    Ok(Binding {
+        owner: ClassName::of_text(owner),
+        name,
+    })
+}
+
+fn function_binding(alloc: Global, member: &Member) -> Result<Binding, NoMemory>
+    ensures { IfOk result (λ b. b ≡ uses.function_binding member.now) }
+{
+    let owner = member.class.copied()?;
+    let name = function_name(alloc, member)?;
+    Ok(Binding { owner, name })
+}
+
+// Adds the helper that an operator calls.
+fn add_helper(
+    alloc: Global,
+    nonzero: bool,
+    op: BinaryOp,
+    bindings: &mut Vec<Binding>,
+) -> Result<(), NoMemory>
+    ensures { OnOk result (bindings.new.items ≡ with_uses bindings.old.items (uses.helper_of nonzero op)) }
+{
+    match op {
+        BinaryOp::IntDivide if !nonzero => add(bindings, object_binding(alloc, "$id")?),
+        BinaryOp::IntRemainder if !nonzero => add(bindings, object_binding(alloc, "$im")?),
+        _ => Ok(()),
+    }
+}
+
+#[cycle(expression_uses)]
+#[tactic(auto, using(std::proofs::lemmas::Grind::common_steps, crate::proofs::Collected::steps))]
+fn add_uses_in(
+    alloc: Global,
+    expression: &CoreExpression,
+    bindings: &mut Vec<Binding>,
+) -> Result<(), NoMemory>
+    ensures { OnOk result (bindings.new.items ≡ with_uses bindings.old.items (uses.uses_in (core.expression_view expression.now))) }
+{
+    match expression {
+        CoreExpression::Boxed(operand) => {
+            add(bindings, object_binding(alloc, "$C")?)?;
+            add_uses_in(alloc, operand, bindings)
+        }
+        CoreExpression::Choice(test, yes, no) => {
+            add_uses_in(alloc, test, bindings)?;
+            add_uses_in(alloc, yes, bindings)?;
+            add_uses_in(alloc, no, bindings)
+        }
+        CoreExpression::StaticCall(member, arguments) => {
+            add(bindings, function_binding(alloc, member)?)?;
+            add_all_uses_in(alloc, arguments, bindings)
+        }
+        CoreExpression::Unary(_, operand) => add_uses_in(alloc, operand, bindings),
+        CoreExpression::Binary(op, left, right) => {
+            add_helper(alloc, is_nonzero_literal(right), *op, bindings)?;
+            add_uses_in(alloc, left, bindings)?;
+            add_uses_in(alloc, right, bindings)
+        }
+        CoreExpression::Undefined
+        | CoreExpression::Null
+        | CoreExpression::Boolean(_)
+        | CoreExpression::Number(_)
+        | CoreExpression::Text(_)
+        | CoreExpression::Variable(_) => Ok(()),
+    }
+}
+
+#[cycle(expression_uses)]
+#[tactic(auto, using(std::proofs::lemmas::Grind::common_steps, crate::proofs::Collected::steps))]
+fn add_all_uses_in(
+    alloc: Global,
+    expressions: &[CoreExpression],
+    bindings: &mut Vec<Binding>,
+) -> Result<(), NoMemory>
+    ensures { OnOk result (bindings.new.items ≡ with_uses bindings.old.items (uses.uses_in_all (core.expressions_view expressions.now))) }
+{
+    for each in expressions {
+        add_uses_in(alloc, each, bindings)?;
+    }
+    Ok(())
+}
+
+#[cycle(statement_uses)]
+#[tactic(auto, using(std::proofs::lemmas::Grind::common_steps, crate::proofs::Collected::steps))]
+fn add_uses_of(
+    alloc: Global,
+    statement: &CoreStatement,
+    bindings: &mut Vec<Binding>,
+) -> Result<(), NoMemory>
+    ensures { OnOk result (bindings.new.items ≡ with_uses bindings.old.items (uses.uses_of (core.statement_view statement.now))) }
+{
+    match statement {
+        CoreStatement::Constant(_, _, value)
+        | CoreStatement::Define(_, _, value)
+        | CoreStatement::Assign(_, _, value)
+        | CoreStatement::Evaluate(_, value)
+        | CoreStatement::Return(_, value)
+        | CoreStatement::Log(_, value) => add_uses_in(alloc, value, bindings),
+        CoreStatement::Declare(_, _) | CoreStatement::Leave(_, _) | CoreStatement::Break(_) => {
+            Ok(())
+        }
+        CoreStatement::If(_, test, yes, no) => {
+            add_uses_in(alloc, test, bindings)?;
+            add_uses_of_all(alloc, yes, bindings)?;
+            add_uses_of_all(alloc, no, bindings)
+        }
+        CoreStatement::While(_, test, body) => {
+            add_uses_in(alloc, test, bindings)?;
+            add_uses_of_all(alloc, body, bindings)
+        }
+        CoreStatement::Loop(_, body) | CoreStatement::Labeled(_, _, body) => {
+            add_uses_of_all(alloc, body, bindings)
+        }
+        CoreStatement::Switch(_, selector, cases, default) => {
+            add_uses_in(alloc, selector, bindings)?;
+            add_uses_of_cases(alloc, cases, bindings)?;
+            add_uses_of_all(alloc, default, bindings)
+        }
+    }
+}
+
+#[cycle(statement_uses)]
+#[tactic(auto, using(std::proofs::lemmas::Grind::common_steps, crate::proofs::Collected::steps))]
+fn add_uses_of_all(
+    alloc: Global,
+    statements: &[CoreStatement],
+    bindings: &mut Vec<Binding>,
+) -> Result<(), NoMemory>
+    ensures { OnOk result (bindings.new.items ≡ with_uses bindings.old.items (uses.uses_of_all (core.statements_view statements.now))) }
+{
+    for each in statements {
+        add_uses_of(alloc, each, bindings)?;
+    }
+    Ok(())
+}
+
+#[cycle(statement_uses)]
+#[tactic(auto, using(std::proofs::lemmas::Grind::common_steps, crate::proofs::Collected::steps))]
+fn add_uses_of_cases(
+    alloc: Global,
+    cases: &[CoreCase],
+    bindings: &mut Vec<Binding>,
+) -> Result<(), NoMemory>
+    ensures { OnOk result (bindings.new.items ≡ with_uses bindings.old.items (uses.uses_of_cases (core.cases_view cases.now))) }
+{
+    for each in cases {
+        add_uses_of_case(alloc, each, bindings)?;
+    }
+    Ok(())
+}
+
+#[cycle(statement_uses)]
+fn add_uses_of_case(
+    alloc: Global,
+    case: &CoreCase,
+    bindings: &mut Vec<Binding>,
+) -> Result<(), NoMemory>
+    ensures { OnOk result (bindings.new.items ≡ with_uses bindings.old.items (uses.uses_of_all (core.case_view case.now).1)) }
+{
+    add_uses_of_all(alloc, &case.body, bindings)
+}
+
+/// The bindings that statements use, each once, in order of first use.
+#[tactic(auto, using(std::proofs::lemmas::Grind::common_steps, crate::proofs::Collected::once))]
+pub fn uses_of(alloc: Global, statements: &[CoreStatement]) -> Result<Items<Binding>, NoMemory>
+    ensures { IfOk result (λ bs. bs ≡ uses.uses (core.statements_view statements.now)) }
+{
+    let mut bindings = Vec::new(alloc);
+    add_uses_of_all(alloc, statements, &mut bindings)?;
+    Ok(Items::from_vec(bindings))
+}
