@@ -1,0 +1,10 @@
+pub mod Stands
+pub mod Members
+pub mod Sizes
+pub mod Answers
+pub mod Hijacked
+pub mod Apart
+pub mod Told
+pub mod Tasks
+pub mod Runs
+pub mod Laws
