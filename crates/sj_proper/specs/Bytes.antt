@@ -1,6 +1,5 @@
 -- The names of a tree are texts of bytes.
-use Rattle.std.specs.Prelude.{ℕ, List}
-use Rattle.sj_trees.specs.Term.{Term, Terms, no_terms, more_terms, Cases, no_cases, more_cases, var_def, skip, block_of, labeled, assign, return_to, if_then, while_loop, do_while, match_on, apply_static, unary_op, binary_op, var_ref, log_line}
+use Rattle.sj_trees.specs.Term.{Term, Terms, no_terms, more_terms, Cases, no_cases, more_cases, var_def, block_of, labeled, assign, return_to, if_then, while_loop, do_while, match_on, apply_static, unary_op, binary_op, var_ref, log_line}
 use Rattle.sj_mangling.specs.Mangling.{AreBytes}
 
 abbrev mutual
