@@ -1,16 +1,15 @@
 -- Code that declares each variable once and has no early error, piece by piece.
-use Rattle.std.proofs.Common.{◌≡◌, ◌≤◌, ◌<◌, ℕ, zero, suc, Bool, true, false, ◌&&◌, List, [], ◌∷◌, Some, None, Option, refl, sym, ap, ◌∙◌, subst, arith, ◌⊎◌, inl, inr, ⊎_elim}
+use Rattle.std.proofs.Common.{◌≡◌, ◌≤◌, ◌<◌, ℕ, suc, Bool, true, false, ◌&&◌, List, ◌∷◌, Some, None, refl, sym, subst, arith, ⊎_elim}
 use Rattle.std.specs.Prelude.{ℤ}
 use Rattle.sj_core.specs.Terms as core
 use Rattle.sj_core.specs.Terms.{followed}
 use Rattle.sj_desugar.specs.Coercions.{coerced}
-use Rattle.sj_desugar.specs.Desugar.{finish, has_no_value, wrapped, branches, break_unless, Branches, one_case, switch_code, labeled_code, leaving_code}
-use Rattle.sj_desugar.specs.Spill.{Destination, discard, to_variable, to_result, Code, no_code, one, put_first, joined, then_code, Operand, all_plain, Spilled, spill, spill_case, then_use}
+use Rattle.sj_desugar.specs.Desugar.{finish, has_no_value, branches, break_unless, Branches, one_case, switch_code}
+use Rattle.sj_desugar.specs.Spill.{Destination, discard, to_variable, to_result, Code, no_code, one, put_first, joined, Operand, all_plain, Spilled, spill, spill_case, then_use}
 use Rattle.sj_trees.specs.declared.positions.Position.{Position}
 use Rattle.sj_trees.specs.declared.types.IrType.{IrType}
 use Rattle.sj_bodies.proofs.Declared.{DeclaresOne, Declares, declares-followed}
-use Rattle.sj_bodies.proofs.Operators.{impossible}
-use Rattle.sj_proper.specs.Once.{IsAmong, Apart}
+use Rattle.sj_proper.specs.Once.{Apart}
 use Rattle.sj_proper.proofs.Core.{Distinct, distinct-followed, ProperOne, Proper, ProperCases, proper-followed}
 
 -- one of these locals, or a numbered variable in this range

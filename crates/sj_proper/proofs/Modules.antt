@@ -1,5 +1,5 @@
 -- A module of the functions of methods has no early error.
-use Rattle.std.proofs.Common.{◌≡◌, ◌<◌, ℕ, zero, suc, Bool, true, false, ◌&&◌, ◌||◌, not, List, [], ◌∷◌, ◌++◌, map, Some, None, Option, refl, sym, ap, ◌∙◌, subst, ◌⊎◌, inl, inr, ⊎_elim, Contains, arith}
+use Rattle.std.proofs.Common.{◌≡◌, ℕ, Bool, true, false, ◌&&◌, ◌||◌, not, List, [], ◌∷◌, ◌++◌, map, refl, sym, ap, ◌∙◌, subst, inl, inr, Contains}
 use Rattle.std.specs.Prelude.{nat_eq}
 use Rattle.std.specs.Cmp.Lexicographic.{pointwise}
 use Rattle.std.specs.List.{list_all}
@@ -11,7 +11,7 @@ use Rattle.ir_mean.specs.World as ir_world
 use Rattle.js_mean.specs.Meaning as js_meaning
 use Rattle.js_mean.specs.Proper.{is_among, are_distinct, declared, are_proper, is_proper_function, is_proper_item, item_names, is_proper_module}
 use Rattle.js_mean.specs.Shows.{js_shows, file_of}
-use Rattle.js_tree.specs.Terms.{Name, Item}
+use Rattle.js_tree.specs.Terms.{Name}
 use Rattle.sj_core.specs.Terms as core
 use Rattle.sj_desugar.specs.Desugar.{desugared, names_of, is_mutable_in, into, result_destination}
 use Rattle.sj_emit_expr.specs.Templates.{member_name, statement_templates}
@@ -23,17 +23,16 @@ use Rattle.sj_trees.specs.declared.classes.MethodDef.{MethodDef}
 use Rattle.sj_trees.specs.declared.classes.ParamDef.{ParamDef}
 use Rattle.sj_bodies.specs.Locals.{Own}
 use Rattle.sj_bodies.specs.Settings.{Place, Setting}
-use Rattle.sj_bodies.proofs.Contexts.{differs, equals, is-equal}
+use Rattle.sj_bodies.proofs.Contexts.{differs}
 use Rattle.sj_bodies.proofs.Declared.{Declares}
 use Rattle.sj_bodies.proofs.Operators.{impossible}
 use Rattle.sj_calls.specs.Files.{EmittedMethod, function_item_of, call_item_of, module_with, program_with}
 use Rattle.sj_calls.specs.Methods.{parameters_in, function_of, IsParameter}
-use Rattle.sj_calls.specs.Names.{emitted_in, GoodMethod}
-use Rattle.sj_calls.proofs.Items.{code_with, in_front_or_behind}
+use Rattle.sj_calls.specs.Names.{GoodMethod}
 use Rattle.sj_calls.proofs.Named.{function-same}
 use Rattle.sj_calls.proofs.Safe.{safe_name, safe_label, safe-variables, safe-labels}
 use Rattle.sj_calls.proofs.Whole.{code-is}
-use Rattle.sj_sound.specs.Linked.{have_functions, IsRight}
+use Rattle.sj_sound.specs.Linked.{have_functions}
 use Rattle.sj_sound.proofs.Whole.{program_agrees}
 use Rattle.sj_proper.specs.Once.{IsAmong, Once}
 use Rattle.sj_proper.specs.Program.{AreDistinct, HaveOwnMembers, IsWhole}

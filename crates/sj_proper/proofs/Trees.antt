@@ -1,23 +1,22 @@
 -- What is written for a tree declares each variable once and has no early error.
-use Rattle.std.proofs.Common.{◌≡◌, ◌≤◌, ℕ, zero, suc, Bool, true, false, List, [], ◌∷◌, Some, None, Option, refl, sym, ap, ◌∙◌, subst, arith, ◌⊎◌, inl, inr, ⊎_elim, if◌then◌else◌}
-use Rattle.std.specs.Prelude.{ℤ, nat_eq}
+use Rattle.std.proofs.Common.{◌≡◌, ℕ, Bool, true, false, List, [], ◌∷◌, Some, refl, sym, ap, ◌∙◌, subst, arith, ◌⊎◌, inl, inr, ⊎_elim, if◌then◌else◌}
+use Rattle.std.specs.Prelude.{nat_eq}
 use Rattle.std.specs.Cmp.Lexicographic.{pointwise}
 use Rattle.sj_core.specs.Terms as core
 use Rattle.sj_core.specs.Views.{expressions_of}
 use Rattle.sj_desugar.specs.Coercions.{coerced, coerced_arguments}
 use Rattle.sj_desugar.specs.Desugar.{operand, into, block, operands, cases, finish, target_of, Target, Targets, expression_of, labeled_code, leaving_code, wrapped, branches, break_unless, switch_code, first_of, second_of, member, types_of}
 use Rattle.sj_desugar.specs.Plain.{is_plain}
-use Rattle.sj_desugar.specs.Spill.{Destination, discard, to_variable, to_result, Code, no_code, one, put_first, joined, then_code, Operand, spill, then_use}
-use Rattle.sj_trees.specs.Term.{Term, Terms, no_terms, more_terms, Cases, no_cases, more_cases, var_def, skip, block_of, labeled, assign, return_to, if_then, while_loop, do_while, match_on, apply_static, unary_op, binary_op, undefined_literal, null_literal, boolean_literal, byte_literal, short_literal, int_literal, string_literal, var_ref, log_line}
+use Rattle.sj_desugar.specs.Spill.{Destination, discard, to_variable, to_result, Code, no_code, one, put_first, then_code, spill, then_use}
+use Rattle.sj_trees.specs.Term.{Term, Terms, no_terms, more_terms, Cases, no_cases, more_cases, var_def, block_of, labeled, assign, return_to, if_then, while_loop, do_while, match_on, apply_static, unary_op, binary_op, undefined_literal, null_literal, boolean_literal, byte_literal, short_literal, int_literal, string_literal, var_ref, log_line}
 use Rattle.sj_trees.specs.TypeOf.{type_of_term, unary_result, binary_result}
 use Rattle.sj_trees.specs.declared.positions.Position.{Position}
 use Rattle.sj_trees.specs.declared.types.IrType.{IrType}
 use Rattle.sj_trees.specs.declared.types.IrType.TheVariants.{Undefined, Null, Boolean, Byte, Short, Int, String}
-use Rattle.sj_bodies.specs.Locals.{Own, OwnAll, OwnCases}
+use Rattle.sj_bodies.specs.Locals.{Own, OwnAll}
 use Rattle.sj_bodies.proofs.Contexts.{equals, is-equal}
 use Rattle.sj_bodies.proofs.Operators.{impossible}
 use Rattle.sj_proper.specs.Once.{IsAmong, Apart, Once, OnceAll, OnceCases}
-use Rattle.sj_proper.proofs.Core.{Distinct, Proper, ProperOne}
 use Rattle.sj_proper.proofs.Good.{Good, Part, no_name, good-widen, good-none, good-one, good-joined, good-named, spilled, operand-good, good-use, finish-good, branches-good, break-good, GoodCases, case-good-in, switch-good}
 
 abbrev IsLeft : Destination → Type 0

@@ -1,5 +1,5 @@
 -- The worked program has the properties that are asked of programs.
-use Rattle.std.proofs.Common.{◌≡◌, ◌≢◌, ℕ, List, [], ◌∷◌, codes, refl, sym, ap, subst, ⊎_elim, Contains}
+use Rattle.std.proofs.Common.{◌≡◌, [], ◌∷◌, codes, refl, sym, ap, subst, ⊎_elim, Contains}
 use Rattle.std.proofs.lemmas.List.Elements.{All-cons, All-nil}
 use Rattle.outcomes.specs.Agreement.{Agree}
 use Rattle.ir_mean.specs.Rows.{once, triples}
@@ -7,7 +7,6 @@ use Rattle.ir_mean.specs.Shows.{ir_shows}
 use Rattle.js_mean.specs.Shows.{js_shows}
 use Rattle.sj_names.specs.declared.method_names.Member.{Member}
 use Rattle.sj_names.specs.MethodNames.{spelled_method, IsParameter}
-use Rattle.sj_names.specs.declared.references.TypeRef.{TypeRef}
 use Rattle.sj_names.specs.declared.references.TypeRef.TheVariants.{Int}
 use Rattle.sj_calls.specs.Files.{EmittedMethod, program_with}
 use Rattle.sj_calls.proofs.Items.{nothing_in, in_front_or_behind}

@@ -1,6 +1,6 @@
 -- No two definitions of a tree have one name, no label stands inside itself, and each jump is to a label around it.
 use Rattle.std.specs.Prelude.{◌≡◌, ℕ, List, [], ◌∷◌, ◌⊎◌}
-use Rattle.sj_trees.specs.Term.{Term, Terms, no_terms, more_terms, Cases, no_cases, more_cases, var_def, skip, block_of, labeled, assign, return_to, if_then, while_loop, do_while, match_on, apply_static, unary_op, binary_op, log_line}
+use Rattle.sj_trees.specs.Term.{Term, Terms, no_terms, more_terms, Cases, no_cases, more_cases, var_def, block_of, labeled, assign, return_to, if_then, while_loop, do_while, match_on, apply_static, unary_op, binary_op, log_line}
 use Rattle.sj_bodies.specs.Locals.{Own, OwnAll, OwnCases}
 
 abbrev pub IsAmong : List (List ℕ) → List ℕ → Type 0

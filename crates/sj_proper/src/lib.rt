@@ -5,7 +5,7 @@
 //! are theorems.
 #![tactic(auto)]
 
-ghost use Rattle.std.specs.Prelude.{◌≡◌, ℕ, true, List, [], codes};
+ghost use Rattle.std.specs.Prelude.{◌≡◌, ◌≤◌, ◌^◌, ℕ, true, List, [], codes};
 ghost use Rattle.std.specs.List.{Contains};
 ghost use Rattle.outcomes.specs.Agreement.{Agree};
 ghost use Rattle.ir_mean.specs.Rows.{once};
@@ -13,14 +13,17 @@ ghost use Rattle.ir_mean.specs.Shows.{initializers, ir_shows};
 ghost use Rattle.ir_mean.specs.World.{World};
 ghost use Rattle.js_mean.specs.Proper.{is_proper_item, is_proper_module};
 ghost use Rattle.js_mean.specs.Shows.{js_shows};
-ghost use Rattle.sj_desugar.specs.Desugar.{desugared, names_of};
+ghost use Rattle.sj_desugar.specs.Desugar.{desugared, into, is_mutable_in, names_of, result_destination};
 ghost use Rattle.sj_names.specs.declared.entry_points.EntryPoint.{EntryPoint};
+ghost use Rattle.sj_trees.specs.Term.{Term};
+ghost use Rattle.sj_trees.specs.declared.classes.MethodDef.{MethodDef};
 ghost use Rattle.sj_bodies.specs.Locals.{Own};
 ghost use Rattle.sj_calls.specs.Files.{EmittedMethod, function_item_of, module_with, program_with};
 ghost use Rattle.sj_calls.specs.Methods.{IsParameter};
-ghost use Rattle.sj_calls.specs.Names.{GoodMethod};
+ghost use Rattle.sj_calls.specs.Names.{GoodMethod, GoodParameters};
 ghost use Rattle.sj_sound.specs.Linked.{have_functions};
 ghost use Rattle.sj_sound.specs.Worked.{worked_world, worked_methods};
+ghost use Rattle.sj_proper.specs.Bytes.{NamedByBytes};
 ghost use Rattle.sj_proper.specs.Once.{Once};
 ghost use Rattle.sj_proper.specs.Program.{AreDistinct, HaveOwnMembers, IsWhole};
 
@@ -31,7 +34,13 @@ pub fn functions_have_no_early_error()
     ensures { (e : EmittedMethod) → Once [] e.its_body → AreDistinct (names_of e.definition.params) → ((x : List ℕ) → Own e.its_body x → IsParameter e.definition.params x → ⊥) → GoodMethod (desugared e.definition e.its_body) → is_proper_item (function_item_of e) ≡ true }
 {}
 
-/// Neither has the module of the functions of methods, no two of one member, that calls any initializers.
+/// The names in the emitted function of a method are good where the locals, labels and parameters of the method are texts of bytes, and it has
+/// so few variables for operands that their numbers have 64 bits.
+pub fn names_in_functions_are_good()
+    ensures { (d : MethodDef) (e : Term) → GoodParameters (names_of d.params) → NamedByBytes e → (into (is_mutable_in d e) [] (result_destination d.result) 1 e).next ≤ 2 ^ 64 → GoodMethod (desugared d e) }
+{}
+
+/// The module of the functions of methods, no two of one member, that calls any initializers has no early error.
 pub fn modules_have_no_early_error()
     ensures { (w : World) (fs : List EmittedMethod) (es : List EntryPoint) → ((e : EmittedMethod) → Contains fs e → IsWhole w fs e) → HaveOwnMembers fs → is_proper_module (module_with fs es) ≡ true }
 {}

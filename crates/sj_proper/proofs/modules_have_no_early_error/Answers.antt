@@ -1,4 +1,4 @@
-use Rattle.std.proofs.Common.{[], true}
+use Rattle.std.proofs.Common.{[]}
 use Rattle.sj_proper.proofs.Modules as modules
 use Rattle.sj_proper.proofs.modules_have_no_early_error.Goals as goal
 
