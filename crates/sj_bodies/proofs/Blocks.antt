@@ -17,11 +17,11 @@ use Rattle.sj_desugar.specs.Desugar.{target_of}
 use Rattle.sj_desugar.specs.Spill.{Destination}
 use Rattle.sj_emit_expr.specs.Templates.{member_name, statement_templates}
 use Rattle.sj_names.specs.declared.method_names.Member.{Member}
-use Rattle.sj_bodies.specs.Settings.{Setting, run, Lawful, Holding}
+use Rattle.sj_plain.specs.Settings.{Setting, run, Lawful, Holding}
 use Rattle.sj_bodies.proofs.Contexts.{Context, Writes, Sound, Ahead, Ready, Keeps, Arrives, let_go, stored, returned, Came, gave, left, stopped}
 use Rattle.sj_bodies.proofs.Declared.{Declares, declared-named, IsNew}
-use Rattle.sj_bodies.proofs.Operators.{impossible}
-use Rattle.sj_bodies.proofs.Worlds.{World}
+use Rattle.sj_plain.proofs.Operators.{impossible}
+use Rattle.sj_plain.proofs.Worlds.{World}
 
 or_false : (a b : Bool) → (a || b) ≡ false → (a ≡ false) × (b ≡ false)
 or_false true b h = impossible (sym h)

@@ -11,9 +11,9 @@ use Rattle.sj_desugar.specs.Desugar.{Targets, target_of}
 use Rattle.sj_desugar.specs.Spill.{Destination, discard, to_variable, to_result}
 use Rattle.sj_emit_expr.specs.Templates.{member_name}
 use Rattle.sj_trees.specs.declared.types.IrType.{IrType}
-use Rattle.sj_bodies.specs.Settings.{Place, Setting, SameState, Inside, Lawful, Holding, Sees}
-use Rattle.sj_bodies.proofs.Plain.{sees-lift}
-use Rattle.sj_bodies.proofs.Worlds.{World, Grows, SameValue}
+use Rattle.sj_plain.specs.Settings.{Place, Setting, SameState, Inside, Lawful, Holding, Sees}
+use Rattle.sj_plain.proofs.Plain.{sees-lift}
+use Rattle.sj_plain.proofs.Worlds.{World, Grows, SameValue}
 
 pub record Context : Type 1 where
   pub scope : List ℕ → Type 0

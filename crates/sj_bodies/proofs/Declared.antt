@@ -17,11 +17,11 @@ use Rattle.sj_trees.specs.TypeOf.{type_of_term, unary_result, binary_result}
 use Rattle.sj_trees.specs.declared.positions.Position.{Position}
 use Rattle.sj_trees.specs.declared.types.IrType.{IrType}
 use Rattle.sj_trees.specs.declared.types.IrType.TheVariants.{Undefined, Null, Boolean, Byte, Short, Int, String}
-use Rattle.sj_bodies.specs.Settings.{Setting}
+use Rattle.sj_plain.specs.Settings.{Setting}
 pub use Rattle.sj_bodies.specs.Locals.{Own, OwnAll, OwnCases}
 use Rattle.sj_bodies.proofs.Contexts.{is-equal}
 use Rattle.sj_bodies.proofs.Numbers.{EachOnward, onward, operands-onward}
-use Rattle.sj_bodies.proofs.Operators.{impossible}
+use Rattle.sj_plain.proofs.Operators.{impossible}
 
 abbrev pub DeclaresOne : core.Statement → core.Variable → Type 0
 DeclaresOne (core.constant_of p x e) y = x ≡ y

@@ -19,17 +19,17 @@ use Rattle.sj_emit_expr.specs.Templates.{statement_templates}
 use Rattle.sj_trees.specs.Term.{Term}
 use Rattle.sj_trees.specs.declared.positions.Position.{Position}
 use Rattle.sj_trees.specs.declared.types.IrType.{IrType}
-use Rattle.sj_bodies.specs.Conditions.{NoBox}
-use Rattle.sj_bodies.specs.Settings.{Setting, shown, run, SameState, Valued, valued, Lawful, Holding, holding, Sees}
-use Rattle.sj_bodies.proofs.Conditions.{coerced-same}
+use Rattle.sj_plain.specs.Conditions.{NoBox}
+use Rattle.sj_plain.specs.Settings.{Setting, shown, run, SameState, Valued, valued, Lawful, Holding, holding, Sees}
+use Rattle.sj_plain.proofs.Conditions.{coerced-same}
 use Rattle.sj_bodies.proofs.Blocks.{Outside, Undeclared, block_alike}
 use Rattle.sj_bodies.proofs.Contexts.{Context, Writes, Sound, Ahead, IsOpen, Ready, ready-lift, Keeps, keeps-refl, keeps-trans, Arrives, let_go, stored, Came, gave, left, stopped, equals, is-equal, started-here, started-other, started-inside, started-ready, started-keeps}
 use Rattle.sj_bodies.specs.Fine.{FitsIn}
-use Rattle.sj_bodies.proofs.Operators.{impossible}
-use Rattle.sj_bodies.proofs.Orders.{OperandAlike, OperandsAlike, no_operands, more_operands, in_order_alike, ActsAlike}
+use Rattle.sj_plain.proofs.Operators.{impossible}
+use Rattle.sj_plain.proofs.Orders.{OperandAlike, OperandsAlike, no_operands, more_operands, in_order_alike, ActsAlike}
 use Rattle.sj_bodies.proofs.Spills.{keeping, writing, Extends, extends-refl, Final, OperandsDo, runs, operands_in, count, none_left, one_left, spill_does, numbered-named, numbered-same}
 use Rattle.sj_bodies.proofs.Statements.{act_of, ends-one, assigned, started-open, finish_alike, Ends}
-use Rattle.sj_bodies.proofs.Worlds.{World, Grows, grows-refl, grows-trans, SameValue, same_undefined, same_null, same_boolean, same_number, same_text, no_values, one_more}
+use Rattle.sj_plain.proofs.Worlds.{World, Grows, grows-refl, grows-trans, SameValue, same_undefined, same_null, same_boolean, same_number, same_text, no_values, one_more}
 
 pub writes-more : (q p : core.Variable → Type 0) (k : Destination) → ((y : core.Variable) → q y → p y) → Writes q k → Writes p k
 writes-more q p discard h w = tt

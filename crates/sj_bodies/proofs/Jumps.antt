@@ -17,12 +17,12 @@ use Rattle.sj_desugar.specs.Spill.{Destination, discard, to_variable, to_result,
 use Rattle.sj_emit_expr.specs.Templates.{statement_templates}
 use Rattle.sj_trees.specs.declared.positions.Position.{Position}
 use Rattle.sj_trees.specs.declared.types.IrType.{IrType}
-use Rattle.sj_bodies.specs.Settings.{Setting, run, SameState, Lawful}
+use Rattle.sj_plain.specs.Settings.{Setting, run, SameState, Lawful}
 use Rattle.sj_bodies.proofs.Blocks.{Undeclared, block_alike}
 use Rattle.sj_bodies.proofs.Contexts.{Context, Writes, Sound, Ready, Arrives, let_go, stored, returned, Came, gave, left, stopped, differs, equals, is-equal}
-use Rattle.sj_bodies.proofs.Operators.{impossible}
+use Rattle.sj_plain.proofs.Operators.{impossible}
 use Rattle.sj_bodies.proofs.Statements.{run-followed, leaves_on, ends-one, Ends}
-use Rattle.sj_bodies.proofs.Worlds.{World}
+use Rattle.sj_plain.proofs.Worlds.{World}
 
 module _ (z : Setting) (lawful : Lawful z) where
   -- a context with one more label

@@ -1,5 +1,4 @@
 pub mod Blocks
-pub mod Conditions
 pub mod Contexts
 pub mod Declared
 pub mod Forms
@@ -8,12 +7,7 @@ pub mod Loops
 pub mod Main
 pub mod Matches
 pub mod Numbers
-pub mod Operators
-pub mod Orders
-pub mod Plain
 pub mod Spills
 pub mod Statements
-pub mod Templates
 pub mod Trees
 pub mod Turns
-pub mod Worlds

@@ -13,14 +13,14 @@ use Rattle.sj_desugar.specs.Desugar.{target_of, first_of, wrapped, break_unless}
 use Rattle.sj_desugar.specs.Spill.{Destination, discard, Code, put_first}
 use Rattle.sj_emit_expr.specs.Templates.{statement_templates}
 use Rattle.sj_trees.specs.declared.positions.Position.{Position}
-use Rattle.sj_bodies.specs.Settings.{Setting, shown, run, SameState, Valued, valued, Lawful}
+use Rattle.sj_plain.specs.Settings.{Setting, shown, run, SameState, Valued, valued, Lawful}
 use Rattle.sj_bodies.proofs.Blocks.{Undeclared, block_alike}
 use Rattle.sj_bodies.proofs.Contexts.{Context, Sound, Ahead, Ready, ready-lift, Keeps, keeps-refl, Arrives, let_go, stored, returned, Came, gave, left, stopped}
 use Rattle.sj_bodies.specs.Fine.{IsDiscard, is_discard}
 use Rattle.sj_bodies.proofs.Forms.{OneFinal, rebased}
-use Rattle.sj_bodies.proofs.Orders.{OperandAlike}
+use Rattle.sj_plain.proofs.Orders.{OperandAlike}
 use Rattle.sj_bodies.proofs.Statements.{act_of, ends-one, Ends}
-use Rattle.sj_bodies.proofs.Worlds.{World, Grows, grows-refl, grows-trans, SameValue, same_undefined, same_null, same_boolean, same_number, same_text}
+use Rattle.sj_plain.proofs.Worlds.{World, Grows, grows-refl, grows-trans, SameValue, same_undefined, same_null, same_boolean, same_number, same_text}
 
 -- the context of a loop's turn: its condition may not hold any more where the loop's value is given up
 abbrev pub in_turn : Context → Destination → Context

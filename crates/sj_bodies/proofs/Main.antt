@@ -19,8 +19,8 @@ use Rattle.sj_trees.specs.declared.operators.UnaryOp.{UnaryOp}
 use Rattle.sj_trees.specs.declared.positions.Position.{Position}
 use Rattle.sj_trees.specs.declared.types.IrType.{IrType}
 use Rattle.sj_trees.specs.declared.types.IrType.TheVariants.{Undefined, Null, Boolean, Byte, Short, Int, String}
-use Rattle.sj_bodies.specs.Conditions.{is_simple, IsDivision, IsDivisor, divisor}
-use Rattle.sj_bodies.specs.Settings.{Setting, run, SameState, Lawful}
+use Rattle.sj_plain.specs.Conditions.{is_simple, IsDivision, IsDivisor, divisor}
+use Rattle.sj_plain.specs.Settings.{Setting, run, SameState, Lawful}
 use Rattle.sj_bodies.proofs.Blocks.{Outside, undeclared}
 use Rattle.sj_bodies.proofs.Contexts.{Context, Writes, Sound, Ahead, Ready, Keeps, keeps-refl, Came}
 use Rattle.sj_bodies.proofs.Declared.{Own, OwnAll, OwnCases, new}
@@ -29,13 +29,13 @@ use Rattle.sj_bodies.proofs.Forms.{of_operands, one_final, two_final, silent, as
 use Rattle.sj_bodies.proofs.Jumps.{labelling, sound-labelling, labeled_alike, return_alike}
 use Rattle.sj_bodies.proofs.Matches.{settled, sound-settled, ahead-settled, outside-settled, undeclared-settled, undeclared-case, CasesAlike, no_case, without_keys, with_keys, match_final}
 use Rattle.sj_bodies.proofs.Numbers.{onward, cases-onward}
-use Rattle.sj_bodies.proofs.Operators.{impossible}
-use Rattle.sj_bodies.proofs.Plain.{unary_alike, binary_alike}
+use Rattle.sj_plain.proofs.Operators.{impossible}
+use Rattle.sj_plain.proofs.Plain.{unary_alike, binary_alike}
 use Rattle.sj_bodies.proofs.Spills.{Does, OperandDoes, OperandsDo, numbered-named}
 use Rattle.sj_bodies.proofs.Statements.{run-followed, came_then, finish_alike, Ends}
 use Rattle.sj_bodies.proofs.Trees.{LowAlike, outside-part, behind, go_on-given, FineHere, TreeDoes, operand_does, define_does, quiet, value_of, local_at, finish_one, list_of, call_does, division_does}
 use Rattle.sj_bodies.proofs.Turns.{while_does, do_does}
-use Rattle.sj_bodies.proofs.Worlds.{World, Grows, grows-refl}
+use Rattle.sj_plain.proofs.Worlds.{World, Grows, grows-refl}
 
 module _ (z : Setting) (lawful : Lawful z) (low : LowAlike z) where
   abbrev BlockDoes : Terms → Type 1

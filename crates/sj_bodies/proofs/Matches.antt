@@ -19,14 +19,14 @@ use Rattle.sj_desugar.specs.Desugar.{target_of, first_of, Branches, switch_code}
 use Rattle.sj_desugar.specs.Spill.{Destination, discard, to_variable, to_result, Code}
 use Rattle.sj_emit_expr.specs.Templates.{statement_templates, case_templates}
 use Rattle.sj_trees.specs.declared.positions.Position.{Position}
-use Rattle.sj_bodies.specs.Settings.{Setting, shown, run, SameState, Lawful}
+use Rattle.sj_plain.specs.Settings.{Setting, shown, run, SameState, Lawful}
 use Rattle.sj_bodies.proofs.Blocks.{Outside, Undeclared, scoped_alike}
 use Rattle.sj_bodies.proofs.Contexts.{Context, Writes, Sound, Ahead, Ready, ready-lift, Keeps, Arrives, let_go, stored, returned, Came, gave, left, stopped}
 use Rattle.sj_bodies.proofs.Declared.{Declares, declares-followed}
 use Rattle.sj_bodies.proofs.Forms.{OneFinal, rebased, act_alike, ahead-later}
 use Rattle.sj_bodies.proofs.Loops.{Alike}
 use Rattle.sj_bodies.proofs.Statements.{run-followed, act_of, ends-one}
-use Rattle.sj_bodies.proofs.Worlds.{World, Grows, grows-trans, SameValue, same_undefined, same_null, same_boolean, same_number, same_text}
+use Rattle.sj_plain.proofs.Worlds.{World, Grows, grows-trans, SameValue, same_undefined, same_null, same_boolean, same_number, same_text}
 
 -- the context of a case: it is no turn of a loop, since a break in it ends the switch
 abbrev pub settled : Context → Context

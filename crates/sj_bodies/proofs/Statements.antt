@@ -18,11 +18,11 @@ use Rattle.sj_desugar.specs.Spill.{Destination, discard, to_variable, to_result,
 use Rattle.sj_emit_expr.specs.Templates.{statement_template}
 use Rattle.sj_trees.specs.declared.positions.Position.{Position}
 use Rattle.sj_trees.specs.declared.types.IrType.{IrType}
-use Rattle.sj_bodies.specs.Conditions.{NoBox}
-use Rattle.sj_bodies.specs.Settings.{Setting, shown, run, SameState, Valued, valued, Lawful, Holding, Sees}
-use Rattle.sj_bodies.proofs.Conditions.{coerced-same}
+use Rattle.sj_plain.specs.Conditions.{NoBox}
+use Rattle.sj_plain.specs.Settings.{Setting, shown, run, SameState, Valued, valued, Lawful, Holding, Sees}
+use Rattle.sj_plain.proofs.Conditions.{coerced-same}
 use Rattle.sj_bodies.proofs.Contexts.{Context, Writes, Sound, IsOpen, Ready, ready-lift, Keeps, keeps-trans, Arrives, let_go, stored, returned, Came, gave, left, stopped, started-here, started-other, started-inside, started-keeps}
-use Rattle.sj_bodies.proofs.Worlds.{World, Grows, grows-trans, SameValue}
+use Rattle.sj_plain.proofs.Worlds.{World, Grows, grows-trans, SameValue}
 
 pub next-done : (e : js.StatementEnd) → js.next_statement (λ sc s. done (js.ends js.normally sc s)) e ≡ done e
 next-done (js.ends js.normally sc s) = refl

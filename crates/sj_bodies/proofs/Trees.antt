@@ -25,20 +25,20 @@ use Rattle.sj_trees.specs.TypeOf.{type_of_term, binary_result}
 use Rattle.sj_trees.specs.declared.operators.BinaryOp.{BinaryOp}
 use Rattle.sj_trees.specs.declared.positions.Position.{Position}
 use Rattle.sj_trees.specs.declared.types.IrType.{IrType}
-use Rattle.sj_bodies.specs.Conditions.{NoBoxes, IsDivision, Plain}
-use Rattle.sj_bodies.specs.Settings.{Setting, shown, SameState, Valued, Lawful, Holding, holding}
+use Rattle.sj_plain.specs.Conditions.{NoBoxes, IsDivision, Plain}
+use Rattle.sj_plain.specs.Settings.{Setting, shown, SameState, Valued, Lawful, Holding, holding}
 use Rattle.sj_bodies.proofs.Blocks.{Outside}
-use Rattle.sj_bodies.proofs.Conditions.{arguments-same}
+use Rattle.sj_plain.proofs.Conditions.{arguments-same}
 use Rattle.sj_bodies.proofs.Contexts.{Context, Writes, Sound, Ahead, Ready, Came}
 use Rattle.sj_bodies.proofs.Declared.{Own}
 use Rattle.sj_bodies.specs.Fine.{FitsIn, FineOperand, Fine}
 use Rattle.sj_bodies.proofs.Forms.{sound-writing, ahead-writing, outside-writing, of_operands, one_final, quiet_alike, defining, sound-defining, ahead-defining, define_alike, OneFinal}
 use Rattle.sj_bodies.proofs.Numbers.{onward}
-use Rattle.sj_bodies.proofs.Orders.{OperandAlike}
-use Rattle.sj_bodies.proofs.Plain.{plain_alike, as_operand, call_alike, division_alike, division_act}
+use Rattle.sj_plain.proofs.Orders.{OperandAlike}
+use Rattle.sj_plain.proofs.Plain.{plain_alike, as_operand, call_alike, division_alike, division_act}
 use Rattle.sj_bodies.proofs.Spills.{keeping, writing, Does, Final, OperandDoes, OperandsDo, runs, operands_in, count}
 use Rattle.sj_bodies.proofs.Statements.{finish_alike, Ends}
-use Rattle.sj_bodies.proofs.Worlds.{World}
+use Rattle.sj_plain.proofs.Worlds.{World}
 
 -- the level below: each tree of the forms that are built, and its statements, with one unit less
 abbrev pub LowAlike : Setting → Type 1

@@ -14,7 +14,7 @@ use Rattle.sj_emit_expr.specs.Templates.{statement_templates}
 use Rattle.sj_trees.specs.Term.{Term, while_loop, do_while, boolean_literal}
 use Rattle.sj_trees.specs.TypeOf.{type_of_term}
 use Rattle.sj_trees.specs.declared.positions.Position.{Position}
-use Rattle.sj_bodies.specs.Settings.{Setting, run, SameState, Lawful}
+use Rattle.sj_plain.specs.Settings.{Setting, run, SameState, Lawful}
 use Rattle.sj_bodies.proofs.Blocks.{Outside, Undeclared, undeclared}
 use Rattle.sj_bodies.proofs.Contexts.{Context, Writes, Sound, Ahead, Ready, Came}
 use Rattle.sj_bodies.proofs.Declared.{Own, Declares, IsNew, EachNew, new, new-more, spill-new, declares-followed}
@@ -22,11 +22,11 @@ use Rattle.sj_bodies.specs.Fine.{IsDiscard, is_discard, IsTrueLiteral, true_lite
 use Rattle.sj_bodies.proofs.Forms.{of_operands, one_final, silent, rebased, ahead-later}
 use Rattle.sj_bodies.proofs.Loops.{in_turn, stop, Alike, sound-turn, ahead-turn, while_alike, forever_alike, test_final}
 use Rattle.sj_bodies.proofs.Numbers.{EachOnward, onward, spill-onward}
-use Rattle.sj_bodies.proofs.Plain.{plain_alike, as_operand}
+use Rattle.sj_plain.proofs.Plain.{plain_alike, as_operand}
 use Rattle.sj_bodies.proofs.Spills.{Does}
 use Rattle.sj_bodies.proofs.Statements.{run-followed, came_then, Ends}
 use Rattle.sj_bodies.proofs.Trees.{LowAlike, outside-part, TreeDoes, operand_does}
-use Rattle.sj_bodies.proofs.Worlds.{World}
+use Rattle.sj_plain.proofs.Worlds.{World}
 
 outside-turn : (c : Context) (k : Destination) (own : List ℕ → Type 0) → Outside c own → Outside (in_turn c k) own
 outside-turn c k own out = record { scope = out.scope; writable = out.writable; kept = out.kept }

@@ -22,13 +22,13 @@ use Rattle.sj_trees.specs.declared.classes.ParamDef.{ParamDef}
 use Rattle.sj_trees.specs.declared.types.IrType.{IrType}
 use Rattle.sj_trees.specs.declared.types.IrType.TheVariants.{NoType}
 use Rattle.sj_bodies.specs.Locals.{Own}
-use Rattle.sj_bodies.specs.Settings.{Place, Setting, SameState, Valued, valued, NamesDiffer, Holding, holding}
+use Rattle.sj_plain.specs.Settings.{Place, Setting, SameState, Valued, valued, NamesDiffer, Holding, holding}
 use Rattle.sj_bodies.proofs.Blocks.{Outside, bind-undeclared}
 use Rattle.sj_bodies.proofs.Contexts.{Context, Writes, Sound, Ahead, Ready, let_go, returned, Came, gave, left, stopped, differs, equals, is-equal}
 use Rattle.sj_bodies.proofs.Declared.{declared-named}
-use Rattle.sj_bodies.proofs.Operators.{impossible}
+use Rattle.sj_plain.proofs.Operators.{impossible}
 use Rattle.sj_bodies.proofs.Trees.{LowAlike}
-use Rattle.sj_bodies.proofs.Worlds.{World, SameValue, same_undefined, SameValues, no_values, one_more}
+use Rattle.sj_plain.proofs.Worlds.{World, SameValue, same_undefined, SameValues, no_values, one_more}
 use Rattle.sj_calls.specs.Methods.{parameters_in, function_of, IsParameter, Linked}
 
 -- what the body of a method is written in: its parameters, of which those that aren't mutable keep what they hold

@@ -9,11 +9,11 @@ use Rattle.js_mean.specs.States as js
 use Rattle.sj_desugar.specs.Desugar.{into, is_mutable_in}
 use Rattle.sj_emit_expr.specs.Templates.{statement_templates}
 use Rattle.sj_names.specs.declared.method_names.Member.{Member}
-use Rattle.sj_bodies.specs.Settings.{Place, Setting, SameState, NamesDiffer, Lawful}
+use Rattle.sj_plain.specs.Settings.{Place, Setting, SameState, NamesDiffer, Lawful}
 use Rattle.sj_bodies.proofs.Contexts.{Came}
 use Rattle.sj_bodies.proofs.Main.{does}
 use Rattle.sj_bodies.proofs.Trees.{LowAlike}
-use Rattle.sj_bodies.proofs.Worlds.{World, SameValues}
+use Rattle.sj_plain.proofs.Worlds.{World, SameValues}
 use Rattle.sj_calls.specs.Methods.{Linked, CallsAgree}
 use Rattle.sj_calls.proofs.Calls.{call_alike}
 

@@ -17,8 +17,8 @@ use Rattle.std.specs.Prelude.{codes}
 use Rattle.sj_names.specs.declared.method_names.Member.{Member}
 use Rattle.sj_trees.specs.Term.{Term}
 use Rattle.sj_trees.specs.declared.classes.MethodDef.{MethodDef}
-use Rattle.sj_bodies.specs.Settings.{Place, SameState, Valued, valued, NamesDiffer}
-use Rattle.sj_bodies.proofs.Worlds.{World, SameValues}
+use Rattle.sj_plain.specs.Settings.{Place, SameState, Valued, valued, NamesDiffer}
+use Rattle.sj_plain.proofs.Worlds.{World, SameValues}
 use Rattle.sj_calls.specs.Methods.{parameters_in, function_of, Linked, ir_call, js_call, CallsAgree}
 use Rattle.sj_calls.specs.Names.{emitted_in, GoodExpression, GoodExpressions, GoodStatement, GoodStatements, GoodCases, GoodParameters, GoodMethod, LinkedByName}
 use Rattle.sj_calls.proofs.Levels.{calls_agree}

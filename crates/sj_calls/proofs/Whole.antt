@@ -22,8 +22,8 @@ use Rattle.sj_desugar.specs.Desugar.{desugared}
 use Rattle.sj_emit_expr.specs.Templates.{member_name, parameter_names}
 use Rattle.sj_names.specs.declared.entry_points.EntryPoint.{EntryPoint}
 use Rattle.sj_names.specs.declared.method_names.Member.{Member}
-use Rattle.sj_bodies.specs.Settings.{Place, SameState, Valued, valued}
-use Rattle.sj_bodies.specs.Worlds.{World, no_values}
+use Rattle.sj_plain.specs.Settings.{Place, SameState, Valued, valued}
+use Rattle.sj_plain.specs.Worlds.{World, no_values}
 use Rattle.sj_bodies.proofs.Contexts.{equals}
 use Rattle.sj_calls.specs.Files.{EmittedMethod, function_item_of, initializer_member, call_item_of, module_with, program_with, IsEmitted, HasFunction}
 use Rattle.sj_calls.specs.Methods.{parameters_in, function_of, ir_call, js_call}

@@ -17,8 +17,8 @@ use Rattle.sj_trees.specs.declared.classes.MethodDef.{MethodDef}
 use Rattle.sj_trees.specs.declared.classes.ParamDef.{ParamDef}
 use Rattle.sj_bodies.specs.Fine.{Fine}
 use Rattle.sj_bodies.specs.Locals.{Own}
-use Rattle.sj_bodies.specs.Settings.{Place, Valued}
-use Rattle.sj_bodies.specs.Worlds.{World}
+use Rattle.sj_plain.specs.Settings.{Place, Valued}
+use Rattle.sj_plain.specs.Worlds.{World}
 
 -- the parameters of a function
 abbrev pub parameters_in : Place → List (List ℕ) → List Name

@@ -8,7 +8,7 @@ use Rattle.sj_desugar.specs.Desugar.{desugared}
 use Rattle.sj_emit_expr.specs.Names.{variable_name, label_name}
 use Rattle.sj_mangling.specs.Mangling.{AreBytes}
 use Rattle.sj_names.specs.declared.method_names.Member.{Member}
-use Rattle.sj_bodies.specs.Settings.{Place}
+use Rattle.sj_plain.specs.Settings.{Place}
 use Rattle.sj_calls.specs.Methods.{Linked}
 
 -- the place in which variables and labels have the names of the emitted code

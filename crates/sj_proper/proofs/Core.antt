@@ -8,10 +8,10 @@ use Rattle.js_tree.specs.Terms.{Name}
 use Rattle.sj_core.specs.Terms as core
 use Rattle.sj_core.specs.Terms.{followed}
 use Rattle.sj_emit_expr.specs.Templates.{statement_template, statement_templates, case_templates}
-use Rattle.sj_bodies.specs.Settings.{Setting}
+use Rattle.sj_plain.specs.Settings.{Setting}
 use Rattle.sj_bodies.proofs.Contexts.{equals, is-equal}
 use Rattle.sj_bodies.proofs.Declared.{DeclaresOne, Declares, declares-followed, declared-named}
-use Rattle.sj_bodies.proofs.Operators.{impossible}
+use Rattle.sj_plain.proofs.Operators.{impossible}
 use Rattle.sj_proper.specs.Once.{IsAmong}
 
 -- no variable is declared twice in one list

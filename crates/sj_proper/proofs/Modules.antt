@@ -22,10 +22,10 @@ use Rattle.sj_trees.specs.Term.{Term}
 use Rattle.sj_trees.specs.declared.classes.MethodDef.{MethodDef}
 use Rattle.sj_trees.specs.declared.classes.ParamDef.{ParamDef}
 use Rattle.sj_bodies.specs.Locals.{Own}
-use Rattle.sj_bodies.specs.Settings.{Place, Setting}
+use Rattle.sj_plain.specs.Settings.{Place, Setting}
 use Rattle.sj_bodies.proofs.Contexts.{differs}
 use Rattle.sj_bodies.proofs.Declared.{Declares}
-use Rattle.sj_bodies.proofs.Operators.{impossible}
+use Rattle.sj_plain.proofs.Operators.{impossible}
 use Rattle.sj_calls.specs.Files.{EmittedMethod, function_item_of, call_item_of, module_with, program_with}
 use Rattle.sj_calls.specs.Methods.{parameters_in, function_of, IsParameter}
 use Rattle.sj_calls.specs.Names.{GoodMethod}

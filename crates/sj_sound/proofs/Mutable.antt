@@ -9,9 +9,9 @@ use Rattle.sj_trees.specs.declared.classes.ParamDef.{ParamDef}
 use Rattle.sj_trees.specs.declared.types.IrType.{IrType}
 use Rattle.std.specs.Prelude.{Some, nat_eq, if◌then◌else◌}
 use Rattle.std.specs.Cmp.Lexicographic.{pointwise}
-use Rattle.sj_bodies.specs.Conditions.{IsDivisor, divisor}
+use Rattle.sj_plain.specs.Conditions.{IsDivisor, divisor}
 use Rattle.sj_bodies.proofs.Contexts.{equals, is-equal}
-use Rattle.sj_bodies.proofs.Operators.{impossible}
+use Rattle.sj_plain.proofs.Operators.{impossible}
 use Rattle.sj_sound.specs.Typing.{Scene, local_of, behind, in_label, Typed, TypedBlock, TypedAll, TypedCases}
 
 abbrev mutual

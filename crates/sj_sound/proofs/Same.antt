@@ -14,7 +14,7 @@ use Rattle.sj_names.specs.declared.method_names.Member.{Member}
 use Rattle.sj_names.specs.declared.method_names.MethodName.{MethodName}
 use Rattle.sj_names.specs.declared.method_names.Namespace.{Namespace}
 use Rattle.sj_bodies.proofs.Contexts.{equals, is-equal}
-use Rattle.sj_bodies.proofs.Operators.{impossible}
+use Rattle.sj_plain.proofs.Operators.{impossible}
 use Rattle.sj_calls.specs.Files.{EmittedMethod, HasFunction}
 use Rattle.sj_sound.specs.Linked.{is_same_member, has_function}
 

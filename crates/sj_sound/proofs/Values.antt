@@ -10,8 +10,8 @@ use Rattle.sj_trees.specs.declared.operators.UnaryOp.{UnaryOp}
 use Rattle.sj_trees.specs.declared.operators.UnaryOp.TheVariants.{BooleanNot, ByteToInt, ShortToInt, IntToByte, IntToShort}
 use Rattle.sj_trees.specs.declared.types.IrType.{IrType}
 use Rattle.sj_trees.specs.declared.types.IrType.TheVariants.{Undefined, Null, Boolean, Byte, Short, Int, String, Nothing}
-use Rattle.sj_bodies.specs.Conditions.{is_simple, is_simple_unary, IsDivision, a_quotient, a_remainder}
-use Rattle.sj_bodies.proofs.Operators.{impossible}
+use Rattle.sj_plain.specs.Conditions.{is_simple, is_simple_unary, IsDivision, a_quotient, a_remainder}
+use Rattle.sj_plain.proofs.Operators.{impossible}
 use Rattle.sj_sound.specs.Subtyping.{IsSubtyping}
 use Rattle.sj_sound.specs.Typing.{unary_operand, binary_operand}
 

@@ -13,7 +13,7 @@ use Rattle.sj_names.specs.declared.method_names.Member.{Member}
 use Rattle.sj_trees.specs.declared.classes.ParamDef.{ParamDef}
 use Rattle.sj_trees.specs.declared.types.IrType.TheVariants.{Int}
 use Rattle.sj_bodies.specs.Locals.{Own}
-use Rattle.sj_bodies.proofs.Operators.{impossible}
+use Rattle.sj_plain.proofs.Operators.{impossible}
 use Rattle.sj_calls.specs.Files.{EmittedMethod, program_with}
 use Rattle.sj_calls.proofs.Items.{nothing_in, in_front_or_behind}
 use Rattle.sj_sound.specs.Linked.{has_function, IsRight}

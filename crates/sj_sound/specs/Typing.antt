@@ -16,7 +16,7 @@ use Rattle.sj_trees.specs.declared.operators.UnaryOp.{UnaryOp}
 use Rattle.sj_trees.specs.declared.operators.UnaryOp.TheVariants.{BooleanNot, ByteToInt, ShortToInt}
 use Rattle.sj_trees.specs.declared.types.IrType.{IrType}
 use Rattle.sj_trees.specs.declared.types.IrType.TheVariants.{Any, Boolean, Byte, Short, Int, String, NoType}
-use Rattle.sj_bodies.specs.Conditions.{is_simple, is_simple_unary, IsDivision, IsDivisor}
+use Rattle.sj_plain.specs.Conditions.{is_simple, is_simple_unary, IsDivision, IsDivisor}
 use Rattle.sj_bodies.specs.Locals.{Own, OwnAll}
 
 -- a label with the type of what leaves to it

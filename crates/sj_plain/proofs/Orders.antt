@@ -9,8 +9,8 @@ use Rattle.ir_mean.specs.Meaning as ir_meaning
 use Rattle.ir_mean.specs.States as ir
 use Rattle.js_mean.specs.Meaning as js_meaning
 use Rattle.js_mean.specs.States as js
-use Rattle.sj_bodies.proofs.Worlds.{World, Grows, grows-refl, grows-trans, SameValue, value-lift, SameValues, no_values, one_more}
-use Rattle.sj_bodies.specs.Settings.{Setting, SameState, Valued, valued}
+use Rattle.sj_plain.proofs.Worlds.{World, Grows, grows-refl, grows-trans, SameValue, value-lift, SameValues, no_values, one_more}
+use Rattle.sj_plain.specs.Settings.{Setting, SameState, Valued, valued}
 
 -- values that operands gave, in a world that has grown from the second, and what is done with them, in one that has grown from the first
 abbrev pub ActsAlike : (z : Setting) (base from : World) (env : ir.Env) → (List ir.Value → ir.Run) → (List js.Value → js.Evaluation) → js.Scope → Type 0

@@ -26,11 +26,11 @@ use Rattle.sj_trees.specs.declared.operators.BinaryOp.{BinaryOp}
 use Rattle.sj_trees.specs.declared.operators.BinaryOp.TheVariants.{BooleanEqual, BooleanNotEqual, BooleanOr, BooleanAnd, IntAdd, IntSubtract, IntMultiply, IntDivide, IntRemainder, IntOr, IntAnd, IntXor, IntShiftLeft, IntShiftRightLogical, IntShiftRightArithmetic, IntEqual, IntNotEqual, IntLess, IntLessOrEqual, IntGreater, IntGreaterOrEqual}
 use Rattle.sj_trees.specs.declared.operators.UnaryOp.{UnaryOp}
 use Rattle.sj_trees.specs.declared.operators.UnaryOp.TheVariants.{BooleanNot, ByteToInt, ShortToInt, IntToByte, IntToShort}
-use Rattle.sj_bodies.proofs.Worlds.{World, Grows, SameValue, same_boolean, same_number, one_more, no_values}
-use Rattle.sj_bodies.specs.Conditions.{is_simple, is_simple_unary}
-use Rattle.sj_bodies.proofs.Operators.{template_value, or_zero_value, boolean_of, GivenIf, impossible, values_alike}
-use Rattle.sj_bodies.proofs.Orders.{ActsAlike, in_order-then}
-use Rattle.sj_bodies.specs.Settings.{Setting, SameState, Valued, valued}
+use Rattle.sj_plain.proofs.Worlds.{World, Grows, SameValue, same_boolean, same_number, one_more, no_values}
+use Rattle.sj_plain.specs.Conditions.{is_simple, is_simple_unary}
+use Rattle.sj_plain.proofs.Operators.{template_value, or_zero_value, boolean_of, GivenIf, impossible, values_alike}
+use Rattle.sj_plain.proofs.Orders.{ActsAlike, in_order-then}
+use Rattle.sj_plain.specs.Settings.{Setting, SameState, Valued, valued}
 
 -- an act on two values by what they give
 abbrev pub by_value : (js.Value → js.Value → Option js.Value) → List js.Value → js.Evaluation

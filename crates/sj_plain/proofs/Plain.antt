@@ -31,13 +31,13 @@ use Rattle.sj_trees.specs.declared.operators.BinaryOp.{BinaryOp}
 use Rattle.sj_trees.specs.declared.operators.BinaryOp.TheVariants.{IntDivide}
 use Rattle.sj_trees.specs.declared.operators.UnaryOp.{UnaryOp}
 use Rattle.sj_trees.specs.declared.positions.Position.{Position}
-use Rattle.sj_bodies.specs.Conditions.{is_simple, is_simple_unary, IsDivision, a_quotient, a_remainder, IsDivisor, divisor, Plain, AllPlain}
-use Rattle.sj_bodies.proofs.Conditions.{coerced-same, arguments-same}
-use Rattle.sj_bodies.proofs.Operators.{template_value, GivenIf}
-use Rattle.sj_bodies.proofs.Orders.{ActsAlike, OperandAlike, OperandsAlike, no_operands, more_operands, valued-weaken, in_order_alike}
-use Rattle.sj_bodies.specs.Settings.{Setting, shown, SameState, Inside, Valued, valued, Lawful, Holding, holding, Sees}
-use Rattle.sj_bodies.proofs.Templates.{not_ratio, by_value, by_one_value, one_template_value, binary_shown, binary_acts, unary_shown, unary_acts, value_alike}
-use Rattle.sj_bodies.proofs.Worlds.{World, Grows, grows-refl, SameValue, same_undefined, same_null, same_boolean, same_number, same_text, value-lift, no_values, one_more}
+use Rattle.sj_plain.specs.Conditions.{is_simple, is_simple_unary, IsDivision, a_quotient, a_remainder, IsDivisor, divisor, Plain, AllPlain}
+use Rattle.sj_plain.proofs.Conditions.{coerced-same, arguments-same}
+use Rattle.sj_plain.proofs.Operators.{template_value, GivenIf}
+use Rattle.sj_plain.proofs.Orders.{ActsAlike, OperandAlike, OperandsAlike, no_operands, more_operands, valued-weaken, in_order_alike}
+use Rattle.sj_plain.specs.Settings.{Setting, shown, SameState, Inside, Valued, valued, Lawful, Holding, holding, Sees}
+use Rattle.sj_plain.proofs.Templates.{not_ratio, by_value, by_one_value, one_template_value, binary_shown, binary_acts, unary_shown, unary_acts, value_alike}
+use Rattle.sj_plain.proofs.Worlds.{World, Grows, grows-refl, SameValue, same_undefined, same_null, same_boolean, same_number, same_text, value-lift, no_values, one_more}
 
 pub holding-lift : (u w : World) (o : Option ir.Value) (cell : js.Cell) → Grows u w → Holding u o cell → Holding w o cell
 holding-lift u w _ _ g (holding v x a) = holding v x (value-lift u w v x g a)

@@ -18,8 +18,8 @@ use Rattle.js_mean.specs.States as js
 use Rattle.js_tree.specs.declared.operators.BinaryOperator.TheVariants as Op
 use Rattle.sj_trees.specs.declared.operators.BinaryOp.{BinaryOp}
 use Rattle.sj_trees.specs.declared.operators.BinaryOp.TheVariants.{BooleanEqual, BooleanNotEqual, BooleanOr, BooleanAnd, IntAdd, IntSubtract, IntMultiply, IntOr, IntAnd, IntXor, IntShiftLeft, IntShiftRightLogical, IntShiftRightArithmetic, IntEqual, IntNotEqual, IntLess, IntLessOrEqual, IntGreater, IntGreaterOrEqual}
-use Rattle.sj_bodies.specs.Conditions.{is_simple}
-use Rattle.sj_bodies.proofs.Worlds.{World, SameValue, same_boolean, same_number}
+use Rattle.sj_plain.specs.Conditions.{is_simple}
+use Rattle.sj_plain.proofs.Worlds.{World, SameValue, same_boolean, same_number}
 
 pub same-boolean : (a b : Bool) → js_operators.is_same_boolean a b ≡ ir_operators.is_same_boolean a b
 same-boolean true b = refl

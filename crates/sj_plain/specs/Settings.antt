@@ -11,7 +11,7 @@ use Rattle.js_mean.specs.States as js
 use Rattle.sj_core.specs.Terms as core
 use Rattle.sj_emit_expr.specs.Templates.{member_name, expression_template, statement_templates}
 use Rattle.sj_names.specs.declared.method_names.Member.{Member}
-use Rattle.sj_bodies.specs.Worlds.{World, Grows, SameValue, SameValues}
+use Rattle.sj_plain.specs.Worlds.{World, Grows, SameValue, SameValues}
 
 -- what is fixed: the two programs, the names that stand for variables, labels and members, and the members that are linked
 pub record Place : Type 0 where

@@ -6,7 +6,7 @@ use Rattle.sj_desugar.specs.Coercions.{coerced, coerced_arguments}
 use Rattle.sj_names.specs.declared.references.TypeRef.{TypeRef}
 use Rattle.sj_trees.specs.Types.{reference_type}
 use Rattle.sj_trees.specs.declared.types.IrType.{IrType}
-use Rattle.sj_bodies.specs.Conditions.{NoBox, NoBoxes}
+use Rattle.sj_plain.specs.Conditions.{NoBox, NoBoxes}
 
 pub coerced-same : (expected own : IrType) (e : core.Expression) → NoBox expected own → coerced expected own e ≡ e
 coerced-same expected own e h = ap (λ (b : Bool). if b then core.boxed_char e else e) h

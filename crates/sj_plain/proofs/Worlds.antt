@@ -2,7 +2,7 @@
 use Rattle.std.proofs.Common.{List, [], ◌++◌, sym, ap, ◌∙◌, append_assoc, append-nil}
 use Rattle.ir_mean.specs.States as ir
 use Rattle.js_mean.specs.States as js
-pub use Rattle.sj_bodies.specs.Worlds.{World, Grows, SameValue, same_undefined, same_null, same_boolean, same_number, same_text, SameValues, no_values, one_more}
+pub use Rattle.sj_plain.specs.Worlds.{World, Grows, SameValue, same_undefined, same_null, same_boolean, same_number, same_text, SameValues, no_values, one_more}
 
 pub grows-refl : (w : World) → Grows w w
 grows-refl w = record { more = []; parts = sym (append-nil w) }

@@ -1,0 +1,112 @@
+-- A class that keeps the local rules, and its methods.
+use Rattle.std.proofs.Common.{◌≡◌, ℕ, suc, Bool, true, false, List, [], ◌∷◌, Some, None, Option, ◌&&◌, ◌||◌, not, map, if◌then◌else◌, refl, sym, subst, ◌⊎◌, inl, inr, ⊎_elim, Contains, length, arith}
+use Rattle.std.specs.Prelude.{option_map, is_some}
+use Rattle.std.specs.Cmp.Lexicographic.{pointwise}
+use Rattle.std.proofs.lemmas.Bool.{and_parts}
+use Rattle.sj_local.specs.MemberRules.{breaks_method, has_result, is_void}
+use Rattle.sj_local.specs.TreeRules.{is_constructor}
+use Rattle.sj_local.specs.Names.{is_init, is_same_type}
+use Rattle.sj_local.specs.Firsts.{first_where}
+use Rattle.sj_local.specs.Broken.{at_method, Breaks, TreeBreaks, FirstTree, FirstBroken, all_rules, tree_place}
+use Rattle.sj_local.specs.Firsts.{FirstAnswer, none_left, this_one, a_later_one}
+use Rattle.sj_local.specs.declared.rules.Rule.{Rule}
+use Rattle.sj_local.specs.declared.rules.Rule.TheVariants as rule
+use Rattle.sj_trees.specs.declared.classes.ClassDef.{ClassDef}
+use Rattle.sj_trees.specs.declared.classes.MethodDef.{MethodDef}
+use Rattle.sj_names.specs.declared.references.TypeRef.{TypeRef}
+use Rattle.sj_trees.specs.Types.{reference_type}
+use Rattle.sj_trees.specs.declared.classes.ParamDef.{ParamDef}
+use Rattle.sj_trees.specs.declared.types.IrType.{IrType}
+use Rattle.sj_sound.specs.Rules.{HaveTypes}
+use Rattle.sj_sound.specs.Typing.{call_type}
+use Rattle.sj_kept.specs.Kept.{KeepsTreeRules}
+use Rattle.sj_kept.proofs.Types.{type-same}
+use Rattle.sj_plain.proofs.Operators.{impossible}
+use Rattle.sj_calls.proofs.Items.{nothing_in, in_front_or_behind}
+
+-- where nothing is answered, each answers nothing
+none-each : {A R : Type 0} (Answers : A → Option R → Type 0) (n : ℕ) (xs : List A) (r : Option (ℕ × R)) → FirstAnswer Answers n xs r → r ≡ None → (x : A) → Contains xs x → Answers x None
+none-each Answers _ _ _ (none_left n) e x h = nothing_in x h
+none-each Answers _ _ _ (this_one n y ys r a) e x h = impossible (cc)
+none-each Answers _ _ _ (a_later_one n y ys found a rest) e x h = ⊎_elim (λ same. subst (λ z. Answers z None) same a) (λ later. none-each Answers (suc n) ys found rest e x later) (in_front_or_behind y ys x h)
+
+place-none : (o : Option (ℕ × ℕ)) → None ≡ option_map tree_place o → o ≡ None
+place-none None e = refl
+place-none (Some p) e = impossible (cc)
+
+-- a rule on trees that a class keeps, for one of its methods
+method-keeps : (c : ClassDef) (r : Rule) → FirstTree r c None → (m : MethodDef) → Contains c.methods m → TreeBreaks r c m None
+method-keeps c r h m i = none-each (TreeBreaks r c) (length c.fields) c.methods h.found h.first (place-none h.found h.is_place) m i
+
+-- the rules on trees of a class that breaks none
+pub class-keeps : (c : ClassDef) → FirstBroken c None → (m : MethodDef) → Contains c.methods m → KeepsTreeRules c m
+class-keeps c h m i = record {
+  declared = method-keeps c rule.DeclaredTwice (kept rule.DeclaredTwice in_tenth) m i;
+  definition = sym (method-keeps c rule.Definition (kept rule.Definition in_eleventh) m i);
+  variable = sym (method-keeps c rule.Variable (kept rule.Variable in_twelfth) m i);
+  jump = sym (method-keeps c rule.ReturnLabel (kept rule.ReturnLabel in_thirteenth) m i);
+}
+  where
+    kept : (r : Rule) → Contains all_rules r → Breaks c r None
+    kept r k = none-each (Breaks c) 1 all_rules None h refl r k
+
+    in_tenth : Contains all_rules rule.DeclaredTwice
+    in_tenth = (9, omega arith, refl)
+
+    in_eleventh : Contains all_rules rule.Definition
+    in_eleventh = (10, omega arith, refl)
+
+    in_twelfth : Contains all_rules rule.Variable
+    in_twelfth = (11, omega arith, refl)
+
+    in_thirteenth : Contains all_rules rule.ReturnLabel
+    in_thirteenth = (12, omega arith, refl)
+
+-- where no element passes a test, each fails it
+none-passes : {A : Type 0} (test : A → Bool) (xs : List A) → first_where test xs ≡ None → (x : A) → Contains xs x → test x ≡ false
+none-passes test [] e x h = nothing_in x h
+none-passes test (y ∷ ys) e x h = go (test y) refl e (in_front_or_behind y ys x h) (λ k i. none-passes test ys k x i)
+  where
+    none-suc : (o : Option ℕ) → option_map suc o ≡ None → o ≡ None
+    none-suc None e = refl
+    none-suc (Some n) e = impossible (cc)
+
+    go : (b : Bool) → test y ≡ b → (if b then Some 0 else option_map suc (first_where test ys)) ≡ None → (y ≡ x) ⊎ Contains ys x → (first_where test ys ≡ None → Contains ys x → test x ≡ false) → test x ≡ false
+    go true i k w others = impossible (cc)
+    go false i k (inl same) others = subst (λ z. test z ≡ false) same i
+    go false i k (inr there) others = others (none-suc (first_where test ys) k) there
+
+no-place : (c : ClassDef) (o : Option ℕ) → None ≡ option_map (at_method c) o → o ≡ None
+no-place c None e = refl
+no-place c (Some n) e = impossible (cc)
+
+not-broken : (b : Bool) → not b ≡ false → b ≡ true
+not-broken true h = refl
+not-broken false h = impossible (sym h)
+
+second-false : (a b : Bool) → (a || b) ≡ false → b ≡ false
+second-false true b h = impossible (sym h)
+second-false false b h = h
+
+types-are : (ps : List ParamDef) (rs : List TypeRef) → pointwise is_same_type (map (λ (p : ParamDef). p.tpe) ps) (map reference_type rs) ≡ true → HaveTypes ps rs
+types-are [] [] h = tt
+types-are [] (r ∷ rs) h = impossible h
+types-are (p ∷ ps) [] h = impossible h
+types-are (p ∷ ps) (r ∷ rs) h = let k = and_parts (is_same_type p.tpe (reference_type r)) (pointwise is_same_type (map (λ (p : ParamDef). p.tpe) ps) (map reference_type rs)) h in (type-same p.tpe (reference_type r) k.0, types-are ps rs k.1)
+
+result-is : (t : IrType) (o : Option TypeRef) → is_some o ≡ true → has_result t o ≡ true → t ≡ call_type o
+result-is t None h k = impossible h
+result-is t (Some r) h k = type-same t (reference_type r) k
+
+-- the types that a method's name tells
+pub signature-keeps : (c : ClassDef) → FirstBroken c None → (m : MethodDef) → Contains c.methods m → HaveTypes m.params m.name.params × (m.result ≡ call_type m.name.result)
+signature-keeps c h m i = (types-are m.params m.name.params parts.0, result-is m.result m.name.result named parts.1)
+  where
+    kept : (r : Rule) → Contains all_rules r → Breaks c r None
+    kept r k = none-each (Breaks c) 1 all_rules None h refl r k
+
+    parts : (pointwise is_same_type (map (λ (p : ParamDef). p.tpe) m.params) (map reference_type m.name.params) ≡ true) × (has_result m.result m.name.result ≡ true)
+    parts = and_parts (pointwise is_same_type (map (λ (p : ParamDef). p.tpe) m.params) (map reference_type m.name.params)) (has_result m.result m.name.result) (not-broken (pointwise is_same_type (map (λ (p : ParamDef). p.tpe) m.params) (map reference_type m.name.params) && has_result m.result m.name.result) (none-passes (breaks_method c rule.Signature) c.methods (no-place c (first_where (breaks_method c rule.Signature) c.methods) (kept rule.Signature (6, omega arith, refl))) m i))
+
+    named : is_some m.name.result ≡ true
+    named = not-broken (is_some m.name.result) (second-false (is_init m.name.simple && not (is_constructor m.namespace && is_void m.name.result)) (not (is_some m.name.result)) (none-passes (breaks_method c rule.MethodName) c.methods (no-place c (first_where (breaks_method c rule.MethodName) c.methods) (kept rule.MethodName (5, omega arith, refl))) m i))

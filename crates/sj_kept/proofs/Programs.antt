@@ -1,0 +1,46 @@
+-- Programs of classes that break none of the local rules agree with their file.
+use Rattle.std.proofs.Common.{◌≡◌, ℕ, true, List, ap, ◌∙◌, subst, Contains}
+use Rattle.outcomes.specs.Agreement.{Agree}
+use Rattle.ir_mean.specs.Shows.{initializers, ir_shows}
+use Rattle.ir_mean.specs.World.{World}
+use Rattle.js_mean.specs.Shows.{js_shows}
+use Rattle.sj_names.specs.declared.entry_points.EntryPoint.{EntryPoint}
+use Rattle.sj_names.specs.declared.method_names.MethodName.{MethodName}
+use Rattle.sj_calls.specs.Files.{EmittedMethod, program_with}
+use Rattle.sj_sound.specs.Linked.{has_function, have_functions, IsRight}
+use Rattle.sj_sound.specs.Rules.{HaveTypes}
+use Rattle.sj_sound.specs.Subtyping.{IsSubSimply}
+use Rattle.sj_sound.specs.Typing.{call_type}
+use Rattle.sj_proper.specs.Program.{HaveOwnMembers, IsWhole}
+use Rattle.sj_proper.proofs.Modules.{linked_agrees}
+use Rattle.sj_proper.proofs.Names.{method-good}
+use Rattle.sj_kept.specs.Kept.{KeepsTreeRules, DefinesOnce}
+use Rattle.sj_kept.specs.Programs.{IsAccepted}
+use Rattle.sj_kept.proofs.Classes.{class-keeps, signature-keeps}
+use Rattle.sj_kept.proofs.Methods.{body_keeps, rules_kept}
+
+module _ (w : World) (fs : List EmittedMethod) (e : EmittedMethod) (h : IsAccepted w fs e) where
+  kept : KeepsTreeRules h.owner e.definition
+  kept = class-keeps h.owner h.unbroken e.definition h.listed
+
+  defined : DefinesOnce e.definition e.its_body
+  defined = body_keeps IsSubSimply (has_function fs) h.owner e.definition e.its_body h.has_body kept
+
+  types : HaveTypes e.definition.params e.definition.name.params × (e.definition.result ≡ call_type e.definition.name.result)
+  types = signature-keeps h.owner h.unbroken e.definition h.listed
+
+  right : IsRight w fs e
+  right = record {
+    found = h.found;
+    has_body = h.has_body;
+    parameters = subst (λ (n : MethodName). HaveTypes e.definition.params n.params) h.named types.0;
+    result_is = types.1 ∙ ap (λ (n : MethodName). call_type n.result) h.named;
+    rules = rules_kept IsSubSimply (has_function fs) h.owner e.definition e.its_body h.has_body kept h.rows h.yields h.result h.values;
+    names = method-good e.definition e.its_body h.parameter_bytes h.local_bytes h.numbers;
+  }
+
+  pub whole : IsWhole w fs e
+  whole = record { right = right; once = defined.once; parameters = defined.parameters; class_name = h.class_name; method_name = h.method_name; class_bytes = h.class_bytes; method_bytes = h.method_bytes }
+
+pub classes_agree : (w : World) (entries : List EntryPoint) (id : List ℕ) (fs : List EmittedMethod) → ((e : EmittedMethod) → Contains fs e → IsAccepted w fs e) → HaveOwnMembers fs → have_functions fs (initializers entries id) ≡ true → Agree (ir_shows w entries id) (js_shows (program_with id fs (initializers entries id)) id)
+classes_agree w entries id fs all own called = linked_agrees w entries id fs (λ e i. whole w fs e (all e i)) own called

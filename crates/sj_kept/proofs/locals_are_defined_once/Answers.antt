@@ -1,0 +1,7 @@
+use Rattle.std.proofs.Common.{true}
+use Rattle.sj_sound.specs.Subtyping.{IsSubSimply}
+use Rattle.sj_kept.proofs.Methods as methods
+use Rattle.sj_kept.proofs.locals_are_defined_once.Goals as goal
+
+pub returns : goal.returns
+returns c = methods.body_keeps IsSubSimply (λ m. true)

@@ -1,0 +1,3 @@
+pub mod Conditions
+pub mod Settings
+pub mod Worlds
