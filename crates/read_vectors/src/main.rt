@@ -2,11 +2,8 @@
 //! the number of the code, the place, and the form that isn't supported.
 #![tactic(auto)]
 
-ghost use Rattle.std.specs.Prelude.{◌<◌};
-ghost use Rattle.std.specs.List.{All};
-
 use anyhow::Result;
-use file_listings::each_class_of_a_file_has_a_listing;
+use file_listings::{each_class_of_a_file_has_a_listing, each_is_a_byte};
 use listing_print::print_listing;
 use sj_format::{Code, ReadRefusal};
 use sj_names::{Meter, NoMemory};
@@ -27,7 +24,7 @@ fn main(rt: HostRuntime) -> Result<()> {
 
 // What the reader answers to a file.
 fn answer(alloc: Global, file: &[u8]) -> result::Result<String, NoMemory> {
-    read_each(file);
+    each_is_a_byte(file);
     each_class_of_a_file_has_a_listing();
     match read_class(alloc, file, &mut Meter::new()) {
         Ok(class) => {
@@ -51,13 +48,4 @@ fn fault(alloc: Global, code: Code, place: u64) -> result::Result<String, NoMemo
         None => "-",
     };
     Ok(format!(in alloc; "bad {number} {place} {form}")?)
-}
-
-// Each element is a byte, which reading it tells.
-fn read_each(bytes: &[u8])
-    ensures { All (λ b. b < 256) bytes.now }
-{
-    for byte in bytes {
-        let _byte = *byte;
-    }
 }

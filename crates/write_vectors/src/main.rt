@@ -2,10 +2,8 @@
 //! as, spelled in the same way.
 #![tactic(auto)]
 
-ghost use Rattle.std.specs.Prelude.{◌<◌};
-ghost use Rattle.std.specs.List.{All};
-
 use anyhow::Result;
+use file_listings::each_is_a_byte;
 use sj_names::{Meter, NoMemory};
 use sj_read::read_class;
 use sj_write::write_class;
@@ -27,18 +25,9 @@ fn main(rt: HostRuntime) -> Result<()> {
 
 // The file that the class of this file is written as; None where the bytes are no file.
 fn written_again(alloc: Global, file: &[u8]) -> result::Result<Option<Vec<u8>>, NoMemory> {
-    read_each(file);
+    each_is_a_byte(file);
     match read_class(alloc, file, &mut Meter::new()) {
         Ok(class) => Ok(Some(write_class(alloc, &class)?)),
         Err(_) => Ok(None),
-    }
-}
-
-// Each element is a byte, which reading it tells.
-fn read_each(bytes: &[u8])
-    ensures { All (λ b. b < 256) bytes.now }
-{
-    for byte in bytes {
-        let _byte = *byte;
     }
 }
