@@ -1,0 +1,28 @@
+use Rattle.std.proofs.Common.{◌∙◌, ℕ, List, [], ◌∷◌, subst, inl}
+use Rattle.std.specs.Prelude.{codes}
+use Rattle.sj_outside.specs.Writing.{Appends, Writes, put}
+use Rattle.sj_outside.proofs.Laws.{Writes-put}
+use Rattle.sjsir.specs.Output.{no_listing_line, no_file_line}
+use Rattle.sjsir.specs.Writing.{Ends, all_written, faulted, out_of_memory}
+use Rattle.sjsir.specs.declared.answers.Status.TheVariants.{SomeRefused}
+use Rattle.sjsir.specs.declared.making.Made.TheVariants.{File, NoListing, NoFile}
+use Rattle.sjsir.proofs.Endings.{made_ends, put_refused, line_ends, text_ends, nothing_is_front}
+use Rattle.sjsir.proofs.writing.write_made.Goals as goal
+
+pub returns-in-Ok : goal.returns-in-Ok
+returns-in-Ok g c = made_ends c.args.out.now c.args.made.now (File c.in-File.bytes) _ _ _ _ _ _ c.in-File.is (all_written (subst (λ (b : List ℕ). Writes (g.O.Outputs.puts c.args.outputs.now) (g.O.Outputs.puts c.put.new.self) (g.L.Lines.printed c.args.lines.now) (g.L.Lines.printed c.args.lines.now) (put (record { out = codes "."; edit = 1; name = c.args.out.now; bytes = b }) ∷ [])) c.as_slice.ensures (Writes-put _ _ _ _ c.in-Ok.ensures.put)))
+
+pub returns-in-Err-Failed : goal.returns-in-Err-Failed
+returns-in-Err-Failed g c = made_ends c.args.out.now c.args.made.now (File c.in-File.bytes) _ _ _ _ _ _ c.in-File.is (faulted (put_refused _ _ _ _ c.in-Err-Failed.ensures.unchanged) (inl (c.in-Err-Failed.ensures.cause.failed (cc))))
+
+pub returns-in-Err-NoMemory : goal.returns-in-Err-NoMemory
+returns-in-Err-NoMemory g c = made_ends c.args.out.now c.args.made.now (File c.in-File.bytes) _ _ _ _ _ _ c.in-File.is (out_of_memory (put_refused _ _ _ _ c.in-Err-NoMemory.ensures.unchanged))
+
+pub returns-in-Ok-no_listing_line : goal.returns-in-Ok-no_listing_line
+returns-in-Ok-no_listing_line g c = made_ends c.args.out.now c.args.made.now (NoListing c.in-NoListing.place) _ _ _ _ _ _ c.in-NoListing.is (line_ends _ _ _ SomeRefused _ (no_listing_line c.in-NoListing.place) _ _ (text_ends _ _ _ _ _ _ _ (c.as_str.ensures.value ∙ c.in-Ok-no_listing_line.ensures) c.print_text.ensures))
+
+pub returns-in-Err : goal.returns-in-Err
+returns-in-Err g c = made_ends c.args.out.now c.args.made.now (NoListing c.in-NoListing.place) _ _ _ _ _ _ c.in-NoListing.is (out_of_memory (nothing_is_front _ _ _))
+
+pub returns-in-NoFile : goal.returns-in-NoFile
+returns-in-NoFile g c = made_ends c.args.out.now c.args.made.now NoFile _ _ _ _ _ _ c.in-NoFile.is (line_ends _ _ _ SomeRefused _ no_file_line _ _ c.print_text-in-NoFile.ensures)

@@ -1,0 +1,12 @@
+-- The exit status of the program.
+use Rattle.std.specs.Prelude.{ℕ}
+use Rattle.sjsir.specs.declared.answers.Status.{Status}
+use Rattle.sjsir.specs.declared.answers.Status.TheVariants.{Done, SomeRefused, Usage, ReadFault, WriteFault, NoMemory}
+
+abbrev pub exit_code : Status → ℕ
+exit_code Done = 0
+exit_code SomeRefused = 1
+exit_code Usage = 2
+exit_code ReadFault = 3
+exit_code WriteFault = 4
+exit_code NoMemory = 5

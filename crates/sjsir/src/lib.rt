@@ -1,0 +1,14 @@
+//! Class files and listings for people: what the words of a command line ask for is printed or made.
+#![tactic(auto)]
+
+mod answers;
+mod making;
+mod printing;
+mod program;
+mod reading;
+mod stops;
+mod words;
+mod writing;
+
+pub use answers::Status;
+pub use program::run;
