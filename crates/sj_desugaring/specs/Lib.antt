@@ -1,0 +1,4 @@
+pub mod Arguments
+pub mod Forms
+pub mod Placing
+pub mod Views

@@ -1,0 +1,145 @@
+// Literals and locals as statements.
+ghost use Rattle.std.specs.Prelude.{◌≡◌, true, IfOk};
+ghost use Rattle.sj_core.specs.Terms as terms;
+ghost use Rattle.sj_desugar.specs.Desugar as desugar;
+ghost use Rattle.sj_desugaring.specs.Forms.{value_code};
+ghost use Rattle.sj_desugaring.specs.Views.{destination_view, code_view};
+ghost use Rattle.sj_trees.specs.View.{view};
+ghost use Rattle.sj_trees.specs.declared.types.IrType.TheVariants.{String};
+
+use crate::destinations::Destination;
+use crate::expressions::local_use;
+use crate::forms::finish;
+use crate::writing::{Written, nothing};
+use sj_core::CoreExpression;
+use sj_names::{LocalName, NoMemory};
+use sj_trees::{IrType, Position, Tree};
+use sj_units::Units;
+use std::alloc::Global;
+
+/// The statements that bring the value of a literal or a local to a destination. No statements for any other tree.
+pub fn value_of(
+    alloc: Global,
+    destination: &Destination,
+    next: u64,
+    tree: &Tree,
+) -> Result<Written, NoMemory>
+    ensures { IfOk result (λ w. code_view w ≡ value_code (destination_view destination.now) next (view tree.now)) }
+{
+    match tree {
+        Tree::Undefined(position) => {
+            let value = CoreExpression::Undefined;
+            finish(
+                alloc,
+                destination,
+                *position,
+                &IrType::Undefined,
+                true,
+                value,
+                next,
+            )
+        }
+        Tree::Null(position) => {
+            let value = CoreExpression::Null;
+            finish(
+                alloc,
+                destination,
+                *position,
+                &IrType::Null,
+                true,
+                value,
+                next,
+            )
+        }
+        Tree::BooleanLiteral(position, value) => {
+            let value = CoreExpression::Boolean(*value);
+            finish(
+                alloc,
+                destination,
+                *position,
+                &IrType::Boolean,
+                true,
+                value,
+                next,
+            )
+        }
+        Tree::ByteLiteral(position, value) => {
+            let value = CoreExpression::Number(i32::from(*value));
+            finish(
+                alloc,
+                destination,
+                *position,
+                &IrType::Byte,
+                true,
+                value,
+                next,
+            )
+        }
+        Tree::ShortLiteral(position, value) => {
+            let value = CoreExpression::Number(i32::from(*value));
+            finish(
+                alloc,
+                destination,
+                *position,
+                &IrType::Short,
+                true,
+                value,
+                next,
+            )
+        }
+        Tree::IntLiteral(position, value) => {
+            let value = CoreExpression::Number(*value);
+            finish(
+                alloc,
+                destination,
+                *position,
+                &IrType::Int,
+                true,
+                value,
+                next,
+            )
+        }
+        Tree::StringLiteral(position, units) => {
+            text_value(alloc, destination, next, *position, units)
+        }
+        Tree::VarRef(position, name, tpe) => {
+            local_value(alloc, destination, next, *position, name, tpe)
+        }
+        _ => Ok(nothing(alloc, next)),
+    }
+}
+
+fn text_value(
+    alloc: Global,
+    destination: &Destination,
+    next: u64,
+    position: Position,
+    units: &Units,
+) -> Result<Written, NoMemory>
+    ensures { IfOk result (λ w. code_view w ≡ desugar.finish (destination_view destination.now) position String true (terms.text_value units.now) next) }
+{
+    let text = CoreExpression::Text(units.copied()?);
+    finish(
+        alloc,
+        destination,
+        position,
+        &IrType::String,
+        true,
+        text,
+        next,
+    )
+}
+
+fn local_value(
+    alloc: Global,
+    destination: &Destination,
+    next: u64,
+    position: Position,
+    name: &LocalName,
+    tpe: &IrType,
+) -> Result<Written, NoMemory>
+    ensures { IfOk result (λ w. code_view w ≡ desugar.finish (destination_view destination.now) position tpe.now true (terms.variable_use (terms.named name.now)) next) }
+{
+    let local = local_use(name)?;
+    finish(alloc, destination, position, tpe, true, local, next)
+}
