@@ -1,7 +1,7 @@
 -- Trees, arguments and cases one after another.
-use Rattle.std.proofs.Common.{◌≡◌, ◌∙◌, ◌<◌, ◌+◌, ℕ, ℤ, None, suc, length, get_or, drop, add-one, arith, Bool, true, false, ◌&&◌, List, [], ◌∷◌, ◌++◌, refl, ap, sym, map, append_assoc}
-use Rattle.std.proofs.Math.Seq.{drop-cons}
-use Rattle.std.proofs.lemmas.List.{append-nil}
+use Rattle.std.proofs.Common.{◌≡◌, ◌∙◌, ◌<◌, ◌+◌, ℕ, ℤ, None, suc, length, get_or, drop, take, ◌-◌, add-one, arith, Bool, true, false, ◌&&◌, List, [], ◌∷◌, ◌++◌, refl, ap, sym, map, append_assoc}
+use Rattle.std.proofs.Math.Seq.{drop-cons, take-length}
+use Rattle.std.proofs.lemmas.List.{append-nil, length-drop}
 use Rattle.sj_core.specs.Terms.{Expression, followed, statement, no_statements, break_nearest, switch_case}
 use Rattle.sj_core.specs.Views as core
 use Rattle.sj_desugar.specs.Coercions.{coerced_arguments}
@@ -32,6 +32,10 @@ joined-nothing c = ap (λ ss. record { statements = ss; next = c.next }) (follow
 -- an element of a list and those behind it
 pub taken : {A : Type 0} → (xs : List A) (n : ℕ) (x : A) → n < length xs → x ≡ get_or xs n x → drop n xs ≡ x ∷ drop (n + 1) xs
 taken xs n x h e = drop-cons xs n x h ∙ ap (λ y. y ∷ drop (suc n) xs) (sym e) ∙ ap (λ i. x ∷ drop i xs) (sym (add-one n))
+
+-- what is behind a place of a slice
+pub slice-rest : {A : Type 0} → (xs : List A) (n : ℕ) → take (length xs - n) (drop n xs) ≡ drop n xs
+slice-rest xs n = ap (λ k. take k (drop n xs)) (sym (length-drop n xs)) ∙ take-length (drop n xs)
 
 -- a case behind others
 case-onto : (cs : List core.Case) (c : core.Case) (bs : Branches) → branches_onto (cs ++ c ∷ []) bs ≡ branches_onto cs (record { cases = switch_case c.0 c.1 bs.cases; next = bs.next })

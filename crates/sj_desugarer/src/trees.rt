@@ -195,9 +195,9 @@ fn block_of(
 ) -> Result<Written, NoMemory>
     ensures { IfOk result (λ w. code_view w ≡ desugar.block (is_among mutable.now) (map target_view targets.now) (destination_view destination.now) next (terms_view trees.now)) }
 {
-    let nowhere = Destination::Discard;
     let mut written = nothing(alloc, next);
     for (index, each) in trees.iter().enumerate() {
+        let nowhere = Destination::Discard;
         let goes_to = for_last(&trees[index + 1..], destination, &nowhere);
         let code = statements_of(alloc, mutable, targets, goes_to, written.next, each)?;
         written = joined(written, code)?;

@@ -1,12 +1,12 @@
-use Rattle.std.proofs.Common.{◌≡◌, ◌∙◌, ap, sym, subst, map, true, refl, Some, IfOk, arith}
+use Rattle.std.proofs.Common.{◌≡◌, ◌∙◌, ◌+◌, ap, sym, subst, map, true, refl, Some, IfOk, arith}
 use Rattle.sj_core.specs.Terms.{named, assign_to}
 use Rattle.sj_desugar.specs.Coercions.{coerced}
 use Rattle.sj_desugar.specs.Desugar.{into, break_unless, cases}
 use Rattle.sj_desugar.specs.Plain.{is_among, is_plain}
 use Rattle.sj_desugar.specs.Spill.{discard, one, put_first}
-use Rattle.sj_desugaring.specs.Forms.{behind}
+use Rattle.sj_desugaring.specs.Forms.{behind, for_last}
 use Rattle.sj_desugarer.proofs.Rows.{assign-joins, if-joins, log-joins, unary-joins, binary-joins, match-joins, turn-joins, loop-joins, call-joins}
-use Rattle.sj_desugarer.proofs.Runs.{block-step, arguments-step, cases-take, cases-skip}
+use Rattle.sj_desugarer.proofs.Runs.{slice-rest, block-step, arguments-step, cases-take, cases-skip}
 use Rattle.sj_desugarer.proofs.trees.+trees.Goals as goal
 use Rattle.sj_desugarer.specs.Operands.{comes_to}
 use Rattle.sj_desugaring.specs.Views.{destination_view, target_view, code_view, placed_view, all_view, branches_view}
@@ -130,7 +130,7 @@ block_of-loop-index-preserved t c =
     let m = is_among a.mutable.now in
     let ls = map target_view a.targets.now in
     let k = destination_view a.destination.now in
-    block-step m ls a.trees.now c.loop-index.index c.index-trees-index.result k (destination_view c.for_last-goes_to.result.now) (code_view c.loop-index.written) (code_view c.in_ok-code.code) (code_view c.in_ok-written.written) c.loop-index-test.true c.index-trees-index.is c.for_last-goes_to.ensures c.in_ok-code.ensures c.in_ok-written.ensures ∙ c.loop-index.invariant
+    block-step m ls a.trees.now c.loop-index.index c.index-trees-index.result k (destination_view c.for_last-goes_to.result.now) (code_view c.loop-index.written) (code_view c.in_ok-code.code) (code_view c.in_ok-written.written) c.loop-index-test.true c.index-trees-index.is (c.for_last-goes_to.ensures ∙ ap (λ us. for_last us k discard) (slice-rest a.trees.now (c.loop-index.index + 1))) c.in_ok-code.ensures c.in_ok-written.ensures ∙ c.loop-index.invariant
 
 pub arguments_of-loop-index-preserved : goal.arguments_of-loop-index-preserved
 arguments_of-loop-index-preserved t c = ?
