@@ -1,9 +1,13 @@
-use Rattle.std.proofs.Common.{◌≡◌, ◌∙◌, ◌+◌, ap, sym, subst, map, true, refl, Some, IfOk, arith}
-use Rattle.sj_core.specs.Terms.{named, assign_to}
+use Rattle.std.proofs.Common.{◌≡◌, ◌∙◌, ◌+◌, ◌<◌, ◌++◌, ◌∷◌, [], ap, sym, subst, map, drop, length, true, refl, None, Some, IfOk, arith}
+use Rattle.std.proofs.lemmas.Bool.Decides.{nat_tests}
+use Rattle.std.proofs.lemmas.List.{map_push}
+use Rattle.sj_core.specs.Terms.{named, assign_to, followed, statement, no_statements, break_nearest}
+use Rattle.sj_core.specs.Views.{expression_view, case_view}
 use Rattle.sj_desugar.specs.Coercions.{coerced}
 use Rattle.sj_desugar.specs.Desugar.{into, break_unless, cases}
-use Rattle.sj_desugar.specs.Plain.{is_among, is_plain}
+use Rattle.sj_desugar.specs.Plain.{is_among, is_plain, are_plain}
 use Rattle.sj_desugar.specs.Spill.{discard, one, put_first}
+use Rattle.sj_desugaring.specs.Arguments.{coerced_argument}
 use Rattle.sj_desugaring.specs.Forms.{behind, for_last}
 use Rattle.sj_desugarer.proofs.Rows.{assign-joins, if-joins, log-joins, unary-joins, binary-joins, match-joins, turn-joins, loop-joins, call-joins}
 use Rattle.sj_desugarer.proofs.Runs.{slice-rest, block-step, arguments-step, cases-take, cases-skip}
@@ -13,9 +17,9 @@ use Rattle.sj_desugaring.specs.Views.{destination_view, target_view, code_view, 
 use Rattle.sj_trees.proofs.trees.Tree.TheLaws.{the_size}
 use Rattle.sj_trees.specs.Term.{Term, var_ref, assign, if_then, while_loop, do_while, match_on, apply_static, unary_op, binary_op, log_line}
 use Rattle.sj_trees.specs.TypeOf.{type_of_term}
-use Rattle.sj_trees.specs.View.{view, terms_view, cases_view, view_step, case_step, Case}
+use Rattle.sj_trees.specs.View.{view, terms_view, cases_view, view_case, view_step, case_step, Case}
 use Rattle.sj_trees.specs.declared.trees.Tree.{Tree}
-use Rattle.sj_trees.specs.declared.trees.Tree.TheFolds.{fold-roll-Tree}
+use Rattle.sj_trees.specs.declared.trees.Tree.TheFolds.{fold-roll-Tree, fold_out-MatchCase}
 use Rattle.sj_trees.specs.declared.trees.Tree.TheOpen.{Tree-F}
 use Rattle.sj_trees.specs.declared.trees.Tree.TheViews.{sized-Match}
 use Rattle.sj_trees.specs.declared.trees.Tree.TheVariants.{rolls-Assign, rolls-VarRef, rolls-If, rolls-While, rolls-DoWhile, rolls-Match, rolls-ApplyStatic, rolls-UnaryOp, rolls-BinaryOp, rolls-Log}
@@ -133,7 +137,29 @@ block_of-loop-index-preserved t c =
     block-step m ls a.trees.now c.loop-index.index c.index-trees-index.result k (destination_view c.for_last-goes_to.result.now) (code_view c.loop-index.written) (code_view c.in_ok-code.code) (code_view c.in_ok-written.written) c.loop-index-test.true c.index-trees-index.is (c.for_last-goes_to.ensures ∙ ap (λ us. for_last us k discard) (slice-rest a.trees.now (c.loop-index.index + 1))) c.in_ok-code.ensures c.in_ok-written.ensures ∙ c.loop-index.invariant
 
 pub arguments_of-loop-index-preserved : goal.arguments_of-loop-index-preserved
-arguments_of-loop-index-preserved t c = ?
+arguments_of-loop-index-preserved t c =
+    let a = c.args in
+    let m = is_among a.mutable.now in
+    let ls = map target_view a.targets.now in
+    let x = c.index-trees-index.result in
+    let rest : c.are_plain-rest_is_plain.result ≡ are_plain (terms_view (drop (c.loop-index.index + 1) a.trees.now)) = c.are_plain-rest_is_plain.ensures ∙ ap (λ us. are_plain (terms_view us)) (slice-rest a.trees.now (c.loop-index.index + 1)) in
+    let own : c.in_ok-own.own ≡ type_of_term (view x) = c.in_ok-own.ensures in
+    let one : expression_view c.in_ok-coerced_argument.field-0 ≡ coerced_argument c.loop-index.left.now (type_of_term (view x)) (expression_view c.in_ok-operand.operand.expression) = c.in_ok-coerced_argument.ensures ∙ ap (λ u. coerced_argument c.loop-index.left.now u (expression_view c.in_ok-operand.operand.expression)) own in
+    let pushed : map expression_view c.push.new.self.items ≡ map expression_view c.loop-index.expressions.items ++ expression_view c.in_ok-coerced_argument.field-0 ∷ [] = rw c.in_ok-push.ensures.items (map_push _ c.loop-index.expressions.items c.in_ok-coerced_argument.field-0) in
+    arguments-step m ls a.trees.now c.loop-index.index x (code_view c.loop-index.written) (code_view c.in_ok-written.written) (placed_view c.in_ok-operand.operand) (map expression_view c.loop-index.expressions.items) (map expression_view c.push.new.self.items) c.loop-index.left.now c.without_first-left.result.now c.are_plain-rest_is_plain.result c.loop-index-test.true c.index-trees-index.is rest c.in_ok-operand.ensures c.in_ok-written.ensures (pushed ∙ ap (λ e. map expression_view c.loop-index.expressions.items ++ e ∷ []) one) c.without_first-left.ensures ∙ c.loop-index.invariant
 
 pub cases_of-loop-each-preserved : goal.cases_of-loop-each-preserved
-cases_of-loop-each-preserved t c = ?
+cases_of-loop-each-preserved t c =
+    let a = c.args in
+    let m = is_among a.mutable.now in
+    let ls = map target_view a.targets.now in
+    let k = destination_view a.destination.now in
+    let x = c.each-item.result in
+    let seen : view_case x ≡ (x.keys, view x.body) = fold_out-MatchCase Term Case view_step case_step x in
+    let keys : c.as_slice-keys.result.now ≡ (view_case x).0 = c.as_slice-keys.ensures ∙ sym (ap (λ y. y.0) seen) in
+    let put : 0 < length c.as_slice-keys.result.now = grind (arith, nat_tests) in
+    let some : 0 < length (view_case x).0 = subst (λ ks. 0 < length ks) keys put in
+    let coded : code_view c.in_ok-code.code ≡ into m ls k c.loop-each.number (view_case x).1 = c.in_ok-code.ensures ∙ ap (λ y. into m ls k c.loop-each.number y) (sym (ap (λ y. y.1) seen)) in
+    let made : case_view c.in_ok-case_of.field-0 ≡ ((view_case x).0, followed (code_view c.in_ok-code.code).statements (statement (break_nearest None) no_statements)) = c.in_ok-case_of.ensures ∙ ap (λ ks. (ks, followed (code_view c.in_ok-code.code).statements (statement (break_nearest None) no_statements))) keys in
+    let pushed : map case_view c.push.new.self.items ≡ map case_view c.loop-each.switched.items ++ case_view c.in_ok-case_of.field-0 ∷ [] = rw c.in_ok-push.ensures.items (map_push _ c.loop-each.switched.items c.in_ok-case_of.field-0) in
+    cases-take m ls a.cases.now c.loop-each.each-index x k c.loop-each.number (map case_view c.loop-each.switched.items) (map case_view c.push.new.self.items) (code_view c.in_ok-code.code) c.loop-each-test.true c.each-item.is some coded (pushed ∙ ap (λ y. map case_view c.loop-each.switched.items ++ y ∷ []) made) ∙ c.loop-each.invariant
