@@ -1,0 +1,71 @@
+// Methods.
+ghost use Rattle.std.specs.Prelude.{◌≡◌, IfOk};
+ghost use Rattle.sj_core.specs.Views.{method_view, statements_view};
+ghost use Rattle.sj_desugar.specs.Desugar as desugar;
+ghost use Rattle.sj_desugar.specs.Desugar.{body_code, is_mutable_in, result_destination};
+ghost use Rattle.sj_desugaring.specs.Views.{destination_view};
+ghost use Rattle.sj_desugarer.specs.Methods.{method_desugared};
+ghost use Rattle.sj_trees.specs.View.{view};
+
+use crate::trees::statements_of;
+use sj_core::{CoreMethod, CoreStatement};
+use sj_desugaring::{Destination, is_no_type, mutable_locals};
+use sj_names::{Items, LocalName, NoMemory};
+use sj_trees::{IrType, MethodDef, ParamDef, Tree};
+use std::alloc::Global;
+
+/// The method of the core for the method `m`: the statements of its body, and none where it has no body. Want of memory is the only error.
+pub fn desugar(alloc: Global, m: &MethodDef) -> Result<CoreMethod, NoMemory>
+    ensures { IfOk result (λ c. method_view c ≡ method_desugared m.now) }
+{
+    let params = names_of(alloc, m.params.as_slice())?;
+    let body = body_of(alloc, m)?;
+    Ok(CoreMethod {
+        namespace: m.namespace,
+        params,
+        body,
+    })
+}
+
+fn body_of(alloc: Global, m: &MethodDef) -> Result<Vec<CoreStatement>, NoMemory>
+    ensures { IfOk result (λ ss. statements_view ss.items ≡ (method_desugared m.now).body) }
+{
+    match &m.body {
+        Some(body) => statements_of_body(alloc, m, body.tree()),
+        None => Ok(Vec::new(alloc)),
+    }
+}
+
+fn statements_of_body(
+    alloc: Global,
+    m: &MethodDef,
+    tree: &Tree,
+) -> Result<Vec<CoreStatement>, NoMemory>
+    ensures { IfOk result (λ ss. statements_view ss.items ≡ body_code (is_mutable_in m.now (view tree.now)) m.now.result (view tree.now)) }
+{
+    let mutable = mutable_locals(alloc, m.params.as_slice(), tree)?;
+    let destination = destination_of(&m.result)?;
+    let written = statements_of(alloc, &mutable, &[], &destination, 1, tree)?;
+    Ok(written.statements)
+}
+
+// A method without result gives its body's value up.
+fn destination_of(result_type: &IrType) -> Result<Destination, NoMemory>
+    ensures { IfOk result (λ d. destination_view d ≡ result_destination result_type.now) }
+{
+    if is_no_type(result_type) {
+        Ok(Destination::Discard)
+    } else {
+        Ok(Destination::Result(result_type.copied()?))
+    }
+}
+
+fn names_of(alloc: Global, params: &[ParamDef]) -> Result<Items<LocalName>, NoMemory>
+    ensures { IfOk result (λ names. names ≡ desugar.names_of params.now) }
+{
+    let mut names = Vec::new(alloc);
+    for param in params {
+        names.push(param.name.copied()?)?;
+    }
+    Ok(Items::from_vec(names))
+}

@@ -1,0 +1,280 @@
+// Trees as statements.
+ghost use Rattle.std.specs.Prelude.{◌≡◌, ◌&&◌, IfOk, map};
+ghost use Rattle.sj_desugar.specs.Desugar as desugar;
+ghost use Rattle.sj_desugar.specs.Plain.{is_among};
+ghost use Rattle.sj_desugar.specs.Spill.{spill};
+ghost use Rattle.sj_desugaring.specs.Arguments.{with_arguments};
+ghost use Rattle.sj_desugaring.specs.Forms as forms;
+ghost use Rattle.sj_desugarer.specs.Operands.{comes_to};
+ghost use Rattle.sj_desugaring.specs.Views.{destination_view, target_view, code_view, placed_view, all_view, branches_view};
+ghost use Rattle.sj_trees.specs.View.{view, terms_view, cases_view};
+
+use sj_desugaring::{
+    Callee, Destination, Placed, PlacedAll, SwitchCases, Target, Written, are_plain, assigned,
+    binary_value, branched, brought, call_value, case_of, coerced_argument, declared, defined,
+    expression_of, in_place, is_fixed, is_plain, joined, kept, labeled, leaving, local_destination,
+    logged, looped, looped_behind, nothing, number_behind, operand_destination, position_of,
+    switched, target_of, tested_loop, unary_value, value_of, with_label, without_first,
+};
+use sj_names::{LocalName, NoMemory, TypeRef};
+use sj_trees::{MatchCase, Tree, type_of};
+use std::alloc::Global;
+
+/// A tree as statements that bring its value to a destination, in a method with these mutable locals, inside of these labels, with variables
+/// for operands from the number `next` on. A form that isn't built writes nothing.
+#[cycle(trees)]
+pub fn statements_of(
+    alloc: Global,
+    mutable: &[LocalName],
+    targets: &[Target],
+    destination: &Destination,
+    next: u64,
+    tree: &Tree,
+) -> Result<Written, NoMemory>
+    ensures { IfOk result (λ w. code_view w ≡ desugar.into (is_among mutable.now) (map target_view targets.now) (destination_view destination.now) next (view tree.now)) }
+{
+    match tree {
+        Tree::VarDef(position, name, tpe, _, value) => {
+            let simple = is_plain(value);
+            if simple {
+                defined(alloc, *position, name, tpe, value, next)
+            } else {
+                let local = local_destination(name, tpe)?;
+                let value_code = statements_of(alloc, mutable, targets, &local, next, value)?;
+                declared(alloc, *position, name, value_code)
+            }
+        }
+        Tree::Block(_, trees) => block_of(alloc, mutable, targets, destination, next, trees),
+        Tree::Labeled(position, label, _, body) => {
+            let inner = with_label(alloc, label, destination, targets)?;
+            let body_code = statements_of(alloc, mutable, &inner, destination, next, body)?;
+            labeled(alloc, destination, *position, label, body_code)
+        }
+        Tree::Assign(position, target, value) => match &**target {
+            Tree::VarRef(_, name, tpe) => {
+                let new_value = operand_of(alloc, mutable, targets, true, next, value)?;
+                assigned(alloc, *position, name, tpe, value, new_value)
+            }
+            _ => Ok(nothing(alloc, next)),
+        },
+        Tree::Return(position, value, label) => {
+            let goes_to = target_of(targets, label)?;
+            let left = statements_of(alloc, mutable, targets, &goes_to, next, value)?;
+            leaving(alloc, &goes_to, *position, label, left)
+        }
+        Tree::If(position, condition, yes, no, _) => {
+            let test = operand_of(alloc, mutable, targets, true, next, condition)?;
+            let first = statements_of(alloc, mutable, targets, destination, test.next, yes)?;
+            let second = statements_of(alloc, mutable, targets, destination, first.next, no)?;
+            branched(alloc, *position, test, first, second)
+        }
+        Tree::While(position, condition, body) => {
+            let nowhere = Destination::Discard;
+            let repeated = is_plain(condition);
+            if repeated {
+                let turn = statements_of(alloc, mutable, targets, &nowhere, next, body)?;
+                looped(alloc, *position, condition, turn)
+            } else {
+                let front = operand_of(alloc, mutable, targets, true, next, condition)?;
+                let rest = statements_of(alloc, mutable, targets, &nowhere, front.next, body)?;
+                tested_loop(alloc, *position, front, rest)
+            }
+        }
+        Tree::DoWhile(position, body, condition) => {
+            let nowhere = Destination::Discard;
+            let whole = statements_of(alloc, mutable, targets, &nowhere, next, body)?;
+            let back = operand_of(alloc, mutable, targets, true, whole.next, condition)?;
+            looped_behind(alloc, *position, whole, back)
+        }
+        Tree::Match(position, selector, cases, default, _) => {
+            let selected = operand_of(alloc, mutable, targets, true, next, selector)?;
+            let branches = cases_of(alloc, mutable, targets, destination, selected.next, cases)?;
+            let last = statements_of(alloc, mutable, targets, destination, branches.next, default)?;
+            switched(alloc, *position, selected, branches, last)
+        }
+        Tree::ApplyStatic(position, class, namespace, method, trees, tpe) => {
+            let callee = Callee {
+                class,
+                namespace: *namespace,
+                method,
+            };
+            let params = method.params.as_slice();
+            let arguments = arguments_of(alloc, mutable, targets, params, next, trees)?;
+            call_value(alloc, destination, *position, &callee, tpe, arguments)
+        }
+        Tree::UnaryOp(position, op, value) => {
+            let operand = operand_of(alloc, mutable, targets, true, next, value)?;
+            unary_value(alloc, destination, *position, *op, operand)
+        }
+        Tree::BinaryOp(position, op, left, right) => {
+            let second_plain = is_plain(right);
+            let one = operand_of(alloc, mutable, targets, second_plain, next, left)?;
+            let other = operand_of(alloc, mutable, targets, true, one.next, right)?;
+            binary_value(alloc, destination, *position, *op, one, other)
+        }
+        Tree::Log(position, text) => {
+            let line = operand_of(alloc, mutable, targets, true, next, text)?;
+            logged(alloc, *position, line)
+        }
+        Tree::Undefined(_)
+        | Tree::Null(_)
+        | Tree::BooleanLiteral(_, _)
+        | Tree::ByteLiteral(_, _)
+        | Tree::ShortLiteral(_, _)
+        | Tree::IntLiteral(_, _)
+        | Tree::StringLiteral(_, _)
+        | Tree::VarRef(_, _, _) => value_of(alloc, destination, next, tree),
+        Tree::Skip(_)
+        | Tree::TryCatch(_, _, _, _, _)
+        | Tree::TryFinally(_, _, _)
+        | Tree::Throw(_, _)
+        | Tree::New(_, _, _, _)
+        | Tree::LoadModule(_, _)
+        | Tree::StoreModule(_, _, _)
+        | Tree::Select(_, _, _, _, _)
+        | Tree::SelectStatic(_, _, _, _)
+        | Tree::Apply(_, _, _, _, _)
+        | Tree::ApplyStatically(_, _, _, _, _, _, _)
+        | Tree::NewArray(_, _, _)
+        | Tree::ArrayValue(_, _, _)
+        | Tree::ArrayLength(_, _)
+        | Tree::ArraySelect(_, _, _, _)
+        | Tree::IsInstanceOf(_, _, _)
+        | Tree::AsInstanceOf(_, _, _)
+        | Tree::CharLiteral(_, _)
+        | Tree::LongLiteral(_, _)
+        | Tree::This(_, _) => Ok(nothing(alloc, next)),
+    }
+}
+
+// An operand in its place or in a variable of its own, by whether all operands behind it are plain.
+#[cycle(trees)]
+#[tactic(auto, unfolding(crate::specs::Operands::comes_to))]
+fn operand_of(
+    alloc: Global,
+    mutable: &[LocalName],
+    targets: &[Target],
+    rest_is_plain: bool,
+    next: u64,
+    tree: &Tree,
+) -> Result<Placed, NoMemory>
+    ensures { IfOk result (λ p. placed_view p ≡ comes_to (is_among mutable.now) (map target_view targets.now) rest_is_plain next (view tree.now)) }
+{
+    let plain = is_plain(tree);
+    if are_both(plain, rest_is_plain) {
+        Ok(in_place(alloc, expression_of(alloc, tree)?, next))
+    } else if is_fixed(mutable, tree) {
+        Ok(in_place(alloc, expression_of(alloc, tree)?, next))
+    } else if plain {
+        let value = expression_of(alloc, tree)?;
+        kept(alloc, position_of(tree), value, next)
+    } else {
+        let variable = operand_destination(alloc, next, tree)?;
+        let behind = number_behind(next)?;
+        let code = statements_of(alloc, mutable, targets, &variable, behind, tree)?;
+        brought(alloc, position_of(tree), next, code)
+    }
+}
+
+fn are_both(one: bool, other: bool) -> bool
+    ensures { result ≡ (one && other) }
+{
+    one && other
+}
+
+// Trees in a row: each but the last gives its value up.
+#[cycle(trees)]
+#[tactic(auto, using(std::proofs::lemmas::Grind::common_steps, crate::proofs::Runs::ends))]
+fn block_of(
+    alloc: Global,
+    mutable: &[LocalName],
+    targets: &[Target],
+    destination: &Destination,
+    next: u64,
+    trees: &[Tree],
+) -> Result<Written, NoMemory>
+    ensures { IfOk result (λ w. code_view w ≡ desugar.block (is_among mutable.now) (map target_view targets.now) (destination_view destination.now) next (terms_view trees.now)) }
+{
+    let mut written = nothing(alloc, next);
+    for (index, each) in trees.iter().enumerate() {
+        let nowhere = Destination::Discard;
+        let goes_to = for_last(&trees[index + 1..], destination, &nowhere);
+        let code = statements_of(alloc, mutable, targets, goes_to, written.next, each)?;
+        written = joined(written, code)?;
+    }
+    Ok(written)
+}
+
+// The one destination where no tree is left, else the other.
+fn for_last<'d>(others: &[Tree], last: &'d Destination, other: &'d Destination) -> &'d Destination
+    ensures { destination_view result.now ≡ forms.for_last others.now (destination_view last.now) (destination_view other.now) }
+{
+    match others {
+        [] => last,
+        [_, ..] => other,
+    }
+}
+
+// The arguments of a call whose parameters have these references.
+#[cycle(trees)]
+#[tactic(auto, using(std::proofs::lemmas::Grind::common_steps, crate::proofs::Runs::ends))]
+fn arguments_of(
+    alloc: Global,
+    mutable: &[LocalName],
+    targets: &[Target],
+    params: &[TypeRef],
+    next: u64,
+    trees: &[Tree],
+) -> Result<PlacedAll, NoMemory>
+    ensures { IfOk result (λ r. all_view r ≡ with_arguments params.now (desugar.types_of (terms_view trees.now)) (spill (desugar.operands (is_among mutable.now) (map target_view targets.now) (terms_view trees.now)) next)) }
+{
+    let mut written = nothing(alloc, next);
+    let mut expressions = Vec::new(alloc);
+    let mut left = params;
+    for (index, each) in trees.iter().enumerate() {
+        let rest_is_plain = are_plain(&trees[index + 1..]);
+        let operand = operand_of(alloc, mutable, targets, rest_is_plain, written.next, each)?;
+        let front = Written {
+            statements: operand.statements,
+            next: operand.next,
+        };
+        written = joined(written, front)?;
+        let own = type_of(alloc, each)?;
+        expressions.push(coerced_argument(alloc, left, &own, operand.expression)?)?;
+        left = without_first(left);
+    }
+    Ok(PlacedAll {
+        statements: written.statements,
+        expressions,
+        next: written.next,
+    })
+}
+
+// The cases of a switch: one without keys is left out.
+#[cycle(trees)]
+fn cases_of(
+    alloc: Global,
+    mutable: &[LocalName],
+    targets: &[Target],
+    destination: &Destination,
+    next: u64,
+    cases: &[MatchCase],
+) -> Result<SwitchCases, NoMemory>
+    ensures { IfOk result (λ b. branches_view b ≡ desugar.cases (is_among mutable.now) (map target_view targets.now) (destination_view destination.now) next (cases_view cases.now)) }
+{
+    let mut number = next;
+    let mut switched = Vec::new(alloc);
+    for each in cases {
+        let keys = each.keys.as_slice();
+        if keys.is_empty() {
+            continue;
+        }
+        let code = statements_of(alloc, mutable, targets, destination, number, &each.body)?;
+        number = code.next;
+        switched.push(case_of(alloc, keys, code)?)?;
+    }
+    Ok(SwitchCases {
+        cases: switched,
+        next: number,
+    })
+}
