@@ -1,0 +1,2 @@
+pub mod TreeSteps
+pub mod WholeSteps

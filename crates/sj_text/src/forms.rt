@@ -1,0 +1,130 @@
+// Forms without trees in them.
+ghost use Rattle.std.specs.Prelude.{◌≡◌, ◌==◌, codes, map};
+ghost use Rattle.exact_place.specs.Reading.{lead_at};
+ghost use Rattle.sj_trees.specs.View.{view, view_case, terms_view, cases_view};
+ghost use Rattle.listing_scan.specs.Gives.{Gives};
+ghost use Rattle.listing_spelling.specs.Reading as reading;
+ghost use Rattle.listing_spelling.specs.declared.words.LeafForm.TheVariants as leaves;
+
+use listing_read::{
+    byte_field, char_field, class_field, field_field, int_field, long_field, mark_field,
+    name_field, short_field, string_field, type_field,
+};
+use listing_scan::{Stop, literal};
+use listing_spelling::LeafForm;
+use sj_trees::{Position, Tree};
+use std::alloc::Global;
+
+/// What a reader of trees gives: the tree and the rest.
+pub type Read<'a> = Result<(Tree, &'a [u8]), Stop>;
+
+/// The position that a listing gives.
+pub const NOWHERE: Position = Position {
+    file: 0,
+    line: 0,
+    column: 0,
+};
+
+#[tactic(auto, unfolding(listing_spelling::specs::Reading::leaf_at))]
+fn load_module_of<'a>(alloc: Global, fuel: usize, bytes: &'a [u8]) -> Read<'a>
+    ensures { Gives (λ x. (view x.0, x.1.now)) result (reading.leaf_at (reading.tree_at fuel) fuel leaves.LoadModule bytes.now) }
+{
+    let (class, rest) = class_field(alloc, fuel, bytes)?;
+    let rest = literal(b")", rest)?;
+    Ok((Tree::LoadModule(NOWHERE, class), rest))
+}
+
+#[tactic(auto, unfolding(listing_spelling::specs::Reading::leaf_at))]
+fn select_static_of<'a>(alloc: Global, fuel: usize, bytes: &'a [u8]) -> Read<'a>
+    ensures { Gives (λ x. (view x.0, x.1.now)) result (reading.leaf_at (reading.tree_at fuel) fuel leaves.SelectStatic bytes.now) }
+{
+    let (class, rest) = class_field(alloc, fuel, bytes)?;
+    let (field, rest) = field_field(alloc, fuel, rest)?;
+    let (tpe, rest) = type_field(alloc, fuel, rest)?;
+    let rest = literal(b")", rest)?;
+    Ok((Tree::SelectStatic(NOWHERE, class, field, tpe), rest))
+}
+
+#[tactic(auto, unfolding(listing_spelling::specs::Reading::leaf_at))]
+fn string_literal_of<'a>(alloc: Global, fuel: usize, bytes: &'a [u8]) -> Read<'a>
+    ensures { Gives (λ x. (view x.0, x.1.now)) result (reading.leaf_at (reading.tree_at fuel) fuel leaves.StringLiteral bytes.now) }
+{
+    let (text, rest) = string_field(alloc, fuel, bytes)?;
+    let rest = literal(b")", rest)?;
+    Ok((Tree::StringLiteral(NOWHERE, text), rest))
+}
+
+#[tactic(auto, unfolding(listing_spelling::specs::Reading::leaf_at))]
+fn var_ref_of<'a>(alloc: Global, fuel: usize, bytes: &'a [u8]) -> Read<'a>
+    ensures { Gives (λ x. (view x.0, x.1.now)) result (reading.leaf_at (reading.tree_at fuel) fuel leaves.VarRef bytes.now) }
+{
+    let (name, rest) = name_field(alloc, fuel, bytes)?;
+    let (tpe, rest) = type_field(alloc, fuel, rest)?;
+    let rest = literal(b")", rest)?;
+    Ok((Tree::VarRef(NOWHERE, name, tpe), rest))
+}
+
+#[tactic(auto, unfolding(listing_spelling::specs::Reading::leaf_at))]
+fn this_of<'a>(alloc: Global, fuel: usize, bytes: &'a [u8]) -> Read<'a>
+    ensures { Gives (λ x. (view x.0, x.1.now)) result (reading.leaf_at (reading.tree_at fuel) fuel leaves.This bytes.now) }
+{
+    let (tpe, rest) = type_field(alloc, fuel, bytes)?;
+    let rest = literal(b")", rest)?;
+    Ok((Tree::This(NOWHERE, tpe), rest))
+}
+
+/// A form without trees in it, behind its name.
+#[tactic(auto, unfolding(listing_spelling::specs::Reading::leaf_at))]
+pub fn leaf_of<'a>(alloc: Global, fuel: usize, form: LeafForm, bytes: &'a [u8]) -> Read<'a>
+    ensures { Gives (λ x. (view x.0, x.1.now)) result (reading.leaf_at (reading.tree_at fuel) fuel form bytes.now) }
+{
+    match form {
+        LeafForm::Skip => {
+            let rest = literal(b")", bytes)?;
+            Ok((Tree::Skip(NOWHERE), rest))
+        }
+        LeafForm::LoadModule => load_module_of(alloc, fuel, bytes),
+        LeafForm::SelectStatic => select_static_of(alloc, fuel, bytes),
+        LeafForm::Undefined => {
+            let rest = literal(b")", bytes)?;
+            Ok((Tree::Undefined(NOWHERE), rest))
+        }
+        LeafForm::Null => {
+            let rest = literal(b")", bytes)?;
+            Ok((Tree::Null(NOWHERE), rest))
+        }
+        LeafForm::BooleanLiteral => {
+            let (value, rest) = mark_field(bytes)?;
+            let rest = literal(b")", rest)?;
+            Ok((Tree::BooleanLiteral(NOWHERE, value), rest))
+        }
+        LeafForm::CharLiteral => {
+            let (value, rest) = char_field(bytes)?;
+            let rest = literal(b")", rest)?;
+            Ok((Tree::CharLiteral(NOWHERE, value), rest))
+        }
+        LeafForm::ByteLiteral => {
+            let (value, rest) = byte_field(bytes)?;
+            let rest = literal(b")", rest)?;
+            Ok((Tree::ByteLiteral(NOWHERE, value), rest))
+        }
+        LeafForm::ShortLiteral => {
+            let (value, rest) = short_field(bytes)?;
+            let rest = literal(b")", rest)?;
+            Ok((Tree::ShortLiteral(NOWHERE, value), rest))
+        }
+        LeafForm::IntLiteral => {
+            let (value, rest) = int_field(bytes)?;
+            let rest = literal(b")", rest)?;
+            Ok((Tree::IntLiteral(NOWHERE, value), rest))
+        }
+        LeafForm::LongLiteral => {
+            let (value, rest) = long_field(bytes)?;
+            let rest = literal(b")", rest)?;
+            Ok((Tree::LongLiteral(NOWHERE, value), rest))
+        }
+        LeafForm::StringLiteral => string_literal_of(alloc, fuel, bytes),
+        LeafForm::VarRef => var_ref_of(alloc, fuel, bytes),
+        LeafForm::This => this_of(alloc, fuel, bytes),
+    }
+}
