@@ -1,7 +1,7 @@
 // The operators and the fixed calls of the subset.
 ghost use Rattle.std.specs.Prelude.{◌≡◌};
 
-/// An operator between two operands (ECMA-262, sections 13.5 to 13.11 of the 2020 edition and their neighbours).
+/// An operator between two operands (ECMA-262, sections 12.7 to 12.13 of the 2020 edition).
 #[derive(Clone, Copy, Debug, PartialEq, Eq)]
 pub enum BinaryOperator {
     /// `+`

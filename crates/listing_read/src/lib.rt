@@ -13,5 +13,5 @@ pub use fields::{
     kind_field, label_field, long_field, mark_field, method_field, name_field, namespace_field,
     short_field, string_field, type_field, unary_field,
 };
-pub use lists::{Part, bracketed_of, in_front};
+pub use lists::{Part, bracketed_of};
 pub use tables::form_of;

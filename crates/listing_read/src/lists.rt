@@ -51,7 +51,7 @@ pub fn list_of<'a, I: Item>(
 }
 
 /// The list with one more part in front.
-pub fn in_front<T: Drop>(first: T, others: Vec<T>) -> Result<Vec<T>, NoMemory>
+fn in_front<T: Drop>(first: T, others: Vec<T>) -> Result<Vec<T>, NoMemory>
     ensures { IfOk result (λ all. all.items ≡ first ∷ others.items) }
 {
     let mut all = others;

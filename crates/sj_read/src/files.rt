@@ -143,8 +143,6 @@ fn file_of(alloc: Global, bytes: &[u8]) -> Result<ClassDef, Stop>
 }
 
 /// Reads a class file, and counts one class read whatever comes of it.
-///
-/// Time and memory are linear in the number of bytes.
 pub fn read_class(alloc: Global, bytes: &[u8], meter: &mut Meter) -> Result<ClassDef, ReadRefusal>
     ensures answer { Reads bytes.now result }
     ensures counted { meter.new ≡ record meter.old { read = raised meter.old.read } }
