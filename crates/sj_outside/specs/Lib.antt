@@ -6,3 +6,4 @@ pub mod Reading
 pub mod Writing
 pub mod View
 pub mod Holding
+pub mod Words

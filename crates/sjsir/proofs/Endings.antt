@@ -3,6 +3,7 @@ use Rattle.std.proofs.Common.{◌≡◌, ℕ, Bool, true, false, List, [], ◌�
 use Rattle.std.specs.List.{flat_map}
 use Rattle.std.specs.Prelude.{codes}
 use Rattle.sj_outside.specs.Contents.{Parts}
+use Rattle.sj_outside.specs.Words.{without_line_feed}
 use Rattle.sj_outside.specs.Writing.{Appends, Writes, WritesFront, Event, put, line, put_in, text_in}
 use Rattle.sj_outside.specs.declared.answers.PutFile.{PutFile}
 use Rattle.sj_outside.proofs.Laws.{Appends-none, Writes-none, Writes-line, Writes-put, WritesFront-of}
@@ -10,7 +11,7 @@ use Rattle.sjsir.specs.Command.{Command, print, make, command}
 use Rattle.sjsir.specs.Making.{IsMadeAt, output_of}
 use Rattle.sjsir.specs.declared.making.Made.{Made}
 use Rattle.sjsir.specs.declared.making.Made.TheVariants.{File, NoListing, NoFile}
-use Rattle.sjsir.specs.Output.{Output, IsOutput, printed, made, no_listing, no_class_file, IsFileOf, without_line_feed, AreFileLines, status_of, AtEnd, IsWhole, IsFront, nothing, front_of, first_lines, IsUsageAnswer}
+use Rattle.sjsir.specs.Output.{Output, IsOutput, printed, made, no_listing, no_class_file, IsFileOf, AreFileLines, status_of, AtEnd, IsWhole, IsFront, nothing, front_of, first_lines, IsUsageAnswer}
 use Rattle.sjsir.specs.Printing.{HasPrinted, PrintsAll, all_printed, stopped, status_after}
 use Rattle.sjsir.specs.Writing.{Ends, all_written, faulted, out_of_memory}
 use Rattle.sjsir.specs.declared.answers.Status.{Status}
@@ -119,4 +120,4 @@ made_ends out it other p0 p1 t0 t1 cause s e = subst (λ (m : Made). Ends (outpu
 pub made_output : (words : List (List ℕ)) (c : Parts) (listing out : List ℕ) (m : Made) → command words ≡ Some (make listing out) → IsMadeAt c listing m → IsOutput words c (output_of out m)
 made_output words c listing out (File bytes) is (held, at, (class, lists, written, file)) = subst (λ (b : List ℕ). IsOutput words c (record { status = Done; events = put (record { out = codes "."; edit = 1; name = out; bytes = b }) ∷ [] })) (sym written) (made listing out held class is at lists (subst (IsFileOf (without_line_feed held)) written file))
 made_output words c listing out (NoListing place) is (held, at, (none, there)) = no_listing listing out held place is at none there
-made_output words c listing out NoFile is (held, at, (class, lists, none)) = no_class_file listing out held class is at lists none
+made_output words c listing out NoFile is (held, at, (class, lists, not_its, none)) = no_class_file listing out held class is at lists not_its none

@@ -26,7 +26,8 @@ use Rattle.sj_outside.specs.Writing.{Appends}
 use Rattle.sj_text.specs.declared.error.ListingError.{ListingError}
 use Rattle.sj_text.specs.declared.error.ListingError.TheVariants.{BadListing, NoMemory}
 use Rattle.sjsir.specs.Making.{IsMade, IsMadeAt, IsWhyNot}
-use Rattle.sjsir.specs.Output.{IsFileOf, IsFileLine, listed, refused, refusal_line, without_line_feed}
+use Rattle.sj_outside.specs.Words.{without_line_feed}
+use Rattle.sjsir.specs.Output.{IsFileOf, IsFileLine, listed, refused, refusal_line}
 use Rattle.sjsir.specs.Printing.{PrintsOne}
 use Rattle.sjsir.specs.declared.making.Made.{Made}
 
@@ -54,6 +55,10 @@ tests_text text bytes given items class b e same all is lists = (there, back)
         let listing = file_is_listed bytes class all is in
         let lists_text : Lists (bare class) text = subst (λ (d : ClassDef). Lists (bare d) text) class_is has.2 in
         e ∙ (bytes_eq-Decides given text).1 (same ∙ (one_listing class listing items).0 lists ∙ sym ((one_listing class listing text).0 lists_text))
+
+-- what the class of a listing is written as, where the test of it fails
+pub not_its : (class : ClassDef) (text written : List ℕ) (b : Bool) → written ≡ written_class class → IsTrue b ↔ IsFileOf text written → b ≡ false → IsFileOf text (written_class class) → ⊥
+not_its class text written b is tests fails has = let both : true ≡ false = sym (tests.1 (subst (IsFileOf text) (sym is) has)) ∙ fails in cc
 
 -- where the file that the class of a listing is written as doesn't have that listing, no file has the class
 pub never_made : (class : ClassDef) (text written : List ℕ) (b : Bool) → Lists class text → written ≡ written_class class → IsTrue b ↔ IsFileOf text written → b ≡ false → (file : List ℕ) → AreBytes file → FileIs file class → ⊥

@@ -9,7 +9,7 @@ use Rattle.std.proofs.lemmas.Grind.{flat_map-append}
 use Rattle.sj_outside.specs.Contents.{Parts, file_at}
 use Rattle.sj_outside.specs.Writing.{Appends}
 use Rattle.sj_outside.proofs.Laws.{Appends-none, Appends-then}
-use Rattle.sjsir.specs.Output.{IsFileLine, AreFileLines, no_file, one_more, status_of}
+use Rattle.sjsir.specs.Output.{IsFileLine, AreFileLines, no_file, first_file, status_of}
 use Rattle.sjsir.specs.Printing.{IsLineOf, HasPrinted, AreHeld, PrintsOne, PrintsAll, all_printed, stopped, status_after}
 use Rattle.sjsir.specs.declared.answers.Status.{Status}
 use Rattle.sjsir.specs.declared.stops.Stop.{Stop}
@@ -18,11 +18,24 @@ use Rattle.sjsir.specs.declared.stops.Stop.{Stop}
 pub has_none : (c : Parts) (text : Option (List ℕ)) → HasPrinted c [] true text text
 has_none c text = record { texts = []; are = no_file; written = Appends-none text }
 
+and_true : (b : Bool) → (b && true) ≡ b
+and_true true = refl
+and_true false = refl
+
+and_assoc : (a b d : Bool) → (a && (b && d)) ≡ ((a && b) && d)
+and_assoc true b d = refl
+and_assoc false b d = refl
+
+-- the line of one file more, behind the others
+one_more : (c : Parts) (paths texts : List (List ℕ)) (all well : Bool) (path bytes text : List ℕ) → AreFileLines c paths all texts → file_at c path ≡ Some bytes → IsFileLine path bytes well text → AreFileLines c (paths ++ path ∷ []) (all && well) (texts ++ text ∷ [])
+one_more c _ _ _ well path bytes text no_file held is = subst (λ (b : Bool). AreFileLines c (path ∷ []) b (text ∷ [])) (and_true well) (first_file path bytes text [] [] well true held is no_file)
+one_more c _ _ _ well path bytes text (first_file p bs t ps ts w all at line rest) held is = subst (λ (b : Bool). AreFileLines c (p ∷ (ps ++ path ∷ [])) b (t ∷ (ts ++ text ∷ []))) (and_assoc w all well) (first_file p bs t (ps ++ path ∷ []) (ts ++ text ∷ []) w (all && well) at line (one_more c ps ts all well path bytes text rest held is))
+
 -- one file more
 pub has_more : (c : Parts) (files : List (List ℕ)) (path : List ℕ) (all well : Bool) (t0 t1 t2 : Option (List ℕ)) (text : List ℕ) → HasPrinted c files all t0 t1 → IsLineOf c path well text → Appends t1 t2 text → HasPrinted c (files ++ path ∷ []) (all && well) t0 t2
 has_more c files path all well t0 t1 t2 text has is appends = record {
   texts = has.texts ++ text ∷ [];
-  are = one_more files has.texts all well path is.0 text has.are is.1 is.2;
+  are = one_more c files has.texts all well path is.0 text has.are is.1 is.2;
   written = subst (λ (more : List ℕ). Appends t0 t2 more) (sym (flat_map-append (λ text. text) has.texts (text ∷ []))) (Appends-then t0 t1 t2 (flat_map (λ text. text) has.texts) (flat_map (λ text. text) (text ∷ [])) has.written (subst (λ (more : List ℕ). Appends t1 t2 more) (sym (append-nil text)) appends));
 }
 

@@ -1,7 +1,8 @@
 -- What the words of a command line ask for.
-use Rattle.std.specs.Prelude.{ℕ, Bool, true, false, List, [], ◌∷◌, ◌==◌, ◌&&◌, not, codes, nat_eq, Option, Some, None, if◌then◌else◌}
+use Rattle.std.specs.Prelude.{ℕ, Bool, true, false, List, [], ◌∷◌, ◌&&◌, not, codes, nat_eq, Option, Some, None, if◌then◌else◌}
 use Rattle.std.specs.List.{list_all}
 use Rattle.std.specs.Cmp.Lexicographic.{pointwise}
+use Rattle.sj_outside.specs.Words.{is_operand}
 
 pub data Command : Type 0 where
   help : Command
@@ -13,11 +14,6 @@ pub data Command : Type 0 where
 
 abbrev pub is_word : List ℕ → List ℕ → Bool
 is_word = pointwise nat_eq
-
--- a word that names a file doesn't begin with `-`
-abbrev pub is_operand : List ℕ → Bool
-is_operand [] = true
-is_operand (b ∷ bs) = not (b == 45)
 
 abbrev pub is_none : List (List ℕ) → Bool
 is_none [] = true

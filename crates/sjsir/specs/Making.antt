@@ -3,6 +3,7 @@ use Rattle.std.specs.Prelude.{◌≡◌, ℕ, List, [], ◌∷◌, codes, Some}
 use Rattle.exact_place.specs.Place.{Place}
 use Rattle.sj_trees.specs.declared.classes.ClassDef.{ClassDef}
 use Rattle.sj_outside.specs.Contents.{Parts, file_at}
+use Rattle.sj_outside.specs.Words.{without_line_feed}
 use Rattle.sj_outside.specs.Writing.{put, line}
 use Rattle.sj_format.specs.Files.{FileIs}
 use Rattle.file_listings.specs.Listed.{AreBytes}
@@ -10,7 +11,7 @@ use Rattle.listing_spelling.specs.Spelling.{Lists}
 use Rattle.sj_written.specs.Written.{written_class}
 use Rattle.sj_text.specs.declared.error.ListingError.{ListingError}
 use Rattle.sj_text.specs.declared.error.ListingError.TheVariants.{BadListing, NoMemory}
-use Rattle.sjsir.specs.Output.{Output, IsFileOf, without_line_feed, no_listing_line, no_file_line}
+use Rattle.sjsir.specs.Output.{Output, IsFileOf, no_listing_line, no_file_line}
 use Rattle.sjsir.specs.declared.answers.Status.TheVariants.{Done, SomeRefused}
 use Rattle.sjsir.specs.declared.making.Made.{Made}
 use Rattle.sjsir.specs.declared.making.Made.TheVariants.{File, NoListing, NoFile}
@@ -19,7 +20,7 @@ use Rattle.sjsir.specs.declared.making.Made.TheVariants.{File, NoListing, NoFile
 abbrev pub IsMade : List ℕ → Made → Type 0
 IsMade text (File bytes) = (class : ClassDef) × Lists class text × (bytes ≡ written_class class) × IsFileOf text bytes
 IsMade text (NoListing place) = ((class : ClassDef) → Lists class text → ⊥) × Place Lists text place
-IsMade text NoFile = (class : ClassDef) × Lists class text × ((bytes : List ℕ) → AreBytes bytes → FileIs bytes class → ⊥)
+IsMade text NoFile = (class : ClassDef) × Lists class text × (IsFileOf text (written_class class) → ⊥) × ((bytes : List ℕ) → AreBytes bytes → FileIs bytes class → ⊥)
 
 -- why a text gave no class
 abbrev pub IsWhyNot : List ℕ → ListingError → Type 0

@@ -1,9 +1,9 @@
 -- What the program writes.
-use Rattle.std.specs.Prelude.{◌≡◌, ℕ, List, [], ◌∷◌, ◌++◌, Bool, true, false, ◌&&◌, map, length, take, ◌-◌, nat_eq, Option, Some, None, codes, decimal, ⊤, if◌then◌else◌}
-use Rattle.std.specs.List.{ends_with}
+use Rattle.std.specs.Prelude.{◌≡◌, ℕ, List, [], ◌∷◌, ◌++◌, Bool, true, false, ◌&&◌, map, Option, Some, None, codes, decimal, ⊤}
 use Rattle.exact_place.specs.Place.{Place}
 use Rattle.sj_trees.specs.declared.classes.ClassDef.{ClassDef}
 use Rattle.sj_outside.specs.Contents.{Parts, file_at}
+use Rattle.sj_outside.specs.Words.{without_line_feed}
 use Rattle.sj_outside.specs.Writing.{Event, put, line, Writes, WritesFront}
 use Rattle.sj_outside.specs.declared.answers.PutFile.{PutFile}
 use Rattle.sj_format.specs.declared.faults.Form.{Form}
@@ -55,13 +55,9 @@ pub data IsFileLine (path bytes : List ℕ) : Bool → List ℕ → Type 0 where
 -- the lines of files, in their order, and whether each is a listing
 pub data AreFileLines (contents : Parts) : List (List ℕ) → Bool → List (List ℕ) → Type 0 where
   no_file : AreFileLines contents [] true []
-  one_more : (paths texts : List (List ℕ)) (all well : Bool) (path bytes text : List ℕ) → AreFileLines contents paths all texts → file_at contents path ≡ Some bytes → IsFileLine path bytes well text → AreFileLines contents (paths ++ path ∷ []) (all && well) (texts ++ text ∷ [])
+  first_file : (path bytes text : List ℕ) (paths texts : List (List ℕ)) (well all : Bool) → file_at contents path ≡ Some bytes → IsFileLine path bytes well text → AreFileLines contents paths all texts → AreFileLines contents (path ∷ paths) (well && all) (text ∷ texts)
 
 -- ---- make
-
--- the bytes but for a line feed at their end
-abbrev pub without_line_feed : List ℕ → List ℕ
-without_line_feed bytes = if ends_with nat_eq bytes (10 ∷ []) then take (length bytes - 1) bytes else bytes
 
 -- the line where a text is no listing: `refused OFFSET`
 abbrev pub no_listing_line : ℕ → List ℕ
@@ -87,7 +83,7 @@ pub data IsOutput (words : List (List ℕ)) (contents : Parts) : Output → Type
   printed : (files texts : List (List ℕ)) (all : Bool) → command words ≡ Some (print files) → AreFileLines contents files all texts → IsOutput words contents (record { status = status_of all; events = map (λ text. line text) texts })
   made : (listing out bytes : List ℕ) (class : ClassDef) → command words ≡ Some (make listing out) → file_at contents listing ≡ Some bytes → Lists class (without_line_feed bytes) → IsFileOf (without_line_feed bytes) (written_class class) → IsOutput words contents (record { status = Done; events = put (class_put out class) ∷ [] })
   no_listing : (listing out bytes : List ℕ) (place : ℕ) → command words ≡ Some (make listing out) → file_at contents listing ≡ Some bytes → ((class : ClassDef) → Lists class (without_line_feed bytes) → ⊥) → Place Lists (without_line_feed bytes) place → IsOutput words contents (record { status = SomeRefused; events = line (no_listing_line place) ∷ [] })
-  no_class_file : (listing out bytes : List ℕ) (class : ClassDef) → command words ≡ Some (make listing out) → file_at contents listing ≡ Some bytes → Lists class (without_line_feed bytes) → ((file : List ℕ) → AreBytes file → FileIs file class → ⊥) → IsOutput words contents (record { status = SomeRefused; events = line no_file_line ∷ [] })
+  no_class_file : (listing out bytes : List ℕ) (class : ClassDef) → command words ≡ Some (make listing out) → file_at contents listing ≡ Some bytes → Lists class (without_line_feed bytes) → (IsFileOf (without_line_feed bytes) (written_class class) → ⊥) → ((file : List ℕ) → AreBytes file → FileIs file class → ⊥) → IsOutput words contents (record { status = SomeRefused; events = line no_file_line ∷ [] })
 
 -- ---- how a run ends
 
@@ -121,3 +117,7 @@ IsUsageAnswer NoMemory = ⊤
 IsUsageAnswer Done = ⊥
 IsUsageAnswer SomeRefused = ⊥
 IsUsageAnswer ReadFault = ⊥
+
+-- there is one output at most
+abbrev pub HasOneOutput : Type 0
+HasOneOutput = (words : List (List ℕ)) (contents : Parts) (one other : Output) → IsOutput words contents one → IsOutput words contents other → one ≡ other

@@ -2,6 +2,7 @@
 #![tactic(auto)]
 
 mod answers;
+mod laws;
 mod making;
 mod printing;
 mod program;
@@ -11,4 +12,5 @@ mod words;
 mod writing;
 
 pub use answers::Status;
+pub use laws::output_is_one;
 pub use program::run;

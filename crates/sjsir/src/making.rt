@@ -11,7 +11,7 @@ use file_listings::each_is_a_byte;
 use listing_print::print_listing;
 use sj_format::ReadRefusal;
 use sj_names::{Bytes, Meter, NoMemory};
-use sj_outside::Folders;
+use sj_outside::{Folders, without_line_feed};
 use sj_read::read_class;
 use sj_text::{ListingError, parse_listing};
 use sj_write::write_class;
@@ -82,16 +82,5 @@ fn is_file_of(alloc: Global, bytes: &[u8], text: &[u8]) -> Result<bool, NoMemory
         Ok(class) => Ok(print_listing(alloc, &class)?.as_slice() == text),
         Err(ReadRefusal::Bad { .. }) => Ok(false),
         Err(ReadRefusal::NoMemory) => Err(NoMemory),
-    }
-}
-
-// The bytes but for a line feed at their end.
-fn without_line_feed(bytes: &[u8]) -> &[u8]
-    ensures { result.now ≡ output.without_line_feed bytes.now }
-{
-    if bytes.ends_with(b"\n") {
-        &bytes[..bytes.len() - 1]
-    } else {
-        bytes
     }
 }

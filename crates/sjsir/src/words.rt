@@ -1,8 +1,11 @@
 // The words of the command line.
 ghost use Rattle.std.specs.Prelude.{◌≡◌, map, option_map, string_bytes};
 ghost use Rattle.std.specs.List.{list_all};
-ghost use Rattle.sjsir.specs.Command.{alone, command, is_operand, make_of, print_of};
+ghost use Rattle.sj_outside.specs.Words.{is_operand};
+ghost use Rattle.sjsir.specs.Command.{alone, command, make_of, print_of};
 ghost use Rattle.sjsir.specs.Parts.{command_of};
+
+use sj_outside::is_operand;
 
 /// What the words of a command line ask for.
 #[derive(Clone, Copy)]
@@ -73,11 +76,4 @@ fn are_operands(names: &[String]) -> bool
         }
     }
     true
-}
-
-// Whether `word` may name a file.
-fn is_operand(word: &str) -> bool
-    ensures { result ≡ is_operand word.now }
-{
-    !word.starts_with('-')
 }

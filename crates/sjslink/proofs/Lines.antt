@@ -11,7 +11,8 @@ use Rattle.std.proofs.lemmas.Slice.Eq.{bytes_eq-Decides}
 use Rattle.std.proofs.lemmas.List.{take-append-drop}
 use Rattle.sj_names.specs.EntryPoints.{is_public_id, is_id_byte, is_letter}
 use Rattle.sj_link.specs.FirstForm.{is_letter_or_digit, is_word}
-use Rattle.sjslink.specs.EntryLine.{is_no_space, IsEntryLine, EntryLine, without_line_feed}
+use Rattle.sj_outside.specs.Words.{without_line_feed}
+use Rattle.sjslink.specs.EntryLine.{is_no_space, IsEntryLine, EntryLine}
 
 pub false_is_not_true : {A : Type 0} → false ≡ true → A
 false_is_not_true e = cc

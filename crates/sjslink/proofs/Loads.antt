@@ -15,7 +15,8 @@ use Rattle.std.specs.Prelude.{option_and_then}
 use Rattle.sj_format.specs.Files.{FileIs, Fails}
 use Rattle.sj_format.specs.declared.faults.Code.{Code}
 use Rattle.sj_format.proofs.ExactFiles.{one_answer}
-use Rattle.sjslink.specs.EntryLine.{EntryLine, IsEntryLine, without_line_feed}
+use Rattle.sj_outside.specs.Words.{without_line_feed}
+use Rattle.sjslink.specs.EntryLine.{EntryLine, IsEntryLine}
 use Rattle.sjslink.specs.Input.{HasEntry, HasClass, most_class, is_class_file, Program, IsProgram}
 use Rattle.sj_outside.specs.declared.answers.OutsideError.{OutsideError}
 use Rattle.sj_outside.specs.Faults.{IsMissing}

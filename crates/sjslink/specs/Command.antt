@@ -1,17 +1,13 @@
 -- What the words of a command line ask for.
-use Rattle.std.specs.Prelude.{ℕ, Bool, true, List, [], ◌∷◌, ◌==◌, ◌&&◌, not, codes, nat_eq, Option, Some, None, if◌then◌else◌}
+use Rattle.std.specs.Prelude.{ℕ, List, [], ◌∷◌, ◌&&◌, codes, nat_eq, Option, Some, None, if◌then◌else◌}
 use Rattle.std.specs.Cmp.Lexicographic.{pointwise}
+use Rattle.sj_outside.specs.Words.{is_operand}
 
 -- what the words of a link command name
 pub record LinkWords : Type 0 where
   pub entries : List ℕ
   pub out : List ℕ
   pub folder : List ℕ
-
--- a word that names something doesn't begin with `-`
-abbrev pub is_operand : List ℕ → Bool
-is_operand [] = true
-is_operand (b ∷ bs) = not (b == 45)
 
 -- `link --optimize off ENTRIES OUT FOLDER` and nothing else
 abbrev pub command : List (List ℕ) → Option LinkWords

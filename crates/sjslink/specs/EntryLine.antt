@@ -1,8 +1,8 @@
 -- The entries file, of which one line is built.
-use Rattle.std.specs.Prelude.{◌≡◌, ℕ, ◌-◌, List, [], ◌∷◌, ◌++◌, not, ◌==◌, Bool, IsTrue, codes, length, take, nat_eq, if◌then◌else◌}
-use Rattle.std.specs.List.{ends_with}
+use Rattle.std.specs.Prelude.{◌≡◌, ℕ, List, ◌++◌, not, ◌==◌, Bool, IsTrue, codes}
 use Rattle.sj_names.specs.EntryPoints.{is_public_id}
 use Rattle.sj_link.specs.FirstForm.{is_word}
+use Rattle.sj_outside.specs.Words.{without_line_feed}
 
 -- the public module that the line names, and the method
 pub record EntryLine : Type 0 where
@@ -11,10 +11,6 @@ pub record EntryLine : Type 0 where
 
 abbrev pub is_no_space : ℕ → Bool
 is_no_space b = not (b == 32)
-
--- the bytes but for a line feed at their end
-abbrev pub without_line_feed : List ℕ → List ℕ
-without_line_feed bs = if ends_with nat_eq bs (10 ∷ []) then take (length bs - 1) bs else bs
 
 -- the bytes are the line `ID java.lang.Object NAME`, whose line feed may be left out
 pub record IsEntryLine (bytes : List ℕ) (line : EntryLine) : Type 0 where

@@ -6,6 +6,7 @@ ghost use Rattle.sjslink.specs.EntryLine as entry;
 
 use sj_link::is_word;
 use sj_names::is_public_id;
+use sj_outside::without_line_feed;
 use std::str;
 
 /// The entry that is written in the entries file: a public module and a method of `java.lang.Object`.
@@ -40,17 +41,6 @@ pub fn entry_line(bytes: &[u8]) -> Option<EntryLine<'_>>
         return None;
     };
     Some(EntryLine { module_id, method })
-}
-
-// The bytes but for a line feed at their end.
-fn without_line_feed(bytes: &[u8]) -> &[u8]
-    ensures { result.now ≡ entry.without_line_feed bytes.now }
-{
-    if bytes.ends_with(b"\n") {
-        &bytes[..bytes.len() - 1]
-    } else {
-        bytes
-    }
 }
 
 // What stands before the first space, and what behind it.

@@ -1,6 +1,8 @@
 // The words of the command line.
 ghost use Rattle.std.specs.Prelude.{◌≡◌, map, option_map, string_bytes};
-ghost use Rattle.sjslink.specs.Command.{command, is_operand};
+ghost use Rattle.sjslink.specs.Command.{command};
+
+use sj_outside::is_operand;
 
 /// What the words of a link command name.
 #[derive(Drop)]
@@ -30,11 +32,4 @@ pub fn link_words(words: &[String]) -> Option<LinkWords<'_>>
         }
         _ => None,
     }
-}
-
-// Whether `word` may name a file, a folder or a place for files.
-fn is_operand(word: &str) -> bool
-    ensures { result ≡ is_operand word.now }
-{
-    !word.starts_with('-')
 }

@@ -1,5 +1,5 @@
 use Rattle.std.proofs.Common.{◌∙◌, ap}
-use Rattle.sjsir.specs.Output.{without_line_feed}
+use Rattle.sj_outside.specs.Words.{without_line_feed}
 use Rattle.sjsir.proofs.Files as files
 use Rattle.sjsir.proofs.making.made_at.Goals as goal
 

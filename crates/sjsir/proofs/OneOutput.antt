@@ -1,0 +1,129 @@
+-- There is one output.
+use Rattle.std.proofs.Common.{◌≡◌, ℕ, zero, suc, ◌+◌, ◌<◌, ◌≤◌, Bool, true, false, ◌&&◌, List, [], ◌∷◌, ◌++◌, map, take, length, refl, sym, ap, subst, ◌∙◌, append_assoc, Option, Some, None, ◌⊎◌, inl, inr, arith}
+use Rattle.std.specs.Prelude.{codes}
+use Rattle.exact_place.specs.Grammar.{Spelling}
+use Rattle.exact_place.specs.Place.{Place, Begins}
+use Rattle.sj_outside.specs.Contents.{Parts, file_at}
+use Rattle.sj_outside.specs.Words.{without_line_feed}
+use Rattle.sj_outside.specs.Writing.{Event, put, line}
+use Rattle.sj_trees.specs.declared.classes.ClassDef.{ClassDef}
+use Rattle.sj_format.specs.declared.faults.Code.{Code}
+use Rattle.sj_format.specs.Files.{FileIs, Fails}
+use Rattle.sj_format.proofs.ExactFiles.{one_answer}
+use Rattle.listing_spelling.specs.Spelling.{Lists}
+use Rattle.listing_spelling.specs.Rules.{bare}
+use Rattle.listing_spelling.proofs.Kept.{class_kept}
+use Rattle.listing_spelling.proofs.OneText.{one_listing}
+use Rattle.listing_spelling.proofs.Whole.{one_class}
+use Rattle.file_listings.proofs.Bare.{listed_is_bare}
+use Rattle.sj_written.specs.Written.{written_class}
+use Rattle.sjsir.specs.Command.{Command, help, version, print, make, command}
+use Rattle.sjsir.specs.Making.{IsMade, IsMadeAt, output_of}
+use Rattle.sjsir.specs.declared.making.Made.{Made}
+use Rattle.sjsir.specs.declared.making.Made.TheVariants.{File, NoListing, NoFile}
+use Rattle.sjsir.specs.Output.{Output, IsOutput, no_command, helped, versioned, printed, made, no_listing, no_class_file, IsFileOf, IsFileLine, listed, refused, refusal_line, AreFileLines, no_file, first_file, status_of, usage_line, help_text, version_line, HasOneOutput}
+use Rattle.sjsir.specs.declared.answers.Status.TheVariants.{Done, Usage}
+
+-- ---- the place
+
+front_of : (n m : ℕ) (xs : List ℕ) → n ≤ m → (more : List ℕ) × (take m xs ≡ take n xs ++ more)
+front_of zero m xs l = (take m xs, refl)
+front_of (suc n) zero xs l = absurd (omega arith)
+front_of (suc n) (suc m) [] l = ([], refl)
+front_of (suc n) (suc m) (x ∷ xs) l = let rest = front_of n m xs (omega arith) in (rest.0, ap (λ (ys : List ℕ). x ∷ ys) rest.1)
+
+not_longer : {A : Type 0} (P : Spelling A) (bytes : List ℕ) (p q : ℕ) → Place P bytes p → Place P bytes q → p < q → ⊥
+not_longer P bytes p q one other l =
+    let front = front_of (p + 1) q bytes (omega arith) in
+    let more = other.begins.more in
+    let whole : take q bytes ++ more ≡ take (p + 1) bytes ++ (front.0 ++ more) = ap (λ (xs : List ℕ). xs ++ more) front.1 ∙ append_assoc (take (p + 1) bytes) front.0 more in
+    one.longest (omega (arith, other.within)) (record { value = other.begins.value; more = front.0 ++ more; spelled = subst (λ (xs : List ℕ). P other.begins.value xs) whole other.begins.spelled })
+
+one_place : {A : Type 0} (P : Spelling A) (bytes : List ℕ) (p q : ℕ) → Place P bytes p → Place P bytes q → p ≡ q
+one_place P bytes p q one other =
+    let below : p < q → ⊥ = not_longer P bytes p q one other in
+    let above : q < p → ⊥ = not_longer P bytes q p other one in
+    omega arith
+
+-- ---- the lines of files
+
+listing_is_one : (c : ClassDef) (text other : List ℕ) → Lists (bare c) text → Lists (bare c) other → text ≡ other
+listing_is_one c text other a b =
+    let kept = class_kept (bare c) text a in
+    let again : bare c ≡ bare (bare c) = sym (listed_is_bare (bare c) text a) in
+    (one_listing (bare c) kept text).0 (subst (λ (d : ClassDef). Lists d text) again a) ∙ sym ((one_listing (bare c) kept other).0 (subst (λ (d : ClassDef). Lists d other) again b))
+
+record SameLine (well fine : Bool) (text other : List ℕ) : Type 0 where
+  pub well_is : well ≡ fine
+  pub text_is : text ≡ other
+
+one_line : (path bytes : List ℕ) (well fine : Bool) (text other : List ℕ) → IsFileLine path bytes well text → IsFileLine path bytes fine other → SameLine well fine text other
+one_line path bytes _ _ _ _ (listed class text is lists) (listed other_class other other_is other_lists) =
+    let same : class ≡ other_class = (one_answer bytes).one_class class other_class is other_is in
+    record { well_is = refl; text_is = ap (λ (t : List ℕ). t ++ codes "\n") (listing_is_one other_class text other (subst (λ (c : ClassDef). Lists (bare c) text) same lists) other_lists) }
+one_line path bytes _ _ _ _ (listed class text is lists) (refused code place fails) = absurd ((one_answer bytes).not_both class code place is fails)
+one_line path bytes _ _ _ _ (refused code place fails) (listed class text is lists) = absurd ((one_answer bytes).not_both class code place is fails)
+one_line path bytes _ _ _ _ (refused code place fails) (refused other another other_fails) =
+    let same = (one_answer bytes).one_failure code other place another fails other_fails in
+    record { well_is = refl; text_is = λ i. refusal_line path (same.0 i) (same.1 i) }
+
+record SameLines (all every : Bool) (texts others : List (List ℕ)) : Type 0 where
+  pub all_is : all ≡ every
+  pub texts_are : texts ≡ others
+
+some_is : {X : Type 0} {o : Option X} {x y : X} → o ≡ Some x → o ≡ Some y → x ≡ y
+some_is e f = cc
+
+one_list : (c : Parts) (files : List (List ℕ)) (all every : Bool) (texts others : List (List ℕ)) → AreFileLines c files all texts → AreFileLines c files every others → SameLines all every texts others
+one_list c _ _ _ _ _ no_file no_file = record { all_is = refl; texts_are = refl }
+one_list c _ _ _ _ _ (first_file path bytes text paths texts well all at is rest) (first_file _ held other _ others fine every there line_is behind) =
+    let same : bytes ≡ held = some_is at there in
+    let first = one_line path held well fine text other (subst (λ (b : List ℕ). IsFileLine path b well text) same is) line_is in
+    let later = one_list c paths all every texts others rest behind in
+    record { all_is = λ i. first.well_is i && later.all_is i; texts_are = λ i. first.text_is i ∷ later.texts_are i }
+
+-- ---- what is made
+
+one_made : (text : List ℕ) (m n : Made) → IsMade text m → IsMade text n → m ≡ n
+one_made text (File bytes) (File other) (class, lists, is, has) (other_class, other_lists, other_is, other_has) = ap File (is ∙ ap written_class (one_class class other_class text lists other_lists) ∙ sym other_is)
+one_made text (File bytes) (NoListing place) (class, lists, is, has) (none, there) = absurd (none class lists)
+one_made text (File bytes) NoFile (class, lists, is, has) (other, other_lists, not_its, none) = absurd (not_its (subst (IsFileOf text) (is ∙ ap written_class (one_class class other text lists other_lists)) has))
+one_made text (NoListing place) (File bytes) (none, there) (class, lists, is, has) = absurd (none class lists)
+one_made text (NoListing place) (NoListing other) (none, there) (nothing, at) = ap NoListing (one_place Lists text place other there at)
+one_made text (NoListing place) NoFile (none, there) (class, lists, not_its, nothing) = absurd (none class lists)
+one_made text NoFile (File bytes) (other, other_lists, not_its, none) (class, lists, is, has) = absurd (not_its (subst (IsFileOf text) (is ∙ ap written_class (one_class class other text lists other_lists)) has))
+one_made text NoFile (NoListing place) (class, lists, not_its, nothing) (none, there) = absurd (none class lists)
+one_made text NoFile NoFile has other = refl
+
+one_made_at : (c : Parts) (path : List ℕ) (m n : Made) → IsMadeAt c path m → IsMadeAt c path n → m ≡ n
+one_made_at c path m n (bytes, at, is) (held, there, other_is) = one_made (without_line_feed held) m n (subst (λ (b : List ℕ). IsMade (without_line_feed b) m) (some_is at there) is) other_is
+
+-- ---- the output, by what the words ask for
+
+abbrev Answers : Parts → Option Command → Output → Type 0
+Answers c None o = o ≡ record { status = Usage; events = line usage_line ∷ [] }
+Answers c (Some help) o = o ≡ record { status = Done; events = line help_text ∷ [] }
+Answers c (Some version) o = o ≡ record { status = Done; events = line version_line ∷ [] }
+Answers c (Some (print files)) o = (texts : List (List ℕ)) × (all : Bool) × AreFileLines c files all texts × (o ≡ record { status = status_of all; events = map (λ text. line text) texts })
+Answers c (Some (make path out)) o = (m : Made) × IsMadeAt c path m × (o ≡ output_of out m)
+
+answers : (words : List (List ℕ)) (c : Parts) (o : Output) → IsOutput words c o → Answers c (command words) o
+answers words c _ (no_command is) = subst (λ (k : Option Command). Answers c k _) (sym is) refl
+answers words c _ (helped is) = subst (λ (k : Option Command). Answers c k _) (sym is) refl
+answers words c _ (versioned is) = subst (λ (k : Option Command). Answers c k _) (sym is) refl
+answers words c _ (printed files texts all is are) = subst (λ (k : Option Command). Answers c k _) (sym is) (texts, all, are, refl)
+answers words c _ (made path out bytes class is at lists has) = subst (λ (k : Option Command). Answers c k _) (sym is) (File (written_class class), (bytes, at, (class, lists, refl, has)), refl)
+answers words c _ (no_listing path out bytes place is at none there) = subst (λ (k : Option Command). Answers c k _) (sym is) (NoListing place, (bytes, at, (none, there)), refl)
+answers words c _ (no_class_file path out bytes class is at lists not_its none) = subst (λ (k : Option Command). Answers c k _) (sym is) (NoFile, (bytes, at, (class, lists, not_its, none)), refl)
+
+one_answered : (c : Parts) (k : Option Command) (one other : Output) → Answers c k one → Answers c k other → one ≡ other
+one_answered c None one other a b = a ∙ sym b
+one_answered c (Some help) one other a b = a ∙ sym b
+one_answered c (Some version) one other a b = a ∙ sym b
+one_answered c (Some (print files)) one other (texts, all, are, is) (others, every, others_are, other_is) =
+    let same = one_list c files all every texts others are others_are in
+    is ∙ (λ i. record { status = status_of (same.all_is i); events = map (λ text. line text) (same.texts_are i) }) ∙ sym other_is
+one_answered c (Some (make path out)) one other (m, at, is) (n, there, other_is) = is ∙ ap (output_of out) (one_made_at c path m n at there) ∙ sym other_is
+
+pub has_one_output : HasOneOutput
+has_one_output words c one other a b = one_answered c (command words) one other (answers words c one a) (answers words c other b)
