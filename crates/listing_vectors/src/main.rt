@@ -1,13 +1,15 @@
-//! Reads listings in hexadecimal digits from the standard input, and writes what `parse_listing` answers to each: the listing of the
-//! class that it gives, which is the same text again, or the place.
+//! Reads listings in hexadecimal digits from the standard input, and writes what `parse_listing` answers to each: the file that
+//! `write_class` gives for the class, if the class is printed as the same text again, or the place.
 #![tactic(auto)]
 
 #[cfg(test)]
 mod tests;
 
 use anyhow::Result;
+use file_listings::each_listed_class_names_its_files;
 use listing_spelling::each_has_one_listing;
 use sj_text::{ListingError, parse_listing, print_listing};
+use sj_write::write_class;
 use std::alloc::Global;
 
 fn main(rt: HostRuntime) -> Result<()> {
@@ -26,9 +28,15 @@ fn answer(alloc: Global, text: &[u8]) -> Result<String> {
     match parse_listing(alloc, text) {
         Ok(class) => {
             each_has_one_listing();
+            each_listed_class_names_its_files();
             let again = print_listing(alloc, &class)?;
-            let digits = hex::encode(alloc, &again)?;
-            Ok(format!(in alloc; "ok {digits}")?)
+            let file = write_class(alloc, &class)?;
+            let digits = hex::encode(alloc, &file)?;
+            if again.as_slice() == text {
+                Ok(format!(in alloc; "ok {digits}")?)
+            } else {
+                Ok(format!(in alloc; "printed otherwise {digits}")?)
+            }
         }
         Err(ListingError::BadListing(place)) => Ok(format!(in alloc; "bad {place}")?),
         Err(ListingError::NoMemory) => Ok(String::from_str(alloc, "no memory")?),
