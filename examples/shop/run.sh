@@ -1,5 +1,5 @@
 #!/usr/bin/env bash
-# Makes the class files of the listings in this folder, prints the listing of each, and tells what `sjslink` says of them.
+# Makes the class files of the listings in this folder, and prints the listing of each file again.
 set -euo pipefail
 cd "$(dirname "${BASH_SOURCE[0]}")"
 
