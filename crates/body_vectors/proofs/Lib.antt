@@ -1,0 +1,4 @@
+mod Accepted
+mod Classes
+mod Premises
+mod Unbroken

@@ -1,0 +1,109 @@
+//! What both meanings show of classes of the vectors, at the bounds 0, 1, 2, 3, 10 and 50 and computed from their definitions, is what an
+//! independent reference of the profile has recorded.
+//!
+//! `specs/` has the classes and the records. Each class is `java.lang.Object`, and the initializer of the module `main` calls its `main`. Its
+//! file has the functions that are emitted for its methods by definition, and the call of `main` behind them. The functions here are
+//! laws: they do nothing when they run, and their clauses are theorems.
+#![tactic(auto)]
+
+ghost use Rattle.std.specs.Prelude.{◌≡◌, codes};
+ghost use Rattle.outcomes.specs.Agreement.{Agree};
+ghost use Rattle.ir_mean.specs.Rows.{once};
+ghost use Rattle.ir_mean.specs.Shows.{ir_shows};
+ghost use Rattle.js_mean.specs.Shows.{js_shows};
+ghost use Rattle.sj_calls.specs.Files.{program_with};
+ghost use Rattle.sj_sound.specs.Worked.{worked_world, worked_methods};
+ghost use Rattle.body_vectors.specs.Bounds.{class_within, class_shows, file_within, file_shows};
+ghost use Rattle.body_vectors.specs.Whole as whole;
+ghost use Rattle.body_vectors.specs.Partly as partly;
+
+/// `main` logs `hi`: the class and its file have shown nothing within the bound 0, and the line within each further one.
+pub fn logs_hi()
+    ensures by_the_class { class_shows whole.logs_hi_class ≡ whole.logs_hi_shown }
+    ensures by_the_file { file_shows whole.logs_hi_class.methods ≡ whole.logs_hi_shown }
+    ensures agree { Agree (class_within whole.logs_hi_class) (file_within whole.logs_hi_class.methods) }
+{}
+
+/// `again` logs `x` and calls itself: both have shown a line less than the bound, and are going at each.
+pub fn calls_itself()
+    ensures by_the_class { class_shows whole.calls_itself_class ≡ whole.calls_itself_shown }
+    ensures by_the_file { file_shows whole.calls_itself_class.methods ≡ whole.calls_itself_shown }
+    ensures agree { Agree (class_within whole.calls_itself_class) (file_within whole.calls_itself_class.methods) }
+{}
+
+/// A line of units that no text in UTF-8 has is shown as it is.
+pub fn odd_units()
+    ensures by_the_class { class_shows whole.odd_units_class ≡ whole.odd_units_shown }
+    ensures by_the_file { file_shows whole.odd_units_class.methods ≡ whole.odd_units_shown }
+    ensures agree { Agree (class_within whole.odd_units_class) (file_within whole.odd_units_class.methods) }
+{}
+
+/// The turn behind the first, whose condition doesn't hold, takes a unit: both are going within the bound 1.
+pub fn one_turn()
+    ensures by_the_class { class_shows whole.one_turn_class ≡ whole.one_turn_shown }
+    ensures by_the_file { file_shows whole.one_turn_class.methods ≡ whole.one_turn_shown }
+    ensures agree { Agree (class_within whole.one_turn_class) (file_within whole.one_turn_class.methods) }
+{}
+
+/// Loops without a turn behind the first take no unit.
+pub fn three_loops()
+    ensures by_the_class { class_shows whole.three_loops_class ≡ whole.three_loops_shown }
+    ensures by_the_file { file_shows whole.three_loops_class.methods ≡ whole.three_loops_shown }
+    ensures agree { Agree (class_within whole.three_loops_class) (file_within whole.three_loops_class.methods) }
+{}
+
+/// A local is defined by the value of a block that logs.
+pub fn block_value()
+    ensures by_the_class { class_shows whole.block_value_class ≡ whole.block_value_shown }
+    ensures by_the_file { file_shows whole.block_value_class.methods ≡ whole.block_value_shown }
+    ensures agree { Agree (class_within whole.block_value_class) (file_within whole.block_value_class.methods) }
+{}
+
+/// Matches whose selectors have statements in them take the default, one inside the other.
+pub fn spilled_matches()
+    ensures by_the_class { class_shows whole.spilled_matches_class ≡ whole.spilled_matches_shown }
+    ensures by_the_file { file_shows whole.spilled_matches_class.methods ≡ whole.spilled_matches_shown }
+    ensures agree { Agree (class_within whole.spilled_matches_class) (file_within whole.spilled_matches_class.methods) }
+{}
+
+/// Choices inside an expression, and a label that nothing leaves to.
+pub fn choices()
+    ensures by_the_class { class_shows whole.choices_class ≡ whole.choices_shown }
+    ensures by_the_file { file_shows whole.choices_class.methods ≡ whole.choices_shown }
+    ensures agree { Agree (class_within whole.choices_class) (file_within whole.choices_class.methods) }
+{}
+
+/// A match without the key takes its default. The class has methods of other forms too, which no call reaches; the file has none of them.
+pub fn no_such_key()
+    ensures by_the_class { class_shows partly.no_such_key_class ≡ partly.no_such_key_shown }
+    ensures by_the_file { file_shows partly.no_such_key_methods ≡ partly.no_such_key_shown }
+    ensures agree { Agree (class_within partly.no_such_key_class) (file_within partly.no_such_key_methods) }
+{}
+
+/// Operators alone show nothing. As before, the file has the methods of the forms that are built.
+pub fn no_lines()
+    ensures by_the_class { class_shows partly.no_lines_class ≡ partly.no_lines_shown }
+    ensures by_the_file { file_shows partly.no_lines_methods ≡ partly.no_lines_shown }
+    ensures agree { Agree (class_within partly.no_lines_class) (file_within partly.no_lines_methods) }
+{}
+
+/// A condition that logs is evaluated once in each turn and once behind the last: both are going within the bound 3, and end within 10. As
+/// before, the file has the methods of the forms that are built.
+pub fn four_turns()
+    ensures by_the_class { class_shows partly.four_turns_class ≡ partly.four_turns_shown }
+    ensures by_the_file { file_shows partly.four_turns_methods ≡ partly.four_turns_shown }
+    ensures agree { Agree (class_within partly.four_turns_class) (file_within partly.four_turns_methods) }
+{}
+
+/// One branch of a choice logs, and the other is taken. As before, the file has the methods of the forms that are built.
+pub fn choice_with_lines()
+    ensures by_the_class { class_shows partly.choice_with_lines_class ≡ partly.choice_with_lines_shown }
+    ensures by_the_file { file_shows partly.choice_with_lines_methods ≡ partly.choice_with_lines_shown }
+    ensures agree { Agree (class_within partly.choice_with_lines_class) (file_within partly.choice_with_lines_methods) }
+{}
+
+/// The premises of the theorem on classes can be met: by the class of the worked program, which breaks none of the local rules, and whose two
+/// methods have the rows of typing.
+pub fn worked_classes_agree()
+    ensures { Agree (ir_shows worked_world once (codes "main")) (js_shows (program_with (codes "main") worked_methods once) (codes "main")) }
+{}
