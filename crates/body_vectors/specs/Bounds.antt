@@ -5,7 +5,8 @@ use Rattle.outcomes.specs.Shown.{normal, Shown}
 use Rattle.ir_mean.specs.Rows.{nowhere, object_name, once}
 use Rattle.ir_mean.specs.Shows.{ir_shows}
 use Rattle.js_mean.specs.Shows.{js_shows}
-use Rattle.sj_calls.specs.Files.{EmittedMethod, program_with}
+use Rattle.js_tree.specs.Texts.{put_item_line}
+use Rattle.sj_calls.specs.Files.{EmittedMethod, function_item_of, program_with}
 use Rattle.sj_names.specs.declared.method_names.Namespace.{Namespace}
 use Rattle.sj_names.specs.declared.references.TypeRef.{TypeRef}
 use Rattle.sj_trees.specs.Term.{Term}
@@ -43,6 +44,10 @@ file_within ds = js_shows (program_with (codes "main") (all_emitted ds) once) (c
 
 abbrev pub file_shows : List MethodDef → Answers
 file_shows ds = map (file_within ds) bounds
+
+-- the texts of the functions of these methods
+abbrev pub function_texts : List MethodDef → List (List ℕ)
+function_texts ds = map (λ (e : EmittedMethod). put_item_line (function_item_of e) []) (all_emitted ds)
 
 -- these lines and the end, and these lines so far
 abbrev pub ends_with : Lines → Shown

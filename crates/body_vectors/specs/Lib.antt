@@ -1,3 +1,4 @@
 pub mod Bounds
 pub mod Partly
+pub mod Texts
 pub mod Whole

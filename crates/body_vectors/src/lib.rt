@@ -13,14 +13,16 @@ ghost use Rattle.ir_mean.specs.Shows.{ir_shows};
 ghost use Rattle.js_mean.specs.Shows.{js_shows};
 ghost use Rattle.sj_calls.specs.Files.{program_with};
 ghost use Rattle.sj_sound.specs.Worked.{worked_world, worked_methods};
-ghost use Rattle.body_vectors.specs.Bounds.{class_within, class_shows, file_within, file_shows};
+ghost use Rattle.body_vectors.specs.Bounds.{class_within, class_shows, file_within, file_shows, function_texts};
 ghost use Rattle.body_vectors.specs.Whole as whole;
 ghost use Rattle.body_vectors.specs.Partly as partly;
+ghost use Rattle.body_vectors.specs.Texts as texts;
 
 /// `main` logs `hi`: the class and its file have shown nothing within the bound 0, and the line within each further one.
 pub fn logs_hi()
     ensures by_the_class { class_shows whole.logs_hi_class ≡ whole.logs_hi_shown }
     ensures by_the_file { file_shows whole.logs_hi_class.methods ≡ whole.logs_hi_shown }
+    ensures printed { function_texts whole.logs_hi_class.methods ≡ texts.logs_hi }
     ensures agree { Agree (class_within whole.logs_hi_class) (file_within whole.logs_hi_class.methods) }
 {}
 
@@ -28,6 +30,7 @@ pub fn logs_hi()
 pub fn calls_itself()
     ensures by_the_class { class_shows whole.calls_itself_class ≡ whole.calls_itself_shown }
     ensures by_the_file { file_shows whole.calls_itself_class.methods ≡ whole.calls_itself_shown }
+    ensures printed { function_texts whole.calls_itself_class.methods ≡ texts.calls_itself }
     ensures agree { Agree (class_within whole.calls_itself_class) (file_within whole.calls_itself_class.methods) }
 {}
 
@@ -35,6 +38,7 @@ pub fn calls_itself()
 pub fn odd_units()
     ensures by_the_class { class_shows whole.odd_units_class ≡ whole.odd_units_shown }
     ensures by_the_file { file_shows whole.odd_units_class.methods ≡ whole.odd_units_shown }
+    ensures printed { function_texts whole.odd_units_class.methods ≡ texts.odd_units }
     ensures agree { Agree (class_within whole.odd_units_class) (file_within whole.odd_units_class.methods) }
 {}
 
@@ -42,6 +46,7 @@ pub fn odd_units()
 pub fn one_turn()
     ensures by_the_class { class_shows whole.one_turn_class ≡ whole.one_turn_shown }
     ensures by_the_file { file_shows whole.one_turn_class.methods ≡ whole.one_turn_shown }
+    ensures printed { function_texts whole.one_turn_class.methods ≡ texts.one_turn }
     ensures agree { Agree (class_within whole.one_turn_class) (file_within whole.one_turn_class.methods) }
 {}
 
@@ -49,6 +54,7 @@ pub fn one_turn()
 pub fn three_loops()
     ensures by_the_class { class_shows whole.three_loops_class ≡ whole.three_loops_shown }
     ensures by_the_file { file_shows whole.three_loops_class.methods ≡ whole.three_loops_shown }
+    ensures printed { function_texts whole.three_loops_class.methods ≡ texts.three_loops }
     ensures agree { Agree (class_within whole.three_loops_class) (file_within whole.three_loops_class.methods) }
 {}
 
@@ -56,6 +62,7 @@ pub fn three_loops()
 pub fn block_value()
     ensures by_the_class { class_shows whole.block_value_class ≡ whole.block_value_shown }
     ensures by_the_file { file_shows whole.block_value_class.methods ≡ whole.block_value_shown }
+    ensures printed { function_texts whole.block_value_class.methods ≡ texts.block_value }
     ensures agree { Agree (class_within whole.block_value_class) (file_within whole.block_value_class.methods) }
 {}
 
@@ -63,6 +70,7 @@ pub fn block_value()
 pub fn spilled_matches()
     ensures by_the_class { class_shows whole.spilled_matches_class ≡ whole.spilled_matches_shown }
     ensures by_the_file { file_shows whole.spilled_matches_class.methods ≡ whole.spilled_matches_shown }
+    ensures printed { function_texts whole.spilled_matches_class.methods ≡ texts.spilled_matches }
     ensures agree { Agree (class_within whole.spilled_matches_class) (file_within whole.spilled_matches_class.methods) }
 {}
 
@@ -70,6 +78,7 @@ pub fn spilled_matches()
 pub fn choices()
     ensures by_the_class { class_shows whole.choices_class ≡ whole.choices_shown }
     ensures by_the_file { file_shows whole.choices_class.methods ≡ whole.choices_shown }
+    ensures printed { function_texts whole.choices_class.methods ≡ texts.choices }
     ensures agree { Agree (class_within whole.choices_class) (file_within whole.choices_class.methods) }
 {}
 
@@ -77,6 +86,7 @@ pub fn choices()
 pub fn no_such_key()
     ensures by_the_class { class_shows partly.no_such_key_class ≡ partly.no_such_key_shown }
     ensures by_the_file { file_shows partly.no_such_key_methods ≡ partly.no_such_key_shown }
+    ensures printed { function_texts partly.no_such_key_methods ≡ texts.no_such_key }
     ensures agree { Agree (class_within partly.no_such_key_class) (file_within partly.no_such_key_methods) }
 {}
 
@@ -84,6 +94,7 @@ pub fn no_such_key()
 pub fn no_lines()
     ensures by_the_class { class_shows partly.no_lines_class ≡ partly.no_lines_shown }
     ensures by_the_file { file_shows partly.no_lines_methods ≡ partly.no_lines_shown }
+    ensures printed { function_texts partly.no_lines_methods ≡ texts.no_lines }
     ensures agree { Agree (class_within partly.no_lines_class) (file_within partly.no_lines_methods) }
 {}
 
@@ -92,6 +103,7 @@ pub fn no_lines()
 pub fn four_turns()
     ensures by_the_class { class_shows partly.four_turns_class ≡ partly.four_turns_shown }
     ensures by_the_file { file_shows partly.four_turns_methods ≡ partly.four_turns_shown }
+    ensures printed { function_texts partly.four_turns_methods ≡ texts.four_turns }
     ensures agree { Agree (class_within partly.four_turns_class) (file_within partly.four_turns_methods) }
 {}
 
@@ -99,6 +111,7 @@ pub fn four_turns()
 pub fn choice_with_lines()
     ensures by_the_class { class_shows partly.choice_with_lines_class ≡ partly.choice_with_lines_shown }
     ensures by_the_file { file_shows partly.choice_with_lines_methods ≡ partly.choice_with_lines_shown }
+    ensures printed { function_texts partly.choice_with_lines_methods ≡ texts.choice_with_lines }
     ensures agree { Agree (class_within partly.choice_with_lines_class) (file_within partly.choice_with_lines_methods) }
 {}
 
