@@ -6,7 +6,7 @@
 //! laws: they do nothing when they run, and their clauses are theorems.
 #![tactic(auto)]
 
-ghost use Rattle.std.specs.Prelude.{◌≡◌, codes};
+ghost use Rattle.std.specs.Prelude.{◌≡◌, codes, Ok};
 ghost use Rattle.outcomes.specs.Agreement.{Agree};
 ghost use Rattle.ir_mean.specs.Rows.{once};
 ghost use Rattle.ir_mean.specs.Shows.{ir_shows};
@@ -15,11 +15,14 @@ ghost use Rattle.sj_calls.specs.Files.{program_with};
 ghost use Rattle.sj_sound.specs.Worked.{worked_world, worked_methods};
 ghost use Rattle.body_vectors.specs.Bounds.{class_within, class_shows, file_within, file_shows, function_texts};
 ghost use Rattle.body_vectors.specs.Whole as whole;
+ghost use Rattle.sj_format.specs.Files.{file_of};
+ghost use Rattle.body_vectors.specs.Files as files;
 ghost use Rattle.body_vectors.specs.Partly as partly;
 ghost use Rattle.body_vectors.specs.Texts as texts;
 
 /// `main` logs `hi`: the class and its file have shown nothing within the bound 0, and the line within each further one.
 pub fn logs_hi()
+    ensures read { file_of files.logs_hi ≡ Ok whole.logs_hi_class }
     ensures by_the_class { class_shows whole.logs_hi_class ≡ whole.logs_hi_shown }
     ensures by_the_file { file_shows whole.logs_hi_class.methods ≡ whole.logs_hi_shown }
     ensures printed { function_texts whole.logs_hi_class.methods ≡ texts.logs_hi }
@@ -28,6 +31,7 @@ pub fn logs_hi()
 
 /// `again` logs `x` and calls itself: both have shown a line less than the bound, and are going at each.
 pub fn calls_itself()
+    ensures read { file_of files.calls_itself ≡ Ok whole.calls_itself_class }
     ensures by_the_class { class_shows whole.calls_itself_class ≡ whole.calls_itself_shown }
     ensures by_the_file { file_shows whole.calls_itself_class.methods ≡ whole.calls_itself_shown }
     ensures printed { function_texts whole.calls_itself_class.methods ≡ texts.calls_itself }
@@ -36,6 +40,7 @@ pub fn calls_itself()
 
 /// A line of units that no text in UTF-8 has is shown as it is.
 pub fn odd_units()
+    ensures read { file_of files.odd_units ≡ Ok whole.odd_units_class }
     ensures by_the_class { class_shows whole.odd_units_class ≡ whole.odd_units_shown }
     ensures by_the_file { file_shows whole.odd_units_class.methods ≡ whole.odd_units_shown }
     ensures printed { function_texts whole.odd_units_class.methods ≡ texts.odd_units }
@@ -44,6 +49,7 @@ pub fn odd_units()
 
 /// The turn behind the first, whose condition doesn't hold, takes a unit: both are going within the bound 1.
 pub fn one_turn()
+    ensures read { file_of files.one_turn ≡ Ok whole.one_turn_class }
     ensures by_the_class { class_shows whole.one_turn_class ≡ whole.one_turn_shown }
     ensures by_the_file { file_shows whole.one_turn_class.methods ≡ whole.one_turn_shown }
     ensures printed { function_texts whole.one_turn_class.methods ≡ texts.one_turn }
@@ -52,6 +58,7 @@ pub fn one_turn()
 
 /// Loops without a turn behind the first take no unit.
 pub fn three_loops()
+    ensures read { file_of files.three_loops ≡ Ok whole.three_loops_class }
     ensures by_the_class { class_shows whole.three_loops_class ≡ whole.three_loops_shown }
     ensures by_the_file { file_shows whole.three_loops_class.methods ≡ whole.three_loops_shown }
     ensures printed { function_texts whole.three_loops_class.methods ≡ texts.three_loops }
@@ -60,6 +67,7 @@ pub fn three_loops()
 
 /// A local is defined by the value of a block that logs.
 pub fn block_value()
+    ensures read { file_of files.block_value ≡ Ok whole.block_value_class }
     ensures by_the_class { class_shows whole.block_value_class ≡ whole.block_value_shown }
     ensures by_the_file { file_shows whole.block_value_class.methods ≡ whole.block_value_shown }
     ensures printed { function_texts whole.block_value_class.methods ≡ texts.block_value }
@@ -68,6 +76,7 @@ pub fn block_value()
 
 /// Matches whose selectors have statements in them take the default, one inside the other.
 pub fn spilled_matches()
+    ensures read { file_of files.spilled_matches ≡ Ok whole.spilled_matches_class }
     ensures by_the_class { class_shows whole.spilled_matches_class ≡ whole.spilled_matches_shown }
     ensures by_the_file { file_shows whole.spilled_matches_class.methods ≡ whole.spilled_matches_shown }
     ensures printed { function_texts whole.spilled_matches_class.methods ≡ texts.spilled_matches }
@@ -76,6 +85,7 @@ pub fn spilled_matches()
 
 /// Choices inside an expression, and a label that nothing leaves to.
 pub fn choices()
+    ensures read { file_of files.choices ≡ Ok whole.choices_class }
     ensures by_the_class { class_shows whole.choices_class ≡ whole.choices_shown }
     ensures by_the_file { file_shows whole.choices_class.methods ≡ whole.choices_shown }
     ensures printed { function_texts whole.choices_class.methods ≡ texts.choices }
@@ -84,6 +94,7 @@ pub fn choices()
 
 /// A match without the key takes its default. The class has methods of other forms too, which no call reaches; the file has none of them.
 pub fn no_such_key()
+    ensures read { file_of files.no_such_key ≡ Ok partly.no_such_key_class }
     ensures by_the_class { class_shows partly.no_such_key_class ≡ partly.no_such_key_shown }
     ensures by_the_file { file_shows partly.no_such_key_methods ≡ partly.no_such_key_shown }
     ensures printed { function_texts partly.no_such_key_methods ≡ texts.no_such_key }
@@ -92,6 +103,7 @@ pub fn no_such_key()
 
 /// Operators alone show nothing. As before, the file has the methods of the forms that are built.
 pub fn no_lines()
+    ensures read { file_of files.no_lines ≡ Ok partly.no_lines_class }
     ensures by_the_class { class_shows partly.no_lines_class ≡ partly.no_lines_shown }
     ensures by_the_file { file_shows partly.no_lines_methods ≡ partly.no_lines_shown }
     ensures printed { function_texts partly.no_lines_methods ≡ texts.no_lines }
@@ -101,6 +113,7 @@ pub fn no_lines()
 /// A condition that logs is evaluated once in each turn and once behind the last: both are going within the bound 3, and end within 10. As
 /// before, the file has the methods of the forms that are built.
 pub fn four_turns()
+    ensures read { file_of files.four_turns ≡ Ok partly.four_turns_class }
     ensures by_the_class { class_shows partly.four_turns_class ≡ partly.four_turns_shown }
     ensures by_the_file { file_shows partly.four_turns_methods ≡ partly.four_turns_shown }
     ensures printed { function_texts partly.four_turns_methods ≡ texts.four_turns }
@@ -109,6 +122,7 @@ pub fn four_turns()
 
 /// One branch of a choice logs, and the other is taken. As before, the file has the methods of the forms that are built.
 pub fn choice_with_lines()
+    ensures read { file_of files.choice_with_lines ≡ Ok partly.choice_with_lines_class }
     ensures by_the_class { class_shows partly.choice_with_lines_class ≡ partly.choice_with_lines_shown }
     ensures by_the_file { file_shows partly.choice_with_lines_methods ≡ partly.choice_with_lines_shown }
     ensures printed { function_texts partly.choice_with_lines_methods ≡ texts.choice_with_lines }
