@@ -1,22 +1,28 @@
 -- What the theorem on classes asks of the methods of a program, by computation.
-use Rattle.std.proofs.Common.{◌≡◌, ◌≤◌, ◌<◌, ◌^◌, ℕ, suc, Bool, true, false, List, [], ◌∷◌, ◌&&◌, not, Option, Some, None, subst, ⊎_elim, Contains, arith, if◌then◌else◌}
+use Rattle.std.proofs.Common.{◌≡◌, ◌≤◌, ◌<◌, ◌^◌, ℕ, suc, Bool, true, false, List, [], ◌∷◌, codes, ◌&&◌, not, Option, Some, None, subst, ⊎_elim, Contains, arith, if◌then◌else◌}
 use Rattle.std.specs.Prelude.{pos, negsuc, nat_eq, ◌≢◌, FitsSigned}
 use Rattle.std.specs.Cmp.Lexicographic.{pointwise}
 use Rattle.std.specs.Int.{w32}
 use Rattle.std.specs.List.{list_all}
 use Rattle.std.proofs.lemmas.Bool.{and_parts}
-use Rattle.ir_mean.specs.Rows.{nowhere}
+use Rattle.outcomes.specs.Agreement.{Agree}
+use Rattle.ir_mean.specs.Rows.{nowhere, once}
 use Rattle.ir_mean.specs.Same.{is_same_text}
 use Rattle.sj_names.specs.declared.method_names.Member.{Member}
 use Rattle.sj_trees.specs.Term.{Term, skip}
+use Rattle.sj_trees.specs.declared.classes.ClassDef.{ClassDef}
 use Rattle.sj_trees.specs.declared.classes.MethodDef.{MethodDef}
 use Rattle.sj_trees.specs.declared.classes.ParamDef.{ParamDef}
 use Rattle.sj_bodies.proofs.Contexts.{equals}
 use Rattle.sj_calls.specs.Files.{EmittedMethod}
 use Rattle.sj_calls.proofs.Items.{nothing_in, in_front_or_behind}
 use Rattle.sj_plain.proofs.Operators.{impossible}
+use Rattle.sj_sound.specs.Linked.{have_functions}
 use Rattle.sj_sound.specs.Typing.{local_of, HasValue}
 use Rattle.sj_proper.specs.Program.{HaveOwnMembers}
+use Rattle.sj_kept.specs.Programs.{IsAccepted}
+use Rattle.sj_kept.proofs.Programs.{classes_agree}
+use Rattle.body_vectors.specs.Bounds.{all_emitted, class_within, file_within}
 use Rattle.body_vectors.proofs.Unbroken.{opposite}
 
 -- numbers of 32 bits
@@ -81,3 +87,7 @@ all_unlike (e ∷ es) = list_all (is_unlike e) es && all_unlike es
 pub own : (es : List EmittedMethod) → all_unlike es ≡ true → HaveOwnMembers es
 own [] h = tt
 own (e ∷ es) h = let p = and_parts (list_all (is_unlike e) es) (all_unlike es) h in ((λ o i same. opposite (is_same_text (simple_of e) (simple_of o)) (each_passes (is_unlike e) es p.0 o i) (subst (λ (m : Member). is_same_text (simple_of e) m.method.simple ≡ true) same (equals (simple_of e)))), own es p.1)
+
+-- methods of one class that are accepted
+pub all_agree : (c : ClassDef) (ds : List MethodDef) → AllOf (IsAccepted (c ∷ []) (all_emitted ds)) (all_emitted ds) → all_unlike (all_emitted ds) ≡ true → have_functions (all_emitted ds) once ≡ true → Agree (class_within c) (file_within ds)
+all_agree c ds all unlike called = classes_agree (c ∷ []) once (codes "main") (all_emitted ds) (each_of (IsAccepted (c ∷ []) (all_emitted ds)) (all_emitted ds) all) (own (all_emitted ds) unlike) called
