@@ -1,5 +1,5 @@
 -- The worked program has what the theorem on classes asks.
-use Rattle.std.proofs.Common.{[], ◌∷◌, codes, None, refl, inl, inr, arith}
+use Rattle.std.proofs.Common.{[], ◌∷◌, codes, None, refl, inl, inr, Contains, arith}
 use Rattle.std.proofs.lemmas.List.Elements.{All-cons, All-nil}
 use Rattle.outcomes.specs.Agreement.{Agree}
 use Rattle.ir_mean.specs.Rows.{object_name, object_with, once, triples}
@@ -9,11 +9,12 @@ use Rattle.sj_mangling.specs.Mangling.{AreBytes}
 use Rattle.sj_names.specs.MethodNames.{spelled_method, IsParameter}
 use Rattle.sj_names.specs.declared.references.TypeRef.TheVariants.{Int}
 use Rattle.sj_trees.specs.declared.classes.ClassDef.{ClassDef}
-use Rattle.sj_calls.specs.Files.{program_with}
+use Rattle.sj_calls.specs.Files.{EmittedMethod, program_with}
 use Rattle.sj_calls.proofs.Safe.{bytes-are}
 use Rattle.sj_local.specs.Broken.{FirstBroken}
 use Rattle.sj_sound.specs.Subtyping.{equal}
 use Rattle.sj_sound.specs.Worked.{tests_it, main_method, tripling_method, worked_world, emitted, worked_methods}
+use Rattle.sj_proper.specs.Program.{HaveOwnMembers}
 use Rattle.sj_kept.specs.Programs.{IsAccepted}
 use Rattle.sj_kept.proofs.Programs.{classes_agree}
 use Rattle.body_vectors.proofs.Premises.{fits, few, have_values, each_of, own}
@@ -70,5 +71,11 @@ tripling_accepted = record {
   method_bytes = bytes-are (spelled_method tripling_method.name) refl;
 }
 
+pub each_accepted : (e : EmittedMethod) → Contains worked_methods e → IsAccepted worked_world worked_methods e
+each_accepted = each_of (IsAccepted worked_world worked_methods) worked_methods (main_accepted, (tripling_accepted, tt))
+
+pub own_members : HaveOwnMembers worked_methods
+own_members = own worked_methods refl
+
 pub worked_agrees : Agree (ir_shows worked_world once (codes "main")) (js_shows (program_with (codes "main") worked_methods once) (codes "main"))
-worked_agrees = classes_agree worked_world once (codes "main") worked_methods (each_of (IsAccepted worked_world worked_methods) worked_methods (main_accepted, (tripling_accepted, tt))) (own worked_methods refl) refl
+worked_agrees = classes_agree worked_world once (codes "main") worked_methods each_accepted own_members refl

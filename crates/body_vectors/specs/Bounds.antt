@@ -1,4 +1,4 @@
--- What a class and the file of its functions show at the bounds of the vectors.
+-- What a class and the file of its functions show at the bounds that the reference recorded.
 use Rattle.std.specs.Prelude.{ℕ, zero, suc, Bool, List, [], ◌∷◌, map, codes, Option, Some, None}
 use Rattle.outcomes.specs.Outcome.{Line, Lines, Done, Going}
 use Rattle.outcomes.specs.Shown.{normal, Shown}

@@ -1,11 +1,11 @@
--- The class files of the vectors.
+-- The recorded files of these classes, two hexadecimal digits a byte.
 use Rattle.std.specs.Prelude.{ℕ, ◌+◌, ◌-◌, ◌*◌, List, [], ◌∷◌, nat_lt, codes, if◌then◌else◌}
 
 -- a digit from 0 to f
 abbrev pub digit : ℕ → ℕ
 digit c = if nat_lt c 97 then c - 48 else c - 87
 
--- two digits a byte
+-- the bytes
 abbrev pub bytes_of : List ℕ → List ℕ
 bytes_of (c ∷ d ∷ cs) = (16 * digit c + digit d) ∷ bytes_of cs
 bytes_of _ = []

@@ -1,5 +1,5 @@
--- Classes of the vectors with methods of other forms too, which `main` does not call; the methods of the forms that are built; and what
--- each class shows. Each position in them is the same.
+-- Classes that the reference recorded, with methods of other forms too, which `main` does not call; the methods of the forms that are built; and
+-- what each class shows. In their files too each position is zero.
 use Rattle.std.specs.Prelude.{◌∷◌, [], false, codes, true, pos, negsuc, List, Some}
 use Rattle.body_vectors.specs.Bounds.{Answers, parameter, method_of, all_from_one, goes_on_with, ends_with}
 use Rattle.ir_mean.specs.Rows.{object_with, nowhere, logs, static_method, object_name}

@@ -1,4 +1,4 @@
--- The functions that the vectors record for the methods of the classes.
+-- The recorded texts of the functions of these classes, in the order of the methods.
 use Rattle.std.specs.Prelude.{ℕ, List, [], ◌∷◌, codes}
 
 abbrev pub Texts : Type 0

@@ -1,4 +1,4 @@
--- Classes of the vectors, all of whose bodies are of the forms that are built, and what each shows. Each position in them is the same.
+-- Classes that the reference recorded, all of whose bodies are of the forms that are built, and what each shows. In their files too each position is zero.
 use Rattle.std.specs.Prelude.{codes, ◌∷◌, [], true, pos, false, negsuc}
 use Rattle.body_vectors.specs.Bounds.{Answers, all_from_one, times, goes_on_with, ends_with, parameter, method_of}
 use Rattle.ir_mean.specs.Rows.{object_with, static_method, nowhere, logs, object_name, method_name}

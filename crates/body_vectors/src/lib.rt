@@ -1,24 +1,30 @@
-//! What both meanings show of classes of the vectors, at the bounds 0, 1, 2, 3, 10 and 50 and computed from their definitions, is what an
-//! independent reference of the profile has recorded.
+//! Classes for which an independent reference of the profile has recorded what they show at the bounds 0, 1, 2, 3, 10 and 50, and how their
+//! methods are printed. What is recorded is what the definitions come to.
 //!
-//! `specs/` has the classes and the records. Each class is `java.lang.Object`, and the initializer of the module `main` calls its `main`. Its
-//! file has the functions that are emitted for its methods by definition, and the call of `main` behind them. The functions here are
-//! laws: they do nothing when they run, and their clauses are theorems.
+//! `specs/` has the classes and the records. For each class it is proved that its recorded file reads as the class; that the class shows what
+//! is recorded, and so does the file of its functions, within the same bounds; that these functions have the recorded texts; and that class
+//! and file agree at every bound, by the theorem on classes. Each class is `java.lang.Object`, and the initializer of the module `main` calls
+//! its `main`. The file of its functions has those that are emitted for its methods by definition, and behind them the call of `main`. The
+//! functions here are laws: they do nothing when they run, and their clauses are theorems.
 #![tactic(auto)]
 
-ghost use Rattle.std.specs.Prelude.{◌≡◌, codes, Ok};
+ghost use Rattle.std.specs.Prelude.{◌≡◌, true, codes, Ok};
+ghost use Rattle.std.specs.List.{Contains};
 ghost use Rattle.outcomes.specs.Agreement.{Agree};
 ghost use Rattle.ir_mean.specs.Rows.{once};
-ghost use Rattle.ir_mean.specs.Shows.{ir_shows};
+ghost use Rattle.ir_mean.specs.Shows.{initializers, ir_shows};
 ghost use Rattle.js_mean.specs.Shows.{js_shows};
-ghost use Rattle.sj_calls.specs.Files.{program_with};
-ghost use Rattle.sj_sound.specs.Worked.{worked_world, worked_methods};
-ghost use Rattle.body_vectors.specs.Bounds.{class_within, class_shows, file_within, file_shows, function_texts};
-ghost use Rattle.body_vectors.specs.Whole as whole;
 ghost use Rattle.sj_format.specs.Files.{file_of};
+ghost use Rattle.sj_calls.specs.Files.{EmittedMethod, program_with};
+ghost use Rattle.sj_sound.specs.Linked.{have_functions};
+ghost use Rattle.sj_sound.specs.Worked.{worked_world, worked_methods};
+ghost use Rattle.sj_proper.specs.Program.{HaveOwnMembers};
+ghost use Rattle.sj_kept.specs.Programs.{IsAccepted};
+ghost use Rattle.body_vectors.specs.Bounds.{class_within, class_shows, file_within, file_shows, function_texts};
 ghost use Rattle.body_vectors.specs.Files as files;
 ghost use Rattle.body_vectors.specs.Partly as partly;
 ghost use Rattle.body_vectors.specs.Texts as texts;
+ghost use Rattle.body_vectors.specs.Whole as whole;
 
 /// `main` logs `hi`: the class and its file have shown nothing within the bound 0, and the line within each further one.
 pub fn logs_hi()
@@ -29,7 +35,7 @@ pub fn logs_hi()
     ensures agree { Agree (class_within whole.logs_hi_class) (file_within whole.logs_hi_class.methods) }
 {}
 
-/// `again` logs `x` and calls itself: both have shown a line less than the bound, and are going at each.
+/// `again` logs `x` and calls itself: from the bound 1 on both have shown a line less than the bound, and they are going at each.
 pub fn calls_itself()
     ensures read { file_of files.calls_itself ≡ Ok whole.calls_itself_class }
     ensures by_the_class { class_shows whole.calls_itself_class ≡ whole.calls_itself_shown }
@@ -38,7 +44,7 @@ pub fn calls_itself()
     ensures agree { Agree (class_within whole.calls_itself_class) (file_within whole.calls_itself_class.methods) }
 {}
 
-/// A line of units that no text in UTF-8 has is shown as it is.
+/// A line with half of a pair, which no text in UTF-8 has, is shown unit for unit.
 pub fn odd_units()
     ensures read { file_of files.odd_units ≡ Ok whole.odd_units_class }
     ensures by_the_class { class_shows whole.odd_units_class ≡ whole.odd_units_shown }
@@ -65,7 +71,7 @@ pub fn three_loops()
     ensures agree { Agree (class_within whole.three_loops_class) (file_within whole.three_loops_class.methods) }
 {}
 
-/// A local is defined by the value of a block that logs.
+/// A local gets the value of a block that logs.
 pub fn block_value()
     ensures read { file_of files.block_value ≡ Ok whole.block_value_class }
     ensures by_the_class { class_shows whole.block_value_class ≡ whole.block_value_shown }
@@ -83,7 +89,7 @@ pub fn spilled_matches()
     ensures agree { Agree (class_within whole.spilled_matches_class) (file_within whole.spilled_matches_class.methods) }
 {}
 
-/// Choices inside an expression, and a label that nothing leaves to.
+/// A choice stands in a choice, inside an expression, and nothing leaves to the label around it.
 pub fn choices()
     ensures read { file_of files.choices ≡ Ok whole.choices_class }
     ensures by_the_class { class_shows whole.choices_class ≡ whole.choices_shown }
@@ -101,7 +107,7 @@ pub fn no_such_key()
     ensures agree { Agree (class_within partly.no_such_key_class) (file_within partly.no_such_key_methods) }
 {}
 
-/// Operators alone show nothing. As before, the file has the methods of the forms that are built.
+/// A local gets the value of operators, and nothing is shown. As before, the file has the methods of the forms that are built.
 pub fn no_lines()
     ensures read { file_of files.no_lines ≡ Ok partly.no_lines_class }
     ensures by_the_class { class_shows partly.no_lines_class ≡ partly.no_lines_shown }
@@ -129,8 +135,11 @@ pub fn choice_with_lines()
     ensures agree { Agree (class_within partly.choice_with_lines_class) (file_within partly.choice_with_lines_methods) }
 {}
 
-/// The premises of the theorem on classes can be met: by the class of the worked program, which breaks none of the local rules, and whose two
-/// methods have the rows of typing.
+/// The premises of the theorem on classes can be met: by the worked program, whose class breaks none of the local rules, and whose two methods
+/// have the rows of typing. So its class and its file agree.
 pub fn worked_classes_agree()
-    ensures { Agree (ir_shows worked_world once (codes "main")) (js_shows (program_with (codes "main") worked_methods once) (codes "main")) }
+    ensures accepted { (e : EmittedMethod) → Contains worked_methods e → IsAccepted worked_world worked_methods e }
+    ensures own_members { HaveOwnMembers worked_methods }
+    ensures called { have_functions worked_methods (initializers once (codes "main")) ≡ true }
+    ensures agree { Agree (ir_shows worked_world once (codes "main")) (js_shows (program_with (codes "main") worked_methods once) (codes "main")) }
 {}
