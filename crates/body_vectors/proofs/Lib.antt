@@ -1,0 +1,5 @@
+mod Accepted
+mod Classes
+mod Computing
+mod Premises
+mod Unbroken

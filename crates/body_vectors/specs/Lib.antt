@@ -1,0 +1,5 @@
+pub mod Bounds
+pub mod Files
+pub mod Partly
+pub mod Texts
+pub mod Whole
