@@ -3,6 +3,7 @@ pub mod Arguments
 pub mod Conditions
 pub mod Erased
 pub mod Judged
+pub mod Leaves
 pub mod Loops
 pub mod Numbers
 pub mod RowsMean

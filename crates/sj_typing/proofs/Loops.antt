@@ -7,7 +7,8 @@ use Rattle.sj_trees.specs.declared.trees.Tree.{Tree}
 use Rattle.sj_trees.specs.declared.trees.MatchCase.{MatchCase}
 use Rattle.sj_trees.specs.declared.types.IrType.{IrType}
 use Rattle.sj_trees.specs.Term.{Term, Terms, Cases, no_terms, more_terms, no_cases, more_cases}
-use Rattle.sj_trees.specs.View.{view, view_case, terms_view, cases_view}
+use Rattle.sj_trees.specs.View.{view, view_case, terms_view, cases_view, view_step, case_step, Case}
+use Rattle.sj_trees.specs.declared.trees.Tree.TheFolds.{fold_out-MatchCase}
 use Rattle.sj_ask.specs.declared.errors.TypeError.{TypeError}
 use Rattle.sj_ask.specs.declared.questions.Question.{Question}
 use Rattle.sj_ask.specs.declared.questions.Answer.{Answer}
@@ -28,7 +29,9 @@ pub terms-dropped : (ts : List Tree) (i : ℕ) (x : Tree) → i < length ts → 
 terms-dropped ts i x lt e = ap terms_view (dropped ts i x lt e)
 
 pub case-body : (x : MatchCase) → (view_case x).1 ≡ view x.body
-case-body x = refl
+case-body x =
+    let seen : view_case x ≡ (x.keys, view x.body) = fold_out-MatchCase Term Case view_step case_step x in
+    ap (λ (c : Case). c.1) seen
 
 pub cases-dropped : (cs : List MatchCase) (i : ℕ) (x : MatchCase) → i < length cs → x ≡ get_or cs i x → cases_view (drop i cs) ≡ more_cases (view_case x).0 (view x.body) (cases_view (drop (i + 1) cs))
 cases-dropped cs i x lt e = ap cases_view (dropped cs i x lt e) ∙ ap (λ t. more_cases (view_case x).0 t (cases_view (drop (i + 1) cs))) (case-body x)

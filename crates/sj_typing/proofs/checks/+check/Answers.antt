@@ -2,13 +2,14 @@ use Rattle.std.proofs.Common.{◌≡◌, ◌∙◌, ◌+◌, ap, sym, arith, ref
 use Rattle.std.proofs.lemmas.Result.{err_from_is_err_and}
 use Rattle.sj_trees.proofs.trees.Tree.TheLaws.{the_size}
 use Rattle.sj_trees.specs.declared.trees.Tree.TheViews.{sized-Match, sized-Apply, sized-ApplyStatically}
-use Rattle.sj_trees.specs.Term.{Term, more_terms, more_cases, skip, load_module, select_static, undefined_literal, null_literal, boolean_literal, char_literal, byte_literal, short_literal, int_literal, long_literal, string_literal, var_ref, this_ref, var_def, block_of, labeled, assign, return_to, if_then, while_loop, do_while, try_catch, try_finally, throw, match_on, new_object, store_module, select, apply, apply_statically, apply_static, unary_op, binary_op, new_array, array_value, array_length, array_select, is_instance_of, as_instance_of, log_line}
+use Rattle.sj_trees.specs.Term.{Term, more_terms, more_cases, var_def, block_of, labeled, assign, return_to, if_then, while_loop, do_while, try_catch, try_finally, throw, match_on, new_object, store_module, select, apply, apply_statically, apply_static, unary_op, binary_op, new_array, array_value, array_length, array_select, is_instance_of, as_instance_of, log_line}
 use Rattle.sj_trees.specs.View.{view, view_case, terms_view, cases_view, view_step, case_step, Case}
 use Rattle.sj_trees.specs.declared.trees.Tree.TheOpen.{Tree-F}
 use Rattle.sj_trees.specs.declared.trees.Tree.TheFolds.{fold-roll-Tree}
 use Rattle.sj_trees.specs.declared.trees.Tree.TheVariants as tree
 use Rattle.sj_ask.specs.Answers.{IsAnswer}
 use Rattle.sj_typing.proofs.Steps.{as_done, as_both, as_both_stop, as_then, as_then_stop, as_met, as_met_stop, seen-behind, seen-numbered, at_check}
+use Rattle.sj_typing.proofs.Leaves.{at_leaf}
 use Rattle.sj_typing.proofs.Loops.{terms-dropped, cases-dropped, terms-ended, cases-ended, all_next, cases_next, all_on, all_no, all_end, cases_on, cases_no, cases_end}
 use Rattle.sj_typing.proofs.checks.+check.Goals as goal
 
@@ -43,7 +44,7 @@ check_parts-returns-in_ok-first-in-Assign-clause-ran g t c =
     let v : view c.args.tree.now ≡ assign n.field-0 (view n.one.value) (view n.two.value) = ap view (n.is ∙ sym (tree.rolls-Assign n.field-0 n.one n.two)) ∙ fold-roll-Tree Term Case view_step case_step (Tree-F.Assign n.field-0 n.one n.two) in
     let f = c.in_ok-first-in-Assign in
     let h = rw (f.ensures.stand, f.ensures.labels, f.ensures.next) at c.check-second.ensures.ran in
-    rw (c.behind-in-Assign.ensures, seen-behind f.first c.check-second.result, v, ← c.deref-in-Assign.ensures, ← c.deref-in-Assign-2.ensures) (as_both _ _ _ _ _ _ _ _ f.ensures.ran h)
+    rw (c.behind.ensures, seen-behind f.first c.check-second.result, v, ← c.deref-in-Assign.ensures, ← c.deref-in-Assign-2.ensures) (as_both _ _ _ _ _ _ _ _ f.ensures.ran h)
 
 pub check_parts-returns-in-Return-clause-ran : goal.check_parts-returns-in-Return-clause-ran
 check_parts-returns-in-Return-clause-ran g t c =
@@ -370,85 +371,43 @@ check_cases-returns-clause-ran g t c =
     l.invariant.ran _ _ (cases_end (IsAnswer (g.O.Oracle.stand c.args.oracle.now)) c.args.namespace c.args.labels.now.items l.next (cases_view (drop l.each-index c.args.cases.now)) _ (cases-ended c.args.cases.now l.each-index (omega arith)))
 
 pub check_parts-returns-in-Skip-clause-ran : goal.check_parts-returns-in-Skip-clause-ran
-check_parts-returns-in-Skip-clause-ran g t c =
-    let n = c.in-Skip in
-    let v : view c.args.tree.now ≡ skip n.field-0 = ap view (n.is ∙ sym (tree.rolls-Skip n.field-0)) ∙ fold-roll-Tree Term Case view_step case_step (Tree-F.Skip n.field-0) in
-    rw v (as_done (IsAnswer (g.O.Oracle.stand c.args.oracle.now)) true _)
+check_parts-returns-in-Skip-clause-ran g t c = at_leaf (IsAnswer (g.O.Oracle.stand c.args.oracle.now)) c.args.namespace c.args.labels.now.items c.args.place c.args.tree.now _ c.in-Skip.is
 
 pub check_parts-returns-in-Skip-2-clause-ran : goal.check_parts-returns-in-Skip-2-clause-ran
-check_parts-returns-in-Skip-2-clause-ran g t c =
-    let n = c.in-Skip-2 in
-    let v : view c.args.tree.now ≡ load_module n.field-0 n.field-1 = ap view (n.is ∙ sym (tree.rolls-LoadModule n.field-0 n.field-1)) ∙ fold-roll-Tree Term Case view_step case_step (Tree-F.LoadModule n.field-0 n.field-1) in
-    rw v (as_done (IsAnswer (g.O.Oracle.stand c.args.oracle.now)) true _)
+check_parts-returns-in-Skip-2-clause-ran g t c = at_leaf (IsAnswer (g.O.Oracle.stand c.args.oracle.now)) c.args.namespace c.args.labels.now.items c.args.place c.args.tree.now _ c.in-Skip.is
 
 pub check_parts-returns-in-Skip-3-clause-ran : goal.check_parts-returns-in-Skip-3-clause-ran
-check_parts-returns-in-Skip-3-clause-ran g t c =
-    let n = c.in-Skip-3 in
-    let v : view c.args.tree.now ≡ select_static n.field-0 n.field-1 n.field-2 n.field-3 = ap view (n.is ∙ sym (tree.rolls-SelectStatic n.field-0 n.field-1 n.field-2 n.field-3)) ∙ fold-roll-Tree Term Case view_step case_step (Tree-F.SelectStatic n.field-0 n.field-1 n.field-2 n.field-3) in
-    rw v (as_done (IsAnswer (g.O.Oracle.stand c.args.oracle.now)) true _)
+check_parts-returns-in-Skip-3-clause-ran g t c = at_leaf (IsAnswer (g.O.Oracle.stand c.args.oracle.now)) c.args.namespace c.args.labels.now.items c.args.place c.args.tree.now _ c.in-Skip.is
 
 pub check_parts-returns-in-Skip-4-clause-ran : goal.check_parts-returns-in-Skip-4-clause-ran
-check_parts-returns-in-Skip-4-clause-ran g t c =
-    let n = c.in-Skip-4 in
-    let v : view c.args.tree.now ≡ undefined_literal n.field-0 = ap view (n.is ∙ sym (tree.rolls-Undefined n.field-0)) ∙ fold-roll-Tree Term Case view_step case_step (Tree-F.Undefined n.field-0) in
-    rw v (as_done (IsAnswer (g.O.Oracle.stand c.args.oracle.now)) true _)
+check_parts-returns-in-Skip-4-clause-ran g t c = at_leaf (IsAnswer (g.O.Oracle.stand c.args.oracle.now)) c.args.namespace c.args.labels.now.items c.args.place c.args.tree.now _ c.in-Skip.is
 
 pub check_parts-returns-in-Skip-5-clause-ran : goal.check_parts-returns-in-Skip-5-clause-ran
-check_parts-returns-in-Skip-5-clause-ran g t c =
-    let n = c.in-Skip-5 in
-    let v : view c.args.tree.now ≡ null_literal n.field-0 = ap view (n.is ∙ sym (tree.rolls-Null n.field-0)) ∙ fold-roll-Tree Term Case view_step case_step (Tree-F.Null n.field-0) in
-    rw v (as_done (IsAnswer (g.O.Oracle.stand c.args.oracle.now)) true _)
+check_parts-returns-in-Skip-5-clause-ran g t c = at_leaf (IsAnswer (g.O.Oracle.stand c.args.oracle.now)) c.args.namespace c.args.labels.now.items c.args.place c.args.tree.now _ c.in-Skip.is
 
 pub check_parts-returns-in-Skip-6-clause-ran : goal.check_parts-returns-in-Skip-6-clause-ran
-check_parts-returns-in-Skip-6-clause-ran g t c =
-    let n = c.in-Skip-6 in
-    let v : view c.args.tree.now ≡ boolean_literal n.field-0 n.field-1 = ap view (n.is ∙ sym (tree.rolls-BooleanLiteral n.field-0 n.field-1)) ∙ fold-roll-Tree Term Case view_step case_step (Tree-F.BooleanLiteral n.field-0 n.field-1) in
-    rw v (as_done (IsAnswer (g.O.Oracle.stand c.args.oracle.now)) true _)
+check_parts-returns-in-Skip-6-clause-ran g t c = at_leaf (IsAnswer (g.O.Oracle.stand c.args.oracle.now)) c.args.namespace c.args.labels.now.items c.args.place c.args.tree.now _ c.in-Skip.is
 
 pub check_parts-returns-in-Skip-7-clause-ran : goal.check_parts-returns-in-Skip-7-clause-ran
-check_parts-returns-in-Skip-7-clause-ran g t c =
-    let n = c.in-Skip-7 in
-    let v : view c.args.tree.now ≡ char_literal n.field-0 n.field-1 = ap view (n.is ∙ sym (tree.rolls-CharLiteral n.field-0 n.field-1)) ∙ fold-roll-Tree Term Case view_step case_step (Tree-F.CharLiteral n.field-0 n.field-1) in
-    rw v (as_done (IsAnswer (g.O.Oracle.stand c.args.oracle.now)) true _)
+check_parts-returns-in-Skip-7-clause-ran g t c = at_leaf (IsAnswer (g.O.Oracle.stand c.args.oracle.now)) c.args.namespace c.args.labels.now.items c.args.place c.args.tree.now _ c.in-Skip.is
 
 pub check_parts-returns-in-Skip-8-clause-ran : goal.check_parts-returns-in-Skip-8-clause-ran
-check_parts-returns-in-Skip-8-clause-ran g t c =
-    let n = c.in-Skip-8 in
-    let v : view c.args.tree.now ≡ byte_literal n.field-0 n.field-1 = ap view (n.is ∙ sym (tree.rolls-ByteLiteral n.field-0 n.field-1)) ∙ fold-roll-Tree Term Case view_step case_step (Tree-F.ByteLiteral n.field-0 n.field-1) in
-    rw v (as_done (IsAnswer (g.O.Oracle.stand c.args.oracle.now)) true _)
+check_parts-returns-in-Skip-8-clause-ran g t c = at_leaf (IsAnswer (g.O.Oracle.stand c.args.oracle.now)) c.args.namespace c.args.labels.now.items c.args.place c.args.tree.now _ c.in-Skip.is
 
 pub check_parts-returns-in-Skip-9-clause-ran : goal.check_parts-returns-in-Skip-9-clause-ran
-check_parts-returns-in-Skip-9-clause-ran g t c =
-    let n = c.in-Skip-9 in
-    let v : view c.args.tree.now ≡ short_literal n.field-0 n.field-1 = ap view (n.is ∙ sym (tree.rolls-ShortLiteral n.field-0 n.field-1)) ∙ fold-roll-Tree Term Case view_step case_step (Tree-F.ShortLiteral n.field-0 n.field-1) in
-    rw v (as_done (IsAnswer (g.O.Oracle.stand c.args.oracle.now)) true _)
+check_parts-returns-in-Skip-9-clause-ran g t c = at_leaf (IsAnswer (g.O.Oracle.stand c.args.oracle.now)) c.args.namespace c.args.labels.now.items c.args.place c.args.tree.now _ c.in-Skip.is
 
 pub check_parts-returns-in-Skip-10-clause-ran : goal.check_parts-returns-in-Skip-10-clause-ran
-check_parts-returns-in-Skip-10-clause-ran g t c =
-    let n = c.in-Skip-10 in
-    let v : view c.args.tree.now ≡ int_literal n.field-0 n.field-1 = ap view (n.is ∙ sym (tree.rolls-IntLiteral n.field-0 n.field-1)) ∙ fold-roll-Tree Term Case view_step case_step (Tree-F.IntLiteral n.field-0 n.field-1) in
-    rw v (as_done (IsAnswer (g.O.Oracle.stand c.args.oracle.now)) true _)
+check_parts-returns-in-Skip-10-clause-ran g t c = at_leaf (IsAnswer (g.O.Oracle.stand c.args.oracle.now)) c.args.namespace c.args.labels.now.items c.args.place c.args.tree.now _ c.in-Skip.is
 
 pub check_parts-returns-in-Skip-11-clause-ran : goal.check_parts-returns-in-Skip-11-clause-ran
-check_parts-returns-in-Skip-11-clause-ran g t c =
-    let n = c.in-Skip-11 in
-    let v : view c.args.tree.now ≡ long_literal n.field-0 n.field-1 = ap view (n.is ∙ sym (tree.rolls-LongLiteral n.field-0 n.field-1)) ∙ fold-roll-Tree Term Case view_step case_step (Tree-F.LongLiteral n.field-0 n.field-1) in
-    rw v (as_done (IsAnswer (g.O.Oracle.stand c.args.oracle.now)) true _)
+check_parts-returns-in-Skip-11-clause-ran g t c = at_leaf (IsAnswer (g.O.Oracle.stand c.args.oracle.now)) c.args.namespace c.args.labels.now.items c.args.place c.args.tree.now _ c.in-Skip.is
 
 pub check_parts-returns-in-Skip-12-clause-ran : goal.check_parts-returns-in-Skip-12-clause-ran
-check_parts-returns-in-Skip-12-clause-ran g t c =
-    let n = c.in-Skip-12 in
-    let v : view c.args.tree.now ≡ string_literal n.field-0 n.field-1 = ap view (n.is ∙ sym (tree.rolls-StringLiteral n.field-0 n.field-1)) ∙ fold-roll-Tree Term Case view_step case_step (Tree-F.StringLiteral n.field-0 n.field-1) in
-    rw v (as_done (IsAnswer (g.O.Oracle.stand c.args.oracle.now)) true _)
+check_parts-returns-in-Skip-12-clause-ran g t c = at_leaf (IsAnswer (g.O.Oracle.stand c.args.oracle.now)) c.args.namespace c.args.labels.now.items c.args.place c.args.tree.now _ c.in-Skip.is
 
 pub check_parts-returns-in-Skip-13-clause-ran : goal.check_parts-returns-in-Skip-13-clause-ran
-check_parts-returns-in-Skip-13-clause-ran g t c =
-    let n = c.in-Skip-13 in
-    let v : view c.args.tree.now ≡ var_ref n.field-0 n.field-1 n.field-2 = ap view (n.is ∙ sym (tree.rolls-VarRef n.field-0 n.field-1 n.field-2)) ∙ fold-roll-Tree Term Case view_step case_step (Tree-F.VarRef n.field-0 n.field-1 n.field-2) in
-    rw v (as_done (IsAnswer (g.O.Oracle.stand c.args.oracle.now)) true _)
+check_parts-returns-in-Skip-13-clause-ran g t c = at_leaf (IsAnswer (g.O.Oracle.stand c.args.oracle.now)) c.args.namespace c.args.labels.now.items c.args.place c.args.tree.now _ c.in-Skip.is
 
 pub check_parts-returns-in-Skip-14-clause-ran : goal.check_parts-returns-in-Skip-14-clause-ran
-check_parts-returns-in-Skip-14-clause-ran g t c =
-    let n = c.in-Skip-14 in
-    let v : view c.args.tree.now ≡ this_ref n.field-0 n.field-1 = ap view (n.is ∙ sym (tree.rolls-This n.field-0 n.field-1)) ∙ fold-roll-Tree Term Case view_step case_step (Tree-F.This n.field-0 n.field-1) in
-    rw v (as_done (IsAnswer (g.O.Oracle.stand c.args.oracle.now)) true _)
+check_parts-returns-in-Skip-14-clause-ran g t c = at_leaf (IsAnswer (g.O.Oracle.stand c.args.oracle.now)) c.args.namespace c.args.labels.now.items c.args.place c.args.tree.now _ c.in-Skip.is
