@@ -1,0 +1,12 @@
+pub mod AlikeChecks
+pub mod Arguments
+pub mod Conditions
+pub mod Erased
+pub mod Judged
+pub mod Leaves
+pub mod Loops
+pub mod Numbers
+pub mod RowsMean
+pub mod SameTypeTests
+pub mod Steps
+pub mod Verdicts

@@ -1,0 +1,10 @@
+pub mod SameTypes
+pub mod Labels
+pub mod Nodes
+pub mod Numbers
+pub mod Rules
+pub mod Typed
+pub mod Rows
+pub mod Checks
+pub mod Answered
+pub mod Laws

@@ -1,0 +1,495 @@
+// The check of trees.
+ghost use Rattle.std.specs.Prelude.{◌≡◌, Some, Ok, IfOk, OnOk};
+ghost use Rattle.sj_trees.specs.View.{view, terms_view, cases_view};
+ghost use Rattle.sj_ask.specs.Answers.{IsAnswer};
+ghost use Rattle.sj_ask.specs.Sizes.{next, counted, counted_all, counted_cases};
+ghost use Rattle.sj_typing.specs.Numbers.{counted_parts};
+ghost use Rattle.sj_ask.specs.Tasks as tasks;
+ghost use Rattle.sj_ask.specs.Tasks.{asks_sub, asks_field};
+ghost use Rattle.sj_ask.specs.Runs.{Ran};
+ghost use Rattle.sj_typing.specs.Nodes.{inside};
+ghost use Rattle.sj_typing.specs.Checks as checks;
+ghost use Rattle.sj_typing.specs.Answered as answered;
+ghost use Rattle.sj_typing.specs.Answered.{AsRun, seen, agreed, ended};
+ghost use Rattle.sj_typing.specs.Rows as rows;
+ghost use Rattle.sj_typing.specs.Typed as typed;
+ghost use Rattle.sj_ask.specs.declared.errors.TypeError.{TypeError};
+
+use crate::fits::Fit;
+use crate::labels::Label;
+use crate::rows::{FieldUse, Row, row_of};
+use crate::types::is_type;
+use sj_ask::{Answer, Oracle, Question, TypeError};
+use sj_names::{LabelName, Namespace, NoMemory};
+use sj_trees::{FieldDef, IrType, MatchCase, Tree};
+use std::alloc::Global;
+
+/// What the check of a tree gives: the number of the tree behind it, and whether what it names may be assigned to.
+#[derive(Clone, Copy)]
+pub struct Checked {
+    pub next: u32,
+    pub settable: bool,
+}
+
+#[tactic(auto, unfolding(sj_ask::specs::Sizes::next))]
+fn next(place: u32) -> u32
+    ensures { result ≡ next place }
+{
+    place.saturating_add(1)
+}
+
+fn says_yes(answer: Answer) -> bool
+    ensures { result ≡ tasks.says_yes answer }
+{
+    is_yes(&answer)
+}
+
+fn is_yes(answer: &Answer) -> bool
+    ensures { result ≡ tasks.says_yes answer.now }
+{
+    match answer {
+        Answer::Yes(yes) => *yes,
+        Answer::Field(_) | Answer::Member(_) | Answer::Body(_) => false,
+    }
+}
+
+fn sub_question(sub: &IrType, above: &IrType) -> Result<Question, NoMemory>
+    ensures { IfOk result (λ q. q ≡ Question.IsSub sub.now above.now) }
+{
+    Ok(Question::IsSub(sub.copied()?, above.copied()?))
+}
+
+fn field_question(used: &FieldUse) -> Result<Question, NoMemory>
+    ensures { IfOk result (λ q. q ≡ Question.Field used.now.class used.now.name used.now.is_static) }
+{
+    let class = used.class.copied()?;
+    let name = used.name.copied()?;
+    Ok(Question::Field(class, name, used.is_static))
+}
+
+/// Whether the first type is a subtype of the second.
+pub fn ask_sub<O: Oracle>(
+    alloc: Global,
+    sub: &IrType,
+    above: &IrType,
+    oracle: &mut O,
+) -> Result<bool, NoMemory>
+    ensures stand { O.stand oracle.new ≡ O.stand oracle.old }
+    ensures ran { IfOk result (λ yes. Ran (IsAnswer (O.stand oracle.old)) (asks_sub {E = TypeError} sub.now above.now) (Ok yes) (O.told oracle.old) (O.told oracle.new)) }
+{
+    let question = sub_question(sub, above)?;
+    let answer = oracle.answer(alloc, &question)?;
+    Ok(says_yes(answer))
+}
+
+// The answer with the field of the class with this name and static mark.
+fn ask_for_field<O: Oracle>(
+    alloc: Global,
+    used: &FieldUse,
+    oracle: &mut O,
+) -> Result<Answer, NoMemory>
+    ensures stand { O.stand oracle.new ≡ O.stand oracle.old }
+    ensures ran { IfOk result (λ found. Ran (IsAnswer (O.stand oracle.old)) (asks_field {E = TypeError} used.now.class used.now.name used.now.is_static) (Ok (tasks.found_field found)) (O.told oracle.old) (O.told oracle.new)) }
+{
+    let question = field_question(used)?;
+    let answer = oracle.answer(alloc, &question)?;
+    Ok(answer)
+}
+
+// Asks for a field, if there is one to ask for, and gives whether it may be assigned to.
+fn ask_field<O: Oracle>(
+    alloc: Global,
+    fault: TypeError,
+    used: &Option<FieldUse>,
+    oracle: &mut O,
+) -> Result<bool, TypeError>
+    ensures stand { O.stand oracle.new ≡ O.stand oracle.old }
+    ensures ran { AsRun (IsAnswer (O.stand oracle.old)) (checks.ask_field fault used.now) result (O.told oracle.old) (O.told oracle.new) }
+{
+    match used {
+        Some(used) => {
+            let found = ask_for_field(alloc, used, oracle)?;
+            judge_field(fault, used, found)
+        }
+        None => Ok(true),
+    }
+}
+
+fn judge_field(fault: TypeError, used: &FieldUse, found: Answer) -> Result<bool, TypeError>
+    ensures { checks.judge_field fault used.now (tasks.found_field found) ≡ ended result }
+{
+    judge_answer(fault, used, &found)
+}
+
+fn judge_answer(fault: TypeError, used: &FieldUse, found: &Answer) -> Result<bool, TypeError>
+    ensures { checks.judge_field fault used.now (tasks.found_field found.now) ≡ ended result }
+{
+    match found {
+        Answer::Field(found) => judge_named(fault, used, found),
+        Answer::Yes(_) | Answer::Member(_) | Answer::Body(_) => Err(fault),
+    }
+}
+
+fn judge_named(
+    fault: TypeError,
+    used: &FieldUse,
+    found: &Option<FieldDef>,
+) -> Result<bool, TypeError>
+    ensures { checks.judge_field fault used.now found.now ≡ ended result }
+{
+    match found {
+        Some(field) => judge_found(fault, used, field),
+        None => Err(fault),
+    }
+}
+
+fn judge_found(fault: TypeError, used: &FieldUse, field: &FieldDef) -> Result<bool, TypeError>
+    ensures { checks.judge_field fault used.now (Some field.now) ≡ ended result }
+{
+    if is_type(&field.tpe, &used.tpe) {
+        Ok(field.mutable || used.is_own)
+    } else {
+        Err(fault)
+    }
+}
+
+// Asks for subtypes, up to the first no.
+fn ask_fits<O: Oracle>(
+    alloc: Global,
+    fault: TypeError,
+    fits: &[Fit],
+    oracle: &mut O,
+) -> Result<(), TypeError>
+    ensures stand { O.stand oracle.new ≡ O.stand oracle.old }
+    ensures ran { AsRun (IsAnswer (O.stand oracle.old)) (checks.ask_fits fault fits.now) (agreed result) (O.told oracle.old) (O.told oracle.new) }
+{
+    for fit in fits {
+        if !ask_sub(alloc, &fit.sub, &fit.above, oracle)? {
+            return Err(fault);
+        }
+    }
+    Ok(())
+}
+
+// Judges the conditions of one tree, and gives whether what it names may be assigned to.
+fn ask_row<O: Oracle>(
+    alloc: Global,
+    fault: TypeError,
+    row: &Row,
+    oracle: &mut O,
+) -> Result<bool, TypeError>
+    ensures stand { O.stand oracle.new ≡ O.stand oracle.old }
+    ensures ran { AsRun (IsAnswer (O.stand oracle.old)) (checks.ask_row fault row.now) result (O.told oracle.old) (O.told oracle.new) }
+{
+    if !row.holds {
+        return Err(fault);
+    }
+    ask_fits(alloc, fault, row.fits.as_slice(), oracle)?;
+    ask_field(alloc, fault, &row.field, oracle)
+}
+
+// The tag of a tree's form.
+fn tag(tree: &Tree) -> u8
+    ensures { result ≡ typed.tag (view tree.now) }
+{
+    match tree {
+        Tree::VarDef(_, _, _, _, _) => 1,
+        Tree::Skip(_) => 2,
+        Tree::Block(_, _) => 3,
+        Tree::Labeled(_, _, _, _) => 4,
+        Tree::Assign(_, _, _) => 5,
+        Tree::Return(_, _, _) => 6,
+        Tree::If(_, _, _, _, _) => 7,
+        Tree::While(_, _, _) => 8,
+        Tree::DoWhile(_, _, _) => 9,
+        Tree::TryCatch(_, _, _, _, _) => 10,
+        Tree::TryFinally(_, _, _) => 11,
+        Tree::Throw(_, _) => 12,
+        Tree::Match(_, _, _, _, _) => 13,
+        Tree::New(_, _, _, _) => 14,
+        Tree::LoadModule(_, _) => 15,
+        Tree::StoreModule(_, _, _) => 16,
+        Tree::Select(_, _, _, _, _) => 17,
+        Tree::SelectStatic(_, _, _, _) => 18,
+        Tree::Apply(_, _, _, _, _) => 19,
+        Tree::ApplyStatically(_, _, _, _, _, _, _) => 20,
+        Tree::ApplyStatic(_, _, _, _, _, _) => 21,
+        Tree::UnaryOp(_, _, _) => 22,
+        Tree::BinaryOp(_, _, _, _) => 23,
+        Tree::NewArray(_, _, _) => 24,
+        Tree::ArrayValue(_, _, _) => 25,
+        Tree::ArrayLength(_, _) => 26,
+        Tree::ArraySelect(_, _, _, _) => 27,
+        Tree::IsInstanceOf(_, _, _) => 28,
+        Tree::AsInstanceOf(_, _, _) => 29,
+        Tree::Undefined(_) => 30,
+        Tree::Null(_) => 31,
+        Tree::BooleanLiteral(_, _) => 32,
+        Tree::CharLiteral(_, _) => 33,
+        Tree::ByteLiteral(_, _) => 34,
+        Tree::ShortLiteral(_, _) => 35,
+        Tree::IntLiteral(_, _) => 36,
+        Tree::LongLiteral(_, _) => 37,
+        Tree::StringLiteral(_, _) => 38,
+        Tree::VarRef(_, _, _) => 39,
+        Tree::This(_, _) => 40,
+        Tree::Log(_, _) => 41,
+    }
+}
+
+// Judges one tree, the trees in which were checked.
+fn check_row<O: Oracle>(
+    alloc: Global,
+    namespace: Namespace,
+    labels: &[Label],
+    tree: &Tree,
+    place: u32,
+    settable: bool,
+    oracle: &mut O,
+) -> Result<bool, TypeError>
+    ensures stand { O.stand oracle.new ≡ O.stand oracle.old }
+    ensures ran { AsRun (IsAnswer (O.stand oracle.old)) (checks.ask_row (checks.fault_at (view tree.now) place) (rows.row_of namespace labels.now settable (view tree.now))) result (O.told oracle.old) (O.told oracle.new) }
+{
+    let row = row_of(alloc, namespace, labels, settable, tree)?;
+    let fault = TypeError::Refused {
+        rule: tag(tree),
+        place,
+    };
+    ask_row(alloc, fault, &row, oracle)
+}
+
+/// Checks a tree and those in it, children before parents and left to right. Trees are numbered from `place`, parents first.
+#[cycle(check)]
+pub fn check<O: Oracle>(
+    alloc: Global,
+    namespace: Namespace,
+    labels: &mut Vec<Label>,
+    tree: &Tree,
+    place: u32,
+    oracle: &mut O,
+) -> Result<Checked, TypeError>
+    ensures stand { O.stand oracle.new ≡ O.stand oracle.old }
+    ensures labels { OnOk result (labels.new.items ≡ labels.old.items) }
+    ensures next { IfOk result (λ x. x.next ≡ counted (view tree.now) place) }
+    ensures ran { AsRun (IsAnswer (O.stand oracle.old)) (checks.check_of namespace labels.old.items place (view tree.now)) (seen result) (O.told oracle.old) (O.told oracle.new) }
+{
+    let parts = check_parts(alloc, namespace, labels, tree, next(place), oracle)?;
+    let settable = check_row(
+        alloc,
+        namespace,
+        labels.as_slice(),
+        tree,
+        place,
+        parts.settable,
+        oracle,
+    );
+    numbered(settable, parts.next)
+}
+
+fn numbered(settable: Result<bool, TypeError>, next: u32) -> Result<Checked, TypeError>
+    ensures { result ≡ answered.numbered settable next }
+{
+    match settable {
+        Ok(settable) => Ok(Checked { next, settable }),
+        Err(error) => Err(error),
+    }
+}
+
+// Checks the trees in a tree, which are numbered from `place`.
+#[cycle(check)]
+fn check_parts<O: Oracle>(
+    alloc: Global,
+    namespace: Namespace,
+    labels: &mut Vec<Label>,
+    tree: &Tree,
+    place: u32,
+    oracle: &mut O,
+) -> Result<Checked, TypeError>
+    ensures stand { O.stand oracle.new ≡ O.stand oracle.old }
+    ensures labels { OnOk result (labels.new.items ≡ labels.old.items) }
+    ensures next { IfOk result (λ x. x.next ≡ counted_parts (view tree.now) place) }
+    ensures ran { AsRun (IsAnswer (O.stand oracle.old)) (checks.parts_of namespace labels.old.items place (view tree.now)) (seen result) (O.told oracle.old) (O.told oracle.new) }
+{
+    match tree {
+        Tree::VarDef(_, _, _, _, one) => check(alloc, namespace, labels, one, place, oracle),
+        Tree::Block(_, trees) => check_all(alloc, namespace, labels, trees, place, oracle),
+        Tree::Labeled(_, label, tpe, body) => {
+            check_labeled(alloc, namespace, labels, label, tpe, body, place, oracle)
+        }
+        Tree::Assign(_, one, two) => {
+            let first = check(alloc, namespace, labels, one, place, oracle)?;
+            let second = check(alloc, namespace, labels, two, first.next, oracle);
+            behind(first, second)
+        }
+        Tree::Return(_, one, _) => check(alloc, namespace, labels, one, place, oracle),
+        Tree::If(_, condition, yes, no, _) => {
+            let first = check(alloc, namespace, labels, condition, place, oracle)?;
+            let second = check(alloc, namespace, labels, yes, first.next, oracle)?;
+            let third = check(alloc, namespace, labels, no, second.next, oracle);
+            behind(first, behind(second, third))
+        }
+        Tree::While(_, one, two) => {
+            let first = check(alloc, namespace, labels, one, place, oracle)?;
+            let second = check(alloc, namespace, labels, two, first.next, oracle);
+            behind(first, second)
+        }
+        Tree::DoWhile(_, one, two) => {
+            let first = check(alloc, namespace, labels, one, place, oracle)?;
+            let second = check(alloc, namespace, labels, two, first.next, oracle);
+            behind(first, second)
+        }
+        Tree::TryCatch(_, one, _, two, _) => {
+            let first = check(alloc, namespace, labels, one, place, oracle)?;
+            let second = check(alloc, namespace, labels, two, first.next, oracle);
+            behind(first, second)
+        }
+        Tree::TryFinally(_, one, two) => {
+            let first = check(alloc, namespace, labels, one, place, oracle)?;
+            let second = check(alloc, namespace, labels, two, first.next, oracle);
+            behind(first, second)
+        }
+        Tree::Throw(_, one) => check(alloc, namespace, labels, one, place, oracle),
+        Tree::Match(_, selector, cases, default, _) => {
+            let first = check(alloc, namespace, labels, selector, place, oracle)?;
+            let second = check_cases(alloc, namespace, labels, cases, first.next, oracle)?;
+            let third = check(alloc, namespace, labels, default, second.next, oracle);
+            behind(first, behind(second, third))
+        }
+        Tree::New(_, _, _, trees) => check_all(alloc, namespace, labels, trees, place, oracle),
+        Tree::StoreModule(_, _, one) => check(alloc, namespace, labels, one, place, oracle),
+        Tree::Select(_, one, _, _, _) => check(alloc, namespace, labels, one, place, oracle),
+        Tree::Apply(_, receiver, _, trees, _) => {
+            let first = check(alloc, namespace, labels, receiver, place, oracle)?;
+            let second = check_all(alloc, namespace, labels, trees, first.next, oracle);
+            behind(first, second)
+        }
+        Tree::ApplyStatically(_, receiver, _, _, _, trees, _) => {
+            let first = check(alloc, namespace, labels, receiver, place, oracle)?;
+            let second = check_all(alloc, namespace, labels, trees, first.next, oracle);
+            behind(first, second)
+        }
+        Tree::ApplyStatic(_, _, _, _, trees, _) => {
+            check_all(alloc, namespace, labels, trees, place, oracle)
+        }
+        Tree::UnaryOp(_, _, one) => check(alloc, namespace, labels, one, place, oracle),
+        Tree::BinaryOp(_, _, one, two) => {
+            let first = check(alloc, namespace, labels, one, place, oracle)?;
+            let second = check(alloc, namespace, labels, two, first.next, oracle);
+            behind(first, second)
+        }
+        Tree::NewArray(_, _, one) => check(alloc, namespace, labels, one, place, oracle),
+        Tree::ArrayValue(_, _, trees) => check_all(alloc, namespace, labels, trees, place, oracle),
+        Tree::ArrayLength(_, one) => check(alloc, namespace, labels, one, place, oracle),
+        Tree::ArraySelect(_, one, two, _) => {
+            let first = check(alloc, namespace, labels, one, place, oracle)?;
+            let second = check(alloc, namespace, labels, two, first.next, oracle);
+            behind(first, second)
+        }
+        Tree::IsInstanceOf(_, one, _) => check(alloc, namespace, labels, one, place, oracle),
+        Tree::AsInstanceOf(_, one, _) => check(alloc, namespace, labels, one, place, oracle),
+        Tree::Log(_, one) => check(alloc, namespace, labels, one, place, oracle),
+        Tree::Skip(_)
+        | Tree::LoadModule(_, _)
+        | Tree::SelectStatic(_, _, _, _)
+        | Tree::Undefined(_)
+        | Tree::Null(_)
+        | Tree::BooleanLiteral(_, _)
+        | Tree::CharLiteral(_, _)
+        | Tree::ByteLiteral(_, _)
+        | Tree::ShortLiteral(_, _)
+        | Tree::IntLiteral(_, _)
+        | Tree::LongLiteral(_, _)
+        | Tree::StringLiteral(_, _)
+        | Tree::VarRef(_, _, _)
+        | Tree::This(_, _) => Ok(Checked {
+            next: place,
+            settable: true,
+        }),
+    }
+}
+
+// The number behind the second part, and what may be assigned to by the first.
+fn behind(first: Checked, second: Result<Checked, TypeError>) -> Result<Checked, TypeError>
+    ensures { result ≡ answered.behind first second }
+{
+    match second {
+        Ok(second) => Ok(Checked {
+            next: second.next,
+            settable: first.settable,
+        }),
+        Err(error) => Err(error),
+    }
+}
+
+#[cycle(check)]
+fn check_labeled<O: Oracle>(
+    alloc: Global,
+    namespace: Namespace,
+    labels: &mut Vec<Label>,
+    label: &LabelName,
+    tpe: &IrType,
+    body: &Tree,
+    place: u32,
+    oracle: &mut O,
+) -> Result<Checked, TypeError>
+    ensures stand { O.stand oracle.new ≡ O.stand oracle.old }
+    ensures labels { OnOk result (labels.new.items ≡ labels.old.items) }
+    ensures next { IfOk result (λ x. x.next ≡ counted (view body.now) place) }
+    ensures ran { AsRun (IsAnswer (O.stand oracle.old)) (checks.check_of namespace (inside label.now tpe.now labels.old.items) place (view body.now)) (seen result) (O.told oracle.old) (O.told oracle.new) }
+{
+    labels.push(Label {
+        name: label.copied()?,
+        tpe: tpe.copied()?,
+    })?;
+    let checked = check(alloc, namespace, labels, body, place, oracle)?;
+    labels.pop();
+    Ok(checked)
+}
+
+#[cycle(check)]
+fn check_all<O: Oracle>(
+    alloc: Global,
+    namespace: Namespace,
+    labels: &mut Vec<Label>,
+    trees: &[Tree],
+    place: u32,
+    oracle: &mut O,
+) -> Result<Checked, TypeError>
+    ensures stand { O.stand oracle.new ≡ O.stand oracle.old }
+    ensures labels { OnOk result (labels.new.items ≡ labels.old.items) }
+    ensures next { IfOk result (λ x. x.next ≡ counted_all (terms_view trees.now) place) }
+    ensures ran { AsRun (IsAnswer (O.stand oracle.old)) (checks.all_of namespace labels.old.items place (terms_view trees.now)) (seen result) (O.told oracle.old) (O.told oracle.new) }
+{
+    let mut next = place;
+    for each in trees {
+        next = check(alloc, namespace, labels, each, next, oracle)?.next;
+    }
+    Ok(Checked {
+        next,
+        settable: true,
+    })
+}
+
+#[cycle(check)]
+fn check_cases<O: Oracle>(
+    alloc: Global,
+    namespace: Namespace,
+    labels: &mut Vec<Label>,
+    cases: &[MatchCase],
+    place: u32,
+    oracle: &mut O,
+) -> Result<Checked, TypeError>
+    ensures stand { O.stand oracle.new ≡ O.stand oracle.old }
+    ensures labels { OnOk result (labels.new.items ≡ labels.old.items) }
+    ensures next { IfOk result (λ x. x.next ≡ counted_cases (cases_view cases.now) place) }
+    ensures ran { AsRun (IsAnswer (O.stand oracle.old)) (checks.cases_of namespace labels.old.items place (cases_view cases.now)) (seen result) (O.told oracle.old) (O.told oracle.new) }
+{
+    let mut next = place;
+    for each in cases {
+        next = check(alloc, namespace, labels, &each.body, next, oracle)?.next;
+    }
+    Ok(Checked {
+        next,
+        settable: true,
+    })
+}

@@ -1,0 +1,63 @@
+// What no clause says: that a check with memory left is answered. A line of output of an int is refused at its tree, after one question.
+use super::*;
+use sj_ask::{Answer, Question, Recorder, TypeError, WorldOracle};
+use sj_names::{ClassName, Items, Member, Meter, MethodName, Namespace};
+use sj_trees::{Body, IrType, MethodDef, Position, Tree};
+use sj_world::LinkedWorld;
+use std::alloc::Global;
+use std::test::Fail;
+
+const NOWHERE: Position = Position {
+    file: 0,
+    line: 0,
+    column: 0,
+};
+
+fn method(alloc: Global, tree: Tree) -> Result<MethodDef, Fail> {
+    Ok(MethodDef {
+        pos: NOWHERE,
+        namespace: Namespace::PublicStatic,
+        name: MethodName::parse(alloc, "main;V")?,
+        params: Items::from_vec(Vec::new(alloc)),
+        result: IrType::NoType,
+        body: Some(Body::new(tree)),
+        hash: None,
+    })
+}
+
+fn log_of_int(alloc: Global) -> Result<MethodDef, Fail> {
+    let one = Box::new(alloc, Tree::IntLiteral(NOWHERE, 1))?;
+    method(alloc, Tree::Log(NOWHERE, one))
+}
+
+fn member(alloc: Global) -> Result<Member, Fail> {
+    Ok(Member {
+        class: ClassName::parse(alloc, "java.lang.Object")?,
+        namespace: Namespace::PublicStatic,
+        method: MethodName::parse(alloc, "main;V")?,
+    })
+}
+
+#[test]
+fn an_int_is_no_line(rt: HostRuntime) -> Result<(), Fail> {
+    let alloc = rt.alloc();
+    let k = member(alloc)?;
+    let method = log_of_int(alloc)?;
+    let world = LinkedWorld::new(alloc, Vec::new(alloc), Vec::new(alloc), Vec::new(alloc))?;
+    let mut recorder = Recorder::new(alloc, k.copied()?, WorldOracle::new(&world, &k));
+    let mut meter = Meter::new();
+    let verdict = check_method(alloc, &method, &mut recorder, &mut meter);
+    assert!(rt; matches!(verdict, Err(TypeError::Refused { rule: 41, place: 0 })));
+    assert_eq!(rt; meter.checked, 1);
+    let log = recorder.into_log();
+    assert!(rt;
+        matches!(
+            log.asked.as_slice(),
+            [(
+                Question::IsSub(IrType::Int, IrType::String),
+                Answer::Yes(false)
+            )]
+        )
+    );
+    Ok(())
+}
