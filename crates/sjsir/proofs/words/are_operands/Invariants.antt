@@ -1,7 +1,7 @@
 use Rattle.std.proofs.Common.{◌≡◌, map, drop}
 use Rattle.std.specs.Prelude.{string_bytes}
 use Rattle.std.specs.List.{list_all}
-use Rattle.sjsir.specs.Command.{is_operand}
+use Rattle.sj_outside.specs.Words.{is_operand}
 use Rattle.sjsir.proofs.words.are_operands.Given as goal
 
 abbrev pub invariant-loop-name : goal.invariant-loop-name
