@@ -1,22 +1,27 @@
-//! Desugars and emits methods. Each line of the input is a class file in hexadecimal digits. For each static method of the class a line is
-//! written: `piece`, the name of its function, and the bytes of the printed function in hexadecimal digits, or `not built` where a form
-//! of its body isn't built, with tabs between.
+//! Desugars and emits methods. Each line of the input is a class file in hexadecimal digits. For each method of the class a line is written:
+//! `piece`, the name of its function, and the bytes of the printed function in hexadecimal digits, with tabs between. In place of the bytes
+//! it has `not built` where the method isn't static or a form of its body isn't built.
 #![tactic(auto)]
+
+ghost use Rattle.std.specs.Prelude.{◌≡◌, IfOk};
+ghost use Rattle.js_tree.specs.Rules.{IsPiece};
+ghost use Rattle.js_tree.specs.Views.{piece_view};
+ghost use Rattle.sj_desugarer.specs.Methods.{method_desugared};
+ghost use Rattle.sj_pieces.specs.Pieces.{piece_of};
 
 mod forms;
 
 use anyhow::Result;
 use forms::is_built;
 use js_print::print_piece;
-use js_tree::{JsItem, JsPiece};
+use js_tree::JsPiece;
 use sj_desugarer::desugar;
-use sj_emitter::emit_member;
 use sj_mangling::function_name;
-use sj_names::{ClassName, Member, Meter, NoMemory, Text};
+use sj_names::{ClassName, Member, Meter, NoMemory};
+use sj_pieces::{desugared_methods_have_keys, member_piece};
 use sj_read::read_class;
 use sj_trees::{ClassDef, MethodDef};
 use std::alloc::Global;
-use std::rc::Rc;
 use std::result;
 
 fn main(rt: HostRuntime) -> Result<()> {
@@ -31,7 +36,7 @@ fn main(rt: HostRuntime) -> Result<()> {
     Ok(())
 }
 
-// A line for each static method of a class.
+// A line for each method of a class.
 fn answers(alloc: Global, class: &ClassDef) -> Result<String> {
     let mut lines = String::new(alloc);
     for method in class.methods.as_slice() {
@@ -42,9 +47,14 @@ fn answers(alloc: Global, class: &ClassDef) -> Result<String> {
 }
 
 fn answer(alloc: Global, class: &ClassName, method: &MethodDef) -> Result<String> {
-    let name = function_name(alloc, &member_of(class, method)?)?;
+    let member = Member {
+        class: class.copied()?,
+        namespace: method.namespace,
+        method: method.name.copied()?,
+    };
+    let name = function_name(alloc, &member)?;
     let text = if is_built(method) {
-        let printed = print_piece(alloc, &piece_of(alloc, class, method)?)?;
+        let printed = print_piece(alloc, &emitted(alloc, &member, method)?)?;
         hex::encode(alloc, printed.as_slice())?
     } else {
         String::from_str(alloc, "not built")?
@@ -53,32 +63,16 @@ fn answer(alloc: Global, class: &ClassName, method: &MethodDef) -> Result<String
     Ok(format!(in alloc; "piece\t{name}\t{text}\n")?)
 }
 
-fn member_of(class: &ClassName, method: &MethodDef) -> result::Result<Member, NoMemory> {
-    Ok(Member {
-        class: class.copied()?,
-        namespace: method.namespace,
-        method: method.name.copied()?,
-    })
-}
-
 // The piece of a static method.
-fn piece_of(
+fn emitted(
     alloc: Global,
-    class: &ClassName,
+    member: &Member,
     method: &MethodDef,
-) -> result::Result<JsPiece, NoMemory> {
-    let name = function_name(alloc, &member_of(class, method)?)?;
+) -> result::Result<JsPiece, NoMemory>
+    ensures piece { IfOk result (λ p. piece_view p ≡ piece_of member.now (method_desugared method.now)) }
+    ensures rules { IfOk result (λ p. IsPiece (piece_view p)) }
+{
+    desugared_methods_have_keys();
     let core = desugar(alloc, method)?;
-    let emitted = emit_member(alloc, &core, &mut Meter::new())?;
-    let item = JsItem::Function {
-        name: name.copied()?,
-        parameters: emitted.params,
-        body: emitted.body,
-    };
-    Ok(JsPiece {
-        owner: class.copied()?,
-        name,
-        uses: emitted.uses,
-        item: Rc::new(alloc, item)?,
-    })
+    member_piece(alloc, member, &core, &mut Meter::new())
 }
