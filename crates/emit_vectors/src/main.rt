@@ -64,11 +64,7 @@ fn answer(alloc: Global, class: &ClassName, method: &MethodDef) -> Result<String
 }
 
 // The piece of a static method.
-fn emitted(
-    alloc: Global,
-    member: &Member,
-    method: &MethodDef,
-) -> result::Result<JsPiece, NoMemory>
+fn emitted(alloc: Global, member: &Member, method: &MethodDef) -> result::Result<JsPiece, NoMemory>
     ensures piece { IfOk result (λ p. piece_view p ≡ piece_of member.now (method_desugared method.now)) }
     ensures rules { IfOk result (λ p. IsPiece (piece_view p)) }
 {

@@ -1,7 +1,7 @@
-//! Pieces: the emitted function of a method without a receiver, as its class owns it, and that it keeps the rules of printing.
+//! Pieces: the emitted function of a method without a receiver, as the class of the method owns it. It keeps the rules of printing.
 //!
-//! `specs/` has the piece of a method, what the types of a method's parts say, and which methods have a key in each case of a switch. So has
-//! each method that desugaring gives.
+//! `specs/` has the piece of a method, what the types of a method's parts say of their values, and when each case of a switch has a key, as
+//! each has in what desugaring gives.
 #![tactic(auto)]
 
 mod laws;

@@ -1,4 +1,4 @@
-// What the types of a method's parts say of their values, which reading them tells.
+// What the types of a method's parts say of their values. It is known where a value is read, so each part is passed over once.
 ghost use Rattle.std.specs.Prelude.{All, IfSome};
 ghost use Rattle.js_tree.specs.Rules.{IsNumber};
 ghost use Rattle.sj_core.specs.Views as core;
@@ -54,7 +54,7 @@ fn method_name_fits(method: &MethodName)
     result_fits(&method.result);
 }
 
-/// The names of a member.
+/// The names of a member are texts of bytes.
 pub fn member_fits(member: &Member)
     ensures { FitsMember member.now }
 {
@@ -194,7 +194,7 @@ fn params_fit(params: &[LocalName])
     }
 }
 
-/// The values in a method of the core.
+/// Each name, number and unit in a method of the core is in the range of its type.
 pub fn method_fits(m: &CoreMethod)
     ensures { FitsMethod (core.method_view m.now) }
 {
