@@ -1,0 +1,107 @@
+-- The piece of a method keeps the rules of printing.
+use Rattle.std.proofs.Common.{Bool, true, false, List, [], ◌∷◌, ℕ, refl, arith}
+use Rattle.std.specs.Prelude.{All}
+use Rattle.std.proofs.lemmas.List.Elements.{All-nil, All-cons, All-head, All-tail}
+use Rattle.js_tree.specs.Rules.{IsName, IsExpression, IsExpressions, IsStatement, AreStatements, AreCases, IsPiece}
+use Rattle.js_tree.specs.Terms as js
+use Rattle.sj_core.specs.Terms as core
+use Rattle.sj_emit_expr.specs.Names.{variable_name, label_name}
+use Rattle.sj_emit_expr.specs.Templates.{unary_template, binary_template, is_nonzero_literal, choice_template, expression_template, expression_templates, statement_template, statement_templates, case_templates, parameter_names}
+use Rattle.sj_mangling.specs.Mangling.{AreBytes}
+use Rattle.sj_names.specs.declared.method_names.Member.{Member}
+use Rattle.sj_trees.specs.declared.operators.BinaryOp.{BinaryOp}
+use Rattle.sj_trees.specs.declared.operators.BinaryOp.TheVariants.{BooleanEqual, BooleanNotEqual, BooleanOr, BooleanAnd, IntAdd, IntSubtract, IntMultiply, IntDivide, IntRemainder, IntOr, IntAnd, IntXor, IntShiftLeft, IntShiftRightLogical, IntShiftRightArithmetic, IntEqual, IntNotEqual, IntLess, IntLessOrEqual, IntGreater, IntGreaterOrEqual}
+use Rattle.sj_trees.specs.declared.operators.UnaryOp.{UnaryOp}
+use Rattle.sj_trees.specs.declared.operators.UnaryOp.TheVariants.{BooleanNot, CharToInt, ByteToInt, ShortToInt, IntToByte, IntToShort}
+use Rattle.sj_pieces.specs.Keys.{IsKeyed, AreKeyed, HaveKeys, HasKeys}
+use Rattle.sj_pieces.specs.Pieces.{piece_of}
+use Rattle.sj_pieces.specs.Ranges.{FitsMember, FitsExpression, FitExpressions, FitsStatement, FitStatements, FitCases, FitsMethod}
+use Rattle.sj_pieces.proofs.Names.{variable-named, label-named, member-named}
+use Rattle.sj_pieces.proofs.Uses.{uses-named}
+
+unary-kept : (o : UnaryOp) (e : js.Expression) → IsExpression e → IsExpression (unary_template o e)
+unary-kept BooleanNot e h = h
+unary-kept CharToInt e h = h
+unary-kept ByteToInt e h = h
+unary-kept ShortToInt e h = h
+unary-kept IntToByte e h = ((h, omega arith), omega arith)
+unary-kept IntToShort e h = ((h, omega arith), omega arith)
+unary-kept _ e h = tt
+
+binary-kept : (nonzero : Bool) (o : BinaryOp) (e g : js.Expression) → IsExpression e → IsExpression g → IsExpression (binary_template nonzero o e g)
+binary-kept nonzero BooleanEqual e g h k = (h, k)
+binary-kept nonzero BooleanNotEqual e g h k = (h, k)
+binary-kept nonzero BooleanOr e g h k = (h, k)
+binary-kept nonzero BooleanAnd e g h k = (h, k)
+binary-kept nonzero IntAdd e g h k = ((h, k), omega arith)
+binary-kept nonzero IntSubtract e g h k = ((h, k), omega arith)
+binary-kept nonzero IntMultiply e g h k = (h, k)
+binary-kept true IntDivide e g h k = ((h, k), omega arith)
+binary-kept false IntDivide e g h k = (refl, (h, (k, tt)))
+binary-kept true IntRemainder e g h k = ((h, k), omega arith)
+binary-kept false IntRemainder e g h k = (refl, (h, (k, tt)))
+binary-kept nonzero IntOr e g h k = (h, k)
+binary-kept nonzero IntAnd e g h k = (h, k)
+binary-kept nonzero IntXor e g h k = (h, k)
+binary-kept nonzero IntShiftLeft e g h k = (h, k)
+binary-kept nonzero IntShiftRightLogical e g h k = ((h, k), omega arith)
+binary-kept nonzero IntShiftRightArithmetic e g h k = (h, k)
+binary-kept nonzero IntEqual e g h k = (h, k)
+binary-kept nonzero IntNotEqual e g h k = (h, k)
+binary-kept nonzero IntLess e g h k = (h, k)
+binary-kept nonzero IntLessOrEqual e g h k = (h, k)
+binary-kept nonzero IntGreater e g h k = (h, k)
+binary-kept nonzero IntGreaterOrEqual e g h k = (h, k)
+binary-kept nonzero _ e g h k = tt
+
+choice-kept : (c : js.Expression) (ss ts : js.Statements) → IsExpression c → AreStatements ss → AreStatements ts → IsStatement (choice_template c ss ts)
+choice-kept c ss js.no_statements h k l = (h, k)
+choice-kept c ss (js.statement t ts) h k l = (h, k, l)
+
+mutual
+  expression-kept : (e : core.Expression) → FitsExpression e → IsExpression (expression_template variable_name label_name e)
+  expression-kept (core.number_value z) h = h
+  expression-kept (core.text_value us) h = h
+  expression-kept (core.variable_use x) h = variable-named x h
+  expression-kept (core.boxed_char e) h = (refl, (expression-kept e h, tt))
+  expression-kept (core.choice_of c e g) h = (expression-kept c h.0, expression-kept e h.1, expression-kept g h.2)
+  expression-kept (core.static_call m es) h = (member-named m h.0, expressions-kept es h.1)
+  expression-kept (core.unary_of o e) h = unary-kept o (expression_template variable_name label_name e) (expression-kept e h)
+  expression-kept (core.binary_of o e g) h = binary-kept (is_nonzero_literal g) o (expression_template variable_name label_name e) (expression_template variable_name label_name g) (expression-kept e h.0) (expression-kept g h.1)
+  expression-kept _ h = tt
+
+  expressions-kept : (es : core.Expressions) → FitExpressions es → IsExpressions (expression_templates variable_name label_name es)
+  expressions-kept core.no_expressions h = tt
+  expressions-kept (core.expression e es) h = (expression-kept e h.0, expressions-kept es h.1)
+
+mutual
+  statement-kept : (s : core.Statement) → FitsStatement s → IsKeyed s → IsStatement (statement_template variable_name label_name s)
+  statement-kept (core.constant_of p x e) h k = (variable-named x h.0, expression-kept e h.1)
+  statement-kept (core.define_of p x e) h k = (variable-named x h.0, expression-kept e h.1)
+  statement-kept (core.declare_of p x) h k = variable-named x h
+  statement-kept (core.assign_to p x e) h k = (variable-named x h.0, expression-kept e h.1)
+  statement-kept (core.evaluate_of p e) h k = expression-kept e h
+  statement-kept (core.return_of p e) h k = expression-kept e h
+  statement-kept (core.log_of p e) h k = expression-kept e h
+  statement-kept (core.leave_label p l) h k = label-named l h
+  statement-kept (core.break_nearest p) h k = tt
+  statement-kept (core.if_of p c ss ts) h k = choice-kept (expression_template variable_name label_name c) (statement_templates variable_name label_name ss) (statement_templates variable_name label_name ts) (expression-kept c h.0) (statements-kept ss h.1 k.0) (statements-kept ts h.2 k.1)
+  statement-kept (core.while_of p c ss) h k = (expression-kept c h.0, statements-kept ss h.1 k)
+  statement-kept (core.loop_of p ss) h k = statements-kept ss h k
+  statement-kept (core.labeled_of p l ss) h k = (label-named l h.0, statements-kept ss h.1 k)
+  statement-kept (core.switch_of p e cs ss) h k = (expression-kept e h.0, cases-kept cs h.1 k.0, statements-kept ss h.2 k.1)
+
+  statements-kept : (ss : core.Statements) → FitStatements ss → AreKeyed ss → AreStatements (statement_templates variable_name label_name ss)
+  statements-kept core.no_statements h k = tt
+  statements-kept (core.statement s ss) h k = (statement-kept s h.0 k.0, statements-kept ss h.1 k.1)
+
+  cases-kept : (cs : core.Cases) → FitCases cs → HaveKeys cs → AreCases (case_templates variable_name label_name cs)
+  cases-kept core.no_cases h k = tt
+  cases-kept (core.switch_case ks ss cs) h k = ((k.0, h.0), statements-kept ss h.1 k.1, cases-kept cs h.2 k.2)
+
+parameters-kept : (xs : List (List ℕ)) → All AreBytes xs → All IsName (parameter_names xs)
+parameters-kept [] h = All-nil IsName
+parameters-kept (x ∷ xs) h = All-cons IsName (variable_name (core.named x)) (parameter_names xs) (variable-named (core.named x) (All-head AreBytes x xs h)) (parameters-kept xs (All-tail AreBytes x xs h))
+
+pub piece-kept : (m : Member) (c : core.Method) → FitsMember m → FitsMethod c → HasKeys c → IsPiece (piece_of m c)
+piece-kept m c own fits keys = (member-named m own, uses-named c.body fits.1, (member-named m own, parameters-kept c.params fits.0, statements-kept c.body fits.1 keys))

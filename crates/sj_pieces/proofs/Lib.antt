@@ -1,0 +1,5 @@
+pub mod Keyed
+pub mod Kept
+pub mod Lists
+pub mod Names
+pub mod Uses

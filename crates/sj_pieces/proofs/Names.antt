@@ -1,0 +1,136 @@
+-- Names of the emitted code keep the rule of names.
+use Rattle.std.proofs.Common.{◌≡◌, ◌∙◌, ◌<◌, ◌/◌, ◌%◌, ◌^◌, ℕ, zero, suc, Bool, true, false, ◌&&◌, List, [], ◌∷◌, ◌++◌, refl, ap, arith, if◌then◌else◌}
+use Rattle.std.specs.Prelude.{◌==◌, codes, decimal, replicate, Option, Some, None, IfSome, All}
+use Rattle.std.specs.Char.{digit_char}
+use Rattle.std.specs.Fmt.{digits, digits_onto, digit_glyph}
+use Rattle.std.specs.List.{list_all}
+use Rattle.std.proofs.lemmas.Bool.Decides.{nat_tests}
+use Rattle.std.proofs.lemmas.List.Elements.{All-nil, All-cons, All-head, All-tail, All-append}
+use Rattle.std.proofs.lemmas.List.Folds.{list_all-append}
+use Rattle.js_tree.specs.Names.{is_name_character}
+use Rattle.js_tree.specs.Rules.{IsName}
+use Rattle.sj_core.specs.Terms.{Variable, named, numbered}
+use Rattle.sj_emit_expr.specs.Names.{variable_name, label_name}
+use Rattle.sj_emit_expr.specs.Templates.{member_name}
+use Rattle.sj_mangling.specs.Bindings.{function_name}
+use Rattle.sj_mangling.specs.Mangling.{is_alphanumeric, mangled_byte, mangled, AreBytes}
+use Rattle.sj_names.specs.Bases.{spelled_base}
+use Rattle.sj_names.specs.MethodNames.{spelled_method, spelled_parameters, spelled_result}
+use Rattle.sj_names.specs.References.{spelled}
+use Rattle.sj_names.specs.declared.references.BaseRef.{BaseRef}
+use Rattle.sj_names.specs.declared.references.BaseRef.TheVariants as bases
+use Rattle.sj_names.specs.declared.references.TypeRef.{TypeRef}
+use Rattle.sj_names.specs.declared.references.TypeRef.TheVariants as types
+use Rattle.sj_names.specs.declared.method_names.Member.{Member}
+use Rattle.sj_names.specs.declared.method_names.MethodName.{MethodName}
+use Rattle.sj_names.specs.declared.method_names.Namespace.{Namespace}
+use Rattle.sj_names.specs.declared.method_names.Namespace.TheVariants.{Public, PublicStatic, Private, PrivateStatic, Constructor}
+use Rattle.sj_pieces.specs.Ranges.{FitsBase, FitsReference, FitsMethodName, FitsMember, FitsVariable}
+
+-- spellings are texts of bytes
+abbrev IsByte : ℕ → Type 0
+IsByte b = b < 2 ^ 8
+
+letter-bytes : (b : ℕ) → b < 2 ^ 8 → AreBytes (b ∷ [])
+letter-bytes b h = All-cons IsByte b [] h (All-nil IsByte)
+
+base-bytes : (r : BaseRef) → FitsBase r → AreBytes (spelled_base r)
+base-bytes bases.Boolean h = letter-bytes 90 (omega arith)
+base-bytes bases.Char h = letter-bytes 67 (omega arith)
+base-bytes bases.Byte h = letter-bytes 66 (omega arith)
+base-bytes bases.Short h = letter-bytes 83 (omega arith)
+base-bytes bases.Int h = letter-bytes 73 (omega arith)
+base-bytes bases.Long h = letter-bytes 74 (omega arith)
+base-bytes (bases.Class name) h = All-cons IsByte 76 name (omega arith) h
+
+replicated-bytes : (n b : ℕ) → b < 2 ^ 8 → AreBytes (replicate n b)
+replicated-bytes zero b h = All-nil IsByte
+replicated-bytes (suc n) b h = All-cons IsByte b (replicate n b) h (replicated-bytes n b h)
+
+reference-bytes : (r : TypeRef) → FitsReference r → AreBytes (spelled r)
+reference-bytes types.Void h = letter-bytes 86 (omega arith)
+reference-bytes types.Boolean h = letter-bytes 90 (omega arith)
+reference-bytes types.Char h = letter-bytes 67 (omega arith)
+reference-bytes types.Byte h = letter-bytes 66 (omega arith)
+reference-bytes types.Short h = letter-bytes 83 (omega arith)
+reference-bytes types.Int h = letter-bytes 73 (omega arith)
+reference-bytes types.Long h = letter-bytes 74 (omega arith)
+reference-bytes (types.Class name) h = All-cons IsByte 76 name (omega arith) h
+reference-bytes (types.Array array) h = All-append IsByte (replicate array.dimensions 91) (spelled_base array.base) (replicated-bytes array.dimensions 91 (omega arith)) (base-bytes array.base h)
+
+parameters-bytes : (rs : List TypeRef) → All FitsReference rs → AreBytes (spelled_parameters rs)
+parameters-bytes [] h = All-nil IsByte
+parameters-bytes (r ∷ rs) h = All-append IsByte (59 ∷ spelled r) (spelled_parameters rs) (All-cons IsByte 59 (spelled r) (omega arith) (reference-bytes r (All-head FitsReference r rs h))) (parameters-bytes rs (All-tail FitsReference r rs h))
+
+result-bytes : (r : Option TypeRef) → IfSome r FitsReference → AreBytes (spelled_result r)
+result-bytes None h = letter-bytes 82 (omega arith)
+result-bytes (Some r) h = reference-bytes r h
+
+method-bytes : (m : MethodName) → FitsMethodName m → AreBytes (spelled_method m)
+method-bytes m h = All-append IsByte (m.simple ++ spelled_parameters m.params) (59 ∷ spelled_result m.result) (All-append IsByte m.simple (spelled_parameters m.params) h.0 (parameters-bytes m.params h.1)) (All-cons IsByte 59 (spelled_result m.result) (omega arith) (result-bytes m.result h.2))
+
+-- letters, digits, `_` and `$` alone
+abbrev pub AreCharacters : List ℕ → Type 0
+AreCharacters xs = list_all is_name_character xs ≡ true
+
+both : (xs ys : List ℕ) → AreCharacters xs → AreCharacters ys → AreCharacters (xs ++ ys)
+both xs ys h k = list_all-append is_name_character xs ys ∙ (λ i. h i && k i)
+
+digit-character : (n : ℕ) → n < 16 → is_name_character (digit_char n) ≡ true
+digit-character n small = grind (arith, nat_tests)
+
+byte-characters : (byte : ℕ) → byte < 2 ^ 8 → AreCharacters (mangled_byte byte)
+byte-characters byte small = by_kind (is_alphanumeric byte) (byte == 46) (byte == 59) refl refl refl
+  where
+    by_kind : (plain dot semicolon : Bool) → is_alphanumeric byte ≡ plain → (byte == 46) ≡ dot → (byte == 59) ≡ semicolon → AreCharacters (mangled_byte byte)
+    by_kind true dot semicolon is is_dot is_semicolon =
+        let letter : is_name_character byte ≡ true = grind (arith, nat_tests) in
+        rw is (ap (λ b. b && true) letter)
+    by_kind false true semicolon is is_dot is_semicolon = rw (is, is_dot) refl
+    by_kind false false true is is_dot is_semicolon = rw (is, is_dot, is_semicolon) refl
+    by_kind false false false is is_dot is_semicolon =
+        let high : is_name_character (digit_char (byte / 16)) ≡ true = digit-character (byte / 16) (omega arith) in
+        let low : is_name_character (digit_char (byte % 16)) ≡ true = digit-character (byte % 16) (omega arith) in
+        rw (is, is_dot, is_semicolon) (λ i. high i && (low i && true))
+
+mangled-characters : (text : List ℕ) → AreBytes text → AreCharacters (mangled text)
+mangled-characters [] bytes = refl
+mangled-characters (byte ∷ text) bytes = both (mangled_byte byte) (mangled text) (byte-characters byte (All-head (λ b. b < 2 ^ 8) byte text bytes)) (mangled-characters text (All-tail (λ b. b < 2 ^ 8) byte text bytes))
+
+glyph-character : (n : ℕ) → is_name_character (digit_glyph false (n % 10)) ≡ true
+glyph-character n = let small : n % 10 < 10 = omega arith in grind (arith, nat_tests)
+
+either-characters : (first : Bool) (xs ys : List ℕ) → AreCharacters xs → AreCharacters ys → AreCharacters (if first then xs else ys)
+either-characters true xs ys h k = h
+either-characters false xs ys h k = k
+
+digits-characters : (k n : ℕ) (rest : List ℕ) → AreCharacters rest → AreCharacters (digits_onto k 10 false n rest)
+digits-characters zero n rest h = h
+digits-characters (suc k) n rest h =
+    let more : List ℕ = digit_glyph false (n % 10) ∷ rest in
+    let characters : AreCharacters more = λ i. glyph-character n i && h i in
+    either-characters (n / 10 == 0) more (digits_onto k 10 false (n / 10) more) characters (digits-characters k (n / 10) more characters)
+
+decimal-characters : (n : ℕ) → AreCharacters (decimal n)
+unfolding digits
+decimal-characters n = digits-characters 64 n [] refl
+
+pub variable-named : (x : Variable) → FitsVariable x → IsName (variable_name x)
+variable-named (named x) bytes = rw (mangled-characters x bytes) refl
+variable-named (numbered n) bytes = rw (decimal-characters n) refl
+
+pub label-named : (l : List ℕ) → AreBytes l → IsName (label_name l)
+label-named l bytes = rw (mangled-characters l bytes) refl
+
+function-rest : (class : List ℕ) (method : MethodName) → AreBytes class → AreBytes (spelled_method method) → AreCharacters ((mangled class ++ codes "__") ++ mangled (spelled_method method))
+function-rest class method bytes others = both (mangled class ++ codes "__") (mangled (spelled_method method)) (both (mangled class) (codes "__") (mangled-characters class bytes) refl) (mangled-characters (spelled_method method) others)
+
+function-named : (namespace : Namespace) (class : List ℕ) (method : MethodName) → AreBytes class → AreBytes (spelled_method method) → IsName (function_name namespace class method)
+function-named Public class method bytes others = rw (function-rest class method bytes others) refl
+function-named PublicStatic class method bytes others = rw (function-rest class method bytes others) refl
+function-named Private class method bytes others = rw (function-rest class method bytes others) refl
+function-named PrivateStatic class method bytes others = rw (function-rest class method bytes others) refl
+function-named Constructor class method bytes others = rw (function-rest class method bytes others) refl
+
+pub member-named : (m : Member) → FitsMember m → IsName (member_name m)
+member-named m h = function-named m.namespace m.class m.method h.0 (method-bytes m.method h.1)

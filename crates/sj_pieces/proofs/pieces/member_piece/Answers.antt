@@ -1,0 +1,22 @@
+use Rattle.std.proofs.Common.{◌≡◌, ◌∙◌, subst, sym}
+use Rattle.std.proofs.lemmas.Result.{IfOk-weaker}
+use Rattle.js_tree.specs.Rules.{IsPiece}
+use Rattle.js_tree.specs.Views.{body_view}
+use Rattle.sj_core.specs.Views.{method_view}
+use Rattle.sj_pieces.specs.Pieces.{function_piece, piece_of}
+use Rattle.sj_pieces.proofs.Kept.{piece-kept}
+use Rattle.sj_pieces.proofs.pieces.member_piece.Goals as goal
+
+pub returns-clause-piece : goal.returns-clause-piece
+returns-clause-piece c =
+    let m = c.args.member.now in
+    let e = c.in_ok-emitted in
+    let same : function_piece m e.emitted.params (body_view e.emitted.body) e.emitted.uses ≡ piece_of m (method_view c.args.m.now) = λ i. function_piece m (e.ensures.params i) (e.ensures.body i) (e.ensures.used i) in
+    IfOk-weaker c.function_piece.result _ _ (λ p h. h ∙ same) c.function_piece.ensures
+
+pub returns-clause-rules : goal.returns-clause-rules
+returns-clause-rules c keys =
+    let m = c.args.member.now in
+    let e = c.in_ok-emitted in
+    let same : function_piece m e.emitted.params (body_view e.emitted.body) e.emitted.uses ≡ piece_of m (method_view c.args.m.now) = λ i. function_piece m (e.ensures.params i) (e.ensures.body i) (e.ensures.used i) in
+    IfOk-weaker c.function_piece.result _ _ (λ p h. subst IsPiece (sym (h ∙ same)) (piece-kept m (method_view c.args.m.now) c.member_fits.ensures c.method_fits.ensures keys)) c.function_piece.ensures

@@ -1,0 +1,15 @@
+-- The piece of a method without a receiver.
+use Rattle.std.specs.Prelude.{List}
+use Rattle.js_tree.specs.Terms.{Name, Statements, Piece, function_item}
+use Rattle.js_tree.specs.declared.items.Binding.{Binding}
+use Rattle.sj_core.specs.Terms.{Method}
+use Rattle.sj_emit_expr.specs.Templates.{member_name, parameter_names, body_template}
+use Rattle.sj_emit_expr.specs.Uses.{uses}
+use Rattle.sj_names.specs.declared.method_names.Member.{Member}
+
+-- `function NAME(params) { body }`, which the class owns, with the bindings that the body uses
+abbrev pub function_piece : Member → List Name → Statements → List Binding → Piece
+function_piece m params body used = record { owner = m.class; name = member_name m; uses = used; item = function_item (member_name m) params body }
+
+abbrev pub piece_of : Member → Method → Piece
+piece_of m c = function_piece m (parameter_names c.params) (body_template c) (uses c.body)

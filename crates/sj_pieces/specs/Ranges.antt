@@ -1,0 +1,74 @@
+-- What the types of the parts of a method say: names are texts of bytes, numbers have 32 bits and units 16.
+use Rattle.std.specs.Prelude.{All, IfSome}
+use Rattle.js_tree.specs.Rules.{IsNumber, IsUnit}
+use Rattle.sj_core.specs.Terms.{Variable, named, numbered, Expression, number_value, text_value, variable_use, boxed_char, choice_of, static_call, unary_of, binary_of, Expressions, no_expressions, expression, Statement, constant_of, define_of, declare_of, assign_to, evaluate_of, return_of, log_of, leave_label, break_nearest, if_of, while_of, loop_of, labeled_of, switch_of, Statements, no_statements, statement, Cases, no_cases, switch_case, Method}
+use Rattle.sj_mangling.specs.Mangling.{AreBytes}
+use Rattle.sj_names.specs.declared.method_names.Member.{Member}
+use Rattle.sj_names.specs.declared.method_names.MethodName.{MethodName}
+use Rattle.sj_names.specs.declared.references.BaseRef.{BaseRef}
+use Rattle.sj_names.specs.declared.references.BaseRef.TheVariants as bases
+use Rattle.sj_names.specs.declared.references.TypeRef.{TypeRef}
+use Rattle.sj_names.specs.declared.references.TypeRef.TheVariants as types
+
+abbrev pub FitsBase : BaseRef → Type 0
+FitsBase (bases.Class name) = AreBytes name
+FitsBase _ = Unit {0}
+
+abbrev pub FitsReference : TypeRef → Type 0
+FitsReference (types.Class name) = AreBytes name
+FitsReference (types.Array array) = FitsBase array.base
+FitsReference _ = Unit {0}
+
+abbrev pub FitsMethodName : MethodName → Type 0
+FitsMethodName m = AreBytes m.simple × All FitsReference m.params × IfSome m.result FitsReference
+
+abbrev pub FitsMember : Member → Type 0
+FitsMember m = AreBytes m.class × FitsMethodName m.method
+
+abbrev pub FitsVariable : Variable → Type 0
+FitsVariable (named x) = AreBytes x
+FitsVariable (numbered n) = Unit {0}
+
+abbrev mutual
+  pub FitsExpression : Expression → Type 0
+  FitsExpression (number_value z) = IsNumber z
+  FitsExpression (text_value us) = All IsUnit us
+  FitsExpression (variable_use x) = FitsVariable x
+  FitsExpression (boxed_char e) = FitsExpression e
+  FitsExpression (choice_of c e g) = FitsExpression c × FitsExpression e × FitsExpression g
+  FitsExpression (static_call m es) = FitsMember m × FitExpressions es
+  FitsExpression (unary_of o e) = FitsExpression e
+  FitsExpression (binary_of o e g) = FitsExpression e × FitsExpression g
+  FitsExpression _ = Unit {0}
+
+  pub FitExpressions : Expressions → Type 0
+  FitExpressions no_expressions = Unit {0}
+  FitExpressions (expression e es) = FitsExpression e × FitExpressions es
+
+abbrev mutual
+  pub FitsStatement : Statement → Type 0
+  FitsStatement (constant_of p x e) = FitsVariable x × FitsExpression e
+  FitsStatement (define_of p x e) = FitsVariable x × FitsExpression e
+  FitsStatement (declare_of p x) = FitsVariable x
+  FitsStatement (assign_to p x e) = FitsVariable x × FitsExpression e
+  FitsStatement (evaluate_of p e) = FitsExpression e
+  FitsStatement (return_of p e) = FitsExpression e
+  FitsStatement (log_of p e) = FitsExpression e
+  FitsStatement (leave_label p l) = AreBytes l
+  FitsStatement (break_nearest p) = Unit {0}
+  FitsStatement (if_of p c ss ts) = FitsExpression c × FitStatements ss × FitStatements ts
+  FitsStatement (while_of p c ss) = FitsExpression c × FitStatements ss
+  FitsStatement (loop_of p ss) = FitStatements ss
+  FitsStatement (labeled_of p l ss) = AreBytes l × FitStatements ss
+  FitsStatement (switch_of p e cs ss) = FitsExpression e × FitCases cs × FitStatements ss
+
+  pub FitStatements : Statements → Type 0
+  FitStatements no_statements = Unit {0}
+  FitStatements (statement s ss) = FitsStatement s × FitStatements ss
+
+  pub FitCases : Cases → Type 0
+  FitCases no_cases = Unit {0}
+  FitCases (switch_case ks ss cs) = All IsNumber ks × FitStatements ss × FitCases cs
+
+abbrev pub FitsMethod : Method → Type 0
+FitsMethod m = All AreBytes m.params × FitStatements m.body

@@ -1,0 +1,12 @@
+//! Pieces: the emitted function of a method without a receiver, as the class of the method owns it. It keeps the rules of printing.
+//!
+//! `specs/` has the piece of a method, what the types of a method's parts say of their values, and when each case of a switch has a key, as
+//! each has in what desugaring gives.
+#![tactic(auto)]
+
+mod laws;
+mod pieces;
+mod ranges;
+
+pub use laws::desugared_methods_have_keys;
+pub use pieces::member_piece;

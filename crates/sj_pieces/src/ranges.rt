@@ -1,0 +1,203 @@
+// What the types of a method's parts say of their values. It is known where a value is read, so each part is passed over once.
+ghost use Rattle.std.specs.Prelude.{All, IfSome};
+ghost use Rattle.js_tree.specs.Rules.{IsNumber};
+ghost use Rattle.sj_core.specs.Views as core;
+ghost use Rattle.sj_mangling.specs.Mangling.{AreBytes};
+ghost use Rattle.sj_pieces.specs.Ranges.{FitsBase, FitsReference, FitsMethodName, FitsMember, FitsVariable, FitsExpression, FitExpressions, FitsStatement, FitStatements, FitCases, FitsMethod};
+
+use sj_core::{CoreCase, CoreExpression, CoreMethod, CoreStatement, CoreVariable};
+use sj_names::{BaseRef, LocalName, Member, MethodName, TypeRef};
+
+fn text_fits(text: &str)
+    ensures { AreBytes text.now }
+{}
+
+fn base_fits(base: &BaseRef)
+    ensures { FitsBase base.now }
+{
+    if let BaseRef::Class(name) = base {
+        text_fits(name.text());
+    }
+}
+
+fn reference_fits(reference: &TypeRef)
+    ensures { FitsReference reference.now }
+{
+    match reference {
+        TypeRef::Class(name) => text_fits(name.text()),
+        TypeRef::Array(array) => base_fits(&array.base),
+        _ => {}
+    }
+}
+
+fn references_fit(references: &[TypeRef])
+    ensures { All FitsReference references.now }
+{
+    for reference in references {
+        reference_fits(reference);
+    }
+}
+
+fn result_fits(reference: &Option<TypeRef>)
+    ensures { IfSome reference.now FitsReference }
+{
+    if let Some(reference) = reference {
+        reference_fits(reference);
+    }
+}
+
+fn method_name_fits(method: &MethodName)
+    ensures { FitsMethodName method.now }
+{
+    text_fits(method.simple.text());
+    references_fit(method.params.as_slice());
+    result_fits(&method.result);
+}
+
+/// The names of a member are texts of bytes.
+pub fn member_fits(member: &Member)
+    ensures { FitsMember member.now }
+{
+    text_fits(member.class.text());
+    method_name_fits(&member.method);
+}
+
+fn variable_fits(variable: &CoreVariable)
+    ensures { FitsVariable (core.variable_view variable.now) }
+{
+    if let CoreVariable::Local(name) = variable {
+        text_fits(name.text());
+    }
+}
+
+fn number_fits(number: i32)
+    ensures { IsNumber number }
+{}
+
+#[cycle(expression_ranges)]
+fn expression_fits(expression: &CoreExpression)
+    ensures { FitsExpression (core.expression_view expression.now) }
+{
+    match expression {
+        CoreExpression::Number(number) => number_fits(*number),
+        CoreExpression::Text(units) => {
+            let _units = units.as_slice();
+        }
+        CoreExpression::Variable(variable) => variable_fits(variable),
+        CoreExpression::Boxed(operand) | CoreExpression::Unary(_, operand) => {
+            expression_fits(operand)
+        }
+        CoreExpression::Choice(test, yes, no) => {
+            expression_fits(test);
+            expression_fits(yes);
+            expression_fits(no);
+        }
+        CoreExpression::StaticCall(member, arguments) => {
+            member_fits(member);
+            expressions_fit(arguments);
+        }
+        CoreExpression::Binary(_, left, right) => {
+            expression_fits(left);
+            expression_fits(right);
+        }
+        CoreExpression::Undefined | CoreExpression::Null | CoreExpression::Boolean(_) => {}
+    }
+}
+
+#[cycle(expression_ranges)]
+fn expressions_fit(expressions: &[CoreExpression])
+    ensures { FitExpressions (core.expressions_view expressions.now) }
+{
+    for each in expressions {
+        expression_fits(each);
+    }
+}
+
+fn keys_fit(keys: &[i32])
+    ensures { All IsNumber keys.now }
+{
+    for key in keys {
+        number_fits(*key);
+    }
+}
+
+#[cycle(statement_ranges)]
+fn statement_fits(statement: &CoreStatement)
+    ensures { FitsStatement (core.statement_view statement.now) }
+{
+    match statement {
+        CoreStatement::Constant(_, variable, value)
+        | CoreStatement::Define(_, variable, value)
+        | CoreStatement::Assign(_, variable, value) => {
+            variable_fits(variable);
+            expression_fits(value);
+        }
+        CoreStatement::Declare(_, variable) => variable_fits(variable),
+        CoreStatement::Evaluate(_, value)
+        | CoreStatement::Return(_, value)
+        | CoreStatement::Log(_, value) => expression_fits(value),
+        CoreStatement::Leave(_, label) => text_fits(label.text()),
+        CoreStatement::Break(_) => {}
+        CoreStatement::If(_, test, yes, no) => {
+            expression_fits(test);
+            statements_fit(yes);
+            statements_fit(no);
+        }
+        CoreStatement::While(_, test, body) => {
+            expression_fits(test);
+            statements_fit(body);
+        }
+        CoreStatement::Loop(_, body) => statements_fit(body),
+        CoreStatement::Labeled(_, label, body) => {
+            text_fits(label.text());
+            statements_fit(body);
+        }
+        CoreStatement::Switch(_, selector, cases, default) => {
+            expression_fits(selector);
+            cases_fit(cases);
+            statements_fit(default);
+        }
+    }
+}
+
+#[cycle(statement_ranges)]
+fn statements_fit(statements: &[CoreStatement])
+    ensures { FitStatements (core.statements_view statements.now) }
+{
+    for each in statements {
+        statement_fits(each);
+    }
+}
+
+#[cycle(statement_ranges)]
+fn cases_fit(cases: &[CoreCase])
+    ensures { FitCases (core.cases_view cases.now) }
+{
+    for each in cases {
+        case_fits(each);
+    }
+}
+
+#[cycle(statement_ranges)]
+fn case_fits(case: &CoreCase)
+    ensures { All IsNumber (core.case_view case.now).0 × FitStatements (core.case_view case.now).1 }
+{
+    keys_fit(case.keys.as_slice());
+    statements_fit(&case.body);
+}
+
+fn params_fit(params: &[LocalName])
+    ensures { All AreBytes params.now }
+{
+    for param in params {
+        text_fits(param.text());
+    }
+}
+
+/// Each name, number and unit in a method of the core is in the range of its type.
+pub fn method_fits(m: &CoreMethod)
+    ensures { FitsMethod (core.method_view m.now) }
+{
+    params_fit(m.params.as_slice());
+    statements_fit(&m.body);
+}
