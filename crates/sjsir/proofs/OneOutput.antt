@@ -22,6 +22,7 @@ use Rattle.sjsir.specs.Making.{IsMade, IsMadeAt, output_of}
 use Rattle.sjsir.specs.declared.making.Made.{Made}
 use Rattle.sjsir.specs.declared.making.Made.TheVariants.{File, NoListing, NoFile}
 use Rattle.sjsir.specs.Output.{Output, IsOutput, no_command, helped, versioned, printed, made, no_listing, no_class_file, IsFileOf, IsFileLine, listed, refused, refusal_line, AreFileLines, no_file, first_file, status_of, usage_line, help_text, version_line, HasOneOutput}
+use Rattle.sjsir.specs.declared.answers.Status.{Status}
 use Rattle.sjsir.specs.declared.answers.Status.TheVariants.{Done, Usage}
 
 -- ---- the place
@@ -100,21 +101,28 @@ one_made_at c path m n (bytes, at, is) (held, there, other_is) = one_made (witho
 
 -- ---- the output, by what the words ask for
 
+abbrev said : Status → List Event → Output
+said status events = record { status = status; events = events }
+
 abbrev Answers : Parts → Option Command → Output → Type 0
-Answers c None o = o ≡ record { status = Usage; events = line usage_line ∷ [] }
-Answers c (Some help) o = o ≡ record { status = Done; events = line help_text ∷ [] }
-Answers c (Some version) o = o ≡ record { status = Done; events = line version_line ∷ [] }
-Answers c (Some (print files)) o = (texts : List (List ℕ)) × (all : Bool) × AreFileLines c files all texts × (o ≡ record { status = status_of all; events = map (λ text. line text) texts })
+Answers c None o = o ≡ said Usage (line usage_line ∷ [])
+Answers c (Some help) o = o ≡ said Done (line help_text ∷ [])
+Answers c (Some version) o = o ≡ said Done (line version_line ∷ [])
+Answers c (Some (print files)) o = (texts : List (List ℕ)) × (all : Bool) × AreFileLines c files all texts × (o ≡ said (status_of all) (map (λ text. line text) texts))
 Answers c (Some (make path out)) o = (m : Made) × IsMadeAt c path m × (o ≡ output_of out m)
 
+-- by the command that the words are
+at : (c : Parts) (k l : Option Command) (o : Output) → k ≡ l → Answers c l o → Answers c k o
+at c k l o e h = subst (λ (m : Option Command). Answers c m o) (sym e) h
+
 answers : (words : List (List ℕ)) (c : Parts) (o : Output) → IsOutput words c o → Answers c (command words) o
-answers words c _ (no_command is) = subst (λ (k : Option Command). Answers c k _) (sym is) refl
-answers words c _ (helped is) = subst (λ (k : Option Command). Answers c k _) (sym is) refl
-answers words c _ (versioned is) = subst (λ (k : Option Command). Answers c k _) (sym is) refl
-answers words c _ (printed files texts all is are) = subst (λ (k : Option Command). Answers c k _) (sym is) (texts, all, are, refl)
-answers words c _ (made path out bytes class is at lists has) = subst (λ (k : Option Command). Answers c k _) (sym is) (File (written_class class), (bytes, at, (class, lists, refl, has)), refl)
-answers words c _ (no_listing path out bytes place is at none there) = subst (λ (k : Option Command). Answers c k _) (sym is) (NoListing place, (bytes, at, (none, there)), refl)
-answers words c _ (no_class_file path out bytes class is at lists not_its none) = subst (λ (k : Option Command). Answers c k _) (sym is) (NoFile, (bytes, at, (class, lists, not_its, none)), refl)
+answers words c _ (no_command is) = at c (command words) None (said Usage (line usage_line ∷ [])) is refl
+answers words c _ (helped is) = at c (command words) (Some help) (said Done (line help_text ∷ [])) is refl
+answers words c _ (versioned is) = at c (command words) (Some version) (said Done (line version_line ∷ [])) is refl
+answers words c _ (printed files texts all is are) = at c (command words) (Some (print files)) (said (status_of all) (map (λ text. line text) texts)) is (texts, all, are, refl)
+answers words c _ (made path out bytes class is held lists has) = at c (command words) (Some (make path out)) (output_of out (File (written_class class))) is (File (written_class class), (bytes, held, (class, lists, refl, has)), refl)
+answers words c _ (no_listing path out bytes place is held none there) = at c (command words) (Some (make path out)) (output_of out (NoListing place)) is (NoListing place, (bytes, held, (none, there)), refl)
+answers words c _ (no_class_file path out bytes class is held lists not_its none) = at c (command words) (Some (make path out)) (output_of out NoFile) is (NoFile, (bytes, held, (class, lists, not_its, none)), refl)
 
 one_answered : (c : Parts) (k : Option Command) (one other : Output) → Answers c k one → Answers c k other → one ≡ other
 one_answered c None one other a b = a ∙ sym b
