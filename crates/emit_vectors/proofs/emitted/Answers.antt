@@ -1,7 +1,10 @@
-use Rattle.std.proofs.Common.{◌≡◌, ◌∙◌, IfOk, Option, Some, None, ap, subst, sym}
-use Rattle.std.proofs.lemmas.Result.{IfOk-weaker}
+use Rattle.std.proofs.Common.{◌≡◌, IfOk, Option, Some, None, Result, subst, sym}
+use Rattle.js_tree.specs.Views.{piece_view}
+use Rattle.js_tree.specs.declared.items.JsPiece.{JsPiece}
+use Rattle.sj_core.specs.Terms.{Method}
 use Rattle.sj_desugar.specs.Desugar.{desugared}
-use Rattle.sj_desugarer.specs.Methods.{desugared_with, method_desugared}
+use Rattle.sj_desugarer.specs.Methods.{desugared_with}
+use Rattle.sj_names.specs.declared.method_names.Member.{Member}
 use Rattle.sj_pieces.specs.Keys.{HasKeys}
 use Rattle.sj_pieces.specs.Pieces.{piece_of}
 use Rattle.sj_trees.specs.Term.{Term}
@@ -12,8 +15,12 @@ with-keys : ((d : MethodDef) (e : Term) → HasKeys (desugared d e)) → (d : Me
 with-keys h d None = tt
 with-keys h d (Some e) = h d e
 
+-- the piece of a method is that of one that is equal to it
+piece_of_equal : {E : Type 0} (r : Result JsPiece E) (m : Member) (a b : Method) → a ≡ b → IfOk r (λ p. piece_view p ≡ piece_of m a) → IfOk r (λ p. piece_view p ≡ piece_of m b)
+piece_of_equal r m a b e h = subst (λ (c : Method). IfOk r (λ p. piece_view p ≡ piece_of m c)) e h
+
 pub returns-clause-piece : goal.returns-clause-piece
-returns-clause-piece c = IfOk-weaker c.member_piece.result _ _ (λ p h. h ∙ ap (piece_of c.args.member.now) c.in_ok-core.ensures) c.member_piece.ensures.piece
+returns-clause-piece c = piece_of_equal c.member_piece.result c.args.member.now _ _ c.in_ok-core.ensures c.member_piece.ensures.piece
 
 pub returns-clause-rules : goal.returns-clause-rules
 returns-clause-rules c =
