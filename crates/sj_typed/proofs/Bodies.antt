@@ -124,8 +124,9 @@ behind_all (a ∷ ls) b l found = behind_all ls b l (if pointwise nat_eq a.name 
 
 one_more : (ls : List Label) (bs : List sound.Label) (l : List ℕ) (t : IrType) → names_no_class t ≡ true → SameLabels ls bs → SameLabels (inside l t ls) (record { name = l; tpe = t } ∷ bs)
 one_more ls bs l t is around = record {
-    same = λ m. behind_all ls (record { name = l; tpe = t }) m None ∙ ap (λ (b : Bool). if b then Some t else typing_labels.type_of_label ls m) (same_turned l m) ∙ ap (λ (o : Option IrType). if pointwise nat_eq m l then Some t else o) (around.same m);
-    plain = λ m u found. go m u (pointwise nat_eq m l) found }
+  same = λ m. behind_all ls (record { name = l; tpe = t }) m None ∙ ap (λ (b : Bool). if b then Some t else typing_labels.type_of_label ls m) (same_turned l m) ∙ ap (λ (o : Option IrType). if pointwise nat_eq m l then Some t else o) (around.same m);
+  plain = λ m u found. go m u (pointwise nat_eq m l) found;
+}
   where
     go : (m : List ℕ) (u : IrType) (b : Bool) → (if b then Some t else sound.type_of_label bs m) ≡ Some u → names_no_class u ≡ true
     go m u true found = let same : t ≡ u = cc in subst (λ (v : IrType). names_no_class v ≡ true) same is
