@@ -1,8 +1,10 @@
 // What no clause says: that a check with memory left is answered. A line of output of an int is refused at its tree, after one question.
+ghost use Rattle.std.specs.Prelude.{IfOk, IsSome};
+
 use super::*;
 use sj_ask::{Answer, Question, Recorder, TypeError, WorldOracle};
 use sj_names::{ClassName, Items, Member, Meter, MethodName, Namespace};
-use sj_trees::{Body, IrType, MethodDef, Position, Tree};
+use sj_trees::{Body, IrType, MethodDef, ParamDef, Position, Tree};
 use sj_world::LinkedWorld;
 use std::alloc::Global;
 use std::test::Fail;
@@ -13,21 +15,30 @@ const NOWHERE: Position = Position {
     column: 0,
 };
 
-fn method(alloc: Global, tree: Tree) -> Result<MethodDef, Fail> {
-    Ok(MethodDef {
+fn method(name: MethodName, params: Items<ParamDef>, body: Body) -> MethodDef
+    ensures { IsSome result.body }
+{
+    MethodDef {
         pos: NOWHERE,
         namespace: Namespace::PublicStatic,
-        name: MethodName::parse(alloc, "main;V")?,
-        params: Items::from_vec(Vec::new(alloc)),
+        name,
+        params,
         result: IrType::NoType,
-        body: Some(Body::new(tree)),
+        body: Some(body),
         hash: None,
-    })
+    }
 }
 
-fn log_of_int(alloc: Global) -> Result<MethodDef, Fail> {
+fn log_of_one(one: Box<Tree>) -> Body {
+    Body::new(Tree::Log(NOWHERE, one))
+}
+
+fn log_of_int(alloc: Global) -> Result<MethodDef, Fail>
+    ensures { IfOk result (λ m. IsSome m.body) }
+{
+    let name = MethodName::parse(alloc, "main;V")?;
     let one = Box::new(alloc, Tree::IntLiteral(NOWHERE, 1))?;
-    method(alloc, Tree::Log(NOWHERE, one))
+    Ok(method(name, Items::from_vec(Vec::new(alloc)), log_of_one(one)))
 }
 
 fn member(alloc: Global) -> Result<Member, Fail> {
