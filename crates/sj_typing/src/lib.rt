@@ -11,6 +11,3 @@ mod types;
 
 pub use laws::equal_answers_give_equal_checks;
 pub use methods::check_method;
-
-#[cfg(test)]
-mod tests;

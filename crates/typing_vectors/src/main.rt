@@ -5,6 +5,8 @@
 
 mod reports;
 mod spellings;
+#[cfg(test)]
+mod tests;
 
 use anyhow::Result;
 use reports::report;

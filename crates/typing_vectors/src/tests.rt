@@ -1,10 +1,10 @@
 // What no clause says: that a check with memory left is answered. A line of output of an int is refused at its tree, after one question.
 ghost use Rattle.std.specs.Prelude.{IfOk, IsSome};
 
-use super::*;
 use sj_ask::{Answer, Question, Recorder, TypeError, WorldOracle};
 use sj_names::{ClassName, Items, Member, Meter, MethodName, Namespace};
 use sj_trees::{Body, IrType, MethodDef, ParamDef, Position, Tree};
+use sj_typing::check_method;
 use sj_world::LinkedWorld;
 use std::alloc::Global;
 use std::test::Fail;
