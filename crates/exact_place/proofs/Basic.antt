@@ -1,10 +1,10 @@
 -- The laws of what has no parts: a value, a byte, a literal, the end; and of the same grammar in other words.
-use Rattle.std.proofs.Common.{◌≡◌, ℕ, zero, suc, ◌+◌, ◌<◌, ◌≤◌, Bool, true, false, cond, not, eqb, List, [], ◌∷◌, ◌++◌, length, Option, Some, None, Result, Ok, Err, refl, sym, ap, subst, ◌∙◌, append_assoc, append-nil, arith, length-append, ◌⊎◌, inl, inr}
+use Rattle.std.proofs.Common.{◌≡◌, ℕ, ◌+◌, ◌≤◌, Bool, true, false, eqb, List, [], ◌∷◌, ◌++◌, length, Option, Some, None, Ok, Err, refl, sym, ap, subst, ◌∙◌, arith, inl, inr}
 use Rattle.std.proofs.lemmas.Bool.{eqb-true, eq-eqb}
-use Rattle.exact_place.specs.Reading.{Reading, ◌>>=◌, stopped, passes, found_at, value_at, one_at, literal_at, map_at, end_at}
+use Rattle.exact_place.specs.Reading.{Reading, stopped, found_at, value_at, one_at, literal_at, map_at, end_at}
 use Rattle.exact_place.specs.Grammar.{Spelling, IsValue, IsLiteral, IsOne, IsMapped}
 use Rattle.exact_place.specs.Place.{Begins, Stops, Steady, Dead, Takes, Halts, Law}
-use Rattle.exact_place.proofs.Steps.{good, Same, good_is, bad_is, bind_ok, bind_err, went, cases, stops_narrow}
+use Rattle.exact_place.proofs.Steps.{good_is, bad_is, bind_ok, bind_err, went, stops_narrow}
 
 pub law_zero : {A : Type 0} {stop : ℕ → Bool} {again : List ℕ → Reading A} {P : Spelling A} → Begins P [] → Law 0 stop (λ bytes. stopped bytes) again P
 law_zero some = record {

@@ -1,8 +1,8 @@
 -- The laws of walks and lists.
-use Rattle.std.proofs.Common.{◌≡◌, ℕ, zero, suc, ◌+◌, ◌<◌, ◌≤◌, Bool, true, false, cond, not, eqb, List, [], ◌∷◌, ◌++◌, length, Option, Some, None, Result, Ok, Err, refl, sym, ap, subst, ◌∙◌, append_assoc, append-nil, arith, length-append, ◌⊎◌, inl, inr}
-use Rattle.exact_place.specs.Reading.{Reading, ◌>>=◌, stopped, passes, value_at, after_at, map_at, either_at, list_at, walk_at}
+use Rattle.std.proofs.Common.{◌≡◌, ℕ, zero, suc, ◌+◌, ◌≤◌, Bool, true, false, cond, not, List, [], ◌∷◌, ◌++◌, length, Ok, refl, ap, subst, append_assoc, arith}
+use Rattle.exact_place.specs.Reading.{Reading, ◌>>=◌, passes, value_at, list_at, walk_at}
 use Rattle.exact_place.specs.Grammar.{Spelling, ◌then◌, IsValue, IsMapped, Either, first, second, IsList, IsWalk, no_items, an_item, walk_ends, walk_on}
-use Rattle.exact_place.specs.Place.{Begins, Stops, Steady, Dead, Takes, Halts, Law}
+use Rattle.exact_place.specs.Place.{Stops, Law}
 use Rattle.exact_place.proofs.Steps.{stops_narrow, passes_front}
 use Rattle.exact_place.proofs.Basic.{law_zero, law_value, law_map, law_same, law_within}
 use Rattle.exact_place.proofs.Sequence.{Starts, Follows, law_after, law_either}

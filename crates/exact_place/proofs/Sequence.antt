@@ -1,9 +1,9 @@
-use Rattle.std.proofs.Common.{◌≡◌, ℕ, zero, suc, ◌+◌, ◌<◌, ◌≤◌, Bool, true, false, cond, not, eqb, List, [], ◌∷◌, ◌++◌, length, Option, Some, None, Result, Ok, Err, refl, sym, ap, subst, ◌∙◌, append_assoc, append-nil, arith, length-append, ◌⊎◌, inl, inr}
-use Rattle.exact_place.specs.Reading.{Reading, ◌>>=◌, passes, after_at, lead_at, literal_at, either_at}
-use Rattle.exact_place.specs.Grammar.{Spelling, ◌then◌, Leads, Either, first, second, IsLiteral, IsValue, IsOne, IsRun, IsMapped, IsList, chosen}
+use Rattle.std.proofs.Common.{◌≡◌, ℕ, suc, ◌+◌, ◌<◌, ◌≤◌, Bool, true, false, cond, not, List, [], ◌∷◌, ◌++◌, length, Ok, Err, refl, sym, ap, subst, ◌∙◌, append_assoc, arith, length-append, inl, inr}
+use Rattle.exact_place.specs.Reading.{Reading, passes, after_at, lead_at, either_at}
+use Rattle.exact_place.specs.Grammar.{Spelling, ◌then◌, Leads, Either, first, second, IsLiteral, chosen}
 use Rattle.exact_place.specs.Place.{Begins, Stops, Steady, Dead, Takes, Halts, Law}
-use Rattle.exact_place.proofs.Steps.{good, Same, good_is, bad_is, bind_ok, bind_err, went, cases, steady_on, passes_on, passes_front, stops_not}
-use Rattle.exact_place.proofs.Basic.{law_literal, law_same, law_within}
+use Rattle.exact_place.proofs.Steps.{bind_ok, bind_err, went, steady_on, passes_on, passes_front, stops_not}
+use Rattle.exact_place.proofs.Basic.{law_literal, law_same}
 
 -- What follows the whole, or begins Q, may follow what stands before Q.
 abbrev pub Follows : {B : Type 0} → (ℕ → Bool) → Spelling B → (ℕ → Bool) → Type 0

@@ -1,8 +1,7 @@
 -- Small steps that every law uses.
-use Rattle.std.proofs.Common.{◌≡◌, ℕ, zero, suc, ◌+◌, ◌<◌, ◌≤◌, Bool, true, false, cond, not, List, [], ◌∷◌, ◌++◌, length, Option, Some, None, Result, Ok, Err, refl, sym, ap, subst, ◌∙◌, append_assoc, append-nil, arith, length-append, ◌⊎◌, inl, inr}
-use Rattle.exact_place.specs.Reading.{Reading, ◌>>=◌, stopped, passes, found_at}
-use Rattle.exact_place.specs.Grammar.{Spelling, ◌then◌}
-use Rattle.exact_place.specs.Place.{Begins, Stops, Steady, Dead, Takes, Halts, Law}
+use Rattle.std.proofs.Common.{◌≡◌, ℕ, ◌+◌, Bool, true, false, cond, not, List, [], ◌∷◌, ◌++◌, Ok, Err, refl, ap, append_assoc, ◌⊎◌, inl, inr}
+use Rattle.exact_place.specs.Reading.{Reading, ◌>>=◌, passes}
+use Rattle.exact_place.specs.Place.{Stops, Steady}
 
 abbrev pub good : {A : Type 0} → A → List ℕ → Reading A
 good x rest = Ok (x, rest)

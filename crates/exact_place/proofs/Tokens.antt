@@ -1,10 +1,10 @@
 -- Tokens: runs of bytes that go on as long as some word begins so.
-use Rattle.std.proofs.Common.{◌≡◌, ℕ, zero, suc, ◌+◌, ◌<◌, ◌≤◌, Bool, true, false, cond, not, eqb, List, [], ◌∷◌, ◌++◌, length, Option, Some, None, Result, Ok, Err, refl, sym, ap, subst, ◌∙◌, append_assoc, append-nil, arith, length-append, ◌⊎◌, inl, inr}
-use Rattle.exact_place.specs.Reading.{Reading, ◌>>=◌, stopped, found_at, run_at}
-use Rattle.exact_place.specs.Grammar.{Spelling, IsRun}
-use Rattle.exact_place.specs.Place.{Begins, Stops, Steady, Dead, Takes, Halts, Law}
+use Rattle.std.proofs.Common.{◌≡◌, ℕ, ◌+◌, Bool, true, false, List, [], ◌∷◌, ◌++◌, length, Option, Some, None, Ok, Err, refl, sym, ap, subst, ◌∙◌, append-nil, inl, inr}
+use Rattle.exact_place.specs.Reading.{found_at, run_at}
+use Rattle.exact_place.specs.Grammar.{IsRun}
+use Rattle.exact_place.specs.Place.{Stops, Steady, Dead, Law}
 use Rattle.exact_place.specs.Tokens.{IsToken}
-use Rattle.exact_place.proofs.Steps.{good, Same, good_is, bad_is, went, cons_assoc}
+use Rattle.exact_place.proofs.Steps.{good_is, bad_is, went, cons_assoc}
 
 module _ {A : Type 0} (alive : List ℕ → Bool) (accept : List ℕ → Option A) where
   -- the end of a run: behind front, nothing of it goes on

@@ -1,11 +1,9 @@
 -- What the laws of a reader at every fuel give for whole texts.
-use Rattle.std.proofs.Common.{◌≡◌, ℕ, zero, suc, ◌+◌, ◌-◌, ◌<◌, ◌≤◌, Bool, true, false, List, [], ◌∷◌, ◌++◌, length, take, drop, Result, Ok, Err, refl, sym, ap, subst, ◌∙◌, append_assoc, append-nil, arith, length-append, take_at, take-append-drop, inl, inr}
-use Rattle.std.proofs.lemmas.List.{take-append-le}
-use Rattle.std.proofs.lemmas.Bool.{cases_lt}
+use Rattle.std.proofs.Common.{◌≡◌, ℕ, suc, ◌+◌, ◌-◌, ◌<◌, ◌≤◌, false, List, [], ◌∷◌, ◌++◌, length, take, Ok, Err, refl, sym, ap, subst, ◌∙◌, append-nil, arith, length-append, take_at}
 use Rattle.exact_place.specs.Reading.{Reading}
 use Rattle.exact_place.specs.Grammar.{Spelling}
-use Rattle.exact_place.specs.Place.{Begins, Place, Stops, Steady, Dead, Takes, Halts, Law}
-use Rattle.exact_place.proofs.Steps.{good, Same, good_is, cons_assoc}
+use Rattle.exact_place.specs.Place.{Begins, Place, Dead, Halts, Law}
+use Rattle.exact_place.proofs.Steps.{good_is, cons_assoc}
 
 ok_err : {A : Type 0} (x : A × List ℕ) (k : ℕ) → ◌≡◌ {A = Reading A} (Ok x) (Err k) → ⊥
 ok_err x k e = cc

@@ -1,6 +1,6 @@
 -- Names with keywords, words of a table, and digits are tokens.
-use Rattle.std.proofs.Common.{◌≡◌, ℕ, zero, suc, ◌+◌, ◌-◌, ◌*◌, ◌<◌, ◌≤◌, Bool, true, false, cond, not, ◌&&◌, ◌||◌, eqb, ltb, leb, List, [], ◌∷◌, ◌++◌, length, Option, Some, None, refl, sym, ap, subst, ap₂, ◌∙◌, append_assoc, append-nil, arith, ◌⊎◌, inl, inr}
-use Rattle.std.proofs.lemmas.Bool.{eqb-true, eq-eqb, lt-ltb, ltb-true}
+use Rattle.std.proofs.Common.{◌≡◌, ℕ, ◌+◌, ◌-◌, ◌<◌, Bool, true, false, not, ◌&&◌, ◌||◌, eqb, ltb, List, [], ◌∷◌, ◌++◌, Option, Some, None, refl, subst, ap₂, append-nil, ◌⊎◌, inl, inr}
+use Rattle.std.proofs.lemmas.Bool.{eqb-true, eq-eqb, lt-ltb}
 use Rattle.exact_place.specs.Grammar.{IsRun}
 use Rattle.exact_place.specs.Place.{Begins}
 use Rattle.exact_place.specs.Tokens.{IsToken, AreNames, word_of, is_front, is_text, Entry, begins_entry, entry_of, ends_before, word_ends, each_ends, is_digit, one_more, digits_value, digits_below, is_nil, begins_number, number_of}

@@ -1,5 +1,5 @@
 -- Grammars: which texts spell a value. They know nothing of readers, of fuel or of what follows a text.
-use Rattle.std.specs.Prelude.{◌≡◌, ℕ, Bool, true, false, cond, List, [], ◌∷◌, ◌++◌, Option, Some}
+use Rattle.std.specs.Prelude.{◌≡◌, ℕ, Bool, true, false, List, [], ◌∷◌, ◌++◌, Option, Some}
 
 abbrev pub Spelling : Type 0 → Type 1
 Spelling A = A → List ℕ → Type 0

@@ -1,5 +1,5 @@
 -- The place of a text that spells nothing, and the law by which readers are proved to give it.
-use Rattle.std.specs.Prelude.{◌≡◌, ℕ, ◌+◌, ◌<◌, ◌≤◌, Bool, true, List, [], ◌∷◌, ◌++◌, length, take, Result, Ok, Err}
+use Rattle.std.specs.Prelude.{◌≡◌, ℕ, ◌+◌, ◌<◌, ◌≤◌, Bool, true, List, [], ◌∷◌, ◌++◌, length, take, Ok, Err}
 use Rattle.exact_place.specs.Reading.{Reading}
 use Rattle.exact_place.specs.Grammar.{Spelling}
 

@@ -1,5 +1,5 @@
 -- A class without positions and source files names its source files.
-use Rattle.std.proofs.Common.{◌≡◌, ℕ, ℤ, Bool, true, false, List, [], ◌∷◌, map, Option, Some, None}
+use Rattle.std.proofs.Common.{ℕ, Bool, true, false, List, [], ◌∷◌, map, Option, Some, None}
 use Rattle.std.specs.Prelude.{option_map}
 use Rattle.std.specs.Int.{w32}
 use Rattle.sj_names.specs.declared.references.ArrayRef.{ArrayRef}
@@ -12,7 +12,7 @@ use Rattle.sj_trees.specs.declared.classes.MethodDef.{MethodDef}
 use Rattle.sj_trees.specs.declared.classes.ClassDef.{ClassDef}
 use Rattle.sj_trees.specs.declared.types.IrType.{IrType}
 use Rattle.listing_spelling.specs.Rules.{bare, bare_field, bare_method}
-use Rattle.sj_written.specs.Fields.{Fields, HasFiles, name_field, plain_field, mark, signed, each, option_fields, position_fields}
+use Rattle.sj_written.specs.Fields.{Fields, HasFiles, name_field, mark, signed, each, option_fields, position_fields}
 use Rattle.sj_written.specs.References.{base_fields, array_fields, type_fields}
 use Rattle.sj_written.specs.Trees.{term_fields, each_term, each_case}
 use Rattle.sj_written.specs.Classes.{param_fields, field_fields, method_fields, NamesItsFiles}

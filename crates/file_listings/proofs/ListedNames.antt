@@ -25,7 +25,7 @@ use Rattle.sj_format.specs.Tables.{Tables}
 use Rattle.sj_format.specs.References as refs
 use Rattle.sj_format.specs.Types as format
 use Rattle.sj_format.specs.Codes.{among, plain_types}
-use Rattle.listing_spelling.specs.Rules.{IsPlain, IsClass, IsMethod, IsListedType}
+use Rattle.listing_spelling.specs.Rules.{IsClass, IsMethod, IsListedType}
 use Rattle.listing_spelling.specs.Rules as rules
 use Rattle.listing_spelling.specs.Spelling.{is_object}
 use Rattle.file_listings.proofs.Ensures.{AllOf, Ensures, anything, behind, gives, either, found, tested, listed, a_byte, entry, all_none, all_more, all_first, all_others}

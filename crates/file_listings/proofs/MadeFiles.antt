@@ -1,8 +1,6 @@
 -- What a class of a listing is written as.
-use Rattle.std.proofs.Common.{◌≡◌, ℕ, List, subst, ◌∙◌}
+use Rattle.std.proofs.Common.{subst, ◌∙◌}
 use Rattle.sj_units.proofs.Exact as units
-use Rattle.sj_trees.specs.declared.classes.ClassDef.{ClassDef}
-use Rattle.listing_spelling.specs.Spelling.{Lists}
 use Rattle.sj_written.specs.Classes.{NamesItsFiles, class_fields}
 use Rattle.sj_written.specs.Tables.{tables_of}
 use Rattle.sj_written.proofs.WrittenFile.{read_back}

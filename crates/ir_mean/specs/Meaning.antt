@@ -1,5 +1,5 @@
 -- The meaning of trees with a bound.
-use Rattle.std.specs.Prelude.{ℕ, zero, suc, true, false, Bool, List, [], ◌∷◌, ℤ, Option, Some, None, if◌then◌else◌}
+use Rattle.std.specs.Prelude.{ℕ, zero, suc, true, false, List, [], ◌∷◌, ℤ, Option, Some, None, if◌then◌else◌}
 use Rattle.std.specs.List.{list_any}
 use Rattle.std.specs.Ordering.{int_eq}
 use Rattle.sj_trees.specs.declared.classes.MethodDef.{MethodDef}
@@ -12,7 +12,7 @@ use Rattle.sj_trees.specs.Term.{Term, Terms, no_terms, more_terms, Cases, no_cas
 use Rattle.outcomes.specs.Outcome.{Out, done, going, wrong, says, then_do}
 use Rattle.ir_mean.specs.Operators.{unary_value, binary_value}
 use Rattle.ir_mean.specs.Same.{is_same_text}
-use Rattle.ir_mean.specs.States.{Value, undefined, null, boolean, number, text, Locals, Env, State, gives, throws, leaves, stops, Ended, ends, Run, given, go_on}
+use Rattle.ir_mean.specs.States.{Value, undefined, null, boolean, number, text, Locals, Env, gives, throws, leaves, stops, Ended, ends, Run, given, go_on}
 use Rattle.ir_mean.specs.World.{World, member_of}
 
 -- trees evaluated with one unit less than what stands around them: the bodies of calls and the next turns of loops

@@ -1,5 +1,5 @@
 -- What operators give on values.
-use Rattle.std.specs.Prelude.{ℕ, zero, suc, Bool, true, false, List, [], ◌∷◌, ◌&&◌, ◌||◌, not, ℤ, pos, negsuc, int_lt, int_le, Option, Some, None}
+use Rattle.std.specs.Prelude.{zero, Bool, true, false, ◌&&◌, ◌||◌, not, ℤ, pos, int_lt, int_le, Option, Some, None}
 use Rattle.std.specs.Ordering.{int_eq}
 use Rattle.int_arithmetic.specs.Signed.{wrapped_to_byte, wrapped_to_short, sum, difference, product, quotient, remainder, bits_or, bits_and, bits_xor, shifted_left, shifted_right, shifted_right_with_zeros}
 use Rattle.sj_trees.specs.declared.operators.BinaryOp.{BinaryOp}

@@ -9,10 +9,9 @@ use Rattle.sj_trees.specs.declared.classes.ClassKind.TheVariants as Kinds
 use Rattle.sj_trees.specs.declared.classes.MethodDef.{MethodDef}
 use Rattle.sj_trees.specs.declared.positions.Position.{Position}
 use Rattle.sj_trees.specs.declared.operators.BinaryOp.TheVariants.{IntMultiply, IntLess, IntAdd}
-use Rattle.sj_trees.specs.declared.types.IrType.{IrType}
 use Rattle.sj_trees.specs.declared.types.IrType.TheVariants.{NoType}
 use Rattle.sj_trees.specs.declared.types.IrType.TheVariants as Types
-use Rattle.sj_trees.specs.Term.{Term, no_terms, more_terms, no_cases, more_cases, var_def, skip, block_of, labeled, assign, return_to, if_then, while_loop, do_while, match_on, boolean_literal, int_literal, var_ref, binary_op, log_line, string_literal, apply_static}
+use Rattle.sj_trees.specs.Term.{Term, no_terms, more_terms, no_cases, more_cases, skip, block_of, labeled, assign, return_to, while_loop, do_while, match_on, boolean_literal, int_literal, var_ref, binary_op, log_line, string_literal, apply_static}
 use Rattle.outcomes.specs.Outcome.{Out}
 use Rattle.ir_mean.specs.Meaning.{meaning}
 use Rattle.ir_mean.specs.Shows.{outside}

@@ -1,5 +1,5 @@
 -- What operators give on values. Sections are those of ECMA-262, 11th edition (2020).
-use Rattle.std.specs.Prelude.{ℕ, zero, suc, Bool, true, false, List, [], ◌∷◌, ◌&&◌, ◌||◌, not, ℤ, pos, negsuc, ◌+ℤ◌, ◌-ℤ◌, ◌*ℤ◌, int_lt, int_le, nat_eq, Option, Some, None, if◌then◌else◌}
+use Rattle.std.specs.Prelude.{ℕ, Bool, true, false, List, [], ◌∷◌, ◌&&◌, ◌||◌, not, ℤ, pos, negsuc, ◌+ℤ◌, ◌-ℤ◌, ◌*ℤ◌, int_lt, int_le, nat_eq, Option, Some, None, if◌then◌else◌}
 use Rattle.std.specs.Ordering.{int_eq}
 use Rattle.int_arithmetic.specs.Numbers.{is_exact, or_numbers, and_numbers, xor_numbers, left_shift, signed_right_shift, unsigned_right_shift, imul}
 use Rattle.js_tree.specs.Names.{is_same_text}

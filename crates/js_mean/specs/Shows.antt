@@ -4,7 +4,7 @@ use Rattle.std.specs.List.{list_all}
 use Rattle.js_tree.specs.Spelling.{Spells}
 use Rattle.js_tree.specs.Terms.{Name, Module}
 use Rattle.outcomes.specs.Outcome.{done, wrong, then_do}
-use Rattle.outcomes.specs.Shown.{Thrown, Ending, normal, uncaught, Shown}
+use Rattle.outcomes.specs.Shown.{Thrown, normal, uncaught, Shown}
 use Rattle.outcomes.specs.Shown as shown
 use Rattle.js_mean.specs.States.{Value, undefined, null, boolean, number, big_int, text, object, function, State, ExpressionEnd, gives, throws, Program}
 use Rattle.js_mean.specs.Files.{running_order, is_good_file}

@@ -1,5 +1,5 @@
 -- The characters of a file's name that are split off are what the reader on lists reads.
-use Rattle.std.proofs.Common.{◌≡◌, ℕ, true, false, ◌&&◌, List, [], ◌∷◌, ◌++◌, length, Ok, Err, refl, ◌∙◌}
+use Rattle.std.proofs.Common.{◌≡◌, ℕ, true, false, List, [], ◌∷◌, ◌++◌, length, Ok, Err, refl, ◌∙◌}
 use Rattle.exact_place.specs.Reading.{found_at}
 use Rattle.exact_place.specs.Tokens.{word_of}
 use Rattle.exact_place.proofs.Words.{both}

@@ -1,5 +1,5 @@
 -- A word that is split off is what the reader on lists reads.
-use Rattle.std.proofs.Common.{◌≡◌, ℕ, Bool, true, false, cond, ◌&&◌, List, [], ◌∷◌, ◌++◌, length, Option, Some, None, Ok, Err, refl, sym, ap, ◌∙◌}
+use Rattle.std.proofs.Common.{◌≡◌, ℕ, Bool, true, false, cond, List, [], length, Option, Some, None, Ok, Err, refl, sym, ap, ◌∙◌}
 use Rattle.exact_place.specs.Reading.{found_at, run_at}
 use Rattle.js_tree.specs.Names.{is_name, is_property}
 use Rattle.js_spelling.specs.declared.words.Head.{Head}

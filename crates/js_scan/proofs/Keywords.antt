@@ -1,5 +1,5 @@
 -- Keywords that stand in the tables of several places.
-use Rattle.std.proofs.Common.{◌≡◌, ℕ, Bool, true, false, cond, List, [], ◌∷◌, Option, Some, None, refl, ◌∙◌}
+use Rattle.std.proofs.Common.{◌≡◌, ℕ, Bool, true, false, cond, List, [], ◌∷◌, Option, Some, None, refl}
 use Rattle.exact_place.specs.Tokens.{Entry, entry_of, is_text}
 use Rattle.js_spelling.specs.declared.words.Head.{Head}
 use Rattle.js_spelling.specs.declared.words.ItemHead.{ItemHead}

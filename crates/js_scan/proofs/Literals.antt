@@ -1,6 +1,6 @@
 -- Reading a literal one byte after the other, as a loop does.
-use Rattle.std.proofs.Common.{◌≡◌, ℕ, suc, ◌+◌, ◌*◌, ◌-◌, ◌<◌, ◌≤◌, true, false, eqb, List, [], ◌∷◌, ◌++◌, length, get_or, drop, Ok, Err, refl, sym, ap, ◌∙◌, arith, drop-cons, add-one, drop_of_length-le, take, take_all, length-drop}
-use Rattle.exact_place.specs.Reading.{Reading, ◌>>=◌, passes, literal_at}
+use Rattle.std.proofs.Common.{◌≡◌, ℕ, suc, ◌+◌, ◌-◌, ◌<◌, ◌≤◌, true, false, eqb, List, [], ◌∷◌, length, get_or, drop, Ok, Err, refl, sym, ap, ◌∙◌, arith, drop-cons, add-one, drop_of_length-le, take, take_all, length-drop}
+use Rattle.exact_place.specs.Reading.{Reading, passes, literal_at}
 
 first_of : (b : ℕ) (ws rest : List ℕ) → passes (λ c. eqb c b) rest ≡ true → literal_at (b ∷ ws) rest ≡ literal_at ws (drop 1 rest)
 unfolding literal_at

@@ -1,5 +1,5 @@
 -- One level of the grammar of expressions as the reader takes it, and that it is the grammar.
-use Rattle.std.proofs.Common.{◌≡◌, ℕ, zero, suc, ℤ, pos, negsuc, Bool, true, false, cond, not, ◌&&◌, ◌||◌, eqb, leb, List, [], ◌∷◌, ◌++◌, length, refl, sym, ap, ap₂, subst, ◌∙◌, append_assoc, append-nil, ◌⊎◌, inl, inr, codes, decimal, ◌^◌, ◌<◌, ◌≤◌, arith}
+use Rattle.std.proofs.Common.{◌≡◌, ℕ, ℤ, pos, negsuc, Bool, true, false, not, ◌&&◌, ◌||◌, eqb, List, [], ◌∷◌, ◌++◌, length, refl, sym, ap, ap₂, subst, ◌∙◌, append_assoc, append-nil, ◌⊎◌, inl, inr, codes, decimal, ◌^◌, ◌<◌, ◌≤◌, arith}
 use Rattle.std.specs.List.{list_all}
 use Rattle.std.proofs.lemmas.Bool.{eqb-true, ltb-true}
 use Rattle.std.proofs.lemmas.Fmt.{decimal_nonempty, digits_decimal}
@@ -10,11 +10,11 @@ use Rattle.exact_place.proofs.Sequence.{Starts}
 use Rattle.exact_place.proofs.First.{starts_leads, starts_either, starts_then, starts_wider}
 use Rattle.js_tree.specs.Names.{is_name_character, is_digit, is_name}
 use Rattle.js_tree.specs.Rules.{is_receiver}
-use Rattle.js_tree.specs.Words.{binary_text, unary_text, host_text, host_of_two_text}
-use Rattle.js_tree.specs.Written.{Grammar, Is, ◌●◌, Where, Each}
+use Rattle.js_tree.specs.Words.{unary_text, host_text, host_of_two_text}
+use Rattle.js_tree.specs.Written.{Grammar, Is, ◌●◌}
 use Rattle.js_tree.specs.Spelling.{SpellsName, SpellsProperty, SpellsInteger, SpellsNumber, SpellsBig, SpellsUnit, SpellsText, SpellsBoolean, SpellsExpression, SpellsExpressions, SpellsMoreExpressions}
 use Rattle.js_tree.specs.Terms.{Name, Expression, null_literal, boolean_literal, undefined_literal, number_literal, big_literal, text_literal, name_use, this_use, property_of, index_of, call_of, method_call_of, new_of, new_array_of, list_of, binary_of, unary_of, conditional_of, host_call, host_call_of_two, Expressions, no_expressions, expression}
-use Rattle.js_tree.specs.Views.{expressions_of, expressions_onto}
+use Rattle.js_tree.specs.Views.{expressions_of}
 use Rattle.js_tree.specs.declared.operators.UnaryOperator.{UnaryOperator}
 use Rattle.js_tree.specs.declared.operators.UnaryOperator.TheVariants.{Not, TypeOf}
 use Rattle.js_tree.specs.declared.operators.HostFunction.{HostFunction}
@@ -33,7 +33,7 @@ use Rattle.exact_place.specs.Reading.{passes}
 use Rattle.exact_place.specs.Grammar.{Spelling, ◌then◌, Leads, Either, first, second, IsLiteral, IsValue, IsMapped, IsList, no_items, an_item}
 use Rattle.js_spelling.specs.Words.{is_word_start}
 use Rattle.js_spelling.specs.Expressions.{Suffix, property_suffix, method_suffix, index_suffix, with_suffix, with_suffixes}
-use Rattle.js_spelling.proofs.Parts.{seq, led, lead_of, leads, closing, closed, no_more, each_to, each_from, list_last}
+use Rattle.js_spelling.proofs.Parts.{seq, led, lead_of, leads, closing, no_more, each_to, each_from, list_last}
 use Rattle.js_spelling.proofs.HeadLaws.{IsHead, IsNewHead, IsParenthesisHead, IsInfix}
 use Rattle.js_spelling.proofs.NumberLaws.{IsPlain, plain_number, plain_big, IsBelowZero, below_number, below_big}
 

@@ -1,11 +1,10 @@
 -- The law of the reader of expressions.
-use Rattle.std.proofs.Common.{◌≡◌, ℕ, zero, suc, ◌+◌, ◌<◌, ◌≤◌, Bool, true, false, cond, not, ◌&&◌, ◌||◌, eqb, List, [], ◌∷◌, ◌++◌, length, refl, sym, ap, subst, ◌∙◌, append_assoc, append-nil, arith, ◌⊎◌, inl, inr, codes}
-use Rattle.std.proofs.lemmas.Bool.{eqb-true, eq-eqb}
+use Rattle.std.proofs.Common.{◌≡◌, ℕ, zero, suc, ◌+◌, ◌≤◌, Bool, true, false, not, ◌&&◌, ◌||◌, eqb, List, [], ◌∷◌, ◌++◌, length, refl, sym, subst, ◌∙◌, append_assoc, arith, inl, inr, codes}
+use Rattle.std.proofs.lemmas.Bool.{eqb-true}
 use Rattle.js_tree.specs.Names.{is_name_character, is_digit}
-use Rattle.js_tree.specs.Spelling.{SpellsName, SpellsProperty, SpellsUnit, SpellsExpression, SpellsExpressions}
-use Rattle.js_tree.specs.Terms.{Name, Expression, null_literal, boolean_literal, undefined_literal, text_literal, name_use, this_use, call_of, new_of, new_array_of, list_of, binary_of, unary_of, conditional_of, host_call, host_call_of_two, Expressions, no_expressions, expression}
+use Rattle.js_tree.specs.Spelling.{SpellsExpression}
+use Rattle.js_tree.specs.Terms.{Name, Expression, null_literal, boolean_literal, undefined_literal, text_literal, name_use, this_use, call_of, new_of, new_array_of, list_of, binary_of, unary_of, conditional_of, host_call, host_call_of_two, no_expressions, expression}
 use Rattle.js_tree.specs.Views.{expressions_of}
-use Rattle.js_tree.specs.Written.{Is, ◌●◌}
 use Rattle.js_tree.specs.declared.operators.UnaryOperator.{UnaryOperator}
 use Rattle.js_tree.specs.declared.operators.UnaryOperator.TheVariants.{Not, TypeOf}
 use Rattle.js_tree.specs.declared.operators.HostFunction.{HostFunction}
@@ -20,23 +19,22 @@ use Rattle.js_spelling.specs.declared.words.ParenthesisHead.{ParenthesisHead}
 use Rattle.js_spelling.specs.declared.words.ParenthesisHead.TheVariants as parentheses
 use Rattle.js_spelling.specs.declared.words.Infix.{Infix}
 use Rattle.js_spelling.specs.declared.words.Infix.TheVariants as infixes
-use Rattle.exact_place.specs.Reading.{Reading, stopped, passes, after_at, map_at, literal_at}
-use Rattle.exact_place.specs.Grammar.{Spelling, ◌then◌, Leads, Either, first, second, IsLiteral, IsValue, IsMapped, IsList, no_items, an_item}
+use Rattle.exact_place.specs.Reading.{Reading, passes, after_at, map_at, literal_at}
+use Rattle.exact_place.specs.Grammar.{Spelling, ◌then◌, first, second, IsLiteral, IsMapped}
 use Rattle.exact_place.specs.Place.{Begins, Stops, Law}
 use Rattle.exact_place.proofs.Steps.{cases}
 use Rattle.exact_place.proofs.Words.{both}
-use Rattle.exact_place.proofs.Basic.{law_zero, law_value, law_literal, law_map, law_same, law_narrow, law_within}
+use Rattle.exact_place.proofs.Basic.{law_zero, law_value, law_literal, law_map, law_same, law_narrow}
 use Rattle.exact_place.proofs.Sequence.{Starts, Follows, law_after, law_lead, law_behind, law_either}
 use Rattle.exact_place.proofs.Lists.{law_list}
-use Rattle.exact_place.proofs.First.{apart, starts_leads, starts_literal, starts_mapped, starts_then, starts_either, starts_wider, follows_starts, follows_leads, follows_literal, follows_value, follows_mapped, follows_either, follows_list, follows_then}
+use Rattle.exact_place.proofs.First.{apart, starts_leads, starts_literal, starts_mapped, starts_then, starts_either, follows_starts, follows_leads, follows_literal, follows_value, follows_mapped, follows_either, follows_list, follows_then}
 use Rattle.js_spelling.specs.Words.{is_word_start, ends_word, is_space}
-use Rattle.js_spelling.specs.Tokens.{name_at, property_at, head_at, new_head_at, parenthesis_head_at, infix_at, number_at, below_at, string_at}
-use Rattle.js_spelling.specs.Expressions.{Suffix, property_suffix, method_suffix, index_suffix, with_suffix, with_suffixes, is_suffix, is_comma, more_at, expressions_at, host_at, host_of_two_at, new_after_at, big_after_at, primary_at, suffix_at, suffixes_at, expression_after_at, infix_after_at, tail_at, unary_at, parenthesis_after_at, parenthesis_at, bracketed_at, wordless_level, expression_level, expression_at, wordless_at}
-use Rattle.js_spelling.proofs.Parts.{seq, led}
-use Rattle.js_spelling.proofs.HeadLaws.{IsHead, IsNewHead, IsParenthesisHead, IsInfix, law_names, law_properties, law_heads, law_new_heads, law_parenthesis_heads, law_infixes}
-use Rattle.js_spelling.proofs.NumberLaws.{IsPlain, IsBelowZero, law_number, law_below, after_number}
+use Rattle.js_spelling.specs.Tokens.{string_at}
+use Rattle.js_spelling.specs.Expressions.{property_suffix, method_suffix, index_suffix, with_suffixes, is_suffix, is_comma, more_at, expressions_at, host_at, host_of_two_at, new_after_at, big_after_at, primary_at, suffix_at, suffixes_at, expression_after_at, infix_after_at, tail_at, unary_at, parenthesis_after_at, parenthesis_at, bracketed_at, wordless_level, expression_level, expression_at, wordless_at}
+use Rattle.js_spelling.proofs.HeadLaws.{IsParenthesisHead, law_properties, law_heads, law_new_heads, law_parenthesis_heads, law_infixes}
+use Rattle.js_spelling.proofs.NumberLaws.{law_number, law_below, after_number}
 use Rattle.js_spelling.proofs.UnitLaws.{law_unit, starts_unit}
-use Rattle.js_spelling.proofs.ExpressionForms.{IsWordless, MoreForm, ExpressionsForm, HostForm, HostOfTwoForm, NewForm, BigForm, PrimaryForm, SuffixForm, SuffixesForm, AfterForm, InfixForm, TailForm, UnaryForm, ParenthesisWordForm, ParenthesisForm, StringForm, BracketedForm, WordlessForm, ExpressionForm, expression_to, expression_from, wordless_to, wordless_from, wordless_off, wordless_no_word, starts_heads, starts_plain, starts_bracketed, starts_wordless, is_wordless_start, is_bracket, is_expression_start, starts_expression, expressions_to, expressions_from}
+use Rattle.js_spelling.proofs.ExpressionForms.{IsWordless, MoreForm, ExpressionsForm, HostForm, HostOfTwoForm, NewForm, BigForm, PrimaryForm, SuffixForm, SuffixesForm, AfterForm, InfixForm, TailForm, UnaryForm, ParenthesisWordForm, ParenthesisForm, StringForm, BracketedForm, WordlessForm, expression_to, expression_from, wordless_to, wordless_from, wordless_off, wordless_no_word, starts_heads, starts_plain, starts_bracketed, starts_wordless, is_wordless_start, is_bracket, is_expression_start, starts_expression}
 
 -- what may follow a primary expression, and an expression
 abbrev pub after_primary : ℕ → Bool

@@ -1,19 +1,17 @@
 -- What the first words are: a name, or a keyword by its text.
-use Rattle.std.proofs.Common.{◌≡◌, ℕ, Bool, true, false, cond, List, [], ◌∷◌, ◌++◌, Option, Some, None, refl, sym, ap, subst, ◌∙◌, ◌⊎◌, inl, inr, codes}
+use Rattle.std.proofs.Common.{◌≡◌, ℕ, Bool, true, false, List, Option, Some, refl, subst, inl, inr, codes}
 use Rattle.js_tree.specs.Names.{is_name, is_property}
-use Rattle.js_tree.specs.Written.{Grammar, Is, Where}
+use Rattle.js_tree.specs.Written.{Grammar, Is}
 use Rattle.js_tree.specs.Spelling.{SpellsName, SpellsProperty}
 use Rattle.js_tree.specs.Words.{binary_text}
-use Rattle.js_tree.specs.declared.operators.BinaryOperator.{BinaryOperator}
 use Rattle.js_tree.specs.declared.operators.BinaryOperator.TheVariants.{Add, Subtract, Multiply, Divide, Remainder, BitAnd, BitOr, BitXor, ShiftLeft, ShiftRight, ShiftRightUnsigned, StrictEqual, StrictNotEqual, Less, LessOrEqual, Greater, GreaterOrEqual, And, Or, In, InstanceOf}
-use Rattle.exact_place.specs.Grammar.{Spelling, IsRun}
-use Rattle.exact_place.specs.Reading.{Reading}
+use Rattle.exact_place.specs.Grammar.{IsRun}
 use Rattle.exact_place.specs.Place.{Law}
-use Rattle.exact_place.specs.Tokens.{Entry, entry_of, word_of}
+use Rattle.exact_place.specs.Tokens.{entry_of, word_of}
 use Rattle.exact_place.proofs.Steps.{went}
 use Rattle.exact_place.proofs.Basic.{law_same}
 use Rattle.exact_place.proofs.Words.{none_some}
-use Rattle.exact_place.proofs.Numbers.{AllEntries, table_is}
+use Rattle.exact_place.proofs.Numbers.{table_is}
 use Rattle.js_spelling.specs.declared.words.Head.{Head}
 use Rattle.js_spelling.specs.declared.words.Head.TheVariants as heads
 use Rattle.js_spelling.specs.declared.words.NewHead.{NewHead}
@@ -30,7 +28,7 @@ use Rattle.js_spelling.specs.declared.words.LineHead.{LineHead}
 use Rattle.js_spelling.specs.declared.words.LineHead.TheVariants as lines
 use Rattle.js_spelling.specs.declared.words.MemberHead.{MemberHead}
 use Rattle.js_spelling.specs.declared.words.MemberHead.TheVariants as members
-use Rattle.js_spelling.specs.Words.{begins_name, begins_property, is_word_start, ends_word, expression_words, new_words, parenthesis_words, statement_words, item_words, later_words, line_words, member_words, head_of, new_head_of, parenthesis_head_of, statement_head_of, line_head_of, member_head_of, no_keyword, name_of, property_name_of, infix_words, is_space}
+use Rattle.js_spelling.specs.Words.{ends_word, expression_words, new_words, parenthesis_words, statement_words, line_words, member_words, head_of, new_head_of, parenthesis_head_of, statement_head_of, line_head_of, member_head_of, no_keyword, name_of, property_name_of, infix_words, is_space}
 use Rattle.js_spelling.specs.Tokens.{name_at, property_at, head_at, new_head_at, parenthesis_head_at, statement_head_at, line_head_at, member_head_at, infix_at}
 use Rattle.js_spelling.proofs.WordLaws.{law_head, law_new_head, law_parenthesis_head, law_statement_head, law_line_head, law_member_head, law_name, law_property_name, law_infix}
 

@@ -1,14 +1,9 @@
 -- Items, members and lines of a module as the reader takes them, and that they are the grammar.
-use Rattle.std.proofs.Common.{◌≡◌, ℕ, zero, suc, ◌+◌, Bool, true, false, cond, not, ◌&&◌, ◌||◌, eqb, List, [], ◌∷◌, ◌++◌, map, Option, Some, None, refl, sym, ap, ap₂, subst, ◌∙◌, append_assoc, append-nil, ◌⊎◌, inl, inr, codes}
-use Rattle.std.specs.List.{list_all}
-use Rattle.std.proofs.lemmas.Bool.{eqb-true}
-use Rattle.std.specs.Cmp.Lexicographic.{same_text}
-use Rattle.js_tree.specs.Names.{is_empty, is_same_text, is_file_character, is_file_rest, is_file}
-use Rattle.js_tree.specs.Written.{Grammar, Is, ◌●◌, Where, More, Separated, Each, indent}
-use Rattle.js_tree.specs.Spelling.{SpellsName, SpellsProperty, SpellsExpression, SpellsStatement, SpellsLines, Block, SpellsBlock, SpellsObjectProperty, SpellsParameters, SpellsMember, SpellsMembers, SpellsItem, SpellsItemLine, SpellsNames, SpellsFile, SpellsImport, SpellsExports, Spells}
+use Rattle.std.proofs.Common.{◌≡◌, ℕ, ◌+◌, Bool, true, false, List, [], ◌∷◌, ◌++◌, refl, sym, ap, ap₂, subst, ◌∙◌, append_assoc, append-nil, ◌⊎◌, inl, inr, codes}
+use Rattle.js_tree.specs.Written.{Grammar, Is, ◌●◌, Separated, Each}
+use Rattle.js_tree.specs.Spelling.{SpellsName, SpellsProperty, SpellsExpression, SpellsLines, Block, SpellsBlock, SpellsObjectProperty, SpellsParameters, SpellsMember, SpellsMembers, SpellsItem, SpellsItemLine, SpellsNames, SpellsFile, SpellsImport, SpellsExports, Spells}
 use Rattle.js_tree.specs.Terms.{Name, Expression, Statements, Property, Member, constructor_of, method_of, Item, const_item, object_item, let_item, expression_item, function_item, class_item, subclass_item, Module}
 use Rattle.js_tree.specs.declared.items.JsImport.{JsImport}
-use Rattle.js_spelling.specs.declared.words.Head.{Head}
 use Rattle.js_spelling.specs.declared.words.ItemHead.{ItemHead}
 use Rattle.js_spelling.specs.declared.words.ItemHead.TheVariants as items
 use Rattle.js_spelling.specs.declared.words.LineHead.{LineHead}
@@ -17,11 +12,10 @@ use Rattle.js_spelling.specs.declared.words.MemberHead.{MemberHead}
 use Rattle.js_spelling.specs.declared.words.MemberHead.TheVariants as members
 use Rattle.js_spelling.specs.declared.words.Stage.{Stage}
 use Rattle.js_spelling.specs.declared.words.Stage.TheVariants.{Imports, Items, End}
-use Rattle.exact_place.specs.Grammar.{Spelling, ◌then◌, Leads, Either, first, second, IsLiteral, IsValue, IsMapped, IsList, no_items, an_item, IsWalk, walk_ends, walk_on}
-use Rattle.exact_place.proofs.Words.{both}
-use Rattle.js_spelling.specs.Modules.{Line, import_line, item_line, export_line, member_of, begins_file, is_file_front, is_imports, goes_on, stage_after, module_of}
+use Rattle.exact_place.specs.Grammar.{Spelling, ◌then◌, Leads, Either, first, second, IsLiteral, IsValue, IsMapped, IsList, IsWalk, walk_ends, walk_on}
+use Rattle.js_spelling.specs.Modules.{Line, import_line, item_line, export_line, member_of, stage_after, module_of}
 use Rattle.js_spelling.proofs.Parts.{seq, led, lead_of, leads, closing, no_more, each_to, each_from, more_to, more_from, list_same, leads_same}
-use Rattle.js_spelling.proofs.HeadLaws.{IsHead, IsItemHead, IsLineHead, IsMemberHead}
+use Rattle.js_spelling.proofs.HeadLaws.{IsItemHead, IsLineHead, IsMemberHead}
 use Rattle.js_spelling.proofs.ExpressionForms.{IsWordless, AfterForm, after_to, expression_from, wordless_off}
 use Rattle.js_spelling.proofs.StatementForms.{BlockForm, block_to, block_from}
 

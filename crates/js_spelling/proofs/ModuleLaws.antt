@@ -1,46 +1,41 @@
 -- The law of the reader of modules.
-use Rattle.std.proofs.Common.{◌≡◌, ℕ, zero, suc, ◌+◌, ◌<◌, ◌≤◌, Bool, true, false, cond, not, ◌&&◌, ◌||◌, eqb, List, [], ◌∷◌, ◌++◌, length, Option, Some, None, Result, Ok, Err, refl, sym, ap, ap₂, subst, ◌∙◌, append_assoc, append-nil, arith, codes, ◌⊎◌, inl, inr}
+use Rattle.std.proofs.Common.{◌≡◌, ℕ, ◌+◌, ◌≤◌, Bool, true, false, not, ◌&&◌, ◌||◌, eqb, List, [], ◌∷◌, ◌++◌, Some, None, refl, sym, ap, ap₂, subst, ◌∙◌, append_assoc, append-nil, arith, codes, inl, inr}
 use Rattle.std.specs.List.{list_all}
-use Rattle.std.specs.Cmp.Lexicographic.{same_text, pointwise}
+use Rattle.std.specs.Cmp.Lexicographic.{same_text}
 use Rattle.std.proofs.lemmas.Bool.{eqb-true}
 use Rattle.js_tree.specs.Names.{is_name_character, is_digit, is_property, is_empty, is_same_text, is_file_character, is_file_rest, is_file}
-use Rattle.js_tree.specs.Written.{Is, Where}
-use Rattle.js_tree.specs.Spelling.{SpellsName, SpellsProperty, SpellsFile, SpellsExpression, Spells}
-use Rattle.js_tree.specs.Terms.{Name, Expression, Statements, Property, Member, Item, const_item, object_item, let_item, expression_item, function_item, class_item, subclass_item, Module}
-use Rattle.js_tree.specs.declared.items.JsImport.{JsImport}
-use Rattle.js_spelling.specs.declared.words.Head.{Head}
+use Rattle.js_tree.specs.Spelling.{SpellsName, SpellsProperty, SpellsFile, Spells}
+use Rattle.js_tree.specs.Terms.{Name, Expression, Item, const_item, object_item, let_item, expression_item, function_item, class_item, subclass_item}
 use Rattle.js_spelling.specs.declared.words.Head.TheVariants as heads
 use Rattle.js_spelling.specs.declared.words.ItemHead.{ItemHead}
 use Rattle.js_spelling.specs.declared.words.ItemHead.TheVariants as items
 use Rattle.js_spelling.specs.declared.words.LineHead.{LineHead}
 use Rattle.js_spelling.specs.declared.words.LineHead.TheVariants as lines
-use Rattle.js_spelling.specs.declared.words.MemberHead.{MemberHead}
-use Rattle.js_spelling.specs.declared.words.MemberHead.TheVariants as members
 use Rattle.js_spelling.specs.declared.words.Stage.{Stage}
 use Rattle.js_spelling.specs.declared.words.Stage.TheVariants.{Imports, Items, End}
-use Rattle.exact_place.specs.Reading.{Reading, stopped, passes, after_at, lead_at, map_at, literal_at, value_at, either_at, run_at, end_at}
-use Rattle.exact_place.specs.Grammar.{Spelling, ◌then◌, Leads, Either, first, second, IsLiteral, IsValue, IsMapped, IsList, IsRun, IsWalk}
-use Rattle.exact_place.specs.Place.{Begins, Place, Stops, Law}
+use Rattle.exact_place.specs.Reading.{Reading, passes, after_at}
+use Rattle.exact_place.specs.Grammar.{Spelling, ◌then◌, Leads, first, second, IsLiteral, IsValue, IsMapped, IsRun, IsWalk}
+use Rattle.exact_place.specs.Place.{Stops, Law}
 use Rattle.exact_place.specs.Tokens.{AreNames, word_of}
 use Rattle.exact_place.proofs.Steps.{cases, went}
-use Rattle.exact_place.proofs.Basic.{law_value, law_literal, law_map, law_same, law_narrow, law_end}
+use Rattle.exact_place.proofs.Basic.{law_value, law_literal, law_map, law_same, law_end}
 use Rattle.exact_place.proofs.Sequence.{Starts, Follows, law_after, law_lead, law_either}
 use Rattle.exact_place.proofs.Lists.{law_list, law_walk, Turn, open_turn, shut_turn}
 use Rattle.exact_place.proofs.Tokens.{law_run}
 use Rattle.exact_place.proofs.Words.{both, none_some, word_token}
-use Rattle.exact_place.proofs.First.{apart, starts_leads, starts_literal, starts_mapped, starts_then, starts_either, starts_wider, follows_starts, follows_leads, follows_literal, follows_value, follows_mapped, follows_either, follows_list, follows_then}
+use Rattle.exact_place.proofs.First.{apart, starts_leads, starts_mapped, starts_then, starts_either, starts_wider, follows_starts, follows_leads, follows_literal, follows_mapped, follows_list}
 use Rattle.js_spelling.specs.Words.{begins_name, is_word_start, ends_word, no_keyword}
-use Rattle.js_spelling.specs.Tokens.{name_at, property_at, line_head_at, member_head_at}
-use Rattle.js_spelling.specs.Expressions.{is_comma, expression_at, wordless_at, expression_after_at}
-use Rattle.js_spelling.specs.Statements.{statement_at, block_at}
+use Rattle.js_spelling.specs.Tokens.{name_at}
+use Rattle.js_spelling.specs.Expressions.{is_comma, expression_at}
+use Rattle.js_spelling.specs.Statements.{statement_at}
 use Rattle.js_spelling.specs.Modules.{Line, import_line, item_line, export_line, member_of, begins_file, is_file_front, file_front_at, file_at, names_at, parameters_at, object_property_at, properties_at, object_at, body_at, member_at, members_at, item_ended_at, item_after_at, line_after_at, line_at, is_imports, goes_on, stage_after, module_of, module_lines_at, module_at}
 use Rattle.js_spelling.proofs.WordLaws.{all_front, all_over, property_begins}
-use Rattle.js_spelling.proofs.HeadLaws.{IsHead, IsItemHead, IsLineHead, IsMemberHead, law_names, law_properties, law_line_heads, law_member_heads}
-use Rattle.js_spelling.proofs.ExpressionForms.{IsWordless, AfterForm, starts_heads, starts_wordless, starts_expression, is_expression_start, wordless_from, wordless_no_word, is_wordless_start}
+use Rattle.js_spelling.proofs.HeadLaws.{IsItemHead, IsLineHead, law_names, law_properties, law_line_heads, law_member_heads}
+use Rattle.js_spelling.proofs.ExpressionForms.{IsWordless, starts_heads, starts_wordless, starts_expression, is_expression_start, wordless_from, wordless_no_word, is_wordless_start}
 use Rattle.js_spelling.proofs.ExpressionLaws.{after_expression, anything, this_byte, same, fits, after_follows, law_expression_after, law_expression, law_wordless}
 use Rattle.js_spelling.proofs.StatementForms.{BlockForm}
 use Rattle.js_spelling.proofs.StatementLaws.{law_block, law_statement}
-use Rattle.js_spelling.proofs.ModuleForms.{NamesForm, ParametersForm, PropertyForm, PropertiesForm, ObjectForm, MemberForm, MembersForm, ItemEndedForm, ItemWordForm, LineWordForm, ModuleLineForm, IsLine, LineAt, ModuleForm, line_to, line_from, module_to, module_from}
+use Rattle.js_spelling.proofs.ModuleForms.{NamesForm, ParametersForm, PropertyForm, PropertiesForm, ObjectForm, MemberForm, MembersForm, ItemEndedForm, ItemWordForm, LineWordForm, IsLine, LineAt, line_to, line_from, module_to, module_from}
 
 open_end : (bytes : List ℕ) → Stops anything bytes
 open_end [] = tt

@@ -1,22 +1,21 @@
 -- Numbers and BigInts.
-use Rattle.std.proofs.Common.{◌≡◌, ℕ, zero, suc, ◌+◌, ◌-◌, ◌*◌, ◌^◌, ◌<◌, ◌≤◌, ℤ, pos, negsuc, Bool, true, false, cond, not, ◌&&◌, eqb, ltb, List, [], ◌∷◌, ◌++◌, length, Option, Some, None, refl, sym, ap, subst, ◌∙◌, append_assoc, append-nil, arith, ◌⊎◌, inl, inr, codes, decimal}
+use Rattle.std.proofs.Common.{◌≡◌, ℕ, ◌+◌, ◌-◌, ◌^◌, ◌<◌, ◌≤◌, ℤ, pos, negsuc, Bool, true, false, not, ◌&&◌, eqb, ltb, List, [], ◌∷◌, ◌++◌, length, refl, sym, ap, subst, ◌∙◌, append-nil, arith, codes, decimal}
 use Rattle.std.specs.List.{list_all}
 use Rattle.std.proofs.lemmas.Fmt.{decimal_nonempty, digits_decimal}
-use Rattle.std.proofs.lemmas.Bool.{lt-ltb, ltb-true, ltb-false, le-ltb}
+use Rattle.std.proofs.lemmas.Bool.{lt-ltb, ltb-true}
 use Rattle.js_tree.specs.Terms.{Expression, number_literal, big_literal}
-use Rattle.js_tree.specs.Written.{Grammar, Is, ◌●◌, Where}
+use Rattle.js_tree.specs.Written.{Is, ◌●◌}
 use Rattle.js_tree.specs.Spelling.{SpellsInteger, SpellsNumber, SpellsBig}
-use Rattle.exact_place.specs.Grammar.{Spelling, ◌then◌, Leads, Either, first, second, IsRun, IsValue, IsLiteral, IsMapped, chosen}
+use Rattle.exact_place.specs.Grammar.{Spelling, ◌then◌, Leads, Either, first, second, IsValue, IsMapped, chosen}
 use Rattle.exact_place.specs.Place.{Law, Stops}
 use Rattle.exact_place.specs.Reading.{run_at}
 use Rattle.exact_place.specs.Tokens.{is_digit, begins_number, number_of}
-use Rattle.exact_place.proofs.Steps.{cases}
-use Rattle.exact_place.proofs.Basic.{law_value, law_literal, law_map, law_same}
+use Rattle.exact_place.proofs.Basic.{law_value, law_map, law_same}
 use Rattle.exact_place.proofs.Sequence.{Follows, law_after, law_lead, law_either, law_chosen}
-use Rattle.exact_place.proofs.First.{apart, starts_leads, follows_leads, follows_value, follows_either, starts_mapped, starts_wider}
+use Rattle.exact_place.proofs.First.{apart, starts_leads, follows_leads, follows_value, follows_either}
 use Rattle.exact_place.proofs.Tokens.{law_run}
 use Rattle.exact_place.proofs.Words.{both, digits_token}
-use Rattle.exact_place.proofs.Numbers.{number_is, number_from, IsRead, own}
+use Rattle.exact_place.proofs.Numbers.{number_is, number_from, own}
 use Rattle.js_spelling.specs.Tokens.{digits_at, below_digits_at, number_end_at, number_at, below_end_at, below_at, key_digits_at, below_key_digits_at, key_at}
 
 -- ---- digits

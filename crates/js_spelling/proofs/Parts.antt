@@ -1,7 +1,7 @@
 -- From the parts of a text as readers know them to the parts as the grammar has them, and back.
-use Rattle.std.proofs.Common.{◌≡◌, ℕ, Bool, true, false, List, [], ◌∷◌, ◌++◌, refl, sym, ap, ap₂, subst, ◌∙◌, append_assoc, append-nil}
-use Rattle.js_tree.specs.Written.{Grammar, Is, ◌●◌, Where, More, Separated, Each}
-use Rattle.exact_place.specs.Grammar.{Spelling, ◌then◌, Leads, IsLiteral, IsValue, IsMapped, IsList, no_items, an_item}
+use Rattle.std.proofs.Common.{◌≡◌, ℕ, List, [], ◌∷◌, ◌++◌, refl, sym, ap, subst, ◌∙◌, append_assoc, append-nil}
+use Rattle.js_tree.specs.Written.{Grammar, Is, ◌●◌, More, Each}
+use Rattle.exact_place.specs.Grammar.{Spelling, Leads, IsLiteral, IsValue, IsMapped, IsList, no_items, an_item}
 
 pub seq : {P Q : Grammar} {text : List ℕ} (front back : List ℕ) → text ≡ front ++ back → P front → Q back → (P ● Q) text
 seq front back parts p q = record { front = front; back = back; first = p; second = q; parts = parts }

@@ -1,23 +1,17 @@
 -- One level of the grammar of statements as the reader takes it, and that it is the grammar.
-use Rattle.std.proofs.Common.{◌≡◌, ℕ, zero, suc, ◌+◌, ◌*◌, ℤ, Bool, true, false, cond, not, List, [], ◌∷◌, ◌++◌, refl, sym, ap, ap₂, subst, ◌∙◌, append_assoc, append-nil, ◌⊎◌, inl, inr, codes, arith}
+use Rattle.std.proofs.Common.{◌≡◌, ℕ, ◌+◌, ◌*◌, ℤ, true, List, [], ◌∷◌, ◌++◌, refl, sym, ap, ap₂, subst, ◌∙◌, append_assoc, append-nil, codes, arith}
 use Rattle.std.proofs.lemmas.List.{replicate-append-replicate}
 use Rattle.std.proofs.Math.ListN.{replicate}
-use Rattle.js_tree.specs.Names.{is_empty}
-use Rattle.js_tree.specs.Rules.{is_receiver}
-use Rattle.js_tree.specs.Written.{Grammar, Is, ◌●◌, Where, More, Separated, indent}
-use Rattle.js_tree.specs.Spelling.{SpellsName, SpellsProperty, SpellsNumber, SpellsExpression, SpellsKey, SpellsKeys, Block, SpellsBlock, SpellsStatement, SpellsLines, SpellsCases}
-use Rattle.js_tree.specs.Terms.{Name, Expression, name_use, property_of, index_of, Statement, const_of, let_of, declare_of, expression_statement, assign_name, assign_property, assign_index, super_call, throw_of, return_of, break_nearest, break_to, if_only, if_else, while_of, do_forever, labeled_of, try_catch, try_finally, switch_on, Statements, no_statements, statement, Cases, no_cases, switch_case}
+use Rattle.js_tree.specs.Written.{Is, ◌●◌, Separated, indent}
+use Rattle.js_tree.specs.Spelling.{SpellsName, SpellsNumber, SpellsExpression, SpellsKey, SpellsKeys, Block, SpellsStatement, SpellsLines, SpellsCases}
+use Rattle.js_tree.specs.Terms.{Expression, name_use, property_of, index_of, Statement, const_of, let_of, declare_of, expression_statement, assign_name, assign_property, assign_index, super_call, throw_of, return_of, break_nearest, break_to, if_only, if_else, while_of, do_forever, labeled_of, try_catch, try_finally, switch_on, Statements, no_statements, statement, Cases, no_cases, switch_case}
 use Rattle.js_tree.specs.Views.{statements_of, Case, cases_of}
-use Rattle.js_spelling.specs.declared.words.Head.{Head}
-use Rattle.js_spelling.specs.declared.words.Head.TheVariants as heads
 use Rattle.js_spelling.specs.declared.words.StatementHead.{StatementHead}
 use Rattle.js_spelling.specs.declared.words.StatementHead.TheVariants as statements
-use Rattle.exact_place.specs.Reading.{passes}
 use Rattle.exact_place.specs.Grammar.{Spelling, ◌then◌, Leads, Either, first, second, IsLiteral, IsValue, IsMapped, IsList, no_items, an_item}
-use Rattle.js_spelling.specs.Words.{is_word_start}
 use Rattle.js_spelling.proofs.Parts.{seq, led, lead_of, leads, closing, no_more, more_to, more_from, list_same, leads_same}
-use Rattle.js_spelling.proofs.HeadLaws.{IsHead, IsStatementHead}
-use Rattle.js_spelling.proofs.ExpressionForms.{IsWordless, AfterForm, ExpressionForm, WordlessForm, after_to, expression_from, wordless_off, wordless_to}
+use Rattle.js_spelling.proofs.HeadLaws.{IsStatementHead}
+use Rattle.js_spelling.proofs.ExpressionForms.{IsWordless, AfterForm, after_to, expression_from, wordless_off}
 
 -- ---- the level
 

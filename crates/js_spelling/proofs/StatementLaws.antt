@@ -1,29 +1,27 @@
 -- The law of the reader of statements.
-use Rattle.std.proofs.Common.{◌≡◌, ℕ, zero, suc, ◌+◌, ◌<◌, ◌≤◌, ℤ, Bool, true, false, cond, not, ◌&&◌, ◌||◌, eqb, List, [], ◌∷◌, ◌++◌, length, refl, sym, ap, subst, ◌∙◌, append_assoc, append-nil, arith, codes}
+use Rattle.std.proofs.Common.{◌≡◌, ℕ, zero, suc, ◌+◌, ◌≤◌, Bool, true, false, not, eqb, List, [], ◌∷◌, ◌++◌, length, refl, append_assoc, arith, codes}
 use Rattle.js_tree.specs.Written.{indent}
-use Rattle.js_tree.specs.Spelling.{SpellsName, SpellsNumber, SpellsExpression, SpellsStatement}
-use Rattle.js_tree.specs.Terms.{Name, Expression, name_use, property_of, index_of, Statement, const_of, let_of, declare_of, expression_statement, assign_name, assign_property, assign_index, super_call, throw_of, return_of, break_nearest, break_to, if_only, if_else, while_of, do_forever, labeled_of, try_catch, try_finally, switch_on, Statements, Cases}
-use Rattle.js_tree.specs.Views.{statements_of, Case, cases_of}
-use Rattle.js_spelling.specs.declared.words.Head.{Head}
+use Rattle.js_tree.specs.Spelling.{SpellsName, SpellsExpression, SpellsStatement}
+use Rattle.js_tree.specs.Terms.{Name, Expression, name_use, property_of, index_of, Statement, const_of, let_of, declare_of, assign_name, assign_property, assign_index, super_call, throw_of, return_of, break_nearest, break_to, if_only, if_else, while_of, do_forever, labeled_of, try_catch, try_finally, switch_on, Statements}
+use Rattle.js_tree.specs.Views.{statements_of, cases_of}
 use Rattle.js_spelling.specs.declared.words.StatementHead.{StatementHead}
 use Rattle.js_spelling.specs.declared.words.StatementHead.TheVariants as statements
-use Rattle.exact_place.specs.Reading.{Reading, stopped, passes, after_at, lead_at, map_at, literal_at, value_at, either_at}
-use Rattle.exact_place.specs.Grammar.{Spelling, ◌then◌, Leads, Either, first, second, IsLiteral, IsValue, IsMapped, IsList}
+use Rattle.exact_place.specs.Reading.{Reading, passes, after_at, lead_at, value_at, either_at}
+use Rattle.exact_place.specs.Grammar.{Spelling, ◌then◌, Leads, Either, first, second, IsValue, IsList}
 use Rattle.exact_place.specs.Place.{Begins, Stops, Law}
-use Rattle.exact_place.specs.Tokens.{is_digit}
-use Rattle.exact_place.proofs.Basic.{law_zero, law_value, law_literal, law_map, law_same, law_narrow, law_within}
+use Rattle.exact_place.proofs.Basic.{law_zero, law_value, law_literal, law_map, law_same, law_narrow}
 use Rattle.exact_place.proofs.Sequence.{Starts, Follows, law_after, law_lead, law_either}
 use Rattle.exact_place.proofs.Lists.{law_list}
-use Rattle.exact_place.proofs.First.{apart, starts_leads, starts_literal, starts_mapped, starts_then, starts_either, starts_wider, follows_starts, follows_leads, follows_literal, follows_value, follows_mapped, follows_either, follows_list, follows_then}
+use Rattle.exact_place.proofs.First.{starts_leads, starts_then, follows_starts, follows_leads, follows_literal, follows_value, follows_mapped, follows_either}
 use Rattle.js_spelling.specs.Words.{is_word_start, ends_word}
-use Rattle.js_spelling.specs.Tokens.{name_at, statement_head_at, key_at}
-use Rattle.js_spelling.specs.Expressions.{expression_at, wordless_at, expression_after_at}
+use Rattle.js_spelling.specs.Tokens.{name_at}
+use Rattle.js_spelling.specs.Expressions.{expression_at}
 use Rattle.js_spelling.specs.Statements.{case_key_at, ended_at, line_at, lines_at, block_at, keys_at, case_at, cases_at, switch_at, else_at, handler_at, target_at, statement_after_at, statement_level, statement_at}
-use Rattle.js_spelling.proofs.HeadLaws.{IsHead, IsStatementHead, law_names, law_statement_heads}
+use Rattle.js_spelling.proofs.HeadLaws.{IsStatementHead, law_names, law_statement_heads}
 use Rattle.js_spelling.proofs.NumberLaws.{no_digit, law_key}
-use Rattle.js_spelling.proofs.ExpressionForms.{IsWordless, AfterForm, starts_heads, starts_wordless, wordless_from, wordless_no_word, is_wordless_start}
+use Rattle.js_spelling.proofs.ExpressionForms.{IsWordless, starts_heads, starts_wordless, wordless_from, wordless_no_word, is_wordless_start}
 use Rattle.js_spelling.proofs.ExpressionLaws.{after_expression, anything, this_byte, same, fits, after_follows, law_expression_after, law_expression, law_wordless}
-use Rattle.js_spelling.proofs.StatementForms.{CaseKeyForm, EndedForm, LineForm, BlockForm, KeysForm, CaseForm, SwitchForm, ElseForm, HandlerForm, TargetForm, StatementWordForm, StatementForm, statement_to, statement_from}
+use Rattle.js_spelling.proofs.StatementForms.{CaseKeyForm, EndedForm, LineForm, BlockForm, KeysForm, CaseForm, SwitchForm, ElseForm, HandlerForm, TargetForm, StatementWordForm, statement_to, statement_from}
 
 -- what may follow a statement: the end of its line
 abbrev pub after_statement : ℕ → Bool

@@ -1,20 +1,18 @@
 -- Units of strings, and strings.
-use Rattle.std.proofs.Common.{◌≡◌, ℕ, zero, suc, ◌+◌, ◌-◌, ◌*◌, ◌/◌, ◌%◌, ◌^◌, ◌<◌, ◌≤◌, Bool, true, false, cond, not, ◌&&◌, ◌||◌, eqb, ltb, leb, List, [], ◌∷◌, ◌++◌, length, Option, Some, None, refl, sym, ap, subst, ap₂, ◌∙◌, append_assoc, append-nil, arith, ◌⊎◌, inl, inr, codes}
+use Rattle.std.proofs.Common.{◌≡◌, ℕ, ◌+◌, ◌-◌, ◌*◌, ◌/◌, ◌%◌, ◌^◌, ◌<◌, ◌≤◌, Bool, true, false, cond, not, ◌&&◌, ◌||◌, eqb, ltb, leb, List, [], ◌∷◌, ◌++◌, Option, Some, None, refl, sym, ap, subst, ap₂, ◌∙◌, arith, ◌⊎◌, inl, inr, codes}
 use Rattle.std.proofs.lemmas.Bool.{lt-ltb, ltb-true, ltb-false, le-ltb, leb-true, leb-false, le-leb, eqb-true, eqb-false, eq-eqb}
-use Rattle.js_tree.specs.Terms.{Expression, text_literal}
 use Rattle.js_tree.specs.Words.{hex_digit, unit_escape, unit_text}
-use Rattle.js_tree.specs.Written.{Grammar, Is, ◌●◌, Where, Each}
-use Rattle.js_tree.specs.Spelling.{SpellsUnit, SpellsText}
-use Rattle.exact_place.specs.Grammar.{Spelling, ◌then◌, Leads, Either, first, second, IsOne, IsValue, IsList, no_items, an_item}
+use Rattle.js_tree.specs.Written.{Is, Where}
+use Rattle.js_tree.specs.Spelling.{SpellsUnit}
+use Rattle.exact_place.specs.Grammar.{Spelling, ◌then◌, Leads, Either, first, second, IsOne}
 use Rattle.exact_place.specs.Place.{Law, Stops}
 use Rattle.exact_place.specs.Reading.{one_at, passes}
 use Rattle.exact_place.proofs.Steps.{cases, went}
 use Rattle.exact_place.proofs.Words.{both, none_some}
-use Rattle.exact_place.proofs.Basic.{law_value, law_one, law_same}
-use Rattle.exact_place.proofs.Sequence.{Starts, Follows, law_after, law_lead, law_either}
-use Rattle.exact_place.proofs.Lists.{law_list}
-use Rattle.exact_place.proofs.First.{apart, starts_leads, follows_leads, follows_starts}
-use Rattle.js_spelling.specs.Tokens.{plain_unit, hex_of, third_digit, third_of, fourth_digit, fourth_of, hex_at, escape_at, unit_at, string_at}
+use Rattle.exact_place.proofs.Basic.{law_one, law_same}
+use Rattle.exact_place.proofs.Sequence.{Starts, law_after, law_lead, law_either}
+use Rattle.exact_place.proofs.First.{apart, starts_leads, follows_starts}
+use Rattle.js_spelling.specs.Tokens.{plain_unit, hex_of, third_digit, third_of, fourth_digit, fourth_of, hex_at, escape_at, unit_at}
 
 -- ---- hexadecimal digits
 

@@ -1,10 +1,10 @@
 -- Whole modules: what the law of the reader says at the end of the bytes.
-use Rattle.std.proofs.Common.{◌≡◌, ℕ, zero, suc, ◌+◌, ◌<◌, ◌≤◌, List, [], ◌∷◌, ◌++◌, length, Result, Ok, Err, refl, sym, ap, subst, ◌∙◌, arith}
+use Rattle.std.proofs.Common.{◌≡◌, ℕ, suc, ◌+◌, List, [], ◌∷◌, length, Result, Ok, Err, sym, ◌∙◌, arith}
 use Rattle.js_tree.specs.Terms.{Module}
 use Rattle.js_tree.specs.Spelling.{Spells}
 use Rattle.js_spelling.specs.declared.words.Stage.TheVariants.{Imports}
-use Rattle.exact_place.specs.Reading.{Reading, map_at, end_at}
-use Rattle.exact_place.specs.Place.{Place, Law}
+use Rattle.exact_place.specs.Reading.{map_at, end_at}
+use Rattle.exact_place.specs.Place.{Place}
 use Rattle.exact_place.proofs.Steps.{good_is, bind_ok}
 use Rattle.exact_place.proofs.Whole.{whole_reads, whole_takes, whole_place, one_value}
 use Rattle.js_spelling.specs.Modules.{Line, module_of, module_lines_at, module_at}

@@ -1,19 +1,16 @@
 -- The words of the subset are tokens.
-use Rattle.std.proofs.Common.{◌≡◌, ℕ, zero, suc, ◌+◌, ◌<◌, ◌≤◌, Bool, true, false, cond, not, ◌&&◌, ◌||◌, eqb, List, [], ◌∷◌, ◌++◌, length, Option, Some, None, refl, sym, ap, subst, ◌∙◌, append_assoc, append-nil, arith, ◌⊎◌, inl, inr, codes}
+use Rattle.std.proofs.Common.{◌≡◌, ℕ, ◌+◌, Bool, true, false, not, ◌&&◌, ◌||◌, eqb, List, [], ◌∷◌, ◌++◌, refl, sym, ◌⊎◌, inl, inr, codes}
 use Rattle.std.specs.List.{list_all, list_any}
-use Rattle.std.proofs.lemmas.Bool.{eqb-true, eq-eqb}
-use Rattle.std.specs.Cmp.Lexicographic.{pointwise, same_text}
-use Rattle.std.specs.Prelude.{nat_eq}
-use Rattle.js_tree.specs.Names.{is_letter, is_digit, is_mark, is_name_character, is_empty, is_name, is_dunder, is_same_text, is_property, is_file_character}
-use Rattle.exact_place.specs.Grammar.{Spelling, IsRun}
-use Rattle.exact_place.specs.Reading.{Reading, run_at}
-use Rattle.exact_place.specs.Place.{Begins, Law}
-use Rattle.exact_place.specs.Tokens.{IsToken, AreNames, word_of, Entry, entry_of, begins_entry, each_word, each_ends}
-use Rattle.exact_place.proofs.Steps.{cases, went}
+use Rattle.std.specs.Cmp.Lexicographic.{same_text}
+use Rattle.js_tree.specs.Names.{is_digit, is_mark, is_name_character, is_name, is_dunder, is_same_text, is_property}
+use Rattle.exact_place.specs.Grammar.{IsRun}
+use Rattle.exact_place.specs.Reading.{run_at}
+use Rattle.exact_place.specs.Place.{Law}
+use Rattle.exact_place.specs.Tokens.{AreNames, entry_of, begins_entry}
 use Rattle.exact_place.proofs.Words.{both, none_some, word_token, table_token}
 use Rattle.exact_place.proofs.Numbers.{table_keywords}
 use Rattle.exact_place.proofs.Tokens.{law_run}
-use Rattle.js_spelling.specs.Words.{begins_name, begins_property, is_word_start, ends_word, expression_words, new_words, parenthesis_words, statement_words, member_words, item_words, later_words, line_words, head_of, new_head_of, parenthesis_head_of, statement_head_of, line_head_of, member_head_of, no_keyword, name_of, property_name_of, infix_words, is_space}
+use Rattle.js_spelling.specs.Words.{begins_name, begins_property, ends_word, expression_words, new_words, parenthesis_words, statement_words, member_words, line_words, head_of, new_head_of, parenthesis_head_of, statement_head_of, line_head_of, member_head_of, name_of, property_name_of, infix_words, is_space}
 
 pub all_front : (test : ℕ → Bool) (front : List ℕ) (c : ℕ) (more : List ℕ) → list_all test (front ++ c ∷ more) ≡ true → list_all test (front ++ c ∷ []) ≡ true
 all_front test [] c more h = let k = both (test c) (list_all test more) h in rw k.0 refl

@@ -1,8 +1,8 @@
 -- The reader of expressions.
-use Rattle.std.specs.Prelude.{ℕ, zero, suc, ℤ, Bool, true, false, cond, List, [], ◌∷◌, ◌&&◌, ◌||◌, not, ◌==◌, codes}
-use Rattle.exact_place.specs.Reading.{Reading, ◌>>=◌, stopped, value_at, literal_at, after_at, lead_at, map_at, either_at, list_at}
+use Rattle.std.specs.Prelude.{ℕ, zero, suc, Bool, true, false, List, [], ◌∷◌, ◌||◌, ◌==◌, codes}
+use Rattle.exact_place.specs.Reading.{Reading, stopped, value_at, literal_at, after_at, lead_at, map_at, either_at, list_at}
 use Rattle.exact_place.specs.Tokens.{is_digit}
-use Rattle.js_tree.specs.Terms.{Name, Expression, null_literal, boolean_literal, undefined_literal, number_literal, big_literal, text_literal, name_use, this_use, property_of, index_of, call_of, method_call_of, new_of, new_array_of, list_of, binary_of, unary_of, conditional_of, host_call, host_call_of_two, Expressions, no_expressions, expression}
+use Rattle.js_tree.specs.Terms.{Name, Expression, null_literal, boolean_literal, undefined_literal, name_use, this_use, property_of, index_of, call_of, method_call_of, new_of, new_array_of, list_of, binary_of, unary_of, conditional_of, host_call, host_call_of_two, Expressions, no_expressions, expression}
 use Rattle.js_tree.specs.Views.{expressions_of}
 use Rattle.js_tree.specs.declared.operators.UnaryOperator.{UnaryOperator}
 use Rattle.js_tree.specs.declared.operators.UnaryOperator.TheVariants.{Not, TypeOf}
@@ -19,7 +19,7 @@ use Rattle.js_spelling.specs.declared.words.ParenthesisHead.TheVariants as paren
 use Rattle.js_spelling.specs.declared.words.Infix.{Infix}
 use Rattle.js_spelling.specs.declared.words.Infix.TheVariants as infixes
 use Rattle.js_spelling.specs.Words.{is_word_start}
-use Rattle.js_spelling.specs.Tokens.{name_at, property_at, head_at, new_head_at, parenthesis_head_at, infix_at, number_at, below_at, string_at}
+use Rattle.js_spelling.specs.Tokens.{property_at, head_at, new_head_at, parenthesis_head_at, infix_at, number_at, below_at, string_at}
 
 -- What may stand behind an expression and goes on with it.
 pub data Suffix : Type 0 where

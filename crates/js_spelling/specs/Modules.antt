@@ -1,7 +1,7 @@
 -- The reader of items and modules.
-use Rattle.std.specs.Prelude.{ℕ, zero, suc, Bool, true, false, cond, not, List, [], ◌∷◌, ◌++◌, ◌==◌, ◌&&◌, Option, Some, None, codes}
+use Rattle.std.specs.Prelude.{ℕ, Bool, true, false, not, List, [], ◌∷◌, ◌++◌, ◌==◌, ◌&&◌, codes}
 use Rattle.std.specs.List.{list_all}
-use Rattle.exact_place.specs.Reading.{Reading, ◌>>=◌, stopped, value_at, literal_at, run_at, after_at, lead_at, map_at, either_at, list_at, walk_at, end_at}
+use Rattle.exact_place.specs.Reading.{Reading, value_at, literal_at, run_at, after_at, lead_at, map_at, either_at, list_at, walk_at, end_at}
 use Rattle.exact_place.specs.Tokens.{word_of}
 use Rattle.js_tree.specs.Names.{is_file_character, is_empty}
 use Rattle.js_tree.specs.Terms.{Name, Expression, Statements, Property, Member, constructor_of, method_of, Item, const_item, object_item, let_item, expression_item, function_item, class_item, subclass_item, Module}

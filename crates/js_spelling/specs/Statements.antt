@@ -1,8 +1,8 @@
 -- The reader of statements and blocks.
-use Rattle.std.specs.Prelude.{ℕ, zero, suc, ◌+◌, ℤ, Bool, true, false, cond, List, [], ◌∷◌, ◌++◌, ◌==◌, codes}
-use Rattle.exact_place.specs.Reading.{Reading, ◌>>=◌, stopped, value_at, literal_at, after_at, lead_at, map_at, either_at, list_at}
+use Rattle.std.specs.Prelude.{ℕ, zero, suc, ◌+◌, ℤ, true, List, ◌∷◌, ◌==◌, codes}
+use Rattle.exact_place.specs.Reading.{Reading, stopped, value_at, literal_at, after_at, lead_at, map_at, either_at, list_at}
 use Rattle.js_tree.specs.Written.{indent}
-use Rattle.js_tree.specs.Terms.{Name, Expression, name_use, property_of, index_of, Statement, const_of, let_of, declare_of, expression_statement, assign_name, assign_property, assign_index, super_call, throw_of, return_of, break_nearest, break_to, if_only, if_else, while_of, do_forever, labeled_of, try_catch, try_finally, switch_on, Statements, no_statements, statement, Cases}
+use Rattle.js_tree.specs.Terms.{Expression, name_use, property_of, index_of, Statement, const_of, let_of, declare_of, expression_statement, assign_name, assign_property, assign_index, super_call, throw_of, return_of, break_nearest, break_to, if_only, if_else, while_of, do_forever, labeled_of, try_catch, try_finally, switch_on, Statements}
 use Rattle.js_tree.specs.Views.{statements_of, Case, cases_of}
 use Rattle.js_spelling.specs.declared.words.StatementHead.{StatementHead}
 use Rattle.js_spelling.specs.declared.words.StatementHead.TheVariants as statements

@@ -1,7 +1,7 @@
 -- Readers of the tokens: words, numbers and strings.
-use Rattle.std.specs.Prelude.{ℕ, ℤ, pos, negsuc, ◌+◌, ◌-◌, ◌*◌, ◌/◌, ◌%◌, ◌^◌, Bool, true, false, cond, List, [], ◌∷◌, ◌&&◌, ◌||◌, not, nat_lt, nat_le, ◌==◌, Option, Some, None, codes}
-use Rattle.exact_place.specs.Reading.{Reading, ◌>>=◌, value_at, one_at, literal_at, run_at, after_at, lead_at, map_at, either_at, list_at}
-use Rattle.exact_place.specs.Tokens.{begins_entry, entry_of, begins_number, number_of, is_digit}
+use Rattle.std.specs.Prelude.{ℕ, ℤ, pos, negsuc, ◌+◌, ◌-◌, ◌*◌, ◌^◌, Bool, true, false, cond, List, [], ◌&&◌, ◌||◌, not, nat_lt, nat_le, ◌==◌, Option, Some, None, codes}
+use Rattle.exact_place.specs.Reading.{Reading, value_at, one_at, run_at, after_at, lead_at, map_at, either_at, list_at}
+use Rattle.exact_place.specs.Tokens.{begins_entry, entry_of, begins_number, number_of}
 use Rattle.js_tree.specs.Terms.{Expression, number_literal, big_literal, text_literal}
 use Rattle.js_spelling.specs.declared.words.Head.{Head}
 use Rattle.js_spelling.specs.declared.words.NewHead.{NewHead}

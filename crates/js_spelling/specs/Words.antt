@@ -1,12 +1,12 @@
 -- The words of the subset, by the places where they may stand. A name may stand at each place but one: a member of a class has
 -- the name of a property.
-use Rattle.std.specs.Prelude.{ℕ, Bool, true, false, List, [], ◌∷◌, ◌&&◌, not, ◌==◌, Option, Some, None, codes, map}
+use Rattle.std.specs.Prelude.{ℕ, Bool, true, false, List, [], ◌∷◌, ◌&&◌, not, ◌==◌, Option, None, codes}
 use Rattle.std.specs.List.{list_all}
-use Rattle.js_tree.specs.Names.{is_name_character, is_digit, is_name, is_dunder, is_property, is_file_character}
+use Rattle.js_tree.specs.Names.{is_name_character, is_digit, is_name, is_dunder, is_property}
 use Rattle.js_tree.specs.Words.{binary_text}
 use Rattle.js_tree.specs.declared.operators.BinaryOperator.{BinaryOperator}
 use Rattle.js_tree.specs.declared.operators.BinaryOperator.TheVariants.{Add, Subtract, Multiply, Divide, Remainder, BitAnd, BitOr, BitXor, ShiftLeft, ShiftRight, ShiftRightUnsigned, StrictEqual, StrictNotEqual, Less, LessOrEqual, Greater, GreaterOrEqual, And, Or, In, InstanceOf}
-use Rattle.exact_place.specs.Tokens.{Entry, entry_of, word_of, begins_entry}
+use Rattle.exact_place.specs.Tokens.{Entry, entry_of, word_of}
 use Rattle.js_spelling.specs.declared.words.Head.{Head}
 use Rattle.js_spelling.specs.declared.words.Head.TheVariants as heads
 use Rattle.js_spelling.specs.declared.words.NewHead.{NewHead}

@@ -1,5 +1,5 @@
 -- One level of the reader of statements, at a fuel that isn't zero.
-use Rattle.std.proofs.Common.{◌≡◌, ℕ, zero, suc, ◌-◌, true, false, List, length, Ok, Err, refl, ap, ◌∙◌, arith, codes}
+use Rattle.std.proofs.Common.{◌≡◌, ℕ, zero, suc, ◌-◌, true, false, List, length, Ok, Err, refl, ap, arith, codes}
 use Rattle.exact_place.specs.Reading.{passes, literal_at}
 use Rattle.js_tree.specs.Terms.{Expression, Statements, do_forever}
 use Rattle.js_spelling.specs.declared.words.StatementHead.{StatementHead}

@@ -1,5 +1,5 @@
 -- Reading the suffixes of an expression one after the other, as a loop does.
-use Rattle.std.proofs.Common.{◌≡◌, ℕ, suc, ◌+◌, ◌-◌, ◌<◌, ◌≤◌, Bool, true, false, List, [], ◌∷◌, length, Ok, Err, refl, sym, ◌∙◌, arith}
+use Rattle.std.proofs.Common.{◌≡◌, ℕ, suc, ◌+◌, ◌-◌, ◌<◌, ◌≤◌, Bool, true, false, List, ◌∷◌, length, Ok, Err, refl, sym, ◌∙◌, arith}
 use Rattle.exact_place.specs.Reading.{Reading, ◌>>=◌, passes, list_at}
 use Rattle.exact_place.proofs.Steps.{good_is}
 use Rattle.js_tree.specs.Terms.{Expression}

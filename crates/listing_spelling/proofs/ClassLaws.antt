@@ -1,8 +1,8 @@
 -- The law of the reader of classes.
-use Rattle.std.proofs.Common.{◌≡◌, ℕ, zero, suc, ◌+◌, ◌<◌, ◌≤◌, Bool, true, false, cond, not, eqb, List, [], ◌∷◌, ◌++◌, length, Option, Some, None, refl, sym, ap, subst, ◌∙◌, append_assoc, append-nil, arith, codes}
-use Rattle.js_tree.specs.Written.{Grammar, Is, ◌●◌}
+use Rattle.std.proofs.Common.{◌≡◌, ℕ, ◌+◌, ◌≤◌, true, false, eqb, List, [], ◌∷◌, ◌++◌, Option, Some, None, refl, sym, ap, ◌∙◌, append-nil, codes}
+use Rattle.js_tree.specs.Written.{Grammar}
 use Rattle.js_spelling.proofs.Parts.{seq, led, lead_of}
-use Rattle.exact_place.specs.Reading.{Reading, passes, end_at, map_at}
+use Rattle.exact_place.specs.Reading.{Reading, passes}
 use Rattle.exact_place.specs.Grammar.{Spelling, ◌then◌, Leads, Either, first, second, IsLiteral, IsValue, IsMapped}
 use Rattle.exact_place.specs.Place.{Law, Stops}
 use Rattle.exact_place.proofs.Basic.{law_value, law_map, law_same, law_narrow, law_end}
@@ -14,11 +14,11 @@ use Rattle.sj_trees.specs.declared.classes.ParamDef.{ParamDef}
 use Rattle.sj_trees.specs.declared.classes.FieldDef.{FieldDef}
 use Rattle.sj_trees.specs.declared.classes.MethodDef.{MethodDef}
 use Rattle.sj_trees.specs.declared.classes.ClassDef.{ClassDef}
-use Rattle.listing_spelling.specs.Spelling.{◌▪◌, End, Form, SpellsList, SpellsPlainName, SpellsClassName, SpellsMethodName, SpellsMark, SpellsNamespace, SpellsKind, SpellsType, SpellsTree, SpellsParam, SpellsField, SpellsBody, SpellsMethod, SpellsSuperclass, Lists}
+use Rattle.listing_spelling.specs.Spelling.{End, Form, SpellsList, SpellsPlainName, SpellsClassName, SpellsMethodName, SpellsMark, SpellsNamespace, SpellsKind, SpellsType, SpellsTree, SpellsParam, SpellsField, SpellsBody, SpellsMethod, SpellsSuperclass, Lists}
 use Rattle.listing_spelling.specs.Words.{ends_word}
-use Rattle.listing_spelling.specs.Reading.{bracketed_at, tree_at, param_at, member_field_at, body_at, method_at, superclass_at, class_at, listing_at}
+use Rattle.listing_spelling.specs.Reading.{bracketed_at, param_at, member_field_at, body_at, method_at, superclass_at, class_at, listing_at}
 use Rattle.listing_spelling.specs.Names.{class_name_at}
-use Rattle.listing_spelling.proofs.Fields.{anything, fits, in_brackets, Row, field, close, Field, Close, part, last, field_of, law_bracketed}
+use Rattle.listing_spelling.proofs.Fields.{anything, fits, in_brackets, field, close, Field, Close, part, last, field_of, law_bracketed}
 use Rattle.listing_spelling.proofs.Values.{law_mark, law_namespace, law_kind}
 use Rattle.listing_spelling.proofs.Literals.{law_plain_name, law_class_name, law_any_class_name, starts_class_name, law_method_name, law_type}
 use Rattle.listing_spelling.proofs.TreeLaws.{starts_tree, law_tree}

@@ -1,14 +1,11 @@
 -- The escapes of characters in names: each that stands for a character in a name, and no other.
-use Rattle.std.proofs.Common.{◌≡◌, ℕ, zero, suc, ◌+◌, ◌-◌, ◌*◌, ◌/◌, ◌%◌, ◌^◌, ◌<◌, ◌≤◌, Bool, true, false, cond, not, ◌&&◌, ◌||◌, eqb, ltb, leb, List, [], ◌∷◌, ◌++◌, length, Option, Some, None, refl, sym, ap, subst, ap₂, ◌∙◌, append_assoc, append-nil, arith, ◌⊎◌, inl, inr, codes}
+use Rattle.std.proofs.Common.{◌≡◌, ℕ, ◌+◌, ◌-◌, ◌*◌, ◌/◌, ◌%◌, ◌<◌, ◌≤◌, Bool, true, false, cond, not, ◌&&◌, ◌||◌, eqb, ltb, leb, List, [], ◌∷◌, ◌++◌, Option, Some, None, refl, sym, ap, subst, ap₂, ◌∙◌, append-nil, arith, ◌⊎◌, inl, inr, codes}
 use Rattle.std.specs.Char.{IsScalar}
-use Rattle.std.specs.Char.Escape.{encode_utf16}
 use Rattle.std.specs.Char.Utf16.{surrogate_pair_char}
-use Rattle.std.specs.List.{flat_map}
-use Rattle.std.proofs.lemmas.Bool.{lt-ltb, ltb-true, ltb-false, le-ltb, leb-true, leb-false, le-leb, eqb-true, eqb-false, eq-eqb}
+use Rattle.std.proofs.lemmas.Bool.{lt-ltb, ltb-true, ltb-false, le-ltb, leb-true, leb-false, le-leb, eqb-true, eqb-false}
 use Rattle.js_tree.specs.Words.{hex_digit, unit_escape, unit_text}
 use Rattle.exact_place.specs.Grammar.{Spelling, ◌then◌, Leads, Either, first, second, IsOne, IsValue, chosen}
 use Rattle.exact_place.specs.Place.{Law, Stops}
-use Rattle.exact_place.specs.Reading.{Reading, one_at, passes}
 use Rattle.exact_place.proofs.Steps.{cases, went}
 use Rattle.exact_place.proofs.Words.{both, none_some}
 use Rattle.exact_place.proofs.Basic.{law_value, law_one, law_same}

@@ -1,17 +1,16 @@
 -- Parts in a row and parts in brackets: their law, and that they are the parts of the grammar.
-use Rattle.std.proofs.Common.{◌≡◌, ℕ, zero, suc, ◌+◌, ◌<◌, ◌≤◌, Bool, true, false, not, ◌&&◌, ◌||◌, eqb, List, [], ◌∷◌, ◌++◌, length, refl, sym, ap, subst, ◌∙◌, append_assoc, append-nil, arith, ◌⊎◌, inl, inr, codes}
+use Rattle.std.proofs.Common.{◌≡◌, ℕ, ◌+◌, ◌≤◌, Bool, true, false, not, ◌||◌, eqb, List, [], ◌∷◌, ◌++◌, length, refl, sym, ap, subst, ◌∙◌, append_assoc, arith, codes}
 use Rattle.std.proofs.lemmas.Bool.{eqb-true}
-use Rattle.js_tree.specs.Written.{Grammar, Is, ◌●◌, Separated}
+use Rattle.js_tree.specs.Written.{Grammar, Separated}
 use Rattle.js_spelling.proofs.Parts.{seq, led, lead_of, more_to, more_from}
 use Rattle.exact_place.specs.Reading.{Reading}
-use Rattle.exact_place.specs.Grammar.{Spelling, ◌then◌, Leads, Either, first, second, IsLiteral, IsValue, IsMapped, IsList}
-use Rattle.exact_place.specs.Place.{Law, Stops}
-use Rattle.exact_place.proofs.Steps.{cases}
+use Rattle.exact_place.specs.Grammar.{Spelling, ◌then◌, Leads, Either, first, second, IsValue, IsList}
+use Rattle.exact_place.specs.Place.{Law}
 use Rattle.exact_place.proofs.Basic.{law_value, law_same}
 use Rattle.exact_place.proofs.Sequence.{Starts, Follows, law_after, law_lead, law_either}
 use Rattle.exact_place.proofs.Lists.{law_list}
 use Rattle.exact_place.proofs.First.{apart, starts_leads, starts_then, follows_starts, follows_leads, follows_list, follows_then}
-use Rattle.listing_spelling.specs.Spelling.{◌▪◌, End, Bracketed, SpellsList}
+use Rattle.listing_spelling.specs.Spelling.{◌▪◌, End, SpellsList}
 use Rattle.listing_spelling.specs.Words.{ends_word}
 use Rattle.listing_spelling.specs.Reading.{field_at, close_at, bracketed_at}
 

@@ -1,11 +1,11 @@
 -- What is listed may be listed, and has nothing that a listing doesn't say.
-use Rattle.std.specs.Prelude.{◌≡◌, ℕ, ℤ, pos, negsuc, Bool, true, false, List, [], ◌∷◌, ◌++◌, ◌+◌, ◌^◌, ◌<◌, not, All, codes, map, Option, Some, None, MatchOption}
+use Rattle.std.specs.Prelude.{◌≡◌, ℕ, ℤ, pos, negsuc, Bool, true, false, List, [], ◌∷◌, ◌^◌, ◌<◌, not, All, codes, Option, Some, None, MatchOption}
 use Rattle.std.specs.List.{AllByRecursion}
 use Rattle.std.specs.Str.{IsUtf8}
-use Rattle.std.proofs.Common.{sym, refl, ◌∙◌, ap, ltb-true}
+use Rattle.std.proofs.Common.{refl, ltb-true}
 use Rattle.std.proofs.lemmas.List.Elements.{All-from_recursion}
-use Rattle.js_tree.specs.Rules.{IsBelow, IsUnit}
-use Rattle.js_tree.specs.Written.{Grammar, Is, ◌●◌, Where, More, Separated, Each}
+use Rattle.js_tree.specs.Rules.{IsBelow}
+use Rattle.js_tree.specs.Written.{Grammar, More, Separated, Each}
 use Rattle.js_tree.specs.Spelling.{SpellsUnit, SpellsText}
 use Rattle.sj_names.specs.declared.references.ArrayRef.{ArrayRef}
 use Rattle.sj_names.specs.declared.method_names.MethodName.{MethodName}

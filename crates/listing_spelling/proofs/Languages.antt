@@ -1,8 +1,8 @@
 -- Which texts the spots lead through: those that are names of each kind, and their fronts.
-use Rattle.std.proofs.Common.{◌≡◌, ◌≢◌, ℕ, zero, suc, ◌+◌, ◌<◌, ◌≤◌, Bool, true, false, cond, not, ◌&&◌, ◌||◌, eqb, ltb, leb, List, [], ◌∷◌, ◌++◌, length, replicate, Option, Some, None, refl, sym, ap, subst, ◌∙◌, append_assoc, append-nil, arith, ◌⊎◌, inl, inr, codes, nat_eq, is_some, MatchOption, All, IsTrue}
+use Rattle.std.proofs.Common.{◌≡◌, ◌≢◌, ℕ, zero, suc, ◌+◌, ◌<◌, ◌≤◌, Bool, true, false, not, ◌&&◌, ◌||◌, eqb, ltb, List, [], ◌∷◌, ◌++◌, length, replicate, Option, Some, None, refl, sym, ap, subst, ◌∙◌, append_assoc, arith, ◌⊎◌, inl, inr, codes, nat_eq, MatchOption, All}
 use Rattle.std.specs.List.{list_all, AllByRecursion}
 use Rattle.std.specs.Cmp.Lexicographic.{pointwise}
-use Rattle.std.proofs.lemmas.Bool.{lt-ltb, ltb-true, ltb-false, leb-true, le-leb, eqb-true, eqb-false, eq-eqb}
+use Rattle.std.proofs.lemmas.Bool.{lt-ltb, ltb-true, eqb-true}
 use Rattle.std.proofs.lemmas.List.Elements.{recursion_from_All, All-from_recursion}
 use Rattle.exact_place.proofs.Steps.{cases, went}
 use Rattle.exact_place.proofs.Words.{both, none_some, text_is}
@@ -14,7 +14,7 @@ use Rattle.sj_names.specs.References.{spelled_array, spelled, IsReference, refer
 use Rattle.sj_names.specs.declared.references.ArrayRef.{ArrayRef}
 use Rattle.sj_names.specs.declared.references.TypeRef.{TypeRef}
 use Rattle.sj_names.specs.declared.references.TypeRef.TheVariants as refs
-use Rattle.sj_names.specs.MethodNames.{spelled_method, spelled_parameters, spelled_result, IsMethodName, IsParameter, method_name_of}
+use Rattle.sj_names.specs.MethodNames.{spelled_method, spelled_parameters, spelled_result, IsParameter, method_name_of}
 use Rattle.sj_names.specs.declared.method_names.MethodName.{MethodName}
 use Rattle.sj_names.proofs.ReadReferences.{reads_references}
 use Rattle.sj_names.proofs.ReadMethodNames.{reads_method_names}

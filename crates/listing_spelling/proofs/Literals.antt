@@ -1,24 +1,23 @@
 -- Names, references, types and texts: the laws of their readers.
-use Rattle.std.proofs.Common.{◌≡◌, ℕ, zero, suc, ◌+◌, ◌<◌, ◌≤◌, Bool, true, false, cond, not, ◌&&◌, ◌||◌, eqb, ltb, leb, List, [], ◌∷◌, ◌++◌, length, Option, Some, None, refl, sym, ap, subst, ◌∙◌, append_assoc, append-nil, arith, ◌⊎◌, inl, inr, codes}
-use Rattle.js_tree.specs.Written.{Grammar, Is, ◌●◌, Where, Each}
+use Rattle.std.proofs.Common.{◌≡◌, ℕ, ◌+◌, ◌≤◌, Bool, true, false, cond, not, eqb, List, [], ◌++◌, Option, Some, None, refl, sym, ap, subst, ◌∙◌, inl, inr, codes}
+use Rattle.js_tree.specs.Written.{Grammar, Is, Where}
 use Rattle.js_tree.specs.Spelling.{SpellsUnit, SpellsText}
 use Rattle.js_spelling.proofs.Parts.{seq, led, lead_of, each_to, each_from}
 use Rattle.js_spelling.proofs.UnitLaws.{law_unit, starts_unit}
-use Rattle.exact_place.specs.Reading.{Reading, run_at, passes}
 use Rattle.exact_place.specs.Grammar.{Spelling, ◌then◌, Leads, Either, first, second, IsRun, IsValue, IsList}
-use Rattle.exact_place.specs.Place.{Law, Stops}
-use Rattle.exact_place.specs.Tokens.{entry_of, begins_entry}
-use Rattle.exact_place.proofs.Steps.{cases, went}
+use Rattle.exact_place.specs.Place.{Law}
+use Rattle.exact_place.specs.Tokens.{entry_of}
+use Rattle.exact_place.proofs.Steps.{went}
 use Rattle.exact_place.proofs.Basic.{law_value, law_same, law_narrow}
 use Rattle.exact_place.proofs.Sequence.{Starts, law_after, law_lead, law_either}
 use Rattle.exact_place.proofs.Lists.{law_list}
-use Rattle.exact_place.proofs.First.{apart, starts_leads, follows_starts, follows_leads}
+use Rattle.exact_place.proofs.First.{starts_leads, follows_starts, follows_leads}
 use Rattle.exact_place.proofs.Tokens.{law_run}
-use Rattle.exact_place.proofs.Words.{both, none_some, table_token}
+use Rattle.exact_place.proofs.Words.{none_some, table_token}
 use Rattle.exact_place.proofs.Numbers.{table_is}
 use Rattle.sj_names.specs.Grammar.{is_plain_name, is_class_name}
-use Rattle.sj_names.specs.References.{spelled_array, IsReference, reference_of}
-use Rattle.sj_names.specs.MethodNames.{spelled_method, IsMethodName, method_name_of}
+use Rattle.sj_names.specs.References.{spelled_array, reference_of}
+use Rattle.sj_names.specs.MethodNames.{spelled_method, method_name_of}
 use Rattle.sj_names.specs.declared.references.ArrayRef.{ArrayRef}
 use Rattle.sj_names.specs.declared.references.TypeRef.{TypeRef}
 use Rattle.sj_names.specs.declared.references.TypeRef.TheVariants as refs
@@ -27,12 +26,12 @@ use Rattle.sj_names.proofs.ReadReferences.{reads_references}
 use Rattle.sj_names.proofs.ReadMethodNames.{reads_method_names}
 use Rattle.sj_trees.specs.declared.types.IrType.{IrType}
 use Rattle.sj_trees.specs.declared.types.IrType.TheVariants as types
-use Rattle.listing_spelling.specs.Spelling.{End, is_object, SpellsLiteral, SpellsPlainName, SpellsClassName, SpellsMethodName, SpellsArray, SpellsType}
+use Rattle.listing_spelling.specs.Spelling.{is_object, SpellsLiteral, SpellsPlainName, SpellsClassName, SpellsMethodName, SpellsArray, SpellsType}
 use Rattle.listing_spelling.specs.Words.{ends_word, type_words}
 use Rattle.listing_spelling.specs.Names.{plain_name, class_name, type_class, array_among, array_of, plain_name_at, class_name_at, type_class_at, method_name_at, array_at}
 use Rattle.listing_spelling.specs.Reading.{long_type_at, type_word_at, type_at, text_at}
 use Rattle.listing_spelling.specs.declared.words.Spot.TheVariants.{NameStart, PartStart, ArrayStart, MethodStart}
-use Rattle.listing_spelling.proofs.Fields.{anything, fits, this_byte}
+use Rattle.listing_spelling.proofs.Fields.{anything, fits}
 use Rattle.listing_spelling.proofs.NameLaws.{IsNamed, law_named}
 use Rattle.listing_spelling.proofs.Languages.{plain_language, class_language, type_class_language, array_language, method_language}
 

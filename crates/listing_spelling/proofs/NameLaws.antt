@@ -1,13 +1,11 @@
 -- The law of the reader of names, for each kind of name that the spots know.
-use Rattle.std.proofs.Common.{◌≡◌, ℕ, zero, suc, ◌+◌, ◌<◌, ◌≤◌, Bool, true, false, cond, not, ◌&&◌, ◌||◌, eqb, ltb, leb, List, [], ◌∷◌, ◌++◌, length, Option, Some, None, Result, Ok, Err, refl, sym, ap, subst, ap₂, ◌∙◌, append_assoc, append-nil, arith, ◌⊎◌, inl, inr, codes, is_some}
+use Rattle.std.proofs.Common.{◌≡◌, ℕ, zero, suc, ◌+◌, ◌<◌, ◌≤◌, Bool, true, false, cond, not, ◌&&◌, ◌||◌, eqb, leb, List, [], ◌∷◌, ◌++◌, length, Option, Some, None, Ok, Err, refl, sym, ap, subst, ap₂, ◌∙◌, append_assoc, append-nil, arith, ◌⊎◌, inl, inr, codes, is_some}
 use Rattle.std.specs.List.{list_all, flat_map}
 use Rattle.std.specs.Char.{IsScalar, encode_utf8}
 use Rattle.std.specs.Str.{encode_utf8_all, all_scalars}
-use Rattle.std.specs.Char.Escape.{encode_utf16}
-use Rattle.std.proofs.lemmas.Bool.{lt-ltb, ltb-true, ltb-false, le-ltb, leb-true, leb-false, le-leb, eqb-true, eqb-false, eq-eqb}
+use Rattle.std.proofs.lemmas.Bool.{lt-ltb, leb-true, leb-false, le-leb, eqb-true}
 use Rattle.std.proofs.lemmas.Str.{encode_ascii}
-use Rattle.js_tree.specs.Words.{unit_text}
-use Rattle.exact_place.specs.Reading.{Reading, ◌>>=◌, stopped, passes, value_at, one_at, literal_at, after_at, lead_at, either_at}
+use Rattle.exact_place.specs.Reading.{Reading, ◌>>=◌, stopped, passes, value_at, one_at, literal_at, after_at, lead_at}
 use Rattle.exact_place.specs.Grammar.{Spelling, ◌then◌, Leads, Either, first, second, IsOne, IsValue, chosen}
 use Rattle.exact_place.specs.Place.{Begins, Law, Stops}
 use Rattle.exact_place.proofs.Steps.{cases, went}
@@ -15,9 +13,9 @@ use Rattle.exact_place.proofs.Words.{both, none_some}
 use Rattle.exact_place.proofs.Basic.{law_zero, law_value, law_one, law_same}
 use Rattle.exact_place.proofs.Sequence.{Starts, law_after, law_lead, law_either, law_chosen}
 use Rattle.exact_place.proofs.Lists.{law_alike}
-use Rattle.exact_place.proofs.First.{apart, starts_leads, starts_then, starts_either, follows_starts}
+use Rattle.exact_place.proofs.First.{apart, starts_leads, starts_then, follows_starts}
 use Rattle.listing_spelling.specs.Spelling.{character_text, SpellsLiteral}
-use Rattle.listing_spelling.specs.Names.{step, moved, is_open, is_simple, plain_of, escape_at, character_at, characters_at, quote_at, named_at}
+use Rattle.listing_spelling.specs.Names.{step, moved, is_open, is_simple, plain_of, character_at, characters_at, quote_at, named_at}
 use Rattle.listing_spelling.specs.declared.words.Spot.{Spot}
 use Rattle.listing_spelling.specs.declared.words.Spot.TheVariants.{NameStart, Name, PartStart, Part, ArrayStart, ArrayBase, ArrayEnd, MethodStart, Less, LessI, LessIn, LessIni, LessInit, InitEnd, Simple, TypeStart, TypeBase, TypePartStart, TypePart, TypeEnd, Last}
 use Rattle.listing_spelling.proofs.Fields.{anything}

@@ -1,5 +1,5 @@
 -- Each class that may be listed has one listing, the one that is put.
-use Rattle.std.specs.Prelude.{◌≡◌, ℕ, ℤ, pos, negsuc, Bool, true, false, List, [], ◌∷◌, ◌++◌, ◌+◌, ◌^◌, ◌<◌, ◌↔◌, not, IsTrue, All, codes, map, option_map, Option, Some, None, MatchOption}
+use Rattle.std.specs.Prelude.{◌≡◌, ℕ, ℤ, pos, negsuc, Bool, true, false, List, [], ◌∷◌, ◌++◌, ◌+◌, ◌^◌, ◌<◌, ◌↔◌, All, codes, map, option_map, Option, Some, None, MatchOption}
 use Rattle.std.specs.List.{AllByRecursion, flat_map}
 use Rattle.std.specs.Char.Escape.{encode_utf16}
 use Rattle.std.specs.Str.{chars, IsUtf8}
@@ -8,8 +8,8 @@ use Rattle.std.proofs.lemmas.List.Elements.{recursion_from_All}
 use Rattle.std.proofs.lemmas.Str.{chars_from_encodes, encodes-chars, scalars-chars}
 use Rattle.js_tree.specs.Rules.{IsBelow}
 use Rattle.js_tree.specs.Words.{unit_text}
-use Rattle.js_tree.specs.Written.{Grammar, Is, ◌●◌, Where, More, Separated, Putting, put, nothing, ◌▸◌, put_more, put_separated, put_each}
-use Rattle.js_tree.specs.Texts.{put_unit, put_text}
+use Rattle.js_tree.specs.Written.{Grammar, Is, ◌●◌, More, Separated, Putting, put, put_more, put_separated, put_each}
+use Rattle.js_tree.specs.Texts.{put_unit}
 use Rattle.js_tree.proofs.OneText.{IsText, literal, is_nothing, behind, where_holds, separated}
 use Rattle.js_tree.proofs.TextLaws.{text_of_text}
 use Rattle.sj_names.specs.References.{spelled_array}
@@ -18,7 +18,7 @@ use Rattle.sj_names.specs.declared.references.ArrayRef.{ArrayRef}
 use Rattle.sj_names.specs.declared.method_names.MethodName.{MethodName}
 use Rattle.sj_names.specs.declared.method_names.Namespace.{Namespace}
 use Rattle.sj_names.specs.declared.method_names.Namespace.TheVariants as namespaces
-use Rattle.sj_trees.specs.Erase.{nowhere, erase, erase_all, erase_cases}
+use Rattle.sj_trees.specs.Erase.{erase, erase_all, erase_cases}
 use Rattle.sj_trees.specs.Term.{Term, Terms, no_terms, more_terms, Cases, no_cases, more_cases, var_def, skip, block_of, labeled, assign, return_to, if_then, while_loop, do_while, try_catch, try_finally, throw, match_on, new_object, load_module, store_module, select, select_static, apply, apply_statically, apply_static, unary_op, binary_op, new_array, array_value, array_length, array_select, is_instance_of, as_instance_of, undefined_literal, null_literal, boolean_literal, char_literal, byte_literal, short_literal, int_literal, long_literal, string_literal, var_ref, this_ref, log_line}
 use Rattle.sj_trees.specs.declared.classes.ClassKind.{ClassKind}
 use Rattle.sj_trees.specs.declared.classes.ClassKind.TheVariants as kinds

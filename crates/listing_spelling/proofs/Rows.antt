@@ -1,13 +1,13 @@
 -- A class and its listing, and two texts that are none, computed.
-use Rattle.std.specs.Prelude.{◌≡◌, ℕ, List, [], ◌∷◌, false, Option, Some, None, Ok, Err, codes}
+use Rattle.std.specs.Prelude.{◌≡◌, [], ◌∷◌, Some, None, Err, codes}
 use Rattle.std.proofs.Common.{refl}
 use Rattle.std.specs.Str.{chars}
-use Rattle.exact_place.specs.Reading.{Reading, literal_at, run_at}
+use Rattle.exact_place.specs.Reading.{literal_at}
 use Rattle.js_tree.specs.Written.{put}
 use Rattle.sj_names.specs.declared.references.TypeRef.TheVariants.{Void}
 use Rattle.sj_names.specs.declared.method_names.Namespace.TheVariants.{PublicStatic}
 use Rattle.sj_trees.specs.Erase.{nowhere}
-use Rattle.sj_trees.specs.Term.{Term, log_line, string_literal}
+use Rattle.sj_trees.specs.Term.{log_line, string_literal}
 use Rattle.sj_trees.specs.declared.classes.ClassKind.TheVariants.{Class}
 use Rattle.sj_trees.specs.declared.classes.ClassDef.{ClassDef}
 use Rattle.sj_trees.specs.declared.types.IrType.TheVariants.{NoType}

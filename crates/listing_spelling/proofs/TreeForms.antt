@@ -1,13 +1,12 @@
 -- One level of the grammar of trees as the reader takes it, and that it is the grammar.
-use Rattle.std.proofs.Common.{◌≡◌, ℕ, ℤ, List, [], ◌∷◌, ◌++◌, ◌^◌, refl, sym, ap, subst, ◌∙◌, codes, map}
+use Rattle.std.proofs.Common.{◌≡◌, ℕ, List, [], ◌∷◌, ◌++◌, ◌^◌, refl, sym, ap, subst, ◌∙◌, codes}
 use Rattle.js_tree.specs.Written.{Grammar, Is, ◌●◌, More, Separated}
 use Rattle.js_tree.specs.Spelling.{SpellsText}
 use Rattle.js_spelling.proofs.Parts.{seq, led, lead_of}
-use Rattle.exact_place.specs.Grammar.{Spelling, ◌then◌, Leads, IsValue, IsMapped}
+use Rattle.exact_place.specs.Grammar.{Spelling, ◌then◌, Leads, IsMapped}
 use Rattle.sj_trees.specs.Erase.{nowhere}
-use Rattle.sj_trees.specs.declared.positions.Position.{Position}
 use Rattle.sj_trees.specs.Term.{Term, Terms, no_terms, more_terms, Cases, no_cases, more_cases, var_def, skip, block_of, labeled, assign, return_to, if_then, while_loop, do_while, try_catch, try_finally, throw, match_on, new_object, load_module, store_module, select, select_static, apply, apply_statically, apply_static, unary_op, binary_op, new_array, array_value, array_length, array_select, is_instance_of, as_instance_of, undefined_literal, null_literal, boolean_literal, char_literal, byte_literal, short_literal, int_literal, long_literal, string_literal, var_ref, this_ref, log_line}
-use Rattle.sj_trees.specs.View.{Case, terms_of, cases_of, onto, cases_onto}
+use Rattle.sj_trees.specs.View.{Case, terms_of, cases_of}
 use Rattle.listing_spelling.specs.Spelling.{◌▪◌, End, Form, Bracketed, SpellsList, SpellsPlainName, SpellsClassName, SpellsMethodName, SpellsArray, SpellsMark, SpellsNatural, SpellsInteger, SpellsUnaryOp, SpellsBinaryOp, SpellsNamespace, SpellsType, SpellsKey, SpellsTree, SpellsTrees, SpellsMoreTrees, SpellsCases, SpellsMoreCases}
 use Rattle.listing_spelling.specs.declared.words.Form as words
 use Rattle.listing_spelling.specs.declared.words.Form.TheVariants as forms

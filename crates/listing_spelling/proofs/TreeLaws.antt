@@ -1,19 +1,18 @@
 -- The law of the reader of trees.
-use Rattle.std.proofs.Common.{◌≡◌, ℕ, zero, suc, ℤ, ◌+◌, ◌<◌, ◌≤◌, ◌^◌, Bool, true, false, eqb, List, [], ◌∷◌, ◌++◌, length, refl, sym, ap, subst, ◌∙◌, arith, codes}
-use Rattle.js_tree.specs.Written.{Grammar, Is, ◌●◌}
+use Rattle.std.proofs.Common.{ℕ, zero, suc, ℤ, ◌≤◌, ◌^◌, Bool, eqb, List, [], refl, arith, codes}
 use Rattle.js_spelling.proofs.Parts.{seq, led, lead_of}
 use Rattle.exact_place.specs.Reading.{Reading}
-use Rattle.exact_place.specs.Grammar.{Spelling, ◌then◌, Leads, IsMapped}
+use Rattle.exact_place.specs.Grammar.{Spelling, ◌then◌, Leads}
 use Rattle.exact_place.specs.Place.{Begins, Law}
 use Rattle.exact_place.proofs.Basic.{law_zero, law_map, law_same, law_narrow}
-use Rattle.exact_place.proofs.Sequence.{Starts, Follows, law_after, law_lead, law_behind}
+use Rattle.exact_place.proofs.Sequence.{Starts, law_after, law_lead, law_behind}
 use Rattle.exact_place.proofs.First.{starts_leads}
 use Rattle.sj_trees.specs.Erase.{nowhere}
-use Rattle.sj_trees.specs.Term.{Term, Terms, no_terms, more_terms, Cases, no_cases, more_cases, var_def, skip, block_of, labeled, assign, return_to, if_then, while_loop, do_while, try_catch, try_finally, throw, match_on, new_object, load_module, store_module, select, select_static, apply, apply_statically, apply_static, unary_op, binary_op, new_array, array_value, array_length, array_select, is_instance_of, as_instance_of, undefined_literal, null_literal, boolean_literal, char_literal, byte_literal, short_literal, int_literal, long_literal, string_literal, var_ref, this_ref, log_line}
+use Rattle.sj_trees.specs.Term.{Term, var_def, skip, block_of, labeled, assign, return_to, if_then, while_loop, do_while, try_catch, try_finally, throw, match_on, new_object, load_module, store_module, select, select_static, apply, apply_statically, apply_static, unary_op, binary_op, new_array, array_value, array_length, array_select, is_instance_of, as_instance_of, undefined_literal, null_literal, boolean_literal, char_literal, byte_literal, short_literal, int_literal, long_literal, string_literal, var_ref, this_ref, log_line}
 use Rattle.sj_trees.specs.View.{Case, terms_of, cases_of}
-use Rattle.listing_spelling.specs.Spelling.{End, Form, ◌▪◌, SpellsList, SpellsKey, SpellsTree}
+use Rattle.listing_spelling.specs.Spelling.{Form, SpellsList, SpellsKey, SpellsTree}
 use Rattle.listing_spelling.specs.Words.{ends_word}
-use Rattle.listing_spelling.specs.Reading.{field_at, close_at, integer_at, bracketed_at, trees_at, case_at, cases_at, leaf_at, statement_at, branch_at, call_at, operation_at, fields_at, tree_level, tree_at}
+use Rattle.listing_spelling.specs.Reading.{field_at, close_at, trees_at, case_at, cases_at, leaf_at, statement_at, branch_at, call_at, operation_at, fields_at, tree_level, tree_at}
 use Rattle.listing_spelling.specs.declared.words.Form as words
 use Rattle.listing_spelling.specs.declared.words.Form.TheVariants as forms
 use Rattle.listing_spelling.specs.declared.words.LeafForm.{LeafForm}
@@ -29,7 +28,7 @@ use Rattle.listing_spelling.specs.declared.words.OperationForm.TheVariants as op
 use Rattle.listing_spelling.proofs.Fields.{anything, fits, in_brackets, Row, field, close, Field, Close, part, last, field_of, close_of, law_bracketed}
 use Rattle.listing_spelling.proofs.Values.{law_mark, law_natural, law_integer, law_key, is_number_start, starts_key, law_namespace, law_unary, law_binary, IsForm, law_form}
 use Rattle.listing_spelling.proofs.Literals.{law_plain_name, law_class_name, law_method_name, law_array, law_type, law_text}
-use Rattle.listing_spelling.proofs.TreeForms.{Trees_form, Cases_form, Case_form, trees_level_to, trees_level_from, cases_level_to, cases_level_from, Leaf_fields, Statement_fields, Branch_fields, Call_fields, Operation_fields, Fields_of, Tree_form, tree_to, tree_from}
+use Rattle.listing_spelling.proofs.TreeForms.{Trees_form, Cases_form, Case_form, trees_level_to, trees_level_from, cases_level_to, cases_level_from, Leaf_fields, Statement_fields, Branch_fields, Call_fields, Operation_fields, Fields_of, tree_to, tree_from}
 
 pub is_parenthesis : ℕ → Bool
 is_parenthesis c = eqb c 40

@@ -1,21 +1,21 @@
 -- Marks, numbers and words.
-use Rattle.std.proofs.Common.{◌≡◌, ℕ, zero, suc, ◌+◌, ◌-◌, ◌*◌, ◌^◌, ◌<◌, ◌≤◌, ℤ, pos, negsuc, Bool, true, false, cond, not, ◌&&◌, ◌||◌, eqb, ltb, leb, List, [], ◌∷◌, ◌++◌, length, Option, Some, None, refl, sym, ap, subst, ◌∙◌, append_assoc, append-nil, arith, ◌⊎◌, inl, inr, codes, decimal, is_some}
+use Rattle.std.proofs.Common.{◌≡◌, ℕ, zero, suc, ◌+◌, ◌-◌, ◌^◌, ◌<◌, ◌≤◌, ℤ, pos, negsuc, Bool, true, false, cond, not, ◌&&◌, ◌||◌, eqb, List, [], ◌∷◌, ◌++◌, length, Option, Some, None, refl, sym, ap, subst, ◌∙◌, arith, inl, inr, codes, decimal, is_some}
 use Rattle.std.specs.List.{list_all}
 use Rattle.std.specs.Option.{unwrap_or}
 use Rattle.std.proofs.lemmas.Fmt.{decimal_nonempty, digits_decimal}
-use Rattle.std.proofs.lemmas.Bool.{lt-ltb, ltb-true, ltb-false, le-ltb, eqb-true, eqb-false}
-use Rattle.js_tree.specs.Written.{Grammar, Is, ◌●◌, Where}
+use Rattle.std.proofs.lemmas.Bool.{lt-ltb, ltb-true, eqb-true, eqb-false}
+use Rattle.js_tree.specs.Written.{Grammar, Is}
 use Rattle.exact_place.specs.Grammar.{Spelling, Leads, Either, first, second, IsRun, IsOne, IsMapped}
-use Rattle.exact_place.specs.Place.{Law, Stops}
-use Rattle.exact_place.specs.Reading.{Reading, run_at, passes}
-use Rattle.exact_place.specs.Tokens.{Entry, entry_of, begins_entry, each_ends, is_digit, begins_number, number_of}
+use Rattle.exact_place.specs.Place.{Law}
+use Rattle.exact_place.specs.Reading.{run_at, passes}
+use Rattle.exact_place.specs.Tokens.{entry_of, is_digit, begins_number, number_of}
 use Rattle.exact_place.proofs.Steps.{cases, went}
 use Rattle.exact_place.proofs.Basic.{law_one, law_map, law_same, law_narrow}
 use Rattle.exact_place.proofs.Sequence.{Starts, law_lead, law_either}
 use Rattle.exact_place.proofs.First.{apart, starts_leads, starts_mapped, follows_starts}
 use Rattle.exact_place.proofs.Tokens.{law_run}
 use Rattle.exact_place.proofs.Words.{both, none_some, digits_token, table_token}
-use Rattle.exact_place.proofs.Numbers.{number_is, number_from, own, AllEntries, table_is}
+use Rattle.exact_place.proofs.Numbers.{number_is, number_from, own, table_is}
 use Rattle.sj_names.specs.declared.method_names.Namespace.{Namespace}
 use Rattle.sj_names.specs.declared.method_names.Namespace.TheVariants as namespaces
 use Rattle.sj_trees.proofs.Codes.{unary_with-unary_code, unary_code-unary_with, binary_with-binary_code, binary_code-binary_with}
@@ -29,17 +29,12 @@ use Rattle.listing_spelling.specs.Words.{ends_word, form_words, namespace_words,
 use Rattle.listing_spelling.specs.Reading.{mark_of, mark_at, natural_at, code_at, integer_at, unary_of, binary_of, unary_op_at, binary_op_at, namespace_at, kind_at, form_at}
 use Rattle.listing_spelling.specs.declared.words.Form.{Form}
 use Rattle.listing_spelling.specs.declared.words.Form.TheVariants as forms
-use Rattle.listing_spelling.specs.declared.words.LeafForm.{LeafForm}
 use Rattle.listing_spelling.specs.declared.words.LeafForm.TheVariants as leaves
-use Rattle.listing_spelling.specs.declared.words.StatementForm.{StatementForm}
 use Rattle.listing_spelling.specs.declared.words.StatementForm.TheVariants as statements
-use Rattle.listing_spelling.specs.declared.words.BranchForm.{BranchForm}
 use Rattle.listing_spelling.specs.declared.words.BranchForm.TheVariants as branches
-use Rattle.listing_spelling.specs.declared.words.CallForm.{CallForm}
 use Rattle.listing_spelling.specs.declared.words.CallForm.TheVariants as calls
-use Rattle.listing_spelling.specs.declared.words.OperationForm.{OperationForm}
 use Rattle.listing_spelling.specs.declared.words.OperationForm.TheVariants as operations
-use Rattle.listing_spelling.proofs.Fields.{anything, in_brackets, this_byte}
+use Rattle.listing_spelling.proofs.Fields.{in_brackets, this_byte}
 
 some_is : {A : Type 0} (a b : A) → Some a ≡ Some b → a ≡ b
 some_is a b e = cc e

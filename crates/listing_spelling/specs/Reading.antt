@@ -1,17 +1,15 @@
 -- The readers of listings, from marks and numbers to whole classes.
 use Rattle.std.specs.Prelude.{ℕ, ℤ, pos, negsuc, zero, suc, ◌+◌, ◌-◌, ◌^◌, Bool, true, false, cond, not, List, [], ◌∷◌, ◌==◌, Option, Some, None, codes}
-use Rattle.exact_place.specs.Reading.{Reading, ◌>>=◌, stopped, value_at, one_at, run_at, after_at, lead_at, map_at, either_at, list_at, end_at}
+use Rattle.exact_place.specs.Reading.{Reading, stopped, value_at, one_at, run_at, after_at, lead_at, map_at, either_at, list_at, end_at}
 use Rattle.exact_place.specs.Tokens.{begins_entry, entry_of, begins_number, number_of}
 use Rattle.js_spelling.specs.Tokens as units
-use Rattle.sj_names.specs.declared.references.ArrayRef.{ArrayRef}
-use Rattle.sj_names.specs.declared.method_names.MethodName.{MethodName}
 use Rattle.sj_names.specs.declared.method_names.Namespace.{Namespace}
 use Rattle.std.specs.Option.{unwrap_or}
 use Rattle.sj_trees.specs.Erase.{nowhere}
 use Rattle.sj_trees.specs.Operators.{unary_with, binary_with}
 use Rattle.sj_trees.specs.declared.operators.BinaryOp.TheVariants.{StrictEqual}
 use Rattle.sj_trees.specs.declared.operators.UnaryOp.TheVariants.{BooleanNot}
-use Rattle.sj_trees.specs.Term.{Term, Terms, no_terms, more_terms, Cases, no_cases, more_cases, var_def, skip, block_of, labeled, assign, return_to, if_then, while_loop, do_while, try_catch, try_finally, throw, match_on, new_object, load_module, store_module, select, select_static, apply, apply_statically, apply_static, unary_op, binary_op, new_array, array_value, array_length, array_select, is_instance_of, as_instance_of, undefined_literal, null_literal, boolean_literal, char_literal, byte_literal, short_literal, int_literal, long_literal, string_literal, var_ref, this_ref, log_line}
+use Rattle.sj_trees.specs.Term.{Term, Terms, Cases, var_def, skip, block_of, labeled, assign, return_to, if_then, while_loop, do_while, try_catch, try_finally, throw, match_on, new_object, load_module, store_module, select, select_static, apply, apply_statically, apply_static, unary_op, binary_op, new_array, array_value, array_length, array_select, is_instance_of, as_instance_of, undefined_literal, null_literal, boolean_literal, char_literal, byte_literal, short_literal, int_literal, long_literal, string_literal, var_ref, this_ref, log_line}
 use Rattle.sj_trees.specs.View.{Case, terms_of, cases_of}
 use Rattle.sj_trees.specs.declared.classes.ClassKind.{ClassKind}
 use Rattle.sj_trees.specs.declared.classes.ParamDef.{ParamDef}

@@ -1,5 +1,5 @@
 -- Which classes have a listing, and the class that a listing of another one lists.
-use Rattle.std.specs.Prelude.{◌≡◌, ◌<◌, ◌^◌, ℕ, ℤ, pos, negsuc, false, List, [], ◌∷◌, Option, Some, None, IsTrue, All, MatchOption, map, option_map}
+use Rattle.std.specs.Prelude.{◌≡◌, ◌<◌, ◌^◌, ℕ, pos, false, List, [], ◌∷◌, None, IsTrue, All, MatchOption, map, option_map}
 use Rattle.std.specs.Str.{IsUtf8}
 use Rattle.js_tree.specs.Rules.{IsBelow}
 use Rattle.sj_names.specs.Grammar.{is_plain_name, is_class_name}

@@ -1,5 +1,5 @@
 -- The text of a listing: the same productions, each put behind what is there. Positions, source files and hashes are not in it.
-use Rattle.std.specs.Prelude.{ℕ, ℤ, pos, negsuc, Bool, true, false, List, [], ◌∷◌, ◌+◌, codes, decimal, Option, Some, None}
+use Rattle.std.specs.Prelude.{ℕ, ℤ, pos, negsuc, Bool, true, false, List, [], ◌+◌, codes, decimal, Option, Some, None}
 use Rattle.std.specs.Char.Escape.{encode_utf16}
 use Rattle.std.specs.Str.{chars}
 use Rattle.js_tree.specs.Written.{Putting, put, nothing, ◌▸◌, put_separated, put_each}

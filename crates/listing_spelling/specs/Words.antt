@@ -9,15 +9,10 @@ use Rattle.sj_trees.specs.declared.types.IrType.{IrType}
 use Rattle.sj_trees.specs.declared.types.IrType.TheVariants as types
 use Rattle.listing_spelling.specs.declared.words.Form.{Form}
 use Rattle.listing_spelling.specs.declared.words.Form.TheVariants as forms
-use Rattle.listing_spelling.specs.declared.words.LeafForm.{LeafForm}
 use Rattle.listing_spelling.specs.declared.words.LeafForm.TheVariants as leaves
-use Rattle.listing_spelling.specs.declared.words.StatementForm.{StatementForm}
 use Rattle.listing_spelling.specs.declared.words.StatementForm.TheVariants as statements
-use Rattle.listing_spelling.specs.declared.words.BranchForm.{BranchForm}
 use Rattle.listing_spelling.specs.declared.words.BranchForm.TheVariants as branches
-use Rattle.listing_spelling.specs.declared.words.CallForm.{CallForm}
 use Rattle.listing_spelling.specs.declared.words.CallForm.TheVariants as calls
-use Rattle.listing_spelling.specs.declared.words.OperationForm.{OperationForm}
 use Rattle.listing_spelling.specs.declared.words.OperationForm.TheVariants as operations
 
 abbrev pub entry : {A : Type 0} → List ℕ → A → Entry A

@@ -1,14 +1,9 @@
 -- Answers that are logged.
-use Rattle.std.proofs.Common.{◌≡◌, List, Contains, refl, ap, ◌∙◌}
-use Rattle.std.specs.Prelude.{◌↔◌, IsTrue, Some}
-use Rattle.sj_ask.specs.declared.questions.Question.{Question}
+use Rattle.std.proofs.Common.{ap}
 use Rattle.sj_ask.specs.declared.questions.Question.TheVariants as question
-use Rattle.sj_ask.specs.declared.questions.Answer.{Answer}
 use Rattle.sj_ask.specs.declared.questions.Answer.TheVariants as answer
 use Rattle.sj_world.specs.Subtypes as subtypes
-use Rattle.sj_ask.specs.Stands.{Stand}
-use Rattle.sj_ask.specs.Answers.{IsAnswer, IsAboveHijacked}
-use Rattle.sj_ask.specs.Apart.{answer_apart}
+use Rattle.sj_ask.specs.Answers.{IsAboveHijacked}
 use Rattle.sj_ask.specs.Laws.{AnswersAreOne}
 use Rattle.sj_ask.proofs.One.{one_truth, one_field_answer, one_target, one_single, one_body_answer}
 

@@ -1,5 +1,5 @@
 -- What is asked for is one thing.
-use Rattle.std.proofs.Common.{◌≡◌, ℕ, ◌<◌, Bool, true, false, List, Option, Some, None, Contains, refl, sym, ap, ◌∙◌, subst, arith, inl, inr}
+use Rattle.std.proofs.Common.{◌≡◌, ℕ, ◌<◌, Bool, true, false, List, Option, Some, None, refl, sym, ap, ◌∙◌, subst, arith, inl, inr}
 use Rattle.std.specs.Prelude.{◌⊎◌, ◌↔◌, IsTrue, is_some, is_none, not, option_map, slice_get}
 use Rattle.sj_names.specs.declared.method_names.Member.{Member}
 use Rattle.sj_names.specs.declared.method_names.MethodName.{MethodName}
@@ -13,7 +13,7 @@ use Rattle.sj_world.proofs.Once.{resolves_once}
 use Rattle.tree_sameness.specs.Apart.{field_apart, method_apart}
 use Rattle.sj_ask.specs.Stands.{Stand}
 use Rattle.sj_ask.specs.Members.{IsField, IsFieldOf, HasNoField, IsMethod, IsMethodOf}
-use Rattle.sj_ask.specs.Answers.{public_member, target_member, IsTarget, IsOnlyTarget, HasNoOnlyTarget, IsSmallBody, HasNoSmallBody, IsSameField, IsSameBody, IsFieldAnswer, IsSingleAnswer, IsBodyAnswer}
+use Rattle.sj_ask.specs.Answers.{public_member, target_member, IsTarget, IsSmallBody, HasNoSmallBody, IsFieldAnswer, IsSingleAnswer, IsBodyAnswer}
 
 -- the first of a list with a property is one
 one_first : {X : Type 0} (Has : X → Type 0) (xs : List X) (x y : X) → IsFirst Has xs x → IsFirst Has xs y → x ≡ y

@@ -1,11 +1,11 @@
 -- Runs of tasks, one behind another.
-use Rattle.std.proofs.Common.{◌≡◌, List, [], ◌∷◌, ◌++◌, Option, Some, None, Result, Ok, Err, refl, sym, ap, ◌∙◌, subst, append_assoc, append-nil}
+use Rattle.std.proofs.Common.{◌≡◌, List, [], ◌∷◌, ◌++◌, Some, None, Result, Ok, Err, refl, sym, ap, ◌∙◌, subst, append_assoc, append-nil}
 use Rattle.sj_ask.specs.declared.questions.Question.{Question}
 use Rattle.sj_ask.specs.declared.questions.Answer.{Answer}
 use Rattle.sj_ask.specs.Apart.{Exchange}
 use Rattle.sj_ask.specs.Told.{Told, told_more}
 use Rattle.sj_ask.specs.Tasks.{Asking, done, stop, ask, ◌>>=◌}
-use Rattle.sj_ask.specs.Runs.{Comes, GoesOn, Ran}
+use Rattle.sj_ask.specs.Runs.{Comes, Ran}
 
 told-nil : (t : Told) → t ≡ told_more t []
 told-nil None = refl

@@ -1,14 +1,12 @@
 -- What answers say.
-use Rattle.std.proofs.Common.{◌≡◌, Bool, Option, ap, sym, subst}
+use Rattle.std.proofs.Common.{◌≡◌, Bool, ap, sym, subst}
 use Rattle.std.specs.Prelude.{◌↔◌, IsTrue}
 use Rattle.sj_names.specs.declared.method_names.Member.{Member}
-use Rattle.sj_trees.specs.declared.classes.FieldDef.{FieldDef}
-use Rattle.sj_trees.specs.declared.classes.MethodDef.{MethodDef}
 use Rattle.sj_ask.specs.declared.questions.Question.{Question}
 use Rattle.sj_ask.specs.declared.questions.Answer.{Answer}
 use Rattle.sj_ask.specs.declared.questions.Answer.TheVariants as answer
 use Rattle.sj_ask.specs.Stands.{Stand}
-use Rattle.sj_ask.specs.Answers.{IsAnswer, SaysWhether, GivesField, GivesMember, GivesBody}
+use Rattle.sj_ask.specs.Answers.{IsAnswer, SaysWhether}
 use Rattle.sj_ask.proofs.One.{one_truth}
 
 pub truth_said : (P : Type 0) (now r : Bool) (x : Answer) → IsTrue now ↔ P → IsTrue r ↔ (x ≡ answer.Yes now) → IsTrue r ↔ SaysWhether P x

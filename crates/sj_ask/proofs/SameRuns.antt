@@ -1,12 +1,10 @@
 -- Tasks that ask the same and go on alike: where their questions have the same answers, they ask the same and end alike.
-use Rattle.std.proofs.Common.{◌≡◌, List, [], ◌∷◌, ◌++◌, Result, Ok, Err, refl, sym, ap, ◌∙◌, subst}
-use Rattle.std.specs.List.{All}
+use Rattle.std.proofs.Common.{◌≡◌, List, ◌∷◌, Result, Ok, Err, refl, sym, ap, ◌∙◌, subst}
 use Rattle.std.proofs.lemmas.List.Elements.{All-head, All-tail}
 use Rattle.sj_ask.specs.declared.questions.Question.{Question}
-use Rattle.sj_ask.specs.declared.questions.Answer.{Answer}
 use Rattle.sj_ask.specs.Stands.{Stand}
 use Rattle.sj_ask.specs.Answers.{IsAnswer}
-use Rattle.sj_ask.specs.Apart.{Exchange, answer_apart, exchange_apart, asked_apart}
+use Rattle.sj_ask.specs.Apart.{Exchange, answer_apart, asked_apart}
 use Rattle.sj_ask.specs.Tasks.{Asking, done, stop, ask, ◌>>=◌}
 use Rattle.sj_ask.specs.Runs.{Comes}
 use Rattle.sj_ask.specs.Laws.{HoldsIn, Alike, SameEnd, IsSameRun}

@@ -1,15 +1,14 @@
 -- Searches in what is known of a world.
-use Rattle.std.proofs.Common.{◌≡◌, ℕ, ◌+◌, ◌≤◌, ◌<◌, Bool, true, false, List, Option, Some, None, Contains, slice_get, refl, sym, ap, ◌∙◌, subst, length, arith, inl, inr}
+use Rattle.std.proofs.Common.{◌≡◌, ℕ, ◌+◌, ◌≤◌, ◌<◌, Bool, true, false, List, Some, None, Contains, slice_get, refl, sym, ap, ◌∙◌, subst, length, arith, inl, inr}
 use Rattle.std.specs.Prelude.{◌⊎◌, ◌↔◌, IsTrue}
 use Rattle.std.proofs.lemmas.Option.{slice_get_within}
 use Rattle.sj_names.specs.declared.method_names.Member.{Member}
 use Rattle.sj_names.specs.declared.method_names.MethodName.{MethodName}
 use Rattle.sj_world.specs.Known.{Name, Classes}
-use Rattle.sj_world.specs.Paths.{HasNone}
 use Rattle.sj_world.specs.declared.linked.Fact.{Fact}
 use Rattle.sj_world.specs.declared.linked.Fact.TheVariants.{Made, Body}
 use Rattle.sj_world.proofs.Searches.{NoneYet, none_more, none_whole, none_among, contains_at, stands_at}
-use Rattle.sj_ask.specs.Answers.{public_member, IsTarget, Makes, MakesNone, IsMadeBelow, HasNoneMade, RunsIfMade, RunAll, IsOnlyTarget, HasNoOnlyTarget}
+use Rattle.sj_ask.specs.Answers.{IsTarget, Makes, MakesNone, IsMadeBelow, HasNoneMade, RunsIfMade, RunAll, IsOnlyTarget, HasNoOnlyTarget}
 use Rattle.sj_ask.proofs.One.{one_target}
 
 -- the fact makes a class below C

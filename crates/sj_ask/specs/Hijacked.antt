@@ -1,7 +1,7 @@
 -- The classes above hijacked ones, by those that the world has.
-use Rattle.std.specs.Prelude.{◌≡◌, ◌⊎◌, true, Option, Some, None, codes, MatchOption}
+use Rattle.std.specs.Prelude.{◌≡◌, Option, Some, None, codes}
 use Rattle.sj_trees.specs.declared.classes.ClassDef.{ClassDef}
-use Rattle.sj_world.specs.Known.{Name, Classes, class_of, is_known, object}
+use Rattle.sj_world.specs.Known.{Name, Classes, class_of, object}
 use Rattle.sj_world.specs.Ancestors.{IsAncestor}
 
 -- the class is above `java.lang.Object`, which the world has

@@ -5,7 +5,7 @@ use Rattle.sj_ask.specs.declared.questions.Question.{Question}
 use Rattle.sj_ask.specs.declared.questions.Answer.{Answer}
 use Rattle.sj_ask.specs.Stands.{Stand}
 use Rattle.sj_ask.specs.Answers.{IsAnswer}
-use Rattle.sj_ask.specs.Apart.{Exchange, answer_apart, exchange_apart, asked_apart}
+use Rattle.sj_ask.specs.Apart.{Exchange, answer_apart, asked_apart}
 use Rattle.sj_ask.specs.Tasks.{Asking, done, stop, ask}
 use Rattle.sj_ask.specs.Runs.{Comes}
 

@@ -2,7 +2,7 @@
 use Rattle.std.specs.Prelude.{◌≡◌, List, [], ◌∷◌, Result, Ok, Err}
 use Rattle.sj_ask.specs.declared.questions.Question.{Question}
 use Rattle.sj_ask.specs.declared.questions.Answer.{Answer}
-use Rattle.sj_ask.specs.Apart.{Exchange, answer_apart, exchange_apart}
+use Rattle.sj_ask.specs.Apart.{Exchange}
 use Rattle.sj_ask.specs.Tasks.{Asking, done, stop, ask}
 use Rattle.sj_ask.specs.Told.{Told, told_more}
 

@@ -1,5 +1,5 @@
 -- Tasks, as what they ask and what they do with each answer.
-use Rattle.std.specs.Prelude.{◌≡◌, ℕ, Bool, true, false, List, [], ◌∷◌, Option, Some, None, Result, Ok, Err}
+use Rattle.std.specs.Prelude.{ℕ, Bool, false, List, Option, None}
 use Rattle.sj_names.specs.declared.method_names.Member.{Member}
 use Rattle.sj_names.specs.declared.method_names.MethodName.{MethodName}
 use Rattle.sj_trees.specs.declared.classes.FieldDef.{FieldDef}
@@ -9,7 +9,6 @@ use Rattle.sj_ask.specs.declared.questions.Question.{Question}
 use Rattle.sj_ask.specs.declared.questions.Question.TheVariants as question
 use Rattle.sj_ask.specs.declared.questions.Answer.{Answer}
 use Rattle.sj_ask.specs.declared.questions.Answer.TheVariants as answer
-use Rattle.sj_ask.specs.Apart.{Exchange}
 
 -- a task that is done, stops with a refusal, or asks a question and goes on with the answer
 pub data Asking (E A : Type 0) : Type 0 where

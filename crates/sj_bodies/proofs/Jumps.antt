@@ -11,7 +11,6 @@ use Rattle.ir_mean.specs.States as ir
 use Rattle.js_mean.specs.Meaning as js_meaning
 use Rattle.js_mean.specs.States as js
 use Rattle.sj_core.specs.Terms as core
-use Rattle.sj_core.specs.Terms.{followed}
 use Rattle.sj_desugar.specs.Desugar.{target_of, labeled_code, leaving_code}
 use Rattle.sj_desugar.specs.Spill.{Destination, discard, to_variable, to_result, Code}
 use Rattle.sj_emit_expr.specs.Templates.{statement_templates}

@@ -11,7 +11,6 @@ use Rattle.ir_mean.specs.States as ir
 use Rattle.ir_mean.specs.World as ir_world
 use Rattle.js_mean.specs.States as js
 use Rattle.sj_core.specs.Terms as core
-use Rattle.sj_core.specs.Terms.{followed}
 use Rattle.sj_core.specs.Views.{expressions_of}
 use Rattle.sj_desugar.specs.Coercions.{coerced_arguments}
 use Rattle.sj_desugar.specs.Desugar.{Targets, into, operands, operand, expression_of, first_of, second_of, finish, member, types_of}

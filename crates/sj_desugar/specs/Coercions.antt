@@ -1,5 +1,5 @@
 -- Where a char becomes an object that holds it.
-use Rattle.std.specs.Prelude.{Bool, true, false, ◌&&◌, not, List, [], ◌∷◌, if◌then◌else◌}
+use Rattle.std.specs.Prelude.{Bool, true, false, ◌&&◌, not, List, ◌∷◌, if◌then◌else◌}
 use Rattle.sj_core.specs.Terms.{Expression, boxed_char}
 use Rattle.sj_names.specs.declared.references.TypeRef.{TypeRef}
 use Rattle.sj_trees.specs.Types.{reference_type}

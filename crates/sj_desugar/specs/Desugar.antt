@@ -1,5 +1,5 @@
 -- Trees as statements and expressions of the core.
-use Rattle.std.specs.Prelude.{ℕ, suc, Bool, true, false, ◌&&◌, not, List, [], ◌∷◌, ℤ, Option, Some, None, if◌then◌else◌}
+use Rattle.std.specs.Prelude.{ℕ, Bool, true, false, List, [], ◌∷◌, ℤ, Some, None, if◌then◌else◌}
 use Rattle.std.specs.Cmp.Lexicographic.{pointwise}
 use Rattle.std.specs.Prelude.{nat_eq}
 use Rattle.sj_names.specs.declared.method_names.Member.{Member}
@@ -14,11 +14,11 @@ use Rattle.sj_trees.specs.declared.positions.Position.{Position}
 use Rattle.sj_trees.specs.declared.types.IrType.{IrType}
 use Rattle.sj_trees.specs.declared.types.IrType.TheVariants.{Nothing, Undefined, Boolean, Byte, Short, Int, String, Null, NoType}
 use Rattle.sj_core.specs.Terms as core
-use Rattle.sj_core.specs.Terms.{named, numbered, Expression, undefined_value, null_value, boolean_value, number_value, text_value, variable_use, choice_of, static_call, unary_of, binary_of, Statement, define_of, declare_of, assign_to, evaluate_of, return_of, log_of, leave_label, break_nearest, if_of, while_of, loop_of, labeled_of, switch_of, Statements, no_statements, statement, followed, Method}
+use Rattle.sj_core.specs.Terms.{named, Expression, undefined_value, null_value, boolean_value, number_value, text_value, variable_use, choice_of, static_call, unary_of, binary_of, Statement, define_of, declare_of, assign_to, evaluate_of, return_of, log_of, leave_label, break_nearest, if_of, while_of, loop_of, labeled_of, switch_of, Statements, no_statements, statement, followed, Method}
 use Rattle.sj_core.specs.Views.{expressions_of}
 use Rattle.sj_desugar.specs.Coercions.{coerced, coerced_arguments}
 use Rattle.sj_desugar.specs.Plain.{is_no_type, is_plain, is_fixed, is_among, mutable_in, mutable_params}
-use Rattle.sj_desugar.specs.Spill.{Destination, discard, to_variable, to_result, Code, no_code, one, put_first, joined, then_code, Operand, Spilled, spill, then_use}
+use Rattle.sj_desugar.specs.Spill.{Destination, discard, to_variable, to_result, Code, no_code, one, put_first, joined, then_code, Operand, spill, then_use}
 
 -- the position of a tree
 abbrev pub position_of : Term → Position

@@ -1,6 +1,6 @@
 -- What is written for each form, by what its operands come to.
-use Rattle.std.proofs.Common.{◌≡◌, ◌∙◌, ℕ, Bool, true, false, List, [], ◌∷◌, refl, ap, sym, Some}
-use Rattle.sj_core.specs.Terms.{Expression, named, assign_to, log_of, while_of, loop_of, boolean_value}
+use Rattle.std.proofs.Common.{◌≡◌, ◌∙◌, ℕ, Bool, true, false, List, [], ◌∷◌, ap, sym, Some}
+use Rattle.sj_core.specs.Terms.{named, assign_to, log_of, while_of, loop_of, boolean_value}
 use Rattle.sj_core.specs.Terms as core
 use Rattle.sj_desugar.specs.Coercions.{coerced}
 use Rattle.sj_core.specs.Views.{expressions_of}

@@ -1,5 +1,5 @@
 -- Trees, arguments and cases one after another.
-use Rattle.std.proofs.Common.{◌≡◌, ◌∙◌, ◌<◌, ◌+◌, ℕ, ℤ, None, suc, length, get_or, drop, take, ◌-◌, add-one, arith, Bool, true, false, ◌&&◌, List, [], ◌∷◌, ◌++◌, refl, ap, sym, map, append_assoc}
+use Rattle.std.proofs.Common.{◌≡◌, ◌∙◌, ◌<◌, ◌+◌, ℕ, ℤ, None, suc, length, get_or, drop, take, ◌-◌, add-one, arith, Bool, ◌&&◌, List, [], ◌∷◌, ◌++◌, refl, ap, sym, append_assoc}
 use Rattle.std.proofs.Math.Seq.{drop-cons, take-length}
 use Rattle.std.proofs.lemmas.List.{append-nil, length-drop}
 use Rattle.sj_core.specs.Terms.{Expression, followed, statement, no_statements, break_nearest, switch_case}
@@ -7,7 +7,7 @@ use Rattle.sj_core.specs.Views as core
 use Rattle.sj_desugar.specs.Coercions.{coerced_arguments}
 use Rattle.sj_desugar.specs.Desugar.{Targets, into, block, cases, operand, operands, types_of, Branches}
 use Rattle.sj_desugar.specs.Plain.{are_plain, is_plain}
-use Rattle.sj_desugar.specs.Spill.{Destination, discard, Code, joined, no_code, then_code, all_plain, spill, Spilled, Operand}
+use Rattle.sj_desugar.specs.Spill.{Destination, discard, Code, joined, no_code, all_plain, spill}
 use Rattle.sj_desugaring.specs.Arguments.{coerced_argument, without_first, with_arguments, arguments_onto}
 use Rattle.sj_desugaring.specs.Forms.{branches_onto, for_last}
 use Rattle.sj_desugarer.specs.Operands.{comes_to}
@@ -21,7 +21,6 @@ use Rattle.sj_trees.specs.TypeOf.{type_of_term}
 use Rattle.sj_trees.specs.View.{view, terms_view, cases_view, view_case}
 use Rattle.sj_trees.specs.declared.trees.MatchCase.{MatchCase}
 use Rattle.sj_trees.specs.declared.trees.Tree.{Tree}
-use Rattle.sj_trees.specs.declared.types.IrType.{IrType}
 
 pub joined-assoc : (c d e : Code) → joined (joined c d) e ≡ joined c (joined d e)
 joined-assoc c d e = ap (λ ss. record { statements = ss; next = e.next }) (followed-assoc c.statements d.statements e.statements)

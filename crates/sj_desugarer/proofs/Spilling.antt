@@ -1,8 +1,8 @@
 -- Operands one by one.
-use Rattle.std.proofs.Common.{◌≡◌, ◌∙◌, ℕ, suc, Bool, true, false, ◌&&◌, List, [], ◌∷◌, refl, ap, sym}
+use Rattle.std.proofs.Common.{◌≡◌, ◌∙◌, ℕ, Bool, true, false, ◌&&◌, List, [], ◌∷◌, refl, ap, sym}
 use Rattle.std.proofs.Math.Bool.{and-true}
 use Rattle.std.proofs.lemmas.Bool.{and_parts}
-use Rattle.sj_core.specs.Terms.{Expression, Statements, no_statements, statement, followed}
+use Rattle.sj_core.specs.Terms.{Expression, no_statements, followed}
 use Rattle.sj_desugar.specs.Spill.{Operand, Spilled, Code, all_plain, texts, with_expression, with_statements, spill, spill_case, then_use, joined}
 use Rattle.sj_desugaring.specs.Forms.{behind}
 use Rattle.sj_desugaring.specs.Placing.{Placed, placed_case, placed}

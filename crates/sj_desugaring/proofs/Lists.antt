@@ -1,7 +1,7 @@
 -- Statements of the core behind others.
-use Rattle.std.proofs.Common.{◌≡◌, ◌∙◌, List, [], ◌∷◌, ◌++◌, map, refl, ap, ℤ}
+use Rattle.std.proofs.Common.{◌≡◌, List, [], ◌∷◌, ◌++◌, map, refl, ap}
 use Rattle.sj_core.specs.Terms.{Statements, no_statements, statement, followed, Cases, switch_case}
-use Rattle.sj_core.specs.Views.{statement_view, statements_view, statements_onto, case_view, cases_onto}
+use Rattle.sj_core.specs.Views.{statement_view, statements_view, case_view, cases_onto}
 use Rattle.sj_core.specs.declared.statements.CoreStatement.{CoreStatement}
 use Rattle.sj_core.specs.declared.statements.CoreCase.{CoreCase}
 

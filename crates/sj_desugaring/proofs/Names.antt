@@ -1,5 +1,5 @@
 -- The mutable locals of trees, cases and parameters in a row, the last first.
-use Rattle.std.proofs.Common.{◌≡◌, ◌∙◌, ◌<◌, ◌+◌, ℕ, suc, List, [], ◌∷◌, ◌++◌, refl, ap, sym, length, get_or, drop, reverse, add-one}
+use Rattle.std.proofs.Common.{◌≡◌, ◌∙◌, ◌<◌, ◌+◌, ℕ, suc, List, [], ◌∷◌, ◌++◌, ap, sym, length, get_or, drop, reverse, add-one}
 use Rattle.std.proofs.Math.Seq.{drop-cons, drop-length}
 use Rattle.std.proofs.lemmas.List.{reverse-append}
 use Rattle.sj_desugar.specs.Plain.{mutable_in, mutable_in_all, mutable_in_cases, mutable_params, if_mutable}

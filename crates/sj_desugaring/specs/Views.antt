@@ -1,5 +1,5 @@
 -- What the destinations and the statements that were written stand for.
-use Rattle.std.specs.Prelude.{List, map}
+use Rattle.std.specs.Prelude.{map}
 use Rattle.sj_core.specs.Views.{variable_view, statements_view, expression_view, cases_view}
 use Rattle.sj_desugar.specs.Desugar.{Target, Branches}
 use Rattle.sj_desugar.specs.Spill as spill

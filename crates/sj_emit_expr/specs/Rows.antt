@@ -1,12 +1,9 @@
 -- Two methods, and the functions that are emitted for them.
-use Rattle.std.specs.Prelude.{ℕ, true, List, [], ◌∷◌, ℤ, pos, codes, Some, None}
-use Rattle.js_tree.specs.Terms as js
-use Rattle.js_tree.specs.Terms.{Item, function_item, Piece}
-use Rattle.sj_core.specs.Terms.{Method}
+use Rattle.std.specs.Prelude.{true, [], ◌∷◌, pos, codes, Some, None}
+use Rattle.js_tree.specs.Terms.{function_item, Piece}
 use Rattle.sj_desugar.specs.Desugar.{desugared, names_of}
 use Rattle.sj_emit_expr.specs.Templates.{parameter_names, body_template, member_name}
 use Rattle.sj_emit_expr.specs.Uses.{uses}
-use Rattle.sj_names.specs.declared.method_names.MethodName.{MethodName}
 use Rattle.sj_names.specs.declared.method_names.Namespace.TheVariants.{PublicStatic}
 use Rattle.sj_names.specs.declared.references.TypeRef.TheVariants.{Int}
 use Rattle.sj_trees.specs.Term.{Term, no_terms, more_terms, skip, block_of, assign, while_loop, int_literal, var_ref, binary_op, apply_static}

@@ -1,8 +1,7 @@
 -- The emitted text of each expression and statement of the core: one line a form and an operator.
-use Rattle.std.specs.Prelude.{ℕ, zero, suc, Bool, true, false, List, [], ◌∷◌, ℤ, pos, negsuc, codes, map}
+use Rattle.std.specs.Prelude.{ℕ, zero, Bool, true, false, List, [], ◌∷◌, pos, codes}
 use Rattle.js_tree.specs.Terms as js
 use Rattle.js_tree.specs.Terms.{Name, null_literal, boolean_literal, undefined_literal, number_literal, text_literal, name_use, call_of, new_of, binary_of, conditional_of, host_call, host_call_of_two, const_of, let_of, expression_statement, assign_name, break_to, if_only, if_else, do_forever, switch_on}
-use Rattle.js_tree.specs.declared.operators.BinaryOperator.{BinaryOperator}
 use Rattle.js_tree.specs.declared.operators.BinaryOperator.TheVariants.{Add, Subtract, Divide, Remainder, BitAnd, BitOr, BitXor, ShiftLeft, ShiftRight, ShiftRightUnsigned, StrictEqual, StrictNotEqual, Less, LessOrEqual, Greater, GreaterOrEqual}
 use Rattle.js_tree.specs.declared.operators.HostFunction.TheVariants.{ConsoleLog}
 use Rattle.js_tree.specs.declared.operators.HostOperation.TheVariants.{MathImul}

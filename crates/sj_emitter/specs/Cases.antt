@@ -1,5 +1,4 @@
 -- The emitted text of a case.
-use Rattle.std.specs.Prelude.{List, ℤ}
 use Rattle.js_tree.specs.Views as js
 use Rattle.sj_core.specs.Views as core
 use Rattle.sj_emit_expr.specs.Names.{variable_name, label_name}

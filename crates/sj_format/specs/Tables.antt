@@ -1,5 +1,5 @@
 -- The four tables in front of the class, and how the class names their entries.
-use Rattle.std.specs.Prelude.{ℕ, Bool, List, nat_lt, if◌then◌else◌}
+use Rattle.std.specs.Prelude.{ℕ, Bool, List, nat_lt}
 use Rattle.std.specs.List.{slice_get}
 use Rattle.std.specs.Str.{is_utf8}
 use Rattle.sj_names.specs.declared.method_names.MethodName.{MethodName}

@@ -13,7 +13,7 @@ use Rattle.sj_trees.specs.declared.types.IrType.{IrType}
 use Rattle.sj_desugar.specs.Desugar.{has_no_value}
 use Rattle.sj_plain.proofs.Operators.{impossible}
 use Rattle.sj_proper.specs.Once.{Once, OnceAll, OnceCases}
-use Rattle.sj_sound.specs.Typing.{Label, Scene, local_of, HasValue, IsLocal, IsVariable, Defines, in_label, Typed, TypedBlock, TypedAll, TypedCases}
+use Rattle.sj_sound.specs.Typing.{Scene, local_of, IsLocal, IsVariable, in_label, Typed, TypedBlock, TypedAll, TypedCases}
 use Rattle.sj_sound.specs.Typing as scenes
 use Rattle.sj_kept.specs.Rows.{Rows, AllRows, CaseRows}
 use Rattle.sj_kept.proofs.Types.{type-same, empty-is}

@@ -12,7 +12,7 @@ use Rattle.sj_local.specs.declared.walks.Declared.{Declared}
 use Rattle.sj_local.specs.declared.findings.Findings.{Findings}
 use Rattle.sj_local.specs.Firsts.{FirstRepeat, nothing_left, here, later, in_32_bits}
 use Rattle.sj_local.specs.Nodes.{Node, node, below}
-use Rattle.sj_local.specs.TreeRules.{last_some, named, innermost, declarations, declared_by, declared_from, declared_param, declared_in, DeclaresTwice, findings_from, findings_in, judgement, with_judgement, no_findings, noted, outermost, method_nodes, body_nodes}
+use Rattle.sj_local.specs.TreeRules.{last_some, innermost, declarations, declared_by, declared_from, declared_param, declared_in, DeclaresTwice, findings_from, findings_in, judgement, with_judgement, no_findings, noted, outermost, method_nodes, body_nodes}
 use Rattle.sj_local.specs.TreeRules as rules
 use Rattle.sj_names.specs.declared.method_names.Member.{Member}
 use Rattle.sj_names.specs.declared.method_names.Namespace.{Namespace}

@@ -1,6 +1,6 @@
 -- Names in order, and their functions in order.
-use Rattle.std.proofs.Common.{◌≡◌, ℕ, ◌+◌, ◌<◌, ◌≤◌, Bool, true, false, List, [], ◌∷◌, ◌++◌, get_or, refl, sym, ap, ◌∙◌, subst, length, arith, Contains}
-use Rattle.std.specs.Prelude.{nat_eq, nat_lt, nat_le, ◌&&◌, ◌||◌, codes, IsTrue}
+use Rattle.std.proofs.Common.{◌≡◌, ℕ, ◌+◌, ◌<◌, true, false, List, [], ◌∷◌, ◌++◌, get_or, refl, sym, ap, ◌∙◌, length, arith, Contains}
+use Rattle.std.specs.Prelude.{nat_lt, codes}
 use Rattle.std.specs.List.{list_all, AllAdjacentBelow, IsDistinct}
 use Rattle.std.specs.List.Sorted.{IsSorted}
 use Rattle.std.specs.declared.cmp.Ordering.{Ordering}
@@ -14,7 +14,7 @@ use Rattle.std.proofs.lemmas.Map.Text.{is_eq-slice_cmp}
 use Rattle.std.proofs.lemmas.Map.Keys.{apart_from_distinct}
 use Rattle.std.proofs.lemmas.List.Elements.{Contains-get_or}
 use Rattle.sj_link.specs.FirstForm.{is_same_text, is_word, is_letter_or_digit}
-use Rattle.sj_link.specs.Link.{ComesBefore, function_name}
+use Rattle.sj_link.specs.Link.{ComesBefore}
 
 letter_above : (b : ℕ) → is_letter_or_digit b ≡ true → 36 < b
 letter_above b h = grind (arith, nat_tests)

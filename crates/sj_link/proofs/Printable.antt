@@ -1,6 +1,6 @@
 -- The module of a class of the form keeps the rules on names and units.
-use Rattle.std.proofs.Common.{◌≡◌, ℕ, ◌<◌, ◌^◌, Bool, true, false, List, [], ◌∷◌, ◌++◌, refl, sym, ap, ◌∙◌, subst, Contains, Option, Some, None, not, map, arith}
-use Rattle.std.specs.Prelude.{◌&&◌, ◌||◌, codes, IsTrue, All, nat_lt, length, ◌↔◌}
+use Rattle.std.proofs.Common.{◌≡◌, ℕ, ◌<◌, true, List, [], ◌∷◌, ◌++◌, refl, sym, ap, ◌∙◌, subst, Contains, Option, Some, None, not, map, arith}
+use Rattle.std.specs.Prelude.{◌&&◌, ◌||◌, codes, All, nat_lt, length, ◌↔◌}
 use Rattle.std.specs.List.{list_all, IsDistinct}
 use Rattle.std.specs.List.Sorted.{IsSorted, IsPermutation}
 use Rattle.std.specs.Ordering.{nat_cmp}
@@ -12,8 +12,8 @@ use Rattle.std.proofs.lemmas.List.Folds.{list_all-append}
 use Rattle.std.proofs.lemmas.List.Elements.{All-nil, All-cons, All-append, All-map, All-weaker, All-contains_itself}
 use Rattle.sj_names.specs.Grammar.{is_name_byte, is_simple_name}
 use Rattle.js_tree.specs.Names.{is_name, is_name_character}
-use Rattle.js_tree.specs.Rules.{IsName, IsUnit, IsExpression, IsStatement, AreStatements, IsItem, IsModule}
-use Rattle.js_tree.specs.Terms.{Statement, Statements, statement, no_statements, Item, Module}
+use Rattle.js_tree.specs.Rules.{IsName, IsUnit, IsExpression, AreStatements, IsItem, IsModule}
+use Rattle.js_tree.specs.Terms.{Statement, Statements, statement, no_statements, Module}
 use Rattle.js_tree.specs.Views.{statements_onto, statements_of}
 use Rattle.sj_trees.specs.declared.classes.MethodDef.{MethodDef}
 use Rattle.sj_trees.specs.declared.classes.ClassDef.{ClassDef}

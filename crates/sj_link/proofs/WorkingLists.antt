@@ -1,8 +1,7 @@
 -- What is found so far, of which the first have been gone through.
-use Rattle.std.proofs.Common.{◌≡◌, ℕ, ◌+◌, ◌≤◌, ◌<◌, Bool, true, false, List, [], ◌∷◌, ◌++◌, Contains, slice_get, Some, refl, sym, ap, ◌∙◌, subst, take, length, arith, inl, inr, cond, append_assoc, append-nil, if◌then◌else◌, zero, suc, get_or, unwrap_or}
-use Rattle.std.specs.Prelude.{◌⊎◌, nat_eq, ◌↔◌}
+use Rattle.std.proofs.Common.{◌≡◌, ℕ, ◌+◌, ◌≤◌, ◌<◌, Bool, true, false, List, [], ◌∷◌, ◌++◌, Contains, slice_get, Some, refl, sym, ap, ◌∙◌, subst, take, length, arith, inl, inr, append_assoc, append-nil, if◌then◌else◌, get_or, unwrap_or}
+use Rattle.std.specs.Prelude.{◌⊎◌, ◌↔◌}
 use Rattle.std.specs.List.{list_any}
-use Rattle.std.specs.Cmp.Lexicographic.{pointwise}
 use Rattle.std.proofs.lemmas.List.Elements.{Contains-append_left, Contains-append_right, Contains-push, Contains-push_cases, Contains-append_cases, Contains-get_or}
 use Rattle.std.proofs.lemmas.List.{take-append-le, take_more, length-append}
 use Rattle.std.proofs.lemmas.Option.{slice_get_within, unwrap_or-slice_get}

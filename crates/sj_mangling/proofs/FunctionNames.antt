@@ -1,10 +1,10 @@
 -- The parts of a function's name are read back.
-use Rattle.std.proofs.Common.{◌≡◌, ◌≢◌, ◌<◌, ◌+◌, ◌^◌, ℕ, Bool, true, false, List, [], ◌∷◌, ◌++◌, refl, sym, subst, cond, ap, ◌∙◌, drop, arith, append_assoc, Option, Some, None, if◌then◌else◌}
+use Rattle.std.proofs.Common.{◌≡◌, ◌<◌, ◌+◌, ◌^◌, ℕ, Bool, true, false, List, [], ◌∷◌, ◌++◌, refl, sym, subst, cond, ap, ◌∙◌, drop, append_assoc, Option, Some, None, if◌then◌else◌}
 use Rattle.std.specs.Prelude.{◌==◌, ◌&&◌, codes}
 use Rattle.std.proofs.lemmas.Bool.{and_parts}
 use Rattle.std.proofs.lemmas.List.Elements.{All-head, All-tail}
-use Rattle.sj_names.specs.Grammar.{is_name_byte, is_class_name, is_dotted}
-use Rattle.sj_names.specs.MethodNames.{spelled_method, method_name_of, IsMethodName}
+use Rattle.sj_names.specs.Grammar.{is_name_byte, is_dotted}
+use Rattle.sj_names.specs.MethodNames.{spelled_method, method_name_of}
 use Rattle.sj_names.specs.declared.method_names.MethodName.{MethodName}
 use Rattle.sj_names.specs.declared.method_names.Namespace.{Namespace}
 use Rattle.sj_names.specs.declared.method_names.Namespace.TheVariants.{Public, PublicStatic, Private, PrivateStatic, Constructor}

@@ -1,5 +1,5 @@
 -- The names of bindings in the emitted code.
-use Rattle.std.specs.Prelude.{◌≡◌, ℕ, Bool, List, [], ◌∷◌, ◌++◌, codes, IsTrue}
+use Rattle.std.specs.Prelude.{◌≡◌, ℕ, List, ◌++◌, codes, IsTrue}
 use Rattle.sj_names.specs.Grammar.{is_class_name}
 use Rattle.sj_names.specs.MethodNames.{spelled_method, IsMethodName}
 use Rattle.sj_names.specs.declared.method_names.MethodName.{MethodName}

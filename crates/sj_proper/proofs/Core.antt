@@ -4,7 +4,6 @@ use Rattle.std.specs.Prelude.{nat_eq}
 use Rattle.std.specs.Cmp.Lexicographic.{pointwise}
 use Rattle.js_mean.specs.Proper.{Place, is_among, are_distinct, declared, is_proper, are_proper, are_proper_cases}
 use Rattle.js_tree.specs.Terms as tree
-use Rattle.js_tree.specs.Terms.{Name}
 use Rattle.sj_core.specs.Terms as core
 use Rattle.sj_core.specs.Terms.{followed}
 use Rattle.sj_emit_expr.specs.Templates.{statement_template, statement_templates, case_templates}

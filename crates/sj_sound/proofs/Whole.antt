@@ -7,7 +7,6 @@ use Rattle.ir_mean.specs.Meaning as ir_meaning
 use Rattle.ir_mean.specs.Shows as ir_showing
 use Rattle.ir_mean.specs.States as ir
 use Rattle.ir_mean.specs.World as ir_world
-use Rattle.ir_mean.specs.World.{member_of}
 use Rattle.js_mean.specs.Proper.{is_proper_module}
 use Rattle.js_mean.specs.Shows as js_showing
 use Rattle.sj_desugar.specs.Desugar.{result_destination, is_mutable_in}

@@ -1,5 +1,5 @@
 -- What the law of the reader on lists says at the fuel that the code gives it.
-use Rattle.std.proofs.Common.{◌≡◌, ℕ, suc, ◌+◌, ◌-◌, ◌≤◌, List, [], length, Result, Ok, Err, refl, sym, ap, subst, ◌∙◌, arith, add-one}
+use Rattle.std.proofs.Common.{◌≡◌, ℕ, suc, ◌+◌, ◌-◌, ◌≤◌, List, [], length, Ok, Err, sym, ap, subst, ◌∙◌, arith, add-one}
 use Rattle.exact_place.specs.Place.{Place}
 use Rattle.exact_place.specs.Reading.{Reading}
 use Rattle.exact_place.proofs.Steps.{good_is}

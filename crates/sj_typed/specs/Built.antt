@@ -1,5 +1,5 @@
 -- What is asked of a body beside its typing, so that the theorem on integer bodies covers it: its forms, and the types that it names.
-use Rattle.std.specs.Prelude.{◌≡◌, ℕ, Bool, true, false, List, [], ◌∷◌, ◌⊎◌, FitsSigned}
+use Rattle.std.specs.Prelude.{◌≡◌, Bool, true, false, List, [], ◌∷◌, ◌⊎◌, FitsSigned}
 use Rattle.std.specs.Int.{w32}
 use Rattle.sj_desugar.specs.Coercions.{is_char}
 use Rattle.sj_desugar.specs.Desugar.{member}

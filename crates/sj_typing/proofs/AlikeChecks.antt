@@ -1,5 +1,5 @@
 -- The check of a method asks the same, and goes on alike, whatever the positions are.
-use Rattle.std.proofs.Common.{◌≡◌, ℕ, Bool, true, false, List, [], ◌∷◌, Option, Some, None, Result, Ok, Err, refl, sym, ap, ◌∙◌, subst}
+use Rattle.std.proofs.Common.{◌≡◌, ℕ, Bool, true, false, List, [], ◌∷◌, Option, Some, None, refl, sym, ap, ◌∙◌, subst}
 use Rattle.std.specs.Prelude.{◌||◌, option_map}
 use Rattle.sj_names.specs.declared.method_names.Namespace.{Namespace}
 use Rattle.sj_trees.specs.declared.classes.FieldDef.{FieldDef}
@@ -8,15 +8,14 @@ use Rattle.sj_trees.specs.declared.types.IrType.{IrType}
 use Rattle.sj_trees.specs.declared.types.IrType.TheVariants as type
 use Rattle.sj_trees.specs.Term.{Term, Terms, Cases, no_terms, more_terms, no_cases, more_cases, var_def, skip, block_of, labeled, assign, return_to, if_then, while_loop, do_while, try_catch, try_finally, throw, match_on, new_object, load_module, store_module, select, select_static, apply, apply_statically, apply_static, unary_op, binary_op, new_array, array_value, array_length, array_select, is_instance_of, as_instance_of, undefined_literal, null_literal, boolean_literal, char_literal, byte_literal, short_literal, int_literal, long_literal, string_literal, var_ref, this_ref, log_line}
 use Rattle.sj_trees.specs.Erase.{erase, erase_all, erase_cases}
-use Rattle.sj_trees.specs.TypeOf.{type_of_term}
 use Rattle.tree_sameness.specs.Apart.{field_apart, method_apart}
 use Rattle.sj_ask.specs.declared.errors.TypeError.{TypeError}
 use Rattle.sj_ask.specs.declared.errors.TypeError.TheVariants.{Refused}
 use Rattle.sj_ask.specs.declared.questions.Answer.{Answer}
 use Rattle.sj_ask.specs.declared.questions.Answer.TheVariants as answer
 use Rattle.sj_ask.specs.Apart.{answer_apart}
-use Rattle.sj_ask.specs.Sizes.{next, counted, counted_all, counted_cases}
-use Rattle.sj_ask.specs.Tasks.{Asking, done, stop, ask, ◌>>=◌, says_yes, found_field, asks_sub, asks_field}
+use Rattle.sj_ask.specs.Sizes.{next, counted, counted_cases}
+use Rattle.sj_ask.specs.Tasks.{done, ◌>>=◌, says_yes, found_field, asks_sub, asks_field}
 use Rattle.sj_ask.specs.Laws.{Alike}
 use Rattle.sj_ask.proofs.SameRuns.{same_run, alike_bind, alike_sym, alike_trans}
 use Rattle.sj_typing.specs.declared.labels.Label.{Label}
@@ -28,7 +27,7 @@ use Rattle.sj_typing.specs.Nodes.{inside}
 use Rattle.sj_typing.specs.Rows.{row_of}
 use Rattle.sj_typing.specs.Checks.{Checking, then_do, both, met, unless_no, ask_fits, judge_field, ask_field, ask_row, fault_at, parts_of, all_of, cases_of, check_of, ask_wanted, ask_result, body_task, check_task}
 use Rattle.sj_typing.specs.Laws.{EqualAnswersGiveEqualChecks}
-use Rattle.sj_typing.proofs.Erased.{type-erase, tag-erase, counted-erase, counted_all-erase, counted_cases-erase, row-erase}
+use Rattle.sj_typing.proofs.Erased.{type-erase, tag-erase, counted-erase, counted_cases-erase, row-erase}
 
 -- two checks ask the same and go on alike
 abbrev Same : Checking → Checking → Type 0

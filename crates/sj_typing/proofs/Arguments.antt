@@ -1,10 +1,10 @@
 -- Arguments along parameters.
-use Rattle.std.proofs.Common.{◌≡◌, ℕ, zero, suc, ◌+◌, ◌≤◌, Bool, true, false, nat_eq, List, [], ◌∷◌, ◌++◌, refl, sym, ap, ◌∙◌, append-nil, length, drop, min, arith}
+use Rattle.std.proofs.Common.{◌≡◌, ℕ, zero, suc, ◌+◌, ◌≤◌, nat_eq, List, [], ◌∷◌, ◌++◌, refl, sym, ap, ◌∙◌, append-nil, length, drop, min, arith}
 use lib.Dec.{eqb-suc-suc, eqb-suc-zero, eqb-zero-suc}
 use Rattle.sj_names.specs.declared.references.TypeRef.{TypeRef}
 use Rattle.sj_trees.specs.declared.trees.Tree.{Tree}
 use Rattle.sj_trees.specs.Term.{Terms, no_terms, more_terms}
-use Rattle.sj_trees.specs.View.{view, terms_view}
+use Rattle.sj_trees.specs.View.{terms_view}
 use Rattle.sj_typing.specs.declared.fits.Fit.{Fit}
 use Rattle.sj_typing.specs.Rows.{arguments_fit, are_as_many}
 

@@ -1,22 +1,20 @@
 -- What the conditions of a tree say of a world.
-use Rattle.std.proofs.Common.{◌≡◌, Bool, true, false, List, [], ◌∷◌, ◌++◌, Option, Some, None, Result, Ok, Err, refl, sym, ap, ◌∙◌, subst, inl, inr}
+use Rattle.std.proofs.Common.{◌≡◌, Bool, true, false, List, [], ◌∷◌, Option, Some, None, Ok, Err, refl, sym, ap, ◌∙◌, subst, inl, inr}
 use Rattle.std.specs.Prelude.{◌⊎◌, ◌↔◌, ◌||◌, IsTrue}
 use Rattle.std.proofs.lemmas.Bool.{or_cases}
 use Rattle.sj_trees.specs.declared.classes.FieldDef.{FieldDef}
 use Rattle.sj_trees.specs.declared.types.IrType.{IrType}
 use Rattle.sj_world.specs.Known.{Name, Classes}
 use Rattle.sj_world.specs.Subtypes.{IsSub}
-use Rattle.tree_sameness.specs.Apart.{field_apart}
 use Rattle.sj_ask.specs.declared.errors.TypeError.{TypeError}
 use Rattle.sj_ask.specs.declared.questions.Question.TheVariants as question
 use Rattle.sj_ask.specs.declared.questions.Answer.{Answer}
 use Rattle.sj_ask.specs.declared.questions.Answer.TheVariants as answer
 use Rattle.sj_ask.specs.Stands.{Stand}
-use Rattle.sj_ask.specs.Members.{IsFieldOf}
 use Rattle.sj_ask.specs.Answers.{IsAnswer, IsFieldAnswer}
 use Rattle.sj_ask.specs.Apart.{Exchange}
-use Rattle.sj_ask.specs.Tasks.{Asking, done, stop, ask, ◌>>=◌, says_yes, found_field, asks_sub, asks_field}
-use Rattle.sj_ask.specs.Runs.{Comes, GoesOn}
+use Rattle.sj_ask.specs.Tasks.{done, ◌>>=◌, says_yes, found_field, asks_sub, asks_field}
+use Rattle.sj_ask.specs.Runs.{Comes}
 use Rattle.sj_ask.proofs.One.{one_field}
 use Rattle.sj_ask.proofs.Running.{Parted, went, stopped, comes-parted}
 use Rattle.sj_typing.specs.declared.fits.Fit.{Fit}
@@ -24,7 +22,7 @@ use Rattle.sj_typing.specs.declared.rows.FieldUse.{FieldUse}
 use Rattle.sj_typing.specs.declared.rows.Row.{Row}
 use Rattle.sj_typing.specs.SameTypes.{is_same_type}
 use Rattle.sj_typing.specs.Rules.{HasFieldType, IsMutable}
-use Rattle.sj_typing.specs.Checks.{Checking, then_do, unless_no, ask_fits, judge_field, ask_field, ask_row}
+use Rattle.sj_typing.specs.Checks.{then_do, unless_no, ask_fits, judge_field, ask_field, ask_row}
 use Rattle.sj_typing.proofs.SameTypeTests.{type_is, type_same}
 
 abbrev pub AllSub : Classes → List Fit → Type 0

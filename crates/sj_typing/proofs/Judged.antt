@@ -1,5 +1,5 @@
 -- What the check of trees says of them.
-use Rattle.std.proofs.Common.{◌≡◌, ℕ, ◌+◌, Bool, true, false, List, [], ◌∷◌, ◌++◌, Result, Ok, Err, refl, sym, ap, ◌∙◌, subst, append_assoc, append-nil}
+use Rattle.std.proofs.Common.{◌≡◌, ℕ, ◌+◌, Bool, true, List, [], ◌∷◌, ◌++◌, Ok, Err, refl, sym, ap, ◌∙◌, subst, append_assoc}
 use Rattle.std.specs.Prelude.{◌↔◌, IsTrue}
 use Rattle.std.specs.List.{All}
 use Rattle.std.proofs.lemmas.List.Elements.{All-append, All-nil, All-cons}
@@ -12,7 +12,7 @@ use Rattle.sj_ask.specs.Stands.{Stand}
 use Rattle.sj_ask.specs.Answers.{IsAnswer}
 use Rattle.sj_ask.specs.Apart.{Exchange}
 use Rattle.sj_ask.specs.Sizes.{size, size_of_all, size_of_cases, in_32_bits, next, counted, counted_all, counted_cases}
-use Rattle.sj_ask.specs.Tasks.{Asking, done, stop, ask, ◌>>=◌}
+use Rattle.sj_ask.specs.Tasks.{done, ◌>>=◌}
 use Rattle.sj_ask.specs.Runs.{Comes}
 use Rattle.sj_ask.proofs.Counts.{next_is, counted_is, all_is, cases_is}
 use Rattle.sj_ask.proofs.Running.{Parted, went, stopped, comes-parted}
@@ -22,7 +22,7 @@ use Rattle.sj_typing.specs.Rules.{MaySet}
 use Rattle.sj_typing.specs.Typed.{tag, MeetsThere, FailsAt}
 use Rattle.sj_typing.specs.Rows.{row_of}
 use Rattle.sj_typing.specs.Checks.{Checking, then_do, both, met, ask_row, fault_at, parts_of, all_of, cases_of}
-use Rattle.sj_typing.proofs.Conditions.{RowHolds, row_came, row_refused}
+use Rattle.sj_typing.proofs.Conditions.{row_came, row_refused}
 use Rattle.sj_typing.proofs.RowsMean.{PartsSet, row_means, row_holds, row_sets}
 
 -- one of the trees fails first, and is refused

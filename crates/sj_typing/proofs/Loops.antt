@@ -1,11 +1,10 @@
 -- Loops of a check, one step on and at the end.
-use Rattle.std.proofs.Common.{◌≡◌, ℕ, ◌+◌, ◌<◌, ◌≤◌, Bool, true, false, List, [], ◌∷◌, Result, Ok, Err, refl, sym, ap, ◌∙◌, subst, length, get_or, drop, map}
+use Rattle.std.proofs.Common.{◌≡◌, ℕ, ◌+◌, ◌<◌, ◌≤◌, Bool, true, false, List, ◌∷◌, Result, Ok, Err, sym, ap, ◌∙◌, subst, length, get_or, drop}
 use Rattle.std.specs.Prelude.{ℤ}
 use Rattle.std.proofs.lemmas.List.{drop_more, drop_all}
 use Rattle.sj_names.specs.declared.method_names.Namespace.{Namespace}
 use Rattle.sj_trees.specs.declared.trees.Tree.{Tree}
 use Rattle.sj_trees.specs.declared.trees.MatchCase.{MatchCase}
-use Rattle.sj_trees.specs.declared.types.IrType.{IrType}
 use Rattle.sj_trees.specs.Term.{Term, Terms, Cases, no_terms, more_terms, no_cases, more_cases}
 use Rattle.sj_trees.specs.View.{view, view_case, terms_view, cases_view, view_step, case_step, Case}
 use Rattle.sj_trees.specs.declared.trees.Tree.TheFolds.{fold_out-MatchCase}
@@ -14,11 +13,11 @@ use Rattle.sj_ask.specs.declared.questions.Question.{Question}
 use Rattle.sj_ask.specs.declared.questions.Answer.{Answer}
 use Rattle.sj_ask.specs.Sizes.{counted, counted_all, counted_cases}
 use Rattle.sj_ask.specs.Told.{Told}
-use Rattle.sj_ask.specs.Tasks.{Asking, done, stop, ◌>>=◌, asks_sub}
+use Rattle.sj_ask.specs.Tasks.{asks_sub}
 use Rattle.sj_ask.specs.Runs.{Ran}
 use Rattle.sj_typing.specs.declared.labels.Label.{Label}
 use Rattle.sj_typing.specs.declared.fits.Fit.{Fit}
-use Rattle.sj_typing.specs.Checks.{Checking, unless_no, ask_fits, all_of, cases_of, check_of}
+use Rattle.sj_typing.specs.Checks.{unless_no, ask_fits, all_of, cases_of, check_of}
 use Rattle.sj_typing.specs.Answered.{AsRun}
 use Rattle.sj_typing.proofs.Steps.{as_done, as_ended, as_asked, as_then, as_then_stop}
 

@@ -1,6 +1,6 @@
 -- The conditions of a tree hold exactly where it meets the rule of its form.
-use Rattle.std.proofs.Common.{◌≡◌, ℕ, Bool, true, false, List, [], ◌∷◌, ◌++◌, Option, Some, None, refl, sym, ap, ◌∙◌, subst, inl, inr}
-use Rattle.std.specs.Prelude.{◌⊎◌, ◌↔◌, ◌&&◌, IsTrue, codes}
+use Rattle.std.proofs.Common.{◌≡◌, ℕ, Bool, true, false, List, [], ◌∷◌, ◌++◌, Option, Some, None, refl, sym, subst, inl, inr}
+use Rattle.std.specs.Prelude.{◌↔◌, ◌&&◌, IsTrue, codes}
 use Rattle.std.proofs.lemmas.Bool.{and_parts, and_from}
 use Rattle.sj_names.specs.declared.method_names.Namespace.{Namespace}
 use Rattle.sj_names.specs.declared.method_names.Namespace.TheVariants.{Public, PublicStatic, Private, PrivateStatic, Constructor}
@@ -11,18 +11,16 @@ use Rattle.sj_trees.specs.declared.types.IrType.{IrType}
 use Rattle.sj_trees.specs.declared.types.IrType.TheVariants as type
 use Rattle.sj_trees.specs.Term.{Term, Terms, Cases, no_terms, more_terms, no_cases, more_cases, var_def, skip, block_of, labeled, assign, return_to, if_then, while_loop, do_while, try_catch, try_finally, throw, match_on, new_object, load_module, store_module, select, select_static, apply, apply_statically, apply_static, unary_op, binary_op, new_array, array_value, array_length, array_select, is_instance_of, as_instance_of, undefined_literal, null_literal, boolean_literal, char_literal, byte_literal, short_literal, int_literal, long_literal, string_literal, var_ref, this_ref, log_line}
 use Rattle.sj_trees.specs.TypeOf.{type_of_term}
-use Rattle.sj_trees.specs.Types.{class_type, element_type, reference_type}
+use Rattle.sj_trees.specs.Types.{class_type, element_type}
 use Rattle.sj_world.specs.Known.{Name, Classes, is_same}
-use Rattle.sj_world.specs.Subtypes.{IsSub}
 use Rattle.sj_typing.specs.declared.labels.Label.{Label}
 use Rattle.sj_typing.specs.declared.fits.Fit.{Fit}
-use Rattle.sj_typing.specs.declared.rows.Row.{Row}
 use Rattle.sj_typing.specs.SameTypes.{is_same_type}
 use Rattle.sj_typing.specs.Labels.{type_of_label}
-use Rattle.sj_typing.specs.Rules.{Fits, Yields, nothing_wanted, fitting, AllFit, CasesYield, ArgumentsFit, call_type, HasFieldType, IsOwn, IsMutable, MaySet, ReturnsTo, IsStatic, IsReceiver, HasReceiver, IsCastType, IsTestType, IsArray, HasItems, IsText, OperandsFit, Meets}
+use Rattle.sj_typing.specs.Rules.{Fits, Yields, nothing_wanted, fitting, AllFit, CasesYield, ArgumentsFit, call_type, IsOwn, MaySet, ReturnsTo, IsStatic, IsReceiver, HasReceiver, IsCastType, IsTestType, IsArray, HasItems, IsText, OperandsFit, Meets}
 use Rattle.sj_typing.specs.Rows.{yield, all_fit, cases_yield, arguments_fit, are_as_many, is_own, is_static, is_this, is_receiver, has_receiver, is_cast_type, is_test_type, is_array, has_items, is_text, return_row, operands_row, row_of}
 use Rattle.sj_typing.proofs.SameTypeTests.{type_is, type_same, text_is, text_same}
-use Rattle.sj_typing.proofs.Conditions.{AllSub, FieldHolds, RowHolds, FieldSet}
+use Rattle.sj_typing.proofs.Conditions.{AllSub, RowHolds, FieldSet}
 
 same_type_means : (t u : IrType) → IsTrue (is_same_type t u) ↔ (t ≡ u)
 same_type_means t u = (λ h. type_is t u h, λ e. subst (λ (x : IrType). is_same_type t x ≡ true) e (type_same t))

@@ -1,5 +1,5 @@
 -- Steps of a check, as runs of its parts.
-use Rattle.std.proofs.Common.{◌≡◌, ℕ, Bool, true, false, List, [], ◌∷◌, Option, Some, None, Result, Ok, Err, refl, sym, ap, ◌∙◌, subst, drop}
+use Rattle.std.proofs.Common.{◌≡◌, ℕ, Bool, true, false, List, [], ◌∷◌, Option, Result, Ok, Err, refl, sym, ap, subst}
 use Rattle.sj_names.specs.declared.method_names.Namespace.{Namespace}
 use Rattle.sj_trees.specs.declared.classes.FieldDef.{FieldDef}
 use Rattle.sj_trees.specs.declared.types.IrType.{IrType}
@@ -10,21 +10,18 @@ use Rattle.sj_ask.specs.declared.errors.TypeError.TheVariants.{NoMemory}
 use Rattle.sj_ask.specs.declared.questions.Question.{Question}
 use Rattle.sj_ask.specs.declared.questions.Question.TheVariants as question
 use Rattle.sj_ask.specs.declared.questions.Answer.{Answer}
-use Rattle.sj_ask.specs.declared.questions.Answer.TheVariants as answer
 use Rattle.sj_ask.specs.Stands.{Stand}
 use Rattle.sj_ask.specs.Answers.{IsAnswer}
 use Rattle.sj_ask.specs.Told.{Told, told_more}
-use Rattle.sj_ask.specs.Tasks.{Asking, done, stop, ask, ◌>>=◌, says_yes, found_field, asks_sub, asks_field}
+use Rattle.sj_ask.specs.Tasks.{done, ◌>>=◌, says_yes, found_field, asks_sub, asks_field}
 use Rattle.sj_ask.specs.Runs.{Ran}
 use Rattle.sj_ask.proofs.Running.{ran-done, ran-refused, ran-bind, ran-stop, ran-ask}
 use Rattle.sj_typing.specs.declared.labels.Label.{Label}
 use Rattle.sj_typing.specs.declared.checks.Checked.{Checked}
-use Rattle.sj_typing.specs.declared.fits.Fit.{Fit}
-use Rattle.sj_typing.specs.declared.rows.FieldUse.{FieldUse}
 use Rattle.sj_typing.specs.declared.rows.Row.{Row}
 use Rattle.sj_typing.specs.Rows.{row_of}
-use Rattle.sj_typing.specs.Checks.{Checking, then_do, both, met, unless_no, ask_fits, judge_field, ask_field, ask_row, fault_at, parts_of, check_of, ask_result, body_task, ask_wanted}
-use Rattle.sj_typing.specs.Answered.{AsRun, as_ran, no_memory, seen, agreed, ended, behind, numbered}
+use Rattle.sj_typing.specs.Checks.{Checking, then_do, both, met, unless_no, ask_fits, ask_field, ask_row, fault_at, check_of, ask_result, body_task, ask_wanted}
+use Rattle.sj_typing.specs.Answered.{AsRun, as_ran, no_memory, seen, ended, behind, numbered}
 
 -- the end of a first part with the end of a second
 abbrev pub first_of : Bool → Result Bool TypeError → Result Bool TypeError

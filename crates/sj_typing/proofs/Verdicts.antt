@@ -1,31 +1,27 @@
 -- What the check of a method says of it.
-use Rattle.std.proofs.Common.{◌≡◌, ℕ, ◌+◌, Bool, true, false, List, [], Option, Some, None, Result, Ok, Err, refl, sym, ap, ◌∙◌, subst, arith}
+use Rattle.std.proofs.Common.{◌≡◌, ℕ, Bool, true, false, List, [], Some, Result, Ok, Err, refl, subst}
 use Rattle.std.specs.Prelude.{◌↔◌, IsTrue}
 use Rattle.std.specs.List.{All}
-use Rattle.sj_names.specs.declared.method_names.Namespace.{Namespace}
 use Rattle.sj_trees.specs.declared.classes.MethodDef.{MethodDef}
 use Rattle.sj_trees.specs.declared.types.IrType.{IrType}
 use Rattle.sj_trees.specs.declared.types.IrType.TheVariants as type
 use Rattle.sj_trees.specs.Term.{Term}
 use Rattle.sj_trees.specs.TypeOf.{type_of_term}
-use Rattle.sj_world.specs.Known.{Classes}
-use Rattle.sj_world.specs.Subtypes.{IsSub}
 use Rattle.sj_ask.specs.declared.errors.TypeError.{TypeError}
 use Rattle.sj_ask.specs.declared.errors.TypeError.TheVariants.{Refused, NoMemory}
-use Rattle.sj_ask.specs.declared.questions.Answer.{Answer}
 use Rattle.sj_ask.specs.Stands.{Stand}
 use Rattle.sj_ask.specs.Answers.{IsAnswer}
 use Rattle.sj_ask.specs.Apart.{Exchange}
 use Rattle.sj_ask.specs.Sizes.{in_32_bits, next}
 use Rattle.sj_ask.specs.Told.{Told}
-use Rattle.sj_ask.specs.Tasks.{Asking, done, stop, ask, ◌>>=◌, says_yes, asks_sub}
-use Rattle.sj_ask.specs.Runs.{Comes, Ran}
+use Rattle.sj_ask.specs.Tasks.{done, ◌>>=◌, says_yes, asks_sub}
+use Rattle.sj_ask.specs.Runs.{Comes}
 use Rattle.sj_ask.proofs.Counts.{next_is}
 use Rattle.sj_ask.proofs.Running.{Parted, went, stopped, comes-parted}
 use Rattle.sj_typing.specs.Nodes.{nodes}
 use Rattle.sj_typing.specs.Rules.{Fits, Yields, nothing_wanted, fitting, MaySet}
-use Rattle.sj_typing.specs.Typed.{tag, MeetsThere, FailsAt, IsTyped, IsUntyped, FirstUntyped, a_tree, the_body}
-use Rattle.sj_typing.specs.Checks.{Checking, then_do, unless_no, check_of, ask_wanted, ask_result, body_task, check_task}
+use Rattle.sj_typing.specs.Typed.{tag, MeetsThere, IsTyped, IsUntyped, FirstUntyped, a_tree, the_body}
+use Rattle.sj_typing.specs.Checks.{then_do, unless_no, check_of, ask_wanted, ask_result, body_task}
 use Rattle.sj_typing.specs.Answered.{AsRun, as_ran, no_memory, agreed, IsVerdict}
 use Rattle.sj_typing.proofs.Conditions.{sub_answered}
 use Rattle.sj_typing.proofs.Judged.{Fails, Judged, judged_met, judged_parts}

@@ -6,7 +6,7 @@ use Rattle.sj_ask.specs.declared.errors.TypeError.{TypeError}
 use Rattle.sj_ask.specs.declared.errors.TypeError.TheVariants.{Refused, NoMemory}
 use Rattle.sj_ask.specs.declared.questions.Question.{Question}
 use Rattle.sj_ask.specs.declared.questions.Answer.{Answer}
-use Rattle.sj_ask.specs.Tasks.{Asking, done, stop}
+use Rattle.sj_ask.specs.Tasks.{done, stop}
 use Rattle.sj_ask.specs.Told.{Told}
 use Rattle.sj_ask.specs.Runs.{Ran}
 use Rattle.sj_typing.specs.declared.checks.Checked.{Checked}

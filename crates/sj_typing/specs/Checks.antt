@@ -1,5 +1,5 @@
 -- The check of a method: what it asks, and what it does with each answer.
-use Rattle.std.specs.Prelude.{ℕ, Bool, true, false, List, [], ◌∷◌, ◌||◌, Option, Some, None, if◌then◌else◌}
+use Rattle.std.specs.Prelude.{ℕ, Bool, true, false, List, [], ◌∷◌, ◌||◌, Option, Some, None}
 use Rattle.sj_names.specs.declared.method_names.Namespace.{Namespace}
 use Rattle.sj_trees.specs.declared.classes.FieldDef.{FieldDef}
 use Rattle.sj_trees.specs.declared.classes.MethodDef.{MethodDef}
@@ -9,8 +9,8 @@ use Rattle.sj_trees.specs.Term.{Term, Terms, Cases, no_terms, more_terms, no_cas
 use Rattle.sj_trees.specs.TypeOf.{type_of_term}
 use Rattle.sj_ask.specs.declared.errors.TypeError.{TypeError}
 use Rattle.sj_ask.specs.declared.errors.TypeError.TheVariants.{Refused}
-use Rattle.sj_ask.specs.Sizes.{next, counted, counted_all, counted_cases}
-use Rattle.sj_ask.specs.Tasks.{Asking, done, stop, ask, ◌>>=◌, asks_sub, asks_field}
+use Rattle.sj_ask.specs.Sizes.{next, counted, counted_cases}
+use Rattle.sj_ask.specs.Tasks.{Asking, done, stop, ◌>>=◌, asks_sub, asks_field}
 use Rattle.sj_typing.specs.declared.labels.Label.{Label}
 use Rattle.sj_typing.specs.declared.fits.Fit.{Fit}
 use Rattle.sj_typing.specs.declared.rows.FieldUse.{FieldUse}

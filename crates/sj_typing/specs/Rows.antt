@@ -1,6 +1,5 @@
 -- The conditions of each form, in the order in which they are judged: those that need no question, then the subtypes, then a field.
-use Rattle.std.specs.Prelude.{ℕ, Bool, true, false, not, List, [], ◌∷◌, ◌++◌, ◌&&◌, Option, Some, None, codes}
-use Rattle.sj_names.specs.declared.method_names.MethodName.{MethodName}
+use Rattle.std.specs.Prelude.{ℕ, Bool, true, false, List, [], ◌∷◌, ◌++◌, ◌&&◌, Option, Some, None, codes}
 use Rattle.sj_names.specs.declared.method_names.Namespace.{Namespace}
 use Rattle.sj_names.specs.declared.method_names.Namespace.TheVariants.{Public, PublicStatic, Private, PrivateStatic, Constructor}
 use Rattle.sj_names.specs.declared.references.TypeRef.{TypeRef}
@@ -14,7 +13,6 @@ use Rattle.sj_trees.specs.Types.{class_type, element_type, reference_type}
 use Rattle.sj_world.specs.Known.{is_same}
 use Rattle.sj_typing.specs.declared.labels.Label.{Label}
 use Rattle.sj_typing.specs.declared.fits.Fit.{Fit}
-use Rattle.sj_typing.specs.declared.rows.FieldUse.{FieldUse}
 use Rattle.sj_typing.specs.declared.rows.Row.{Row}
 use Rattle.sj_typing.specs.SameTypes.{is_same_type}
 use Rattle.sj_typing.specs.Labels.{type_of_label}

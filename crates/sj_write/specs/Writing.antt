@@ -1,6 +1,6 @@
 -- What is written of a class so far, and what it is with further fields behind.
-use Rattle.std.specs.Prelude.{◌≡◌, ℕ, Some, None, List, [], ◌++◌, length, if◌then◌else◌}
-use Rattle.std.specs.List.{list_any, flat_map}
+use Rattle.std.specs.Prelude.{ℕ, Some, None, List, [], ◌++◌, if◌then◌else◌}
+use Rattle.std.specs.List.{list_any}
 use Rattle.byteorder.specs.Endian.{big_bytes}
 use Rattle.sj_units.specs.Modified.{modified_bytes}
 use Rattle.sj_names.specs.declared.method_names.MethodName.{MethodName}

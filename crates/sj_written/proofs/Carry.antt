@@ -1,6 +1,5 @@
 -- Fields that one file spells are spelled again over other tables.
 use Rattle.std.proofs.Common.{◌≡◌, ℕ, ◌<◌, ◌^◌, Bool, true, false, List, [], ◌∷◌, length, slice_get, Option, Some, None, refl, sym, ap, ◌∙◌, subst, append-nil, lt_trans, arith}
-use Rattle.std.specs.List.{list_any}
 use Rattle.byteorder.specs.Endian.{big_bytes}
 use Rattle.sj_names.specs.declared.method_names.MethodName.{MethodName}
 use Rattle.sj_format.specs.Spelling.{Spelling, ◌then◌, Gives_value, Found, Tested, IsByte, IsNumber}

@@ -1,17 +1,17 @@
 -- How the endings of a run follow from those of its parts.
-use Rattle.std.proofs.Common.{◌≡◌, ℕ, Bool, true, false, List, [], ◌∷◌, ◌++◌, refl, sym, subst, ap, ◌∙◌, map, append-nil, Option, Some, ◌⊎◌, inl, inr}
+use Rattle.std.proofs.Common.{◌≡◌, ℕ, Bool, List, [], ◌∷◌, ◌++◌, refl, sym, subst, ap, ◌∙◌, map, append-nil, Option, Some, ◌⊎◌, inr}
 use Rattle.std.specs.List.{flat_map}
 use Rattle.std.specs.Prelude.{codes}
 use Rattle.sj_outside.specs.Contents.{Parts}
 use Rattle.sj_outside.specs.Words.{without_line_feed}
 use Rattle.sj_outside.specs.Writing.{Appends, Writes, WritesFront, Event, put, line, put_in, text_in}
 use Rattle.sj_outside.specs.declared.answers.PutFile.{PutFile}
-use Rattle.sj_outside.proofs.Laws.{Appends-none, Writes-none, Writes-line, Writes-put, WritesFront-of}
-use Rattle.sjsir.specs.Command.{Command, print, make, command}
+use Rattle.sj_outside.proofs.Laws.{Appends-none, Writes-none, Writes-line, WritesFront-of}
+use Rattle.sjsir.specs.Command.{print, make, command}
 use Rattle.sjsir.specs.Making.{IsMadeAt, output_of}
 use Rattle.sjsir.specs.declared.making.Made.{Made}
 use Rattle.sjsir.specs.declared.making.Made.TheVariants.{File, NoListing, NoFile}
-use Rattle.sjsir.specs.Output.{Output, IsOutput, printed, made, no_listing, no_class_file, IsFileOf, AreFileLines, status_of, AtEnd, IsWhole, IsFront, nothing, front_of, first_lines, IsUsageAnswer}
+use Rattle.sjsir.specs.Output.{Output, IsOutput, printed, made, no_listing, no_class_file, IsFileOf, status_of, AtEnd, IsWhole, IsFront, first_lines, IsUsageAnswer}
 use Rattle.sjsir.specs.Printing.{HasPrinted, PrintsAll, all_printed, stopped, status_after}
 use Rattle.sjsir.specs.Writing.{Ends, all_written, faulted, out_of_memory}
 use Rattle.sjsir.specs.declared.answers.Status.{Status}

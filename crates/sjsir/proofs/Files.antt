@@ -1,5 +1,5 @@
 -- What reading, writing and printing a class come to.
-use Rattle.std.proofs.Common.{◌≡◌, ℕ, ◌+◌, ◌≤◌, Bool, true, false, List, [], ◌∷◌, ◌++◌, refl, sym, ap, ◌∙◌, subst, Option, Some, None, take, length, arith, min, Result, Ok, Err}
+use Rattle.std.proofs.Common.{◌≡◌, ℕ, ◌+◌, ◌≤◌, Bool, true, false, List, ◌++◌, sym, ap, ◌∙◌, subst, Option, Some, None, take, length, arith, min, Result, Ok, Err}
 use Rattle.std.specs.Prelude.{◌↔◌, option_map, IsTrue, nat_eq, codes}
 use Rattle.std.specs.Cmp.Lexicographic.{pointwise}
 use Rattle.std.proofs.lemmas.Slice.Eq.{bytes_eq-Decides}

@@ -1,14 +1,12 @@
 -- There is one output.
-use Rattle.std.proofs.Common.{◌≡◌, ℕ, zero, suc, ◌+◌, ◌<◌, ◌≤◌, Bool, true, false, ◌&&◌, List, [], ◌∷◌, ◌++◌, map, take, length, refl, sym, ap, subst, ◌∙◌, append_assoc, Option, Some, None, ◌⊎◌, inl, inr, arith}
+use Rattle.std.proofs.Common.{◌≡◌, ℕ, zero, suc, ◌+◌, ◌<◌, ◌≤◌, Bool, ◌&&◌, List, [], ◌∷◌, ◌++◌, map, take, refl, sym, ap, subst, ◌∙◌, append_assoc, Option, Some, None, arith}
 use Rattle.std.specs.Prelude.{codes}
 use Rattle.exact_place.specs.Grammar.{Spelling}
-use Rattle.exact_place.specs.Place.{Place, Begins}
-use Rattle.sj_outside.specs.Contents.{Parts, file_at}
+use Rattle.exact_place.specs.Place.{Place}
+use Rattle.sj_outside.specs.Contents.{Parts}
 use Rattle.sj_outside.specs.Words.{without_line_feed}
-use Rattle.sj_outside.specs.Writing.{Event, put, line}
+use Rattle.sj_outside.specs.Writing.{Event, line}
 use Rattle.sj_trees.specs.declared.classes.ClassDef.{ClassDef}
-use Rattle.sj_format.specs.declared.faults.Code.{Code}
-use Rattle.sj_format.specs.Files.{FileIs, Fails}
 use Rattle.sj_format.proofs.ExactFiles.{one_answer}
 use Rattle.listing_spelling.specs.Spelling.{Lists}
 use Rattle.listing_spelling.specs.Rules.{bare}

@@ -14,7 +14,7 @@ use Rattle.file_listings.specs.Listed.{AreBytes}
 use Rattle.listing_spelling.specs.Spelling.{Lists}
 use Rattle.listing_spelling.specs.Rules.{bare}
 use Rattle.sj_written.specs.Written.{written_class}
-use Rattle.sjsir.specs.Command.{Command, help, version, print, make, command}
+use Rattle.sjsir.specs.Command.{help, version, print, make, command}
 use Rattle.sjsir.specs.declared.answers.Status.{Status}
 use Rattle.sjsir.specs.declared.answers.Status.TheVariants.{Done, SomeRefused, Usage, ReadFault, WriteFault, NoMemory}
 

@@ -1,5 +1,5 @@
 -- What the parts of printing and making answer, over folders that tell what they hold.
-use Rattle.std.specs.Prelude.{◌≡◌, ℕ, ◌≤◌, List, [], ◌∷◌, ◌++◌, Bool, Option, Some, Result, Ok, Err, ⊤, IsTrue, is_some, All, None}
+use Rattle.std.specs.Prelude.{◌≡◌, ℕ, ◌≤◌, List, [], ◌++◌, Bool, Option, Some, Result, Ok, Err, ⊤, IsTrue, is_some, All, None}
 use Rattle.std.specs.List.{flat_map}
 use Rattle.sj_outside.specs.Contents.{Parts, file_at}
 use Rattle.sj_outside.specs.Faults.{Rose}

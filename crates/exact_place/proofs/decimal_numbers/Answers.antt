@@ -1,4 +1,4 @@
-use Rattle.std.proofs.Common.{◌≡◌, ℕ, Bool, true, false, not, refl}
+use Rattle.std.proofs.Common.{◌≡◌, Bool, true, false, not, refl}
 use Rattle.exact_place.specs.Tokens.{is_digit}
 use Rattle.exact_place.proofs.Tokens.{law_run}
 use Rattle.exact_place.proofs.Words.{digits_token}

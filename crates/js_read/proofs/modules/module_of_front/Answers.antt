@@ -1,4 +1,4 @@
-use Rattle.std.proofs.Common.{◌≡◌, ◌∷◌, ◌++◌, [], map, sym, ◌∙◌}
+use Rattle.std.proofs.Common.{map, sym}
 use Rattle.js_tree.specs.Views.{item_view}
 use Rattle.js_read.proofs.ModuleLoop.{onto_nothing}
 use Rattle.js_read.proofs.modules.module_of_front.Goals as goal

@@ -1,4 +1,4 @@
-use Rattle.std.proofs.Common.{◌≡◌, ◌∷◌, ◌++◌, [], map, ◌∙◌}
+use Rattle.std.proofs.Common.{map}
 use Rattle.js_tree.specs.Views.{item_view}
 use Rattle.js_read.proofs.ModuleLoop.{exports_put}
 use Rattle.js_read.proofs.modules.put_exports.Goals as goal

@@ -1,4 +1,4 @@
-use Rattle.std.proofs.Common.{rules, ◌≡◌, ◌∷◌, ◌++◌, [], map, ◌∙◌}
+use Rattle.std.proofs.Common.{rules, ◌≡◌, ◌∷◌, ◌++◌, [], map}
 use Rattle.js_tree.specs.Views.{item_view}
 use Rattle.std.proofs.lemmas.List.{map_push}
 use Rattle.js_read.proofs.ModuleLoop.{item_put}

@@ -1,4 +1,4 @@
-use Rattle.std.proofs.Common.{◌≡◌, map, sym, refl}
+use Rattle.std.proofs.Common.{map, sym, refl}
 use Rattle.std.proofs.lemmas.Result.{err_from_is_err_and}
 use Rattle.js_spelling.specs.Modules.{module_at}
 use Rattle.js_tree.specs.Views.{item_view}

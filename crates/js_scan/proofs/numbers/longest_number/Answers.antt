@@ -1,4 +1,4 @@
-use Rattle.std.proofs.Common.{◌≡◌, ℕ, get_or, length, ◌-◌, ◌+◌, ◌*◌, sym, ap, ◌∙◌, arith}
+use Rattle.std.proofs.Common.{ℕ, get_or, length, ◌-◌, ◌+◌, ◌*◌, sym, ap, arith}
 use Rattle.js_scan.specs.Runs.{number_run}
 use Rattle.js_scan.proofs.Literals.{rest_of}
 use Rattle.js_scan.proofs.NumberSteps.{number_stops, number_goes, number_end, digit_and, digit_over, digit_off, number_next}

@@ -1,7 +1,6 @@
-use Rattle.std.proofs.Common.{rules, sym, ◌≡◌, Some, Ok, Err, subst, arith}
+use Rattle.std.proofs.Common.{rules, sym, Ok, Err, arith}
 use Rattle.std.proofs.lemmas.Fn.{always_returns_same}
 use Rattle.std.proofs.lemmas.Option.{gets}
-use Rattle.std.proofs.lemmas.List.{get_or_read}
 use Rattle.std.proofs.lemmas.Grind.{common_steps}
 use Rattle.sj_trees.specs.declared.classes.ClassDef.{ClassDef}
 use Rattle.sj_world.proofs.Orders.{compared}

@@ -1,7 +1,6 @@
-use Rattle.std.proofs.Common.{◌≡◌, true, false, refl, sym, ◌∙◌, arith}
-use Rattle.std.specs.Prelude.{IsTrue, ◌↔◌}
+use Rattle.std.proofs.Common.{true, false, refl, arith}
 use Rattle.std.proofs.lemmas.Option.{slice_get_read}
-use Rattle.sj_ask.specs.Answers.{public_member, RunsIfMade}
+use Rattle.sj_ask.specs.Answers.{public_member}
 use Rattle.sj_ask.proofs.Searched.{run_begins, run_on, run_whole, run_missed, failed}
 use Rattle.sj_ask.proofs.targets.run_all.Goals as goal
 

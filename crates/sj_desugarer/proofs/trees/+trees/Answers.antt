@@ -9,20 +9,20 @@ use Rattle.sj_desugar.specs.Plain.{is_among, is_plain, are_plain}
 use Rattle.sj_desugar.specs.Spill.{discard, one, put_first}
 use Rattle.sj_desugaring.specs.Arguments.{coerced_argument}
 use Rattle.sj_desugaring.specs.Forms.{behind, for_last}
-use Rattle.sj_desugarer.proofs.Rows.{assign-joins, if-joins, log-joins, unary-joins, binary-joins, match-joins, turn-joins, loop-joins, call-joins}
-use Rattle.sj_desugarer.proofs.Runs.{slice-rest, block-step, arguments-step, cases-take, cases-skip}
+use Rattle.sj_desugarer.proofs.Rows.{assign-joins, if-joins, log-joins, unary-joins, binary-joins, match-joins, turn-joins, loop-joins}
+use Rattle.sj_desugarer.proofs.Runs.{slice-rest, block-step, arguments-step, cases-take}
 use Rattle.sj_desugarer.proofs.trees.+trees.Goals as goal
 use Rattle.sj_desugarer.specs.Operands.{comes_to}
-use Rattle.sj_desugaring.specs.Views.{destination_view, target_view, code_view, placed_view, all_view, branches_view}
+use Rattle.sj_desugaring.specs.Views.{destination_view, target_view, code_view, placed_view, branches_view}
 use Rattle.sj_trees.proofs.trees.Tree.TheLaws.{the_size}
-use Rattle.sj_trees.specs.Term.{Term, var_ref, assign, if_then, while_loop, do_while, match_on, apply_static, unary_op, binary_op, log_line}
+use Rattle.sj_trees.specs.Term.{Term, var_ref, assign, if_then, while_loop, do_while, match_on, unary_op, binary_op, log_line}
 use Rattle.sj_trees.specs.TypeOf.{type_of_term}
 use Rattle.sj_trees.specs.View.{view, terms_view, cases_view, view_case, view_step, case_step, Case}
 use Rattle.sj_trees.specs.declared.trees.Tree.{Tree}
 use Rattle.sj_trees.specs.declared.trees.Tree.TheFolds.{fold-roll-Tree, fold_out-MatchCase}
 use Rattle.sj_trees.specs.declared.trees.Tree.TheOpen.{Tree-F}
 use Rattle.sj_trees.specs.declared.trees.Tree.TheViews.{sized-Match}
-use Rattle.sj_trees.specs.declared.trees.Tree.TheVariants.{rolls-Assign, rolls-VarRef, rolls-If, rolls-While, rolls-DoWhile, rolls-Match, rolls-ApplyStatic, rolls-UnaryOp, rolls-BinaryOp, rolls-Log}
+use Rattle.sj_trees.specs.declared.trees.Tree.TheVariants.{rolls-Assign, rolls-VarRef, rolls-If, rolls-While, rolls-DoWhile, rolls-Match, rolls-UnaryOp, rolls-BinaryOp, rolls-Log}
 
 pub statements_of-returns-in-If : goal.statements_of-returns-in-If
 statements_of-returns-in-If t c =

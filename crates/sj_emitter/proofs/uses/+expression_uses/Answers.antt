@@ -1,4 +1,4 @@
-use Rattle.std.proofs.Common.{◌≡◌, ◌∙◌, ◌++◌, OnOk, ap, sym, refl}
+use Rattle.std.proofs.Common.{◌≡◌, ◌∙◌, ◌++◌, ap, sym, refl}
 use Rattle.sj_core.specs.Terms.{Expression, choice_of, binary_of}
 use Rattle.sj_core.specs.Views.{expression_view, expression_step}
 use Rattle.sj_core.specs.declared.expressions.CoreExpression.TheFolds.{fold-roll-CoreExpression}

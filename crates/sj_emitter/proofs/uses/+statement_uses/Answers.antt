@@ -1,4 +1,4 @@
-use Rattle.std.proofs.Common.{◌≡◌, ◌∙◌, ◌++◌, OnOk, ap, sym, refl}
+use Rattle.std.proofs.Common.{◌≡◌, ◌∙◌, ◌++◌, ap, sym, refl}
 use Rattle.sj_core.specs.Terms.{Statement, if_of, while_of, switch_of}
 use Rattle.sj_core.specs.Views.{expression_view, statement_view, statements_view, cases_view, statement_step, case_step, Case}
 use Rattle.sj_core.specs.declared.statements.CoreStatement.TheFolds.{fold-roll-CoreStatement}

@@ -1,4 +1,4 @@
-use Rattle.std.proofs.Common.{sym, ◌∙◌, ap, ◌≡◌, Some, arith, List, ℕ}
+use Rattle.std.proofs.Common.{sym, ◌∙◌, ap, Some, arith, List, ℕ}
 use Rattle.indexmap.specs.IndexSet.{insert_key}
 use Rattle.sj_link.specs.FirstForm.{is_same_text}
 use Rattle.sj_link.proofs.WorkingLists.{working_begins, working_goes_on, working_ends, working_at}

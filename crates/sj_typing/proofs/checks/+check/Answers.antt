@@ -1,4 +1,4 @@
-use Rattle.std.proofs.Common.{◌≡◌, ◌∙◌, ◌+◌, ap, sym, arith, refl, drop, true}
+use Rattle.std.proofs.Common.{◌≡◌, ◌∙◌, ◌+◌, ap, sym, arith, drop}
 use Rattle.std.proofs.lemmas.Result.{err_from_is_err_and}
 use Rattle.sj_trees.proofs.trees.Tree.TheLaws.{the_size}
 use Rattle.sj_trees.specs.declared.trees.Tree.TheViews.{sized-Match, sized-Apply, sized-ApplyStatically}
@@ -8,7 +8,7 @@ use Rattle.sj_trees.specs.declared.trees.Tree.TheOpen.{Tree-F}
 use Rattle.sj_trees.specs.declared.trees.Tree.TheFolds.{fold-roll-Tree}
 use Rattle.sj_trees.specs.declared.trees.Tree.TheVariants as tree
 use Rattle.sj_ask.specs.Answers.{IsAnswer}
-use Rattle.sj_typing.proofs.Steps.{as_done, as_both, as_both_stop, as_then, as_then_stop, as_met, as_met_stop, seen-behind, seen-numbered, at_check}
+use Rattle.sj_typing.proofs.Steps.{as_both, as_both_stop, as_met, as_met_stop, seen-behind, seen-numbered}
 use Rattle.sj_typing.proofs.Leaves.{at_leaf}
 use Rattle.sj_typing.proofs.Loops.{terms-dropped, cases-dropped, terms-ended, cases-ended, all_next, cases_next, all_on, all_no, all_end, cases_on, cases_no, cases_end}
 use Rattle.sj_typing.proofs.checks.+check.Goals as goal

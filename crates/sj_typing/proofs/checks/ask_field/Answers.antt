@@ -1,4 +1,4 @@
-use Rattle.std.proofs.Common.{◌≡◌, true}
+use Rattle.std.proofs.Common.{true}
 use Rattle.sj_ask.specs.Answers.{IsAnswer}
 use Rattle.sj_typing.specs.Checks.{judge_field}
 use Rattle.sj_typing.proofs.Steps.{as_done, as_found, as_judged}

@@ -1,7 +1,5 @@
-use Rattle.std.proofs.Common.{◌≡◌, ◌∙◌, refl, ap, arith}
-use Rattle.std.proofs.lemmas.Result.{err_from_is_err_and}
+use Rattle.std.proofs.Common.{◌∙◌, refl, arith}
 use Rattle.sj_ask.specs.Answers.{IsAnswer}
-use Rattle.sj_typing.proofs.Steps.{as_out}
 use Rattle.sj_typing.proofs.Loops.{fits_on, fits_no, fits_end}
 use Rattle.sj_typing.proofs.checks.ask_fits.Goals as goal
 

@@ -1,4 +1,3 @@
-use Rattle.std.proofs.Common.{◌≡◌, ◌∙◌, ap}
 use Rattle.std.proofs.lemmas.Result.{err_from_is_err_and}
 use Rattle.sj_ask.specs.Answers.{IsAnswer}
 use Rattle.sj_typing.proofs.Steps.{as_row, as_row_no, as_then, as_then_stop}

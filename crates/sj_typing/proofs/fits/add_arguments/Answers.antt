@@ -1,4 +1,4 @@
-use Rattle.std.proofs.Common.{◌≡◌, arith}
+use Rattle.std.proofs.Common.{arith}
 use Rattle.sj_typing.proofs.Arguments.{arguments_end}
 use Rattle.sj_typing.proofs.fits.add_arguments.Goals as goal
 

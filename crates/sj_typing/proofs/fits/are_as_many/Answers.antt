@@ -1,4 +1,3 @@
-use Rattle.std.proofs.Common.{◌≡◌}
 use Rattle.sj_typing.proofs.Arguments.{as_many}
 use Rattle.sj_typing.proofs.fits.are_as_many.Goals as goal
 

@@ -1,4 +1,3 @@
-use Rattle.std.proofs.Common.{◌≡◌}
 use Rattle.std.proofs.lemmas.Result.{err_from_is_err_and}
 use Rattle.sj_ask.specs.Answers.{IsAnswer}
 use Rattle.sj_typing.proofs.Steps.{as_body, as_then, as_then_stop}

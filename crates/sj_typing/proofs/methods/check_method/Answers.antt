@@ -1,4 +1,3 @@
-use Rattle.std.proofs.Common.{◌≡◌}
 use Rattle.sj_typing.proofs.Verdicts.{verdict}
 use Rattle.sj_typing.proofs.methods.check_method.Goals as goal
 

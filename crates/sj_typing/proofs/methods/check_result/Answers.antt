@@ -1,4 +1,4 @@
-use Rattle.std.proofs.Common.{◌≡◌, true}
+use Rattle.std.proofs.Common.{true}
 use Rattle.sj_ask.specs.Answers.{IsAnswer}
 use Rattle.sj_typing.proofs.Steps.{as_done, wanted-is}
 use Rattle.sj_typing.proofs.methods.check_result.Goals as goal

@@ -1,6 +1,5 @@
 use Rattle.std.proofs.Common.{◌≡◌, ◌++◌, drop}
 use Rattle.std.specs.List.{flat_map}
-use Rattle.sj_units.specs.Modified.{modified_bytes}
 use Rattle.sj_written.specs.Written.{counted_bytes}
 use Rattle.sj_write.proofs.files.append_each_text.Given as goal
 

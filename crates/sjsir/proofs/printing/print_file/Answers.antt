@@ -1,4 +1,3 @@
-use Rattle.std.proofs.Common.{◌∙◌}
 use Rattle.sjsir.proofs.Files.{printed_one}
 use Rattle.sjsir.proofs.printing.print_file.Goals as goal
 

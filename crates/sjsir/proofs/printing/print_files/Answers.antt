@@ -1,6 +1,6 @@
 use Rattle.std.proofs.Common.{refl, arith, ap, ◌∙◌, sym, Bool}
 use Rattle.std.specs.Prelude.{◌&&◌, string_bytes}
-use Rattle.sjsir.proofs.Lines.{has_none, SoFar, goes_on, stops_early, lacks_none, has_all}
+use Rattle.sjsir.proofs.Lines.{has_none, goes_on, stops_early, lacks_none, has_all}
 use Rattle.sjsir.proofs.printing.print_files.Goals as goal
 use Rattle.sjsir.proofs.printing.print_files.Goals.{then-all_listed, else-all_listed}
 

@@ -1,10 +1,8 @@
-use Rattle.std.proofs.Common.{◌≡◌, ℕ, List, [], ◌∷◌, map, sym, ap, ◌∙◌, Some, None}
-use Rattle.std.specs.Prelude.{string_bytes, option_map}
-use Rattle.sj_outside.specs.Writing.{line}
+use Rattle.std.proofs.Common.{◌≡◌, map, sym, ap, ◌∙◌, Some, None}
+use Rattle.std.specs.Prelude.{string_bytes}
 use Rattle.sjsir.specs.Command.{command, help, version, print, make}
 use Rattle.sjsir.specs.Parts.{command_of}
 use Rattle.sjsir.specs.Output.{no_command, helped, versioned, front_of, usage_line, help_text, version_line}
-use Rattle.sjsir.specs.declared.answers.Status.TheVariants.{Done, Usage}
 use Rattle.sjsir.specs.declared.words.Asked.TheVariants as words
 use Rattle.sjsir.proofs.Endings.{ends_whole, ends_front, line_ends, prints_whole, prints_front, made_output}
 use Rattle.sjsir.proofs.program.run.Goals as goal

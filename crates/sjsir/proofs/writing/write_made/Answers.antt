@@ -1,9 +1,9 @@
 use Rattle.std.proofs.Common.{◌∙◌, ℕ, List, [], ◌∷◌, subst, inl}
 use Rattle.std.specs.Prelude.{codes}
-use Rattle.sj_outside.specs.Writing.{Appends, Writes, put}
+use Rattle.sj_outside.specs.Writing.{Writes, put}
 use Rattle.sj_outside.proofs.Laws.{Writes-put}
 use Rattle.sjsir.specs.Output.{no_listing_line, no_file_line}
-use Rattle.sjsir.specs.Writing.{Ends, all_written, faulted, out_of_memory}
+use Rattle.sjsir.specs.Writing.{all_written, faulted, out_of_memory}
 use Rattle.sjsir.specs.declared.answers.Status.TheVariants.{SomeRefused}
 use Rattle.sjsir.specs.declared.making.Made.TheVariants.{File, NoListing, NoFile}
 use Rattle.sjsir.proofs.Endings.{made_ends, put_refused, line_ends, text_ends, nothing_is_front}
