@@ -25,7 +25,8 @@ ParametersBuilt (r ∷ rs) = (names_no_class (reference_type r) ≡ true) × Has
 
 module _ (is_linked : Member → Bool) where
   abbrev mutual
-    -- a tree of the forms that are built; it names no class but in calls of linked members, no type is char, and numbers have 32 bits
+    -- a tree of the forms that are built: calls are of linked members, the types that it declares or gives name no class, and numbers have 32 bits.
+    -- Of a variable that is read any type may be given, since what declares it is asked.
     pub Built : Term → Type 0
     Built (var_def p x t b e) = (names_no_class t ≡ true) × (is_char t ≡ false) × Built e
     Built (skip p) = Unit {0}
