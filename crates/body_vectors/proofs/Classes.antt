@@ -17,7 +17,7 @@ use Rattle.body_vectors.proofs.Premises.{fits, fits_below, nonzero, few, Judged,
 use Rattle.body_vectors.proofs.Unbroken.{unbroken}
 
 -- `logs_hi`
-logs_hi_unbroken : FirstBroken whole.logs_hi_class None
+pub logs_hi_unbroken : FirstBroken whole.logs_hi_class None
 logs_hi_unbroken = unbroken whole.logs_hi_class (record { superclass = refl; hijacked = refl; interfaces = refl; fields = refl; methods = refl; field = refl; name = refl; signature = refl; missing_body = refl; constructors = refl; trees = ((refl, refl), tt) })
 
 logs_hi_main_judged : Judged (all_emitted whole.logs_hi_class.methods) whole.logs_hi_main

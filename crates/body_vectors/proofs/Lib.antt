@@ -3,3 +3,4 @@ mod Classes
 mod Computing
 mod Premises
 mod Unbroken
+mod WasRead

@@ -8,7 +8,7 @@
 //! functions here are laws: they do nothing when they run, and their clauses are theorems.
 #![tactic(auto)]
 
-ghost use Rattle.std.specs.Prelude.{◌≡◌, true, codes, Ok};
+ghost use Rattle.std.specs.Prelude.{◌≡◌, true, [], ◌∷◌, codes, Ok};
 ghost use Rattle.std.specs.List.{Contains};
 ghost use Rattle.outcomes.specs.Agreement.{Agree};
 ghost use Rattle.ir_mean.specs.Rows.{once};
@@ -20,7 +20,9 @@ ghost use Rattle.sj_sound.specs.Linked.{have_functions};
 ghost use Rattle.sj_sound.specs.Worked.{worked_world, worked_methods};
 ghost use Rattle.sj_proper.specs.Program.{HaveOwnMembers};
 ghost use Rattle.sj_kept.specs.Programs.{IsAccepted};
-ghost use Rattle.body_vectors.specs.Bounds.{class_within, class_shows, file_within, file_shows, function_texts};
+ghost use Rattle.sj_trees.specs.declared.classes.ClassDef.{ClassDef};
+ghost use Rattle.sj_judged.specs.Judged.{IsJudgedClass, IsJudgedMethod};
+ghost use Rattle.body_vectors.specs.Bounds.{all_emitted, class_within, class_shows, file_within, file_shows, function_texts};
 ghost use Rattle.body_vectors.specs.Files as files;
 ghost use Rattle.body_vectors.specs.Partly as partly;
 ghost use Rattle.body_vectors.specs.Texts as texts;
@@ -142,4 +144,14 @@ pub fn worked_classes_agree()
     ensures own_members { HaveOwnMembers worked_methods }
     ensures called { have_functions worked_methods (initializers once (codes "main")) ≡ true }
     ensures agree { Agree (ir_shows worked_world once (codes "main")) (js_shows (program_with (codes "main") worked_methods once) (codes "main")) }
+{}
+
+/// The premises of the theorem on classes that were read and judged can be met: by the class that logs `hi`, whose recorded file reads as the class,
+/// which breaks none of the local rules, and whose `main` is typed.
+pub fn class_that_was_read_agrees()
+    ensures classes { (c : ClassDef) → Contains (whole.logs_hi_class ∷ []) c → IsJudgedClass c }
+    ensures methods { (e : EmittedMethod) → Contains (all_emitted whole.logs_hi_class.methods) e → IsJudgedMethod (whole.logs_hi_class ∷ []) (all_emitted whole.logs_hi_class.methods) e }
+    ensures own_members { HaveOwnMembers (all_emitted whole.logs_hi_class.methods) }
+    ensures called { have_functions (all_emitted whole.logs_hi_class.methods) (initializers once (codes "main")) ≡ true }
+    ensures agree { Agree (ir_shows (whole.logs_hi_class ∷ []) once (codes "main")) (js_shows (program_with (codes "main") (all_emitted whole.logs_hi_class.methods) once) (codes "main")) }
 {}
