@@ -2,19 +2,11 @@
 # Measures the kernels of sj_lanes (README.md, beside this script).
 set -eu
 
-root=$(cd "$(dirname "$0")/../.." && pwd)
-work=$(mktemp -d)
-trap 'rm -rf "$work"' EXIT
+. "$(dirname "$0")/../program.sh"
 
-mkdir -p "$work/crates/lanes_bench/src" "$work/crates/sj_lanes"
-for part in src specs proofs; do
-    cp -R "$root/crates/sj_lanes/$part" "$work/crates/sj_lanes/"
-done
-cp "$root/HANDLES" "$work/"
-printf 'sj_lanes:\nlanes_bench: sj_lanes\n' > "$work/crates.txt"
-git init -q "$work"
+begin lanes_bench 'sj_lanes' sj_lanes
 
-cat > "$work/crates/lanes_bench/src/main.rt" <<'PROGRAM'
+cat > "$main" <<'PROGRAM'
 //! The speed of each kernel of sj_lanes, beside a plain loop and beside a copy of the same bytes.
 #![tactic(auto)]
 
@@ -197,9 +189,4 @@ fn main(rt: HostRuntime) -> io::Result<()> {
 }
 PROGRAM
 
-cd "$work/crates/lanes_bench"
-# The lines of the proof go to standard error, and what the program prints to standard output.
-if ! rt run 2> "$work/log"; then
-    cat "$work/log" >&2
-    exit 1
-fi
+measure

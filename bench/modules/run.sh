@@ -2,23 +2,11 @@
 # Measures read_module and print_module (README.md, beside this script).
 set -eu
 
-root=$(cd "$(dirname "$0")/../.." && pwd)
-work=$(mktemp -d)
-trap 'rm -rf "$work"' EXIT
+. "$(dirname "$0")/../program.sh"
 
-mkdir -p "$work/crates/modules_bench/src"
-for crate in sj_names sj_units exact_place js_tree js_spelling js_print js_scan js_statements js_read; do
-    mkdir -p "$work/crates/$crate"
-    for part in src specs proofs; do
-        [ ! -d "$root/crates/$crate/$part" ] || cp -R "$root/crates/$crate/$part" "$work/crates/$crate/"
-    done
-    grep "^$crate:" "$root/crates.txt" >> "$work/crates.txt"
-done
-echo 'modules_bench: anyhow js_tree js_read js_print' >> "$work/crates.txt"
-cp "$root/HANDLES" "$work/"
-git init -q "$work"
+begin modules_bench 'anyhow js_tree js_read js_print' sj_names sj_units exact_place js_tree js_spelling js_print js_scan js_statements js_read
 
-cat > "$work/crates/modules_bench/src/main.rt" <<'PROGRAM'
+cat > "$main" <<'PROGRAM'
 //! The speed of read_module and of print_module, beside a copy of the same bytes.
 #![tactic(auto)]
 
@@ -88,9 +76,4 @@ fn main(rt: HostRuntime) -> Result<()> {
 }
 PROGRAM
 
-cd "$work/crates/modules_bench"
-# The lines of the proof go to standard error, and what the program prints to standard output.
-if ! rt run 2> "$work/log"; then
-    cat "$work/log" >&2
-    exit 1
-fi
+measure

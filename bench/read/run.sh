@@ -2,23 +2,11 @@
 # Measures read_class (README.md, beside this script).
 set -eu
 
-root=$(cd "$(dirname "$0")/../.." && pwd)
-work=$(mktemp -d)
-trap 'rm -rf "$work"' EXIT
+. "$(dirname "$0")/../program.sh"
 
-mkdir -p "$work/crates/read_bench/src"
-for crate in sj_names sj_units sj_trees sj_format sj_read; do
-    mkdir -p "$work/crates/$crate"
-    for part in src specs proofs; do
-        cp -R "$root/crates/$crate/$part" "$work/crates/$crate/"
-    done
-    grep "^$crate:" "$root/crates.txt" >> "$work/crates.txt"
-done
-echo 'read_bench: sj_names sj_format sj_read sj_trees' >> "$work/crates.txt"
-cp "$root/HANDLES" "$work/"
-git init -q "$work"
+begin read_bench 'sj_names sj_format sj_read sj_trees' sj_names sj_units sj_trees sj_format sj_read
 
-cat > "$work/crates/read_bench/src/main.rt" <<'PROGRAM'
+cat > "$main" <<'PROGRAM'
 //! The speed of read_class, beside a copy of the same bytes.
 #![tactic(auto)]
 
@@ -95,14 +83,5 @@ fn main(rt: HostRuntime) -> io::Result<()> {
 }
 PROGRAM
 
-cd "$work/crates/read_bench"
-# The lines of the proof go to standard error, and what the program prints to standard output.
-if ! rt run 2> "$work/log"; then
-    cat "$work/log" >&2
-    exit 1
-fi
-python3 - out/read_bench <<'PEAK'
-import resource, subprocess, sys
-subprocess.run([sys.argv[1]], stdout=subprocess.DEVNULL, check=True)
-print("highest memory in use:", resource.getrusage(resource.RUSAGE_CHILDREN).ru_maxrss // 1024, "MB")
-PEAK
+measure
+peak

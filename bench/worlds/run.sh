@@ -2,23 +2,11 @@
 # Measures World::new and its answers (README.md, beside this script).
 set -eu
 
-root=$(cd "$(dirname "$0")/../.." && pwd)
-work=$(mktemp -d)
-trap 'rm -rf "$work"' EXIT
+. "$(dirname "$0")/../program.sh"
 
-mkdir -p "$work/crates/worlds_bench/src"
-for crate in sj_names sj_units sj_trees sj_world; do
-    mkdir -p "$work/crates/$crate"
-    for part in src specs proofs; do
-        cp -R "$root/crates/$crate/$part" "$work/crates/$crate/"
-    done
-    grep "^$crate:" "$root/crates.txt" >> "$work/crates.txt"
-done
-echo 'worlds_bench: anyhow sj_names sj_trees sj_world' >> "$work/crates.txt"
-cp "$root/HANDLES" "$work/"
-git init -q "$work"
+begin worlds_bench 'anyhow sj_names sj_trees sj_world' sj_names sj_units sj_trees sj_world
 
-cat > "$work/crates/worlds_bench/src/main.rt" <<'PROGRAM'
+cat > "$main" <<'PROGRAM'
 //! The time of World::new, and of subtype tests and resolutions in the world.
 #![tactic(auto)]
 
@@ -114,14 +102,5 @@ fn main(rt: HostRuntime) -> Result<()> {
 }
 PROGRAM
 
-cd "$work/crates/worlds_bench"
-# The lines of the proof go to standard error, and what the program prints to standard output.
-if ! rt run 2> "$work/log"; then
-    cat "$work/log" >&2
-    exit 1
-fi
-python3 - out/worlds_bench <<'PEAK'
-import resource, subprocess, sys
-subprocess.run([sys.argv[1]], stdout=subprocess.DEVNULL, check=True)
-print("highest memory in use:", resource.getrusage(resource.RUSAGE_CHILDREN).ru_maxrss // 1024, "MB")
-PEAK
+measure
+peak

@@ -1,0 +1,41 @@
+# What the measuring scripts share: a repository of copies, and the run of its program.
+
+root=$(cd "$(dirname "$0")/../.." && pwd)
+work=$(mktemp -d)
+trap 'rm -rf "$work"' EXIT
+
+# begin NAME USES CRATE..: copies these crates, and makes the folder of a program NAME that uses the libraries USES.
+begin() {
+    program=$1
+    mkdir -p "$work/crates/$program/src"
+    echo "$program: $2" > "$work/crates.txt"
+    shift 2
+    for crate; do
+        mkdir -p "$work/crates/$crate"
+        for part in src specs proofs; do
+            [ ! -d "$root/crates/$crate/$part" ] || cp -R "$root/crates/$crate/$part" "$work/crates/$crate/"
+        done
+        grep "^$crate:" "$root/crates.txt" >> "$work/crates.txt"
+    done
+    cp "$root/HANDLES" "$work/"
+    git init -q "$work"
+    main="$work/crates/$program/src/main.rt"
+}
+
+# Proves, builds and runs the program, whose text is in $main by now. What the proof prints is shown where it fails.
+measure() {
+    cd "$work/crates/$program"
+    if ! rt run 2> "$work/log"; then
+        cat "$work/log" >&2
+        exit 1
+    fi
+}
+
+# Runs the program once more, and prints the highest memory that it used.
+peak() {
+    python3 - "out/$program" <<'PEAK'
+import resource, subprocess, sys
+subprocess.run([sys.argv[1]], stdout=subprocess.DEVNULL, check=True)
+print("highest memory in use:", resource.getrusage(resource.RUSAGE_CHILDREN).ru_maxrss // 1024, "MB")
+PEAK
+}
