@@ -44,7 +44,7 @@ main_typed : IsTyped world whole.logs_hi_main
 main_typed = record {
   body = logs (codes "hi");
   has_body = refl;
-  met = All-cons (MeetsThere world whole.logs_hi_main.namespace) (node 1 [] (string_literal nowhere (codes "hi"))) _ tt (All-cons (MeetsThere world whole.logs_hi_main.namespace) (node 0 [] (logs (codes "hi"))) [] (equal refl) (All-nil (MeetsThere world whole.logs_hi_main.namespace)));
+  met = All-cons (MeetsThere world whole.logs_hi_main.namespace) (node 1 [] (string_literal nowhere (codes "hi"))) (node 0 [] (logs (codes "hi")) ∷ []) tt (All-cons (MeetsThere world whole.logs_hi_main.namespace) (node 0 [] (logs (codes "hi"))) [] (equal refl) (All-nil (MeetsThere world whole.logs_hi_main.namespace)));
   yields = nothing_wanted refl;
 }
 

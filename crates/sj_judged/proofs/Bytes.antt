@@ -60,16 +60,16 @@ plain-bytes x is = utf8-bytes x is.1
 
 mutual
   pub tree-bytes : (e : Term) → IsListedTree e → NamedByBytes e
-  tree-bytes (var_def p x t b e) h = (plain-bytes x h.0, tree-bytes e h.1.1)
+  tree-bytes (var_def p x t b e) h = (plain-bytes x h.0, tree-bytes e h.2)
   tree-bytes (block_of p es) h = trees-bytes es h
-  tree-bytes (labeled p l t e) h = (plain-bytes l h.0, tree-bytes e h.1.1)
+  tree-bytes (labeled p l t e) h = (plain-bytes l h.0, tree-bytes e h.2)
   tree-bytes (assign p d e) h = (tree-bytes d h.0, tree-bytes e h.1)
   tree-bytes (return_to p e l) h = (plain-bytes l h.1, tree-bytes e h.0)
-  tree-bytes (if_then p c a b t) h = (tree-bytes c h.0, tree-bytes a h.1.0, tree-bytes b h.1.1.0)
+  tree-bytes (if_then p c a b t) h = (tree-bytes c h.0, tree-bytes a h.1, tree-bytes b h.2)
   tree-bytes (while_loop p c b) h = (tree-bytes c h.0, tree-bytes b h.1)
   tree-bytes (do_while p b c) h = (tree-bytes b h.0, tree-bytes c h.1)
-  tree-bytes (match_on p e cs d t) h = (tree-bytes e h.0, cases-bytes cs h.1.0, tree-bytes d h.1.1.0)
-  tree-bytes (apply_static p c n m es t) h = trees-bytes es h.1.1.0
+  tree-bytes (match_on p e cs d t) h = (tree-bytes e h.0, cases-bytes cs h.1, tree-bytes d h.2)
+  tree-bytes (apply_static p c n m es t) h = trees-bytes es h.2
   tree-bytes (unary_op p o e) h = tree-bytes e h
   tree-bytes (binary_op p o e d) h = (tree-bytes e h.0, tree-bytes d h.1)
   tree-bytes (var_ref p x t) h = plain-bytes x h.0
@@ -82,7 +82,7 @@ mutual
 
   cases-bytes : (cs : Cases) → AreListedCases cs → CasesNamedByBytes cs
   cases-bytes no_cases h = tt
-  cases-bytes (more_cases ks e cs) h = (tree-bytes e h.1.0, cases-bytes cs h.1.1)
+  cases-bytes (more_cases ks e cs) h = (tree-bytes e h.1, cases-bytes cs h.2)
 
 pub parameters-bytes : (ps : List ParamDef) → All IsListedParam ps → GoodParameters (names_of ps)
 parameters-bytes [] h = tt

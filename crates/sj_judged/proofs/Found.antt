@@ -24,7 +24,7 @@ here x xs = Contains-append_left (x ∷ []) xs x (Contains-push [] x)
 there : {X : Type 0} (y : X) (xs : List X) (x : X) → Contains xs x → Contains (y ∷ xs) x
 there y xs x h = Contains-append_right (y ∷ []) xs x h
 
-in_namespace : Namespace → MethodName → Member
+abbrev in_namespace : Namespace → MethodName → Member
 in_namespace n m = record { class = []; namespace = n; method = m }
 
 method_found : (ds : List MethodDef) (n : Namespace) (m : MethodName) (d : MethodDef) → method_among ds n m ≡ Some d → Contains ds d × (m ≡ d.name)

@@ -39,7 +39,7 @@ module _ (w : World) (fs : List EmittedMethod) (classes : (c : ClassDef) → Con
   method = All-contains IsListedMethod its.owner.methods e.definition listing.methods its.listed
 
   body : IsListedTree e.its_body
-  body = subst (λ (o : Option Term). MatchOption o (Unit {0}) IsListedTree) h.has_body method.1.1.1
+  body = subst (λ (o : Option Term). MatchOption o (Unit {0}) IsListedTree) h.has_body method.3
 
   pub accepted : IsAccepted w fs e
   accepted = record {
@@ -54,7 +54,7 @@ module _ (w : World) (fs : List EmittedMethod) (classes : (c : ClassDef) → Con
     result = h.result;
     values = h.values;
     local_bytes = tree-bytes e.its_body body;
-    parameter_bytes = parameters-bytes e.definition.params method.1.0;
+    parameter_bytes = parameters-bytes e.definition.params method.1;
     numbers = h.numbers;
     class_name = subst (λ (n : List ℕ). IsTrue (is_class_name n)) (sym its.class_is) listing.name.0;
     method_name = subst IsMethodName (sym its.named) method.0.0;
