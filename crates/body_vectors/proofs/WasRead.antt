@@ -25,7 +25,7 @@ use Rattle.body_vectors.specs.Files as files
 use Rattle.body_vectors.specs.Whole as whole
 use Rattle.body_vectors.proofs.Classes.{logs_hi_unbroken}
 use Rattle.body_vectors.proofs.Computing.{reading}
-use Rattle.body_vectors.proofs.Premises.{few, have_values, each_of, own}
+use Rattle.body_vectors.proofs.Premises.{have_values, each_of, own}
 
 abbrev world : World
 world = whole.logs_hi_class ∷ []
@@ -38,7 +38,7 @@ unfolding reading
 class_read = refl
 
 class_judged : IsJudgedClass whole.logs_hi_class
-class_judged = record { bytes = files.logs_hi; are_bytes = bytes-are files.logs_hi refl; read = file_found files.logs_hi whole.logs_hi_class class_read; unbroken = logs_hi_unbroken }
+class_judged = record { bytes = files.logs_hi; are_bytes = bytes-are files.logs_hi refl; held = omega arith; read = file_found files.logs_hi whole.logs_hi_class class_read; unbroken = logs_hi_unbroken }
 
 main_typed : IsTyped world whole.logs_hi_main
 main_typed = record {
@@ -52,7 +52,7 @@ pub classes_judged : (c : ClassDef) → Contains world c → IsJudgedClass c
 classes_judged = each_of IsJudgedClass world (class_judged, tt)
 
 pub methods_judged : (e : EmittedMethod) → Contains methods e → IsJudgedMethod world methods e
-methods_judged = each_of (IsJudgedMethod world methods) methods (record { found = refl; has_body = refl; typed = main_typed; built = tt; values = have_values [] tt; result = inl refl; plain_result = refl; numbers = few 1 (omega arith) }, tt)
+methods_judged = each_of (IsJudgedMethod world methods) methods (record { found = refl; has_body = refl; typed = main_typed; built = tt; values = have_values [] tt; result = inl refl; plain_result = refl }, tt)
 
 pub own_members : HaveOwnMembers methods
 own_members = own methods refl

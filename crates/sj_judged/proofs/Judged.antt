@@ -1,11 +1,12 @@
 -- Methods that are judged have what the theorem on classes asks.
-use Rattle.std.proofs.Common.{◌≡◌, ℕ, true, List, Option, sym, subst, Contains}
+use Rattle.std.proofs.Common.{◌≡◌, ◌≤◌, ◌^◌, ℕ, true, List, [], Option, sym, subst, Contains, arith}
 use Rattle.std.specs.Prelude.{IsTrue, MatchOption}
 use Rattle.std.proofs.lemmas.List.Elements.{All-contains}
 use Rattle.outcomes.specs.Agreement.{Agree}
 use Rattle.ir_mean.specs.Shows.{initializers, ir_shows}
 use Rattle.ir_mean.specs.World.{World}
 use Rattle.js_mean.specs.Shows.{js_shows}
+use Rattle.sj_desugar.specs.Desugar.{into, is_mutable_in, result_destination}
 use Rattle.sj_mangling.specs.Mangling.{AreBytes}
 use Rattle.sj_names.specs.Grammar.{is_class_name}
 use Rattle.sj_names.specs.MethodNames.{spelled_method, IsMethodName}
@@ -22,6 +23,8 @@ use Rattle.sj_kept.specs.Programs.{IsAccepted}
 use Rattle.sj_kept.proofs.Programs.{classes_agree}
 use Rattle.sj_typed.proofs.Bodies.{has_rows, yields_result}
 use Rattle.sj_judged.specs.Judged.{IsJudgedClass, IsJudgedMethod}
+use Rattle.sj_judged.proofs.Bodies.{body_weight}
+use Rattle.sj_judged.proofs.Numbers.{few}
 use Rattle.sj_judged.proofs.Bytes.{utf8-bytes, tree-bytes, parameters-bytes}
 use Rattle.sj_judged.proofs.Found.{OwnerOf, owner_of}
 
@@ -41,6 +44,12 @@ module _ (w : World) (fs : List EmittedMethod) (classes : (c : ClassDef) → Con
   body : IsListedTree e.its_body
   body = subst (λ (o : Option Term). MatchOption o (Unit {0}) IsListedTree) h.has_body method.3
 
+  numbers : (into (is_mutable_in e.definition e.its_body) [] (result_destination e.definition.result) 1 e.its_body).next ≤ 2 ^ 64
+  numbers =
+      let size_is = body_weight judged.bytes its.owner judged.read e.definition its.listed e.its_body h.has_body in
+      let next_is = few (is_mutable_in e.definition e.its_body) [] e.its_body (result_destination e.definition.result) 1 in
+      omega (arith, size_is, next_is, judged.held)
+
   pub accepted : IsAccepted w fs e
   accepted = record {
     owner = its.owner;
@@ -55,7 +64,7 @@ module _ (w : World) (fs : List EmittedMethod) (classes : (c : ClassDef) → Con
     values = h.values;
     local_bytes = tree-bytes e.its_body body;
     parameter_bytes = parameters-bytes e.definition.params method.1;
-    numbers = h.numbers;
+    numbers = numbers;
     class_name = subst (λ (n : List ℕ). IsTrue (is_class_name n)) (sym its.class_is) listing.name.0;
     method_name = subst IsMethodName (sym its.named) method.0.0;
     class_bytes = subst AreBytes (sym its.class_is) (utf8-bytes its.owner.name listing.name.1);
