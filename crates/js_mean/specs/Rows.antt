@@ -48,6 +48,10 @@ twice_declared_program = main_file (expression_item (logs (codes "x")) ∷ runs 
 abbrev pub argument_program : Program
 argument_program = main_file (runs (codes "f_") (logs (codes "f") ∷ []) ∷ runs (codes "g_") (logs (codes "g") ∷ []) ∷ expression_item (call_of (codes "g_") (expression (calls (codes "f_")) no_expressions)) ∷ [])
 
+-- `f_` logs `f`; `main_` calls `f_`, which it declares itself further down
+abbrev pub declared_below_program : Program
+declared_below_program = main_file (runs (codes "f_") (logs (codes "f") ∷ []) ∷ function_item (codes "main_") [] (statements_of (expression_statement (calls (codes "f_")) ∷ let_of (codes "f_") (number_literal (pos 1)) ∷ [])) ∷ expression_item (calls (codes "main_")) ∷ [])
+
 -- a file with one import line and one export line, or none
 abbrev pub file : Name → List JsImport → List Item → List Name → Source
 file f imports items exports = record { file = f; content = Some (record { imports = imports; items = items; exports = exports }) }

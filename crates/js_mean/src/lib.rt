@@ -18,6 +18,7 @@ ghost use Rattle.js_mean.specs.Rows.{
   undeclared_program,
   twice_declared_program,
   argument_program,
+  declared_below_program,
   import_program,
   circle_program,
   circular_name_program,
@@ -36,9 +37,10 @@ ghost use Rattle.js_mean.specs.Rows.{
 
 /// Worked programs of the emitted code; the function does nothing when it runs. A function that logs `hi` has shown nothing within the
 /// bound 0 and all within the bound 1; one that logs `x` and calls itself has logged it `n - 1` times within the bound `n`, and is
-/// going; a call of a name that nothing declares is wrong behind what was logged; a module that declares a name twice is wrong before
-/// anything runs, and so is one that isn't there, or that imports what isn't exported; what is imported runs first, also in a circle; an
-/// argument is evaluated before the call, also where no parameter takes it.
+/// going; a call of a name that nothing declares is wrong behind what was logged; so is one of a name that the function itself declares further
+/// down, also where another function has it; a module that declares a name twice is wrong before anything runs, and so is one that isn't there,
+/// or that imports what isn't exported; what is imported runs first, also in a circle; an argument is evaluated before the call, also where no
+/// parameter takes it.
 pub fn worked_programs()
     ensures hi_within_0 { js_shows hi_program (codes "main") 0 ≡ record { lines = []; end = Going } }
     ensures hi_within_1 { js_shows hi_program (codes "main") 1 ≡ record { lines = codes "hi" ∷ []; end = Done normal } }
@@ -46,6 +48,7 @@ pub fn worked_programs()
     ensures again_within_2 { js_shows again_program (codes "main") 2 ≡ record { lines = codes "x" ∷ []; end = Going } }
     ensures again_within_5 { js_shows again_program (codes "main") 5 ≡ record { lines = codes "x" ∷ codes "x" ∷ codes "x" ∷ codes "x" ∷ []; end = Going } }
     ensures undeclared { js_shows undeclared_program (codes "main") 1 ≡ record { lines = codes "x" ∷ []; end = Wrong } }
+    ensures declared_below { js_shows declared_below_program (codes "main") 2 ≡ record { lines = []; end = Wrong } }
     ensures twice_declared { js_shows twice_declared_program (codes "main") 1 ≡ record { lines = []; end = Wrong } }
     ensures no_file { js_shows hi_program (codes "other") 1 ≡ record { lines = []; end = Wrong } }
     ensures import { js_shows (import_program (codes "f_" ∷ [])) (codes "main") 1 ≡ record { lines = codes "lib" ∷ codes "f" ∷ []; end = Done normal } }
