@@ -5,3 +5,4 @@ pub mod Same
 pub mod Shows
 pub mod States
 pub mod World
+pub mod Values

@@ -13,6 +13,8 @@ ghost use Rattle.ir_mean.specs.Shows.{ir_shows};
 ghost use Rattle.ir_mean.specs.Shows.{outside};
 ghost use Rattle.ir_mean.specs.States.{Ended, ends, gives, number};
 ghost use Rattle.ir_mean.specs.World.{opening};
+ghost use Rattle.ir_mean.specs.Values.{values, expected};
+ghost use Rattle.ir_mean.specs.Values as worked;
 ghost use Rattle.ir_mean.specs.Rows.{
   hi_program,
   again_program,
@@ -56,4 +58,16 @@ pub fn worked_bodies()
     ensures key { int_result matches 1 (negsuc 0) ≡ done (ends (gives (number (pos 10))) outside (opening (object_with (int_method matches ∷ []) ∷ []))) }
     ensures no_key { int_result matches 1 (pos 3) ≡ done (ends (gives (number (pos 30))) outside (opening (object_with (int_method matches ∷ []) ∷ []))) }
     ensures order { int_result reads_then_writes 1 (pos 2) ≡ done (ends (gives (number (pos 7))) outside (opening (object_with (int_method reads_then_writes ∷ []) ∷ []))) }
+{}
+
+/// Worked trees, each by itself: the literals, each operator on booleans and ints, the conversions among byte, short and int, and blocks, labels
+/// and branches.
+pub fn worked_trees()
+    ensures literals { values worked.literals ≡ expected worked.literals }
+    ensures on_booleans { values worked.on_booleans ≡ expected worked.on_booleans }
+    ensures on_ints { values worked.on_ints ≡ expected worked.on_ints }
+    ensures on_bits { values worked.on_bits ≡ expected worked.on_bits }
+    ensures compared { values worked.compared ≡ expected worked.compared }
+    ensures converted { values worked.converted ≡ expected worked.converted }
+    ensures in_order { values worked.in_order ≡ expected worked.in_order }
 {}

@@ -5,3 +5,4 @@ pub mod Proper
 pub mod Rows
 pub mod Shows
 pub mod States
+pub mod Values

@@ -79,6 +79,10 @@ one_function ss = main_file (function_item (codes "f_") (codes "x_" ∷ []) (sta
 abbrev pub called_with : List Statement → ℕ → ℤ → Out ExpressionEnd
 called_with ss m z = evaluate (one_function ss) (below (one_function ss) m) (call_of (codes "f_") (expression (number_literal z) no_expressions)) (top_scope (one_function ss) (codes "main.js")) (opening (one_function ss))
 
+-- and one without arguments
+abbrev pub called_without : List Statement → ℕ → Out ExpressionEnd
+called_without ss m = evaluate (one_function ss) (below (one_function ss) m) (call_of (codes "f_") no_expressions) (top_scope (one_function ss) (codes "main.js")) (opening (one_function ss))
+
 abbrev pub x_use : Expression
 x_use = name_use (codes "x_")
 
@@ -107,6 +111,18 @@ breaks_out = labeled_of (codes "l_") (statements_of (while_of (boolean_literal t
 -- `const y_ = x_; y_ = 1; return y_;`
 abbrev pub writes_constant : List Statement
 writes_constant = const_of (codes "y_") x_use ∷ assign_name (codes "y_") (number_of (pos 1)) ∷ return_of y_use ∷ []
+
+-- `return x_;`
+abbrev pub returns_parameter : List Statement
+returns_parameter = return_of x_use ∷ []
+
+-- `f_ = x_; return f_;`
+abbrev pub writes_itself : List Statement
+writes_itself = assign_name (codes "f_") x_use ∷ return_of (name_use (codes "f_")) ∷ []
+
+-- `y_ = 1; let y_ = 2; return y_;`
+abbrev pub writes_before_start : List Statement
+writes_before_start = assign_name (codes "y_") (number_of (pos 1)) ∷ let_of (codes "y_") (number_of (pos 2)) ∷ return_of y_use ∷ []
 
 -- `let y_ = 1; if ((x_ < 10)) { x_ = y_; let y_ = 2; } return x_;`
 abbrev pub uses_before_start : List Statement

@@ -6,12 +6,14 @@
 //! production is wrong where it is met. Import and export lines are built whole. The functions here are laws.
 #![tactic(auto)]
 
-ghost use Rattle.std.specs.Prelude.{◌≡◌, ℕ, List, [], ◌∷◌, ℤ, pos, negsuc, codes};
+ghost use Rattle.std.specs.Prelude.{◌≡◌, ℕ, List, [], ◌∷◌, ℤ, pos, negsuc, codes, Some};
 ghost use Rattle.outcomes.specs.Outcome.{Going, Wrong, Done, done, going, wrong};
 ghost use Rattle.outcomes.specs.Shown.{Shown, normal};
 ghost use Rattle.js_mean.specs.Shows.{js_shows};
-ghost use Rattle.js_mean.specs.States.{gives, number};
+ghost use Rattle.js_mean.specs.States.{gives, number, undefined};
 ghost use Rattle.js_mean.specs.Meaning.{opening};
+ghost use Rattle.js_mean.specs.Values.{given, values, expected};
+ghost use Rattle.js_mean.specs.Values as worked;
 ghost use Rattle.js_mean.specs.Rows.{
   hi_program,
   again_program,
@@ -24,6 +26,10 @@ ghost use Rattle.js_mean.specs.Rows.{
   circular_name_program,
   one_function,
   called_with,
+  called_without,
+  returns_parameter,
+  writes_itself,
+  writes_before_start,
   triples,
   counts,
   falls,
@@ -60,8 +66,9 @@ pub fn worked_programs()
 
 /// Worked functions of one parameter. A loop that triples gives 27 for 1 within the bound 4: one unit is for the call, and three are for the
 /// turns behind the first. A case without `break` falls into the next, and a break leaves the switch. A break to a label leaves the loops inside it. A
-/// constant can't be written, and a binding that hasn't started can't be read, also where one around it has that name; behind a block the
-/// outer binding is there again. A remainder has the dividend's sign, and a quotient that isn't under `| 0` has no meaning.
+/// constant can't be written, and a binding that hasn't started can be neither written nor read, also where one around it has that name; behind a
+/// block the outer binding is there again. A function at the top can be written. A missing argument is undefined, and so is what a function
+/// without a return gives. A remainder has the dividend's sign, and a quotient that isn't under `| 0` has no meaning.
 pub fn worked_functions()
     ensures loop_of_1 { called_with triples 4 (pos 1) ≡ done (gives (number (pos 27)) (opening (one_function triples))) }
     ensures loop_going { called_with triples 3 (pos 1) ≡ going }
@@ -72,7 +79,23 @@ pub fn worked_functions()
     ensures return_from_loop { called_with breaks_out 1 (pos 0) ≡ done (gives (number (pos 1)) (opening (one_function breaks_out))) }
     ensures constant { called_with writes_constant 1 (pos 0) ≡ wrong }
     ensures before_start { called_with uses_before_start 1 (pos 0) ≡ wrong }
+    ensures write_before_start { called_with writes_before_start 1 (pos 0) ≡ wrong }
+    ensures itself { given (called_with writes_itself 1 (pos 5)).end ≡ Some (number (pos 5)) }
+    ensures missing_argument { called_without returns_parameter 1 ≡ done (gives undefined (opening (one_function returns_parameter))) }
+    ensures no_return { called_with [] 1 (pos 0) ≡ done (gives undefined (opening (one_function []))) }
     ensures shadowed { called_with shadows 1 (pos 0) ≡ done (gives (number (pos 3)) (opening (one_function shadows))) }
     ensures remainder { called_with remainder_by_four 1 (negsuc 6) ≡ done (gives (number (negsuc 2)) (opening (one_function remainder_by_four))) }
     ensures ratio { called_with bare_ratio 1 (pos 4) ≡ wrong }
+{}
+
+/// Worked expressions, each by itself. Which values are true; `&&`, `||` and a conditional, which evaluate no more than they need; `===` and
+/// `!==`; comparisons; sums, differences and products, which are exact or wrong; the operators on bits; and quotients under `| 0`.
+pub fn worked_expressions()
+    ensures negations { values worked.negations ≡ expected worked.negations }
+    ensures choices { values worked.choices ≡ expected worked.choices }
+    ensures equalities { values worked.equalities ≡ expected worked.equalities }
+    ensures comparisons { values worked.comparisons ≡ expected worked.comparisons }
+    ensures sums { values worked.sums ≡ expected worked.sums }
+    ensures bits { values worked.bits ≡ expected worked.bits }
+    ensures ratios { values worked.ratios ≡ expected worked.ratios }
 {}
