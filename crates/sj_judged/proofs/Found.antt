@@ -1,4 +1,4 @@
--- A method that is found as that of a member is a method of a class of the member's class's name, with the member's name.
+-- The method that is found for a member stands in a class of that name, and has the member's own name.
 use Rattle.std.proofs.Common.{◌≡◌, ℕ, Bool, true, false, List, [], ◌∷◌, ◌&&◌, Option, Some, None, refl, ap, subst, ◌∙◌, Contains, if◌then◌else◌}
 use Rattle.std.proofs.lemmas.List.Elements.{Contains-append_left, Contains-append_right, Contains-push}
 use Rattle.ir_mean.specs.Same.{is_same_text, is_same_namespace, is_same_method}

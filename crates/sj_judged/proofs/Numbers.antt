@@ -56,11 +56,11 @@ either : (b : Bool) (c d : Code) (n : ℕ) → c.next < n → d.next < n → (el
 either true c d n h k = h
 either false c d n h k = k
 
-below_after : (a j s n : ℕ) → a ≡ j → j ≤ s → s < n → a < n
-below_after a j s n e h k = omega arith
+same_below : (a j n : ℕ) → a ≡ j → j < n → a < n
+same_below a j n e h = omega arith
 
-chain_most : (a b c m n : ℕ) → a < b + m → c ≤ a + n → c ≤ b + (m + n)
-chain_most a b c m n h k = omega arith
+onto : (a b c m n : ℕ) → a < b + m → c ≤ a + n → c ≤ b + (m + n)
+onto a b c m n h k = omega arith
 
 module _ (is_mutable : List ℕ → Bool) where
   within : (ls : Targets) (t : Term) → ((k : Destination) (j : ℕ) → (into is_mutable ls k j t).next < j + size t) → Within (operand is_mutable t (λ k j. into is_mutable ls k j t)) t
@@ -98,23 +98,23 @@ module _ (is_mutable : List ℕ → Bool) where
     few ls (apply_static p c n m ts t) k j =
         let s = spill (operands is_mutable ls ts) j in
         let h = spill-few (operands is_mutable ls ts) ts (operands-within ls ts) j in
-        below_after _ s.next s.next (j + (1 + size_of_all ts)) (finish-next k p t false _ s.next) (omega arith) (omega (arith, h))
+        same_below _ s.next (j + (1 + size_of_all ts)) (finish-next k p t false _ s.next) (omega (arith, h))
     few ls (unary_op p o e) k j =
         let s = spill (operand is_mutable e (λ k j. into is_mutable ls k j e) ∷ []) j in
         let h = spill-few (operand is_mutable e (λ k j. into is_mutable ls k j e) ∷ []) (more_terms e no_terms) (within ls e (few ls e), tt) j in
-        below_after _ s.next s.next (j + (1 + size e)) (finish-next k p _ false _ s.next) (omega arith) (omega (arith, h))
+        same_below _ s.next (j + (1 + size e)) (finish-next k p _ false _ s.next) (omega (arith, h))
     few ls (binary_op p o e d) k j =
         let s = spill (operand is_mutable e (λ k j. into is_mutable ls k j e) ∷ operand is_mutable d (λ k j. into is_mutable ls k j d) ∷ []) j in
         let h = spill-few (operand is_mutable e (λ k j. into is_mutable ls k j e) ∷ operand is_mutable d (λ k j. into is_mutable ls k j d) ∷ []) (more_terms e (more_terms d no_terms)) (within ls e (few ls e), (within ls d (few ls d), tt)) j in
-        below_after _ s.next s.next (j + (1 + size e + size d)) (finish-next k p _ false _ s.next) (omega arith) (omega (arith, h))
-    few ls (undefined_literal p) k j = below_after _ j j (j + 1) (finish-next k p _ true _ j) (omega arith) (omega arith)
-    few ls (null_literal p) k j = below_after _ j j (j + 1) (finish-next k p _ true _ j) (omega arith) (omega arith)
-    few ls (boolean_literal p b) k j = below_after _ j j (j + 1) (finish-next k p _ true _ j) (omega arith) (omega arith)
-    few ls (byte_literal p n) k j = below_after _ j j (j + 1) (finish-next k p _ true _ j) (omega arith) (omega arith)
-    few ls (short_literal p n) k j = below_after _ j j (j + 1) (finish-next k p _ true _ j) (omega arith) (omega arith)
-    few ls (int_literal p n) k j = below_after _ j j (j + 1) (finish-next k p _ true _ j) (omega arith) (omega arith)
-    few ls (string_literal p us) k j = below_after _ j j (j + 1) (finish-next k p _ true _ j) (omega arith) (omega arith)
-    few ls (var_ref p x t) k j = below_after _ j j (j + 1) (finish-next k p t true _ j) (omega arith) (omega arith)
+        same_below _ s.next (j + (1 + size e + size d)) (finish-next k p _ false _ s.next) (omega (arith, h))
+    few ls (undefined_literal p) k j = same_below _ j (j + 1) (finish-next k p _ true _ j) (omega arith)
+    few ls (null_literal p) k j = same_below _ j (j + 1) (finish-next k p _ true _ j) (omega arith)
+    few ls (boolean_literal p b) k j = same_below _ j (j + 1) (finish-next k p _ true _ j) (omega arith)
+    few ls (byte_literal p n) k j = same_below _ j (j + 1) (finish-next k p _ true _ j) (omega arith)
+    few ls (short_literal p n) k j = same_below _ j (j + 1) (finish-next k p _ true _ j) (omega arith)
+    few ls (int_literal p n) k j = same_below _ j (j + 1) (finish-next k p _ true _ j) (omega arith)
+    few ls (string_literal p us) k j = same_below _ j (j + 1) (finish-next k p _ true _ j) (omega arith)
+    few ls (var_ref p x t) k j = same_below _ j (j + 1) (finish-next k p t true _ j) (omega arith)
     few ls (log_line p e) k j = let h = spill-few (operand is_mutable e (λ k j. into is_mutable ls k j e) ∷ []) (more_terms e no_terms) (within ls e (few ls e), tt) j in omega (arith, h)
     few ls _ k j = omega arith
 
@@ -124,7 +124,7 @@ module _ (is_mutable : List ℕ → Bool) where
     block-few ls (more_terms t (more_terms u us)) k j =
         let h = few ls t discard j in
         let f = block-few ls (more_terms u us) k (into is_mutable ls discard j t).next in
-        chain_most (into is_mutable ls discard j t).next j _ (size t) (size_of_all (more_terms u us)) h f
+        onto (into is_mutable ls discard j t).next j _ (size t) (size_of_all (more_terms u us)) h f
 
     operands-within : (ls : Targets) (ts : Terms) → EachWithin (operands is_mutable ls ts) ts
     operands-within ls no_terms = tt
@@ -136,4 +136,4 @@ module _ (is_mutable : List ℕ → Bool) where
     cases-few ls (more_cases (n ∷ ns) t cs) k j =
         let h = few ls t k j in
         let f = cases-few ls cs k (into is_mutable ls k j t).next in
-        chain_most (into is_mutable ls k j t).next j _ (size t) (size_of_cases cs) h f
+        onto (into is_mutable ls k j t).next j _ (size t) (size_of_cases cs) h f
