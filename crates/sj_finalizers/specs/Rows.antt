@@ -18,5 +18,9 @@ gives_its_jump_up = labeled nowhere (codes "m") NoType (try_finally nowhere (ret
 abbrev pub jumps_to_itself : Term
 jumps_to_itself = labeled nowhere (codes "m") NoType (return_to nowhere (skip nowhere) (codes "m"))
 
+-- l: { try { leave l with 2 } finally { } }
+abbrev pub jumps_within_itself : Term
+jumps_within_itself = labeled nowhere (codes "l") NoType (try_finally nowhere (return_to nowhere (int_literal nowhere (pos 2)) (codes "l")) (skip nowhere))
+
 abbrev pub no_local_is_mutable : List ℕ → Bool
 no_local_is_mutable x = false
