@@ -62,7 +62,7 @@ choices = (binary_of (whole 0) And none, is_number 0) ∷ (binary_of (whole 1) A
 abbrev pub equalities : List Row
 equalities = (binary_of (whole 1) StrictEqual (whole 1), yes) ∷ (binary_of (whole 1) StrictEqual (minus 0), no) ∷ (binary_of (whole 1) StrictEqual (boolean_literal true), no) ∷ (binary_of (whole 1) StrictEqual (text_literal (codes "1")), no) ∷ (binary_of null_literal StrictEqual undefined_literal, no) ∷ (binary_of null_literal StrictEqual null_literal, yes) ∷ (binary_of undefined_literal StrictEqual undefined_literal, yes) ∷ (binary_of (boolean_literal false) StrictEqual (boolean_literal false), yes) ∷ (binary_of (text_literal (codes "a")) StrictEqual (text_literal (codes "a")), yes) ∷ (binary_of (text_literal (codes "a")) StrictNotEqual (text_literal (codes "b")), yes) ∷ (binary_of (whole 1) StrictNotEqual (whole 1), no) ∷ []
 
--- a boolean and null are compared as Numbers; a text and undefined, which is no whole Number, aren't
+-- a boolean and null are compared as Numbers; undefined is no whole Number, and the order of texts isn't built yet
 abbrev pub comparisons : List Row
 comparisons = (binary_of (minus 1) Less (minus 0), yes) ∷ (binary_of (whole 2) Less (whole 2), no) ∷ (binary_of (whole 2) LessOrEqual (whole 2), yes) ∷ (binary_of (whole 3) LessOrEqual (whole 2), no) ∷ (binary_of (whole 2) Greater (whole 1), yes) ∷ (binary_of (whole 2) Greater (whole 2), no) ∷ (binary_of (whole 2) GreaterOrEqual (whole 2), yes) ∷ (binary_of (minus 0) GreaterOrEqual null_literal, no) ∷ (binary_of (boolean_literal true) Less (whole 2), yes) ∷ (binary_of undefined_literal Less (whole 1), None) ∷ (binary_of (text_literal (codes "a")) Less (text_literal (codes "b")), None) ∷ []
 

@@ -32,12 +32,12 @@ finish-onward discard p t false e j = omega arith
 finish-onward (to_variable x i) p t q e j = finish-value (has_no_value t) p e _ j
 finish-onward (to_result i) p t q e j = finish-value (has_no_value t) p e _ j
 
-labeled-next : (k : Destination) (p : Position) (l : List ℕ) (c : Code) → (labeled_code k p l c).next ≡ c.next
+pub labeled-next : (k : Destination) (p : Position) (l : List ℕ) (c : Code) → (labeled_code k p l c).next ≡ c.next
 labeled-next discard p l c = refl
 labeled-next (to_variable x t) p l c = refl
 labeled-next (to_result t) p l c = refl
 
-leaving-next : (k : Destination) (p : Position) (l : List ℕ) (c : Code) → (leaving_code k p l c).next ≡ c.next
+pub leaving-next : (k : Destination) (p : Position) (l : List ℕ) (c : Code) → (leaving_code k p l c).next ≡ c.next
 leaving-next discard p l c = refl
 leaving-next (to_variable x t) p l c = refl
 leaving-next (to_result t) p l c = refl

@@ -1,13 +1,13 @@
 -- A body has fewer variables for operands than trees.
 use Rattle.std.proofs.Common.{◌≡◌, ℕ, suc, ◌+◌, ◌≤◌, ◌<◌, Bool, true, false, ◌&&◌, List, [], ◌∷◌, Some, refl, arith}
 use Rattle.sj_core.specs.Terms as core
-use Rattle.sj_desugar.specs.Desugar.{operand, into, block, operands, cases, finish, has_no_value, target_of, Targets, expression_of, labeled_code, leaving_code, wrapped, break_unless, first_of}
+use Rattle.sj_desugar.specs.Desugar.{operand, into, block, operands, cases, finish, has_no_value, target_of, Targets, expression_of, wrapped, break_unless, first_of}
 use Rattle.sj_desugar.specs.Plain.{is_plain}
 use Rattle.sj_desugar.specs.Spill.{Destination, discard, to_variable, to_result, Code, one, put_first, Operand, all_plain, spill, spill_case, then_use}
 use Rattle.sj_trees.specs.Term.{Term, Terms, no_terms, more_terms, Cases, no_cases, more_cases, var_def, block_of, labeled, assign, return_to, if_then, while_loop, do_while, match_on, apply_static, unary_op, binary_op, undefined_literal, null_literal, boolean_literal, byte_literal, short_literal, int_literal, string_literal, var_ref, log_line}
 use Rattle.sj_trees.specs.declared.positions.Position.{Position}
 use Rattle.sj_trees.specs.declared.types.IrType.{IrType}
-use Rattle.sj_bodies.proofs.Numbers.{onward}
+use Rattle.sj_bodies.proofs.Numbers.{onward, labeled-next, leaving-next}
 use Rattle.sj_ask.specs.Sizes.{size, size_of_all, size_of_cases}
 
 -- what an operand writes takes fewer numbers than its tree has trees
@@ -41,16 +41,6 @@ finish-next discard p t true e j = refl
 finish-next discard p t false e j = refl
 finish-next (to_variable x i) p t q e j = finish-value (has_no_value t) p e _ j
 finish-next (to_result i) p t q e j = finish-value (has_no_value t) p e _ j
-
-labeled-next : (k : Destination) (p : Position) (l : List ℕ) (c : Code) → (labeled_code k p l c).next ≡ c.next
-labeled-next discard p l c = refl
-labeled-next (to_variable x t) p l c = refl
-labeled-next (to_result t) p l c = refl
-
-leaving-next : (k : Destination) (p : Position) (l : List ℕ) (c : Code) → (leaving_code k p l c).next ≡ c.next
-leaving-next discard p l c = refl
-leaving-next (to_variable x t) p l c = refl
-leaving-next (to_result t) p l c = refl
 
 either : (b : Bool) (c d : Code) (n : ℕ) → c.next < n → d.next < n → (elim b as (λ b. Code) [ true ↦ c | false ↦ d ]).next < n
 either true c d n h k = h

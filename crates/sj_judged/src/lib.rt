@@ -18,10 +18,11 @@ ghost use Rattle.sj_sound.specs.Linked.{have_functions};
 ghost use Rattle.sj_proper.specs.Program.{HaveOwnMembers};
 ghost use Rattle.sj_judged.specs.Judged.{IsJudgedClass, IsJudgedMethod};
 
-/// Take classes that were read from files and break none of the local rules, methods of theirs that are typed among them and whose bodies
-/// are of the forms that are built, no two of one member, and let the initializers of a public module be among the methods. Then the file that
-/// has their functions in this order and behind them the calls of the initializers shows of the public module what the classes show:
-/// what the one shows within any bound the other shows within some bound, and the other way round, and neither is wrong at any bound.
+/// Take classes that were read from files and break none of the local rules, and methods of theirs, no two of one member and the initializers of a
+/// public module among them, that are typed among the classes; whose bodies are of the forms that are built, with calls of these methods alone; and
+/// with types of parameters and of results of which values are built, a result's being no class. Then the file that has their functions in this
+/// order and behind them the calls of the initializers shows of the public module what the classes show: what the one shows within any bound the
+/// other shows within some bound, and the other way round, and neither is wrong at any bound.
 pub fn judged_classes_agree()
     ensures { (w : World) (entries : List EntryPoint) (id : List ℕ) (fs : List EmittedMethod) → ((c : ClassDef) → Contains w c → IsJudgedClass c) → ((e : EmittedMethod) → Contains fs e → IsJudgedMethod w fs e) → HaveOwnMembers fs → have_functions fs (initializers entries id) ≡ true → Agree (ir_shows w entries id) (js_shows (program_with id fs (initializers entries id)) id) }
 {}
