@@ -1,4 +1,6 @@
 // Why a case isn't decided.
+ghost use Rattle.name_vectors.specs.Taken.{IsNameTaken, AreUnitsTaken};
+
 use hex::FromHexError;
 use sj_names::NameError;
 use sj_units::UnitsError;
@@ -38,8 +40,10 @@ impl From<FromHexError> for Undecided {
     }
 }
 
-/// What a call that may refuse a text has taken: none where it refused.
-pub fn taken_name<T: Drop>(outcome: Result<T, NameError>) -> Result<Option<T>, Undecided> {
+/// What a call that may refuse a text has taken: none where it refused. The case isn't decided where no memory was left.
+pub fn taken_name<T: Drop>(outcome: Result<T, NameError>) -> Result<Option<T>, Undecided>
+    ensures { IsNameTaken outcome result }
+{
     match outcome {
         Ok(name) => Ok(Some(name)),
         Err(NameError::BadName) => Ok(None),
@@ -47,8 +51,10 @@ pub fn taken_name<T: Drop>(outcome: Result<T, NameError>) -> Result<Option<T>, U
     }
 }
 
-/// What a call that may refuse bytes has taken: none where it refused.
-pub fn taken_units<T: Drop>(outcome: Result<T, UnitsError>) -> Result<Option<T>, Undecided> {
+/// What a call that may refuse bytes has taken: none where it refused. The case isn't decided where no memory was left.
+pub fn taken_units<T: Drop>(outcome: Result<T, UnitsError>) -> Result<Option<T>, Undecided>
+    ensures { AreUnitsTaken outcome result }
+{
     match outcome {
         Ok(units) => Ok(Some(units)),
         Err(UnitsError::BadText) => Ok(None),

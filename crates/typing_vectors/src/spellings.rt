@@ -1,11 +1,16 @@
 // The spellings of questions and answers.
+ghost use Rattle.std.specs.Prelude.{◌≡◌};
+ghost use Rattle.typing_vectors.specs.Namespaces.{namespace_named};
+
 use sj_ask::{Answer, Question};
 use sj_names::{Namespace, NoMemory, TypeRef};
 use sj_trees::{FieldDef, IrType};
 use std::alloc::Global;
 
 /// The namespace that a word of a member's spelling stands for.
-pub fn namespace_of(word: &str) -> Namespace {
+pub fn namespace_of(word: &str) -> Namespace
+    ensures { result ≡ namespace_named word.now }
+{
     match word {
         "s" => Namespace::PublicStatic,
         "p" => Namespace::Private,
