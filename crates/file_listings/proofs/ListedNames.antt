@@ -24,7 +24,8 @@ use Rattle.sj_format.specs.Tables as tables
 use Rattle.sj_format.specs.Tables.{Tables}
 use Rattle.sj_format.specs.References as refs
 use Rattle.sj_format.specs.Types as format
-use Rattle.sj_format.specs.Codes.{among, plain_types}
+use Rattle.sj_format.specs.Codes.{plain_types}
+use Rattle.sj_trees.specs.Forms.{among}
 use Rattle.listing_spelling.specs.Rules.{IsClass, IsMethod, IsListedType}
 use Rattle.listing_spelling.specs.Rules as rules
 use Rattle.listing_spelling.specs.Spelling.{is_object}

@@ -8,18 +8,18 @@ use Rattle.sj_names.specs.Grammar.{is_plain_name, is_class_name}
 use Rattle.sj_trees.specs.declared.positions.Position.{Position}
 use Rattle.sj_trees.specs.Term.{Term}
 use Rattle.sj_trees.specs.View.{Case, terms_of, cases_of}
-use Rattle.sj_format.specs.declared.codes.Tag.{Tag}
-use Rattle.sj_format.specs.declared.codes.Tag.TheVariants.{Leaf, Statement, Branch, Call, Operation}
-use Rattle.sj_format.specs.declared.codes.LeafTag.{LeafTag}
-use Rattle.sj_format.specs.declared.codes.LeafTag.TheVariants as leaf
-use Rattle.sj_format.specs.declared.codes.StatementTag.{StatementTag}
-use Rattle.sj_format.specs.declared.codes.StatementTag.TheVariants as statement
-use Rattle.sj_format.specs.declared.codes.BranchTag.{BranchTag}
-use Rattle.sj_format.specs.declared.codes.BranchTag.TheVariants as branch
-use Rattle.sj_format.specs.declared.codes.CallTag.{CallTag}
-use Rattle.sj_format.specs.declared.codes.CallTag.TheVariants as call
-use Rattle.sj_format.specs.declared.codes.OperationTag.{OperationTag}
-use Rattle.sj_format.specs.declared.codes.OperationTag.TheVariants as operation
+use Rattle.sj_trees.specs.declared.forms.Form.{Form}
+use Rattle.sj_trees.specs.declared.forms.Form.TheVariants.{Leaf, Statement, Branch, Call, Operation}
+use Rattle.sj_trees.specs.declared.forms.LeafForm.{LeafForm}
+use Rattle.sj_trees.specs.declared.forms.LeafForm.TheVariants as leaf
+use Rattle.sj_trees.specs.declared.forms.StatementForm.{StatementForm}
+use Rattle.sj_trees.specs.declared.forms.StatementForm.TheVariants as statement
+use Rattle.sj_trees.specs.declared.forms.BranchForm.{BranchForm}
+use Rattle.sj_trees.specs.declared.forms.BranchForm.TheVariants as branch
+use Rattle.sj_trees.specs.declared.forms.CallForm.{CallForm}
+use Rattle.sj_trees.specs.declared.forms.CallForm.TheVariants as call
+use Rattle.sj_trees.specs.declared.forms.OperationForm.{OperationForm}
+use Rattle.sj_trees.specs.declared.forms.OperationForm.TheVariants as operation
 use Rattle.sj_format.specs.Spelling.{Spelling}
 use Rattle.sj_format.specs.Tables.{Tables}
 use Rattle.sj_format.specs.Types.{IsSigned}
@@ -63,7 +63,7 @@ case_meets : {P : Spelling Term} → Ensures IsListedTree P → Ensures IsListed
 unfolding IsCase
 case_meets inner = behind (listed signed_int) (λ keys all. behind inner (λ body is. gives (all.at, is)))
 
-leaf_meets : (t : Tables) → AreWell t → (tag : LeafTag) (p : Position) → Ensures IsListedTree (IsLeaf t tag p)
+leaf_meets : (t : Tables) → AreWell t → (tag : LeafForm) (p : Position) → Ensures IsListedTree (IsLeaf t tag p)
 unfolding IsLeaf
 leaf_meets t w leaf.Skip p = gives tt
 leaf_meets t w leaf.LoadModule p = behind (a_name is_class_name t.names w.names) (λ c a. gives a)
@@ -80,7 +80,7 @@ leaf_meets t w leaf.StringLiteral p = behind (entry t.strings w.strings) (λ v a
 leaf_meets t w leaf.VarRef p = behind (a_name is_plain_name t.names w.names) (λ x a. behind (a_type t.names w.names) (λ y b. gives (a, b)))
 leaf_meets t w leaf.This p = behind (a_type t.names w.names) (λ y a. gives a)
 
-statement_meets : {P : Spelling Term} → Ensures IsListedTree P → (t : Tables) → AreWell t → (tag : StatementTag) (p : Position) → Ensures IsListedTree (IsStatement P t tag p)
+statement_meets : {P : Spelling Term} → Ensures IsListedTree P → (t : Tables) → AreWell t → (tag : StatementForm) (p : Position) → Ensures IsListedTree (IsStatement P t tag p)
 unfolding IsStatement
 statement_meets inner t w statement.VarDef p = behind (a_name is_plain_name t.names w.names) (λ x a. behind (a_type t.names w.names) (λ y b. behind (anything _) (λ m k. behind inner (λ e d. gives (a, b, d)))))
 statement_meets inner t w statement.Block p = behind (listed inner) (λ es all. gives (trees_meet es all))
@@ -91,7 +91,7 @@ statement_meets inner t w statement.Throw p = behind inner (λ e a. gives a)
 statement_meets inner t w statement.StoreModule p = behind (a_name is_class_name t.names w.names) (λ c a. behind inner (λ e b. gives (a, b)))
 statement_meets inner t w statement.Log p = behind inner (λ e a. gives a)
 
-branch_meets : {P : Spelling Term} → Ensures IsListedTree P → (t : Tables) → AreWell t → (tag : BranchTag) (p : Position) → Ensures IsListedTree (IsBranch P t tag p)
+branch_meets : {P : Spelling Term} → Ensures IsListedTree P → (t : Tables) → AreWell t → (tag : BranchForm) (p : Position) → Ensures IsListedTree (IsBranch P t tag p)
 unfolding IsBranch
 branch_meets inner t w branch.If p = behind inner (λ c a. behind inner (λ e b. behind inner (λ f d. behind (a_type t.names w.names) (λ y g. gives (a, b, d, g)))))
 branch_meets inner t w branch.While p = behind inner (λ c a. behind inner (λ e b. gives (a, b)))
@@ -100,7 +100,7 @@ branch_meets inner t w branch.TryCatch p = behind inner (λ e a. behind (a_name 
 branch_meets inner t w branch.TryFinally p = behind inner (λ e a. behind inner (λ f b. gives (a, b)))
 branch_meets inner t w branch.Match p = behind inner (λ e a. behind (listed (case_meets inner)) (λ cs all. behind inner (λ f b. behind (a_type t.names w.names) (λ y d. gives (a, cases_meet cs all, b, d)))))
 
-call_meets : {P : Spelling Term} → Ensures IsListedTree P → (t : Tables) → AreWell t → (tag : CallTag) (p : Position) → Ensures IsListedTree (IsCall P t tag p)
+call_meets : {P : Spelling Term} → Ensures IsListedTree P → (t : Tables) → AreWell t → (tag : CallForm) (p : Position) → Ensures IsListedTree (IsCall P t tag p)
 unfolding IsCall
 call_meets inner t w call.New p = behind (a_name is_class_name t.names w.names) (λ c a. behind (entry t.methods w.methods) (λ m b. behind (listed inner) (λ es all. gives (a, b, trees_meet es all))))
 call_meets inner t w call.Select p = behind inner (λ e a. behind (a_name is_class_name t.names w.names) (λ c b. behind (a_name is_plain_name t.names w.names) (λ f d. behind (a_type t.names w.names) (λ y g. gives (a, b, d, g)))))
@@ -108,7 +108,7 @@ call_meets inner t w call.Apply p = behind inner (λ e a. behind (entry t.method
 call_meets inner t w call.ApplyStatically p = behind inner (λ e a. behind (a_name is_class_name t.names w.names) (λ c b. behind (anything _) (λ n k. behind (entry t.methods w.methods) (λ m d. behind (listed inner) (λ es all. behind (a_type t.names w.names) (λ y g. gives (a, b, d, trees_meet es all, g)))))))
 call_meets inner t w call.ApplyStatic p = behind (a_name is_class_name t.names w.names) (λ c a. behind (anything _) (λ n k. behind (entry t.methods w.methods) (λ m b. behind (listed inner) (λ es all. behind (a_type t.names w.names) (λ y d. gives (a, b, trees_meet es all, d))))))
 
-operation_meets : {P : Spelling Term} → Ensures IsListedTree P → (t : Tables) → AreWell t → (tag : OperationTag) (p : Position) → Ensures IsListedTree (IsOperation P t tag p)
+operation_meets : {P : Spelling Term} → Ensures IsListedTree P → (t : Tables) → AreWell t → (tag : OperationForm) (p : Position) → Ensures IsListedTree (IsOperation P t tag p)
 unfolding IsOperation
 operation_meets inner t w operation.UnaryOp p = behind (anything _) (λ o k. behind inner (λ e a. gives a))
 operation_meets inner t w operation.BinaryOp p = behind (anything _) (λ o k. behind inner (λ e a. behind inner (λ d b. gives (a, b))))
@@ -119,7 +119,7 @@ operation_meets inner t w operation.ArraySelect p = behind inner (λ e a. behind
 operation_meets inner t w operation.IsInstanceOf p = behind inner (λ e a. behind (a_type t.names w.names) (λ y b. gives (a, b)))
 operation_meets inner t w operation.AsInstanceOf p = behind inner (λ e a. behind (a_type t.names w.names) (λ y b. gives (a, b)))
 
-form_meets : {P : Spelling Term} → Ensures IsListedTree P → (t : Tables) → AreWell t → (tag : Tag) (p : Position) → Ensures IsListedTree (IsForm P t tag p)
+form_meets : {P : Spelling Term} → Ensures IsListedTree P → (t : Tables) → AreWell t → (tag : Form) (p : Position) → Ensures IsListedTree (IsForm P t tag p)
 form_meets inner t w (Leaf tag) p = leaf_meets t w tag p
 form_meets inner t w (Statement tag) p = statement_meets inner t w tag p
 form_meets inner t w (Branch tag) p = branch_meets inner t w tag p

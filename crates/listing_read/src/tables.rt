@@ -9,53 +9,8 @@ ghost use Rattle.listing_read.specs.Runs.{IsSplit};
 ghost use Rattle.listing_read.specs.TypeWords.{type_of_word};
 
 use listing_scan::Stop;
-use listing_spelling::{BranchForm, CallForm, Form, LeafForm, OperationForm, StatementForm};
 use sj_names::Namespace;
-use sj_trees::ClassKind;
-
-const FORMS: [(&str, Form); 41] = [
-    ("VarDef", Form::Statement(StatementForm::VarDef)),
-    ("Skip", Form::Leaf(LeafForm::Skip)),
-    ("Block", Form::Statement(StatementForm::Block)),
-    ("Labeled", Form::Statement(StatementForm::Labeled)),
-    ("Assign", Form::Statement(StatementForm::Assign)),
-    ("Return", Form::Statement(StatementForm::Return)),
-    ("If", Form::Branch(BranchForm::If)),
-    ("While", Form::Branch(BranchForm::While)),
-    ("DoWhile", Form::Branch(BranchForm::DoWhile)),
-    ("TryCatch", Form::Branch(BranchForm::TryCatch)),
-    ("TryFinally", Form::Branch(BranchForm::TryFinally)),
-    ("Throw", Form::Statement(StatementForm::Throw)),
-    ("Match", Form::Branch(BranchForm::Match)),
-    ("New", Form::Call(CallForm::New)),
-    ("LoadModule", Form::Leaf(LeafForm::LoadModule)),
-    ("StoreModule", Form::Statement(StatementForm::StoreModule)),
-    ("Select", Form::Call(CallForm::Select)),
-    ("SelectStatic", Form::Leaf(LeafForm::SelectStatic)),
-    ("Apply", Form::Call(CallForm::Apply)),
-    ("ApplyStatically", Form::Call(CallForm::ApplyStatically)),
-    ("ApplyStatic", Form::Call(CallForm::ApplyStatic)),
-    ("UnaryOp", Form::Operation(OperationForm::UnaryOp)),
-    ("BinaryOp", Form::Operation(OperationForm::BinaryOp)),
-    ("NewArray", Form::Operation(OperationForm::NewArray)),
-    ("ArrayValue", Form::Operation(OperationForm::ArrayValue)),
-    ("ArrayLength", Form::Operation(OperationForm::ArrayLength)),
-    ("ArraySelect", Form::Operation(OperationForm::ArraySelect)),
-    ("IsInstanceOf", Form::Operation(OperationForm::IsInstanceOf)),
-    ("AsInstanceOf", Form::Operation(OperationForm::AsInstanceOf)),
-    ("Undefined", Form::Leaf(LeafForm::Undefined)),
-    ("Null", Form::Leaf(LeafForm::Null)),
-    ("BooleanLiteral", Form::Leaf(LeafForm::BooleanLiteral)),
-    ("CharLiteral", Form::Leaf(LeafForm::CharLiteral)),
-    ("ByteLiteral", Form::Leaf(LeafForm::ByteLiteral)),
-    ("ShortLiteral", Form::Leaf(LeafForm::ShortLiteral)),
-    ("IntLiteral", Form::Leaf(LeafForm::IntLiteral)),
-    ("LongLiteral", Form::Leaf(LeafForm::LongLiteral)),
-    ("StringLiteral", Form::Leaf(LeafForm::StringLiteral)),
-    ("VarRef", Form::Leaf(LeafForm::VarRef)),
-    ("This", Form::Leaf(LeafForm::This)),
-    ("Log", Form::Statement(StatementForm::Log)),
-];
+use sj_trees::{ClassKind, FORM_WORDS, Form};
 
 const NAMESPACES: [(&str, Namespace); 5] = [
     ("Public", Namespace::Public),
@@ -175,7 +130,7 @@ fn word_of<'a, T: Copy>(table: &[(&str, T)], bytes: &'a [u8]) -> Result<(T, &'a 
 pub fn form_of(bytes: &[u8]) -> Result<(Form, &[u8]), Stop>
     ensures { Gives (λ x. (x.0, x.1.now)) result (reading.form_at bytes.now) }
 {
-    word_of(FORMS.as_slice(), bytes)
+    word_of(FORM_WORDS.as_slice(), bytes)
 }
 
 /// A namespace.

@@ -8,18 +8,18 @@ use Rattle.sj_trees.specs.Erase.{nowhere}
 use Rattle.sj_trees.specs.Term.{Term, Terms, no_terms, more_terms, Cases, no_cases, more_cases, var_def, skip, block_of, labeled, assign, return_to, if_then, while_loop, do_while, try_catch, try_finally, throw, match_on, new_object, load_module, store_module, select, select_static, apply, apply_statically, apply_static, unary_op, binary_op, new_array, array_value, array_length, array_select, is_instance_of, as_instance_of, undefined_literal, null_literal, boolean_literal, char_literal, byte_literal, short_literal, int_literal, long_literal, string_literal, var_ref, this_ref, log_line}
 use Rattle.sj_trees.specs.View.{Case, terms_of, cases_of}
 use Rattle.listing_spelling.specs.Spelling.{◌▪◌, End, Form, Bracketed, SpellsList, SpellsPlainName, SpellsClassName, SpellsMethodName, SpellsArray, SpellsMark, SpellsNatural, SpellsInteger, SpellsUnaryOp, SpellsBinaryOp, SpellsNamespace, SpellsType, SpellsKey, SpellsTree, SpellsTrees, SpellsMoreTrees, SpellsCases, SpellsMoreCases}
-use Rattle.listing_spelling.specs.declared.words.Form as words
-use Rattle.listing_spelling.specs.declared.words.Form.TheVariants as forms
-use Rattle.listing_spelling.specs.declared.words.LeafForm.{LeafForm}
-use Rattle.listing_spelling.specs.declared.words.LeafForm.TheVariants as leaves
-use Rattle.listing_spelling.specs.declared.words.StatementForm.{StatementForm}
-use Rattle.listing_spelling.specs.declared.words.StatementForm.TheVariants as statements
-use Rattle.listing_spelling.specs.declared.words.BranchForm.{BranchForm}
-use Rattle.listing_spelling.specs.declared.words.BranchForm.TheVariants as branches
-use Rattle.listing_spelling.specs.declared.words.CallForm.{CallForm}
-use Rattle.listing_spelling.specs.declared.words.CallForm.TheVariants as calls
-use Rattle.listing_spelling.specs.declared.words.OperationForm.{OperationForm}
-use Rattle.listing_spelling.specs.declared.words.OperationForm.TheVariants as operations
+use Rattle.sj_trees.specs.declared.forms.Form as words
+use Rattle.sj_trees.specs.declared.forms.Form.TheVariants as forms
+use Rattle.sj_trees.specs.declared.forms.LeafForm.{LeafForm}
+use Rattle.sj_trees.specs.declared.forms.LeafForm.TheVariants as leaves
+use Rattle.sj_trees.specs.declared.forms.StatementForm.{StatementForm}
+use Rattle.sj_trees.specs.declared.forms.StatementForm.TheVariants as statements
+use Rattle.sj_trees.specs.declared.forms.BranchForm.{BranchForm}
+use Rattle.sj_trees.specs.declared.forms.BranchForm.TheVariants as branches
+use Rattle.sj_trees.specs.declared.forms.CallForm.{CallForm}
+use Rattle.sj_trees.specs.declared.forms.CallForm.TheVariants as calls
+use Rattle.sj_trees.specs.declared.forms.OperationForm.{OperationForm}
+use Rattle.sj_trees.specs.declared.forms.OperationForm.TheVariants as operations
 use Rattle.listing_spelling.proofs.Fields.{Field, Close, part, last, field_of, close_of}
 use Rattle.listing_spelling.proofs.Values.{form_text, IsForm}
 

@@ -13,18 +13,18 @@ use Rattle.sj_trees.specs.View.{Case, terms_of, cases_of}
 use Rattle.listing_spelling.specs.Spelling.{Form, SpellsList, SpellsKey, SpellsTree}
 use Rattle.listing_spelling.specs.Words.{ends_word}
 use Rattle.listing_spelling.specs.Reading.{field_at, close_at, trees_at, case_at, cases_at, leaf_at, statement_at, branch_at, call_at, operation_at, fields_at, tree_level, tree_at}
-use Rattle.listing_spelling.specs.declared.words.Form as words
-use Rattle.listing_spelling.specs.declared.words.Form.TheVariants as forms
-use Rattle.listing_spelling.specs.declared.words.LeafForm.{LeafForm}
-use Rattle.listing_spelling.specs.declared.words.LeafForm.TheVariants as leaves
-use Rattle.listing_spelling.specs.declared.words.StatementForm.{StatementForm}
-use Rattle.listing_spelling.specs.declared.words.StatementForm.TheVariants as statements
-use Rattle.listing_spelling.specs.declared.words.BranchForm.{BranchForm}
-use Rattle.listing_spelling.specs.declared.words.BranchForm.TheVariants as branches
-use Rattle.listing_spelling.specs.declared.words.CallForm.{CallForm}
-use Rattle.listing_spelling.specs.declared.words.CallForm.TheVariants as calls
-use Rattle.listing_spelling.specs.declared.words.OperationForm.{OperationForm}
-use Rattle.listing_spelling.specs.declared.words.OperationForm.TheVariants as operations
+use Rattle.sj_trees.specs.declared.forms.Form as words
+use Rattle.sj_trees.specs.declared.forms.Form.TheVariants as forms
+use Rattle.sj_trees.specs.declared.forms.LeafForm.{LeafForm}
+use Rattle.sj_trees.specs.declared.forms.LeafForm.TheVariants as leaves
+use Rattle.sj_trees.specs.declared.forms.StatementForm.{StatementForm}
+use Rattle.sj_trees.specs.declared.forms.StatementForm.TheVariants as statements
+use Rattle.sj_trees.specs.declared.forms.BranchForm.{BranchForm}
+use Rattle.sj_trees.specs.declared.forms.BranchForm.TheVariants as branches
+use Rattle.sj_trees.specs.declared.forms.CallForm.{CallForm}
+use Rattle.sj_trees.specs.declared.forms.CallForm.TheVariants as calls
+use Rattle.sj_trees.specs.declared.forms.OperationForm.{OperationForm}
+use Rattle.sj_trees.specs.declared.forms.OperationForm.TheVariants as operations
 use Rattle.listing_spelling.proofs.Fields.{anything, fits, in_brackets, Row, field, close, Field, Close, part, last, field_of, close_of, law_bracketed}
 use Rattle.listing_spelling.proofs.Values.{law_mark, law_natural, law_integer, law_key, is_number_start, starts_key, law_namespace, law_unary, law_binary, IsForm, law_form}
 use Rattle.listing_spelling.proofs.Literals.{law_plain_name, law_class_name, law_method_name, law_array, law_type, law_text}

@@ -27,13 +27,13 @@ use Rattle.sj_trees.specs.declared.operators.UnaryOp.{UnaryOp}
 use Rattle.listing_spelling.specs.Spelling.{SpellsMark, SpellsNatural, SpellsInteger, SpellsUnaryOp, SpellsBinaryOp, SpellsNamespace, SpellsKind}
 use Rattle.listing_spelling.specs.Words.{ends_word, form_words, namespace_words, kind_words}
 use Rattle.listing_spelling.specs.Reading.{mark_of, mark_at, natural_at, code_at, integer_at, unary_of, binary_of, unary_op_at, binary_op_at, namespace_at, kind_at, form_at}
-use Rattle.listing_spelling.specs.declared.words.Form.{Form}
-use Rattle.listing_spelling.specs.declared.words.Form.TheVariants as forms
-use Rattle.listing_spelling.specs.declared.words.LeafForm.TheVariants as leaves
-use Rattle.listing_spelling.specs.declared.words.StatementForm.TheVariants as statements
-use Rattle.listing_spelling.specs.declared.words.BranchForm.TheVariants as branches
-use Rattle.listing_spelling.specs.declared.words.CallForm.TheVariants as calls
-use Rattle.listing_spelling.specs.declared.words.OperationForm.TheVariants as operations
+use Rattle.sj_trees.specs.declared.forms.Form.{Form}
+use Rattle.sj_trees.specs.declared.forms.Form.TheVariants as forms
+use Rattle.sj_trees.specs.declared.forms.LeafForm.TheVariants as leaves
+use Rattle.sj_trees.specs.declared.forms.StatementForm.TheVariants as statements
+use Rattle.sj_trees.specs.declared.forms.BranchForm.TheVariants as branches
+use Rattle.sj_trees.specs.declared.forms.CallForm.TheVariants as calls
+use Rattle.sj_trees.specs.declared.forms.OperationForm.TheVariants as operations
 use Rattle.listing_spelling.proofs.Fields.{in_brackets, this_byte}
 
 some_is : {A : Type 0} (a b : A) → Some a ≡ Some b → a ≡ b

@@ -8,4 +8,4 @@ mod words;
 pub use laws::{
     each_has_one_listing, listing_is_read, one_class, place_is_exact, read_class_is_listed,
 };
-pub use words::{BranchForm, CallForm, Form, LeafForm, OperationForm, Spot, StatementForm};
+pub use words::Spot;

@@ -5,8 +5,8 @@ use Rattle.std.proofs.lemmas.List.{take_at, drop_at, take-append-drop, length-ap
 use Rattle.byteorder.specs.Endian.{big_number}
 use Rattle.byteorder.specs.Numbers.{big_from-append, big_from-take}
 use Rattle.sj_format.specs.declared.faults.Fault.{Fault}
-use Rattle.sj_format.specs.declared.faults.Code.{Code}
-use Rattle.sj_format.specs.declared.faults.Code.TheVariants.{Truncated}
+use Rattle.sj_trees.specs.declared.refusals.Code.{Code}
+use Rattle.sj_trees.specs.declared.refusals.Code.TheVariants.{Truncated}
 use Rattle.sj_format.specs.Reading.{Reading, ◌>>=◌, fault, byte_at, number_at, bytes_at, found, tested, many_at, list_at}
 use Rattle.sj_format.specs.Spelling.{Spelling, ◌then◌, Gives_value, Never, chosen, Found, Tested, IsByte, IsNumber, IsBytes, IsEach, IsList}
 

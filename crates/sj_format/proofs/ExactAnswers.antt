@@ -2,9 +2,9 @@
 use Rattle.std.proofs.Common.{◌≡◌, ℕ, ◌-◌, List, length, Ok, Err, Result, refl, ap, ◌∙◌}
 use Rattle.sj_trees.specs.declared.classes.ClassDef.{ClassDef}
 use Rattle.sj_format.specs.declared.faults.Fault.{Fault}
-use Rattle.sj_format.specs.declared.faults.Code.{Code}
-use Rattle.sj_format.specs.declared.faults.ReadRefusal.{ReadRefusal}
-use Rattle.sj_format.specs.declared.faults.ReadRefusal.TheVariants.{Bad, NoMemory}
+use Rattle.sj_trees.specs.declared.refusals.Code.{Code}
+use Rattle.sj_trees.specs.declared.refusals.ReadRefusal.{ReadRefusal}
+use Rattle.sj_trees.specs.declared.refusals.ReadRefusal.TheVariants.{Bad, NoMemory}
 use Rattle.sj_format.specs.Files.{file_of, Fails}
 use Rattle.sj_format.specs.Answers.{Reads}
 use Rattle.sj_format.proofs.ExactFiles.{file_found, one_answer}

@@ -3,7 +3,8 @@ use Rattle.std.proofs.Common.{length}
 use Rattle.sj_names.specs.Grammar.{is_plain_name, is_class_name}
 use Rattle.sj_format.specs.declared.codes.MemberTag.{MemberTag}
 use Rattle.sj_format.specs.declared.codes.MemberTag.TheVariants as tags
-use Rattle.sj_format.specs.Codes.{among, kinds, reserved_kinds, member_tags, reserved_members}
+use Rattle.sj_format.specs.Codes.{kinds, reserved_kinds, member_tags, reserved_members}
+use Rattle.sj_trees.specs.Forms.{among}
 use Rattle.sj_format.specs.Tables.{Tables}
 use Rattle.sj_format.specs.Classes.{body_at, IsBody, param_at, IsParam, field_at, IsField, method_at, IsMethod, member_of, member_at, IsMemberOf, IsMember, class_at, IsClass}
 use Rattle.sj_format.proofs.Exact.{Exact, exact_then, exact_value, exact_list, exact_bytes}

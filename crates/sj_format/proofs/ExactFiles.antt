@@ -5,8 +5,8 @@ use Rattle.std.specs.Prelude.{◌⊎◌, nat_eq, codes}
 use Rattle.std.specs.Cmp.Lexicographic.{pointwise}
 use Rattle.sj_trees.specs.declared.classes.ClassDef.{ClassDef}
 use Rattle.sj_format.specs.declared.faults.Fault.{Fault}
-use Rattle.sj_format.specs.declared.faults.Code.{Code}
-use Rattle.sj_format.specs.declared.faults.Code.TheVariants.{BadMagic, BadVersion}
+use Rattle.sj_trees.specs.declared.refusals.Code.{Code}
+use Rattle.sj_trees.specs.declared.refusals.Code.TheVariants.{BadMagic, BadVersion}
 use Rattle.sj_format.specs.Reading.{Reading, ◌>>=◌}
 use Rattle.sj_format.specs.Files.{magic_at, IsMagic, version_at, IsVersion, tables_at, IsTables, contents_at, IsContents, ended, file_of, FileIs, Fails, HasOneAnswer}
 use Rattle.sj_format.proofs.Exact.{Exact, bind_ok, exact_from, exact_then, exact_value, exact_tested, exact_number, exact_bytes, exact_list}

@@ -2,7 +2,7 @@
 use Rattle.std.proofs.Common.{ℕ, List, ltb, eqb, Some, None}
 use Rattle.sj_names.specs.declared.references.TypeRef.TheVariants.{Void}
 use Rattle.sj_names.specs.Grammar.{is_class_name, is_simple_name}
-use Rattle.sj_format.specs.declared.faults.Code.TheVariants.{BadTag}
+use Rattle.sj_trees.specs.declared.refusals.Code.TheVariants.{BadTag}
 use Rattle.sj_format.specs.References.{plain_base, plain_reference, base_at, IsBase, array_at, IsArray, array_reference_at, IsArrayReference, reference_of, IsReference, parameter_at, IsParameter, result_at, IsResult, method_name_at, IsMethodName}
 use Rattle.sj_format.proofs.Exact.{Exact, exact_from, exact_then, exact_value, exact_found, exact_tested, exact_chosen, exact_byte, exact_list}
 use Rattle.sj_format.proofs.ExactTables.{exact_name}

@@ -3,7 +3,7 @@ use Rattle.std.proofs.Common.{ℕ, Bool, List, ltb}
 use Rattle.std.specs.List.{slice_get}
 use Rattle.std.specs.Str.{is_utf8}
 use Rattle.sj_units.specs.Modified.{modified_units}
-use Rattle.sj_format.specs.declared.faults.Code.TheVariants.{BadIndex, BadName, BadText}
+use Rattle.sj_trees.specs.declared.refusals.Code.TheVariants.{BadIndex, BadName, BadText}
 use Rattle.sj_format.specs.Tables.{below_at, IsBelow, entry_at, IsEntry, name_at, IsName, text_at, IsText, string_at, IsString}
 use Rattle.sj_format.proofs.Exact.{Exact, exact_from, exact_then, exact_found, exact_tested, exact_number, exact_bytes}
 

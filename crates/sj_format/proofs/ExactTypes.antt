@@ -3,9 +3,10 @@ use Rattle.std.proofs.Common.{ℕ, Bool, true, false, List, eqb, Option, Some, N
 use Rattle.std.specs.Int.{Width, cast_signed}
 use Rattle.sj_names.specs.Grammar.{is_class_name}
 use Rattle.sj_trees.specs.declared.types.IrType.TheVariants.{Array}
-use Rattle.sj_format.specs.declared.faults.Form.{Form}
-use Rattle.sj_format.specs.declared.faults.Code.TheVariants.{BadTag, Unsupported}
-use Rattle.sj_format.specs.Codes.{among, plain_types, reserved_types, namespaces, reserved_namespaces}
+use Rattle.sj_trees.specs.declared.refusals.Reserved.{Reserved}
+use Rattle.sj_trees.specs.declared.refusals.Code.TheVariants.{BadTag, Unsupported}
+use Rattle.sj_format.specs.Codes.{plain_types, reserved_types, namespaces, reserved_namespaces}
+use Rattle.sj_trees.specs.Forms.{among}
 use Rattle.sj_format.specs.Reading.{Reading, fault}
 use Rattle.sj_format.specs.Spelling.{Spelling, Found}
 use Rattle.sj_trees.specs.Types.{class_type}
@@ -14,12 +15,12 @@ use Rattle.sj_format.proofs.Exact.{Exact, exact_from, exact_then, exact_value, e
 use Rattle.sj_format.proofs.ExactTables.{exact_below, exact_name}
 use Rattle.sj_format.proofs.ExactReferences.{exact_array_reference}
 
-pub exact_coded : {A : Type 0} (o : Option A) (form : Option Form) (front : List ℕ) → Exact (coded o form front) (Found o)
+pub exact_coded : {A : Type 0} (o : Option A) (form : Option Reserved) (front : List ℕ) → Exact (coded o form front) (Found o)
 exact_coded (Some x) form front = exact_value x
 exact_coded None (Some form) front = exact_never (λ rest. fault (Unsupported form) front)
 exact_coded None None front = exact_never (λ rest. fault BadTag front)
 
-pub exact_code : {A : Type 0} (meaning : ℕ → Option A) (reserved : ℕ → Option Form) → Exact (code_at meaning reserved) (IsCode meaning)
+pub exact_code : {A : Type 0} (meaning : ℕ → Option A) (reserved : ℕ → Option Reserved) → Exact (code_at meaning reserved) (IsCode meaning)
 exact_code meaning reserved = exact_from _ _ _ _ exact_byte (λ front code. exact_coded (meaning code) (reserved code) front)
 
 pub exact_mark : Exact mark_at IsMark

@@ -1,9 +1,9 @@
 -- What reading a class file answers.
 use Rattle.std.specs.Prelude.{◌≡◌, ℕ, List, Result, Ok, Err}
 use Rattle.sj_trees.specs.declared.classes.ClassDef.{ClassDef}
-use Rattle.sj_format.specs.declared.faults.Code.{Code}
-use Rattle.sj_format.specs.declared.faults.ReadRefusal.{ReadRefusal}
-use Rattle.sj_format.specs.declared.faults.ReadRefusal.TheVariants.{Bad, NoMemory}
+use Rattle.sj_trees.specs.declared.refusals.Code.{Code}
+use Rattle.sj_trees.specs.declared.refusals.ReadRefusal.{ReadRefusal}
+use Rattle.sj_trees.specs.declared.refusals.ReadRefusal.TheVariants.{Bad, NoMemory}
 use Rattle.sj_format.specs.Files.{FileIs, Fails}
 
 -- a class is that of the file, a refusal is the file's failure, and want of memory says nothing

@@ -10,7 +10,8 @@ use Rattle.sj_format.specs.declared.members.MemberDef.{MemberDef}
 use Rattle.sj_format.specs.declared.members.MemberDef.TheVariants.{Field, Method}
 use Rattle.sj_format.specs.declared.codes.MemberTag.{MemberTag}
 use Rattle.sj_format.specs.declared.codes.MemberTag.TheVariants as tags
-use Rattle.sj_format.specs.Codes.{among, kinds, reserved_kinds, member_tags, reserved_members}
+use Rattle.sj_format.specs.Codes.{kinds, reserved_kinds, member_tags, reserved_members}
+use Rattle.sj_trees.specs.Forms.{among}
 use Rattle.sj_format.specs.Reading.{Reading, ◌>>=◌, bytes_at, list_at}
 use Rattle.sj_format.specs.Spelling.{Spelling, ◌then◌, Gives_value, IsBytes, IsList}
 use Rattle.sj_format.specs.Tables.{Tables, entry_at, IsEntry, name_at, IsName}

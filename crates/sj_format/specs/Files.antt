@@ -3,8 +3,8 @@ use Rattle.std.specs.Prelude.{◌≡◌, ℕ, ◌-◌, ◌==◌, List, [], ◌�
 use Rattle.std.specs.Cmp.Lexicographic.{pointwise}
 use Rattle.sj_trees.specs.declared.classes.ClassDef.{ClassDef}
 use Rattle.sj_format.specs.declared.faults.Fault.{Fault}
-use Rattle.sj_format.specs.declared.faults.Code.{Code}
-use Rattle.sj_format.specs.declared.faults.Code.TheVariants.{BadMagic, BadVersion, Trailing}
+use Rattle.sj_trees.specs.declared.refusals.Code.{Code}
+use Rattle.sj_trees.specs.declared.refusals.Code.TheVariants.{BadMagic, BadVersion, Trailing}
 use Rattle.sj_format.specs.Reading.{Reading, ◌>>=◌, fault, number_at, bytes_at, tested, list_at}
 use Rattle.sj_format.specs.Spelling.{Spelling, ◌then◌, Gives_value, Tested, IsNumber, IsBytes, IsList}
 use Rattle.sj_format.specs.Tables.{Tables, text_at, IsText, string_at, IsString}

@@ -1,6 +1,5 @@
 pub mod Answers
 pub mod Codes
-pub mod Faults
 pub mod Reading
 pub mod Spelling
 pub mod Tables

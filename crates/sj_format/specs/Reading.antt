@@ -3,8 +3,8 @@
 use Rattle.std.specs.Prelude.{ℕ, zero, suc, Bool, true, false, List, [], ◌∷◌, length, take, drop, nat_lt, Option, Some, None, Result, Ok, Err, if◌then◌else◌}
 use Rattle.byteorder.specs.Endian.{big_number}
 use Rattle.sj_format.specs.declared.faults.Fault.{Fault}
-use Rattle.sj_format.specs.declared.faults.Code.{Code}
-use Rattle.sj_format.specs.declared.faults.Code.TheVariants.{Truncated}
+use Rattle.sj_trees.specs.declared.refusals.Code.{Code}
+use Rattle.sj_trees.specs.declared.refusals.Code.TheVariants.{Truncated}
 
 abbrev pub Reading : Type 0 → Type 0
 Reading A = Result (A × List ℕ) Fault

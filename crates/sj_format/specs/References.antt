@@ -7,7 +7,7 @@ use Rattle.sj_names.specs.declared.references.BaseRef.{BaseRef}
 use Rattle.sj_names.specs.declared.references.BaseRef.TheVariants as bases
 use Rattle.sj_names.specs.declared.references.ArrayRef.{ArrayRef}
 use Rattle.sj_names.specs.declared.method_names.MethodName.{MethodName}
-use Rattle.sj_format.specs.declared.faults.Code.TheVariants.{BadTag}
+use Rattle.sj_trees.specs.declared.refusals.Code.TheVariants.{BadTag}
 use Rattle.sj_format.specs.Reading.{Reading, ◌>>=◌, byte_at, found, tested, list_at}
 use Rattle.sj_format.specs.Spelling.{Spelling, ◌then◌, Gives_value, chosen, Found, Tested, IsByte, IsList}
 use Rattle.sj_format.specs.Tables.{name_at, IsName}

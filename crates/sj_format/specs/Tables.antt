@@ -4,7 +4,7 @@ use Rattle.std.specs.List.{slice_get}
 use Rattle.std.specs.Str.{is_utf8}
 use Rattle.sj_names.specs.declared.method_names.MethodName.{MethodName}
 use Rattle.sj_units.specs.Modified.{modified_units}
-use Rattle.sj_format.specs.declared.faults.Code.TheVariants.{BadIndex, BadName, BadText}
+use Rattle.sj_trees.specs.declared.refusals.Code.TheVariants.{BadIndex, BadName, BadText}
 use Rattle.sj_format.specs.Reading.{Reading, ◌>>=◌, number_at, bytes_at, found, tested}
 use Rattle.sj_format.specs.Spelling.{Spelling, ◌then◌, IsNumber, IsBytes, Found, Tested}
 

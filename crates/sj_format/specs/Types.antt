@@ -7,21 +7,22 @@ use Rattle.sj_trees.specs.declared.positions.Position.{Position}
 use Rattle.sj_trees.specs.declared.types.IrType.{IrType}
 use Rattle.sj_trees.specs.declared.types.IrType.TheVariants.{Array}
 use Rattle.sj_trees.specs.Types.{class_type}
-use Rattle.sj_format.specs.declared.faults.Form.{Form}
-use Rattle.sj_format.specs.declared.faults.Code.TheVariants.{BadTag, Unsupported}
-use Rattle.sj_format.specs.Codes.{among, plain_types, reserved_types, namespaces, reserved_namespaces}
+use Rattle.sj_trees.specs.declared.refusals.Reserved.{Reserved}
+use Rattle.sj_trees.specs.declared.refusals.Code.TheVariants.{BadTag, Unsupported}
+use Rattle.sj_format.specs.Codes.{plain_types, reserved_types, namespaces, reserved_namespaces}
+use Rattle.sj_trees.specs.Forms.{among}
 use Rattle.sj_format.specs.Reading.{Reading, ◌>>=◌, fault, byte_at, number_at, found}
 use Rattle.sj_format.specs.Spelling.{Spelling, ◌then◌, Gives_value, chosen, Found, IsByte, IsNumber}
 use Rattle.sj_format.specs.Tables.{below_at, IsBelow, name_at, IsName}
 use Rattle.sj_format.specs.References.{array_reference_at, IsArrayReference}
 
 -- what a code stands for; a code that is reserved is Unsupported, and any other is BadTag
-abbrev pub coded : {A : Type 0} → Option A → Option Form → List ℕ → List ℕ → Reading A
+abbrev pub coded : {A : Type 0} → Option A → Option Reserved → List ℕ → List ℕ → Reading A
 coded (Some x) form front rest = Ok (x, rest)
 coded None (Some form) front rest = Err (fault (Unsupported form) front)
 coded None None front rest = Err (fault BadTag front)
 
-abbrev pub code_at : {A : Type 0} → (ℕ → Option A) → (ℕ → Option Form) → List ℕ → Reading A
+abbrev pub code_at : {A : Type 0} → (ℕ → Option A) → (ℕ → Option Reserved) → List ℕ → Reading A
 code_at meaning reserved bytes = byte_at bytes >>= λ code. coded (meaning code.0) (reserved code.0) bytes code.1
 
 abbrev pub IsCode : {A : Type 0} → (ℕ → Option A) → Spelling A

@@ -7,10 +7,9 @@ mod laws;
 mod members;
 
 pub use codes::{
-    BranchTag, CallTag, LeafTag, MemberTag, OperationTag, StatementTag, Tag, kind_with,
-    namespace_with, plain_type, reserved_kind, reserved_member, reserved_namespace,
-    reserved_operator, reserved_tree, reserved_type,
+    MemberTag, kind_with, namespace_with, plain_type, reserved_kind, reserved_member,
+    reserved_namespace, reserved_operator, reserved_tree, reserved_type,
 };
-pub use faults::{Code, Fault, Form, ReadRefusal};
+pub use faults::Fault;
 pub use laws::one_answer;
 pub use members::MemberDef;

@@ -5,18 +5,18 @@ use Rattle.sj_ask.specs.Sizes.{size, size_of_all, size_of_cases}
 use Rattle.sj_trees.specs.declared.positions.Position.{Position}
 use Rattle.sj_trees.specs.Term.{Term}
 use Rattle.sj_trees.specs.View.{Case, terms_of, cases_of}
-use Rattle.sj_format.specs.declared.codes.Tag.{Tag}
-use Rattle.sj_format.specs.declared.codes.Tag.TheVariants.{Leaf, Statement, Branch, Call, Operation}
-use Rattle.sj_format.specs.declared.codes.LeafTag.{LeafTag}
-use Rattle.sj_format.specs.declared.codes.LeafTag.TheVariants as leaf
-use Rattle.sj_format.specs.declared.codes.StatementTag.{StatementTag}
-use Rattle.sj_format.specs.declared.codes.StatementTag.TheVariants as statement
-use Rattle.sj_format.specs.declared.codes.BranchTag.{BranchTag}
-use Rattle.sj_format.specs.declared.codes.BranchTag.TheVariants as branch
-use Rattle.sj_format.specs.declared.codes.CallTag.{CallTag}
-use Rattle.sj_format.specs.declared.codes.CallTag.TheVariants as call
-use Rattle.sj_format.specs.declared.codes.OperationTag.{OperationTag}
-use Rattle.sj_format.specs.declared.codes.OperationTag.TheVariants as operation
+use Rattle.sj_trees.specs.declared.forms.Form.{Form}
+use Rattle.sj_trees.specs.declared.forms.Form.TheVariants.{Leaf, Statement, Branch, Call, Operation}
+use Rattle.sj_trees.specs.declared.forms.LeafForm.{LeafForm}
+use Rattle.sj_trees.specs.declared.forms.LeafForm.TheVariants as leaf
+use Rattle.sj_trees.specs.declared.forms.StatementForm.{StatementForm}
+use Rattle.sj_trees.specs.declared.forms.StatementForm.TheVariants as statement
+use Rattle.sj_trees.specs.declared.forms.BranchForm.{BranchForm}
+use Rattle.sj_trees.specs.declared.forms.BranchForm.TheVariants as branch
+use Rattle.sj_trees.specs.declared.forms.CallForm.{CallForm}
+use Rattle.sj_trees.specs.declared.forms.CallForm.TheVariants as call
+use Rattle.sj_trees.specs.declared.forms.OperationForm.{OperationForm}
+use Rattle.sj_trees.specs.declared.forms.OperationForm.TheVariants as operation
 use Rattle.sj_format.specs.Spelling.{Spelling, ◌then◌, Gives_value, Never, IsNumber, IsEach, IsList}
 use Rattle.sj_format.specs.Tables.{Tables}
 use Rattle.sj_format.specs.Types.{IsCode}
@@ -82,7 +82,7 @@ case_weighs : {P : Spelling Term} → Weighs 0 size P → Weighs 0 size_of_case 
 unfolding IsCase
 case_weighs inner = behind (light _) (λ keys. behind inner (λ e. gives (omega arith)))
 
-leaf_weighs : (t : Tables) (tag : LeafTag) (p : Position) → Weighs 1 size (IsLeaf t tag p)
+leaf_weighs : (t : Tables) (tag : LeafForm) (p : Position) → Weighs 1 size (IsLeaf t tag p)
 unfolding IsLeaf
 leaf_weighs t leaf.Skip p = gives (omega arith)
 leaf_weighs t leaf.LoadModule p = behind (light _) (λ c. gives (omega arith))
@@ -99,7 +99,7 @@ leaf_weighs t leaf.StringLiteral p = behind (light _) (λ v. gives (omega arith)
 leaf_weighs t leaf.VarRef p = behind (light _) (λ x. behind (light _) (λ y. gives (omega arith)))
 leaf_weighs t leaf.This p = behind (light _) (λ y. gives (omega arith))
 
-statement_weighs : {P : Spelling Term} → Weighs 0 size P → (t : Tables) (tag : StatementTag) (p : Position) → Weighs 1 size (IsStatement P t tag p)
+statement_weighs : {P : Spelling Term} → Weighs 0 size P → (t : Tables) (tag : StatementForm) (p : Position) → Weighs 1 size (IsStatement P t tag p)
 unfolding IsStatement
 statement_weighs inner t statement.VarDef p = behind (light _) (λ x. behind (light _) (λ y. behind (light _) (λ m. behind inner (λ e. gives (omega arith)))))
 statement_weighs inner t statement.Block p = behind (listed inner) (λ es. gives (omega (arith, trees_weigh es)))
@@ -110,7 +110,7 @@ statement_weighs inner t statement.Throw p = behind inner (λ e. gives (omega ar
 statement_weighs inner t statement.StoreModule p = behind (light _) (λ c. behind inner (λ e. gives (omega arith)))
 statement_weighs inner t statement.Log p = behind inner (λ e. gives (omega arith))
 
-branch_weighs : {P : Spelling Term} → Weighs 0 size P → (t : Tables) (tag : BranchTag) (p : Position) → Weighs 1 size (IsBranch P t tag p)
+branch_weighs : {P : Spelling Term} → Weighs 0 size P → (t : Tables) (tag : BranchForm) (p : Position) → Weighs 1 size (IsBranch P t tag p)
 unfolding IsBranch
 branch_weighs inner t branch.If p = behind inner (λ c. behind inner (λ e. behind inner (λ f. behind (light _) (λ y. gives (omega arith)))))
 branch_weighs inner t branch.While p = behind inner (λ c. behind inner (λ e. gives (omega arith)))
@@ -119,7 +119,7 @@ branch_weighs inner t branch.TryCatch p = behind inner (λ e. behind (light _) (
 branch_weighs inner t branch.TryFinally p = behind inner (λ e. behind inner (λ f. gives (omega arith)))
 branch_weighs inner t branch.Match p = behind inner (λ e. behind (listed (case_weighs inner)) (λ cs. behind inner (λ f. behind (light _) (λ y. gives (omega (arith, cases_weigh cs))))))
 
-call_weighs : {P : Spelling Term} → Weighs 0 size P → (t : Tables) (tag : CallTag) (p : Position) → Weighs 1 size (IsCall P t tag p)
+call_weighs : {P : Spelling Term} → Weighs 0 size P → (t : Tables) (tag : CallForm) (p : Position) → Weighs 1 size (IsCall P t tag p)
 unfolding IsCall
 call_weighs inner t call.New p = behind (light _) (λ c. behind (light _) (λ m. behind (listed inner) (λ es. gives (omega (arith, trees_weigh es)))))
 call_weighs inner t call.Select p = behind inner (λ e. behind (light _) (λ c. behind (light _) (λ f. behind (light _) (λ y. gives (omega arith)))))
@@ -127,7 +127,7 @@ call_weighs inner t call.Apply p = behind inner (λ e. behind (light _) (λ m. b
 call_weighs inner t call.ApplyStatically p = behind inner (λ e. behind (light _) (λ c. behind (light _) (λ n. behind (light _) (λ m. behind (listed inner) (λ es. behind (light _) (λ y. gives (omega (arith, trees_weigh es))))))))
 call_weighs inner t call.ApplyStatic p = behind (light _) (λ c. behind (light _) (λ n. behind (light _) (λ m. behind (listed inner) (λ es. behind (light _) (λ y. gives (omega (arith, trees_weigh es)))))))
 
-operation_weighs : {P : Spelling Term} → Weighs 0 size P → (t : Tables) (tag : OperationTag) (p : Position) → Weighs 1 size (IsOperation P t tag p)
+operation_weighs : {P : Spelling Term} → Weighs 0 size P → (t : Tables) (tag : OperationForm) (p : Position) → Weighs 1 size (IsOperation P t tag p)
 unfolding IsOperation
 operation_weighs inner t operation.UnaryOp p = behind (light _) (λ o. behind inner (λ e. gives (omega arith)))
 operation_weighs inner t operation.BinaryOp p = behind (light _) (λ o. behind inner (λ e. behind inner (λ d. gives (omega arith))))
@@ -138,7 +138,7 @@ operation_weighs inner t operation.ArraySelect p = behind inner (λ e. behind in
 operation_weighs inner t operation.IsInstanceOf p = behind inner (λ e. behind (light _) (λ y. gives (omega arith)))
 operation_weighs inner t operation.AsInstanceOf p = behind inner (λ e. behind (light _) (λ y. gives (omega arith)))
 
-form_weighs : {P : Spelling Term} → Weighs 0 size P → (t : Tables) (tag : Tag) (p : Position) → Weighs 1 size (IsForm P t tag p)
+form_weighs : {P : Spelling Term} → Weighs 0 size P → (t : Tables) (tag : Form) (p : Position) → Weighs 1 size (IsForm P t tag p)
 form_weighs inner t (Leaf tag) p = leaf_weighs t tag p
 form_weighs inner t (Statement tag) p = statement_weighs inner t tag p
 form_weighs inner t (Branch tag) p = branch_weighs inner t tag p

@@ -5,3 +5,4 @@ pub mod Grammar
 pub mod MethodNames
 pub mod Names
 pub mod References
+pub mod WellKnown

@@ -19,6 +19,7 @@ mod references;
 mod shared;
 mod simple_names;
 mod texts;
+mod well_known;
 
 pub use class_names::ClassName;
 pub use counters::Meter;
@@ -35,3 +36,4 @@ pub use references::{ArrayRef, BaseRef, TypeRef, is_reference};
 pub use shared::Shared;
 pub use simple_names::{FieldName, SimpleName};
 pub use texts::{Bytes, Text};
+pub use well_known::{INIT, INTEGER, NUMBER, OBJECT, is_hijacked};

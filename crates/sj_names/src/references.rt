@@ -9,7 +9,7 @@ use crate::{ClassName, NameError, NoMemory, Text};
 use std::alloc::{AllocError, Global};
 
 /// A reference to a type.
-#[derive(Drop, PartialEq, Eq, PartialOrd, Ord, Hash)]
+#[derive(PartialEq, Eq, PartialOrd, Ord, Hash)]
 pub enum TypeRef {
     Void,
     Boolean,
@@ -30,7 +30,7 @@ pub struct ArrayRef {
 }
 
 /// The base of an array: a reference that is neither an array nor `Void`.
-#[derive(Drop, PartialEq, Eq, PartialOrd, Ord, Hash)]
+#[derive(PartialEq, Eq, PartialOrd, Ord, Hash)]
 pub enum BaseRef {
     Boolean,
     Char,
@@ -39,6 +39,36 @@ pub enum BaseRef {
     Int,
     Long,
     Class(ClassName),
+}
+
+impl Drop for TypeRef {
+    fn drop(self) {
+        match self {
+            TypeRef::Class(_name) => {}
+            TypeRef::Array(_array) => {}
+            TypeRef::Void
+            | TypeRef::Boolean
+            | TypeRef::Char
+            | TypeRef::Byte
+            | TypeRef::Short
+            | TypeRef::Int
+            | TypeRef::Long => {}
+        }
+    }
+}
+
+impl Drop for BaseRef {
+    fn drop(self) {
+        match self {
+            BaseRef::Class(_name) => {}
+            BaseRef::Boolean
+            | BaseRef::Char
+            | BaseRef::Byte
+            | BaseRef::Short
+            | BaseRef::Int
+            | BaseRef::Long => {}
+        }
+    }
 }
 
 impl TypeRef {

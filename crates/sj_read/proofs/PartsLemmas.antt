@@ -8,7 +8,8 @@ use Rattle.sj_trees.specs.declared.classes.ClassKind.{ClassKind}
 use Rattle.sj_trees.specs.declared.classes.ParamDef.{ParamDef}
 use Rattle.sj_trees.specs.declared.classes.MethodDef.{MethodDef}
 use Rattle.sj_trees.specs.declared.classes.ClassDef.{ClassDef}
-use Rattle.sj_format.specs.Codes.{among, kinds, reserved_kinds}
+use Rattle.sj_format.specs.Codes.{kinds, reserved_kinds}
+use Rattle.sj_trees.specs.Forms.{among}
 use Rattle.sj_format.specs.Reading.{Reading, ◌>>=◌, bytes_at, list_at}
 use Rattle.sj_format.specs.Tables.{Tables, entry_at, name_at}
 use Rattle.sj_format.specs.Types.{code_at, option_at, position_at, namespace_at, type_at}

@@ -18,9 +18,11 @@ use crate::stops::{Stop, bad};
 use crate::tables::{class_name_of, field_name_of, local_name_of, method_name_of, position_of};
 use crate::trees::tree_of;
 use crate::types::{kind_of, member_tag_of, namespace_of, type_of};
-use sj_format::{Code, MemberDef, MemberTag};
-use sj_names::{ClassName, Items, MethodName, Namespace};
-use sj_trees::{Body, ClassDef, ClassKind, FieldDef, IrType, MethodDef, ParamDef, Position};
+use sj_format::{MemberDef, MemberTag};
+use sj_names::{ClassName, MethodName, Namespace, Shared};
+use sj_trees::{
+    Body, ClassDef, ClassKind, Code, FieldDef, IrType, MethodDef, ParamDef, Position,
+};
 use std::alloc::{AllocError, Global};
 
 // How deep the trees of a body may stand one in another.
@@ -56,11 +58,11 @@ fn params_of<'a>(
     alloc: Global,
     tables: &FileTables,
     bytes: &'a [u8],
-) -> Result<(Items<ParamDef>, &'a [u8]), Stop>
+) -> Result<(Shared<ParamDef>, &'a [u8]), Stop>
     ensures { Gives (λ x. (x.0, x.1.now)) result (list_at (param_at tables.now) bytes.now) }
 {
     let (params, rest) = list_of(alloc, &ParamItem(tables), bytes)?;
-    Ok((Items::from_vec(params), rest))
+    Ok((Shared::from_vec(params)?, rest))
 }
 
 // The hash of a method, where it has one.
@@ -113,7 +115,7 @@ struct MethodHead {
     pos: Position,
     namespace: Namespace,
     name: MethodName,
-    params: Items<ParamDef>,
+    params: Shared<ParamDef>,
 }
 
 /// What a method does.
@@ -178,7 +180,8 @@ fn body_and_hash_of<'a>(
     ensures { Gives (λ x. (seen_implementation x.0, x.1.now)) result (body_and_hash_at tables.now bytes.now) }
 {
     let (tree, rest) = tree_of(alloc, tables, DEPTH, bytes)?;
-    let ((body, hash), rest) = joined(Body::new(tree), hash_of(rest))?;
+    let body = Body::new(alloc, tree)?;
+    let ((body, hash), rest) = joined(body, hash_of(rest))?;
     Ok((
         Implementation {
             body: Some(body),
@@ -303,8 +306,8 @@ fn put(
 /// The fields and the methods of a class.
 #[derive(Drop)]
 struct Members {
-    fields: Items<FieldDef>,
-    methods: Items<MethodDef>,
+    fields: Shared<FieldDef>,
+    methods: Shared<MethodDef>,
 }
 
 // The fields and the methods among members.
@@ -317,8 +320,8 @@ fn sorted(alloc: Global, members: Vec<MemberDef>) -> Result<Members, AllocError>
         put(&mut fields, &mut methods, member)?;
     }
     Ok(Members {
-        fields: Items::from_vec(fields),
-        methods: Items::from_vec(methods),
+        fields: Shared::from_vec(fields)?,
+        methods: Shared::from_vec(methods)?,
     })
 }
 
@@ -362,11 +365,11 @@ fn interfaces_of<'a>(
     alloc: Global,
     names: &[NameEntry],
     bytes: &'a [u8],
-) -> Result<(Items<ClassName>, &'a [u8]), Stop>
+) -> Result<(Shared<ClassName>, &'a [u8]), Stop>
     ensures { Gives (λ x. (x.0, x.1.now)) result (list_at (name_at is_class_name names.now) bytes.now) }
 {
     let (interfaces, rest) = list_of(alloc, &InterfaceItem(names), bytes)?;
-    Ok((Items::from_vec(interfaces), rest))
+    Ok((Shared::from_vec(interfaces)?, rest))
 }
 
 // The name of a superclass, where there is one.
@@ -396,7 +399,7 @@ struct ClassHead {
 /// A class behind its superclass.
 #[derive(Drop)]
 struct ClassTail {
-    interfaces: Items<ClassName>,
+    interfaces: Shared<ClassName>,
     members: Members,
 }
 
@@ -467,7 +470,7 @@ pub fn class_of_parts(tables: FileTables, parts: ClassParts) -> ClassDef
 {
     ClassDef {
         pos: parts.head.pos,
-        files: Items::from_vec(tables.into_files()),
+        files: tables.into_files(),
         name: parts.head.name,
         kind: parts.head.kind,
         superclass: parts.head.superclass,

@@ -2,14 +2,14 @@
 ghost use Rattle.std.specs.Prelude.{◌≡◌, length};
 
 use crate::names::NameEntry;
-use sj_names::{MethodName, Text};
+use sj_names::{MethodName, Shared, Text};
 use sj_units::Units;
 use std::marker::Model;
 
 /// The four tables in front of the class.
 #[derive(Drop)]
 pub struct FileTables {
-    files: Vec<Text>,
+    files: Shared<Text>,
     names: Vec<NameEntry>,
     methods: Vec<MethodName>,
     strings: Vec<Units>,
@@ -20,18 +20,18 @@ impl Model for FileTables {
 
     ghost Value = { Tables };
 
-    ghost view = { λ t. record { files = t.files.items; names = t.names.items; methods = t.methods.items; strings = t.strings.items } };
+    ghost view = { λ t. record { files = t.files; names = t.names.items; methods = t.methods.items; strings = t.strings.items } };
 }
 
 impl FileTables {
     // These four tables.
     pub fn new(
-        files: Vec<Text>,
+        files: Shared<Text>,
         names: Vec<NameEntry>,
         methods: Vec<MethodName>,
         strings: Vec<Units>,
     ) -> FileTables
-        ensures { result ≡ record { files = files.items; names = names.items; methods = methods.items; strings = strings.items } }
+        ensures { result ≡ record { files = files; names = names.items; methods = methods.items; strings = strings.items } }
     {
         FileTables {
             files,
@@ -70,8 +70,8 @@ impl FileTables {
     }
 
     // The source files, with the tables given up.
-    pub fn into_files(self) -> Vec<Text>
-        ensures { result.items ≡ self.files }
+    pub fn into_files(self) -> Shared<Text>
+        ensures { result ≡ self.files }
     {
         self.files
     }

@@ -2,7 +2,7 @@
 ghost use Rattle.std.specs.Prelude.{◌≡◌, ℕ, length, nat_eq, codes, IfOk, Ok, Err};
 ghost use Rattle.sj_names.specs.Counting.{raised};
 ghost use Rattle.sj_trees.specs.declared.classes.ClassDef.{ClassDef};
-ghost use Rattle.sj_format.specs.declared.faults.Code.{Code};
+ghost use Rattle.sj_trees.specs.declared.refusals.Code.{Code};
 ghost use Rattle.sj_format.specs.Files.{magic_at, version_text_at, version_at, tables_at, contents_at, file_of, FileIs, Fails};
 ghost use Rattle.sj_format.specs.Classes.{class_at};
 ghost use Rattle.sj_read.specs.Parts.{text_tables_at, more_tables_at};
@@ -17,9 +17,8 @@ use crate::names::NameEntry;
 use crate::references::MethodNameItem;
 use crate::stops::{Stop, bad};
 use crate::tables::{NameItem, StringItem, TextItem};
-use sj_format::{Code, ReadRefusal};
-use sj_names::{Meter, MethodName, Text};
-use sj_trees::ClassDef;
+use sj_names::{Meter, MethodName, Shared, Text};
+use sj_trees::{ClassDef, Code, ReadRefusal};
 use sj_units::Units;
 use std::alloc::Global;
 
@@ -62,7 +61,7 @@ fn version_of(bytes: &[u8]) -> Result<(&[u8], &[u8]), Stop>
 /// The two tables of texts.
 #[derive(Drop)]
 struct TextTables {
-    files: Vec<Text>,
+    files: Shared<Text>,
     names: Vec<NameEntry>,
 }
 
@@ -76,9 +75,10 @@ struct MoreTables {
 // The two tables of texts.
 #[tactic(auto, unfolding(crate::specs::Parts::text_tables_at))]
 fn text_tables_of(alloc: Global, bytes: &[u8]) -> Result<(TextTables, &[u8]), Stop>
-    ensures { Gives (λ x. ((x.0.files.items, x.0.names.items), x.1.now)) result (text_tables_at bytes.now) }
+    ensures { Gives (λ x. ((x.0.files, x.0.names.items), x.1.now)) result (text_tables_at bytes.now) }
 {
     let (files, rest) = list_of(alloc, &TextItem, bytes)?;
+    let files = Shared::from_vec(files)?;
     let (names, rest) = list_of(alloc, &NameItem, rest)?;
     Ok((TextTables { files, names }, rest))
 }

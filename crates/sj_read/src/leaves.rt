@@ -11,67 +11,66 @@ use crate::file_tables::FileTables;
 use crate::stops::Stop;
 use crate::tables::{class_name_of, field_name_of, local_name_of, units_of};
 use crate::types::type_of;
-use sj_format::LeafTag;
-use sj_trees::{Position, Tree};
+use sj_trees::{LeafForm, Position, Tree};
 
 // A form without trees in it.
 #[tactic(auto, unfolding(sj_format::specs::Trees::leaf_at))]
 pub fn leaf_of<'a>(
     tables: &FileTables,
-    tag: LeafTag,
+    tag: LeafForm,
     position: Position,
     bytes: &'a [u8],
 ) -> Result<(Tree, &'a [u8]), Stop>
     ensures { Gives (λ x. (view x.0, x.1.now)) result (leaf_at tables.now tag position bytes.now) }
 {
     match tag {
-        LeafTag::Skip => Ok((Tree::Skip(position), bytes)),
-        LeafTag::LoadModule => {
+        LeafForm::Skip => Ok((Tree::Skip(position), bytes)),
+        LeafForm::LoadModule => {
             let (class, rest) = class_name_of(tables.names(), bytes)?;
             Ok((Tree::LoadModule(position, class), rest))
         }
-        LeafTag::SelectStatic => {
+        LeafForm::SelectStatic => {
             let (class, rest) = class_name_of(tables.names(), bytes)?;
             let (field, rest) = field_name_of(tables.names(), rest)?;
             let (tpe, rest) = type_of(tables.names(), rest)?;
             Ok((Tree::SelectStatic(position, class, field, tpe), rest))
         }
-        LeafTag::Undefined => Ok((Tree::Undefined(position), bytes)),
-        LeafTag::Null => Ok((Tree::Null(position), bytes)),
-        LeafTag::BooleanLiteral => {
+        LeafForm::Undefined => Ok((Tree::Undefined(position), bytes)),
+        LeafForm::Null => Ok((Tree::Null(position), bytes)),
+        LeafForm::BooleanLiteral => {
             let (value, rest) = mark_of(bytes)?;
             Ok((Tree::BooleanLiteral(position, value), rest))
         }
-        LeafTag::CharLiteral => {
+        LeafForm::CharLiteral => {
             let (value, rest) = short_of(bytes)?;
             Ok((Tree::CharLiteral(position, value), rest))
         }
-        LeafTag::ByteLiteral => {
+        LeafForm::ByteLiteral => {
             let (value, rest) = signed_byte_of(bytes)?;
             Ok((Tree::ByteLiteral(position, value), rest))
         }
-        LeafTag::ShortLiteral => {
+        LeafForm::ShortLiteral => {
             let (value, rest) = signed_short_of(bytes)?;
             Ok((Tree::ShortLiteral(position, value), rest))
         }
-        LeafTag::IntLiteral => {
+        LeafForm::IntLiteral => {
             let (value, rest) = signed_number_of(bytes)?;
             Ok((Tree::IntLiteral(position, value), rest))
         }
-        LeafTag::LongLiteral => {
+        LeafForm::LongLiteral => {
             let (value, rest) = signed_long_of(bytes)?;
             Ok((Tree::LongLiteral(position, value), rest))
         }
-        LeafTag::StringLiteral => {
+        LeafForm::StringLiteral => {
             let (value, rest) = units_of(tables.strings(), bytes)?;
             Ok((Tree::StringLiteral(position, value), rest))
         }
-        LeafTag::VarRef => {
+        LeafForm::VarRef => {
             let (name, rest) = local_name_of(tables.names(), bytes)?;
             let (tpe, rest) = type_of(tables.names(), rest)?;
             Ok((Tree::VarRef(position, name, tpe), rest))
         }
-        LeafTag::This => {
+        LeafForm::This => {
             let (tpe, rest) = type_of(tables.names(), bytes)?;
             Ok((Tree::This(position, tpe), rest))
         }

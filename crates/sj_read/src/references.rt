@@ -9,7 +9,6 @@ use crate::items::{Item, list_of};
 use crate::names::NameEntry;
 use crate::stops::{Stop, bad};
 use crate::tables::{class_name_of, simple_name_of};
-use sj_format::Code;
 use sj_names::{ArrayRef, BaseRef, MethodName, Shared, TypeRef};
 use std::alloc::Global;
 

@@ -2,7 +2,9 @@
 ghost use Rattle.std.specs.Prelude.{◌≡◌};
 ghost use Rattle.sj_format.specs.Reading.{fault};
 
-use sj_format::{Code, Fault};
+use sj_format::Fault;
+use sj_names::NoMemory;
+use sj_trees::Code;
 use std::alloc::{AllocError, AllocFailed};
 
 /// Why a reader stops: at a fault of the file, or for want of memory.
@@ -10,6 +12,16 @@ use std::alloc::{AllocError, AllocFailed};
 pub enum Stop {
     NoMemory,
     Bad(Fault),
+}
+
+impl From<NoMemory> for Stop {
+    ghost use Rattle.sj_read.specs.declared.stops.Stop.TheVariants.{NoMemory};
+
+    ghost from_gives = { λ _ e. e ≡ NoMemory };
+
+    fn from(_error: NoMemory) -> Stop {
+        Stop::NoMemory
+    }
 }
 
 impl From<AllocError> for Stop {

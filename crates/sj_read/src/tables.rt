@@ -9,9 +9,8 @@ use crate::fields::{below_of, entry_of, number_of, string_of, text_of};
 use crate::items::Item;
 use crate::names::NameEntry;
 use crate::stops::{Stop, bad};
-use sj_format::Code;
 use sj_names::{ClassName, FieldName, LabelName, LocalName, MethodName, SimpleName, Text};
-use sj_trees::Position;
+use sj_trees::{Code, Position};
 use sj_units::Units;
 use std::alloc::Global;
 

@@ -17,9 +17,10 @@ use crate::tables::{
     class_name_of, field_name_of, label_name_of, local_name_of, method_name_of, position_of,
 };
 use crate::types::{binary_of, namespace_of, tag_of, type_of, unary_of};
-use sj_format::{BranchTag, CallTag, Code, OperationTag, StatementTag, Tag};
 use sj_names::Items;
-use sj_trees::{MatchCase, Position, Tree};
+use sj_trees::{
+    BranchForm, CallForm, Code, Form, MatchCase, OperationForm, Position, StatementForm, Tree,
+};
 use std::alloc::Global;
 
 // A key of a match.
@@ -70,11 +71,11 @@ pub fn tree_of<'a>(
     let (tag, rest) = tag_of(bytes)?;
     let (position, rest) = position_of(tables.file_count(), rest)?;
     match tag {
-        Tag::Leaf(tag) => leaf_of(tables, tag, position, rest),
-        Tag::Statement(tag) => statement_of(alloc, tables, depth - 1, tag, position, rest),
-        Tag::Branch(tag) => branch_of(alloc, tables, depth - 1, tag, position, rest),
-        Tag::Call(tag) => call_of(alloc, tables, depth - 1, tag, position, rest),
-        Tag::Operation(tag) => operation_of(alloc, tables, depth - 1, tag, position, rest),
+        Form::Leaf(tag) => leaf_of(tables, tag, position, rest),
+        Form::Statement(tag) => statement_of(alloc, tables, depth - 1, tag, position, rest),
+        Form::Branch(tag) => branch_of(alloc, tables, depth - 1, tag, position, rest),
+        Form::Call(tag) => call_of(alloc, tables, depth - 1, tag, position, rest),
+        Form::Operation(tag) => operation_of(alloc, tables, depth - 1, tag, position, rest),
     }
 }
 
@@ -143,14 +144,14 @@ fn statement_of<'a>(
     alloc: Global,
     tables: &FileTables,
     depth: u32,
-    tag: StatementTag,
+    tag: StatementForm,
     position: Position,
     bytes: &'a [u8],
 ) -> Result<(Tree, &'a [u8]), Stop>
     ensures { Gives (λ x. (view x.0, x.1.now)) result (statement_at (tree_at depth tables.now) tables.now tag position bytes.now) }
 {
     match tag {
-        StatementTag::VarDef => {
+        StatementForm::VarDef => {
             let (name, rest) = local_name_of(tables.names(), bytes)?;
             let (tpe, rest) = type_of(tables.names(), rest)?;
             let (mutable, rest) = mark_of(rest)?;
@@ -160,12 +161,12 @@ fn statement_of<'a>(
                 rest,
             ))
         }
-        StatementTag::Block => {
+        StatementForm::Block => {
             let (count, rest) = number_of(bytes)?;
             let (trees, rest) = trees_of(alloc, tables, depth, count, rest)?;
             Ok((Tree::Block(position, trees), rest))
         }
-        StatementTag::Labeled => {
+        StatementForm::Labeled => {
             let (label, rest) = label_name_of(tables.names(), bytes)?;
             let (tpe, rest) = type_of(tables.names(), rest)?;
             let (body, rest) = tree_of(alloc, tables, depth, rest)?;
@@ -174,7 +175,7 @@ fn statement_of<'a>(
                 rest,
             ))
         }
-        StatementTag::Assign => {
+        StatementForm::Assign => {
             let (target, rest) = tree_of(alloc, tables, depth, bytes)?;
             let (value, rest) = tree_of(alloc, tables, depth, rest)?;
             Ok((
@@ -182,16 +183,16 @@ fn statement_of<'a>(
                 rest,
             ))
         }
-        StatementTag::Return => {
+        StatementForm::Return => {
             let (value, rest) = tree_of(alloc, tables, depth, bytes)?;
             let (label, rest) = label_name_of(tables.names(), rest)?;
             Ok((Tree::Return(position, Box::new(alloc, value)?, label), rest))
         }
-        StatementTag::Throw => {
+        StatementForm::Throw => {
             let (value, rest) = tree_of(alloc, tables, depth, bytes)?;
             Ok((Tree::Throw(position, Box::new(alloc, value)?), rest))
         }
-        StatementTag::StoreModule => {
+        StatementForm::StoreModule => {
             let (class, rest) = class_name_of(tables.names(), bytes)?;
             let (value, rest) = tree_of(alloc, tables, depth, rest)?;
             Ok((
@@ -199,7 +200,7 @@ fn statement_of<'a>(
                 rest,
             ))
         }
-        StatementTag::Log => {
+        StatementForm::Log => {
             let (value, rest) = tree_of(alloc, tables, depth, bytes)?;
             Ok((Tree::Log(position, Box::new(alloc, value)?), rest))
         }
@@ -213,14 +214,14 @@ fn branch_of<'a>(
     alloc: Global,
     tables: &FileTables,
     depth: u32,
-    tag: BranchTag,
+    tag: BranchForm,
     position: Position,
     bytes: &'a [u8],
 ) -> Result<(Tree, &'a [u8]), Stop>
     ensures { Gives (λ x. (view x.0, x.1.now)) result (branch_at (tree_at depth tables.now) tables.now tag position bytes.now) }
 {
     match tag {
-        BranchTag::If => {
+        BranchForm::If => {
             let (condition, rest) = tree_of(alloc, tables, depth, bytes)?;
             let (consequent, rest) = tree_of(alloc, tables, depth, rest)?;
             let (alternative, rest) = tree_of(alloc, tables, depth, rest)?;
@@ -236,7 +237,7 @@ fn branch_of<'a>(
                 rest,
             ))
         }
-        BranchTag::While => {
+        BranchForm::While => {
             let (condition, rest) = tree_of(alloc, tables, depth, bytes)?;
             let (body, rest) = tree_of(alloc, tables, depth, rest)?;
             Ok((
@@ -248,7 +249,7 @@ fn branch_of<'a>(
                 rest,
             ))
         }
-        BranchTag::DoWhile => {
+        BranchForm::DoWhile => {
             let (body, rest) = tree_of(alloc, tables, depth, bytes)?;
             let (condition, rest) = tree_of(alloc, tables, depth, rest)?;
             Ok((
@@ -260,7 +261,7 @@ fn branch_of<'a>(
                 rest,
             ))
         }
-        BranchTag::TryCatch => {
+        BranchForm::TryCatch => {
             let (block, rest) = tree_of(alloc, tables, depth, bytes)?;
             let (name, rest) = local_name_of(tables.names(), rest)?;
             let (handler, rest) = tree_of(alloc, tables, depth, rest)?;
@@ -276,7 +277,7 @@ fn branch_of<'a>(
                 rest,
             ))
         }
-        BranchTag::TryFinally => {
+        BranchForm::TryFinally => {
             let (block, rest) = tree_of(alloc, tables, depth, bytes)?;
             let (finalizer, rest) = tree_of(alloc, tables, depth, rest)?;
             Ok((
@@ -288,7 +289,7 @@ fn branch_of<'a>(
                 rest,
             ))
         }
-        BranchTag::Match => {
+        BranchForm::Match => {
             let (selector, rest) = tree_of(alloc, tables, depth, bytes)?;
             let (count, rest) = number_of(rest)?;
             let (cases, rest) = cases_of(alloc, tables, depth, count, rest)?;
@@ -315,21 +316,21 @@ fn call_of<'a>(
     alloc: Global,
     tables: &FileTables,
     depth: u32,
-    tag: CallTag,
+    tag: CallForm,
     position: Position,
     bytes: &'a [u8],
 ) -> Result<(Tree, &'a [u8]), Stop>
     ensures { Gives (λ x. (view x.0, x.1.now)) result (call_at (tree_at depth tables.now) tables.now tag position bytes.now) }
 {
     match tag {
-        CallTag::New => {
+        CallForm::New => {
             let (class, rest) = class_name_of(tables.names(), bytes)?;
             let (method, rest) = method_name_of(tables.methods(), rest)?;
             let (count, rest) = number_of(rest)?;
             let (arguments, rest) = trees_of(alloc, tables, depth, count, rest)?;
             Ok((Tree::New(position, class, method, arguments), rest))
         }
-        CallTag::Select => {
+        CallForm::Select => {
             let (qualifier, rest) = tree_of(alloc, tables, depth, bytes)?;
             let (class, rest) = class_name_of(tables.names(), rest)?;
             let (field, rest) = field_name_of(tables.names(), rest)?;
@@ -339,7 +340,7 @@ fn call_of<'a>(
                 rest,
             ))
         }
-        CallTag::Apply => {
+        CallForm::Apply => {
             let (receiver, rest) = tree_of(alloc, tables, depth, bytes)?;
             let (method, rest) = method_name_of(tables.methods(), rest)?;
             let (count, rest) = number_of(rest)?;
@@ -350,7 +351,7 @@ fn call_of<'a>(
                 rest,
             ))
         }
-        CallTag::ApplyStatically => {
+        CallForm::ApplyStatically => {
             let (receiver, rest) = tree_of(alloc, tables, depth, bytes)?;
             let (class, rest) = class_name_of(tables.names(), rest)?;
             let (namespace, rest) = namespace_of(rest)?;
@@ -371,7 +372,7 @@ fn call_of<'a>(
                 rest,
             ))
         }
-        CallTag::ApplyStatic => {
+        CallForm::ApplyStatic => {
             let (class, rest) = class_name_of(tables.names(), bytes)?;
             let (namespace, rest) = namespace_of(rest)?;
             let (method, rest) = method_name_of(tables.methods(), rest)?;
@@ -393,14 +394,14 @@ fn operation_of<'a>(
     alloc: Global,
     tables: &FileTables,
     depth: u32,
-    tag: OperationTag,
+    tag: OperationForm,
     position: Position,
     bytes: &'a [u8],
 ) -> Result<(Tree, &'a [u8]), Stop>
     ensures { Gives (λ x. (view x.0, x.1.now)) result (operation_at (tree_at depth tables.now) tables.now tag position bytes.now) }
 {
     match tag {
-        OperationTag::UnaryOp => {
+        OperationForm::UnaryOp => {
             let (operator, rest) = unary_of(bytes)?;
             let (operand, rest) = tree_of(alloc, tables, depth, rest)?;
             Ok((
@@ -408,7 +409,7 @@ fn operation_of<'a>(
                 rest,
             ))
         }
-        OperationTag::BinaryOp => {
+        OperationForm::BinaryOp => {
             let (operator, rest) = binary_of(bytes)?;
             let (left, rest) = tree_of(alloc, tables, depth, rest)?;
             let (right, rest) = tree_of(alloc, tables, depth, rest)?;
@@ -422,7 +423,7 @@ fn operation_of<'a>(
                 rest,
             ))
         }
-        OperationTag::NewArray => {
+        OperationForm::NewArray => {
             let (array, rest) = array_reference_of(tables.names(), bytes)?;
             let (length, rest) = tree_of(alloc, tables, depth, rest)?;
             Ok((
@@ -430,17 +431,17 @@ fn operation_of<'a>(
                 rest,
             ))
         }
-        OperationTag::ArrayValue => {
+        OperationForm::ArrayValue => {
             let (array, rest) = array_reference_of(tables.names(), bytes)?;
             let (count, rest) = number_of(rest)?;
             let (items, rest) = trees_of(alloc, tables, depth, count, rest)?;
             Ok((Tree::ArrayValue(position, array, items), rest))
         }
-        OperationTag::ArrayLength => {
+        OperationForm::ArrayLength => {
             let (array, rest) = tree_of(alloc, tables, depth, bytes)?;
             Ok((Tree::ArrayLength(position, Box::new(alloc, array)?), rest))
         }
-        OperationTag::ArraySelect => {
+        OperationForm::ArraySelect => {
             let (array, rest) = tree_of(alloc, tables, depth, bytes)?;
             let (index, rest) = tree_of(alloc, tables, depth, rest)?;
             let (tpe, rest) = type_of(tables.names(), rest)?;
@@ -454,7 +455,7 @@ fn operation_of<'a>(
                 rest,
             ))
         }
-        OperationTag::IsInstanceOf => {
+        OperationForm::IsInstanceOf => {
             let (value, rest) = tree_of(alloc, tables, depth, bytes)?;
             let (tpe, rest) = type_of(tables.names(), rest)?;
             Ok((
@@ -462,7 +463,7 @@ fn operation_of<'a>(
                 rest,
             ))
         }
-        OperationTag::AsInstanceOf => {
+        OperationForm::AsInstanceOf => {
             let (value, rest) = tree_of(alloc, tables, depth, bytes)?;
             let (tpe, rest) = type_of(tables.names(), rest)?;
             Ok((

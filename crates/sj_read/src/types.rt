@@ -1,7 +1,8 @@
 // Types and codes.
 ghost use Rattle.std.specs.Prelude.{◌≡◌};
 ghost use Rattle.sj_trees.specs.Operators.{unary_with, binary_with};
-ghost use Rattle.sj_format.specs.Codes.{among, tree_tags, reserved_trees, kinds, reserved_kinds, member_tags, reserved_members, plain_types, reserved_types};
+ghost use Rattle.sj_format.specs.Codes.{reserved_trees, kinds, reserved_kinds, member_tags, reserved_members, plain_types, reserved_types};
+ghost use Rattle.sj_trees.specs.Forms.{among, form_codes};
 ghost use Rattle.sj_format.specs.Types.{coded, code_at, namespace_at, type_of, type_at};
 ghost use Rattle.sj_format.specs.Trees.{unary_at, binary_at};
 ghost use Rattle.sj_read.specs.Stops.{Gives};
@@ -12,16 +13,16 @@ use crate::references::array_reference_of;
 use crate::stops::{Stop, bad};
 use crate::tables::class_name_of;
 use sj_format::{
-    Code, Form, MemberTag, Tag, kind_with, namespace_with, plain_type, reserved_kind,
+    MemberTag, kind_with, namespace_with, plain_type, reserved_kind,
     reserved_member, reserved_namespace, reserved_operator, reserved_tree, reserved_type,
 };
 use sj_names::Namespace;
-use sj_trees::{BinaryOp, ClassKind, IrType, UnaryOp};
+use sj_trees::{BinaryOp, ClassKind, Code, Form, IrType, Reserved, UnaryOp};
 
 // What a code stands for that begins at `front`.
 fn coded_of<'a, T: Drop>(
     meaning: Option<T>,
-    reserved: Option<Form>,
+    reserved: Option<Reserved>,
     front: &[u8],
     rest: &'a [u8],
 ) -> Result<(T, &'a [u8]), Stop>
@@ -35,11 +36,11 @@ fn coded_of<'a, T: Drop>(
 }
 
 // The form of a tree.
-pub fn tag_of(bytes: &[u8]) -> Result<(Tag, &[u8]), Stop>
-    ensures { Gives (λ x. (x.0, x.1.now)) result (code_at (among tree_tags) (among reserved_trees) bytes.now) }
+pub fn tag_of(bytes: &[u8]) -> Result<(Form, &[u8]), Stop>
+    ensures { Gives (λ x. (x.0, x.1.now)) result (code_at (among form_codes) (among reserved_trees) bytes.now) }
 {
     let (code, rest) = byte_of(bytes)?;
-    coded_of(Tag::from_code(code), reserved_tree(code), bytes, rest)
+    coded_of(Form::from_code(code), reserved_tree(code), bytes, rest)
 }
 
 // The kind of a member.

@@ -12,7 +12,7 @@ use listing_read::{
     namespace_field, type_field,
 };
 use listing_scan::{Stop, class_name_of, literal, next_is};
-use sj_names::{ClassName, Items, Text};
+use sj_names::{ClassName, Shared, Text};
 use sj_trees::{Body, ClassDef, FieldDef, MethodDef, ParamDef};
 use std::alloc::Global;
 
@@ -130,7 +130,7 @@ fn some_body<'a>(
     ensures { Gives (λ x. (x.0, x.1.now)) result (map_at (λ t. Some t) (reading.tree_at fuel) bytes.now) }
 {
     let (tree, rest) = tree_of(alloc, fuel, bytes)?;
-    Ok((Some(Body::new(tree)), rest))
+    Ok((Some(Body::new(alloc, tree)?), rest))
 }
 
 /// A body, or `-` where there is none.
@@ -163,11 +163,11 @@ fn params_field<'a>(
     alloc: Global,
     fuel: usize,
     bytes: &'a [u8],
-) -> Result<(Items<ParamDef>, &'a [u8]), Stop>
+) -> Result<(Shared<ParamDef>, &'a [u8]), Stop>
     ensures { Gives (λ x. (x.0, x.1.now)) result (lead_at (codes " ") (reading.bracketed_at fuel (reading.param_at fuel)) bytes.now) }
 {
     let (params, rest) = bracketed_of(alloc, fuel, &ParamPart(fuel), literal(b" ", bytes)?)?;
-    Ok((Items::from_vec(params), rest))
+    Ok((Shared::from_vec(params)?, rest))
 }
 
 #[tactic(auto, unfolding(listing_spelling::specs::Reading::method_at))]
@@ -247,43 +247,43 @@ fn interfaces_field<'a>(
     alloc: Global,
     fuel: usize,
     bytes: &'a [u8],
-) -> Result<(Items<ClassName>, &'a [u8]), Stop>
+) -> Result<(Shared<ClassName>, &'a [u8]), Stop>
     ensures { Gives (λ x. (x.0, x.1.now)) result (lead_at (codes " ") (reading.bracketed_at fuel (names.class_name_at fuel)) bytes.now) }
 {
     let (names, rest) = bracketed_of(alloc, fuel, &InterfacePart(fuel), literal(b" ", bytes)?)?;
-    Ok((Items::from_vec(names), rest))
+    Ok((Shared::from_vec(names)?, rest))
 }
 
 fn fields_field<'a>(
     alloc: Global,
     fuel: usize,
     bytes: &'a [u8],
-) -> Result<(Items<FieldDef>, &'a [u8]), Stop>
+) -> Result<(Shared<FieldDef>, &'a [u8]), Stop>
     ensures { Gives (λ x. (x.0, x.1.now)) result (lead_at (codes " ") (reading.bracketed_at fuel (reading.member_field_at fuel)) bytes.now) }
 {
     let (fields, rest) = bracketed_of(alloc, fuel, &FieldPart(fuel), literal(b" ", bytes)?)?;
-    Ok((Items::from_vec(fields), rest))
+    Ok((Shared::from_vec(fields)?, rest))
 }
 
 fn methods_field<'a>(
     alloc: Global,
     fuel: usize,
     bytes: &'a [u8],
-) -> Result<(Items<MethodDef>, &'a [u8]), Stop>
+) -> Result<(Shared<MethodDef>, &'a [u8]), Stop>
     ensures { Gives (λ x. (x.0, x.1.now)) result (lead_at (codes " ") (reading.bracketed_at fuel (reading.method_at fuel)) bytes.now) }
 {
     let (methods, rest) = bracketed_of(alloc, fuel, &MethodPart(fuel), literal(b" ", bytes)?)?;
-    Ok((Items::from_vec(methods), rest))
+    Ok((Shared::from_vec(methods)?, rest))
 }
 
 /// One source file with the empty name.
-fn no_file(alloc: Global) -> Result<Items<Text>, Stop>
+fn no_file(alloc: Global) -> Result<Shared<Text>, Stop>
     ensures files { IfOk result (λ files. files ≡ [] ∷ []) }
     ensures memory { IfErr result (λ e. e ≡ Stop.NoMemory) }
 {
     let mut files = Vec::new(alloc);
     files.push(Text::from_str(alloc, "")?)?;
-    Ok(Items::from_vec(files))
+    Ok(Shared::from_vec(files)?)
 }
 
 /// A class.

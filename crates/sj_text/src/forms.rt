@@ -4,15 +4,14 @@ ghost use Rattle.exact_place.specs.Reading.{lead_at};
 ghost use Rattle.sj_trees.specs.View.{view, view_case, terms_view, cases_view};
 ghost use Rattle.listing_scan.specs.Gives.{Gives};
 ghost use Rattle.listing_spelling.specs.Reading as reading;
-ghost use Rattle.listing_spelling.specs.declared.words.LeafForm.TheVariants as leaves;
+ghost use Rattle.sj_trees.specs.declared.forms.LeafForm.TheVariants as leaves;
 
 use listing_read::{
     byte_field, char_field, class_field, field_field, int_field, long_field, mark_field,
     name_field, short_field, string_field, type_field,
 };
 use listing_scan::{Stop, literal};
-use listing_spelling::LeafForm;
-use sj_trees::{Position, Tree};
+use sj_trees::{LeafForm, Position, Tree};
 use std::alloc::Global;
 
 /// What a reader of trees gives: the tree and the rest.

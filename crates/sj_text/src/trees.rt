@@ -4,10 +4,10 @@ ghost use Rattle.exact_place.specs.Reading.{after_at, lead_at, list_at, literal_
 ghost use Rattle.sj_trees.specs.View.{view, view_case, terms_view, cases_view};
 ghost use Rattle.listing_scan.specs.Gives.{Gives};
 ghost use Rattle.listing_spelling.specs.Reading as reading;
-ghost use Rattle.listing_spelling.specs.declared.words.StatementForm.TheVariants as statements;
-ghost use Rattle.listing_spelling.specs.declared.words.BranchForm.TheVariants as branches;
-ghost use Rattle.listing_spelling.specs.declared.words.CallForm.TheVariants as calls;
-ghost use Rattle.listing_spelling.specs.declared.words.OperationForm.TheVariants as operations;
+ghost use Rattle.sj_trees.specs.declared.forms.StatementForm.TheVariants as statements;
+ghost use Rattle.sj_trees.specs.declared.forms.BranchForm.TheVariants as branches;
+ghost use Rattle.sj_trees.specs.declared.forms.CallForm.TheVariants as calls;
+ghost use Rattle.sj_trees.specs.declared.forms.OperationForm.TheVariants as operations;
 
 use crate::forms::{NOWHERE, Read, leaf_of};
 use listing_read::{
@@ -15,9 +15,8 @@ use listing_read::{
     mark_field, method_field, name_field, namespace_field, type_field, unary_field,
 };
 use listing_scan::{Stop, int_of, literal, next_is};
-use listing_spelling::{BranchForm, CallForm, Form, OperationForm, StatementForm};
 use sj_names::Items;
-use sj_trees::{MatchCase, Tree};
+use sj_trees::{BranchForm, CallForm, Form, MatchCase, OperationForm, StatementForm, Tree};
 use std::alloc::Global;
 
 /// A list of this alone.

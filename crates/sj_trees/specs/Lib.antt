@@ -1,6 +1,8 @@
 pub mod Code
 pub mod Erase
+pub mod Forms
 pub mod Operators
+pub mod Refusals
 pub mod Term
 pub mod TypeOf
 pub mod Types

@@ -2,7 +2,7 @@
 ghost use Rattle.std.specs.Prelude.{◌≡◌, ◌↔◌, IfOk, IsTrue};
 
 use crate::{Body, IrType, Position};
-use sj_names::{ClassName, FieldName, Items, LocalName, MethodName, Namespace, Text};
+use sj_names::{ClassName, FieldName, LocalName, MethodName, Namespace, NoMemory, Shared, Text};
 use std::alloc::AllocError;
 
 /// What a class definition defines.
@@ -40,7 +40,7 @@ pub struct MethodDef {
     pub pos: Position,
     pub namespace: Namespace,
     pub name: MethodName,
-    pub params: Items<ParamDef>,
+    pub params: Shared<ParamDef>,
     pub result: IrType,
     pub body: Option<Body>,
     /// The hash that the file gives; nothing is computed from it.
@@ -51,13 +51,13 @@ pub struct MethodDef {
 #[derive(Drop)]
 pub struct ClassDef {
     pub pos: Position,
-    pub files: Items<Text>,
+    pub files: Shared<Text>,
     pub name: ClassName,
     pub kind: ClassKind,
     pub superclass: Option<ClassName>,
-    pub interfaces: Items<ClassName>,
-    pub fields: Items<FieldDef>,
-    pub methods: Items<MethodDef>,
+    pub interfaces: Shared<ClassName>,
+    pub fields: Shared<FieldDef>,
+    pub methods: Shared<MethodDef>,
 }
 
 impl ParamDef {
@@ -105,5 +105,58 @@ impl FieldDef {
             && self.mutable == other.mutable
             && self.name.is_same(&other.name)
             && self.tpe.is_same(&other.tpe)
+    }
+}
+
+impl MethodDef {
+    /// The same method once more. Its parameters and its body are shared.
+    pub fn copied(&self) -> Result<MethodDef, NoMemory>
+        ensures { IfOk result (λ m. m ≡ self.now) }
+    {
+        Ok(MethodDef {
+            pos: self.pos,
+            namespace: self.namespace,
+            name: self.name.copied()?,
+            params: self.params.copied()?,
+            result: self.result.copied()?,
+            body: copied_body(&self.body)?,
+            hash: self.hash,
+        })
+    }
+}
+
+fn copied_body(body: &Option<Body>) -> Result<Option<Body>, NoMemory>
+    ensures { IfOk result (λ b. b ≡ body.now) }
+{
+    match body {
+        Some(body) => Ok(Some(body.copied()?)),
+        None => Ok(None),
+    }
+}
+
+impl ClassDef {
+    /// The same class once more. Its lists and its methods' bodies are shared.
+    pub fn copied(&self) -> Result<ClassDef, NoMemory>
+        ensures { IfOk result (λ c. c ≡ self.now) }
+    {
+        Ok(ClassDef {
+            pos: self.pos,
+            files: self.files.copied()?,
+            name: self.name.copied()?,
+            kind: self.kind,
+            superclass: copied_name(&self.superclass)?,
+            interfaces: self.interfaces.copied()?,
+            fields: self.fields.copied()?,
+            methods: self.methods.copied()?,
+        })
+    }
+}
+
+fn copied_name(name: &Option<ClassName>) -> Result<Option<ClassName>, NoMemory>
+    ensures { IfOk result (λ n. n ≡ name.now) }
+{
+    match name {
+        Some(name) => Ok(Some(name.copied()?)),
+        None => Ok(None),
     }
 }

@@ -5,6 +5,7 @@
 
 mod bodies;
 mod classes;
+mod forms;
 mod operators;
 mod positions;
 mod refusals;
@@ -14,12 +15,10 @@ mod typing;
 
 pub use bodies::Body;
 pub use classes::{ClassDef, ClassKind, FieldDef, MethodDef, ParamDef};
+pub use forms::{BranchForm, CallForm, FORM_WORDS, Form, LeafForm, OperationForm, StatementForm};
 pub use operators::{BinaryOp, UnaryOp};
 pub use positions::Position;
-pub use refusals::ReadRefusal;
+pub use refusals::{Code, ReadRefusal, Reserved};
 pub use trees::{MatchCase, Tree};
 pub use types::IrType;
 pub use typing::type_of;
-
-#[cfg(test)]
-mod tests;

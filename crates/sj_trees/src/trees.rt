@@ -6,7 +6,6 @@ use sj_names::{
 use sj_units::Units;
 
 /// A tree of the IR. Each form has its position first, and then its parts in the order of the file format.
-#[derive(Drop)]
 #[cycle(tree)]
 pub enum Tree {
     /// A definition of a local variable: its name, its type, whether it may be assigned, and its first value.
@@ -99,4 +98,53 @@ pub enum Tree {
 pub struct MatchCase {
     pub keys: Items<i32>,
     pub body: Tree,
+}
+
+impl Drop for Tree {
+    #[cycle(tree)]
+    fn drop(self) {
+        match self {
+            Tree::VarDef(_, _one, _two, _, _three) => {}
+            Tree::Block(_, _one) => {}
+            Tree::Labeled(_, _one, _two, _three) => {}
+            Tree::Assign(_, _one, _two) => {}
+            Tree::Return(_, _one, _two) => {}
+            Tree::If(_, _one, _two, _three, _four) => {}
+            Tree::While(_, _one, _two) => {}
+            Tree::DoWhile(_, _one, _two) => {}
+            Tree::TryCatch(_, _one, _two, _three, _four) => {}
+            Tree::TryFinally(_, _one, _two) => {}
+            Tree::Throw(_, _one) => {}
+            Tree::Match(_, _one, _two, _three, _four) => {}
+            Tree::New(_, _one, _two, _three) => {}
+            Tree::LoadModule(_, _one) => {}
+            Tree::StoreModule(_, _one, _two) => {}
+            Tree::Select(_, _one, _two, _three, _four) => {}
+            Tree::SelectStatic(_, _one, _two, _three) => {}
+            Tree::Apply(_, _one, _two, _three, _four) => {}
+            Tree::ApplyStatically(_, _one, _two, _, _three, _four, _five) => {}
+            Tree::ApplyStatic(_, _one, _, _two, _three, _four) => {}
+            Tree::UnaryOp(_, _, _one) => {}
+            Tree::BinaryOp(_, _, _one, _two) => {}
+            Tree::NewArray(_, _one, _two) => {}
+            Tree::ArrayValue(_, _one, _two) => {}
+            Tree::ArrayLength(_, _one) => {}
+            Tree::ArraySelect(_, _one, _two, _three) => {}
+            Tree::IsInstanceOf(_, _one, _two) => {}
+            Tree::AsInstanceOf(_, _one, _two) => {}
+            Tree::StringLiteral(_, _one) => {}
+            Tree::VarRef(_, _one, _two) => {}
+            Tree::This(_, _one) => {}
+            Tree::Log(_, _one) => {}
+            Tree::Skip(_)
+            | Tree::Undefined(_)
+            | Tree::Null(_)
+            | Tree::BooleanLiteral(_, _)
+            | Tree::CharLiteral(_, _)
+            | Tree::ByteLiteral(_, _)
+            | Tree::ShortLiteral(_, _)
+            | Tree::IntLiteral(_, _)
+            | Tree::LongLiteral(_, _) => {}
+        }
+    }
 }

@@ -2,13 +2,10 @@
 ghost use Rattle.std.specs.Prelude.{◌≡◌, ◌↔◌, IfOk, IsTrue};
 ghost use Rattle.sj_trees.specs.Types.{class_type, base_type, element_type, reference_type};
 
-use sj_names::{ArrayRef, BaseRef, ClassName, TypeRef};
+use sj_names::{ArrayRef, BaseRef, ClassName, OBJECT, TypeRef};
 use std::alloc::AllocError;
 
-const OBJECT: &str = "java.lang.Object";
-
 /// A type of the IR.
-#[derive(Drop)]
 pub enum IrType {
     /// Every value.
     Any,
@@ -32,6 +29,27 @@ pub enum IrType {
     Array(ArrayRef),
     /// The type of a statement, which gives no value.
     NoType,
+}
+
+impl Drop for IrType {
+    fn drop(self) {
+        match self {
+            IrType::Class(_one) => {}
+            IrType::Array(_one) => {}
+            IrType::Any
+            | IrType::Nothing
+            | IrType::Undefined
+            | IrType::Boolean
+            | IrType::Char
+            | IrType::Byte
+            | IrType::Short
+            | IrType::Int
+            | IrType::Long
+            | IrType::String
+            | IrType::Null
+            | IrType::NoType => {}
+        }
+    }
 }
 
 impl IrType {

@@ -3,6 +3,7 @@ use Rattle.std.specs.Prelude.{◌≡◌, ℕ, List, [], ◌∷◌, ◌++◌, Som
 use Rattle.std.specs.List.{All}
 use Rattle.sj_names.specs.declared.method_names.Namespace.{Namespace}
 use Rattle.sj_trees.specs.declared.classes.MethodDef.{MethodDef}
+use Rattle.sj_trees.specs.Forms.{form_code, form_of}
 use Rattle.sj_trees.specs.Term.{Term, var_def, skip, block_of, labeled, assign, return_to, if_then, while_loop, do_while, try_catch, try_finally, throw, match_on, new_object, load_module, store_module, select, select_static, apply, apply_statically, apply_static, unary_op, binary_op, new_array, array_value, array_length, array_select, is_instance_of, as_instance_of, undefined_literal, null_literal, boolean_literal, char_literal, byte_literal, short_literal, int_literal, long_literal, string_literal, var_ref, this_ref, log_line}
 use Rattle.sj_world.specs.Known.{Classes}
 use Rattle.sj_ask.specs.Sizes.{in_32_bits}
@@ -11,47 +12,7 @@ use Rattle.sj_typing.specs.Rules.{Meets, Yields}
 
 -- the tag of a tree's form
 abbrev pub tag : Term → ℕ
-tag (var_def p x t m e) = 1
-tag (skip p) = 2
-tag (block_of p ts) = 3
-tag (labeled p l t e) = 4
-tag (assign p e d) = 5
-tag (return_to p e l) = 6
-tag (if_then p e d b t) = 7
-tag (while_loop p e d) = 8
-tag (do_while p e d) = 9
-tag (try_catch p e x d t) = 10
-tag (try_finally p e d) = 11
-tag (throw p e) = 12
-tag (match_on p e cs d t) = 13
-tag (new_object p c k ts) = 14
-tag (load_module p c) = 15
-tag (store_module p c e) = 16
-tag (select p e c f t) = 17
-tag (select_static p c f t) = 18
-tag (apply p e k ts t) = 19
-tag (apply_statically p e c s k ts t) = 20
-tag (apply_static p c s k ts t) = 21
-tag (unary_op p o e) = 22
-tag (binary_op p o e d) = 23
-tag (new_array p r e) = 24
-tag (array_value p r ts) = 25
-tag (array_length p e) = 26
-tag (array_select p e d t) = 27
-tag (is_instance_of p e t) = 28
-tag (as_instance_of p e t) = 29
-tag (undefined_literal p) = 30
-tag (null_literal p) = 31
-tag (boolean_literal p v) = 32
-tag (char_literal p v) = 33
-tag (byte_literal p v) = 34
-tag (short_literal p v) = 35
-tag (int_literal p v) = 36
-tag (long_literal p v) = 37
-tag (string_literal p u) = 38
-tag (var_ref p x t) = 39
-tag (this_ref p t) = 40
-tag (log_line p e) = 41
+tag t = form_code (form_of t)
 
 -- the tree meets the rule of its form where it stands
 abbrev pub MeetsThere : Classes → Namespace → Node → Type 0

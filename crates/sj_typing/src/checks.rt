@@ -188,55 +188,6 @@ fn ask_row<O: Oracle>(
     ask_field(alloc, fault, &row.field, oracle)
 }
 
-// The tag of a tree's form.
-fn tag(tree: &Tree) -> u8
-    ensures { result ≡ typed.tag (view tree.now) }
-{
-    match tree {
-        Tree::VarDef(_, _, _, _, _) => 1,
-        Tree::Skip(_) => 2,
-        Tree::Block(_, _) => 3,
-        Tree::Labeled(_, _, _, _) => 4,
-        Tree::Assign(_, _, _) => 5,
-        Tree::Return(_, _, _) => 6,
-        Tree::If(_, _, _, _, _) => 7,
-        Tree::While(_, _, _) => 8,
-        Tree::DoWhile(_, _, _) => 9,
-        Tree::TryCatch(_, _, _, _, _) => 10,
-        Tree::TryFinally(_, _, _) => 11,
-        Tree::Throw(_, _) => 12,
-        Tree::Match(_, _, _, _, _) => 13,
-        Tree::New(_, _, _, _) => 14,
-        Tree::LoadModule(_, _) => 15,
-        Tree::StoreModule(_, _, _) => 16,
-        Tree::Select(_, _, _, _, _) => 17,
-        Tree::SelectStatic(_, _, _, _) => 18,
-        Tree::Apply(_, _, _, _, _) => 19,
-        Tree::ApplyStatically(_, _, _, _, _, _, _) => 20,
-        Tree::ApplyStatic(_, _, _, _, _, _) => 21,
-        Tree::UnaryOp(_, _, _) => 22,
-        Tree::BinaryOp(_, _, _, _) => 23,
-        Tree::NewArray(_, _, _) => 24,
-        Tree::ArrayValue(_, _, _) => 25,
-        Tree::ArrayLength(_, _) => 26,
-        Tree::ArraySelect(_, _, _, _) => 27,
-        Tree::IsInstanceOf(_, _, _) => 28,
-        Tree::AsInstanceOf(_, _, _) => 29,
-        Tree::Undefined(_) => 30,
-        Tree::Null(_) => 31,
-        Tree::BooleanLiteral(_, _) => 32,
-        Tree::CharLiteral(_, _) => 33,
-        Tree::ByteLiteral(_, _) => 34,
-        Tree::ShortLiteral(_, _) => 35,
-        Tree::IntLiteral(_, _) => 36,
-        Tree::LongLiteral(_, _) => 37,
-        Tree::StringLiteral(_, _) => 38,
-        Tree::VarRef(_, _, _) => 39,
-        Tree::This(_, _) => 40,
-        Tree::Log(_, _) => 41,
-    }
-}
-
 // Judges one tree, the trees in which were checked.
 fn check_row<O: Oracle>(
     alloc: Global,
@@ -252,7 +203,7 @@ fn check_row<O: Oracle>(
 {
     let row = row_of(alloc, namespace, labels, settable, tree)?;
     let fault = TypeError::Refused {
-        rule: tag(tree),
+        rule: tree.form().code(),
         place,
     };
     ask_row(alloc, fault, &row, oracle)

@@ -13,7 +13,8 @@ use Rattle.sj_format.specs.declared.members.MemberDef.{MemberDef}
 use Rattle.sj_format.specs.declared.members.MemberDef.TheVariants.{Field, Method}
 use Rattle.sj_format.specs.declared.codes.MemberTag.{MemberTag}
 use Rattle.sj_format.specs.declared.codes.MemberTag.TheVariants as tags
-use Rattle.sj_format.specs.Codes.{among, kinds, member_tags}
+use Rattle.sj_format.specs.Codes.{kinds, member_tags}
+use Rattle.sj_trees.specs.Forms.{among}
 use Rattle.sj_format.specs.Spelling.{Spelling, ◌then◌, Gives_value, IsBytes, IsEach, IsList}
 use Rattle.sj_format.specs.Tables.{Tables, IsName}
 use Rattle.sj_format.specs.Types.{IsCode, IsOption}

@@ -10,7 +10,8 @@ use Rattle.sj_names.specs.declared.references.TypeRef.{TypeRef}
 use Rattle.sj_names.specs.declared.method_names.MethodName.{MethodName}
 use Rattle.sj_trees.specs.declared.types.IrType.{IrType}
 use Rattle.sj_trees.specs.Types.{class_type}
-use Rattle.sj_format.specs.Codes.{among, plain_types}
+use Rattle.sj_format.specs.Codes.{plain_types}
+use Rattle.sj_trees.specs.Forms.{among}
 use Rattle.sj_format.specs.Spelling.{Spelling, ◌then◌, Gives_value, Found, Tested, chosen, IsByte, IsList}
 use Rattle.sj_format.specs.Tables.{Tables, IsName}
 use Rattle.sj_format.specs.References.{plain_base, IsBase, IsArray, IsArrayReference, plain_reference, IsReference, IsParameter, IsResult, IsMethodName}

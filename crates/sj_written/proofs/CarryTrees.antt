@@ -13,19 +13,20 @@ use Rattle.sj_trees.specs.Operators.{unary_with, unary_code, binary_with, binary
 use Rattle.sj_trees.proofs.Codes.{unary_code-unary_with, binary_code-binary_with}
 use Rattle.sj_trees.specs.Term.{Term, Terms, Cases, more_terms, more_cases, block_of, match_on, new_object, apply, apply_statically, apply_static, array_value}
 use Rattle.sj_trees.specs.View.{Case, terms_of, cases_of}
-use Rattle.sj_format.specs.declared.codes.Tag.{Tag}
-use Rattle.sj_format.specs.declared.codes.Tag.TheVariants.{Leaf, Statement, Branch, Call, Operation}
-use Rattle.sj_format.specs.declared.codes.LeafTag.{LeafTag}
-use Rattle.sj_format.specs.declared.codes.LeafTag.TheVariants as leaf
-use Rattle.sj_format.specs.declared.codes.StatementTag.{StatementTag}
-use Rattle.sj_format.specs.declared.codes.StatementTag.TheVariants as statement
-use Rattle.sj_format.specs.declared.codes.BranchTag.{BranchTag}
-use Rattle.sj_format.specs.declared.codes.BranchTag.TheVariants as branch
-use Rattle.sj_format.specs.declared.codes.CallTag.{CallTag}
-use Rattle.sj_format.specs.declared.codes.CallTag.TheVariants as call
-use Rattle.sj_format.specs.declared.codes.OperationTag.{OperationTag}
-use Rattle.sj_format.specs.declared.codes.OperationTag.TheVariants as operation
-use Rattle.sj_format.specs.Codes.{among, tree_tags, namespaces}
+use Rattle.sj_trees.specs.declared.forms.Form.{Form}
+use Rattle.sj_trees.specs.declared.forms.Form.TheVariants.{Leaf, Statement, Branch, Call, Operation}
+use Rattle.sj_trees.specs.declared.forms.LeafForm.{LeafForm}
+use Rattle.sj_trees.specs.declared.forms.LeafForm.TheVariants as leaf
+use Rattle.sj_trees.specs.declared.forms.StatementForm.{StatementForm}
+use Rattle.sj_trees.specs.declared.forms.StatementForm.TheVariants as statement
+use Rattle.sj_trees.specs.declared.forms.BranchForm.{BranchForm}
+use Rattle.sj_trees.specs.declared.forms.BranchForm.TheVariants as branch
+use Rattle.sj_trees.specs.declared.forms.CallForm.{CallForm}
+use Rattle.sj_trees.specs.declared.forms.CallForm.TheVariants as call
+use Rattle.sj_trees.specs.declared.forms.OperationForm.{OperationForm}
+use Rattle.sj_trees.specs.declared.forms.OperationForm.TheVariants as operation
+use Rattle.sj_format.specs.Codes.{namespaces}
+use Rattle.sj_trees.specs.Forms.{among, form_codes}
 use Rattle.sj_format.specs.Spelling.{Tested, IsList}
 use Rattle.sj_format.specs.Tables.{Tables, IsBelow}
 use Rattle.sj_format.specs.Types.{IsSigned, IsPosition, IsNamespace}
@@ -128,11 +129,11 @@ TreeCarried old d y = Carried old (λ new text. IsTree d new (renumbered (number
 abbrev Inner : Tables → ℕ → Type 0
 Inner old d = (x : Term) (text : List ℕ) → IsTree d old x text → AreBytes text → TreeCarried old d x
 
-head : {old : Tables} {fs' : Tables → Fields} {fs : Fields} (d code : ℕ) (tag : Tag) (p : Position) (y : Tables → Term) → code < 256 → among tree_tags code ≡ Some tag → PositionCarried old p
+head : {old : Tables} {fs' : Tables → Fields} {fs : Fields} (d code : ℕ) (tag : Form) (p : Position) (y : Tables → Term) → code < 256 → among form_codes code ≡ Some tag → PositionCarried old p
     → Carried old (λ new text. IsForm (IsTree d new) new tag (renumbered_position (number old new) p) (y new) text) fs' fs
     → Carried old (λ new text. IsTree (suc d) new (y new) text) (λ new. byte code ▸ position_fields new.files (renumbered_position (number old new) p) ▸ fs' new) (byte code ▸ position_fields old.files p ▸ fs)
 unfolding IsTree
-head d code tag p y small e pos form = join (λ new. tag) (carried_code (among tree_tags) code tag small e) (join _ pos form)
+head d code tag p y small e pos form = join (λ new. tag) (carried_code (among form_codes) code tag small e) (join _ pos form)
 
 revalue : {old : Tables} {fs' : Tables → Fields} {fs : Fields} (d : ℕ) (y z : Tables → Term) → ((new : Tables) → y new ≡ z new) → Carried old (λ new text. IsTree d new (y new) text) fs' fs → Carried old (λ new text. IsTree d new (z new) text) fs' fs
 revalue {fs = fs} d y z e one = record { inside = one.inside; same = one.same; again = λ new fit cover. subst (λ (x : Term). IsTree d new x (spelled new fs)) (e new) (one.again new fit cover) }
@@ -215,7 +216,7 @@ carried_cases old d inner cs text h b =
 
 -- ---- forms
 
-carried_leaf : (old : Tables) (d : ℕ) (tag : LeafTag) (p : Position) → PositionCarried old p → (y : Term) (text : List ℕ) → IsLeaf old tag p y text → AreBytes text → TreeCarried old (suc d) y
+carried_leaf : (old : Tables) (d : ℕ) (tag : LeafForm) (p : Position) → PositionCarried old p → (y : Term) (text : List ℕ) → IsLeaf old tag p y text → AreBytes text → TreeCarried old (suc d) y
 unfolding IsLeaf
 carried_leaf old d leaf.Skip p pos y text h b = subst (TreeCarried old (suc d)) (sym h.is) (head d 2 (Leaf leaf.Skip) p _ (omega arith) refl pos value)
 carried_leaf old d leaf.LoadModule p pos y text h b = step h b (λ x1 f1 k1 h1 b1 h b. subst (TreeCarried old (suc d)) (sym h.is) (head d 15 (Leaf leaf.LoadModule) p _ (omega arith) refl pos (last _ (carried_name is_class_name old x1 _ h1))))
@@ -232,7 +233,7 @@ carried_leaf old d leaf.StringLiteral p pos y text h b = step h b (λ x1 f1 k1 h
 carried_leaf old d leaf.VarRef p pos y text h b = step h b (λ x1 f1 k1 h1 b1 h b. step h b (λ x2 f2 k2 h2 b2 h b. subst (TreeCarried old (suc d)) (sym h.is) (head d 39 (Leaf leaf.VarRef) p _ (omega arith) refl pos (join _ (carried_name is_plain_name old x1 _ h1) (last _ (carried_type old x2 _ h2 b2))))))
 carried_leaf old d leaf.This p pos y text h b = step h b (λ x1 f1 k1 h1 b1 h b. subst (TreeCarried old (suc d)) (sym h.is) (head d 40 (Leaf leaf.This) p _ (omega arith) refl pos (last _ (carried_type old x1 _ h1 b1))))
 
-carried_statement : (old : Tables) (d : ℕ) (inner : Inner old d) (tag : StatementTag) (p : Position) → PositionCarried old p → (y : Term) (text : List ℕ) → IsStatement (IsTree d old) old tag p y text → AreBytes text → TreeCarried old (suc d) y
+carried_statement : (old : Tables) (d : ℕ) (inner : Inner old d) (tag : StatementForm) (p : Position) → PositionCarried old p → (y : Term) (text : List ℕ) → IsStatement (IsTree d old) old tag p y text → AreBytes text → TreeCarried old (suc d) y
 unfolding IsStatement
 carried_statement old d inner statement.VarDef p pos y text h b = step h b (λ x1 f1 k1 h1 b1 h b. step h b (λ x2 f2 k2 h2 b2 h b. step h b (λ x3 f3 k3 h3 b3 h b. step h b (λ x4 f4 k4 h4 b4 h b. subst (TreeCarried old (suc d)) (sym h.is) (head d 1 (Statement statement.VarDef) p _ (omega arith) refl pos (join _ (carried_name is_plain_name old x1 _ h1) (join _ (carried_type old x2 _ h2 b2) (join _ (carried_mark x3) (last _ (inner x4 _ h4 b4))))))))))
 carried_statement old d inner statement.Block p pos y text h b = step h b (λ x1 f1 k1 h1 b1 h b. subst (TreeCarried old (suc d)) (sym h.is) (revalue (suc d) _ _ (λ new. ap (λ (es : Terms). block_of (renumbered_position (number old new) p) es) (renumbered_terms_of (number old new) x1)) (head d 3 (Statement statement.Block) p _ (omega arith) refl pos (last _ (carried_terms old d inner x1 _ h1 b1)))))
@@ -243,7 +244,7 @@ carried_statement old d inner statement.Throw p pos y text h b = step h b (λ x1
 carried_statement old d inner statement.StoreModule p pos y text h b = step h b (λ x1 f1 k1 h1 b1 h b. step h b (λ x2 f2 k2 h2 b2 h b. subst (TreeCarried old (suc d)) (sym h.is) (head d 16 (Statement statement.StoreModule) p _ (omega arith) refl pos (join _ (carried_name is_class_name old x1 _ h1) (last _ (inner x2 _ h2 b2))))))
 carried_statement old d inner statement.Log p pos y text h b = step h b (λ x1 f1 k1 h1 b1 h b. subst (TreeCarried old (suc d)) (sym h.is) (head d 41 (Statement statement.Log) p _ (omega arith) refl pos (last _ (inner x1 _ h1 b1))))
 
-carried_branch : (old : Tables) (d : ℕ) (inner : Inner old d) (tag : BranchTag) (p : Position) → PositionCarried old p → (y : Term) (text : List ℕ) → IsBranch (IsTree d old) old tag p y text → AreBytes text → TreeCarried old (suc d) y
+carried_branch : (old : Tables) (d : ℕ) (inner : Inner old d) (tag : BranchForm) (p : Position) → PositionCarried old p → (y : Term) (text : List ℕ) → IsBranch (IsTree d old) old tag p y text → AreBytes text → TreeCarried old (suc d) y
 unfolding IsBranch
 carried_branch old d inner branch.If p pos y text h b = step h b (λ x1 f1 k1 h1 b1 h b. step h b (λ x2 f2 k2 h2 b2 h b. step h b (λ x3 f3 k3 h3 b3 h b. step h b (λ x4 f4 k4 h4 b4 h b. subst (TreeCarried old (suc d)) (sym h.is) (head d 7 (Branch branch.If) p _ (omega arith) refl pos (join _ (inner x1 _ h1 b1) (join _ (inner x2 _ h2 b2) (join _ (inner x3 _ h3 b3) (last _ (carried_type old x4 _ h4 b4))))))))))
 carried_branch old d inner branch.While p pos y text h b = step h b (λ x1 f1 k1 h1 b1 h b. step h b (λ x2 f2 k2 h2 b2 h b. subst (TreeCarried old (suc d)) (sym h.is) (head d 8 (Branch branch.While) p _ (omega arith) refl pos (join _ (inner x1 _ h1 b1) (last _ (inner x2 _ h2 b2))))))
@@ -252,7 +253,7 @@ carried_branch old d inner branch.TryCatch p pos y text h b = step h b (λ x1 f1
 carried_branch old d inner branch.TryFinally p pos y text h b = step h b (λ x1 f1 k1 h1 b1 h b. step h b (λ x2 f2 k2 h2 b2 h b. subst (TreeCarried old (suc d)) (sym h.is) (head d 11 (Branch branch.TryFinally) p _ (omega arith) refl pos (join _ (inner x1 _ h1 b1) (last _ (inner x2 _ h2 b2))))))
 carried_branch old d inner branch.Match p pos y text h b = step h b (λ x1 f1 k1 h1 b1 h b. step h b (λ x2 f2 k2 h2 b2 h b. step h b (λ x3 f3 k3 h3 b3 h b. step h b (λ x4 f4 k4 h4 b4 h b. subst (TreeCarried old (suc d)) (sym h.is) (revalue (suc d) _ _ (λ new. ap (λ (es : Cases). match_on (renumbered_position (number old new) p) (renumbered (number old new) x1) es (renumbered (number old new) x3) x4) (renumbered_cases_of (number old new) x2)) (head d 13 (Branch branch.Match) p _ (omega arith) refl pos (join _ (inner x1 _ h1 b1) (join _ (carried_cases old d inner x2 _ h2 b2) (join _ (inner x3 _ h3 b3) (last _ (carried_type old x4 _ h4 b4)))))))))))
 
-carried_call : (old : Tables) (d : ℕ) (inner : Inner old d) (known : Known old) (tag : CallTag) (p : Position) → PositionCarried old p → (y : Term) (text : List ℕ) → IsCall (IsTree d old) old tag p y text → AreBytes text → TreeCarried old (suc d) y
+carried_call : (old : Tables) (d : ℕ) (inner : Inner old d) (known : Known old) (tag : CallForm) (p : Position) → PositionCarried old p → (y : Term) (text : List ℕ) → IsCall (IsTree d old) old tag p y text → AreBytes text → TreeCarried old (suc d) y
 unfolding IsCall
 carried_call old d inner known call.New p pos y text h b = step h b (λ x1 f1 k1 h1 b1 h b. step h b (λ x2 f2 k2 h2 b2 h b. step h b (λ x3 f3 k3 h3 b3 h b. subst (TreeCarried old (suc d)) (sym h.is) (revalue (suc d) _ _ (λ new. ap (λ (es : Terms). new_object (renumbered_position (number old new) p) x1 x2 es) (renumbered_terms_of (number old new) x3)) (head d 14 (Call call.New) p _ (omega arith) refl pos (join _ (carried_name is_class_name old x1 _ h1) (join _ (carried_method old x2 _ known h2) (last _ (carried_terms old d inner x3 _ h3 b3)))))))))
 carried_call old d inner known call.Select p pos y text h b = step h b (λ x1 f1 k1 h1 b1 h b. step h b (λ x2 f2 k2 h2 b2 h b. step h b (λ x3 f3 k3 h3 b3 h b. step h b (λ x4 f4 k4 h4 b4 h b. subst (TreeCarried old (suc d)) (sym h.is) (head d 17 (Call call.Select) p _ (omega arith) refl pos (join _ (inner x1 _ h1 b1) (join _ (carried_name is_class_name old x2 _ h2) (join _ (carried_name is_plain_name old x3 _ h3) (last _ (carried_type old x4 _ h4 b4))))))))))
@@ -260,7 +261,7 @@ carried_call old d inner known call.Apply p pos y text h b = step h b (λ x1 f1 
 carried_call old d inner known call.ApplyStatically p pos y text h b = step h b (λ x1 f1 k1 h1 b1 h b. step h b (λ x2 f2 k2 h2 b2 h b. step h b (λ x3 f3 k3 h3 b3 h b. step h b (λ x4 f4 k4 h4 b4 h b. step h b (λ x5 f5 k5 h5 b5 h b. step h b (λ x6 f6 k6 h6 b6 h b. subst (TreeCarried old (suc d)) (sym h.is) (revalue (suc d) _ _ (λ new. ap (λ (es : Terms). apply_statically (renumbered_position (number old new) p) (renumbered (number old new) x1) x2 x3 x4 es x6) (renumbered_terms_of (number old new) x5)) (head d 20 (Call call.ApplyStatically) p _ (omega arith) refl pos (join _ (inner x1 _ h1 b1) (join _ (carried_name is_class_name old x2 _ h2) (join _ (carried_namespace x3) (join _ (carried_method old x4 _ known h4) (join _ (carried_terms old d inner x5 _ h5 b5) (last _ (carried_type old x6 _ h6 b6)))))))))))))))
 carried_call old d inner known call.ApplyStatic p pos y text h b = step h b (λ x1 f1 k1 h1 b1 h b. step h b (λ x2 f2 k2 h2 b2 h b. step h b (λ x3 f3 k3 h3 b3 h b. step h b (λ x4 f4 k4 h4 b4 h b. step h b (λ x5 f5 k5 h5 b5 h b. subst (TreeCarried old (suc d)) (sym h.is) (revalue (suc d) _ _ (λ new. ap (λ (es : Terms). apply_static (renumbered_position (number old new) p) x1 x2 x3 es x5) (renumbered_terms_of (number old new) x4)) (head d 21 (Call call.ApplyStatic) p _ (omega arith) refl pos (join _ (carried_name is_class_name old x1 _ h1) (join _ (carried_namespace x2) (join _ (carried_method old x3 _ known h3) (join _ (carried_terms old d inner x4 _ h4 b4) (last _ (carried_type old x5 _ h5 b5)))))))))))))
 
-carried_operation : (old : Tables) (d : ℕ) (inner : Inner old d) (tag : OperationTag) (p : Position) → PositionCarried old p → (y : Term) (text : List ℕ) → IsOperation (IsTree d old) old tag p y text → AreBytes text → TreeCarried old (suc d) y
+carried_operation : (old : Tables) (d : ℕ) (inner : Inner old d) (tag : OperationForm) (p : Position) → PositionCarried old p → (y : Term) (text : List ℕ) → IsOperation (IsTree d old) old tag p y text → AreBytes text → TreeCarried old (suc d) y
 unfolding IsOperation
 carried_operation old d inner operation.UnaryOp p pos y text h b = step h b (λ x1 f1 k1 h1 b1 h b. step h b (λ x2 f2 k2 h2 b2 h b. subst (TreeCarried old (suc d)) (sym h.is) (head d 22 (Operation operation.UnaryOp) p _ (omega arith) refl pos (join _ (carried_unary old x1 _ h1 b1) (last _ (inner x2 _ h2 b2))))))
 carried_operation old d inner operation.BinaryOp p pos y text h b = step h b (λ x1 f1 k1 h1 b1 h b. step h b (λ x2 f2 k2 h2 b2 h b. step h b (λ x3 f3 k3 h3 b3 h b. subst (TreeCarried old (suc d)) (sym h.is) (head d 23 (Operation operation.BinaryOp) p _ (omega arith) refl pos (join _ (carried_binary old x1 _ h1 b1) (join _ (inner x2 _ h2 b2) (last _ (inner x3 _ h3 b3))))))))
@@ -271,7 +272,7 @@ carried_operation old d inner operation.ArraySelect p pos y text h b = step h b 
 carried_operation old d inner operation.IsInstanceOf p pos y text h b = step h b (λ x1 f1 k1 h1 b1 h b. step h b (λ x2 f2 k2 h2 b2 h b. subst (TreeCarried old (suc d)) (sym h.is) (head d 28 (Operation operation.IsInstanceOf) p _ (omega arith) refl pos (join _ (inner x1 _ h1 b1) (last _ (carried_type old x2 _ h2 b2))))))
 carried_operation old d inner operation.AsInstanceOf p pos y text h b = step h b (λ x1 f1 k1 h1 b1 h b. step h b (λ x2 f2 k2 h2 b2 h b. subst (TreeCarried old (suc d)) (sym h.is) (head d 29 (Operation operation.AsInstanceOf) p _ (omega arith) refl pos (join _ (inner x1 _ h1 b1) (last _ (carried_type old x2 _ h2 b2))))))
 
-carried_form : (old : Tables) (d : ℕ) (inner : Inner old d) (known : Known old) (tag : Tag) (p : Position) → PositionCarried old p → (y : Term) (text : List ℕ) → IsForm (IsTree d old) old tag p y text → AreBytes text → TreeCarried old (suc d) y
+carried_form : (old : Tables) (d : ℕ) (inner : Inner old d) (known : Known old) (tag : Form) (p : Position) → PositionCarried old p → (y : Term) (text : List ℕ) → IsForm (IsTree d old) old tag p y text → AreBytes text → TreeCarried old (suc d) y
 carried_form old d inner known (Leaf tag) p pos y text h b = carried_leaf old d tag p pos y text h b
 carried_form old d inner known (Statement tag) p pos y text h b = carried_statement old d inner tag p pos y text h b
 carried_form old d inner known (Branch tag) p pos y text h b = carried_branch old d inner tag p pos y text h b

@@ -19,9 +19,9 @@ use Rattle.file_listings.proofs.MadeFiles.{listed_is_made}
 use Rattle.exact_place.specs.Place.{Place}
 use Rattle.sj_format.specs.Files.{Fails}
 use Rattle.sj_format.specs.Answers.{IsRead, Reads as Answer}
-use Rattle.sj_format.specs.declared.faults.ReadRefusal.{ReadRefusal}
-use Rattle.sj_format.specs.declared.faults.ReadRefusal.TheVariants.{Bad}
-use Rattle.sj_format.specs.declared.faults.Code.{Code}
+use Rattle.sj_trees.specs.declared.refusals.ReadRefusal.{ReadRefusal}
+use Rattle.sj_trees.specs.declared.refusals.ReadRefusal.TheVariants.{Bad}
+use Rattle.sj_trees.specs.declared.refusals.Code.{Code}
 use Rattle.sj_outside.specs.Writing.{Appends}
 use Rattle.sj_text.specs.declared.error.ListingError.{ListingError}
 use Rattle.sj_text.specs.declared.error.ListingError.TheVariants.{BadListing, NoMemory}

@@ -6,9 +6,9 @@ use Rattle.sj_outside.specs.Contents.{Parts, file_at}
 use Rattle.sj_outside.specs.Words.{without_line_feed}
 use Rattle.sj_outside.specs.Writing.{Event, put, line, Writes, WritesFront}
 use Rattle.sj_outside.specs.declared.answers.PutFile.{PutFile}
-use Rattle.sj_format.specs.declared.faults.Form.{Form}
-use Rattle.sj_format.specs.declared.faults.Code.{Code}
-use Rattle.sj_format.specs.Faults.{number_of, form_of, name_of}
+use Rattle.sj_trees.specs.declared.refusals.Reserved.{Reserved}
+use Rattle.sj_trees.specs.declared.refusals.Code.{Code}
+use Rattle.sj_trees.specs.Refusals.{number_of, reserved_of, name_of}
 use Rattle.sj_format.specs.Files.{FileIs, Fails}
 use Rattle.file_listings.specs.Listed.{AreBytes}
 use Rattle.listing_spelling.specs.Spelling.{Lists}
@@ -39,13 +39,13 @@ status_of false = SomeRefused
 -- ---- print
 
 -- the form that a file has and that isn't supported, with a space in front
-abbrev pub form_words : Option Form → List ℕ
+abbrev pub form_words : Option Reserved → List ℕ
 form_words None = []
 form_words (Some form) = codes " " ++ name_of form
 
 -- the line of a file that is refused: `FILE refused CODE OFFSET`, and the form where there is one
 abbrev pub refusal_line : List ℕ → Code → ℕ → List ℕ
-refusal_line path code place = path ++ (codes " refused " ++ (decimal (number_of code) ++ (codes " " ++ (decimal place ++ (form_words (form_of code) ++ codes "\n")))))
+refusal_line path code place = path ++ (codes " refused " ++ (decimal (number_of code) ++ (codes " " ++ (decimal place ++ (form_words (reserved_of code) ++ codes "\n")))))
 
 -- the line of a file, and whether it is a listing
 pub data IsFileLine (path bytes : List ℕ) : Bool → List ℕ → Type 0 where

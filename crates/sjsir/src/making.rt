@@ -9,7 +9,6 @@ use crate::reading::read_whole;
 use crate::stops::Stop;
 use file_listings::each_is_a_byte;
 use listing_print::print_listing;
-use sj_format::ReadRefusal;
 use sj_names::{Bytes, Meter, NoMemory};
 use sj_outside::{Folders, without_line_feed};
 use sj_read::read_class;

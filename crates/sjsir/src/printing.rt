@@ -4,7 +4,7 @@ ghost use Rattle.sj_outside.specs.Contents.{Parts, file_at};
 ghost use Rattle.sj_outside.specs.Faults.{Rose};
 ghost use Rattle.sj_outside.specs.Writing.{Appends};
 ghost use Rattle.sj_format.specs.Files.{Fails};
-ghost use Rattle.sj_format.specs.Faults as faults;
+ghost use Rattle.sj_trees.specs.Refusals as faults;
 ghost use Rattle.sjsir.specs.Output as output;
 ghost use Rattle.sjsir.specs.Printing as spec;
 
@@ -13,7 +13,6 @@ use crate::reading::read_whole;
 use crate::stops::Stop;
 use file_listings::each_is_a_byte;
 use listing_print::print_listing;
-use sj_format::{Code, Form, ReadRefusal};
 use sj_names::Meter;
 use sj_outside::{Folders, Lines, OutsideError};
 use sj_read::read_class;
@@ -118,7 +117,7 @@ fn refusal_line(alloc: Global, path: &str, code: Code, place: u64) -> Result<Str
 }
 
 // The name of a form with a space in front, or nothing.
-fn form_words(alloc: Global, form: Option<Form>) -> Result<String, AllocError>
+fn form_words(alloc: Global, form: Option<Reserved>) -> Result<String, AllocError>
     ensures { IfOk result (λ t. string_bytes t ≡ output.form_words form) }
 {
     match form {

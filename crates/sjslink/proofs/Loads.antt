@@ -13,15 +13,15 @@ use Rattle.sj_outside.specs.Reading.{Reads, Lists, lacks_file}
 use Rattle.sj_outside.proofs.Listed.{held_at-joined}
 use Rattle.std.specs.Prelude.{option_and_then}
 use Rattle.sj_format.specs.Files.{FileIs, Fails}
-use Rattle.sj_format.specs.declared.faults.Code.{Code}
+use Rattle.sj_trees.specs.declared.refusals.Code.{Code}
 use Rattle.sj_format.proofs.ExactFiles.{one_answer}
 use Rattle.sj_outside.specs.Words.{without_line_feed}
 use Rattle.sjslink.specs.EntryLine.{EntryLine, IsEntryLine}
 use Rattle.sjslink.specs.Input.{HasEntry, HasClass, most_class, is_class_file, Program, IsProgram}
 use Rattle.sj_outside.specs.declared.answers.OutsideError.{OutsideError}
 use Rattle.sj_outside.specs.Faults.{IsMissing}
-use Rattle.sj_format.specs.declared.faults.ReadRefusal.{ReadRefusal}
-use Rattle.sj_format.specs.declared.faults.ReadRefusal.TheVariants.{Bad}
+use Rattle.sj_trees.specs.declared.refusals.ReadRefusal.{ReadRefusal}
+use Rattle.sj_trees.specs.declared.refusals.ReadRefusal.TheVariants.{Bad}
 use Rattle.sj_format.specs.Answers.{IsRead}
 use Rattle.sj_link.specs.FirstForm.{is_first_class}
 use Rattle.sjslink.proofs.Lines.{cut_once, ids_no_space}

@@ -13,12 +13,11 @@ ghost use Rattle.sjslink.specs.Loading as spec;
 use crate::entry_line::entry_line;
 use crate::words::LinkWords;
 use js_print::print_module;
-use sj_format::ReadRefusal;
 use sj_link::{is_first_class, link_class};
 use sj_names::{Meter, NoMemory, Text};
 use sj_outside::{Folders, OutsideError};
 use sj_read::read_class;
-use sj_trees::ClassDef;
+use sj_trees::{ClassDef, ReadRefusal};
 use std::alloc::{AllocError, Global};
 
 /// Why nothing is linked.

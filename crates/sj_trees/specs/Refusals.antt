@@ -1,11 +1,11 @@
 -- The numbers of the codes, and the names of the reserved forms.
 use Rattle.std.specs.Prelude.{ℕ, List, Option, Some, None, codes}
-use Rattle.sj_format.specs.declared.faults.Form.{Form}
-use Rattle.sj_format.specs.declared.faults.Form.TheVariants.{FloatLiteral, DoubleLiteral, Closure, JsNew, JsSelect, JsFunctionApply, JsMethodApply, JsObjectConstr, JsArrayConstr, JsImportCall, JsGlobalRef, ForIn, Debugger, ClassOf, GetClass, RecordValue, JsClass, JsModuleClass, NativeJsClass, NativeJsModuleClass, AbstractJsType, StaticConstructor, JsMethodDef, JsPropertyDef, FloatType, DoubleType, RecordType, Operator}
-use Rattle.sj_format.specs.declared.faults.Code.{Code}
-use Rattle.sj_format.specs.declared.faults.Code.TheVariants.{BadMagic, BadVersion, Truncated, BadIndex, BadTag, BadName, BadText, Unsupported, TooDeep, Trailing}
+use Rattle.sj_trees.specs.declared.refusals.Reserved.{Reserved}
+use Rattle.sj_trees.specs.declared.refusals.Reserved.TheVariants.{FloatLiteral, DoubleLiteral, Closure, JsNew, JsSelect, JsFunctionApply, JsMethodApply, JsObjectConstr, JsArrayConstr, JsImportCall, JsGlobalRef, ForIn, Debugger, ClassOf, GetClass, RecordValue, JsClass, JsModuleClass, NativeJsClass, NativeJsModuleClass, AbstractJsType, StaticConstructor, JsMethodDef, JsPropertyDef, FloatType, DoubleType, RecordType, Operator}
+use Rattle.sj_trees.specs.declared.refusals.Code.{Code}
+use Rattle.sj_trees.specs.declared.refusals.Code.TheVariants.{BadMagic, BadVersion, Truncated, BadIndex, BadTag, BadName, BadText, Unsupported, TooDeep, Trailing}
 
-abbrev pub name_of : Form → List ℕ
+abbrev pub name_of : Reserved → List ℕ
 name_of FloatLiteral = codes "FloatLiteral"
 name_of DoubleLiteral = codes "DoubleLiteral"
 name_of Closure = codes "Closure"
@@ -48,6 +48,6 @@ number_of TooDeep = 9
 number_of Trailing = 10
 
 -- the form that isn't supported
-abbrev pub form_of : Code → Option Form
-form_of (Unsupported form) = Some form
-form_of _ = None
+abbrev pub reserved_of : Code → Option Reserved
+reserved_of (Unsupported form) = Some form
+reserved_of _ = None
