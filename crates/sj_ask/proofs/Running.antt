@@ -9,11 +9,11 @@ use Rattle.sj_ask.specs.Runs.{Comes, Ran}
 
 told-nil : (t : Told) → t ≡ told_more t []
 told-nil None = refl
-told-nil (Some log) = ap Some (sym (append-nil log))
+told-nil (Some log) = ap (λ (xs : List Exchange). Some (record log { asked = xs })) (sym (append-nil log.asked))
 
 told-append : (t : Told) (log more : List Exchange) → told_more (told_more t log) more ≡ told_more t (log ++ more)
 told-append None log more = refl
-told-append (Some before) log more = ap Some (append_assoc before log more)
+told-append (Some kept) log more = ap (λ (xs : List Exchange). Some (record kept { asked = xs })) (append_assoc kept.asked log more)
 
 comes-bind : {E A B : Type 0} (Is : Question → Answer → Type 0) (m : Asking E A) (k : A → Asking E B) (a : A) (r : Result B E) (log more : List Exchange) → Comes Is m (Ok a) log → Comes Is (k a) r more → Comes Is (m >>= k) r (log ++ more)
 unfolding ◌>>=◌

@@ -11,7 +11,6 @@ mod laws;
 mod logs;
 mod oracles;
 mod questions;
-mod recorders;
 mod sizes;
 mod targets;
 mod worlds;
@@ -22,8 +21,4 @@ pub use laws::{answers_are_one, equal_answers_give_equal_results};
 pub use logs::Log;
 pub use oracles::Oracle;
 pub use questions::{Answer, Question};
-pub use recorders::Recorder;
 pub use worlds::WorldOracle;
-
-#[cfg(test)]
-mod tests;

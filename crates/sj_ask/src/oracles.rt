@@ -10,8 +10,8 @@ use std::alloc::Global;
 
 /// Who answers questions, on a world with what is known of its classes, for the member that is worked on.
 ///
-/// `stand` is that world and that member. `told` is, where the oracle tells it, the list of the questions that it answered, with the
-/// answers that it gave.
+/// `stand` is that world and that member. `told` is, where the oracle tells it, the log of the questions that it answered, with the
+/// answers that it gave, under the member for which it keeps them.
 pub trait Oracle {
     ghost stand: { Self → Stand };
 

@@ -3,11 +3,8 @@ ghost use Rattle.std.specs.Prelude.{◌≡◌, IfOk};
 
 use sj_names::{ClassName, FieldName, Member, MethodName, NoMemory};
 use sj_trees::{FieldDef, IrType, MethodDef};
-use std::alloc::Global;
-use tree_copies::copied_method;
 
 /// What the work on a method asks of its world.
-#[derive(Drop)]
 pub enum Question {
     /// Whether the first type is a subtype of the second.
     IsSub(IrType, IrType),
@@ -24,7 +21,6 @@ pub enum Question {
 }
 
 /// The answer to a question.
-#[derive(Drop)]
 pub enum Answer {
     /// To `IsSub` and `HasHijacked`.
     Yes(bool),
@@ -34,6 +30,30 @@ pub enum Answer {
     Member(Option<Member>),
     /// To `Body`: none where the member isn't a body that is needed, has more than 16 trees, or is the one that is worked on.
     Body(Option<MethodDef>),
+}
+
+impl Drop for Question {
+    fn drop(self) {
+        match self {
+            Question::IsSub(_one, _two) => {}
+            Question::Field(_one, _two, _) => {}
+            Question::Resolve(_one, _two) => {}
+            Question::Single(_one, _two) => {}
+            Question::HasHijacked(_one) => {}
+            Question::Body(_one) => {}
+        }
+    }
+}
+
+impl Drop for Answer {
+    fn drop(self) {
+        match self {
+            Answer::Field(_one) => {}
+            Answer::Member(_one) => {}
+            Answer::Body(_one) => {}
+            Answer::Yes(_) => {}
+        }
+    }
 }
 
 impl Question {
@@ -59,14 +79,14 @@ impl Question {
 
 impl Answer {
     /// The same answer once more.
-    pub fn copied(&self, alloc: Global) -> Result<Answer, NoMemory>
+    pub fn copied(&self) -> Result<Answer, NoMemory>
         ensures { IfOk result (λ a. a ≡ self.now) }
     {
         match self {
             Answer::Yes(yes) => Ok(Answer::Yes(*yes)),
             Answer::Field(field) => Ok(Answer::Field(copied_field(field)?)),
             Answer::Member(member) => Ok(Answer::Member(copied_member(member)?)),
-            Answer::Body(method) => Ok(Answer::Body(copied_body(alloc, method)?)),
+            Answer::Body(method) => Ok(Answer::Body(copied_method(method)?)),
         }
     }
 }
@@ -89,11 +109,11 @@ fn copied_member(member: &Option<Member>) -> Result<Option<Member>, NoMemory>
     }
 }
 
-fn copied_body(alloc: Global, method: &Option<MethodDef>) -> Result<Option<MethodDef>, NoMemory>
+fn copied_method(method: &Option<MethodDef>) -> Result<Option<MethodDef>, NoMemory>
     ensures { IfOk result (λ m. m ≡ method.now) }
 {
     match method {
-        Some(method) => Ok(Some(copied_method(alloc, method)?)),
+        Some(method) => Ok(Some(method.copied()?)),
         None => Ok(None),
     }
 }

@@ -11,7 +11,6 @@ use sj_names::{ClassName, FieldName, Member, MethodName, Namespace, NoMemory};
 use sj_trees::{FieldDef, MethodDef};
 use sj_world::{LinkedWorld, World};
 use std::alloc::Global;
-use tree_copies::copied_method;
 
 /// The oracle that answers by a world for a member. It tells no list of what it answered.
 #[derive(Drop)]
@@ -37,7 +36,7 @@ impl<'w> Oracle for WorldOracle<'w> {
 
     ghost told = { λ _. None };
 
-    fn answer(&mut self, alloc: Global, question: &Question) -> Result<Answer, NoMemory> {
+    fn answer(&mut self, _alloc: Global, question: &Question) -> Result<Answer, NoMemory> {
         let world = &self.world.world;
         match question {
             Question::IsSub(sub, above) => Ok(Answer::Yes(world.is_sub(sub, above))),
@@ -52,7 +51,6 @@ impl<'w> Oracle for WorldOracle<'w> {
             )?)),
             Question::HasHijacked(class) => Ok(Answer::Yes(has_hijacked(world, class))),
             Question::Body(member) => Ok(Answer::Body(body_answer(
-                alloc,
                 self.world,
                 self.member,
                 member,
@@ -112,7 +110,6 @@ fn public_member(owner: &ClassName, method: &MethodName) -> Result<Member, NoMem
 }
 
 fn body_answer(
-    alloc: Global,
     world: &LinkedWorld,
     k: &Member,
     member: &Member,
@@ -120,7 +117,7 @@ fn body_answer(
     ensures { IfOk result (IsBodyAnswer (stand_of world.now k.now) member.now) }
 {
     match small_body_of(world, k, member) {
-        Some(method) => Ok(Some(copied_method(alloc, method)?)),
+        Some(method) => Ok(Some(method.copied()?)),
         None => Ok(None),
     }
 }

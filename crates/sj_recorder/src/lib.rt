@@ -1,0 +1,6 @@
+//! Oracles that keep what was asked.
+#![tactic(auto)]
+
+mod recorders;
+
+pub use recorders::Recorder;
