@@ -31,6 +31,20 @@ same_run R s t (ask q next) (ask p later) r r' log log' alike h holds k =
     }
 same_run R s t _ _ r r' log log' alike h holds k = absurd alike
 
+-- what is asked in one world is asked in another that gives these answers
+pub held_runs : {E A : Type 0} (s t : Stand) (m : Asking E A) (r : Result A E) (log : List Exchange) → Comes (IsAnswer s) m r log → HoldsIn t log → Comes (IsAnswer t) m r log
+held_runs s t (done a) r log h holds = h
+held_runs s t (stop e) r log h holds = h
+held_runs s t (ask q next) r log h holds =
+    let there : HoldsIn t ((q, h.given) ∷ h.others) = subst (HoldsIn t) h.log_is holds in
+    record {
+      given = h.given;
+      is_answer = All-head (λ x. IsAnswer t x.0 x.1) (q, h.given) h.others there;
+      others = h.others;
+      rest = held_runs s t (next h.given) r h.others h.rest (All-tail (λ x. IsAnswer t x.0 x.1) (q, h.given) h.others there);
+      log_is = h.log_is;
+    }
+
 pub alike_bind : {E A B C D : Type 0} (R : A → B → Type 0) (S : C → D → Type 0) (m : Asking E A) (n : Asking E B) (k : A → Asking E C) (l : B → Asking E D) → Alike R m n → ((a : A) (b : B) → R a b → Alike S (k a) (l b)) → Alike S (m >>= k) (n >>= l)
 unfolding ◌>>=◌
 alike_bind R S (done a) (done b) k l h f = f a b h

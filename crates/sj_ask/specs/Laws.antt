@@ -35,7 +35,11 @@ pub record IsSameRun {E A B : Type 0} (R : A → B → Type 0) (r : Result A E) 
   pub asked : asked_apart log' ≡ asked_apart log
   pub ends : SameEnd R r r'
 
--- of two tasks that are alike, where the questions of the one in one world have the same answers in another, the other asks the same
--- there, and ends in the same way
-abbrev pub EqualAnswers : Type 0 → Type 0 → Type 0
-EqualAnswers E A = (s t : Stand) (m n : Asking E A) (r r' : Result A E) (log log' : List Exchange) → Alike (λ a b. a ≡ b) m n → Comes (IsAnswer s) m r log → HoldsIn t log → Comes (IsAnswer t) n r' log' → IsSameRun (λ a b. a ≡ b) r log r' log'
+-- of two tasks that are alike up to a relation of what they give, where the questions of the one in one world have the same answers in
+-- another, the other asks the same there, and ends in the same way up to that relation
+abbrev pub EqualAnswers : (E A B : Type 0) → (A → B → Type 0) → Type 0
+EqualAnswers E A B R = (s t : Stand) (m : Asking E A) (n : Asking E B) (r : Result A E) (r' : Result B E) (log log' : List Exchange) → Alike R m n → Comes (IsAnswer s) m r log → HoldsIn t log → Comes (IsAnswer t) n r' log' → IsSameRun R r log r' log'
+
+-- what a task asks in one world, where that has the same answers in another, it asks there too, and ends so
+abbrev pub HeldAnswersRun : Type 0 → Type 0 → Type 0
+HeldAnswersRun E A = (s t : Stand) (m : Asking E A) (r : Result A E) (log : List Exchange) → Comes (IsAnswer s) m r log → HoldsIn t log → Comes (IsAnswer t) m r log

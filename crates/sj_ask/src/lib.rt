@@ -17,7 +17,7 @@ mod worlds;
 
 pub use errors::TypeError;
 pub use holding::still_holds;
-pub use laws::{answers_are_one, equal_answers_give_equal_results};
+pub use laws::{Sameness, answers_are_one, equal_answers_give_equal_results, held_answers_run};
 pub use logs::Log;
 pub use oracles::Oracle;
 pub use questions::{Answer, Question};

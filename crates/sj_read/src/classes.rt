@@ -20,9 +20,7 @@ use crate::trees::tree_of;
 use crate::types::{kind_of, member_tag_of, namespace_of, type_of};
 use sj_format::{MemberDef, MemberTag};
 use sj_names::{ClassName, MethodName, Namespace, Shared};
-use sj_trees::{
-    Body, ClassDef, ClassKind, Code, FieldDef, IrType, MethodDef, ParamDef, Position,
-};
+use sj_trees::{Body, ClassDef, ClassKind, Code, FieldDef, IrType, MethodDef, ParamDef, Position};
 use std::alloc::{AllocError, Global};
 
 // How deep the trees of a body may stand one in another.

@@ -9,8 +9,8 @@ ghost use Rattle.sj_read.specs.Stops.{Gives};
 
 use crate::stops::{Stop, bad};
 use byteorder::{BigEndian, ByteOrder};
-use sj_trees::Code;
 use sj_names::Text;
+use sj_trees::Code;
 use sj_units::{Units, UnitsError, read_modified};
 use std::alloc::Global;
 use std::str;

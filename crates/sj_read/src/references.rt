@@ -10,6 +10,7 @@ use crate::names::NameEntry;
 use crate::stops::{Stop, bad};
 use crate::tables::{class_name_of, simple_name_of};
 use sj_names::{ArrayRef, BaseRef, MethodName, Shared, TypeRef};
+use sj_trees::Code;
 use std::alloc::Global;
 
 // The base that a code gives alone.

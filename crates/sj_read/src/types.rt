@@ -13,8 +13,8 @@ use crate::references::array_reference_of;
 use crate::stops::{Stop, bad};
 use crate::tables::class_name_of;
 use sj_format::{
-    MemberTag, kind_with, namespace_with, plain_type, reserved_kind,
-    reserved_member, reserved_namespace, reserved_operator, reserved_tree, reserved_type,
+    MemberTag, kind_with, namespace_with, plain_type, reserved_kind, reserved_member,
+    reserved_namespace, reserved_operator, reserved_tree, reserved_type,
 };
 use sj_names::Namespace;
 use sj_trees::{BinaryOp, ClassKind, Code, Form, IrType, Reserved, UnaryOp};
