@@ -37,6 +37,3 @@ pub use real_folders::{MOST_ENTRIES, RealFolders};
 pub use real_lines::RealLines;
 pub use real_outputs::RealOutputs;
 pub use words::{is_operand, without_line_feed};
-
-#[cfg(test)]
-mod tests;

@@ -1,7 +1,7 @@
 // What the check of a method found and asked.
 use crate::spellings::{exchange_text, namespace_of};
 use anyhow::Result;
-use sj_ask::{Log, Recorder, TypeError, WorldOracle};
+use sj_ask::{Log, TypeError, WorldOracle};
 use sj_names::{ClassName, Member, Meter, MethodName, NoMemory};
 use sj_trees::MethodDef;
 use sj_typing::check_method;

@@ -1,8 +1,9 @@
 // What no clause says: that a check with memory left is answered. A line of output of an int is refused at its tree, after one question.
 ghost use Rattle.std.specs.Prelude.{IfOk, IsSome};
 
-use sj_ask::{Answer, Question, Recorder, TypeError, WorldOracle};
-use sj_names::{ClassName, Items, Member, Meter, MethodName, Namespace};
+use sj_ask::{Answer, Question, TypeError, WorldOracle};
+use sj_names::{ClassName, Member, Meter, MethodName, Namespace, NoMemory, Shared};
+use sj_recorder::Recorder;
 use sj_trees::{Body, IrType, MethodDef, ParamDef, Position, Tree};
 use sj_typing::check_method;
 use sj_world::LinkedWorld;
@@ -15,7 +16,7 @@ const NOWHERE: Position = Position {
     column: 0,
 };
 
-fn method(name: MethodName, params: Items<ParamDef>, body: Body) -> MethodDef
+fn method(name: MethodName, params: Shared<ParamDef>, body: Body) -> MethodDef
     ensures { IsSome result.body }
 {
     MethodDef {
@@ -29,8 +30,8 @@ fn method(name: MethodName, params: Items<ParamDef>, body: Body) -> MethodDef
     }
 }
 
-fn log_of_one(one: Box<Tree>) -> Body {
-    Body::new(Tree::Log(NOWHERE, one))
+fn log_of_one(alloc: Global, one: Box<Tree>) -> Result<Body, NoMemory> {
+    Body::new(alloc, Tree::Log(NOWHERE, one))
 }
 
 fn log_of_int(alloc: Global) -> Result<MethodDef, Fail>
@@ -38,7 +39,9 @@ fn log_of_int(alloc: Global) -> Result<MethodDef, Fail>
 {
     let name = MethodName::parse(alloc, "main;V")?;
     let one = Box::new(alloc, Tree::IntLiteral(NOWHERE, 1))?;
-    Ok(method(name, Items::from_vec(Vec::new(alloc)), log_of_one(one)))
+    let body = log_of_one(alloc, one)?;
+    let params = Shared::from_vec(Vec::new(alloc))?;
+    Ok(method(name, params, body))
 }
 
 fn member(alloc: Global) -> Result<Member, Fail> {

@@ -1,4 +1,8 @@
-use super::*;
+// Contents in memory, and calls that fail in turn.
+use sj_outside::{
+    Contents, ContentsError, Folders, FoldersInMemory, Lines, LinesInMemory, OutsideError, Outputs,
+    OutputsInMemory,
+};
 use std::alloc::Global;
 use std::test::Fail;
 
