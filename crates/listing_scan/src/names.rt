@@ -175,8 +175,10 @@ pub fn array_of<'a>(
 {
     let (spelled, rest) = text_of(alloc, fuel, Spot::ArrayStart, literal(b"\"", bytes)?)?;
     match TypeRef::parse(alloc, spelled.as_str()) {
-        Ok(TypeRef::Array(array)) => Ok((array, literal(b"\"", rest)?)),
-        Ok(_) => Err(Stop::Bad(rest.len())),
+        Ok(reference) => match &reference {
+            TypeRef::Array(array) => Ok((array.copied()?, literal(b"\"", rest)?)),
+            _ => Err(Stop::Bad(rest.len())),
+        },
         Err(NameError::BadName) => Err(Stop::Bad(rest.len())),
         Err(NameError::NoMemory) => Err(Stop::NoMemory),
     }

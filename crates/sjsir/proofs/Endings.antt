@@ -10,8 +10,8 @@ use Rattle.sj_outside.proofs.Laws.{Appends-none, Writes-none, Writes-line, Write
 use Rattle.sjsir.specs.Command.{print, make, command}
 use Rattle.sjsir.specs.Making.{IsMadeAt, output_of}
 use Rattle.sjsir.specs.declared.making.Made.{Made}
-use Rattle.sjsir.specs.declared.making.Made.TheVariants.{File, NoListing, NoFile}
-use Rattle.sjsir.specs.Output.{Output, IsOutput, printed, made, no_listing, no_class_file, IsFileOf, status_of, AtEnd, IsWhole, IsFront, first_lines, IsUsageAnswer}
+use Rattle.sjsir.specs.declared.making.Made.TheVariants.{File, NoListing, NoFile, TooDeep}
+use Rattle.sjsir.specs.Output.{Output, IsOutput, printed, made, no_listing, no_class_file, too_deep, IsFileOf, status_of, AtEnd, IsWhole, IsFront, first_lines, IsUsageAnswer}
 use Rattle.sjsir.specs.Printing.{HasPrinted, PrintsAll, all_printed, stopped, status_after}
 use Rattle.sjsir.specs.Writing.{Ends, all_written, faulted, out_of_memory}
 use Rattle.sjsir.specs.declared.answers.Status.{Status}
@@ -118,6 +118,7 @@ made_ends out it other p0 p1 t0 t1 cause s e = subst (λ (m : Made). Ends (outpu
 
 -- what was made of the listing in a file is the output of the words
 pub made_output : (words : List (List ℕ)) (c : Parts) (listing out : List ℕ) (m : Made) → command words ≡ Some (make listing out) → IsMadeAt c listing m → IsOutput words c (output_of out m)
-made_output words c listing out (File bytes) is (held, at, (class, lists, written, file)) = subst (λ (b : List ℕ). IsOutput words c (record { status = Done; events = put (record { out = codes "."; edit = 1; name = out; bytes = b }) ∷ [] })) (sym written) (made listing out held class is at lists (subst (IsFileOf (without_line_feed held)) written file))
-made_output words c listing out (NoListing place) is (held, at, (none, there)) = no_listing listing out held place is at none there
-made_output words c listing out NoFile is (held, at, (class, lists, not_its, none)) = no_class_file listing out held class is at lists not_its none
+made_output words c listing out (File bytes) is (held, at, (shallow, (class, lists, written, file))) = subst (λ (b : List ℕ). IsOutput words c (record { status = Done; events = put (record { out = codes "."; edit = 1; name = out; bytes = b }) ∷ [] })) (sym written) (made listing out held class is at shallow lists (subst (IsFileOf (without_line_feed held)) written file))
+made_output words c listing out (NoListing place) is (held, at, (shallow, (none, there))) = no_listing listing out held place is at shallow none there
+made_output words c listing out NoFile is (held, at, (shallow, (class, lists, not_its, none))) = no_class_file listing out held class is at shallow lists not_its none
+made_output words c listing out TooDeep is (held, at, deep) = too_deep listing out held is at deep

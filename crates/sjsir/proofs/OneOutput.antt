@@ -1,5 +1,5 @@
 -- There is one output.
-use Rattle.std.proofs.Common.{◌≡◌, ℕ, zero, suc, ◌+◌, ◌<◌, ◌≤◌, Bool, ◌&&◌, List, [], ◌∷◌, ◌++◌, map, take, refl, sym, ap, subst, ◌∙◌, append_assoc, Option, Some, None, arith}
+use Rattle.std.proofs.Common.{◌≡◌, ℕ, zero, suc, ◌+◌, ◌<◌, ◌≤◌, Bool, true, false, ◌&&◌, List, [], ◌∷◌, ◌++◌, map, take, refl, sym, ap, subst, ◌∙◌, append_assoc, Option, Some, None, arith}
 use Rattle.std.specs.Prelude.{codes}
 use Rattle.exact_place.specs.Grammar.{Spelling}
 use Rattle.exact_place.specs.Place.{Place}
@@ -16,10 +16,10 @@ use Rattle.listing_spelling.proofs.Whole.{one_class}
 use Rattle.file_listings.proofs.Bare.{listed_is_bare}
 use Rattle.sj_written.specs.Written.{written_class}
 use Rattle.sjsir.specs.Command.{Command, help, version, print, make, command}
-use Rattle.sjsir.specs.Making.{IsMade, IsMadeAt, output_of}
+use Rattle.sjsir.specs.Making.{IsMade, IsMadeShallow, IsMadeAt, output_of}
 use Rattle.sjsir.specs.declared.making.Made.{Made}
-use Rattle.sjsir.specs.declared.making.Made.TheVariants.{File, NoListing, NoFile}
-use Rattle.sjsir.specs.Output.{Output, IsOutput, no_command, helped, versioned, printed, made, no_listing, no_class_file, IsFileOf, IsFileLine, listed, refused, refusal_line, AreFileLines, no_file, first_file, status_of, usage_line, help_text, version_line, HasOneOutput}
+use Rattle.sjsir.specs.declared.making.Made.TheVariants.{File, NoListing, NoFile, TooDeep}
+use Rattle.sjsir.specs.Output.{Output, IsOutput, no_command, helped, versioned, printed, made, no_listing, no_class_file, too_deep, IsFileOf, IsFileLine, listed, refused, refusal_line, AreFileLines, no_file, first_file, status_of, usage_line, help_text, version_line, HasOneOutput}
 use Rattle.sjsir.specs.declared.answers.Status.{Status}
 use Rattle.sjsir.specs.declared.answers.Status.TheVariants.{Done, Usage}
 
@@ -83,16 +83,38 @@ one_list c _ _ _ _ _ (first_file path bytes text paths texts well all at is rest
 
 -- ---- what is made
 
+one_made_shallow : (text : List ℕ) (m n : Made) → IsMadeShallow text m → IsMadeShallow text n → m ≡ n
+one_made_shallow text (File bytes) (File other) (class, lists, is, has) (other_class, other_lists, other_is, other_has) = ap File (is ∙ ap written_class (one_class class other_class text lists other_lists) ∙ sym other_is)
+one_made_shallow text (File bytes) (NoListing place) (class, lists, is, has) (none, there) = absurd (none class lists)
+one_made_shallow text (File bytes) NoFile (class, lists, is, has) (other, other_lists, not_its, none) = absurd (not_its (subst (IsFileOf text) (is ∙ ap written_class (one_class class other text lists other_lists)) has))
+one_made_shallow text (NoListing place) (File bytes) (none, there) (class, lists, is, has) = absurd (none class lists)
+one_made_shallow text (NoListing place) (NoListing other) (none, there) (nothing, at) = ap NoListing (one_place Lists text place other there at)
+one_made_shallow text (NoListing place) NoFile (none, there) (class, lists, not_its, nothing) = absurd (none class lists)
+one_made_shallow text NoFile (File bytes) (other, other_lists, not_its, none) (class, lists, is, has) = absurd (not_its (subst (IsFileOf text) (is ∙ ap written_class (one_class class other text lists other_lists)) has))
+one_made_shallow text NoFile (NoListing place) (class, lists, not_its, nothing) (none, there) = absurd (none class lists)
+one_made_shallow text NoFile NoFile has other = refl
+one_made_shallow text TooDeep n has other = absurd has
+one_made_shallow text (File bytes) TooDeep has other = absurd other
+one_made_shallow text (NoListing place) TooDeep has other = absurd other
+one_made_shallow text NoFile TooDeep has other = absurd other
+
 one_made : (text : List ℕ) (m n : Made) → IsMade text m → IsMade text n → m ≡ n
-one_made text (File bytes) (File other) (class, lists, is, has) (other_class, other_lists, other_is, other_has) = ap File (is ∙ ap written_class (one_class class other_class text lists other_lists) ∙ sym other_is)
-one_made text (File bytes) (NoListing place) (class, lists, is, has) (none, there) = absurd (none class lists)
-one_made text (File bytes) NoFile (class, lists, is, has) (other, other_lists, not_its, none) = absurd (not_its (subst (IsFileOf text) (is ∙ ap written_class (one_class class other text lists other_lists)) has))
-one_made text (NoListing place) (File bytes) (none, there) (class, lists, is, has) = absurd (none class lists)
-one_made text (NoListing place) (NoListing other) (none, there) (nothing, at) = ap NoListing (one_place Lists text place other there at)
-one_made text (NoListing place) NoFile (none, there) (class, lists, not_its, nothing) = absurd (none class lists)
-one_made text NoFile (File bytes) (other, other_lists, not_its, none) (class, lists, is, has) = absurd (not_its (subst (IsFileOf text) (is ∙ ap written_class (one_class class other text lists other_lists)) has))
-one_made text NoFile (NoListing place) (class, lists, not_its, nothing) (none, there) = absurd (none class lists)
-one_made text NoFile NoFile has other = refl
+one_made text TooDeep TooDeep deep other = refl
+one_made text TooDeep (File bytes) deep other = let no : true ≡ false = sym deep ∙ other.0 in cc
+one_made text TooDeep (NoListing place) deep other = let no : true ≡ false = sym deep ∙ other.0 in cc
+one_made text TooDeep NoFile deep other = let no : true ≡ false = sym deep ∙ other.0 in cc
+one_made text (File bytes) TooDeep is deep = let no : true ≡ false = sym deep ∙ is.0 in cc
+one_made text (NoListing place) TooDeep is deep = let no : true ≡ false = sym deep ∙ is.0 in cc
+one_made text NoFile TooDeep is deep = let no : true ≡ false = sym deep ∙ is.0 in cc
+one_made text (File bytes) (File other) is it = one_made_shallow text (File bytes) (File other) is.1 it.1
+one_made text (File bytes) (NoListing place) is it = one_made_shallow text (File bytes) (NoListing place) is.1 it.1
+one_made text (File bytes) NoFile is it = one_made_shallow text (File bytes) NoFile is.1 it.1
+one_made text (NoListing place) (File bytes) is it = one_made_shallow text (NoListing place) (File bytes) is.1 it.1
+one_made text (NoListing place) (NoListing other) is it = one_made_shallow text (NoListing place) (NoListing other) is.1 it.1
+one_made text (NoListing place) NoFile is it = one_made_shallow text (NoListing place) NoFile is.1 it.1
+one_made text NoFile (File bytes) is it = one_made_shallow text NoFile (File bytes) is.1 it.1
+one_made text NoFile (NoListing place) is it = one_made_shallow text NoFile (NoListing place) is.1 it.1
+one_made text NoFile NoFile is it = refl
 
 one_made_at : (c : Parts) (path : List ℕ) (m n : Made) → IsMadeAt c path m → IsMadeAt c path n → m ≡ n
 one_made_at c path m n (bytes, at, is) (held, there, other_is) = one_made (without_line_feed held) m n (subst (λ (b : List ℕ). IsMade (without_line_feed b) m) (some_is at there) is) other_is
@@ -118,9 +140,10 @@ answers words c _ (no_command is) = at c (command words) None (said Usage (line 
 answers words c _ (helped is) = at c (command words) (Some help) (said Done (line help_text ∷ [])) is refl
 answers words c _ (versioned is) = at c (command words) (Some version) (said Done (line version_line ∷ [])) is refl
 answers words c _ (printed files texts all is are) = at c (command words) (Some (print files)) (said (status_of all) (map (λ text. line text) texts)) is (texts, all, are, refl)
-answers words c _ (made path out bytes class is held lists has) = at c (command words) (Some (make path out)) (output_of out (File (written_class class))) is (File (written_class class), (bytes, held, (class, lists, refl, has)), refl)
-answers words c _ (no_listing path out bytes place is held none there) = at c (command words) (Some (make path out)) (output_of out (NoListing place)) is (NoListing place, (bytes, held, (none, there)), refl)
-answers words c _ (no_class_file path out bytes class is held lists not_its none) = at c (command words) (Some (make path out)) (output_of out NoFile) is (NoFile, (bytes, held, (class, lists, not_its, none)), refl)
+answers words c _ (made path out bytes class is held shallow lists has) = at c (command words) (Some (make path out)) (output_of out (File (written_class class))) is (File (written_class class), (bytes, held, (shallow, (class, lists, refl, has))), refl)
+answers words c _ (no_listing path out bytes place is held shallow none there) = at c (command words) (Some (make path out)) (output_of out (NoListing place)) is (NoListing place, (bytes, held, (shallow, (none, there))), refl)
+answers words c _ (no_class_file path out bytes class is held shallow lists not_its none) = at c (command words) (Some (make path out)) (output_of out NoFile) is (NoFile, (bytes, held, (shallow, (class, lists, not_its, none))), refl)
+answers words c _ (too_deep path out bytes is held deep) = at c (command words) (Some (make path out)) (output_of out TooDeep) is (TooDeep, (bytes, held, deep), refl)
 
 one_answered : (c : Parts) (k : Option Command) (one other : Output) → Answers c k one → Answers c k other → one ≡ other
 one_answered c None one other a b = a ∙ sym b

@@ -1,6 +1,7 @@
 pub mod Command
 pub mod ExitCode
 pub mod Making
+pub mod Nesting
 pub mod Output
 pub mod Parts
 pub mod Printing

@@ -14,6 +14,7 @@ use Rattle.file_listings.specs.Listed.{AreBytes}
 use Rattle.listing_spelling.specs.Spelling.{Lists}
 use Rattle.listing_spelling.specs.Rules.{bare}
 use Rattle.sj_written.specs.Written.{written_class}
+use Rattle.sjsir.specs.Nesting.{is_deep}
 use Rattle.sjsir.specs.Command.{help, version, print, make, command}
 use Rattle.sjsir.specs.declared.answers.Status.{Status}
 use Rattle.sjsir.specs.declared.answers.Status.TheVariants.{Done, SomeRefused, Usage, ReadFault, WriteFault, NoMemory}
@@ -67,6 +68,10 @@ no_listing_line place = codes "refused " ++ (decimal place ++ codes "\n")
 abbrev pub no_file_line : List ℕ
 no_file_line = codes "refused: no class file has this class\n"
 
+-- the line where the text of a listing is too deep
+abbrev pub too_deep_line : List ℕ
+too_deep_line = codes "refused: more than 600 parentheses stand one in another\n"
+
 -- the bytes are the file of a class that the text lists
 abbrev pub IsFileOf : List ℕ → List ℕ → Type 0
 IsFileOf text bytes = (class : ClassDef) × FileIs bytes class × Lists (bare class) text
@@ -81,9 +86,10 @@ pub data IsOutput (words : List (List ℕ)) (contents : Parts) : Output → Type
   helped : command words ≡ Some help → IsOutput words contents (record { status = Done; events = line help_text ∷ [] })
   versioned : command words ≡ Some version → IsOutput words contents (record { status = Done; events = line version_line ∷ [] })
   printed : (files texts : List (List ℕ)) (all : Bool) → command words ≡ Some (print files) → AreFileLines contents files all texts → IsOutput words contents (record { status = status_of all; events = map (λ text. line text) texts })
-  made : (listing out bytes : List ℕ) (class : ClassDef) → command words ≡ Some (make listing out) → file_at contents listing ≡ Some bytes → Lists class (without_line_feed bytes) → IsFileOf (without_line_feed bytes) (written_class class) → IsOutput words contents (record { status = Done; events = put (class_put out class) ∷ [] })
-  no_listing : (listing out bytes : List ℕ) (place : ℕ) → command words ≡ Some (make listing out) → file_at contents listing ≡ Some bytes → ((class : ClassDef) → Lists class (without_line_feed bytes) → ⊥) → Place Lists (without_line_feed bytes) place → IsOutput words contents (record { status = SomeRefused; events = line (no_listing_line place) ∷ [] })
-  no_class_file : (listing out bytes : List ℕ) (class : ClassDef) → command words ≡ Some (make listing out) → file_at contents listing ≡ Some bytes → Lists class (without_line_feed bytes) → (IsFileOf (without_line_feed bytes) (written_class class) → ⊥) → ((file : List ℕ) → AreBytes file → FileIs file class → ⊥) → IsOutput words contents (record { status = SomeRefused; events = line no_file_line ∷ [] })
+  made : (listing out bytes : List ℕ) (class : ClassDef) → command words ≡ Some (make listing out) → file_at contents listing ≡ Some bytes → is_deep (without_line_feed bytes) ≡ false → Lists class (without_line_feed bytes) → IsFileOf (without_line_feed bytes) (written_class class) → IsOutput words contents (record { status = Done; events = put (class_put out class) ∷ [] })
+  no_listing : (listing out bytes : List ℕ) (place : ℕ) → command words ≡ Some (make listing out) → file_at contents listing ≡ Some bytes → is_deep (without_line_feed bytes) ≡ false → ((class : ClassDef) → Lists class (without_line_feed bytes) → ⊥) → Place Lists (without_line_feed bytes) place → IsOutput words contents (record { status = SomeRefused; events = line (no_listing_line place) ∷ [] })
+  no_class_file : (listing out bytes : List ℕ) (class : ClassDef) → command words ≡ Some (make listing out) → file_at contents listing ≡ Some bytes → is_deep (without_line_feed bytes) ≡ false → Lists class (without_line_feed bytes) → (IsFileOf (without_line_feed bytes) (written_class class) → ⊥) → ((file : List ℕ) → AreBytes file → FileIs file class → ⊥) → IsOutput words contents (record { status = SomeRefused; events = line no_file_line ∷ [] })
+  too_deep : (listing out bytes : List ℕ) → command words ≡ Some (make listing out) → file_at contents listing ≡ Some bytes → is_deep (without_line_feed bytes) ≡ true → IsOutput words contents (record { status = SomeRefused; events = line too_deep_line ∷ [] })
 
 -- ---- how a run ends
 

@@ -4,6 +4,7 @@
 mod answers;
 mod laws;
 mod making;
+mod nesting;
 mod printing;
 mod program;
 mod reading;

@@ -1,10 +1,12 @@
 // The class file of a listing.
-ghost use Rattle.std.specs.Prelude.{◌≡◌, ◌≤◌, ◌↔◌, ℕ, Some, IfOk, IsTrue, Err, is_some};
+ghost use Rattle.std.specs.Prelude.{◌≡◌, ◌≤◌, ◌↔◌, ℕ, Some, IfOk, IsTrue, Err, is_some, false};
 ghost use Rattle.sj_outside.specs.Contents.{Parts, file_at};
 ghost use Rattle.sjsir.specs.Making as making;
+ghost use Rattle.sjsir.specs.Nesting.{is_deep};
 ghost use Rattle.sjsir.specs.Output as output;
 ghost use Rattle.sjsir.specs.Printing as spec;
 
+use crate::nesting::is_deep;
 use crate::reading::read_whole;
 use crate::stops::Stop;
 use file_listings::each_is_a_byte;
@@ -25,6 +27,8 @@ pub enum Made {
     NoListing(u64),
     /// No class file has its class.
     NoFile,
+    /// More than 600 parentheses stand one in another in it, which are more than the listing of a class file has.
+    TooDeep,
 }
 
 /// What the text in the file at `path` comes to.
@@ -48,6 +52,18 @@ pub fn made_at<F: Folders>(alloc: Global, path: &str, folders: &mut F) -> Result
 fn made_of(alloc: Global, text: &[u8]) -> Result<Made, NoMemory>
     ensures { IfOk result (λ m. making.IsMade text.now m) }
 {
+    if is_deep(text) {
+        Ok(Made::TooDeep)
+    } else {
+        made_of_shallow(alloc, text)
+    }
+}
+
+/// What a text comes to that isn't too deep.
+fn made_of_shallow(alloc: Global, text: &[u8]) -> Result<Made, NoMemory>
+    requires { is_deep text.now ≡ false }
+    ensures { IfOk result (λ m. making.IsMade text.now m) }
+{
     let class = match parse_listing(alloc, text) {
         Ok(class) => class,
         Err(error) => return no_listing(text, error),
@@ -62,7 +78,8 @@ fn made_of(alloc: Global, text: &[u8]) -> Result<Made, NoMemory>
 
 /// What a text comes to that gave no class.
 fn no_listing(text: &[u8], error: ListingError) -> Result<Made, NoMemory>
-    requires { making.IsWhyNot text.now error }
+    requires why { making.IsWhyNot text.now error }
+    requires shallow { is_deep text.now ≡ false }
     ensures { IfOk result (λ m. making.IsMade text.now m) }
 {
     match error {

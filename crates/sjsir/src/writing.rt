@@ -13,6 +13,8 @@ use std::alloc::{AllocError, Global};
 
 const NO_FILE: &str = "refused: no class file has this class\n";
 
+const TOO_DEEP: &str = "refused: more than 600 parentheses stand one in another\n";
+
 /// Prints the last text of a run, and answers `status` where that goes well.
 pub fn print_text<L: Lines>(alloc: Global, status: Status, text: &str, lines: &mut L) -> Status
     ensures { spec.Ends status (Appends (L.printed lines.old) (L.printed lines.new) text.now) (Appends (L.printed lines.old) (L.printed lines.new) []) (Rose (L.faults lines.old) (L.faults lines.new)) result }
@@ -46,6 +48,7 @@ pub fn write_made<O: Outputs, L: Lines>(
             Err(AllocError) => Status::NoMemory,
         },
         Made::NoFile => print_text(alloc, Status::SomeRefused, NO_FILE, lines),
+        Made::TooDeep => print_text(alloc, Status::SomeRefused, TOO_DEEP, lines),
     }
 }
 

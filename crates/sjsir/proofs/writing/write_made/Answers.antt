@@ -2,10 +2,10 @@ use Rattle.std.proofs.Common.{◌∙◌, ℕ, List, [], ◌∷◌, subst, inl}
 use Rattle.std.specs.Prelude.{codes}
 use Rattle.sj_outside.specs.Writing.{Writes, put}
 use Rattle.sj_outside.proofs.Laws.{Writes-put}
-use Rattle.sjsir.specs.Output.{no_listing_line, no_file_line}
+use Rattle.sjsir.specs.Output.{no_listing_line, no_file_line, too_deep_line}
 use Rattle.sjsir.specs.Writing.{all_written, faulted, out_of_memory}
 use Rattle.sjsir.specs.declared.answers.Status.TheVariants.{SomeRefused}
-use Rattle.sjsir.specs.declared.making.Made.TheVariants.{File, NoListing, NoFile}
+use Rattle.sjsir.specs.declared.making.Made.TheVariants.{File, NoListing, NoFile, TooDeep}
 use Rattle.sjsir.proofs.Endings.{made_ends, put_refused, line_ends, text_ends, nothing_is_front}
 use Rattle.sjsir.proofs.writing.write_made.Goals as goal
 
@@ -26,3 +26,6 @@ returns-in-Err g c = made_ends c.args.out.now c.args.made.now (NoListing c.in-No
 
 pub returns-in-NoFile : goal.returns-in-NoFile
 returns-in-NoFile g c = made_ends c.args.out.now c.args.made.now NoFile _ _ _ _ _ _ c.in-NoFile.is (line_ends _ _ _ SomeRefused _ no_file_line _ _ c.print_text-in-NoFile.ensures)
+
+pub returns-in-TooDeep : goal.returns-in-TooDeep
+returns-in-TooDeep g c = made_ends c.args.out.now c.args.made.now TooDeep _ _ _ _ _ _ c.in-TooDeep.is (line_ends _ _ _ SomeRefused _ too_deep_line _ _ c.print_text-in-TooDeep.ensures)
