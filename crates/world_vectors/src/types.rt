@@ -8,8 +8,8 @@ pub fn type_of(alloc: Global, text: &str) -> Result<IrType, NameError> {
         return Ok(IrType::Class(ClassName::parse(alloc, name)?));
     }
     if let Some(reference) = quoted(text, "(A \"") {
-        return match TypeRef::parse(alloc, reference)? {
-            TypeRef::Array(array) => Ok(IrType::Array(array)),
+        return match &TypeRef::parse(alloc, reference)? {
+            TypeRef::Array(array) => Ok(IrType::Array(array.copied()?)),
             _ => Err(NameError::BadName),
         };
     }
