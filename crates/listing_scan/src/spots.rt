@@ -10,14 +10,14 @@ use listing_spelling::Spot;
 fn is_name_character(c: u32) -> bool
     ensures { result ≡ is_name_byte c }
 {
-    c > b' '
+    c > ' ' as u32
         && c != 0x7f
-        && c != b'.'
-        && c != b';'
-        && c != b'['
-        && c != b'/'
-        && c != b'<'
-        && c != b'>'
+        && c != '.' as u32
+        && c != ';' as u32
+        && c != '[' as u32
+        && c != '/' as u32
+        && c != '<' as u32
+        && c != '>' as u32
 }
 
 /// On with a character of a name.
@@ -41,18 +41,23 @@ fn on(want: u32, c: u32, spot: Spot) -> Option<Spot>
 fn is_letter(c: u32) -> bool
     ensures { result ≡ names.is_letter c }
 {
-    c == b'Z' || c == b'C' || c == b'B' || c == b'S' || c == b'I' || c == b'J'
+    c == 'Z' as u32
+        || c == 'C' as u32
+        || c == 'B' as u32
+        || c == 'S' as u32
+        || c == 'I' as u32
+        || c == 'J' as u32
 }
 
 /// Behind dimensions of an array.
 fn array_step(dimensions: u8, c: u32) -> Option<Spot>
     ensures { result ≡ names.base_step dimensions c (λ m. ArrayBase m) ArrayEnd PartStart }
 {
-    if c == b'[' && dimensions < 255 {
+    if c == '[' as u32 && dimensions < 255 {
         Some(Spot::ArrayBase(dimensions + 1))
     } else if is_letter(c) {
         Some(Spot::ArrayEnd)
-    } else if c == b'L' {
+    } else if c == 'L' as u32 {
         Some(Spot::PartStart)
     } else {
         None
@@ -63,11 +68,11 @@ fn array_step(dimensions: u8, c: u32) -> Option<Spot>
 fn type_step(dimensions: u8, c: u32) -> Option<Spot>
     ensures { result ≡ names.base_step dimensions c (λ m. TypeBase m) TypeEnd TypePartStart }
 {
-    if c == b'[' && dimensions < 255 {
+    if c == '[' as u32 && dimensions < 255 {
         Some(Spot::TypeBase(dimensions + 1))
     } else if is_letter(c) {
         Some(Spot::TypeEnd)
-    } else if c == b'L' {
+    } else if c == 'L' as u32 {
         Some(Spot::TypePartStart)
     } else {
         None
@@ -82,7 +87,7 @@ pub fn step(spot: Spot, c: u32) -> Option<Spot>
         Spot::NameStart | Spot::Name => on_name(c, Spot::Name),
         Spot::PartStart => on_name(c, Spot::Part),
         Spot::Part => {
-            if c == b'.' {
+            if c == '.' as u32 {
                 Some(Spot::PartStart)
             } else {
                 on_name(c, Spot::Part)
@@ -91,7 +96,7 @@ pub fn step(spot: Spot, c: u32) -> Option<Spot>
         Spot::ArrayStart => on(91, c, Spot::ArrayBase(1)),
         Spot::ArrayBase(dimensions) => array_step(dimensions, c),
         Spot::MethodStart => {
-            if c == b'<' {
+            if c == '<' as u32 {
                 Some(Spot::Less)
             } else {
                 on_name(c, Spot::Simple)
@@ -104,14 +109,14 @@ pub fn step(spot: Spot, c: u32) -> Option<Spot>
         Spot::LessInit => on(62, c, Spot::InitEnd),
         Spot::InitEnd | Spot::TypeEnd => on(59, c, Spot::TypeStart),
         Spot::Simple => {
-            if c == b';' {
+            if c == ';' as u32 {
                 Some(Spot::TypeStart)
             } else {
                 on_name(c, Spot::Simple)
             }
         }
         Spot::TypeStart => {
-            if c == b'V' || c == b'R' {
+            if c == 'V' as u32 || c == 'R' as u32 {
                 Some(Spot::Last)
             } else {
                 type_step(0, c)
@@ -120,9 +125,9 @@ pub fn step(spot: Spot, c: u32) -> Option<Spot>
         Spot::TypeBase(dimensions) => type_step(dimensions, c),
         Spot::TypePartStart => on_name(c, Spot::TypePart),
         Spot::TypePart => {
-            if c == b';' {
+            if c == ';' as u32 {
                 Some(Spot::TypeStart)
-            } else if c == b'.' {
+            } else if c == '.' as u32 {
                 Some(Spot::TypePartStart)
             } else {
                 on_name(c, Spot::TypePart)
