@@ -30,4 +30,6 @@ case_taken f (d ∷ cs) zero c l e =
     let one : more_cases (view_case c).0 (view c.body) (cases_view cs) ≡ more_cases (view_case c).0 ((view_case c).1) (cases_view cs) = ap (λ (t : Term). more_cases (view_case c).0 t (cases_view cs)) (sym (body_of_case c)) in
     let two : more_cases (view_case c).0 ((view_case c).1) (cases_view cs) ≡ more_cases (view_case d).0 ((view_case d).1) (cases_view cs) = ap (λ (x : MatchCase). more_cases (view_case x).0 ((view_case x).1) (cases_view cs)) e in
     ap f (one ∙ two)
-case_taken f (d ∷ cs) (suc n) c l e = case_taken f cs n c (omega arith) e
+case_taken f (d ∷ cs) (suc n) c l e =
+    let next : suc n + 1 ≡ suc (n + 1) = omega arith in
+    ap (λ (k : ℕ). f (more_cases (view_case c).0 (view c.body) (cases_view (drop k (d ∷ cs))))) next ∙ case_taken f cs n c (omega arith) e
