@@ -79,6 +79,20 @@ pub fn tree_of<'a>(
     }
 }
 
+// A tree in a box.
+#[cycle(trees)]
+fn boxed_of<'a>(
+    alloc: Global,
+    tables: &FileTables,
+    depth: u32,
+    bytes: &'a [u8],
+) -> Result<(Box<Tree>, &'a [u8]), Stop>
+    ensures { Gives (λ x. (view x.0.value, x.1.now)) result (tree_at depth tables.now bytes.now) }
+{
+    let (tree, rest) = tree_of(alloc, tables, depth, bytes)?;
+    Ok((Box::new(alloc, tree)?, rest))
+}
+
 // This many trees.
 #[cycle(trees)]
 fn trees_of<'a>(
@@ -138,7 +152,6 @@ fn cases_of<'a>(
 }
 
 // A form that sets, leaves, throws or writes, or holds statements in a row.
-#[tactic(auto, unfolding(sj_format::specs::Trees::statement_at))]
 #[cycle(trees)]
 fn statement_of<'a>(
     alloc: Global,
@@ -151,64 +164,155 @@ fn statement_of<'a>(
     ensures { Gives (λ x. (view x.0, x.1.now)) result (statement_at (tree_at depth tables.now) tables.now tag position bytes.now) }
 {
     match tag {
-        StatementForm::VarDef => {
-            let (name, rest) = local_name_of(tables.names(), bytes)?;
-            let (tpe, rest) = type_of(tables.names(), rest)?;
-            let (mutable, rest) = mark_of(rest)?;
-            let (value, rest) = tree_of(alloc, tables, depth, rest)?;
-            Ok((
-                Tree::VarDef(position, name, tpe, mutable, Box::new(alloc, value)?),
-                rest,
-            ))
-        }
-        StatementForm::Block => {
-            let (count, rest) = number_of(bytes)?;
-            let (trees, rest) = trees_of(alloc, tables, depth, count, rest)?;
-            Ok((Tree::Block(position, trees), rest))
-        }
-        StatementForm::Labeled => {
-            let (label, rest) = label_name_of(tables.names(), bytes)?;
-            let (tpe, rest) = type_of(tables.names(), rest)?;
-            let (body, rest) = tree_of(alloc, tables, depth, rest)?;
-            Ok((
-                Tree::Labeled(position, label, tpe, Box::new(alloc, body)?),
-                rest,
-            ))
-        }
-        StatementForm::Assign => {
-            let (target, rest) = tree_of(alloc, tables, depth, bytes)?;
-            let (value, rest) = tree_of(alloc, tables, depth, rest)?;
-            Ok((
-                Tree::Assign(position, Box::new(alloc, target)?, Box::new(alloc, value)?),
-                rest,
-            ))
-        }
-        StatementForm::Return => {
-            let (value, rest) = tree_of(alloc, tables, depth, bytes)?;
-            let (label, rest) = label_name_of(tables.names(), rest)?;
-            Ok((Tree::Return(position, Box::new(alloc, value)?, label), rest))
-        }
-        StatementForm::Throw => {
-            let (value, rest) = tree_of(alloc, tables, depth, bytes)?;
-            Ok((Tree::Throw(position, Box::new(alloc, value)?), rest))
-        }
-        StatementForm::StoreModule => {
-            let (class, rest) = class_name_of(tables.names(), bytes)?;
-            let (value, rest) = tree_of(alloc, tables, depth, rest)?;
-            Ok((
-                Tree::StoreModule(position, class, Box::new(alloc, value)?),
-                rest,
-            ))
-        }
-        StatementForm::Log => {
-            let (value, rest) = tree_of(alloc, tables, depth, bytes)?;
-            Ok((Tree::Log(position, Box::new(alloc, value)?), rest))
-        }
+        StatementForm::VarDef => var_def_of(alloc, tables, depth, position, bytes),
+        StatementForm::Block => block_of(alloc, tables, depth, position, bytes),
+        StatementForm::Labeled => labeled_of(alloc, tables, depth, position, bytes),
+        StatementForm::Assign => assign_of(alloc, tables, depth, position, bytes),
+        StatementForm::Return => return_of(alloc, tables, depth, position, bytes),
+        StatementForm::Throw => throw_of(alloc, tables, depth, position, bytes),
+        StatementForm::StoreModule => store_module_of(alloc, tables, depth, position, bytes),
+        StatementForm::Log => log_of(alloc, tables, depth, position, bytes),
     }
 }
 
+// A definition of a local variable.
+#[tactic(auto, unfolding(sj_format::specs::Trees::statement_at))]
+#[cycle(trees)]
+fn var_def_of<'a>(
+    alloc: Global,
+    tables: &FileTables,
+    depth: u32,
+    position: Position,
+    bytes: &'a [u8],
+) -> Result<(Tree, &'a [u8]), Stop>
+    ensures { Gives (λ x. (view x.0, x.1.now)) result (statement_at (tree_at depth tables.now) tables.now StatementForm.VarDef position bytes.now) }
+{
+    let (name, rest) = local_name_of(tables.names(), bytes)?;
+    let (tpe, rest) = type_of(tables.names(), rest)?;
+    let (mutable, rest) = mark_of(rest)?;
+    let (value, rest) = boxed_of(alloc, tables, depth, rest)?;
+    Ok((Tree::VarDef(position, name, tpe, mutable, value), rest))
+}
+
+// Statements in a row.
+#[tactic(auto, unfolding(sj_format::specs::Trees::statement_at))]
+#[cycle(trees)]
+fn block_of<'a>(
+    alloc: Global,
+    tables: &FileTables,
+    depth: u32,
+    position: Position,
+    bytes: &'a [u8],
+) -> Result<(Tree, &'a [u8]), Stop>
+    ensures { Gives (λ x. (view x.0, x.1.now)) result (statement_at (tree_at depth tables.now) tables.now StatementForm.Block position bytes.now) }
+{
+    let (count, rest) = number_of(bytes)?;
+    let (trees, rest) = trees_of(alloc, tables, depth, count, rest)?;
+    Ok((Tree::Block(position, trees), rest))
+}
+
+// A labeled block.
+#[tactic(auto, unfolding(sj_format::specs::Trees::statement_at))]
+#[cycle(trees)]
+fn labeled_of<'a>(
+    alloc: Global,
+    tables: &FileTables,
+    depth: u32,
+    position: Position,
+    bytes: &'a [u8],
+) -> Result<(Tree, &'a [u8]), Stop>
+    ensures { Gives (λ x. (view x.0, x.1.now)) result (statement_at (tree_at depth tables.now) tables.now StatementForm.Labeled position bytes.now) }
+{
+    let (label, rest) = label_name_of(tables.names(), bytes)?;
+    let (tpe, rest) = type_of(tables.names(), rest)?;
+    let (body, rest) = boxed_of(alloc, tables, depth, rest)?;
+    Ok((Tree::Labeled(position, label, tpe, body), rest))
+}
+
+// An assignment.
+#[tactic(auto, unfolding(sj_format::specs::Trees::statement_at))]
+#[cycle(trees)]
+fn assign_of<'a>(
+    alloc: Global,
+    tables: &FileTables,
+    depth: u32,
+    position: Position,
+    bytes: &'a [u8],
+) -> Result<(Tree, &'a [u8]), Stop>
+    ensures { Gives (λ x. (view x.0, x.1.now)) result (statement_at (tree_at depth tables.now) tables.now StatementForm.Assign position bytes.now) }
+{
+    let (target, rest) = boxed_of(alloc, tables, depth, bytes)?;
+    let (value, rest) = boxed_of(alloc, tables, depth, rest)?;
+    Ok((Tree::Assign(position, target, value), rest))
+}
+
+// A jump to the end of a labeled block.
+#[tactic(auto, unfolding(sj_format::specs::Trees::statement_at))]
+#[cycle(trees)]
+fn return_of<'a>(
+    alloc: Global,
+    tables: &FileTables,
+    depth: u32,
+    position: Position,
+    bytes: &'a [u8],
+) -> Result<(Tree, &'a [u8]), Stop>
+    ensures { Gives (λ x. (view x.0, x.1.now)) result (statement_at (tree_at depth tables.now) tables.now StatementForm.Return position bytes.now) }
+{
+    let (value, rest) = boxed_of(alloc, tables, depth, bytes)?;
+    let (label, rest) = label_name_of(tables.names(), rest)?;
+    Ok((Tree::Return(position, value, label), rest))
+}
+
+// A throw.
+#[tactic(auto, unfolding(sj_format::specs::Trees::statement_at))]
+#[cycle(trees)]
+fn throw_of<'a>(
+    alloc: Global,
+    tables: &FileTables,
+    depth: u32,
+    position: Position,
+    bytes: &'a [u8],
+) -> Result<(Tree, &'a [u8]), Stop>
+    ensures { Gives (λ x. (view x.0, x.1.now)) result (statement_at (tree_at depth tables.now) tables.now StatementForm.Throw position bytes.now) }
+{
+    let (value, rest) = boxed_of(alloc, tables, depth, bytes)?;
+    Ok((Tree::Throw(position, value), rest))
+}
+
+// A module's instance set.
+#[tactic(auto, unfolding(sj_format::specs::Trees::statement_at))]
+#[cycle(trees)]
+fn store_module_of<'a>(
+    alloc: Global,
+    tables: &FileTables,
+    depth: u32,
+    position: Position,
+    bytes: &'a [u8],
+) -> Result<(Tree, &'a [u8]), Stop>
+    ensures { Gives (λ x. (view x.0, x.1.now)) result (statement_at (tree_at depth tables.now) tables.now StatementForm.StoreModule position bytes.now) }
+{
+    let (class, rest) = class_name_of(tables.names(), bytes)?;
+    let (value, rest) = boxed_of(alloc, tables, depth, rest)?;
+    Ok((Tree::StoreModule(position, class, value), rest))
+}
+
+// A line of output.
+#[tactic(auto, unfolding(sj_format::specs::Trees::statement_at))]
+#[cycle(trees)]
+fn log_of<'a>(
+    alloc: Global,
+    tables: &FileTables,
+    depth: u32,
+    position: Position,
+    bytes: &'a [u8],
+) -> Result<(Tree, &'a [u8]), Stop>
+    ensures { Gives (λ x. (view x.0, x.1.now)) result (statement_at (tree_at depth tables.now) tables.now StatementForm.Log position bytes.now) }
+{
+    let (value, rest) = boxed_of(alloc, tables, depth, bytes)?;
+    Ok((Tree::Log(position, value), rest))
+}
+
 // A form that chooses, repeats or catches.
-#[tactic(auto, unfolding(sj_format::specs::Trees::branch_at))]
 #[cycle(trees)]
 fn branch_of<'a>(
     alloc: Global,
@@ -221,96 +325,128 @@ fn branch_of<'a>(
     ensures { Gives (λ x. (view x.0, x.1.now)) result (branch_at (tree_at depth tables.now) tables.now tag position bytes.now) }
 {
     match tag {
-        BranchForm::If => {
-            let (condition, rest) = tree_of(alloc, tables, depth, bytes)?;
-            let (consequent, rest) = tree_of(alloc, tables, depth, rest)?;
-            let (alternative, rest) = tree_of(alloc, tables, depth, rest)?;
-            let (tpe, rest) = type_of(tables.names(), rest)?;
-            Ok((
-                Tree::If(
-                    position,
-                    Box::new(alloc, condition)?,
-                    Box::new(alloc, consequent)?,
-                    Box::new(alloc, alternative)?,
-                    tpe,
-                ),
-                rest,
-            ))
-        }
-        BranchForm::While => {
-            let (condition, rest) = tree_of(alloc, tables, depth, bytes)?;
-            let (body, rest) = tree_of(alloc, tables, depth, rest)?;
-            Ok((
-                Tree::While(
-                    position,
-                    Box::new(alloc, condition)?,
-                    Box::new(alloc, body)?,
-                ),
-                rest,
-            ))
-        }
-        BranchForm::DoWhile => {
-            let (body, rest) = tree_of(alloc, tables, depth, bytes)?;
-            let (condition, rest) = tree_of(alloc, tables, depth, rest)?;
-            Ok((
-                Tree::DoWhile(
-                    position,
-                    Box::new(alloc, body)?,
-                    Box::new(alloc, condition)?,
-                ),
-                rest,
-            ))
-        }
-        BranchForm::TryCatch => {
-            let (block, rest) = tree_of(alloc, tables, depth, bytes)?;
-            let (name, rest) = local_name_of(tables.names(), rest)?;
-            let (handler, rest) = tree_of(alloc, tables, depth, rest)?;
-            let (tpe, rest) = type_of(tables.names(), rest)?;
-            Ok((
-                Tree::TryCatch(
-                    position,
-                    Box::new(alloc, block)?,
-                    name,
-                    Box::new(alloc, handler)?,
-                    tpe,
-                ),
-                rest,
-            ))
-        }
-        BranchForm::TryFinally => {
-            let (block, rest) = tree_of(alloc, tables, depth, bytes)?;
-            let (finalizer, rest) = tree_of(alloc, tables, depth, rest)?;
-            Ok((
-                Tree::TryFinally(
-                    position,
-                    Box::new(alloc, block)?,
-                    Box::new(alloc, finalizer)?,
-                ),
-                rest,
-            ))
-        }
-        BranchForm::Match => {
-            let (selector, rest) = tree_of(alloc, tables, depth, bytes)?;
-            let (count, rest) = number_of(rest)?;
-            let (cases, rest) = cases_of(alloc, tables, depth, count, rest)?;
-            let (default, rest) = tree_of(alloc, tables, depth, rest)?;
-            let (tpe, rest) = type_of(tables.names(), rest)?;
-            Ok((
-                Tree::Match(
-                    position,
-                    Box::new(alloc, selector)?,
-                    cases,
-                    Box::new(alloc, default)?,
-                    tpe,
-                ),
-                rest,
-            ))
-        }
+        BranchForm::If => if_of(alloc, tables, depth, position, bytes),
+        BranchForm::While => while_of(alloc, tables, depth, position, bytes),
+        BranchForm::DoWhile => do_while_of(alloc, tables, depth, position, bytes),
+        BranchForm::TryCatch => try_catch_of(alloc, tables, depth, position, bytes),
+        BranchForm::TryFinally => try_finally_of(alloc, tables, depth, position, bytes),
+        BranchForm::Match => match_of(alloc, tables, depth, position, bytes),
     }
 }
 
+// A choice.
+#[tactic(auto, unfolding(sj_format::specs::Trees::branch_at))]
+#[cycle(trees)]
+fn if_of<'a>(
+    alloc: Global,
+    tables: &FileTables,
+    depth: u32,
+    position: Position,
+    bytes: &'a [u8],
+) -> Result<(Tree, &'a [u8]), Stop>
+    ensures { Gives (λ x. (view x.0, x.1.now)) result (branch_at (tree_at depth tables.now) tables.now BranchForm.If position bytes.now) }
+{
+    let (condition, rest) = boxed_of(alloc, tables, depth, bytes)?;
+    let (consequent, rest) = boxed_of(alloc, tables, depth, rest)?;
+    let (alternative, rest) = boxed_of(alloc, tables, depth, rest)?;
+    let (tpe, rest) = type_of(tables.names(), rest)?;
+    Ok((
+        Tree::If(position, condition, consequent, alternative, tpe),
+        rest,
+    ))
+}
+
+// A loop that tests in front.
+#[tactic(auto, unfolding(sj_format::specs::Trees::branch_at))]
+#[cycle(trees)]
+fn while_of<'a>(
+    alloc: Global,
+    tables: &FileTables,
+    depth: u32,
+    position: Position,
+    bytes: &'a [u8],
+) -> Result<(Tree, &'a [u8]), Stop>
+    ensures { Gives (λ x. (view x.0, x.1.now)) result (branch_at (tree_at depth tables.now) tables.now BranchForm.While position bytes.now) }
+{
+    let (condition, rest) = boxed_of(alloc, tables, depth, bytes)?;
+    let (body, rest) = boxed_of(alloc, tables, depth, rest)?;
+    Ok((Tree::While(position, condition, body), rest))
+}
+
+// A loop that tests behind.
+#[tactic(auto, unfolding(sj_format::specs::Trees::branch_at))]
+#[cycle(trees)]
+fn do_while_of<'a>(
+    alloc: Global,
+    tables: &FileTables,
+    depth: u32,
+    position: Position,
+    bytes: &'a [u8],
+) -> Result<(Tree, &'a [u8]), Stop>
+    ensures { Gives (λ x. (view x.0, x.1.now)) result (branch_at (tree_at depth tables.now) tables.now BranchForm.DoWhile position bytes.now) }
+{
+    let (body, rest) = boxed_of(alloc, tables, depth, bytes)?;
+    let (condition, rest) = boxed_of(alloc, tables, depth, rest)?;
+    Ok((Tree::DoWhile(position, body, condition), rest))
+}
+
+// A block with a handler.
+#[tactic(auto, unfolding(sj_format::specs::Trees::branch_at))]
+#[cycle(trees)]
+fn try_catch_of<'a>(
+    alloc: Global,
+    tables: &FileTables,
+    depth: u32,
+    position: Position,
+    bytes: &'a [u8],
+) -> Result<(Tree, &'a [u8]), Stop>
+    ensures { Gives (λ x. (view x.0, x.1.now)) result (branch_at (tree_at depth tables.now) tables.now BranchForm.TryCatch position bytes.now) }
+{
+    let (block, rest) = boxed_of(alloc, tables, depth, bytes)?;
+    let (name, rest) = local_name_of(tables.names(), rest)?;
+    let (handler, rest) = boxed_of(alloc, tables, depth, rest)?;
+    let (tpe, rest) = type_of(tables.names(), rest)?;
+    Ok((Tree::TryCatch(position, block, name, handler, tpe), rest))
+}
+
+// A block with a finalizer.
+#[tactic(auto, unfolding(sj_format::specs::Trees::branch_at))]
+#[cycle(trees)]
+fn try_finally_of<'a>(
+    alloc: Global,
+    tables: &FileTables,
+    depth: u32,
+    position: Position,
+    bytes: &'a [u8],
+) -> Result<(Tree, &'a [u8]), Stop>
+    ensures { Gives (λ x. (view x.0, x.1.now)) result (branch_at (tree_at depth tables.now) tables.now BranchForm.TryFinally position bytes.now) }
+{
+    let (block, rest) = boxed_of(alloc, tables, depth, bytes)?;
+    let (finalizer, rest) = boxed_of(alloc, tables, depth, rest)?;
+    Ok((Tree::TryFinally(position, block, finalizer), rest))
+}
+
+// A choice by a number.
+#[tactic(auto, unfolding(sj_format::specs::Trees::branch_at))]
+#[cycle(trees)]
+fn match_of<'a>(
+    alloc: Global,
+    tables: &FileTables,
+    depth: u32,
+    position: Position,
+    bytes: &'a [u8],
+) -> Result<(Tree, &'a [u8]), Stop>
+    ensures { Gives (λ x. (view x.0, x.1.now)) result (branch_at (tree_at depth tables.now) tables.now BranchForm.Match position bytes.now) }
+{
+    let (selector, rest) = boxed_of(alloc, tables, depth, bytes)?;
+    let (count, rest) = number_of(rest)?;
+    let (cases, rest) = cases_of(alloc, tables, depth, count, rest)?;
+    let (default, rest) = boxed_of(alloc, tables, depth, rest)?;
+    let (tpe, rest) = type_of(tables.names(), rest)?;
+    Ok((Tree::Match(position, selector, cases, default, tpe), rest))
+}
+
 // A form that calls a method or reads a field of an object.
-#[tactic(auto, unfolding(sj_format::specs::Trees::call_at))]
 #[cycle(trees)]
 fn call_of<'a>(
     alloc: Global,
@@ -323,72 +459,125 @@ fn call_of<'a>(
     ensures { Gives (λ x. (view x.0, x.1.now)) result (call_at (tree_at depth tables.now) tables.now tag position bytes.now) }
 {
     match tag {
-        CallForm::New => {
-            let (class, rest) = class_name_of(tables.names(), bytes)?;
-            let (method, rest) = method_name_of(tables.methods(), rest)?;
-            let (count, rest) = number_of(rest)?;
-            let (arguments, rest) = trees_of(alloc, tables, depth, count, rest)?;
-            Ok((Tree::New(position, class, method, arguments), rest))
-        }
-        CallForm::Select => {
-            let (qualifier, rest) = tree_of(alloc, tables, depth, bytes)?;
-            let (class, rest) = class_name_of(tables.names(), rest)?;
-            let (field, rest) = field_name_of(tables.names(), rest)?;
-            let (tpe, rest) = type_of(tables.names(), rest)?;
-            Ok((
-                Tree::Select(position, Box::new(alloc, qualifier)?, class, field, tpe),
-                rest,
-            ))
-        }
-        CallForm::Apply => {
-            let (receiver, rest) = tree_of(alloc, tables, depth, bytes)?;
-            let (method, rest) = method_name_of(tables.methods(), rest)?;
-            let (count, rest) = number_of(rest)?;
-            let (arguments, rest) = trees_of(alloc, tables, depth, count, rest)?;
-            let (tpe, rest) = type_of(tables.names(), rest)?;
-            Ok((
-                Tree::Apply(position, Box::new(alloc, receiver)?, method, arguments, tpe),
-                rest,
-            ))
-        }
-        CallForm::ApplyStatically => {
-            let (receiver, rest) = tree_of(alloc, tables, depth, bytes)?;
-            let (class, rest) = class_name_of(tables.names(), rest)?;
-            let (namespace, rest) = namespace_of(rest)?;
-            let (method, rest) = method_name_of(tables.methods(), rest)?;
-            let (count, rest) = number_of(rest)?;
-            let (arguments, rest) = trees_of(alloc, tables, depth, count, rest)?;
-            let (tpe, rest) = type_of(tables.names(), rest)?;
-            Ok((
-                Tree::ApplyStatically(
-                    position,
-                    Box::new(alloc, receiver)?,
-                    class,
-                    namespace,
-                    method,
-                    arguments,
-                    tpe,
-                ),
-                rest,
-            ))
-        }
-        CallForm::ApplyStatic => {
-            let (class, rest) = class_name_of(tables.names(), bytes)?;
-            let (namespace, rest) = namespace_of(rest)?;
-            let (method, rest) = method_name_of(tables.methods(), rest)?;
-            let (count, rest) = number_of(rest)?;
-            let (arguments, rest) = trees_of(alloc, tables, depth, count, rest)?;
-            let (tpe, rest) = type_of(tables.names(), rest)?;
-            Ok((
-                Tree::ApplyStatic(position, class, namespace, method, arguments, tpe),
-                rest,
-            ))
-        }
+        CallForm::New => new_of(alloc, tables, depth, position, bytes),
+        CallForm::Select => select_of(alloc, tables, depth, position, bytes),
+        CallForm::Apply => apply_of(alloc, tables, depth, position, bytes),
+        CallForm::ApplyStatically => apply_statically_of(alloc, tables, depth, position, bytes),
+        CallForm::ApplyStatic => apply_static_of(alloc, tables, depth, position, bytes),
     }
 }
 
+// A new object.
+#[tactic(auto, unfolding(sj_format::specs::Trees::call_at))]
+#[cycle(trees)]
+fn new_of<'a>(
+    alloc: Global,
+    tables: &FileTables,
+    depth: u32,
+    position: Position,
+    bytes: &'a [u8],
+) -> Result<(Tree, &'a [u8]), Stop>
+    ensures { Gives (λ x. (view x.0, x.1.now)) result (call_at (tree_at depth tables.now) tables.now CallForm.New position bytes.now) }
+{
+    let (class, rest) = class_name_of(tables.names(), bytes)?;
+    let (method, rest) = method_name_of(tables.methods(), rest)?;
+    let (count, rest) = number_of(rest)?;
+    let (arguments, rest) = trees_of(alloc, tables, depth, count, rest)?;
+    Ok((Tree::New(position, class, method, arguments), rest))
+}
+
+// A field of an object.
+#[tactic(auto, unfolding(sj_format::specs::Trees::call_at))]
+#[cycle(trees)]
+fn select_of<'a>(
+    alloc: Global,
+    tables: &FileTables,
+    depth: u32,
+    position: Position,
+    bytes: &'a [u8],
+) -> Result<(Tree, &'a [u8]), Stop>
+    ensures { Gives (λ x. (view x.0, x.1.now)) result (call_at (tree_at depth tables.now) tables.now CallForm.Select position bytes.now) }
+{
+    let (qualifier, rest) = boxed_of(alloc, tables, depth, bytes)?;
+    let (class, rest) = class_name_of(tables.names(), rest)?;
+    let (field, rest) = field_name_of(tables.names(), rest)?;
+    let (tpe, rest) = type_of(tables.names(), rest)?;
+    Ok((Tree::Select(position, qualifier, class, field, tpe), rest))
+}
+
+// A call that the receiver's class decides.
+#[tactic(auto, unfolding(sj_format::specs::Trees::call_at))]
+#[cycle(trees)]
+fn apply_of<'a>(
+    alloc: Global,
+    tables: &FileTables,
+    depth: u32,
+    position: Position,
+    bytes: &'a [u8],
+) -> Result<(Tree, &'a [u8]), Stop>
+    ensures { Gives (λ x. (view x.0, x.1.now)) result (call_at (tree_at depth tables.now) tables.now CallForm.Apply position bytes.now) }
+{
+    let (receiver, rest) = boxed_of(alloc, tables, depth, bytes)?;
+    let (method, rest) = method_name_of(tables.methods(), rest)?;
+    let (count, rest) = number_of(rest)?;
+    let (arguments, rest) = trees_of(alloc, tables, depth, count, rest)?;
+    let (tpe, rest) = type_of(tables.names(), rest)?;
+    Ok((
+        Tree::Apply(position, receiver, method, arguments, tpe),
+        rest,
+    ))
+}
+
+// A call on a receiver.
+#[tactic(auto, unfolding(sj_format::specs::Trees::call_at))]
+#[cycle(trees)]
+fn apply_statically_of<'a>(
+    alloc: Global,
+    tables: &FileTables,
+    depth: u32,
+    position: Position,
+    bytes: &'a [u8],
+) -> Result<(Tree, &'a [u8]), Stop>
+    ensures { Gives (λ x. (view x.0, x.1.now)) result (call_at (tree_at depth tables.now) tables.now CallForm.ApplyStatically position bytes.now) }
+{
+    let (receiver, rest) = boxed_of(alloc, tables, depth, bytes)?;
+    let (class, rest) = class_name_of(tables.names(), rest)?;
+    let (namespace, rest) = namespace_of(rest)?;
+    let (method, rest) = method_name_of(tables.methods(), rest)?;
+    let (count, rest) = number_of(rest)?;
+    let (arguments, rest) = trees_of(alloc, tables, depth, count, rest)?;
+    let (tpe, rest) = type_of(tables.names(), rest)?;
+    Ok((
+        Tree::ApplyStatically(position, receiver, class, namespace, method, arguments, tpe),
+        rest,
+    ))
+}
+
+// A call of a static method.
+#[tactic(auto, unfolding(sj_format::specs::Trees::call_at))]
+#[cycle(trees)]
+fn apply_static_of<'a>(
+    alloc: Global,
+    tables: &FileTables,
+    depth: u32,
+    position: Position,
+    bytes: &'a [u8],
+) -> Result<(Tree, &'a [u8]), Stop>
+    ensures { Gives (λ x. (view x.0, x.1.now)) result (call_at (tree_at depth tables.now) tables.now CallForm.ApplyStatic position bytes.now) }
+{
+    let (class, rest) = class_name_of(tables.names(), bytes)?;
+    let (namespace, rest) = namespace_of(rest)?;
+    let (method, rest) = method_name_of(tables.methods(), rest)?;
+    let (count, rest) = number_of(rest)?;
+    let (arguments, rest) = trees_of(alloc, tables, depth, count, rest)?;
+    let (tpe, rest) = type_of(tables.names(), rest)?;
+    Ok((
+        Tree::ApplyStatic(position, class, namespace, method, arguments, tpe),
+        rest,
+    ))
+}
+
 // A form of an operator, an array or a type test.
-#[tactic(auto, unfolding(sj_format::specs::Trees::operation_at))]
 #[cycle(trees)]
 fn operation_of<'a>(
     alloc: Global,
@@ -401,75 +590,151 @@ fn operation_of<'a>(
     ensures { Gives (λ x. (view x.0, x.1.now)) result (operation_at (tree_at depth tables.now) tables.now tag position bytes.now) }
 {
     match tag {
-        OperationForm::UnaryOp => {
-            let (operator, rest) = unary_of(bytes)?;
-            let (operand, rest) = tree_of(alloc, tables, depth, rest)?;
-            Ok((
-                Tree::UnaryOp(position, operator, Box::new(alloc, operand)?),
-                rest,
-            ))
-        }
-        OperationForm::BinaryOp => {
-            let (operator, rest) = binary_of(bytes)?;
-            let (left, rest) = tree_of(alloc, tables, depth, rest)?;
-            let (right, rest) = tree_of(alloc, tables, depth, rest)?;
-            Ok((
-                Tree::BinaryOp(
-                    position,
-                    operator,
-                    Box::new(alloc, left)?,
-                    Box::new(alloc, right)?,
-                ),
-                rest,
-            ))
-        }
-        OperationForm::NewArray => {
-            let (array, rest) = array_reference_of(tables.names(), bytes)?;
-            let (length, rest) = tree_of(alloc, tables, depth, rest)?;
-            Ok((
-                Tree::NewArray(position, array, Box::new(alloc, length)?),
-                rest,
-            ))
-        }
-        OperationForm::ArrayValue => {
-            let (array, rest) = array_reference_of(tables.names(), bytes)?;
-            let (count, rest) = number_of(rest)?;
-            let (items, rest) = trees_of(alloc, tables, depth, count, rest)?;
-            Ok((Tree::ArrayValue(position, array, items), rest))
-        }
-        OperationForm::ArrayLength => {
-            let (array, rest) = tree_of(alloc, tables, depth, bytes)?;
-            Ok((Tree::ArrayLength(position, Box::new(alloc, array)?), rest))
-        }
-        OperationForm::ArraySelect => {
-            let (array, rest) = tree_of(alloc, tables, depth, bytes)?;
-            let (index, rest) = tree_of(alloc, tables, depth, rest)?;
-            let (tpe, rest) = type_of(tables.names(), rest)?;
-            Ok((
-                Tree::ArraySelect(
-                    position,
-                    Box::new(alloc, array)?,
-                    Box::new(alloc, index)?,
-                    tpe,
-                ),
-                rest,
-            ))
-        }
-        OperationForm::IsInstanceOf => {
-            let (value, rest) = tree_of(alloc, tables, depth, bytes)?;
-            let (tpe, rest) = type_of(tables.names(), rest)?;
-            Ok((
-                Tree::IsInstanceOf(position, Box::new(alloc, value)?, tpe),
-                rest,
-            ))
-        }
-        OperationForm::AsInstanceOf => {
-            let (value, rest) = tree_of(alloc, tables, depth, bytes)?;
-            let (tpe, rest) = type_of(tables.names(), rest)?;
-            Ok((
-                Tree::AsInstanceOf(position, Box::new(alloc, value)?, tpe),
-                rest,
-            ))
-        }
+        OperationForm::UnaryOp => unary_op_of(alloc, tables, depth, position, bytes),
+        OperationForm::BinaryOp => binary_op_of(alloc, tables, depth, position, bytes),
+        OperationForm::NewArray => new_array_of(alloc, tables, depth, position, bytes),
+        OperationForm::ArrayValue => array_value_of(alloc, tables, depth, position, bytes),
+        OperationForm::ArrayLength => array_length_of(alloc, tables, depth, position, bytes),
+        OperationForm::ArraySelect => array_select_of(alloc, tables, depth, position, bytes),
+        OperationForm::IsInstanceOf => is_instance_of_of(alloc, tables, depth, position, bytes),
+        OperationForm::AsInstanceOf => as_instance_of_of(alloc, tables, depth, position, bytes),
     }
+}
+
+// An operator with one operand.
+#[tactic(auto, unfolding(sj_format::specs::Trees::operation_at))]
+#[cycle(trees)]
+fn unary_op_of<'a>(
+    alloc: Global,
+    tables: &FileTables,
+    depth: u32,
+    position: Position,
+    bytes: &'a [u8],
+) -> Result<(Tree, &'a [u8]), Stop>
+    ensures { Gives (λ x. (view x.0, x.1.now)) result (operation_at (tree_at depth tables.now) tables.now OperationForm.UnaryOp position bytes.now) }
+{
+    let (operator, rest) = unary_of(bytes)?;
+    let (operand, rest) = boxed_of(alloc, tables, depth, rest)?;
+    Ok((Tree::UnaryOp(position, operator, operand), rest))
+}
+
+// An operator with two operands.
+#[tactic(auto, unfolding(sj_format::specs::Trees::operation_at))]
+#[cycle(trees)]
+fn binary_op_of<'a>(
+    alloc: Global,
+    tables: &FileTables,
+    depth: u32,
+    position: Position,
+    bytes: &'a [u8],
+) -> Result<(Tree, &'a [u8]), Stop>
+    ensures { Gives (λ x. (view x.0, x.1.now)) result (operation_at (tree_at depth tables.now) tables.now OperationForm.BinaryOp position bytes.now) }
+{
+    let (operator, rest) = binary_of(bytes)?;
+    let (left, rest) = boxed_of(alloc, tables, depth, rest)?;
+    let (right, rest) = boxed_of(alloc, tables, depth, rest)?;
+    Ok((Tree::BinaryOp(position, operator, left, right), rest))
+}
+
+// A new array.
+#[tactic(auto, unfolding(sj_format::specs::Trees::operation_at))]
+#[cycle(trees)]
+fn new_array_of<'a>(
+    alloc: Global,
+    tables: &FileTables,
+    depth: u32,
+    position: Position,
+    bytes: &'a [u8],
+) -> Result<(Tree, &'a [u8]), Stop>
+    ensures { Gives (λ x. (view x.0, x.1.now)) result (operation_at (tree_at depth tables.now) tables.now OperationForm.NewArray position bytes.now) }
+{
+    let (array, rest) = array_reference_of(tables.names(), bytes)?;
+    let (length, rest) = boxed_of(alloc, tables, depth, rest)?;
+    Ok((Tree::NewArray(position, array, length), rest))
+}
+
+// An array of items.
+#[tactic(auto, unfolding(sj_format::specs::Trees::operation_at))]
+#[cycle(trees)]
+fn array_value_of<'a>(
+    alloc: Global,
+    tables: &FileTables,
+    depth: u32,
+    position: Position,
+    bytes: &'a [u8],
+) -> Result<(Tree, &'a [u8]), Stop>
+    ensures { Gives (λ x. (view x.0, x.1.now)) result (operation_at (tree_at depth tables.now) tables.now OperationForm.ArrayValue position bytes.now) }
+{
+    let (array, rest) = array_reference_of(tables.names(), bytes)?;
+    let (count, rest) = number_of(rest)?;
+    let (items, rest) = trees_of(alloc, tables, depth, count, rest)?;
+    Ok((Tree::ArrayValue(position, array, items), rest))
+}
+
+// The length of an array.
+#[tactic(auto, unfolding(sj_format::specs::Trees::operation_at))]
+#[cycle(trees)]
+fn array_length_of<'a>(
+    alloc: Global,
+    tables: &FileTables,
+    depth: u32,
+    position: Position,
+    bytes: &'a [u8],
+) -> Result<(Tree, &'a [u8]), Stop>
+    ensures { Gives (λ x. (view x.0, x.1.now)) result (operation_at (tree_at depth tables.now) tables.now OperationForm.ArrayLength position bytes.now) }
+{
+    let (array, rest) = boxed_of(alloc, tables, depth, bytes)?;
+    Ok((Tree::ArrayLength(position, array), rest))
+}
+
+// An item of an array.
+#[tactic(auto, unfolding(sj_format::specs::Trees::operation_at))]
+#[cycle(trees)]
+fn array_select_of<'a>(
+    alloc: Global,
+    tables: &FileTables,
+    depth: u32,
+    position: Position,
+    bytes: &'a [u8],
+) -> Result<(Tree, &'a [u8]), Stop>
+    ensures { Gives (λ x. (view x.0, x.1.now)) result (operation_at (tree_at depth tables.now) tables.now OperationForm.ArraySelect position bytes.now) }
+{
+    let (array, rest) = boxed_of(alloc, tables, depth, bytes)?;
+    let (index, rest) = boxed_of(alloc, tables, depth, rest)?;
+    let (tpe, rest) = type_of(tables.names(), rest)?;
+    Ok((Tree::ArraySelect(position, array, index, tpe), rest))
+}
+
+// A test of a type.
+#[tactic(auto, unfolding(sj_format::specs::Trees::operation_at))]
+#[cycle(trees)]
+fn is_instance_of_of<'a>(
+    alloc: Global,
+    tables: &FileTables,
+    depth: u32,
+    position: Position,
+    bytes: &'a [u8],
+) -> Result<(Tree, &'a [u8]), Stop>
+    ensures { Gives (λ x. (view x.0, x.1.now)) result (operation_at (tree_at depth tables.now) tables.now OperationForm.IsInstanceOf position bytes.now) }
+{
+    let (value, rest) = boxed_of(alloc, tables, depth, bytes)?;
+    let (tpe, rest) = type_of(tables.names(), rest)?;
+    Ok((Tree::IsInstanceOf(position, value, tpe), rest))
+}
+
+// A cast.
+#[tactic(auto, unfolding(sj_format::specs::Trees::operation_at))]
+#[cycle(trees)]
+fn as_instance_of_of<'a>(
+    alloc: Global,
+    tables: &FileTables,
+    depth: u32,
+    position: Position,
+    bytes: &'a [u8],
+) -> Result<(Tree, &'a [u8]), Stop>
+    ensures { Gives (λ x. (view x.0, x.1.now)) result (operation_at (tree_at depth tables.now) tables.now OperationForm.AsInstanceOf position bytes.now) }
+{
+    let (value, rest) = boxed_of(alloc, tables, depth, bytes)?;
+    let (tpe, rest) = type_of(tables.names(), rest)?;
+    Ok((Tree::AsInstanceOf(position, value, tpe), rest))
 }
