@@ -8,7 +8,6 @@ ghost use Rattle.sj_world.specs.Refusals.{IsInOrder};
 
 use crate::above::ancestors_of;
 use crate::chains::chain_of;
-use crate::known::OBJECT;
 use sj_names::{ClassName, Items, NoMemory, Text};
 use sj_trees::ClassDef;
 use std::alloc::Global;

@@ -3,7 +3,6 @@ ghost use Rattle.std.specs.Prelude.{◌≡◌, ◌↔◌, IsTrue, option_map};
 ghost use Rattle.sj_world.specs.Calls as calls;
 
 use crate::World;
-use crate::known::OBJECT;
 use sj_names::ClassName;
 use sj_trees::IrType;
 
