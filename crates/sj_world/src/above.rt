@@ -72,11 +72,7 @@ struct Parents<'c> {
 impl<'c> Step<ClassName> for Parents<'c> {
     ghost next = { λ s name. ancestors.parents s.classes.now name };
 
-    fn add_next(
-        &self,
-        name: &ClassName,
-        found: &mut IndexSet<ClassName>,
-    ) -> Result<(), NoMemory> {
+    fn add_next(&self, name: &ClassName, found: &mut IndexSet<ClassName>) -> Result<(), NoMemory> {
         let name = stands_as(name.text());
         match class_in(self.classes, name) {
             Some(class) => add_known_of(self.classes, class, found),

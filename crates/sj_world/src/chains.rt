@@ -41,11 +41,7 @@ struct Superclass<'c> {
 impl<'c> Step<ClassName> for Superclass<'c> {
     ghost next = { λ s name. ancestors.listed (ancestors.next_on_chain s.classes.now name) };
 
-    fn add_next(
-        &self,
-        name: &ClassName,
-        found: &mut IndexSet<ClassName>,
-    ) -> Result<(), NoMemory> {
+    fn add_next(&self, name: &ClassName, found: &mut IndexSet<ClassName>) -> Result<(), NoMemory> {
         if let Some(above) = next_on_chain(self.classes, self.object, name.text()) {
             found.insert(above.copied()?)?;
         }

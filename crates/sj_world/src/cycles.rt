@@ -51,11 +51,7 @@ struct WrittenAbove<'c> {
 impl<'c> Step<ClassName> for WrittenAbove<'c> {
     ghost next = { λ s name. ancestors.written_above s.classes.now name };
 
-    fn add_next(
-        &self,
-        name: &ClassName,
-        found: &mut IndexSet<ClassName>,
-    ) -> Result<(), NoMemory> {
+    fn add_next(&self, name: &ClassName, found: &mut IndexSet<ClassName>) -> Result<(), NoMemory> {
         match class_in(self.classes, name.text()) {
             Some(class) => add_written(class, found),
             None => Ok(()),

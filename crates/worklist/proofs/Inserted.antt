@@ -9,6 +9,13 @@ use Rattle.indexmap.proofs.CallerLemmas.{Contains-insert_key}
 pub nothing_in : {K A : Type 0} (x : K) → Contains [] x → A
 nothing_in x h = let p : h.0 < 0 = h.1 in absurd (omega arith)
 
+pub only_one : {K : Type 0} (k x : K) → Contains (k ∷ []) x → k ≡ x
+only_one k x h = go (Contains-push_cases [] k x h)
+  where
+    go : Contains [] x ⊎ (k ≡ x) → k ≡ x
+    go (inl none) = nothing_in x none
+    go (inr e) = e
+
 -- what is put behind keys
 pub record Grows {K : Type 0} (old new : List K) : Type 0 where
   pub more : List K

@@ -8,7 +8,7 @@ use Rattle.std.proofs.Math.Seq.{take-length}
 use Rattle.indexmap.specs.IndexSet.{insert_all}
 use Rattle.worklist.specs.Paths.{Path, stay, on, Leads, IsReached}
 use Rattle.worklist.specs.Search.{Found, begins, goes_on, IsSearched}
-use Rattle.worklist.proofs.Inserted.{nothing_in, Grows, insert_all-grows, from-insert_all, into-insert_all, each-insert_all}
+use Rattle.worklist.proofs.Inserted.{nothing_in, only_one, Grows, insert_all-grows, from-insert_all, into-insert_all, each-insert_all}
 
 le_both : {m n : ℕ} → m ≤ n → n ≤ m → m ≡ n
 le_both p q = omega arith
@@ -93,16 +93,9 @@ module _ {K : Type 0} (eq : K → K → Bool) (next : K → List K) (first : Lis
   pub is_searched : ((a b : K) → eq a b ≡ true → a ≡ b) → (done : ℕ) (keys : List K) → Found eq next first done keys → length keys ≤ done → IsSearched eq next first keys
   is_searched same done keys found over = record { all = subst (λ (n : ℕ). Found eq next first n keys) (le_both (working same done keys found).within over) found }
 
-only_first : {K : Type 0} (first x : K) → Contains (first ∷ []) x → first ≡ x
-only_first {K} first x h = go (Contains-push_cases [] first x h)
-  where
-    go : Contains [] x ⊎ (first ≡ x) → first ≡ x
-    go (inl none) = nothing_in x none
-    go (inr e) = e
-
 -- from one key
 pub reached_from_one : {K : Type 0} (next : K → List K) (first : K) (start keys : List K) → start ≡ first ∷ [] → ((x : K) → Contains keys x ↔ IsReached next start x) → (x : K) → Contains keys x ↔ Path (Leads next) first x
 reached_from_one {K} next first start keys e both x = (λ h. led (subst (λ (l : List K). IsReached next l x) e ((both x).0 h)), λ path. (both x).1 (subst (λ (l : List K). IsReached next l x) (sym e) (record { from = first; begins = Contains-push [] first; path = path })))
   where
     led : IsReached next (first ∷ []) x → Path (Leads next) first x
-    led r = subst (λ (k : K). Path (Leads next) k x) (sym (only_first first r.from r.begins)) r.path
+    led r = subst (λ (k : K). Path (Leads next) k x) (sym (only_one first r.from r.begins)) r.path

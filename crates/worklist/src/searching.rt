@@ -1,6 +1,6 @@
 // The search.
 ghost use Rattle.std.specs.Prelude.{◌≡◌, ◌↔◌, ◌∷◌, [], List, Contains, IfOk, OnOk};
-ghost use Rattle.indexmap.specs.IndexSet.{insert_all};
+ghost use Rattle.indexmap.specs.IndexSet.{insert_all, IsUnique};
 ghost use Rattle.worklist.specs.Paths.{Path, Leads, IsReached};
 ghost use Rattle.worklist.specs.Search.{IsSearched};
 
@@ -23,6 +23,7 @@ pub trait Step<K: Key> {
 pub fn search<K: Key, S: Step<K>>(step: &S, found: &mut IndexSet<K>) -> Result<(), NoMemory>
     ensures reached { OnOk result ((key : K) → Contains found.new.keys key ↔ IsReached (S.next step.now) found.old.keys key) }
     ensures in_order { OnOk result (IsSearched K.eq (S.next step.now) found.old.keys found.new.keys) }
+    ensures once { OnOk result (IsUnique K.eq found.new) }
 {
     let mut next = 0;
     while next < found.len() {
@@ -41,6 +42,7 @@ pub fn search_from<K: Key, S: Step<K>>(
 ) -> Result<IndexSet<K>, NoMemory>
     ensures reached { IfOk result (λ found. (key : K) → Contains found.keys key ↔ Path (Leads (S.next step.now)) first key) }
     ensures in_order { IfOk result (λ found. IsSearched K.eq (S.next step.now) (first ∷ []) found.keys) }
+    ensures once { IfOk result (IsUnique K.eq) }
 {
     let mut found = IndexSet::new(alloc);
     found.insert(first)?;

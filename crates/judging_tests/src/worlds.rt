@@ -1,7 +1,7 @@
 // What no clause says: that calls with memory succeed, on rows worked out elsewhere.
-use super::*;
-use sj_names::{ArrayRef, BaseRef, ClassName, Items, MethodName};
+use sj_names::{ArrayRef, BaseRef, ClassName, MethodName, Shared};
 use sj_trees::{ClassDef, ClassKind, IrType, Position};
+use sj_world::{Resolution, World, WorldError};
 use std::alloc::Global;
 use std::test::Fail;
 
@@ -35,13 +35,13 @@ fn class(
             line: 0,
             column: 0,
         },
-        files: Items::from_vec(Vec::new(alloc)),
+        files: Shared::from_vec(Vec::new(alloc))?,
         name,
         kind,
         superclass,
         interfaces,
-        fields: Items::from_vec(Vec::new(alloc)),
-        methods: Items::from_vec(Vec::new(alloc)),
+        fields: Shared::from_vec(Vec::new(alloc))?,
+        methods: Shared::from_vec(Vec::new(alloc))?,
     })
 }
 
@@ -52,12 +52,12 @@ fn parsed(alloc: Global, text: &str) -> Result<Option<ClassName>, Fail> {
     Ok(Some(ClassName::parse(alloc, text)?))
 }
 
-fn names(alloc: Global, text: &str) -> Result<Items<ClassName>, Fail> {
+fn names(alloc: Global, text: &str) -> Result<Shared<ClassName>, Fail> {
     let mut names = Vec::new(alloc);
     if let Some(name) = parsed(alloc, text)? {
         names.push(name)?;
     }
-    Ok(Items::from_vec(names))
+    Ok(Shared::from_vec(names)?)
 }
 
 fn add_twice(alloc: Global, classes: &mut Vec<ClassDef>) -> Result<(), Fail> {
