@@ -12,7 +12,7 @@ use Rattle.sj_world.specs.Ancestors.{IsAncestor, IsParent, Way, by_path, is_obje
 use Rattle.sj_world.specs.Refusals.{HasNoCycle}
 use Rattle.sj_world.specs.Laws.{AncestorsGrow, IsPlain}
 use Rattle.sj_world.proofs.Orders.{same_name}
-use Rattle.sj_world.proofs.Worklist.{nothing_in}
+use Rattle.worklist.proofs.Inserted.{nothing_in, only_one}
 use Rattle.sj_world.proofs.OnCycles.{among}
 use Rattle.sj_world.proofs.Bodies.{stands_itself}
 use Rattle.sj_world.proofs.LawsHold.{joined}
@@ -49,13 +49,6 @@ into_filter p (y ∷ ys) x passes h = go (into_filter p ys x passes) (p y) refl 
     go below true e (inr rest) = kept true e (Contains-append_right (y ∷ []) (filter p ys) x (below rest))
     go below false e (inr rest) = kept false e (below rest)
     go below false e (inl first) = let t : false ≡ true = sym e ∙ ap p (only (Contains-push_cases [] y x first)) ∙ passes in cc
-
-only_one : (a x : Name) → Contains (a ∷ []) x → a ≡ x
-only_one a x h = go (Contains-push_cases [] a x h)
-  where
-    go : Contains [] x ⊎ (a ≡ x) → a ≡ x
-    go (inl none) = nothing_in x none
-    go (inr e) = e
 
 module _ (w : Classes) where
   parent_cases : (b x : Name) → IsParent w b x → (object ≡ x) ⊎ IsWritten w (stands_as b) x

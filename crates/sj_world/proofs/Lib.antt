@@ -2,7 +2,7 @@ pub mod Orders
 pub mod ByName
 pub mod Counts
 pub mod Twice
-pub mod Worklist
+pub mod Names
 pub mod Found
 pub mod OnCycles
 pub mod Climbed
@@ -14,6 +14,7 @@ pub mod Spelled
 pub mod Targets
 pub mod LawsHold
 pub mod Once
+pub mod OneWorld
 pub mod Grows
 pub mod Rows
 pub mod Puts

@@ -12,7 +12,8 @@ use Rattle.sj_world.specs.declared.lines.Line.{Line}
 use Rattle.sj_world.specs.Known.{Name, Classes, is_same, class_of, is_known, is_hijacked, hijacked, names_of}
 use Rattle.sj_world.specs.Tables.{IsLine, IsAdded, AreLines, line_at}
 use Rattle.sj_world.proofs.Orders.{compared, same_name, is_same_itself}
-use Rattle.sj_world.proofs.Worklist.{Names, nothing_in}
+use Rattle.sj_world.proofs.Names.{Names}
+use Rattle.worklist.proofs.Inserted.{nothing_in}
 use Rattle.sj_world.proofs.OnCycles.{among}
 
 -- each of the names has its line, and nothing but known classes has one
@@ -93,6 +94,10 @@ named_is_known w name h = go (is_some (class_of w name)) refl (Contains-append_c
     go false e (inl of_class) = let t : is_some (class_of w name) ≡ true = named_known w name of_class in cc
     go false e (inr of_eight) = ap (λ (b : Bool). b || is_hijacked name) e ∙ (among hijacked name).1 of_eight
 
+-- the line of a known class
+abbrev IsKnownLine : Classes → Name → Line → Type 0
+IsKnownLine w name line = (is_known w name ≡ true) × IsLine w name line
+
 pub lined_whole : (w : Classes) (lines : BTreeMap Name Line) → Lined w (names_of w ++ hijacked) lines → AreLines w lines
 lined_whole w lines l = record { right = λ name. right name (line_at lines name) refl }
   where
@@ -100,9 +105,9 @@ lined_whole w lines l = record { right = λ name. right name (line_at lines name
     unknown name e true k = let p = l.present name (known_named w name k) in let s : Some p.0 ≡ None = sym p.1 ∙ e in cc
     unknown name e false k = k
 
-    right : (name : Name) → (o : Option Line) → line_at lines name ≡ o → MatchOption (line_at lines name) (is_known w name ≡ false) (IsLine w name)
-    right name None e = subst (λ (o : Option Line). MatchOption o (is_known w name ≡ false) (IsLine w name)) (sym e) (unknown name e (is_known w name) refl)
-    right name (Some line) e = subst (λ (o : Option Line). MatchOption o (is_known w name ≡ false) (IsLine w name)) (sym e) (l.sound name line e)
+    right : (name : Name) → (o : Option Line) → line_at lines name ≡ o → MatchOption (line_at lines name) (is_known w name ≡ false) (IsKnownLine w name)
+    right name None e = subst (λ (o : Option Line). MatchOption o (is_known w name ≡ false) (IsKnownLine w name)) (sym e) (unknown name e (is_known w name) refl)
+    right name (Some line) e = subst (λ (o : Option Line). MatchOption o (is_known w name ≡ false) (IsKnownLine w name)) (sym e) (l.known name line e, l.sound name line e)
 
 pub found_name : (names : Names) (i : ℕ) (x text : Name) → slice_get names i ≡ Some x → is_same text x ≡ true → Some x ≡ cond (list_any (is_same text) names) (Some text) None
 found_name names i x text at e = ap Some (sym (same_name text x e)) ∙ sym (ap (λ (b : Bool). cond b (Some text) None) ((among names text).1 (i, slice_get_within names i x at, get_or_from_slice_get names i x text at ∙ sym (same_name text x e))))

@@ -1,5 +1,5 @@
 -- The least class on a cycle among classes in order.
-use Rattle.std.proofs.Common.{◌≡◌, ℕ, ◌+◌, ◌≤◌, ◌<◌, Bool, true, false, Contains, slice_get, Option, Some, None, refl, sym, ap, ◌∙◌, subst, length, arith, inl, inr, Decides, IsTrue}
+use Rattle.std.proofs.Common.{◌≡◌, ℕ, ◌+◌, ◌≤◌, ◌<◌, Bool, true, false, [], Contains, slice_get, Option, Some, None, refl, sym, ap, ◌∙◌, subst, length, arith, inl, inr, Decides, IsTrue}
 use Rattle.std.specs.Prelude.{◌⊎◌, ◌↔◌}
 use Rattle.std.specs.List.{list_any}
 use Rattle.std.proofs.lemmas.Map.Made.{is_member-Decides}
@@ -11,20 +11,29 @@ use Rattle.sj_world.specs.Ancestors.{IsOnCycle, written_above, written_in}
 use Rattle.sj_world.specs.Refusals.{IsInOrder, HasNoCycle, IsLeastOnCycle, is_before}
 use Rattle.sj_world.proofs.Orders.{same_name, before_not_after, not_before_itself}
 use Rattle.sj_world.proofs.ByName.{StandsIn, class_of-stands}
-use Rattle.sj_world.proofs.Worklist.{Names, Reached, Working, working_ends, nothing_in}
+use Rattle.sj_world.proofs.Names.{Names}
+use Rattle.indexmap.specs.IndexSet.{insert_all}
+use Rattle.worklist.specs.Paths.{IsReached}
+use Rattle.worklist.proofs.Inserted.{nothing_in, from-insert_all, each-insert_all}
 
 -- whether a name is among names
 pub among : (names : Names) (x : Name) → Decides (list_any (is_same x) names) (Contains names x)
 among names x = is_member-Decides bytes_eq-Decides names x
 
-pub cycle_found : (w : Classes) (name : Name) (next : ℕ) (keys : Names) (found : Bool) → Working (written_above w) (written_above w name) next keys → length keys ≤ next → found ≡ list_any (is_same name) keys → IsTrue found ↔ IsOnCycle w name
-cycle_found w name next keys found work over e =
-    let both = working_ends (written_above w) (written_above w name) next keys work over name in
+pub cycle_found : (w : Classes) (name : Name) (starts keys : Names) (found : Bool) → starts ≡ insert_all is_same [] (written_above w name) → ((x : Name) → Contains keys x ↔ IsReached (written_above w) starts x) → found ≡ list_any (is_same name) keys → IsTrue found ↔ IsOnCycle w name
+cycle_found w name starts keys found begun both e =
     let test = among keys name in
-    (λ h. round (both.0 (test.0 (sym e ∙ h))), λ c. e ∙ test.1 (both.1 (record { from = c.parent; begins = c.up; path = c.back })))
+    (λ h. round ((both name).0 (test.0 (sym e ∙ h))), λ c. e ∙ test.1 ((both name).1 (record { from = c.parent; begins = first c.parent c.up; path = c.back })))
   where
-    round : Reached (written_above w) (written_above w name) name → IsOnCycle w name
-    round r = record { parent = r.from; up = r.begins; back = r.path }
+    first : (x : Name) → Contains (written_above w name) x → Contains starts x
+    first x h = subst (λ (l : Names). Contains l x) (sym begun) (each-insert_all is_same same_name [] (written_above w name) x h)
+
+    above : (x : Name) → Contains [] x ⊎ Contains (written_above w name) x → Contains (written_above w name) x
+    above x (inl none) = nothing_in x none
+    above x (inr h) = h
+
+    round : IsReached (written_above w) starts name → IsOnCycle w name
+    round r = record { parent = r.from; up = above r.from (from-insert_all is_same [] (written_above w name) r.from (subst (λ (l : Names). Contains l r.from) begun r.begins)); back = r.path }
 
 pub off_cycle : (w : Classes) (name : Name) (found : Bool) → IsTrue found ↔ IsOnCycle w name → found ≡ false → IsOnCycle w name → ⊥
 off_cycle w name found both e c = let t : found ≡ true = both.1 c in cc

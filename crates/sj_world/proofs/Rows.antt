@@ -5,7 +5,7 @@ use Rattle.sj_world.specs.Known.{Name}
 use Rattle.sj_world.specs.Paths.{Path, stay, on}
 use Rattle.sj_world.specs.Ancestors.{IsAncestor, IsParent, Way, by_path, is_object}
 use Rattle.sj_world.specs.Rows.{capped}
-use Rattle.sj_world.proofs.Worklist.{nothing_in}
+use Rattle.worklist.proofs.Inserted.{nothing_in}
 
 no_path : (x : Name) → Path (IsParent capped) (codes "A") x → codes "A" ≡ x
 no_path x stay = refl

@@ -83,7 +83,7 @@ pub rising_begins : (w : Classes) → Rising w 1
 rising_begins w = record { rises = λ k a b lt at then. absurd (omega arith) }
 
 -- as many classes have a name, in whatever order they stand
-same_count : (given w : Classes) (name : Name) → IsPermutation given w → count_by (λ (c : ClassDef). is_same c.name name) w ≡ count_by (λ (c : ClassDef). is_same c.name name) given
+pub same_count : (given w : Classes) (name : Name) → IsPermutation given w → count_by (λ (c : ClassDef). is_same c.name name) w ≡ count_by (λ (c : ClassDef). is_same c.name name) given
 same_count given w name p = sum_by-IsPermutation _ given w p
 
 pub least_twice_given : (given w : Classes) (name : Name) → IsPermutation given w → IsLeastTwice w name → IsLeastTwice given name

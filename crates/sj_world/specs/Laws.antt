@@ -3,9 +3,11 @@ use Rattle.std.specs.Prelude.{◌≡◌, ◌<◌, false, List, length}
 use Rattle.sj_names.specs.declared.method_names.MethodName.{MethodName}
 use Rattle.sj_trees.specs.declared.types.IrType.{IrType}
 use Rattle.sj_trees.specs.declared.classes.MethodDef.{MethodDef}
+use Rattle.sj_world.specs.declared.worlds.WorldError.{WorldError}
+use Rattle.sj_world.specs.declared.worlds.WorldError.TheVariants.{NoMemory}
 use Rattle.sj_world.specs.Known.{Name, Classes, object, is_hijacked}
 use Rattle.sj_world.specs.Ancestors.{IsAncestor, IsNext, IsWritten}
-use Rattle.sj_world.specs.Refusals.{HasNoCycle}
+use Rattle.sj_world.specs.Refusals.{HasNoCycle, IsWorldOf, IsRefused}
 use Rattle.sj_world.specs.Tables.{AreAncestors}
 use Rattle.sj_world.specs.Subtypes.{IsSub}
 use Rattle.sj_world.specs.Resolution.{HasNoBody, IsNearest, Answer, Resolves}
@@ -31,6 +33,18 @@ BodiesInherited = (w : Classes) (c d : Name) (m : MethodName) (body : MethodDef)
 -- a call resolves in one way
 abbrev pub ResolvesOnce : Type 0
 ResolvesOnce = (w : Classes) (c : Name) (m : MethodName) (r s : Answer) → Resolves w c m r → Resolves w c m s → r ≡ s
+
+-- the same classes make one world
+abbrev pub OneWorld : Type 0
+OneWorld = (given v w : Classes) → IsWorldOf given v → IsWorldOf given w → v ≡ w
+
+-- while there is memory they are refused for one reason
+abbrev pub OneRefusal : Type 0
+OneRefusal = (given : Classes) (e f : WorldError) → IsRefused given e → IsRefused given f → (e ≡ NoMemory → ⊥) → (f ≡ NoMemory → ⊥) → e ≡ f
+
+-- classes that make a world are refused for want of memory alone
+abbrev pub WorldOrRefusal : Type 0
+WorldOrRefusal = (given w : Classes) (e : WorldError) → IsWorldOf given w → IsRefused given e → e ≡ NoMemory
 
 -- no folder's class writes a hijacked class or stands above `java.lang.Object`
 pub record IsPlain (w : Classes) : Type 0 where

@@ -1,10 +1,6 @@
 -- Finite paths of steps, and the first item of a list with a property.
+pub use Rattle.worklist.specs.Paths.{Path, stay, on}
 use Rattle.std.specs.Prelude.{◌≡◌, ℕ, ◌<◌, List, Some, slice_get}
-
--- a finite number of steps leads from one thing to another; it may be none
-pub data Path {X : Type 0} (Step : X → X → Type 0) (start : X) : X → Type 0 where
-  stay : Path Step start start
-  on : (before after : X) → Path Step start before → Step before after → Path Step start after
 
 -- x stands in the list and has the property, and nothing before it has
 pub record IsFirst {X : Type 0} (Has : X → Type 0) (xs : List X) (x : X) : Type 0 where

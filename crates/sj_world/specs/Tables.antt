@@ -4,7 +4,7 @@ use Rattle.std.specs.Ordering.{nat_cmp}
 use Rattle.std.specs.Cmp.Lexicographic.{slice_cmp}
 use Rattle.std.specs.List.{IsDistinct}
 use Rattle.std.specs.List.Sorted.{IsSorted}
-use Rattle.std.specs.Prelude.{false, MatchOption, if◌then◌else◌}
+use Rattle.std.specs.Prelude.{true, false, MatchOption, if◌then◌else◌}
 use Rattle.std.specs.Ordering.{is_eq}
 use Rattle.std.specs.BTreeMap.{BTreeMap, get}
 use Rattle.sj_world.specs.declared.lines.Line.{Line}
@@ -37,7 +37,7 @@ line_at lines name = get (slice_cmp nat_cmp) lines name
 
 -- each known class has its line, and nothing else has one
 pub record AreLines (w : Classes) (lines : BTreeMap Name Line) : Type 0 where
-  pub right : (name : Name) → MatchOption (line_at lines name) (is_known w name ≡ false) (IsLine w name)
+  pub right : (name : Name) → MatchOption (line_at lines name) (is_known w name ≡ false) (λ line. (is_known w name ≡ true) × IsLine w name line)
 
 -- lines to which that of one class was added
 pub record IsAdded (w : Classes) (name : Name) (before after : BTreeMap Name Line) : Type 0 where

@@ -1,18 +1,18 @@
 // What stands above a class.
-ghost use Rattle.std.specs.Prelude.{◌≡◌, ◌↔◌, ◌∷◌, [], IfOk, OnOk, IsTrue, true, Contains, option_map};
+ghost use Rattle.std.specs.Prelude.{◌≡◌, ◌↔◌, ◌∷◌, [], IfOk, OnOk, true, Contains};
 ghost use Rattle.std.specs.List.{filter};
 ghost use Rattle.sj_world.specs.Known as known;
-ghost use Rattle.sj_world.specs.Known.{with_names};
-ghost use Rattle.sj_world.specs.Paths.{Path};
+ghost use Rattle.indexmap.specs.IndexSet.{insert_all};
 ghost use Rattle.sj_world.specs.Ancestors as ancestors;
-ghost use Rattle.sj_world.specs.Tables.{AreAncestors, AreChain};
+ghost use Rattle.sj_world.specs.Tables.{AreAncestors};
 ghost use Rattle.sj_world.specs.Refusals.{IsInOrder};
 
-use crate::known::{class_in, is_hijacked, is_known, stands_as};
+use crate::known::{class_in, is_known, stands_as};
 use indexmap::IndexSet;
-use sj_names::{ClassName, NoMemory};
+use sj_names::{ClassName, NoMemory, is_hijacked};
 use sj_trees::ClassDef;
 use std::alloc::Global;
+use worklist::{Step, search_from};
 
 /// The ancestors of a known class, in the order of their bytes.
 pub fn ancestors_of(
@@ -43,30 +43,9 @@ fn found_above(
     requires known { known.is_known classes.now name.now ≡ true }
     ensures { IfOk result (λ found. (x : known.Name) → Contains found.keys x ↔ ancestors.IsAncestor classes.now name.now x) }
 {
-    let mut found = reached(alloc, classes, object, name)?;
+    let parents = Parents { classes, object };
+    let mut found = search_from(alloc, &parents, name.copied()?)?;
     found.insert(object.copied()?)?;
-    Ok(found)
-}
-
-// The class and what paths of parents lead to from it, each once.
-fn reached(
-    alloc: Global,
-    classes: &[ClassDef],
-    object: &ClassName,
-    name: &ClassName,
-) -> Result<IndexSet<ClassName>, NoMemory>
-    requires in_order { IsInOrder classes.now }
-    requires object { object.now ≡ known.object }
-    ensures { IfOk result (λ found. (x : known.Name) → Contains found.keys x ↔ Path (ancestors.IsParent classes.now) name.now x) }
-{
-    let mut found = IndexSet::new(alloc);
-    found.insert(name.copied()?)?;
-    let mut next = 0;
-    while next < found.len() {
-        let at = found[next].copied()?;
-        add_parents(classes, object, &at, &mut found)?;
-        next += 1;
-    }
     Ok(found)
 }
 
@@ -81,22 +60,25 @@ pub fn listed(alloc: Global, names: &IndexSet<ClassName>) -> Result<Vec<ClassNam
     Ok(list)
 }
 
-// Adds the parents of a class.
-fn add_parents(
-    classes: &[ClassDef],
-    object: &ClassName,
-    name: &ClassName,
-    found: &mut IndexSet<ClassName>,
-) -> Result<(), NoMemory>
-    requires in_order { IsInOrder classes.now }
-    requires object { object.now ≡ known.object }
-    ensures { OnOk result (found.new.keys ≡ with_names found.old.keys (ancestors.parents classes.now name.now)) }
-{
-    let name = stands_as(name.text());
-    match class_in(classes, name) {
-        Some(class) => add_known_of(classes, class, found),
-        None if is_hijacked(name) => add_known(classes, object, found),
-        None => Ok(()),
+// What stands one step above a class, of that what is known.
+#[derive(Drop)]
+struct Parents<'c> {
+    classes: &'c [ClassDef],
+    object: &'c ClassName,
+    ghost in_order: { IsInOrder classes.now },
+    ghost is_object: { object.now ≡ known.object },
+}
+
+impl<'c> Step<ClassName> for Parents<'c> {
+    ghost next = { λ s name. ancestors.parents s.classes.now name };
+
+    fn add_next(&self, name: &ClassName, found: &mut IndexSet<ClassName>) -> Result<(), NoMemory> {
+        let name = stands_as(name.text());
+        match class_in(self.classes, name) {
+            Some(class) => add_known_of(self.classes, class, found),
+            None if is_hijacked(name) => add_known(self.classes, self.object, found),
+            None => Ok(()),
+        }
     }
 }
 
@@ -107,7 +89,7 @@ fn add_known_of(
     found: &mut IndexSet<ClassName>,
 ) -> Result<(), NoMemory>
     requires { IsInOrder classes.now }
-    ensures { OnOk result (found.new.keys ≡ with_names found.old.keys (filter (known.is_known classes.now) (ancestors.written class.now))) }
+    ensures { OnOk result (found.new.keys ≡ insert_all known.is_same found.old.keys (filter (known.is_known classes.now) (ancestors.written class.now))) }
 {
     if let Some(superclass) = &class.superclass {
         add_known(classes, superclass, found)?;
@@ -121,7 +103,7 @@ fn add_all_known(
     found: &mut IndexSet<ClassName>,
 ) -> Result<(), NoMemory>
     requires { IsInOrder classes.now }
-    ensures { OnOk result (found.new.keys ≡ with_names found.old.keys (filter (known.is_known classes.now) names.now)) }
+    ensures { OnOk result (found.new.keys ≡ insert_all known.is_same found.old.keys (filter (known.is_known classes.now) names.now)) }
 {
     for name in names {
         add_known(classes, name, found)?;
@@ -135,7 +117,7 @@ fn add_known(
     found: &mut IndexSet<ClassName>,
 ) -> Result<(), NoMemory>
     requires { IsInOrder classes.now }
-    ensures { OnOk result (found.new.keys ≡ with_names found.old.keys (filter (known.is_known classes.now) (name.now ∷ []))) }
+    ensures { OnOk result (found.new.keys ≡ insert_all known.is_same found.old.keys (filter (known.is_known classes.now) (name.now ∷ []))) }
 {
     if is_known(classes, name.text()) {
         found.insert(name.copied()?)?;

@@ -1,17 +1,17 @@
 // Chains of superclasses.
-ghost use Rattle.std.specs.Prelude.{◌≡◌, IfOk, OnOk, option_map};
+ghost use Rattle.std.specs.Prelude.{◌≡◌, IfOk, option_map};
 ghost use Rattle.sj_world.specs.Known as known;
-ghost use Rattle.sj_world.specs.Known.{with_names};
 ghost use Rattle.sj_world.specs.Ancestors as ancestors;
 ghost use Rattle.sj_world.specs.Tables.{AreChain};
 ghost use Rattle.sj_world.specs.Refusals.{IsInOrder};
 
 use crate::above::listed;
-use crate::known::{class_in, is_hijacked, stands_as};
+use crate::known::{class_in, stands_as};
 use indexmap::IndexSet;
-use sj_names::{ClassName, NoMemory};
+use sj_names::{ClassName, NoMemory, is_hijacked};
 use sj_trees::ClassDef;
 use std::alloc::Global;
+use worklist::{Step, search_from};
 
 /// The class, its superclass, and so on, each once.
 pub fn chain_of(
@@ -24,48 +24,28 @@ pub fn chain_of(
     requires object { object.now ≡ known.object }
     ensures { IfOk result (λ names. AreChain classes.now name.now names.items) }
 {
-    let found = climbed(alloc, classes, object, name)?;
+    let superclass = Superclass { classes, object };
+    let found = search_from(alloc, &superclass, name.copied()?)?;
     listed(alloc, &found)
 }
 
-fn climbed(
-    alloc: Global,
-    classes: &[ClassDef],
-    object: &ClassName,
-    name: &ClassName,
-) -> Result<IndexSet<ClassName>, NoMemory>
-    requires in_order { IsInOrder classes.now }
-    requires object { object.now ≡ known.object }
-    ensures { IfOk result (λ found. AreChain classes.now name.now found.keys) }
-{
-    let mut found = IndexSet::new(alloc);
-    found.insert(name.copied()?)?;
-    let mut next = 0;
-    while next < found.len() {
-        let at = found[next].copied()?;
-        add_next(classes, object, &at, &mut found)?;
-        next += 1;
-    }
-    Ok(found)
+// The class after this one.
+#[derive(Drop)]
+struct Superclass<'c> {
+    classes: &'c [ClassDef],
+    object: &'c ClassName,
+    ghost in_order: { IsInOrder classes.now },
+    ghost is_object: { object.now ≡ known.object },
 }
 
-// Adds the class after this one.
-fn add_next(
-    classes: &[ClassDef],
-    object: &ClassName,
-    name: &ClassName,
-    found: &mut IndexSet<ClassName>,
-) -> Result<(), NoMemory>
-    requires in_order { IsInOrder classes.now }
-    requires object { object.now ≡ known.object }
-    ensures { OnOk result (found.new.keys ≡ with_names found.old.keys (ancestors.listed (ancestors.next_on_chain classes.now name.now))) }
-{
-    match next_on_chain(classes, object, name.text()) {
-        Some(above) => {
+impl<'c> Step<ClassName> for Superclass<'c> {
+    ghost next = { λ s name. ancestors.listed (ancestors.next_on_chain s.classes.now name) };
+
+    fn add_next(&self, name: &ClassName, found: &mut IndexSet<ClassName>) -> Result<(), NoMemory> {
+        if let Some(above) = next_on_chain(self.classes, self.object, name.text()) {
             found.insert(above.copied()?)?;
-            Ok(())
         }
-        None => Ok(()),
+        Ok(())
     }
 }
 

@@ -1,6 +1,7 @@
 // Classes that stand above themselves.
 ghost use Rattle.std.specs.Prelude.{◌≡◌, ◌↔◌, IfOk, OnOk, IsTrue, MatchOption};
-ghost use Rattle.sj_world.specs.Known.{with_names};
+ghost use Rattle.indexmap.specs.IndexSet.{insert_all};
+ghost use Rattle.sj_world.specs.Known.{is_same};
 ghost use Rattle.sj_world.specs.Ancestors as ancestors;
 ghost use Rattle.sj_world.specs.Ancestors.{IsOnCycle};
 ghost use Rattle.sj_world.specs.Refusals.{IsInOrder, HasNoCycle, IsLeastOnCycle};
@@ -10,6 +11,7 @@ use indexmap::IndexSet;
 use sj_names::{ClassName, NoMemory};
 use sj_trees::ClassDef;
 use std::alloc::Global;
+use worklist::{Step, add_all, search};
 
 /// The least class that stands above itself by what is written.
 pub fn least_on_cycle<'c>(
@@ -32,46 +34,36 @@ fn is_on_cycle(alloc: Global, classes: &[ClassDef], name: &ClassName) -> Result<
     requires { IsInOrder classes.now }
     ensures { IfOk result (λ yes. IsTrue yes ↔ IsOnCycle classes.now name.now) }
 {
+    let written_above = WrittenAbove { classes };
     let mut found = IndexSet::new(alloc);
-    add_written_above(classes, name, &mut found)?;
-    let mut next = 0;
-    while next < found.len() {
-        let at = found[next].copied()?;
-        add_written_above(classes, &at, &mut found)?;
-        next += 1;
-    }
+    written_above.add_next(name, &mut found)?;
+    search(&written_above, &mut found)?;
     Ok(found.contains(name))
 }
 
-// Adds what is written above the class of this name.
-fn add_written_above(
-    classes: &[ClassDef],
-    name: &ClassName,
-    found: &mut IndexSet<ClassName>,
-) -> Result<(), NoMemory>
-    requires { IsInOrder classes.now }
-    ensures { OnOk result (found.new.keys ≡ with_names found.old.keys (ancestors.written_above classes.now name.now)) }
-{
-    match class_in(classes, name.text()) {
-        Some(class) => Ok(add_written(class, found)?),
-        None => Ok(()),
+// What is written above a class.
+#[derive(Drop)]
+struct WrittenAbove<'c> {
+    classes: &'c [ClassDef],
+    ghost in_order: { IsInOrder classes.now },
+}
+
+impl<'c> Step<ClassName> for WrittenAbove<'c> {
+    ghost next = { λ s name. ancestors.written_above s.classes.now name };
+
+    fn add_next(&self, name: &ClassName, found: &mut IndexSet<ClassName>) -> Result<(), NoMemory> {
+        match class_in(self.classes, name.text()) {
+            Some(class) => add_written(class, found),
+            None => Ok(()),
+        }
     }
 }
 
 fn add_written(class: &ClassDef, found: &mut IndexSet<ClassName>) -> Result<(), NoMemory>
-    ensures { OnOk result (found.new.keys ≡ with_names found.old.keys (ancestors.written class.now)) }
+    ensures { OnOk result (found.new.keys ≡ insert_all is_same found.old.keys (ancestors.written class.now)) }
 {
     if let Some(superclass) = &class.superclass {
         found.insert(superclass.copied()?)?;
     }
-    add_names(class.interfaces.as_slice(), found)
-}
-
-fn add_names(names: &[ClassName], found: &mut IndexSet<ClassName>) -> Result<(), NoMemory>
-    ensures { OnOk result (found.new.keys ≡ with_names found.old.keys names.now) }
-{
-    for name in names {
-        found.insert(name.copied()?)?;
-    }
-    Ok(())
+    add_all(class.interfaces.as_slice(), found)
 }

@@ -3,25 +3,8 @@ ghost use Rattle.std.specs.Prelude.{◌≡◌, option_map};
 ghost use Rattle.sj_world.specs.Known as known;
 ghost use Rattle.sj_world.specs.Refusals.{IsInOrder};
 
+use sj_names::{INTEGER, is_hijacked};
 use sj_trees::ClassDef;
-
-pub const OBJECT: &str = "java.lang.Object";
-
-pub const INTEGER: &str = "java.lang.Integer";
-
-// Whether `name` is one of the eight classes whose instances are primitive values.
-pub fn is_hijacked(name: &str) -> bool
-    ensures { result ≡ known.is_hijacked name.now }
-{
-    name == "java.lang.Void"
-        || name == "java.lang.Boolean"
-        || name == "java.lang.Character"
-        || name == "java.lang.Byte"
-        || name == "java.lang.Short"
-        || name == "java.lang.Integer"
-        || name == "java.lang.Long"
-        || name == "java.lang.String"
-}
 
 // The class of this name.
 pub fn class_in<'c>(classes: &'c [ClassDef], name: &str) -> Option<&'c ClassDef>

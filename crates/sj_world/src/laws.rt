@@ -3,7 +3,7 @@ ghost use Rattle.std.specs.Prelude.{◌≡◌, ◌∷◌, [], Some, None, codes}
 ghost use Rattle.sj_world.specs.Known.{object};
 ghost use Rattle.sj_world.specs.Ancestors.{parents, next_on_chain, IsAncestor, IsOnCycle};
 ghost use Rattle.sj_world.specs.Rows.{family, capped, ring, number};
-ghost use Rattle.sj_world.specs.Laws.{AncestorsRise, AncestorsGrow, SubtypesReflexive, SubtypesTransitive, BodiesInherited, ResolvesOnce};
+ghost use Rattle.sj_world.specs.Laws.{AncestorsRise, AncestorsGrow, SubtypesReflexive, SubtypesTransitive, BodiesInherited, ResolvesOnce, OneWorld, OneRefusal, WorldOrRefusal};
 
 /// Where nothing stands above `java.lang.Object`, an ancestor's ancestor is an ancestor.
 pub fn ancestors_rise()
@@ -29,6 +29,13 @@ pub fn bodies_are_inherited()
 /// A call resolves in one way.
 pub fn calls_resolve_once()
     ensures { ResolvesOnce }
+{}
+
+/// The same classes make one world, or are refused for one reason, as long as there is memory.
+pub fn worlds_are_one()
+    ensures world { OneWorld }
+    ensures refusal { OneRefusal }
+    ensures either { WorldOrRefusal }
 {}
 
 /// Worked worlds. Above `B` stands `A`; above `N`, whose superclass isn't there, nothing by a path, and `java.lang.Object` all the

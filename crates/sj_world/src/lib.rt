@@ -21,13 +21,10 @@ mod worlds;
 
 pub use laws::{
     ancestors_grow, ancestors_rise, bodies_are_inherited, calls_resolve_once, subtypes_are_ordered,
-    worked_worlds,
+    worked_worlds, worlds_are_one,
 };
 pub use linked::{Fact, LinkedWorld, MethodEntry};
 pub use members::Owned;
 pub use receivers::receiver_class;
 pub use resolving::Resolution;
 pub use worlds::{World, WorldError};
-
-#[cfg(test)]
-mod tests;

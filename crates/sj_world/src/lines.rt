@@ -8,8 +8,7 @@ ghost use Rattle.sj_world.specs.Refusals.{IsInOrder};
 
 use crate::above::ancestors_of;
 use crate::chains::chain_of;
-use crate::known::OBJECT;
-use sj_names::{ClassName, Items, NoMemory, Text};
+use sj_names::{ClassName, Items, NoMemory, OBJECT, Text};
 use sj_trees::ClassDef;
 use std::alloc::Global;
 use std::collections::BTreeMap;

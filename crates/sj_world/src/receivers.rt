@@ -3,8 +3,7 @@ ghost use Rattle.std.specs.Prelude.{◌≡◌, ◌↔◌, IsTrue, option_map};
 ghost use Rattle.sj_world.specs.Calls as calls;
 
 use crate::World;
-use crate::known::OBJECT;
-use sj_names::ClassName;
+use sj_names::{ClassName, OBJECT};
 use sj_trees::IrType;
 
 /// The class in which a call on a receiver of this type is looked up: of a class type that class, of any and of an array type

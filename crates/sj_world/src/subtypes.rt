@@ -9,8 +9,7 @@ ghost use Rattle.sj_world.specs.Subtypes.{IsSub, IsSubBase};
 ghost use Rattle.sj_world.specs.Under.{IsUnder, IsUnderClass, IsUnderArray, IsClassUnder, AreAlike, IsDeeper};
 
 use crate::World;
-use crate::known::OBJECT;
-use sj_names::{ArrayRef, BaseRef, ClassName};
+use sj_names::{ArrayRef, BaseRef, ClassName, OBJECT};
 use sj_trees::IrType;
 
 impl World {

@@ -108,13 +108,20 @@ impl World {
     pub fn class(&self, name: &ClassName) -> Option<&ClassDef>
         ensures { option_map (λ c. c.now) result ≡ class_of self.now name.now }
     {
-        class_in(&self.classes, name.text())
+        self.class_named(name.text())
     }
 
-    /// The ancestors of a class, in the order of the bytes of their names. A class that isn't known has none; known are those of
-    /// the world and the eight hijacked classes.
+    /// The class whose name this text is.
+    pub fn class_named(&self, name: &str) -> Option<&ClassDef>
+        ensures { option_map (λ c. c.now) result ≡ class_of self.now name.now }
+    {
+        class_in(&self.classes, name)
+    }
+
+    /// The ancestors of a class, in the order of the bytes of their names; `None` exactly where it isn't known. Known are the classes
+    /// of the world and the eight hijacked classes.
     pub fn ancestors(&self, name: &ClassName) -> Option<&[ClassName]>
-        ensures { MatchOption result (is_known self.now name.now ≡ false) (λ names. AreAncestors self.now name.now names.now) }
+        ensures { MatchOption result (is_known self.now name.now ≡ false) (λ names. (is_known self.now name.now ≡ true) × AreAncestors self.now name.now names.now) }
     {
         match self.tables.lines.get(name) {
             Some(line) => Some(line.ancestors.as_slice()),
@@ -122,9 +129,9 @@ impl World {
         }
     }
 
-    /// The class, its superclass, and so on, each once. A class that isn't known has no chain.
+    /// The class, its superclass, and so on, each once; `None` exactly where it isn't known.
     pub fn chain(&self, name: &ClassName) -> Option<&[ClassName]>
-        ensures { MatchOption result (is_known self.now name.now ≡ false) (λ names. AreChain self.now name.now names.now) }
+        ensures { MatchOption result (is_known self.now name.now ≡ false) (λ names. (is_known self.now name.now ≡ true) × AreChain self.now name.now names.now) }
     {
         match self.tables.lines.get(name) {
             Some(line) => Some(line.chain.as_slice()),

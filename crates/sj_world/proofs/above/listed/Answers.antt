@@ -1,5 +1,5 @@
 use Rattle.std.proofs.Common.{sym, ◌∙◌, ap, Some, [], ◌∷◌, ◌++◌}
-use Rattle.sj_world.proofs.Worklist.{Names, taken_more}
+use Rattle.sj_world.proofs.Names.{Names, taken_more}
 use Rattle.sj_world.proofs.above.listed.Goals as goal
 
 pub loop-place-preserved : goal.loop-place-preserved

@@ -1,6 +1,6 @@
 use Rattle.std.proofs.Common.{sym, subst, arith, Contains, take, refl}
 use Rattle.std.proofs.lemmas.Option.{slice_get_read}
-use Rattle.sj_world.proofs.Worklist.{Names, taken_more, taken_whole}
+use Rattle.sj_world.proofs.Names.{Names, taken_more, taken_whole}
 use Rattle.sj_world.proofs.Lined.{Lined, lined_more, lined_whole, named_is_known}
 use Rattle.sj_world.proofs.lines.all_lines.Goals as goal
 
