@@ -1,4 +1,5 @@
 -- The parts of a term: the trees in it, in order, without what lies between them.
+use Rattle.sj_trees.specs.Erase.{erase, erase_all, erase_cases}
 use Rattle.sj_trees.specs.View.{view, terms_view, cases_view}
 use Rattle.sj_trees.specs.Term.{Term, Terms, Cases, no_terms, more_terms, no_cases, more_cases, var_def, skip, block_of, labeled, assign, return_to, if_then, while_loop, do_while, try_catch, try_finally, throw, match_on, new_object, load_module, store_module, select, select_static, apply, apply_statically, apply_static, unary_op, binary_op, new_array, array_value, array_length, array_select, is_instance_of, as_instance_of, undefined_literal, null_literal, boolean_literal, char_literal, byte_literal, short_literal, int_literal, long_literal, string_literal, var_ref, this_ref, log_line}
 use Rattle.tree_parts.specs.declared.parts.Parts.{Parts}
@@ -67,3 +68,13 @@ seen (the.Three a b c) = three_parts (view a.now) (view b.now) (view c.now)
 seen (the.Many ts) = many_parts (terms_view ts.now)
 seen (the.OneAndMany a ts) = one_and_many (view a.now) (terms_view ts.now)
 seen (the.Cases a cs b) = part_and_cases (view a.now) (cases_view cs.now) (view b.now)
+
+-- the parts apart from positions
+abbrev pub erased_parts : TermParts → TermParts
+erased_parts no_part = no_part
+erased_parts (one_part a) = one_part (erase a)
+erased_parts (two_parts a b) = two_parts (erase a) (erase b)
+erased_parts (three_parts a b c) = three_parts (erase a) (erase b) (erase c)
+erased_parts (many_parts ts) = many_parts (erase_all ts)
+erased_parts (one_and_many a ts) = one_and_many (erase a) (erase_all ts)
+erased_parts (part_and_cases a cs b) = part_and_cases (erase a) (erase_cases cs) (erase b)

@@ -1,0 +1,260 @@
+// What a tree has of its own.
+ghost use Rattle.std.specs.Prelude.{◌≡◌, ◌↔◌, IsTrue, option_map};
+ghost use Rattle.sj_trees.specs.View.{view};
+ghost use Rattle.tree_parts.specs.Own.{own_of, own_seen, nothing};
+
+use sj_names::{ArrayRef, MethodName, Namespace};
+use sj_trees::{BinaryOp, Form, IrType, Tree, UnaryOp};
+
+/// The form of a tree, and what stands in it beside its position and the trees in it: its names, types, operators and literals, each
+/// empty where the form has none.
+#[derive(Clone, Copy)]
+pub struct Own<'a> {
+    pub form: Form,
+    /// The name of a local or a label.
+    pub text: &'a str,
+    pub class: &'a str,
+    pub field: &'a str,
+    pub method: Option<&'a MethodName>,
+    pub namespace: Option<Namespace>,
+    pub array: Option<&'a ArrayRef>,
+    pub tpe: Option<&'a IrType>,
+    /// Whether a variable may be assigned, or the value of a truth literal.
+    pub mark: bool,
+    pub unary: Option<UnaryOp>,
+    pub binary: Option<BinaryOp>,
+    /// The value of a character literal.
+    pub unit: u16,
+    /// The value of a literal of a number.
+    pub number: i64,
+    pub units: &'a [u16],
+}
+
+// A form alone.
+fn nothing<'a>(form: Form) -> Own<'a>
+    ensures { own_seen result ≡ nothing form }
+{
+    Own {
+        form,
+        text: "",
+        class: "",
+        field: "",
+        method: None,
+        namespace: None,
+        array: None,
+        tpe: None,
+        mark: false,
+        unary: None,
+        binary: None,
+        unit: 0,
+        number: 0,
+        units: &[],
+    }
+}
+
+/// What `tree` has of its own.
+pub fn own_in(tree: &Tree) -> Own<'_>
+    ensures { own_seen result ≡ own_of (view tree.now) }
+{
+    let plain = nothing(tree.form());
+    match tree {
+        Tree::VarDef(_, text, tpe, mark, _) => Own {
+            text: text.text(),
+            tpe: Some(tpe),
+            mark: *mark,
+            ..plain
+        },
+        Tree::Labeled(_, text, tpe, _) => Own {
+            text: text.text(),
+            tpe: Some(tpe),
+            ..plain
+        },
+        Tree::Return(_, _, text) => Own {
+            text: text.text(),
+            ..plain
+        },
+        Tree::If(_, _, _, _, tpe) => Own {
+            tpe: Some(tpe),
+            ..plain
+        },
+        Tree::TryCatch(_, _, text, _, tpe) => Own {
+            text: text.text(),
+            tpe: Some(tpe),
+            ..plain
+        },
+        Tree::Match(_, _, _, _, tpe) => Own {
+            tpe: Some(tpe),
+            ..plain
+        },
+        Tree::New(_, class, method, _) => Own {
+            class: class.text(),
+            method: Some(method),
+            ..plain
+        },
+        Tree::LoadModule(_, class) => Own {
+            class: class.text(),
+            ..plain
+        },
+        Tree::StoreModule(_, class, _) => Own {
+            class: class.text(),
+            ..plain
+        },
+        Tree::Select(_, _, class, field, tpe) => Own {
+            class: class.text(),
+            field: field.text(),
+            tpe: Some(tpe),
+            ..plain
+        },
+        Tree::SelectStatic(_, class, field, tpe) => Own {
+            class: class.text(),
+            field: field.text(),
+            tpe: Some(tpe),
+            ..plain
+        },
+        Tree::Apply(_, _, method, _, tpe) => Own {
+            method: Some(method),
+            tpe: Some(tpe),
+            ..plain
+        },
+        Tree::ApplyStatically(_, _, class, namespace, method, _, tpe) => Own {
+            class: class.text(),
+            namespace: Some(*namespace),
+            method: Some(method),
+            tpe: Some(tpe),
+            ..plain
+        },
+        Tree::ApplyStatic(_, class, namespace, method, _, tpe) => Own {
+            class: class.text(),
+            namespace: Some(*namespace),
+            method: Some(method),
+            tpe: Some(tpe),
+            ..plain
+        },
+        Tree::UnaryOp(_, unary, _) => Own {
+            unary: Some(*unary),
+            ..plain
+        },
+        Tree::BinaryOp(_, binary, _, _) => Own {
+            binary: Some(*binary),
+            ..plain
+        },
+        Tree::NewArray(_, array, _) => Own {
+            array: Some(array),
+            ..plain
+        },
+        Tree::ArrayValue(_, array, _) => Own {
+            array: Some(array),
+            ..plain
+        },
+        Tree::ArraySelect(_, _, _, tpe) => Own {
+            tpe: Some(tpe),
+            ..plain
+        },
+        Tree::IsInstanceOf(_, _, tpe) => Own {
+            tpe: Some(tpe),
+            ..plain
+        },
+        Tree::AsInstanceOf(_, _, tpe) => Own {
+            tpe: Some(tpe),
+            ..plain
+        },
+        Tree::BooleanLiteral(_, mark) => Own {
+            mark: *mark,
+            ..plain
+        },
+        Tree::CharLiteral(_, unit) => Own {
+            unit: *unit,
+            ..plain
+        },
+        Tree::ByteLiteral(_, number) => Own {
+            number: i64::from(*number),
+            ..plain
+        },
+        Tree::ShortLiteral(_, number) => Own {
+            number: i64::from(*number),
+            ..plain
+        },
+        Tree::IntLiteral(_, number) => Own {
+            number: i64::from(*number),
+            ..plain
+        },
+        Tree::LongLiteral(_, number) => Own {
+            number: *number,
+            ..plain
+        },
+        Tree::StringLiteral(_, units) => Own {
+            units: units.as_slice(),
+            ..plain
+        },
+        Tree::VarRef(_, text, tpe) => Own {
+            text: text.text(),
+            tpe: Some(tpe),
+            ..plain
+        },
+        Tree::This(_, tpe) => Own {
+            tpe: Some(tpe),
+            ..plain
+        },
+        Tree::Skip(_)
+        | Tree::Block(_, _)
+        | Tree::Assign(_, _, _)
+        | Tree::While(_, _, _)
+        | Tree::DoWhile(_, _, _)
+        | Tree::TryFinally(_, _, _)
+        | Tree::Throw(_, _)
+        | Tree::ArrayLength(_, _)
+        | Tree::Undefined(_)
+        | Tree::Null(_)
+        | Tree::Log(_, _) => plain,
+    }
+}
+
+/// Whether both have the same of their own.
+pub fn is_same_own(own: &Own<'_>, other: &Own<'_>) -> bool
+    ensures { IsTrue result ↔ (own_seen own.now ≡ own_seen other.now) }
+{
+    own.form.code() == other.form.code()
+        && own.mark == other.mark
+        && own.unit == other.unit
+        && own.number == other.number
+        && own.namespace == other.namespace
+        && own.unary == other.unary
+        && own.binary == other.binary
+        && own.text == other.text
+        && own.class == other.class
+        && own.field == other.field
+        && own.units == other.units
+        && is_same_type(own.tpe, other.tpe)
+        && is_same_method_name(own.method, other.method)
+        && is_same_array(own.array, other.array)
+}
+
+fn is_same_type(one: Option<&IrType>, other: Option<&IrType>) -> bool
+    ensures { IsTrue result ↔ (option_map (λ t. t.now) one ≡ option_map (λ t. t.now) other) }
+{
+    match (one, other) {
+        (Some(one), Some(other)) => one.is_same(other),
+        (None, None) => true,
+        _ => false,
+    }
+}
+
+fn is_same_method_name(one: Option<&MethodName>, other: Option<&MethodName>) -> bool
+    ensures { IsTrue result ↔ (option_map (λ g. g.now) one ≡ option_map (λ g. g.now) other) }
+{
+    match (one, other) {
+        (Some(one), Some(other)) => one.is_same(other),
+        (None, None) => true,
+        _ => false,
+    }
+}
+
+fn is_same_array(one: Option<&ArrayRef>, other: Option<&ArrayRef>) -> bool
+    ensures { IsTrue result ↔ (option_map (λ r. r.now) one ≡ option_map (λ r. r.now) other) }
+{
+    match (one, other) {
+        (Some(one), Some(other)) => one.is_same(other),
+        (None, None) => true,
+        _ => false,
+    }
+}
