@@ -1,5 +1,5 @@
 -- What a term has of its own, beside its position and the terms in it.
-use Rattle.std.specs.Prelude.{ℕ, ℤ, Bool, false, List, [], Option, Some, None, option_map}
+use Rattle.std.specs.Prelude.{ℕ, zero, ℤ, pos, Bool, false, List, [], Option, Some, None, option_map}
 use Rattle.sj_names.specs.declared.method_names.MethodName.{MethodName}
 use Rattle.sj_names.specs.declared.method_names.Namespace.{Namespace}
 use Rattle.sj_names.specs.declared.references.ArrayRef.{ArrayRef}
@@ -36,7 +36,7 @@ pub record OwnParts : Type 0 where
 
 -- a form alone
 abbrev pub nothing : Form → OwnParts
-nothing form = record { form = form_code form; text = []; class = []; field = []; method = None; namespace = None; array = None; tpe = None; mark = false; unary = None; binary = None; unit = 0; number = 0; units = [] }
+nothing form = record { form = form_code form; text = []; class = []; field = []; method = None; namespace = None; array = None; tpe = None; mark = false; unary = None; binary = None; unit = 0; number = pos zero; units = [] }
 
 abbrev pub own_of : Term → OwnParts
 own_of (var_def _ x t m _) = record (nothing (Statement statements.VarDef)) { text = x; tpe = Some t; mark = m }

@@ -1,6 +1,7 @@
 // What a tree has of its own.
 ghost use Rattle.std.specs.Prelude.{◌≡◌, ◌↔◌, IsTrue, option_map};
 ghost use Rattle.sj_trees.specs.View.{view};
+ghost use Rattle.sj_trees.specs.Forms.{form_code};
 ghost use Rattle.tree_parts.specs.Own.{own_of, own_seen, nothing};
 
 use sj_names::{ArrayRef, MethodName, Namespace};
@@ -213,24 +214,44 @@ pub fn own_in(tree: &Tree) -> Own<'_>
 pub fn is_same_own(own: &Own<'_>, other: &Own<'_>) -> bool
     ensures { IsTrue result ↔ (own_seen own.now ≡ own_seen other.now) }
 {
+    are_same_literals(own, other)
+        && are_same_names(own, other)
+        && are_same_operators(own, other)
+        && are_same_references(own, other)
+}
+
+fn are_same_literals(own: &Own<'_>, other: &Own<'_>) -> bool
+    ensures { IsTrue result ↔ ((form_code own.now.form ≡ form_code other.now.form) × (own.now.mark ≡ other.now.mark) × (own.now.unit ≡ other.now.unit) × (own.now.number ≡ other.now.number) × (own.now.units.now ≡ other.now.units.now)) }
+{
     own.form.code() == other.form.code()
         && own.mark == other.mark
         && own.unit == other.unit
         && own.number == other.number
-        && own.namespace == other.namespace
-        && own.unary == other.unary
-        && own.binary == other.binary
-        && own.text == other.text
-        && own.class == other.class
-        && own.field == other.field
         && own.units == other.units
-        && is_same_type(own.tpe, other.tpe)
+}
+
+fn are_same_names(own: &Own<'_>, other: &Own<'_>) -> bool
+    ensures { IsTrue result ↔ ((own.now.text.now ≡ other.now.text.now) × (own.now.class.now ≡ other.now.class.now) × (own.now.field.now ≡ other.now.field.now)) }
+{
+    own.text == other.text && own.class == other.class && own.field == other.field
+}
+
+fn are_same_operators(own: &Own<'_>, other: &Own<'_>) -> bool
+    ensures { IsTrue result ↔ ((own.now.namespace ≡ other.now.namespace) × (own.now.unary ≡ other.now.unary) × (own.now.binary ≡ other.now.binary)) }
+{
+    own.namespace == other.namespace && own.unary == other.unary && own.binary == other.binary
+}
+
+fn are_same_references(own: &Own<'_>, other: &Own<'_>) -> bool
+    ensures { IsTrue result ↔ ((option_map (λ t. t.now) own.now.tpe ≡ option_map (λ t. t.now) other.now.tpe) × (option_map (λ g. g.now) own.now.method ≡ option_map (λ g. g.now) other.now.method) × (option_map (λ r. r.now) own.now.array ≡ option_map (λ r. r.now) other.now.array)) }
+{
+    is_same_type(own.tpe, other.tpe)
         && is_same_method_name(own.method, other.method)
         && is_same_array(own.array, other.array)
 }
 
 fn is_same_type(one: Option<&IrType>, other: Option<&IrType>) -> bool
-    ensures { IsTrue result ↔ (option_map (λ t. t.now) one ≡ option_map (λ t. t.now) other) }
+    ensures { IsTrue result ↔ (option_map (λ t. t.now) one.entry ≡ option_map (λ t. t.now) other.entry) }
 {
     match (one, other) {
         (Some(one), Some(other)) => one.is_same(other),
@@ -240,7 +261,7 @@ fn is_same_type(one: Option<&IrType>, other: Option<&IrType>) -> bool
 }
 
 fn is_same_method_name(one: Option<&MethodName>, other: Option<&MethodName>) -> bool
-    ensures { IsTrue result ↔ (option_map (λ g. g.now) one ≡ option_map (λ g. g.now) other) }
+    ensures { IsTrue result ↔ (option_map (λ g. g.now) one.entry ≡ option_map (λ g. g.now) other.entry) }
 {
     match (one, other) {
         (Some(one), Some(other)) => one.is_same(other),
@@ -250,7 +271,7 @@ fn is_same_method_name(one: Option<&MethodName>, other: Option<&MethodName>) -> 
 }
 
 fn is_same_array(one: Option<&ArrayRef>, other: Option<&ArrayRef>) -> bool
-    ensures { IsTrue result ↔ (option_map (λ r. r.now) one ≡ option_map (λ r. r.now) other) }
+    ensures { IsTrue result ↔ (option_map (λ r. r.now) one.entry ≡ option_map (λ r. r.now) other.entry) }
 {
     match (one, other) {
         (Some(one), Some(other)) => one.is_same(other),
