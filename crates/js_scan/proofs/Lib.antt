@@ -7,4 +7,5 @@ pub mod Keywords
 pub mod Literals
 pub mod Loops
 pub mod NumberSteps
+pub mod Parts
 pub mod Runs

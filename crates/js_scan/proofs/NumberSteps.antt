@@ -1,5 +1,5 @@
 -- The longest run of digits is what the reader on lists reads.
-use Rattle.std.proofs.Common.{◌≡◌, ℕ, ◌+◌, ◌-◌, ◌<◌, ◌≤◌, Bool, true, false, cond, ◌&&◌, eqb, ltb, List, [], ◌∷◌, ◌++◌, length, drop, get_or, ◌≢◌, Some, Ok, Err, refl, sym, ap, subst, ◌∙◌, arith, drop-cons, drop_of_length-le, add-one, inl, inr}
+use Rattle.std.proofs.Common.{◌≡◌, ℕ, ◌+◌, ◌<◌, ◌≤◌, Bool, true, false, cond, ◌&&◌, eqb, ltb, List, [], ◌∷◌, ◌++◌, length, drop, get_or, ◌≢◌, Some, Ok, Err, refl, sym, ap, subst, ◌∙◌, arith, drop-cons, drop_of_length-le, add-one, inl, inr}
 use Rattle.std.proofs.lemmas.Bool.{eqb-true, lt-ltb, le-ltb, leb-true}
 use Rattle.exact_place.specs.Reading.{passes, run_at}
 use Rattle.exact_place.specs.Tokens.{is_digit, one_more, digits_value, digits_below, begins_number, number_of}

@@ -30,19 +30,11 @@ pub fn next_other(byte: u8, bytes: &[u8]) -> bool
     }
 }
 
-/// Whether the byte is a decimal digit.
-pub fn is_digit_byte(byte: u8) -> bool
-    ensures { result ≡ is_digit byte }
-{
-    byte >= 48 && byte <= 57
-}
-
 /// Whether the byte is a letter, a digit, `_` or `$`.
 pub fn is_name_byte(byte: u8) -> bool
     ensures { result ≡ is_name_character byte }
 {
-    (byte >= 65 && byte <= 90 || byte >= 97 && byte <= 122)
-        || (byte == 95 || byte == 36 || is_digit_byte(byte))
+    byte.is_ascii_alphanumeric() || byte == b'_' || byte == b'$'
 }
 
 /// Whether the next byte begins a word.
@@ -50,7 +42,7 @@ pub fn next_is_word_start(bytes: &[u8]) -> bool
     ensures { result ≡ passes is_word_start bytes.now }
 {
     match bytes {
-        [first, ..] => is_name_byte(*first) && !is_digit_byte(*first),
+        [first, ..] => is_name_byte(*first) && !first.is_ascii_digit(),
         [] => false,
     }
 }
@@ -60,7 +52,7 @@ pub fn next_is_digit(bytes: &[u8]) -> bool
     ensures { result ≡ passes is_digit bytes.now }
 {
     match bytes {
-        [first, ..] => is_digit_byte(*first),
+        [first, ..] => first.is_ascii_digit(),
         [] => false,
     }
 }
@@ -70,7 +62,7 @@ pub fn next_is_suffix(bytes: &[u8]) -> bool
     ensures { result ≡ passes is_suffix bytes.now }
 {
     match bytes {
-        [first, ..] => *first == 46 || *first == 91,
+        [first, ..] => *first == b'.' || *first == b'[',
         [] => false,
     }
 }

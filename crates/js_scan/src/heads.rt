@@ -1,11 +1,13 @@
 // First words: names and the keywords that may stand in their place.
 ghost use Rattle.std.specs.Prelude.{◌≡◌, ◌≤◌, IfOk, length, take, drop};
+ghost use Rattle.exact_place.specs.Reading.{lead_at};
 ghost use Rattle.exact_place.specs.Tokens.{is_front, begins_entry, entry_of};
 ghost use Rattle.js_scan.specs.Runs.{IsSplit};
 ghost use Rattle.js_scan.specs.Gives.{Gives};
 ghost use Rattle.js_spelling.specs.Tokens.{name_at, property_at, head_at, new_head_at, parenthesis_head_at, statement_head_at, line_head_at, member_head_at, infix_at};
 ghost use Rattle.js_spelling.specs.Words as words;
 
+use crate::bytes::literal;
 use crate::names::{is_binding_name, is_property_name, split_name, split_property, text_of};
 use crate::stop::Stop;
 use js_spelling::{
@@ -65,6 +67,18 @@ pub fn name_of<'a>(alloc: Global, bytes: &'a [u8]) -> Result<(Text, &'a [u8]), S
     } else {
         Err(Stop::Bad(rest.len()))
     }
+}
+
+/// A name behind these bytes.
+pub fn name_behind<'a>(
+    alloc: Global,
+    lead: &[u8],
+    bytes: &'a [u8],
+) -> Result<(Text, &'a [u8]), Stop>
+    ensures { Gives (λ x. (x.0, x.1.now)) result (lead_at lead.now name_at bytes.now) }
+{
+    let rest = literal(lead, bytes)?;
+    name_of(alloc, rest)
 }
 
 /// The name of a property.

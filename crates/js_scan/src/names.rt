@@ -6,7 +6,7 @@ ghost use Rattle.js_spelling.specs.Words.{begins_name, begins_property};
 ghost use Rattle.js_spelling.specs.Modules.{begins_file};
 ghost use Rattle.js_scan.specs.Runs.{IsSplit, IsLongest};
 
-use crate::bytes::{is_digit_byte, is_name_byte, next_is_word_start};
+use crate::bytes::{is_name_byte, next_is_word_start};
 use sj_names::{NoMemory, Text};
 use std::alloc::Global;
 use std::str;
@@ -14,14 +14,14 @@ use std::str;
 fn is_mark_byte(byte: u8) -> bool
     ensures { result ≡ is_mark byte }
 {
-    byte == 95 || byte == 36 || is_digit_byte(byte)
+    byte == b'_' || byte == b'$' || byte.is_ascii_digit()
 }
 
 /// Whether the byte is a small letter, a digit or `-`.
 fn is_file_byte(byte: u8) -> bool
     ensures { result ≡ is_file_character byte }
 {
-    byte >= 97 && byte <= 122 || is_digit_byte(byte) || byte == 45
+    byte.is_ascii_lowercase() || byte.is_ascii_digit() || byte == b'-'
 }
 
 fn all_name_bytes(word: &[u8]) -> bool
@@ -53,7 +53,7 @@ pub fn is_binding_name(word: &[u8]) -> bool
     match word {
         [first, others @ ..] => {
             all_name_bytes(word)
-                && !is_digit_byte(*first)
+                && !first.is_ascii_digit()
                 && (any_mark(word) || has_nothing(others))
         }
         [] => false,
@@ -64,7 +64,7 @@ fn has_two_underscores(word: &[u8]) -> bool
     ensures { result ≡ is_dunder word.now }
 {
     match word {
-        [first, second, ..] => *first == 95 && *second == 95,
+        [first, second, ..] => *first == b'_' && *second == b'_',
         [_] => false,
         [] => false,
     }

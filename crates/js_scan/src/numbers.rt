@@ -7,7 +7,7 @@ ghost use Rattle.js_scan.specs.Gives.{Gives};
 ghost use Rattle.js_scan.specs.Runs.{number_run};
 ghost use Rattle.js_spelling.specs.Tokens.{number_end_at, number_at, below_end_at, below_at, key_at};
 
-use crate::bytes::{is_digit_byte, literal, next_is, next_is_digit};
+use crate::bytes::{literal, next_is, next_is_digit};
 use crate::stop::Stop;
 use js_tree::JsExpr;
 
@@ -20,10 +20,10 @@ fn longest_number<'a>(limit: u128, bytes: &'a [u8]) -> (u128, &'a [u8])
 {
     let mut value: u128 = 0;
     for (i, byte) in bytes.iter().enumerate() {
-        if !is_digit_byte(*byte) {
+        if !byte.is_ascii_digit() {
             return (value, &bytes[i..]);
         }
-        let next = value * 10 + u128::from(*byte - 48);
+        let next = value * 10 + u128::from(*byte - b'0');
         if next >= limit {
             return (value, &bytes[i..]);
         }
@@ -41,7 +41,7 @@ fn digits_of<'a>(nought: bool, limit: u128, bytes: &'a [u8]) -> Result<(u128, &'
     ensures below { IfOk result (λ x. x.0 < limit) }
     ensures some { IfOk result (λ x. nought ≡ false → 0 < x.0) }
 {
-    if next_is(48, bytes) {
+    if next_is(b'0', bytes) {
         if nought {
             Ok((0, &bytes[1..]))
         } else {
@@ -77,7 +77,7 @@ fn number_end<'a>(value: u128, bytes: &'a [u8]) -> Result<(JsExpr, &'a [u8]), St
     requires { value < 2 ^ 63 }
     ensures { Gives (λ x. (expression_view x.0, x.1.now)) result (number_end_at value bytes.now) }
 {
-    if value < 2147483648 && !next_is(110, bytes) {
+    if value < 2147483648 && !next_is(b'n', bytes) {
         Ok((JsExpr::Number(value as i32), bytes))
     } else {
         let rest = literal(b"n", bytes)?;
@@ -101,7 +101,7 @@ fn below_end<'a>(value: u128, bytes: &'a [u8]) -> Result<(JsExpr, &'a [u8]), Sto
     requires fits { value ≤ 2 ^ 63 }
     ensures { Gives (λ x. (expression_view x.0, x.1.now)) result (below_end_at value bytes.now) }
 {
-    if value < 2147483649 && !next_is(110, bytes) {
+    if value < 2147483649 && !next_is(b'n', bytes) {
         let rest = literal(b")", bytes)?;
         Ok((JsExpr::Number(negated_number(value)), rest))
     } else {
@@ -124,7 +124,7 @@ pub fn below_of<'a>(bytes: &'a [u8]) -> Result<(JsExpr, &'a [u8]), Stop>
 pub fn key_of<'a>(bytes: &'a [u8]) -> Result<(i32, &'a [u8]), Stop>
     ensures { Gives (λ x. (x.0, x.1.now)) result (key_at bytes.now) }
 {
-    if next_is(40, bytes) {
+    if next_is(b'(', bytes) {
         let rest = literal(b"(-", bytes)?;
         let (value, rest) = digits_of(false, 2147483649, rest)?;
         let rest = literal(b")", rest)?;

@@ -19,7 +19,7 @@ use js_scan::{
     next_is_word_start, statement_head_of,
 };
 use js_spelling::StatementHead;
-use js_tree::{JsExpr, JsStmt, SwitchCase};
+use js_tree::{JsExpr, JsStmt, JsTarget, SwitchCase};
 use sj_names::{Items, Text};
 use std::alloc::Global;
 
@@ -339,19 +339,19 @@ fn target_of<'a>(
     requires { level < 2 ^ 63 }
     ensures { Gives (λ x. (views.statement_view x.0, x.1.now)) result ((reading.target_at (reading.statement_at fuel) fuel level (views.expression_view first)) bytes.now) }
 {
-    match first {
-        JsExpr::Name(name) => {
+    match first.into_target() {
+        JsTarget::Name(name) => {
             if next_is(58, bytes) {
                 labeled_of(alloc, fuel, level, name, bytes)
             } else {
                 name_target_of(alloc, fuel, name, bytes)
             }
         }
-        JsExpr::Property { object, property } => {
+        JsTarget::Property { object, property } => {
             property_target_of(alloc, fuel, object, property, bytes)
         }
-        JsExpr::Index { object, index } => index_target_of(alloc, fuel, object, index, bytes),
-        other => expression_end(other, bytes),
+        JsTarget::Index { object, index } => index_target_of(alloc, fuel, object, index, bytes),
+        JsTarget::Other(other) => expression_end(other, bytes),
     }
 }
 

@@ -1,6 +1,7 @@
 pub mod Names
 pub mod Rules
 pub mod Spelling
+pub mod Targets
 pub mod Terms
 pub mod Texts
 pub mod Views

@@ -28,7 +28,6 @@ pub enum ClassMember {
 }
 
 /// An item of a module. A contract sees the term that it stands for, `item_view`.
-#[derive(Drop)]
 pub enum JsItem {
     /// `const x = e;`
     Const {
@@ -64,6 +63,40 @@ pub enum JsItem {
         parent: Text,
         members: Vec<ClassMember>,
     },
+}
+
+impl Drop for JsItem {
+    fn drop(self) {
+        match self {
+            JsItem::Const {
+                name: _name,
+                value: _value,
+            } => {}
+            JsItem::ConstObject {
+                name: _name,
+                properties: _properties,
+            } => {}
+            JsItem::Let {
+                name: _name,
+                value: _value,
+            } => {}
+            JsItem::Expression(_one) => {}
+            JsItem::Function {
+                name: _name,
+                parameters: _parameters,
+                body: _body,
+            } => {}
+            JsItem::Class {
+                name: _name,
+                members: _members,
+            } => {}
+            JsItem::Subclass {
+                name: _name,
+                parent: _parent,
+                members: _members,
+            } => {}
+        }
+    }
 }
 
 /// A binding at the top of a module, with the class that owns it.

@@ -12,7 +12,7 @@ mod operators;
 mod statements;
 
 pub use bodies::JsBody;
-pub use expressions::JsExpr;
+pub use expressions::{JsExpr, JsTarget};
 pub use items::{
     Binding, ClassMember, JsImport, JsItem, JsMember, JsModule, JsPiece, ObjectProperty,
 };

@@ -3,7 +3,6 @@ use crate::expressions::JsExpr;
 use sj_names::{Items, Text};
 
 /// A statement. A contract sees the term that it stands for, `statement_view`.
-#[derive(Drop)]
 #[cycle(statement)]
 pub enum JsStmt {
     /// `const x = e;`
@@ -87,6 +86,74 @@ pub enum JsStmt {
         cases: Vec<SwitchCase>,
         default: Vec<JsStmt>,
     },
+}
+
+impl Drop for JsStmt {
+    #[cycle(statement)]
+    fn drop(self) {
+        match self {
+            JsStmt::Const {
+                name: _name,
+                value: _value,
+            } => {}
+            JsStmt::Let {
+                name: _name,
+                value: _value,
+            } => {}
+            JsStmt::Declare(_one) => {}
+            JsStmt::Expression(_one) => {}
+            JsStmt::Assign {
+                name: _name,
+                value: _value,
+            } => {}
+            JsStmt::AssignProperty {
+                object: _object,
+                property: _property,
+                value: _value,
+            } => {}
+            JsStmt::AssignIndex {
+                object: _object,
+                index: _index,
+                value: _value,
+            } => {}
+            JsStmt::Throw(_one) => {}
+            JsStmt::Return(_one) => {}
+            JsStmt::BreakTo(_one) => {}
+            JsStmt::If {
+                test: _test,
+                yes: _yes,
+            } => {}
+            JsStmt::IfElse {
+                test: _test,
+                yes: _yes,
+                no: _no,
+            } => {}
+            JsStmt::While {
+                test: _test,
+                body: _body,
+            } => {}
+            JsStmt::DoForever(_one) => {}
+            JsStmt::Labeled {
+                label: _label,
+                body: _body,
+            } => {}
+            JsStmt::TryCatch {
+                body: _body,
+                name: _name,
+                handler: _handler,
+            } => {}
+            JsStmt::TryFinally {
+                body: _body,
+                finalizer: _finalizer,
+            } => {}
+            JsStmt::Switch {
+                selector: _selector,
+                cases: _cases,
+                default: _default,
+            } => {}
+            JsStmt::SuperCall | JsStmt::Break => {}
+        }
+    }
 }
 
 /// One case of a `switch`: its keys, one or more, and its block.

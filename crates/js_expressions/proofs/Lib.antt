@@ -1,0 +1,3 @@
+pub mod BetweenSteps
+pub mod ExpressionSteps
+pub mod SuffixLoop
