@@ -6,8 +6,9 @@ use Rattle.sj_trees.specs.declared.classes.ParamDef.{ParamDef}
 use Rattle.sj_trees.specs.Term.{Term}
 use Rattle.sj_local.specs.declared.walks.Local.{Local}
 use Rattle.sj_local.specs.Nodes.{Context, nodes}
-use Rattle.sj_local.specs.TreeRules.{findings_from, declared_from, findings_in, declared_in, method_nodes, body_nodes, outermost, local_of, declared_param, no_findings}
-use Rattle.sj_local.specs.Walks.{Trace, after}
+use Rattle.sj_local.specs.TreeRules.{declared_from, declared_in, method_nodes, body_nodes, outermost, local_of, declared_param}
+use Rattle.sj_local.specs.WalkParts.{findings_from, findings_in, no_findings}
+use Rattle.sj_local.specs.WalkParts.{Trace, after}
 use Rattle.sj_local.proofs.Traces.{after-findings, after-declared}
 
 -- where a walk begins

@@ -1,4 +1,6 @@
 pub mod Bodies
+pub mod FindingSteps
+pub mod Once
 pub mod RepeatSteps
 pub mod RuleSteps
 pub mod SameNames

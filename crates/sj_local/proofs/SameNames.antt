@@ -1,5 +1,5 @@
 -- Names of methods that compare as equal are one.
-use Rattle.std.proofs.Common.{◌≡◌, Bool, Option, Some, None, refl, ap}
+use Rattle.std.proofs.Common.{◌≡◌, Bool, Option, Some, None, true, refl, ap, subst}
 use Rattle.std.specs.Prelude.{nat_eq, ◌&&◌}
 use Rattle.std.specs.Bool.{Decides}
 use Rattle.std.specs.Cmp.Lexicographic.{pointwise}
@@ -17,15 +17,27 @@ use Rattle.sj_names.specs.contracts.references.TypeRefPartialEq.TheImpl as type_
 use Rattle.sj_names.specs.contracts.method_names.NamespacePartialEq.TheImpl as namespace_eq
 use Rattle.sj_local.specs.declared.members.MethodKey.{MethodKey}
 
+base_refl : (a : BaseRef) → base_eq.ghosts.eq a a ≡ true
+base_refl BaseRef.Boolean = refl
+base_refl BaseRef.Char = refl
+base_refl BaseRef.Byte = refl
+base_refl BaseRef.Short = refl
+base_refl BaseRef.Int = refl
+base_refl BaseRef.Long = refl
+base_refl (BaseRef.Class c) = (bytes_eq-Decides c c).1 refl
+
+base_is : (a b : BaseRef) → base_eq.ghosts.eq a b ≡ true → a ≡ b
+base_is BaseRef.Boolean BaseRef.Boolean h = refl
+base_is BaseRef.Char BaseRef.Char h = refl
+base_is BaseRef.Byte BaseRef.Byte h = refl
+base_is BaseRef.Short BaseRef.Short h = refl
+base_is BaseRef.Int BaseRef.Int h = refl
+base_is BaseRef.Long BaseRef.Long h = refl
+base_is (BaseRef.Class a) (BaseRef.Class b) h = ap BaseRef.Class ((bytes_eq-Decides a b).0 h)
+base_is _ _ h = cc
+
 base_decides : (a b : BaseRef) → Decides (base_eq.ghosts.eq a b) (a ≡ b)
-base_decides BaseRef.Boolean BaseRef.Boolean = (λ h. refl, λ h. refl)
-base_decides BaseRef.Char BaseRef.Char = (λ h. refl, λ h. refl)
-base_decides BaseRef.Byte BaseRef.Byte = (λ h. refl, λ h. refl)
-base_decides BaseRef.Short BaseRef.Short = (λ h. refl, λ h. refl)
-base_decides BaseRef.Int BaseRef.Int = (λ h. refl, λ h. refl)
-base_decides BaseRef.Long BaseRef.Long = (λ h. refl, λ h. refl)
-base_decides (BaseRef.Class c) (BaseRef.Class d) = (λ h. ap BaseRef.Class ((bytes_eq-Decides c d).0 h), λ h. (bytes_eq-Decides c d).1 (cc))
-base_decides _ _ = (λ h. cc, λ h. cc)
+base_decides a b = (base_is a b, λ h. subst (λ (c : BaseRef). base_eq.ghosts.eq a c ≡ true) h (base_refl a))
 
 and_decides : {P Q : Type 0} (b c : Bool) → Decides b P → Decides c Q → Decides (b && c) (P × Q)
 and_decides b c p q = (λ h. (p.0 (and_parts b c h).0, q.0 (and_parts b c h).1), λ h. and_from b c (p.1 h.0) (q.1 h.1))
@@ -35,17 +47,31 @@ array_decides r s =
     let both = and_decides (nat_eq r.dimensions s.dimensions) (base_eq.ghosts.eq r.base s.base) (Decides-eqb r.dimensions s.dimensions) (base_decides r.base s.base) in
     (λ h. λ i. record { dimensions = (both.0 h).0 i; base = (both.0 h).1 i }, λ h. both.1 (ap (λ (x : ArrayRef). x.dimensions) h, ap (λ (x : ArrayRef). x.base) h))
 
+type_refl : (a : TypeRef) → type_eq.ghosts.eq a a ≡ true
+type_refl TypeRef.Void = refl
+type_refl TypeRef.Boolean = refl
+type_refl TypeRef.Char = refl
+type_refl TypeRef.Byte = refl
+type_refl TypeRef.Short = refl
+type_refl TypeRef.Int = refl
+type_refl TypeRef.Long = refl
+type_refl (TypeRef.Class c) = (bytes_eq-Decides c c).1 refl
+type_refl (TypeRef.Array r) = (array_decides r r).1 refl
+
+type_is : (a b : TypeRef) → type_eq.ghosts.eq a b ≡ true → a ≡ b
+type_is TypeRef.Void TypeRef.Void h = refl
+type_is TypeRef.Boolean TypeRef.Boolean h = refl
+type_is TypeRef.Char TypeRef.Char h = refl
+type_is TypeRef.Byte TypeRef.Byte h = refl
+type_is TypeRef.Short TypeRef.Short h = refl
+type_is TypeRef.Int TypeRef.Int h = refl
+type_is TypeRef.Long TypeRef.Long h = refl
+type_is (TypeRef.Class a) (TypeRef.Class b) h = ap TypeRef.Class ((bytes_eq-Decides a b).0 h)
+type_is (TypeRef.Array a) (TypeRef.Array b) h = ap TypeRef.Array ((array_decides a b).0 h)
+type_is _ _ h = cc
+
 type_decides : (a b : TypeRef) → Decides (type_eq.ghosts.eq a b) (a ≡ b)
-type_decides TypeRef.Void TypeRef.Void = (λ h. refl, λ h. refl)
-type_decides TypeRef.Boolean TypeRef.Boolean = (λ h. refl, λ h. refl)
-type_decides TypeRef.Char TypeRef.Char = (λ h. refl, λ h. refl)
-type_decides TypeRef.Byte TypeRef.Byte = (λ h. refl, λ h. refl)
-type_decides TypeRef.Short TypeRef.Short = (λ h. refl, λ h. refl)
-type_decides TypeRef.Int TypeRef.Int = (λ h. refl, λ h. refl)
-type_decides TypeRef.Long TypeRef.Long = (λ h. refl, λ h. refl)
-type_decides (TypeRef.Class c) (TypeRef.Class d) = (λ h. ap TypeRef.Class ((bytes_eq-Decides c d).0 h), λ h. (bytes_eq-Decides c d).1 (cc))
-type_decides (TypeRef.Array r) (TypeRef.Array s) = (λ h. ap TypeRef.Array ((array_decides r s).0 h), λ h. (array_decides r s).1 (cc))
-type_decides _ _ = (λ h. cc, λ h. cc)
+type_decides a b = (type_is a b, λ h. subst (λ (c : TypeRef). type_eq.ghosts.eq a c ≡ true) h (type_refl a))
 
 result_decides : (x y : Option TypeRef) → Decides (option_eq type_eq.ghosts.eq x y) (x ≡ y)
 result_decides None None = (λ h. refl, λ h. refl)
@@ -53,13 +79,23 @@ result_decides (Some r) (Some s) = (λ h. ap Some ((type_decides r s).0 h), λ h
 result_decides None (Some s) = (λ h. cc, λ h. cc)
 result_decides (Some r) None = (λ h. cc, λ h. cc)
 
+namespace_refl : (a : Namespace) → namespace_eq.ghosts.eq a a ≡ true
+namespace_refl Namespace.Public = refl
+namespace_refl Namespace.PublicStatic = refl
+namespace_refl Namespace.Private = refl
+namespace_refl Namespace.PrivateStatic = refl
+namespace_refl Namespace.Constructor = refl
+
+namespace_is : (a b : Namespace) → namespace_eq.ghosts.eq a b ≡ true → a ≡ b
+namespace_is Namespace.Public Namespace.Public h = refl
+namespace_is Namespace.PublicStatic Namespace.PublicStatic h = refl
+namespace_is Namespace.Private Namespace.Private h = refl
+namespace_is Namespace.PrivateStatic Namespace.PrivateStatic h = refl
+namespace_is Namespace.Constructor Namespace.Constructor h = refl
+namespace_is _ _ h = cc
+
 namespace_decides : (a b : Namespace) → Decides (namespace_eq.ghosts.eq a b) (a ≡ b)
-namespace_decides Namespace.Public Namespace.Public = (λ h. refl, λ h. refl)
-namespace_decides Namespace.PublicStatic Namespace.PublicStatic = (λ h. refl, λ h. refl)
-namespace_decides Namespace.Private Namespace.Private = (λ h. refl, λ h. refl)
-namespace_decides Namespace.PrivateStatic Namespace.PrivateStatic = (λ h. refl, λ h. refl)
-namespace_decides Namespace.Constructor Namespace.Constructor = (λ h. refl, λ h. refl)
-namespace_decides _ _ = (λ h. cc, λ h. cc)
+namespace_decides a b = (namespace_is a b, λ h. subst (λ (c : Namespace). namespace_eq.ghosts.eq a c ≡ true) h (namespace_refl a))
 
 pub key_decides : (a b : MethodKey) → Decides (namespace_eq.ghosts.eq a.namespace b.namespace && (pointwise nat_eq a.name.simple b.name.simple && (pointwise type_eq.ghosts.eq a.name.params b.name.params && option_eq type_eq.ghosts.eq a.name.result b.name.result))) (a ≡ b)
 key_decides a b =

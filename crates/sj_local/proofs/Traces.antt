@@ -4,8 +4,9 @@ use Rattle.sj_names.specs.declared.method_names.Namespace.{Namespace}
 use Rattle.sj_trees.specs.declared.classes.ClassDef.{ClassDef}
 use Rattle.sj_trees.specs.Term.{Term, Terms, Cases, no_terms, more_terms, no_cases, more_cases, var_def, skip, block_of, labeled, assign, return_to, if_then, while_loop, do_while, try_catch, try_finally, throw, match_on, new_object, load_module, store_module, select, select_static, apply, apply_statically, apply_static, unary_op, binary_op, new_array, array_value, array_length, array_select, is_instance_of, as_instance_of, undefined_literal, null_literal, boolean_literal, char_literal, byte_literal, short_literal, int_literal, long_literal, string_literal, var_ref, this_ref, log_line}
 use Rattle.sj_local.specs.Nodes.{Context, Node, node, inside, in_a_block, with_local, with_label, caught, behind, below, statements_below, all_below, cases_below, nodes}
-use Rattle.sj_local.specs.TreeRules.{findings_from, declared_from, declared_by}
-use Rattle.sj_local.specs.Walks.{Trace, with_node, after_below, after_statements, after_all, after_cases, after}
+use Rattle.sj_local.specs.TreeRules.{declared_from, declared_by}
+use Rattle.sj_local.specs.WalkParts.{findings_from}
+use Rattle.sj_local.specs.WalkParts.{Trace, with_node, after_below, after_statements, after_all, after_cases, after}
 
 -- after trees in a row
 abbrev traced : ClassDef → Namespace → List Node → Trace → Trace

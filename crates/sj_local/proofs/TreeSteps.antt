@@ -1,5 +1,6 @@
 -- The first method whose findings have a tree.
-use Rattle.std.proofs.Common.{◌≡◌, ℕ, zero, suc, ◌+◌, ◌≤◌, ◌<◌, List, [], ◌∷◌, ◌++◌, drop, take, length, get_or, Option, Some, None, refl, sym, ap, ◌∙◌, subst, arith}
+use Rattle.std.proofs.Common.{◌≡◌, ℕ, zero, suc, ◌+◌, ◌≤◌, ◌<◌, Bool, false, List, [], ◌∷◌, ◌++◌, drop, take, length, get_or, Option, Some, None, refl, sym, ap, ◌∙◌, subst, arith}
+use Rattle.std.specs.Prelude.{option_map}
 use Rattle.std.specs.List.{AllZip}
 use Rattle.std.proofs.Math.Seq.{drop-cons, drop-nil, take-suc}
 use Rattle.std.proofs.lemmas.List.{drop_all}
@@ -10,28 +11,31 @@ use Rattle.sj_local.specs.declared.rules.Rule.{Rule}
 use Rattle.sj_local.specs.declared.rules.Rule.TheVariants as rules
 use Rattle.sj_local.specs.declared.findings.Findings.{Findings}
 use Rattle.sj_local.specs.declared.findings.MethodFindings.{MethodFindings}
-use Rattle.sj_local.specs.Firsts.{in_32_bits, FirstAnswer, none_left, this_one, a_later_one}
-use Rattle.sj_local.specs.Methods.{finding_of, HasFindings}
+use Rattle.sj_local.specs.Firsts.{in_32_bits, first_where, FirstAnswer, none_left, this_one, a_later_one}
+use Rattle.sj_local.specs.MethodParts.{finding_of, HasFindings}
+use Rattle.sj_local.specs.Nodes.{Node}
+use Rattle.sj_local.specs.TreeRules.{breaks, method_nodes}
 use Rattle.sj_local.specs.Broken.{TreeBreaks, FirstTree}
+use Rattle.sj_local.proofs.FindingSteps.{no_tree, definition-first, variable-first, return_label-first, this-first, store_module-first, target-first, keys-first}
 
 breaks_so : (rule : Rule) (c : ClassDef) (m : MethodDef) (f : MethodFindings) → HasFindings c m f → TreeBreaks rule c m (finding_of rule f)
 breaks_so rules.DeclaredTwice c m f h = h.declared
-breaks_so rules.Definition c m f h = ap (λ (x : Findings). x.definition) h.findings
-breaks_so rules.Variable c m f h = ap (λ (x : Findings). x.variable) h.findings
-breaks_so rules.ReturnLabel c m f h = ap (λ (x : Findings). x.return_label) h.findings
-breaks_so rules.This c m f h = ap (λ (x : Findings). x.this) h.findings
-breaks_so rules.StoreModule c m f h = ap (λ (x : Findings). x.store_module) h.findings
-breaks_so rules.Target c m f h = ap (λ (x : Findings). x.target) h.findings
-breaks_so rules.Keys c m f h = ap (λ (x : Findings). x.keys) h.findings
-breaks_so rules.Superclass c m f h = refl
-breaks_so rules.Hijacked c m f h = refl
-breaks_so rules.InterfaceTwice c m f h = refl
-breaks_so rules.MemberTwice c m f h = refl
-breaks_so rules.Field c m f h = refl
-breaks_so rules.MethodName c m f h = refl
-breaks_so rules.Signature c m f h = refl
-breaks_so rules.MissingBody c m f h = refl
-breaks_so rules.Constructors c m f h = refl
+breaks_so rules.Definition c m f h = ap (λ (x : Findings). x.definition) h.findings ∙ definition-first c m
+breaks_so rules.Variable c m f h = ap (λ (x : Findings). x.variable) h.findings ∙ variable-first c m
+breaks_so rules.ReturnLabel c m f h = ap (λ (x : Findings). x.return_label) h.findings ∙ return_label-first c m
+breaks_so rules.This c m f h = ap (λ (x : Findings). x.this) h.findings ∙ this-first c m
+breaks_so rules.StoreModule c m f h = ap (λ (x : Findings). x.store_module) h.findings ∙ store_module-first c m
+breaks_so rules.Target c m f h = ap (λ (x : Findings). x.target) h.findings ∙ target-first c m
+breaks_so rules.Keys c m f h = ap (λ (x : Findings). x.keys) h.findings ∙ keys-first c m
+breaks_so rules.Superclass c m f h = no_tree (breaks rules.Superclass c m.namespace) (λ x. refl) m
+breaks_so rules.Hijacked c m f h = no_tree (breaks rules.Hijacked c m.namespace) (λ x. refl) m
+breaks_so rules.InterfaceTwice c m f h = no_tree (breaks rules.InterfaceTwice c m.namespace) (λ x. refl) m
+breaks_so rules.MemberTwice c m f h = no_tree (breaks rules.MemberTwice c m.namespace) (λ x. refl) m
+breaks_so rules.Field c m f h = no_tree (breaks rules.Field c m.namespace) (λ x. refl) m
+breaks_so rules.MethodName c m f h = no_tree (breaks rules.MethodName c m.namespace) (λ x. refl) m
+breaks_so rules.Signature c m f h = no_tree (breaks rules.Signature c m.namespace) (λ x. refl) m
+breaks_so rules.MissingBody c m f h = no_tree (breaks rules.MissingBody c m.namespace) (λ x. refl) m
+breaks_so rules.Constructors c m f h = no_tree (breaks rules.Constructors c m.namespace) (λ x. refl) m
 
 -- what the rest says of all
 abbrev pub Leads : Rule → ClassDef → ℕ → Type 0

@@ -10,7 +10,7 @@ use Rattle.sj_local.specs.declared.rules.LocalError.TheVariants.{Broken, NoMemor
 use Rattle.sj_local.specs.Firsts.{in_32_bits, first_where, FirstRepeat, FirstAnswer}
 use Rattle.sj_local.specs.ClassRules.{is_class, keeps_superclass, keeps_hijacked}
 use Rattle.sj_local.specs.MemberRules.{field_key, method_key, breaks_field, breaks_method, is_a_constructor, exactly_one}
-use Rattle.sj_local.specs.TreeRules.{is_module, findings_in, DeclaresTwice}
+use Rattle.sj_local.specs.TreeRules.{is_module, breaks, method_nodes, DeclaresTwice}
 
 -- the place of what concerns no member
 abbrev pub no_member : Where
@@ -58,14 +58,7 @@ constructors_place c =
 -- the first tree of a method that breaks a rule on trees
 abbrev pub TreeBreaks : Rule → ClassDef → MethodDef → Option ℕ → Type 0
 TreeBreaks rules.DeclaredTwice c m tree = DeclaresTwice m tree
-TreeBreaks rules.Definition c m tree = tree ≡ (findings_in c m).definition
-TreeBreaks rules.Variable c m tree = tree ≡ (findings_in c m).variable
-TreeBreaks rules.ReturnLabel c m tree = tree ≡ (findings_in c m).return_label
-TreeBreaks rules.This c m tree = tree ≡ (findings_in c m).this
-TreeBreaks rules.StoreModule c m tree = tree ≡ (findings_in c m).store_module
-TreeBreaks rules.Target c m tree = tree ≡ (findings_in c m).target
-TreeBreaks rules.Keys c m tree = tree ≡ (findings_in c m).keys
-TreeBreaks other c m tree = tree ≡ None
+TreeBreaks rule c m tree = tree ≡ option_map in_32_bits (first_where (breaks rule c m.namespace) (method_nodes m))
 
 abbrev pub tree_place : ℕ × ℕ → Where
 tree_place found = record { member = in_32_bits found.0; tree = found.1 }

@@ -1,9 +1,10 @@
 pub mod Broken
 pub mod ClassRules
 pub mod Firsts
+pub mod Laws
 pub mod MemberRules
-pub mod Methods
+pub mod MethodParts
 pub mod Names
 pub mod Nodes
 pub mod TreeRules
-pub mod Walks
+pub mod WalkParts

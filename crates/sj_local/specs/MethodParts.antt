@@ -1,11 +1,12 @@
--- What is kept of each method.
+-- What is kept of each method, for inner functions.
 use Rattle.std.specs.Prelude.{◌≡◌, ℕ, Option, None}
 use Rattle.sj_trees.specs.declared.classes.ClassDef.{ClassDef}
 use Rattle.sj_trees.specs.declared.classes.MethodDef.{MethodDef}
 use Rattle.sj_local.specs.declared.rules.Rule.{Rule}
 use Rattle.sj_local.specs.declared.rules.Rule.TheVariants as rules
 use Rattle.sj_local.specs.declared.findings.MethodFindings.{MethodFindings}
-use Rattle.sj_local.specs.TreeRules.{DeclaresTwice, findings_in}
+use Rattle.sj_local.specs.TreeRules.{DeclaresTwice}
+use Rattle.sj_local.specs.WalkParts.{findings_in}
 
 abbrev pub finding_of : Rule → MethodFindings → Option ℕ
 finding_of rules.DeclaredTwice f = f.declared_twice

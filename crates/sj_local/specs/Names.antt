@@ -1,35 +1,14 @@
 -- Names and types, compared.
-use Rattle.std.specs.Prelude.{ℕ, Bool, true, false, List, [], ◌∷◌, ◌==◌, ◌&&◌, nat_eq, codes, Option, Some, None}
-use Rattle.std.specs.List.{list_any}
-use Rattle.std.specs.Cmp.Lexicographic.{pointwise}
+pub use Rattle.sj_names.specs.WellKnown.{is_same_text, is_object, is_number, is_init, is_hijacked}
+use Rattle.std.specs.Prelude.{ℕ, Bool, true, false, List, ◌==◌, ◌&&◌, Option, Some, None}
 use Rattle.sj_names.specs.declared.references.ArrayRef.{ArrayRef}
 use Rattle.sj_names.specs.declared.references.BaseRef.{BaseRef}
 use Rattle.sj_trees.specs.declared.types.IrType.{IrType}
-
-abbrev pub is_same_text : List ℕ → List ℕ → Bool
-is_same_text = pointwise nat_eq
-
-abbrev pub is_object : List ℕ → Bool
-is_object name = is_same_text name (codes "java.lang.Object")
-
-abbrev pub is_number : List ℕ → Bool
-is_number name = is_same_text name (codes "java.lang.Number")
-
--- the classes whose instances are primitive values
-abbrev pub hijacked_names : List (List ℕ)
-hijacked_names = codes "java.lang.Boolean" ∷ codes "java.lang.Byte" ∷ codes "java.lang.Character" ∷ codes "java.lang.Integer" ∷ codes "java.lang.Long" ∷ codes "java.lang.Short" ∷ codes "java.lang.String" ∷ codes "java.lang.Void" ∷ []
-
-abbrev pub is_hijacked : List ℕ → Bool
-is_hijacked name = list_any (is_same_text name) hijacked_names
 
 -- a name is there, and passes the test
 abbrev pub is_some_name : (List ℕ → Bool) → Option (List ℕ) → Bool
 is_some_name test None = false
 is_some_name test (Some name) = test name
-
--- the name of constructors
-abbrev pub is_init : List ℕ → Bool
-is_init name = is_same_text name (codes "<init>")
 
 abbrev pub is_same_base : BaseRef → BaseRef → Bool
 is_same_base BaseRef.Boolean BaseRef.Boolean = true

@@ -16,8 +16,8 @@ use Rattle.sj_local.specs.declared.walks.Local.{Local}
 use Rattle.sj_local.specs.declared.walks.Declaration.{Declaration}
 use Rattle.sj_local.specs.declared.walks.Declaration.TheVariants as declaration
 use Rattle.sj_local.specs.declared.walks.Declared.{Declared}
-use Rattle.sj_local.specs.declared.findings.Judgement.{Judgement}
-use Rattle.sj_local.specs.declared.findings.Findings.{Findings}
+use Rattle.sj_local.specs.declared.rules.Rule.{Rule}
+use Rattle.sj_local.specs.declared.rules.Rule.TheVariants as rules
 use Rattle.sj_local.specs.Firsts.{in_32_bits, FirstRepeat}
 use Rattle.sj_local.specs.Names.{is_same_text, is_same_type, is_empty_type}
 use Rattle.sj_local.specs.Nodes.{Context, Node, nodes}
@@ -130,26 +130,16 @@ abbrev pub breaks_keys : Term → Bool
 breaks_keys (match_on p s cs d t) = have_repeat [] cs
 breaks_keys _ = false
 
--- which rules a tree breaks where it stands
-abbrev pub judgement : ClassDef → Namespace → Node → Judgement
-judgement c space n = record { definition = breaks_definition n.context.in_block n.tree; variable = breaks_variable n.context.scope n.tree; return_label = breaks_return n.context.labels n.tree; this = breaks_this c space n.tree; store_module = breaks_store c space n.tree; target = breaks_target n.tree; keys = breaks_keys n.tree }
-
--- a number where there was none yet and the rule is broken
-abbrev pub noted : ℕ → Bool → Option ℕ → Option ℕ
-noted n broken (Some k) = Some k
-noted n true None = Some n
-noted n false None = None
-
-abbrev pub with_judgement : ℕ → Judgement → Findings → Findings
-with_judgement n j f = record { definition = noted n j.definition f.definition; variable = noted n j.variable f.variable; return_label = noted n j.return_label f.return_label; this = noted n j.this f.this; store_module = noted n j.store_module f.store_module; target = noted n j.target f.target; keys = noted n j.keys f.keys }
-
--- the first tree that breaks each rule, among trees numbered from n
-abbrev pub findings_from : ClassDef → Namespace → ℕ → List Node → Findings → Findings
-findings_from c space n [] f = f
-findings_from c space n (x ∷ xs) f = findings_from c space (in_32_bits (n + 1)) xs (with_judgement n (judgement c space x) f)
-
-abbrev pub no_findings : Findings
-no_findings = record { definition = None; variable = None; return_label = None; this = None; store_module = None; target = None; keys = None }
+-- a tree breaks a rule where it stands
+abbrev pub breaks : Rule → ClassDef → Namespace → Node → Bool
+breaks rules.Definition c space n = breaks_definition n.context.in_block n.tree
+breaks rules.Variable c space n = breaks_variable n.context.scope n.tree
+breaks rules.ReturnLabel c space n = breaks_return n.context.labels n.tree
+breaks rules.This c space n = breaks_this c space n.tree
+breaks rules.StoreModule c space n = breaks_store c space n.tree
+breaks rules.Target c space n = breaks_target n.tree
+breaks rules.Keys c space n = breaks_keys n.tree
+breaks other c space n = false
 
 abbrev pub local_of : ParamDef → Local
 local_of p = record { name = p.name; tpe = p.tpe; mutable = p.mutable }
@@ -165,10 +155,6 @@ body_nodes m (Some t) = nodes (outermost m) t
 -- the trees of a method
 abbrev pub method_nodes : MethodDef → List Node
 method_nodes m = body_nodes m m.body
-
--- the first tree of a method that breaks each rule
-abbrev pub findings_in : ClassDef → MethodDef → Findings
-findings_in c m = findings_from c m.namespace 0 (method_nodes m) no_findings
 
 -- what a tree declares
 abbrev pub declarations : Term → List Declaration

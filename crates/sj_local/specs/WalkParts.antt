@@ -1,15 +1,43 @@
--- What a walk over trees keeps.
-use Rattle.std.specs.Prelude.{ℕ, ◌+◌, Bool, List, [], ◌++◌}
+-- What a walk over trees keeps, for inner functions.
+use Rattle.std.specs.Prelude.{ℕ, ◌+◌, Bool, true, false, List, [], ◌∷◌, ◌++◌, Option, Some, None}
 use Rattle.sj_names.specs.declared.method_names.Namespace.{Namespace}
 use Rattle.sj_trees.specs.declared.classes.ClassDef.{ClassDef}
+use Rattle.sj_trees.specs.declared.classes.MethodDef.{MethodDef}
 use Rattle.sj_trees.specs.Term.{Term, Terms, Cases, no_terms, more_terms, no_cases, more_cases, var_def, skip, block_of, labeled, assign, return_to, if_then, while_loop, do_while, try_catch, try_finally, throw, match_on, new_object, load_module, store_module, select, select_static, apply, apply_statically, apply_static, unary_op, binary_op, new_array, array_value, array_length, array_select, is_instance_of, as_instance_of, undefined_literal, null_literal, boolean_literal, char_literal, byte_literal, short_literal, int_literal, long_literal, string_literal, var_ref, this_ref, log_line}
 use Rattle.sj_local.specs.declared.walks.Local.{Local}
 use Rattle.sj_local.specs.declared.walks.Declared.{Declared}
 use Rattle.sj_local.specs.declared.walks.Walk.{Walk}
+use Rattle.sj_local.specs.declared.findings.Judgement.{Judgement}
 use Rattle.sj_local.specs.declared.findings.Findings.{Findings}
+use Rattle.sj_local.specs.declared.rules.Rule.TheVariants as rules
 use Rattle.sj_local.specs.Firsts.{in_32_bits}
 use Rattle.sj_local.specs.Nodes.{Context, Node, node, inside, in_a_block, with_local, with_label, caught, defined, behind}
-use Rattle.sj_local.specs.TreeRules.{judgement, with_judgement, declared_by}
+use Rattle.sj_local.specs.TreeRules.{breaks, method_nodes, declared_by}
+
+-- which rules a tree breaks where it stands
+abbrev pub judgement : ClassDef → Namespace → Node → Judgement
+judgement c space n = record { definition = breaks rules.Definition c space n; variable = breaks rules.Variable c space n; return_label = breaks rules.ReturnLabel c space n; this = breaks rules.This c space n; store_module = breaks rules.StoreModule c space n; target = breaks rules.Target c space n; keys = breaks rules.Keys c space n }
+
+-- a number where there was none yet and the rule is broken
+abbrev pub noted : ℕ → Bool → Option ℕ → Option ℕ
+noted n broken (Some k) = Some k
+noted n true None = Some n
+noted n false None = None
+
+abbrev pub with_judgement : ℕ → Judgement → Findings → Findings
+with_judgement n j f = record { definition = noted n j.definition f.definition; variable = noted n j.variable f.variable; return_label = noted n j.return_label f.return_label; this = noted n j.this f.this; store_module = noted n j.store_module f.store_module; target = noted n j.target f.target; keys = noted n j.keys f.keys }
+
+-- the first tree that breaks each rule, among trees numbered from n
+abbrev pub findings_from : ClassDef → Namespace → ℕ → List Node → Findings → Findings
+findings_from c space n [] f = f
+findings_from c space n (x ∷ xs) f = findings_from c space (in_32_bits (n + 1)) xs (with_judgement n (judgement c space x) f)
+
+abbrev pub no_findings : Findings
+no_findings = record { definition = None; variable = None; return_label = None; this = None; store_module = None; target = None; keys = None }
+
+-- the first tree of a method that breaks each rule
+abbrev pub findings_in : ClassDef → MethodDef → Findings
+findings_in c m = findings_from c m.namespace 0 (method_nodes m) no_findings
 
 -- where the next tree stands
 abbrev pub context : Walk → Bool → Context

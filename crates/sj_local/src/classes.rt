@@ -4,8 +4,8 @@ ghost use Rattle.std.specs.List.{list_any};
 ghost use Rattle.sj_local.specs.Names as names;
 ghost use Rattle.sj_local.specs.ClassRules as rules;
 
-use crate::names::{is_hijacked, is_number, is_object};
-use sj_names::ClassName;
+use crate::names::{is_number, is_object};
+use sj_names::{ClassName, is_hijacked};
 use sj_trees::{ClassDef, ClassKind};
 
 pub fn keeps_superclass(class: &ClassDef) -> bool
@@ -35,7 +35,7 @@ pub fn keeps_hijacked(class: &ClassDef) -> bool
 fn is_rightly_hijacked(class: &ClassDef) -> bool
     ensures { result ≡ rules.is_rightly_hijacked class.now }
 {
-    if is_hijacked(&class.name) {
+    if is_hijacked(class.name.text()) {
         class.kind == ClassKind::HijackedClass && is_object_or_number(&class.superclass)
     } else {
         class.kind != ClassKind::HijackedClass
@@ -70,7 +70,7 @@ fn is_hijacked_name(name: &Option<ClassName>) -> bool
     ensures { result ≡ names.is_some_name names.is_hijacked name.now }
 {
     match name {
-        Some(name) => is_hijacked(name),
+        Some(name) => is_hijacked(name.text()),
         None => false,
     }
 }
@@ -78,5 +78,5 @@ fn is_hijacked_name(name: &Option<ClassName>) -> bool
 fn has_hijacked(all: &[ClassName]) -> bool
     ensures { result ≡ list_any names.is_hijacked all.now }
 {
-    all.iter().any(|name| is_hijacked(name))
+    all.iter().any(|name| is_hijacked(name.text()))
 }

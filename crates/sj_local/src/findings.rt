@@ -1,7 +1,7 @@
 // What was found of each rule on trees.
 ghost use Rattle.std.specs.Prelude.{◌≡◌};
-ghost use Rattle.sj_local.specs.TreeRules.{noted, with_judgement, no_findings};
-ghost use Rattle.sj_local.specs.Methods.{finding_of};
+ghost use Rattle.sj_local.specs.WalkParts.{noted, with_judgement, no_findings};
+ghost use Rattle.sj_local.specs.MethodParts.{finding_of};
 
 use crate::Rule;
 

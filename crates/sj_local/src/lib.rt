@@ -3,6 +3,7 @@
 
 mod classes;
 mod findings;
+mod laws;
 mod members;
 mod names;
 mod places;
@@ -11,5 +12,6 @@ mod rules;
 mod trees;
 mod walks;
 
+pub use laws::check_is_one;
 pub use places::check_class;
 pub use rules::{LocalError, Rule, Where};

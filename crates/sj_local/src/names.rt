@@ -2,14 +2,8 @@
 ghost use Rattle.std.specs.Prelude.{◌≡◌};
 ghost use Rattle.sj_local.specs.Names as names;
 
-use sj_names::{ClassName, SimpleName};
+use sj_names::{ClassName, INIT, NUMBER, OBJECT, SimpleName};
 use sj_trees::IrType;
-
-const OBJECT: &str = "java.lang.Object";
-
-const NUMBER: &str = "java.lang.Number";
-
-const INIT: &str = "<init>";
 
 pub fn is_object(name: &ClassName) -> bool
     ensures { result ≡ names.is_object name.now }
@@ -27,21 +21,6 @@ pub fn is_init(name: &SimpleName) -> bool
     ensures { result ≡ names.is_init name.now }
 {
     name.text() == INIT
-}
-
-// Whether the class is one of the eight whose instances are primitive values.
-pub fn is_hijacked(name: &ClassName) -> bool
-    ensures { result ≡ names.is_hijacked name.now }
-{
-    let text = name.text();
-    text == "java.lang.Boolean"
-        || text == "java.lang.Byte"
-        || text == "java.lang.Character"
-        || text == "java.lang.Integer"
-        || text == "java.lang.Long"
-        || text == "java.lang.Short"
-        || text == "java.lang.String"
-        || text == "java.lang.Void"
 }
 
 pub fn is_type(one: &IrType, other: &IrType) -> bool

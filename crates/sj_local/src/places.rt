@@ -2,7 +2,7 @@
 ghost use Rattle.std.specs.Prelude.{◌≡◌, map, IfOk, Option, Some, None, option_map, option_and_then, slice_get};
 ghost use Rattle.std.specs.List.{AllZip};
 ghost use Rattle.sj_local.specs.Firsts as firsts;
-ghost use Rattle.sj_local.specs.Methods.{HasFindings};
+ghost use Rattle.sj_local.specs.MethodParts.{HasFindings};
 ghost use Rattle.sj_local.specs.TreeRules as rules;
 ghost use Rattle.sj_local.specs.Broken as broken;
 ghost use Rattle.sj_local.specs.declared.walks.Declared.{Declared};

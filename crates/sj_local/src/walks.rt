@@ -6,7 +6,7 @@ ghost use Rattle.sj_trees.specs.declared.classes.ParamDef.{ParamDef};
 ghost use Rattle.sj_local.specs.Firsts.{in_32_bits};
 ghost use Rattle.sj_local.specs.Nodes as nodes;
 ghost use Rattle.sj_local.specs.TreeRules as rules;
-ghost use Rattle.sj_local.specs.Walks as walks;
+ghost use Rattle.sj_local.specs.WalkParts as walks;
 
 use crate::findings::{Findings, Judgement};
 use crate::trees::{
@@ -64,7 +64,7 @@ fn judgement(
     tree: &Tree,
     in_block: bool,
 ) -> Result<Judgement, NoMemory>
-    ensures { IfOk result (λ j. j ≡ rules.judgement method.now.class.now method.now.namespace (nodes.node (walks.context walk.now in_block) (view tree.now))) }
+    ensures { IfOk result (λ j. j ≡ walks.judgement method.now.class.now method.now.namespace (nodes.node (walks.context walk.now in_block) (view tree.now))) }
 {
     let this = breaks_this(tree, method.class, method.namespace)?;
     let keys = breaks_keys(alloc, tree)?;
@@ -100,7 +100,7 @@ fn declare(walk: &mut Walk, tree: &Tree) -> Result<(), NoMemory>
 }
 
 // Sees one tree, and not those in it.
-#[tactic(auto, unfolding(crate::specs::Walks::with_node))]
+#[tactic(auto, unfolding(crate::specs::WalkParts::with_node))]
 fn see(
     alloc: Global,
     method: &Method<'_>,
@@ -322,7 +322,7 @@ fn define(walk: &mut Walk, tree: &Tree) -> Result<(), NoMemory>
 
 // A walk that begins at the body of a method with these parameters, which it declares.
 fn begun(alloc: Global, params: &[ParamDef]) -> Result<Walk, NoMemory>
-    ensures trace { IfOk result (λ w. walks.trace w ≡ record { count = 0; declared = map rules.declared_param params.now; findings = rules.no_findings }) }
+    ensures trace { IfOk result (λ w. walks.trace w ≡ record { count = 0; declared = map rules.declared_param params.now; findings = walks.no_findings }) }
     ensures scope { IfOk result (λ w. w.scope.items ≡ map rules.local_of params.now) }
     ensures labels { IfOk result (λ w. w.labels.items ≡ []) }
 {
@@ -362,7 +362,7 @@ fn declared_param(param: &ParamDef) -> Result<Declared, NoMemory>
 /// Walks over the body of a method.
 pub fn walked(alloc: Global, class: &ClassDef, method: &MethodDef) -> Result<Walk, NoMemory>
     ensures declared { IfOk result (λ w. w.declared.items ≡ rules.declared_in method.now) }
-    ensures findings { IfOk result (λ w. w.findings ≡ rules.findings_in class.now method.now) }
+    ensures findings { IfOk result (λ w. w.findings ≡ walks.findings_in class.now method.now) }
 {
     let mut walk = begun(alloc, method.params.as_slice())?;
     let Some(body) = &method.body else {

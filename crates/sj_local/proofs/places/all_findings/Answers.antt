@@ -1,5 +1,5 @@
 use Rattle.sj_local.proofs.TreeSteps.{zip_more}
-use Rattle.sj_local.specs.Methods.{HasFindings}
+use Rattle.sj_local.specs.MethodParts.{HasFindings}
 use Rattle.sj_local.proofs.places.all_findings.Goals as goal
 
 pub loop-method-preserved : goal.loop-method-preserved

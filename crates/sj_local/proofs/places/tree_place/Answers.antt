@@ -1,7 +1,7 @@
 use Rattle.std.proofs.Common.{Some, None, sym, subst}
 use Rattle.sj_local.specs.declared.rules.Where.{Where}
 use Rattle.sj_local.specs.Broken.{FirstTree}
-use Rattle.sj_local.specs.TreeRules.{no_findings}
+use Rattle.sj_local.specs.WalkParts.{no_findings}
 use Rattle.sj_local.proofs.TreeSteps.{tree_hit, tree_miss, tree_end, pairs_behind}
 use Rattle.sj_local.proofs.places.tree_place.Goals as goal
 

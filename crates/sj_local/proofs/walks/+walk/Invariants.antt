@@ -1,6 +1,6 @@
 use Rattle.std.proofs.Common.{◌≡◌, ◌++◌, drop, true, false}
 use Rattle.sj_trees.specs.View.{terms_view, cases_view}
-use Rattle.sj_local.specs.Walks.{context, trace, after_all, after_cases, after_statements, all_defined}
+use Rattle.sj_local.specs.WalkParts.{context, trace, after_all, after_cases, after_statements, all_defined}
 use Rattle.sj_local.proofs.walks.+walk.Given as goal
 
 abbrev pub invariant-visit_all-loop-tree : goal.invariant-visit_all-loop-tree

@@ -1,5 +1,6 @@
 use Rattle.std.proofs.Common.{◌≡◌, ◌++◌, [], drop, map}
-use Rattle.sj_local.specs.TreeRules.{local_of, declared_param, no_findings}
+use Rattle.sj_local.specs.TreeRules.{local_of, declared_param}
+use Rattle.sj_local.specs.WalkParts.{no_findings}
 use Rattle.sj_local.proofs.walks.begun.Given as goal
 
 abbrev pub invariant-loop-param : goal.invariant-loop-param
