@@ -96,7 +96,7 @@ fn spaced_of<'a, P: Part>(
     let mut parts = Vec::new(alloc);
     let mut rest = bytes;
     for _ in 0..fuel {
-        if !next_is(32, rest) {
+        if !next_is(b' ', rest) {
             return Ok((parts, rest));
         }
         let (value, after) = spaced_part(alloc, part, rest)?;
@@ -117,7 +117,7 @@ pub fn bracketed_of<'a, P: Part>(
     ensures { Gives (λ x. (map P.seen x.0.items, x.1.now)) result (bracketed_at fuel (P.reading part.now) bytes.now) }
 {
     let rest = literal(b"[", bytes)?;
-    if next_is(93, rest) {
+    if next_is(b']', rest) {
         let rest = literal(b"]", rest)?;
         return Ok((Vec::new(alloc), rest));
     }

@@ -15,9 +15,9 @@ use std::alloc::Global;
 fn hex_value(byte: u8) -> Option<u16>
     ensures value { result ≡ tokens.hex_of byte }
 {
-    if byte >= 48 && byte <= 57 {
+    if byte >= b'0' && byte <= b'9' {
         Some(u16::from(byte - 48))
-    } else if byte >= 97 && byte <= 102 {
+    } else if byte >= b'a' && byte <= b'f' {
         Some(u16::from(byte - 87))
     } else {
         None
@@ -94,7 +94,7 @@ fn simple_escape(bytes: &[u8]) -> Result<(u16, &[u8]), Stop>
 {
     match bytes {
         [first, rest @ ..] => {
-            if *first == 34 || *first == 92 {
+            if *first == b'"' || *first == b'\\' {
                 Ok((u16::from(*first), rest))
             } else {
                 Err(Stop::Bad(bytes.len()))
@@ -110,7 +110,7 @@ fn plain_unit(bytes: &[u8]) -> Result<(u16, &[u8]), Stop>
 {
     match bytes {
         [first, rest @ ..] => {
-            if *first >= 32 && *first <= 126 && (*first != 34 && *first != 92) {
+            if *first >= b' ' && *first <= b'~' && (*first != b'"' && *first != b'\\') {
                 Ok((u16::from(*first), rest))
             } else {
                 Err(Stop::Bad(bytes.len()))
@@ -124,7 +124,7 @@ fn plain_unit(bytes: &[u8]) -> Result<(u16, &[u8]), Stop>
 fn escape_of(bytes: &[u8]) -> Result<(u16, &[u8]), Stop>
     ensures { Gives (λ x. (x.0, x.1.now)) result (tokens.escape_at bytes.now) }
 {
-    if next_is(117, bytes) {
+    if next_is(b'u', bytes) {
         let rest = literal(b"u", bytes)?;
         hex_of_four(rest)
     } else {
@@ -136,7 +136,7 @@ fn escape_of(bytes: &[u8]) -> Result<(u16, &[u8]), Stop>
 fn unit_of(bytes: &[u8]) -> Result<(u16, &[u8]), Stop>
     ensures { Gives (λ x. (x.0, x.1.now)) result (tokens.unit_at bytes.now) }
 {
-    if next_is(92, bytes) {
+    if next_is(b'\\', bytes) {
         let rest = literal(b"\\", bytes)?;
         escape_of(rest)
     } else {

@@ -36,7 +36,7 @@ fn word_type_of(bytes: &[u8]) -> Result<(IrType, &[u8]), Stop>
 fn long_type_of<'a>(alloc: Global, fuel: usize, bytes: &'a [u8]) -> Result<(IrType, &'a [u8]), Stop>
     ensures { Gives (λ x. (x.0, x.1.now)) result (reading.long_type_at fuel bytes.now) }
 {
-    if next_is(76, bytes) {
+    if next_is(b'L', bytes) {
         let rest = literal(b"L ", bytes)?;
         let (class, rest) = type_class_of(alloc, fuel, rest)?;
         let rest = literal(b")", rest)?;
@@ -54,7 +54,7 @@ fn long_type_of<'a>(alloc: Global, fuel: usize, bytes: &'a [u8]) -> Result<(IrTy
 pub fn type_of<'a>(alloc: Global, fuel: usize, bytes: &'a [u8]) -> Result<(IrType, &'a [u8]), Stop>
     ensures { Gives (λ x. (x.0, x.1.now)) result (reading.type_at fuel bytes.now) }
 {
-    if next_is(40, bytes) {
+    if next_is(b'(', bytes) {
         let rest = literal(b"(", bytes)?;
         long_type_of(alloc, fuel, rest)
     } else {

@@ -30,7 +30,7 @@ pub fn next_other(byte: u8, bytes: &[u8]) -> bool
 pub fn is_digit_byte(byte: u8) -> bool
     ensures { result ≡ is_digit byte }
 {
-    byte >= 48 && byte <= 57
+    byte >= b'0' && byte <= b'9'
 }
 
 /// Whether the next byte is a digit.

@@ -14,9 +14,9 @@ use listing_spelling::Spot;
 fn hex_value(byte: u8) -> Option<u32>
     ensures { result ≡ hex_of byte }
 {
-    if byte >= 48 && byte <= 57 {
+    if byte >= b'0' && byte <= b'9' {
         Some(u32::from(byte - 48))
-    } else if byte >= 97 && byte <= 102 {
+    } else if byte >= b'a' && byte <= b'f' {
         Some(u32::from(byte - 87))
     } else {
         None
@@ -156,7 +156,7 @@ fn simple_escape(bytes: &[u8]) -> Result<(u32, &[u8]), Stop>
 {
     match bytes {
         [first, rest @ ..] => {
-            if *first == 34 || *first == 92 {
+            if *first == b'"' || *first == b'\\' {
                 Ok((u32::from(*first), rest))
             } else {
                 Err(Stop::Bad(bytes.len()))
@@ -170,7 +170,7 @@ fn simple_escape(bytes: &[u8]) -> Result<(u32, &[u8]), Stop>
 fn escape_of(bytes: &[u8]) -> Result<(u32, &[u8]), Stop>
     ensures { Gives (λ x. (x.0, x.1.now)) result (names.escape_at bytes.now) }
 {
-    if next_is(117, bytes) {
+    if next_is(b'u', bytes) {
         let rest = literal(b"u", bytes)?;
         let (unit, rest) = unit_of(rest)?;
         pair_of(unit, rest)
@@ -185,9 +185,9 @@ fn plain_of(spot: Spot, bytes: &[u8]) -> Result<(u32, &[u8]), Stop>
 {
     match bytes {
         [first, rest @ ..] => {
-            if *first >= 32
-                && *first <= 126
-                && !(*first == 34 || *first == 92)
+            if *first >= b' '
+                && *first <= b'~'
+                && !(*first == b'"' || *first == b'\\')
                 && step(spot, u32::from(*first)).is_some()
             {
                 Ok((u32::from(*first), rest))
@@ -204,7 +204,7 @@ fn plain_of(spot: Spot, bytes: &[u8]) -> Result<(u32, &[u8]), Stop>
 pub fn character_of(spot: Spot, bytes: &[u8]) -> Result<(u32, &[u8]), Stop>
     ensures { Gives (λ x. (x.0, x.1.now)) result (names.character_at spot bytes.now) }
 {
-    if is_open(spot) && next_is(92, bytes) {
+    if is_open(spot) && next_is(b'\\', bytes) {
         let rest = literal(b"\\", bytes)?;
         escape_of(rest)
     } else {

@@ -39,7 +39,7 @@ fn characters_of<'a>(
     let mut spot = start;
     let mut rest = bytes;
     for _ in 0..fuel {
-        if next_is(34, rest) {
+        if next_is(b'"', rest) {
             return Ok((name, rest));
         }
         let (code, after) = character_of(spot, rest)?;

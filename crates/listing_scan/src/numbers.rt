@@ -40,7 +40,7 @@ fn digits_of<'a>(nought: bool, limit: u128, bytes: &'a [u8]) -> Result<(u128, &'
     ensures below { IfOk result (λ x. x.0 < limit) }
     ensures some { IfOk result (λ x. nought ≡ false → 0 < x.0) }
 {
-    if next_is(48, bytes) {
+    if next_is(b'0', bytes) {
         if nought {
             Ok((0, &bytes[1..]))
         } else {
@@ -97,7 +97,7 @@ pub fn unit_of<'a>(bytes: &'a [u8]) -> Result<(u16, &'a [u8]), Stop>
 pub fn byte_of<'a>(bytes: &'a [u8]) -> Result<(i8, &'a [u8]), Stop>
     ensures { Gives (λ x. (x.0, x.1.now)) result (reading.integer_at (2 ^ 7) bytes.now) }
 {
-    if next_is(45, bytes) {
+    if next_is(b'-', bytes) {
         let rest = literal(b"-", bytes)?;
         let (value, rest) = code_of(129, rest)?;
         Ok((negated(value) as i8, rest))
@@ -112,7 +112,7 @@ pub fn byte_of<'a>(bytes: &'a [u8]) -> Result<(i8, &'a [u8]), Stop>
 pub fn short_of<'a>(bytes: &'a [u8]) -> Result<(i16, &'a [u8]), Stop>
     ensures { Gives (λ x. (x.0, x.1.now)) result (reading.integer_at (2 ^ 15) bytes.now) }
 {
-    if next_is(45, bytes) {
+    if next_is(b'-', bytes) {
         let rest = literal(b"-", bytes)?;
         let (value, rest) = code_of(32769, rest)?;
         Ok((negated(value) as i16, rest))
@@ -127,7 +127,7 @@ pub fn short_of<'a>(bytes: &'a [u8]) -> Result<(i16, &'a [u8]), Stop>
 pub fn int_of<'a>(bytes: &'a [u8]) -> Result<(i32, &'a [u8]), Stop>
     ensures { Gives (λ x. (x.0, x.1.now)) result (reading.integer_at (2 ^ 31) bytes.now) }
 {
-    if next_is(45, bytes) {
+    if next_is(b'-', bytes) {
         let rest = literal(b"-", bytes)?;
         let (value, rest) = code_of(2147483649, rest)?;
         Ok((negated(value) as i32, rest))
@@ -142,7 +142,7 @@ pub fn int_of<'a>(bytes: &'a [u8]) -> Result<(i32, &'a [u8]), Stop>
 pub fn long_of<'a>(bytes: &'a [u8]) -> Result<(i64, &'a [u8]), Stop>
     ensures { Gives (λ x. (x.0, x.1.now)) result (reading.integer_at (2 ^ 63) bytes.now) }
 {
-    if next_is(45, bytes) {
+    if next_is(b'-', bytes) {
         let rest = literal(b"-", bytes)?;
         let (value, rest) = code_of(9223372036854775809, rest)?;
         Ok((negated(value), rest))
@@ -159,8 +159,8 @@ pub fn mark_of<'a>(bytes: &'a [u8]) -> Result<(bool, &'a [u8]), Stop>
 {
     match bytes {
         [first, rest @ ..] => match *first {
-            48 => Ok((false, rest)),
-            49 => Ok((true, rest)),
+            b'0' => Ok((false, rest)),
+            b'1' => Ok((true, rest)),
             _ => Err(Stop::Bad(bytes.len())),
         },
         [] => Err(Stop::Bad(0)),

@@ -10,7 +10,14 @@ use listing_spelling::Spot;
 fn is_name_character(c: u32) -> bool
     ensures { result ≡ is_name_byte c }
 {
-    c > 32 && c != 127 && c != 46 && c != 59 && c != 91 && c != 47 && c != 60 && c != 62
+    c > ' ' as u32
+        && c != 0x7f
+        && c != '.' as u32
+        && c != ';' as u32
+        && c != '[' as u32
+        && c != '/' as u32
+        && c != '<' as u32
+        && c != '>' as u32
 }
 
 /// On with a character of a name.
@@ -34,18 +41,23 @@ fn on(want: u32, c: u32, spot: Spot) -> Option<Spot>
 fn is_letter(c: u32) -> bool
     ensures { result ≡ names.is_letter c }
 {
-    c == 90 || c == 67 || c == 66 || c == 83 || c == 73 || c == 74
+    c == 'Z' as u32
+        || c == 'C' as u32
+        || c == 'B' as u32
+        || c == 'S' as u32
+        || c == 'I' as u32
+        || c == 'J' as u32
 }
 
 /// Behind dimensions of an array.
 fn array_step(dimensions: u8, c: u32) -> Option<Spot>
     ensures { result ≡ names.base_step dimensions c (λ m. ArrayBase m) ArrayEnd PartStart }
 {
-    if c == 91 && dimensions < 255 {
+    if c == '[' as u32 && dimensions < 255 {
         Some(Spot::ArrayBase(dimensions + 1))
     } else if is_letter(c) {
         Some(Spot::ArrayEnd)
-    } else if c == 76 {
+    } else if c == 'L' as u32 {
         Some(Spot::PartStart)
     } else {
         None
@@ -56,11 +68,11 @@ fn array_step(dimensions: u8, c: u32) -> Option<Spot>
 fn type_step(dimensions: u8, c: u32) -> Option<Spot>
     ensures { result ≡ names.base_step dimensions c (λ m. TypeBase m) TypeEnd TypePartStart }
 {
-    if c == 91 && dimensions < 255 {
+    if c == '[' as u32 && dimensions < 255 {
         Some(Spot::TypeBase(dimensions + 1))
     } else if is_letter(c) {
         Some(Spot::TypeEnd)
-    } else if c == 76 {
+    } else if c == 'L' as u32 {
         Some(Spot::TypePartStart)
     } else {
         None
@@ -75,7 +87,7 @@ pub fn step(spot: Spot, c: u32) -> Option<Spot>
         Spot::NameStart | Spot::Name => on_name(c, Spot::Name),
         Spot::PartStart => on_name(c, Spot::Part),
         Spot::Part => {
-            if c == 46 {
+            if c == '.' as u32 {
                 Some(Spot::PartStart)
             } else {
                 on_name(c, Spot::Part)
@@ -84,7 +96,7 @@ pub fn step(spot: Spot, c: u32) -> Option<Spot>
         Spot::ArrayStart => on(91, c, Spot::ArrayBase(1)),
         Spot::ArrayBase(dimensions) => array_step(dimensions, c),
         Spot::MethodStart => {
-            if c == 60 {
+            if c == '<' as u32 {
                 Some(Spot::Less)
             } else {
                 on_name(c, Spot::Simple)
@@ -97,14 +109,14 @@ pub fn step(spot: Spot, c: u32) -> Option<Spot>
         Spot::LessInit => on(62, c, Spot::InitEnd),
         Spot::InitEnd | Spot::TypeEnd => on(59, c, Spot::TypeStart),
         Spot::Simple => {
-            if c == 59 {
+            if c == ';' as u32 {
                 Some(Spot::TypeStart)
             } else {
                 on_name(c, Spot::Simple)
             }
         }
         Spot::TypeStart => {
-            if c == 86 || c == 82 {
+            if c == 'V' as u32 || c == 'R' as u32 {
                 Some(Spot::Last)
             } else {
                 type_step(0, c)
@@ -113,9 +125,9 @@ pub fn step(spot: Spot, c: u32) -> Option<Spot>
         Spot::TypeBase(dimensions) => type_step(dimensions, c),
         Spot::TypePartStart => on_name(c, Spot::TypePart),
         Spot::TypePart => {
-            if c == 59 {
+            if c == ';' as u32 {
                 Some(Spot::TypeStart)
-            } else if c == 46 {
+            } else if c == '.' as u32 {
                 Some(Spot::TypePartStart)
             } else {
                 on_name(c, Spot::TypePart)

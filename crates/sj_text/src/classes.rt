@@ -142,7 +142,7 @@ fn body_of<'a>(
 ) -> Result<(Option<Body>, &'a [u8]), Stop>
     ensures { Gives (λ x. (x.0, x.1.now)) result (reading.body_at fuel bytes.now) }
 {
-    if next_is(45, bytes) {
+    if next_is(b'-', bytes) {
         no_body(bytes)
     } else {
         some_body(alloc, fuel, bytes)
@@ -225,7 +225,7 @@ fn superclass_of<'a>(
 ) -> Result<(Option<ClassName>, &'a [u8]), Stop>
     ensures { Gives (λ x. (x.0, x.1.now)) result (reading.superclass_at fuel bytes.now) }
 {
-    if next_is(45, bytes) {
+    if next_is(b'-', bytes) {
         let rest = literal(b"-", bytes)?;
         return Ok((None, rest));
     }

@@ -124,7 +124,7 @@ fn more_trees_of<'a>(
     let mut trees = Vec::new(alloc);
     let mut rest = bytes;
     for _ in 0..fuel {
-        if !next_is(32, rest) {
+        if !next_is(b' ', rest) {
             return Ok((trees, rest));
         }
         let (tree, after) = tree_field(alloc, fuel, rest)?;
@@ -157,7 +157,7 @@ fn trees_of<'a>(alloc: Global, fuel: usize, bytes: &'a [u8]) -> Result<(Vec<Tree
     ensures { Gives (λ x. (map view x.0.items, x.1.now)) result (reading.bracketed_at fuel (reading.tree_at fuel) bytes.now) }
 {
     let rest = literal(b"[", bytes)?;
-    if next_is(93, rest) {
+    if next_is(b']', rest) {
         let rest = literal(b"]", rest)?;
         Ok((Vec::new(alloc), rest))
     } else {
@@ -242,7 +242,7 @@ fn more_cases_of<'a>(
     let mut cases = Vec::new(alloc);
     let mut rest = bytes;
     for _ in 0..fuel {
-        if !next_is(32, rest) {
+        if !next_is(b' ', rest) {
             return Ok((cases, rest));
         }
         let (case, after) = spaced_case(alloc, fuel, rest)?;
@@ -279,7 +279,7 @@ fn cases_of<'a>(
     ensures { Gives (λ x. (map view_case x.0.items, x.1.now)) result (reading.bracketed_at fuel (reading.case_at (reading.tree_at fuel) fuel) bytes.now) }
 {
     let rest = literal(b"[", bytes)?;
-    if next_is(93, rest) {
+    if next_is(b']', rest) {
         let rest = literal(b"]", rest)?;
         Ok((Vec::new(alloc), rest))
     } else {

@@ -68,9 +68,9 @@ IsMemoryAlone (Err stop) = stop ≡ NoMemory
 abbrev pub AreHeld : Parts → List (List ℕ) → Type 0
 AreHeld contents files = All (λ path. IsTrue (is_some (file_at contents path))) files
 
--- the folders have what the words name
+-- the folders have what the words name; words that are no command name nothing
 abbrev pub HasNamed : Parts → Option Command → Type 0
-HasNamed contents None = ⊥
+HasNamed contents None = ⊤
 HasNamed contents (Some help) = ⊤
 HasNamed contents (Some version) = ⊤
 HasNamed contents (Some (print files)) = AreHeld contents files

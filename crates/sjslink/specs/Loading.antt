@@ -61,7 +61,7 @@ pub record IsLinkedFile (entry : Entry) (class : ClassDef) (file : LinkedFile) :
 abbrev pub named : words.LinkWords → LinkWords
 named w = record { entries = w.entries.now; out = w.out.now; folder = w.folder.now }
 
--- the folders have what the words name
+-- the folders have what the words name; words that are no command name nothing
 abbrev pub HasNamed : Parts → Option LinkWords → Type 0
-HasNamed contents None = ⊥
+HasNamed contents None = ⊤
 HasNamed contents (Some words) = IsTrue (is_some (file_at contents words.entries)) × IsTrue (is_some (folder_at contents words.folder))

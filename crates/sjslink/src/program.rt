@@ -1,5 +1,5 @@
 // The top call.
-ghost use Rattle.std.specs.Prelude.{◌≡◌, ◌⊎◌, Some, None, [], ◌∷◌, map, string_bytes};
+ghost use Rattle.std.specs.Prelude.{◌≡◌, ◌⊎◌, ℕ, Some, None, [], ◌∷◌, map, string_bytes};
 ghost use Rattle.sj_outside.specs.Contents.{Parts};
 ghost use Rattle.sj_outside.specs.Faults.{Rose};
 ghost use Rattle.sj_outside.specs.Writing.{Appends};
@@ -51,6 +51,9 @@ pub fn run<F: Folders, O: Outputs, L: Lines>(
     ensures no_command { command (map string_bytes words.items) ≡ None → output.IsUsageAnswer result }
     ensures usage { result ≡ Status.Usage → command (map string_bytes words.items) ≡ None }
     ensures usage_line { result ≡ Status.Usage → Appends (O.puts outputs.old) (O.puts outputs.new) [] × Appends (L.printed lines.old) (L.printed lines.new) output.usage_line }
+
+    // As long as one folder is taken, no edit is refused and no entries are judged.
+    ensures unused { (result ≡ Status.SomeRefused → ⊥) × ((n : ℕ) → result ≡ Status.BadEntries n → ⊥) }
 
     // Each fault has its cause.
     ensures read_fault { result ≡ Status.ReadFault → Rose (F.faults folders.old) (F.faults folders.new) }
