@@ -4,6 +4,7 @@ ghost use Rattle.sj_trees.specs.View.{view, terms_view, cases_view};
 ghost use Rattle.sj_ask.specs.Sizes.{size, next, counted, counted_all, counted_cases};
 
 use sj_trees::{MatchCase, Tree};
+use tree_parts::{Parts, parts_in};
 
 const MOST: u32 = 16;
 
@@ -27,53 +28,14 @@ fn count(tree: &Tree, before: u32) -> u32
     ensures { result ≡ counted (view tree.now) before }
 {
     let before = one_more(before);
-    match tree {
-        Tree::VarDef(_, _, _, _, one)
-        | Tree::Labeled(_, _, _, one)
-        | Tree::Return(_, one, _)
-        | Tree::Throw(_, one)
-        | Tree::StoreModule(_, _, one)
-        | Tree::Select(_, one, _, _, _)
-        | Tree::UnaryOp(_, _, one)
-        | Tree::NewArray(_, _, one)
-        | Tree::ArrayLength(_, one)
-        | Tree::IsInstanceOf(_, one, _)
-        | Tree::AsInstanceOf(_, one, _)
-        | Tree::Log(_, one) => count(one, before),
-        Tree::Assign(_, one, two)
-        | Tree::While(_, one, two)
-        | Tree::DoWhile(_, one, two)
-        | Tree::TryCatch(_, one, _, two, _)
-        | Tree::TryFinally(_, one, two)
-        | Tree::BinaryOp(_, _, one, two)
-        | Tree::ArraySelect(_, one, two, _) => count(two, count(one, before)),
-        Tree::If(_, condition, yes, no, _) => count(no, count(yes, count(condition, before))),
-        Tree::Match(_, selector, cases, default, _) => count(
-            default,
-            count_cases(cases, count(selector, before)),
-        ),
-        Tree::Block(_, trees)
-        | Tree::New(_, _, _, trees)
-        | Tree::ApplyStatic(_, _, _, _, trees, _)
-        | Tree::ArrayValue(_, _, trees) => count_all(trees, before),
-        Tree::Apply(_, receiver, _, trees, _) => count_all(trees, count(receiver, before)),
-        Tree::ApplyStatically(_, receiver, _, _, _, trees, _) => {
-            count_all(trees, count(receiver, before))
-        }
-        Tree::Skip(_)
-        | Tree::LoadModule(_, _)
-        | Tree::SelectStatic(_, _, _, _)
-        | Tree::Undefined(_)
-        | Tree::Null(_)
-        | Tree::BooleanLiteral(_, _)
-        | Tree::CharLiteral(_, _)
-        | Tree::ByteLiteral(_, _)
-        | Tree::ShortLiteral(_, _)
-        | Tree::IntLiteral(_, _)
-        | Tree::LongLiteral(_, _)
-        | Tree::StringLiteral(_, _)
-        | Tree::VarRef(_, _, _)
-        | Tree::This(_, _) => before,
+    match parts_in(tree) {
+        Parts::None => before,
+        Parts::One(one) => count(one, before),
+        Parts::Two(one, two) => count(two, count(one, before)),
+        Parts::Three(one, two, three) => count(three, count(two, count(one, before))),
+        Parts::Many(trees) => count_all(trees, before),
+        Parts::OneAndMany(one, trees) => count_all(trees, count(one, before)),
+        Parts::Cases(one, cases, two) => count(two, count_cases(cases, count(one, before))),
     }
 }
 

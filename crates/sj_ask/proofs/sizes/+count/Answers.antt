@@ -1,13 +1,13 @@
-use Rattle.std.proofs.Common.{◌∙◌, ap, arith}
-use Rattle.sj_trees.proofs.trees.Tree.TheLaws.{the_size}
-use Rattle.sj_trees.specs.declared.trees.Tree.TheViews.{sized-Match, sized-Apply, sized-ApplyStatically}
+use Rattle.std.proofs.Common.{◌∙◌, arith}
+use Rattle.sj_ask.specs.Sizes.{counted_cases}
+use Rattle.tree_parts.proofs.Items.{size_of_item, size_of_case, case_taken}
 use Rattle.sj_ask.proofs.sizes.+count.Goals as goal
 
-pub count-count_cases-requires : goal.count-count_cases-requires
-count-count_cases-requires t c = (rw c.deref-in-Match-2.ensures.value (omega (arith, ap the_size c.in-Match.is ∙ sized-Match c.in-Match.field-0 c.in-Match.selector c.in-Match.cases c.in-Match.default c.in-Match.field-4)), tt)
+pub count_all-count-counted-requires : goal.count_all-count-counted-requires
+count_all-count-counted-requires t c = (omega (arith, c.decreases, size_of_item c.args.trees.now c.loop-each.each-index c.each-item.result c.loop-each-test.true c.each-item.is), tt)
 
-pub count-count_all-requires : goal.count-count_all-requires
-count-count_all-requires t c = (rw c.deref-in-Apply.ensures.value (omega (arith, ap the_size c.in-Apply.is ∙ sized-Apply c.in-Apply.field-0 c.in-Apply.receiver c.in-Apply.field-2 c.in-Apply.trees c.in-Apply.field-4)), tt)
+pub count_cases-count-counted-requires : goal.count_cases-count-counted-requires
+count_cases-count-counted-requires t c = (omega (arith, c.decreases, size_of_case c.args.cases.now c.loop-each.each-index c.each-item.result c.loop-each-test.true c.each-item.is), tt)
 
-pub count-count_all-requires-in-ApplyStatically : goal.count-count_all-requires-in-ApplyStatically
-count-count_all-requires-in-ApplyStatically t c = (rw c.deref-in-ApplyStatically.ensures.value (omega (arith, ap the_size c.in-ApplyStatically.is ∙ sized-ApplyStatically c.in-ApplyStatically.field-0 c.in-ApplyStatically.receiver c.in-ApplyStatically.field-2 c.in-ApplyStatically.field-3 c.in-ApplyStatically.field-4 c.in-ApplyStatically.trees c.in-ApplyStatically.field-6)), tt)
+pub count_cases-loop-each-preserved : goal.count_cases-loop-each-preserved
+count_cases-loop-each-preserved t c = rw c.count-counted.ensures (case_taken (λ cs. counted_cases cs c.loop-each.counted) c.args.cases.now c.loop-each.each-index c.each-item.result c.loop-each-test.true c.each-item.is) ∙ c.loop-each.invariant
