@@ -1,6 +1,6 @@
 #!/usr/bin/env bash
 # Runs the program of the crate that the first word names, with the other words, and proves and builds it before that where it isn't
-# built from the sources as they stand.
+# built from the sources as they stand. What it does meanwhile it says on standard error.
 set -euo pipefail
 
 name="$1"
@@ -13,16 +13,15 @@ is_built() {
 }
 
 if ! is_built; then
-  log="$(mktemp)"
+  echo "$name isn't built from these sources: proving it and the crates that it stands on. From nothing this can take an hour; what is proved is kept." >&2
   rm -f "$program"
-  # A build ends with a run that has no words, whose exit status says nothing of the build.
-  (cd "$crates/$name" && rt run) > "$log" 2>&1 < /dev/null || true
+  # The lines of rt come as they are made. A build ends with a run that has no words, whose exit status says nothing of the build.
+  (cd "$crates/$name" && rt run) < /dev/null >&2 || true
   if [ ! -x "$program" ]; then
-    cat "$log" >&2
-    rm -f "$log"
+    echo "$name could not be built" >&2
     exit 70
   fi
-  rm -f "$log"
+  echo "$name is built: $program (the run without words above ends a build)" >&2
 fi
 
 exec "$program" "$@"

@@ -4,14 +4,14 @@ set -eu
 
 . "$(dirname "$0")/../program.sh"
 
-begin worlds_bench 'anyhow sj_names sj_trees sj_world' sj_names sj_units sj_trees sj_world
+begin worlds_bench 'anyhow sj_names sj_trees sj_world' sj_names sj_units sj_trees worklist sj_world
 
 cat > "$main" <<'PROGRAM'
 //! The time of World::new, and of subtype tests and resolutions in the world.
 #![tactic(auto)]
 
 use anyhow::Result;
-use sj_names::{ClassName, Items, MethodName};
+use sj_names::{ClassName, MethodName, Shared};
 use sj_trees::{ClassDef, ClassKind, IrType, Position};
 use sj_world::{Resolution, World};
 use std::alloc::Global;
@@ -36,13 +36,13 @@ fn class(alloc: Global, number: u32) -> Result<ClassDef> {
     let superclass = if number == 0 { None } else { Some(name(alloc, above)?) };
     Ok(ClassDef {
         pos: Position { file: 0, line: 0, column: 0 },
-        files: Items::from_vec(Vec::new(alloc)),
+        files: Shared::from_vec(Vec::new(alloc))?,
         name: name(alloc, number)?,
         kind: ClassKind::Class,
         superclass,
-        interfaces: Items::from_vec(Vec::new(alloc)),
-        fields: Items::from_vec(Vec::new(alloc)),
-        methods: Items::from_vec(Vec::new(alloc)),
+        interfaces: Shared::from_vec(Vec::new(alloc))?,
+        fields: Shared::from_vec(Vec::new(alloc))?,
+        methods: Shared::from_vec(Vec::new(alloc))?,
     })
 }
 

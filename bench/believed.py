@@ -1,0 +1,64 @@
+#!/usr/bin/env python3
+"""Counts, for each claim of docs/PROVED.md, the lines of specs/ that are behind it, blank lines left out: the file at which the claim begins, the
+files whose definitions it cites, and so on. A file counts as a whole where one of its definitions is cited."""
+import re
+from pathlib import Path
+
+CRATES = Path(__file__).resolve().parent.parent / "crates"
+CLAIMS = [
+    ("sjslink::run, agrees", ["sjslink.Headline"]),
+    ("sjslink::run, whole and front", ["sjslink.Output"]),
+    ("judged_classes_agree", ["sj_judged.Judged", "sj_calls.Files", "sj_sound.Linked", "sj_proper.Program", "outcomes.Agreement", "ir_mean.Shows", "js_mean.Shows"]),
+    ("sjsir::run", ["sjsir.Output"]),
+    ("read_class", ["sj_format.Answers"]),
+    ("write_class", ["sj_written.Written"]),
+    ("print_module", ["js_tree.Spelling"]),
+    ("exact places", ["exact_place.Place"]),
+    ("parse_listing", ["listing_spelling.Spelling"]),
+    ("check_class", ["sj_local.Broken"]),
+    ("World", ["sj_world.Subtypes", "sj_world.Resolution"]),
+    ("check_method", ["sj_typing.Typed"]),
+    ("sj_ask", ["sj_ask.Laws"]),
+]
+
+
+def spec_file(name):
+    """The file of specs/ that a name such as Rattle.sj_ask.specs.Laws stands for, if it is one."""
+    parts = name.split(".")
+    if len(parts) < 3 or parts[1] != "specs" or parts[2] == "declared":
+        return None
+    for end in (len(parts), len(parts) - 1):
+        path = CRATES.joinpath(parts[0], "specs", *parts[2:end]).with_suffix(".antt")
+        if path.is_file():
+            return path
+    return None
+
+
+def cited(path):
+    names = re.findall(r"^use Rattle\.([\w.+]+?)(?:\.\{|\s|$)", path.read_text(), re.MULTILINE)
+    return {file for file in map(spec_file, names) if file}
+
+
+def behind(begins):
+    found = set()
+    left = [spec_file(name.replace(".", ".specs.", 1)) for name in begins]
+    while left:
+        path = left.pop()
+        if path not in found:
+            found.add(path)
+            left.extend(cited(path))
+    return found
+
+
+def lines(path):
+    return sum(1 for line in path.read_text().splitlines() if line.strip())
+
+
+for claim, begins in CLAIMS:
+    files = behind(begins)
+    by_crate = {}
+    for path in files:
+        crate = path.relative_to(CRATES).parts[0]
+        by_crate[crate] = by_crate.get(crate, 0) + lines(path)
+    parts = ", ".join(f"{crate} {count}" for crate, count in sorted(by_crate.items()))
+    print(f"{claim}: {sum(by_crate.values())} lines in {len(files)} files: {parts}")
