@@ -15,6 +15,7 @@ use sj_names::{Bytes, Meter, NoMemory};
 use sj_outside::{Folders, without_line_feed};
 use sj_read::read_class;
 use sj_text::{ListingError, parse_listing};
+use sj_trees::ReadRefusal;
 use sj_write::write_class;
 use std::alloc::Global;
 

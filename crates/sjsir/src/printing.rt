@@ -16,6 +16,7 @@ use listing_print::print_listing;
 use sj_names::Meter;
 use sj_outside::{Folders, Lines, OutsideError};
 use sj_read::read_class;
+use sj_trees::{Code, ReadRefusal, Reserved};
 use std::alloc::{AllocError, Global};
 
 /// The line of a file, and whether it is a listing.
