@@ -21,23 +21,40 @@ pub fn is_same_tree(tree: &Tree, other: &Tree) -> bool
 fn are_same_parts(parts: Parts<'_>, others: Parts<'_>) -> bool
     ensures { IsTrue result ↔ (erased_parts (seen parts.entry) ≡ erased_parts (seen others.entry)) }
 {
-    match (parts, others) {
-        (Parts::None, Parts::None) => true,
-        (Parts::One(one), Parts::One(other)) => is_same_tree(one, other),
-        (Parts::Two(one, two), Parts::Two(other, another)) => {
-            is_same_tree(one, other) && is_same_tree(two, another)
-        }
-        (Parts::Three(one, two, three), Parts::Three(other, another, last)) => {
-            is_same_tree(one, other) && is_same_tree(two, another) && is_same_tree(three, last)
-        }
-        (Parts::Many(trees), Parts::Many(others)) => are_same_trees(trees, others),
-        (Parts::OneAndMany(one, trees), Parts::OneAndMany(other, others)) => {
-            is_same_tree(one, other) && are_same_trees(trees, others)
-        }
-        (Parts::Cases(one, cases, two), Parts::Cases(other, others, another)) => {
-            is_same_tree(one, other) && are_same_cases(cases, others) && is_same_tree(two, another)
-        }
-        _ => false,
+    match parts {
+        Parts::None => matches!(others, Parts::None),
+        Parts::One(one) => match others {
+            Parts::One(other) => is_same_tree(one, other),
+            _ => false,
+        },
+        Parts::Two(one, two) => match others {
+            Parts::Two(other, another) => is_same_tree(one, other) && is_same_tree(two, another),
+            _ => false,
+        },
+        Parts::Three(one, two, three) => match others {
+            Parts::Three(other, another, last) => {
+                is_same_tree(one, other) && is_same_tree(two, another) && is_same_tree(three, last)
+            }
+            _ => false,
+        },
+        Parts::Many(trees) => match others {
+            Parts::Many(others) => are_same_trees(trees, others),
+            _ => false,
+        },
+        Parts::OneAndMany(one, trees) => match others {
+            Parts::OneAndMany(other, others) => {
+                is_same_tree(one, other) && are_same_trees(trees, others)
+            }
+            _ => false,
+        },
+        Parts::Cases(one, cases, two) => match others {
+            Parts::Cases(other, others, another) => {
+                is_same_tree(one, other)
+                    && are_same_cases(cases, others)
+                    && is_same_tree(two, another)
+            }
+            _ => false,
+        },
     }
 }
 
