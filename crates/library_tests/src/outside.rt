@@ -1,7 +1,7 @@
 // Contents in memory, and calls that fail in turn.
 use sj_outside::{
-    Contents, ContentsError, Folders, FoldersInMemory, Lines, LinesInMemory, OutsideError, Outputs,
-    OutputsInMemory,
+    Contents, ContentsError, Folders, FoldersInMemory, Lines, LinesInMemory, Outputs,
+    OutputsInMemory, OutsideError,
 };
 use std::alloc::Global;
 use std::test::Fail;

@@ -38,7 +38,6 @@ module _ (P : Node → Type 0) where
   first_is_one (u ∷ xs) ys (z ∷ zs) ws x y e a n b m = let rest : xs ++ x ∷ ys ≡ zs ++ y ∷ ws = cc in first_is_one xs ys zs ws x y rest (All-tail P u xs a) n (All-tail P z zs b) m
 
 module _ (w : Classes) (m : MethodDef) where
-
   fails_somewhere : (body : Term) (x : Node) → FailsAt w m.namespace (nodes [] 0 body) x → All (MeetsThere w m.namespace) (nodes [] 0 body) → ⊥
   fails_somewhere body x f all = f.fails (in_the_middle (MeetsThere w m.namespace) f.before f.behind x (subst (All (MeetsThere w m.namespace)) f.parts all))
 

@@ -3,6 +3,7 @@ use crate::spellings::{exchange_text, namespace_of};
 use anyhow::Result;
 use sj_ask::{Log, TypeError, WorldOracle};
 use sj_names::{ClassName, Member, Meter, MethodName, NoMemory};
+use sj_recorder::Recorder;
 use sj_trees::MethodDef;
 use sj_typing::check_method;
 use sj_world::LinkedWorld;

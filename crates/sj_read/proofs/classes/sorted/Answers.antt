@@ -26,4 +26,4 @@ returns c =
     let empty : into_iter_items at.member-iterator ≡ [] = nothing_left _ (sym at.invariant.count ∙ none.0) in
     let fields : at.fields.items ≡ fields_in c.args.members.items = sym (append-nil at.fields.items) ∙ ap (λ (ms : List MemberDef). at.fields.items ++ fields_in ms) (sym empty) ∙ at.invariant.fields in
     let methods : at.methods.items ≡ methods_in c.args.members.items = sym (append-nil at.methods.items) ∙ ap (λ (ms : List MemberDef). at.methods.items ++ methods_in ms) (sym empty) ∙ at.invariant.methods in
-    rw (c.from_vec.ensures, c.from_vec-2.ensures, fields, methods) refl
+    rw (c.in_ok-from_vec.ensures, c.in_ok-from_vec-2.ensures, fields, methods) refl
