@@ -1,5 +1,5 @@
 -- A class breaks none of the local rules, by computation.
-use Rattle.std.proofs.Common.{◌≡◌, ℕ, suc, Bool, true, false, List, [], ◌∷◌, ◌++◌, ◌&&◌, ◌||◌, not, None, map, length, refl, sym, ap, subst, ⊎_elim, Contains}
+use Rattle.std.proofs.Common.{◌≡◌, ℕ, suc, Bool, true, false, List, [], ◌∷◌, ◌++◌, ◌&&◌, ◌||◌, not, None, map, length, refl, sym, ap, ◌∙◌, subst, ⊎_elim, Contains}
 use Rattle.std.specs.Prelude.{option_map}
 use Rattle.std.specs.List.{list_any}
 use Rattle.std.proofs.lemmas.Bool.{and_parts}
@@ -11,7 +11,9 @@ use Rattle.sj_local.specs.Broken.{at_member, unless, method_place, constructors_
 use Rattle.sj_local.specs.ClassRules.{keeps_superclass, keeps_hijacked}
 use Rattle.sj_local.specs.Firsts.{first_where, FirstRepeat, nothing_left, later, FirstAnswer, none_left, a_later_one}
 use Rattle.sj_local.specs.MemberRules.{field_key, method_key, breaks_field}
-use Rattle.sj_local.specs.TreeRules.{findings_in, no_findings, declared_in}
+use Rattle.sj_local.specs.TreeRules.{breaks, declared_in}
+use Rattle.sj_local.specs.WalkParts.{findings_in, no_findings}
+use Rattle.sj_local.proofs.FindingSteps.{no_tree as unbroken_by, definition-first, variable-first, return_label-first, this-first, store_module-first, target-first, keys-first}
 use Rattle.sj_local.specs.declared.findings.Findings.{Findings}
 use Rattle.sj_local.specs.declared.members.MethodKey.{MethodKey}
 use Rattle.sj_local.specs.declared.rules.Rule.{Rule}
@@ -87,14 +89,22 @@ pub record Computed (c : ClassDef) : Type 0 where
 module _ (c : ClassDef) (h : Computed c) where
   tree_keeps : (m : MethodDef) → KeepsTrees c m → (r : Rule) → TreeBreaks r c m None
   tree_keeps m k rules.DeclaredTwice = record { index = None; first = no_repeat same_declaration declaration_itself [] (map (λ (d : Declared). d.declaration) (declared_in m)) k.0; is_tree = refl }
-  tree_keeps m k rules.Definition = sym (ap (λ (f : Findings). f.definition) k.1)
-  tree_keeps m k rules.Variable = sym (ap (λ (f : Findings). f.variable) k.1)
-  tree_keeps m k rules.ReturnLabel = sym (ap (λ (f : Findings). f.return_label) k.1)
-  tree_keeps m k rules.This = sym (ap (λ (f : Findings). f.this) k.1)
-  tree_keeps m k rules.StoreModule = sym (ap (λ (f : Findings). f.store_module) k.1)
-  tree_keeps m k rules.Target = sym (ap (λ (f : Findings). f.target) k.1)
-  tree_keeps m k rules.Keys = sym (ap (λ (f : Findings). f.keys) k.1)
-  tree_keeps m k _ = refl
+  tree_keeps m k rules.Definition = sym (ap (λ (f : Findings). f.definition) k.1) ∙ definition-first c m
+  tree_keeps m k rules.Variable = sym (ap (λ (f : Findings). f.variable) k.1) ∙ variable-first c m
+  tree_keeps m k rules.ReturnLabel = sym (ap (λ (f : Findings). f.return_label) k.1) ∙ return_label-first c m
+  tree_keeps m k rules.This = sym (ap (λ (f : Findings). f.this) k.1) ∙ this-first c m
+  tree_keeps m k rules.StoreModule = sym (ap (λ (f : Findings). f.store_module) k.1) ∙ store_module-first c m
+  tree_keeps m k rules.Target = sym (ap (λ (f : Findings). f.target) k.1) ∙ target-first c m
+  tree_keeps m k rules.Keys = sym (ap (λ (f : Findings). f.keys) k.1) ∙ keys-first c m
+  tree_keeps m k rules.Superclass = unbroken_by (breaks rules.Superclass c m.namespace) (λ x. refl) m
+  tree_keeps m k rules.Hijacked = unbroken_by (breaks rules.Hijacked c m.namespace) (λ x. refl) m
+  tree_keeps m k rules.InterfaceTwice = unbroken_by (breaks rules.InterfaceTwice c m.namespace) (λ x. refl) m
+  tree_keeps m k rules.MemberTwice = unbroken_by (breaks rules.MemberTwice c m.namespace) (λ x. refl) m
+  tree_keeps m k rules.Field = unbroken_by (breaks rules.Field c m.namespace) (λ x. refl) m
+  tree_keeps m k rules.MethodName = unbroken_by (breaks rules.MethodName c m.namespace) (λ x. refl) m
+  tree_keeps m k rules.Signature = unbroken_by (breaks rules.Signature c m.namespace) (λ x. refl) m
+  tree_keeps m k rules.MissingBody = unbroken_by (breaks rules.MissingBody c m.namespace) (λ x. refl) m
+  tree_keeps m k rules.Constructors = unbroken_by (breaks rules.Constructors c m.namespace) (λ x. refl) m
 
   no_tree : (r : Rule) (n : ℕ) (ms : List MethodDef) → AllKeepTrees c ms → FirstAnswer (TreeBreaks r c) n ms None
   no_tree r n [] k = none_left n

@@ -3,7 +3,8 @@ use Rattle.std.proofs.Common.{◌≡◌, ℕ, zero, suc, List, [], ◌∷◌, co
 use Rattle.std.specs.List.{AllAdjacentBelow}
 use Rattle.std.proofs.lemmas.List.Elements.{Contains-push, Contains-append_left, Contains-append_right}
 use Rattle.ir_mean.specs.Rows.{again_class}
-use Rattle.sj_link.specs.Reached.{IsReached, starts, goes_on, calls_of}
+use Rattle.sj_link.specs.Reached.{IsReached, calls_of}
+use Rattle.worklist.specs.Paths.{stay, on}
 use Rattle.sj_link.specs.Link.{ComesBefore, module_of, IsOrder, IsLink}
 use Rattle.sj_agree.specs.First.{again_names}
 use Rattle.sj_agree.proofs.Tests.{nothing_in, in_front_or_behind}
@@ -23,11 +24,11 @@ main_there : Contains again_names (codes "main")
 main_there = Contains-append_right (codes "again" ∷ []) (codes "main" ∷ []) (codes "main") (Contains-push [] (codes "main"))
 
 again_reached : IsReached again_class (codes "main") (codes "again")
-again_reached = goes_on (codes "main") (codes "again") starts (Contains-push [] (codes "again"))
+again_reached = on (codes "main") (codes "again") stay (Contains-push [] (codes "again"))
 
 reached : (x : List ℕ) → (codes "again" ≡ x) ⊎ (codes "main" ≡ x) → IsReached again_class (codes "main") x
 reached x (inl e) = subst (IsReached again_class (codes "main")) e again_reached
-reached x (inr e) = subst (IsReached again_class (codes "main")) e starts
+reached x (inr e) = subst (IsReached again_class (codes "main")) e stay
 
 -- both methods call `again`
 calls_again : (x y : List ℕ) → (codes "again" ≡ x) ⊎ (codes "main" ≡ x) → Contains (calls_of again_class x) y → Contains again_names y
@@ -41,8 +42,8 @@ calls_again x y (inr e) h = called y (subst (λ (z : List ℕ). Contains (calls_
     called y h = elim (in_front_or_behind (codes "again") [] y h) [ inl e ↦ subst (Contains again_names) e again_there | inr none ↦ nothing_in y none ]
 
 named : (x : List ℕ) → IsReached again_class (codes "main") x → Contains again_names x
-named x starts = main_there
-named x (goes_on caller callee before calls) = calls_again caller callee (one_of caller (named caller before)) calls
+named x stay = main_there
+named x (on caller callee before calls) = calls_again caller callee (one_of caller (named caller before)) calls
 
 in_order : AllAdjacentBelow ComesBefore again_names (length again_names)
 in_order zero d below = refl

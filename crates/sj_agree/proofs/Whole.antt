@@ -14,7 +14,7 @@ use Rattle.outcomes.specs.Agreement.{Direction, Within, Sim, IsNotWrong}
 use Rattle.outcomes.proofs.Sequence.{then_do-associative}
 use Rattle.outcomes.proofs.Simulation.{sim_done, sim_then, agree-from_sim}
 use Rattle.sj_link.specs.FirstForm.{are_printable, is_object, is_plain_class, has_no_superclass, is_empty, is_first_method, are_distinct, defines, is_first_class}
-use Rattle.sj_link.specs.Reached.{starts, goes_on}
+use Rattle.worklist.specs.Paths.{stay, on}
 use Rattle.sj_link.specs.Link.{function_name, function_of, call_of_method, module_of, IsOrder, IsLink}
 use Rattle.ir_mean.specs.States as ir
 use Rattle.ir_mean.specs.World as ir_world
@@ -96,7 +96,7 @@ linked-is c entry id names first order = record {
   methods = first.methods;
   functions = λ x h. ap (λ o. js_meaning.code_in o (function_name x)) (module_there id (module_of c entry names)) ∙ code_found c x names (expression_item (call_of_method entry) ∷ []) h;
   own = λ x. ap (λ o. origin_by (only_program id (module_of c entry names)) (js_showing.file_of id) x o) (module_there id (module_of c entry names));
-  closed = λ x y h calls. (order.exact y).1 (goes_on x y ((order.exact x).0 h) calls);
+  closed = λ x y h calls. (order.exact y).1 (on x y ((order.exact x).0 h) calls);
 }
 
 opening_same : (c : ClassDef) (entry id : List ℕ) (names : List (List ℕ)) → Same (js_showing.file_of id) names [] (ir_world.opening (c ∷ [])) (js_meaning.opening (only_program id (module_of c entry names)))
@@ -152,7 +152,7 @@ whole_alike c entry id names first order d n m within = subst (λ o. Sim d ◌�
     f = js_showing.file_of id
 
     sides : Sim d ◌≡◌ (ir_side c entry id n) (then_do (js_call_side entry id p m) (λ b. then_do (end_of_items p m f b) js_showing.ending))
-    sides = sim_then d (Called f names [] ir_showing.outside) ◌≡◌ (ir_meaning.meaning (c ∷ []) n (ir_showing.initializer_call (entry_point id entry)) ir_showing.outside (ir_world.opening (c ∷ []))) (js_call_side entry id p m) (ir_showing.next_or_end (ir_showing.all_show (c ∷ []) n [])) (λ b. then_do (end_of_items p m f b) js_showing.ending) (call_alike d c names f p (linked-is c entry id names first order) (ir_meaning.below (c ∷ []) n) (js_meaning.below p m) (bodies_alike c names f p (linked-is c entry id names first order) d n m within) (record { file = 0; line = 0; column = 0 }) (codes "java.lang.Object") PublicStatic (record { simple = entry; params = []; result = Some Void }) NoType refl refl (record { params = refl; result = refl }) first.there ((order.exact entry).1 starts) [] ir_showing.outside (ir_world.opening (c ∷ [])) (js_meaning.top_scope p f) (js_meaning.opening p) (record { file = refl; free = λ x. refl }) (opening_same c entry id names)) (all_ends d c f names p n m)
+    sides = sim_then d (Called f names [] ir_showing.outside) ◌≡◌ (ir_meaning.meaning (c ∷ []) n (ir_showing.initializer_call (entry_point id entry)) ir_showing.outside (ir_world.opening (c ∷ []))) (js_call_side entry id p m) (ir_showing.next_or_end (ir_showing.all_show (c ∷ []) n [])) (λ b. then_do (end_of_items p m f b) js_showing.ending) (call_alike d c names f p (linked-is c entry id names first order) (ir_meaning.below (c ∷ []) n) (js_meaning.below p m) (bodies_alike c names f p (linked-is c entry id names first order) d n m within) (record { file = 0; line = 0; column = 0 }) (codes "java.lang.Object") PublicStatic (record { simple = entry; params = []; result = Some Void }) NoType refl refl (record { params = refl; result = refl }) first.there ((order.exact entry).1 stay) [] ir_showing.outside (ir_world.opening (c ∷ [])) (js_meaning.top_scope p f) (js_meaning.opening p) (record { file = refl; free = λ x. refl }) (opening_same c entry id names)) (all_ends d c f names p n m)
 
 then_right : (c : ClassDef) (n : ℕ) (a : ir.Ended) → Gave a → Comes (λ e. Unit {0}) (ir_showing.next_or_end (ir_showing.all_show (c ∷ []) n []) a).end
 then_right c n a (gave v env s) = tt

@@ -9,10 +9,10 @@ use Rattle.sj_local.specs.declared.walks.Local.{Local}
 use Rattle.sj_local.specs.declared.walks.Declaration.{Declaration}
 use Rattle.sj_local.specs.declared.walks.Declaration.TheVariants as declaration
 use Rattle.sj_local.specs.declared.walks.Declared.{Declared}
-use Rattle.sj_local.specs.declared.findings.Findings.{Findings}
-use Rattle.sj_local.specs.Firsts.{FirstRepeat, nothing_left, here, later, in_32_bits}
+use Rattle.sj_local.specs.declared.rules.Rule.TheVariants as rule
+use Rattle.sj_local.specs.Firsts.{FirstRepeat, nothing_left, here, later, in_32_bits, first_where}
 use Rattle.sj_local.specs.Nodes.{Node, node, below}
-use Rattle.sj_local.specs.TreeRules.{last_some, innermost, declarations, declared_by, declared_from, declared_param, declared_in, DeclaresTwice, findings_from, findings_in, judgement, with_judgement, no_findings, noted, outermost, method_nodes, body_nodes}
+use Rattle.sj_local.specs.TreeRules.{last_some, innermost, declarations, declared_by, declared_from, declared_param, declared_in, DeclaresTwice, breaks, outermost, method_nodes, body_nodes}
 use Rattle.sj_local.specs.TreeRules as rules
 use Rattle.sj_names.specs.declared.method_names.Member.{Member}
 use Rattle.sj_names.specs.declared.method_names.Namespace.{Namespace}
@@ -33,27 +33,25 @@ use Rattle.sj_kept.specs.Rows.{Rows}
 use Rattle.sj_kept.proofs.Distinct.{Has, NoRepeat, declares, own-declares, repeat-parts, once}
 use Rattle.sj_kept.proofs.Kept.{AllKeep, SameLocal, neither, both_have, typed}
 
-noted-none : (n : ℕ) (b : Bool) (o : Option ℕ) → noted n b o ≡ None → (b ≡ false) × (o ≡ None)
-noted-none n b (Some k) h = impossible (cc)
-noted-none n true None h = impossible (cc)
-noted-none n false None h = (refl, refl)
-
--- three of the rules have no finding
-abbrev NoFindings : Findings → Type 0
-NoFindings f = (f.definition ≡ None) × (f.variable ≡ None) × (f.return_label ≡ None)
-
-findings-keep : (c : ClassDef) (space : Namespace) (xs : List Node) (n : ℕ) (f : Findings) → NoFindings (findings_from c space n xs f) → AllKeep xs × NoFindings f
-findings-keep c space [] n f h = (tt, h)
-findings-keep c space (x ∷ xs) n f h =
-    let r = findings-keep c space xs (in_32_bits (n + 1)) (with_judgement n (judgement c space x) f) h in
-    let d = noted-none n (judgement c space x).definition f.definition r.1.0 in
-    let v = noted-none n (judgement c space x).variable f.variable r.1.1 in
-    let j = noted-none n (judgement c space x).return_label f.return_label r.1.2 in
-    ((record { definition = d.0; variable = v.0; jump = j.0 }, r.0), (d.1, v.1, j.1))
-
 suc-none : (o : Option ℕ) → option_map suc o ≡ None → o ≡ None
 suc-none None h = refl
 suc-none (Some n) h = impossible (cc)
+
+-- where none of two or more passes a test, the first doesn't
+first-fails : (test : Node → Bool) (x : Node) (xs : List Node) → first_where test (x ∷ xs) ≡ None → (test x ≡ false) × (first_where test xs ≡ None)
+first-fails test x xs h = go (test x) refl h
+  where
+    go : (b : Bool) → test x ≡ b → (if b then Some 0 else option_map suc (first_where test xs)) ≡ None → (test x ≡ false) × (first_where test xs ≡ None)
+    go true e k = impossible (cc)
+    go false e k = (e, suc-none (first_where test xs) k)
+
+all-keep : (c : ClassDef) (space : Namespace) (xs : List Node) → first_where (breaks rule.Definition c space) xs ≡ None → first_where (breaks rule.Variable c space) xs ≡ None → first_where (breaks rule.ReturnLabel c space) xs ≡ None → AllKeep xs
+all-keep c space [] d v j = tt
+all-keep c space (x ∷ xs) d v j =
+    let e = first-fails (breaks rule.Definition c space) x xs d in
+    let w = first-fails (breaks rule.Variable c space) x xs v in
+    let k = first-fails (breaks rule.ReturnLabel c space) x xs j in
+    (record { definition = e.0; variable = w.0; jump = k.0 }, all-keep c space xs e.1 w.1 k.1)
 
 -- a repeat that has no tree is none
 no-index : (earlier : List Declaration) (ds : List Declared) (r : Option ℕ) → FirstRepeat earlier (map (λ (d : Declared). d.declaration) ds) r → option_and_then (λ n. option_map (λ (d : Declared). d.tree) (slice_get ds n)) r ≡ None → r ≡ None
@@ -145,14 +143,11 @@ module _ (sub : IrType → IrType → Type 0) (is_linked : Member → Bool) (c :
   twice : DeclaresTwice d None
   twice = kept.declared
 
-  found : NoFindings (findings_in c d)
-  found = (kept.definition, kept.variable, kept.jump)
-
   nodes-are : method_nodes d ≡ node (outermost d) e ∷ below (outermost d) e
   nodes-are = ap (body_nodes d) body
 
   keep : AllKeep (node (outermost d) e ∷ below (outermost d) e)
-  keep = subst AllKeep nodes-are (findings-keep c d.namespace (method_nodes d) 0 no_findings found).0
+  keep = subst AllKeep nodes-are (all-keep c d.namespace (method_nodes d) kept.definition kept.variable kept.jump)
 
   apart : NoRepeat (param_declarations d.params) × NoRepeat (declares (node (outermost d) e ∷ below (outermost d) e)) × ((q : Declaration) → Has (param_declarations d.params) q → Has (declares (node (outermost d) e ∷ below (outermost d) e)) q → ⊥)
   apart = repeat-parts (param_declarations d.params) (declares (node (outermost d) e ∷ below (outermost d) e)) (subst (λ xs. NoRepeat (param_declarations d.params ++ declares xs)) nodes-are (method-distinct d twice))

@@ -1,7 +1,9 @@
 -- What a method has of which no tree breaks the local rules.
 use Rattle.std.specs.Prelude.{◌≡◌, ℕ, List, [], None}
 use Rattle.sj_desugar.specs.Desugar.{names_of}
-use Rattle.sj_local.specs.TreeRules.{DeclaresTwice, findings_in}
+use Rattle.sj_local.specs.Firsts.{first_where}
+use Rattle.sj_local.specs.TreeRules.{DeclaresTwice, breaks, method_nodes}
+use Rattle.sj_local.specs.declared.rules.Rule.TheVariants as rules
 use Rattle.sj_trees.specs.Term.{Term}
 use Rattle.sj_trees.specs.declared.classes.ClassDef.{ClassDef}
 use Rattle.sj_trees.specs.declared.classes.MethodDef.{MethodDef}
@@ -13,9 +15,9 @@ use Rattle.sj_proper.specs.Program.{AreDistinct}
 -- the rules on declarations, definitions, variables and jumps are kept by the method
 pub record KeepsTreeRules (c : ClassDef) (d : MethodDef) : Type 0 where
   pub declared : DeclaresTwice d None
-  pub definition : (findings_in c d).definition ≡ None
-  pub variable : (findings_in c d).variable ≡ None
-  pub jump : (findings_in c d).return_label ≡ None
+  pub definition : first_where (breaks rules.Definition c d.namespace) (method_nodes d) ≡ None
+  pub variable : first_where (breaks rules.Variable c d.namespace) (method_nodes d) ≡ None
+  pub jump : first_where (breaks rules.ReturnLabel c d.namespace) (method_nodes d) ≡ None
 
 -- each local is defined once, and no parameter again
 pub record DefinesOnce (d : MethodDef) (e : Term) : Type 0 where

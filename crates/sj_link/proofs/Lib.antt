@@ -2,4 +2,3 @@ pub mod Increasing
 pub mod Printable
 pub mod TermLists
 pub mod Words
-pub mod WorkingLists

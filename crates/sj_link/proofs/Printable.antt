@@ -1,5 +1,5 @@
 -- The module of a class of the form keeps the rules on names and units.
-use Rattle.std.proofs.Common.{◌≡◌, ℕ, ◌<◌, true, List, [], ◌∷◌, ◌++◌, refl, sym, ap, ◌∙◌, subst, Contains, Option, Some, None, not, map, arith}
+use Rattle.std.proofs.Common.{◌≡◌, ℕ, true, List, [], ◌∷◌, ◌++◌, refl, sym, ap, ◌∙◌, subst, Contains, Option, Some, None, not, map, arith}
 use Rattle.std.specs.Prelude.{◌&&◌, ◌||◌, codes, All, nat_lt, length, ◌↔◌}
 use Rattle.std.specs.List.{list_all, IsDistinct}
 use Rattle.std.specs.List.Sorted.{IsSorted, IsPermutation}

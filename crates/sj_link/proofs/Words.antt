@@ -11,8 +11,9 @@ use Rattle.sj_names.specs.declared.method_names.Namespace.{Namespace}
 use Rattle.sj_trees.specs.declared.types.IrType.{IrType}
 use Rattle.sj_trees.specs.Term.{Term, Terms, no_terms, more_terms, block_of, apply_static}
 use Rattle.sj_link.specs.FirstForm.{is_first_class, is_first_method, is_first_body, are_first_bodies, is_word, is_same_text, is_first_name, is_empty, is_void, is_public_static, is_no_type, is_object, defines, is_empty_terms, has_first_body, are_printable, is_plain_class, has_no_superclass, are_distinct}
-use Rattle.sj_link.specs.Reached.{IsReached, starts, goes_on, calls_of, called_in, called, all_called, body_of}
-use Rattle.sj_link.proofs.WorkingLists.{nothing_in}
+use Rattle.sj_link.specs.Reached.{IsReached, calls_of, called_in, called, all_called, body_of}
+use Rattle.worklist.specs.Paths.{stay, on}
+use Rattle.worklist.proofs.Inserted.{nothing_in}
 
 pub false_is_not_true : {A : Type 0} → false ≡ true → A
 false_is_not_true e = cc
@@ -70,5 +71,5 @@ calls_words c entry name h x in_it = go (body_of c.methods name) refl
 
 -- the methods that are reached are named by words
 pub reached_words : (c : ClassDef) (entry : List ℕ) → is_first_class c entry ≡ true → is_word entry ≡ true → (x : List ℕ) → IsReached c entry x → is_word x ≡ true
-reached_words c entry h word x starts = word
-reached_words c entry h word x (goes_on caller callee before calls) = calls_words c entry caller h x calls
+reached_words c entry h word x stay = word
+reached_words c entry h word x (on caller callee before calls) = calls_words c entry caller h x calls

@@ -1,7 +1,7 @@
 -- The classes that can be linked so far: `java.lang.Object` alone, whose static methods log texts and call each other.
-use Rattle.std.specs.Prelude.{ℕ, Bool, true, false, List, [], ◌∷◌, ◌&&◌, ◌||◌, not, codes, length, nat_lt, nat_le, nat_eq, Option, Some, None}
+pub use Rattle.sj_names.specs.WellKnown.{is_same_text, is_object}
+use Rattle.std.specs.Prelude.{ℕ, Bool, true, false, List, [], ◌∷◌, ◌&&◌, ◌||◌, not, length, nat_lt, nat_le, Option, Some, None}
 use Rattle.std.specs.List.{list_all, list_any}
-use Rattle.std.specs.Cmp.Lexicographic.{pointwise}
 use Rattle.sj_names.specs.declared.method_names.MethodName.{MethodName}
 use Rattle.sj_names.specs.declared.method_names.Namespace.{Namespace}
 use Rattle.sj_names.specs.declared.method_names.Namespace.TheVariants.{PublicStatic}
@@ -15,16 +15,9 @@ use Rattle.sj_trees.specs.declared.classes.ClassDef.{ClassDef}
 use Rattle.sj_trees.specs.declared.classes.MethodDef.{MethodDef}
 use Rattle.sj_trees.specs.Term.{Term, Terms, no_terms, more_terms, skip, block_of, log_line, string_literal, apply_static}
 
-abbrev pub is_same_text : List ℕ → List ℕ → Bool
-is_same_text = pointwise nat_eq
-
 abbrev pub is_empty : {A : Type 0} → List A → Bool
 is_empty [] = true
 is_empty (_ ∷ _) = false
-
--- `java.lang.Object`
-abbrev pub is_object : List ℕ → Bool
-is_object name = is_same_text name (codes "java.lang.Object")
 
 abbrev pub is_letter_or_digit : ℕ → Bool
 is_letter_or_digit b = (nat_le 97 b && nat_le b 122) || (nat_le 65 b && nat_le b 90) || (nat_le 48 b && nat_le b 57)

@@ -3,7 +3,7 @@ use Rattle.std.specs.Prelude.{ℕ, List, [], ◌∷◌, ◌++◌, Option, Some, 
 use Rattle.sj_trees.specs.declared.classes.MethodDef.{MethodDef}
 use Rattle.sj_trees.specs.declared.classes.ClassDef.{ClassDef}
 use Rattle.sj_trees.specs.Term.{Term, Terms, no_terms, more_terms, block_of, apply_static}
-use Rattle.indexmap.specs.IndexSet.{insert_key}
+use Rattle.worklist.specs.Paths.{Path}
 use Rattle.sj_link.specs.FirstForm.{is_same_text}
 
 abbrev mutual
@@ -30,12 +30,10 @@ called_in (Some t) = called t
 abbrev pub calls_of : ClassDef → List ℕ → List (List ℕ)
 calls_of c name = called_in (body_of c.methods name)
 
--- a chain of calls leads from the entry to the method
-pub data IsReached (c : ClassDef) (entry : List ℕ) : List ℕ → Type 0 where
-  starts : IsReached c entry entry
-  goes_on : (caller callee : List ℕ) → IsReached c entry caller → Contains (calls_of c caller) callee → IsReached c entry callee
+-- a method calls another
+abbrev pub IsCall : ClassDef → List ℕ → List ℕ → Type 0
+IsCall c caller callee = Contains (calls_of c caller) callee
 
--- names with others put behind them, those that aren't there yet
-abbrev pub with_names : List (List ℕ) → List (List ℕ) → List (List ℕ)
-with_names names [] = names
-with_names names (n ∷ ns) = with_names (insert_key is_same_text names n) ns
+-- a chain of calls leads from the entry to the method
+abbrev pub IsReached : ClassDef → List ℕ → List ℕ → Type 0
+IsReached c entry name = Path (IsCall c) entry name

@@ -1,13 +1,11 @@
 // The classes that can be linked so far.
-ghost use Rattle.std.specs.Prelude.{◌≡◌};
+ghost use Rattle.std.specs.Prelude.{◌≡◌, ◌&&◌};
 ghost use Rattle.std.specs.List.{list_all};
 ghost use Rattle.sj_trees.specs.View.{view, terms_view};
 ghost use Rattle.sj_link.specs.FirstForm as form;
 
-use sj_names::{ClassName, MethodName, Namespace, Text, TypeRef};
+use sj_names::{ClassName, MethodName, Namespace, OBJECT, Text, TypeRef};
 use sj_trees::{ClassDef, ClassKind, IrType, MethodDef, Tree};
-
-const OBJECT: &str = "java.lang.Object";
 
 /// Whether `class` can be linked with its method `entry` as the entry: it is `java.lang.Object`, and its methods are static, without
 /// parameters and result, and only log printable texts and call each other.
@@ -129,6 +127,21 @@ fn is_empty(trees: &[Tree]) -> bool
     }
 }
 
+// Whether the method that is called is one of the class.
+fn is_first_call(
+    methods: &[MethodDef],
+    class: &ClassName,
+    namespace: Namespace,
+    method: &MethodName,
+) -> bool
+    ensures { result ≡ (form.is_object class.now && form.is_public_static namespace && form.is_first_name method.now && form.defines methods.now method.now.simple) }
+{
+    is_object(class)
+        && namespace == Namespace::PublicStatic
+        && is_first_name(method)
+        && defines(methods, method.simple.text())
+}
+
 #[cycle(body)]
 fn is_first_body(methods: &[MethodDef], tree: &Tree) -> bool
     ensures { result ≡ form.is_first_body methods.now (view tree.now) }
@@ -138,10 +151,7 @@ fn is_first_body(methods: &[MethodDef], tree: &Tree) -> bool
         Tree::Block(_, trees) => !is_empty(trees) && are_first_bodies(methods, trees),
         Tree::Log(_, text) => is_logged(text),
         Tree::ApplyStatic(_, class, namespace, method, arguments, tpe) => {
-            is_object(class)
-                && *namespace == Namespace::PublicStatic
-                && is_first_name(method)
-                && defines(methods, method.simple.text())
+            is_first_call(methods, class, *namespace, method)
                 && is_empty(arguments)
                 && is_no_type(tpe)
         }

@@ -2,6 +2,7 @@
 ghost use Rattle.std.specs.Prelude.{◌≡◌, ◌++◌, ◌∷◌, map, IfOk, OnOk, IsTrue, codes};
 ghost use Rattle.sj_trees.specs.View.{view, terms_view};
 ghost use Rattle.js_tree.specs.Rules.{IsModule};
+ghost use Rattle.js_tree.specs.Terms.{expression_item};
 ghost use Rattle.js_tree.specs.Views.{expression_view, statement_view, item_view, module_view};
 ghost use Rattle.sj_link.specs.FirstForm as form;
 ghost use Rattle.sj_link.specs.Link as link;
@@ -31,11 +32,9 @@ pub fn link_class(alloc: Global, class: &ClassDef, entry: &str) -> Result<Linked
 {
     let mut found = reached(alloc, class, name_of_word(alloc, entry)?)?;
     found.sort_unstable()?;
+    let methods = found.len();
     let module = module_with(alloc, class, entry, found.as_slice())?;
-    Ok(Linked {
-        module,
-        methods: found.len(),
-    })
+    Ok(Linked { module, methods })
 }
 
 fn name_of_word(alloc: Global, word: &str) -> Result<SimpleName, NoMemory>
@@ -59,14 +58,29 @@ fn module_with(
 {
     let mut items = Vec::new(alloc);
     for name in names {
-        items.push(Rc::new(alloc, function_of(alloc, class, name)?)?)?;
+        items.push(function_item(alloc, class, name)?)?;
     }
-    items.push(Rc::new(alloc, JsItem::Expression(call_of_method(alloc, entry)?))?)?;
+    items.push(call_item(alloc, entry)?)?;
     Ok(JsModule {
         imports: Items::from_vec(Vec::new(alloc)),
         items,
         exports: Items::from_vec(Vec::new(alloc)),
     })
+}
+
+fn function_item(alloc: Global, class: &ClassDef, name: &SimpleName) -> Result<Rc<JsItem>, NoMemory>
+    ensures { IfOk result (λ i. item_view i.value ≡ link.function_of class.now name.now) }
+{
+    let function = function_of(alloc, class, name)?;
+    Ok(Rc::new(alloc, function)?)
+}
+
+// The call of the entry.
+fn call_item(alloc: Global, entry: &str) -> Result<Rc<JsItem>, NoMemory>
+    ensures { IfOk result (λ i. item_view i.value ≡ expression_item (link.call_of_method entry.now)) }
+{
+    let call = call_of_method(alloc, entry)?;
+    Ok(Rc::new(alloc, JsItem::Expression(call))?)
 }
 
 fn function_of(alloc: Global, class: &ClassDef, name: &SimpleName) -> Result<JsItem, NoMemory>

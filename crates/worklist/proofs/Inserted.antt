@@ -68,3 +68,5 @@ module _ {K : Type 0} (eq : K → K → Bool) where
       at_first : Contains [] x ⊎ (k ≡ x) → Contains (insert_all eq (insert_key eq keys k) ks) x
       at_first (inl none) = nothing_in x none
       at_first (inr e) = into-insert_all (insert_key eq keys k) ks x (subst (λ (y : K). Contains (insert_key eq keys k) y) e (Contains-insert_key eq same keys k))
+
+pub ruleset insert_all_steps = (insert_all-append)
