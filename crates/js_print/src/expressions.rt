@@ -1,4 +1,4 @@
-// Expressions.
+//! Expressions.
 ghost use Rattle.std.specs.Prelude.{◌≡◌, OnOk, codes};
 ghost use Rattle.js_tree.specs.Written.{put, ◌▸◌};
 ghost use Rattle.js_tree.specs.Texts.{put_property, put_expression, put_expressions};
@@ -9,7 +9,7 @@ use crate::writing::{append, append_big, append_boolean, append_number, append_t
 use js_tree::{BinaryOperator, JsExpr};
 use sj_names::{NoMemory, Text};
 
-/// Appends an operator with a space on each side.
+// Appends an operator with a space on each side.
 fn append_operator(out: &mut Vec<u8>, operator: BinaryOperator) -> Result<(), NoMemory>
     ensures { OnOk result (out.new.items ≡ (put (codes " ") ▸ put (binary_text operator) ▸ put (codes " ")) out.old.items) }
 {
@@ -18,7 +18,7 @@ fn append_operator(out: &mut Vec<u8>, operator: BinaryOperator) -> Result<(), No
     append(out, " ")
 }
 
-/// Appends an expression.
+// Appends an expression.
 #[cycle(expression)]
 pub(crate) fn append_expression(out: &mut Vec<u8>, expression: &JsExpr) -> Result<(), NoMemory>
     ensures { OnOk result (out.new.items ≡ put_expression (expression_view expression.now) out.old.items) }
@@ -116,7 +116,7 @@ pub(crate) fn append_expression(out: &mut Vec<u8>, expression: &JsExpr) -> Resul
     }
 }
 
-/// Appends `e.p`
+// Appends `e.p`
 #[cycle(expression)]
 pub(crate) fn append_access(
     out: &mut Vec<u8>,
@@ -130,7 +130,7 @@ pub(crate) fn append_access(
     append(out, property.as_str())
 }
 
-/// Appends the arguments of a call, in parentheses.
+// Appends the arguments of a call, in parentheses.
 #[cycle(expression)]
 fn append_arguments(out: &mut Vec<u8>, arguments: &[JsExpr]) -> Result<(), NoMemory>
     ensures { OnOk result (out.new.items ≡ (put (codes "(") ▸ put_expressions (expressions_view arguments.now) ▸ put (codes ")")) out.old.items) }
@@ -140,7 +140,7 @@ fn append_arguments(out: &mut Vec<u8>, arguments: &[JsExpr]) -> Result<(), NoMem
     append(out, ")")
 }
 
-/// Appends expressions with a comma and a space between them.
+// Appends expressions with a comma and a space between them.
 #[cycle(expression)]
 fn append_expressions(out: &mut Vec<u8>, expressions: &[JsExpr]) -> Result<(), NoMemory>
     ensures { OnOk result (out.new.items ≡ put_expressions (expressions_view expressions.now) out.old.items) }

@@ -1,4 +1,4 @@
-// Items, import lines and the export line.
+//! Items, import lines and the export line.
 ghost use Rattle.std.specs.Prelude.{◌≡◌, OnOk, codes, map};
 ghost use Rattle.js_tree.specs.Written.{put, ◌▸◌, put_each, put_separated, put_more};
 ghost use Rattle.js_tree.specs.Texts.{put_object_property, put_member, put_members, put_item, put_item_line, put_import, put_exports, put_parameters, put_block};
@@ -11,7 +11,7 @@ use js_tree::{ClassMember, JsBody, JsImport, JsItem, ObjectProperty};
 use sj_names::{NoMemory, Text};
 use std::rc::Rc;
 
-/// Appends a property of an object literal.
+// Appends a property of an object literal.
 fn append_property(out: &mut Vec<u8>, property: &ObjectProperty) -> Result<(), NoMemory>
     ensures { OnOk result (out.new.items ≡ put_object_property (property_view property.now) out.old.items) }
 {
@@ -20,7 +20,7 @@ fn append_property(out: &mut Vec<u8>, property: &ObjectProperty) -> Result<(), N
     append_expression(out, &property.value)
 }
 
-/// Appends properties with a comma and a space between them.
+// Appends properties with a comma and a space between them.
 fn append_properties(out: &mut Vec<u8>, properties: &[ObjectProperty]) -> Result<(), NoMemory>
     ensures { OnOk result (out.new.items ≡ put_separated (codes ", ") put_object_property (map property_view properties.now) out.old.items) }
 {
@@ -33,7 +33,7 @@ fn append_properties(out: &mut Vec<u8>, properties: &[ObjectProperty]) -> Result
     }
 }
 
-/// Appends properties with a comma and a space in front of each.
+// Appends properties with a comma and a space in front of each.
 fn append_more_properties(out: &mut Vec<u8>, properties: &[ObjectProperty]) -> Result<(), NoMemory>
     ensures { OnOk result (out.new.items ≡ put_more (codes ", ") put_object_property (map property_view properties.now) out.old.items) }
 {
@@ -44,7 +44,7 @@ fn append_more_properties(out: &mut Vec<u8>, properties: &[ObjectProperty]) -> R
     Ok(())
 }
 
-/// Appends a member of a class on its own lines.
+// Appends a member of a class on its own lines.
 fn append_member(out: &mut Vec<u8>, member: &ClassMember) -> Result<(), NoMemory>
     ensures { OnOk result (out.new.items ≡ put_member (member_view member.now) out.old.items) }
 {
@@ -71,7 +71,7 @@ fn append_member(out: &mut Vec<u8>, member: &ClassMember) -> Result<(), NoMemory
     }
 }
 
-/// Appends the members of a class, in braces.
+// Appends the members of a class, in braces.
 fn append_members(out: &mut Vec<u8>, members: &[ClassMember]) -> Result<(), NoMemory>
     ensures { OnOk result (out.new.items ≡ put_members (map member_view members.now) out.old.items) }
 {
@@ -80,7 +80,7 @@ fn append_members(out: &mut Vec<u8>, members: &[ClassMember]) -> Result<(), NoMe
     append(out, "}")
 }
 
-/// Appends the members of a class.
+// Appends the members of a class.
 fn append_each_member(out: &mut Vec<u8>, members: &[ClassMember]) -> Result<(), NoMemory>
     ensures { OnOk result (out.new.items ≡ put_each put_member (map member_view members.now) out.old.items) }
 {
@@ -90,7 +90,7 @@ fn append_each_member(out: &mut Vec<u8>, members: &[ClassMember]) -> Result<(), 
     Ok(())
 }
 
-/// Appends the rest of a function behind its name.
+// Appends the rest of a function behind its name.
 fn append_function(out: &mut Vec<u8>, parameters: &[Text], body: &JsBody) -> Result<(), NoMemory>
     ensures { OnOk result (out.new.items ≡ (put_parameters parameters.now ▸ put (codes " ") ▸ put_block 0 (body_view body.now)) out.old.items) }
 {
@@ -99,7 +99,7 @@ fn append_function(out: &mut Vec<u8>, parameters: &[Text], body: &JsBody) -> Res
     append_block(out, 0, body.as_slice())
 }
 
-/// Appends an item without the line feed behind it.
+// Appends an item without the line feed behind it.
 fn append_item(out: &mut Vec<u8>, item: &JsItem) -> Result<(), NoMemory>
     ensures { OnOk result (out.new.items ≡ put_item (item_view item.now) out.old.items) }
 {
@@ -150,7 +150,7 @@ fn append_item(out: &mut Vec<u8>, item: &JsItem) -> Result<(), NoMemory>
     }
 }
 
-/// Appends an item on its own lines.
+// Appends an item on its own lines.
 pub(crate) fn append_item_line(out: &mut Vec<u8>, item: &JsItem) -> Result<(), NoMemory>
     ensures { OnOk result (out.new.items ≡ put_item_line (item_view item.now) out.old.items) }
 {
@@ -158,7 +158,7 @@ pub(crate) fn append_item_line(out: &mut Vec<u8>, item: &JsItem) -> Result<(), N
     append(out, "\n")
 }
 
-/// Appends the items of a module.
+// Appends the items of a module.
 pub(crate) fn append_items(out: &mut Vec<u8>, items: &[Rc<JsItem>]) -> Result<(), NoMemory>
     ensures { OnOk result (out.new.items ≡ put_each put_item_line (map (λ i. item_view i.value) items.now) out.old.items) }
 {
@@ -168,7 +168,7 @@ pub(crate) fn append_items(out: &mut Vec<u8>, items: &[Rc<JsItem>]) -> Result<()
     Ok(())
 }
 
-/// Appends an import line.
+// Appends an import line.
 fn append_import(out: &mut Vec<u8>, import: &JsImport) -> Result<(), NoMemory>
     ensures { OnOk result (out.new.items ≡ put_import import.now out.old.items) }
 {
@@ -179,7 +179,7 @@ fn append_import(out: &mut Vec<u8>, import: &JsImport) -> Result<(), NoMemory>
     append(out, "\";\n")
 }
 
-/// Appends the import lines of a module.
+// Appends the import lines of a module.
 pub(crate) fn append_imports(out: &mut Vec<u8>, imports: &[JsImport]) -> Result<(), NoMemory>
     ensures { OnOk result (out.new.items ≡ put_each put_import imports.now out.old.items) }
 {
@@ -189,7 +189,7 @@ pub(crate) fn append_imports(out: &mut Vec<u8>, imports: &[JsImport]) -> Result<
     Ok(())
 }
 
-/// Appends the export line of a module, where there are names.
+// Appends the export line of a module, where there are names.
 pub(crate) fn append_exports(out: &mut Vec<u8>, names: &[Text]) -> Result<(), NoMemory>
     ensures { OnOk result (out.new.items ≡ put_exports names.now out.old.items) }
 {

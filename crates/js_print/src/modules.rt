@@ -1,4 +1,4 @@
-// The printer's calls.
+//! The printer's calls.
 ghost use Rattle.std.specs.Prelude.{◌≡◌, IfOk};
 ghost use Rattle.js_tree.specs.Rules.{IsModule, IsPiece};
 ghost use Rattle.js_tree.specs.Spelling.{Spells, PieceSpells};

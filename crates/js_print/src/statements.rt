@@ -1,4 +1,4 @@
-// Statements.
+//! Statements.
 ghost use Rattle.std.specs.Prelude.{◌≡◌, ◌+◌, IfOk, OnOk, codes};
 ghost use Rattle.js_tree.specs.Written.{put, ◌▸◌, indent};
 ghost use Rattle.js_tree.specs.Texts.{put_name, put_expression, put_statement, put_block, put_lines, put_cases};
@@ -9,14 +9,14 @@ use crate::writing::{append, append_indent, append_keys};
 use js_tree::{JsExpr, JsStmt, SwitchCase};
 use sj_names::{NoMemory, Text};
 
-/// The level inside a block of this level. Where there is none, the spaces in front of its lines would be more than memory holds.
+// The level inside a block of this level. Where there is none, the spaces in front of its lines would be more than memory holds.
 fn level_inside(level: usize) -> Result<usize, NoMemory>
     ensures { IfOk result (λ inside. inside ≡ level + 1) }
 {
     level.checked_add(1).ok_or(NoMemory)
 }
 
-/// Appends `e;`
+// Appends `e;`
 pub(crate) fn append_value(out: &mut Vec<u8>, value: &JsExpr) -> Result<(), NoMemory>
     ensures { OnOk result (out.new.items ≡ (put_expression (expression_view value.now) ▸ put (codes ";")) out.old.items) }
 {
@@ -24,7 +24,7 @@ pub(crate) fn append_value(out: &mut Vec<u8>, value: &JsExpr) -> Result<(), NoMe
     append(out, ";")
 }
 
-/// Appends `x = e;`
+// Appends `x = e;`
 pub(crate) fn append_assignment(
     out: &mut Vec<u8>,
     name: &Text,
@@ -37,7 +37,7 @@ pub(crate) fn append_assignment(
     append_value(out, value)
 }
 
-/// Appends a word, a name and `;`
+// Appends a word, a name and `;`
 fn append_word_and_name(out: &mut Vec<u8>, word: &str, name: &Text) -> Result<(), NoMemory>
     ensures { OnOk result (out.new.items ≡ (put word.now ▸ put_name name.now ▸ put (codes ";")) out.old.items) }
 {
@@ -46,7 +46,7 @@ fn append_word_and_name(out: &mut Vec<u8>, word: &str, name: &Text) -> Result<()
     append(out, ";")
 }
 
-/// Appends a word with the expression in parentheses that it opens, and the space behind them.
+// Appends a word with the expression in parentheses that it opens, and the space behind them.
 fn append_head(out: &mut Vec<u8>, word: &str, test: &JsExpr) -> Result<(), NoMemory>
     ensures { OnOk result (out.new.items ≡ (put word.now ▸ put_expression (expression_view test.now) ▸ put (codes ") ")) out.old.items) }
 {
@@ -55,7 +55,7 @@ fn append_head(out: &mut Vec<u8>, word: &str, test: &JsExpr) -> Result<(), NoMem
     append(out, ") ")
 }
 
-/// Appends ` catch (x) `
+// Appends ` catch (x) `
 fn append_catch(out: &mut Vec<u8>, name: &Text) -> Result<(), NoMemory>
     ensures { OnOk result (out.new.items ≡ (put (codes " catch (") ▸ put_name name.now ▸ put (codes ") ")) out.old.items) }
 {
@@ -64,7 +64,7 @@ fn append_catch(out: &mut Vec<u8>, name: &Text) -> Result<(), NoMemory>
     append(out, ") ")
 }
 
-/// Appends a statement that stands at this level, without the spaces in front of it and the line feed behind it.
+// Appends a statement that stands at this level, without the spaces in front of it and the line feed behind it.
 #[cycle(statement)]
 fn append_statement(out: &mut Vec<u8>, level: usize, statement: &JsStmt) -> Result<(), NoMemory>
     ensures { OnOk result (out.new.items ≡ put_statement level (statement_view statement.now) out.old.items) }
@@ -165,7 +165,7 @@ fn append_statement(out: &mut Vec<u8>, level: usize, statement: &JsStmt) -> Resu
     }
 }
 
-/// Appends a loop without an end.
+// Appends a loop without an end.
 #[cycle(statement)]
 fn append_forever(out: &mut Vec<u8>, level: usize, body: &[JsStmt]) -> Result<(), NoMemory>
     ensures { OnOk result (out.new.items ≡ (put (codes "do ") ▸ put_block level (statements_view body.now) ▸ put (codes " while (true);")) out.old.items) }
@@ -175,7 +175,7 @@ fn append_forever(out: &mut Vec<u8>, level: usize, body: &[JsStmt]) -> Result<()
     append(out, " while (true);")
 }
 
-/// Appends the default of a `switch`, on lines of this level.
+// Appends the default of a `switch`, on lines of this level.
 #[cycle(statement)]
 fn append_default(out: &mut Vec<u8>, level: usize, default: &[JsStmt]) -> Result<(), NoMemory>
     ensures { OnOk result (out.new.items ≡ (put (indent level) ▸ put (codes "default: ") ▸ put_block level (statements_view default.now) ▸ put (codes "\n")) out.old.items) }
@@ -186,7 +186,7 @@ fn append_default(out: &mut Vec<u8>, level: usize, default: &[JsStmt]) -> Result
     append(out, "\n")
 }
 
-/// Appends a block of this level.
+// Appends a block of this level.
 #[cycle(statement)]
 pub(crate) fn append_block(
     out: &mut Vec<u8>,
@@ -202,7 +202,7 @@ pub(crate) fn append_block(
     append(out, "}")
 }
 
-/// Appends statements, each on its own line of this level.
+// Appends statements, each on its own line of this level.
 #[cycle(statement)]
 fn append_lines(out: &mut Vec<u8>, level: usize, statements: &[JsStmt]) -> Result<(), NoMemory>
     ensures { OnOk result (out.new.items ≡ put_lines level (statements_view statements.now) out.old.items) }
@@ -215,7 +215,7 @@ fn append_lines(out: &mut Vec<u8>, level: usize, statements: &[JsStmt]) -> Resul
     Ok(())
 }
 
-/// Appends cases, each on lines of this level.
+// Appends cases, each on lines of this level.
 #[cycle(statement)]
 fn append_cases(out: &mut Vec<u8>, level: usize, cases: &[SwitchCase]) -> Result<(), NoMemory>
     ensures { OnOk result (out.new.items ≡ put_cases level (cases_view cases.now) out.old.items) }

@@ -1,4 +1,4 @@
-// What puts bytes behind those that are there.
+//! What puts bytes behind those that are there.
 ghost use Rattle.std.specs.Prelude.{◌≡◌, ◌∷◌, OnOk, codes, decimal};
 ghost use Rattle.js_tree.specs.Written.{put, put_each, put_separated, put_more, indent};
 ghost use Rattle.js_tree.specs.Texts.{put_integer, put_number, put_big, put_boolean, put_unit, put_text, put_name, put_key, put_keys, put_parameters};
@@ -8,7 +8,7 @@ ghost use Rattle.std.specs.Prelude.{◌<◌};
 use itoa::Buffer;
 use sj_names::{NoMemory, Text};
 
-/// Appends a text.
+// Appends a text.
 #[tactic(auto, unfolding(js_tree::specs::Written::put))]
 pub(crate) fn append(out: &mut Vec<u8>, text: &str) -> Result<(), NoMemory>
     ensures { OnOk result (out.new.items ≡ put text.now out.old.items) }
@@ -17,7 +17,7 @@ pub(crate) fn append(out: &mut Vec<u8>, text: &str) -> Result<(), NoMemory>
     Ok(())
 }
 
-/// Appends the digits of a number.
+// Appends the digits of a number.
 fn append_decimal(out: &mut Vec<u8>, number: u64) -> Result<(), NoMemory>
     ensures { OnOk result (out.new.items ≡ put (decimal number) out.old.items) }
 {
@@ -25,7 +25,7 @@ fn append_decimal(out: &mut Vec<u8>, number: u64) -> Result<(), NoMemory>
     append(out, buffer.format(number))
 }
 
-/// Appends an integer with `suffix` behind its digits, in parentheses where it is negative.
+// Appends an integer with `suffix` behind its digits, in parentheses where it is negative.
 fn append_integer(out: &mut Vec<u8>, integer: i64, suffix: &str) -> Result<(), NoMemory>
     ensures { OnOk result (out.new.items ≡ put_integer suffix.now integer out.old.items) }
 {
@@ -40,28 +40,28 @@ fn append_integer(out: &mut Vec<u8>, integer: i64, suffix: &str) -> Result<(), N
     }
 }
 
-/// Appends a Number.
+// Appends a Number.
 pub(crate) fn append_number(out: &mut Vec<u8>, number: i32) -> Result<(), NoMemory>
     ensures { OnOk result (out.new.items ≡ put_number number out.old.items) }
 {
     append_integer(out, i64::from(number), "")
 }
 
-/// Appends a BigInt.
+// Appends a BigInt.
 pub(crate) fn append_big(out: &mut Vec<u8>, number: i64) -> Result<(), NoMemory>
     ensures { OnOk result (out.new.items ≡ put_big number out.old.items) }
 {
     append_integer(out, number, "n")
 }
 
-/// Appends `true` or `false`.
+// Appends `true` or `false`.
 pub(crate) fn append_boolean(out: &mut Vec<u8>, value: bool) -> Result<(), NoMemory>
     ensures { OnOk result (out.new.items ≡ put_boolean value out.old.items) }
 {
     append(out, if value { "true" } else { "false" })
 }
 
-/// A hexadecimal digit, lower case.
+// A hexadecimal digit, lower case.
 fn hex_digit_of(digit: u8) -> u8
     requires { digit < 16 }
     ensures { result ≡ hex_digit digit }
@@ -73,7 +73,7 @@ fn hex_digit_of(digit: u8) -> u8
     }
 }
 
-/// Appends `\u` and the four hexadecimal digits of a unit.
+// Appends `\u` and the four hexadecimal digits of a unit.
 #[tactic(auto, unfolding(js_tree::specs::Written::put))]
 fn append_escape(out: &mut Vec<u8>, unit: u16) -> Result<(), NoMemory>
     ensures { OnOk result (out.new.items ≡ put (unit_escape unit) out.old.items) }
@@ -86,15 +86,23 @@ fn append_escape(out: &mut Vec<u8>, unit: u16) -> Result<(), NoMemory>
     Ok(())
 }
 
-/// Appends a unit of a string as it is written in double quotes.
+const QUOTE: u16 = b'"' as u16;
+
+const BACKSLASH: u16 = b'\\' as u16;
+
+const SPACE: u16 = b' ' as u16;
+
+const TILDE: u16 = b'~' as u16;
+
+// Appends a unit of a string as it is written in double quotes.
 #[tactic(auto, unfolding(js_tree::specs::Written::put))]
 fn append_unit(out: &mut Vec<u8>, unit: u16) -> Result<(), NoMemory>
     ensures { OnOk result (out.new.items ≡ put_unit unit out.old.items) }
 {
     match unit {
-        0x22 => append(out, "\\\""),
-        0x5c => append(out, "\\\\"),
-        0x20..=0x7e => {
+        QUOTE => append(out, "\\\""),
+        BACKSLASH => append(out, "\\\\"),
+        SPACE..=TILDE => {
             out.push(unit as u8)?;
             Ok(())
         }
@@ -102,7 +110,7 @@ fn append_unit(out: &mut Vec<u8>, unit: u16) -> Result<(), NoMemory>
     }
 }
 
-/// Appends a string in double quotes.
+// Appends a string in double quotes.
 pub(crate) fn append_text(out: &mut Vec<u8>, units: &[u16]) -> Result<(), NoMemory>
     ensures { OnOk result (out.new.items ≡ put_text units.now out.old.items) }
 {
@@ -111,7 +119,7 @@ pub(crate) fn append_text(out: &mut Vec<u8>, units: &[u16]) -> Result<(), NoMemo
     append(out, "\"")
 }
 
-/// Appends the units of a string.
+// Appends the units of a string.
 fn append_units(out: &mut Vec<u8>, units: &[u16]) -> Result<(), NoMemory>
     ensures { OnOk result (out.new.items ≡ put_each put_unit units.now out.old.items) }
 {
@@ -121,7 +129,7 @@ fn append_units(out: &mut Vec<u8>, units: &[u16]) -> Result<(), NoMemory>
     Ok(())
 }
 
-/// Appends two spaces for each level.
+// Appends two spaces for each level.
 #[tactic(auto, using(crate::proofs::Indents::no_level, crate::proofs::Indents::one_level_more))]
 pub(crate) fn append_indent(out: &mut Vec<u8>, level: usize) -> Result<(), NoMemory>
     ensures { OnOk result (out.new.items ≡ put (indent level) out.old.items) }
@@ -132,7 +140,7 @@ pub(crate) fn append_indent(out: &mut Vec<u8>, level: usize) -> Result<(), NoMem
     Ok(())
 }
 
-/// Appends names with a comma and a space between them.
+// Appends names with a comma and a space between them.
 pub(crate) fn append_names(out: &mut Vec<u8>, names: &[Text]) -> Result<(), NoMemory>
     ensures { OnOk result (out.new.items ≡ put_separated (codes ", ") put_name names.now out.old.items) }
 {
@@ -145,7 +153,7 @@ pub(crate) fn append_names(out: &mut Vec<u8>, names: &[Text]) -> Result<(), NoMe
     }
 }
 
-/// Appends names with a comma and a space in front of each.
+// Appends names with a comma and a space in front of each.
 fn append_more_names(out: &mut Vec<u8>, names: &[Text]) -> Result<(), NoMemory>
     ensures { OnOk result (out.new.items ≡ put_more (codes ", ") put_name names.now out.old.items) }
 {
@@ -156,7 +164,7 @@ fn append_more_names(out: &mut Vec<u8>, names: &[Text]) -> Result<(), NoMemory>
     Ok(())
 }
 
-/// Appends a line feed and two spaces for each level.
+// Appends a line feed and two spaces for each level.
 #[tactic(auto, using(crate::proofs::Indents::line_break))]
 fn append_line_break(out: &mut Vec<u8>, level: usize) -> Result<(), NoMemory>
     ensures { OnOk result (out.new.items ≡ put (10 ∷ indent level) out.old.items) }
@@ -165,7 +173,7 @@ fn append_line_break(out: &mut Vec<u8>, level: usize) -> Result<(), NoMemory>
     append_indent(out, level)
 }
 
-/// Appends a key of a case.
+// Appends a key of a case.
 fn append_key(out: &mut Vec<u8>, key: i32) -> Result<(), NoMemory>
     ensures { OnOk result (out.new.items ≡ put_key key out.old.items) }
 {
@@ -174,7 +182,7 @@ fn append_key(out: &mut Vec<u8>, key: i32) -> Result<(), NoMemory>
     append(out, ":")
 }
 
-/// Appends the keys of a case, each on a line of this level.
+// Appends the keys of a case, each on a line of this level.
 pub(crate) fn append_keys(out: &mut Vec<u8>, level: usize, keys: &[i32]) -> Result<(), NoMemory>
     ensures { OnOk result (out.new.items ≡ put_keys level keys.now out.old.items) }
 {
@@ -187,7 +195,7 @@ pub(crate) fn append_keys(out: &mut Vec<u8>, level: usize, keys: &[i32]) -> Resu
     }
 }
 
-/// Appends keys, in front of each a line break.
+// Appends keys, in front of each a line break.
 fn append_more_keys(out: &mut Vec<u8>, level: usize, keys: &[i32]) -> Result<(), NoMemory>
     ensures { OnOk result (out.new.items ≡ put_more (10 ∷ indent level) put_key keys.now out.old.items) }
 {
@@ -198,7 +206,7 @@ fn append_more_keys(out: &mut Vec<u8>, level: usize, keys: &[i32]) -> Result<(),
     Ok(())
 }
 
-/// Appends parameters, in parentheses.
+// Appends parameters, in parentheses.
 pub(crate) fn append_parameters(out: &mut Vec<u8>, parameters: &[Text]) -> Result<(), NoMemory>
     ensures { OnOk result (out.new.items ≡ put_parameters parameters.now out.old.items) }
 {

@@ -1,4 +1,4 @@
-// Why a text is no module.
+//! Why a text is no module.
 use thiserror::Error;
 
 /// Why a text gives no module.

@@ -1,4 +1,4 @@
-// Items and members.
+//! Items and members.
 ghost use Rattle.std.specs.Prelude.{◌≡◌, ◌∷◌, ◌<◌, ◌==◌, codes, map};
 ghost use Rattle.exact_place.specs.Reading.{after_at, either_at, lead_at, list_at, literal_at, map_at, value_at};
 ghost use Rattle.js_tree.specs.Terms as terms;
@@ -8,19 +8,21 @@ ghost use Rattle.js_spelling.specs.Tokens.{name_at};
 ghost use Rattle.js_spelling.specs.Modules as reading;
 ghost use Rattle.js_spelling.specs.declared.words.ItemHead.TheVariants as heads;
 
+use js_expressions::{expression_after, expression_before, expression_between, expression_of};
 use js_scan::{
-    Item, Stop, in_front, list_of, literal, member_head_of, name_of, next_is, property_of,
+    Item, Stop, in_front, list_of, literal, member_head_of, name_behind, name_of, next_is,
+    property_of,
 };
 use js_spelling::{Head, ItemHead, MemberHead};
-use js_statements::{block_of, expression_after, expression_of};
+use js_statements::block_of;
 use js_tree::{ClassMember, JsBody, JsItem, ObjectProperty};
 use sj_names::{Items, Text};
 use std::alloc::Global;
 
-/// What a reader of items gives: the item and the rest.
+// What a reader of items gives: the item and the rest.
 type Read<'a> = Result<(JsItem, &'a [u8]), Stop>;
 
-/// A comma, a space and a name.
+// A comma, a space and a name.
 #[derive(Drop)]
 struct NameItem;
 
@@ -41,12 +43,11 @@ impl Item for NameItem {
     ghost reading = { λ s. lead_at (codes ", ") name_at };
 
     fn starts(&self, bytes: &[u8]) -> bool {
-        next_is(44, bytes)
+        next_is(b',', bytes)
     }
 
     fn read<'a>(&self, alloc: Global, bytes: &'a [u8]) -> Result<(Text, &'a [u8]), Stop> {
-        let rest = literal(b", ", bytes)?;
-        name_of(alloc, rest)
+        name_behind(alloc, b", ", bytes)
     }
 }
 
@@ -64,7 +65,7 @@ pub fn names_of<'a>(
     Ok((Items::from_vec(in_front(first, others)?), rest))
 }
 
-/// Parameters, behind `(`.
+// Parameters, behind `(`.
 #[tactic(auto, unfolding(js_spelling::specs::Modules::parameters_at))]
 fn parameters_of<'a>(
     alloc: Global,
@@ -73,7 +74,7 @@ fn parameters_of<'a>(
 ) -> Result<(Items<Text>, &'a [u8]), Stop>
     ensures { Gives (λ x. (x.0, x.1.now)) result (reading.parameters_at fuel bytes.now) }
 {
-    if next_is(41, bytes) {
+    if next_is(b')', bytes) {
         let rest = literal(b")", bytes)?;
         Ok((Items::from_vec(Vec::new(alloc)), rest))
     } else {
@@ -83,7 +84,7 @@ fn parameters_of<'a>(
     }
 }
 
-/// `p: e`
+// `p: e`
 #[tactic(auto, unfolding(js_spelling::specs::Modules::object_property_at))]
 fn object_property_of<'a>(
     alloc: Global,
@@ -120,7 +121,7 @@ impl Item for PropertyItem {
     ghost reading = { λ s. lead_at (codes ", ") (object_property_at s.0) };
 
     fn starts(&self, bytes: &[u8]) -> bool {
-        next_is(44, bytes)
+        next_is(b',', bytes)
     }
 
     fn read<'a>(&self, alloc: Global, bytes: &'a [u8]) -> Result<(ObjectProperty, &'a [u8]), Stop> {
@@ -129,7 +130,7 @@ impl Item for PropertyItem {
     }
 }
 
-/// One property or more.
+// One property or more.
 #[tactic(auto, unfolding(js_spelling::specs::Modules::properties_at))]
 fn properties_of<'a>(
     alloc: Global,
@@ -143,12 +144,12 @@ fn properties_of<'a>(
     Ok((in_front(first, others)?, rest))
 }
 
-/// The properties of an object and what ends its item, behind `{`.
+// The properties of an object and what ends its item, behind `{`.
 #[tactic(auto, unfolding(js_spelling::specs::Modules::object_at))]
 fn object_of<'a>(alloc: Global, fuel: usize, name: Text, bytes: &'a [u8]) -> Read<'a>
     ensures { Gives (λ x. (views.item_view x.0, x.1.now)) result (reading.object_at fuel name bytes.now) }
 {
-    if next_is(125, bytes) {
+    if next_is(b'}', bytes) {
         let rest = literal(b"};", bytes)?;
         Ok((
             JsItem::ConstObject {
@@ -164,7 +165,7 @@ fn object_of<'a>(alloc: Global, fuel: usize, name: Text, bytes: &'a [u8]) -> Rea
     }
 }
 
-/// The block of a function or a member at this level.
+// The block of a function or a member at this level.
 #[tactic(auto, unfolding(js_spelling::specs::Modules::body_at))]
 fn body_of<'a>(
     alloc: Global,
@@ -179,7 +180,21 @@ fn body_of<'a>(
     Ok((JsBody::new(alloc, statements)?, rest))
 }
 
-/// A member of its head, its parameters and its block.
+// A space and the block of a function or a member at this level.
+fn body_behind<'a>(
+    alloc: Global,
+    fuel: usize,
+    level: usize,
+    bytes: &'a [u8],
+) -> Result<(JsBody, &'a [u8]), Stop>
+    requires { level < 2 }
+    ensures { Gives (λ x. (views.body_view x.0, x.1.now)) result (lead_at (codes " ") (reading.body_at fuel level) bytes.now) }
+{
+    let rest = literal(b" ", bytes)?;
+    body_of(alloc, fuel, level, rest)
+}
+
+// A member of its head, its parameters and its block.
 fn member_from(head: MemberHead, parameters: Items<Text>, body: JsBody) -> ClassMember
     ensures { views.member_view result ≡ reading.member_of head parameters (views.body_view body) }
 {
@@ -193,7 +208,7 @@ fn member_from(head: MemberHead, parameters: Items<Text>, body: JsBody) -> Class
     }
 }
 
-/// What stands behind the parameters of a member.
+// What stands behind the parameters of a member.
 fn member_body_of<'a>(
     alloc: Global,
     fuel: usize,
@@ -203,13 +218,12 @@ fn member_body_of<'a>(
 ) -> Result<(ClassMember, &'a [u8]), Stop>
     ensures { Gives (λ x. (views.member_view x.0, x.1.now)) result (lead_at (codes " ") (after_at (reading.body_at fuel 1) (λ ss. lead_at (codes "\n") (value_at (reading.member_of head parameters ss)))) bytes.now) }
 {
-    let rest = literal(b" ", bytes)?;
-    let (body, rest) = body_of(alloc, fuel, 1, rest)?;
+    let (body, rest) = body_behind(alloc, fuel, 1, bytes)?;
     let rest = literal(b"\n", rest)?;
     Ok((member_from(head, parameters, body), rest))
 }
 
-/// What stands behind the first word of a member.
+// What stands behind the first word of a member.
 fn member_after<'a>(
     alloc: Global,
     fuel: usize,
@@ -223,7 +237,7 @@ fn member_after<'a>(
     member_body_of(alloc, fuel, head, parameters, rest)
 }
 
-/// A member of a class and the line feed behind it.
+// A member of a class and the line feed behind it.
 #[tactic(auto, unfolding(js_spelling::specs::Modules::member_at))]
 fn member_of<'a>(
     alloc: Global,
@@ -257,7 +271,7 @@ impl Item for MemberItem {
     ghost reading = { λ s. member_at s.0 };
 
     fn starts(&self, bytes: &[u8]) -> bool {
-        next_is(32, bytes)
+        next_is(b' ', bytes)
     }
 
     fn read<'a>(&self, alloc: Global, bytes: &'a [u8]) -> Result<(ClassMember, &'a [u8]), Stop> {
@@ -265,7 +279,7 @@ impl Item for MemberItem {
     }
 }
 
-/// The members of a class in their braces.
+// The members of a class in their braces.
 #[tactic(auto, unfolding(js_spelling::specs::Modules::members_at))]
 fn members_of<'a>(
     alloc: Global,
@@ -280,21 +294,20 @@ fn members_of<'a>(
     Ok((members, rest))
 }
 
-/// A constant that is no object, behind ` = `.
-#[tactic(auto, unfolding(js_spelling::specs::Modules::item_ended_at))]
+// A constant that is no object, behind ` = `.
+#[tactic(auto, unfolding(js_spelling::specs::Modules::item_ended_at, js_scan::specs::Parts::before_at))]
 fn plain_const_of<'a>(alloc: Global, fuel: usize, name: Text, bytes: &'a [u8]) -> Read<'a>
     ensures { Gives (λ x. (views.item_view x.0, x.1.now)) result (reading.item_ended_at fuel (λ e. terms.const_item name e) bytes.now) }
 {
-    let (value, rest) = expression_of(alloc, fuel, bytes)?;
-    let rest = literal(b";", rest)?;
+    let (value, rest) = expression_before(alloc, fuel, b";", bytes)?;
     Ok((JsItem::Const { name, value }, rest))
 }
 
-/// A constant or an object, behind ` = `.
+// A constant or an object, behind ` = `.
 fn const_of<'a>(alloc: Global, fuel: usize, name: Text, bytes: &'a [u8]) -> Read<'a>
     ensures { Gives (λ x. (views.item_view x.0, x.1.now)) result (either_at (λ c. c == 123) (lead_at (codes "{") (reading.object_at fuel name)) (reading.item_ended_at fuel (λ e. terms.const_item name e)) bytes.now) }
 {
-    if next_is(123, bytes) {
+    if next_is(b'{', bytes) {
         let rest = literal(b"{", bytes)?;
         object_of(alloc, fuel, name, rest)
     } else {
@@ -302,50 +315,33 @@ fn const_of<'a>(alloc: Global, fuel: usize, name: Text, bytes: &'a [u8]) -> Read
     }
 }
 
-/// What stands behind `const`.
+// What stands behind `const`.
 #[tactic(auto, unfolding(js_spelling::specs::Modules::item_after_at))]
 fn const_after<'a>(alloc: Global, fuel: usize, bytes: &'a [u8]) -> Read<'a>
     ensures { Gives (λ x. (views.item_view x.0, x.1.now)) result (reading.item_after_at fuel heads.Const bytes.now) }
 {
-    let rest = literal(b" ", bytes)?;
-    let (name, rest) = name_of(alloc, rest)?;
+    let (name, rest) = name_behind(alloc, b" ", bytes)?;
     let rest = literal(b" = ", rest)?;
     const_of(alloc, fuel, name, rest)
 }
 
-/// The first value of a variable.
-#[tactic(auto, unfolding(js_spelling::specs::Modules::item_ended_at))]
-fn let_of<'a>(alloc: Global, fuel: usize, name: Text, bytes: &'a [u8]) -> Read<'a>
-    ensures { Gives (λ x. (views.item_view x.0, x.1.now)) result (reading.item_ended_at fuel (λ e. terms.let_item name e) bytes.now) }
-{
-    let (value, rest) = expression_of(alloc, fuel, bytes)?;
-    let rest = literal(b";", rest)?;
-    Ok((JsItem::Let { name, value }, rest))
-}
-
-/// What stands behind `let`.
-#[tactic(auto, unfolding(js_spelling::specs::Modules::item_after_at))]
+// What stands behind `let`.
+#[tactic(auto, unfolding(js_spelling::specs::Modules::item_after_at, js_spelling::specs::Modules::item_ended_at, js_scan::specs::Parts::before_at))]
 fn let_after<'a>(alloc: Global, fuel: usize, bytes: &'a [u8]) -> Read<'a>
     ensures { Gives (λ x. (views.item_view x.0, x.1.now)) result (reading.item_after_at fuel heads.Let bytes.now) }
 {
-    let rest = literal(b" ", bytes)?;
-    let (name, rest) = name_of(alloc, rest)?;
-    let rest = literal(b" = ", rest)?;
-    let_of(alloc, fuel, name, rest)
+    let (name, rest) = name_behind(alloc, b" ", bytes)?;
+    let (value, rest) = expression_between(alloc, fuel, b" = ", b";", rest)?;
+    Ok((JsItem::Let { name, value }, rest))
 }
 
-/// What stands behind the parameters of a function.
-fn function_body_of<'a>(
-    alloc: Global,
-    fuel: usize,
-    name: Text,
-    parameters: Items<Text>,
-    bytes: &'a [u8],
-) -> Read<'a>
-    ensures { Gives (λ x. (views.item_view x.0, x.1.now)) result (lead_at (codes " ") (map_at (λ ss. terms.function_item name parameters ss) (reading.body_at fuel 0)) bytes.now) }
+// What stands behind the name of a function.
+fn function_of<'a>(alloc: Global, fuel: usize, name: Text, bytes: &'a [u8]) -> Read<'a>
+    ensures { Gives (λ x. (views.item_view x.0, x.1.now)) result (lead_at (codes "(") (after_at (reading.parameters_at fuel) (λ xs. lead_at (codes " ") (map_at (λ ss. terms.function_item name xs ss) (reading.body_at fuel 0)))) bytes.now) }
 {
-    let rest = literal(b" ", bytes)?;
-    let (body, rest) = body_of(alloc, fuel, 0, rest)?;
+    let rest = literal(b"(", bytes)?;
+    let (parameters, rest) = parameters_of(alloc, fuel, rest)?;
+    let (body, rest) = body_behind(alloc, fuel, 0, rest)?;
     Ok((
         JsItem::Function {
             name,
@@ -356,26 +352,16 @@ fn function_body_of<'a>(
     ))
 }
 
-/// What stands behind the name of a function.
-fn function_of<'a>(alloc: Global, fuel: usize, name: Text, bytes: &'a [u8]) -> Read<'a>
-    ensures { Gives (λ x. (views.item_view x.0, x.1.now)) result (lead_at (codes "(") (after_at (reading.parameters_at fuel) (λ xs. lead_at (codes " ") (map_at (λ ss. terms.function_item name xs ss) (reading.body_at fuel 0)))) bytes.now) }
-{
-    let rest = literal(b"(", bytes)?;
-    let (parameters, rest) = parameters_of(alloc, fuel, rest)?;
-    function_body_of(alloc, fuel, name, parameters, rest)
-}
-
-/// What stands behind `function`.
+// What stands behind `function`.
 #[tactic(auto, unfolding(js_spelling::specs::Modules::item_after_at))]
 fn function_after<'a>(alloc: Global, fuel: usize, bytes: &'a [u8]) -> Read<'a>
     ensures { Gives (λ x. (views.item_view x.0, x.1.now)) result (reading.item_after_at fuel heads.Function bytes.now) }
 {
-    let rest = literal(b" ", bytes)?;
-    let (name, rest) = name_of(alloc, rest)?;
+    let (name, rest) = name_behind(alloc, b" ", bytes)?;
     function_of(alloc, fuel, name, rest)
 }
 
-/// The members of a class that has a parent, behind the parent's name.
+// The members of a class that has a parent, behind the parent's name.
 fn subclass_members_of<'a>(
     alloc: Global,
     fuel: usize,
@@ -397,20 +383,19 @@ fn subclass_members_of<'a>(
     ))
 }
 
-/// What stands behind the name of a class that has a parent.
+// What stands behind the name of a class that has a parent.
 fn subclass_of<'a>(alloc: Global, fuel: usize, name: Text, bytes: &'a [u8]) -> Read<'a>
     ensures { Gives (λ x. (views.item_view x.0, x.1.now)) result (lead_at (codes "extends ") (after_at name_at (λ y. lead_at (codes " ") (map_at (λ ms. terms.subclass_item name y ms) (reading.members_at fuel)))) bytes.now) }
 {
-    let rest = literal(b"extends ", bytes)?;
-    let (parent, rest) = name_of(alloc, rest)?;
+    let (parent, rest) = name_behind(alloc, b"extends ", bytes)?;
     subclass_members_of(alloc, fuel, name, parent, rest)
 }
 
-/// What stands behind the name of a class and a space.
+// What stands behind the name of a class and a space.
 fn class_of<'a>(alloc: Global, fuel: usize, name: Text, bytes: &'a [u8]) -> Read<'a>
     ensures { Gives (λ x. (views.item_view x.0, x.1.now)) result (either_at (λ c. c == 123) (map_at (λ ms. terms.class_item name ms) (reading.members_at fuel)) (lead_at (codes "extends ") (after_at name_at (λ y. lead_at (codes " ") (map_at (λ ms. terms.subclass_item name y ms) (reading.members_at fuel))))) bytes.now) }
 {
-    if next_is(123, bytes) {
+    if next_is(b'{', bytes) {
         let (members, rest) = members_of(alloc, fuel, bytes)?;
         Ok((JsItem::Class { name, members }, rest))
     } else {
@@ -418,18 +403,17 @@ fn class_of<'a>(alloc: Global, fuel: usize, name: Text, bytes: &'a [u8]) -> Read
     }
 }
 
-/// What stands behind `class`.
+// What stands behind `class`.
 #[tactic(auto, unfolding(js_spelling::specs::Modules::item_after_at))]
 fn class_after<'a>(alloc: Global, fuel: usize, bytes: &'a [u8]) -> Read<'a>
     ensures { Gives (λ x. (views.item_view x.0, x.1.now)) result (reading.item_after_at fuel heads.Class bytes.now) }
 {
-    let rest = literal(b" ", bytes)?;
-    let (name, rest) = name_of(alloc, rest)?;
+    let (name, rest) = name_behind(alloc, b" ", bytes)?;
     let rest = literal(b" ", rest)?;
     class_of(alloc, fuel, name, rest)
 }
 
-/// An item that is an expression, behind its first word.
+// An item that is an expression, behind its first word.
 #[tactic(auto, unfolding(js_spelling::specs::Modules::item_after_at))]
 fn expression_item_after<'a>(alloc: Global, fuel: usize, head: Head, bytes: &'a [u8]) -> Read<'a>
     ensures { Gives (λ x. (views.item_view x.0, x.1.now)) result (reading.item_after_at fuel (heads.Expression head) bytes.now) }

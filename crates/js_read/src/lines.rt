@@ -1,4 +1,4 @@
-// Lines of a module.
+//! Lines of a module.
 ghost use Rattle.std.specs.Prelude.{◌≡◌, codes};
 ghost use Rattle.exact_place.specs.Reading.{after_at, lead_at, value_at};
 ghost use Rattle.js_scan.specs.Gives.{Gives};
@@ -22,10 +22,10 @@ pub enum Line {
     Export(Items<Text>),
 }
 
-/// What a reader of lines gives: the line and the rest.
+// What a reader of lines gives: the line and the rest.
 type Read<'a> = Result<(Line, &'a [u8]), Stop>;
 
-/// The file of an import line, behind its names.
+// The file of an import line, behind its names.
 fn import_of<'a>(alloc: Global, names: Items<Text>, bytes: &'a [u8]) -> Read<'a>
     ensures { Gives (λ x. (line_view x.0, x.1.now)) result (lead_at (codes " } from \"./") (after_at reading.file_at (λ f. lead_at (codes "\";\n") (value_at (reading.import_line (record { names = names; file = f }))))) bytes.now) }
 {
@@ -35,7 +35,7 @@ fn import_of<'a>(alloc: Global, names: Items<Text>, bytes: &'a [u8]) -> Read<'a>
     Ok((Line::Import(JsImport { names, file }), rest))
 }
 
-/// What stands behind `import`.
+// What stands behind `import`.
 #[tactic(auto, unfolding(js_spelling::specs::Modules::line_after_at))]
 fn import_after<'a>(alloc: Global, fuel: usize, bytes: &'a [u8]) -> Read<'a>
     ensures { Gives (λ x. (line_view x.0, x.1.now)) result (reading.line_after_at fuel heads.Import bytes.now) }
@@ -45,7 +45,7 @@ fn import_after<'a>(alloc: Global, fuel: usize, bytes: &'a [u8]) -> Read<'a>
     import_of(alloc, names, rest)
 }
 
-/// What stands behind `export`.
+// What stands behind `export`.
 #[tactic(auto, unfolding(js_spelling::specs::Modules::line_after_at))]
 fn export_after<'a>(alloc: Global, fuel: usize, bytes: &'a [u8]) -> Read<'a>
     ensures { Gives (λ x. (line_view x.0, x.1.now)) result (reading.line_after_at fuel heads.Export bytes.now) }
@@ -56,7 +56,7 @@ fn export_after<'a>(alloc: Global, fuel: usize, bytes: &'a [u8]) -> Read<'a>
     Ok((Line::Export(names), rest))
 }
 
-/// An item and its line feed, behind its first word.
+// An item and its line feed, behind its first word.
 #[tactic(auto, unfolding(js_spelling::specs::Modules::line_after_at))]
 fn item_line_after<'a>(alloc: Global, fuel: usize, head: ItemHead, bytes: &'a [u8]) -> Read<'a>
     ensures { Gives (λ x. (line_view x.0, x.1.now)) result (reading.line_after_at fuel (heads.Item head) bytes.now) }
@@ -66,7 +66,7 @@ fn item_line_after<'a>(alloc: Global, fuel: usize, head: ItemHead, bytes: &'a [u
     Ok((Line::Item(item), rest))
 }
 
-/// A line behind its first word.
+// A line behind its first word.
 fn line_after<'a>(alloc: Global, fuel: usize, head: LineHead, bytes: &'a [u8]) -> Read<'a>
     ensures { Gives (λ x. (line_view x.0, x.1.now)) result (reading.line_after_at fuel head bytes.now) }
 {

@@ -1,4 +1,4 @@
-// Modules.
+//! Modules.
 ghost use Rattle.std.specs.Prelude.{◌≡◌, ◌⊎◌, ◌∷◌, ◌+◌, ℕ, List, [], length, true, Ok, Err, IfOk};
 ghost use Rattle.exact_place.specs.Place.{Place};
 ghost use Rattle.exact_place.specs.Reading.{passes, map_at, end_at};
@@ -35,7 +35,7 @@ pub struct Front {
     reached: Reached,
 }
 
-/// Whether one more line begins here.
+// Whether one more line begins here.
 fn goes_on(reached: &Reached, bytes: &[u8]) -> bool
     ensures { result ≡ passes (reading.goes_on (stage_of reached.now)) bytes.now }
 {
@@ -49,7 +49,7 @@ fn goes_on(reached: &Reached, bytes: &[u8]) -> bool
     }
 }
 
-/// Whether the next line may be an import.
+// Whether the next line may be an import.
 fn may_import(reached: &Reached) -> bool
     ensures { result ≡ reading.is_imports (stage_of reached.now) }
 {
@@ -60,7 +60,7 @@ fn may_import(reached: &Reached) -> bool
     }
 }
 
-/// The module so far and an import line.
+// The module so far and an import line.
 fn put_import(front: Front, import: JsImport) -> Result<Front, NoMemory>
     ensures stage { IfOk result (λ f. stage_of f.reached ≡ stage_of front.reached) }
     ensures module { IfOk result (λ f. (ls : List reading.Line) → module_onto f (reading.module_of ls) ≡ module_onto front (reading.module_of (reading.import_line import ∷ ls))) }
@@ -70,7 +70,7 @@ fn put_import(front: Front, import: JsImport) -> Result<Front, NoMemory>
     Ok(front)
 }
 
-/// The module so far and an item.
+// The module so far and an item.
 fn put_item(alloc: Global, front: Front, item: JsItem) -> Result<Front, NoMemory>
     requires { reading.goes_on (stage_of front.reached) 0 ≡ true }
     ensures stage { IfOk result (λ f. stage_of f.reached ≡ reading.stage_after (stage_of front.reached) (line_view (lines.Item item))) }
@@ -83,7 +83,7 @@ fn put_item(alloc: Global, front: Front, item: JsItem) -> Result<Front, NoMemory
     Ok(front)
 }
 
-/// The module so far and the export line.
+// The module so far and the export line.
 fn put_exports(front: Front, names: Items<Text>) -> Front
     requires { reading.goes_on (stage_of front.reached) 0 ≡ true }
     ensures stage { stage_of result.reached ≡ reading.stage_after (stage_of front.reached) (reading.export_line names) }
@@ -94,7 +94,7 @@ fn put_exports(front: Front, names: Items<Text>) -> Front
     front
 }
 
-/// The module so far and one line more.
+// The module so far and one line more.
 fn put(alloc: Global, front: Front, line: Line) -> Result<Front, NoMemory>
     requires { reading.goes_on (stage_of front.reached) 0 ≡ true }
     ensures stage { IfOk result (λ f. stage_of f.reached ≡ reading.stage_after (stage_of front.reached) (line_view line)) }
@@ -107,7 +107,7 @@ fn put(alloc: Global, front: Front, line: Line) -> Result<Front, NoMemory>
     }
 }
 
-/// The names of the export line, if one was read.
+// The names of the export line, if one was read.
 fn exports_of(alloc: Global, reached: Reached) -> Items<Text>
     ensures { result ≡ exports_onto reached [] }
 {
@@ -118,7 +118,7 @@ fn exports_of(alloc: Global, reached: Reached) -> Items<Text>
     }
 }
 
-/// The module of what was read.
+// The module of what was read.
 fn module_of_front(alloc: Global, front: Front) -> JsModule
     ensures { module_view result ≡ module_onto front (reading.module_of []) }
 {
@@ -134,7 +134,7 @@ fn module_of_front(alloc: Global, front: Front) -> JsModule
     }
 }
 
-/// The module, where nothing stands behind it.
+// The module, where nothing stands behind it.
 fn finish(alloc: Global, front: Front, bytes: &[u8]) -> Result<JsModule, Stop>
     ensures { Gives (λ m. (module_view m, [])) result (map_at (λ u. module_onto front (reading.module_of [])) end_at bytes.now) }
 {
@@ -144,7 +144,7 @@ fn finish(alloc: Global, front: Front, bytes: &[u8]) -> Result<JsModule, Stop>
     }
 }
 
-/// The module that the bytes spell, all of them.
+// The module that the bytes spell, all of them.
 #[tactic(auto, unfolding(js_spelling::specs::Modules::module_at, js_spelling::specs::Modules::module_lines_at))]
 fn whole_module(alloc: Global, fuel: usize, bytes: &[u8]) -> Result<JsModule, Stop>
     ensures { Gives (λ m. (module_view m, [])) result (reading.module_at fuel bytes.now) }
@@ -167,7 +167,7 @@ fn whole_module(alloc: Global, fuel: usize, bytes: &[u8]) -> Result<JsModule, St
     Err(Stop::Bad(rest.len()))
 }
 
-/// Why the bytes spell no module, where their reader stopped.
+// Why the bytes spell no module, where their reader stopped.
 #[tactic(auto, using(crate::proofs::WholeSteps::whole_steps))]
 fn error_of(bytes: &[u8], stop: Stop) -> JsError
     requires { Fails stop (reading.module_at (length bytes.now + 1) bytes.now) }

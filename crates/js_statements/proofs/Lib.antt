@@ -1,3 +1,1 @@
-pub mod ExpressionSteps
 pub mod StatementSteps
-pub mod SuffixLoop

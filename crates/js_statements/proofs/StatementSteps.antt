@@ -1,13 +1,12 @@
 -- One level of the reader of statements, at a fuel that isn't zero.
-use Rattle.std.proofs.Common.{◌≡◌, ℕ, zero, suc, ◌-◌, true, false, List, length, Ok, Err, refl, ap, arith, codes}
-use Rattle.exact_place.specs.Reading.{passes, literal_at}
-use Rattle.js_tree.specs.Terms.{Expression, Statements, do_forever}
+use Rattle.std.proofs.Common.{◌≡◌, ℕ, zero, suc, ◌-◌, true, false, List, length, Ok, Err, refl, ap, arith}
+use Rattle.exact_place.specs.Reading.{passes}
+use Rattle.js_tree.specs.Terms.{Expression}
 use Rattle.js_spelling.specs.declared.words.StatementHead.{StatementHead}
-use Rattle.js_spelling.specs.declared.words.StatementHead.TheVariants as statements
 use Rattle.js_spelling.specs.Words.{is_word_start}
 use Rattle.js_spelling.specs.Tokens.{statement_head_at}
 use Rattle.js_spelling.specs.Expressions.{wordless_at}
-use Rattle.js_spelling.specs.Statements.{statement_at, statement_level, statement_after_at, target_at, block_at}
+use Rattle.js_spelling.specs.Statements.{statement_at, statement_level, statement_after_at, target_at}
 use Rattle.js_scan.specs.declared.stop.Stop.{Stop}
 use Rattle.js_scan.specs.declared.stop.Stop.TheVariants as stops
 use Rattle.js_scan.specs.Gives.{Fails}
@@ -42,8 +41,3 @@ unfolding statement_at statement_level
 statement_wordless_fails stops.NoMemory n level bytes some go is = tt
 statement_wordless_fails (stops.Bad left) zero level bytes some go is = absurd (some refl)
 statement_wordless_fails (stops.Bad left) (suc n) level bytes some go is = rw (go, is) refl
-
-pub do_read : (n level : ℕ) (bytes front : List ℕ) (body : Statements) (mid rest : List ℕ) → literal_at (codes " ") bytes ≡ Ok (tt, front) → block_at (statement_at n) n level front ≡ Ok (body, mid) → literal_at (codes " while (true);") mid ≡ Ok (tt, rest)
-    → statement_after_at (statement_at n) n level statements.Do bytes ≡ Ok (do_forever body, rest)
-unfolding statement_after_at
-do_read n level bytes front body mid rest a b c = rw (a, b, c) refl

@@ -1,9 +1,8 @@
-//! Reading the expressions and the statements of the emitted subset of ECMAScript 2020.
+//! Reading the statements of the emitted subset of ECMAScript 2020.
 #![tactic(auto)]
 
-mod expressions;
 mod simple_statements;
 mod statements;
 
-pub use expressions::{expression_after, expression_of, wordless_of};
+pub use js_expressions::{expression_after, expression_of, wordless_of};
 pub use statements::block_of;

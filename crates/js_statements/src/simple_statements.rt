@@ -7,8 +7,8 @@ ghost use Rattle.js_scan.specs.Gives.{Gives};
 ghost use Rattle.js_spelling.specs.Statements as reading;
 ghost use Rattle.js_spelling.specs.Tokens.{name_at};
 
-use crate::expressions::expression_of;
-use js_scan::{Stop, literal, name_of, next_is};
+use js_expressions::expression_between;
+use js_scan::{Stop, literal, name_behind, next_is};
 use js_tree::{JsExpr, JsStmt};
 use sj_names::Text;
 use std::alloc::Global;
@@ -16,46 +16,27 @@ use std::alloc::Global;
 /// What a reader of statements gives: the statement and the rest.
 pub type Read<'a> = Result<(JsStmt, &'a [u8]), Stop>;
 
-/// The value of a constant, behind its name.
-#[tactic(auto, unfolding(js_spelling::specs::Statements::ended_at))]
-fn const_value_of<'a>(alloc: Global, fuel: usize, name: Text, bytes: &'a [u8]) -> Read<'a>
-    ensures { Gives (λ x. (views.statement_view x.0, x.1.now)) result (lead_at (codes " = ") (reading.ended_at (reading.statement_at fuel) fuel (λ e. terms.const_of name e)) bytes.now) }
-{
-    let rest = literal(b" = ", bytes)?;
-    let (value, rest) = expression_of(alloc, fuel, rest)?;
-    let rest = literal(b";", rest)?;
-    Ok((JsStmt::Const { name, value }, rest))
-}
-
 /// What stands behind `const`.
+#[tactic(auto, unfolding(js_spelling::specs::Statements::ended_at, js_scan::specs::Parts::before_at))]
 pub fn const_after<'a>(alloc: Global, fuel: usize, bytes: &'a [u8]) -> Read<'a>
     ensures { Gives (λ x. (views.statement_view x.0, x.1.now)) result ((lead_at (codes " ") (after_at name_at (λ x. lead_at (codes " = ") (reading.ended_at (reading.statement_at fuel) fuel (λ e. terms.const_of x e))))) bytes.now) }
 {
-    let rest = literal(b" ", bytes)?;
-    let (name, rest) = name_of(alloc, rest)?;
-    const_value_of(alloc, fuel, name, rest)
+    let (name, rest) = name_behind(alloc, b" ", bytes)?;
+    let (value, rest) = expression_between(alloc, fuel, b" = ", b";", rest)?;
+    Ok((JsStmt::Const { name, value }, rest))
 }
 
-/// The first value of a variable, behind its name.
-#[tactic(auto, unfolding(js_spelling::specs::Statements::ended_at))]
-fn let_value_of<'a>(alloc: Global, fuel: usize, name: Text, bytes: &'a [u8]) -> Read<'a>
-    ensures { Gives (λ x. (views.statement_view x.0, x.1.now)) result (lead_at (codes " = ") (reading.ended_at (reading.statement_at fuel) fuel (λ e. terms.let_of name e)) bytes.now) }
-{
-    let rest = literal(b" = ", bytes)?;
-    let (value, rest) = expression_of(alloc, fuel, rest)?;
-    let rest = literal(b";", rest)?;
-    Ok((JsStmt::Let { name, value }, rest))
-}
-
-/// What stands behind the name of a variable.
+// What stands behind the name of a variable.
+#[tactic(auto, unfolding(js_spelling::specs::Statements::ended_at, js_scan::specs::Parts::before_at))]
 fn declared_of<'a>(alloc: Global, fuel: usize, name: Text, bytes: &'a [u8]) -> Read<'a>
     ensures { Gives (λ x. (views.statement_view x.0, x.1.now)) result ((either_at (λ c. c == 59) (lead_at (codes ";") (value_at (terms.declare_of name))) (lead_at (codes " = ") (reading.ended_at (reading.statement_at fuel) fuel (λ e. terms.let_of name e)))) bytes.now) }
 {
-    if next_is(59, bytes) {
+    if next_is(b';', bytes) {
         let rest = literal(b";", bytes)?;
         Ok((JsStmt::Declare(name), rest))
     } else {
-        let_value_of(alloc, fuel, name, bytes)
+        let (value, rest) = expression_between(alloc, fuel, b" = ", b";", bytes)?;
+        Ok((JsStmt::Let { name, value }, rest))
     }
 }
 
@@ -63,8 +44,7 @@ fn declared_of<'a>(alloc: Global, fuel: usize, name: Text, bytes: &'a [u8]) -> R
 pub fn let_after<'a>(alloc: Global, fuel: usize, bytes: &'a [u8]) -> Read<'a>
     ensures { Gives (λ x. (views.statement_view x.0, x.1.now)) result ((lead_at (codes " ") (after_at name_at (λ x. either_at (λ c. c == 59) (lead_at (codes ";") (value_at (terms.declare_of x))) (lead_at (codes " = ") (reading.ended_at (reading.statement_at fuel) fuel (λ e. terms.let_of x e)))))) bytes.now) }
 {
-    let rest = literal(b" ", bytes)?;
-    let (name, rest) = name_of(alloc, rest)?;
+    let (name, rest) = name_behind(alloc, b" ", bytes)?;
     declared_of(alloc, fuel, name, rest)
 }
 
@@ -77,24 +57,20 @@ pub fn super_after(bytes: &[u8]) -> Read
 }
 
 /// What stands behind `throw`.
-#[tactic(auto, unfolding(js_spelling::specs::Statements::ended_at))]
+#[tactic(auto, unfolding(js_spelling::specs::Statements::ended_at, js_scan::specs::Parts::before_at))]
 pub fn throw_after<'a>(alloc: Global, fuel: usize, bytes: &'a [u8]) -> Read<'a>
     ensures { Gives (λ x. (views.statement_view x.0, x.1.now)) result ((lead_at (codes " ") (reading.ended_at (reading.statement_at fuel) fuel (λ e. terms.throw_of e))) bytes.now) }
 {
-    let rest = literal(b" ", bytes)?;
-    let (value, rest) = expression_of(alloc, fuel, rest)?;
-    let rest = literal(b";", rest)?;
+    let (value, rest) = expression_between(alloc, fuel, b" ", b";", bytes)?;
     Ok((JsStmt::Throw(value), rest))
 }
 
 /// What stands behind `return`.
-#[tactic(auto, unfolding(js_spelling::specs::Statements::ended_at))]
+#[tactic(auto, unfolding(js_spelling::specs::Statements::ended_at, js_scan::specs::Parts::before_at))]
 pub fn return_after<'a>(alloc: Global, fuel: usize, bytes: &'a [u8]) -> Read<'a>
     ensures { Gives (λ x. (views.statement_view x.0, x.1.now)) result ((lead_at (codes " ") (reading.ended_at (reading.statement_at fuel) fuel (λ e. terms.return_of e))) bytes.now) }
 {
-    let rest = literal(b" ", bytes)?;
-    let (value, rest) = expression_of(alloc, fuel, rest)?;
-    let rest = literal(b";", rest)?;
+    let (value, rest) = expression_between(alloc, fuel, b" ", b";", bytes)?;
     Ok((JsStmt::Return(value), rest))
 }
 
@@ -102,12 +78,11 @@ pub fn return_after<'a>(alloc: Global, fuel: usize, bytes: &'a [u8]) -> Read<'a>
 pub fn break_after<'a>(alloc: Global, bytes: &'a [u8]) -> Read<'a>
     ensures { Gives (λ x. (views.statement_view x.0, x.1.now)) result ((either_at (λ c. c == 59) (lead_at (codes ";") (value_at terms.break_nearest)) (lead_at (codes " ") (after_at name_at (λ x. map_at (λ u. terms.break_to x) (literal_at (codes ";")))))) bytes.now) }
 {
-    if next_is(59, bytes) {
+    if next_is(b';', bytes) {
         let rest = literal(b";", bytes)?;
         Ok((JsStmt::Break, rest))
     } else {
-        let rest = literal(b" ", bytes)?;
-        let (label, rest) = name_of(alloc, rest)?;
+        let (label, rest) = name_behind(alloc, b" ", bytes)?;
         let rest = literal(b";", rest)?;
         Ok((JsStmt::BreakTo(label), rest))
     }
@@ -121,80 +96,21 @@ pub fn expression_end(expression: JsExpr, bytes: &[u8]) -> Read
     Ok((JsStmt::Expression(expression), rest))
 }
 
-/// The new value of a name.
-#[tactic(auto, unfolding(js_spelling::specs::Statements::ended_at))]
-fn assign_name_of<'a>(alloc: Global, fuel: usize, name: Text, bytes: &'a [u8]) -> Read<'a>
-    ensures { Gives (λ x. (views.statement_view x.0, x.1.now)) result (lead_at (codes " = ") (reading.ended_at (reading.statement_at fuel) fuel (λ e. terms.assign_name name e)) bytes.now) }
-{
-    let rest = literal(b" = ", bytes)?;
-    let (value, rest) = expression_of(alloc, fuel, rest)?;
-    let rest = literal(b";", rest)?;
-    Ok((JsStmt::Assign { name, value }, rest))
-}
-
-/// The new value of a property.
-#[tactic(auto, unfolding(js_spelling::specs::Statements::ended_at))]
-fn assign_property_of<'a>(
-    alloc: Global,
-    fuel: usize,
-    object: Box<JsExpr>,
-    property: Text,
-    bytes: &'a [u8],
-) -> Read<'a>
-    ensures { Gives (λ x. (views.statement_view x.0, x.1.now)) result (lead_at (codes " = ") (reading.ended_at (reading.statement_at fuel) fuel (λ e. terms.assign_property (views.expression_view object.value) property e)) bytes.now) }
-{
-    let rest = literal(b" = ", bytes)?;
-    let (value, rest) = expression_of(alloc, fuel, rest)?;
-    let rest = literal(b";", rest)?;
-    let object = Box::into_inner(object);
-    Ok((
-        JsStmt::AssignProperty {
-            object,
-            property,
-            value,
-        },
-        rest,
-    ))
-}
-
-/// The new value of an element.
-#[tactic(auto, unfolding(js_spelling::specs::Statements::ended_at))]
-fn assign_index_of<'a>(
-    alloc: Global,
-    fuel: usize,
-    object: Box<JsExpr>,
-    index: Box<JsExpr>,
-    bytes: &'a [u8],
-) -> Read<'a>
-    ensures { Gives (λ x. (views.statement_view x.0, x.1.now)) result (lead_at (codes " = ") (reading.ended_at (reading.statement_at fuel) fuel (λ e. terms.assign_index (views.expression_view object.value) (views.expression_view index.value) e)) bytes.now) }
-{
-    let rest = literal(b" = ", bytes)?;
-    let (value, rest) = expression_of(alloc, fuel, rest)?;
-    let rest = literal(b";", rest)?;
-    let object = Box::into_inner(object);
-    let index = Box::into_inner(index);
-    Ok((
-        JsStmt::AssignIndex {
-            object,
-            index,
-            value,
-        },
-        rest,
-    ))
-}
-
 /// What stands behind a name that stands first, where no block follows.
+#[tactic(auto, unfolding(js_spelling::specs::Statements::ended_at, js_scan::specs::Parts::before_at))]
 pub fn name_target_of<'a>(alloc: Global, fuel: usize, name: Text, bytes: &'a [u8]) -> Read<'a>
     ensures { Gives (λ x. (views.statement_view x.0, x.1.now)) result ((either_at (λ c. c == 32) (lead_at (codes " = ") (reading.ended_at (reading.statement_at fuel) fuel (λ e. terms.assign_name name e))) (lead_at (codes ";") (value_at (terms.expression_statement (terms.name_use name))))) bytes.now) }
 {
-    if next_is(32, bytes) {
-        assign_name_of(alloc, fuel, name, bytes)
+    if next_is(b' ', bytes) {
+        let (value, rest) = expression_between(alloc, fuel, b" = ", b";", bytes)?;
+        Ok((JsStmt::Assign { name, value }, rest))
     } else {
         expression_end(JsExpr::Name(name), bytes)
     }
 }
 
 /// What stands behind a property that stands first.
+#[tactic(auto, unfolding(js_spelling::specs::Statements::ended_at, js_scan::specs::Parts::before_at))]
 pub fn property_target_of<'a>(
     alloc: Global,
     fuel: usize,
@@ -204,14 +120,24 @@ pub fn property_target_of<'a>(
 ) -> Read<'a>
     ensures { Gives (λ x. (views.statement_view x.0, x.1.now)) result ((either_at (λ c. c == 32) (lead_at (codes " = ") (reading.ended_at (reading.statement_at fuel) fuel (λ e. terms.assign_property (views.expression_view object.value) property e))) (lead_at (codes ";") (value_at (terms.expression_statement (terms.property_of (views.expression_view object.value) property))))) bytes.now) }
 {
-    if next_is(32, bytes) {
-        assign_property_of(alloc, fuel, object, property, bytes)
+    if next_is(b' ', bytes) {
+        let (value, rest) = expression_between(alloc, fuel, b" = ", b";", bytes)?;
+        let object = Box::into_inner(object);
+        Ok((
+            JsStmt::AssignProperty {
+                object,
+                property,
+                value,
+            },
+            rest,
+        ))
     } else {
         expression_end(JsExpr::Property { object, property }, bytes)
     }
 }
 
 /// What stands behind an element that stands first.
+#[tactic(auto, unfolding(js_spelling::specs::Statements::ended_at, js_scan::specs::Parts::before_at))]
 pub fn index_target_of<'a>(
     alloc: Global,
     fuel: usize,
@@ -221,8 +147,18 @@ pub fn index_target_of<'a>(
 ) -> Read<'a>
     ensures { Gives (λ x. (views.statement_view x.0, x.1.now)) result ((either_at (λ c. c == 32) (lead_at (codes " = ") (reading.ended_at (reading.statement_at fuel) fuel (λ e. terms.assign_index (views.expression_view object.value) (views.expression_view index.value) e))) (lead_at (codes ";") (value_at (terms.expression_statement (terms.index_of (views.expression_view object.value) (views.expression_view index.value)))))) bytes.now) }
 {
-    if next_is(32, bytes) {
-        assign_index_of(alloc, fuel, object, index, bytes)
+    if next_is(b' ', bytes) {
+        let (value, rest) = expression_between(alloc, fuel, b" = ", b";", bytes)?;
+        let object = Box::into_inner(object);
+        let index = Box::into_inner(index);
+        Ok((
+            JsStmt::AssignIndex {
+                object,
+                index,
+                value,
+            },
+            rest,
+        ))
     } else {
         expression_end(JsExpr::Index { object, index }, bytes)
     }

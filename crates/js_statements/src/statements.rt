@@ -1,21 +1,23 @@
 // Statements and blocks.
-ghost use Rattle.std.specs.Prelude.{◌≡◌, ◌∷◌, ◌<◌, ◌^◌, ◌==◌, codes, map};
-ghost use Rattle.exact_place.specs.Reading.{after_at, lead_at, literal_at, map_at};
+ghost use Rattle.std.specs.Prelude.{◌≡◌, ◌∷◌, ◌+◌, ◌<◌, ◌^◌, ◌==◌, codes, map};
+ghost use Rattle.exact_place.specs.Reading.{after_at, lead_at, literal_at, map_at, value_at};
+ghost use Rattle.js_spelling.specs.Expressions.{expression_at};
 ghost use Rattle.js_spelling.specs.Tokens.{name_at};
 ghost use Rattle.js_spelling.specs.declared.words.StatementHead.TheVariants as heads;
 ghost use Rattle.js_tree.specs.Terms as terms;
 ghost use Rattle.js_tree.specs.Views as views;
 ghost use Rattle.js_tree.specs.Written.{indent};
 ghost use Rattle.js_scan.specs.Gives.{Gives};
+ghost use Rattle.js_scan.specs.Parts.{before_at};
 ghost use Rattle.js_spelling.specs.Statements as reading;
 
-use crate::expressions::{expression_after, expression_of, wordless_of};
 use crate::simple_statements::{
     Read, break_after, const_after, expression_end, forever, index_target_of, let_after,
     name_target_of, property_target_of, return_after, super_after, throw_after,
 };
+use js_expressions::{expression_after, expression_between, wordless_of};
 use js_scan::{
-    Item, Stop, in_front, indentation, key_of, list_of, literal, name_of, next_is,
+    Item, Stop, in_front, indentation, key_of, list_of, literal, name_behind, next_is,
     next_is_word_start, statement_head_of,
 };
 use js_spelling::StatementHead;
@@ -23,7 +25,7 @@ use js_tree::{JsExpr, JsStmt, JsTarget, SwitchCase};
 use sj_names::{Items, Text};
 use std::alloc::Global;
 
-/// `case K:`
+// `case K:`
 #[tactic(auto, unfolding(js_spelling::specs::Statements::case_key_at))]
 fn case_key_of(bytes: &[u8]) -> Result<(i32, &[u8]), Stop>
     ensures { Gives (λ x. (x.0, x.1.now)) result (reading.case_key_at bytes.now) }
@@ -34,7 +36,7 @@ fn case_key_of(bytes: &[u8]) -> Result<(i32, &[u8]), Stop>
     Ok((key, rest))
 }
 
-/// What follows a line feed and the indentation of this level.
+// What follows a line feed and the indentation of this level.
 fn next_line(level: usize, bytes: &[u8]) -> Result<&[u8], Stop>
     ensures { Gives (λ r. (tt, r.now)) result (literal_at (10 ∷ indent level) bytes.now) }
 {
@@ -42,7 +44,15 @@ fn next_line(level: usize, bytes: &[u8]) -> Result<&[u8], Stop>
     indentation(level, rest)
 }
 
-/// One more key of a case, on a line of this level.
+// The line feed behind a line, and the indentation of the next one.
+fn line_end(level: usize, bytes: &[u8]) -> Result<&[u8], Stop>
+    ensures { Gives (λ r. (tt, r.now)) result (lead_at (codes "\n") (literal_at (indent level)) bytes.now) }
+{
+    let rest = literal(b"\n", bytes)?;
+    indentation(level, rest)
+}
+
+// One more key of a case, on a line of this level.
 #[derive(Drop)]
 struct KeyItem(usize);
 
@@ -63,7 +73,7 @@ impl Item for KeyItem {
     ghost reading = { λ s. lead_at (10 ∷ indent s.0) case_key_at };
 
     fn starts(&self, bytes: &[u8]) -> bool {
-        next_is(10, bytes)
+        next_is(b'\n', bytes)
     }
 
     fn read<'a>(&self, _alloc: Global, bytes: &'a [u8]) -> Result<(i32, &'a [u8]), Stop> {
@@ -72,7 +82,7 @@ impl Item for KeyItem {
     }
 }
 
-/// The keys of a case.
+// The keys of a case.
 #[tactic(auto, unfolding(js_spelling::specs::Statements::keys_at))]
 fn keys_of<'a>(
     alloc: Global,
@@ -106,7 +116,7 @@ pub fn statement_of<'a>(alloc: Global, fuel: usize, level: usize, bytes: &'a [u8
     }
 }
 
-/// A line of a block behind the indentation of the block, and that indentation behind it.
+// A line of a block behind the indentation of the block, and that indentation behind it.
 #[cycle(statement)]
 #[tactic(auto, unfolding(js_spelling::specs::Statements::line_at))]
 fn line_of<'a>(alloc: Global, fuel: usize, level: usize, bytes: &'a [u8]) -> Read<'a>
@@ -115,8 +125,7 @@ fn line_of<'a>(alloc: Global, fuel: usize, level: usize, bytes: &'a [u8]) -> Rea
 {
     let rest = literal(b"  ", bytes)?;
     let (statement, rest) = statement_of(alloc, fuel, level + 1, rest)?;
-    let rest = literal(b"\n", rest)?;
-    let rest = indentation(level, rest)?;
+    let rest = line_end(level, rest)?;
     Ok((statement, rest))
 }
 
@@ -134,7 +143,7 @@ fn lines_of<'a>(
     let mut statements = Vec::new(alloc);
     let mut rest = bytes;
     for _ in 0..fuel {
-        if !next_is(32, rest) {
+        if !next_is(b' ', rest) {
             return Ok((statements, rest));
         }
         let (statement, after) = line_of(alloc, fuel, level, rest)?;
@@ -163,6 +172,22 @@ pub fn block_of<'a>(
     Ok((statements, rest))
 }
 
+// A block of this level behind these bytes.
+#[cycle(statement)]
+fn block_behind<'a>(
+    alloc: Global,
+    fuel: usize,
+    level: usize,
+    lead: &[u8],
+    bytes: &'a [u8],
+) -> Result<(Vec<JsStmt>, &'a [u8]), Stop>
+    requires { level < 2 ^ 63 }
+    ensures { Gives (λ x. (views.statements_view x.0.items, x.1.now)) result (lead_at lead.now (reading.block_at (reading.statement_at fuel) fuel level) bytes.now) }
+{
+    let rest = literal(lead, bytes)?;
+    block_of(alloc, fuel, level, rest)
+}
+
 #[cycle(statement)]
 #[tactic(auto, unfolding(js_spelling::specs::Statements::case_at))]
 fn case_of<'a>(
@@ -175,10 +200,8 @@ fn case_of<'a>(
     ensures { Gives (λ x. (views.case_view x.0, x.1.now)) result (reading.case_at (reading.statement_at fuel) fuel level bytes.now) }
 {
     let (keys, rest) = keys_of(alloc, fuel, level, bytes)?;
-    let rest = literal(b" ", rest)?;
-    let (body, rest) = block_of(alloc, fuel, level, rest)?;
-    let rest = literal(b"\n", rest)?;
-    let rest = indentation(level, rest)?;
+    let (body, rest) = block_behind(alloc, fuel, level, b" ", rest)?;
+    let rest = line_end(level, rest)?;
     let keys = Items::from_vec(keys);
     Ok((SwitchCase { keys, body }, rest))
 }
@@ -197,7 +220,7 @@ fn cases_of<'a>(
     let mut cases = Vec::new(alloc);
     let mut rest = bytes;
     for _ in 0..fuel {
-        if !next_is(99, rest) {
+        if !next_is(b'c', rest) {
             return Ok((cases, rest));
         }
         let (case, after) = case_of(alloc, fuel, level, rest)?;
@@ -207,7 +230,23 @@ fn cases_of<'a>(
     Err(Stop::Bad(rest.len()))
 }
 
-/// The cases and the default of a `switch`, and its closing brace.
+// The default of a `switch`, and the line feed and the indentation behind it.
+#[cycle(statement)]
+fn default_of<'a>(
+    alloc: Global,
+    fuel: usize,
+    level: usize,
+    bytes: &'a [u8],
+) -> Result<(Vec<JsStmt>, &'a [u8]), Stop>
+    requires { level < 2 ^ 62 }
+    ensures { Gives (λ x. (views.statements_view x.0.items, x.1.now)) result (lead_at (codes "default: ") (after_at (reading.block_at (reading.statement_at fuel) fuel (level + 1)) (λ ss. lead_at (codes "\n") (lead_at (indent level) (value_at ss)))) bytes.now) }
+{
+    let (default, rest) = block_behind(alloc, fuel, level + 1, b"default: ", bytes)?;
+    let rest = line_end(level, rest)?;
+    Ok((default, rest))
+}
+
+// The cases and the default of a `switch`, and its closing brace.
 #[cycle(statement)]
 #[tactic(auto, unfolding(js_spelling::specs::Statements::switch_at))]
 fn switch_of<'a>(
@@ -222,10 +261,7 @@ fn switch_of<'a>(
 {
     let rest = indentation(level + 1, bytes)?;
     let (cases, rest) = cases_of(alloc, fuel, level + 1, rest)?;
-    let rest = literal(b"default: ", rest)?;
-    let (default, rest) = block_of(alloc, fuel, level + 1, rest)?;
-    let rest = literal(b"\n", rest)?;
-    let rest = indentation(level, rest)?;
+    let (default, rest) = default_of(alloc, fuel, level, rest)?;
     let rest = literal(b"}", rest)?;
     Ok((
         JsStmt::Switch {
@@ -237,7 +273,7 @@ fn switch_of<'a>(
     ))
 }
 
-/// What may stand behind `if (e) ` and its block.
+// What may stand behind `if (e) ` and its block.
 #[cycle(statement)]
 #[tactic(auto, unfolding(js_spelling::specs::Statements::else_at))]
 fn else_of<'a>(
@@ -251,16 +287,15 @@ fn else_of<'a>(
     requires { level < 2 ^ 63 }
     ensures { Gives (λ x. (views.statement_view x.0, x.1.now)) result (reading.else_at (reading.statement_at fuel) fuel level (views.expression_view test) (views.statements_view yes.items) bytes.now) }
 {
-    if next_is(32, bytes) {
-        let rest = literal(b" else ", bytes)?;
-        let (no, rest) = block_of(alloc, fuel, level, rest)?;
+    if next_is(b' ', bytes) {
+        let (no, rest) = block_behind(alloc, fuel, level, b" else ", bytes)?;
         Ok((JsStmt::IfElse { test, yes, no }, rest))
     } else {
         Ok((JsStmt::If { test, yes }, bytes))
     }
 }
 
-/// A name and a block behind `catch`.
+// A name and a block behind `catch`.
 #[cycle(statement)]
 fn catch_of<'a>(
     alloc: Global,
@@ -272,10 +307,8 @@ fn catch_of<'a>(
     requires { level < 2 ^ 63 }
     ensures { Gives (λ x. (views.statement_view x.0, x.1.now)) result ((lead_at (codes "catch (") (after_at name_at (λ x. lead_at (codes ") ") (map_at (λ ts. terms.try_catch (views.statements_view body.items) x ts) (reading.block_at (reading.statement_at fuel) fuel level))))) bytes.now) }
 {
-    let rest = literal(b"catch (", bytes)?;
-    let (name, rest) = name_of(alloc, rest)?;
-    let rest = literal(b") ", rest)?;
-    let (handler, rest) = block_of(alloc, fuel, level, rest)?;
+    let (name, rest) = name_behind(alloc, b"catch (", bytes)?;
+    let (handler, rest) = block_behind(alloc, fuel, level, b") ", rest)?;
     Ok((
         JsStmt::TryCatch {
             body,
@@ -286,7 +319,7 @@ fn catch_of<'a>(
     ))
 }
 
-/// What stands behind `try ` and its block.
+// What stands behind `try ` and its block.
 #[cycle(statement)]
 #[tactic(auto, unfolding(js_spelling::specs::Statements::handler_at))]
 fn handler_of<'a>(
@@ -300,16 +333,15 @@ fn handler_of<'a>(
     ensures { Gives (λ x. (views.statement_view x.0, x.1.now)) result ((reading.handler_at (reading.statement_at fuel) fuel level (views.statements_view body.items)) bytes.now) }
 {
     let rest = literal(b" ", bytes)?;
-    if next_is(99, rest) {
+    if next_is(b'c', rest) {
         catch_of(alloc, fuel, level, body, rest)
     } else {
-        let rest = literal(b"finally ", rest)?;
-        let (finalizer, rest) = block_of(alloc, fuel, level, rest)?;
+        let (finalizer, rest) = block_behind(alloc, fuel, level, b"finally ", rest)?;
         Ok((JsStmt::TryFinally { body, finalizer }, rest))
     }
 }
 
-/// The block behind a label.
+// The block behind a label.
 #[cycle(statement)]
 fn labeled_of<'a>(
     alloc: Global,
@@ -321,12 +353,11 @@ fn labeled_of<'a>(
     requires { level < 2 ^ 63 }
     ensures { Gives (λ x. (views.statement_view x.0, x.1.now)) result ((lead_at (codes ": ") (map_at (λ ss. terms.labeled_of label ss) (reading.block_at (reading.statement_at fuel) fuel level))) bytes.now) }
 {
-    let rest = literal(b": ", bytes)?;
-    let (body, rest) = block_of(alloc, fuel, level, rest)?;
+    let (body, rest) = block_behind(alloc, fuel, level, b": ", bytes)?;
     Ok((JsStmt::Labeled { label, body }, rest))
 }
 
-/// What stands behind an expression that stands first.
+// What stands behind an expression that stands first.
 #[cycle(statement)]
 #[tactic(auto, unfolding(js_spelling::specs::Statements::target_at))]
 fn target_of<'a>(
@@ -341,7 +372,7 @@ fn target_of<'a>(
 {
     match first.into_target() {
         JsTarget::Name(name) => {
-            if next_is(58, bytes) {
+            if next_is(b':', bytes) {
                 labeled_of(alloc, fuel, level, name, bytes)
             } else {
                 name_target_of(alloc, fuel, name, bytes)
@@ -355,73 +386,65 @@ fn target_of<'a>(
     }
 }
 
-/// What stands behind `if`.
+// What stands behind `if`.
 #[cycle(statement)]
-#[tactic(auto, unfolding(js_spelling::specs::Statements::statement_after_at))]
+#[tactic(auto, unfolding(js_spelling::specs::Statements::statement_after_at, js_scan::specs::Parts::before_at))]
 fn if_after<'a>(alloc: Global, fuel: usize, level: usize, bytes: &'a [u8]) -> Read<'a>
     requires { level < 2 ^ 63 }
     ensures { Gives (λ x. (views.statement_view x.0, x.1.now)) result ((reading.statement_after_at (reading.statement_at fuel) fuel level heads.If) bytes.now) }
 {
-    let rest = literal(b" (", bytes)?;
-    let (test, rest) = expression_of(alloc, fuel, rest)?;
-    let rest = literal(b") ", rest)?;
+    let (test, rest) = expression_between(alloc, fuel, b" (", b") ", bytes)?;
     let (yes, rest) = block_of(alloc, fuel, level, rest)?;
     else_of(alloc, fuel, level, test, yes, rest)
 }
 
-/// What stands behind `while`.
+// What stands behind `while`.
 #[cycle(statement)]
-#[tactic(auto, unfolding(js_spelling::specs::Statements::statement_after_at))]
+#[tactic(auto, unfolding(js_spelling::specs::Statements::statement_after_at, js_scan::specs::Parts::before_at))]
 fn while_after<'a>(alloc: Global, fuel: usize, level: usize, bytes: &'a [u8]) -> Read<'a>
     requires { level < 2 ^ 63 }
     ensures { Gives (λ x. (views.statement_view x.0, x.1.now)) result ((reading.statement_after_at (reading.statement_at fuel) fuel level heads.While) bytes.now) }
 {
-    let rest = literal(b" (", bytes)?;
-    let (test, rest) = expression_of(alloc, fuel, rest)?;
-    let rest = literal(b") ", rest)?;
+    let (test, rest) = expression_between(alloc, fuel, b" (", b") ", bytes)?;
     let (body, rest) = block_of(alloc, fuel, level, rest)?;
     Ok((JsStmt::While { test, body }, rest))
 }
 
-/// What stands behind `do`.
+// What stands behind `do`.
 #[cycle(statement)]
 #[tactic(auto, unfolding(js_spelling::specs::Statements::statement_after_at))]
 fn do_after<'a>(alloc: Global, fuel: usize, level: usize, bytes: &'a [u8]) -> Read<'a>
     requires { level < 2 ^ 63 }
     ensures { Gives (λ x. (views.statement_view x.0, x.1.now)) result ((reading.statement_after_at (reading.statement_at fuel) fuel level heads.Do) bytes.now) }
 {
-    let rest = literal(b" ", bytes)?;
-    let (body, rest) = block_of(alloc, fuel, level, rest)?;
+    let (body, rest) = block_behind(alloc, fuel, level, b" ", bytes)?;
     let rest = literal(b" while (true);", rest)?;
     Ok((forever(body), rest))
 }
 
-/// What stands behind `try`.
+// What stands behind `try`.
 #[cycle(statement)]
 #[tactic(auto, unfolding(js_spelling::specs::Statements::statement_after_at))]
 fn try_after<'a>(alloc: Global, fuel: usize, level: usize, bytes: &'a [u8]) -> Read<'a>
     requires { level < 2 ^ 63 }
     ensures { Gives (λ x. (views.statement_view x.0, x.1.now)) result ((reading.statement_after_at (reading.statement_at fuel) fuel level heads.Try) bytes.now) }
 {
-    let rest = literal(b" ", bytes)?;
-    let (body, rest) = block_of(alloc, fuel, level, rest)?;
+    let (body, rest) = block_behind(alloc, fuel, level, b" ", bytes)?;
     handler_of(alloc, fuel, level, body, rest)
 }
 
-/// What stands behind `switch`.
+// What stands behind `switch`.
 #[cycle(statement)]
-#[tactic(auto, unfolding(js_spelling::specs::Statements::statement_after_at))]
+#[tactic(auto, unfolding(js_spelling::specs::Statements::statement_after_at, js_scan::specs::Parts::before_at))]
 fn switch_after<'a>(alloc: Global, fuel: usize, level: usize, bytes: &'a [u8]) -> Read<'a>
     requires { level < 2 ^ 63 }
     ensures { Gives (λ x. (views.statement_view x.0, x.1.now)) result ((reading.statement_after_at (reading.statement_at fuel) fuel level heads.Switch) bytes.now) }
 {
-    let rest = literal(b" (", bytes)?;
-    let (selector, rest) = expression_of(alloc, fuel, rest)?;
-    let rest = literal(b") {\n", rest)?;
+    let (selector, rest) = expression_between(alloc, fuel, b" (", b") {\n", bytes)?;
     switch_of(alloc, fuel, level, selector, rest)
 }
 
-/// A statement behind its first word.
+// A statement behind its first word.
 #[cycle(statement)]
 #[tactic(auto, unfolding(js_spelling::specs::Statements::statement_after_at))]
 fn statement_after<'a>(

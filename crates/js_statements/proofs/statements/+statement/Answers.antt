@@ -1,10 +1,10 @@
 use Rattle.std.proofs.Common.{◌≡◌, ◌∷◌, [], ◌++◌, map, eqb, sym, arith}
 use Rattle.std.proofs.lemmas.Result.{err_from_is_err_and}
 use Rattle.std.proofs.lemmas.List.{map_push}
-use Rattle.js_tree.specs.Views.{expression_view, statement_view, statements_view, case_view}
+use Rattle.js_tree.specs.Views.{expression_view, statement_view, case_view}
 use Rattle.js_spelling.specs.Statements.{statement_at, line_at, lines_at, case_at, cases_at}
 use Rattle.js_scan.proofs.Loops.{list_goes, list_fails, list_stops, list_out}
-use Rattle.js_statements.proofs.StatementSteps.{do_read, statement_word, statement_word_fails, statement_wordless, statement_wordless_fails}
+use Rattle.js_statements.proofs.StatementSteps.{statement_word, statement_word_fails, statement_wordless, statement_wordless_fails}
 use Rattle.js_statements.proofs.statements.+statement.Goals as goal
 
 pub lines_of-returns-then-not-next_is : goal.lines_of-returns-then-not-next_is
@@ -56,6 +56,3 @@ statement_of-returns-in_err-first t c =
 
 pub statement_of-returns-in_ok-first : goal.statement_of-returns-in_ok-first
 statement_of-returns-in_ok-first t c = rw (statement_wordless c.args.fuel c.args.level c.args.bytes.now (expression_view c.in_ok-first.first) c.in_ok-first.rest.now c.if-fuel-eq0.false (sym c.if-next_is_word_start.ensures) c.in_ok-first.ensures) c.target_of.ensures
-
-pub do_after-returns : goal.do_after-returns
-do_after-returns t c = rw c.forever.ensures (do_read c.args.fuel c.args.level c.args.bytes.now c.in_ok-rest.rest.now (statements_view c.in_ok-body.body.items) c.in_ok-body.rest.now c.in_ok-rest-2.rest.now c.in_ok-rest.ensures c.in_ok-body.ensures c.in_ok-rest-2.ensures)
