@@ -1,6 +1,6 @@
 -- What a walk notes of a rule is the first tree that breaks it.
-use Rattle.std.proofs.Common.{◌≡◌, ℕ, suc, ◌+◌, ◌-◌, ◌^◌, ◌≤◌, Bool, true, false, List, [], ◌∷◌, Option, Some, None, cond, refl, sym, ap, ◌∙◌, subst, arith}
-use Rattle.std.specs.Prelude.{option_map, min}
+use Rattle.std.proofs.Common.{◌≡◌, ℕ, suc, ◌+◌, ◌-◌, ◌^◌, ◌≤◌, Bool, true, false, List, [], ◌∷◌, Option, Some, None, cond, refl, sym, ap, ◌∙◌, arith}
+use Rattle.std.specs.Prelude.{option_map}
 use Rattle.sj_names.specs.declared.method_names.Namespace.{Namespace}
 use Rattle.sj_trees.specs.declared.classes.ClassDef.{ClassDef}
 use Rattle.sj_trees.specs.declared.classes.MethodDef.{MethodDef}
@@ -9,7 +9,7 @@ use Rattle.sj_local.specs.declared.rules.Rule.TheVariants as rules
 use Rattle.sj_local.specs.Firsts.{in_32_bits, first_where}
 use Rattle.sj_local.specs.Nodes.{Node}
 use Rattle.sj_local.specs.TreeRules.{breaks, method_nodes}
-use Rattle.sj_local.specs.WalkParts.{judgement, noted, with_judgement, findings_from, findings_in}
+use Rattle.sj_local.specs.WalkParts.{judgement, noted, with_judgement, findings_from, findings_in, no_findings}
 
 -- what is noted of one rule
 abbrev noted_from : (Node → Bool) → ℕ → List Node → Option ℕ → Option ℕ
@@ -87,22 +87,22 @@ module _ (c : ClassDef) (space : Namespace) where
 
 module _ (c : ClassDef) (m : MethodDef) where
   pub definition-first : (findings_in c m).definition ≡ option_map in_32_bits (first_where (breaks rules.Definition c m.namespace) (method_nodes m))
-  definition-first = definition-noted c m.namespace (method_nodes m) 0 _ ∙ first_one (breaks rules.Definition c m.namespace) (method_nodes m)
+  definition-first = definition-noted c m.namespace (method_nodes m) 0 no_findings ∙ first_one (breaks rules.Definition c m.namespace) (method_nodes m)
 
   pub variable-first : (findings_in c m).variable ≡ option_map in_32_bits (first_where (breaks rules.Variable c m.namespace) (method_nodes m))
-  variable-first = variable-noted c m.namespace (method_nodes m) 0 _ ∙ first_one (breaks rules.Variable c m.namespace) (method_nodes m)
+  variable-first = variable-noted c m.namespace (method_nodes m) 0 no_findings ∙ first_one (breaks rules.Variable c m.namespace) (method_nodes m)
 
   pub return_label-first : (findings_in c m).return_label ≡ option_map in_32_bits (first_where (breaks rules.ReturnLabel c m.namespace) (method_nodes m))
-  return_label-first = return_label-noted c m.namespace (method_nodes m) 0 _ ∙ first_one (breaks rules.ReturnLabel c m.namespace) (method_nodes m)
+  return_label-first = return_label-noted c m.namespace (method_nodes m) 0 no_findings ∙ first_one (breaks rules.ReturnLabel c m.namespace) (method_nodes m)
 
   pub this-first : (findings_in c m).this ≡ option_map in_32_bits (first_where (breaks rules.This c m.namespace) (method_nodes m))
-  this-first = this-noted c m.namespace (method_nodes m) 0 _ ∙ first_one (breaks rules.This c m.namespace) (method_nodes m)
+  this-first = this-noted c m.namespace (method_nodes m) 0 no_findings ∙ first_one (breaks rules.This c m.namespace) (method_nodes m)
 
   pub store_module-first : (findings_in c m).store_module ≡ option_map in_32_bits (first_where (breaks rules.StoreModule c m.namespace) (method_nodes m))
-  store_module-first = store_module-noted c m.namespace (method_nodes m) 0 _ ∙ first_one (breaks rules.StoreModule c m.namespace) (method_nodes m)
+  store_module-first = store_module-noted c m.namespace (method_nodes m) 0 no_findings ∙ first_one (breaks rules.StoreModule c m.namespace) (method_nodes m)
 
   pub target-first : (findings_in c m).target ≡ option_map in_32_bits (first_where (breaks rules.Target c m.namespace) (method_nodes m))
-  target-first = target-noted c m.namespace (method_nodes m) 0 _ ∙ first_one (breaks rules.Target c m.namespace) (method_nodes m)
+  target-first = target-noted c m.namespace (method_nodes m) 0 no_findings ∙ first_one (breaks rules.Target c m.namespace) (method_nodes m)
 
   pub keys-first : (findings_in c m).keys ≡ option_map in_32_bits (first_where (breaks rules.Keys c m.namespace) (method_nodes m))
-  keys-first = keys-noted c m.namespace (method_nodes m) 0 _ ∙ first_one (breaks rules.Keys c m.namespace) (method_nodes m)
+  keys-first = keys-noted c m.namespace (method_nodes m) 0 no_findings ∙ first_one (breaks rules.Keys c m.namespace) (method_nodes m)

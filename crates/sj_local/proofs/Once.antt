@@ -10,7 +10,7 @@ use Rattle.sj_local.specs.declared.rules.Where.{Where}
 use Rattle.sj_local.specs.Firsts.{FirstRepeat, nothing_left, here, later, FirstAnswer, none_left, this_one, a_later_one}
 use Rattle.sj_local.specs.TreeRules.{DeclaresTwice, declared_in}
 use Rattle.sj_local.specs.MemberRules.{field_key, method_key}
-use Rattle.sj_local.specs.Broken.{no_member, repeat_place, tree_place, MemberRepeats, InterfaceRepeats, TreeBreaks, FirstTree, Breaks, FirstBroken, all_rules}
+use Rattle.sj_local.specs.Broken.{no_member, repeat_place, tree_place, MemberRepeats, InterfaceRepeats, TreeBreaks, FirstTree, Breaks, all_rules}
 use Rattle.sj_local.specs.Laws.{ChecksOnce}
 
 repeat_once : {K : Type 0} (earlier keys : List K) (i j : Option ℕ) → FirstRepeat earlier keys i → FirstRepeat earlier keys j → i ≡ j

@@ -1,5 +1,5 @@
 -- Names of methods that compare as equal are one.
-use Rattle.std.proofs.Common.{◌≡◌, Bool, Option, Some, None, true, refl, ap, subst}
+use Rattle.std.proofs.Common.{◌≡◌, Bool, Option, Some, None, true, false, refl, ap, subst}
 use Rattle.std.specs.Prelude.{nat_eq, ◌&&◌}
 use Rattle.std.specs.Bool.{Decides}
 use Rattle.std.specs.Cmp.Lexicographic.{pointwise}
@@ -16,6 +16,9 @@ use Rattle.sj_names.specs.contracts.references.ArrayRefPartialEq.TheImpl as arra
 use Rattle.sj_names.specs.contracts.references.TypeRefPartialEq.TheImpl as type_eq
 use Rattle.sj_names.specs.contracts.method_names.NamespacePartialEq.TheImpl as namespace_eq
 use Rattle.sj_local.specs.declared.members.MethodKey.{MethodKey}
+
+false_is_not_true : {A : Type 0} → false ≡ true → A
+false_is_not_true e = cc
 
 base_refl : (a : BaseRef) → base_eq.ghosts.eq a a ≡ true
 base_refl BaseRef.Boolean = refl
@@ -34,7 +37,7 @@ base_is BaseRef.Short BaseRef.Short h = refl
 base_is BaseRef.Int BaseRef.Int h = refl
 base_is BaseRef.Long BaseRef.Long h = refl
 base_is (BaseRef.Class a) (BaseRef.Class b) h = ap BaseRef.Class ((bytes_eq-Decides a b).0 h)
-base_is _ _ h = cc
+base_is _ _ h = false_is_not_true h
 
 base_decides : (a b : BaseRef) → Decides (base_eq.ghosts.eq a b) (a ≡ b)
 base_decides a b = (base_is a b, λ h. subst (λ (c : BaseRef). base_eq.ghosts.eq a c ≡ true) h (base_refl a))
@@ -68,7 +71,7 @@ type_is TypeRef.Int TypeRef.Int h = refl
 type_is TypeRef.Long TypeRef.Long h = refl
 type_is (TypeRef.Class a) (TypeRef.Class b) h = ap TypeRef.Class ((bytes_eq-Decides a b).0 h)
 type_is (TypeRef.Array a) (TypeRef.Array b) h = ap TypeRef.Array ((array_decides a b).0 h)
-type_is _ _ h = cc
+type_is _ _ h = false_is_not_true h
 
 type_decides : (a b : TypeRef) → Decides (type_eq.ghosts.eq a b) (a ≡ b)
 type_decides a b = (type_is a b, λ h. subst (λ (c : TypeRef). type_eq.ghosts.eq a c ≡ true) h (type_refl a))
@@ -92,7 +95,7 @@ namespace_is Namespace.PublicStatic Namespace.PublicStatic h = refl
 namespace_is Namespace.Private Namespace.Private h = refl
 namespace_is Namespace.PrivateStatic Namespace.PrivateStatic h = refl
 namespace_is Namespace.Constructor Namespace.Constructor h = refl
-namespace_is _ _ h = cc
+namespace_is _ _ h = false_is_not_true h
 
 namespace_decides : (a b : Namespace) → Decides (namespace_eq.ghosts.eq a b) (a ≡ b)
 namespace_decides a b = (namespace_is a b, λ h. subst (λ (c : Namespace). namespace_eq.ghosts.eq a c ≡ true) h (namespace_refl a))

@@ -1,6 +1,5 @@
 -- The first method whose findings have a tree.
-use Rattle.std.proofs.Common.{◌≡◌, ℕ, zero, suc, ◌+◌, ◌≤◌, ◌<◌, Bool, false, List, [], ◌∷◌, ◌++◌, drop, take, length, get_or, Option, Some, None, refl, sym, ap, ◌∙◌, subst, arith}
-use Rattle.std.specs.Prelude.{option_map}
+use Rattle.std.proofs.Common.{◌≡◌, ℕ, zero, suc, ◌+◌, ◌≤◌, ◌<◌, List, [], ◌∷◌, ◌++◌, drop, take, length, get_or, Option, Some, None, refl, sym, ap, ◌∙◌, subst, arith}
 use Rattle.std.specs.List.{AllZip}
 use Rattle.std.proofs.Math.Seq.{drop-cons, drop-nil, take-suc}
 use Rattle.std.proofs.lemmas.List.{drop_all}
@@ -11,10 +10,9 @@ use Rattle.sj_local.specs.declared.rules.Rule.{Rule}
 use Rattle.sj_local.specs.declared.rules.Rule.TheVariants as rules
 use Rattle.sj_local.specs.declared.findings.Findings.{Findings}
 use Rattle.sj_local.specs.declared.findings.MethodFindings.{MethodFindings}
-use Rattle.sj_local.specs.Firsts.{in_32_bits, first_where, FirstAnswer, none_left, this_one, a_later_one}
+use Rattle.sj_local.specs.Firsts.{in_32_bits, FirstAnswer, none_left, this_one, a_later_one}
 use Rattle.sj_local.specs.MethodParts.{finding_of, HasFindings}
-use Rattle.sj_local.specs.Nodes.{Node}
-use Rattle.sj_local.specs.TreeRules.{breaks, method_nodes}
+use Rattle.sj_local.specs.TreeRules.{breaks}
 use Rattle.sj_local.specs.Broken.{TreeBreaks, FirstTree}
 use Rattle.sj_local.proofs.FindingSteps.{no_tree, definition-first, variable-first, return_label-first, this-first, store_module-first, target-first, keys-first}
 

@@ -326,18 +326,35 @@ fn begun(alloc: Global, params: &[ParamDef]) -> Result<Walk, NoMemory>
     ensures scope { IfOk result (λ w. w.scope.items ≡ map rules.local_of params.now) }
     ensures labels { IfOk result (λ w. w.labels.items ≡ []) }
 {
-    let mut walk = Walk {
-        scope: Vec::new(alloc),
+    let scope = locals_of(alloc, params)?;
+    let declared = declared_params(alloc, params)?;
+    Ok(Walk {
+        scope,
         labels: Vec::new(alloc),
         count: 0,
-        declared: Vec::new(alloc),
+        declared,
         findings: Findings::new(),
-    };
+    })
+}
+
+fn locals_of(alloc: Global, params: &[ParamDef]) -> Result<Vec<Local>, NoMemory>
+    ensures { IfOk result (λ ls. ls.items ≡ map rules.local_of params.now) }
+{
+    let mut locals = Vec::new(alloc);
     for param in params {
-        walk.scope.push(local_of(param)?)?;
-        walk.declared.push(declared_param(param)?)?;
+        locals.push(local_of(param)?)?;
     }
-    Ok(walk)
+    Ok(locals)
+}
+
+fn declared_params(alloc: Global, params: &[ParamDef]) -> Result<Vec<Declared>, NoMemory>
+    ensures { IfOk result (λ ds. ds.items ≡ map rules.declared_param params.now) }
+{
+    let mut declared = Vec::new(alloc);
+    for param in params {
+        declared.push(declared_param(param)?)?;
+    }
+    Ok(declared)
 }
 
 fn local_of(param: &ParamDef) -> Result<Local, NoMemory>
