@@ -54,7 +54,7 @@ module _ (w : Classes) (m : MethodDef) where
       (ap (λ (n : Node). tag n.tree) same, ap (λ (n : Node). in_32_bits n.number) same)
   one_first body _ _ _ _ (a_tree x f) (the_body met not) = absurd (fails_somewhere body x f met)
   one_first body _ _ _ _ (the_body met not) (a_tree x f) = absurd (fails_somewhere body x f met)
-  one_first body _ _ _ _ (the_body met not) (the_body too no) = (refl, refl)
+  one_first body _ _ _ _ (the_body met not) (the_body too fails) = (refl, refl)
 
   pub has_one_verdict : HasOneVerdict w m
   has_one_verdict = record {

@@ -1,5 +1,5 @@
 -- What a text comes to that is to be a listing, and what is written of it.
-use Rattle.std.specs.Prelude.{◌≡◌, ℕ, List, [], ◌∷◌, codes, Some, true, false, ⊥}
+use Rattle.std.specs.Prelude.{◌≡◌, ℕ, List, [], ◌∷◌, codes, Some, true, false}
 use Rattle.exact_place.specs.Place.{Place}
 use Rattle.sj_trees.specs.declared.classes.ClassDef.{ClassDef}
 use Rattle.sj_outside.specs.Contents.{Parts, file_at}
