@@ -34,9 +34,9 @@ place-none : (o : Option (ℕ × ℕ)) → None ≡ option_map tree_place o → 
 place-none None e = refl
 place-none (Some p) e = impossible (cc)
 
-none-first : {o : Option ℕ} → None ≡ option_map in_32_bits o → o ≡ None
-none-first {None} e = refl
-none-first {Some n} e = impossible (cc)
+none-first : (o : Option ℕ) → None ≡ option_map in_32_bits o → o ≡ None
+none-first None e = refl
+none-first (Some n) e = impossible (cc)
 
 -- a rule on trees that a class keeps, for one of its methods
 method-keeps : (c : ClassDef) (r : Rule) → FirstTree r c None → (m : MethodDef) → Contains c.methods m → TreeBreaks r c m None
@@ -46,9 +46,9 @@ method-keeps c r h m i = none-each (TreeBreaks r c) (length c.fields) c.methods 
 pub class-keeps : (c : ClassDef) → FirstBroken c None → (m : MethodDef) → Contains c.methods m → KeepsTreeRules c m
 class-keeps c h m i = record {
   declared = method-keeps c rule.DeclaredTwice (kept rule.DeclaredTwice in_tenth) m i;
-  definition = none-first (method-keeps c rule.Definition (kept rule.Definition in_eleventh) m i);
-  variable = none-first (method-keeps c rule.Variable (kept rule.Variable in_twelfth) m i);
-  jump = none-first (method-keeps c rule.ReturnLabel (kept rule.ReturnLabel in_thirteenth) m i);
+  definition = none-first _ (method-keeps c rule.Definition (kept rule.Definition in_eleventh) m i);
+  variable = none-first _ (method-keeps c rule.Variable (kept rule.Variable in_twelfth) m i);
+  jump = none-first _ (method-keeps c rule.ReturnLabel (kept rule.ReturnLabel in_thirteenth) m i);
 }
   where
     kept : (r : Rule) → Contains all_rules r → Breaks c r None
