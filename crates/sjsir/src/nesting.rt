@@ -1,5 +1,5 @@
 // How deep the parentheses of a text stand one in another.
-ghost use Rattle.std.specs.Prelude.{◌≡◌};
+ghost use Rattle.std.specs.Prelude.{◌≡◌, ◌≤◌};
 ghost use Rattle.sjsir.specs.Nesting as nesting;
 
 // How many parentheses may be open in a listing that is read. The trees of a class file stand at most 200 deep, and each takes two

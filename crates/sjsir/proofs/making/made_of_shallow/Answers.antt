@@ -10,4 +10,4 @@ pub write_class-requires : goal.write_class-requires
 write_class-requires c = listed_names_its_files c.in-Ok.class c.args.text.now c.in-Ok.ensures.found
 
 pub returns : goal.returns
-returns c = (c.args.shallow, (c.in-Ok.class, c.in-Ok.ensures.found, not_its c.in-Ok.class c.args.text.now c.as_slice.result.now c.in_ok-is_file_of.field-0 (c.as_slice.ensures.value ∙ c.in_ok-file.ensures) c.in_ok-is_file_of.ensures c.if-branch.false, never_made c.in-Ok.class c.args.text.now c.as_slice.result.now c.in_ok-is_file_of.field-0 c.in-Ok.ensures.found (c.as_slice.ensures.value ∙ c.in_ok-file.ensures) c.in_ok-is_file_of.ensures c.if-branch.false))
+returns c = (c.requires, (c.in-Ok.class, c.in-Ok.ensures.found, not_its c.in-Ok.class c.args.text.now c.as_slice.result.now c.in_ok-is_file_of.field-0 (c.as_slice.ensures.value ∙ c.in_ok-file.ensures) c.in_ok-is_file_of.ensures c.if-branch.false, never_made c.in-Ok.class c.args.text.now c.as_slice.result.now c.in_ok-is_file_of.field-0 c.in-Ok.ensures.found (c.as_slice.ensures.value ∙ c.in_ok-file.ensures) c.in_ok-is_file_of.ensures c.if-branch.false))
