@@ -1,22 +1,12 @@
 //! Expressions.
 ghost use Rattle.std.specs.Prelude.{◌≡◌, OnOk, codes};
 ghost use Rattle.js_tree.specs.Written.{put, ◌▸◌};
-ghost use Rattle.js_tree.specs.Texts.{put_property, put_expression, put_expressions};
-ghost use Rattle.js_tree.specs.Words.{binary_text};
+ghost use Rattle.js_tree.specs.Texts.{put_name, put_property, put_expression, put_expressions};
 ghost use Rattle.js_tree.specs.Views.{expression_view, expressions_view};
 
 use crate::writing::{append, append_big, append_boolean, append_number, append_text};
-use js_tree::{BinaryOperator, JsExpr};
+use js_tree::JsExpr;
 use sj_names::{NoMemory, Text};
-
-// Appends an operator with a space on each side.
-fn append_operator(out: &mut Vec<u8>, operator: BinaryOperator) -> Result<(), NoMemory>
-    ensures { OnOk result (out.new.items ≡ (put (codes " ") ▸ put (binary_text operator) ▸ put (codes " ")) out.old.items) }
-{
-    append(out, " ")?;
-    append(out, operator.text())?;
-    append(out, " ")
-}
 
 // Appends an expression.
 #[cycle(expression)]
@@ -35,71 +25,47 @@ pub(crate) fn append_expression(out: &mut Vec<u8>, expression: &JsExpr) -> Resul
         JsExpr::Property { object, property } => append_access(out, object, property),
         JsExpr::Index { object, index } => {
             append_expression(out, object)?;
-            append(out, "[")?;
-            append_expression(out, index)?;
-            append(out, "]")
+            append_between(out, "[", index, "]")
         }
         JsExpr::Call {
             function,
             arguments,
-        } => {
-            append(out, function.as_str())?;
-            append_arguments(out, arguments)
-        }
+        } => append_call(out, function, arguments),
         JsExpr::MethodCall {
             object,
             property,
             arguments,
         } => {
             append_access(out, object, property)?;
-            append_arguments(out, arguments)
+            append_list(out, "(", arguments, ")")
         }
         JsExpr::New { class, arguments } => {
             append(out, "new ")?;
-            append(out, class.as_str())?;
-            append_arguments(out, arguments)
+            append_call(out, class, arguments)
         }
-        JsExpr::NewArray(length) => {
-            append(out, "new Array(")?;
-            append_expression(out, length)?;
-            append(out, ")")
-        }
-        JsExpr::List(items) => {
-            append(out, "[")?;
-            append_expressions(out, items)?;
-            append(out, "]")
-        }
+        JsExpr::NewArray(length) => append_between(out, "new Array(", length, ")"),
+        JsExpr::List(items) => append_list(out, "[", items, "]"),
         JsExpr::Binary {
             left,
             operator,
             right,
         } => {
-            append(out, "(")?;
-            append_expression(out, left)?;
-            append_operator(out, *operator)?;
-            append_expression(out, right)?;
-            append(out, ")")
+            append_between(out, "(", left, " ")?;
+            append(out, operator.text())?;
+            append_between(out, " ", right, ")")
         }
         JsExpr::Unary { operator, operand } => {
             append(out, "(")?;
-            append(out, operator.text())?;
-            append_expression(out, operand)?;
-            append(out, ")")
+            append_between(out, operator.text(), operand, ")")
         }
         JsExpr::Conditional { test, yes, no } => {
-            append(out, "(")?;
-            append_expression(out, test)?;
-            append(out, " ? ")?;
-            append_expression(out, yes)?;
-            append(out, " : ")?;
-            append_expression(out, no)?;
-            append(out, ")")
+            append_between(out, "(", test, " ? ")?;
+            append_before(out, yes, " : ")?;
+            append_before(out, no, ")")
         }
         JsExpr::Host { function, argument } => {
             append(out, function.text())?;
-            append(out, "(")?;
-            append_expression(out, argument)?;
-            append(out, ")")
+            append_between(out, "(", argument, ")")
         }
         JsExpr::HostOfTwo {
             function,
@@ -107,11 +73,8 @@ pub(crate) fn append_expression(out: &mut Vec<u8>, expression: &JsExpr) -> Resul
             second,
         } => {
             append(out, function.text())?;
-            append(out, "(")?;
-            append_expression(out, first)?;
-            append(out, ", ")?;
-            append_expression(out, second)?;
-            append(out, ")")
+            append_between(out, "(", first, ", ")?;
+            append_before(out, second, ")")
         }
     }
 }
@@ -130,14 +93,55 @@ pub(crate) fn append_access(
     append(out, property.as_str())
 }
 
-// Appends the arguments of a call, in parentheses.
+// Appends an expression and a text behind it.
 #[cycle(expression)]
-fn append_arguments(out: &mut Vec<u8>, arguments: &[JsExpr]) -> Result<(), NoMemory>
-    ensures { OnOk result (out.new.items ≡ (put (codes "(") ▸ put_expressions (expressions_view arguments.now) ▸ put (codes ")")) out.old.items) }
+pub(crate) fn append_before(
+    out: &mut Vec<u8>,
+    expression: &JsExpr,
+    end: &str,
+) -> Result<(), NoMemory>
+    ensures { OnOk result (out.new.items ≡ (put_expression (expression_view expression.now) ▸ put end.now) out.old.items) }
 {
-    append(out, "(")?;
-    append_expressions(out, arguments)?;
-    append(out, ")")
+    append_expression(out, expression)?;
+    append(out, end)
+}
+
+// Appends an expression with a text in front of it and one behind it.
+#[cycle(expression)]
+pub(crate) fn append_between(
+    out: &mut Vec<u8>,
+    lead: &str,
+    expression: &JsExpr,
+    end: &str,
+) -> Result<(), NoMemory>
+    ensures { OnOk result (out.new.items ≡ (put lead.now ▸ put_expression (expression_view expression.now) ▸ put end.now) out.old.items) }
+{
+    append(out, lead)?;
+    append_before(out, expression, end)
+}
+
+// Appends a name and the arguments of its call.
+#[cycle(expression)]
+fn append_call(out: &mut Vec<u8>, name: &Text, arguments: &[JsExpr]) -> Result<(), NoMemory>
+    ensures { OnOk result (out.new.items ≡ (put_name name.now ▸ put (codes "(") ▸ put_expressions (expressions_view arguments.now) ▸ put (codes ")")) out.old.items) }
+{
+    append(out, name.as_str())?;
+    append_list(out, "(", arguments, ")")
+}
+
+// Appends expressions in brackets.
+#[cycle(expression)]
+fn append_list(
+    out: &mut Vec<u8>,
+    open: &str,
+    expressions: &[JsExpr],
+    close: &str,
+) -> Result<(), NoMemory>
+    ensures { OnOk result (out.new.items ≡ (put open.now ▸ put_expressions (expressions_view expressions.now) ▸ put close.now) out.old.items) }
+{
+    append(out, open)?;
+    append_expressions(out, expressions)?;
+    append(out, close)
 }
 
 // Appends expressions with a comma and a space between them.

@@ -4,7 +4,7 @@ ghost use Rattle.js_tree.specs.Written.{put, ◌▸◌, indent};
 ghost use Rattle.js_tree.specs.Texts.{put_name, put_expression, put_statement, put_block, put_lines, put_cases};
 ghost use Rattle.js_tree.specs.Views.{expression_view, statement_view, statements_view, cases_view};
 
-use crate::expressions::{append_access, append_expression};
+use crate::expressions::{append_access, append_before, append_between};
 use crate::writing::{append, append_indent, append_keys};
 use js_tree::{JsExpr, JsStmt, SwitchCase};
 use sj_names::{NoMemory, Text};
@@ -20,8 +20,7 @@ fn level_inside(level: usize) -> Result<usize, NoMemory>
 pub(crate) fn append_value(out: &mut Vec<u8>, value: &JsExpr) -> Result<(), NoMemory>
     ensures { OnOk result (out.new.items ≡ (put_expression (expression_view value.now) ▸ put (codes ";")) out.old.items) }
 {
-    append_expression(out, value)?;
-    append(out, ";")
+    append_before(out, value, ";")
 }
 
 // Appends `x = e;`
@@ -46,15 +45,6 @@ fn append_word_and_name(out: &mut Vec<u8>, word: &str, name: &Text) -> Result<()
     append(out, ";")
 }
 
-// Appends a word with the expression in parentheses that it opens, and the space behind them.
-fn append_head(out: &mut Vec<u8>, word: &str, test: &JsExpr) -> Result<(), NoMemory>
-    ensures { OnOk result (out.new.items ≡ (put word.now ▸ put_expression (expression_view test.now) ▸ put (codes ") ")) out.old.items) }
-{
-    append(out, word)?;
-    append_expression(out, test)?;
-    append(out, ") ")
-}
-
 // Appends ` catch (x) `
 fn append_catch(out: &mut Vec<u8>, name: &Text) -> Result<(), NoMemory>
     ensures { OnOk result (out.new.items ≡ (put (codes " catch (") ▸ put_name name.now ▸ put (codes ") ")) out.old.items) }
@@ -62,6 +52,14 @@ fn append_catch(out: &mut Vec<u8>, name: &Text) -> Result<(), NoMemory>
     append(out, " catch (")?;
     append(out, name.as_str())?;
     append(out, ") ")
+}
+
+// Appends the closing brace of a block or a `switch` that stands at this level.
+fn append_close(out: &mut Vec<u8>, level: usize) -> Result<(), NoMemory>
+    ensures { OnOk result (out.new.items ≡ (put (indent level) ▸ put (codes "}")) out.old.items) }
+{
+    append_indent(out, level)?;
+    append(out, "}")
 }
 
 // Appends a statement that stands at this level, without the spaces in front of it and the line feed behind it.
@@ -95,35 +93,27 @@ fn append_statement(out: &mut Vec<u8>, level: usize, statement: &JsStmt) -> Resu
             index,
             value,
         } => {
-            append_expression(out, object)?;
-            append(out, "[")?;
-            append_expression(out, index)?;
-            append(out, "] = ")?;
+            append_before(out, object, "[")?;
+            append_before(out, index, "] = ")?;
             append_value(out, value)
         }
         JsStmt::SuperCall => append(out, "super();"),
-        JsStmt::Throw(value) => {
-            append(out, "throw ")?;
-            append_value(out, value)
-        }
-        JsStmt::Return(value) => {
-            append(out, "return ")?;
-            append_value(out, value)
-        }
+        JsStmt::Throw(value) => append_between(out, "throw ", value, ";"),
+        JsStmt::Return(value) => append_between(out, "return ", value, ";"),
         JsStmt::Break => append(out, "break;"),
         JsStmt::BreakTo(label) => append_word_and_name(out, "break ", label),
         JsStmt::If { test, yes } => {
-            append_head(out, "if (", test)?;
+            append_between(out, "if (", test, ") ")?;
             append_block(out, level, yes)
         }
         JsStmt::IfElse { test, yes, no } => {
-            append_head(out, "if (", test)?;
+            append_between(out, "if (", test, ") ")?;
             append_block(out, level, yes)?;
             append(out, " else ")?;
             append_block(out, level, no)
         }
         JsStmt::While { test, body } => {
-            append_head(out, "while (", test)?;
+            append_between(out, "while (", test, ") ")?;
             append_block(out, level, body)
         }
         JsStmt::DoForever(body) => append_forever(out, level, body),
@@ -154,13 +144,10 @@ fn append_statement(out: &mut Vec<u8>, level: usize, statement: &JsStmt) -> Resu
             default,
         } => {
             let inside = level_inside(level)?;
-            append(out, "switch (")?;
-            append_expression(out, selector)?;
-            append(out, ") {\n")?;
+            append_between(out, "switch (", selector, ") {\n")?;
             append_cases(out, inside, cases)?;
             append_default(out, inside, default)?;
-            append_indent(out, level)?;
-            append(out, "}")
+            append_close(out, level)
         }
     }
 }
@@ -198,8 +185,7 @@ pub(crate) fn append_block(
     let inside = level_inside(level)?;
     append(out, "{\n")?;
     append_lines(out, inside, statements)?;
-    append_indent(out, level)?;
-    append(out, "}")
+    append_close(out, level)
 }
 
 // Appends statements, each on its own line of this level.
