@@ -110,7 +110,7 @@ three_loops_unbroken = unbroken whole.three_loops_class (record { superclass = r
 
 three_loops_main_judged : Judged (all_emitted whole.three_loops_class.methods) whole.three_loops_main
 three_loops_main_judged = record {
-  rows = ((equal refl, (equal refl, tt), tt), ((equal refl, tt, (equal refl, tt)), ((inl refl, inl refl, (equal refl, ((equal refl, tt), ((record { tpe = Types.NoType; is = refl; yields = inl refl }, tt), tt)), tt)), ((equal refl, tt), tt))));
+  rows = ((equal refl, (equal refl, tt), tt), ((equal refl, tt, (equal refl, tt)), ((inl refl, refl, (equal refl, ((equal refl, tt), ((record { tpe = Types.NoType; is = refl; yields = inl refl }, tt), tt)), tt)), ((equal refl, tt), tt))));
   yields = inl refl;
   result = inl refl;
   values = tt;
@@ -129,7 +129,7 @@ block_value_unbroken = unbroken whole.block_value_class (record { superclass = r
 
 block_value_first_judged : Judged (all_emitted whole.block_value_class.methods) whole.block_value_first
 block_value_first_judged = record {
-  rows = (inr (equal refl), inr (refl, refl), inl (refl, equal refl, equal refl, (refl, equal refl, fits 0 (omega arith)), fits_below 2147483647 (omega arith)));
+  rows = (inr (equal refl), refl, inl (refl, equal refl, equal refl, (refl, equal refl, fits 0 (omega arith)), fits_below 2147483647 (omega arith)));
   yields = inr (equal refl);
   result = inr (refl, refl);
   values = ((refl, refl), ((refl, refl), tt));
@@ -172,7 +172,7 @@ spilled_matches_first_judged = record {
 
 spilled_matches_second_judged : Judged (all_emitted whole.spilled_matches_class.methods) whole.spilled_matches_second
 spilled_matches_second_judged = record {
-  rows = (inr (equal refl), inr (refl, refl), inl (refl, equal refl, equal refl, ((equal refl, tt), (((equal refl, refl, tt), ((equal refl, inr (equal refl), refl, tt, tt, tt), tt)), tt)), inl (refl, equal refl, equal refl, tt, (equal refl, inr (equal refl), refl, inl (refl, equal refl, equal refl, fits 32768 (omega arith), fits 3 (omega arith)), (inr (equal refl), inl (refl, equal refl, equal refl, tt, tt), tt), inl (refl, equal refl, equal refl, tt, tt)))));
+  rows = (inr (equal refl), refl, inl (refl, equal refl, equal refl, ((equal refl, tt), (((equal refl, refl, tt), ((equal refl, inr (equal refl), refl, tt, tt, tt), tt)), tt)), inl (refl, equal refl, equal refl, tt, (equal refl, inr (equal refl), refl, inl (refl, equal refl, equal refl, fits 32768 (omega arith), fits 3 (omega arith)), (inr (equal refl), inl (refl, equal refl, equal refl, tt, tt), tt), inl (refl, equal refl, equal refl, tt, tt)))));
   yields = inr (equal refl);
   result = inr (refl, refl);
   values = ((refl, refl), ((refl, refl), tt));
@@ -196,7 +196,7 @@ spilled_matches_third_judged = record {
 
 spilled_matches_main_judged : Judged (all_emitted whole.spilled_matches_class.methods) whole.spilled_matches_main
 spilled_matches_main_judged = record {
-  rows = (((equal refl, refl, ((equal refl, tt), (((equal refl, tt), (fits_below 32767 (omega arith), tt)), tt))), (tt, tt)), ((equal refl, inl refl, refl, inl (refl, equal refl, equal refl, inl (refl, equal refl, equal refl, fits_below 128 (omega arith), fits 255 (omega arith)), (inr (from_nothing refl), inr (refl, refl), (tt, ((record { tpe = Types.Int; is = refl; yields = inr (equal refl) }, fits 3 (omega arith)), tt)))), (inl refl, ((equal refl, refl, tt), tt), tt), (equal refl, inl refl, refl, inl (refl, equal refl, equal refl, inl (refl, equal refl, equal refl, fits 32767 (omega arith), fits 0 (omega arith)), fits 3 (omega arith)), (inl refl, ((equal refl, refl, fits 31 (omega arith)), tt), (inl refl, ((equal refl, refl, fits_below 2147483647 (omega arith)), tt), (inl refl, (equal refl, tt), tt))), tt)), tt));
+  rows = (((equal refl, refl, ((equal refl, tt), (((equal refl, tt), (fits_below 32767 (omega arith), tt)), tt))), (tt, tt)), ((equal refl, inl refl, refl, inl (refl, equal refl, equal refl, inl (refl, equal refl, equal refl, fits_below 128 (omega arith), fits 255 (omega arith)), (inr (from_nothing refl), refl, (tt, ((record { tpe = Types.Int; is = refl; yields = inr (equal refl) }, fits 3 (omega arith)), tt)))), (inl refl, ((equal refl, refl, tt), tt), tt), (equal refl, inl refl, refl, inl (refl, equal refl, equal refl, inl (refl, equal refl, equal refl, fits 32767 (omega arith), fits 0 (omega arith)), fits 3 (omega arith)), (inl refl, ((equal refl, refl, fits 31 (omega arith)), tt), (inl refl, ((equal refl, refl, fits_below 2147483647 (omega arith)), tt), (inl refl, (equal refl, tt), tt))), tt)), tt));
   yields = inl refl;
   result = inl refl;
   values = tt;
@@ -215,7 +215,7 @@ choices_unbroken = unbroken whole.choices_class (record { superclass = refl; hij
 
 choices_main_judged : Judged (all_emitted whole.choices_class.methods) whole.choices_main
 choices_main_judged = record {
-  rows = ((inl refl, inl refl, ((equal refl, refl, (equal refl, inr (equal refl), inr (equal refl), refl, inl (refl, equal refl, equal refl, fits_below 2147483647 (omega arith), fits 33 (omega arith)), (equal refl, inr (equal refl), inr (equal refl), refl, tt, fits_below 32767 (omega arith), fits 0 (omega arith)), (refl, equal refl, fits 2147483647 (omega arith)))), tt)), ((equal refl, refl, fits_below 0 (omega arith)), ((equal refl, tt), tt)));
+  rows = ((inl refl, refl, ((equal refl, refl, (equal refl, inr (equal refl), inr (equal refl), refl, inl (refl, equal refl, equal refl, fits_below 2147483647 (omega arith), fits 33 (omega arith)), (equal refl, inr (equal refl), inr (equal refl), refl, tt, fits_below 32767 (omega arith), fits 0 (omega arith)), (refl, equal refl, fits 2147483647 (omega arith)))), tt)), ((equal refl, refl, fits_below 0 (omega arith)), ((equal refl, tt), tt)));
   yields = inl refl;
   result = inl refl;
   values = tt;
@@ -227,7 +227,7 @@ choices_main_judged = record {
 
 choices_second_judged : Judged (all_emitted whole.choices_class.methods) whole.choices_second
 choices_second_judged = record {
-  rows = (inr (equal refl), inr (refl, refl), (refl, equal refl, inl (refl, equal refl, equal refl, inl (refl, equal refl, equal refl, fits 2 (omega arith), inl (refl, equal refl, equal refl, fits 32 (omega arith), fits_below 2147483646 (omega arith))), fits 2147483647 (omega arith))));
+  rows = (inr (equal refl), refl, (refl, equal refl, inl (refl, equal refl, equal refl, inl (refl, equal refl, equal refl, fits 2 (omega arith), inl (refl, equal refl, equal refl, fits 32 (omega arith), fits_below 2147483646 (omega arith))), fits 2147483647 (omega arith))));
   yields = inr (equal refl);
   result = inr (refl, refl);
   values = ((refl, refl), ((refl, refl), ((refl, refl), tt)));
@@ -320,7 +320,7 @@ four_turns_main_judged = record {
 
 four_turns_third_judged : Judged (all_emitted partly.four_turns_methods) partly.four_turns_third
 four_turns_third_judged = record {
-  rows = (equal refl, inr (equal refl), inr (equal refl), refl, inl (refl, equal refl, equal refl, inl (refl, equal refl, equal refl, inr (a_quotient, equal refl, fits 128 (omega arith), divisor nowhere (pos 32767) (fits 32767 (omega arith)) (nonzero 32766)), inl (refl, equal refl, equal refl, fits 1 (omega arith), fits_below 32768 (omega arith))), inl (refl, equal refl, equal refl, inl (refl, equal refl, equal refl, fits 65536 (omega arith), fits 7 (omega arith)), inl (refl, equal refl, equal refl, fits 7 (omega arith), fits 3 (omega arith)))), inl (refl, equal refl, equal refl, (equal refl, inr (equal refl), refl, inl (refl, equal refl, equal refl, inl (refl, equal refl, equal refl, fits 32 (omega arith), fits_below 2147483647 (omega arith)), fits 3 (omega arith)), (inr (equal refl), inl (refl, equal refl, equal refl, fits 33 (omega arith), fits_below 127 (omega arith)), (inr (equal refl), inr (a_quotient, equal refl, fits_below 0 (omega arith), divisor nowhere (pos 256) (fits 256 (omega arith)) (nonzero 255)), tt)), inl (refl, equal refl, equal refl, fits 127 (omega arith), fits 32767 (omega arith))), (inr (equal refl), inr (refl, refl), ((equal refl, inl refl, inl refl, refl, tt, (record { tpe = Types.Int; is = refl; yields = inr (equal refl) }, fits 32768 (omega arith)), tt), (inl (refl, equal refl, equal refl, fits 128 (omega arith), fits_below 0 (omega arith)), tt)))), fits 2147483647 (omega arith));
+  rows = (equal refl, inr (equal refl), inr (equal refl), refl, inl (refl, equal refl, equal refl, inl (refl, equal refl, equal refl, inr (a_quotient, equal refl, fits 128 (omega arith), divisor nowhere (pos 32767) (fits 32767 (omega arith)) (nonzero 32766)), inl (refl, equal refl, equal refl, fits 1 (omega arith), fits_below 32768 (omega arith))), inl (refl, equal refl, equal refl, inl (refl, equal refl, equal refl, fits 65536 (omega arith), fits 7 (omega arith)), inl (refl, equal refl, equal refl, fits 7 (omega arith), fits 3 (omega arith)))), inl (refl, equal refl, equal refl, (equal refl, inr (equal refl), refl, inl (refl, equal refl, equal refl, inl (refl, equal refl, equal refl, fits 32 (omega arith), fits_below 2147483647 (omega arith)), fits 3 (omega arith)), (inr (equal refl), inl (refl, equal refl, equal refl, fits 33 (omega arith), fits_below 127 (omega arith)), (inr (equal refl), inr (a_quotient, equal refl, fits_below 0 (omega arith), divisor nowhere (pos 256) (fits 256 (omega arith)) (nonzero 255)), tt)), inl (refl, equal refl, equal refl, fits 127 (omega arith), fits 32767 (omega arith))), (inr (equal refl), refl, ((equal refl, inl refl, inl refl, refl, tt, (record { tpe = Types.Int; is = refl; yields = inr (equal refl) }, fits 32768 (omega arith)), tt), (inl (refl, equal refl, equal refl, fits 128 (omega arith), fits_below 0 (omega arith)), tt)))), fits 2147483647 (omega arith));
   yields = inr (equal refl);
   result = inr (refl, refl);
   values = ((refl, refl), ((refl, refl), ((refl, refl), tt)));
@@ -332,7 +332,7 @@ four_turns_third_judged = record {
 
 four_turns_fourth_judged : Judged (all_emitted partly.four_turns_methods) partly.four_turns_fourth
 four_turns_fourth_judged = record {
-  rows = (inr (equal refl), inr (refl, refl), (refl, equal refl, inl (refl, equal refl, equal refl, inl (refl, equal refl, equal refl, fits_below 2147483646 (omega arith), ((equal refl, tt), (fits 2 (omega arith), tt))), inl (refl, equal refl, equal refl, (refl, equal refl, fits_below 0 (omega arith)), fits 97 (omega arith)))));
+  rows = (inr (equal refl), refl, (refl, equal refl, inl (refl, equal refl, equal refl, inl (refl, equal refl, equal refl, fits_below 2147483646 (omega arith), ((equal refl, tt), (fits 2 (omega arith), tt))), inl (refl, equal refl, equal refl, (refl, equal refl, fits_below 0 (omega arith)), fits 97 (omega arith)))));
   yields = inr (equal refl);
   result = inr (refl, refl);
   values = tt;

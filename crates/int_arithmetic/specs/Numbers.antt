@@ -1,7 +1,7 @@
 -- The operators of ECMA-262, 11th edition (2020), on Numbers that are whole.
 use Rattle.std.specs.Prelude.{ℕ, zero, ◌*◌, ◌/◌, ◌%◌, ◌^◌, Bool, ℤ, pos, negsuc, ◌-ℤ◌, nat_lt, nat_le, bit_and, bit_or, bit_xor, int_div, int_rem, if◌then◌else◌}
 use Rattle.std.specs.Int.{int_shr}
-use Rattle.int_arithmetic.specs.Signed.{modulo}
+use Rattle.int_arithmetic.specs.Modulo.{modulo}
 
 -- 7.1.7
 abbrev pub to_uint32 : ℤ → ℕ
@@ -46,7 +46,7 @@ signed_right_shift x y = int_shr (to_int32 x) (shift_count y)
 abbrev pub unsigned_right_shift : ℤ → ℤ → ℤ
 unsigned_right_shift x y = pos (to_uint32 x / 2 ^ shift_count y)
 
--- `Math.imul` (20.2.2.19)
+-- `Math.imul` (20.3.2.19)
 abbrev pub imul : ℤ → ℤ → ℤ
 imul x y = with_sign ((to_uint32 x * to_uint32 y) % 2 ^ 32)
 

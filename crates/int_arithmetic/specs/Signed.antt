@@ -1,11 +1,7 @@
 -- Signed arithmetic at 32 bits, on integers.
-use Rattle.std.specs.Prelude.{ℕ, ◌-◌, ◌/◌, ◌%◌, ◌^◌, Bool, ℤ, pos, negsuc, ◌+ℤ◌, ◌-ℤ◌, ◌*ℤ◌, nat_lt, bit_and, bit_or, bit_xor, int_div, int_rem}
+use Rattle.std.specs.Prelude.{ℕ, ◌/◌, ◌^◌, Bool, ℤ, pos, negsuc, ◌+ℤ◌, ◌-ℤ◌, ◌*ℤ◌, nat_lt, bit_and, bit_or, bit_xor, int_div, int_rem}
 use Rattle.std.specs.Int.{cast_signed, cast_unsigned, int_shr, w8, w16, w32}
-
--- what is left of z when a multiple of n is taken away: from 0 to n - 1
-abbrev pub modulo : ℤ → ℕ → ℕ
-modulo (pos a) n = a % n
-modulo (negsuc a) n = n - 1 - a % n
+pub use Rattle.int_arithmetic.specs.Modulo.{modulo}
 
 -- the number from -2 ^ 31 to 2 ^ 31 - 1 that differs from z by a multiple of 2 ^ 32
 abbrev pub wrapped : ℤ → ℤ

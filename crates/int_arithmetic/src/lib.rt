@@ -1,12 +1,14 @@
-//! Signed arithmetic at 32 bits on integers, the operators of ECMA-262, 11th edition (2020), on whole Numbers, and the laws that join
-//! the two.
+//! Signed arithmetic at 32 and at 64 bits on integers, the operators of ECMA-262, 11th edition (2020), on whole Numbers and on BigInts, and
+//! the laws that join those at 32 bits.
 //!
 //! `specs/` has both. The functions here are laws: they do nothing when they run, and their clauses are theorems.
 #![tactic(auto)]
 
-ghost use Rattle.std.specs.Prelude.{◌≡◌, ◌≢◌, true, ℤ, pos, negsuc, ◌+ℤ◌, ◌-ℤ◌, FitsSigned};
+ghost use Rattle.std.specs.Prelude.{◌≡◌, ◌≢◌, ◌-◌, ◌^◌, true, ℤ, pos, negsuc, ◌+ℤ◌, ◌-ℤ◌, FitsSigned, Some, None};
 ghost use Rattle.std.specs.Int.{w32};
 ghost use Rattle.int_arithmetic.specs.Signed.{sum, difference, product, quotient, remainder, bits_or, bits_and, bits_xor, shifted_left, shifted_right, shifted_right_with_zeros, wrapped, wrapped_to_byte, wrapped_to_short};
+ghost use Rattle.int_arithmetic.specs.BigInts as big_ints;
+ghost use Rattle.int_arithmetic.specs.Longs as longs;
 ghost use Rattle.int_arithmetic.specs.Numbers.{or_numbers, and_numbers, xor_numbers, left_shift, signed_right_shift, unsigned_right_shift, imul, quotient_or_zero, remainder_or_zero, is_exact};
 
 /// A law: on numbers of 32 bits, what the emitted code computes for an operator by the Numbers of ECMA-262 is what the operator gives.
@@ -46,4 +48,22 @@ pub fn worked_values()
     ensures zeros { shifted_right_with_zeros (negsuc 0) (pos 28) ≡ pos 15 }
     ensures copies { shifted_right (negsuc 15) (pos 2) ≡ negsuc 3 }
     ensures byte { wrapped_to_byte (pos 200) ≡ negsuc 55 }
+{}
+
+/// Worked values of longs and BigInts: longs wrap at 64 bits and BigInts don't; a division by zero has no value, and neither has what needs more than
+/// 128 bits; a shift of a BigInt by a negative count goes the other way.
+pub fn on_longs_and_big_ints()
+    ensures greatest { longs.sum (pos (2 ^ 63 - 1)) (pos 1) ≡ negsuc (2 ^ 63 - 1) }
+    ensures least { longs.quotient (negsuc (2 ^ 63 - 1)) (negsuc 0) ≡ negsuc (2 ^ 63 - 1) }
+    ensures places { longs.shifted_left (pos 1) (pos 65) ≡ pos 2 }
+    ensures zeros { longs.shifted_right_with_zeros (negsuc 0) (pos 60) ≡ pos 15 }
+    ensures further { big_ints.sum (pos (2 ^ 63 - 1)) (pos 1) ≡ Some (pos (2 ^ 63)) }
+    ensures too_far { big_ints.product (pos (2 ^ 64)) (pos (2 ^ 63)) ≡ None }
+    ensures by_zero { big_ints.quotient (pos 1) (pos 0) ≡ None }
+    ensures other_way { big_ints.left_shift (negsuc 7) (negsuc 0) ≡ Some (negsuc 3) }
+    ensures all_gone { big_ints.right_shift (negsuc 7) (pos 1000) ≡ Some (negsuc 0) }
+    ensures bits { big_ints.and_of (negsuc 0) (pos 255) ≡ pos 255 }
+    ensures cut { big_ints.as_signed 64 (pos (2 ^ 63)) ≡ negsuc (2 ^ 63 - 1) }
+    ensures no_bits { big_ints.as_signed 0 (pos 5) ≡ pos 0 }
+    ensures unsigned { big_ints.as_unsigned 64 (negsuc 0) ≡ Some (pos (2 ^ 64 - 1)) }
 {}

@@ -1,5 +1,5 @@
 -- What the initializers of a public module show.
-use Rattle.std.specs.Prelude.{ℕ, List, [], ◌∷◌, slice_get, codes, Option, Some, None, if◌then◌else◌}
+use Rattle.std.specs.Prelude.{ℕ, false, List, [], ◌∷◌, slice_get, codes, Option, Some, None, if◌then◌else◌}
 use Rattle.sj_names.specs.declared.entry_points.EntryPoint.{EntryPoint}
 use Rattle.sj_names.specs.declared.method_names.Namespace.TheVariants.{PublicStatic}
 use Rattle.sj_names.specs.declared.references.TypeRef.TheVariants.{Void}
@@ -24,7 +24,7 @@ initializer_call e = apply_static (record { file = 0; line = 0; column = 0 }) e.
 
 -- outside any method: no This and no locals
 abbrev pub outside : Env
-outside = record { this_value = None; locals = λ x. None }
+outside = record { this_value = None; locals = λ x. None; sure = λ x. false }
 
 abbrev pub thrown_stored : Option Stored → Option Thrown
 thrown_stored None = None

@@ -1,19 +1,18 @@
 //! The meaning of the IR, with a bound on the depth of calls and the turns of loops.
 //!
-//! `specs/` has values and states, the meaning of each form of tree, and what the initializers of a public module show. Built so far are
-//! locals and assignments to them, blocks, labels and returns, branches, loops and matches, static calls, Log, the literals but for char
-//! and long, the operators on booleans and ints, and the conversions among byte, short and int; each other form is wrong, and so is a
-//! division by zero. The functions here are laws.
+//! `specs/` has values and states, the meaning of each form of tree, and what the initializers of a public module show. Where no case applies a
+//! tree is wrong; no tree of a program that is accepted comes to such a place. The functions here are laws.
 #![tactic(auto)]
 
-ghost use Rattle.std.specs.Prelude.{◌≡◌, List, [], ◌∷◌, ℤ, pos, negsuc, codes};
+ghost use Rattle.std.specs.Prelude.{◌≡◌, true, false, List, [], ◌∷◌, ℤ, pos, negsuc, codes};
 ghost use Rattle.outcomes.specs.Outcome.{Out, Going, Wrong, Done, done, going};
-ghost use Rattle.outcomes.specs.Shown.{Shown, normal};
+ghost use Rattle.outcomes.specs.Shown.{Shown, normal, uncaught, object_of};
 ghost use Rattle.ir_mean.specs.Shows.{ir_shows};
 ghost use Rattle.ir_mean.specs.Shows.{outside};
 ghost use Rattle.ir_mean.specs.States.{Ended, ends, gives, number};
 ghost use Rattle.ir_mean.specs.World.{opening};
 ghost use Rattle.ir_mean.specs.Values.{values, expected};
+ghost use Rattle.ir_mean.specs.ObjectRows as objects;
 ghost use Rattle.ir_mean.specs.Values as worked;
 ghost use Rattle.ir_mean.specs.Rows.{
   hi_program,
@@ -60,8 +59,8 @@ pub fn worked_bodies()
     ensures order { int_result reads_then_writes 1 (pos 2) ≡ done (ends (gives (number (pos 7))) outside (opening (object_with (int_method reads_then_writes ∷ []) ∷ []))) }
 {}
 
-/// Worked trees, each by itself: the literals, each operator on booleans and ints, the conversions among byte, short and int, and blocks, labels
-/// and branches.
+/// Worked trees, each by itself: the literals, each operator, each conversion, texts that are joined, what is the same, and blocks, labels and
+/// branches.
 pub fn worked_trees()
     ensures literals { values worked.literals ≡ expected worked.literals }
     ensures on_booleans { values worked.on_booleans ≡ expected worked.on_booleans }
@@ -70,4 +69,28 @@ pub fn worked_trees()
     ensures compared { values worked.compared ≡ expected worked.compared }
     ensures converted { values worked.converted ≡ expected worked.converted }
     ensures in_order { values worked.in_order ≡ expected worked.in_order }
+    ensures on_longs { values worked.on_longs ≡ expected worked.on_longs }
+    ensures widened { values worked.widened ≡ expected worked.widened }
+    ensures joined { values worked.joined ≡ expected worked.joined }
+    ensures the_same { values worked.the_same ≡ expected worked.the_same }
+{}
+
+/// Worked bodies of `main` with objects. A constructor costs a unit, also that of an exception, whose message it is handed; making the object costs
+/// none. A call goes by the class of the value, and a sure receiver isn't checked. A constructor of a module class runs once. An index is checked
+/// behind the value that is stored, and an element behind the index. A finalizer's own end takes the place of its block's.
+pub fn worked_objects()
+    ensures fields { objects.shown (objects.fields) 2 ≡ record { lines = codes "1" ∷ codes "0" ∷ codes "7" ∷ codes "0" ∷ codes "8" ∷ []; end = Done normal } }
+    ensures constructor_going { objects.shown (objects.fields) 1 ≡ record { lines = []; end = Going } }
+    ensures dispatches { objects.shown (objects.dispatches) 2 ≡ record { lines = codes "a" ∷ codes "b" ∷ codes "int" ∷ codes "i" ∷ codes "a" ∷ codes "b" ∷ []; end = Done normal } }
+    ensures all_caught { objects.shown (objects.all_caught) 2 ≡ record { lines = codes "null" ∷ codes "/ by zero" ∷ codes "/ by zero" ∷ codes "B" ∷ codes "[[I" ∷ codes "undef" ∷ codes "1" ∷ codes "-1" ∷ codes "-3" ∷ codes "bad element" ∷ codes "gone;I;R" ∷ []; end = Done normal } }
+    ensures exception_going { objects.shown (objects.all_caught) 1 ≡ record { lines = []; end = Going } }
+    ensures uncaught { objects.shown (objects.uncaught) 2 ≡ record { lines = codes "null" ∷ []; end = Done (uncaught (object_of (codes "java.lang.NullPointerException"))) } }
+    ensures mutable_local { objects.shown (objects.sure_local true) 2 ≡ record { lines = codes "null" ∷ []; end = Done (uncaught (object_of (codes "java.lang.NullPointerException"))) } }
+    ensures sure_local { objects.shown (objects.sure_local false) 2 ≡ record { lines = []; end = Wrong } }
+    ensures order { objects.shown (objects.order) 2 ≡ record { lines = codes "index" ∷ codes "value" ∷ codes "0" ∷ []; end = Done (uncaught (object_of (codes "java.lang.ArrayIndexOutOfBoundsException"))) } }
+    ensures modules { objects.shown (objects.modules) 2 ≡ record { lines = codes "loaded" ∷ codes "true" ∷ []; end = Done normal } }
+    ensures arrays { objects.shown (objects.arrays) 1 ≡ record { lines = codes "0" ∷ codes "5" ∷ codes "2" ∷ codes "true" ∷ codes "false" ∷ codes "true" ∷ codes "true" ∷ codes "false" ∷ []; end = Done normal } }
+    ensures tests { objects.shown (objects.tests) 2 ≡ record { lines = codes "true" ∷ codes "false" ∷ codes "true" ∷ codes "false" ∷ codes "true" ∷ codes "false" ∷ codes "true" ∷ codes "false" ∷ codes "true" ∷ codes "false" ∷ codes "true" ∷ codes "true" ∷ codes "0" ∷ [] ∷ []; end = Done normal } }
+    ensures finals { objects.shown (objects.finals) 1 ≡ record { lines = codes "f" ∷ codes "1" ∷ codes "2" ∷ codes "g" ∷ codes "3" ∷ []; end = Done normal } }
+    ensures given_up { objects.shown (objects.given_up) 1 ≡ record { lines = codes "1" ∷ []; end = Done normal } }
 {}

@@ -1,8 +1,12 @@
+pub mod ClassRows
+pub mod Classes
 pub mod Files
 pub mod Meaning
+pub mod Objects
 pub mod Operators
 pub mod Proper
 pub mod Rows
 pub mod Shows
 pub mod States
+pub mod ThrowRows
 pub mod Values

@@ -4,8 +4,14 @@ use Rattle.std.specs.Prelude.{ℕ, ℤ, Bool, List, Option}
 use Rattle.js_tree.specs.Terms.{Name, Module}
 use Rattle.outcomes.specs.Outcome.{Out, done}
 
--- a language value (6.1): Numbers here are whole, an object or an array is an address, and a function or a class is known by the file
--- that declares it at its top and by its name there
+-- where a class is declared: its file, at whose top it stands, and its name there
+pub record ClassLink : Type 0 where
+  pub file : Name
+  pub name : Name
+
+-- a language value (6.1): Numbers here are whole, an object or an array is an address, and a function is known by the file that declares
+-- it at its top and by its name there. A class is known by where it is declared, and behind it the classes that it extends, the nearest
+-- first; a method by the class that it is written in, with those that this one extends, and by its name
 pub data Value : Type 0 where
   undefined : Value
   null : Value
@@ -15,16 +21,13 @@ pub data Value : Type 0 where
   text : List ℕ → Value
   object : ℕ → Value
   function : Name → Name → Value
+  class : List ClassLink → Value
+  method : List ClassLink → Name → Value
 
--- the class that an object was made by: its file and its name
-pub record ClassLink : Type 0 where
-  pub file : Name
-  pub name : Name
-
--- what stands at an address: an object with its class, unless it is written as a literal, and its properties (6.1.7); or an array
--- with its items (9.4.2)
+-- what stands at an address: an object with its own properties (6.1.7) and with its class and those that this one extends, of which
+-- there are none where it is written as a literal; or an array with its items (9.4.2)
 pub data Stored : Type 0 where
-  plain : Option ClassLink → (Name → Option Value) → Stored
+  plain : List ClassLink → (Name → Option Value) → Stored
   array : List Value → Stored
 
 -- a binding of a declarative environment (8.1.1.1): none of the name; not started, so that its use is an error; or one that holds a
@@ -39,11 +42,23 @@ pub record State : Type 0 where
   pub heap : List Stored
   pub tops : Name → Name → Cell
 
--- what code runs in (8.3): the file that it stands in; `this`, of which there is none in a constructor before `super()`; and the
+-- what a constructor makes: the classes that its own class extends; the class of the object, with those that it extends; and the
+-- values that `super()` hands on, which are those of a constructor that isn't written (14.6.13)
+pub record Making : Type 0 where
+  pub above : List ClassLink
+  pub target : List ClassLink
+  pub handed : List Value
+
+-- `this` (8.1.1.3): a value; or in a constructor the object that it makes, of which there is none before `super()`
+pub data This : Type 0 where
+  this_is : Value → This
+  making : Making → Option Value → This
+
+-- what code runs in (8.3): the file that it stands in; `this`; and the
 -- innermost binding of each name inside its function. Functions of the subset don't nest, so this map is the chain of environments.
 pub record Scope : Type 0 where
   pub file : Name
-  pub this_value : Option Value
+  pub this_value : This
   pub bindings : Name → Cell
 
 -- how an expression ends (6.2.3): no expression of the subset changes a binding of its function

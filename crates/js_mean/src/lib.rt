@@ -1,19 +1,22 @@
 //! The meaning of the emitted code, after ECMA-262, 11th edition (2020), with a bound on the depth of calls and the turns of loops.
 //!
 //! `specs/` has values, states and scopes, the meaning of each production, what makes a file wrong before anything runs, and what the
-//! files of a program show. Built so far are function items; the statements but for properties, indices, `super`, `throw` and `try`; and
-//! the expressions of names, calls by name, Numbers, booleans and strings, whose operators work on Numbers and booleans. Each other
-//! production is wrong where it is met. Import and export lines are built whole. The functions here are laws.
+//! files of a program show. Whatever the standard answers by an error of its own is wrong, and so is what comes to a value that is none of
+//! the subset's: a Number that isn't whole, a function of the standard, a BigInt of more than 128 bits. The functions here are laws.
 #![tactic(auto)]
 
 ghost use Rattle.std.specs.Prelude.{◌≡◌, ℕ, List, [], ◌∷◌, ℤ, pos, negsuc, codes, Some};
 ghost use Rattle.outcomes.specs.Outcome.{Going, Wrong, Done, done, going, wrong};
-ghost use Rattle.outcomes.specs.Shown.{Shown, normal};
+ghost use Rattle.outcomes.specs.Shown.{Shown, normal, uncaught};
+ghost use Rattle.outcomes.specs.Shown as shown;
+ghost use Rattle.js_tree.specs.Terms.{number_literal, big_literal, undefined_literal, list_of, no_expressions};
 ghost use Rattle.js_mean.specs.Shows.{js_shows};
 ghost use Rattle.js_mean.specs.States.{gives, number, undefined};
 ghost use Rattle.js_mean.specs.Meaning.{opening};
 ghost use Rattle.js_mean.specs.Values.{given, values, expected};
 ghost use Rattle.js_mean.specs.Values as worked;
+ghost use Rattle.js_mean.specs.ClassRows as classes;
+ghost use Rattle.js_mean.specs.ThrowRows as throwing;
 ghost use Rattle.js_mean.specs.Rows.{
   hi_program,
   again_program,
@@ -64,6 +67,52 @@ pub fn worked_programs()
     ensures argument_first { js_shows argument_program (codes "main") 1 ≡ record { lines = codes "f" ∷ codes "g" ∷ []; end = Done normal } }
 {}
 
+/// Worked classes. A method runs by the class of the object, also where one of a superclass calls it; a constructor costs a unit, and `super()`
+/// another; a marker is found on the classes that have it; and a class can't extend one that hasn't started, but can extend what another name holds.
+pub fn worked_classes()
+    ensures family_within_1 { js_shows (classes.family) (codes "main") 1 ≡ record { lines = []; end = Going } }
+    ensures family_within_2 { js_shows (classes.family) (codes "main") 2 ≡ record { lines = codes "a" ∷ codes "b" ∷ codes "yes" ∷ codes "no" ∷ []; end = Done normal } }
+    ensures too_early { js_shows (classes.too_early) (codes "main") 2 ≡ record { lines = []; end = Wrong } }
+    ensures other_name { js_shows (classes.other_name) (codes "main") 2 ≡ record { lines = codes "a" ∷ []; end = Done normal } }
+    ensures name_inside { js_shows (classes.name_inside) (codes "main") 2 ≡ record { lines = codes "same" ∷ []; end = Done normal } }
+{}
+
+/// Worked programs with classes and objects. A class extends one that is imported; an imported binding is seen to change; a constructor without
+/// `super()` makes nothing, and a second `super()` is wrong; a function of the standard is no value. A value that nothing catches ends the
+/// program, and an object is shown by its marker: one with the marker of `java.lang.Character` as the char that its property `c` holds.
+pub fn worked_objects()
+    ensures imported_class { js_shows (throwing.imported_class) (codes "main") 2 ≡ record { lines = codes "ab" ∷ codes "yes" ∷ codes "no" ∷ codes "yes" ∷ codes "no" ∷ codes "0" ∷ codes "1" ∷ []; end = Done normal } }
+    ensures imported_class_within_1 { js_shows (throwing.imported_class) (codes "main") 1 ≡ record { lines = []; end = Going } }
+    ensures super_once { js_shows (throwing.supers (throwing.once)) (codes "main") 2 ≡ record { lines = codes "x" ∷ []; end = Done normal } }
+    ensures super_twice { js_shows (throwing.supers (throwing.twice)) (codes "main") 2 ≡ record { lines = codes "x" ∷ []; end = Wrong } }
+    ensures no_super { js_shows (throwing.supers []) (codes "main") 2 ≡ record { lines = codes "x" ∷ []; end = Wrong } }
+    ensures literal { js_shows (throwing.literal) (codes "main") 1 ≡ record { lines = codes "ab" ∷ codes "undefined" ∷ []; end = Wrong } }
+    ensures thrown_object { js_shows (throwing.throws_object (codes "i_a_B$24") undefined_literal) (codes "main") 2 ≡ record { lines = []; end = Done (uncaught (shown.object_of (codes "a.B$"))) } }
+    ensures thrown_char { js_shows (throwing.throws_object (codes "i_java_lang_Character") (number_literal (pos 97))) (codes "main") 2 ≡ record { lines = []; end = Done (uncaught (shown.char 97)) } }
+    ensures thrown_no_char { js_shows (throwing.throws_object (codes "i_java_lang_Character") undefined_literal) (codes "main") 2 ≡ record { lines = []; end = Wrong } }
+    ensures no_marker { js_shows (throwing.throws_object (codes "i_$41") undefined_literal) (codes "main") 2 ≡ record { lines = []; end = Wrong } }
+    ensures thrown_number { js_shows (throwing.throws_value (number_literal (negsuc 2147483647))) (codes "main") 1 ≡ record { lines = codes "x" ∷ []; end = Done (uncaught (shown.number (negsuc 2147483647))) } }
+    ensures thrown_long { js_shows (throwing.throws_value (big_literal (pos 5))) (codes "main") 1 ≡ record { lines = codes "x" ∷ []; end = Done (uncaught (shown.long (pos 5))) } }
+    ensures thrown_array { js_shows (throwing.throws_value (list_of no_expressions)) (codes "main") 1 ≡ record { lines = codes "x" ∷ []; end = Wrong } }
+{}
+
+/// Worked functions of one parameter with `try`, properties and arrays. What a block throws is caught, and the name of the handler hides one
+/// around it; a finalizer runs behind a return, and its own jump takes the place of the block's end; what is going or wrong is neither caught nor
+/// finished. An array gets longer where an item is set behind its end. A property of undefined is wrong before the right side is evaluated.
+pub fn worked_tries()
+    ensures catches { given (called_with (throwing.catches) 1 (pos 4)).end ≡ Some (number (pos 5)) }
+    ensures hides { given (called_with (throwing.hides) 1 (pos 4)).end ≡ Some (number (pos 1)) }
+    ensures finishes { given (called_with (throwing.finishes) 1 (pos 4)).end ≡ Some (number (pos 4)) }
+    ensures overrides { given (called_with (throwing.overrides) 1 (pos 4)).end ≡ Some (number (pos 2)) }
+    ensures breaks_away { given (called_with (throwing.breaks_away) 1 (pos 4)).end ≡ Some (number (pos 3)) }
+    ensures going { called_with (throwing.never_finishes) 3 (pos 4) ≡ going }
+    ensures no_wrong { called_with (throwing.catches_no_wrong) 1 (pos 4) ≡ wrong }
+    ensures grows { given (called_with (throwing.grows) 1 (pos 4)).end ≡ Some (number (pos 7)) }
+    ensures below_zero { called_with (throwing.sets_below_zero) 1 (pos 4) ≡ wrong }
+    ensures on_undefined { called_with (throwing.sets_on undefined_literal (throwing.says_y)) 1 (pos 4) ≡ wrong }
+    ensures on_number { called_with (throwing.sets_on (throwing.x_use) (throwing.says_y)) 1 (pos 4) ≡ record { lines = codes "y" ∷ []; end = Wrong } }
+{}
+
 /// Worked functions of one parameter. A loop that triples gives 27 for 1 within the bound 4: one unit is for the call, and three are for the
 /// turns behind the first. A case without `break` falls into the next, and a break leaves the switch. A break to a label leaves the loops inside it. A
 /// constant can't be written, and a binding that hasn't started can be neither written nor read, also where one around it has that name; behind a
@@ -89,7 +138,8 @@ pub fn worked_functions()
 {}
 
 /// Worked expressions, each by itself. Which values are true; `&&`, `||` and a conditional, which evaluate no more than they need; `===` and
-/// `!==`; comparisons; sums, differences and products, which are exact or wrong; the operators on bits; and quotients under `| 0`.
+/// `!==`; comparisons; sums, differences and products, which are exact or wrong; the operators on bits; quotients under `| 0`; texts; BigInts;
+/// `typeof`; arrays; and properties of values without any.
 pub fn worked_expressions()
     ensures negations { values worked.negations ≡ expected worked.negations }
     ensures choices { values worked.choices ≡ expected worked.choices }
@@ -98,4 +148,11 @@ pub fn worked_expressions()
     ensures sums { values worked.sums ≡ expected worked.sums }
     ensures bits { values worked.bits ≡ expected worked.bits }
     ensures ratios { values worked.ratios ≡ expected worked.ratios }
+    ensures joined { values worked.joined ≡ expected worked.joined }
+    ensures on_bigs { values worked.on_bigs ≡ expected worked.on_bigs }
+    ensures compared_bigs { values worked.compared_bigs ≡ expected worked.compared_bigs }
+    ensures converted { values worked.converted ≡ expected worked.converted }
+    ensures kinds { values worked.kinds ≡ expected worked.kinds }
+    ensures arrays { values worked.arrays ≡ expected worked.arrays }
+    ensures properties { values worked.properties ≡ expected worked.properties }
 {}

@@ -21,6 +21,7 @@ use Rattle.sj_link.specs.FirstForm.{is_same_text, is_object, is_public_static, i
 use Rattle.sj_link.specs.Reached.{body_of, called, all_called, calls_of}
 use Rattle.sj_link.specs.Link.{function_name, statements, all_statements, body_statements}
 use Rattle.ir_mean.specs.States as ir
+use Rattle.ir_mean.specs.Sure.{sure_locals}
 use Rattle.ir_mean.specs.Meaning as ir_meaning
 use Rattle.ir_mean.specs.World.{method_in}
 use Rattle.js_mean.specs.States as js
@@ -98,7 +99,7 @@ call_parts c x n m t h = record { object = g.left; static = static-is n g.right;
     g = both (is_object x) (is_public_static n) e.left
 
 -- the call of a static method is its body, with one unit less
-pub ir_call : (c : ClassDef) (low : ir_meaning.Low) (q : Position) (x : List ℕ) (n : Namespace) (m : MethodName) (t : IrType) → is_object c.name ≡ true → is_object x ≡ true → (d : Found c.methods c.methods n m) (env : ir.Env) (s : ir.State) → ir_meaning.step (c ∷ []) low (apply_static q x n m no_terms t) env s ≡ then_do (low d.is_first.body (record { this_value = None; locals = λ y. None }) s) (ir_meaning.returned NoType env)
+pub ir_call : (c : ClassDef) (low : ir_meaning.Low) (q : Position) (x : List ℕ) (n : Namespace) (m : MethodName) (t : IrType) → is_object c.name ≡ true → is_object x ≡ true → (d : Found c.methods c.methods n m) (env : ir.Env) (s : ir.State) → ir_meaning.step (c ∷ []) low (apply_static q x n m no_terms t) env s ≡ then_do (low d.is_first.body (record { this_value = None; locals = λ y. None; sure = sure_locals d.is_first.body }) s) (ir_meaning.returned NoType env)
 ir_call c low q x n m t h k d env s = ap (λ b. ir_meaning.call low (method_in (if b then Some c else None) n m) None [] env s) (object-same c.name x h k) ∙ ap (λ o. ir_meaning.call low o None [] env s) d.found ∙ (λ i. ir_meaning.body_call low (d.is_first.result i) (d.is_first.has_body i) None (ir_meaning.parameters (d.is_first.params i) []) env s)
 
 -- the call of a function is its body, with one unit less
@@ -122,7 +123,7 @@ call_alike d c names f p linked low jlow alike q x n m t object static name ther
     code = method_code c m.simple
 
     outside : ir.Env
-    outside = record { this_value = None; locals = λ y. None }
+    outside = record { this_value = None; locals = λ y. None; sure = sure_locals found.is_first.body }
 
     ir_body : Out ir.Ended
     ir_body = then_do (low found.is_first.body outside s) (ir_meaning.returned NoType env)

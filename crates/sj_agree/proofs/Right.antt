@@ -13,6 +13,7 @@ use Rattle.outcomes.specs.Outcome.{Lines, End, Done, Going, Wrong, Out, then_do,
 use Rattle.outcomes.specs.Agreement.{IsNotWrong}
 use Rattle.sj_link.specs.FirstForm.{is_object, is_public_static, is_first_name, is_no_type, is_first_body, are_first_bodies, is_first_method, defines}
 use Rattle.ir_mean.specs.States as ir
+use Rattle.ir_mean.specs.Sure.{sure_locals}
 use Rattle.ir_mean.specs.Meaning as ir_meaning
 use Rattle.sj_agree.proofs.Tests.{impossible, both}
 use Rattle.sj_agree.proofs.Finds.{IsFirstName, finds}
@@ -49,7 +50,7 @@ module _ (c : ClassDef) (object : is_object c.name ≡ true) (methods : list_all
   comes_back env a (gave v inner s) = gave ir.undefined env s
 
   pub call_right : (low : ir_meaning.Low) → IsRight c low → (q : Position) (x : List ℕ) (n : Namespace) (m : MethodName) (t : IrType) → is_object x ≡ true → n ≡ PublicStatic → IsFirstName m → defines c.methods m.simple ≡ true → (env : ir.Env) (s : ir.State) → Comes Gave (ir_meaning.step (c ∷ []) low (apply_static q x n m no_terms t) env s).end
-  call_right low right q x n m t here static name there env s = let found = finds c.methods c.methods n m static name methods there in subst (λ o. Comes Gave o.end) (sym (ir_call c low q x n m t object here found env s)) (comes_then Gave Gave (low found.is_first.body (record { this_value = None; locals = λ y. None }) s) (ir_meaning.returned NoType env) (right found.is_first.body found.is_first.first (record { this_value = None; locals = λ y. None }) s) (comes_back env))
+  call_right low right q x n m t here static name there env s = let found = finds c.methods c.methods n m static name methods there in subst (λ o. Comes Gave o.end) (sym (ir_call c low q x n m t object here found env s)) (comes_then Gave Gave (low found.is_first.body (record { this_value = None; locals = λ y. None; sure = sure_locals found.is_first.body }) s) (ir_meaning.returned NoType env) (right found.is_first.body found.is_first.first (record { this_value = None; locals = λ y. None; sure = sure_locals found.is_first.body }) s) (comes_back env))
 
   onward_right : (k : ir.Value → ir.Run) → ((v : ir.Value) (env : ir.Env) (s : ir.State) → Comes Gave (k v env s).end) → (a : ir.Ended) → Gave a → Comes Gave (ir.onward k a).end
   onward_right k h a (gave v env s) = h v env s

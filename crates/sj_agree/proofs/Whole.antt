@@ -124,14 +124,14 @@ end_of_items p m f b = then_do (js.with_value (λ v. js_meaning.run_items p m f 
 
 -- what the files show, where these run in order
 abbrev files_show : js.Program → ℕ → List Name → Shown
-files_show p m fs = if list_all (files.is_good_file p) fs then then_do (js_meaning.run_files p m fs (js_meaning.opening p)) js_showing.ending else wrong
+files_show p m fs = if list_all (files.is_good_file p) fs then then_do (js_meaning.run_files p m fs (js_meaning.opening p)) (js_showing.ending p) else wrong
 
 -- what one file with this content shows
 abbrev content_shows : js.Program → ℕ → Name → Option Module → Shown
-content_shows p m f content = if (files.is_good_module p f content && true) then then_do (then_do (js_meaning.run_items p m f (files.items_in content) (js_meaning.opening p)) (js.with_value (λ v. js_meaning.run_files p m []))) js_showing.ending else wrong
+content_shows p m f content = if (files.is_good_module p f content && true) then then_do (then_do (js_meaning.run_items p m f (files.items_in content) (js_meaning.opening p)) (js.with_value (λ v. js_meaning.run_files p m []))) (js_showing.ending p) else wrong
 
-js_is : (c : ClassDef) (entry id : List ℕ) (names : List (List ℕ)) (m : ℕ) → IsOrder c entry names → js_showing.js_shows (only_program id (module_of c entry names)) id m ≡ then_do (js_call_side entry id (only_program id (module_of c entry names)) m) (λ b. then_do (end_of_items (only_program id (module_of c entry names)) m (js_showing.file_of id) b) js_showing.ending)
-js_is c entry id names m order = ap (files_show p m) (order_is id (module_of c entry names) refl) ∙ ap (content_shows p m f) (module_there id (module_of c entry names)) ∙ (λ i. if (proper-module c entry names order.increasing i && true && true) then then_do (then_do (past_functions p m f c names (expression_item (call_of_method entry) ∷ []) (js_meaning.opening p) i) (js.with_value (λ v. js_meaning.run_files p m []))) js_showing.ending else wrong) ∙ ap (λ o. then_do o js_showing.ending) (then_do-associative (js_call_side entry id p m) (js.with_value (λ v. js_meaning.run_items p m f [])) (js.with_value (λ v. js_meaning.run_files p m []))) ∙ then_do-associative (js_call_side entry id p m) (end_of_items p m f) js_showing.ending
+js_is : (c : ClassDef) (entry id : List ℕ) (names : List (List ℕ)) (m : ℕ) → IsOrder c entry names → js_showing.js_shows (only_program id (module_of c entry names)) id m ≡ then_do (js_call_side entry id (only_program id (module_of c entry names)) m) (λ b. then_do (end_of_items (only_program id (module_of c entry names)) m (js_showing.file_of id) b) (js_showing.ending (only_program id (module_of c entry names))))
+js_is c entry id names m order = ap (files_show p m) (order_is id (module_of c entry names) refl) ∙ ap (content_shows p m f) (module_there id (module_of c entry names)) ∙ (λ i. if (proper-module c entry names order.increasing i && true && true) then then_do (then_do (past_functions p m f c names (expression_item (call_of_method entry) ∷ []) (js_meaning.opening p) i) (js.with_value (λ v. js_meaning.run_files p m []))) (js_showing.ending p) else wrong) ∙ ap (λ o. then_do o (js_showing.ending p)) (then_do-associative (js_call_side entry id p m) (js.with_value (λ v. js_meaning.run_items p m f [])) (js.with_value (λ v. js_meaning.run_files p m []))) ∙ then_do-associative (js_call_side entry id p m) (end_of_items p m f) (js_showing.ending p)
   where
     p : js.Program
     p = only_program id (module_of c entry names)
@@ -139,7 +139,7 @@ js_is c entry id names m order = ap (files_show p m) (order_is id (module_of c e
     f : Name
     f = js_showing.file_of id
 
-all_ends : (d : Direction) (c : ClassDef) (f : Name) (names : List (List ℕ)) (p : js.Program) (n m : ℕ) (a : ir.Ended) (b : js.ExpressionEnd) → Called f names [] ir_showing.outside a b → Sim d ◌≡◌ (ir_showing.next_or_end (ir_showing.all_show (c ∷ []) n []) a) (then_do (end_of_items p m f b) js_showing.ending)
+all_ends : (d : Direction) (c : ClassDef) (f : Name) (names : List (List ℕ)) (p : js.Program) (n m : ℕ) (a : ir.Ended) (b : js.ExpressionEnd) → Called f names [] ir_showing.outside a b → Sim d ◌≡◌ (ir_showing.next_or_end (ir_showing.all_show (c ∷ []) n []) a) (then_do (end_of_items p m f b) (js_showing.ending p))
 all_ends d c f names p n m a b (came_back w s u g same) = sim_done d ◌≡◌ normal normal refl
 
 whole_alike : (c : ClassDef) (entry id : List ℕ) (names : List (List ℕ)) → IsFirstClass c entry → IsOrder c entry names → (d : Direction) (n m : ℕ) → Within d n m → Sim d ◌≡◌ (ir_showing.ir_shows (c ∷ []) (only_entry id entry) id n) (js_showing.js_shows (only_program id (module_of c entry names)) id m)
@@ -151,8 +151,8 @@ whole_alike c entry id names first order d n m within = subst (λ o. Sim d ◌�
     f : Name
     f = js_showing.file_of id
 
-    sides : Sim d ◌≡◌ (ir_side c entry id n) (then_do (js_call_side entry id p m) (λ b. then_do (end_of_items p m f b) js_showing.ending))
-    sides = sim_then d (Called f names [] ir_showing.outside) ◌≡◌ (ir_meaning.meaning (c ∷ []) n (ir_showing.initializer_call (entry_point id entry)) ir_showing.outside (ir_world.opening (c ∷ []))) (js_call_side entry id p m) (ir_showing.next_or_end (ir_showing.all_show (c ∷ []) n [])) (λ b. then_do (end_of_items p m f b) js_showing.ending) (call_alike d c names f p (linked-is c entry id names first order) (ir_meaning.below (c ∷ []) n) (js_meaning.below p m) (bodies_alike c names f p (linked-is c entry id names first order) d n m within) (record { file = 0; line = 0; column = 0 }) (codes "java.lang.Object") PublicStatic (record { simple = entry; params = []; result = Some Void }) NoType refl refl (record { params = refl; result = refl }) first.there ((order.exact entry).1 stay) [] ir_showing.outside (ir_world.opening (c ∷ [])) (js_meaning.top_scope p f) (js_meaning.opening p) (record { file = refl; free = λ x. refl }) (opening_same c entry id names)) (all_ends d c f names p n m)
+    sides : Sim d ◌≡◌ (ir_side c entry id n) (then_do (js_call_side entry id p m) (λ b. then_do (end_of_items p m f b) (js_showing.ending p)))
+    sides = sim_then d (Called f names [] ir_showing.outside) ◌≡◌ (ir_meaning.meaning (c ∷ []) n (ir_showing.initializer_call (entry_point id entry)) ir_showing.outside (ir_world.opening (c ∷ []))) (js_call_side entry id p m) (ir_showing.next_or_end (ir_showing.all_show (c ∷ []) n [])) (λ b. then_do (end_of_items p m f b) (js_showing.ending p)) (call_alike d c names f p (linked-is c entry id names first order) (ir_meaning.below (c ∷ []) n) (js_meaning.below p m) (bodies_alike c names f p (linked-is c entry id names first order) d n m within) (record { file = 0; line = 0; column = 0 }) (codes "java.lang.Object") PublicStatic (record { simple = entry; params = []; result = Some Void }) NoType refl refl (record { params = refl; result = refl }) first.there ((order.exact entry).1 stay) [] ir_showing.outside (ir_world.opening (c ∷ [])) (js_meaning.top_scope p f) (js_meaning.opening p) (record { file = refl; free = λ x. refl }) (opening_same c entry id names)) (all_ends d c f names p n m)
 
 then_right : (c : ClassDef) (n : ℕ) (a : ir.Ended) → Gave a → Comes (λ e. Unit {0}) (ir_showing.next_or_end (ir_showing.all_show (c ∷ []) n []) a).end
 then_right c n a (gave v env s) = tt

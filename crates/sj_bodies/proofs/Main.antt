@@ -86,10 +86,10 @@ module _ (z : Setting) (lawful : Lawful z) (low : LowAlike z) where
   if_does p a b d t does_a does_b does_d c k j sound ahead out wr fine = of_operands z lawful c k (a ∷ []) j (ir_meaning.branch (ir_meaning.step z.place.classes z.low b) (ir_meaning.step z.place.classes z.low d)) (λ es i. branches p (first_of es) (into z.is_mutable c.targets k i b) (λ i. into z.is_mutable c.targets k i d)) sound ahead (operand_does z lawful low c j a does_a (outside-part c (Own (if_then p a b d t)) (Own a) (λ x o. inl o) out) fine.0, tt) (one_final z lawful c k j (ir_meaning.branch (ir_meaning.step z.place.classes z.low b) (ir_meaning.step z.place.classes z.low d)) (λ es i. branches p (first_of es) (into z.is_mutable c.targets k i b) (λ i. into z.is_mutable c.targets k i d)) (if_final z lawful c k p (λ i. into z.is_mutable c.targets k i b) (λ i. into z.is_mutable c.targets k i d) (ir_meaning.step z.place.classes z.low b) (ir_meaning.step z.place.classes z.low d) j sound wr (λ i l. onward z.is_mutable c.targets b k i) (λ i l ah. undeclared c (Own b) i (into z.is_mutable c.targets k i b).statements (outside-part c (Own (if_then p a b d t)) (Own b) (λ x o. inr (inl o)) out) ah (new z.is_mutable c.targets b k i)) (λ i l ah. undeclared c (Own d) i (into z.is_mutable c.targets k i d).statements (outside-part c (Own (if_then p a b d t)) (Own d) (λ x o. inr (inr o)) out) ah (new z.is_mutable c.targets d k i)) (λ i l ah. does_b c k i sound ah (outside-part c (Own (if_then p a b d t)) (Own b) (λ x o. inr (inl o)) out) wr fine.1) (λ i l ah. does_d c k i sound ah (outside-part c (Own (if_then p a b d t)) (Own d) (λ x o. inr (inr o)) out) wr fine.2)))
 
   unary_does : (p : Position) (o : UnaryOp) (e : Term) → TreeDoes z lawful low e → TreeDoes z lawful low (unary_op p o e)
-  unary_does p o e does c k j sound ahead out wr fine = of_operands z lawful c k (e ∷ []) j (ir_meaning.unary o) (λ es. finish k p (unary_result o) false (core.unary_of o (first_of es))) sound ahead (operand_does z lawful low c j e does out fine.2, tt) (one_final z lawful c k j (ir_meaning.unary o) (λ es. finish k p (unary_result o) false (core.unary_of o (first_of es))) (finish_one z lawful low c k p (unary_result o) (ir_meaning.unary o) (core.unary_of o) j sound wr fine.0 (λ r x w env s sc u alike same. unary_alike z lawful c.scope o r x fine.1 w env s sc u alike same)))
+  unary_does p o e does c k j sound ahead out wr fine = of_operands z lawful c k (e ∷ []) j (ir_meaning.unary z.place.classes z.low o) (λ es. finish k p (unary_result o) false (core.unary_of o (first_of es))) sound ahead (operand_does z lawful low c j e does out fine.2, tt) (one_final z lawful c k j (ir_meaning.unary z.place.classes z.low o) (λ es. finish k p (unary_result o) false (core.unary_of o (first_of es))) (finish_one z lawful low c k p (unary_result o) (ir_meaning.unary z.place.classes z.low o) (core.unary_of o) j sound wr fine.0 (λ r x w env s sc u alike same. unary_alike z lawful c.scope o r x fine.1 w env s sc u alike same)))
 
-  binary_final : (p : Position) (o : BinaryOp) (c : Context) (k : Destination) (j : ℕ) → is_simple o ≡ true → Sound z.is_mutable c → Writes c.writable k → FitsIn k (binary_result o) → (w : World) (sc : js.Scope) → TwoFinal z lawful c k w sc j (ir_meaning.binary o) (λ es. finish k p (binary_result o) false (core.binary_of o (first_of es) (second_of es)))
-  binary_final p o c k j simple sound wr fits from before i r q e d w env s sc u ahead l g ready ks same operands = finish_alike z lawful c k p (binary_result o) (core.binary_of o e d) i sound wr fits w from before env (ir_meaning.in_order (r ∷ q ∷ []) (ir_meaning.binary o) env s) sc u g ks ready (binary_alike z lawful c.scope o r q e d simple w env s sc u operands same)
+  binary_final : (p : Position) (o : BinaryOp) (c : Context) (k : Destination) (j : ℕ) → is_simple o ≡ true → Sound z.is_mutable c → Writes c.writable k → FitsIn k (binary_result o) → (w : World) (sc : js.Scope) → TwoFinal z lawful c k w sc j (ir_meaning.binary z.place.classes z.low o) (λ es. finish k p (binary_result o) false (core.binary_of o (first_of es) (second_of es)))
+  binary_final p o c k j simple sound wr fits from before i r q e d w env s sc u ahead l g ready ks same operands = finish_alike z lawful c k p (binary_result o) (core.binary_of o e d) i sound wr fits w from before env (ir_meaning.in_order (r ∷ q ∷ []) (ir_meaning.binary z.place.classes z.low o) env s) sc u g ks ready (binary_alike z lawful c.scope o r q e d simple w env s sc u operands same)
 
   divided_by : (p : Position) (o : BinaryOp) (e d : Term) (c : Context) (k : Destination) (j : ℕ) → IsDivision o → IsDivisor d → Sound z.is_mutable c → Ahead c j → Writes c.writable k → FitsIn k (binary_result o) → OperandDoes z lawful c j e → Does z lawful c k j (binary_op p o e d)
   divided_by p o e _ c k j i (divisor q n f ne) sound ahead wr fits operand = division_does z lawful low p c k j o e q n i f ne sound ahead wr fits operand
@@ -104,7 +104,7 @@ module _ (z : Setting) (lawful : Lawful z) (low : LowAlike z) where
       out_d = outside-part c (Own (binary_op p o e d)) (Own d) (λ x i. inr i) out
 
       by : ((is_simple o ≡ true) × FineOperand z.is_mutable z.place.is_linked c.scope e (λ y. FineHere z lawful low c (to_variable y (type_of_term e)) e) × FineOperand z.is_mutable z.place.is_linked c.scope d (λ y. FineHere z lawful low c (to_variable y (type_of_term d)) d)) ⊎ (IsDivision o × FineOperand z.is_mutable z.place.is_linked c.scope e (λ y. FineHere z lawful low c (to_variable y (type_of_term e)) e) × IsDivisor d) → Does z lawful c k j (binary_op p o e d)
-      by (inl h) = of_operands z lawful c k (e ∷ d ∷ []) j (ir_meaning.binary o) (λ es. finish k p (binary_result o) false (core.binary_of o (first_of es) (second_of es))) sound ahead (operand_does z lawful low c j e does_e out_e h.1, (operand_does z lawful low c j d does_d out_d h.2, tt)) (two_final z lawful c k j (ir_meaning.binary o) (λ es. finish k p (binary_result o) false (core.binary_of o (first_of es) (second_of es))) (binary_final p o c k j h.0 sound wr fine.0))
+      by (inl h) = of_operands z lawful c k (e ∷ d ∷ []) j (ir_meaning.binary z.place.classes z.low o) (λ es. finish k p (binary_result o) false (core.binary_of o (first_of es) (second_of es))) sound ahead (operand_does z lawful low c j e does_e out_e h.1, (operand_does z lawful low c j d does_d out_d h.2, tt)) (two_final z lawful c k j (ir_meaning.binary z.place.classes z.low o) (λ es. finish k p (binary_result o) false (core.binary_of o (first_of es) (second_of es))) (binary_final p o c k j h.0 sound wr fine.0))
       by (inr h) = divided_by p o e d c k j h.0 h.2 sound ahead wr fine.0 (operand_does z lawful low c j e does_e out_e h.1)
 
   abbrev OperandsFine : Terms → Type 1

@@ -7,6 +7,7 @@ use Rattle.outcomes.specs.Agreement.{Direction, Sim}
 use Rattle.outcomes.proofs.Simulation.{sim_done, sim_wrong, sim_then}
 use Rattle.ir_mean.specs.Meaning as ir_meaning
 use Rattle.ir_mean.specs.States as ir
+use Rattle.ir_mean.specs.Sure.{sure_locals}
 use Rattle.ir_mean.specs.World.{member_of}
 use Rattle.js_mean.specs.Meaning as js_meaning
 use Rattle.js_mean.specs.Proper.{is_among, declared}
@@ -160,7 +161,7 @@ module _ (p : Place) (names : NamesDiffer p) where
       locals h = subst (λ o. Sim d (Valued p w env) (ir_meaning.body_call low l.definition.result (Some l.its_body) None o env s) js_body) (sym h.are) (sim_then d (Came p (start is_mutable scope) scope k w sc) (Valued p w env) (low l.its_body inner s) (js_low code.body sc u) (ir_meaning.returned l.definition.result env) js_meaning.returned (below (start is_mutable scope) k 1 l.its_body (sound-start is_mutable scope) (ahead-start is_mutable scope) (outside-start is_mutable scope (Own l.its_body) l.fine.fresh) (writes-nothing (λ y. ⊥) l.definition.result k (way l.definition.result)) l.fine.fine w inner s sc u ready same) (comes_back d p l.definition.result k (way l.definition.result) (start is_mutable scope) scope w sc env))
         where
           inner : ir.Env
-          inner = record { this_value = None; locals = h.locals }
+          inner = record { this_value = None; locals = h.locals; sure = sure_locals l.its_body }
 
           ready : Ready p scope (λ y. ⊥) w inner sc
           ready = record { sees = record { inside = record { file = refl; free = λ q. parameters-free (names_of l.definition.params) xs names_declared q (body-free z refl (desugared l.definition l.its_body).body q) }; locals = h.hold }; «open» = λ y wr. absurd wr }

@@ -123,7 +123,7 @@ module _ (w : ir_world.World) (id : List ℕ) (fs : List EmittedMethod) (es : Li
 
     -- the end of the file
     abbrev ended : ℕ → Out js.ExpressionEnd → Shown
-    ended k o = then_do (then_do o (js.with_value (λ v. js_meaning.run_files program k []))) js_showing.ending
+    ended k o = then_do (then_do o (js.with_value (λ v. js_meaning.run_files program k []))) (js_showing.ending program)
 
     abbrev calls : List EntryPoint → ℕ → js.State → Out js.ExpressionEnd
     calls is k u = js_meaning.run_items program k file (map call_item_of is) u
@@ -139,20 +139,20 @@ module _ (w : ir_world.World) (id : List ℕ) (fs : List EmittedMethod) (es : Li
         end = js.with_value (λ v. js_meaning.run_files program k [])
 
         behind : js.ExpressionEnd → Shown
-        behind b = then_do (then_do (rest b) end) js_showing.ending
+        behind b = then_do (then_do (rest b) end) (js_showing.ending program)
 
         regrouped : ended k (calls (e ∷ is) k u) ≡ then_do (item_run e k u) behind
-        regrouped = ap (λ o. then_do o js_showing.ending) (then_do-associative (item_run e k u) rest end) ∙ then_do-associative (item_run e k u) (λ b. then_do (rest b) end) js_showing.ending
+        regrouped = ap (λ o. then_do o (js_showing.ending program)) (then_do-associative (item_run e k u) rest end) ∙ then_do-associative (item_run e k u) (λ b. then_do (rest b) end) (js_showing.ending program)
 
-        next : (d : Direction) (n k : ℕ) (is : List EntryPoint) (y : World) → ((z : World) (v : ir.Value) (s : ir.State) (u : js.State) → SameState place z s u → Sim d ◌≡◌ (ir_showing.all_show w n is s) (ended k (calls is k u))) → (a : ir.Ended) (b : js.ExpressionEnd) → Valued place y ir_showing.outside a b → Sim d ◌≡◌ (ir_showing.next_or_end (ir_showing.all_show w n is) a) (then_do (then_do (js.with_value (λ v. js_meaning.run_items program k file (map call_item_of is)) b) (js.with_value (λ v. js_meaning.run_files program k []))) js_showing.ending)
+        next : (d : Direction) (n k : ℕ) (is : List EntryPoint) (y : World) → ((z : World) (v : ir.Value) (s : ir.State) (u : js.State) → SameState place z s u → Sim d ◌≡◌ (ir_showing.all_show w n is s) (ended k (calls is k u))) → (a : ir.Ended) (b : js.ExpressionEnd) → Valued place y ir_showing.outside a b → Sim d ◌≡◌ (ir_showing.next_or_end (ir_showing.all_show w n is) a) (then_do (then_do (js.with_value (λ v. js_meaning.run_items program k file (map call_item_of is)) b) (js.with_value (λ v. js_meaning.run_files program k []))) (js_showing.ending program))
         next d n k is y others _ _ (valued z v x s u g a same) = others z v s u same
 
     -- what the file shows
     abbrev order_shows : ℕ → List Name → Shown
-    order_shows k names = if list_all (files.is_good_file program) names then then_do (js_meaning.run_files program k names (js_meaning.opening program)) js_showing.ending else wrong
+    order_shows k names = if list_all (files.is_good_file program) names then then_do (js_meaning.run_files program k names (js_meaning.opening program)) (js_showing.ending program) else wrong
 
     abbrev content_shows : ℕ → Option Module → Shown
-    content_shows k content = if (files.is_good_module program file content && true) then then_do (then_do (js_meaning.run_items program k file (files.items_in content) (js_meaning.opening program)) (js.with_value (λ v. js_meaning.run_files program k []))) js_showing.ending else wrong
+    content_shows k content = if (files.is_good_module program file content && true) then then_do (then_do (js_meaning.run_items program k file (files.items_in content) (js_meaning.opening program)) (js.with_value (λ v. js_meaning.run_files program k []))) (js_showing.ending program) else wrong
 
     js_is : (k : ℕ) → js_showing.js_shows program id k ≡ ended k (calls es k (js_meaning.opening program))
     js_is k = ap (order_shows k) (order_is file (module_with fs es) refl) ∙ ap (content_shows k) (module_there file (module_with fs es)) ∙ (λ i. if (proper i && true && true) then ended k (past_functions program k file fs (map call_item_of es) (js_meaning.opening program) i) else wrong)

@@ -23,7 +23,7 @@ module _ (sub : IrType → IrType → Type 0) (is_linked : Member → Bool) wher
     Rows ls (var_def p x t b e) = sub (type_of_term e) t × (is_char t ≡ false) × Rows ls e
     Rows ls (skip p) = Unit {0}
     Rows ls (block_of p ts) = AllRows ls ts
-    Rows ls (labeled p l t e) = Yields sub is_linked e t × IsResult t × Rows (record { name = l; tpe = t } ∷ ls) e
+    Rows ls (labeled p l t e) = Yields sub is_linked e t × (is_char t ≡ false) × Rows (record { name = l; tpe = t } ∷ ls) e
     Rows ls (assign p (var_ref q x t) e) = sub (type_of_term e) t × Rows ls e
     Rows ls (return_to p e l) = Returns ls l e × Rows ls e
     Rows ls (if_then p c a b t) = sub (type_of_term c) Boolean × Yields sub is_linked a t × Yields sub is_linked b t × (is_char t ≡ false) × Rows ls c × Rows ls a × Rows ls b

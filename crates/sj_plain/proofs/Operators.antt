@@ -17,7 +17,7 @@ use Rattle.js_mean.specs.Operators as js_operators
 use Rattle.js_mean.specs.States as js
 use Rattle.js_tree.specs.declared.operators.BinaryOperator.TheVariants as Op
 use Rattle.sj_trees.specs.declared.operators.BinaryOp.{BinaryOp}
-use Rattle.sj_trees.specs.declared.operators.BinaryOp.TheVariants.{BooleanEqual, BooleanNotEqual, BooleanOr, BooleanAnd, IntAdd, IntSubtract, IntMultiply, IntOr, IntAnd, IntXor, IntShiftLeft, IntShiftRightLogical, IntShiftRightArithmetic, IntEqual, IntNotEqual, IntLess, IntLessOrEqual, IntGreater, IntGreaterOrEqual}
+use Rattle.sj_trees.specs.declared.operators.BinaryOp.TheVariants.{StrictEqual, StrictNotEqual, StringConcatenate, BooleanEqual, BooleanNotEqual, BooleanOr, BooleanAnd, IntAdd, IntSubtract, IntMultiply, IntOr, IntAnd, IntXor, IntShiftLeft, IntShiftRightLogical, IntShiftRightArithmetic, IntEqual, IntNotEqual, IntLess, IntLessOrEqual, IntGreater, IntGreaterOrEqual}
 use Rattle.sj_plain.specs.Conditions.{is_simple}
 use Rattle.sj_plain.proofs.Worlds.{World, SameValue, same_boolean, same_number}
 
@@ -108,10 +108,11 @@ pub record Given (w : World) (v : ir.Value) (o : Option js.Value) : Type 0 where
   pub is : o ≡ Some value
   pub alike : SameValue w v value
 
--- where the IR's operator gives a value, its template gives what stands for it
-abbrev pub GivenIf : World → Option ir.Value → Option js.Value → Type 0
-GivenIf w None o = Unit {0}
-GivenIf w (Some v) o = Given w v o
+-- where the IR's operator gives a value, its template gives what stands for it; no operator here throws
+abbrev pub GivenIf : World → ir_operators.Answer → Option js.Value → Type 0
+GivenIf w ir_operators.lacks o = Unit {0}
+GivenIf w (ir_operators.answers v) o = Given w v o
+GivenIf w (ir_operators.raises c message) o = ⊥
 
 number_given : (w : World) (z : ℤ) (o : Option js.Value) → o ≡ Some (js.number z) → FitsSigned w32 z → Given w (ir.number z) o
 number_given w z o e f = record { value = js.number z; is = e; alike = same_number z f }
@@ -119,12 +120,15 @@ number_given w z o e f = record { value = js.number z; is = e; alike = same_numb
 boolean_given : (w : World) (b : Bool) (o : Option js.Value) → o ≡ Some (js.boolean b) → Given w (ir.boolean b) o
 boolean_given w b o e = record { value = js.boolean b; is = e; alike = same_boolean b }
 
-booleans_alike : (w : World) (op : BinaryOp) (a b : Bool) → GivenIf w (ir_operators.boolean_value op a b) (template_value op (js.boolean a) (js.boolean b))
-booleans_alike w BooleanEqual a b = boolean_given w (ir_operators.is_same_boolean a b) _ (ap (λ (c : Bool). Some (js.boolean c)) (same-boolean a b))
-booleans_alike w BooleanNotEqual a b = boolean_given w (not (ir_operators.is_same_boolean a b)) _ (ap (λ (c : Bool). Some (js.boolean (not c))) (same-boolean a b))
-booleans_alike w BooleanOr a b = boolean_given w (a || b) _ (or_boolean a b)
-booleans_alike w BooleanAnd a b = boolean_given w (a && b) _ (and_boolean a b)
-booleans_alike w _ a b = tt
+booleans_alike : (w : World) (op : BinaryOp) (a b : Bool) → is_simple op ≡ true → GivenIf w (ir_operators.boolean_value op a b) (template_value op (js.boolean a) (js.boolean b))
+booleans_alike w BooleanEqual a b h = boolean_given w (ir_operators.is_same_boolean a b) _ (ap (λ (c : Bool). Some (js.boolean c)) (same-boolean a b))
+booleans_alike w BooleanNotEqual a b h = boolean_given w (not (ir_operators.is_same_boolean a b)) _ (ap (λ (c : Bool). Some (js.boolean (not c))) (same-boolean a b))
+booleans_alike w BooleanOr a b h = boolean_given w (a || b) _ (or_boolean a b)
+booleans_alike w BooleanAnd a b h = boolean_given w (a && b) _ (and_boolean a b)
+booleans_alike w StrictEqual a b h = impossible h
+booleans_alike w StrictNotEqual a b h = impossible h
+booleans_alike w StringConcatenate a b h = impossible h
+booleans_alike w _ a b h = tt
 
 numbers_alike : (w : World) (op : BinaryOp) (a b : ℤ) → FitsSigned w32 a → FitsSigned w32 b → is_simple op ≡ true → GivenIf w (ir_operators.number_value op a b) (template_value op (js.number a) (js.number b))
 numbers_alike w IntAdd a b f g h = number_given w (signed.sum a b) _ (sum_value a b (sum-exact a b f g)) (wrapped-fits (a +ℤ b))
@@ -148,8 +152,15 @@ numbers_alike w BooleanOr a b f g h = tt
 numbers_alike w BooleanAnd a b f g h = tt
 numbers_alike w _ a b f g h = impossible h
 
+-- on values of other kinds none of these operators gives anything
+others_alike : (w : World) (op : BinaryOp) (v1 v2 : ir.Value) (o : Option js.Value) → is_simple op ≡ true → GivenIf w (ir_operators.any_value op v1 v2) o
+others_alike w StrictEqual v1 v2 o h = impossible h
+others_alike w StrictNotEqual v1 v2 o h = impossible h
+others_alike w StringConcatenate v1 v2 o h = impossible h
+others_alike w _ v1 v2 o h = tt
+
 -- the operators but for division
 pub values_alike : (w : World) (op : BinaryOp) (v1 v2 : ir.Value) (x1 x2 : js.Value) → is_simple op ≡ true → SameValue w v1 x1 → SameValue w v2 x2 → GivenIf w (ir_operators.binary_value op v1 v2) (template_value op x1 x2)
-values_alike w op _ _ _ _ h (same_boolean a) (same_boolean b) = booleans_alike w op a b
+values_alike w op _ _ _ _ h (same_boolean a) (same_boolean b) = booleans_alike w op a b h
 values_alike w op _ _ _ _ h (same_number a f) (same_number b g) = numbers_alike w op a b f g h
-values_alike w op _ _ _ _ h _ _ = tt
+values_alike w op v1 v2 x1 x2 h _ _ = others_alike w op v1 v2 (template_value op x1 x2) h

@@ -101,14 +101,14 @@ module _ (z : Setting) (lawful : Lawful z) (scope : List ℕ → Type 0) where
   number_over f None n = None
   number_over f (Some a) n = Some (js.number (f a n))
 
-  whole_shown : (f : ℤ → ℤ → ℤ) (t : Option ℤ) (n : ℤ) (sc : js.Scope) (u : js.State) → js_meaning.whole_number f t (Some n) (js.number (pos zero)) sc u ≡ js_meaning.value_or_wrong (number_over f t n) sc u
+  whole_shown : (f : ℤ → ℤ → ℤ) (t : Option ℤ) (n : ℤ) (sc : js.Scope) (u : js.State) → js_meaning.whole_number f t (Some n) sc u ≡ js_meaning.value_or_wrong (number_over f t n) sc u
   whole_shown f None n sc u = refl
   whole_shown f (Some a) n sc u = refl
 
-  ratio_next : (f : ℤ → ℤ → ℤ) (n : ℤ) (sc : js.Scope) (x : js.Value) (u : js.State) → numbers.is_exact n ≡ true → js_meaning.in_order (js_meaning.literal n ∷ js_meaning.literal (pos zero) ∷ []) (λ xs. js_meaning.ratio f (x ∷ xs)) sc u ≡ js_meaning.value_or_wrong (number_over f (js_operators.to_number x) n) sc u
-  ratio_next f n sc x u e = ap (λ (b : Bool). then_do (if b then done (js.gives (js.number n) u) else wrong) (js.with_value (λ y. js_meaning.in_order (js_meaning.literal (pos zero) ∷ []) (λ xs. js_meaning.ratio f (x ∷ y ∷ xs)) sc))) e ∙ whole_shown f (js_operators.to_number x) n sc u
+  ratio_next : (f : ℤ → ℤ → ℤ) (n : ℤ) (sc : js.Scope) (x : js.Value) (u : js.State) → numbers.is_exact n ≡ true → js_meaning.in_order (js_meaning.literal n ∷ []) (λ xs. js_meaning.ratio f (x ∷ xs)) sc u ≡ js_meaning.value_or_wrong (number_over f (js_operators.to_number x) n) sc u
+  ratio_next f n sc x u e = ap (λ (b : Bool). then_do (if b then done (js.gives (js.number n) u) else wrong) (js.with_value (λ y. js_meaning.ratio f (x ∷ y ∷ []) sc))) e ∙ whole_shown f (js_operators.to_number x) n sc u
 
-  ratio_shown : (f : ℤ → ℤ → ℤ) (n : ℤ) (e : js.Evaluation) (sc : js.Scope) (u : js.State) → numbers.is_exact n ≡ true → js_meaning.in_order (e ∷ js_meaning.literal n ∷ js_meaning.literal (pos zero) ∷ []) (js_meaning.ratio f) sc u ≡ js_meaning.in_order (e ∷ []) (by_one_value (λ x. number_over f (js_operators.to_number x) n)) sc u
+  ratio_shown : (f : ℤ → ℤ → ℤ) (n : ℤ) (e : js.Evaluation) (sc : js.Scope) (u : js.State) → numbers.is_exact n ≡ true → js_meaning.in_order (e ∷ js_meaning.literal n ∷ []) (js_meaning.ratio f) sc u ≡ js_meaning.in_order (e ∷ []) (by_one_value (λ x. number_over f (js_operators.to_number x) n)) sc u
   ratio_shown f n e sc u h = ap (λ k. then_do (e sc u) (js.with_value k)) (fun_ext (λ x. fun_ext (λ q. ratio_next f n sc x q h)))
 
   pub division_shown : (o : BinaryOp) → IsDivision o → (n : ℤ) → FitsSigned w32 n → n ≢ pos 0 → (e : tree.Expression) (sc : js.Scope) (u : js.State) → js_meaning.evaluate z.place.program z.js_low (binary_template (is_nonzero_literal (core.number_value n)) o e (tree.number_literal n)) sc u ≡ js_meaning.in_order (js_meaning.evaluate z.place.program z.js_low e ∷ []) (by_one_value (λ x. number_over (whole_of o) (js_operators.to_number x) n)) sc u
@@ -120,7 +120,7 @@ module _ (z : Setting) (lawful : Lawful z) (scope : List ℕ → Type 0) where
   division_shown _ a_remainder (negsuc n) f ne e sc u = ratio_shown numbers.remainder_or_zero (negsuc n) (js_meaning.evaluate z.place.program z.js_low e) sc u (fits-exact (negsuc n) f)
 
   abbrev pub division_act : BinaryOp → ℤ → List ir.Value → ir.Run
-  division_act o n (v ∷ []) env s = ir_meaning.binary o (v ∷ ir.number n ∷ []) env s
+  division_act o n (v ∷ []) env s = ir_meaning.binary z.place.classes z.low o (v ∷ ir.number n ∷ []) env s
   division_act o n _ env s = wrong
 
   divided_alike : (o : BinaryOp) → IsDivision o → (w : World) (a n : ℤ) → FitsSigned w32 a → FitsSigned w32 n → n ≢ pos 0 → GivenIf w (ir_operators.number_value o a n) (Some (js.number (whole_of o a n)))
@@ -131,13 +131,18 @@ module _ (z : Setting) (lawful : Lawful z) (scope : List ℕ → Type 0) where
   divided_alike _ a_remainder w a (pos (suc n)) f g ne = record { value = js.number (signed.remainder a (pos (suc n))); is = ap (λ (x : ℤ). Some (js.number x)) (remainder-is a (pos (suc n)) g ne); alike = same_number (signed.remainder a (pos (suc n))) (remainder-fits a (pos (suc n)) f) }
   divided_alike _ a_remainder w a (negsuc n) f g ne = record { value = js.number (signed.remainder a (negsuc n)); is = ap (λ (x : ℤ). Some (js.number x)) (remainder-is a (negsuc n) g ne); alike = same_number (signed.remainder a (negsuc n)) (remainder-fits a (negsuc n) f) }
 
+  -- a division of what is no number gives nothing
+  divided_other : (o : BinaryOp) → IsDivision o → (w : World) (v v' : ir.Value) (t : Option js.Value) → GivenIf w (ir_operators.any_value o v v') t
+  divided_other _ a_quotient w v v' t = tt
+  divided_other _ a_remainder w v v' t = tt
+
   division_acts : (o : BinaryOp) → IsDivision o → (n : ℤ) → FitsSigned w32 n → n ≢ pos 0 → (w : World) (env : ir.Env) (sc : js.Scope) → ActsAlike z w w env (division_act o n) (by_one_value (λ x. number_over (whole_of o) (js_operators.to_number x) n)) sc
   division_acts o d n f ne w env sc y _ _ s u g no_values same = sim_wrong z.direction (Valued z.place w env) _
   division_acts o d n f ne w env sc y _ _ s u g (one_more _ _ _ _ (same_number a k) no_values) same = value_alike z w y env sc s u (ir_operators.number_value o a n) (Some (js.number (whole_of o a n))) (divided_alike o d y a n k f ne) g same
-  division_acts o d n f ne w env sc y _ _ s u g (one_more _ _ _ _ same_undefined no_values) same = sim_wrong z.direction (Valued z.place w env) _
-  division_acts o d n f ne w env sc y _ _ s u g (one_more _ _ _ _ same_null no_values) same = sim_wrong z.direction (Valued z.place w env) _
-  division_acts o d n f ne w env sc y _ _ s u g (one_more _ _ _ _ (same_boolean b) no_values) same = sim_wrong z.direction (Valued z.place w env) _
-  division_acts o d n f ne w env sc y _ _ s u g (one_more _ _ _ _ (same_text us) no_values) same = sim_wrong z.direction (Valued z.place w env) _
+  division_acts o d n f ne w env sc y _ _ s u g (one_more _ _ _ _ same_undefined no_values) same = value_alike z w y env sc s u (ir_operators.any_value o ir.undefined (ir.number n)) (number_over (whole_of o) (js_operators.to_number js.undefined) n) (divided_other o d y ir.undefined (ir.number n) _) g same
+  division_acts o d n f ne w env sc y _ _ s u g (one_more _ _ _ _ same_null no_values) same = value_alike z w y env sc s u (ir_operators.any_value o ir.null (ir.number n)) (number_over (whole_of o) (js_operators.to_number js.null) n) (divided_other o d y ir.null (ir.number n) _) g same
+  division_acts o d n f ne w env sc y _ _ s u g (one_more _ _ _ _ (same_boolean b) no_values) same = value_alike z w y env sc s u (ir_operators.any_value o (ir.boolean b) (ir.number n)) (number_over (whole_of o) (js_operators.to_number (js.boolean b)) n) (divided_other o d y (ir.boolean b) (ir.number n) _) g same
+  division_acts o d n f ne w env sc y _ _ s u g (one_more _ _ _ _ (same_text us) no_values) same = value_alike z w y env sc s u (ir_operators.any_value o (ir.text us) (ir.number n)) (number_over (whole_of o) (js_operators.to_number (js.text us)) n) (divided_other o d y (ir.text us) (ir.number n) _) g same
   division_acts o d n f ne w env sc y _ _ s u g (one_more v x _ _ a (one_more v' x' vs xs b c)) same = sim_wrong z.direction (Valued z.place w env) _
 
   -- two outcomes that stand for two that are alike
@@ -156,11 +161,11 @@ module _ (z : Setting) (lawful : Lawful z) (scope : List ℕ → Type 0) where
   pub call_alike : (m : Member) (rs : List ir.Run) (es es' : List core.Expression) → es ≡ es' → z.place.is_linked m ≡ true → (w : World) (env : ir.Env) (s : ir.State) (sc : js.Scope) (u : js.State) → Inside z.place sc → OperandsAlike z w env sc rs (all_shown es') → SameState z.place w s u → Sim z.direction (Valued z.place w env) (ir_meaning.in_order rs (ir_meaning.call z.low (ir_world.member_of z.place.classes m.class m.namespace m.method) None) env s) (shown z (core.static_call m (expressions_of es)) sc u)
   call_alike m rs es es' e linked w env s sc u inside operands same = by_equal w env _ _ _ _ refl (ap (λ o. then_do o (js.with_value (λ f. js_meaning.in_order (js_meaning.arguments z.place.program z.js_low (expression_templates z.place.name z.place.label (expressions_of es))) (js_meaning.call z.place.program z.js_low f) sc))) (name_shown m w s sc u linked inside same) ∙ ap (λ args. js_meaning.in_order args (js_meaning.call z.place.program z.js_low (js.function z.place.file (member_name m))) sc u) (arguments_shown es ∙ ap all_shown e)) (in_order_alike z w w env sc w rs (all_shown es') (ir_meaning.call z.low (ir_world.member_of z.place.classes m.class m.namespace m.method) None) (js_meaning.call z.place.program z.js_low (js.function z.place.file (member_name m))) operands (call_acts m w env sc linked) w s u (grows-refl w) (grows-refl w) same)
 
-  pub unary_alike : (o : UnaryOp) (r : ir.Run) (e : core.Expression) → is_simple_unary o ≡ true → (w : World) (env : ir.Env) (s : ir.State) (sc : js.Scope) (u : js.State) → OperandAlike z w env sc r (shown z e) → SameState z.place w s u → Sim z.direction (Valued z.place w env) (ir_meaning.in_order (r ∷ []) (ir_meaning.unary o) env s) (shown z (core.unary_of o e) sc u)
-  unary_alike o r e simple w env s sc u operand same = by_equal w env _ _ _ _ refl (unary_shown z.place.program z.js_low (expression_template z.place.name z.place.label e) sc u o simple) (in_order_alike z w w env sc w (r ∷ []) (shown z e ∷ []) (ir_meaning.unary o) (by_one_value (one_template_value o)) (more_operands _ _ _ _ operand no_operands) (unary_acts z w env sc o) w s u (grows-refl w) (grows-refl w) same)
+  pub unary_alike : (o : UnaryOp) (r : ir.Run) (e : core.Expression) → is_simple_unary o ≡ true → (w : World) (env : ir.Env) (s : ir.State) (sc : js.Scope) (u : js.State) → OperandAlike z w env sc r (shown z e) → SameState z.place w s u → Sim z.direction (Valued z.place w env) (ir_meaning.in_order (r ∷ []) (ir_meaning.unary z.place.classes z.low o) env s) (shown z (core.unary_of o e) sc u)
+  unary_alike o r e simple w env s sc u operand same = by_equal w env _ _ _ _ refl (unary_shown z.place.program z.js_low (expression_template z.place.name z.place.label e) sc u o simple) (in_order_alike z w w env sc w (r ∷ []) (shown z e ∷ []) (ir_meaning.unary z.place.classes z.low o) (by_one_value (one_template_value o)) (more_operands _ _ _ _ operand no_operands) (unary_acts z w env sc o simple) w s u (grows-refl w) (grows-refl w) same)
 
-  pub binary_alike : (o : BinaryOp) (r q : ir.Run) (e d : core.Expression) → is_simple o ≡ true → (w : World) (env : ir.Env) (s : ir.State) (sc : js.Scope) (u : js.State) → OperandsAlike z w env sc (r ∷ q ∷ []) (shown z e ∷ shown z d ∷ []) → SameState z.place w s u → Sim z.direction (Valued z.place w env) (ir_meaning.in_order (r ∷ q ∷ []) (ir_meaning.binary o) env s) (shown z (core.binary_of o e d) sc u)
-  binary_alike o r q e d simple w env s sc u operands same = by_equal w env _ _ _ _ refl (binary_shown z.place.program z.js_low (is_nonzero_literal d) (expression_template z.place.name z.place.label e) (expression_template z.place.name z.place.label d) (not_ratio z e) sc u o simple) (in_order_alike z w w env sc w (r ∷ q ∷ []) (shown z e ∷ shown z d ∷ []) (ir_meaning.binary o) (by_value (template_value o)) operands (binary_acts z w env sc o simple) w s u (grows-refl w) (grows-refl w) same)
+  pub binary_alike : (o : BinaryOp) (r q : ir.Run) (e d : core.Expression) → is_simple o ≡ true → (w : World) (env : ir.Env) (s : ir.State) (sc : js.Scope) (u : js.State) → OperandsAlike z w env sc (r ∷ q ∷ []) (shown z e ∷ shown z d ∷ []) → SameState z.place w s u → Sim z.direction (Valued z.place w env) (ir_meaning.in_order (r ∷ q ∷ []) (ir_meaning.binary z.place.classes z.low o) env s) (shown z (core.binary_of o e d) sc u)
+  binary_alike o r q e d simple w env s sc u operands same = by_equal w env _ _ _ _ refl (binary_shown z.place.program z.js_low (is_nonzero_literal d) (expression_template z.place.name z.place.label e) (expression_template z.place.name z.place.label d) (not_ratio z e) sc u o simple) (in_order_alike z w w env sc w (r ∷ q ∷ []) (shown z e ∷ shown z d ∷ []) (ir_meaning.binary z.place.classes z.low o) (by_value (template_value o)) operands (binary_acts z w env sc o simple) w s u (grows-refl w) (grows-refl w) same)
 
   pub division_alike : (o : BinaryOp) (r : ir.Run) (e : core.Expression) (n : ℤ) → IsDivision o → FitsSigned w32 n → n ≢ pos 0 → (w : World) (env : ir.Env) (s : ir.State) (sc : js.Scope) (u : js.State) → OperandAlike z w env sc r (shown z e) → SameState z.place w s u → Sim z.direction (Valued z.place w env) (ir_meaning.in_order (r ∷ []) (division_act o n) env s) (shown z (core.binary_of o e (core.number_value n)) sc u)
   division_alike o r e n d f ne w env s sc u operand same = by_equal w env _ _ _ _ refl (division_shown o d n f ne (expression_template z.place.name z.place.label e) sc u) (in_order_alike z w w env sc w (r ∷ []) (shown z e ∷ []) (division_act o n) (by_one_value (λ x. number_over (whole_of o) (js_operators.to_number x) n)) (more_operands _ _ _ _ operand no_operands) (division_acts o d n f ne w env sc) w s u (grows-refl w) (grows-refl w) same)

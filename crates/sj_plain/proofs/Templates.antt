@@ -1,6 +1,6 @@
 -- The templates of operators compute what they are to compute, from operands in order.
-use Rattle.std.proofs.Common.{◌≡◌, ℕ, Bool, true, false, List, [], ◌∷◌, Some, None, Option, refl, sym, ap, ◌∙◌, subst}
-use Rattle.std.specs.Prelude.{ℤ, pos, not, if◌then◌else◌}
+use Rattle.std.proofs.Common.{◌≡◌, ℕ, zero, suc, Bool, true, false, List, [], ◌∷◌, Some, None, Option, refl, sym, ap, ◌∙◌, subst}
+use Rattle.std.specs.Prelude.{ℤ, pos, negsuc, not, if◌then◌else◌}
 use mathlib.Core.Path.{fun_ext}
 use Rattle.int_arithmetic.specs.Numbers as numbers
 use Rattle.int_arithmetic.specs.Signed as signed
@@ -92,9 +92,16 @@ module _ (p : js.Program) (low : js_meaning.Low) where
   or_zero_shown : (inner : tree.Expression) (es : List js.Evaluation) (f : js.Value → js.Value → Option js.Value) (sc : js.Scope) (u : js.State) → js_meaning.ratio_of p low inner ≡ None → js_meaning.evaluate p low inner sc u ≡ js_meaning.in_order es (by_value f) sc u → js_meaning.evaluate p low (tree.binary_of inner Op.BitOr (tree.number_literal (pos 0))) sc u ≡ js_meaning.in_order es (by_value (λ v w. or_zero_value (f v w))) sc u
   or_zero_shown inner es f sc u r h = ap (λ t. js_meaning.bits_or t (js_meaning.evaluate p low inner) (js_meaning.evaluate p low (tree.number_literal (pos 0))) sc u) r ∙ ap (λ o. then_do o (js.with_value (λ v. js_meaning.in_order (js_meaning.evaluate p low (tree.number_literal (pos 0)) ∷ []) (λ vs. js_meaning.binary Op.BitOr (v ∷ vs)) sc))) h ∙ in_order-then es (by_value f) (λ v. js_meaning.in_order (js_meaning.evaluate p low (tree.number_literal (pos 0)) ∷ []) (λ vs. js_meaning.binary Op.BitOr (v ∷ vs)) sc) sc u ∙ same_act es (λ xs sc' u. then_do (by_value f xs sc' u) (js.with_value (λ v. js_meaning.in_order (js_meaning.evaluate p low (tree.number_literal (pos 0)) ∷ []) (λ vs. js_meaning.binary Op.BitOr (v ∷ vs)) sc))) (by_value (λ v w. or_zero_value (f v w))) sc u (or_zero_act f sc)
 
+  -- where the left operand of a bitwise or is no ratio, it is none whatever the right operand is
+  over_none : (g : tree.Expression) → js_meaning.over_zero g None ≡ None
+  over_none (tree.number_literal (pos zero)) = refl
+  over_none (tree.number_literal (pos (suc n))) = refl
+  over_none (tree.number_literal (negsuc n)) = refl
+  over_none _ = refl
+
   -- a bitwise or whose left operand is no ratio
   or_shown : (e g : tree.Expression) (sc : js.Scope) (u : js.State) → js_meaning.ratio_of p low e ≡ None → js_meaning.evaluate p low (tree.binary_of e Op.BitOr g) sc u ≡ js_meaning.in_order (js_meaning.evaluate p low e ∷ js_meaning.evaluate p low g ∷ []) (by_value (js_operators.binary_value Op.BitOr)) sc u
-  or_shown e g sc u r = ap (λ t. js_meaning.bits_or t (js_meaning.evaluate p low e) (js_meaning.evaluate p low g) sc u) r ∙ same_act (js_meaning.evaluate p low e ∷ js_meaning.evaluate p low g ∷ []) (js_meaning.binary Op.BitOr) (by_value (js_operators.binary_value Op.BitOr)) sc u (binary-act Op.BitOr)
+  or_shown e g sc u r = ap (λ t. js_meaning.bits_or (js_meaning.over_zero g t) (js_meaning.evaluate p low e) (js_meaning.evaluate p low g) sc u) r ∙ ap (λ t. js_meaning.bits_or t (js_meaning.evaluate p low e) (js_meaning.evaluate p low g) sc u) (over_none g) ∙ same_act (js_meaning.evaluate p low e ∷ js_meaning.evaluate p low g ∷ []) (js_meaning.binary Op.BitOr) (by_value (js_operators.binary_value Op.BitOr)) sc u (binary-act Op.BitOr)
 
   abbrev not_twice : js.Scope → js.Value → js.State → Out js.ExpressionEnd
   not_twice sc v u = then_do (js_meaning.negated (v ∷ []) sc u) (js.with_value (λ w. js_meaning.negated (w ∷ []) sc))
@@ -140,12 +147,13 @@ module _ (p : js.Program) (low : js_meaning.Low) where
     binary_shown IntGreaterOrEqual h = plain_operator Op.GreaterOrEqual
     binary_shown _ h = impossible h
 
-pub value_alike : (z : Setting) (base w : World) (env : ir.Env) (sc : js.Scope) (s : ir.State) (u : js.State) (o : Option ir.Value) (t : Option js.Value) → GivenIf w o t → Grows base w → SameState z.place w s u → Sim z.direction (Valued z.place base env) (ir_meaning.value_or_wrong o env s) (js_meaning.value_or_wrong t sc u)
-value_alike z base w env sc s u None t h g same = sim_wrong z.direction (Valued z.place base env) (js_meaning.value_or_wrong t sc u)
-value_alike z base w env sc s u (Some v) t h g same = subst (λ o. Sim z.direction (Valued z.place base env) (done (ir.ends (ir.gives v) env s)) (js_meaning.value_or_wrong o sc u)) (sym h.is) (sim_done z.direction (Valued z.place base env) (ir.ends (ir.gives v) env s) (js.gives h.value u) (valued w v h.value s u g h.alike same))
+pub value_alike : (z : Setting) (base w : World) (env : ir.Env) (sc : js.Scope) (s : ir.State) (u : js.State) (o : ir_operators.Answer) (t : Option js.Value) → GivenIf w o t → Grows base w → SameState z.place w s u → Sim z.direction (Valued z.place base env) (ir_meaning.answered z.place.classes z.low o env s) (js_meaning.value_or_wrong t sc u)
+value_alike z base w env sc s u ir_operators.lacks t h g same = sim_wrong z.direction (Valued z.place base env) (js_meaning.value_or_wrong t sc u)
+value_alike z base w env sc s u (ir_operators.raises c message) t h g same = absurd h
+value_alike z base w env sc s u (ir_operators.answers v) t h g same = subst (λ o. Sim z.direction (Valued z.place base env) (done (ir.ends (ir.gives v) env s)) (js_meaning.value_or_wrong o sc u)) (sym h.is) (sim_done z.direction (Valued z.place base env) (ir.ends (ir.gives v) env s) (js.gives h.value u) (valued w v h.value s u g h.alike same))
 
 -- the act of an operator, and that of its template
-pub binary_acts : (z : Setting) (base : World) (env : ir.Env) (sc : js.Scope) (o : BinaryOp) → is_simple o ≡ true → ActsAlike z base base env (ir_meaning.binary o) (by_value (template_value o)) sc
+pub binary_acts : (z : Setting) (base : World) (env : ir.Env) (sc : js.Scope) (o : BinaryOp) → is_simple o ≡ true → ActsAlike z base base env (ir_meaning.binary z.place.classes z.low o) (by_value (template_value o)) sc
 binary_acts z base env sc o h w _ _ s u g no_values same = sim_wrong z.direction (Valued z.place base env) _
 binary_acts z base env sc o h w _ _ s u g (one_more v x _ _ a no_values) same = sim_wrong z.direction (Valued z.place base env) _
 binary_acts z base env sc o h w _ _ s u g (one_more v1 x1 _ _ a (one_more v2 x2 _ _ b no_values)) same = value_alike z base w env sc s u (ir_operators.binary_value o v1 v2) (template_value o x1 x2) (values_alike w o v1 v2 x1 x2 h a b) g same
@@ -169,18 +177,23 @@ abbrev pub by_one_value : (js.Value → Option js.Value) → List js.Value → j
 by_one_value f (v ∷ []) sc u = js_meaning.value_or_wrong (f v) sc u
 by_one_value f _ sc u = wrong
 
-one_value_alike : (w : World) (o : UnaryOp) (v : ir.Value) (x : js.Value) → SameValue w v x → GivenIf w (ir_operators.unary_value o v) (one_template_value o x)
-one_value_alike w BooleanNot _ _ (same_boolean b) = record { value = js.boolean (not b); is = refl; alike = same_boolean (not b) }
-one_value_alike w ByteToInt _ _ (same_number a f) = record { value = js.number a; is = refl; alike = same_number a f }
-one_value_alike w ShortToInt _ _ (same_number a f) = record { value = js.number a; is = refl; alike = same_number a f }
-one_value_alike w IntToByte _ _ (same_number a f) = record { value = js.number (signed.wrapped_to_byte a); is = ap (λ (b : ℤ). Some (js.number b)) (to_byte-is a); alike = same_number (signed.wrapped_to_byte a) (byte-fits a) }
-one_value_alike w IntToShort _ _ (same_number a f) = record { value = js.number (signed.wrapped_to_short a); is = ap (λ (b : ℤ). Some (js.number b)) (to_short-is a); alike = same_number (signed.wrapped_to_short a) (short-fits a) }
-one_value_alike w _ _ _ _ = tt
+one_value_alike : (w : World) (o : UnaryOp) (v : ir.Value) (x : js.Value) → is_simple_unary o ≡ true → SameValue w v x → GivenIf w (ir_operators.unary_value o v) (one_template_value o x)
+one_value_alike w BooleanNot _ _ h (same_boolean b) = record { value = js.boolean (not b); is = refl; alike = same_boolean (not b) }
+one_value_alike w ByteToInt _ _ h (same_number a f) = record { value = js.number a; is = refl; alike = same_number a f }
+one_value_alike w ShortToInt _ _ h (same_number a f) = record { value = js.number a; is = refl; alike = same_number a f }
+one_value_alike w IntToByte _ _ h (same_number a f) = record { value = js.number (signed.wrapped_to_byte a); is = ap (λ (b : ℤ). Some (js.number b)) (to_byte-is a); alike = same_number (signed.wrapped_to_byte a) (byte-fits a) }
+one_value_alike w IntToShort _ _ h (same_number a f) = record { value = js.number (signed.wrapped_to_short a); is = ap (λ (b : ℤ). Some (js.number b)) (to_short-is a); alike = same_number (signed.wrapped_to_short a) (short-fits a) }
+one_value_alike w BooleanNot _ _ h _ = tt
+one_value_alike w ByteToInt _ _ h _ = tt
+one_value_alike w ShortToInt _ _ h _ = tt
+one_value_alike w IntToByte _ _ h _ = tt
+one_value_alike w IntToShort _ _ h _ = tt
+one_value_alike w _ _ _ h _ = impossible h
 
-pub unary_acts : (z : Setting) (base : World) (env : ir.Env) (sc : js.Scope) (o : UnaryOp) → ActsAlike z base base env (ir_meaning.unary o) (by_one_value (one_template_value o)) sc
-unary_acts z base env sc o w _ _ s u g no_values same = sim_wrong z.direction (Valued z.place base env) _
-unary_acts z base env sc o w _ _ s u g (one_more v x _ _ a no_values) same = value_alike z base w env sc s u (ir_operators.unary_value o v) (one_template_value o x) (one_value_alike w o v x a) g same
-unary_acts z base env sc o w _ _ s u g (one_more v1 x1 _ _ a (one_more v2 x2 vs xs b c)) same = sim_wrong z.direction (Valued z.place base env) _
+pub unary_acts : (z : Setting) (base : World) (env : ir.Env) (sc : js.Scope) (o : UnaryOp) → is_simple_unary o ≡ true → ActsAlike z base base env (ir_meaning.unary z.place.classes z.low o) (by_one_value (one_template_value o)) sc
+unary_acts z base env sc o simple w _ _ s u g no_values same = sim_wrong z.direction (Valued z.place base env) _
+unary_acts z base env sc o simple w _ _ s u g (one_more v x _ _ a no_values) same = value_alike z base w env sc s u (ir_operators.unary_value o v) (one_template_value o x) (one_value_alike w o v x simple a) g same
+unary_acts z base env sc o simple w _ _ s u g (one_more v1 x1 _ _ a (one_more v2 x2 vs xs b c)) same = sim_wrong z.direction (Valued z.place base env) _
 
 negated_one : (xs : List js.Value) (sc : js.Scope) (u : js.State) → js_meaning.negated xs sc u ≡ by_one_value (one_template_value BooleanNot) xs sc u
 negated_one [] sc u = refl

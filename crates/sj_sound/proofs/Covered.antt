@@ -180,7 +180,7 @@ module _ (sub : IrType → IrType → Type 0) (law : IsSubtyping sub) (is_mutabl
     no_char (var_def p x t b e) s v h = refl
     no_char (skip p) s v h = refl
     no_char (block_of p ts) s v h = last_no_char ts s v h NoType
-    no_char (labeled p l t e) s v h = ⊎_elim (λ i. ap is_char i) (λ i. i.1) h.1
+    no_char (labeled p l t e) s v h = h.1
     no_char (assign p e d) s v h = refl
     no_char (return_to p e l) s v h = refl
     no_char (if_then p c a b t) s v h = h.3

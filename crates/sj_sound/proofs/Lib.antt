@@ -1,4 +1,5 @@
 pub mod Covered
+pub mod InWorld
 pub mod Mutable
 pub mod Right
 pub mod Same

@@ -6,8 +6,9 @@ use Rattle.std.specs.List.{list_any}
 use Rattle.std.specs.Ordering.{int_eq}
 use Rattle.outcomes.specs.Outcome.{Lines, End, Done, Going, Wrong, Out, then_do, after}
 use Rattle.ir_mean.specs.Meaning as ir_meaning
-use Rattle.ir_mean.specs.Operators.{unary_value, binary_value}
+use Rattle.ir_mean.specs.Operators.{Answer, unary_value, binary_value}
 use Rattle.ir_mean.specs.States as ir
+use Rattle.ir_mean.specs.Sure.{sure_locals}
 use Rattle.ir_mean.specs.World.{World, member_of}
 use Rattle.sj_desugar.specs.Desugar.{member}
 use Rattle.sj_desugar.specs.Plain.{is_no_type}
@@ -112,8 +113,8 @@ module _ (sub : IrType → IrType → Type 0) (law : IsSubtyping sub) (is_linked
   one_right : (s : Scene) (inner : List ParamDef) (q t : IrType) (r : ir.Run) (act : List ir.Value → ir.Run) (env : ir.Env) (st : ir.State) → Right s q (r env st) → ((v : ir.Value) (env : ir.Env) (st : ir.State) → GivesType v q → EnvTyped s.locals env → Comes (CameRight s inner t) (act (v ∷ []) env st).end) → Comes (CameRight s inner t) (ir_meaning.in_order (r ∷ []) act env st).end
   one_right s inner q t r act env st h on = go_on_right s s.locals q (CameRight s inner t) (r env st) (λ v. ir_meaning.in_order [] (λ vs. act (v ∷ vs))) h on (λ l v env st r i g e. left l v env st r i g e)
 
-  value_right : (s : Scene) (t : IrType) (o : Option ir.Value) (env : ir.Env) (st : ir.State) → Gives sub law t o → EnvTyped s.locals env → Right s t (ir_meaning.value_or_wrong o env st)
-  value_right s t _ env st (some_of v h) e = gave v env st (inr h) e
+  value_right : (low : ir_meaning.Low) (s : Scene) (t : IrType) (o : Answer) (env : ir.Env) (st : ir.State) → Gives sub law t o → EnvTyped s.locals env → Right s t (ir_meaning.answered w low o env st)
+  value_right low s t _ env st (some_of v h) e = gave v env st (inr h) e
 
   local_right : (s : Scene) (t : IrType) (o : Option ir.Value) (env : ir.Env) (st : ir.State) → HoldsType o t → EnvTyped s.locals env → Right s t (ir_meaning.local_value o env st)
   local_right s t _ env st (holds_type v _ h) e = gave v env st (inr h) e
@@ -231,7 +232,7 @@ module _ (sub : IrType → IrType → Type 0) (law : IsSubtyping sub) (is_linked
       b = bound l.definition.params m.method.params vs l.parameters fit
 
       inner : ir.Env
-      inner = record { this_value = None; locals = b.locals }
+      inner = record { this_value = None; locals = b.locals; sure = sure_locals l.its_body }
 
       called : ir_meaning.call low (member_of w m.class m.namespace m.method) None vs env st ≡ then_do (low l.its_body inner st) (ir_meaning.returned l.definition.result env)
       called = ap (λ o. ir_meaning.call low o None vs env st) l.found ∙ ap (λ o. ir_meaning.body_call low l.definition.result o None (ir_meaning.parameters l.definition.params vs) env st) l.has_body ∙ ap (λ o. ir_meaning.body_call low l.definition.result (Some l.its_body) None o env st) b.are
@@ -288,8 +289,8 @@ module _ (sub : IrType → IrType → Type 0) (law : IsSubtyping sub) (is_linked
     one_or_later s t true q others env st h k = h
     one_or_later s t false q others env st h k = k
 
-    division_right : (o : BinaryOp) (e d : Term) (s : Scene) → IsDivision o → IsDivisor d → sub (type_of_term e) Int → (env : ir.Env) (st : ir.State) → Right s (type_of_term e) (step e env st) → Right s (binary_result o) (ir_meaning.in_order (step e ∷ step d ∷ []) (ir_meaning.binary o) env st)
-    division_right o e _ s i (divisor p n k ne) f env st h = go_on_right s s.locals (type_of_term e) (CameRight s s.locals (binary_result o)) (step e env st) (λ v. ir_meaning.in_order (step (int_literal p n) ∷ []) (λ vs. ir_meaning.binary o (v ∷ vs))) h (λ v env st g j. value_right s (binary_result o) (binary_value o v (ir.number n)) env st (division_gives sub law o i v (as_int sub law v (operand-type v (type_of_term e) Int g f int_not)) n ne) j) (λ l v env st r i g e. left l v env st r i g e)
+    division_right : (o : BinaryOp) (e d : Term) (s : Scene) → IsDivision o → IsDivisor d → sub (type_of_term e) Int → (env : ir.Env) (st : ir.State) → Right s (type_of_term e) (step e env st) → Right s (binary_result o) (ir_meaning.in_order (step e ∷ step d ∷ []) (ir_meaning.binary w low o) env st)
+    division_right o e _ s i (divisor p n k ne) f env st h = go_on_right s s.locals (type_of_term e) (CameRight s s.locals (binary_result o)) (step e env st) (λ v. ir_meaning.in_order (step (int_literal p n) ∷ []) (λ vs. ir_meaning.binary w low o (v ∷ vs))) h (λ v env st g j. value_right low s (binary_result o) (binary_value o v (ir.number n)) env st (division_gives sub law o i v (as_int sub law v (operand-type v (type_of_term e) Int g f int_not)) n ne) j) (λ l v env st r i g e. left l v env st r i g e)
 
     mutual
       pub tree_right : (t : Term) → TreeRight t
@@ -304,8 +305,8 @@ module _ (sub : IrType → IrType → Type 0) (law : IsSubtyping sub) (is_linked
       tree_right (do_while p b c) = λ s v h fresh env st i. comes_then (Turned s (loop_type c)) (CameRight s s.locals (loop_type c)) (ir.go_on (step b env st) (λ v. ir_meaning.in_order (step c ∷ []) (ir_meaning.branch (ir.given ir.undefined) (λ env s. record { lines = []; end = Done (ir.ends ir.stops env s) })))) (ir_meaning.after_turn (low (do_while p b c))) (do_turn p b c (tree_right b) (tree_right c) s v h fresh env st i) (turn_right s (loop_type c) (low (do_while p b c)) (right (do_while p b c) s v h fresh))
       tree_right (match_on p e cs d t) = λ s v h fresh env st i. operand_right e s t Int (ir_meaning.choose (ir_meaning.branches w low cs) (step d)) env st (tree_right e s v h.3 (λ x o. fresh x (inl o)) env st i) h.0 int_not (λ q env st k i. chosen_right s t (ir_meaning.branches w low cs) (step d) q env st (as_int sub law q k) (λ n. cases_right cs s t v h.4 (λ x o. fresh x (inr (inl o))) (step d) n env st i (yields-right s s.locals d t (step d env st).end h.1 (tree_right d s v h.5 (λ x o. fresh x (inr (inr o))) env st i))))
       tree_right (apply_static p c n m ts t) = λ s v h fresh env st i. arguments_right ts m.params s t v h.2 h.3 fresh (ir_meaning.call low (member_of w c n m) None) env st i (λ vs env st k i. call_right low right (member c n m) (members (member c n m) h.0) s t h.4 vs k env st i)
-      tree_right (unary_op p o e) = λ s v h fresh env st i. operand_right e s (unary_result o) (unary_operand o) (ir_meaning.unary o) env st (tree_right e s v h.2 fresh env st i) h.1 (value-not (unary_operand o) (unary-operand-value o)) (λ q env st k i. value_right s (unary_result o) (unary_value o q) env st (unary_gives sub law o h.0 q k) i)
-      tree_right (binary_op p o e d) = λ s v h fresh env st i. ⊎_elim (λ h. go_on_right s s.locals (type_of_term e) (CameRight s s.locals (binary_result o)) (step e env st) (λ a. ir_meaning.in_order (step d ∷ []) (λ vs. ir_meaning.binary o (a ∷ vs))) (tree_right e s v h.3 (λ x o. fresh x (inl o)) env st i) (λ a env st g i. operand_right d s (binary_result o) (binary_operand o) (λ vs. ir_meaning.binary o (a ∷ vs)) env st (tree_right d s v h.4 (λ x o. fresh x (inr o)) env st i) h.2 (value-not (binary_operand o) (binary-operand-value o)) (λ b env st k i. value_right s (binary_result o) (binary_value o a b) env st (binary_gives sub law o h.0 a b (operand-type a (type_of_term e) (binary_operand o) g h.1 (value-not (binary_operand o) (binary-operand-value o))) k) i)) (λ l v env st r i g e. left l v env st r i g e)) (λ h. division_right o e d s h.0 h.3 h.1 env st (tree_right e s v h.2 (λ x o. fresh x (inl o)) env st i)) h
+      tree_right (unary_op p o e) = λ s v h fresh env st i. operand_right e s (unary_result o) (unary_operand o) (ir_meaning.unary w low o) env st (tree_right e s v h.2 fresh env st i) h.1 (value-not (unary_operand o) (unary-operand-value o)) (λ q env st k i. value_right low s (unary_result o) (unary_value o q) env st (unary_gives sub law o h.0 q k) i)
+      tree_right (binary_op p o e d) = λ s v h fresh env st i. ⊎_elim (λ h. go_on_right s s.locals (type_of_term e) (CameRight s s.locals (binary_result o)) (step e env st) (λ a. ir_meaning.in_order (step d ∷ []) (λ vs. ir_meaning.binary w low o (a ∷ vs))) (tree_right e s v h.3 (λ x o. fresh x (inl o)) env st i) (λ a env st g i. operand_right d s (binary_result o) (binary_operand o) (λ vs. ir_meaning.binary w low o (a ∷ vs)) env st (tree_right d s v h.4 (λ x o. fresh x (inr o)) env st i) h.2 (value-not (binary_operand o) (binary-operand-value o)) (λ b env st k i. value_right low s (binary_result o) (binary_value o a b) env st (binary_gives sub law o h.0 a b (operand-type a (type_of_term e) (binary_operand o) g h.1 (value-not (binary_operand o) (binary-operand-value o))) k) i)) (λ l v env st r i g e. left l v env st r i g e)) (λ h. division_right o e d s h.0 h.3 h.1 env st (tree_right e s v h.2 (λ x o. fresh x (inl o)) env st i)) h
       tree_right (undefined_literal p) = λ s v h fresh env st i. gave ir.undefined env st (inr (has_type Undefined of_undefined (law.same Undefined))) i
       tree_right (null_literal p) = λ s v h fresh env st i. gave ir.null env st (inr (has_type Null of_null (law.same Null))) i
       tree_right (boolean_literal p b) = λ s v h fresh env st i. gave (ir.boolean b) env st (inr (has_type Boolean (of_boolean b) (law.same Boolean))) i

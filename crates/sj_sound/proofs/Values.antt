@@ -1,7 +1,7 @@
 -- Values of types, and what operators give on them.
 use Rattle.std.proofs.Common.{◌≡◌, ℕ, zero, suc, Bool, true, false, List, Some, Option, refl, sym, ap, ◌∙◌, ◌⊎◌, inl, inr}
 use Rattle.std.specs.Prelude.{ℤ, pos, negsuc, ◌≢◌}
-use Rattle.ir_mean.specs.Operators.{unary_value, binary_value, boolean_value, number_value}
+use Rattle.ir_mean.specs.Operators.{Answer, answers, unary_value, binary_value, boolean_value, number_value}
 use Rattle.ir_mean.specs.States as ir
 use Rattle.sj_trees.specs.TypeOf.{unary_result, binary_result}
 use Rattle.sj_trees.specs.declared.operators.BinaryOp.{BinaryOp}
@@ -91,13 +91,13 @@ module _ (sub : IrType → IrType → Type 0) (law : IsSubtyping sub) where
   as_text _ (has_type _ (of_int z) f) = other_kind is_text_type Int String refl refl refl (λ e. cc) (law.lowest Int String refl f)
 
   -- a value of the type is there
-  pub data Gives (t : IrType) : Option ir.Value → Type 0 where
-    some_of : (v : ir.Value) → HasType v t → Gives t (Some v)
+  pub data Gives (t : IrType) : Answer → Type 0 where
+    some_of : (v : ir.Value) → HasType v t → Gives t (answers v)
 
-  yes_or_no : (b : Bool) → Gives Boolean (Some (ir.boolean b))
+  yes_or_no : (b : Bool) → Gives Boolean (answers (ir.boolean b))
   yes_or_no b = some_of (ir.boolean b) (has_type Boolean (of_boolean b) (law.same Boolean))
 
-  int : (z : ℤ) → Gives Int (Some (ir.number z))
+  int : (z : ℤ) → Gives Int (answers (ir.number z))
   int z = some_of (ir.number z) (has_type Int (of_int z) (law.same Int))
 
   unary_number : (o : UnaryOp) (t : IrType) → ((z : ℤ) → Gives (unary_result o) (unary_value o (ir.number z))) → (v : ir.Value) → IsNumber v → Gives (unary_result o) (unary_value o v)

@@ -111,7 +111,7 @@ module _ (sub : IrType → IrType → Type 0) (is_linked : Member → Bool) wher
     Typed s (var_def p x t b e) = sub (type_of_term e) t × HasValue t × (Own e x → ⊥) × Typed s e
     Typed s (skip p) = Unit {0}
     Typed s (block_of p ts) = TypedBlock s ts
-    Typed s (labeled p l t e) = Yields e t × IsResult t × Typed (in_label l t s) e
+    Typed s (labeled p l t e) = Yields e t × (is_char t ≡ false) × Typed (in_label l t s) e
     Typed s (assign p (var_ref q x t) e) = IsVariable s x t × sub (type_of_term e) t × Typed s e
     Typed s (return_to p e l) = ReturnsTo s l e × Typed s e
     Typed s (if_then p c a b t) = sub (type_of_term c) Boolean × Yields a t × Yields b t × (is_char t ≡ false) × Typed s c × Typed s a × Typed s b

@@ -23,11 +23,19 @@ ghost use Rattle.sj_calls.specs.Methods.{FineMethod};
 ghost use Rattle.sj_sound.specs.Linked.{have_functions, IsRight};
 ghost use Rattle.sj_sound.specs.Rules.{KeepsRules};
 ghost use Rattle.sj_sound.specs.Subtyping.{IsSubtyping, IsSubSimply};
+ghost use Rattle.sj_world.specs.Known.{Classes};
+ghost use Rattle.sj_world.specs.Laws.{IsTopped};
+ghost use Rattle.sj_world.specs.Subtypes.{IsSub};
 ghost use Rattle.sj_sound.specs.Worked.{worked_world, worked_methods};
 
 /// Subtyping among types that name no class has the properties that are asked of subtyping.
 pub fn simple_subtypes_are_ordered()
     ensures { IsSubtyping IsSubSimply }
+{}
+
+/// So has subtyping in a world where nothing stands above `java.lang.Object`, in which types may name classes anywhere.
+pub fn subtypes_of_worlds_are_ordered()
+    ensures { (w : Classes) → IsTopped w → IsSubtyping (IsSub w) }
 {}
 
 /// A method whose body keeps the rules is covered by the theorem on calls.

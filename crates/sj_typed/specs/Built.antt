@@ -31,7 +31,7 @@ module _ (is_linked : Member → Bool) where
     Built (var_def p x t b e) = (names_no_class t ≡ true) × (is_char t ≡ false) × Built e
     Built (skip p) = Unit {0}
     Built (block_of p ts) = AllBuilt ts
-    Built (labeled p l t e) = (names_no_class t ≡ true) × IsResult t × Built e
+    Built (labeled p l t e) = (names_no_class t ≡ true) × (is_char t ≡ false) × Built e
     Built (assign p (var_ref q x t) e) = (names_no_class t ≡ true) × Built e
     Built (return_to p e l) = Built e
     Built (if_then p c a b t) = (names_no_class t ≡ true) × (is_char t ≡ false) × Built c × Built a × Built b
