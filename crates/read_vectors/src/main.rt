@@ -5,9 +5,9 @@
 use anyhow::Result;
 use file_listings::{each_class_of_a_file_has_a_listing, each_is_a_byte};
 use listing_print::print_listing;
-use sj_trees::{Code, ReadRefusal};
 use sj_names::{Meter, NoMemory};
 use sj_read::read_class;
+use sj_trees::{Code, ReadRefusal};
 use std::alloc::Global;
 use std::{result, str};
 
