@@ -167,7 +167,7 @@ tests = all_of (tested (new_of (codes "B")) a_type ∷ tested (new_of (codes "A"
 
 -- what a finalizer throws or leaves takes the place of the block's end; else the end is that of the block
 abbrev pub finals : Term
-finals = all_of (caught (try_finally nowhere (throw nowhere (word (codes "1"))) (throw nowhere (word (codes "2")))) ∷ says (try_catch nowhere (try_finally nowhere (throw nowhere (word (codes "1"))) (logs (codes "f"))) (codes "e") (as_instance_of nowhere (var_ref nowhere (codes "e") types.Any) types.String) types.String) ∷ says (labeled nowhere (codes "l") types.Int (try_finally nowhere (return_to nowhere (whole 1) (codes "l")) (return_to nowhere (whole 2) (codes "l")))) ∷ says (try_finally nowhere (whole 3) (logs (codes "g"))) ∷ [])
+finals = all_of (says (try_catch nowhere (try_finally nowhere (throw nowhere (word (codes "1"))) (throw nowhere (word (codes "2")))) (codes "e") (as_instance_of nowhere (var_ref nowhere (codes "e") types.Any) types.String) types.String) ∷ says (try_catch nowhere (try_finally nowhere (throw nowhere (word (codes "1"))) (logs (codes "f"))) (codes "e") (as_instance_of nowhere (var_ref nowhere (codes "e") types.Any) types.String) types.String) ∷ says (labeled nowhere (codes "l") types.Int (try_finally nowhere (return_to nowhere (whole 1) (codes "l")) (return_to nowhere (whole 2) (codes "l")))) ∷ says (try_finally nowhere (whole 3) (logs (codes "g"))) ∷ [])
 
 -- a value that travels past a finalizer that gives its own jump up
 abbrev pub given_up : Term

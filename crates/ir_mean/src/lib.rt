@@ -91,6 +91,6 @@ pub fn worked_objects()
     ensures modules { objects.shown (objects.modules) 2 ≡ record { lines = codes "loaded" ∷ codes "true" ∷ []; end = Done normal } }
     ensures arrays { objects.shown (objects.arrays) 1 ≡ record { lines = codes "0" ∷ codes "5" ∷ codes "2" ∷ codes "true" ∷ codes "false" ∷ codes "true" ∷ codes "true" ∷ codes "false" ∷ []; end = Done normal } }
     ensures tests { objects.shown (objects.tests) 2 ≡ record { lines = codes "true" ∷ codes "false" ∷ codes "true" ∷ codes "false" ∷ codes "true" ∷ codes "false" ∷ codes "true" ∷ codes "false" ∷ codes "true" ∷ codes "false" ∷ codes "true" ∷ codes "true" ∷ codes "0" ∷ [] ∷ []; end = Done normal } }
-    ensures finals { objects.shown (objects.finals) 1 ≡ record { lines = codes "f" ∷ codes "1" ∷ codes "2" ∷ codes "g" ∷ codes "3" ∷ []; end = Done normal } }
+    ensures finals { objects.shown (objects.finals) 1 ≡ record { lines = codes "2" ∷ codes "f" ∷ codes "1" ∷ codes "2" ∷ codes "g" ∷ codes "3" ∷ []; end = Done normal } }
     ensures given_up { objects.shown (objects.given_up) 1 ≡ record { lines = codes "1" ∷ []; end = Done normal } }
 {}

@@ -46,6 +46,10 @@ finishes = try_finally (statements_of (returns x_use ∷ [])) (statements_of (as
 abbrev pub overrides : List Statement
 overrides = try_finally (statements_of (throw_of (whole 1) ∷ [])) (statements_of (returns (whole 2) ∷ [])) ∷ []
 
+-- `try { try { throw 1; } finally { throw 2; } } catch (y_) { return y_; } return 3;`
+abbrev pub throws_again : List Statement
+throws_again = try_catch (statements_of (try_finally (statements_of (throw_of (whole 1) ∷ [])) (statements_of (throw_of (whole 2) ∷ [])) ∷ [])) (codes "y_") (statements_of (returns (name_use (codes "y_")) ∷ [])) ∷ returns (whole 3) ∷ []
+
 -- `l_: { try { return 1; } finally { break l_; } } return 3;`
 abbrev pub breaks_away : List Statement
 breaks_away = labeled_of (codes "l_") (statements_of (try_finally (statements_of (returns (whole 1) ∷ [])) (statements_of (break_to (codes "l_") ∷ [])) ∷ [])) ∷ returns (whole 3) ∷ []

@@ -104,6 +104,7 @@ pub fn worked_tries()
     ensures hides { given (called_with (throwing.hides) 1 (pos 4)).end ≡ Some (number (pos 1)) }
     ensures finishes { given (called_with (throwing.finishes) 1 (pos 4)).end ≡ Some (number (pos 4)) }
     ensures overrides { given (called_with (throwing.overrides) 1 (pos 4)).end ≡ Some (number (pos 2)) }
+    ensures throws_again { given (called_with (throwing.throws_again) 1 (pos 4)).end ≡ Some (number (pos 2)) }
     ensures breaks_away { given (called_with (throwing.breaks_away) 1 (pos 4)).end ≡ Some (number (pos 3)) }
     ensures going { called_with (throwing.never_finishes) 3 (pos 4) ≡ going }
     ensures no_wrong { called_with (throwing.catches_no_wrong) 1 (pos 4) ≡ wrong }
