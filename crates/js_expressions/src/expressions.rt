@@ -1,4 +1,4 @@
-// Expressions.
+//! Expressions.
 ghost use Rattle.std.specs.Prelude.{◌≡◌, ◌==◌, codes, map};
 ghost use Rattle.exact_place.specs.Reading.{after_at, either_at, lead_at, literal_at, map_at, value_at};
 ghost use Rattle.js_tree.specs.Views.{expression_view, expressions_view};

@@ -3,7 +3,7 @@ pub mod FileSteps
 pub mod HeadSteps
 pub mod Indents
 pub mod Infixes
-pub mod Keywords
+pub mod KeywordTables
 pub mod Literals
 pub mod Loops
 pub mod NumberSteps

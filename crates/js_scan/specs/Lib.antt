@@ -1,3 +1,4 @@
 pub mod Gives
+pub mod Keywords
 pub mod Parts
 pub mod Runs

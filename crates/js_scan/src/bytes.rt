@@ -1,4 +1,4 @@
-// The first bytes of a text: tests, literals and indentation.
+//! The first bytes of a text: tests, literals and indentation.
 ghost use Rattle.std.specs.Prelude.{◌≡◌, ◌+◌, ◌*◌, ◌<◌, ◌≤◌, ◌^◌, length, IfOk, ◌==◌, not};
 ghost use Rattle.exact_place.specs.Reading.{passes, literal_at};
 ghost use Rattle.exact_place.specs.Tokens as tokens;

@@ -1,4 +1,4 @@
-// The names of files.
+//! The names of files.
 ghost use Rattle.std.specs.Prelude.{◌≡◌, IfOk, true};
 ghost use Rattle.std.specs.List.{list_all};
 ghost use Rattle.js_tree.specs.Names.{is_file_character};
@@ -11,7 +11,7 @@ use crate::stop::Stop;
 use sj_names::Text;
 use std::alloc::Global;
 
-/// The characters of a file's name before `.js`.
+// The characters of a file's name before `.js`.
 #[tactic(auto, using(crate::proofs::FileSteps::file_steps))]
 fn file_front_of(bytes: &[u8]) -> Result<(&[u8], &[u8]), Stop>
     ensures gives { Gives (λ x. (x.0.now, x.1.now)) result (reading.file_front_at bytes.now) }

@@ -1,4 +1,4 @@
-// First words: names and the keywords that may stand in their place.
+//! First words: names and the keywords that may stand in their place.
 ghost use Rattle.std.specs.Prelude.{◌≡◌, ◌≤◌, IfOk, length, take, drop};
 ghost use Rattle.exact_place.specs.Reading.{lead_at};
 ghost use Rattle.exact_place.specs.Tokens.{is_front, begins_entry, entry_of};
@@ -8,6 +8,7 @@ ghost use Rattle.js_spelling.specs.Tokens.{name_at, property_at, head_at, new_he
 ghost use Rattle.js_spelling.specs.Words as words;
 
 use crate::bytes::literal;
+use crate::keywords::{expression_keyword, line_keyword, parenthesis_keyword, statement_keyword};
 use crate::names::{is_binding_name, is_property_name, split_name, split_property, text_of};
 use crate::stop::Stop;
 use js_spelling::{
@@ -16,35 +17,6 @@ use js_spelling::{
 use js_tree::BinaryOperator;
 use sj_names::{NoMemory, Text};
 use std::alloc::Global;
-
-/// The keyword that an expression may begin with.
-fn expression_keyword(word: &[u8]) -> Option<Head>
-    ensures { result ≡ entry_of (words.expression_words (λ h. h)) word.now }
-{
-    if word == b"null".as_slice() {
-        Some(Head::Null)
-    } else if word == b"true".as_slice() {
-        Some(Head::True)
-    } else if word == b"false".as_slice() {
-        Some(Head::False)
-    } else if word == b"this".as_slice() {
-        Some(Head::This)
-    } else if word == b"new".as_slice() {
-        Some(Head::New)
-    } else if word == b"BigInt".as_slice() {
-        Some(Head::BigInt)
-    } else if word == b"Number".as_slice() {
-        Some(Head::Number)
-    } else if word == b"Math".as_slice() {
-        Some(Head::Math)
-    } else if word == b"String".as_slice() {
-        Some(Head::String)
-    } else if word == b"console".as_slice() {
-        Some(Head::Console)
-    } else {
-        None
-    }
-}
 
 fn head_word(alloc: Global, word: &[u8]) -> Result<Option<Head>, NoMemory>
     ensures { IfOk result (λ h. h ≡ words.head_of word.now) }
@@ -129,23 +101,6 @@ pub fn new_head_of<'a>(alloc: Global, bytes: &'a [u8]) -> Result<(NewHead, &'a [
     }
 }
 
-/// The keyword that may stand behind an opening parenthesis.
-#[tactic(auto, using(crate::proofs::Keywords::keyword_steps))]
-fn parenthesis_keyword(word: &[u8]) -> Option<ParenthesisHead>
-    ensures { result ≡ entry_of words.parenthesis_words word.now }
-{
-    if word == b"void".as_slice() {
-        Some(ParenthesisHead::Void)
-    } else if word == b"typeof".as_slice() {
-        Some(ParenthesisHead::TypeOf)
-    } else {
-        match expression_keyword(word) {
-            Some(head) => Some(ParenthesisHead::Expression(head)),
-            None => None,
-        }
-    }
-}
-
 fn parenthesis_word(alloc: Global, word: &[u8]) -> Result<Option<ParenthesisHead>, NoMemory>
     ensures { IfOk result (λ h. h ≡ words.parenthesis_head_of word.now) }
 {
@@ -170,41 +125,6 @@ pub fn parenthesis_head_of<'a>(
     }
 }
 
-/// The keyword that a statement may begin with.
-#[tactic(auto, using(crate::proofs::Keywords::keyword_steps))]
-fn statement_keyword(word: &[u8]) -> Option<StatementHead>
-    ensures { result ≡ entry_of words.statement_words word.now }
-{
-    if word == b"const".as_slice() {
-        Some(StatementHead::Const)
-    } else if word == b"let".as_slice() {
-        Some(StatementHead::Let)
-    } else if word == b"super".as_slice() {
-        Some(StatementHead::Super)
-    } else if word == b"throw".as_slice() {
-        Some(StatementHead::Throw)
-    } else if word == b"return".as_slice() {
-        Some(StatementHead::Return)
-    } else if word == b"break".as_slice() {
-        Some(StatementHead::Break)
-    } else if word == b"if".as_slice() {
-        Some(StatementHead::If)
-    } else if word == b"while".as_slice() {
-        Some(StatementHead::While)
-    } else if word == b"do".as_slice() {
-        Some(StatementHead::Do)
-    } else if word == b"try".as_slice() {
-        Some(StatementHead::Try)
-    } else if word == b"switch".as_slice() {
-        Some(StatementHead::Switch)
-    } else {
-        match expression_keyword(word) {
-            Some(head) => Some(StatementHead::Expression(head)),
-            None => None,
-        }
-    }
-}
-
 fn statement_word(alloc: Global, word: &[u8]) -> Result<Option<StatementHead>, NoMemory>
     ensures { IfOk result (λ h. h ≡ words.statement_head_of word.now) }
 {
@@ -226,57 +146,6 @@ pub fn statement_head_of<'a>(
     match statement_word(alloc, word)? {
         Some(head) => Ok((head, rest)),
         None => Err(Stop::Bad(rest.len())),
-    }
-}
-
-/// The keyword that an item may begin with.
-#[tactic(auto, using(crate::proofs::Keywords::keyword_steps))]
-fn item_keyword(word: &[u8]) -> Option<ItemHead>
-    ensures { result ≡ entry_of (words.item_words (λ h. h)) word.now }
-{
-    if word == b"const".as_slice() {
-        Some(ItemHead::Const)
-    } else if word == b"let".as_slice() {
-        Some(ItemHead::Let)
-    } else if word == b"function".as_slice() {
-        Some(ItemHead::Function)
-    } else if word == b"class".as_slice() {
-        Some(ItemHead::Class)
-    } else {
-        match expression_keyword(word) {
-            Some(head) => Some(ItemHead::Expression(head)),
-            None => None,
-        }
-    }
-}
-
-/// The keyword that a line may begin with behind an item.
-#[tactic(auto, using(crate::proofs::Keywords::keyword_steps))]
-fn later_keyword(word: &[u8]) -> Option<LineHead>
-    ensures { result ≡ entry_of words.later_words word.now }
-{
-    if word == b"export".as_slice() {
-        Some(LineHead::Export)
-    } else {
-        match item_keyword(word) {
-            Some(head) => Some(LineHead::Item(head)),
-            None => None,
-        }
-    }
-}
-
-/// The keyword that a line may begin with, where an import may come or not any more.
-fn line_keyword(imports: bool, word: &[u8]) -> Option<LineHead>
-    ensures { result ≡ entry_of (words.line_words imports) word.now }
-{
-    if imports {
-        if word == b"import".as_slice() {
-            Some(LineHead::Import)
-        } else {
-            later_keyword(word)
-        }
-    } else {
-        later_keyword(word)
     }
 }
 
@@ -329,7 +198,7 @@ pub fn member_head_of<'a>(alloc: Global, bytes: &'a [u8]) -> Result<(MemberHead,
     }
 }
 
-/// The operators between two expressions.
+// The operators between two expressions.
 const OPERATORS: [BinaryOperator; 21] = [
     BinaryOperator::Add,
     BinaryOperator::Subtract,
@@ -354,7 +223,7 @@ const OPERATORS: [BinaryOperator; 21] = [
     BinaryOperator::InstanceOf,
 ];
 
-/// Whether the text begins so.
+// Whether the text begins so.
 #[tactic(auto, using(crate::proofs::Infixes::front_prefix))]
 fn begins(word: &[u8], text: &[u8]) -> bool
     ensures { result ≡ is_front word.now text.now }
@@ -362,7 +231,7 @@ fn begins(word: &[u8], text: &[u8]) -> bool
     text.starts_with(word)
 }
 
-/// Whether an operator or `?` begins so.
+// Whether an operator or `?` begins so.
 fn begins_infix(word: &[u8]) -> bool
     ensures { result ≡ begins_entry words.infix_words word.now }
 {
@@ -389,7 +258,7 @@ fn infix_word(word: &[u8]) -> Option<Infix>
     }
 }
 
-/// How many of the first bytes an operator or `?` begins with.
+// How many of the first bytes an operator or `?` begins with.
 fn infix_length(bytes: &[u8]) -> usize
     ensures within { result ≤ length bytes.now }
     ensures split { IsSplit (begins_entry words.infix_words) bytes.now (take result bytes.now) (drop result bytes.now) }
@@ -402,7 +271,7 @@ fn infix_length(bytes: &[u8]) -> usize
     bytes.len()
 }
 
-/// The longest front that an operator or `?` begins with, and the rest.
+// The longest front that an operator or `?` begins with, and the rest.
 fn split_infix(bytes: &[u8]) -> (&[u8], &[u8])
     ensures { IsSplit (begins_entry words.infix_words) bytes.now result.0.now result.1.now }
 {

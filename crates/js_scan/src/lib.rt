@@ -8,6 +8,7 @@
 mod bytes;
 mod files;
 mod heads;
+mod keywords;
 mod lists;
 mod names;
 mod numbers;

@@ -1,4 +1,4 @@
-// Lists of parts that hold no list of the same kind.
+//! Lists of parts that hold no list of the same kind.
 ghost use Rattle.std.specs.Prelude.{◌≡◌, ◌∷◌, List, ℕ, Bool, map, IfOk};
 ghost use Rattle.exact_place.specs.Reading.{Reading, passes, list_at};
 ghost use Rattle.js_scan.specs.Gives.{Gives};

@@ -1,4 +1,4 @@
-// Names: which words are names, and where a run of their characters ends.
+//! Names: which words are names, and where a run of their characters ends.
 ghost use Rattle.std.specs.Prelude.{◌≡◌, ◌<◌, ◌≤◌, ◌++◌, length, take, drop, IfOk, ◌==◌, codes, not, true, nat_lt};
 ghost use Rattle.std.specs.List.{list_all, list_any};
 ghost use Rattle.js_tree.specs.Names.{is_name_character, is_digit, is_mark, is_empty, is_name, is_dunder, is_property, is_file_character};
@@ -17,7 +17,7 @@ fn is_mark_byte(byte: u8) -> bool
     byte == b'_' || byte == b'$' || byte.is_ascii_digit()
 }
 
-/// Whether the byte is a small letter, a digit or `-`.
+// Whether the byte is a small letter, a digit or `-`.
 fn is_file_byte(byte: u8) -> bool
     ensures { result ≡ is_file_character byte }
 {

@@ -1,4 +1,4 @@
-// Numbers and BigInts.
+//! Numbers and BigInts.
 ghost use Rattle.std.specs.Prelude.{◌≡◌, ◌<◌, ◌≤◌, ◌+◌, ◌-◌, ◌^◌, ℤ, negsuc, pos, length, drop, false, IfOk, []};
 ghost use Rattle.exact_place.specs.Reading.{run_at};
 ghost use Rattle.exact_place.specs.Tokens.{begins_number, number_of};
@@ -11,7 +11,7 @@ use crate::bytes::{literal, next_is, next_is_digit};
 use crate::stop::Stop;
 use js_tree::JsExpr;
 
-/// The number that the longest run of digits gives that stays below the limit, and the rest.
+// The number that the longest run of digits gives that stays below the limit, and the rest.
 fn longest_number<'a>(limit: u128, bytes: &'a [u8]) -> (u128, &'a [u8])
     requires some { 0 < limit }
     requires fits { limit < 2 ^ 100 }
@@ -32,7 +32,7 @@ fn longest_number<'a>(limit: u128, bytes: &'a [u8]) -> (u128, &'a [u8])
     (value, &bytes[bytes.len()..])
 }
 
-/// The number that the digits in front give, below the limit, and the rest; a zero stands alone, where it may stand.
+// The number that the digits in front give, below the limit, and the rest; a zero stands alone, where it may stand.
 #[tactic(auto)]
 fn digits_of<'a>(nought: bool, limit: u128, bytes: &'a [u8]) -> Result<(u128, &'a [u8]), Stop>
     requires some { 9 < limit }
@@ -54,7 +54,7 @@ fn digits_of<'a>(nought: bool, limit: u128, bytes: &'a [u8]) -> Result<(u128, &'
     }
 }
 
-/// The number with its sign turned.
+// The number with its sign turned.
 fn negated(value: u128) -> i64
     requires some { 0 < value }
     requires fits { value ≤ 2 ^ 63 }
@@ -71,7 +71,7 @@ fn negated_number(value: u128) -> i32
     -1 - ((value - 1) as i32)
 }
 
-/// What stands behind the digits of a Number or a BigInt.
+// What stands behind the digits of a Number or a BigInt.
 #[tactic(auto, unfolding(js_spelling::specs::Tokens::number_end_at))]
 fn number_end<'a>(value: u128, bytes: &'a [u8]) -> Result<(JsExpr, &'a [u8]), Stop>
     requires { value < 2 ^ 63 }
@@ -94,7 +94,7 @@ pub fn number_of<'a>(bytes: &'a [u8]) -> Result<(JsExpr, &'a [u8]), Stop>
     number_end(value, rest)
 }
 
-/// What stands behind the digits of a negative number.
+// What stands behind the digits of a negative number.
 #[tactic(auto, unfolding(js_spelling::specs::Tokens::below_end_at))]
 fn below_end<'a>(value: u128, bytes: &'a [u8]) -> Result<(JsExpr, &'a [u8]), Stop>
     requires some { 0 < value }

@@ -1,4 +1,4 @@
-// Why a reader stopped.
+//! Why a reader stopped.
 ghost use Rattle.std.specs.Prelude.{◌≡◌};
 
 use sj_names::NoMemory;

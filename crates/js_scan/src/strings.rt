@@ -1,4 +1,4 @@
-// Strings.
+//! Strings.
 ghost use Rattle.std.specs.Prelude.{◌≡◌, ◌<◌, ◌==◌, not, IfOk};
 ghost use Rattle.js_tree.specs.Terms.{text_literal};
 ghost use Rattle.js_tree.specs.Views.{expression_view};
@@ -14,7 +14,7 @@ use sj_names::NoMemory;
 use sj_units::Units;
 use std::alloc::Global;
 
-/// The value of a hexadecimal digit, lower case.
+// The value of a hexadecimal digit, lower case.
 fn hex_value(byte: u8) -> Option<u16>
     ensures value { result ≡ tokens.hex_of byte }
 {
@@ -38,7 +38,7 @@ fn hex_digit(bytes: &[u8]) -> Result<(u16, &[u8]), Stop>
     }
 }
 
-/// The third digit behind the number of the first two.
+// The third digit behind the number of the first two.
 fn third_digit(high: u16, bytes: &[u8]) -> Result<(u16, &[u8]), Stop>
     requires { high < 256 }
     ensures gives { Gives (λ x. (x.0, x.1.now)) result (one_at (tokens.third_of high) bytes.now) }
@@ -59,7 +59,7 @@ fn third_digit(high: u16, bytes: &[u8]) -> Result<(u16, &[u8]), Stop>
     }
 }
 
-/// The fourth digit behind the number of the first three.
+// The fourth digit behind the number of the first three.
 fn fourth_digit(high: u16, bytes: &[u8]) -> Result<(u16, &[u8]), Stop>
     requires { high < 4096 }
     ensures { Gives (λ x. (x.0, x.1.now)) result (one_at (tokens.fourth_of high) bytes.now) }
@@ -89,7 +89,7 @@ fn hex_of_four(bytes: &[u8]) -> Result<(u16, &[u8]), Stop>
     fourth_digit(third, rest)
 }
 
-/// The quote or the backslash, behind a backslash.
+// The quote or the backslash, behind a backslash.
 fn simple_escape(bytes: &[u8]) -> Result<(u16, &[u8]), Stop>
     ensures { Gives (λ x. (x.0, x.1.now)) result (one_at tokens.simple_escape bytes.now) }
 {
@@ -105,7 +105,7 @@ fn simple_escape(bytes: &[u8]) -> Result<(u16, &[u8]), Stop>
     }
 }
 
-/// A character that stands as it is.
+// A character that stands as it is.
 fn plain_unit(bytes: &[u8]) -> Result<(u16, &[u8]), Stop>
     ensures { Gives (λ x. (x.0, x.1.now)) result (one_at tokens.plain_unit bytes.now) }
 {
@@ -171,7 +171,7 @@ impl Item for UnitItem {
     }
 }
 
-/// The string of these units.
+// The string of these units.
 fn text_of_units(units: Vec<u16>) -> Result<JsExpr, NoMemory>
     ensures { IfOk result (λ e. expression_view e ≡ text_literal units.items) }
 {

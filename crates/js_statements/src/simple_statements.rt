@@ -1,4 +1,4 @@
-// Statements that hold no statement.
+//! Statements that hold no statement.
 ghost use Rattle.std.specs.Prelude.{◌≡◌, ◌==◌, codes};
 ghost use Rattle.exact_place.specs.Reading.{after_at, either_at, lead_at, map_at, literal_at, value_at};
 ghost use Rattle.js_tree.specs.Terms as terms;

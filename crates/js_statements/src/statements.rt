@@ -1,4 +1,4 @@
-// Statements and blocks.
+//! Statements and blocks.
 ghost use Rattle.std.specs.Prelude.{◌≡◌, ◌∷◌, ◌+◌, ◌<◌, ◌^◌, ◌==◌, codes, map};
 ghost use Rattle.exact_place.specs.Reading.{after_at, lead_at, literal_at, map_at, value_at};
 ghost use Rattle.js_spelling.specs.Expressions.{expression_at};

@@ -1,4 +1,4 @@
-// The statements of a function, shared by all that hold them.
+//! The statements of a function, shared by all that hold them.
 ghost use Rattle.std.specs.Prelude.{◌≡◌, IfOk};
 ghost use Rattle.js_tree.specs.Views.{body_view, statements_view};
 

@@ -1,4 +1,4 @@
-// Expressions of the subset.
+//! Expressions of the subset.
 ghost use Rattle.std.specs.Prelude.{◌≡◌};
 ghost use Rattle.js_tree.specs.Targets.{is_apart, is_target, target_view};
 ghost use Rattle.js_tree.specs.Views.{expression_view};

@@ -1,4 +1,4 @@
-// Items of a module, the pieces that classes own, and modules.
+//! Items of a module, the pieces that classes own, and modules.
 use crate::bodies::JsBody;
 use crate::expressions::JsExpr;
 use sj_names::{ClassName, Items, Text};

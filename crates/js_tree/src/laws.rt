@@ -1,4 +1,4 @@
-// The law of spelling.
+//! The law of spelling.
 ghost use Rattle.std.specs.Prelude.{◌≡◌, ◌↔◌, List, ℕ};
 ghost use Rattle.js_tree.specs.Terms.{Module, Piece};
 ghost use Rattle.js_tree.specs.Rules.{IsModule, IsPiece};

@@ -1,4 +1,4 @@
-// The operators and the fixed calls of the subset.
+//! The operators and the fixed calls of the subset.
 ghost use Rattle.std.specs.Prelude.{◌≡◌};
 
 /// An operator between two operands (ECMA-262, sections 12.7 to 12.13 of the 2020 edition).

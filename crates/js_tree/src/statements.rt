@@ -1,4 +1,4 @@
-// Statements of the subset.
+//! Statements of the subset.
 use crate::expressions::JsExpr;
 use sj_names::{Items, Text};
 
