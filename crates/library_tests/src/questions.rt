@@ -129,13 +129,13 @@ fn are_types_known<O: Oracle>(alloc: Global, oracle: &mut O) -> Result<bool, Fai
     let sub = oracle.answer(alloc, &subtype(alloc)?)?;
     let class = ClassName::parse(alloc, "A")?;
     let hijacked = oracle.answer(alloc, &Question::HasHijacked(class))?;
-    Ok(matches!(sub, Answer::Yes(true)) && matches!(hijacked, Answer::Yes(false)))
+    Ok(matches!(&sub, Answer::Yes(true)) && matches!(&hijacked, Answer::Yes(false)))
 }
 
 fn are_targets_found<O: Oracle>(alloc: Global, oracle: &mut O) -> Result<bool, Fail> {
     let target = oracle.answer(alloc, &target(alloc)?)?;
     let single = oracle.answer(alloc, &single(alloc)?)?;
-    Ok(matches!(target, Answer::Member(Some(_))) && matches!(single, Answer::Member(Some(_))))
+    Ok(matches!(&target, Answer::Member(Some(_))) && matches!(&single, Answer::Member(Some(_))))
 }
 
 fn are_members_found<O: Oracle>(alloc: Global, oracle: &mut O) -> Result<bool, Fail> {
@@ -143,9 +143,9 @@ fn are_members_found<O: Oracle>(alloc: Global, oracle: &mut O) -> Result<bool, F
     let none = oracle.answer(alloc, &field(alloc, true)?)?;
     let body = oracle.answer(alloc, &Question::Body(member(alloc, "A")?))?;
     Ok(
-        matches!(one, Answer::Field(Some(_)))
-            && matches!(none, Answer::Field(None))
-            && matches!(body, Answer::Body(Some(_))),
+        matches!(&one, Answer::Field(Some(_)))
+            && matches!(&none, Answer::Field(None))
+            && matches!(&body, Answer::Body(Some(_))),
     )
 }
 

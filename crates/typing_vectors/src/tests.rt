@@ -64,14 +64,10 @@ fn an_int_is_no_line(rt: HostRuntime) -> Result<(), Fail> {
     assert!(rt; matches!(verdict, Err(TypeError::Refused { rule: 41, place: 0 })));
     assert_eq!(rt; meter.checked, 1);
     let log = recorder.into_log();
-    assert!(rt;
-        matches!(
-            log.asked.as_slice(),
-            [(
-                Question::IsSub(IrType::Int, IrType::String),
-                Answer::Yes(false)
-            )]
-        )
-    );
+    let asked = log.asked.as_slice();
+    assert_eq!(rt; asked.len(), 1);
+    let (question, answer) = &asked[0];
+    assert!(rt; matches!(question, Question::IsSub(IrType::Int, IrType::String)));
+    assert!(rt; matches!(answer, Answer::Yes(false)));
     Ok(())
 }
