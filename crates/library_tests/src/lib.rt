@@ -8,3 +8,5 @@ mod outside;
 mod questions;
 #[cfg(test)]
 mod trees;
+#[cfg(test)]
+mod typing;

@@ -13,16 +13,27 @@ fn some_contents(alloc: Global) -> Result<Contents, ContentsError> {
         .with_folder(alloc, "f1", inner)
 }
 
+fn some_folders(alloc: Global) -> Result<FoldersInMemory, ContentsError> {
+    Ok(FoldersInMemory::new(some_contents(alloc)?, Vec::new(alloc)))
+}
+
 #[test]
-fn contents_are_read(rt: HostRuntime) -> Result<(), Fail> {
+fn folders_are_listed(rt: HostRuntime) -> Result<(), Fail> {
     let alloc = rt.alloc();
-    let mut folders = FoldersInMemory::new(some_contents(alloc)?, Vec::new(alloc));
+    let mut folders = some_folders(alloc)?;
     let entries = folders.list(alloc, "")?;
     assert_eq!(rt; entries.len(), 2);
     assert_eq!(rt; entries[0].name.as_str(), "f1");
     assert!(rt; entries[0].is_folder);
     assert_eq!(rt; entries[1].name.as_str(), "entries");
     assert!(rt; !entries[1].is_folder);
+    Ok(())
+}
+
+#[test]
+fn files_are_read(rt: HostRuntime) -> Result<(), Fail> {
+    let alloc = rt.alloc();
+    let mut folders = some_folders(alloc)?;
     assert_eq!(rt; folders.list(alloc, "f1/")?.len(), 1);
     assert_eq!(rt;
         folders.read(alloc, "f1/a.sjsir", 4)?.as_slice(),
@@ -33,28 +44,31 @@ fn contents_are_read(rt: HostRuntime) -> Result<(), Fail> {
         b"ab".as_slice()
     );
     assert_eq!(rt; folders.missing, 0);
-    assert_eq!(rt;
-        folders.read(alloc, "f1", 9).err(),
-        Some(OutsideError::Failed)
-    );
-    assert_eq!(rt;
-        folders.list(alloc, "entries").err(),
-        Some(OutsideError::Failed)
-    );
-    assert_eq!(rt;
-        folders.read(alloc, "f1/a.sjsir/", 9).err(),
-        Some(OutsideError::Failed)
-    );
+    Ok(())
+}
+
+#[test]
+fn what_is_missing_is_counted(rt: HostRuntime) -> Result<(), Fail> {
+    let alloc = rt.alloc();
+    let mut folders = some_folders(alloc)?;
+    let folder = folders.read(alloc, "f1", 9).err();
+    let file = folders.list(alloc, "entries").err();
+    let behind = folders.read(alloc, "f1/a.sjsir/", 9).err();
+    assert_eq!(rt; folder, Some(OutsideError::Failed));
+    assert_eq!(rt; file, Some(OutsideError::Failed));
+    assert_eq!(rt; behind, Some(OutsideError::Failed));
     assert_eq!(rt; folders.missing, 3);
     assert_eq!(rt; folders.calls.faults, 3);
-    assert_eq!(rt;
-        some_contents(alloc)?.with_file(alloc, "f1", b"").err(),
-        Some(ContentsError::BadName)
-    );
-    assert_eq!(rt;
-        some_contents(alloc)?.with_file(alloc, "a/b", b"").err(),
-        Some(ContentsError::BadName)
-    );
+    Ok(())
+}
+
+#[test]
+fn bad_names_are_refused(rt: HostRuntime) -> Result<(), Fail> {
+    let alloc = rt.alloc();
+    let twice = some_contents(alloc)?.with_file(alloc, "f1", b"").err();
+    let slash = some_contents(alloc)?.with_file(alloc, "a/b", b"").err();
+    assert_eq!(rt; twice, Some(ContentsError::BadName));
+    assert_eq!(rt; slash, Some(ContentsError::BadName));
     Ok(())
 }
 

@@ -5,8 +5,6 @@
 
 mod reports;
 mod spellings;
-#[cfg(test)]
-mod tests;
 
 use anyhow::Result;
 use reports::report;

@@ -1,7 +1,7 @@
 // What no clause says: that a check with memory left is answered. A line of output of an int is refused at its tree, after one question.
 ghost use Rattle.std.specs.Prelude.{IfOk, IsSome};
 
-use sj_ask::{Answer, Question, TypeError, WorldOracle};
+use sj_ask::{Answer, Log, Question, TypeError, WorldOracle};
 use sj_names::{ClassName, Member, Meter, MethodName, Namespace, NoMemory, Shared};
 use sj_recorder::Recorder;
 use sj_trees::{Body, IrType, MethodDef, ParamDef, Position, Tree};
@@ -52,18 +52,23 @@ fn member(alloc: Global) -> Result<Member, Fail> {
     })
 }
 
-#[test]
-fn an_int_is_no_line(rt: HostRuntime) -> Result<(), Fail> {
-    let alloc = rt.alloc();
+// Whether the method is refused at its tree, and the log of what was asked.
+fn checked(alloc: Global, meter: &mut Meter) -> Result<(bool, Log), Fail> {
     let k = member(alloc)?;
     let method = log_of_int(alloc)?;
     let world = LinkedWorld::new(alloc, Vec::new(alloc), Vec::new(alloc), Vec::new(alloc))?;
     let mut recorder = Recorder::new(alloc, k.copied()?, WorldOracle::new(&world, &k));
+    let verdict = check_method(alloc, &method, &mut recorder, meter);
+    let is_refused = matches!(verdict, Err(TypeError::Refused { rule: 41, place: 0 }));
+    Ok((is_refused, recorder.into_log()))
+}
+
+#[test]
+fn an_int_is_no_line(rt: HostRuntime) -> Result<(), Fail> {
     let mut meter = Meter::new();
-    let verdict = check_method(alloc, &method, &mut recorder, &mut meter);
-    assert!(rt; matches!(verdict, Err(TypeError::Refused { rule: 41, place: 0 })));
+    let (is_refused, log) = checked(rt.alloc(), &mut meter)?;
+    assert!(rt; is_refused);
     assert_eq!(rt; meter.checked, 1);
-    let log = recorder.into_log();
     let asked = log.asked.as_slice();
     assert_eq!(rt; asked.len(), 1);
     let (question, answer) = &asked[0];
