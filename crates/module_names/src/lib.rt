@@ -1,0 +1,8 @@
+//! The names of internal modules, which are made of their keys.
+#![tactic(auto)]
+
+mod laws;
+mod naming;
+
+pub use laws::worked_names;
+pub use naming::internal_names;

@@ -1,0 +1,64 @@
+// The names of internal modules.
+ghost use Rattle.std.specs.Prelude.{◌≡◌, IfOk, map, count_by, nat_eq};
+ghost use Rattle.std.specs.Cmp.Lexicographic.{pointwise};
+ghost use Rattle.module_names.specs.Names.{sha1_digest, internal_name, names_of};
+
+use sha1::Sha1;
+use sj_names::{NoMemory, Text};
+use std::alloc::Global;
+
+const INTERNAL: &str = "internal-";
+
+/// The names of the internal modules with these keys, in the order of the keys: `internal-` and the SHA-1 of the key (FIPS 180-4)
+/// in lower-case hexadecimal. Where keys share a digest, the second of them adds `-1`, the third `-2`, and so on.
+pub fn internal_names(alloc: Global, keys: &[Text]) -> Result<Vec<Text>, NoMemory>
+    ensures { IfOk result (λ names. names.items ≡ names_of sha1_digest keys.now) }
+{
+    let digests = digests(alloc, keys)?;
+    let mut names = Vec::new(alloc);
+    for (place, digest) in digests.iter().enumerate() {
+        let earlier = count_same(&digests[..place], digest);
+        names.push(name(alloc, digest, earlier)?)?;
+    }
+    Ok(names)
+}
+
+// The digests of keys.
+fn digests(alloc: Global, keys: &[Text]) -> Result<Vec<Text>, NoMemory>
+    ensures { IfOk result (λ digests. digests.items ≡ map sha1_digest keys.now) }
+{
+    let mut digests = Vec::new(alloc);
+    for key in keys {
+        digests.push(digest(alloc, key)?)?;
+    }
+    Ok(digests)
+}
+
+fn digest(alloc: Global, key: &Text) -> Result<Text, NoMemory>
+    ensures { IfOk result (λ digest. digest ≡ sha1_digest key.now) }
+{
+    let bytes = Sha1::digest(key.as_str().as_bytes());
+    let digits = hex::encode(alloc, bytes.as_slice())?;
+    Ok(Text::from_string(digits)?)
+}
+
+// How many of `digests` are this one.
+fn count_same(digests: &[Text], digest: &Text) -> usize
+    ensures { result ≡ count_by (λ other. pointwise nat_eq other digest.now) digests.now }
+{
+    digests.iter().filter(|other| other.is_same(digest)).count()
+}
+
+// The name of a module whose key has this digest, as so many keys before it do.
+fn name(alloc: Global, digest: &Text, earlier: usize) -> Result<Text, NoMemory>
+    ensures { IfOk result (λ name. name ≡ internal_name digest.now earlier) }
+{
+    let mut name = String::from_str(alloc, INTERNAL)?;
+    name.push_str(digest.as_str())?;
+    if earlier > 0 {
+        name.push_str("-")?;
+        let number = format!(in alloc; "{earlier}")?;
+        name.push_str(number.as_str())?;
+    }
+    Ok(Text::from_string(name)?)
+}

@@ -1,0 +1,3 @@
+pub mod SameReferences
+pub mod Exact
+pub mod Taken
