@@ -1,0 +1,10 @@
+pub mod Members
+pub mod Walked
+pub mod Tagged
+pub mod Least
+pub mod Joins
+pub mod Settles
+pub mod Planned
+pub mod Sorted
+pub mod Unique
+pub mod LawsHold

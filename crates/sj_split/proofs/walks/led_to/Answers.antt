@@ -1,0 +1,10 @@
+use Rattle.std.proofs.Common.{subst, Contains}
+use Rattle.std.specs.Prelude.{◌↔◌}
+use Rattle.worklist.specs.Paths.{Path, Leads}
+use Rattle.sj_split.specs.Walks.{Name}
+use Rattle.sj_split.specs.Steps.{targets}
+use Rattle.sj_split.proofs.Walked.{found_targets}
+use Rattle.sj_split.proofs.walks.led_to.Goals as goal
+
+pub returns : goal.returns
+returns c other = found_targets c.args.references.now c.args.class.now other c.in_ok-found.found.keys (subst (λ (n : Name). Contains c.in_ok-found.found.keys other ↔ Path (Leads (targets c.args.references.now)) n other) c.in_ok-copied.ensures (c.in_ok-found.ensures.reached other))

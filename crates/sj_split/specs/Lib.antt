@@ -1,0 +1,7 @@
+pub mod Orders
+pub mod Walks
+pub mod Homes
+pub mod Modules
+pub mod Steps
+pub mod Files
+pub mod Laws

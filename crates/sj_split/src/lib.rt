@@ -1,0 +1,16 @@
+//! The plan of modules: which classes and initializers stand in which file, in both styles of splitting.
+#![tactic(auto)]
+
+mod components;
+mod homes;
+mod laws;
+mod modules;
+mod orders;
+mod plans;
+mod settling;
+mod tags;
+mod walks;
+
+pub use laws::{components_are_homes, homes_are_one, tags_decide_homes, worked_homes};
+pub use modules::plan;
+pub use plans::{Plan, PlannedModule, Style};
