@@ -1,7 +1,12 @@
-// Worked names.
+// A law of names, and worked names.
 ghost use Rattle.std.specs.Prelude.{◌≡◌, ◌∷◌, [], codes};
 ghost use Rattle.module_names.specs.Names.{names_of};
-ghost use Rattle.module_names.specs.Laws.{one_digest, first_byte};
+ghost use Rattle.module_names.specs.Laws.{NamesDiffer, one_digest, first_byte};
+
+/// Where all digests have one length, no two keys have one name.
+pub fn names_differ()
+    ensures { NamesDiffer }
+{}
 
 /// Worked names: three keys with one digest, and three of which two have the same.
 pub fn worked_names()

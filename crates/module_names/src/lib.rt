@@ -4,5 +4,5 @@
 mod laws;
 mod naming;
 
-pub use laws::worked_names;
+pub use laws::{names_differ, worked_names};
 pub use naming::internal_names;
