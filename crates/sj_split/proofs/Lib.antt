@@ -8,3 +8,5 @@ pub mod Planned
 pub mod Sorted
 pub mod Unique
 pub mod LawsHold
+pub mod OnePlace
+pub mod Ids

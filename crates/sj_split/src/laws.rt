@@ -2,7 +2,7 @@
 ghost use Rattle.std.specs.Prelude.{◌≡◌, ◌∷◌, [], Some, None, codes};
 ghost use Rattle.sj_split.specs.declared.homes.Home.TheVariants.{Public, Internal};
 ghost use Rattle.sj_split.specs.Homes.{home_of_tags};
-ghost use Rattle.sj_split.specs.Laws.{ComponentsAreHomes, TagsDecideHomes, OneHome};
+ghost use Rattle.sj_split.specs.Laws.{ComponentsAreHomes, TagsDecideHomes, HomesTellTags, OneHome, OnePlace};
 
 /// In smallest style two classes are in one module exactly where walks lead both ways between them.
 pub fn components_are_homes()
@@ -14,9 +14,19 @@ pub fn tags_decide_homes()
     ensures { TagsDecideHomes }
 {}
 
-/// A class is in one module at most.
+/// In fewest style the same public modules reach two classes that are in one module.
+pub fn homes_tell_tags()
+    ensures { HomesTellTags }
+{}
+
+/// A class has one home.
 pub fn homes_are_one()
     ensures { OneHome }
+{}
+
+/// No class is in two modules of a plan.
+pub fn classes_have_one_place()
+    ensures { OnePlace }
 {}
 
 /// Worked homes: no tag, one tag, and two.

@@ -11,6 +11,9 @@ mod settling;
 mod tags;
 mod walks;
 
-pub use laws::{components_are_homes, homes_are_one, tags_decide_homes, worked_homes};
+pub use laws::{
+    classes_have_one_place, components_are_homes, homes_are_one, homes_tell_tags,
+    tags_decide_homes, worked_homes,
+};
 pub use modules::plan;
 pub use plans::{Plan, PlannedModule, Style};
