@@ -1,18 +1,17 @@
 -- The home of tags tells the tags, since no id holds a space.
-use Rattle.std.proofs.Common.{◌≡◌, ℕ, Bool, true, false, List, [], ◌∷◌, ◌++◌, Contains, refl, sym, ap, ◌∙◌, subst, inl, inr, arith, eqb}
-use Rattle.std.specs.Prelude.{◌⊎◌, ◌↔◌, ◌&&◌, All, Some, IsTrue, not, length, nat_le, nat_eq, codes, slice_index}
-use Rattle.std.specs.List.{list_all, starts_with, join_with_byte, slice_split}
+use Rattle.std.proofs.Common.{◌≡◌, ℕ, Bool, true, false, List, [], ◌∷◌, Contains, refl, sym, ap, ◌∙◌, subst, inl, inr, arith, eqb}
+use Rattle.std.specs.Prelude.{◌↔◌, ◌&&◌, All, Some, length, nat_le}
+use Rattle.std.specs.List.{list_all, join_with_byte, slice_split}
 use Rattle.std.proofs.lemmas.Bool.{and_parts}
 use Rattle.std.proofs.lemmas.Bool.Decides.{nat_tests}
 use Rattle.std.proofs.lemmas.List.Elements.{All-nil, All-cons}
 use Rattle.std.proofs.lemmas.List.Splits.{slice_split_none, slice_split_at}
-use Rattle.sj_names.specs.EntryPoints.{is_letter, is_id_byte, is_public_id, is_entry, AreEntries}
+use Rattle.sj_names.specs.EntryPoints.{is_id_byte, is_public_id, is_entry}
 use Rattle.sj_names.specs.declared.entry_points.EntryPoint.{EntryPoint}
 use Rattle.worklist.proofs.Inserted.{nothing_in}
 use Rattle.sj_split.specs.declared.homes.Home.{Home}
-use Rattle.sj_split.specs.declared.homes.Home.TheVariants.{Public, Internal}
-use Rattle.sj_split.specs.Walks.{Name, Id, References, Reaches}
-use Rattle.sj_split.specs.Homes.{home_of_tags, IsHomeByTags}
+use Rattle.sj_split.specs.Walks.{Name, Id, Reaches}
+use Rattle.sj_split.specs.Homes.{home_of_tags}
 use Rattle.sj_split.specs.Laws.{HomesTellTags}
 use Rattle.sj_split.proofs.Members.{at_first, further, cons_cases}
 use Rattle.sj_split.proofs.Walked.{then_both}

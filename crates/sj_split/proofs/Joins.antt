@@ -1,5 +1,5 @@
 -- Texts joined by one space.
-use Rattle.std.proofs.Common.{◌≡◌, ℕ, List, [], ◌∷◌, ◌++◌, refl, ap, ◌∙◌, append-nil, sym}
+use Rattle.std.proofs.Common.{◌≡◌, ℕ, List, [], ◌∷◌, ◌++◌, ap, append-nil}
 use Rattle.std.specs.List.{join_with_byte}
 
 -- what stands behind the first text

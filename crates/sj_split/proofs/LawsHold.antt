@@ -1,18 +1,17 @@
 -- The laws of homes hold.
-use Rattle.std.proofs.Common.{◌≡◌, List, Contains, refl, sym, ap, ◌∙◌, subst}
-use Rattle.std.specs.Prelude.{◌↔◌, Some}
+use Rattle.std.proofs.Common.{◌≡◌, refl, sym, ap, ◌∙◌, subst}
+use Rattle.std.specs.Prelude.{Some}
 use Rattle.std.specs.declared.cmp.Ordering.{Ordering}
 use Rattle.std.specs.declared.cmp.Ordering.TheVariants.{Less, Equal, Greater}
 use Rattle.std.specs.Ordering.{nat_cmp, is_eq, ordering_reverse}
 use Rattle.std.specs.Cmp.Lexicographic.{slice_cmp, texts_ties, nat_list_cmp_total}
-use Rattle.sj_names.specs.declared.entry_points.EntryPoint.{EntryPoint}
 use Rattle.worklist.specs.Paths.{stay}
 use Rattle.sj_split.specs.declared.homes.Home.{Home}
 use Rattle.sj_split.specs.declared.homes.Home.TheVariants.{Internal}
 use Rattle.sj_split.specs.declared.plans.Style.TheVariants.{Fewest, Smallest}
 use Rattle.sj_split.specs.Orders.{Bytes, IsBefore}
-use Rattle.sj_split.specs.Walks.{Name, Id, References, SameComponent, IsLeastOfComponent}
-use Rattle.sj_split.specs.Homes.{home_of_tags, IsHomeByTags, IsHomeByComponent}
+use Rattle.sj_split.specs.Walks.{Name, References, SameComponent, IsLeastOfComponent}
+use Rattle.sj_split.specs.Homes.{home_of_tags}
 use Rattle.sj_split.specs.Laws.{ComponentsAreHomes, TagsDecideHomes, OneHome}
 use Rattle.sj_split.proofs.Walked.{joined, same_name, then_both}
 use Rattle.sj_split.proofs.Unique.{one_list}

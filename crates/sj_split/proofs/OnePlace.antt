@@ -3,7 +3,7 @@ use Rattle.std.proofs.Common.{◌≡◌, Bool, true, false, List, [], ◌∷◌,
 use Rattle.std.specs.Prelude.{◌⊎◌, filter, if◌then◌else◌}
 use Rattle.std.proofs.lemmas.List.Elements.{Contains-append_cases}
 use Rattle.std.proofs.lemmas.List.Sorted.{Contains-permutation, IsPermutation-sym}
-use Rattle.module_names.specs.Names.{Key, Digest, names_of}
+use Rattle.module_names.specs.Names.{Key, names_of}
 use Rattle.sj_names.specs.declared.entry_points.EntryPoint.{EntryPoint}
 use Rattle.worklist.proofs.Inserted.{nothing_in, only_one}
 use Rattle.sj_graph.specs.declared.graphs.Graph.{Graph}
@@ -14,9 +14,9 @@ use Rattle.sj_split.specs.declared.plans.PlannedModule.{PlannedModule}
 use Rattle.sj_split.specs.Orders.{Bytes, IsBefore, AreIncreasing}
 use Rattle.sj_split.specs.Walks.{Name, Id}
 use Rattle.sj_split.specs.Homes.{class_of}
-use Rattle.sj_split.specs.Modules.{is_public, is_internal, classes_at, public_module, has_piece, with_piece, module_without_initializers, internal_modules, IsPlan}
+use Rattle.sj_split.specs.Modules.{is_public, is_internal, classes_at, public_module, has_piece, with_piece, module_without_initializers, internal_modules}
 use Rattle.sj_split.specs.Laws.{OnePlace}
-use Rattle.sj_split.proofs.Members.{at_first, further, cons_cases, into_map, Mapped, from_map, Passed, from_filter}
+use Rattle.sj_split.proofs.Members.{at_first, further, cons_cases, into_map, Mapped, from_map, from_filter}
 use Rattle.sj_split.proofs.Walked.{same_name}
 use Rattle.sj_split.proofs.Least.{not_before_itself}
 use Rattle.sj_split.proofs.Unique.{below_each, first_of_increasing, rest_of_increasing}

@@ -1,20 +1,19 @@
 -- Homes that are found are the homes.
 use Rattle.std.proofs.Common.{◌≡◌, ℕ, ◌+◌, ◌<◌, List, [], ◌∷◌, ◌++◌, Contains, refl, sym, ap, ◌∙◌, subst, map, take, length, get_or, inl, inr}
-use Rattle.std.specs.Prelude.{◌⊎◌, ◌↔◌, Some, None}
+use Rattle.std.specs.Prelude.{◌⊎◌}
 use Rattle.std.proofs.lemmas.List.{take_more, map-append}
 use Rattle.std.proofs.lemmas.List.Elements.{Contains-push_cases}
 use Rattle.std.proofs.Math.Seq.{take-length}
 use Rattle.sj_names.specs.declared.entry_points.EntryPoint.{EntryPoint}
 use Rattle.worklist.proofs.Inserted.{nothing_in}
-use Rattle.sj_split.specs.declared.homes.Home.{Home}
 use Rattle.sj_split.specs.declared.homes.Settled.{Settled}
 use Rattle.sj_split.specs.declared.plans.Style.{Style}
-use Rattle.sj_split.specs.declared.plans.Style.TheVariants.{Fewest, Smallest}
+use Rattle.sj_split.specs.declared.plans.Style.TheVariants.{Smallest}
 use Rattle.sj_split.specs.Orders.{AreIncreasing}
-use Rattle.sj_split.specs.Walks.{Name, Id, References, IsReached, AreTags, IsLeastOfComponent}
-use Rattle.sj_split.specs.Homes.{class_of, home_of_tags, IsHome, AreHomes}
+use Rattle.sj_split.specs.Walks.{Name, References}
+use Rattle.sj_split.specs.Homes.{class_of, IsHome, AreHomes}
 use Rattle.sj_split.specs.Steps.{AreReached, AreSettled, IsLeastHome}
-use Rattle.sj_split.proofs.Members.{into_map, Mapped, from_map}
+use Rattle.sj_split.proofs.Members.{into_map}
 
 -- what holds once items were made for the first names
 pub record Gathering {X : Type 0} (key : X → Name) (Right : X → Type 0) (names : List Name) (done : ℕ) (items : List X) : Type 0 where

@@ -1,5 +1,5 @@
 -- Modules in the order of their files.
-use Rattle.std.proofs.Common.{◌≡◌, ℕ, ◌+◌, ◌<◌, List, Bool, false, sym, ap, ◌∙◌, subst, map, length, get_or, arith}
+use Rattle.std.proofs.Common.{◌≡◌, ◌+◌, ◌<◌, List, Bool, sym, ap, ◌∙◌, subst, map, length, get_or, arith}
 use Rattle.std.specs.Prelude.{All}
 use Rattle.std.specs.List.Sorted.{IsPermutation, IsSortedBy, IsSortedByKey}
 use Rattle.std.specs.Ordering.{nat_cmp, is_lt}

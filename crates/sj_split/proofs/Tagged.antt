@@ -1,6 +1,6 @@
 -- Tags that are found are the tags.
-use Rattle.std.proofs.Common.{◌≡◌, ◌<◌, length, arith, Bool, true, false, List, [], ◌∷◌, Contains, refl, sym, ap, ◌∙◌, subst, map, cond}
-use Rattle.std.specs.Prelude.{◌⊎◌, ◌↔◌, filter}
+use Rattle.std.proofs.Common.{◌≡◌, ◌<◌, length, arith, Bool, true, false, List, [], ◌∷◌, Contains, refl, sym, subst, map, cond}
+use Rattle.std.specs.Prelude.{filter}
 use Rattle.std.specs.List.{list_any, AllByRecursion}
 use Rattle.std.specs.List.Sorted.{IsStrictlySortedBy}
 use Rattle.std.specs.Ordering.{nat_cmp}
@@ -15,8 +15,8 @@ use Rattle.sj_split.specs.Orders.{Bytes, is_same, AreIncreasing}
 use Rattle.sj_split.specs.Walks.{Name, Id, References, Reaches, IsReached, AreTags}
 use Rattle.sj_split.specs.Modules.{AreIds, module_of}
 use Rattle.sj_split.specs.Steps.{id_of, tags_in, AreReaches}
-use Rattle.sj_split.proofs.Members.{at_first, further, into_map, Mapped, from_map, into_filter, Passed, from_filter}
-use Rattle.sj_split.proofs.Walked.{is_same_itself, same_name}
+use Rattle.sj_split.proofs.Members.{into_map, Mapped, from_map, into_filter, from_filter}
+use Rattle.sj_split.proofs.Walked.{same_name}
 
 abbrev pub Below : Bytes → List Bytes → Type 0
 Below first texts = AllByRecursion (λ y. slice_cmp nat_cmp first y ≡ Less) texts

@@ -11,7 +11,7 @@ use Rattle.sj_graph.specs.References.{reference}
 use Rattle.sj_split.specs.Orders.{is_same}
 use Rattle.sj_split.specs.Walks.{Name, Id, References, Refers, Walk, Reaches, IsReached}
 use Rattle.sj_split.specs.Steps.{from_of, to_of, targets, sources, entry_class, first_classes}
-use Rattle.sj_split.proofs.Members.{into_map, Mapped, from_map, into_filter, Passed, from_filter}
+use Rattle.sj_split.proofs.Members.{into_map, Mapped, from_map, into_filter, from_filter}
 
 pub same_name : (a b : Name) → is_same a b ≡ true → a ≡ b
 same_name a b = (bytes_eq-Decides a b).0

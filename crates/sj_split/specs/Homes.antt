@@ -7,7 +7,7 @@ use Rattle.sj_split.specs.declared.homes.Home.TheVariants.{Public, Internal}
 use Rattle.sj_split.specs.declared.homes.Settled.{Settled}
 use Rattle.sj_split.specs.declared.plans.Style.{Style}
 use Rattle.sj_split.specs.declared.plans.Style.TheVariants.{Fewest, Smallest}
-use Rattle.sj_split.specs.Orders.{Bytes, AreIncreasing}
+use Rattle.sj_split.specs.Orders.{AreIncreasing}
 use Rattle.sj_split.specs.Walks.{Name, Id, References, IsReached, AreTags, IsLeastOfComponent}
 
 -- the module of the classes with these tags: the public module of the one id, or the internal module whose key is the ids, joined by

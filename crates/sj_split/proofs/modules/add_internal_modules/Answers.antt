@@ -1,4 +1,4 @@
-use Rattle.std.proofs.Common.{◌≡◌, ap, length, arith}
+use Rattle.std.proofs.Common.{arith}
 use Rattle.sj_split.proofs.Planned.{internal_more}
 use Rattle.sj_split.proofs.modules.add_internal_modules.Goals as goal
 

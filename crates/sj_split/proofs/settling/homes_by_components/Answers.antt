@@ -1,4 +1,4 @@
-use Rattle.std.proofs.Common.{◌≡◌, sym, ◌∙◌, ap, subst, refl, get_or, arith}
+use Rattle.std.proofs.Common.{sym, subst, refl, arith}
 use Rattle.sj_split.specs.Homes.{class_of}
 use Rattle.sj_split.specs.Walks.{Name, IsLeastOfComponent}
 use Rattle.sj_split.specs.Steps.{IsLeastHome}

@@ -1,4 +1,4 @@
-use Rattle.std.proofs.Common.{◌≡◌, sym, ◌∙◌, ap, subst, refl, get_or, arith, Contains}
+use Rattle.std.proofs.Common.{sym, subst, arith, Contains}
 use Rattle.std.specs.Prelude.{◌↔◌}
 use Rattle.sj_split.specs.Walks.{Name, Reaches}
 use Rattle.sj_split.specs.Steps.{id_of, IsReach}
