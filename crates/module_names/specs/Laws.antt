@@ -1,8 +1,5 @@
 -- Laws of names, and digests of worked names.
-use Rattle.std.specs.Prelude.{◌≡◌, ℕ, ◌<◌, ◌^◌, List, [], ◌∷◌, codes, length, take, slice_index_or}
-use Rattle.std.specs.List.{IsDistinct}
-use Rattle.std.specs.Cmp.Lexicographic.{pointwise}
-use Rattle.std.specs.Prelude.{nat_eq}
+use Rattle.std.specs.Prelude.{◌≡◌, ℕ, ◌<◌, ◌^◌, List, [], codes, length, take, slice_index_or}
 use Rattle.module_names.specs.Names.{Key, Digest, names_of}
 
 -- no two keys have one name

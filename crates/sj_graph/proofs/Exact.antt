@@ -1,8 +1,8 @@
 -- What is put together of pieces is exactly their owners and their references.
-use Rattle.std.proofs.Common.{◌≡◌, true, List, [], ◌∷◌, ◌++◌, Contains, refl, sym, ap, ◌∙◌, subst, inl, inr, map}
+use Rattle.std.proofs.Common.{◌≡◌, List, [], ◌∷◌, Contains, sym, ap, subst, inl, inr, map}
 use Rattle.std.specs.Prelude.{◌⊎◌, ◌↔◌}
 use Rattle.std.specs.List.{flat_map}
-use Rattle.std.proofs.lemmas.List.Elements.{Contains-append_left, Contains-append_right, Contains-push, Contains-append_cases, Contains-push_cases}
+use Rattle.std.proofs.lemmas.List.Elements.{Contains-append_left, Contains-append_right, Contains-push, Contains-append_cases}
 use Rattle.std.proofs.lemmas.Slice.Eq.{bytes_eq-Decides}
 use Rattle.indexmap.specs.IndexSet.{insert_all}
 use Rattle.worklist.proofs.Inserted.{nothing_in, only_one, from-insert_all, each-insert_all}

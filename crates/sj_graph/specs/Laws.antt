@@ -1,6 +1,6 @@
 -- Laws of graphs, and what a worked graph is of.
-use Rattle.std.specs.Prelude.{◌≡◌, List, [], ◌∷◌, codes, Contains}
-use Rattle.js_tree.specs.Terms.{Name, Piece, Item, expression_item, undefined_literal}
+use Rattle.std.specs.Prelude.{List, [], ◌∷◌, codes, Contains}
+use Rattle.js_tree.specs.Terms.{Name, Piece, expression_item, undefined_literal}
 use Rattle.js_tree.specs.declared.items.Binding.{Binding}
 use Rattle.sj_graph.specs.declared.graphs.Reference.{Reference}
 use Rattle.sj_graph.specs.declared.graphs.Graph.{Graph}

@@ -1,5 +1,5 @@
 -- Which class refers to which.
-use Rattle.std.specs.Prelude.{◌≡◌, ◌↔◌, ℕ, Bool, List, [], ◌∷◌, ◌++◌, ◌&&◌, map, codes, Contains, nat_eq}
+use Rattle.std.specs.Prelude.{◌≡◌, ◌↔◌, Bool, List, [], ◌∷◌, ◌++◌, ◌&&◌, map, codes, Contains, nat_eq}
 use Rattle.std.specs.List.{IsDistinct}
 use Rattle.std.specs.Cmp.Lexicographic.{pointwise}
 use Rattle.js_tree.specs.Terms.{Name, Piece}

@@ -1,4 +1,4 @@
-use Rattle.std.proofs.Common.{◌<◌, sym, ◌∙◌, ap, ◌≡◌, ◌++◌, ◌∷◌, ◌+◌, [], List, ℕ, length, arith, take, drop, map}
+use Rattle.std.proofs.Common.{◌<◌, sym, ◌∙◌, ap, ◌≡◌, ◌++◌, ◌+◌, List, ℕ, length, arith, take, drop, map}
 use Rattle.std.specs.Prelude.{count_by, nat_eq}
 use Rattle.std.specs.Cmp.Lexicographic.{pointwise}
 use Rattle.std.proofs.lemmas.List.{length-map}
