@@ -1,5 +1,5 @@
 -- Plain numerals.
-use Rattle.std.proofs.Common.{◌≡◌, ℕ, ◌+◌, ◌<◌, ◌≤◌, ◌^◌, Bool, true, false, List, [], ◌∷◌, Option, Some, None, refl, sym, ap, ◌∙◌, arith, ◌&&◌, not, nat_le, length, drop, cond, get_or, ◌==◌, subst, if◌then◌else◌}
+use Rattle.std.proofs.Common.{◌≡◌, ℕ, ◌<◌, ◌^◌, Bool, true, false, List, [], ◌∷◌, Some, None, refl, sym, ap, arith, ◌&&◌, not, nat_le, drop, cond, ◌==◌, subst, if◌then◌else◌}
 use Rattle.std.specs.List.{list_all}
 use Rattle.std.specs.Str.Parse.{digits_value, IsNumeral, AllDigits, without_leading_plus}
 use Rattle.std.specs.Char.{digit_value}

@@ -1,5 +1,5 @@
 -- What is collected of the words in front, and what those behind it give.
-use Rattle.std.specs.Prelude.{List, ℕ, ◌++◌, ◌∷◌, []}
+use Rattle.std.specs.Prelude.{◌++◌, ◌∷◌, []}
 use Rattle.sj_words.specs.declared.given.Collected.{Collected}
 use Rattle.sj_words.specs.declared.kinds.Setting.{Setting}
 use Rattle.sj_words.specs.Given.{Gifts}

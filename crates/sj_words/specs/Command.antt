@@ -1,9 +1,8 @@
 -- What the words of a command line ask for.
-use Rattle.std.specs.Prelude.{ℕ, ◌*◌, ◌+◌, ◌-◌, ◌&&◌, Bool, true, false, List, [], ◌∷◌, Option, Some, None, not, ◌==◌, nat_le, nat_lt, codes, option_and_then, option_map, if◌then◌else◌}
+use Rattle.std.specs.Prelude.{ℕ, ◌&&◌, Bool, true, false, List, [], ◌∷◌, Option, Some, None, not, ◌==◌, nat_le, codes, option_and_then, option_map, if◌then◌else◌}
 use Rattle.std.specs.List.{list_all}
 use Rattle.std.specs.Str.Parse.{digits_value}
 use Rattle.sj_words.specs.declared.commands.Style.{Style}
-use Rattle.sj_words.specs.declared.commands.Link.{Link}
 use Rattle.sj_words.specs.declared.commands.Command.{Command}
 use Rattle.sj_words.specs.Words.{is_same_word}
 use Rattle.sj_words.specs.Given.{Gifts, given}

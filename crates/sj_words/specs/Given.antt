@@ -1,7 +1,6 @@
 -- What the words behind `link` give.
-use Rattle.std.specs.Prelude.{ℕ, Bool, List, [], ◌∷◌, ◌++◌, Option, Some, None, option_map}
+use Rattle.std.specs.Prelude.{ℕ, Bool, List, [], ◌∷◌, Option, Some, None, option_map}
 use Rattle.sj_words.specs.declared.commands.Style.{Style}
-use Rattle.sj_words.specs.declared.kinds.Choice.{Choice}
 use Rattle.sj_words.specs.declared.kinds.Setting.{Setting}
 use Rattle.sj_words.specs.declared.kinds.WordKind.{WordKind}
 use Rattle.sj_words.specs.Words.{kind_of, value_of}

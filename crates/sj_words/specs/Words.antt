@@ -1,7 +1,6 @@
 -- Single words of a command line.
-use Rattle.std.specs.Prelude.{ℕ, ◌*◌, ◌+◌, ◌-◌, ◌&&◌, ◌||◌, Bool, true, false, List, [], ◌∷◌, Option, Some, None, not, ◌==◌, nat_eq, nat_le, codes, String, if◌then◌else◌}
+use Rattle.std.specs.Prelude.{ℕ, ◌||◌, Bool, true, false, List, [], ◌∷◌, Option, Some, None, not, ◌==◌, nat_eq, codes, if◌then◌else◌}
 use Rattle.std.specs.Cmp.Lexicographic.{pointwise}
-use Rattle.std.specs.List.{list_all}
 use Rattle.sj_words.specs.declared.commands.Style.{Style}
 use Rattle.sj_words.specs.declared.kinds.Choice.{Choice}
 use Rattle.sj_words.specs.declared.kinds.Setting.{Setting}

@@ -1,4 +1,4 @@
-use Rattle.std.proofs.Common.{◌≡◌, ◌∷◌, ◌++◌, [], List, ℕ, map, string_bytes, sym, ap, ◌∙◌, length, arith, refl}
+use Rattle.std.proofs.Common.{◌≡◌, ◌∷◌, ◌++◌, [], List, ℕ, map, string_bytes, sym, ap, ◌∙◌}
 use Rattle.sj_words.specs.Given.{given}
 use Rattle.sj_words.specs.Collected.{gifts_in}
 use Rattle.sj_words.proofs.Steps.{after_operand, after_setting, after_value, value_refused, lone_name, unknown_gives, refused_here, at_the_end, no_words_left, no_words_yet, is_empty}

@@ -1,4 +1,4 @@
-use Rattle.std.proofs.Common.{ap, subst, sym, ◌∙◌, ◌≡◌, true}
+use Rattle.std.proofs.Common.{ap, sym, ◌∙◌, ◌≡◌, true}
 use Rattle.sj_words.specs.Command.{is_plain_numeral}
 use Rattle.sj_words.proofs.Numerals.{refused_number}
 use Rattle.sj_words.proofs.numbers.number.Goals as goal
