@@ -35,3 +35,6 @@ own = numerals_by_fold (λ ds. list_all is_digit ds ≡ true) (search rules) (di
 -- `G` and a number in decimal is the name of a class
 pub numbered_class : (n : ℕ) → n < 2 ^ 64 → is_class_name (codes "G" ++ decimal n) ≡ true
 numbered_class n h = digits_are_dotted (decimal n) (digits_decimal own n h)
+
+pub decimal_digits : (n : ℕ) → n < 2 ^ 64 → list_all is_digit (decimal n) ≡ true
+decimal_digits n h = digits_decimal own n h

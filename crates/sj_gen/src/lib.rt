@@ -3,6 +3,8 @@
 
 mod classes;
 mod folders;
+mod laws;
 mod trees;
 
 pub use folders::folder;
+pub use laws::generated_files_are_read_back;
