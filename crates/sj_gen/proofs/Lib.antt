@@ -1,0 +1,4 @@
+pub mod Names
+pub mod Made
+pub mod SpelledTrees
+pub mod Files

@@ -1,0 +1,4 @@
+pub mod Words
+pub mod Given
+pub mod Command
+pub mod Collected
