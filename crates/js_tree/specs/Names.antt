@@ -1,7 +1,7 @@
 -- The names of the emitted subset.
-use Rattle.std.specs.Prelude.{ℕ, Bool, true, false, List, [], ◌∷◌, ◌==◌, ◌&&◌, ◌||◌, not, nat_le, nat_eq, codes, if◌then◌else◌}
+pub use Rattle.sj_names.specs.WellKnown.{is_same_text}
+use Rattle.std.specs.Prelude.{ℕ, Bool, true, false, List, [], ◌∷◌, ◌==◌, ◌&&◌, ◌||◌, not, nat_le, codes, if◌then◌else◌}
 use Rattle.std.specs.List.{list_all, list_any}
-use Rattle.std.specs.Cmp.Lexicographic.{pointwise}
 
 -- a letter of ASCII
 abbrev pub is_letter : ℕ → Bool
@@ -31,9 +31,6 @@ abbrev pub is_dunder : List ℕ → Bool
 is_dunder [] = false
 is_dunder (b ∷ []) = false
 is_dunder (b ∷ c ∷ bs) = b == 95 && c == 95
-
-abbrev pub is_same_text : List ℕ → List ℕ → Bool
-is_same_text = pointwise nat_eq
 
 -- the name of a property: a name without two underscores in front, or one of three words
 abbrev pub is_property : List ℕ → Bool

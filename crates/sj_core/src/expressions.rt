@@ -13,7 +13,6 @@ pub enum CoreVariable {
 }
 
 /// An expression. A contract sees the term that it stands for, `expression_view`.
-#[derive(Drop)]
 #[cycle(core_expression)]
 pub enum CoreExpression {
     Undefined,
@@ -31,4 +30,23 @@ pub enum CoreExpression {
     StaticCall(Member, Vec<CoreExpression>),
     Unary(UnaryOp, Box<CoreExpression>),
     Binary(BinaryOp, Box<CoreExpression>, Box<CoreExpression>),
+}
+
+impl Drop for CoreExpression {
+    #[cycle(core_expression)]
+    fn drop(self) {
+        match self {
+            CoreExpression::Undefined
+            | CoreExpression::Null
+            | CoreExpression::Boolean(_)
+            | CoreExpression::Number(_) => {}
+            CoreExpression::Text(_one) => {}
+            CoreExpression::Variable(_one) => {}
+            CoreExpression::Boxed(_one) => {}
+            CoreExpression::Choice(_one, _two, _three) => {}
+            CoreExpression::StaticCall(_one, _two) => {}
+            CoreExpression::Unary(_, _one) => {}
+            CoreExpression::Binary(_, _one, _two) => {}
+        }
+    }
 }

@@ -5,7 +5,6 @@ use sj_trees::Position;
 
 /// A statement: first the position of the tree that it was written for, if its line has one. A contract sees the term that it stands for,
 /// `statement_view`.
-#[derive(Drop)]
 #[cycle(core_statement)]
 pub enum CoreStatement {
     /// A variable that keeps its first value.
@@ -34,6 +33,28 @@ pub enum CoreStatement {
     Labeled(Option<Position>, LabelName, Vec<CoreStatement>),
     /// A choice by a number: the selector, the cases and the default.
     Switch(Option<Position>, CoreExpression, Vec<CoreCase>, Vec<CoreStatement>),
+}
+
+impl Drop for CoreStatement {
+    #[cycle(core_statement)]
+    fn drop(self) {
+        match self {
+            CoreStatement::Constant(_, _one, _two) => {}
+            CoreStatement::Define(_, _one, _two) => {}
+            CoreStatement::Declare(_, _one) => {}
+            CoreStatement::Assign(_, _one, _two) => {}
+            CoreStatement::Evaluate(_, _one) => {}
+            CoreStatement::Return(_, _one) => {}
+            CoreStatement::Log(_, _one) => {}
+            CoreStatement::Leave(_, _one) => {}
+            CoreStatement::Break(_) => {}
+            CoreStatement::If(_, _one, _two, _three) => {}
+            CoreStatement::While(_, _one, _two) => {}
+            CoreStatement::Loop(_, _one) => {}
+            CoreStatement::Labeled(_, _one, _two) => {}
+            CoreStatement::Switch(_, _one, _two, _three) => {}
+        }
+    }
 }
 
 /// A case of a switch: the numbers that choose it, and its statements.

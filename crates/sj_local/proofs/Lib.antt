@@ -4,7 +4,6 @@ pub mod Once
 pub mod RepeatSteps
 pub mod RuleSteps
 pub mod SameNames
-pub mod SameTypes
 pub mod TermLists
 pub mod Traces
 pub mod TreeSteps

@@ -4,4 +4,5 @@ pub mod Parts
 pub mod ReadBases
 pub mod ReadMethodNames
 pub mod ReadReferences
+pub mod Same
 pub mod Signatures

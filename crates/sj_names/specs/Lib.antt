@@ -5,4 +5,5 @@ pub mod Grammar
 pub mod MethodNames
 pub mod Names
 pub mod References
+pub mod Same
 pub mod WellKnown

@@ -3,6 +3,7 @@ pub mod Erase
 pub mod Forms
 pub mod Operators
 pub mod Refusals
+pub mod SameTypes
 pub mod Term
 pub mod TypeOf
 pub mod Types

@@ -22,7 +22,7 @@ use Rattle.sj_typing.specs.declared.labels.Label.{Label}
 use Rattle.sj_typing.specs.declared.fits.Fit.{Fit}
 use Rattle.sj_typing.specs.declared.rows.FieldUse.{FieldUse}
 use Rattle.sj_typing.specs.declared.rows.Row.{Row}
-use Rattle.sj_typing.specs.SameTypes.{is_same_type}
+use Rattle.sj_trees.specs.SameTypes.{is_same_type}
 use Rattle.sj_typing.specs.Nodes.{inside}
 use Rattle.sj_typing.specs.Rows.{row_of}
 use Rattle.sj_typing.specs.Checks.{Checking, then_do, both, met, unless_no, ask_fits, judge_field, ask_field, ask_row, fault_at, parts_of, all_of, cases_of, check_of, ask_wanted, ask_result, body_task, check_task}

@@ -20,10 +20,10 @@ use Rattle.sj_ask.proofs.Running.{Parted, went, stopped, comes-parted}
 use Rattle.sj_typing.specs.declared.fits.Fit.{Fit}
 use Rattle.sj_typing.specs.declared.rows.FieldUse.{FieldUse}
 use Rattle.sj_typing.specs.declared.rows.Row.{Row}
-use Rattle.sj_typing.specs.SameTypes.{is_same_type}
+use Rattle.sj_trees.specs.SameTypes.{is_same_type}
 use Rattle.sj_typing.specs.Rules.{HasFieldType, IsMutable}
 use Rattle.sj_typing.specs.Checks.{then_do, unless_no, ask_fits, judge_field, ask_field, ask_row}
-use Rattle.sj_typing.proofs.SameTypeTests.{type_is, type_same}
+use Rattle.sj_trees.proofs.SameTypes.{type-same, type-refl}
 
 abbrev pub AllSub : Classes → List Fit → Type 0
 AllSub w [] = Unit {0}
@@ -103,7 +103,7 @@ module _ (s : Stand) (fault : TypeError) where
         )
 
         go : (v : Bool) → is_same_type d.tpe u.tpe ≡ v → Comes (IsAnswer s) (unless_no fault (done (d.mutable || u.is_own)) v) (Ok b) log → HasFieldType s.classes u.class u.name u.is_static u.tpe × FieldSet s.classes (Some u) b
-        go true e k = let q : b ≡ (d.mutable || u.is_own) = cc (k.0) in (record { field = is.field; is_field = is.is_field; type_is = sym tpe_is ∙ type_is d.tpe u.tpe e }, settable q)
+        go true e k = let q : b ≡ (d.mutable || u.is_own) = cc (k.0) in (record { field = is.field; is_field = is.is_field; type_is = sym tpe_is ∙ type-same d.tpe u.tpe e }, settable q)
         go false e k = let no : Ok b ≡ Err fault = k.0 in cc
 
     judged_refused : (found : Option FieldDef) (e : TypeError) (log : List Exchange) → IsFieldAnswer s.classes u.class u.name u.is_static found → Comes (IsAnswer s) (judge_field fault u found) (Err e) log → (e ≡ fault) × (HasFieldType s.classes u.class u.name u.is_static u.tpe → ⊥)
@@ -118,7 +118,7 @@ module _ (s : Stand) (fault : TypeError) where
               λ p.
                   let one : is.field ≡ p.field = one_field s.classes u.class u.name u.is_static is.field p.field is.is_field p.is_field in
                   let tpe : d.tpe ≡ u.tpe = ap (λ (f : FieldDef). f.tpe) is.same ∙ ap (λ (f : FieldDef). f.tpe) one ∙ p.type_is in
-                  let t : is_same_type d.tpe u.tpe ≡ true = subst (λ (x : IrType). is_same_type d.tpe x ≡ true) tpe (type_same d.tpe) in
+                  let t : is_same_type d.tpe u.tpe ≡ true = subst (λ (x : IrType). is_same_type d.tpe x ≡ true) tpe (type-refl d.tpe) in
                   cc,
             )
 

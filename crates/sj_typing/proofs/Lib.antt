@@ -7,6 +7,5 @@ pub mod Leaves
 pub mod Loops
 pub mod Numbers
 pub mod RowsMean
-pub mod SameTypeTests
 pub mod Steps
 pub mod Verdicts

@@ -15,15 +15,16 @@ use Rattle.sj_trees.specs.Types.{class_type, element_type}
 use Rattle.sj_world.specs.Known.{Name, Classes, is_same}
 use Rattle.sj_typing.specs.declared.labels.Label.{Label}
 use Rattle.sj_typing.specs.declared.fits.Fit.{Fit}
-use Rattle.sj_typing.specs.SameTypes.{is_same_type}
+use Rattle.sj_trees.specs.SameTypes.{is_same_type}
 use Rattle.sj_typing.specs.Labels.{type_of_label}
 use Rattle.sj_typing.specs.Rules.{Fits, Yields, nothing_wanted, fitting, AllFit, CasesYield, ArgumentsFit, call_type, IsOwn, MaySet, ReturnsTo, IsStatic, IsReceiver, HasReceiver, IsCastType, IsTestType, IsArray, HasItems, IsText, OperandsFit, Meets}
 use Rattle.sj_typing.specs.Rows.{yield, all_fit, cases_yield, arguments_fit, are_as_many, is_own, is_static, is_this, is_receiver, has_receiver, is_cast_type, is_test_type, is_array, has_items, is_text, return_row, operands_row, row_of}
-use Rattle.sj_typing.proofs.SameTypeTests.{type_is, type_same, text_is, text_same}
+use Rattle.sj_names.proofs.Same.{text-same, text-refl}
+use Rattle.sj_trees.proofs.SameTypes.{type-same, type-refl}
 use Rattle.sj_typing.proofs.Conditions.{AllSub, RowHolds, FieldSet}
 
 same_type_means : (t u : IrType) → IsTrue (is_same_type t u) ↔ (t ≡ u)
-same_type_means t u = (λ h. type_is t u h, λ e. subst (λ (x : IrType). is_same_type t x ≡ true) e (type_same t))
+same_type_means t u = (λ h. type-same t u h, λ e. subst (λ (x : IrType). is_same_type t x ≡ true) e (type-refl t))
 
 this_owns : (e : Term) (c : Name) → IsTrue (is_own Constructor e c) ↔ IsOwn Constructor e c
 this_owns (this_ref p t) c = same_type_means t (class_type c)
@@ -83,11 +84,11 @@ text_means : (t : IrType) → IsTrue (is_text t) ↔ IsText t
 text_means type.Any = (λ h. cc, λ h. absurd h)
 text_means type.NoType = (λ h. cc, λ h. absurd h)
 text_means (type.Array r) = (λ h. cc, λ h. absurd h)
-text_means (type.Class c) = (λ h. text_is c (codes "java.lang.String") h, λ e. subst (λ (x : Name). is_same c x ≡ true) e (text_same c))
+text_means (type.Class c) = (λ h. text-same c (codes "java.lang.String") h, λ e. subst (λ (x : Name). is_same c x ≡ true) e (text-refl c))
 text_means _ = (λ h. tt, λ h. refl)
 
 init_means : (name : Name) → IsTrue (is_same name (codes "<init>")) ↔ (name ≡ codes "<init>")
-init_means name = (λ h. text_is name (codes "<init>") h, λ e. subst (λ (x : Name). is_same name x ≡ true) e (text_same name))
+init_means name = (λ h. text-same name (codes "<init>") h, λ e. subst (λ (x : Name). is_same name x ≡ true) e (text-refl name))
 
 module _ (w : Classes) where
   sub-append : (xs ys : List Fit) → AllSub w xs → AllSub w ys → AllSub w (xs ++ ys)

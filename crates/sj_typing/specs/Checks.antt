@@ -15,7 +15,7 @@ use Rattle.sj_typing.specs.declared.labels.Label.{Label}
 use Rattle.sj_typing.specs.declared.fits.Fit.{Fit}
 use Rattle.sj_typing.specs.declared.rows.FieldUse.{FieldUse}
 use Rattle.sj_typing.specs.declared.rows.Row.{Row}
-use Rattle.sj_typing.specs.SameTypes.{is_same_type}
+use Rattle.sj_trees.specs.SameTypes.{is_same_type}
 use Rattle.sj_typing.specs.Nodes.{inside}
 use Rattle.sj_typing.specs.Typed.{tag}
 use Rattle.sj_typing.specs.Rows.{row_of}

@@ -1,4 +1,3 @@
-pub mod SameTypes
 pub mod Labels
 pub mod Nodes
 pub mod Numbers

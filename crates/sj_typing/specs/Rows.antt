@@ -14,7 +14,7 @@ use Rattle.sj_world.specs.Known.{is_same}
 use Rattle.sj_typing.specs.declared.labels.Label.{Label}
 use Rattle.sj_typing.specs.declared.fits.Fit.{Fit}
 use Rattle.sj_typing.specs.declared.rows.Row.{Row}
-use Rattle.sj_typing.specs.SameTypes.{is_same_type}
+use Rattle.sj_trees.specs.SameTypes.{is_same_type}
 use Rattle.sj_typing.specs.Labels.{type_of_label}
 use Rattle.sj_typing.specs.Rules.{call_type, unary_operand, left_operand, right_operand}
 

@@ -6,7 +6,7 @@ ghost use Rattle.sj_trees.specs.TypeOf.{type_of_term};
 ghost use Rattle.sj_trees.specs.Types.{class_type, element_type};
 ghost use Rattle.sj_trees.specs.declared.types.IrType.TheVariants as types;
 ghost use Rattle.sj_typing.specs.Labels as around;
-ghost use Rattle.sj_typing.specs.SameTypes.{is_same_type};
+ghost use Rattle.sj_trees.specs.SameTypes.{is_same_type};
 ghost use Rattle.sj_typing.specs.Rows as rows;
 ghost use Rattle.sj_typing.specs.Rules as rules;
 

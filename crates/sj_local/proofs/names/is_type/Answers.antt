@@ -1,4 +1,4 @@
-use Rattle.sj_local.proofs.SameTypes.{type_test}
+use Rattle.sj_trees.proofs.SameTypes.{type_test}
 use Rattle.sj_local.proofs.names.is_type.Goals as goal
 
 pub returns : goal.returns
