@@ -2,22 +2,21 @@
 use Rattle.std.proofs.Common.{[], ◌∷◌, codes, None, refl, inl, inr, Contains, arith}
 use Rattle.std.proofs.lemmas.List.Elements.{All-cons, All-nil}
 use Rattle.outcomes.specs.Agreement.{Agree}
-use Rattle.ir_mean.specs.Rows.{object_name, object_with, once, triples}
+use Rattle.ir_mean.specs.Rows.{object_with, once, triples}
 use Rattle.ir_mean.specs.Shows.{ir_shows}
 use Rattle.js_mean.specs.Shows.{js_shows}
-use Rattle.sj_mangling.specs.Mangling.{AreBytes}
-use Rattle.sj_names.specs.MethodNames.{spelled_method, IsParameter}
+use Rattle.sj_names.specs.MethodNames.{IsParameter}
 use Rattle.sj_names.specs.declared.references.TypeRef.TheVariants.{Int}
 use Rattle.sj_trees.specs.declared.classes.ClassDef.{ClassDef}
 use Rattle.sj_calls.specs.Files.{EmittedMethod, program_with}
-use Rattle.sj_calls.proofs.Safe.{bytes-are}
 use Rattle.sj_local.specs.Broken.{FirstBroken}
-use Rattle.sj_sound.specs.Subtyping.{equal}
+use Rattle.sj_world.specs.Subtypes.{equal}
+use Rattle.sj_sound.proofs.Worked.{worked_topped}
 use Rattle.sj_sound.specs.Worked.{tests_it, main_method, tripling_method, worked_world, emitted, worked_methods}
 use Rattle.sj_proper.specs.Program.{HaveOwnMembers}
 use Rattle.sj_kept.specs.Programs.{IsAccepted}
 use Rattle.sj_kept.proofs.Programs.{classes_agree}
-use Rattle.body_vectors.proofs.Premises.{fits, few, have_values, each_of, own}
+use Rattle.body_vectors.proofs.Premises.{fits, have_values, each_of, own}
 use Rattle.body_vectors.proofs.Unbroken.{unbroken}
 
 abbrev worked_class : ClassDef
@@ -25,9 +24,6 @@ worked_class = object_with (main_method ∷ tripling_method ∷ [])
 
 worked_unbroken : FirstBroken worked_class None
 worked_unbroken = unbroken worked_class (record { superclass = refl; hijacked = refl; interfaces = refl; fields = refl; methods = refl; field = refl; name = refl; signature = refl; missing_body = refl; constructors = refl; trees = ((refl, refl), ((refl, refl), tt)) })
-
-p_bytes : AreBytes (codes "p")
-p_bytes = bytes-are (codes "p") refl
 
 main_accepted : IsAccepted worked_world worked_methods (emitted main_method tests_it)
 main_accepted = record {
@@ -41,13 +37,8 @@ main_accepted = record {
   yields = inl refl;
   result = inl refl;
   values = have_values main_method.params tt;
-  local_bytes = (((tt, tt), tt), tt, tt);
-  parameter_bytes = tt;
-  numbers = few 1 (omega arith);
   class_name = refl;
   method_name = record { simple = refl; params = All-nil IsParameter; result = tt };
-  class_bytes = bytes-are object_name refl;
-  method_bytes = bytes-are (spelled_method main_method.name) refl;
 }
 
 tripling_accepted : IsAccepted worked_world worked_methods (emitted tripling_method triples)
@@ -62,13 +53,8 @@ tripling_accepted = record {
   yields = inr (equal refl);
   result = inr (refl, refl);
   values = have_values tripling_method.params ((refl, refl), tt);
-  local_bytes = (((p_bytes, tt), (p_bytes, (p_bytes, tt))), (p_bytes, tt));
-  parameter_bytes = (p_bytes, tt);
-  numbers = few 1 (omega arith);
   class_name = refl;
   method_name = record { simple = refl; params = All-cons IsParameter Int [] (tt, λ e. cc) (All-nil IsParameter); result = tt };
-  class_bytes = bytes-are object_name refl;
-  method_bytes = bytes-are (spelled_method tripling_method.name) refl;
 }
 
 pub each_accepted : (e : EmittedMethod) → Contains worked_methods e → IsAccepted worked_world worked_methods e
@@ -78,4 +64,4 @@ pub own_members : HaveOwnMembers worked_methods
 own_members = own worked_methods refl
 
 pub worked_agrees : Agree (ir_shows worked_world once (codes "main")) (js_shows (program_with (codes "main") worked_methods once) (codes "main"))
-worked_agrees = classes_agree worked_world once (codes "main") worked_methods each_accepted own_members refl
+worked_agrees = classes_agree worked_world worked_topped once (codes "main") worked_methods each_accepted own_members refl

@@ -1,5 +1,5 @@
 -- What the theorem on classes asks of the methods of a program, by computation.
-use Rattle.std.proofs.Common.{◌≡◌, ◌≤◌, ◌<◌, ◌^◌, ℕ, suc, Bool, true, false, List, [], ◌∷◌, codes, ◌&&◌, not, Option, Some, None, refl, subst, ⊎_elim, Contains, arith, if◌then◌else◌}
+use Rattle.std.proofs.Common.{◌≡◌, ◌<◌, ◌^◌, ℕ, suc, Bool, true, false, List, [], ◌∷◌, codes, ◌&&◌, not, Option, Some, None, refl, subst, ⊎_elim, Contains, if◌then◌else◌}
 use Rattle.std.specs.Prelude.{pos, negsuc, nat_eq, ◌≢◌, FitsSigned}
 use Rattle.std.specs.Cmp.Lexicographic.{pointwise}
 use Rattle.std.specs.Int.{w32}
@@ -8,10 +8,9 @@ use Rattle.std.proofs.lemmas.Bool.{and_parts}
 use Rattle.outcomes.specs.Agreement.{Agree}
 use Rattle.ir_mean.specs.Rows.{nowhere, object_name, once}
 use Rattle.ir_mean.specs.World.{member_of}
-use Rattle.ir_mean.specs.Same.{is_same_text}
-use Rattle.sj_desugar.specs.Desugar.{into, is_mutable_in, names_of, result_destination}
+use Rattle.sj_names.specs.Same.{is_same_text}
 use Rattle.sj_local.specs.Broken.{FirstBroken}
-use Rattle.sj_names.specs.MethodNames.{spelled_method, IsMethodName}
+use Rattle.sj_names.specs.MethodNames.{IsMethodName}
 use Rattle.sj_names.specs.declared.method_names.Member.{Member}
 use Rattle.sj_trees.specs.Term.{Term, skip}
 use Rattle.sj_trees.specs.declared.classes.ClassDef.{ClassDef}
@@ -19,15 +18,15 @@ use Rattle.sj_trees.specs.declared.classes.MethodDef.{MethodDef}
 use Rattle.sj_trees.specs.declared.classes.ParamDef.{ParamDef}
 use Rattle.sj_bodies.proofs.Contexts.{equals}
 use Rattle.sj_calls.specs.Files.{EmittedMethod}
-use Rattle.sj_calls.specs.Names.{GoodParameters}
 use Rattle.sj_calls.proofs.Items.{nothing_in, in_front_or_behind}
-use Rattle.sj_calls.proofs.Safe.{all_bytes, bytes-are}
-use Rattle.sj_plain.proofs.Operators.{impossible}
+use Rattle.sj_names.proofs.Same.{impossible}
 use Rattle.sj_sound.specs.Linked.{has_function, have_functions}
-use Rattle.sj_sound.specs.Subtyping.{IsSubSimply}
+use Rattle.sj_sound.proofs.Topped.{topped}
+use Rattle.sj_world.specs.Ancestors.{directly_above}
+use Rattle.sj_world.specs.Known.{Classes, object}
+use Rattle.sj_world.specs.Subtypes.{IsSub}
 use Rattle.sj_sound.specs.Typing.{local_of, HasValue, IsResult, Yields}
 use Rattle.sj_sound.specs.Worked.{emitted}
-use Rattle.sj_proper.specs.Bytes.{NamedByBytes}
 use Rattle.sj_proper.specs.Program.{HaveOwnMembers}
 use Rattle.sj_kept.specs.Programs.{IsAccepted}
 use Rattle.sj_kept.specs.Rows.{Rows}
@@ -44,10 +43,6 @@ fits_below n h = record { sfits = h }
 
 pub nonzero : (n : ℕ) → pos (suc n) ≢ pos 0
 nonzero n e = cc
-
--- so few variables for operands
-pub few : (n : ℕ) → n < 100 → n ≤ 2 ^ 64
-few n h = omega arith
 
 abbrev pub body_or_skip : Option Term → Term
 body_or_skip None = skip nowhere
@@ -99,18 +94,15 @@ own [] h = tt
 own (e ∷ es) h = let p = and_parts (list_all (is_unlike e) es) (all_unlike es) h in ((λ o i same. opposite (is_same_text (simple_of e) (simple_of o)) (each_passes (is_unlike e) es p.0 o i) (subst (λ (m : Member). is_same_text (simple_of e) m.method.simple ≡ true) same (equals (simple_of e)))), own es p.1)
 
 -- what isn't told by refl alone of a method of `java.lang.Object`
-pub record Judged (fs : List EmittedMethod) (d : MethodDef) : Type 0 where
-  pub rows : Rows IsSubSimply (has_function fs) [] (body_in d)
-  pub yields : Yields IsSubSimply (has_function fs) (body_in d) d.result
+pub record Judged (w : Classes) (fs : List EmittedMethod) (d : MethodDef) : Type 0 where
+  pub rows : Rows (IsSub w) (has_function fs) [] (body_in d)
+  pub yields : Yields (IsSub w) (has_function fs) (body_in d) d.result
   pub result : IsResult d.result
   pub values : AllHaveValues d.params
-  pub local_bytes : NamedByBytes (body_in d)
-  pub parameter_bytes : GoodParameters (names_of d.params)
-  pub numbers : (into (is_mutable_in d (body_in d)) [] (result_destination d.result) 1 (body_in d)).next ≤ 2 ^ 64
   pub method_name : IsMethodName d.name
 
-pub accept : (c : ClassDef) (fs : List EmittedMethod) (d : MethodDef) → FirstBroken c None → Contains c.methods d → member_of (c ∷ []) object_name d.namespace d.name ≡ Some d → d.body ≡ Some (body_in d) → all_bytes (spelled_method d.name) ≡ true → Judged fs d → IsAccepted (c ∷ []) fs (emitted d (body_in d))
-accept c fs d u l f b s j = record {
+pub accept : (c : ClassDef) (fs : List EmittedMethod) (d : MethodDef) → FirstBroken c None → Contains c.methods d → member_of (c ∷ []) object_name d.namespace d.name ≡ Some d → d.body ≡ Some (body_in d) → Judged (c ∷ []) fs d → IsAccepted (c ∷ []) fs (emitted d (body_in d))
+accept c fs d u l f b j = record {
   owner = c;
   unbroken = u;
   listed = l;
@@ -121,15 +113,10 @@ accept c fs d u l f b s j = record {
   yields = j.yields;
   result = j.result;
   values = have_values d.params j.values;
-  local_bytes = j.local_bytes;
-  parameter_bytes = j.parameter_bytes;
-  numbers = j.numbers;
   class_name = refl;
   method_name = j.method_name;
-  class_bytes = bytes-are object_name refl;
-  method_bytes = bytes-are (spelled_method d.name) s;
 }
 
 -- methods of one class that are accepted
-pub all_agree : (c : ClassDef) (ds : List MethodDef) → AllOf (IsAccepted (c ∷ []) (all_emitted ds)) (all_emitted ds) → all_unlike (all_emitted ds) ≡ true → have_functions (all_emitted ds) once ≡ true → Agree (class_within c) (file_within ds)
-all_agree c ds all unlike called = classes_agree (c ∷ []) once (codes "main") (all_emitted ds) (each_of (IsAccepted (c ∷ []) (all_emitted ds)) (all_emitted ds) all) (own (all_emitted ds) unlike) called
+pub all_agree : (c : ClassDef) (ds : List MethodDef) → AllOf (IsAccepted (c ∷ []) (all_emitted ds)) (all_emitted ds) → all_unlike (all_emitted ds) ≡ true → have_functions (all_emitted ds) once ≡ true → directly_above (c ∷ []) object ≡ [] → Agree (class_within c) (file_within ds)
+all_agree c ds all unlike called none = classes_agree (c ∷ []) (topped (c ∷ []) none) once (codes "main") (all_emitted ds) (each_of (IsAccepted (c ∷ []) (all_emitted ds)) (all_emitted ds) all) (own (all_emitted ds) unlike) called

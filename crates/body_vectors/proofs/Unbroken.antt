@@ -3,10 +3,10 @@ use Rattle.std.proofs.Common.{◌≡◌, ℕ, suc, Bool, true, false, List, [], 
 use Rattle.std.specs.Prelude.{option_map}
 use Rattle.std.specs.List.{list_any}
 use Rattle.std.proofs.lemmas.Bool.{and_parts}
-use Rattle.ir_mean.specs.Same.{is_same_text}
+use Rattle.sj_names.specs.Same.{is_same_text}
 use Rattle.sj_bodies.proofs.Contexts.{equals}
 use Rattle.sj_calls.proofs.Items.{nothing_in, in_front_or_behind}
-use Rattle.sj_plain.proofs.Operators.{impossible}
+use Rattle.sj_names.proofs.Same.{impossible}
 use Rattle.sj_local.specs.Broken.{at_member, unless, method_place, constructors_place, TreeBreaks, FirstTree, Breaks, FirstBroken, all_rules}
 use Rattle.sj_local.specs.ClassRules.{keeps_superclass, keeps_hijacked}
 use Rattle.sj_local.specs.Firsts.{first_where, FirstRepeat, nothing_left, later, FirstAnswer, none_left, a_later_one}

@@ -1,61 +1,134 @@
--- The class that logs `hi`, as it was recorded, has what the theorem on classes that were read asks.
-use Rattle.std.proofs.Common.{◌≡◌, List, [], ◌∷◌, codes, Ok, refl, inl, Contains, arith}
+-- Classes as they were recorded have what the theorem on judged classes asks: one with a call, one with a loop, one with parameters and a label.
+use Rattle.std.proofs.Common.{◌≡◌, ◌<◌, ◌&&◌, ℕ, Bool, true, List, [], ◌∷◌, codes, None, Ok, refl, inl, arith}
+use Rattle.std.specs.Prelude.{nat_lt}
+use Rattle.std.specs.List.{All}
+use Rattle.std.proofs.lemmas.Bool.{and_parts}
 use Rattle.std.proofs.lemmas.List.Elements.{All-nil, All-cons}
+use Rattle.file_listings.specs.Listed.{AreBytes}
 use Rattle.outcomes.specs.Agreement.{Agree}
 use Rattle.ir_mean.specs.Rows.{once}
-use Rattle.ir_mean.specs.Shows.{ir_shows}
-use Rattle.ir_mean.specs.World.{World}
-use Rattle.js_mean.specs.Shows.{js_shows}
-use Rattle.sj_calls.specs.Files.{EmittedMethod, program_with}
-use Rattle.sj_calls.proofs.Safe.{bytes-are}
 use Rattle.sj_format.specs.Files.{file_of}
 use Rattle.sj_format.proofs.ExactFiles.{file_found}
-use Rattle.sj_proper.specs.Program.{HaveOwnMembers}
+use Rattle.sj_local.specs.Broken.{FirstBroken}
+use Rattle.sj_names.specs.declared.method_names.Namespace.{Namespace}
+use Rattle.sj_names.specs.declared.method_names.Namespace.TheVariants.{PublicStatic}
 use Rattle.sj_trees.specs.declared.classes.ClassDef.{ClassDef}
-use Rattle.sj_typing.specs.Nodes.{node}
-use Rattle.sj_typing.specs.Rules.{nothing_wanted}
+use Rattle.sj_typing.specs.Nodes.{Node, nodes}
+use Rattle.sj_typing.specs.Rules.{nothing_wanted, fitting}
 use Rattle.sj_typing.specs.Typed.{MeetsThere, IsTyped}
+use Rattle.sj_world.specs.Known.{Classes}
 use Rattle.sj_world.specs.Subtypes.{equal}
 use Rattle.sj_judged.specs.Judged.{IsJudgedClass, IsJudgedMethod}
 use Rattle.sj_judged.proofs.Judged.{judged_agree}
-use Rattle.ir_mean.specs.Rows.{logs, nowhere}
-use Rattle.sj_trees.specs.Term.{string_literal}
-use Rattle.body_vectors.specs.Bounds.{all_emitted}
+use Rattle.body_vectors.specs.Bounds.{all_emitted, class_within, file_within}
 use Rattle.body_vectors.specs.Files as files
+use Rattle.body_vectors.specs.Judged.{IsJudged}
 use Rattle.body_vectors.specs.Whole as whole
-use Rattle.body_vectors.proofs.Classes.{logs_hi_unbroken}
+use Rattle.body_vectors.proofs.Classes.{logs_hi_unbroken, calls_itself_unbroken, one_turn_unbroken, block_value_unbroken}
 use Rattle.body_vectors.proofs.Computing.{reading}
-use Rattle.body_vectors.proofs.Premises.{have_values, each_of, own}
+use Rattle.body_vectors.proofs.Premises.{body_in, each_of, own}
 
-abbrev world : World
-world = whole.logs_hi_class ∷ []
+abbrev are_below : List ℕ → Bool
+are_below [] = true
+are_below (b ∷ bs) = nat_lt b 256 && are_below bs
 
-abbrev methods : List EmittedMethod
-methods = all_emitted whole.logs_hi_class.methods
+bytes-are : (x : List ℕ) → are_below x ≡ true → AreBytes x
+bytes-are [] h = All-nil (λ b. b < 256)
+bytes-are (b ∷ bs) h = let k = and_parts (nat_lt b 256) (are_below bs) h in let small : nat_lt b 256 ≡ true = k.0 in All-cons (λ b. b < 256) b bs (grind arith) (bytes-are bs k.1)
 
-class_read : file_of files.logs_hi ≡ Ok whole.logs_hi_class
+read_class : (bytes : List ℕ) (c : ClassDef) → are_below bytes ≡ true → file_of bytes ≡ Ok c → FirstBroken c None → IsJudgedClass c
+read_class bytes c small is unbroken = record { bytes = bytes; are_bytes = bytes-are bytes small; read = file_found bytes c is; unbroken = unbroken }
+
+-- each tree meets the rule of its form
+abbrev AllMet : Classes → Namespace → List Node → Type 0
+AllMet w space [] = Unit {0}
+AllMet w space (x ∷ xs) = MeetsThere w space x × AllMet w space xs
+
+all_met : (w : Classes) (space : Namespace) (xs : List Node) → AllMet w space xs → All (MeetsThere w space) xs
+all_met w space [] h = All-nil (MeetsThere w space)
+all_met w space (x ∷ xs) h = All-cons (MeetsThere w space) x xs h.0 (all_met w space xs h.1)
+
+-- `logs_hi`
+abbrev hi : Classes
+hi = whole.logs_hi_class ∷ []
+
+hi_read : file_of files.logs_hi ≡ Ok whole.logs_hi_class
 unfolding reading
-class_read = refl
+hi_read = refl
 
-class_judged : IsJudgedClass whole.logs_hi_class
-class_judged = record { bytes = files.logs_hi; are_bytes = bytes-are files.logs_hi refl; held = omega arith; read = file_found files.logs_hi whole.logs_hi_class class_read; unbroken = logs_hi_unbroken }
+hi_main : IsTyped hi whole.logs_hi_main
+hi_main = record { body = body_in whole.logs_hi_main; has_body = refl; met = all_met hi PublicStatic (nodes [] 0 (body_in whole.logs_hi_main)) (tt, (equal refl, tt)); yields = nothing_wanted refl }
 
-main_typed : IsTyped world whole.logs_hi_main
-main_typed = record {
-  body = logs (codes "hi");
-  has_body = refl;
-  met = All-cons (MeetsThere world whole.logs_hi_main.namespace) (node 1 [] (string_literal nowhere (codes "hi"))) (node 0 [] (logs (codes "hi")) ∷ []) tt (All-cons (MeetsThere world whole.logs_hi_main.namespace) (node 0 [] (logs (codes "hi"))) [] (equal refl) (All-nil (MeetsThere world whole.logs_hi_main.namespace)));
-  yields = nothing_wanted refl;
+pub logs_hi_judged : IsJudged whole.logs_hi_class
+logs_hi_judged = record {
+  class = read_class files.logs_hi whole.logs_hi_class refl hi_read logs_hi_unbroken;
+  methods = each_of (IsJudgedMethod hi (all_emitted whole.logs_hi_class.methods)) (all_emitted whole.logs_hi_class.methods) (record { found = refl; has_body = refl; typed = hi_main; built = record { parameters = refl; result = refl; body = tt } }, tt);
+  own_members = own (all_emitted whole.logs_hi_class.methods) refl;
+  called = refl;
 }
 
-pub classes_judged : (c : ClassDef) → Contains world c → IsJudgedClass c
-classes_judged = each_of IsJudgedClass world (class_judged, tt)
+-- `calls_itself`
+abbrev again : Classes
+again = whole.calls_itself_class ∷ []
 
-pub methods_judged : (e : EmittedMethod) → Contains methods e → IsJudgedMethod world methods e
-methods_judged = each_of (IsJudgedMethod world methods) methods (record { found = refl; has_body = refl; typed = main_typed; built = tt; values = have_values [] tt; result = inl refl; plain_result = refl }, tt)
+again_read : file_of files.calls_itself ≡ Ok whole.calls_itself_class
+unfolding reading
+again_read = refl
 
-pub own_members : HaveOwnMembers methods
-own_members = own methods refl
+again_main : IsTyped again whole.calls_itself_main
+again_main = record { body = body_in whole.calls_itself_main; has_body = refl; met = all_met again PublicStatic (nodes [] 0 (body_in whole.calls_itself_main)) ((tt, refl, tt), tt); yields = nothing_wanted refl }
 
-pub was_read_agrees : Agree (ir_shows world once (codes "main")) (js_shows (program_with (codes "main") methods once) (codes "main"))
-was_read_agrees = judged_agree world once (codes "main") methods classes_judged methods_judged own_members refl
+again_again : IsTyped again whole.calls_itself_again
+again_again = record { body = body_in whole.calls_itself_again; has_body = refl; met = all_met again PublicStatic (nodes [] 0 (body_in whole.calls_itself_again)) (tt, (equal refl, ((tt, refl, tt), (tt, tt)))); yields = nothing_wanted refl }
+
+pub calls_itself_judged : IsJudged whole.calls_itself_class
+calls_itself_judged = record {
+  class = read_class files.calls_itself whole.calls_itself_class refl again_read calls_itself_unbroken;
+  methods = each_of (IsJudgedMethod again (all_emitted whole.calls_itself_class.methods)) (all_emitted whole.calls_itself_class.methods) (record { found = refl; has_body = refl; typed = again_main; built = record { parameters = refl; result = refl; body = (refl, refl, refl, tt) } }, (record { found = refl; has_body = refl; typed = again_again; built = record { parameters = refl; result = refl; body = (tt, ((refl, refl, refl, tt), tt)) } }, tt));
+  own_members = own (all_emitted whole.calls_itself_class.methods) refl;
+  called = refl;
+}
+
+-- `one_turn`
+abbrev turn : Classes
+turn = whole.one_turn_class ∷ []
+
+turn_read : file_of files.one_turn ≡ Ok whole.one_turn_class
+unfolding reading
+turn_read = refl
+
+turn_main : IsTyped turn whole.one_turn_main
+turn_main = record { body = body_in whole.one_turn_main; has_body = refl; met = all_met turn PublicStatic (nodes [] 0 (body_in whole.one_turn_main)) (tt, (equal refl, (tt, (tt, ((equal refl, equal refl), (tt, (tt, (tt, ((equal refl, equal refl), ((tt, equal refl), (equal refl, (tt, (equal refl, (tt, tt)))))))))))))); yields = nothing_wanted refl }
+
+pub one_turn_judged : IsJudged whole.one_turn_class
+one_turn_judged = record {
+  class = read_class files.one_turn whole.one_turn_class refl turn_read one_turn_unbroken;
+  methods = each_of (IsJudgedMethod turn (all_emitted whole.one_turn_class.methods)) (all_emitted whole.one_turn_class.methods) (record { found = refl; has_body = refl; typed = turn_main; built = record { parameters = refl; result = refl; body = ((refl, tt), ((inl (refl, tt, tt), inl (refl, tt, tt)), (tt, tt))) } }, tt);
+  own_members = own (all_emitted whole.one_turn_class.methods) refl;
+  called = refl;
+}
+
+-- `block_value`
+abbrev value : Classes
+value = whole.block_value_class ∷ []
+
+value_read : file_of files.block_value ≡ Ok whole.block_value_class
+unfolding reading
+value_read = refl
+
+value_first : IsTyped value whole.block_value_first
+value_first = record { body = body_in whole.block_value_first; has_body = refl; met = all_met value PublicStatic (nodes [] 0 (body_in whole.block_value_first)) (tt, (equal refl, (tt, ((equal refl, equal refl), (fitting (equal refl), tt))))); yields = fitting (equal refl) }
+
+value_main : IsTyped value whole.block_value_main
+value_main = record { body = body_in whole.block_value_main; has_body = refl; met = all_met value PublicStatic (nodes [] 0 (body_in whole.block_value_main)) (tt, (equal refl, (tt, (tt, (equal refl, (tt, tt)))))); yields = nothing_wanted refl }
+
+pub block_value_judged : IsJudged whole.block_value_class
+block_value_judged = record {
+  class = read_class files.block_value whole.block_value_class refl value_read block_value_unbroken;
+  methods = each_of (IsJudgedMethod value (all_emitted whole.block_value_class.methods)) (all_emitted whole.block_value_class.methods) (record { found = refl; has_body = refl; typed = value_first; built = record { parameters = refl; result = refl; body = (refl, inl (refl, (refl, tt), tt)) } }, (record { found = refl; has_body = refl; typed = value_main; built = record { parameters = refl; result = refl; body = ((refl, (tt, (tt, tt))), tt) } }, tt));
+  own_members = own (all_emitted whole.block_value_class.methods) refl;
+  called = refl;
+}
+
+pub judged_class_agrees : (c : ClassDef) → IsJudged c → Agree (class_within c) (file_within c.methods)
+judged_class_agrees c h = judged_agree (c ∷ []) once (codes "main") (all_emitted c.methods) (each_of IsJudgedClass (c ∷ []) (h.class, tt)) h.methods h.own_members h.called

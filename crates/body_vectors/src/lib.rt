@@ -21,7 +21,7 @@ ghost use Rattle.sj_sound.specs.Worked.{worked_world, worked_methods};
 ghost use Rattle.sj_proper.specs.Program.{HaveOwnMembers};
 ghost use Rattle.sj_kept.specs.Programs.{IsAccepted};
 ghost use Rattle.sj_trees.specs.declared.classes.ClassDef.{ClassDef};
-ghost use Rattle.sj_judged.specs.Judged.{IsJudgedClass, IsJudgedMethod};
+ghost use Rattle.body_vectors.specs.Judged.{IsJudged};
 ghost use Rattle.body_vectors.specs.Bounds.{all_emitted, class_within, class_shows, file_within, file_shows, function_texts};
 ghost use Rattle.body_vectors.specs.Files as files;
 ghost use Rattle.body_vectors.specs.Partly as partly;
@@ -146,12 +146,12 @@ pub fn worked_classes_agree()
     ensures agree { Agree (ir_shows worked_world once (codes "main")) (js_shows (program_with (codes "main") worked_methods once) (codes "main")) }
 {}
 
-/// The premises of the theorem on classes that were read and judged can be met: by the class that logs `hi`, whose recorded file reads as the class,
-/// which breaks none of the local rules, and whose `main` is typed.
-pub fn class_that_was_read_agrees()
-    ensures classes { (c : ClassDef) → Contains (whole.logs_hi_class ∷ []) c → IsJudgedClass c }
-    ensures methods { (e : EmittedMethod) → Contains (all_emitted whole.logs_hi_class.methods) e → IsJudgedMethod (whole.logs_hi_class ∷ []) (all_emitted whole.logs_hi_class.methods) e }
-    ensures own_members { HaveOwnMembers (all_emitted whole.logs_hi_class.methods) }
-    ensures called { have_functions (all_emitted whole.logs_hi_class.methods) (initializers once (codes "main")) ≡ true }
-    ensures agree { Agree (ir_shows (whole.logs_hi_class ∷ []) once (codes "main")) (js_shows (program_with (codes "main") (all_emitted whole.logs_hi_class.methods) once) (codes "main")) }
+/// The premises of the theorem on classes that were read and judged can be met: by recorded files that read as classes which break none of the local
+/// rules, with methods that are typed: one that logs, one that calls itself, one with a loop, and one with parameters and a label.
+pub fn classes_that_were_read_agree()
+    ensures logs { IsJudged whole.logs_hi_class }
+    ensures calls { IsJudged whole.calls_itself_class }
+    ensures loops { IsJudged whole.one_turn_class }
+    ensures has_parameters { IsJudged whole.block_value_class }
+    ensures agree { (c : ClassDef) → IsJudged c → Agree (class_within c) (file_within c.methods) }
 {}

@@ -14,7 +14,8 @@ use Rattle.sj_world.specs.Ancestors.{parents, next_on_chain}
 use Rattle.sj_world.specs.Known.{Name, Classes, is_same, object, class_of, is_known}
 use Rattle.sj_world.specs.Refusals.{is_before}
 use Rattle.sj_world.specs.Subtypes.{hijacked_class}
-use Rattle.ir_mean.specs.Same.{is_same_base, is_same_method, is_same_namespace, is_same_reference, is_same_text, is_same_type}
+use Rattle.sj_names.specs.Same.{is_same_base, is_same_method, is_same_namespace, is_same_reference, is_same_text}
+use Rattle.sj_trees.specs.SameTypes.{is_same_type}
 use Rattle.std.specs.Cmp.Lexicographic.{pointwise}
 
 -- no way without a repeat through the known classes is longer: those of the world, the eight that each world has, and one that is absent

@@ -1,11 +1,11 @@
 pub mod Dispatch
+pub mod DispatchLaws
 pub mod Meaning
 pub mod ObjectRows
 pub mod Operators
 pub mod Rows
-pub mod Same
 pub mod Shows
 pub mod States
 pub mod Sure
-pub mod World
 pub mod Values
+pub mod World

@@ -8,7 +8,7 @@ use Rattle.sj_trees.specs.Term.{Term, no_terms, apply_static}
 use Rattle.outcomes.specs.Outcome.{done, wrong, then_do}
 use Rattle.outcomes.specs.Shown.{Thrown, normal, uncaught, Shown}
 use Rattle.outcomes.specs.Shown as shown
-use Rattle.ir_mean.specs.Same.{is_same_text}
+use Rattle.sj_names.specs.Same.{is_same_text}
 use Rattle.ir_mean.specs.States.{Value, undefined, null, boolean, char, number, long, text, reference, Stored, object, array, State, Env, gives, throws, leaves, stops, Ended, ends}
 use Rattle.ir_mean.specs.World.{World, opening}
 use Rattle.ir_mean.specs.Meaning.{meaning}

@@ -1,7 +1,7 @@
 -- Values of the IR, what a program keeps while it runs, and how a tree ends.
 use Rattle.std.specs.Prelude.{ℕ, ℤ, Bool, ◌&&◌, List, [], ◌∷◌, ◌++◌, length, set, Option, Some, if◌then◌else◌}
 use Rattle.sj_names.specs.declared.references.ArrayRef.{ArrayRef}
-use Rattle.ir_mean.specs.Same.{is_same_text}
+use Rattle.sj_names.specs.Same.{is_same_text}
 use Rattle.outcomes.specs.Outcome.{Out, done, then_do}
 
 -- a value; byte, short and int are one kind of number, a char and a unit of a text have 16 bits, and a reference is an address

@@ -10,7 +10,7 @@ use Rattle.sj_trees.specs.declared.classes.FieldDef.{FieldDef}
 use Rattle.sj_trees.specs.declared.classes.MethodDef.{MethodDef}
 use Rattle.sj_trees.specs.declared.types.IrType.{IrType}
 use Rattle.ir_mean.specs.Dispatch.{chain_of, is_ancestor_of_any, is_array_below, is_small}
-use Rattle.ir_mean.specs.Same.{is_same_text, is_same_method, is_same_namespace}
+use Rattle.sj_names.specs.Same.{is_same_text, is_same_method, is_same_namespace}
 use Rattle.ir_mean.specs.States.{Value, undefined, null, boolean, char, number, long, text, reference, Fields, Stored, object, array, State}
 
 -- the classes of a program; no two of a program that is accepted have one name

@@ -14,6 +14,7 @@ ghost use Rattle.ir_mean.specs.World.{opening};
 ghost use Rattle.ir_mean.specs.Values.{values, expected};
 ghost use Rattle.ir_mean.specs.ObjectRows as objects;
 ghost use Rattle.ir_mean.specs.Values as worked;
+ghost use Rattle.ir_mean.specs.DispatchLaws.{AncestorsAreWorkedOut, SubtypesAreWorkedOut};
 ghost use Rattle.ir_mean.specs.Rows.{
   hi_program,
   again_program,
@@ -93,4 +94,15 @@ pub fn worked_objects()
     ensures tests { objects.shown (objects.tests) 2 ≡ record { lines = codes "true" ∷ codes "false" ∷ codes "true" ∷ codes "false" ∷ codes "true" ∷ codes "false" ∷ codes "true" ∷ codes "false" ∷ codes "true" ∷ codes "false" ∷ codes "true" ∷ codes "true" ∷ codes "0" ∷ [] ∷ []; end = Done normal } }
     ensures finals { objects.shown (objects.finals) 1 ≡ record { lines = codes "2" ∷ codes "f" ∷ codes "1" ∷ codes "2" ∷ codes "g" ∷ codes "3" ∷ []; end = Done normal } }
     ensures given_up { objects.shown (objects.given_up) 1 ≡ record { lines = codes "1" ∷ []; end = Done normal } }
+{}
+
+/// One class is worked out as an ancestor of another exactly where it is one in the world. No way without a repeat is longer than those that are
+/// tried.
+pub fn ancestors_are_worked_out()
+    ensures { AncestorsAreWorkedOut }
+{}
+
+/// One type is worked out as a subtype of another exactly where it is one in the world.
+pub fn subtypes_are_worked_out()
+    ensures { SubtypesAreWorkedOut }
 {}

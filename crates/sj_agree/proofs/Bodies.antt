@@ -27,7 +27,8 @@ use Rattle.ir_mean.specs.World.{method_in}
 use Rattle.js_mean.specs.States as js
 use Rattle.js_mean.specs.Files.{owner}
 use Rattle.js_mean.specs.Meaning as js_meaning
-use Rattle.sj_agree.proofs.Tests.{impossible, Both, both, same_text-refl, same_text-is}
+use Rattle.sj_names.proofs.Same.{impossible}
+use Rattle.sj_agree.proofs.Tests.{Both, both, same_text-refl, same_text-is}
 use Rattle.sj_agree.proofs.Finds.{static-is, first_name-is, IsFirstName, Found, finds}
 use Rattle.sj_agree.proofs.Modules.{method_code, plain-body, bind-plain}
 use Rattle.sj_agree.proofs.Worlds.{World, Grows, grows-refl, grows-trans, Same, Inside, Landed, landed, Called, came_back}

@@ -14,9 +14,10 @@ use Rattle.sj_trees.specs.declared.types.IrType.TheVariants.{NoType}
 use Rattle.sj_trees.specs.Term.{Term}
 use Rattle.sj_link.specs.FirstForm.{is_same_text, is_empty, is_void, is_no_type, is_public_static, is_word, is_first_name, is_first_body, has_first_body, is_first_method, defines}
 use Rattle.sj_link.specs.Reached.{body_of}
-use Rattle.ir_mean.specs.Same.{is_same_reference, is_same_result, is_same_method, is_same_namespace}
+use Rattle.sj_names.specs.Same.{is_same_reference, is_same_result, is_same_method, is_same_namespace}
 use Rattle.ir_mean.specs.World.{method_among}
-use Rattle.sj_agree.proofs.Tests.{impossible, Both, both, second_of}
+use Rattle.sj_names.proofs.Same.{impossible}
+use Rattle.sj_agree.proofs.Tests.{Both, both, second_of}
 
 pub static-is : (n : Namespace) → is_public_static n ≡ true → n ≡ PublicStatic
 static-is PublicStatic h = refl

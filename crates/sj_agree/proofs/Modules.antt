@@ -16,7 +16,8 @@ use Rattle.sj_link.specs.Link.{function_name, statements, all_statements, body_s
 use Rattle.js_mean.specs.States.{Cell, absent, holds, function}
 use Rattle.js_mean.specs.Proper.{Place, is_among, are_distinct, declared, are_proper, is_proper_item, item_names, is_proper_module}
 use Rattle.js_mean.specs.Meaning.{Code, code_among, bind_declared, items_cell, or_outer}
-use Rattle.sj_agree.proofs.Tests.{impossible, same_text-refl, same_text-is, nothing_in, in_front_or_behind}
+use Rattle.sj_names.proofs.Same.{impossible}
+use Rattle.sj_agree.proofs.Tests.{same_text-refl, same_text-is, nothing_in, in_front_or_behind}
 
 pub function_name-injective : (x y : List ℕ) → function_name x ≡ function_name y → x ≡ y
 function_name-injective x y e = append_cancel_right x y (codes "$$V") (append_cancel_left (codes "s_java_lang_Object__") (x ++ codes "$$V") (y ++ codes "$$V") e)

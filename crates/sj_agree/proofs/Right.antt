@@ -15,7 +15,8 @@ use Rattle.sj_link.specs.FirstForm.{is_object, is_public_static, is_first_name, 
 use Rattle.ir_mean.specs.States as ir
 use Rattle.ir_mean.specs.Sure.{sure_locals}
 use Rattle.ir_mean.specs.Meaning as ir_meaning
-use Rattle.sj_agree.proofs.Tests.{impossible, both}
+use Rattle.sj_names.proofs.Same.{impossible}
+use Rattle.sj_agree.proofs.Tests.{both}
 use Rattle.sj_agree.proofs.Finds.{IsFirstName, finds}
 use Rattle.sj_agree.proofs.Bodies.{ir_call, call_parts, no_arguments}
 

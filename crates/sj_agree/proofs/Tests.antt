@@ -1,12 +1,10 @@
 -- What tests say when they are true.
+use Rattle.sj_names.proofs.Same.{impossible}
 use Rattle.std.proofs.Common.{◌≡◌, ℕ, Bool, true, false, List, [], ◌∷◌, ◌&&◌, ◌||◌, refl, Contains, arith, ◌<◌, inl, inr}
 use Rattle.std.specs.Prelude.{◌⊎◌}
 use Rattle.std.proofs.lemmas.List.Elements.{Contains-push_cases, Contains-append_cases}
 use Rattle.std.proofs.lemmas.Slice.Eq.{bytes_eq-Decides}
 use Rattle.sj_link.specs.FirstForm.{is_same_text}
-
-pub impossible : {A : Type 0} → false ≡ true → A
-impossible h = absurd (cc)
 
 pub record Both (a b : Bool) : Type 0 where
   pub left : a ≡ true

@@ -20,7 +20,7 @@ use Rattle.sj_names.specs.declared.method_names.Member.{Member}
 use Rattle.sj_plain.specs.Settings.{Setting, run, Lawful, Holding}
 use Rattle.sj_bodies.proofs.Contexts.{Context, Writes, Sound, Ahead, Ready, Keeps, Arrives, let_go, stored, returned, Came, gave, left, stopped}
 use Rattle.sj_bodies.proofs.Declared.{Declares, declared-named, IsNew}
-use Rattle.sj_plain.proofs.Operators.{impossible}
+use Rattle.sj_names.proofs.Same.{impossible}
 use Rattle.sj_plain.proofs.Worlds.{World}
 
 or_false : (a b : Bool) → (a || b) ≡ false → (a ≡ false) × (b ≡ false)

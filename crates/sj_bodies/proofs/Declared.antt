@@ -21,7 +21,7 @@ use Rattle.sj_plain.specs.Settings.{Setting}
 pub use Rattle.sj_bodies.specs.Locals.{Own, OwnAll, OwnCases}
 use Rattle.sj_bodies.proofs.Contexts.{is-equal}
 use Rattle.sj_bodies.proofs.Numbers.{EachOnward, onward, operands-onward}
-use Rattle.sj_plain.proofs.Operators.{impossible}
+use Rattle.sj_names.proofs.Same.{impossible}
 
 abbrev pub DeclaresOne : core.Statement → core.Variable → Type 0
 DeclaresOne (core.constant_of p x e) y = x ≡ y

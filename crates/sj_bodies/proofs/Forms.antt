@@ -24,7 +24,7 @@ use Rattle.sj_plain.proofs.Conditions.{coerced-same}
 use Rattle.sj_bodies.proofs.Blocks.{Outside, Undeclared, block_alike}
 use Rattle.sj_bodies.proofs.Contexts.{Context, Writes, Sound, Ahead, IsOpen, Ready, ready-lift, Keeps, keeps-refl, keeps-trans, Arrives, let_go, stored, Came, gave, left, stopped, equals, is-equal, started-here, started-other, started-inside, started-ready, started-keeps}
 use Rattle.sj_bodies.specs.Fine.{FitsIn}
-use Rattle.sj_plain.proofs.Operators.{impossible}
+use Rattle.sj_names.proofs.Same.{impossible}
 use Rattle.sj_plain.proofs.Orders.{OperandAlike, OperandsAlike, no_operands, more_operands, in_order_alike, ActsAlike}
 use Rattle.sj_bodies.proofs.Spills.{keeping, writing, Extends, extends-refl, Final, OperandsDo, runs, operands_in, count, none_left, one_left, spill_does, numbered-named, numbered-same}
 use Rattle.sj_bodies.proofs.Statements.{act_of, ends-one, assigned, started-open, finish_alike, Ends}

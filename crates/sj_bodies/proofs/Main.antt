@@ -29,7 +29,7 @@ use Rattle.sj_bodies.proofs.Forms.{of_operands, one_final, two_final, silent, as
 use Rattle.sj_bodies.proofs.Jumps.{labelling, sound-labelling, labeled_alike, return_alike}
 use Rattle.sj_bodies.proofs.Matches.{settled, sound-settled, ahead-settled, outside-settled, undeclared-settled, undeclared-case, CasesAlike, no_case, without_keys, with_keys, match_final}
 use Rattle.sj_bodies.proofs.Numbers.{onward, cases-onward}
-use Rattle.sj_plain.proofs.Operators.{impossible}
+use Rattle.sj_names.proofs.Same.{impossible}
 use Rattle.sj_plain.proofs.Plain.{unary_alike, binary_alike}
 use Rattle.sj_bodies.proofs.Spills.{Does, OperandDoes, OperandsDo, numbered-named}
 use Rattle.sj_bodies.proofs.Statements.{run-followed, came_then, finish_alike, Ends}

@@ -27,7 +27,7 @@ use Rattle.sj_plain.specs.Settings.{Place, Setting, SameState, Valued, valued, N
 use Rattle.sj_bodies.proofs.Blocks.{Outside, bind-undeclared}
 use Rattle.sj_bodies.proofs.Contexts.{Context, Writes, Sound, Ahead, Ready, let_go, returned, Came, gave, left, stopped, differs, equals, is-equal}
 use Rattle.sj_bodies.proofs.Declared.{declared-named}
-use Rattle.sj_plain.proofs.Operators.{impossible}
+use Rattle.sj_names.proofs.Same.{impossible}
 use Rattle.sj_bodies.proofs.Trees.{LowAlike}
 use Rattle.sj_plain.proofs.Worlds.{World, SameValue, same_undefined, SameValues, no_values, one_more}
 use Rattle.sj_calls.specs.Methods.{parameters_in, function_of, IsParameter, Linked}

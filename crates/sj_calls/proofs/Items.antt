@@ -10,7 +10,7 @@ use Rattle.js_tree.specs.Terms.{Name, Item}
 use Rattle.sj_desugar.specs.Desugar.{desugared}
 use Rattle.sj_emit_expr.specs.Templates.{member_name, parameter_names, body_template}
 use Rattle.sj_bodies.proofs.Contexts.{equals, is-equal}
-use Rattle.sj_plain.proofs.Operators.{impossible}
+use Rattle.sj_names.proofs.Same.{impossible}
 use Rattle.sj_calls.specs.Files.{EmittedMethod, function_item_of}
 
 pub nothing_in : {A : Type 0} {X : Type 0} (x : X) → Contains [] x → A

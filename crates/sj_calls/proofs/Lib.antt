@@ -1,6 +1,5 @@
 pub mod Calls
 pub mod Items
 pub mod Levels
-pub mod Named
-pub mod Safe
+pub mod Names
 pub mod Whole

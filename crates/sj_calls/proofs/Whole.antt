@@ -22,14 +22,15 @@ use Rattle.sj_desugar.specs.Desugar.{desugared}
 use Rattle.sj_emit_expr.specs.Templates.{member_name, parameter_names}
 use Rattle.sj_names.specs.declared.entry_points.EntryPoint.{EntryPoint}
 use Rattle.sj_names.specs.declared.method_names.Member.{Member}
-use Rattle.sj_plain.specs.Settings.{Place, SameState, Valued, valued}
+use Rattle.sj_plain.specs.Settings.{Place, SameState, Valued, valued, NamesDiffer}
 use Rattle.sj_plain.specs.Worlds.{World, no_values}
 use Rattle.sj_bodies.proofs.Contexts.{equals}
 use Rattle.sj_calls.specs.Files.{EmittedMethod, function_item_of, initializer_member, call_item_of, module_with, program_with, IsEmitted, HasFunction}
-use Rattle.sj_calls.specs.Methods.{parameters_in, function_of, ir_call, js_call}
-use Rattle.sj_calls.specs.Names.{emitted_in, LinkedByName}
+use Rattle.sj_calls.specs.Methods.{parameters_in, function_of, Linked, ir_call, js_call}
+use Rattle.sj_calls.specs.Names.{emitted_in}
 use Rattle.sj_calls.proofs.Items.{code_with, code_found, cell_found}
-use Rattle.sj_calls.proofs.Named.{named_calls_agree}
+use Rattle.sj_calls.proofs.Levels.{calls_agree}
+use Rattle.sj_calls.proofs.Names.{emitted_names_differ}
 
 -- a program of one file, and what is found in it
 abbrev alone : Name → Module → js.Program
@@ -72,17 +73,14 @@ module _ (w : ir_world.World) (id : List ℕ) (fs : List EmittedMethod) (es : Li
   pub code-is : (e : EmittedMethod) → code_with e ≡ function_of place e.definition e.its_body
   code-is e = λ i. record { parameters = parameters-are (desugared e.definition e.its_body).params i; body = (code_with e).body }
 
-  linked_by : is_proper_module (module_with fs es) ≡ true → (e : EmittedMethod) → Contains fs e → IsEmitted w is_linked e → LinkedByName place e.member
+  linked_by : is_proper_module (module_with fs es) ≡ true → (e : EmittedMethod) → Contains fs e → IsEmitted w is_linked e → Linked place e.member
   linked_by proper e listed h = record {
-    linked = record {
-      definition = e.definition;
-      its_body = e.its_body;
-      found = h.found;
-      has_body = h.has_body;
-      emitted = ap (λ o. js_meaning.code_in o (member_name e.member)) (module_there file (module_with fs es)) ∙ code_found fs (map call_item_of es) e listed distinct ∙ ap Some (code-is e);
-      fine = h.fine;
-    };
-    names = h.names;
+    definition = e.definition;
+    its_body = e.its_body;
+    found = h.found;
+    has_body = h.has_body;
+    emitted = ap (λ o. js_meaning.code_in o (member_name e.member)) (module_there file (module_with fs es)) ∙ code_found fs (map call_item_of es) e listed distinct ∙ ap Some (code-is e);
+    fine = h.fine;
   }
     where
       names : Bool
@@ -92,8 +90,8 @@ module _ (w : ir_world.World) (id : List ℕ) (fs : List EmittedMethod) (es : Li
       distinct = (and_parts names true (and_parts (names && true) true (and_parts (names && true && true) (list_all is_proper_item (map function_item_of fs ++ map call_item_of es)) proper).0).0).0
 
   module _ (proper : is_proper_module (module_with fs es) ≡ true) (emitted : (e : EmittedMethod) → Contains fs e → IsEmitted w is_linked e) (functions : (m : Member) → is_linked m ≡ true → HasFunction fs m) where
-    linked : (m : Member) → is_linked m ≡ true → LinkedByName place m
-    linked m l = let h = functions m l in subst (LinkedByName place) h.is (linked_by proper h.method h.listed (emitted h.method h.listed))
+    linked : (m : Member) → is_linked m ≡ true → Linked place m
+    linked m l = let h = functions m l in subst (Linked place) h.is (linked_by proper h.method h.listed (emitted h.method h.listed))
 
     opening_same : SameState place [] (ir_world.opening w) (js_meaning.opening program)
     opening_same = record {
@@ -103,6 +101,9 @@ module _ (w : ir_world.World) (id : List ℕ) (fs : List EmittedMethod) (es : Li
 
     own : (m : Member) → is_linked m ≡ true → files.owner program file (member_name m) ≡ Some file
     own m l = own_name file (module_with fs es) (member_name m) refl
+
+    names : NamesDiffer place
+    names = emitted_names_differ w program file is_linked own
 
     -- an initializer, and the item that calls it
     abbrev item_run : EntryPoint → ℕ → js.State → Out js.ExpressionEnd
@@ -118,8 +119,8 @@ module _ (w : ir_world.World) (id : List ℕ) (fs : List EmittedMethod) (es : Li
         called cell = then_do (js_meaning.cell_value cell u) (js.with_value (λ g. js_meaning.in_order [] (js_meaning.call program (js_meaning.below program k) g) (js_meaning.top_scope program file)))
 
     item_alike : (d : Direction) (n k : ℕ) → Within d n k → (e : EntryPoint) → is_linked (initializer_member e) ≡ true → (y : World) (s : ir.State) (u : js.State) → SameState place y s u → Sim d (Valued place y ir_showing.outside) (ir_call place (initializer_member e) [] ir_showing.outside s n) (item_run e k u)
-    item_alike forward n k h e l y s u same = subst (λ o. Sim forward (Valued place y ir_showing.outside) (ir_call place (initializer_member e) [] ir_showing.outside s n) o) (sym (item_is e k y s u l same)) ((named_calls_agree w program file is_linked own linked (initializer_member e) l y [] [] ir_showing.outside s u no_values same).there n k h)
-    item_alike backward n k h e l y s u same = subst (λ o. Sim backward (Valued place y ir_showing.outside) (ir_call place (initializer_member e) [] ir_showing.outside s n) o) (sym (item_is e k y s u l same)) ((named_calls_agree w program file is_linked own linked (initializer_member e) l y [] [] ir_showing.outside s u no_values same).back n k h)
+    item_alike forward n k h e l y s u same = subst (λ o. Sim forward (Valued place y ir_showing.outside) (ir_call place (initializer_member e) [] ir_showing.outside s n) o) (sym (item_is e k y s u l same)) ((calls_agree place names linked (initializer_member e) l y [] [] ir_showing.outside s u no_values same).there n k h)
+    item_alike backward n k h e l y s u same = subst (λ o. Sim backward (Valued place y ir_showing.outside) (ir_call place (initializer_member e) [] ir_showing.outside s n) o) (sym (item_is e k y s u l same)) ((calls_agree place names linked (initializer_member e) l y [] [] ir_showing.outside s u no_values same).back n k h)
 
     -- the end of the file
     abbrev ended : ℕ → Out js.ExpressionEnd → Shown

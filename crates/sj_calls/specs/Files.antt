@@ -4,9 +4,10 @@ use Rattle.std.specs.List.{Contains}
 use Rattle.ir_mean.specs.World.{World, member_of}
 use Rattle.js_mean.specs.Shows.{file_of}
 use Rattle.js_mean.specs.States.{Program}
-use Rattle.js_tree.specs.Terms.{call_of, no_expressions, Item, expression_item, function_item, Module}
+use Rattle.js_tree.specs.Terms.{call_of, no_expressions, Item, expression_item, Piece, Module}
 use Rattle.sj_desugar.specs.Desugar.{desugared}
-use Rattle.sj_emit_expr.specs.Templates.{member_name, parameter_names, body_template}
+use Rattle.sj_emit_expr.specs.Pieces.{piece_of}
+use Rattle.sj_emit_expr.specs.Templates.{member_name}
 use Rattle.sj_names.specs.declared.entry_points.EntryPoint.{EntryPoint}
 use Rattle.sj_names.specs.declared.method_names.Member.{Member}
 use Rattle.sj_names.specs.declared.method_names.Namespace.TheVariants.{PublicStatic}
@@ -14,7 +15,6 @@ use Rattle.sj_names.specs.declared.references.TypeRef.TheVariants.{Void}
 use Rattle.sj_trees.specs.Term.{Term}
 use Rattle.sj_trees.specs.declared.classes.MethodDef.{MethodDef}
 use Rattle.sj_calls.specs.Methods.{FineMethod}
-use Rattle.sj_calls.specs.Names.{GoodMethod}
 
 -- a member whose function is emitted, with its method and its body
 pub record EmittedMethod : Type 0 where
@@ -22,8 +22,12 @@ pub record EmittedMethod : Type 0 where
   pub definition : MethodDef
   pub its_body : Term
 
+-- its piece, and the item in it
+abbrev pub piece_of_method : EmittedMethod → Piece
+piece_of_method e = piece_of e.member (desugared e.definition e.its_body)
+
 abbrev pub function_item_of : EmittedMethod → Item
-function_item_of e = function_item (member_name e.member) (parameter_names (desugared e.definition e.its_body).params) (body_template (desugared e.definition e.its_body))
+function_item_of e = (piece_of_method e).item
 
 -- the member that an initializer calls
 abbrev pub initializer_member : EntryPoint → Member
@@ -40,12 +44,11 @@ module_with fs es = record { imports = []; items = map function_item_of fs ++ ma
 abbrev pub program_with : List ℕ → List EmittedMethod → List EntryPoint → Program
 program_with id fs es = record { file = file_of id; content = Some (module_with fs es) } ∷ []
 
--- the method is that of its member in the classes, its body is fine where calls are of linked members, and the names in its function are good
+-- the method is that of its member in the classes, and its body is fine where calls are of linked members
 pub record IsEmitted (w : World) (is_linked : Member → Bool) (e : EmittedMethod) : Type 0 where
   pub found : member_of w e.member.class e.member.namespace e.member.method ≡ Some e.definition
   pub has_body : e.definition.body ≡ Some e.its_body
   pub fine : FineMethod is_linked e.definition e.its_body
-  pub names : GoodMethod (desugared e.definition e.its_body)
 
 -- one of these methods is that of the member
 pub record HasFunction (fs : List EmittedMethod) (m : Member) : Type 0 where

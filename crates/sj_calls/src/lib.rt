@@ -1,7 +1,7 @@
 //! The agreement of the two meanings for calls: what a call of a method comes to by the IR, a call of its emitted function comes to by
 //! ECMA-262, at every bound.
 //!
-//! `specs/` has what is asked of a method and of the names in its function. The functions here are laws: they do nothing when they run, and
+//! `specs/` has what is asked of a method. The functions here are laws: they do nothing when they run, and
 //! their clauses are theorems.
 #![tactic(auto)]
 
@@ -23,7 +23,7 @@ ghost use Rattle.sj_plain.specs.Settings.{Place, SameState, NamesDiffer};
 ghost use Rattle.sj_plain.specs.Worlds.{World, SameValues};
 ghost use Rattle.sj_calls.specs.Files.{EmittedMethod, initializer_member, module_with, program_with, IsEmitted, HasFunction};
 ghost use Rattle.sj_calls.specs.Methods.{Linked, CallsAgree};
-ghost use Rattle.sj_calls.specs.Names.{emitted_in, LinkedByName};
+ghost use Rattle.sj_calls.specs.Names.{emitted_in};
 
 /// The theorem on calls, for any names of variables and labels that differ: let each linked member be a method of the classes whose body is fine
 /// and whose emitted function stands in the file. Then a call of a linked member by the IR and a call of its function agree where the
@@ -32,15 +32,14 @@ pub fn calls_agree()
     ensures { (p : Place) → NamesDiffer p → ((m : Member) → p.is_linked m ≡ true → Linked p m) → (m : Member) → p.is_linked m ≡ true → (w : World) (vs : List ir.Value) (xs : List js.Value) (env : ir.Env) (s : ir.State) (u : js.State) → SameValues w vs xs → SameState p w s u → CallsAgree p m w vs xs env s u }
 {}
 
-/// The same for the names that the emitted code has: let further each local, label and parameter that occurs in the function of a linked member
-/// be a text of bytes, and each of its variables for operands have a number of 64 bits; and let the name of its function be one that its own
-/// file declares.
-pub fn named_calls_agree()
-    ensures { (classes : ir_world.World) (program : js.Program) (file : Name) (is_linked : Member → Bool) → ((m : Member) → is_linked m ≡ true → owner program file (member_name m) ≡ Some file) → ((m : Member) → is_linked m ≡ true → LinkedByName (emitted_in classes program file is_linked) m) → (m : Member) → is_linked m ≡ true → (w : World) (vs : List ir.Value) (xs : List js.Value) (env : ir.Env) (s : ir.State) (u : js.State) → SameValues w vs xs → SameState (emitted_in classes program file is_linked) w s u → CallsAgree (emitted_in classes program file is_linked) m w vs xs env s u }
+/// The names of the emitted code differ: no two variables have one name, whatever numbers a name is made of, no two labels, and no variable has
+/// the name of a function; let the name of each linked member's function be one that its own file declares.
+pub fn emitted_names_differ()
+    ensures { (classes : ir_world.World) (program : js.Program) (file : Name) (is_linked : Member → Bool) → ((m : Member) → is_linked m ≡ true → owner program file (member_name m) ≡ Some file) → NamesDiffer (emitted_in classes program file is_linked) }
 {}
 
 /// The theorem on files: take a module that has the functions of these methods in this order and then calls the initializers of a public module,
-/// and that has no early error. Let each method be that of its member in the classes, with a fine body and good names, let each member that is
+/// and that has no early error. Let each method be that of its member in the classes, with a fine body, let each member that is
 /// called have one of the functions, and let the initializers be among them. Then the file shows of the public module what the classes show,
 /// unless the classes are wrong at some bound: what the one shows within any bound the other shows within some bound, and the other way round.
 pub fn file_of_functions_agrees()

@@ -1,5 +1,5 @@
 // The names of variables and labels.
-ghost use Rattle.std.specs.Prelude.{◌≡◌, ◌++◌, IfOk, codes, decimal};
+ghost use Rattle.std.specs.Prelude.{◌≡◌, IfOk};
 ghost use Rattle.sj_core.specs.Terms as core;
 ghost use Rattle.sj_core.specs.Views.{variable_view};
 ghost use Rattle.sj_emit_expr.specs.Names as names;
@@ -27,7 +27,7 @@ fn local_name(alloc: Global, name: &LocalName) -> Result<Text, NoMemory>
 }
 
 fn numbered_name(alloc: Global, number: u64) -> Result<Text, NoMemory>
-    ensures { IfOk result (λ name. name ≡ codes "$" ++ decimal number) }
+    ensures { IfOk result (λ name. name ≡ names.variable_name (core.numbered number)) }
 {
     let text = format!(in alloc; "${number}")?;
     Ok(Text::from_string(text)?)

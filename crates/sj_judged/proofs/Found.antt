@@ -1,7 +1,7 @@
 -- The method that is found for a member stands in a class of that name, and has the member's own name.
 use Rattle.std.proofs.Common.{◌≡◌, ℕ, Bool, true, false, List, [], ◌∷◌, ◌&&◌, Option, Some, None, refl, ap, subst, ◌∙◌, Contains, if◌then◌else◌}
 use Rattle.std.proofs.lemmas.List.Elements.{Contains-append_left, Contains-append_right, Contains-push}
-use Rattle.ir_mean.specs.Same.{is_same_text, is_same_namespace, is_same_method}
+use Rattle.sj_names.specs.Same.{is_same_text, is_same_namespace, is_same_method}
 use Rattle.ir_mean.specs.World.{World, class_of, method_among, method_in, member_of}
 use Rattle.sj_names.specs.declared.method_names.Member.{Member}
 use Rattle.sj_names.specs.declared.method_names.MethodName.{MethodName}
@@ -18,10 +18,10 @@ pub record OwnerOf (w : World) (m : Member) (d : MethodDef) : Type 0 where
   pub listed : Contains owner.methods d
   pub named : m.method ≡ d.name
 
-here : {X : Type 0} (x : X) (xs : List X) → Contains (x ∷ xs) x
+pub here : {X : Type 0} (x : X) (xs : List X) → Contains (x ∷ xs) x
 here x xs = Contains-append_left (x ∷ []) xs x (Contains-push [] x)
 
-there : {X : Type 0} (y : X) (xs : List X) (x : X) → Contains xs x → Contains (y ∷ xs) x
+pub there : {X : Type 0} (y : X) (xs : List X) (x : X) → Contains xs x → Contains (y ∷ xs) x
 there y xs x h = Contains-append_right (y ∷ []) xs x h
 
 abbrev in_namespace : Namespace → MethodName → Member

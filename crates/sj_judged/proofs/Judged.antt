@@ -1,18 +1,15 @@
 -- Methods that are judged have what the theorem on classes asks.
-use Rattle.std.proofs.Common.{◌≡◌, ◌≤◌, ◌^◌, ℕ, true, List, [], Option, sym, subst, Contains, arith}
-use Rattle.std.specs.Prelude.{IsTrue, MatchOption}
+use Rattle.std.proofs.Common.{◌≡◌, ◌&&◌, ℕ, Bool, true, false, not, List, [], ◌∷◌, ◌++◌, Option, Some, None, refl, sym, subst, Contains, if◌then◌else◌}
+use Rattle.std.specs.Prelude.{IsTrue, MatchOption, is_some}
+use Rattle.std.proofs.lemmas.Bool.{and_parts}
 use Rattle.std.proofs.lemmas.List.Elements.{All-contains}
 use Rattle.outcomes.specs.Agreement.{Agree}
 use Rattle.ir_mean.specs.Shows.{initializers, ir_shows}
 use Rattle.ir_mean.specs.World.{World}
 use Rattle.js_mean.specs.Shows.{js_shows}
-use Rattle.sj_desugar.specs.Desugar.{into, is_mutable_in, result_destination}
-use Rattle.sj_mangling.specs.Mangling.{AreBytes}
 use Rattle.sj_names.specs.Grammar.{is_class_name}
-use Rattle.sj_names.specs.MethodNames.{spelled_method, IsMethodName}
+use Rattle.sj_names.specs.MethodNames.{IsMethodName}
 use Rattle.sj_names.specs.declared.entry_points.EntryPoint.{EntryPoint}
-use Rattle.sj_names.specs.declared.method_names.MethodName.{MethodName}
-use Rattle.sj_trees.specs.Term.{Term}
 use Rattle.sj_trees.specs.declared.classes.ClassDef.{ClassDef}
 use Rattle.listing_spelling.specs.Rules.{HasListing, IsListedMethod, IsListedTree}
 use Rattle.file_listings.proofs.ListedClasses.{file_is_listed}
@@ -20,13 +17,24 @@ use Rattle.sj_calls.specs.Files.{EmittedMethod, program_with}
 use Rattle.sj_sound.specs.Linked.{has_function, have_functions}
 use Rattle.sj_proper.specs.Program.{HaveOwnMembers}
 use Rattle.sj_kept.specs.Programs.{IsAccepted}
+use Rattle.sj_kept.proofs.Classes.{keeps-superclass, signature-keeps}
 use Rattle.sj_kept.proofs.Programs.{classes_agree}
+use Rattle.sj_local.specs.Broken.{FirstBroken}
+use Rattle.sj_local.specs.ClassRules.{is_class, is_interface, is_empty, keeps_superclass}
+use Rattle.sj_local.specs.Names.{is_object}
+use Rattle.sj_names.proofs.Same.{impossible, text-same}
+use Rattle.sj_names.specs.Same.{is_same_text}
+use Rattle.sj_sound.proofs.Topped.{topped}
+use Rattle.sj_sound.specs.Rules.{HaveTypes}
+use Rattle.sj_sound.specs.Typing.{call_type}
+use Rattle.sj_trees.specs.Term.{Term}
+use Rattle.sj_world.specs.Ancestors.{listed, written, above_in}
+use Rattle.sj_world.specs.Known.{class_of, object}
+use Rattle.sj_world.specs.Laws.{IsTopped}
 use Rattle.sj_typed.proofs.Bodies.{has_rows, yields_result}
+use Rattle.sj_typed.proofs.Values.{result_is, parameters_have_values}
 use Rattle.sj_judged.specs.Judged.{IsJudgedClass, IsJudgedMethod}
-use Rattle.sj_judged.proofs.Bodies.{body_weight}
-use Rattle.sj_judged.proofs.Numbers.{few}
-use Rattle.sj_judged.proofs.Bytes.{utf8-bytes, tree-bytes, parameters-bytes}
-use Rattle.sj_judged.proofs.Found.{OwnerOf, owner_of}
+use Rattle.sj_judged.proofs.Found.{OwnerOf, owner_of, here, there}
 
 module _ (w : World) (fs : List EmittedMethod) (classes : (c : ClassDef) → Contains w c → IsJudgedClass c) (e : EmittedMethod) (h : IsJudgedMethod w fs e) where
   its : OwnerOf w e.member e.definition
@@ -44,11 +52,8 @@ module _ (w : World) (fs : List EmittedMethod) (classes : (c : ClassDef) → Con
   body : IsListedTree e.its_body
   body = subst (λ (o : Option Term). MatchOption o (Unit {0}) IsListedTree) h.has_body method.3
 
-  numbers : (into (is_mutable_in e.definition e.its_body) [] (result_destination e.definition.result) 1 e.its_body).next ≤ 2 ^ 64
-  numbers =
-      let size_is = body_weight judged.bytes its.owner judged.read e.definition its.listed e.its_body h.has_body in
-      let next_is = few (is_mutable_in e.definition e.its_body) [] e.its_body (result_destination e.definition.result) 1 in
-      omega (arith, size_is, next_is, judged.held)
+  types : HaveTypes e.definition.params e.definition.name.params × (e.definition.result ≡ call_type e.definition.name.result)
+  types = signature-keeps its.owner judged.unbroken e.definition its.listed
 
   pub accepted : IsAccepted w fs e
   accepted = record {
@@ -58,18 +63,50 @@ module _ (w : World) (fs : List EmittedMethod) (classes : (c : ClassDef) → Con
     named = sym its.named;
     found = h.found;
     has_body = h.has_body;
-    rows = has_rows w (has_function fs) e.definition e.its_body h.has_body h.typed h.built;
-    yields = yields_result w (has_function fs) e.definition e.its_body h.has_body h.typed h.plain_result;
-    result = h.result;
-    values = h.values;
-    local_bytes = tree-bytes e.its_body body;
-    parameter_bytes = parameters-bytes e.definition.params method.1;
-    numbers = numbers;
+    rows = has_rows w (has_function fs) e.definition e.its_body h.has_body h.typed h.built.body body;
+    yields = yields_result w (has_function fs) e.definition e.its_body h.has_body h.typed;
+    result = result_is e.definition.name.result e.definition.result types.1 h.built.result;
+    values = parameters_have_values e.definition.params e.definition.name.params types.0 method.0.0.params h.built.parameters;
     class_name = subst (λ (n : List ℕ). IsTrue (is_class_name n)) (sym its.class_is) listing.name.0;
     method_name = subst IsMethodName (sym its.named) method.0.0;
-    class_bytes = subst AreBytes (sym its.class_is) (utf8-bytes its.owner.name listing.name.1);
-    method_bytes = subst (λ (m : MethodName). AreBytes (spelled_method m)) (sym its.named) (utf8-bytes (spelled_method e.definition.name) method.0.1);
   }
 
+-- what the class of this name writes above itself
+writes_nothing : (c : ClassDef) → FirstBroken c None → c.name ≡ object → written c ≡ []
+writes_nothing c h is = go c.superclass c.interfaces (subst (λ (b : Bool). (if b then top else others) ≡ true) named kept)
+  where
+    top : Bool
+    top = is_class c.kind && not (is_some c.superclass) && is_empty c.interfaces
+
+    others : Bool
+    others = if is_interface c.kind then not (is_some c.superclass) else is_some c.superclass
+
+    named : is_object c.name ≡ true
+    named = subst (λ (n : List ℕ). is_object n ≡ true) (sym is) refl
+
+    kept : keeps_superclass c ≡ true
+    kept = keeps-superclass c h
+
+    go : (above : Option (List ℕ)) (faces : List (List ℕ)) → (is_class c.kind && not (is_some above) && is_empty faces) ≡ true → listed above ++ faces ≡ []
+    go None [] k = refl
+    go None (f ∷ fs) k = let p = and_parts (is_class c.kind && true) false k in impossible p.1
+    go (Some d) faces k = let p = and_parts (is_class c.kind && false) (is_empty faces) k in impossible (and_parts (is_class c.kind) false p.0).1
+
+class_found : (w : World) (c : ClassDef) → class_of w object ≡ Some c → Contains w c × (c.name ≡ object)
+class_found [] c e = impossible (cc)
+class_found (d ∷ w) c e = go (is_same_text d.name object) refl e (λ k. class_found w c k)
+  where
+    go : (b : Bool) → is_same_text d.name object ≡ b → (if b then Some d else class_of w object) ≡ Some c → (class_of w object ≡ Some c → Contains w c × (c.name ≡ object)) → Contains (d ∷ w) c × (c.name ≡ object)
+    go true i k later = let same : d ≡ c = cc in subst (λ (x : ClassDef). Contains (d ∷ w) x × (x.name ≡ object)) same (here d w, text-same d.name object i)
+    go false i k later = let found = later k in (there d w c found.0, found.1)
+
+-- nothing stands above `java.lang.Object` where no class breaks a local rule
+pub judged_topped : (w : World) → ((c : ClassDef) → Contains w c → IsJudgedClass c) → IsTopped w
+judged_topped w classes = topped w (go (class_of w object) refl)
+  where
+    go : (o : Option ClassDef) → class_of w object ≡ o → above_in o object ≡ []
+    go None e = refl
+    go (Some c) e = let found = class_found w c e in writes_nothing c (classes c found.0).unbroken found.1
+
 pub judged_agree : (w : World) (entries : List EntryPoint) (id : List ℕ) (fs : List EmittedMethod) → ((c : ClassDef) → Contains w c → IsJudgedClass c) → ((e : EmittedMethod) → Contains fs e → IsJudgedMethod w fs e) → HaveOwnMembers fs → have_functions fs (initializers entries id) ≡ true → Agree (ir_shows w entries id) (js_shows (program_with id fs (initializers entries id)) id)
-judged_agree w entries id fs classes methods own called = classes_agree w entries id fs (λ e i. accepted w fs classes e (methods e i)) own called
+judged_agree w entries id fs classes methods own called = classes_agree w (judged_topped w classes) entries id fs (λ e i. accepted w fs classes e (methods e i)) own called

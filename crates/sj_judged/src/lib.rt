@@ -1,28 +1,48 @@
 //! The theorem on classes of integer bodies, for classes as they are judged before they are linked: read from files, without a local rule that they
 //! break, and with methods that are typed.
 //!
-//! `specs/` has what is asked of the classes and of the methods. The function here is a law: it does nothing when it runs, and its clause is
-//! a theorem.
+//! `specs/` has what is asked of the classes and of the methods. The functions here are laws: they do nothing when they run, and their clauses are
+//! theorems.
 #![tactic(auto)]
 
-ghost use Rattle.std.specs.Prelude.{◌≡◌, true, ℕ, List};
-ghost use Rattle.std.specs.List.{Contains};
+ghost use Rattle.std.specs.Prelude.{◌≡◌, true, ℕ, List, [], ◌∷◌, map};
+ghost use Rattle.std.specs.List.{All, Contains};
 ghost use Rattle.outcomes.specs.Agreement.{Agree};
 ghost use Rattle.ir_mean.specs.Shows.{initializers, ir_shows};
 ghost use Rattle.ir_mean.specs.World.{World};
-ghost use Rattle.js_mean.specs.Shows.{js_shows};
+ghost use Rattle.js_mean.specs.Shows.{File, file_of, js_shows};
+ghost use Rattle.js_tree.specs.Rules.{IsPiece, IsModule};
+ghost use Rattle.js_tree.specs.Spelling.{Spells};
+ghost use Rattle.sj_agree.specs.Agrees.{Agrees};
 ghost use Rattle.sj_names.specs.declared.entry_points.EntryPoint.{EntryPoint};
 ghost use Rattle.sj_trees.specs.declared.classes.ClassDef.{ClassDef};
-ghost use Rattle.sj_calls.specs.Files.{EmittedMethod, program_with};
+ghost use Rattle.sj_calls.specs.Files.{EmittedMethod, piece_of_method, module_with, program_with};
 ghost use Rattle.sj_sound.specs.Linked.{have_functions};
 ghost use Rattle.sj_proper.specs.Program.{HaveOwnMembers};
 ghost use Rattle.sj_judged.specs.Judged.{IsJudgedClass, IsJudgedMethod};
+ghost use Rattle.sj_judged.specs.Written.{items_with};
 
 /// Take classes that were read from files and break none of the local rules, and methods of theirs, no two of one member and the initializers of a
-/// public module among them, that are typed among the classes; whose bodies are of the forms that are built, with calls of these methods alone; and
-/// with types of parameters and of results of which values are built, a result's being no class. Then the file that has their functions in this
-/// order and behind them the calls of the initializers shows of the public module what the classes show: what the one shows within any bound the
-/// other shows within some bound, and the other way round, and neither is wrong at any bound.
+/// public module among them, that are typed among the classes and are of the forms that are built, with calls of these methods alone. Then the
+/// file that has their functions in this order and behind them the calls of the initializers shows of the public module what the classes show:
+/// what the one shows within any bound the other shows within some bound, and the other way round, and neither is wrong at any bound.
 pub fn judged_classes_agree()
     ensures { (w : World) (entries : List EntryPoint) (id : List ℕ) (fs : List EmittedMethod) → ((c : ClassDef) → Contains w c → IsJudgedClass c) → ((e : EmittedMethod) → Contains fs e → IsJudgedMethod w fs e) → HaveOwnMembers fs → have_functions fs (initializers entries id) ≡ true → Agree (ir_shows w entries id) (js_shows (program_with id fs (initializers entries id)) id) }
+{}
+
+/// The items of the module of methods are those of their pieces, as `member_piece` gives them, and behind them the calls of the initializers.
+pub fn modules_are_made_of_pieces()
+    ensures { (fs : List EmittedMethod) (es : List EntryPoint) → (module_with fs es).items ≡ items_with (map piece_of_method fs) es }
+{}
+
+/// Where each piece keeps the rules of printing, which `member_piece` gives, and each initializer's method is among those of the pieces, their module
+/// keeps them.
+pub fn modules_keep_the_rules()
+    ensures { (fs : List EmittedMethod) (es : List EntryPoint) → All IsPiece (map piece_of_method fs) → have_functions fs es ≡ true → IsModule (module_with fs es) }
+{}
+
+/// The theorem down to the bytes: with the premises of `judged_classes_agree`, each file that spells that module agrees with the classes, as it is
+/// read.
+pub fn judged_files_agree()
+    ensures { (w : World) (entries : List EntryPoint) (id : List ℕ) (fs : List EmittedMethod) (bytes : List ℕ) → ((c : ClassDef) → Contains w c → IsJudgedClass c) → ((e : EmittedMethod) → Contains fs e → IsJudgedMethod w fs e) → HaveOwnMembers fs → have_functions fs (initializers entries id) ≡ true → Spells (module_with fs (initializers entries id)) bytes → Agrees w entries (record { name = file_of id; bytes = bytes } ∷ []) id }
 {}

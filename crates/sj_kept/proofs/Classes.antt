@@ -5,9 +5,10 @@ use Rattle.std.specs.Cmp.Lexicographic.{pointwise}
 use Rattle.std.proofs.lemmas.Bool.{and_parts}
 use Rattle.sj_local.specs.MemberRules.{breaks_method, has_result, is_void}
 use Rattle.sj_local.specs.TreeRules.{is_constructor}
+use Rattle.sj_local.specs.ClassRules.{keeps_superclass}
 use Rattle.sj_local.specs.Names.{is_init, is_same_type}
 use Rattle.sj_local.specs.Firsts.{in_32_bits, first_where}
-use Rattle.sj_local.specs.Broken.{at_method, Breaks, TreeBreaks, FirstTree, FirstBroken, all_rules, tree_place}
+use Rattle.sj_local.specs.Broken.{at_method, unless, Breaks, TreeBreaks, FirstTree, FirstBroken, all_rules, tree_place}
 use Rattle.sj_local.specs.Firsts.{FirstAnswer, none_left, this_one, a_later_one}
 use Rattle.sj_local.specs.declared.rules.Rule.{Rule}
 use Rattle.sj_local.specs.declared.rules.Rule.TheVariants as rule
@@ -20,8 +21,8 @@ use Rattle.sj_trees.specs.declared.types.IrType.{IrType}
 use Rattle.sj_sound.specs.Rules.{HaveTypes}
 use Rattle.sj_sound.specs.Typing.{call_type}
 use Rattle.sj_kept.specs.Kept.{KeepsTreeRules}
-use Rattle.sj_kept.proofs.Types.{type-same}
-use Rattle.sj_plain.proofs.Operators.{impossible}
+use Rattle.sj_trees.proofs.SameTypes.{type-same}
+use Rattle.sj_names.proofs.Same.{impossible}
 use Rattle.sj_calls.proofs.Items.{nothing_in, in_front_or_behind}
 
 -- where nothing is answered, each answers nothing
@@ -65,6 +66,14 @@ class-keeps c h m i = record {
 
     in_thirteenth : Contains all_rules rule.ReturnLabel
     in_thirteenth = (12, omega arith, refl)
+
+place-unless : (b : Bool) → None ≡ unless b → b ≡ true
+place-unless true e = refl
+place-unless false e = impossible (cc)
+
+-- the rule on superclasses
+pub keeps-superclass : (c : ClassDef) → FirstBroken c None → keeps_superclass c ≡ true
+keeps-superclass c h = place-unless (keeps_superclass c) (none-each (Breaks c) 1 all_rules None h refl rule.Superclass (0, omega arith, refl))
 
 -- where no element passes a test, each fails it
 none-passes : {A : Type 0} (test : A → Bool) (xs : List A) → first_where test xs ≡ None → (x : A) → Contains xs x → test x ≡ false

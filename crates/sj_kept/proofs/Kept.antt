@@ -11,12 +11,13 @@ use Rattle.sj_trees.specs.Term.{Term, Terms, no_terms, more_terms, Cases, no_cas
 use Rattle.sj_trees.specs.declared.classes.ParamDef.{ParamDef}
 use Rattle.sj_trees.specs.declared.types.IrType.{IrType}
 use Rattle.sj_desugar.specs.Desugar.{has_no_value}
-use Rattle.sj_plain.proofs.Operators.{impossible}
+use Rattle.sj_names.proofs.Same.{impossible}
 use Rattle.sj_proper.specs.Once.{Once, OnceAll, OnceCases}
 use Rattle.sj_sound.specs.Typing.{Scene, local_of, IsLocal, IsVariable, in_label, Typed, TypedBlock, TypedAll, TypedCases}
 use Rattle.sj_sound.specs.Typing as scenes
 use Rattle.sj_kept.specs.Rows.{Rows, AllRows, CaseRows}
-use Rattle.sj_kept.proofs.Types.{type-same, empty-is}
+use Rattle.sj_trees.proofs.SameTypes.{type-same}
+use Rattle.sj_kept.proofs.Types.{empty-is}
 
 -- no tree of these breaks the rules on definitions, variables and jumps
 pub record Keeps (x : Node) : Type 0 where

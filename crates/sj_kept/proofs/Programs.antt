@@ -9,11 +9,11 @@ use Rattle.sj_names.specs.declared.method_names.MethodName.{MethodName}
 use Rattle.sj_calls.specs.Files.{EmittedMethod, program_with}
 use Rattle.sj_sound.specs.Linked.{has_function, have_functions, IsRight}
 use Rattle.sj_sound.specs.Rules.{HaveTypes}
-use Rattle.sj_sound.specs.Subtyping.{IsSubSimply}
+use Rattle.sj_world.specs.Laws.{IsTopped}
+use Rattle.sj_world.specs.Subtypes.{IsSub}
 use Rattle.sj_sound.specs.Typing.{call_type}
 use Rattle.sj_proper.specs.Program.{HaveOwnMembers, IsWhole}
 use Rattle.sj_proper.proofs.Modules.{linked_agrees}
-use Rattle.sj_proper.proofs.Names.{method-good}
 use Rattle.sj_kept.specs.Kept.{KeepsTreeRules, DefinesOnce}
 use Rattle.sj_kept.specs.Programs.{IsAccepted}
 use Rattle.sj_kept.proofs.Classes.{class-keeps, signature-keeps}
@@ -24,7 +24,7 @@ module _ (w : World) (fs : List EmittedMethod) (e : EmittedMethod) (h : IsAccept
   kept = class-keeps h.owner h.unbroken e.definition h.listed
 
   defined : DefinesOnce e.definition e.its_body
-  defined = body_keeps IsSubSimply (has_function fs) h.owner e.definition e.its_body h.has_body kept
+  defined = body_keeps (IsSub w) (has_function fs) h.owner e.definition e.its_body h.has_body kept
 
   types : HaveTypes e.definition.params e.definition.name.params × (e.definition.result ≡ call_type e.definition.name.result)
   types = signature-keeps h.owner h.unbroken e.definition h.listed
@@ -35,12 +35,11 @@ module _ (w : World) (fs : List EmittedMethod) (e : EmittedMethod) (h : IsAccept
     has_body = h.has_body;
     parameters = subst (λ (n : MethodName). HaveTypes e.definition.params n.params) h.named types.0;
     result_is = types.1 ∙ ap (λ (n : MethodName). call_type n.result) h.named;
-    rules = rules_kept IsSubSimply (has_function fs) h.owner e.definition e.its_body h.has_body kept h.rows h.yields h.result h.values;
-    names = method-good e.definition e.its_body h.parameter_bytes h.local_bytes h.numbers;
+    rules = rules_kept (IsSub w) (has_function fs) h.owner e.definition e.its_body h.has_body kept h.rows h.yields h.result h.values;
   }
 
   pub whole : IsWhole w fs e
-  whole = record { right = right; once = defined.once; parameters = defined.parameters; class_name = h.class_name; method_name = h.method_name; class_bytes = h.class_bytes; method_bytes = h.method_bytes }
+  whole = record { right = right; once = defined.once; parameters = defined.parameters; class_name = h.class_name; method_name = h.method_name }
 
-pub classes_agree : (w : World) (entries : List EntryPoint) (id : List ℕ) (fs : List EmittedMethod) → ((e : EmittedMethod) → Contains fs e → IsAccepted w fs e) → HaveOwnMembers fs → have_functions fs (initializers entries id) ≡ true → Agree (ir_shows w entries id) (js_shows (program_with id fs (initializers entries id)) id)
-classes_agree w entries id fs all own called = linked_agrees w entries id fs (λ e i. whole w fs e (all e i)) own called
+pub classes_agree : (w : World) → IsTopped w → (entries : List EntryPoint) (id : List ℕ) (fs : List EmittedMethod) → ((e : EmittedMethod) → Contains fs e → IsAccepted w fs e) → HaveOwnMembers fs → have_functions fs (initializers entries id) ≡ true → Agree (ir_shows w entries id) (js_shows (program_with id fs (initializers entries id)) id)
+classes_agree w topped entries id fs all own called = linked_agrees w topped entries id fs (λ e i. whole w fs e (all e i)) own called

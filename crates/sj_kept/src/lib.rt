@@ -20,7 +20,8 @@ ghost use Rattle.sj_trees.specs.declared.classes.ParamDef.{ParamDef};
 ghost use Rattle.sj_calls.specs.Files.{EmittedMethod, program_with};
 ghost use Rattle.sj_sound.specs.Linked.{have_functions};
 ghost use Rattle.sj_sound.specs.Rules.{HaveTypes, KeepsRules};
-ghost use Rattle.sj_sound.specs.Subtyping.{IsSubSimply};
+ghost use Rattle.sj_world.specs.Laws.{IsTopped};
+ghost use Rattle.sj_world.specs.Subtypes.{IsSub};
 ghost use Rattle.sj_sound.specs.Typing.{call_type, local_of, HasValue, IsResult, Yields};
 ghost use Rattle.sj_kept.specs.Kept.{KeepsTreeRules, DefinesOnce};
 ghost use Rattle.sj_kept.specs.Programs.{IsAccepted};
@@ -45,13 +46,13 @@ pub fn locals_are_defined_once()
 /// A method that keeps the rules on trees, and whose body has the rows of typing and yields the result, keeps the rules over trees, so it is covered by
 /// the theorem on programs; where its parameters and its result have types with values that are built.
 pub fn bodies_keep_the_rules()
-    ensures { (is_linked : Member → Bool) (c : ClassDef) (d : MethodDef) (e : Term) → d.body ≡ Some e → KeepsTreeRules c d → Rows IsSubSimply is_linked [] e → Yields IsSubSimply is_linked e d.result → IsResult d.result → ((x : List ℕ) (p : ParamDef) → local_of d.params x ≡ Some p → HasValue p.tpe) → KeepsRules IsSubSimply is_linked d e }
+    ensures { (w : World) (is_linked : Member → Bool) (c : ClassDef) (d : MethodDef) (e : Term) → d.body ≡ Some e → KeepsTreeRules c d → Rows (IsSub w) is_linked [] e → Yields (IsSub w) is_linked e d.result → IsResult d.result → ((x : List ℕ) (p : ParamDef) → local_of d.params x ≡ Some p → HasValue p.tpe) → KeepsRules (IsSub w) is_linked d e }
 {}
 
 /// The theorem on classes of integer bodies: take methods, no two of one member, each of a class that breaks none of the local rules, with the rows
-/// of typing among types that name no class, and with names of bytes; and let the initializers of a public module be among them. Then the
+/// of typing; let the initializers of a public module be among them, and let nothing stand above `java.lang.Object`. Then the
 /// file that has their functions in this order and behind them the calls of the initializers shows of the public module what the classes
 /// show: what the one shows within any bound the other shows within some bound, and the other way round, and neither is wrong at any bound.
 pub fn typed_classes_agree()
-    ensures { (w : World) (entries : List EntryPoint) (id : List ℕ) (fs : List EmittedMethod) → ((e : EmittedMethod) → Contains fs e → IsAccepted w fs e) → HaveOwnMembers fs → have_functions fs (initializers entries id) ≡ true → Agree (ir_shows w entries id) (js_shows (program_with id fs (initializers entries id)) id) }
+    ensures { (w : World) → IsTopped w → (entries : List EntryPoint) (id : List ℕ) (fs : List EmittedMethod) → ((e : EmittedMethod) → Contains fs e → IsAccepted w fs e) → HaveOwnMembers fs → have_functions fs (initializers entries id) ≡ true → Agree (ir_shows w entries id) (js_shows (program_with id fs (initializers entries id)) id) }
 {}

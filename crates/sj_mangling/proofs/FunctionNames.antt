@@ -1,15 +1,14 @@
 -- The parts of a function's name are read back.
-use Rattle.std.proofs.Common.{◌≡◌, ◌<◌, ◌+◌, ◌^◌, ℕ, Bool, true, false, List, [], ◌∷◌, ◌++◌, refl, sym, subst, cond, ap, ◌∙◌, drop, append_assoc, Option, Some, None, if◌then◌else◌}
+use Rattle.std.proofs.Common.{◌≡◌, ◌+◌, ℕ, Bool, true, false, List, [], ◌∷◌, ◌++◌, refl, sym, subst, cond, ap, ◌∙◌, drop, append_assoc, Option, Some, None, if◌then◌else◌}
 use Rattle.std.specs.Prelude.{◌==◌, ◌&&◌, codes}
 use Rattle.std.proofs.lemmas.Bool.{and_parts}
-use Rattle.std.proofs.lemmas.List.Elements.{All-head, All-tail}
 use Rattle.sj_names.specs.Grammar.{is_name_byte, is_dotted}
 use Rattle.sj_names.specs.MethodNames.{spelled_method, method_name_of}
 use Rattle.sj_names.specs.declared.method_names.MethodName.{MethodName}
 use Rattle.sj_names.specs.declared.method_names.Namespace.{Namespace}
 use Rattle.sj_names.specs.declared.method_names.Namespace.TheVariants.{Public, PublicStatic, Private, PrivateStatic, Constructor}
 use Rattle.sj_names.proofs.ReadMethodNames.{reads_method_names}
-use Rattle.sj_mangling.specs.Mangling.{mangled, AreBytes}
+use Rattle.sj_mangling.specs.Mangling.{mangled}
 use Rattle.sj_mangling.specs.Bindings.{function_prefix, function_name, FunctionNamesDiffer}
 use Rattle.sj_mangling.proofs.Injective.{unmangled, mangled-cons, same_reading, same_cons, mangled_texts_differ}
 
@@ -27,35 +26,35 @@ dot_tail begun b bs dot e =
     (and_parts begun (is_dotted false bs) plain).1
 
 -- behind a dot of a class name stands no `_`
-no_second : (bs rest front : List ℕ) → is_dotted false bs ≡ true → AreBytes bs → 95 ∷ front ≡ mangled bs ++ (95 ∷ 95 ∷ rest) → ⊥
+no_second : (bs rest front : List ℕ) → is_dotted false bs ≡ true → 95 ∷ front ≡ mangled bs ++ (95 ∷ 95 ∷ rest) → ⊥
 unfolding unmangled
-no_second [] rest front e bytes same = cc
-no_second (b ∷ bs) rest front e bytes same =
-    let read : ◌≡◌ {A = Option (ℕ × List ℕ)} (Some (46, front)) (Some (b, mangled bs ++ (95 ∷ 95 ∷ rest))) = ap unmangled same ∙ mangled-cons b bs (95 ∷ 95 ∷ rest) (All-head (λ b. b < 2 ^ 8) b bs bytes) in
+no_second [] rest front e same = cc
+no_second (b ∷ bs) rest front e same =
+    let read : ◌≡◌ {A = Option (ℕ × List ℕ)} (Some (46, front)) (Some (b, mangled bs ++ (95 ∷ 95 ∷ rest))) = ap unmangled same ∙ mangled-cons b bs (95 ∷ 95 ∷ rest) in
     let dot = (same_reading 46 b front (mangled bs ++ (95 ∷ 95 ∷ rest)) read).0 in
     let none : false ≡ true = subst (λ c. is_dotted false (c ∷ bs) ≡ true) (sym dot) e in
     cc
 
 -- one name has ended, and the other goes on
-ends_first : (begun : Bool) (b : ℕ) (bs rest front : List ℕ) → is_dotted begun (b ∷ bs) ≡ true → AreBytes (b ∷ bs) → 95 ∷ 95 ∷ front ≡ mangled (b ∷ bs) ++ (95 ∷ 95 ∷ rest) → ⊥
+ends_first : (begun : Bool) (b : ℕ) (bs rest front : List ℕ) → is_dotted begun (b ∷ bs) ≡ true → 95 ∷ 95 ∷ front ≡ mangled (b ∷ bs) ++ (95 ∷ 95 ∷ rest) → ⊥
 unfolding unmangled
-ends_first begun b bs rest front e bytes same =
-    let read : ◌≡◌ {A = Option (ℕ × List ℕ)} (Some (46, 95 ∷ front)) (Some (b, mangled bs ++ (95 ∷ 95 ∷ rest))) = ap unmangled same ∙ mangled-cons b bs (95 ∷ 95 ∷ rest) (All-head (λ b. b < 2 ^ 8) b bs bytes) in
+ends_first begun b bs rest front e same =
+    let read : ◌≡◌ {A = Option (ℕ × List ℕ)} (Some (46, 95 ∷ front)) (Some (b, mangled bs ++ (95 ∷ 95 ∷ rest))) = ap unmangled same ∙ mangled-cons b bs (95 ∷ 95 ∷ rest) in
     let parts = same_reading 46 b (95 ∷ front) (mangled bs ++ (95 ∷ 95 ∷ rest)) read in
-    no_second bs rest front (dot_tail begun b bs parts.0 e) (All-tail (λ b. b < 2 ^ 8) b bs bytes) parts.1
+    no_second bs rest front (dot_tail begun b bs parts.0 e) parts.1
 
-split_class : (begun further : Bool) (one other rest behind : List ℕ) → is_dotted begun one ≡ true → is_dotted further other ≡ true → AreBytes one → AreBytes other →
+split_class : (begun further : Bool) (one other rest behind : List ℕ) → is_dotted begun one ≡ true → is_dotted further other ≡ true →
     mangled one ++ (95 ∷ 95 ∷ rest) ≡ mangled other ++ (95 ∷ 95 ∷ behind) → (one ≡ other) × (rest ≡ behind)
-split_class begun further [] [] rest behind e h bytes others same = (refl, ap (drop 2) same)
-split_class begun further [] (y ∷ ys) rest behind e h bytes others same = absurd (ends_first further y ys behind rest h others same)
-split_class begun further (x ∷ xs) [] rest behind e h bytes others same = absurd (ends_first begun x xs rest behind e bytes (sym same))
-split_class begun further (x ∷ xs) (y ∷ ys) rest behind e h bytes others same =
-    let one = mangled-cons x xs (95 ∷ 95 ∷ rest) (All-head (λ b. b < 2 ^ 8) x xs bytes) in
-    let other = mangled-cons y ys (95 ∷ 95 ∷ behind) (All-head (λ b. b < 2 ^ 8) y ys others) in
+split_class begun further [] [] rest behind e h same = (refl, ap (drop 2) same)
+split_class begun further [] (y ∷ ys) rest behind e h same = absurd (ends_first further y ys behind rest h same)
+split_class begun further (x ∷ xs) [] rest behind e h same = absurd (ends_first begun x xs rest behind e (sym same))
+split_class begun further (x ∷ xs) (y ∷ ys) rest behind e h same =
+    let one = mangled-cons x xs (95 ∷ 95 ∷ rest) in
+    let other = mangled-cons y ys (95 ∷ 95 ∷ behind) in
     let read = same_reading x y (mangled xs ++ (95 ∷ 95 ∷ rest)) (mangled ys ++ (95 ∷ 95 ∷ behind)) (sym one ∙ ap unmangled same ∙ other) in
     let tail = dotted_tail begun x xs e in
     let tails = dotted_tail further y ys h in
-    let known = split_class tail.0 tails.0 xs ys rest behind tail.1 tails.1 (All-tail (λ b. b < 2 ^ 8) x xs bytes) (All-tail (λ b. b < 2 ^ 8) y ys others) read.1 in
+    let known = split_class tail.0 tails.0 xs ys rest behind tail.1 tails.1 read.1 in
     (same_cons x y xs ys read.0 known.0, known.1)
 
 -- the namespace of a function's name, and what stands behind its first `_`
@@ -93,13 +92,13 @@ grouped namespace class method =
     ∙ append_assoc front (mangled class) (95 ∷ 95 ∷ mangled (spelled_method method))
 
 pub function_names_differ : FunctionNamesDiffer
-function_names_differ one other class another method further class_is another_is method_is further_is class_bytes another_bytes method_bytes further_bytes same =
+function_names_differ one other class another method further class_is another_is method_is further_is same =
     let rest : List ℕ = mangled class ++ (95 ∷ 95 ∷ mangled (spelled_method method)) in
     let behind : List ℕ = mangled another ++ (95 ∷ 95 ∷ mangled (spelled_method further)) in
     let named = same_namespace one other rest behind
     (sym (namespace_of-function one rest) ∙ ap namespace_of (sym (grouped one class method) ∙ same ∙ grouped other another further) ∙ namespace_of-function other behind) in
-    let parts = split_class false false class another (mangled (spelled_method method)) (mangled (spelled_method further)) class_is another_is class_bytes another_bytes named.1 in
-    let spelled = mangled_texts_differ (spelled_method method) (spelled_method further) method_bytes further_bytes parts.1 in (
+    let parts = split_class false false class another (mangled (spelled_method method)) (mangled (spelled_method further)) class_is another_is named.1 in
+    let spelled = mangled_texts_differ (spelled_method method) (spelled_method further) parts.1 in (
       named.0,
       parts.0,
       same_method method further

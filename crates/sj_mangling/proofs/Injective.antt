@@ -1,8 +1,7 @@
 -- Mangled texts are read back.
-use Rattle.std.proofs.Common.{◌≡◌, ◌<◌, ◌+◌, ◌-◌, ◌*◌, ◌/◌, ◌%◌, ◌^◌, ℕ, Bool, true, false, List, [], ◌∷◌, ◌++◌, refl, sym, ap, ◌∙◌, arith, append_assoc, Option, Some, None, if◌then◌else◌}
+use Rattle.std.proofs.Common.{◌≡◌, ◌+◌, ◌-◌, ◌*◌, ◌/◌, ◌%◌, ℕ, Bool, true, false, List, [], ◌∷◌, ◌++◌, refl, sym, ap, ◌∙◌, arith, append_assoc, Option, Some, None, if◌then◌else◌}
 use Rattle.std.specs.Prelude.{◌==◌, nat_lt}
 use Rattle.std.specs.Char.{digit_char}
-use Rattle.std.proofs.lemmas.List.Elements.{All-head, All-tail}
 use Rattle.sj_mangling.specs.Mangling.{is_alphanumeric, mangled_byte, mangled, MangledTextsDiffer}
 
 -- the number of a hexadecimal digit
@@ -19,31 +18,29 @@ unfoldable pub unmangled : List ℕ → Option (ℕ × List ℕ)
 unmangled [] = None
 unmangled (byte ∷ rest) = if byte == 95 then Some (46, rest) else if byte == 36 then escaped rest else Some (byte, rest)
 
-digit_number-digit_char : (n : ℕ) → n < 16 → digit_number (digit_char n) ≡ n
+digit_number-digit_char : (n : ℕ) → digit_number (digit_char n) ≡ n
 unfolding digit_number
-digit_number-digit_char n small = grind arith
+digit_number-digit_char n = grind arith
 
-digit_char-plain : (n : ℕ) → n < 16 → (digit_char n == 36) ≡ false
-digit_char-plain n small = grind arith
+digit_char-plain : (n : ℕ) → (digit_char n == 36) ≡ false
+digit_char-plain n = grind arith
 
 escaped-semicolon : (rest : List ℕ) → escaped (36 ∷ rest) ≡ Some (59, rest)
 unfolding escaped
 escaped-semicolon [] = refl
 escaped-semicolon (b ∷ rest) = refl
 
-escaped-digits : (byte : ℕ) (rest : List ℕ) → byte < 2 ^ 8 → escaped (digit_char (byte / 16) ∷ digit_char (byte % 16) ∷ rest) ≡ Some (byte, rest)
+escaped-digits : (byte : ℕ) (rest : List ℕ) → escaped (digit_char (byte / 16) ∷ digit_char (byte % 16) ∷ rest) ≡ Some (byte, rest)
 unfolding escaped
-escaped-digits byte rest small =
-    let high : byte / 16 < 16 = omega arith in
-    let low : byte % 16 < 16 = omega arith in
+escaped-digits byte rest =
     let whole : digit_number (digit_char (byte / 16)) * 16 + digit_number (digit_char (byte % 16)) ≡ byte =
-    rw (digit_number-digit_char (byte / 16) high, digit_number-digit_char (byte % 16) low) (omega arith) in
-    rw (digit_char-plain (byte / 16) high) (ap (λ b. Some (b, rest)) whole)
+    rw (digit_number-digit_char (byte / 16), digit_number-digit_char (byte % 16)) (omega arith) in
+    rw (digit_char-plain (byte / 16)) (ap (λ b. Some (b, rest)) whole)
 
 -- a mangled byte is read back, whatever follows
-pub unmangled-mangled_byte : (byte : ℕ) (rest : List ℕ) → byte < 2 ^ 8 → unmangled (mangled_byte byte ++ rest) ≡ Some (byte, rest)
+pub unmangled-mangled_byte : (byte : ℕ) (rest : List ℕ) → unmangled (mangled_byte byte ++ rest) ≡ Some (byte, rest)
 unfolding unmangled
-unmangled-mangled_byte byte rest small = by_kind (is_alphanumeric byte) (byte == 46) (byte == 59) refl refl refl
+unmangled-mangled_byte byte rest = by_kind (is_alphanumeric byte) (byte == 46) (byte == 59) refl refl refl
   where
     by_kind : (plain dot semicolon : Bool) → is_alphanumeric byte ≡ plain → (byte == 46) ≡ dot → (byte == 59) ≡ semicolon → unmangled (mangled_byte byte ++ rest) ≡ Some (byte, rest)
     by_kind true dot semicolon is is_dot is_semicolon =
@@ -52,12 +49,12 @@ unmangled-mangled_byte byte rest small = by_kind (is_alphanumeric byte) (byte ==
         rw (is, other, another)
     by_kind false true semicolon is is_dot is_semicolon = let same : byte ≡ 46 = grind arith in rw (is, is_dot) (ap (λ b. Some (b, rest)) (sym same))
     by_kind false false true is is_dot is_semicolon = let same : byte ≡ 59 = grind arith in rw (is, is_dot, is_semicolon) (escaped-semicolon rest ∙ ap (λ b. Some (b, rest)) (sym same))
-    by_kind false false false is is_dot is_semicolon = rw (is, is_dot, is_semicolon) (escaped-digits byte rest small)
+    by_kind false false false is is_dot is_semicolon = rw (is, is_dot, is_semicolon) (escaped-digits byte rest)
 
 -- in front of any rest
-pub mangled-cons : (byte : ℕ) (text rest : List ℕ) → byte < 2 ^ 8 → unmangled (mangled (byte ∷ text) ++ rest) ≡ Some (byte, mangled text ++ rest)
-mangled-cons byte text rest small =
-    ap unmangled (append_assoc (mangled_byte byte) (mangled text) rest) ∙ unmangled-mangled_byte byte (mangled text ++ rest) small
+pub mangled-cons : (byte : ℕ) (text rest : List ℕ) → unmangled (mangled (byte ∷ text) ++ rest) ≡ Some (byte, mangled text ++ rest)
+mangled-cons byte text rest =
+    ap unmangled (append_assoc (mangled_byte byte) (mangled text) rest) ∙ unmangled-mangled_byte byte (mangled text ++ rest)
 
 -- what two equal readings have in common
 pub same_reading : (x y : ℕ) (xs ys : List ℕ) → ◌≡◌ {A = Option (ℕ × List ℕ)} (Some (x, xs)) (Some (y, ys)) → (x ≡ y) × (xs ≡ ys)
@@ -73,13 +70,9 @@ same_cons x y xs ys first rest = cc
 
 pub mangled_texts_differ : MangledTextsDiffer
 unfolding unmangled
-mangled_texts_differ [] [] bytes others same = refl
-mangled_texts_differ [] (y ∷ ys) bytes others same =
-    absurd (no_reading y (mangled ys) (ap unmangled same ∙ unmangled-mangled_byte y (mangled ys) (All-head (λ b. b < 2 ^ 8) y ys others)))
-mangled_texts_differ (x ∷ xs) [] bytes others same =
-    absurd (no_reading x (mangled xs) (ap unmangled (sym same) ∙ unmangled-mangled_byte x (mangled xs) (All-head (λ b. b < 2 ^ 8) x xs bytes)))
-mangled_texts_differ (x ∷ xs) (y ∷ ys) bytes others same =
-    let one = unmangled-mangled_byte x (mangled xs) (All-head (λ b. b < 2 ^ 8) x xs bytes) in
-    let other = unmangled-mangled_byte y (mangled ys) (All-head (λ b. b < 2 ^ 8) y ys others) in
-    let read = same_reading x y (mangled xs) (mangled ys) (sym one ∙ ap unmangled same ∙ other) in
-    same_cons x y xs ys read.0 (mangled_texts_differ xs ys (All-tail (λ b. b < 2 ^ 8) x xs bytes) (All-tail (λ b. b < 2 ^ 8) y ys others) read.1)
+mangled_texts_differ [] [] same = refl
+mangled_texts_differ [] (y ∷ ys) same = absurd (no_reading y (mangled ys) (ap unmangled same ∙ unmangled-mangled_byte y (mangled ys)))
+mangled_texts_differ (x ∷ xs) [] same = absurd (no_reading x (mangled xs) (ap unmangled (sym same) ∙ unmangled-mangled_byte x (mangled xs)))
+mangled_texts_differ (x ∷ xs) (y ∷ ys) same =
+    let read = same_reading x y (mangled xs) (mangled ys) (sym (unmangled-mangled_byte x (mangled xs)) ∙ ap unmangled same ∙ unmangled-mangled_byte y (mangled ys)) in
+    same_cons x y xs ys read.0 (mangled_texts_differ xs ys read.1)

@@ -1,2 +1,3 @@
 pub mod FunctionNames
 pub mod Injective
+pub mod Numerals

@@ -5,7 +5,7 @@ use Rattle.sj_names.specs.MethodNames.{spelled_method, IsMethodName}
 use Rattle.sj_names.specs.declared.method_names.MethodName.{MethodName}
 use Rattle.sj_names.specs.declared.method_names.Namespace.{Namespace}
 use Rattle.sj_names.specs.declared.method_names.Namespace.TheVariants.{Public, PublicStatic, Private, PrivateStatic, Constructor}
-use Rattle.sj_mangling.specs.Mangling.{mangled, AreBytes}
+use Rattle.sj_mangling.specs.Mangling.{mangled}
 use Rattle.sj_mangling.specs.declared.bindings.ClassBinding.{ClassBinding}
 use Rattle.sj_mangling.specs.declared.bindings.ClassBinding.TheVariants.{Constants, Class, Instance, LoadModule, StoreModule, IsInstance, AsInstance, Marker}
 use Rattle.sj_mangling.specs.declared.bindings.FieldBinding.{FieldBinding}
@@ -31,7 +31,6 @@ function_name namespace class method = function_prefix namespace ++ codes "_" ++
 abbrev pub FunctionNamesDiffer : Type 0
 FunctionNamesDiffer = (one other : Namespace) (class another : List ℕ) (method further : MethodName) →
     IsTrue (is_class_name class) → IsTrue (is_class_name another) → IsMethodName method → IsMethodName further →
-    AreBytes class → AreBytes another → AreBytes (spelled_method method) → AreBytes (spelled_method further) →
     function_name one class method ≡ function_name other another further → (one ≡ other) × (class ≡ another) × (method ≡ further)
 
 -- the other bindings: of a class, of a field of a class, of a method name, of a local variable or label

@@ -1,6 +1,6 @@
 -- The mangling of names into names of the emitted code.
-use Rattle.std.specs.Prelude.{◌≡◌, ◌<◌, ◌/◌, ◌%◌, ◌^◌, ℕ, Bool, List, [], ◌∷◌, ◌==◌, ◌&&◌, ◌||◌, nat_le, codes, if◌then◌else◌}
-use Rattle.std.specs.List.{flat_map, All}
+use Rattle.std.specs.Prelude.{◌≡◌, ◌/◌, ◌%◌, ℕ, Bool, List, [], ◌∷◌, ◌==◌, ◌&&◌, ◌||◌, nat_le, codes, if◌then◌else◌}
+use Rattle.std.specs.List.{flat_map}
 use Rattle.std.specs.Char.{digit_char}
 
 -- an ASCII letter or digit
@@ -19,9 +19,6 @@ mangled_byte byte =
 abbrev pub mangled : List ℕ → List ℕ
 mangled = flat_map mangled_byte
 
-abbrev pub AreBytes : List ℕ → Type 0
-AreBytes text = All (λ byte. byte < 2 ^ 8) text
-
 -- two texts that are mangled alike are the same
 abbrev pub MangledTextsDiffer : Type 0
-MangledTextsDiffer = (one other : List ℕ) → AreBytes one → AreBytes other → mangled one ≡ mangled other → one ≡ other
+MangledTextsDiffer = (one other : List ℕ) → mangled one ≡ mangled other → one ≡ other

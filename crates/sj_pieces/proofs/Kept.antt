@@ -7,15 +7,14 @@ use Rattle.js_tree.specs.Terms as js
 use Rattle.sj_core.specs.Terms as core
 use Rattle.sj_emit_expr.specs.Names.{variable_name, label_name}
 use Rattle.sj_emit_expr.specs.Templates.{unary_template, binary_template, is_nonzero_literal, choice_template, expression_template, expression_templates, statement_template, statement_templates, case_templates, parameter_names}
-use Rattle.sj_mangling.specs.Mangling.{AreBytes}
 use Rattle.sj_names.specs.declared.method_names.Member.{Member}
 use Rattle.sj_trees.specs.declared.operators.BinaryOp.{BinaryOp}
 use Rattle.sj_trees.specs.declared.operators.BinaryOp.TheVariants.{BooleanEqual, BooleanNotEqual, BooleanOr, BooleanAnd, IntAdd, IntSubtract, IntMultiply, IntDivide, IntRemainder, IntOr, IntAnd, IntXor, IntShiftLeft, IntShiftRightLogical, IntShiftRightArithmetic, IntEqual, IntNotEqual, IntLess, IntLessOrEqual, IntGreater, IntGreaterOrEqual}
 use Rattle.sj_trees.specs.declared.operators.UnaryOp.{UnaryOp}
 use Rattle.sj_trees.specs.declared.operators.UnaryOp.TheVariants.{BooleanNot, CharToInt, ByteToInt, ShortToInt, IntToByte, IntToShort}
 use Rattle.sj_pieces.specs.Keys.{IsKeyed, AreKeyed, HaveKeys, HasKeys}
-use Rattle.sj_pieces.specs.Pieces.{piece_of}
-use Rattle.sj_pieces.specs.Ranges.{FitsMember, FitsExpression, FitExpressions, FitsStatement, FitStatements, FitCases, FitsMethod}
+use Rattle.sj_emit_expr.specs.Pieces.{piece_of}
+use Rattle.sj_pieces.specs.Ranges.{AreBytes, FitsMember, FitsExpression, FitExpressions, FitsStatement, FitStatements, FitCases, FitsMethod}
 use Rattle.sj_pieces.proofs.Names.{variable-named, label-named, member-named}
 use Rattle.sj_pieces.proofs.Uses.{uses-named}
 

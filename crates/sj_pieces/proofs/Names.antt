@@ -1,10 +1,11 @@
 -- Names of the emitted code keep the rule of names.
-use Rattle.std.proofs.Common.{◌≡◌, ◌∙◌, ◌<◌, ◌/◌, ◌%◌, ◌^◌, ℕ, zero, suc, Bool, true, false, ◌&&◌, List, [], ◌∷◌, ◌++◌, refl, ap, arith, if◌then◌else◌}
-use Rattle.std.specs.Prelude.{◌==◌, codes, decimal, replicate, Option, Some, None, IfSome, All}
+use Rattle.std.proofs.Common.{◌≡◌, ◌∙◌, ◌+◌, ◌<◌, ◌/◌, ◌%◌, ◌^◌, ℕ, zero, suc, Bool, true, false, ◌&&◌, List, [], ◌∷◌, ◌++◌, refl, ap, arith, if◌then◌else◌}
+use Rattle.std.specs.Prelude.{◌==◌, codes, map, replicate, Option, Some, None, IfSome, All}
 use Rattle.std.specs.Char.{digit_char}
-use Rattle.std.specs.Fmt.{digits, digits_onto, digit_glyph}
+use Rattle.std.specs.Int.Digits.{digits_of, AllBelowBase}
 use Rattle.std.specs.List.{list_all}
 use Rattle.std.proofs.lemmas.Bool.Decides.{nat_tests}
+use Rattle.std.proofs.lemmas.Int.Digits.{all_below_base_digits_of}
 use Rattle.std.proofs.lemmas.List.Elements.{All-nil, All-cons, All-head, All-tail, All-append}
 use Rattle.std.proofs.lemmas.List.Folds.{list_all-append}
 use Rattle.js_tree.specs.Names.{is_name_character}
@@ -13,7 +14,8 @@ use Rattle.sj_core.specs.Terms.{Variable, named, numbered}
 use Rattle.sj_emit_expr.specs.Names.{variable_name, label_name}
 use Rattle.sj_emit_expr.specs.Templates.{member_name}
 use Rattle.sj_mangling.specs.Bindings.{function_name}
-use Rattle.sj_mangling.specs.Mangling.{is_alphanumeric, mangled_byte, mangled, AreBytes}
+use Rattle.sj_mangling.specs.Mangling.{is_alphanumeric, mangled_byte, mangled}
+use Rattle.sj_mangling.specs.Numerals.{number_text}
 use Rattle.sj_names.specs.Bases.{spelled_base}
 use Rattle.sj_names.specs.MethodNames.{spelled_method, spelled_parameters, spelled_result}
 use Rattle.sj_names.specs.References.{spelled}
@@ -25,7 +27,7 @@ use Rattle.sj_names.specs.declared.method_names.Member.{Member}
 use Rattle.sj_names.specs.declared.method_names.MethodName.{MethodName}
 use Rattle.sj_names.specs.declared.method_names.Namespace.{Namespace}
 use Rattle.sj_names.specs.declared.method_names.Namespace.TheVariants.{Public, PublicStatic, Private, PrivateStatic, Constructor}
-use Rattle.sj_pieces.specs.Ranges.{FitsBase, FitsReference, FitsMethodName, FitsMember, FitsVariable}
+use Rattle.sj_pieces.specs.Ranges.{AreBytes, FitsBase, FitsReference, FitsMethodName, FitsMember, FitsVariable}
 
 -- spellings are texts of bytes
 abbrev IsByte : ℕ → Type 0
@@ -97,27 +99,20 @@ mangled-characters : (text : List ℕ) → AreBytes text → AreCharacters (mang
 mangled-characters [] bytes = refl
 mangled-characters (byte ∷ text) bytes = both (mangled_byte byte) (mangled text) (byte-characters byte (All-head (λ b. b < 2 ^ 8) byte text bytes)) (mangled-characters text (All-tail (λ b. b < 2 ^ 8) byte text bytes))
 
-glyph-character : (n : ℕ) → is_name_character (digit_glyph false (n % 10)) ≡ true
-glyph-character n = let small : n % 10 < 10 = omega arith in grind (arith, nat_tests)
+digit-named : (d : ℕ) → d < 10 → is_name_character (48 + d) ≡ true
+digit-named d small = grind (arith, nat_tests)
 
-either-characters : (first : Bool) (xs ys : List ℕ) → AreCharacters xs → AreCharacters ys → AreCharacters (if first then xs else ys)
-either-characters true xs ys h k = h
-either-characters false xs ys h k = k
+digits-characters : (ds : List ℕ) → AllBelowBase 10 ds → AreCharacters (map (λ d. 48 + d) ds)
+digits-characters [] h = refl
+digits-characters (d ∷ ds) h = λ i. digit-named d h.0 i && digits-characters ds h.1 i
 
-digits-characters : (k n : ℕ) (rest : List ℕ) → AreCharacters rest → AreCharacters (digits_onto k 10 false n rest)
-digits-characters zero n rest h = h
-digits-characters (suc k) n rest h =
-    let more : List ℕ = digit_glyph false (n % 10) ∷ rest in
-    let characters : AreCharacters more = λ i. glyph-character n i && h i in
-    either-characters (n / 10 == 0) more (digits_onto k 10 false (n / 10) more) characters (digits-characters k (n / 10) more characters)
-
-decimal-characters : (n : ℕ) → AreCharacters (decimal n)
-unfolding digits
-decimal-characters n = digits-characters 64 n [] refl
+numeral-characters : (n : ℕ) → AreCharacters (number_text n)
+numeral-characters zero = refl
+numeral-characters (suc n) = digits-characters (digits_of 10 (suc n)) (all_below_base_digits_of 10 (suc n) (omega arith))
 
 pub variable-named : (x : Variable) → FitsVariable x → IsName (variable_name x)
 variable-named (named x) bytes = rw (mangled-characters x bytes) refl
-variable-named (numbered n) bytes = rw (decimal-characters n) refl
+variable-named (numbered n) bytes = rw (numeral-characters n) refl
 
 pub label-named : (l : List ℕ) → AreBytes l → IsName (label_name l)
 label-named l bytes = rw (mangled-characters l bytes) refl

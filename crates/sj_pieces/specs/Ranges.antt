@@ -1,14 +1,16 @@
 -- What the types of the parts of a method say: names are texts of bytes, numbers have 32 bits and units 16.
-use Rattle.std.specs.Prelude.{All, IfSome}
+use Rattle.std.specs.Prelude.{◌<◌, ◌^◌, ℕ, List, All, IfSome}
 use Rattle.js_tree.specs.Rules.{IsNumber, IsUnit}
 use Rattle.sj_core.specs.Terms.{Variable, named, numbered, Expression, number_value, text_value, variable_use, boxed_char, choice_of, static_call, unary_of, binary_of, Expressions, no_expressions, expression, Statement, constant_of, define_of, declare_of, assign_to, evaluate_of, return_of, log_of, leave_label, break_nearest, if_of, while_of, loop_of, labeled_of, switch_of, Statements, no_statements, statement, Cases, no_cases, switch_case, Method}
-use Rattle.sj_mangling.specs.Mangling.{AreBytes}
 use Rattle.sj_names.specs.declared.method_names.Member.{Member}
 use Rattle.sj_names.specs.declared.method_names.MethodName.{MethodName}
 use Rattle.sj_names.specs.declared.references.BaseRef.{BaseRef}
 use Rattle.sj_names.specs.declared.references.BaseRef.TheVariants as bases
 use Rattle.sj_names.specs.declared.references.TypeRef.{TypeRef}
 use Rattle.sj_names.specs.declared.references.TypeRef.TheVariants as types
+
+abbrev pub AreBytes : List ℕ → Type 0
+AreBytes text = All (λ byte. byte < 2 ^ 8) text
 
 abbrev pub FitsBase : BaseRef → Type 0
 FitsBase (bases.Class name) = AreBytes name

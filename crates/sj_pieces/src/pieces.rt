@@ -5,8 +5,8 @@ ghost use Rattle.js_tree.specs.Views.{body_view, piece_view};
 ghost use Rattle.sj_core.specs.Views.{method_view};
 ghost use Rattle.sj_names.specs.Counting.{raised};
 ghost use Rattle.sj_pieces.specs.Keys.{HasKeys};
-ghost use Rattle.sj_pieces.specs.Pieces as pieces;
-ghost use Rattle.sj_pieces.specs.Pieces.{piece_of};
+ghost use Rattle.sj_emit_expr.specs.Pieces as pieces;
+ghost use Rattle.sj_emit_expr.specs.Pieces.{piece_of};
 
 use crate::ranges::{member_fits, method_fits};
 use js_tree::{JsItem, JsMember, JsPiece};

@@ -2,8 +2,7 @@
 ghost use Rattle.std.specs.Prelude.{All, IfSome};
 ghost use Rattle.js_tree.specs.Rules.{IsNumber};
 ghost use Rattle.sj_core.specs.Views as core;
-ghost use Rattle.sj_mangling.specs.Mangling.{AreBytes};
-ghost use Rattle.sj_pieces.specs.Ranges.{FitsBase, FitsReference, FitsMethodName, FitsMember, FitsVariable, FitsExpression, FitExpressions, FitsStatement, FitStatements, FitCases, FitsMethod};
+ghost use Rattle.sj_pieces.specs.Ranges.{AreBytes, FitsBase, FitsReference, FitsMethodName, FitsMember, FitsVariable, FitsExpression, FitExpressions, FitsStatement, FitStatements, FitCases, FitsMethod};
 
 use sj_core::{CoreCase, CoreExpression, CoreMethod, CoreStatement, CoreVariable};
 use sj_names::{BaseRef, LocalName, Member, MethodName, TypeRef};

@@ -1,4 +1,5 @@
 -- The operators of the IR and their templates, on operands that are alike.
+use Rattle.sj_names.proofs.Same.{impossible}
 use Rattle.std.proofs.Common.{◌≡◌, ℕ, ◌<◌, ◌≤◌, ◌^◌, ◌/◌, Bool, true, false, Some, None, Option, refl, ap, ◌∙◌, subst, arith, if◌then◌else◌}
 use Rattle.std.specs.Prelude.{ℤ, pos, ◌+ℤ◌, ◌-ℤ◌, not, ◌&&◌, ◌||◌, int_lt, int_le, bit_and, bit_or, bit_xor, FitsSigned}
 use Rattle.std.specs.Ordering.{int_eq}
@@ -98,9 +99,6 @@ template_value IntLessOrEqual v w = js_operators.binary_value Op.LessOrEqual v w
 template_value IntGreater v w = js_operators.binary_value Op.Greater v w
 template_value IntGreaterOrEqual v w = js_operators.binary_value Op.GreaterOrEqual v w
 template_value _ v w = None
-
-pub impossible : {A : Type 0} → false ≡ true → A
-impossible h = absurd (cc)
 
 -- a value of the IR, and what stands for it
 pub record Given (w : World) (v : ir.Value) (o : Option js.Value) : Type 0 where

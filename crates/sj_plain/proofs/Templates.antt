@@ -28,7 +28,8 @@ use Rattle.sj_trees.specs.declared.operators.UnaryOp.{UnaryOp}
 use Rattle.sj_trees.specs.declared.operators.UnaryOp.TheVariants.{BooleanNot, ByteToInt, ShortToInt, IntToByte, IntToShort}
 use Rattle.sj_plain.proofs.Worlds.{World, Grows, SameValue, same_boolean, same_number, one_more, no_values}
 use Rattle.sj_plain.specs.Conditions.{is_simple, is_simple_unary}
-use Rattle.sj_plain.proofs.Operators.{template_value, or_zero_value, boolean_of, GivenIf, impossible, values_alike}
+use Rattle.sj_names.proofs.Same.{impossible}
+use Rattle.sj_plain.proofs.Operators.{template_value, or_zero_value, boolean_of, GivenIf, values_alike}
 use Rattle.sj_plain.proofs.Orders.{ActsAlike, in_order-then}
 use Rattle.sj_plain.specs.Settings.{Setting, SameState, Valued, valued}
 

@@ -10,7 +10,7 @@ use Rattle.sj_emit_expr.specs.Templates.{statement_template, statement_templates
 use Rattle.sj_plain.specs.Settings.{Setting}
 use Rattle.sj_bodies.proofs.Contexts.{equals, is-equal}
 use Rattle.sj_bodies.proofs.Declared.{DeclaresOne, Declares, declares-followed, declared-named}
-use Rattle.sj_plain.proofs.Operators.{impossible}
+use Rattle.sj_names.proofs.Same.{impossible}
 use Rattle.sj_proper.specs.Once.{IsAmong}
 
 -- no variable is declared twice in one list

@@ -15,7 +15,7 @@ use Rattle.sj_trees.specs.declared.types.IrType.{IrType}
 use Rattle.sj_trees.specs.declared.types.IrType.TheVariants.{Undefined, Null, Boolean, Byte, Short, Int, String}
 use Rattle.sj_bodies.specs.Locals.{Own, OwnAll}
 use Rattle.sj_bodies.proofs.Contexts.{equals, is-equal}
-use Rattle.sj_plain.proofs.Operators.{impossible}
+use Rattle.sj_names.proofs.Same.{impossible}
 use Rattle.sj_proper.specs.Once.{IsAmong, Apart, Once, OnceAll, OnceCases}
 use Rattle.sj_proper.proofs.Good.{Good, Part, no_name, good-widen, good-none, good-one, good-joined, good-named, spilled, operand-good, good-use, finish-good, branches-good, break-good, GoodCases, case-good-in, switch-good}
 

@@ -6,13 +6,12 @@ use Rattle.ir_mean.specs.Rows.{once, triples}
 use Rattle.ir_mean.specs.Shows.{ir_shows}
 use Rattle.js_mean.specs.Shows.{js_shows}
 use Rattle.sj_names.specs.declared.method_names.Member.{Member}
-use Rattle.sj_names.specs.MethodNames.{spelled_method, IsParameter}
+use Rattle.sj_names.specs.MethodNames.{IsParameter}
 use Rattle.sj_names.specs.declared.references.TypeRef.TheVariants.{Int}
 use Rattle.sj_calls.specs.Files.{EmittedMethod, program_with}
 use Rattle.sj_calls.proofs.Items.{nothing_in, in_front_or_behind}
-use Rattle.sj_calls.proofs.Safe.{bytes-are}
 use Rattle.sj_sound.specs.Worked.{tests_it, main_method, tripling_method, worked_world, emitted, worked_methods}
-use Rattle.sj_sound.proofs.Worked.{main_right, tripling_right}
+use Rattle.sj_sound.proofs.Worked.{main_right, tripling_right, worked_topped}
 use Rattle.sj_proper.specs.Program.{HaveOwnMembers, IsWhole}
 use Rattle.sj_proper.proofs.Modules.{linked_agrees}
 
@@ -23,8 +22,6 @@ main_whole = record {
   parameters = tt;
   class_name = refl;
   method_name = record { simple = refl; params = All-nil IsParameter; result = tt };
-  class_bytes = bytes-are (emitted main_method tests_it).member.class refl;
-  method_bytes = bytes-are (spelled_method (emitted main_method tests_it).member.method) refl;
 }
 
 tripling_whole : IsWhole worked_world worked_methods (emitted tripling_method triples)
@@ -34,8 +31,6 @@ tripling_whole = record {
   parameters = ((λ i. i), tt);
   class_name = refl;
   method_name = record { simple = refl; params = All-cons IsParameter Int [] (tt, λ e. cc) (All-nil IsParameter); result = tt };
-  class_bytes = bytes-are (emitted tripling_method triples).member.class refl;
-  method_bytes = bytes-are (spelled_method (emitted tripling_method triples).member.method) refl;
 }
 
 each_whole : (e : EmittedMethod) → Contains worked_methods e → IsWhole worked_world worked_methods e
@@ -51,4 +46,4 @@ own_members : HaveOwnMembers worked_methods
 own_members = (other, ((λ o h e. nothing_in o h), tt))
 
 pub worked_agrees : Agree (ir_shows worked_world once (codes "main")) (js_shows (program_with (codes "main") worked_methods once) (codes "main"))
-worked_agrees = linked_agrees worked_world once (codes "main") worked_methods each_whole own_members refl
+worked_agrees = linked_agrees worked_world worked_topped once (codes "main") worked_methods each_whole own_members refl

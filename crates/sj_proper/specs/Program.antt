@@ -3,9 +3,8 @@ use Rattle.std.specs.Prelude.{◌≡◌, ℕ, List, [], ◌∷◌, IsTrue}
 use Rattle.std.specs.List.{Contains}
 use Rattle.ir_mean.specs.World.{World}
 use Rattle.sj_desugar.specs.Desugar.{names_of}
-use Rattle.sj_mangling.specs.Mangling.{AreBytes}
 use Rattle.sj_names.specs.Grammar.{is_class_name}
-use Rattle.sj_names.specs.MethodNames.{spelled_method, IsMethodName}
+use Rattle.sj_names.specs.MethodNames.{IsMethodName}
 use Rattle.sj_calls.specs.Files.{EmittedMethod}
 use Rattle.sj_sound.specs.Linked.{IsRight}
 use Rattle.sj_proper.specs.Once.{IsAmong, Once}
@@ -26,5 +25,3 @@ pub record IsWhole (w : World) (fs : List EmittedMethod) (e : EmittedMethod) : T
   pub parameters : AreDistinct (names_of e.definition.params)
   pub class_name : IsTrue (is_class_name e.member.class)
   pub method_name : IsMethodName e.member.method
-  pub class_bytes : AreBytes e.member.class
-  pub method_bytes : AreBytes (spelled_method e.member.method)

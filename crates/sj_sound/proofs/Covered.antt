@@ -24,7 +24,7 @@ use Rattle.sj_trees.specs.declared.types.IrType.TheVariants.{Boolean, Int, Strin
 use Rattle.sj_plain.specs.Conditions.{is_simple_unary, NoBox, NoBoxes, Plain, AllPlain}
 use Rattle.sj_bodies.specs.Fine.{IsDiscard, is_discard, IsTrueLiteral, true_literal, FitsIn, FineOperand, Fine, FineBlock, FineOperands, FineCases}
 use Rattle.sj_bodies.proofs.Contexts.{is-equal}
-use Rattle.sj_plain.proofs.Operators.{impossible}
+use Rattle.sj_names.proofs.Same.{impossible}
 use Rattle.sj_calls.specs.Methods.{IsParameter}
 use Rattle.sj_sound.specs.Subtyping.{IsSubtyping}
 use Rattle.sj_sound.specs.Typing.{Label, Scene, local_of, type_of_label, HasValue, IsResult, IsLocal, unary_operand, binary_operand, behind, in_label, Yields, ArgumentsFit, Typed, TypedBlock, TypedAll, TypedCases}

@@ -1,12 +1,12 @@
 -- The subtypes of a world have the properties that are asked of subtyping.
-use Rattle.std.proofs.Common.{◌≡◌, Bool, true, false, Some, None, refl, sym, ap, ◌∙◌, ◌⊎◌, inl, inr}
+use Rattle.std.proofs.Common.{◌≡◌, true, refl, sym, ap, ◌∙◌, ◌⊎◌, inl, inr}
 use Rattle.sj_trees.specs.declared.types.IrType.{IrType}
-use Rattle.sj_trees.specs.declared.types.IrType.TheVariants.{Nothing, Undefined, Boolean, Byte, Short, Int, String, NoType}
+use Rattle.sj_trees.specs.declared.types.IrType.TheVariants.{Nothing, NoType}
 use Rattle.sj_world.proofs.LawsHold.{subtypes_transitive}
 use Rattle.sj_world.specs.Known.{Classes}
 use Rattle.sj_world.specs.Laws.{IsTopped}
 use Rattle.sj_world.specs.Subtypes.{IsSub, equal, from_nothing, to_any, null_to_class, null_to_array, class_to_class, primitive_to_class, arrays_alike, arrays_of_arrays}
-use Rattle.sj_plain.proofs.Operators.{impossible}
+use Rattle.sj_names.proofs.Same.{impossible}
 use Rattle.sj_sound.specs.Subtyping.{is_lowest, IsSubtyping}
 
 from_none : (w : Classes) (t : IrType) → IsSub w NoType t → t ≡ NoType

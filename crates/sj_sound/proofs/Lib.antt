@@ -3,6 +3,7 @@ pub mod InWorld
 pub mod Mutable
 pub mod Right
 pub mod Same
+pub mod Topped
 pub mod Values
 pub mod Whole
 pub mod Worked

@@ -11,7 +11,7 @@ use Rattle.std.specs.Prelude.{Some, nat_eq, if◌then◌else◌}
 use Rattle.std.specs.Cmp.Lexicographic.{pointwise}
 use Rattle.sj_plain.specs.Conditions.{IsDivisor, divisor}
 use Rattle.sj_bodies.proofs.Contexts.{equals, is-equal}
-use Rattle.sj_plain.proofs.Operators.{impossible}
+use Rattle.sj_names.proofs.Same.{impossible}
 use Rattle.sj_sound.specs.Typing.{Scene, local_of, behind, in_label, Typed, TypedBlock, TypedAll, TypedCases}
 
 abbrev mutual

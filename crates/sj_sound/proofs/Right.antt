@@ -26,7 +26,7 @@ use Rattle.sj_plain.specs.Conditions.{IsDivision, IsDivisor, divisor}
 use Rattle.sj_bodies.specs.Fine.{IsTrueLiteral, true_literal}
 use Rattle.sj_bodies.specs.Locals.{Own, OwnAll, OwnCases}
 use Rattle.sj_bodies.proofs.Contexts.{is-equal}
-use Rattle.sj_plain.proofs.Operators.{impossible}
+use Rattle.sj_names.proofs.Same.{impossible}
 use Rattle.sj_calls.specs.Methods.{IsParameter}
 use Rattle.sj_calls.proofs.Calls.{result-same}
 use Rattle.sj_sound.specs.Rules.{HaveTypes, RightMember}

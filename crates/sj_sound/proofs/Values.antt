@@ -1,5 +1,5 @@
 -- Values of types, and what operators give on them.
-use Rattle.std.proofs.Common.{◌≡◌, ℕ, zero, suc, Bool, true, false, List, Some, Option, refl, sym, ap, ◌∙◌, ◌⊎◌, inl, inr}
+use Rattle.std.proofs.Common.{◌≡◌, ℕ, zero, suc, Bool, true, false, List, refl, sym, ap, ◌∙◌, ◌⊎◌, inl, inr}
 use Rattle.std.specs.Prelude.{ℤ, pos, negsuc, ◌≢◌}
 use Rattle.ir_mean.specs.Operators.{Answer, answers, unary_value, binary_value, boolean_value, number_value}
 use Rattle.ir_mean.specs.States as ir
@@ -11,7 +11,7 @@ use Rattle.sj_trees.specs.declared.operators.UnaryOp.TheVariants.{BooleanNot, By
 use Rattle.sj_trees.specs.declared.types.IrType.{IrType}
 use Rattle.sj_trees.specs.declared.types.IrType.TheVariants.{Undefined, Null, Boolean, Byte, Short, Int, String, Nothing}
 use Rattle.sj_plain.specs.Conditions.{is_simple, is_simple_unary, IsDivision, a_quotient, a_remainder}
-use Rattle.sj_plain.proofs.Operators.{impossible}
+use Rattle.sj_names.proofs.Same.{impossible}
 use Rattle.sj_sound.specs.Subtyping.{IsSubtyping}
 use Rattle.sj_sound.specs.Typing.{unary_operand, binary_operand}
 

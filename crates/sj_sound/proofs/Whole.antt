@@ -18,8 +18,8 @@ use Rattle.sj_trees.specs.Term.{Term}
 use Rattle.sj_trees.specs.TypeOf.{type_of_term}
 use Rattle.sj_trees.specs.declared.classes.MethodDef.{MethodDef}
 use Rattle.sj_trees.specs.declared.types.IrType.{IrType}
-use Rattle.sj_trees.specs.declared.types.IrType.TheVariants.{NoType, Nothing, Any}
-use Rattle.sj_plain.proofs.Operators.{impossible}
+use Rattle.sj_trees.specs.declared.types.IrType.TheVariants.{NoType}
+use Rattle.sj_names.proofs.Same.{impossible}
 use Rattle.sj_calls.specs.Files.{EmittedMethod, initializer_member, module_with, program_with, IsEmitted}
 use Rattle.sj_calls.specs.Methods.{FineMethod}
 use Rattle.sj_calls.proofs.Calls.{Way, gives_up, hands_on, way}
@@ -27,33 +27,15 @@ use Rattle.sj_calls.proofs.Items.{nothing_in, in_front_or_behind}
 use Rattle.sj_calls.proofs.Whole as calls
 use Rattle.sj_sound.specs.Linked.{has_function, have_functions, IsRight}
 use Rattle.sj_sound.specs.Rules.{KeepsRules, RightMember}
-use Rattle.sj_sound.specs.Subtyping.{IsSubtyping, is_lowest, IsSubSimply, equal, from_nothing, to_any}
+use Rattle.sj_sound.specs.Subtyping.{IsSubtyping}
 use Rattle.sj_sound.specs.Typing.{Scene}
+use Rattle.sj_world.specs.Laws.{IsTopped}
+use Rattle.sj_world.specs.Subtypes.{IsSub}
 use Rattle.sj_sound.proofs.Covered.{Asks, fine}
+use Rattle.sj_sound.proofs.InWorld.{in_world}
 use Rattle.sj_sound.proofs.Mutable.{mutable-known, parameter-known}
 use Rattle.sj_sound.proofs.Right.{Comes, comes_then, CameRight, gave, left, EnvTyped, none_left, call_right, bodies_right, no_label, nothing_there}
 use Rattle.sj_sound.proofs.Same.{has_function-is}
-
-simply-further : (s t u : IrType) → IsSubSimply s t → IsSubSimply t u → IsSubSimply s u
-simply-further s t u (equal e) k = subst (λ x. IsSubSimply x u) (sym e) k
-simply-further s t u (from_nothing e) k = from_nothing e
-simply-further s t u (to_any e n) (equal f) = to_any (sym f ∙ e) n
-simply-further s t u (to_any e n) (from_nothing f) = let same : Nothing ≡ Any = sym f ∙ e in absurd (cc)
-simply-further s t u (to_any e n) (to_any f k) = to_any f n
-
-simply-none : (t : IrType) → IsSubSimply NoType t → t ≡ NoType
-simply-none t (equal e) = sym e
-simply-none t (from_nothing e) = absurd (cc)
-simply-none t (to_any e n) = absurd (n refl)
-
-simply-lowest : (s t : IrType) → is_lowest t ≡ true → IsSubSimply s t → (s ≡ t) ⊎ (s ≡ Nothing)
-simply-lowest s t h (equal e) = inl e
-simply-lowest s t h (from_nothing e) = inr e
-simply-lowest s t h (to_any e n) = impossible (ap is_lowest (sym e) ∙ h)
-
--- subtyping among types that name no class is a subtyping
-pub simply : IsSubtyping IsSubSimply
-simply = record { same = λ t. equal refl; further = simply-further; from_none = simply-none; lowest = simply-lowest }
 
 module _ (sub : IrType → IrType → Type 0) (law : IsSubtyping sub) (is_linked : Member → Bool) where
   asks-result : (is_mutable : List ℕ → Bool) (e : Term) (t : IrType) (k : Destination) → Way t k → (t ≡ NoType) ⊎ sub (type_of_term e) t → Asks sub law is_mutable is_linked k (type_of_term e)
@@ -73,37 +55,37 @@ comes-not_wrong (Done a) h = tt
 comes-not_wrong Going h = tt
 comes-not_wrong Wrong h = h
 
-module _ (w : ir_world.World) (fs : List EmittedMethod) (right : (e : EmittedMethod) → Contains fs e → IsRight w fs e) where
+module _ (w : ir_world.World) (topped : IsTopped w) (fs : List EmittedMethod) (right : (e : EmittedMethod) → Contains fs e → IsRight w fs e) where
   emitted : (e : EmittedMethod) → Contains fs e → IsEmitted w (has_function fs) e
-  emitted e i = let r = right e i in record { found = r.found; has_body = r.has_body; fine = method-fine IsSubSimply simply (has_function fs) e.definition e.its_body r.rules; names = r.names }
+  emitted e i = let r = right e i in record { found = r.found; has_body = r.has_body; fine = method-fine (IsSub w) (in_world w topped) (has_function fs) e.definition e.its_body r.rules }
 
-  member-of : (e : EmittedMethod) → IsRight w fs e → RightMember IsSubSimply w (has_function fs) e.member
+  member-of : (e : EmittedMethod) → IsRight w fs e → RightMember (IsSub w) w (has_function fs) e.member
   member-of e r = record { definition = e.definition; its_body = e.its_body; found = r.found; has_body = r.has_body; rules = r.rules; parameters = r.parameters; result_is = r.result_is }
 
-  members : (m : Member) → has_function fs m ≡ true → RightMember IsSubSimply w (has_function fs) m
-  members m l = let h = has_function-is fs m l in subst (RightMember IsSubSimply w (has_function fs)) h.is (member-of h.method (right h.method h.listed))
+  members : (m : Member) → has_function fs m ≡ true → RightMember (IsSub w) w (has_function fs) m
+  members m l = let h = has_function-is fs m l in subst (RightMember (IsSub w) w (has_function fs)) h.is (member-of h.method (right h.method h.listed))
 
   abbrev nowhere : Scene
   nowhere = record { locals = []; labels = [] }
 
-  nothing_held : EnvTyped IsSubSimply simply (has_function fs) w [] ir_showing.outside
-  nothing_held = record { holds = nothing_there IsSubSimply simply (has_function fs) w }
+  nothing_held : EnvTyped (IsSub w) (in_world w topped) (has_function fs) w [] ir_showing.outside
+  nothing_held = record { holds = nothing_there (IsSub w) (in_world w topped) (has_function fs) w }
 
   -- the initializers are wrong at no bound
   all_right : (n : ℕ) (es : List EntryPoint) → have_functions fs es ≡ true → (st : ir.State) → Comes (λ a. Unit {0}) (ir_showing.all_show w n es st).end
   all_right n [] h st = tt
-  all_right n (e ∷ es) h st = comes_then (CameRight IsSubSimply simply (has_function fs) w nowhere [] NoType) (λ a. Unit {0}) (ir_meaning.meaning w n (ir_showing.initializer_call e) ir_showing.outside st) (ir_showing.next_or_end (ir_showing.all_show w n es)) (call_right IsSubSimply simply (has_function fs) w (ir_meaning.below w n) (bodies_right IsSubSimply simply (has_function fs) w members n) (initializer_member e) (members (initializer_member e) k.0) nowhere NoType refl [] none_left ir_showing.outside st nothing_held) (next n es (all_right n es k.1))
+  all_right n (e ∷ es) h st = comes_then (CameRight (IsSub w) (in_world w topped) (has_function fs) w nowhere [] NoType) (λ a. Unit {0}) (ir_meaning.meaning w n (ir_showing.initializer_call e) ir_showing.outside st) (ir_showing.next_or_end (ir_showing.all_show w n es)) (call_right (IsSub w) (in_world w topped) (has_function fs) w (ir_meaning.below w n) (bodies_right (IsSub w) (in_world w topped) (has_function fs) w members n) (initializer_member e) (members (initializer_member e) k.0) nowhere NoType refl [] none_left ir_showing.outside st nothing_held) (next n es (all_right n es k.1))
     where
       k : (has_function fs (initializer_member e) ≡ true) × (have_functions fs es ≡ true)
       k = and_parts (has_function fs (initializer_member e)) (have_functions fs es) h
 
-      next : (n : ℕ) (es : List EntryPoint) → ((st : ir.State) → Comes (λ a. Unit {0}) (ir_showing.all_show w n es st).end) → (a : ir.Ended) → CameRight IsSubSimply simply (has_function fs) w nowhere [] NoType a → Comes (λ a. Unit {0}) (ir_showing.next_or_end (ir_showing.all_show w n es) a).end
+      next : (n : ℕ) (es : List EntryPoint) → ((st : ir.State) → Comes (λ a. Unit {0}) (ir_showing.all_show w n es st).end) → (a : ir.Ended) → CameRight (IsSub w) (in_world w topped) (has_function fs) w nowhere [] NoType a → Comes (λ a. Unit {0}) (ir_showing.next_or_end (ir_showing.all_show w n es) a).end
       next n es others _ (gave v env st g i) = others st
-      next n es others _ (left l v env st r i g k) = no_label IsSubSimply simply (has_function fs) w l r i
+      next n es others _ (left l v env st r i g k) = no_label (IsSub w) (in_world w topped) (has_function fs) w l r i
 
-called : (fs : List EmittedMethod) (es : List EntryPoint) → have_functions fs es ≡ true → (e : EntryPoint) → Contains es e → has_function fs (initializer_member e) ≡ true
+pub called : (fs : List EmittedMethod) (es : List EntryPoint) → have_functions fs es ≡ true → (e : EntryPoint) → Contains es e → has_function fs (initializer_member e) ≡ true
 called fs [] h e i = nothing_in e i
 called fs (c ∷ cs) h e i = let k = and_parts (has_function fs (initializer_member c)) (have_functions fs cs) h in ⊎_elim (λ same. subst (λ x. has_function fs (initializer_member x) ≡ true) same k.0) (λ later. called fs cs k.1 e later) (in_front_or_behind c cs e i)
 
-pub program_agrees : (w : ir_world.World) (entries : List EntryPoint) (id : List ℕ) (fs : List EmittedMethod) → is_proper_module (module_with fs (ir_showing.initializers entries id)) ≡ true → ((e : EmittedMethod) → Contains fs e → IsRight w fs e) → have_functions fs (ir_showing.initializers entries id) ≡ true → Agree (ir_showing.ir_shows w entries id) (js_showing.js_shows (program_with id fs (ir_showing.initializers entries id)) id)
-program_agrees w entries id fs proper right all = calls.file_agrees w entries id fs (has_function fs) proper (emitted w fs right) (has_function-is fs) (called fs (ir_showing.initializers entries id) all) (λ n. comes-not_wrong (ir_showing.ir_shows w entries id n).end (all_right w fs right n (ir_showing.initializers entries id) all (ir_world.opening w)))
+pub program_agrees : (w : ir_world.World) → IsTopped w → (entries : List EntryPoint) (id : List ℕ) (fs : List EmittedMethod) → is_proper_module (module_with fs (ir_showing.initializers entries id)) ≡ true → ((e : EmittedMethod) → Contains fs e → IsRight w fs e) → have_functions fs (ir_showing.initializers entries id) ≡ true → Agree (ir_showing.ir_shows w entries id) (js_showing.js_shows (program_with id fs (ir_showing.initializers entries id)) id)
+program_agrees w topped entries id fs proper right all = calls.file_agrees w entries id fs (has_function fs) proper (emitted w topped fs right) (has_function-is fs) (called fs (ir_showing.initializers entries id) all) (λ n. comes-not_wrong (ir_showing.ir_shows w entries id n).end (all_right w topped fs right n (ir_showing.initializers entries id) all (ir_world.opening w)))

@@ -3,22 +3,22 @@ use Rattle.std.proofs.Common.{◌≡◌, ◌<◌, ◌^◌, ℕ, Bool, true, fals
 use Rattle.std.specs.Prelude.{pos, nat_eq, FitsSigned}
 use Rattle.std.specs.Cmp.Lexicographic.{pointwise}
 use Rattle.std.specs.Int.{w32}
-use Rattle.std.proofs.lemmas.List.Elements.{All-cons, All-nil}
 use Rattle.outcomes.specs.Agreement.{Agree}
 use Rattle.ir_mean.specs.Rows.{once, triples}
 use Rattle.ir_mean.specs.Shows.{ir_shows}
 use Rattle.js_mean.specs.Shows.{js_shows}
-use Rattle.sj_mangling.specs.Mangling.{AreBytes}
 use Rattle.sj_names.specs.declared.method_names.Member.{Member}
 use Rattle.sj_trees.specs.declared.classes.ParamDef.{ParamDef}
 use Rattle.sj_trees.specs.declared.types.IrType.TheVariants.{Int}
 use Rattle.sj_bodies.specs.Locals.{Own}
-use Rattle.sj_plain.proofs.Operators.{impossible}
+use Rattle.sj_names.proofs.Same.{impossible}
 use Rattle.sj_calls.specs.Files.{EmittedMethod, program_with}
 use Rattle.sj_calls.proofs.Items.{nothing_in, in_front_or_behind}
 use Rattle.sj_sound.specs.Linked.{has_function, IsRight}
 use Rattle.sj_sound.specs.Rules.{KeepsRules}
-use Rattle.sj_sound.specs.Subtyping.{IsSubSimply, equal}
+use Rattle.sj_world.specs.Laws.{IsTopped}
+use Rattle.sj_world.specs.Subtypes.{IsSub, equal}
+use Rattle.sj_sound.proofs.Topped.{topped}
 use Rattle.sj_sound.specs.Typing.{Scene, local_of, HasValue, IsLocal, IsVariable}
 use Rattle.sj_sound.specs.Worked.{tests_it, main_method, tripling_method, worked_world, emitted, worked_methods}
 use Rattle.sj_sound.proofs.Whole.{program_agrees}
@@ -29,7 +29,7 @@ fits n h = record { sfits = h }
 abbrev linked : Member → Bool
 linked = has_function worked_methods
 
-main_rules : KeepsRules IsSubSimply linked main_method tests_it
+main_rules : KeepsRules (IsSub worked_world) linked main_method tests_it
 main_rules = record {
   typed = (equal refl, inl refl, inl refl, refl, inl (refl, equal refl, equal refl, (refl, inr (refl, refl), (equal refl, (refl, refl), tt), (fits 1 (omega arith), tt), refl), fits 27 (omega arith)), (equal refl, tt), (equal refl, tt));
   yields = inl refl;
@@ -60,7 +60,7 @@ only_parameter x p e = go (pointwise nat_eq x (codes "p")) e
 no_local : (x : List ℕ) → Own triples x → ⊥
 no_local x o = ⊎_elim (λ i. ⊎_elim (λ j. ⊎_elim (λ k. k) (λ k. k) j) (λ j. ⊎_elim (λ k. k) (λ k. k) j) i) (λ i. ⊎_elim (λ k. k) (λ k. k) i) o
 
-tripling_rules : KeepsRules IsSubSimply linked tripling_method triples
+tripling_rules : KeepsRules (IsSub worked_world) linked tripling_method triples
 tripling_rules = record {
   typed = ((equal refl, inl (refl, equal refl, equal refl, p_local, fits 10 (omega arith)), (p_variable, equal refl, inl (refl, equal refl, equal refl, p_local, fits 3 (omega arith)))), (λ x d o. d), p_local);
   yields = inr (equal refl);
@@ -69,17 +69,17 @@ tripling_rules = record {
   fresh = λ x o i. no_local x o;
 }
 
-p_bytes : AreBytes (codes "p")
-p_bytes = All-cons (λ b. b < 2 ^ 8) 112 [] (omega arith) (All-nil (λ b. b < 2 ^ 8))
-
 pub main_right : IsRight worked_world worked_methods (emitted main_method tests_it)
-main_right = record { found = refl; has_body = refl; parameters = tt; result_is = refl; rules = main_rules; names = (tt, ((((tt, tt), tt), (tt, tt), (tt, tt)), tt)) }
+main_right = record { found = refl; has_body = refl; parameters = tt; result_is = refl; rules = main_rules }
 
 pub tripling_right : IsRight worked_world worked_methods (emitted tripling_method triples)
-tripling_right = record { found = refl; has_body = refl; parameters = (refl, tt); result_is = refl; rules = tripling_rules; names = ((p_bytes, tt), (((p_bytes, tt), ((p_bytes, (p_bytes, tt)), tt)), (p_bytes, tt))) }
+tripling_right = record { found = refl; has_body = refl; parameters = (refl, tt); result_is = refl; rules = tripling_rules }
 
 each_right : (e : EmittedMethod) → Contains worked_methods e → IsRight worked_world worked_methods e
 each_right e h = ⊎_elim (λ same. subst (IsRight worked_world worked_methods) same main_right) (λ later. ⊎_elim (λ same. subst (IsRight worked_world worked_methods) same tripling_right) (λ none. nothing_in e none) (in_front_or_behind (emitted tripling_method triples) [] e later)) (in_front_or_behind (emitted main_method tests_it) (emitted tripling_method triples ∷ []) e h)
 
+pub worked_topped : IsTopped worked_world
+worked_topped = topped worked_world refl
+
 pub worked_agrees : Agree (ir_shows worked_world once (codes "main")) (js_shows (program_with (codes "main") worked_methods once) (codes "main"))
-worked_agrees = program_agrees worked_world once (codes "main") worked_methods refl each_right refl
+worked_agrees = program_agrees worked_world worked_topped once (codes "main") worked_methods refl each_right refl

@@ -1,15 +1,13 @@
 -- Programs of methods that keep the rules.
 use Rattle.std.specs.Prelude.{◌≡◌, Bool, List, ◌&&◌, Some}
 use Rattle.std.specs.List.{list_all, list_any}
-use Rattle.ir_mean.specs.Same.{is_same_text, is_same_namespace, is_same_method}
+use Rattle.sj_names.specs.Same.{is_same_text, is_same_namespace, is_same_method}
 use Rattle.ir_mean.specs.World.{World, member_of}
-use Rattle.sj_desugar.specs.Desugar.{desugared}
 use Rattle.sj_names.specs.declared.entry_points.EntryPoint.{EntryPoint}
 use Rattle.sj_names.specs.declared.method_names.Member.{Member}
 use Rattle.sj_calls.specs.Files.{EmittedMethod, initializer_member}
-use Rattle.sj_calls.specs.Names.{GoodMethod}
 use Rattle.sj_sound.specs.Rules.{KeepsRules, HaveTypes}
-use Rattle.sj_sound.specs.Subtyping.{IsSubSimply}
+use Rattle.sj_world.specs.Subtypes.{IsSub}
 use Rattle.sj_sound.specs.Typing.{call_type}
 
 abbrev pub is_same_member : Member → Member → Bool
@@ -24,11 +22,10 @@ abbrev pub have_functions : List EmittedMethod → List EntryPoint → Bool
 have_functions fs es = list_all (λ (e : EntryPoint). has_function fs (initializer_member e)) es
 
 -- the method is that of its member in the classes, with the types that its name tells; its body keeps the rules, where calls are of these
--- methods; and the names in its function are good
+-- methods
 pub record IsRight (w : World) (fs : List EmittedMethod) (e : EmittedMethod) : Type 0 where
   pub found : member_of w e.member.class e.member.namespace e.member.method ≡ Some e.definition
   pub has_body : e.definition.body ≡ Some e.its_body
   pub parameters : HaveTypes e.definition.params e.member.method.params
   pub result_is : e.definition.result ≡ call_type e.member.method.result
-  pub rules : KeepsRules IsSubSimply (has_function fs) e.definition e.its_body
-  pub names : GoodMethod (desugared e.definition e.its_body)
+  pub rules : KeepsRules (IsSub w) (has_function fs) e.definition e.its_body

@@ -1,7 +1,7 @@
--- What is asked of a relation of subtypes, and the one among types that name no class.
+-- What is asked of a relation of subtypes.
 use Rattle.std.specs.Prelude.{◌≡◌, Bool, true, false, ◌⊎◌}
 use Rattle.sj_trees.specs.declared.types.IrType.{IrType}
-use Rattle.sj_trees.specs.declared.types.IrType.TheVariants.{Any, Nothing, Undefined, Boolean, Byte, Short, Int, String, NoType}
+use Rattle.sj_trees.specs.declared.types.IrType.TheVariants.{Nothing, Undefined, Boolean, Byte, Short, Int, String, NoType}
 
 -- a type of which only itself and nothing are subtypes
 abbrev pub is_lowest : IrType → Bool
@@ -22,9 +22,3 @@ pub record IsSubtyping (sub : IrType → IrType → Type 0) : Type 0 where
   pub further : (s t u : IrType) → sub s t → sub t u → sub s u
   pub from_none : (t : IrType) → sub NoType t → t ≡ NoType
   pub lowest : (s t : IrType) → is_lowest t ≡ true → sub s t → (s ≡ t) ⊎ (s ≡ Nothing)
-
--- subtyping among types that name no class
-pub data IsSubSimply (s t : IrType) : Type 0 where
-  equal : s ≡ t → IsSubSimply s t
-  from_nothing : s ≡ Nothing → IsSubSimply s t
-  to_any : t ≡ Any → (s ≡ NoType → ⊥) → IsSubSimply s t

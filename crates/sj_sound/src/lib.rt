@@ -22,34 +22,29 @@ ghost use Rattle.sj_calls.specs.Files.{EmittedMethod, module_with, program_with}
 ghost use Rattle.sj_calls.specs.Methods.{FineMethod};
 ghost use Rattle.sj_sound.specs.Linked.{have_functions, IsRight};
 ghost use Rattle.sj_sound.specs.Rules.{KeepsRules};
-ghost use Rattle.sj_sound.specs.Subtyping.{IsSubtyping, IsSubSimply};
+ghost use Rattle.sj_sound.specs.Subtyping.{IsSubtyping};
 ghost use Rattle.sj_world.specs.Known.{Classes};
 ghost use Rattle.sj_world.specs.Laws.{IsTopped};
 ghost use Rattle.sj_world.specs.Subtypes.{IsSub};
 ghost use Rattle.sj_sound.specs.Worked.{worked_world, worked_methods};
 
-/// Subtyping among types that name no class has the properties that are asked of subtyping.
-pub fn simple_subtypes_are_ordered()
-    ensures { IsSubtyping IsSubSimply }
-{}
-
-/// So has subtyping in a world where nothing stands above `java.lang.Object`, in which types may name classes anywhere.
+/// Subtyping in a world where nothing stands above `java.lang.Object` has the properties that are asked of subtyping.
 pub fn subtypes_of_worlds_are_ordered()
     ensures { (w : Classes) → IsTopped w → IsSubtyping (IsSub w) }
 {}
 
 /// A method whose body keeps the rules is covered by the theorem on calls.
 pub fn bodies_are_covered()
-    ensures { (is_linked : Member → Bool) (d : MethodDef) (e : Term) → KeepsRules IsSubSimply is_linked d e → FineMethod is_linked d e }
+    ensures { (w : World) → IsTopped w → (is_linked : Member → Bool) (d : MethodDef) (e : Term) → KeepsRules (IsSub w) is_linked d e → FineMethod is_linked d e }
 {}
 
 /// The theorem on programs of such methods: take a module that has the functions of these methods in this order and then calls the initializers
-/// of a public module, and that has no early error. Let each method be that of its member in the classes, with the types that its name
-/// tells, with a body that keeps the rules and calls these methods alone, and with good names; and let the initializers be among them. Then
+/// of a public module, and that has no early error, and let nothing stand above `java.lang.Object`. Let each method be that of its member in the classes, with the types that its name
+/// tells, with a body that keeps the rules and calls these methods alone; and let the initializers be among them. Then
 /// the file shows of the public module what the classes show: what the one shows within any bound the other shows within some bound, and the
 /// other way round, and neither is wrong at any bound.
 pub fn program_of_bodies_agrees()
-    ensures { (w : World) (entries : List EntryPoint) (id : List ℕ) (fs : List EmittedMethod) → is_proper_module (module_with fs (initializers entries id)) ≡ true → ((e : EmittedMethod) → Contains fs e → IsRight w fs e) → have_functions fs (initializers entries id) ≡ true → Agree (ir_shows w entries id) (js_shows (program_with id fs (initializers entries id)) id) }
+    ensures { (w : World) → IsTopped w → (entries : List EntryPoint) (id : List ℕ) (fs : List EmittedMethod) → is_proper_module (module_with fs (initializers entries id)) ≡ true → ((e : EmittedMethod) → Contains fs e → IsRight w fs e) → have_functions fs (initializers entries id) ≡ true → Agree (ir_shows w entries id) (js_shows (program_with id fs (initializers entries id)) id) }
 {}
 
 /// The premises of the theorem on programs can be met: `main` tests whether `f`, which triples in a loop, gives 27 for 1. The class and its

@@ -4,20 +4,21 @@
 //! `specs/` has what is asked of a body beside its typing. The function here is a law.
 #![tactic(auto)]
 
-ghost use Rattle.std.specs.Prelude.{◌≡◌, Bool, true, [], Some};
+ghost use Rattle.std.specs.Prelude.{◌≡◌, Bool, [], Some};
+ghost use Rattle.listing_spelling.specs.Rules.{IsListedTree};
 ghost use Rattle.sj_kept.specs.Rows.{Rows};
 ghost use Rattle.sj_names.specs.declared.method_names.Member.{Member};
-ghost use Rattle.sj_sound.specs.Subtyping.{IsSubSimply};
 ghost use Rattle.sj_sound.specs.Typing.{Yields};
 ghost use Rattle.sj_trees.specs.Term.{Term};
 ghost use Rattle.sj_trees.specs.declared.classes.MethodDef.{MethodDef};
-ghost use Rattle.sj_typed.specs.Built.{Built, names_no_class};
+ghost use Rattle.sj_typed.specs.Built.{Built};
 ghost use Rattle.sj_typing.specs.Typed.{IsTyped};
 ghost use Rattle.sj_world.specs.Known.{Classes};
+ghost use Rattle.sj_world.specs.Subtypes.{IsSub};
 
-/// A method that is typed in a world, and whose body is of the forms that are built, has the rows of typing among types that name no class, and
-/// its body yields its result.
+/// A method that is typed in a world, and whose body has a listing and is of the forms that are built, has the rows of typing in that world, and its
+/// body yields its result.
 pub fn typed_bodies_have_the_rows()
-    ensures rows { (w : Classes) (is_linked : Member → Bool) (d : MethodDef) (e : Term) → d.body ≡ Some e → IsTyped w d → Built is_linked e → Rows IsSubSimply is_linked [] e }
-    ensures yields { (w : Classes) (is_linked : Member → Bool) (d : MethodDef) (e : Term) → d.body ≡ Some e → IsTyped w d → names_no_class d.result ≡ true → Yields IsSubSimply is_linked e d.result }
+    ensures rows { (w : Classes) (is_linked : Member → Bool) (d : MethodDef) (e : Term) → d.body ≡ Some e → IsTyped w d → Built is_linked e → IsListedTree e → Rows (IsSub w) is_linked [] e }
+    ensures yields { (w : Classes) (is_linked : Member → Bool) (d : MethodDef) (e : Term) → d.body ≡ Some e → IsTyped w d → Yields (IsSub w) is_linked e d.result }
 {}

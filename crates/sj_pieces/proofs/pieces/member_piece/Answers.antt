@@ -3,7 +3,7 @@ use Rattle.std.proofs.lemmas.Result.{IfOk-weaker}
 use Rattle.js_tree.specs.Rules.{IsPiece}
 use Rattle.js_tree.specs.Views.{body_view}
 use Rattle.sj_core.specs.Views.{method_view}
-use Rattle.sj_pieces.specs.Pieces.{function_piece, piece_of}
+use Rattle.sj_emit_expr.specs.Pieces.{function_piece, piece_of}
 use Rattle.sj_pieces.proofs.Kept.{piece-kept}
 use Rattle.sj_pieces.proofs.pieces.member_piece.Goals as goal
 

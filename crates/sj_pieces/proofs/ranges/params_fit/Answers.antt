@@ -1,6 +1,6 @@
 use Rattle.std.proofs.Common.{subst}
-use Rattle.sj_mangling.specs.Mangling.{AreBytes}
 use Rattle.sj_pieces.proofs.Lists.{each-more, each-whole}
+use Rattle.sj_pieces.specs.Ranges.{AreBytes}
 use Rattle.sj_pieces.proofs.ranges.params_fit.Goals as goal
 
 pub loop-param-preserved : goal.loop-param-preserved
