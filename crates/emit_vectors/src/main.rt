@@ -7,7 +7,7 @@ ghost use Rattle.std.specs.Prelude.{◌≡◌, IfOk};
 ghost use Rattle.js_tree.specs.Rules.{IsPiece};
 ghost use Rattle.js_tree.specs.Views.{piece_view};
 ghost use Rattle.sj_desugarer.specs.Methods.{method_desugared};
-ghost use Rattle.sj_pieces.specs.Pieces.{piece_of};
+ghost use Rattle.sj_emit_expr.specs.Pieces.{piece_of};
 
 mod forms;
 
@@ -28,12 +28,18 @@ fn main(rt: HostRuntime) -> Result<()> {
     let alloc = rt.alloc();
     for line in rt.lines(alloc) {
         let line = line?;
-        let bytes = hex::decode(alloc, line.as_str())?;
-        if let Ok(class) = read_class(alloc, &bytes, &mut Meter::new()) {
-            print!(rt; "{}", answers(alloc, &class)?)?;
-        }
+        print!(rt; "{}", answers_to(alloc, line.as_str())?)?;
     }
     Ok(())
+}
+
+// What is written for the class of a file; nothing where it spells none.
+fn answers_to(alloc: Global, file: &str) -> Result<String> {
+    let bytes = hex::decode(alloc, file)?;
+    match read_class(alloc, &bytes, &mut Meter::new()) {
+        Ok(class) => answers(alloc, &class),
+        Err(_) => Ok(String::new(alloc)),
+    }
 }
 
 // A line for each method of a class.
@@ -52,15 +58,28 @@ fn answer(alloc: Global, class: &ClassName, method: &MethodDef) -> Result<String
         namespace: method.namespace,
         method: method.name.copied()?,
     };
-    let name = function_name(alloc, &member)?;
-    let text = if is_built(method) {
-        let printed = print_piece(alloc, &emitted(alloc, &member, method)?)?;
-        hex::encode(alloc, printed.as_slice())?
+    line_on(alloc, &member, method)
+}
+
+fn line_on(alloc: Global, member: &Member, method: &MethodDef) -> Result<String> {
+    let text = text_of(alloc, member, method)?;
+    let name = function_name(alloc, member)?;
+    Ok(format!(in alloc; "piece\t{}\t{text}\n", name.as_str())?)
+}
+
+fn text_of(alloc: Global, member: &Member, method: &MethodDef) -> Result<String> {
+    if is_built(method) {
+        printed(alloc, &emitted(alloc, member, method)?)
     } else {
-        String::from_str(alloc, "not built")?
-    };
-    let name = name.as_str();
-    Ok(format!(in alloc; "piece\t{name}\t{text}\n")?)
+        Ok(String::from_str(alloc, "not built")?)
+    }
+}
+
+fn printed(alloc: Global, piece: &JsPiece) -> Result<String>
+    requires { IsPiece (piece_view piece.now) }
+{
+    let text = print_piece(alloc, piece)?;
+    Ok(hex::encode(alloc, text.as_slice())?)
 }
 
 // The piece of a static method.

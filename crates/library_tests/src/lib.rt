@@ -3,6 +3,8 @@
 #![tactic(auto)]
 
 #[cfg(test)]
+mod lanes;
+#[cfg(test)]
 mod outside;
 #[cfg(test)]
 mod questions;
@@ -10,3 +12,5 @@ mod questions;
 mod trees;
 #[cfg(test)]
 mod typing;
+#[cfg(test)]
+mod units;

@@ -2,9 +2,6 @@
 //! `write_class` gives for the class, if the class is printed as the same text again, or the place.
 #![tactic(auto)]
 
-#[cfg(test)]
-mod tests;
-
 use anyhow::Result;
 use file_listings::each_listed_class_names_its_files;
 use listing_spelling::each_has_one_listing;
@@ -29,16 +26,20 @@ fn answer(alloc: Global, text: &[u8]) -> Result<String> {
         Ok(class) => {
             each_has_one_listing();
             each_listed_class_names_its_files();
-            let again = print_listing(alloc, &class)?;
             let file = write_class(alloc, &class)?;
-            let digits = hex::encode(alloc, &file)?;
-            if again.as_slice() == text {
-                Ok(format!(in alloc; "ok {digits}")?)
-            } else {
-                Ok(format!(in alloc; "printed otherwise {digits}")?)
-            }
+            let again = print_listing(alloc, &class)?;
+            made(alloc, &file, again.as_slice() == text)
         }
         Err(ListingError::BadListing(place)) => Ok(format!(in alloc; "bad {place}")?),
         Err(ListingError::NoMemory) => Ok(String::from_str(alloc, "no memory")?),
+    }
+}
+
+fn made(alloc: Global, file: &[u8], is_same: bool) -> Result<String> {
+    let digits = hex::encode(alloc, file)?;
+    if is_same {
+        Ok(format!(in alloc; "ok {digits}")?)
+    } else {
+        Ok(format!(in alloc; "printed otherwise {digits}")?)
     }
 }

@@ -14,19 +14,33 @@ pub fn is_met(
     mangled: Option<&str>,
 ) -> Result<bool, Undecided> {
     let bytes = hex::decode(alloc, text)?;
-    let Ok(text) = str::from_utf8(bytes.as_slice()) else {
-        return Ok(verdict == "bad");
-    };
-    let answer = match kind {
-        "class" => class_answer(alloc, text)?,
-        "method" => method_answer(alloc, text)?,
-        "field" => field_answer(alloc, text)?,
-        "local" => local_answer(alloc, text)?,
-        "label" => Answer::plain(taken_name(LabelName::parse(alloc, text))?.is_some()),
-        "simple" => Answer::plain(taken_name(SimpleName::parse(alloc, text))?.is_some()),
-        _ => reference_answer(alloc, text)?,
-    };
+    match str::from_utf8(bytes.as_slice()) {
+        Ok(text) => is_met_by(alloc, kind, text, verdict, mangled),
+        Err(_) => Ok(verdict == "bad"),
+    }
+}
+
+fn is_met_by(
+    alloc: Global,
+    kind: &str,
+    text: &str,
+    verdict: &str,
+    mangled: Option<&str>,
+) -> Result<bool, Undecided> {
+    let answer = answer_of(alloc, kind, text)?;
     Ok(answer.agrees(verdict, mangled))
+}
+
+fn answer_of(alloc: Global, kind: &str, text: &str) -> Result<Answer, Undecided> {
+    match kind {
+        "class" => class_answer(alloc, text),
+        "method" => method_answer(alloc, text),
+        "field" => field_answer(alloc, text),
+        "local" => local_answer(alloc, text),
+        "label" => label_answer(alloc, text),
+        "simple" => simple_answer(alloc, text),
+        _ => reference_answer(alloc, text),
+    }
 }
 
 // What was answered: a refusal, a name, or a name with its mangled text.
@@ -67,15 +81,27 @@ fn class_answer(alloc: Global, text: &str) -> Result<Answer, Undecided> {
 
 fn method_answer(alloc: Global, text: &str) -> Result<Answer, Undecided> {
     match taken_name(MethodName::parse(alloc, text))? {
-        Some(method) => {
-            let spelled = method.spelled(alloc)?;
-            if spelled.as_str() != text {
-                return Ok(Answer::Taken);
-            }
-            Ok(Answer::Mangled(mangle_method(alloc, &method)?))
-        }
+        Some(method) => taken_method(alloc, text, &method),
         None => Ok(Answer::Refused),
     }
+}
+
+fn taken_method(alloc: Global, text: &str, method: &MethodName) -> Result<Answer, Undecided> {
+    if method.spelled(alloc)?.as_str() == text {
+        Ok(Answer::Mangled(mangle_method(alloc, method)?))
+    } else {
+        Ok(Answer::Taken)
+    }
+}
+
+fn label_answer(alloc: Global, text: &str) -> Result<Answer, Undecided> {
+    let label = taken_name(LabelName::parse(alloc, text))?;
+    Ok(Answer::plain(label.is_some()))
+}
+
+fn simple_answer(alloc: Global, text: &str) -> Result<Answer, Undecided> {
+    let simple = taken_name(SimpleName::parse(alloc, text))?;
+    Ok(Answer::plain(simple.is_some()))
 }
 
 fn field_answer(alloc: Global, text: &str) -> Result<Answer, Undecided> {

@@ -7,17 +7,24 @@ use std::alloc::Global;
 /// hexadecimal digits each, and are written again.
 pub fn is_met(alloc: Global, bytes: &str, verdict: &str, units: &str) -> Result<bool, Undecided> {
     let bytes = hex::decode(alloc, bytes)?;
-    let Some(read) = taken_units(read_modified(alloc, bytes.as_slice()))? else {
-        return Ok(verdict == "bad");
-    };
-    let expected = hex::decode(alloc, units)?;
-    let written = write_modified(alloc, &read)?;
-    let big = big_endian(alloc, &read)?;
-    Ok(
-        verdict == "ok"
-            && big.as_slice() == expected.as_slice()
-            && written.as_slice() == bytes.as_slice(),
-    )
+    match taken_units(read_modified(alloc, bytes.as_slice()))? {
+        Some(read) => {
+            let is_right = is_written_as(alloc, &read, &bytes)? && are_told(alloc, &read, units)?;
+            Ok(verdict == "ok" && is_right)
+        }
+        None => Ok(verdict == "bad"),
+    }
+}
+
+fn is_written_as(alloc: Global, units: &Units, bytes: &[u8]) -> Result<bool, Undecided> {
+    let written = write_modified(alloc, units)?;
+    Ok(written.as_slice() == bytes)
+}
+
+fn are_told(alloc: Global, units: &Units, digits: &str) -> Result<bool, Undecided> {
+    let expected = hex::decode(alloc, digits)?;
+    let big = big_endian(alloc, units)?;
+    Ok(big.as_slice() == expected.as_slice())
 }
 
 // The units as bytes, high ones first.

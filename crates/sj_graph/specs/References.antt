@@ -1,14 +1,11 @@
 -- Which class refers to which.
-use Rattle.std.specs.Prelude.{◌≡◌, ◌↔◌, Bool, List, [], ◌∷◌, ◌++◌, ◌&&◌, map, codes, Contains, nat_eq}
+pub use Rattle.sj_names.specs.WellKnown.{is_same_text as is_same_name, object}
+use Rattle.std.specs.Prelude.{◌≡◌, ◌↔◌, Bool, List, [], ◌∷◌, ◌++◌, ◌&&◌, map, Contains}
 use Rattle.std.specs.List.{IsDistinct}
-use Rattle.std.specs.Cmp.Lexicographic.{pointwise}
 use Rattle.js_tree.specs.Terms.{Name, Piece}
 use Rattle.js_tree.specs.declared.items.Binding.{Binding}
 use Rattle.sj_graph.specs.declared.graphs.Reference.{Reference}
 use Rattle.sj_graph.specs.declared.graphs.Graph.{Graph}
-
-abbrev pub object : Name
-object = codes "java.lang.Object"
 
 abbrev pub owner_of : Piece → Name
 owner_of piece = piece.owner
@@ -22,9 +19,6 @@ reference_by from binding = reference from binding.owner
 -- the class of a piece refers to the owner of each binding that the piece uses, and to `java.lang.Object`
 abbrev pub piece_references : Piece → List Reference
 piece_references piece = map (reference_by piece.owner) piece.uses ++ reference piece.owner object ∷ []
-
-abbrev pub is_same_name : Name → Name → Bool
-is_same_name = pointwise nat_eq
 
 abbrev pub is_same_reference : Reference → Reference → Bool
 is_same_reference a b = is_same_name a.from b.from && is_same_name a.to b.to

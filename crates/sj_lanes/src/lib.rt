@@ -5,8 +5,6 @@
 
 mod equality;
 mod line_feeds;
-#[cfg(test)]
-mod tests;
 mod units;
 
 pub use equality::same_bytes;

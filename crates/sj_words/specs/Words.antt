@@ -1,14 +1,10 @@
 -- Single words of a command line.
-use Rattle.std.specs.Prelude.{ℕ, ◌||◌, Bool, true, false, List, [], ◌∷◌, Option, Some, None, not, ◌==◌, nat_eq, codes, if◌then◌else◌}
-use Rattle.std.specs.Cmp.Lexicographic.{pointwise}
+pub use Rattle.sj_names.specs.WellKnown.{is_same_text as is_same_word}
+use Rattle.std.specs.Prelude.{ℕ, ◌||◌, Bool, true, false, List, [], ◌∷◌, Option, Some, None, not, ◌==◌, codes, if◌then◌else◌}
 use Rattle.sj_words.specs.declared.commands.Style.{Style}
 use Rattle.sj_words.specs.declared.kinds.Choice.{Choice}
 use Rattle.sj_words.specs.declared.kinds.Setting.{Setting}
 use Rattle.sj_words.specs.declared.kinds.WordKind.{WordKind}
-
--- two words are the same
-abbrev pub is_same_word : List ℕ → List ℕ → Bool
-is_same_word = pointwise nat_eq
 
 -- a word begins with `-`
 abbrev pub begins_with_dash : List ℕ → Bool

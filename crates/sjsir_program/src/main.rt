@@ -2,8 +2,6 @@
 #![tactic(auto)]
 
 mod real_files;
-#[cfg(test)]
-mod tests;
 
 use real_files::RealFiles;
 use sj_outside::{RealFolders, RealLines, real_words};

@@ -1,9 +1,6 @@
 //! The command `sjslink`, over real folders, files and standard output.
 #![tactic(auto)]
 
-#[cfg(test)]
-mod tests;
-
 use sj_outside::{RealFolders, RealLines, RealOutputs, real_words};
 use sjslink::{Status, run};
 use std::alloc::AllocError;

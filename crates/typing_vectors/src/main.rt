@@ -16,10 +16,18 @@ use std::alloc::Global;
 use std::{mem, result};
 
 // The classes of a block, and the world of them once it is asked for.
-#[derive(Drop)]
 struct Block {
     classes: Vec<ClassDef>,
     world: Option<result::Result<LinkedWorld, WorldError>>,
+}
+
+impl Drop for Block {
+    fn drop(self) {
+        let Block {
+            classes: _classes,
+            world: _world,
+        } = self;
+    }
 }
 
 fn main(rt: HostRuntime) -> Result<()> {

@@ -16,10 +16,18 @@ use std::alloc::Global;
 use std::mem;
 
 // The classes of a block, and the world of them once it is asked for.
-#[derive(Drop)]
 struct Block {
     classes: Vec<ClassDef>,
     world: Option<Result<World, WorldError>>,
+}
+
+impl Drop for Block {
+    fn drop(self) {
+        let Block {
+            classes: _classes,
+            world: _world,
+        } = self;
+    }
 }
 
 fn main(rt: HostRuntime) -> Result<()> {

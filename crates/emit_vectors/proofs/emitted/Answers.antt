@@ -6,7 +6,7 @@ use Rattle.sj_desugar.specs.Desugar.{desugared}
 use Rattle.sj_desugarer.specs.Methods.{desugared_with}
 use Rattle.sj_names.specs.declared.method_names.Member.{Member}
 use Rattle.sj_pieces.specs.Keys.{HasKeys}
-use Rattle.sj_pieces.specs.Pieces.{piece_of}
+use Rattle.sj_emit_expr.specs.Pieces.{piece_of}
 use Rattle.sj_trees.specs.Term.{Term}
 use Rattle.sj_trees.specs.declared.classes.MethodDef.{MethodDef}
 use Rattle.emit_vectors.proofs.emitted.Goals as goal

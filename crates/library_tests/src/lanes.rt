@@ -1,5 +1,5 @@
-//! Each kernel against a plain loop, at every length from 0 to 200, with what tells at every place.
-use crate::{count_newlines, first_special_unit, same_bytes};
+// Each kernel against a plain loop, at every length from 0 to 200, with what tells at every place.
+use sj_lanes::{count_newlines, first_special_unit, same_bytes};
 
 const LONGEST: usize = 200;
 
