@@ -8,7 +8,7 @@ CRATES = Path(__file__).resolve().parent.parent / "crates"
 CLAIMS = [
     ("sjslink::run, agrees", ["sjslink.Headline"]),
     ("sjslink::run, whole and front", ["sjslink.Output"]),
-    ("judged_classes_agree", ["sj_judged.Judged", "sj_calls.Files", "sj_sound.Linked", "sj_proper.Program", "outcomes.Agreement", "ir_mean.Shows", "js_mean.Shows"]),
+    ("judged_files_agree", ["sj_judged.Judged", "sj_agree.Agrees", "sj_calls.Files", "sj_sound.Linked", "sj_proper.Program", "outcomes.Agreement", "ir_mean.Shows", "js_mean.Shows"]),
     ("sjsir::run", ["sjsir.Output"]),
     ("read_class", ["sj_format.Answers"]),
     ("write_class", ["sj_written.Written"]),
@@ -19,6 +19,11 @@ CLAIMS = [
     ("World", ["sj_world.Subtypes", "sj_world.Resolution"]),
     ("check_method", ["sj_typing.Typed"]),
     ("sj_ask", ["sj_ask.Laws"]),
+    ("infos_of", ["sj_infos.Infos"]),
+    ("plan", ["sj_split.Modules", "sj_graph.References"]),
+    ("command", ["sj_words.Command"]),
+    ("canon", ["sj_canon.Methods"]),
+    ("folder", ["sj_gen.Folder"]),
 ]
 
 
