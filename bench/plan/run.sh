@@ -2,12 +2,125 @@
 # Measures plan in both styles (README.md, beside this script).
 set -eu
 
-here=$(cd "$(dirname "$0")" && pwd)
-. "$here/../program.sh"
+. "$(dirname "$0")/../program.sh"
 
 begin plan_bench 'anyhow sj_graph sj_names sj_split' sj_names sj_units js_tree worklist module_names sj_graph sj_split
 
-cp "$here/program.rt" "$main"
+cat > "$main" <<'PROGRAM'
+//! The time of plans of three graphs, in both styles.
+#![tactic(auto)]
+
+ghost use Rattle.std.specs.Prelude.{◌≡◌};
+ghost use Rattle.std.specs.Bool.{OnTrue};
+ghost use Rattle.std.specs.List.{list_all};
+ghost use Rattle.sj_names.specs.EntryPoints.{AreEntries, is_entry};
+
+use anyhow::Result;
+use sj_graph::{Graph, Reference};
+use sj_names::{ClassName, Entries, EntryPoint, Items, SimpleName, Text};
+use sj_split::{Style, plan};
+use std::alloc::Global;
+use std::time::Instant;
+
+const CLASSES: u32 = 400;
+
+const IDS: u32 = 20;
+
+fn name(alloc: Global, number: u32) -> Result<ClassName> {
+    let text = format!(in alloc; "library.part{}.Class{number}", number % 97)?;
+    Ok(ClassName::parse(alloc, text.as_str())?)
+}
+
+// Each class refers to the `each` classes behind it; behind the last comes the first in a ring.
+fn graph(alloc: Global, each: u32, ring: bool) -> Result<Graph> {
+    let mut owners = Vec::new(alloc);
+    let mut references = Vec::new(alloc);
+    for number in 0..CLASSES {
+        owners.push(name(alloc, number)?)?;
+        for step in 0..each {
+            add_reference(alloc, number, step, ring, &mut references)?;
+        }
+    }
+    Ok(Graph {
+        owners: Items::from_vec(owners),
+        references: Items::from_vec(references),
+    })
+}
+
+fn add_reference(
+    alloc: Global,
+    number: u32,
+    step: u32,
+    ring: bool,
+    references: &mut Vec<Reference>,
+) -> Result<()> {
+    let behind = number.saturating_add(step).saturating_add(1);
+    if behind < CLASSES || ring {
+        let from = name(alloc, number)?;
+        let to = name(alloc, behind % CLASSES)?;
+        references.push(Reference { from, to })?;
+    }
+    Ok(())
+}
+
+fn entries(alloc: Global) -> Result<Vec<EntryPoint>> {
+    let mut list = Vec::new(alloc);
+    for number in 0..IDS {
+        list.push(entry(alloc, number)?)?;
+    }
+    Ok(list)
+}
+
+fn entry(alloc: Global, number: u32) -> Result<EntryPoint> {
+    let id = format!(in alloc; "m{number}")?;
+    Ok(EntryPoint {
+        module: Text::from_string(id)?,
+        class: name(alloc, number)?,
+        method: SimpleName::parse(alloc, "main")?,
+    })
+}
+
+// Whether these may be the entries of a link.
+fn are_entries(list: &[EntryPoint]) -> bool
+    ensures { OnTrue result (AreEntries list.now) }
+{
+    if list.is_empty() || list.len() > 1000 {
+        return false;
+    }
+    are_valid(list)
+}
+
+fn are_valid(list: &[EntryPoint]) -> bool
+    ensures { result ≡ list_all is_entry list.now }
+{
+    list.iter().all(|entry| entry.is_valid())
+}
+
+// The milliseconds of a plan, and how many modules it has.
+fn measured(rt: &HostRuntime, graph: &Graph, style: Style) -> Result<(u128, usize)> {
+    let alloc = rt.alloc();
+    let list = entries(alloc)?;
+    if !are_entries(&list) {
+        return Ok((0, 0));
+    }
+    let entries = Entries::new(list);
+    let start = Instant::now(rt)?;
+    let plan = plan(alloc, graph, &entries, style)?;
+    Ok((start.elapsed(rt)?.as_millis(), plan.len()))
+}
+
+fn main(rt: HostRuntime) -> Result<()> {
+    let alloc = rt.alloc();
+    for (what, each, ring) in [("chain", 1, false), ("ring", 1, true), ("fifty others", 50, true)] {
+        let graph = graph(alloc, each, ring)?;
+        let (fewest, files) = measured(&rt, &graph, Style::Fewest)?;
+        println!(rt; "{what}, fewest: {fewest} ms, {files} files")?;
+        let (smallest, files) = measured(&rt, &graph, Style::Smallest)?;
+        println!(rt; "{what}, smallest: {smallest} ms, {files} files")?;
+    }
+    Ok(())
+}
+PROGRAM
 
 measure
 peak
