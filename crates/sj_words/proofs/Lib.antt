@@ -1,3 +1,4 @@
 pub mod Numerals
 pub mod Steps
 mod Rows
+pub mod Stays

@@ -1,6 +1,6 @@
 -- Single words of a command line.
 pub use Rattle.sj_names.specs.WellKnown.{is_same_text as is_same_word}
-use Rattle.std.specs.Prelude.{ℕ, ◌||◌, Bool, true, false, List, [], ◌∷◌, Option, Some, None, not, ◌==◌, codes, if◌then◌else◌}
+use Rattle.std.specs.Prelude.{ℕ, ◌||◌, Bool, true, false, List, [], ◌∷◌, Option, Some, None, not, ◌==◌, codes, option_map, if◌then◌else◌}
 use Rattle.sj_words.specs.declared.commands.Style.{Style}
 use Rattle.sj_words.specs.declared.kinds.Choice.{Choice}
 use Rattle.sj_words.specs.declared.kinds.Setting.{Setting}
@@ -15,12 +15,16 @@ begins_with_dash (b ∷ bs) = b == 45
 abbrev pub is_operand : List ℕ → Bool
 is_operand word = not (begins_with_dash word) || is_same_word word (codes "-")
 
+-- the style that a word names
+abbrev pub style_of : List ℕ → Option Style
+style_of word =
+    if is_same_word word (codes "fewest") then Some Style.Fewest
+    else if is_same_word word (codes "smallest") then Some Style.Smallest
+    else None
+
 -- the value of an option
 abbrev pub split_value : List ℕ → Option Setting
-split_value word =
-    if is_same_word word (codes "fewest") then Some (Setting.Split Style.Fewest)
-    else if is_same_word word (codes "smallest") then Some (Setting.Split Style.Smallest)
-    else None
+split_value word = option_map (λ style. Setting.Split style) (style_of word)
 
 abbrev pub optimize_value : List ℕ → Option Setting
 optimize_value word =

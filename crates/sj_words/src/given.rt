@@ -17,7 +17,8 @@ pub struct Collected {
 }
 
 impl Collected {
-    fn new(alloc: Global) -> Collected
+    /// Nothing yet.
+    pub fn new(alloc: Global) -> Collected
         ensures { gifts_in result ≡ no_gifts }
     {
         Collected {
@@ -44,7 +45,8 @@ impl Collected {
         Ok(())
     }
 
-    fn add_operands(&mut self, alloc: Global, words: &[String]) -> Result<(), NoMemory>
+    /// Adds each word as an operand.
+    pub fn add_operands(&mut self, alloc: Global, words: &[String]) -> Result<(), NoMemory>
         ensures { OnOk result (gifts_in self.new ≡ record (gifts_in self.old) { operands = (gifts_in self.old).operands ++ map string_bytes words.now }) }
     {
         for word in words {

@@ -80,9 +80,19 @@ pub fn with_value(choice: Choice, word: &str) -> Option<Setting>
 fn split_value(word: &str) -> Option<Setting>
     ensures { result ≡ words.split_value word.now }
 {
+    match style_named(word) {
+        Some(style) => Some(Setting::Split(style)),
+        None => None,
+    }
+}
+
+/// The style that the word names.
+pub fn style_named(word: &str) -> Option<Style>
+    ensures { result ≡ words.style_of word.now }
+{
     match word {
-        "fewest" => Some(Setting::Split(Style::Fewest)),
-        "smallest" => Some(Setting::Split(Style::Smallest)),
+        "fewest" => Some(Style::Fewest),
+        "smallest" => Some(Style::Smallest),
         _ => None,
     }
 }

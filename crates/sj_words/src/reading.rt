@@ -65,7 +65,8 @@ fn linked(alloc: Global, collected: &Collected) -> Result<Option<Command>, NoMem
     with_operands(alloc, style, optimize, collected.operands.as_slice())
 }
 
-fn with_operands(
+/// The link command with these operands, if they are enough: the entries file, the place of the modules and a folder or more.
+pub fn with_operands(
     alloc: Global,
     style: Style,
     optimize: bool,
