@@ -1,3 +1,4 @@
 pub mod Classes
 pub mod Folder
 pub mod ReadBack
+pub mod Paths

@@ -7,4 +7,4 @@ mod laws;
 mod trees;
 
 pub use folders::folder;
-pub use laws::generated_files_are_read_back;
+pub use laws::{generated_files_are_read_back, generated_paths_rise};
