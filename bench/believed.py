@@ -21,7 +21,7 @@ CLAIMS = [
     ("sj_ask", ["sj_ask.Laws"]),
     ("infos_of", ["sj_infos.Infos"]),
     ("plan", ["sj_split.Modules", "sj_graph.References"]),
-    ("command", ["sj_words.Command"]),
+    ("command and those before it", ["sj_words.Earlier"]),
     ("canon", ["sj_canon.Methods"]),
     ("folder", ["sj_gen.Folder"]),
 ]
