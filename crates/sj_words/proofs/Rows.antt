@@ -4,6 +4,7 @@ use Rattle.sj_words.specs.declared.commands.Style.{Style}
 use Rattle.sj_words.specs.declared.commands.Command.{Command}
 use Rattle.sj_words.specs.Given.{given}
 use Rattle.sj_words.specs.Command.{command}
+use Rattle.sj_words.specs.Earlier.{first_command, split_command}
 
 defaults : command (codes "link" ∷ codes "e" ∷ codes "out" ∷ codes "f1" ∷ []) ≡ Some (Command.Link (record { style = Style.Fewest; optimize = true; entries = codes "e"; out = codes "out"; folders = codes "f1" ∷ [] }))
 unfolding given
@@ -52,3 +53,18 @@ none_at_all = refl
 
 leading_zero : command (codes "gen" ∷ codes "01" ∷ []) ≡ None
 leading_zero = refl
+
+two_folders : first_command (codes "link" ∷ codes "--optimize" ∷ codes "off" ∷ codes "e" ∷ codes "out" ∷ codes "f1" ∷ codes "f2" ∷ []) ≡ Some (Command.Link (record { style = Style.Fewest; optimize = false; entries = codes "e"; out = codes "out"; folders = codes "f1" ∷ codes "f2" ∷ [] }))
+two_folders = refl
+
+style_too_early : first_command (codes "link" ∷ codes "--split" ∷ codes "smallest" ∷ codes "--optimize" ∷ codes "off" ∷ codes "e" ∷ codes "out" ∷ codes "f1" ∷ []) ≡ None
+style_too_early = refl
+
+style_in_front : split_command (codes "link" ∷ codes "--split" ∷ codes "smallest" ∷ codes "--optimize" ∷ codes "off" ∷ codes "e" ∷ codes "out" ∷ codes "f1" ∷ []) ≡ Some (Command.Link (record { style = Style.Smallest; optimize = false; entries = codes "e"; out = codes "out"; folders = codes "f1" ∷ [] }))
+style_in_front = refl
+
+style_behind : split_command (codes "link" ∷ codes "--optimize" ∷ codes "off" ∷ codes "--split" ∷ codes "smallest" ∷ codes "e" ∷ codes "out" ∷ codes "f1" ∷ []) ≡ None
+style_behind = refl
+
+dash_alone_too_early : split_command (codes "link" ∷ codes "--optimize" ∷ codes "off" ∷ codes "-" ∷ codes "out" ∷ codes "f1" ∷ []) ≡ None
+dash_alone_too_early = refl
