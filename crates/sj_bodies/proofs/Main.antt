@@ -47,10 +47,9 @@ module _ (z : Setting) (lawful : Lawful z) (low : LowAlike z) where
 
   sound-behind : (c : Context) (x : List ℕ) → Sound z.is_mutable c → (c.writable (core.named x) → ⊥) → (c.kept (core.named x) → ⊥) → Sound z.is_mutable (behind z c x)
   sound-behind c x sound unwritten fresh = record {
-    apart = λ y wr k. ⊎_elim (λ i. unwritten (subst c.writable i.0 wr)) (λ i. sound.apart y wr i) k;
     hidden = λ y wr g. ⊎_elim (λ i. unwritten (subst (λ a. c.writable (core.named a)) i wr)) (λ i. sound.hidden y wr i) g;
     constant = λ y g m. ⊎_elim (λ i. inl (ap core.named i, subst (λ a. z.is_mutable a ≡ false) i m)) (λ i. inr (sound.constant y i m)) g;
-    changing = λ y k m. ⊎_elim (λ i. let e : y ≡ x = cc in impossible (sym i.1 ∙ subst (λ a. z.is_mutable a ≡ true) e m)) (λ i. sound.changing y i m) k;
+    changing = λ y g k m. ⊎_elim (λ i. let e : y ≡ x = cc in impossible (sym i.1 ∙ subst (λ a. z.is_mutable a ≡ true) e m)) (λ i. ⊎_elim (λ e. fresh (subst (λ a. c.kept (core.named a)) e i)) (λ s. sound.changing y s i m) g) k;
     reached = sound.reached;
   }
 

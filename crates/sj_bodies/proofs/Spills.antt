@@ -25,7 +25,7 @@ use Rattle.sj_plain.specs.Settings.{Setting, shown, run, SameState, Valued, valu
 use Rattle.sj_names.proofs.Same.{impossible}
 use Rattle.sj_plain.proofs.Plain.{all_shown, plain_alike, as_operand, fits-exact}
 use Rattle.sj_plain.proofs.Orders.{OperandAlike, OperandsAlike, no_operands, more_operands}
-use Rattle.sj_bodies.proofs.Contexts.{Context, Sound, Ahead, IsOpen, Ready, ready-lift, Keeps, keeps-refl, keeps-trans, stored, Came, gave, left, stopped, started-here, started-ready, started-keeps}
+use Rattle.sj_bodies.proofs.Contexts.{Context, Sound, Ahead, IsOpen, Ready, ready-lift, Keeps, Less, less-trans, keeps-refl, keeps-trans, keeps-fewer, stored, Came, gave, left, stopped, started-here, started-ready, started-keeps}
 use Rattle.sj_bodies.proofs.Statements.{run-followed, leaves_on, Ends}
 use Rattle.sj_plain.proofs.Worlds.{World, Grows, grows-refl, grows-trans, SameValue, same_undefined, same_null, same_boolean, same_number, same_text, value-lift}
 
@@ -162,10 +162,9 @@ module _ (z : Setting) (lawful : Lawful z) where
 
   pub sound-kept : (c : Context) (p : core.Variable → Type 0) (j : ℕ) → Sound z.is_mutable (keeping c p) → Ahead (keeping c p) j → Sound z.is_mutable (keeping c (λ y. (y ≡ core.numbered j) ⊎ p y))
   sound-kept c p j sound ahead = record {
-    apart = λ y wr k. ⊎_elim (λ e. ahead.writable j (omega arith) (subst c.writable e wr)) (sound.apart y wr) k;
     hidden = sound.hidden;
     constant = λ x h m. inr (sound.constant x h m);
-    changing = λ x k m. ⊎_elim (λ e. numbered-named x j e) (λ i. sound.changing x i m) k;
+    changing = λ x g k m. ⊎_elim (λ e. numbered-named x j e) (λ i. sound.changing x g i m) k;
     reached = sound.reached;
   }
 
@@ -240,10 +239,13 @@ module _ (z : Setting) (lawful : Lawful z) where
       kept_here : p x → ⊥
       kept_here = ahead.kept j (omega arith)
 
+      all_kept : (sc2 : js.Scope) → Keeps z.place (Less p (to_variable x (type_of_term t))) started sc2 → Keeps z.place p started sc2
+      all_kept sc2 k2 = keeps-fewer z (Less p (to_variable x (type_of_term t))) p started sc2 (λ b h. (h, λ e. kept_here (subst p (sym e) h))) k2
+
       each : (a : ir.Ended) (b : js.StatementEnd) → Came z.place (writing (keeping c p) x) c.scope (to_variable x (type_of_term t)) w started a b → Sim z.direction (Came z.place c c.scope k from before) (ir.onward f a) (js.next_statement (run z rest) b)
-      each _ _ (gave y v env' s' sc2 u' _ h (stored _ _ q a e) r2 k2 states) = others (λ b. (b ≡ x) ⊎ p b) code.next (λ vs. act (v ∷ vs)) (λ es. made (core.variable_use x ∷ es)) y env' s' sc2 u' (operands-later c j code.next ts (omega (arith, onward (to_variable x (type_of_term t)) (suc j))) ds) (extends-more c p j sub) (sound-kept c p j sound ahead) (ahead-kept c p j code.next (onward (to_variable x (type_of_term t)) (suc j)) ahead) (saved_final c k from before p j code.next (count ts) w y sc sc2 act made v q false (onward (to_variable x (type_of_term t)) (suc j)) final h (keeps-trans z p sc started sc2 (started-keeps z lawful p false x js.undefined sc kept_here) k2) a e) (grows-trans from w y g h) (record { sees = r2.sees; «open» = λ a b. r2.«open» a (inr b) }) (keeps-trans z c.kept before sc sc2 ks (keeps-trans z c.kept sc started sc2 (started-keeps z lawful c.kept false x js.undefined sc (λ b. kept_here (sub.more x b))) (record { same = λ a b. k2.same a (sub.more a b) }))) states
-      each _ _ (left y l v env' s' sc2 u' e h a r2 k2 states) = leaves_on z lawful c c.scope k from before (run z rest) y l v env' s' sc2 u' e (target_of c.targets l) refl (grows-trans from w y g h) a (record { sees = r2.sees; «open» = λ a b. r2.«open» a (inr b) }) (keeps-trans z c.kept before sc sc2 ks (keeps-trans z c.kept sc started sc2 (started-keeps z lawful c.kept false x js.undefined sc (λ b. kept_here (sub.more x b))) (record { same = λ a b. k2.same a (sub.more a b) }))) states
-      each _ _ (stopped y env' s' sc2 u' t h r2 k2 states) = sim_done z.direction (Came z.place c c.scope k from before) (ir.ends ir.stops env' s') (js.ends js.breaks_nearest sc2 u') (stopped y env' s' sc2 u' t (grows-trans from w y g h) (record { sees = r2.sees; «open» = λ a b. r2.«open» a (inr b) }) (keeps-trans z c.kept before sc sc2 ks (keeps-trans z c.kept sc started sc2 (started-keeps z lawful c.kept false x js.undefined sc (λ b. kept_here (sub.more x b))) (record { same = λ a b. k2.same a (sub.more a b) }))) states)
+      each _ _ (gave y v env' s' sc2 u' _ h (stored _ _ q a e) r2 k2 states) = others (λ b. (b ≡ x) ⊎ p b) code.next (λ vs. act (v ∷ vs)) (λ es. made (core.variable_use x ∷ es)) y env' s' sc2 u' (operands-later c j code.next ts (omega (arith, onward (to_variable x (type_of_term t)) (suc j))) ds) (extends-more c p j sub) (sound-kept c p j sound ahead) (ahead-kept c p j code.next (onward (to_variable x (type_of_term t)) (suc j)) ahead) (saved_final c k from before p j code.next (count ts) w y sc sc2 act made v q false (onward (to_variable x (type_of_term t)) (suc j)) final h (keeps-trans z p sc started sc2 (started-keeps z lawful p false x js.undefined sc kept_here) (all_kept sc2 k2)) a e) (grows-trans from w y g h) (record { sees = r2.sees; «open» = λ a b. r2.«open» a (inr b) }) (keeps-trans z c.kept before sc sc2 ks (keeps-trans z c.kept sc started sc2 (started-keeps z lawful c.kept false x js.undefined sc (λ b. kept_here (sub.more x b))) (keeps-fewer z p c.kept started sc2 sub.more (all_kept sc2 k2)))) states
+      each _ _ (left y l v env' s' sc2 u' e h a r2 k2 states) = leaves_on z lawful c c.scope k from before (run z rest) y l v env' s' sc2 u' e (target_of c.targets l) refl (grows-trans from w y g h) a (record { sees = r2.sees; «open» = λ a b. r2.«open» a (inr b) }) (less-trans z c.kept (target_of c.targets l) before sc sc2 ks (less-trans z c.kept (target_of c.targets l) sc started sc2 (started-keeps z lawful c.kept false x js.undefined sc (λ b. kept_here (sub.more x b))) (keeps-fewer z (Less p (target_of c.targets l)) (Less c.kept (target_of c.targets l)) started sc2 (λ y i. (sub.more y i.0, i.1)) k2))) states
+      each _ _ (stopped y env' s' sc2 u' t h r2 k2 states) = sim_done z.direction (Came z.place c c.scope k from before) (ir.ends ir.stops env' s') (js.ends js.breaks_nearest sc2 u') (stopped y env' s' sc2 u' t (grows-trans from w y g h) (record { sees = r2.sees; «open» = λ a b. r2.«open» a (inr b) }) (keeps-trans z c.kept before sc sc2 ks (keeps-trans z c.kept sc started sc2 (started-keeps z lawful c.kept false x js.undefined sc (λ b. kept_here (sub.more x b))) (keeps-fewer z p c.kept started sc2 sub.more k2))) states)
 
   -- one operand, by whether it and all behind it are plain, whether it is fixed, and whether it is plain
   spill_one : (c : Context) (k : Destination) (from : World) (before : js.Scope) (t : Term) (ts : List Term) → SpillDoes c k from before ts → (a f b : Bool) → (is_plain t && all_plain (operands_in c.targets ts)) ≡ a → is_fixed z.is_mutable t ≡ f → is_plain t ≡ b → (p : core.Variable → Type 0) (j : ℕ) (act : List ir.Value → ir.Run) (made : List core.Expression → ℕ → Code) (w : World) (env : ir.Env) (s : ir.State) (sc : js.Scope) (u : js.State) → OperandsDo c j (t ∷ ts) → Extends c p → Sound z.is_mutable (keeping c p) → Ahead (keeping c p) j → Final c k from before p j sc w (count (t ∷ ts)) act made → Grows from w → Ready z.place c.scope c.writable w env sc → Keeps z.place c.kept before sc → SameState z.place w s u → Ends z lawful c c.scope k from before (ir_meaning.in_order (runs (t ∷ ts)) act env s) (then_use (spill_case a f b (operand z.is_mutable t (λ k j. into z.is_mutable c.targets k j t)) (operands_in c.targets ts) (spill (operands_in c.targets ts)) j) made).statements sc u
