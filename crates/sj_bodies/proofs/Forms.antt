@@ -26,7 +26,7 @@ use Rattle.sj_bodies.proofs.Contexts.{Context, Writes, Sound, Ahead, IsOpen, Rea
 use Rattle.sj_bodies.specs.Fine.{FitsIn}
 use Rattle.sj_names.proofs.Same.{impossible}
 use Rattle.sj_plain.proofs.Orders.{OperandAlike, OperandsAlike, no_operands, more_operands, in_order_alike, ActsAlike}
-use Rattle.sj_bodies.proofs.Spills.{keeping, writing, Extends, extends-refl, Final, OperandsDo, runs, operands_in, count, none_left, one_left, spill_does, numbered-named, numbered-same}
+use Rattle.sj_bodies.proofs.Spills.{keeping, writing, Extends, extends-refl, Final, OperandsDo, Piece, runs, operands_in, count, none_left, one_left, spill_does, numbered-named, numbered-same}
 use Rattle.sj_bodies.proofs.Statements.{act_of, ends-one, assigned, started-open, finish_alike, Ends}
 use Rattle.sj_plain.proofs.Worlds.{World, Grows, grows-refl, grows-trans, SameValue, same_undefined, same_null, same_boolean, same_number, same_text, no_values, one_more}
 
@@ -58,7 +58,7 @@ module _ (z : Setting) (lawful : Lawful z) where
   ahead-later c i j l ahead = record { writable = λ k h. ahead.writable k (omega arith); kept = λ k h. ahead.kept k (omega arith) }
 
   -- operands of a form, and what is made of them
-  pub of_operands : (c : Context) (k : Destination) (ts : List Term) (j : ℕ) (act : List ir.Value → ir.Run) (made : List core.Expression → ℕ → Code) → Sound z.is_mutable c → Ahead c j → OperandsDo z lawful c j ts → ((w : World) (sc : js.Scope) → Final z lawful c k w sc c.kept j sc w (count z lawful ts) act made) → (w : World) (env : ir.Env) (s : ir.State) (sc : js.Scope) (u : js.State) → Ready z.place c.scope c.writable w env sc → SameState z.place w s u → Ends z lawful c c.scope k w sc (ir_meaning.in_order (runs z lawful ts) act env s) (then_use (spill (operands_in z lawful c.targets ts) j) made).statements sc u
+  pub of_operands : (c : Context) (k : Destination) (ts : List Piece) (j : ℕ) (act : List ir.Value → ir.Run) (made : List core.Expression → ℕ → Code) → Sound z.is_mutable c → Ahead c j → OperandsDo z lawful c j ts → ((w : World) (sc : js.Scope) → Final z lawful c k w sc c.kept j sc w (count z lawful ts) act made) → (w : World) (env : ir.Env) (s : ir.State) (sc : js.Scope) (u : js.State) → Ready z.place c.scope c.writable w env sc → SameState z.place w s u → Ends z lawful c c.scope k w sc (ir_meaning.in_order (runs z lawful ts) act env s) (then_use (spill (operands_in z lawful ts) j) made).statements sc u
   of_operands c k ts j act made sound ahead ds final w env s sc u r same = spill_does z lawful c k w sc ts c.kept j act made w env s sc u ds (extends-refl c) sound ahead (final w sc) (grows-refl w) r (keeps-refl z c.kept sc) same
 
   -- one operand
