@@ -71,7 +71,6 @@ module _ (z : Setting) (lawful : Lawful z) where
   abbrev FixedTree : (p : core.Variable → Type 0) (w : World) (env : ir.Env) (sc : js.Scope) (t : Term) → Type 0
   FixedTree p w env sc t = FixedRun p w env sc (ir_meaning.step z.place.classes z.low t) (expression_of t)
 
-
   local_fixed : (p : core.Variable → Type 0) (w : World) (env : ir.Env) (sc : js.Scope) (q : Position) (x : List ℕ) (t : IrType) → p (core.named x) → (o : Option ir.Value) (cell : js.Cell) → Holding w o cell → env.locals x ≡ o → sc.bindings (z.place.name (core.named x)) ≡ cell → FixedTree p w env sc (var_ref q x t)
   local_fixed p w env sc q x t kept _ _ (holding v j a) e h = record {
     value = v;
