@@ -27,13 +27,12 @@ Writes q discard = Unit {0}
 Writes q (to_variable y t) = q y
 Writes q (to_result t) = Unit {0}
 
--- what may be written isn't kept and is no local in scope; a local in scope is kept where it isn't mutable, and no mutable one is; and the
--- values that leave to a label go where it may be written
+-- what may be written is no local in scope; a local in scope is kept where it isn't mutable, and no mutable one is; and the values that leave
+-- to a label go where it may be written
 pub record Sound (is_mutable : List ℕ → Bool) (c : Context) : Type 0 where
-  pub apart : (y : core.Variable) → c.writable y → c.kept y → ⊥
   pub hidden : (x : List ℕ) → c.writable (core.named x) → c.scope x → ⊥
   pub constant : (x : List ℕ) → c.scope x → is_mutable x ≡ false → c.kept (core.named x)
-  pub changing : (x : List ℕ) → c.kept (core.named x) → is_mutable x ≡ true → ⊥
+  pub changing : (x : List ℕ) → c.scope x → c.kept (core.named x) → is_mutable x ≡ true → ⊥
   pub reached : (l : List ℕ) → Writes c.writable (target_of c.targets l)
 
 -- no variable for an operand from this number on is in use
@@ -62,6 +61,28 @@ keeps-refl z p sc = record { same = λ y h. refl }
 pub keeps-trans : (z : Setting) (p : core.Variable → Type 0) (a b c : js.Scope) → Keeps z.place p a b → Keeps z.place p b c → Keeps z.place p a c
 keeps-trans z p a b c h k = record { same = λ y i. k.same y i ∙ h.same y i }
 
+-- the same with fewer variables
+pub keeps-fewer : (z : Setting) (more p : core.Variable → Type 0) (a b : js.Scope) → ((y : core.Variable) → p y → more y) → Keeps z.place more a b → Keeps z.place p a b
+keeps-fewer z more p a b sub k = record { same = λ y i. k.same y (sub y i) }
+
+-- the variable to which a value goes, and what is kept but for it: a value comes to a variable last, so a finalizer may write it too
+abbrev pub Goes : Destination → core.Variable → Type 0
+Goes discard y = ⊥
+Goes (to_variable x t) y = x ≡ y
+Goes (to_result t) y = ⊥
+
+abbrev pub Less : (core.Variable → Type 0) → Destination → core.Variable → Type 0
+Less q k y = q y × (Goes k y → ⊥)
+
+pub keeps-less : (z : Setting) (q : core.Variable → Type 0) (k : Destination) (a b : js.Scope) → Keeps z.place q a b → Keeps z.place (Less q k) a b
+keeps-less z q k a b ks = keeps-fewer z q (Less q k) a b (λ y h. h.0) ks
+
+pub keeps-all : (z : Setting) (q : core.Variable → Type 0) (a b : js.Scope) → Keeps z.place (Less q discard) a b → Keeps z.place q a b
+keeps-all z q a b ks = keeps-fewer z (Less q discard) q a b (λ y h. (h, λ e. e)) ks
+
+pub less-trans : (z : Setting) (q : core.Variable → Type 0) (k : Destination) (a b c : js.Scope) → Keeps z.place q a b → Keeps z.place (Less q k) b c → Keeps z.place (Less q k) a c
+less-trans z q k a b c h l = keeps-trans z (Less q k) a b c (keeps-less z q k a b h) l
+
 -- a value has come to a destination: nowhere, to a variable, or out of the function; else the completion is this one
 pub data Arrives (p : Place) (w : World) (v : ir.Value) (sc : js.Scope) (usual : js.Completion) : Destination → js.Completion → Type 0 where
   let_go : Arrives p w v sc usual discard usual
@@ -70,8 +91,8 @@ pub data Arrives (p : Place) (w : World) (v : ir.Value) (sc : js.Scope) (usual :
 
 -- how a tree and its statements came to their end; inside a loop's turn, its condition may not hold any more
 pub data Came (p : Place) (c : Context) (scope : List ℕ → Type 0) (k : Destination) (from : World) (before : js.Scope) : ir.Ended → js.StatementEnd → Type 0 where
-  gave : (w : World) (v : ir.Value) (env : ir.Env) (s : ir.State) (sc : js.Scope) (u : js.State) (e : js.Completion) → Grows from w → Arrives p w v sc js.normally k e → Ready p scope c.writable w env sc → Keeps p c.kept before sc → SameState p w s u → Came p c scope k from before (ir.ends (ir.gives v) env s) (js.ends e sc u)
-  left : (w : World) (l : List ℕ) (v : ir.Value) (env : ir.Env) (s : ir.State) (sc : js.Scope) (u : js.State) (e : js.Completion) → Grows from w → Arrives p w v sc (js.breaks (p.label l)) (target_of c.targets l) e → Ready p c.scope c.writable w env sc → Keeps p c.kept before sc → SameState p w s u → Came p c scope k from before (ir.ends (ir.leaves l v) env s) (js.ends e sc u)
+  gave : (w : World) (v : ir.Value) (env : ir.Env) (s : ir.State) (sc : js.Scope) (u : js.State) (e : js.Completion) → Grows from w → Arrives p w v sc js.normally k e → Ready p scope c.writable w env sc → Keeps p (Less c.kept k) before sc → SameState p w s u → Came p c scope k from before (ir.ends (ir.gives v) env s) (js.ends e sc u)
+  left : (w : World) (l : List ℕ) (v : ir.Value) (env : ir.Env) (s : ir.State) (sc : js.Scope) (u : js.State) (e : js.Completion) → Grows from w → Arrives p w v sc (js.breaks (p.label l)) (target_of c.targets l) e → Ready p c.scope c.writable w env sc → Keeps p (Less c.kept (target_of c.targets l)) before sc → SameState p w s u → Came p c scope k from before (ir.ends (ir.leaves l v) env s) (js.ends e sc u)
   stopped : (w : World) (env : ir.Env) (s : ir.State) (sc : js.Scope) (u : js.State) → c.turning → Grows from w → Ready p c.scope c.writable w env sc → Keeps p c.kept before sc → SameState p w s u → Came p c scope k from before (ir.ends ir.stops env s) (js.ends js.breaks_nearest sc u)
 
 -- texts that aren't equal
@@ -108,3 +129,6 @@ module _ (z : Setting) (lawful : Lawful z) where
 
   pub started-keeps : (p : core.Variable → Type 0) (const : Bool) (y : core.Variable) (v : js.Value) (sc : js.Scope) → (p y → ⊥) → Keeps z.place p sc (js_meaning.start const (z.place.name y) v sc)
   started-keeps p const y v sc unkept = record { same = λ x i. started-other const y x v sc (λ e. unkept (subst p e i)) }
+
+  pub started-less : (p : core.Variable → Type 0) (const : Bool) (y : core.Variable) (i : IrType) (v : js.Value) (sc : js.Scope) → Keeps z.place (Less p (to_variable y i)) sc (js_meaning.start const (z.place.name y) v sc)
+  started-less p const y i v sc = record { same = λ x h. started-other const y x v sc (λ e. h.1 (sym e)) }

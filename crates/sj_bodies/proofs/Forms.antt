@@ -22,11 +22,11 @@ use Rattle.sj_plain.specs.Conditions.{NoBox}
 use Rattle.sj_plain.specs.Settings.{Setting, shown, run, SameState, Valued, valued, Lawful, Holding, holding, Sees}
 use Rattle.sj_plain.proofs.Conditions.{coerced-same}
 use Rattle.sj_bodies.proofs.Blocks.{Outside, Undeclared, block_alike}
-use Rattle.sj_bodies.proofs.Contexts.{Context, Writes, Sound, Ahead, IsOpen, Ready, ready-lift, Keeps, keeps-refl, keeps-trans, Arrives, let_go, stored, Came, gave, left, stopped, equals, is-equal, started-here, started-other, started-inside, started-ready, started-keeps}
+use Rattle.sj_bodies.proofs.Contexts.{Context, Writes, Sound, Ahead, IsOpen, Ready, ready-lift, Keeps, Goes, Less, keeps-less, less-trans, keeps-fewer, keeps-refl, keeps-trans, Arrives, let_go, stored, Came, gave, left, stopped, equals, is-equal, started-here, started-other, started-inside, started-ready, started-keeps}
 use Rattle.sj_bodies.specs.Fine.{FitsIn}
 use Rattle.sj_names.proofs.Same.{impossible}
 use Rattle.sj_plain.proofs.Orders.{OperandAlike, OperandsAlike, no_operands, more_operands, in_order_alike, ActsAlike}
-use Rattle.sj_bodies.proofs.Spills.{keeping, writing, Extends, extends-refl, Final, OperandsDo, runs, operands_in, count, none_left, one_left, spill_does, numbered-named, numbered-same}
+use Rattle.sj_bodies.proofs.Spills.{keeping, writing, Extends, extends-refl, Final, OperandsDo, Piece, runs, operands_in, count, none_left, one_left, spill_does, numbered-named, numbered-same}
 use Rattle.sj_bodies.proofs.Statements.{act_of, ends-one, assigned, started-open, finish_alike, Ends}
 use Rattle.sj_plain.proofs.Worlds.{World, Grows, grows-refl, grows-trans, SameValue, same_undefined, same_null, same_boolean, same_number, same_text, no_values, one_more}
 
@@ -39,7 +39,6 @@ module _ (z : Setting) (lawful : Lawful z) where
   -- a context in which one more variable for an operand may be written
   pub sound-writing : (c : Context) (i : ℕ) → Sound z.is_mutable c → Ahead c i → Sound z.is_mutable (writing c (core.numbered i))
   sound-writing c i sound ahead = record {
-    apart = λ y wr k. ⊎_elim (λ e. ahead.kept i (omega arith) (subst c.kept e k)) (λ h. sound.apart y h k) wr;
     hidden = λ x wr g. ⊎_elim (λ e. numbered-named x i e) (λ h. sound.hidden x h g) wr;
     constant = sound.constant;
     changing = sound.changing;
@@ -59,7 +58,7 @@ module _ (z : Setting) (lawful : Lawful z) where
   ahead-later c i j l ahead = record { writable = λ k h. ahead.writable k (omega arith); kept = λ k h. ahead.kept k (omega arith) }
 
   -- operands of a form, and what is made of them
-  pub of_operands : (c : Context) (k : Destination) (ts : List Term) (j : ℕ) (act : List ir.Value → ir.Run) (made : List core.Expression → ℕ → Code) → Sound z.is_mutable c → Ahead c j → OperandsDo z lawful c j ts → ((w : World) (sc : js.Scope) → Final z lawful c k w sc c.kept j sc w (count z lawful ts) act made) → (w : World) (env : ir.Env) (s : ir.State) (sc : js.Scope) (u : js.State) → Ready z.place c.scope c.writable w env sc → SameState z.place w s u → Ends z lawful c c.scope k w sc (ir_meaning.in_order (runs z lawful ts) act env s) (then_use (spill (operands_in z lawful c.targets ts) j) made).statements sc u
+  pub of_operands : (c : Context) (k : Destination) (ts : List Piece) (j : ℕ) (act : List ir.Value → ir.Run) (made : List core.Expression → ℕ → Code) → Sound z.is_mutable c → Ahead c j → OperandsDo z lawful c j ts → ((w : World) (sc : js.Scope) → Final z lawful c k w sc c.kept j sc w (count z lawful ts) act made) → (w : World) (env : ir.Env) (s : ir.State) (sc : js.Scope) (u : js.State) → Ready z.place c.scope c.writable w env sc → SameState z.place w s u → Ends z lawful c c.scope k w sc (ir_meaning.in_order (runs z lawful ts) act env s) (then_use (spill (operands_in z lawful ts) j) made).statements sc u
   of_operands c k ts j act made sound ahead ds final w env s sc u r same = spill_does z lawful c k w sc ts c.kept j act made w env s sc u ds (extends-refl c) sound ahead (final w sc) (grows-refl w) r (keeps-refl z c.kept sc) same
 
   -- one operand
@@ -86,7 +85,7 @@ module _ (z : Setting) (lawful : Lawful z) where
 
   -- what gives a value at once and writes nothing
   pub silent : (c : Context) (w : World) (v : ir.Value) (env : ir.Env) (s : ir.State) (sc : js.Scope) (u : js.State) → Ready z.place c.scope c.writable w env sc → SameState z.place w s u → Ends z lawful c c.scope discard w sc (done (ir.ends (ir.gives v) env s)) core.no_statements sc u
-  silent c w v env s sc u r same = sim_done z.direction (Came z.place c c.scope discard w sc) (ir.ends (ir.gives v) env s) (js.ends js.normally sc u) (gave w v env s sc u js.normally (grows-refl w) let_go r (keeps-refl z c.kept sc) same)
+  silent c w v env s sc u r same = sim_done z.direction (Came z.place c c.scope discard w sc) (ir.ends (ir.gives v) env s) (js.ends js.normally sc u) (gave w v env s sc u js.normally (grows-refl w) let_go r (keeps-less z c.kept discard sc sc (keeps-refl z c.kept sc)) same)
 
   -- a tree that gives a value at once, and whose expression stands for it
   pub quiet_alike : (c : Context) (k : Destination) (p : Position) (t : IrType) (e : core.Expression) (j : ℕ) → Sound z.is_mutable c → Writes c.writable k → FitsIn k t → (w : World) (env : ir.Env) (s : ir.State) (sc : js.Scope) (u : js.State) (o : Out ir.Ended) (v : ir.Value) → o ≡ done (ir.ends (ir.gives v) env s) → Ready z.place c.scope c.writable w env sc → SameState z.place w s u → Sim z.direction (Valued z.place w env) o (shown z e sc u) → Ends z lawful c c.scope k w sc o (finish k p t true e j).statements sc u
@@ -134,7 +133,7 @@ module _ (z : Setting) (lawful : Lawful z) where
       open_here _ _ (holding v q a) = record { value = q; is = refl }
 
       goes : (y : World) (v : ir.Value) (q : js.Value) (s : ir.State) (u : js.State) → Grows w y → SameValue y v q → SameState z.place y s u → Sim z.direction (Came z.place c c.scope discard from before) (done (ir.ends (ir.gives ir.undefined) (ir_meaning.set_local x v env) s)) (js_meaning.assign z.place.program (z.place.name (core.named x)) q (sc.bindings (z.place.name (core.named x))) sc u)
-      goes y v q s u h a same = subst (λ o. Sim z.direction (Came z.place c c.scope discard from before) (done (ir.ends (ir.gives ir.undefined) (ir_meaning.set_local x v env) s)) o) (sym (assigned z lawful (core.named x) q sc u (open_here (env.locals x) (sc.bindings (z.place.name (core.named x))) (ready.sees.locals x inside)))) (sim_done z.direction (Came z.place c c.scope discard from before) (ir.ends (ir.gives ir.undefined) (ir_meaning.set_local x v env) s) (js.ends js.normally (js_meaning.start false (z.place.name (core.named x)) q sc) u) (gave y ir.undefined (ir_meaning.set_local x v env) s (js_meaning.start false (z.place.name (core.named x)) q sc) u js.normally (grows-trans from w y g h) let_go (narrower (λ a. (a ≡ x) ⊎ c.scope a) c.scope c.writable y (ir_meaning.set_local x v env) (js_meaning.start false (z.place.name (core.named x)) q sc) (λ a i. inr i) (set-ready c.scope c.writable x y v q env sc a (ready-lift z c.scope c.writable w y env sc h ready))) (keeps-trans z c.kept before sc (js_meaning.start false (z.place.name (core.named x)) q sc) ks (started-keeps z lawful c.kept false (core.named x) q sc (λ k. impossible (absurd (sound.changing x k mutable))))) same))
+      goes y v q s u h a same = subst (λ o. Sim z.direction (Came z.place c c.scope discard from before) (done (ir.ends (ir.gives ir.undefined) (ir_meaning.set_local x v env) s)) o) (sym (assigned z lawful (core.named x) q sc u (open_here (env.locals x) (sc.bindings (z.place.name (core.named x))) (ready.sees.locals x inside)))) (sim_done z.direction (Came z.place c c.scope discard from before) (ir.ends (ir.gives ir.undefined) (ir_meaning.set_local x v env) s) (js.ends js.normally (js_meaning.start false (z.place.name (core.named x)) q sc) u) (gave y ir.undefined (ir_meaning.set_local x v env) s (js_meaning.start false (z.place.name (core.named x)) q sc) u js.normally (grows-trans from w y g h) let_go (narrower (λ a. (a ≡ x) ⊎ c.scope a) c.scope c.writable y (ir_meaning.set_local x v env) (js_meaning.start false (z.place.name (core.named x)) q sc) (λ a i. inr i) (set-ready c.scope c.writable x y v q env sc a (ready-lift z c.scope c.writable w y env sc h ready))) (keeps-less z c.kept discard before (js_meaning.start false (z.place.name (core.named x)) q sc) (keeps-trans z c.kept before sc (js_meaning.start false (z.place.name (core.named x)) q sc) ks (started-keeps z lawful c.kept false (core.named x) q sc (λ k. impossible (absurd (sound.changing x inside k mutable)))))) same))
 
   -- a line of output
   log_acts : (w : World) (env : ir.Env) (sc : js.Scope) → ActsAlike z w w env ir_meaning.log js_meaning.log sc
@@ -154,12 +153,12 @@ module _ (z : Setting) (lawful : Lawful z) where
   log_final c p j from before n r e w env s sc u ahead l g ready ks same operand = ends-one z lawful c c.scope discard from before (ir_meaning.in_order (r ∷ []) ir_meaning.log env s) (core.log_of (Some p) e) sc u (subst (λ o. Sim z.direction (Came z.place c c.scope discard from before) o (then_do (js_meaning.in_order (shown z e ∷ []) js_meaning.log sc u) (js.in_statement sc (λ v. js_meaning.nothing sc)))) (then_do-right (ir_meaning.in_order (r ∷ []) ir_meaning.log env s)) (sim_then z.direction (Valued z.place w env) (Came z.place c c.scope discard from before) (ir_meaning.in_order (r ∷ []) ir_meaning.log env s) (js_meaning.in_order (shown z e ∷ []) js_meaning.log sc u) done (js.in_statement sc (λ v. js_meaning.nothing sc)) (in_order_alike z w w env sc w (r ∷ []) (shown z e ∷ []) ir_meaning.log js_meaning.log (more_operands r (shown z e) [] [] operand no_operands) (log_acts w env sc) w s u (grows-refl w) (grows-refl w) same) each))
     where
       each : (a : ir.Ended) (b : js.ExpressionEnd) → Valued z.place w env a b → Sim z.direction (Came z.place c c.scope discard from before) (done a) (js.in_statement sc (λ v. js_meaning.nothing sc) b)
-      each _ _ (valued y v x s u h a same) = sim_done z.direction (Came z.place c c.scope discard from before) (ir.ends (ir.gives v) env s) (js.ends js.normally sc u) (gave y v env s sc u js.normally (grows-trans from w y g h) let_go (ready-lift z c.scope c.writable w y env sc h ready) ks same)
+      each _ _ (valued y v x s u h a same) = sim_done z.direction (Came z.place c c.scope discard from before) (ir.ends (ir.gives v) env s) (js.ends js.normally sc u) (gave y v env s sc u js.normally (grows-trans from w y g h) let_go (ready-lift z c.scope c.writable w y env sc h ready) (keeps-less z c.kept discard before sc ks) same)
 
   -- the same, seen from an earlier world and scope
   pub came-rebase : (c : Context) (scope : List ℕ → Type 0) (k : Destination) (from y : World) (before sc : js.Scope) → Grows from y → Keeps z.place c.kept before sc → (a : ir.Ended) (b : js.StatementEnd) → Came z.place c scope k y sc a b → Came z.place c scope k from before a b
-  came-rebase c scope k from y before sc g ks _ _ (gave w v env s sc' u e h a r kp same) = gave w v env s sc' u e (grows-trans from y w g h) a r (keeps-trans z c.kept before sc sc' ks kp) same
-  came-rebase c scope k from y before sc g ks _ _ (left w l v env s sc' u e h a r kp same) = left w l v env s sc' u e (grows-trans from y w g h) a r (keeps-trans z c.kept before sc sc' ks kp) same
+  came-rebase c scope k from y before sc g ks _ _ (gave w v env s sc' u e h a r kp same) = gave w v env s sc' u e (grows-trans from y w g h) a r (less-trans z c.kept k before sc sc' ks kp) same
+  came-rebase c scope k from y before sc g ks _ _ (left w l v env s sc' u e h a r kp same) = left w l v env s sc' u e (grows-trans from y w g h) a r (less-trans z c.kept (target_of c.targets l) before sc sc' ks kp) same
   came-rebase c scope k from y before sc g ks _ _ (stopped w env s sc' u t h r kp same) = stopped w env s sc' u t (grows-trans from y w g h) r (keeps-trans z c.kept before sc sc' ks kp) same
 
   pub rebased : (c : Context) (scope : List ℕ → Type 0) (k : Destination) (from y : World) (before sc : js.Scope) (o : Out ir.Ended) (q : Out js.StatementEnd) → Grows from y → Keeps z.place c.kept before sc → Sim z.direction (Came z.place c scope k y sc) o q → Sim z.direction (Came z.place c scope k from before) o q
@@ -167,9 +166,9 @@ module _ (z : Setting) (lawful : Lawful z) where
 
   -- the same in a context that keeps more and has more locals in scope
   pub came-narrow : (c d : Context) (inner scope : List ℕ → Type 0) (k : Destination) (from y : World) (before sc : js.Scope) → d.writable ≡ c.writable → d.targets ≡ c.targets → (d.turning → c.turning) → ((x : List ℕ) → c.scope x → d.scope x) → ((x : List ℕ) → scope x → inner x) → ((x : core.Variable) → c.kept x → d.kept x) → Grows from y → Keeps z.place c.kept before sc → (a : ir.Ended) (b : js.StatementEnd) → Came z.place d inner k y sc a b → Came z.place c scope k from before a b
-  came-narrow c d inner scope k from y before sc q t turn out sub more g ks _ _ (gave w v env s sc' u e h a r kp same) = gave w v env s sc' u e (grows-trans from y w g h) a (subst (λ x. Ready z.place scope x w env sc') q (narrower inner scope d.writable w env sc' sub r)) (keeps-trans z c.kept before sc sc' ks (record { same = λ x i. kp.same x (more x i) })) same
-  came-narrow c d inner scope k from y before sc q t turn out sub more g ks _ _ (left w l v env s sc' u e h a r kp same) = left w l v env s sc' u e (grows-trans from y w g h) (subst (λ x. Arrives z.place w v sc' (js.breaks (z.place.label l)) (target_of x l) e) t a) (subst (λ x. Ready z.place c.scope x w env sc') q (narrower d.scope c.scope d.writable w env sc' out r)) (keeps-trans z c.kept before sc sc' ks (record { same = λ x i. kp.same x (more x i) })) same
-  came-narrow c d inner scope k from y before sc q t turn out sub more g ks _ _ (stopped w env s sc' u h0 h r kp same) = stopped w env s sc' u (turn h0) (grows-trans from y w g h) (subst (λ x. Ready z.place c.scope x w env sc') q (narrower d.scope c.scope d.writable w env sc' out r)) (keeps-trans z c.kept before sc sc' ks (record { same = λ x i. kp.same x (more x i) })) same
+  came-narrow c d inner scope k from y before sc q t turn out sub more g ks _ _ (gave w v env s sc' u e h a r kp same) = gave w v env s sc' u e (grows-trans from y w g h) a (subst (λ x. Ready z.place scope x w env sc') q (narrower inner scope d.writable w env sc' sub r)) (less-trans z c.kept k before sc sc' ks (keeps-fewer z (Less d.kept k) (Less c.kept k) sc sc' (λ y i. (more y i.0, i.1)) kp)) same
+  came-narrow c d inner scope k from y before sc q t turn out sub more g ks _ _ (left w l v env s sc' u e h a r kp same) = left w l v env s sc' u e (grows-trans from y w g h) (subst (λ x. Arrives z.place w v sc' (js.breaks (z.place.label l)) (target_of x l) e) t a) (subst (λ x. Ready z.place c.scope x w env sc') q (narrower d.scope c.scope d.writable w env sc' out r)) (less-trans z c.kept (target_of c.targets l) before sc sc' ks (keeps-fewer z (Less d.kept (target_of d.targets l)) (Less c.kept (target_of c.targets l)) sc sc' (λ y i. (more y i.0, subst (λ x. Goes (target_of x l) y → ⊥) (sym t) i.1)) kp)) same
+  came-narrow c d inner scope k from y before sc q t turn out sub more g ks _ _ (stopped w env s sc' u h0 h r kp same) = stopped w env s sc' u (turn h0) (grows-trans from y w g h) (subst (λ x. Ready z.place c.scope x w env sc') q (narrower d.scope c.scope d.writable w env sc' out r)) (keeps-trans z c.kept before sc sc' ks (keeps-fewer z d.kept c.kept sc sc' more kp)) same
 
   -- a branch by a condition: both branches stand in blocks of their own
   choice_shown : (e : core.Expression) (a b : core.Statements) (sc : js.Scope) (u : js.State) (p : Position) → act_of z (core.if_of (Some p) e a b) sc u ≡ then_do (shown z e sc u) (js.in_statement sc (λ v. js_meaning.taken (js_meaning.in_block (statement_templates z.place.name z.place.label a) (run z a)) (js_meaning.in_block (statement_templates z.place.name z.place.label b) (run z b)) v sc))
@@ -188,14 +187,11 @@ module _ (z : Setting) (lawful : Lawful z) where
       goes : (y : World) (v : ir.Value) (x : js.Value) (s : ir.State) (u : js.State) → Grows w y → SameValue y v x → SameState z.place y s u → Sim z.direction (Came z.place c c.scope k from before) (ir_meaning.branch first second (v ∷ []) env s) (js_meaning.taken (js_meaning.in_block (statement_templates z.place.name z.place.label (a i).statements) (run z (a i).statements)) (js_meaning.in_block (statement_templates z.place.name z.place.label (b (a i).next).statements) (run z (b (a i).next).statements)) x sc u)
       goes y _ _ s u h (same_boolean true) same = rebased c c.scope k from y before sc (first env s) (js_meaning.in_block (statement_templates z.place.name z.place.label (a i).statements) (run z (a i).statements) sc u) (grows-trans from w y g h) ks (block_alike z lawful c (a i).statements (free_a i l ahead) k y env sc u (first env s) sound wr (ready-lift z c.scope c.writable w y env sc h ready) (λ inner. does_a i l ahead y env s (js_meaning.enter (statement_templates z.place.name z.place.label (a i).statements) sc) u inner same))
       goes y _ _ s u h (same_boolean false) same = rebased c c.scope k from y before sc (second env s) (js_meaning.in_block (statement_templates z.place.name z.place.label (b (a i).next).statements) (run z (b (a i).next).statements) sc u) (grows-trans from w y g h) ks (block_alike z lawful c (b (a i).next).statements (free_b (a i).next later behind) k y env sc u (second env s) sound wr (ready-lift z c.scope c.writable w y env sc h ready) (λ inner. does_b (a i).next later behind y env s (js_meaning.enter (statement_templates z.place.name z.place.label (b (a i).next).statements) sc) u inner same))
-      goes y _ _ s u h same_undefined same = sim_wrong z.direction (Came z.place c c.scope k from before) _
-      goes y _ _ s u h same_null same = sim_wrong z.direction (Came z.place c c.scope k from before) _
-      goes y _ _ s u h (same_number n f) same = sim_wrong z.direction (Came z.place c c.scope k from before) _
-      goes y _ _ s u h (same_text us) same = sim_wrong z.direction (Came z.place c c.scope k from before) _
+      goes y _ _ s u h _ same = sim_wrong z.direction (Came z.place c c.scope k from before) _
 
   -- a definition: the local holds its first value, and is in scope behind it
   define_plain : (c : Context) (p : Position) (x : List ℕ) (t : IrType) (r : ir.Run) (e : core.Expression) → Sound z.is_mutable c → (c.kept (core.named x) → ⊥) → (w : World) (env : ir.Env) (s : ir.State) (sc : js.Scope) (u : js.State) → Ready z.place c.scope c.writable w env sc → SameState z.place w s u → OperandAlike z w env sc r (shown z e) → Ends z lawful c (λ y. (y ≡ x) ⊎ c.scope y) discard w sc (ir_meaning.in_order (r ∷ []) (ir_meaning.define x) env s) (core.statement (core.define_of (Some p) (core.named x) e) core.no_statements) sc u
-  define_plain c p x t r e sound fresh w env s sc u ready same operand = ends-one z lawful c (λ y. (y ≡ x) ⊎ c.scope y) discard w sc (ir_meaning.in_order (r ∷ []) (ir_meaning.define x) env s) (core.define_of (Some p) (core.named x) e) sc u (act_alike (Came z.place c (λ y. (y ≡ x) ⊎ c.scope y) discard w sc) w env s sc u r e (ir_meaning.define x) (λ v u. done (js.ends js.normally (js_meaning.start false (z.place.name (core.named x)) v sc) u)) operand same (λ y v q s u h a same. sim_done z.direction (Came z.place c (λ y. (y ≡ x) ⊎ c.scope y) discard w sc) (ir.ends (ir.gives ir.undefined) (ir_meaning.set_local x v env) s) (js.ends js.normally (js_meaning.start false (z.place.name (core.named x)) q sc) u) (gave y ir.undefined (ir_meaning.set_local x v env) s (js_meaning.start false (z.place.name (core.named x)) q sc) u js.normally h let_go (set-ready c.scope c.writable x y v q env sc a (ready-lift z c.scope c.writable w y env sc h ready)) (started-keeps z lawful c.kept false (core.named x) q sc fresh) same)))
+  define_plain c p x t r e sound fresh w env s sc u ready same operand = ends-one z lawful c (λ y. (y ≡ x) ⊎ c.scope y) discard w sc (ir_meaning.in_order (r ∷ []) (ir_meaning.define x) env s) (core.define_of (Some p) (core.named x) e) sc u (act_alike (Came z.place c (λ y. (y ≡ x) ⊎ c.scope y) discard w sc) w env s sc u r e (ir_meaning.define x) (λ v u. done (js.ends js.normally (js_meaning.start false (z.place.name (core.named x)) v sc) u)) operand same (λ y v q s u h a same. sim_done z.direction (Came z.place c (λ y. (y ≡ x) ⊎ c.scope y) discard w sc) (ir.ends (ir.gives ir.undefined) (ir_meaning.set_local x v env) s) (js.ends js.normally (js_meaning.start false (z.place.name (core.named x)) q sc) u) (gave y ir.undefined (ir_meaning.set_local x v env) s (js_meaning.start false (z.place.name (core.named x)) q sc) u js.normally h let_go (set-ready c.scope c.writable x y v q env sc a (ready-lift z c.scope c.writable w y env sc h ready)) (keeps-less z c.kept discard sc (js_meaning.start false (z.place.name (core.named x)) q sc) (started-keeps z lawful c.kept false (core.named x) q sc fresh)) same)))
 
   -- the context in which a local is being defined
   abbrev pub defining : Context → List ℕ → Context
@@ -215,13 +211,12 @@ module _ (z : Setting) (lawful : Lawful z) where
       open1 y (inr h) = r1.«open» y h
 
       each : (a : ir.Ended) (b : js.StatementEnd) → Came z.place (defining c x) c.scope (to_variable (core.named x) t) w started a b → Sim z.direction (Came z.place c (λ y. (y ≡ x) ⊎ c.scope y) discard w sc) (ir.onward (λ v. ir_meaning.in_order [] (λ vs. ir_meaning.define x (v ∷ vs))) a) (done b)
-      each _ _ (gave y v env' s' sc2 u' _ h (stored _ _ q a e) r2 k2 states) = sim_done z.direction (Came z.place c (λ y. (y ≡ x) ⊎ c.scope y) discard w sc) (ir.ends (ir.gives ir.undefined) (ir_meaning.set_local x v env') s') (js.ends js.normally sc2 u') (gave y ir.undefined (ir_meaning.set_local x v env') s' sc2 u' js.normally h let_go (record { sees = record { inside = r2.sees.inside; locals = set-locals c.scope x y v q env' sc2 a (λ b d i. r2.sees.locals b i) e }; «open» = λ b i. r2.«open» b (inr i) }) (keeps-trans z c.kept sc started sc2 (started-keeps z lawful c.kept false (core.named x) js.undefined sc fresh) k2) states)
-      each _ _ (left y l v env' s' sc2 u' e h a r2 k2 states) = sim_done z.direction (Came z.place c (λ y. (y ≡ x) ⊎ c.scope y) discard w sc) (ir.ends (ir.leaves l v) env' s') (js.ends e sc2 u') (left y l v env' s' sc2 u' e h a (record { sees = r2.sees; «open» = λ b i. r2.«open» b (inr i) }) (keeps-trans z c.kept sc started sc2 (started-keeps z lawful c.kept false (core.named x) js.undefined sc fresh) k2) states)
+      each _ _ (gave y v env' s' sc2 u' _ h (stored _ _ q a e) r2 k2 states) = sim_done z.direction (Came z.place c (λ y. (y ≡ x) ⊎ c.scope y) discard w sc) (ir.ends (ir.gives ir.undefined) (ir_meaning.set_local x v env') s') (js.ends js.normally sc2 u') (gave y ir.undefined (ir_meaning.set_local x v env') s' sc2 u' js.normally h let_go (record { sees = record { inside = r2.sees.inside; locals = set-locals c.scope x y v q env' sc2 a (λ b d i. r2.sees.locals b i) e }; «open» = λ b i. r2.«open» b (inr i) }) (keeps-less z c.kept discard sc sc2 (keeps-trans z c.kept sc started sc2 (started-keeps z lawful c.kept false (core.named x) js.undefined sc fresh) (keeps-fewer z (Less c.kept (to_variable (core.named x) t)) c.kept started sc2 (λ b i. (i, λ e. fresh (subst c.kept (sym e) i))) k2))) states)
+      each _ _ (left y l v env' s' sc2 u' e h a r2 k2 states) = sim_done z.direction (Came z.place c (λ y. (y ≡ x) ⊎ c.scope y) discard w sc) (ir.ends (ir.leaves l v) env' s') (js.ends e sc2 u') (left y l v env' s' sc2 u' e h a (record { sees = r2.sees; «open» = λ b i. r2.«open» b (inr i) }) (less-trans z c.kept (target_of c.targets l) sc started sc2 (started-keeps z lawful c.kept false (core.named x) js.undefined sc fresh) k2) states)
       each _ _ (stopped y env' s' sc2 u' t h r2 k2 states) = sim_done z.direction (Came z.place c (λ y. (y ≡ x) ⊎ c.scope y) discard w sc) (ir.ends ir.stops env' s') (js.ends js.breaks_nearest sc2 u') (stopped y env' s' sc2 u' t h (record { sees = r2.sees; «open» = λ b i. r2.«open» b (inr i) }) (keeps-trans z c.kept sc started sc2 (started-keeps z lawful c.kept false (core.named x) js.undefined sc fresh) k2) states)
 
   pub sound-defining : (c : Context) (x : List ℕ) → Sound z.is_mutable c → (c.scope x → ⊥) → (c.kept (core.named x) → ⊥) → Sound z.is_mutable (defining c x)
   sound-defining c x sound unseen fresh = record {
-    apart = λ y wr k. ⊎_elim (λ e. fresh (subst c.kept e k)) (λ h. sound.apart y h k) wr;
     hidden = λ y wr g. ⊎_elim (λ e. unseen (subst c.scope (cc) g)) (λ h. sound.hidden y h g) wr;
     constant = sound.constant;
     changing = sound.changing;

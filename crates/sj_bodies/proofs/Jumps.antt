@@ -18,7 +18,7 @@ use Rattle.sj_trees.specs.declared.positions.Position.{Position}
 use Rattle.sj_trees.specs.declared.types.IrType.{IrType}
 use Rattle.sj_plain.specs.Settings.{Setting, run, SameState, Lawful}
 use Rattle.sj_bodies.proofs.Blocks.{Undeclared, block_alike}
-use Rattle.sj_bodies.proofs.Contexts.{Context, Writes, Sound, Ready, Arrives, let_go, stored, returned, Came, gave, left, stopped, differs, equals, is-equal}
+use Rattle.sj_bodies.proofs.Contexts.{Context, Writes, Sound, Ready, Keeps, Less, Arrives, let_go, stored, returned, Came, gave, left, stopped, differs, equals, is-equal}
 use Rattle.sj_names.proofs.Same.{impossible}
 use Rattle.sj_bodies.proofs.Statements.{run-followed, leaves_on, ends-one, Ends}
 use Rattle.sj_plain.proofs.Worlds.{World}
@@ -36,7 +36,6 @@ module _ (z : Setting) (lawful : Lawful z) where
 
   pub sound-labelling : (c : Context) (l : List ℕ) (k : Destination) → Sound z.is_mutable c → Writes c.writable k → Sound z.is_mutable (labelling c l k)
   sound-labelling c l k sound wr = record {
-    apart = sound.apart;
     hidden = sound.hidden;
     constant = sound.constant;
     changing = sound.changing;
@@ -67,19 +66,19 @@ module _ (z : Setting) (lawful : Lawful z) where
       passes _ _ (returned t j i) q = absurd (plain t q)
   arrive_block c l k plain w sc _ _ (left y m v env s sc' u e g a r ks same) = go (pointwise nat_eq m l) refl
     where
-      comes : (d : Destination) (e : js.Completion) → Arrives z.place y v sc' (js.breaks (z.place.label m)) d e → k ≡ d → pointwise nat_eq (z.place.label m) (z.place.label l) ≡ true → Sim z.direction (Came z.place c c.scope k w sc) (done (ir.ends (ir.gives v) env s)) (js_meaning.arrive (z.place.label l) (js.ends e sc' u))
-      comes _ _ let_go q h = subst (λ o. Sim z.direction (Came z.place c c.scope k w sc) (done (ir.ends (ir.gives v) env s)) o) (sym (arrive-js l m true sc' u h)) (sim_done z.direction (Came z.place c c.scope k w sc) (ir.ends (ir.gives v) env s) (js.ends js.normally sc' u) (gave y v env s sc' u js.normally g (subst (λ d. Arrives z.place y v sc' js.normally d js.normally) (sym q) let_go) r ks same))
-      comes _ _ (stored x t j i f) q h = subst (λ o. Sim z.direction (Came z.place c c.scope k w sc) (done (ir.ends (ir.gives v) env s)) o) (sym (arrive-js l m true sc' u h)) (sim_done z.direction (Came z.place c c.scope k w sc) (ir.ends (ir.gives v) env s) (js.ends js.normally sc' u) (gave y v env s sc' u js.normally g (subst (λ d. Arrives z.place y v sc' js.normally d js.normally) (sym q) (stored x t j i f)) r ks same))
-      comes _ _ (returned t j i) q h = absurd (plain t q)
+      comes : Keeps z.place (Less c.kept k) sc sc' → (d : Destination) (e : js.Completion) → Arrives z.place y v sc' (js.breaks (z.place.label m)) d e → k ≡ d → pointwise nat_eq (z.place.label m) (z.place.label l) ≡ true → Sim z.direction (Came z.place c c.scope k w sc) (done (ir.ends (ir.gives v) env s)) (js_meaning.arrive (z.place.label l) (js.ends e sc' u))
+      comes held _ _ let_go q h = subst (λ o. Sim z.direction (Came z.place c c.scope k w sc) (done (ir.ends (ir.gives v) env s)) o) (sym (arrive-js l m true sc' u h)) (sim_done z.direction (Came z.place c c.scope k w sc) (ir.ends (ir.gives v) env s) (js.ends js.normally sc' u) (gave y v env s sc' u js.normally g (subst (λ d. Arrives z.place y v sc' js.normally d js.normally) (sym q) let_go) r held same))
+      comes held _ _ (stored x t j i f) q h = subst (λ o. Sim z.direction (Came z.place c c.scope k w sc) (done (ir.ends (ir.gives v) env s)) o) (sym (arrive-js l m true sc' u h)) (sim_done z.direction (Came z.place c c.scope k w sc) (ir.ends (ir.gives v) env s) (js.ends js.normally sc' u) (gave y v env s sc' u js.normally g (subst (λ d. Arrives z.place y v sc' js.normally d js.normally) (sym q) (stored x t j i f)) r held same))
+      comes held _ _ (returned t j i) q h = absurd (plain t q)
 
-      goes_on : (d : Destination) (e : js.Completion) → Arrives z.place y v sc' (js.breaks (z.place.label m)) d e → target_of c.targets m ≡ d → pointwise nat_eq (z.place.label m) (z.place.label l) ≡ false → Sim z.direction (Came z.place c c.scope k w sc) (done (ir.ends (ir.leaves m v) env s)) (js_meaning.arrive (z.place.label l) (js.ends e sc' u))
-      goes_on _ _ let_go q h = subst (λ o. Sim z.direction (Came z.place c c.scope k w sc) (done (ir.ends (ir.leaves m v) env s)) o) (sym (arrive-js l m false sc' u h)) (sim_done z.direction (Came z.place c c.scope k w sc) (ir.ends (ir.leaves m v) env s) (js.ends (js.breaks (z.place.label m)) sc' u) (left y m v env s sc' u (js.breaks (z.place.label m)) g (subst (λ d. Arrives z.place y v sc' (js.breaks (z.place.label m)) d (js.breaks (z.place.label m))) (sym q) let_go) r ks same))
-      goes_on _ _ (stored x t j i f) q h = subst (λ o. Sim z.direction (Came z.place c c.scope k w sc) (done (ir.ends (ir.leaves m v) env s)) o) (sym (arrive-js l m false sc' u h)) (sim_done z.direction (Came z.place c c.scope k w sc) (ir.ends (ir.leaves m v) env s) (js.ends (js.breaks (z.place.label m)) sc' u) (left y m v env s sc' u (js.breaks (z.place.label m)) g (subst (λ d. Arrives z.place y v sc' (js.breaks (z.place.label m)) d (js.breaks (z.place.label m))) (sym q) (stored x t j i f)) r ks same))
-      goes_on _ _ (returned t j i) q h = sim_done z.direction (Came z.place c c.scope k w sc) (ir.ends (ir.leaves m v) env s) (js.ends (js.returns j) sc' u) (left y m v env s sc' u (js.returns j) g (subst (λ d. Arrives z.place y v sc' (js.breaks (z.place.label m)) d (js.returns j)) (sym q) (returned t j i)) r ks same)
+      goes_on : Keeps z.place (Less c.kept (target_of c.targets m)) sc sc' → (d : Destination) (e : js.Completion) → Arrives z.place y v sc' (js.breaks (z.place.label m)) d e → target_of c.targets m ≡ d → pointwise nat_eq (z.place.label m) (z.place.label l) ≡ false → Sim z.direction (Came z.place c c.scope k w sc) (done (ir.ends (ir.leaves m v) env s)) (js_meaning.arrive (z.place.label l) (js.ends e sc' u))
+      goes_on held _ _ let_go q h = subst (λ o. Sim z.direction (Came z.place c c.scope k w sc) (done (ir.ends (ir.leaves m v) env s)) o) (sym (arrive-js l m false sc' u h)) (sim_done z.direction (Came z.place c c.scope k w sc) (ir.ends (ir.leaves m v) env s) (js.ends (js.breaks (z.place.label m)) sc' u) (left y m v env s sc' u (js.breaks (z.place.label m)) g (subst (λ d. Arrives z.place y v sc' (js.breaks (z.place.label m)) d (js.breaks (z.place.label m))) (sym q) let_go) r held same))
+      goes_on held _ _ (stored x t j i f) q h = subst (λ o. Sim z.direction (Came z.place c c.scope k w sc) (done (ir.ends (ir.leaves m v) env s)) o) (sym (arrive-js l m false sc' u h)) (sim_done z.direction (Came z.place c c.scope k w sc) (ir.ends (ir.leaves m v) env s) (js.ends (js.breaks (z.place.label m)) sc' u) (left y m v env s sc' u (js.breaks (z.place.label m)) g (subst (λ d. Arrives z.place y v sc' (js.breaks (z.place.label m)) d (js.breaks (z.place.label m))) (sym q) (stored x t j i f)) r held same))
+      goes_on held _ _ (returned t j i) q h = sim_done z.direction (Came z.place c c.scope k w sc) (ir.ends (ir.leaves m v) env s) (js.ends (js.returns j) sc' u) (left y m v env s sc' u (js.returns j) g (subst (λ d. Arrives z.place y v sc' (js.breaks (z.place.label m)) d (js.returns j)) (sym q) (returned t j i)) r held same)
 
       go : (b : Bool) → pointwise nat_eq m l ≡ b → Sim z.direction (Came z.place c c.scope k w sc) (ir_meaning.arrive l (ir.ends (ir.leaves m v) env s)) (js_meaning.arrive (z.place.label l) (js.ends e sc' u))
-      go true h = subst (λ (b : Bool). Sim z.direction (Came z.place c c.scope k w sc) (if b then ir.given v env s else done (ir.ends (ir.leaves m v) env s)) (js_meaning.arrive (z.place.label l) (js.ends e sc' u))) (sym h) (comes (target_of (record { label = l; goes_to = k } ∷ c.targets) m) e a (sym (same_target c l m k h)) (label-same l m h))
-      go false h = subst (λ (b : Bool). Sim z.direction (Came z.place c c.scope k w sc) (if b then ir.given v env s else done (ir.ends (ir.leaves m v) env s)) (js_meaning.arrive (z.place.label l) (js.ends e sc' u))) (sym h) (goes_on (target_of (record { label = l; goes_to = k } ∷ c.targets) m) e a (sym (other_target c l m k h)) (label-other l m h))
+      go true h = subst (λ (b : Bool). Sim z.direction (Came z.place c c.scope k w sc) (if b then ir.given v env s else done (ir.ends (ir.leaves m v) env s)) (js_meaning.arrive (z.place.label l) (js.ends e sc' u))) (sym h) (comes (subst (λ d. Keeps z.place (Less c.kept d) sc sc') (same_target c l m k h) ks) (target_of (record { label = l; goes_to = k } ∷ c.targets) m) e a (sym (same_target c l m k h)) (label-same l m h))
+      go false h = subst (λ (b : Bool). Sim z.direction (Came z.place c c.scope k w sc) (if b then ir.given v env s else done (ir.ends (ir.leaves m v) env s)) (js_meaning.arrive (z.place.label l) (js.ends e sc' u))) (sym h) (goes_on (subst (λ d. Keeps z.place (Less c.kept d) sc sc') (other_target c l m k h) ks) (target_of (record { label = l; goes_to = k } ∷ c.targets) m) e a (sym (other_target c l m k h)) (label-other l m h))
 
   -- the same where the labelled block is the end of the function, and so has no label in the emitted code
   arrive_end : (c : Context) (l : List ℕ) (t : IrType) (w : World) (sc : js.Scope) (a : ir.Ended) (b : js.StatementEnd) → Came z.place (labelling c l (to_result t)) c.scope (to_result t) w sc a b → Sim z.direction (Came z.place c c.scope (to_result t) w sc) (ir_meaning.arrive l a) (done b)
@@ -93,8 +92,8 @@ module _ (z : Setting) (lawful : Lawful z) where
       comes _ _ (returned i j f) q = returned t j f
 
       go : (b : Bool) → pointwise nat_eq m l ≡ b → Sim z.direction (Came z.place c c.scope (to_result t) w sc) (ir_meaning.arrive l (ir.ends (ir.leaves m v) env s)) (done (js.ends e sc' u))
-      go true h = subst (λ (b : Bool). Sim z.direction (Came z.place c c.scope (to_result t) w sc) (if b then ir.given v env s else done (ir.ends (ir.leaves m v) env s)) (done (js.ends e sc' u))) (sym h) (sim_done z.direction (Came z.place c c.scope (to_result t) w sc) (ir.ends (ir.gives v) env s) (js.ends e sc' u) (gave y v env s sc' u e g (comes (target_of (record { label = l; goes_to = to_result t } ∷ c.targets) m) e a (sym (same_target c l m (to_result t) h))) r ks same))
-      go false h = subst (λ (b : Bool). Sim z.direction (Came z.place c c.scope (to_result t) w sc) (if b then ir.given v env s else done (ir.ends (ir.leaves m v) env s)) (done (js.ends e sc' u))) (sym h) (sim_done z.direction (Came z.place c c.scope (to_result t) w sc) (ir.ends (ir.leaves m v) env s) (js.ends e sc' u) (left y m v env s sc' u e g (subst (λ d. Arrives z.place y v sc' (js.breaks (z.place.label m)) d e) (other_target c l m (to_result t) h) a) r ks same))
+      go true h = subst (λ (b : Bool). Sim z.direction (Came z.place c c.scope (to_result t) w sc) (if b then ir.given v env s else done (ir.ends (ir.leaves m v) env s)) (done (js.ends e sc' u))) (sym h) (sim_done z.direction (Came z.place c c.scope (to_result t) w sc) (ir.ends (ir.gives v) env s) (js.ends e sc' u) (gave y v env s sc' u e g (comes (target_of (record { label = l; goes_to = to_result t } ∷ c.targets) m) e a (sym (same_target c l m (to_result t) h))) r (subst (λ d. Keeps z.place (Less c.kept d) sc sc') (same_target c l m (to_result t) h) ks) same))
+      go false h = subst (λ (b : Bool). Sim z.direction (Came z.place c c.scope (to_result t) w sc) (if b then ir.given v env s else done (ir.ends (ir.leaves m v) env s)) (done (js.ends e sc' u))) (sym h) (sim_done z.direction (Came z.place c c.scope (to_result t) w sc) (ir.ends (ir.leaves m v) env s) (js.ends e sc' u) (left y m v env s sc' u e g (subst (λ d. Arrives z.place y v sc' (js.breaks (z.place.label m)) d e) (other_target c l m (to_result t) h) a) r (subst (λ d. Keeps z.place (Less c.kept d) sc sc') (other_target c l m (to_result t) h) ks) same))
 
   block_labeled : (c : Context) (l : List ℕ) (k : Destination) (plain : (t : IrType) → k ≡ to_result t → ⊥) (p : Position) (r : ir.Run) (code : Code) → Sound z.is_mutable (labelling c l k) → Writes c.writable k → Undeclared (labelling c l k) code.statements → ((w : World) (env : ir.Env) (s : ir.State) (sc : js.Scope) (u : js.State) → Ready z.place c.scope c.writable w env sc → SameState z.place w s u → Sim z.direction (Came z.place (labelling c l k) c.scope k w sc) (r env s) (run z code.statements sc u)) → (w : World) (env : ir.Env) (s : ir.State) (sc : js.Scope) (u : js.State) → Ready z.place c.scope c.writable w env sc → SameState z.place w s u → Ends z lawful c c.scope k w sc (then_do (r env s) (ir_meaning.arrive l)) (core.statement (core.labeled_of (Some p) l code.statements) core.no_statements) sc u
   block_labeled c l k plain p r code sound wr free does w env s sc u ready same = ends-one z lawful c c.scope k w sc (then_do (r env s) (ir_meaning.arrive l)) (core.labeled_of (Some p) l code.statements) sc u (sim_then z.direction (Came z.place (labelling c l k) c.scope k w sc) (Came z.place c c.scope k w sc) (r env s) (js_meaning.in_block (statement_templates z.place.name z.place.label code.statements) (run z code.statements) sc u) (ir_meaning.arrive l) (js_meaning.arrive (z.place.label l)) (block_alike z lawful (labelling c l k) code.statements free k w env sc u (r env s) sound wr ready (λ inner. does w env s (js_meaning.enter (statement_templates z.place.name z.place.label code.statements) sc) u inner same)) (arrive_block c l k plain w sc))
@@ -111,17 +110,17 @@ module _ (z : Setting) (lawful : Lawful z) where
   jump : (c : Context) (k : Destination) (p : Position) (l : List ℕ) (w : World) (sc : js.Scope) (d : Destination) → target_of c.targets l ≡ d → ((t : IrType) → d ≡ to_result t → ⊥) → (a : ir.Ended) (b : js.StatementEnd) → Came z.place c c.scope d w sc a b → Sim z.direction (Came z.place c c.scope k w sc) (leaving l a) (js.next_statement (run z (core.statement (core.leave_label (Some p) l) core.no_statements)) b)
   jump c k p l w sc d t plain _ _ (stopped y env s sc' u h g r ks same) = sim_done z.direction (Came z.place c c.scope k w sc) (ir.ends ir.stops env s) (js.ends js.breaks_nearest sc' u) (stopped y env s sc' u h g r ks same)
   jump c k p l w sc d t plain _ _ (left y m v env s sc' u e g a r ks same) = leaves_on z lawful c c.scope k w sc (run z (core.statement (core.leave_label (Some p) l) core.no_statements)) y m v env s sc' u e (target_of c.targets m) refl g a r ks same
-  jump c k p l w sc d t plain _ _ (gave y v env s sc' u e g a r ks same) = passes d e a t plain
+  jump c k p l w sc d t plain _ _ (gave y v env s sc' u e g a r ks same) = passes (subst (λ d. Keeps z.place (Less c.kept d) sc sc') (sym t) ks) d e a t plain
     where
-      passes : (d : Destination) (e : js.Completion) → Arrives z.place y v sc' js.normally d e → target_of c.targets l ≡ d → ((t : IrType) → d ≡ to_result t → ⊥) → Sim z.direction (Came z.place c c.scope k w sc) (done (ir.ends (ir.leaves l v) env s)) (js.next_statement (run z (core.statement (core.leave_label (Some p) l) core.no_statements)) (js.ends e sc' u))
-      passes _ _ let_go q plain = sim_done z.direction (Came z.place c c.scope k w sc) (ir.ends (ir.leaves l v) env s) (js.ends (js.breaks (z.place.label l)) sc' u) (left y l v env s sc' u (js.breaks (z.place.label l)) g (subst (λ d. Arrives z.place y v sc' (js.breaks (z.place.label l)) d (js.breaks (z.place.label l))) (sym q) let_go) r ks same)
-      passes _ _ (stored x i j f h) q plain = sim_done z.direction (Came z.place c c.scope k w sc) (ir.ends (ir.leaves l v) env s) (js.ends (js.breaks (z.place.label l)) sc' u) (left y l v env s sc' u (js.breaks (z.place.label l)) g (subst (λ d. Arrives z.place y v sc' (js.breaks (z.place.label l)) d (js.breaks (z.place.label l))) (sym q) (stored x i j f h)) r ks same)
-      passes _ _ (returned i j f) q plain = absurd (plain i refl)
+      passes : Keeps z.place (Less c.kept (target_of c.targets l)) sc sc' → (d : Destination) (e : js.Completion) → Arrives z.place y v sc' js.normally d e → target_of c.targets l ≡ d → ((t : IrType) → d ≡ to_result t → ⊥) → Sim z.direction (Came z.place c c.scope k w sc) (done (ir.ends (ir.leaves l v) env s)) (js.next_statement (run z (core.statement (core.leave_label (Some p) l) core.no_statements)) (js.ends e sc' u))
+      passes held _ _ let_go q plain = sim_done z.direction (Came z.place c c.scope k w sc) (ir.ends (ir.leaves l v) env s) (js.ends (js.breaks (z.place.label l)) sc' u) (left y l v env s sc' u (js.breaks (z.place.label l)) g (subst (λ d. Arrives z.place y v sc' (js.breaks (z.place.label l)) d (js.breaks (z.place.label l))) (sym q) let_go) r held same)
+      passes held _ _ (stored x i j f h) q plain = sim_done z.direction (Came z.place c c.scope k w sc) (ir.ends (ir.leaves l v) env s) (js.ends (js.breaks (z.place.label l)) sc' u) (left y l v env s sc' u (js.breaks (z.place.label l)) g (subst (λ d. Arrives z.place y v sc' (js.breaks (z.place.label l)) d (js.breaks (z.place.label l))) (sym q) (stored x i j f h)) r held same)
+      passes held _ _ (returned i j f) q plain = absurd (plain i refl)
 
   jump_end : (c : Context) (k : Destination) (l : List ℕ) (w : World) (sc : js.Scope) (i : IrType) → target_of c.targets l ≡ to_result i → (a : ir.Ended) (b : js.StatementEnd) → Came z.place c c.scope (to_result i) w sc a b → Sim z.direction (Came z.place c c.scope k w sc) (leaving l a) (done b)
   jump_end c k l w sc i t _ _ (stopped y env s sc' u h g r ks same) = sim_done z.direction (Came z.place c c.scope k w sc) (ir.ends ir.stops env s) (js.ends js.breaks_nearest sc' u) (stopped y env s sc' u h g r ks same)
   jump_end c k l w sc i t _ _ (left y m v env s sc' u e g a r ks same) = sim_done z.direction (Came z.place c c.scope k w sc) (ir.ends (ir.leaves m v) env s) (js.ends e sc' u) (left y m v env s sc' u e g a r ks same)
-  jump_end c k l w sc i t _ _ (gave y v env s sc' u _ g (returned _ j f) r ks same) = sim_done z.direction (Came z.place c c.scope k w sc) (ir.ends (ir.leaves l v) env s) (js.ends (js.returns j) sc' u) (left y l v env s sc' u (js.returns j) g (subst (λ d. Arrives z.place y v sc' (js.breaks (z.place.label l)) d (js.returns j)) (sym t) (returned i j f)) r ks same)
+  jump_end c k l w sc i t _ _ (gave y v env s sc' u _ g (returned _ j f) r ks same) = sim_done z.direction (Came z.place c c.scope k w sc) (ir.ends (ir.leaves l v) env s) (js.ends (js.returns j) sc' u) (left y l v env s sc' u (js.returns j) g (subst (λ d. Arrives z.place y v sc' (js.breaks (z.place.label l)) d (js.returns j)) (sym t) (returned i j f)) r (subst (λ d. Keeps z.place (Less c.kept d) sc sc') (sym t) ks) same)
 
   pub return_alike : (c : Context) (k d : Destination) (p : Position) (l : List ℕ) (r : ir.Run) (code : Code) → target_of c.targets l ≡ d → (w : World) (env : ir.Env) (s : ir.State) (sc : js.Scope) (u : js.State) → Sim z.direction (Came z.place c c.scope d w sc) (r env s) (run z code.statements sc u) → Ends z lawful c c.scope k w sc (ir_meaning.in_order (r ∷ []) (ir_meaning.leave l) env s) (leaving_code d p l code).statements sc u
   return_alike c k discard p l r code t w env s sc u alike = subst (λ o. Sim z.direction (Came z.place c c.scope k w sc) (then_do (r env s) (leaving l)) o) (sym (run-followed z code.statements (core.statement (core.leave_label (Some p) l) core.no_statements) sc u)) (sim_then z.direction (Came z.place c c.scope discard w sc) (Came z.place c c.scope k w sc) (r env s) (run z code.statements sc u) (leaving l) (js.next_statement (run z (core.statement (core.leave_label (Some p) l) core.no_statements))) alike (jump c k p l w sc discard t (λ i e. absurd (cc))))

@@ -15,7 +15,7 @@ use Rattle.sj_emit_expr.specs.Templates.{statement_templates}
 use Rattle.sj_trees.specs.declared.positions.Position.{Position}
 use Rattle.sj_plain.specs.Settings.{Setting, shown, run, SameState, Valued, valued, Lawful}
 use Rattle.sj_bodies.proofs.Blocks.{Undeclared, block_alike}
-use Rattle.sj_bodies.proofs.Contexts.{Context, Sound, Ahead, Ready, ready-lift, Keeps, keeps-refl, Arrives, let_go, stored, returned, Came, gave, left, stopped}
+use Rattle.sj_bodies.proofs.Contexts.{Context, Sound, Ahead, Ready, ready-lift, Keeps, Less, keeps-less, keeps-all, keeps-refl, Arrives, let_go, stored, returned, Came, gave, left, stopped}
 use Rattle.sj_bodies.specs.Fine.{IsDiscard, is_discard}
 use Rattle.sj_bodies.proofs.Forms.{OneFinal, rebased}
 use Rattle.sj_plain.proofs.Orders.{OperandAlike}
@@ -35,22 +35,22 @@ module _ (z : Setting) (lawful : Lawful z) where
   abbrev pub Alike : Context → Destination → ir.Run → js.Execution → Type 0
   Alike c k r x = (w : World) (env : ir.Env) (s : ir.State) (sc : js.Scope) (u : js.State) → Ready z.place c.scope c.writable w env sc → SameState z.place w s u → Sim z.direction (Came z.place c c.scope k w sc) (r env s) (x sc u)
 
-  passes : (c : Context) (k : Destination) (w : World) (sc : js.Scope) (next : js.Execution) (y : World) (l : List ℕ) (v : ir.Value) (env : ir.Env) (s : ir.State) (sc' : js.Scope) (u : js.State) (e : js.Completion) (d : Destination) → target_of c.targets l ≡ d → Grows w y → Arrives z.place y v sc' (js.breaks (z.place.label l)) d e → Ready z.place c.scope c.writable y env sc' → Keeps z.place c.kept sc sc' → SameState z.place y s u → Sim z.direction (Came z.place c c.scope k w sc) (done (ir.ends (ir.leaves l v) env s)) (js_meaning.next_turn next (js.ends e sc' u))
+  passes : (c : Context) (k : Destination) (w : World) (sc : js.Scope) (next : js.Execution) (y : World) (l : List ℕ) (v : ir.Value) (env : ir.Env) (s : ir.State) (sc' : js.Scope) (u : js.State) (e : js.Completion) (d : Destination) → target_of c.targets l ≡ d → Grows w y → Arrives z.place y v sc' (js.breaks (z.place.label l)) d e → Ready z.place c.scope c.writable y env sc' → Keeps z.place (Less c.kept (target_of c.targets l)) sc sc' → SameState z.place y s u → Sim z.direction (Came z.place c c.scope k w sc) (done (ir.ends (ir.leaves l v) env s)) (js_meaning.next_turn next (js.ends e sc' u))
   passes c k w sc next y l v env s sc' u _ _ t g let_go r ks same = sim_done z.direction (Came z.place c c.scope k w sc) (ir.ends (ir.leaves l v) env s) (js.ends (js.breaks (z.place.label l)) sc' u) (left y l v env s sc' u (js.breaks (z.place.label l)) g (subst (λ d. Arrives z.place y v sc' (js.breaks (z.place.label l)) d (js.breaks (z.place.label l))) (sym t) let_go) r ks same)
   passes c k w sc next y l v env s sc' u _ _ t g (stored x i j q h) r ks same = sim_done z.direction (Came z.place c c.scope k w sc) (ir.ends (ir.leaves l v) env s) (js.ends (js.breaks (z.place.label l)) sc' u) (left y l v env s sc' u (js.breaks (z.place.label l)) g (subst (λ d. Arrives z.place y v sc' (js.breaks (z.place.label l)) d (js.breaks (z.place.label l))) (sym t) (stored x i j q h)) r ks same)
   passes c k w sc next y l v env s sc' u _ _ t g (returned i j q) r ks same = sim_done z.direction (Came z.place c c.scope k w sc) (ir.ends (ir.leaves l v) env s) (js.ends (js.returns j) sc' u) (left y l v env s sc' u (js.returns j) g (subst (λ d. Arrives z.place y v sc' (js.breaks (z.place.label l)) d (js.returns j)) (sym t) (returned i j q)) r ks same)
 
   stops_here : (c : Context) (k : Destination) → IsDiscard k → (w y : World) (env : ir.Env) (s : ir.State) (sc sc' : js.Scope) (u : js.State) → Grows w y → Ready z.place c.scope c.writable y env sc' → Keeps z.place c.kept sc sc' → SameState z.place y s u → Sim z.direction (Came z.place c c.scope k w sc) (ir.given ir.undefined env s) (done (js.ends js.normally sc' u))
-  stops_here c _ is_discard w y env s sc sc' u g r ks same = sim_done z.direction (Came z.place c c.scope discard w sc) (ir.ends (ir.gives ir.undefined) env s) (js.ends js.normally sc' u) (gave y ir.undefined env s sc' u js.normally g let_go r ks same)
+  stops_here c _ is_discard w y env s sc sc' u g r ks same = sim_done z.direction (Came z.place c c.scope discard w sc) (ir.ends (ir.gives ir.undefined) env s) (js.ends js.normally sc' u) (gave y ir.undefined env s sc' u js.normally g let_go r (keeps-less z c.kept discard sc sc' ks) same)
 
   -- behind a turn comes the next, unless the condition doesn't hold any more
   turns : (c : Context) (k : Destination) (next : ir.Run) (js_next : js.Execution) → Alike c k next js_next → (w : World) (sc : js.Scope) (a : ir.Ended) (b : js.StatementEnd) → Came z.place (in_turn c k) c.scope discard w sc a b → Sim z.direction (Came z.place c c.scope k w sc) (ir_meaning.after_turn next a) (js_meaning.next_turn js_next b)
-  turns c k next js_next low w sc _ _ (gave y v env s sc' u _ g let_go r ks same) = rebased z lawful c c.scope k w y sc sc' (next env s) (js_next sc' u) g ks (low y env s sc' u r same)
+  turns c k next js_next low w sc _ _ (gave y v env s sc' u _ g let_go r ks same) = rebased z lawful c c.scope k w y sc sc' (next env s) (js_next sc' u) g (keeps-all z c.kept sc sc' ks) (low y env s sc' u r same)
   turns c k next js_next low w sc _ _ (left y l v env s sc' u e g a r ks same) = passes c k w sc js_next y l v env s sc' u e (target_of c.targets l) refl g a r ks same
   turns c k next js_next low w sc _ _ (stopped y env s sc' u t g r ks same) = stops_here c k t w y env s sc sc' u g r ks same
 
   pub sound-turn : (c : Context) (k : Destination) → Sound z.is_mutable c → Sound z.is_mutable (in_turn c k)
-  sound-turn c k sound = record { apart = sound.apart; hidden = sound.hidden; constant = sound.constant; changing = sound.changing; reached = sound.reached }
+  sound-turn c k sound = record { hidden = sound.hidden; constant = sound.constant; changing = sound.changing; reached = sound.reached }
 
   pub undeclared-turn : (c : Context) (k : Destination) (ss : core.Statements) → Undeclared c ss → Undeclared (in_turn c k) ss
   undeclared-turn c k ss h = record { scope = h.scope; writable = h.writable; kept = h.kept }
@@ -75,10 +75,7 @@ module _ (z : Setting) (lawful : Lawful z) where
       goes : (y : World) (v : ir.Value) (x : js.Value) (s : ir.State) (u : js.State) → Grows w y → SameValue y v x → SameState z.place y s u → Sim z.direction (Came z.place c c.scope discard w sc) (then_do (ir_meaning.branch body stop (v ∷ []) env s) (ir_meaning.after_turn next)) (js_meaning.taken (λ sc s. then_do (js_meaning.in_block (statement_templates z.place.name z.place.label code.statements) (run z code.statements) sc s) (js_meaning.next_turn low_js)) js_meaning.nothing x sc u)
       goes y _ _ s u g (same_boolean true) same = rebased z lawful c c.scope discard w y sc sc (then_do (body env s) (ir_meaning.after_turn next)) (then_do (js_meaning.in_block (statement_templates z.place.name z.place.label code.statements) (run z code.statements) sc u) (js_meaning.next_turn low_js)) g (keeps-refl z c.kept sc) (turn_alike c discard body next code.statements low_js sound free does alike_low y env s sc u (ready-lift z c.scope c.writable w y env sc g ready) same)
       goes y _ _ s u g (same_boolean false) same = stops_here c discard is_discard w y env s sc sc u g (ready-lift z c.scope c.writable w y env sc g ready) (keeps-refl z c.kept sc) same
-      goes y _ _ s u g same_undefined same = sim_wrong z.direction (Came z.place c c.scope discard w sc) _
-      goes y _ _ s u g same_null same = sim_wrong z.direction (Came z.place c c.scope discard w sc) _
-      goes y _ _ s u g (same_number n f) same = sim_wrong z.direction (Came z.place c c.scope discard w sc) _
-      goes y _ _ s u g (same_text us) same = sim_wrong z.direction (Came z.place c c.scope discard w sc) _
+      goes y _ _ s u g _ same = sim_wrong z.direction (Came z.place c c.scope discard w sc) _
 
       each : (a : ir.Ended) (b : js.ExpressionEnd) → Valued z.place w env a b → Sim z.direction (Came z.place c c.scope discard w sc) (then_do (ir.onward (λ v. ir_meaning.in_order [] (λ vs. ir_meaning.branch body stop (v ∷ vs))) a) (ir_meaning.after_turn next)) (js.in_statement sc (λ v. js_meaning.taken (λ sc s. then_do (js_meaning.in_block (statement_templates z.place.name z.place.label code.statements) (run z code.statements) sc s) (js_meaning.next_turn low_js)) js_meaning.nothing v sc) b)
       each _ _ (valued y v x s u g a same) = goes y v x s u g a same
@@ -109,10 +106,7 @@ module _ (z : Setting) (lawful : Lawful z) where
       goes : (y : World) (v : ir.Value) (x : js.Value) (s : ir.State) (u : js.State) → Grows w y → SameValue y v x → SameState z.place y s u → Sim z.direction (Came z.place (in_turn c k) c.scope discard from before) (ir_meaning.branch first stop (v ∷ []) env s) (then_do (then_do (negates sc x u) (js.in_statement sc (breaks_if sc))) (js.next_statement rest))
       goes y _ _ s u h (same_boolean true) same = rebased z lawful (in_turn c k) c.scope discard from y before sc (first env s) (rest sc u) (grows-trans from w y g h) ks (does i l ahead y env s sc u (ready-lift z c.scope c.writable w y env sc h ready) same)
       goes y _ _ s u h (same_boolean false) same = sim_done z.direction (Came z.place (in_turn c k) c.scope discard from before) (ir.ends ir.stops env s) (js.ends js.breaks_nearest sc u) (stopped y env s sc u stops (grows-trans from w y g h) (ready-lift z c.scope c.writable w y env sc h ready) ks same)
-      goes y _ _ s u h same_undefined same = sim_wrong z.direction (Came z.place (in_turn c k) c.scope discard from before) _
-      goes y _ _ s u h same_null same = sim_wrong z.direction (Came z.place (in_turn c k) c.scope discard from before) _
-      goes y _ _ s u h (same_number n f) same = sim_wrong z.direction (Came z.place (in_turn c k) c.scope discard from before) _
-      goes y _ _ s u h (same_text us) same = sim_wrong z.direction (Came z.place (in_turn c k) c.scope discard from before) _
+      goes y _ _ s u h _ same = sim_wrong z.direction (Came z.place (in_turn c k) c.scope discard from before) _
 
       each : (a : ir.Ended) (b : js.ExpressionEnd) → Valued z.place w env a b → Sim z.direction (Came z.place (in_turn c k) c.scope discard from before) (onward_first a) (then_do (then_do (js.with_value (negates sc) b) (js.in_statement sc (breaks_if sc))) (js.next_statement rest))
       each _ _ (valued y v x s u h a same) = goes y v x s u h a same

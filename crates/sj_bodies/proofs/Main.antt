@@ -33,7 +33,7 @@ use Rattle.sj_names.proofs.Same.{impossible}
 use Rattle.sj_plain.proofs.Plain.{unary_alike, binary_alike}
 use Rattle.sj_bodies.proofs.Spills.{Does, OperandDoes, OperandsDo, numbered-named}
 use Rattle.sj_bodies.proofs.Statements.{run-followed, came_then, finish_alike, Ends}
-use Rattle.sj_bodies.proofs.Trees.{LowAlike, outside-part, behind, go_on-given, FineHere, TreeDoes, operand_does, define_does, quiet, value_of, local_at, finish_one, list_of, call_does, division_does}
+use Rattle.sj_bodies.proofs.Trees.{LowAlike, outside-part, behind, go_on-given, FineHere, TreeDoes, piece, operand_does, define_does, quiet, value_of, local_at, finish_one, list_of, call_does, division_does}
 use Rattle.sj_bodies.proofs.Turns.{while_does, do_does}
 use Rattle.sj_plain.proofs.Worlds.{World, Grows, grows-refl}
 
@@ -47,10 +47,9 @@ module _ (z : Setting) (lawful : Lawful z) (low : LowAlike z) where
 
   sound-behind : (c : Context) (x : List ℕ) → Sound z.is_mutable c → (c.writable (core.named x) → ⊥) → (c.kept (core.named x) → ⊥) → Sound z.is_mutable (behind z c x)
   sound-behind c x sound unwritten fresh = record {
-    apart = λ y wr k. ⊎_elim (λ i. unwritten (subst c.writable i.0 wr)) (λ i. sound.apart y wr i) k;
     hidden = λ y wr g. ⊎_elim (λ i. unwritten (subst (λ a. c.writable (core.named a)) i wr)) (λ i. sound.hidden y wr i) g;
     constant = λ y g m. ⊎_elim (λ i. inl (ap core.named i, subst (λ a. z.is_mutable a ≡ false) i m)) (λ i. inr (sound.constant y i m)) g;
-    changing = λ y k m. ⊎_elim (λ i. let e : y ≡ x = cc in impossible (sym i.1 ∙ subst (λ a. z.is_mutable a ≡ true) e m)) (λ i. sound.changing y i m) k;
+    changing = λ y g k m. ⊎_elim (λ i. let e : y ≡ x = cc in impossible (sym i.1 ∙ subst (λ a. z.is_mutable a ≡ true) e m)) (λ i. ⊎_elim (λ e. fresh (subst (λ a. c.kept (core.named a)) e i)) (λ s. sound.changing y s i m) g) k;
     reached = sound.reached;
   }
 
@@ -71,10 +70,10 @@ module _ (z : Setting) (lawful : Lawful z) (low : LowAlike z) where
   var_by p x t b e does c _ j sound ahead out fine is_discard w env s sc u r same = sim_weaken z.direction (Came z.place c (λ y. (y ≡ x) ⊎ c.scope y) discard w sc) (Came z.place c c.scope discard w sc) (ir_meaning.step z.place.classes z.low (var_def p x t b e) env s) (run z (into z.is_mutable c.targets discard j (var_def p x t b e)).statements sc u) (came-narrow z lawful c c (λ y. (y ≡ x) ⊎ c.scope y) c.scope discard w w sc sc refl refl (λ h. h) (λ x h. h) (λ x h. inr h) (λ x h. h) (grows-refl w) (keeps-refl z c.kept sc)) (define_does z lawful low p x t b e does c j sound ahead out fine w env s sc u r same)
 
   assign_by : (p q : Position) (x : List ℕ) (t : IrType) (e : Term) → TreeDoes z lawful low e → (c : Context) (k : Destination) (j : ℕ) → Sound z.is_mutable c → Ahead c j → Outside c (Own e) → FineHere z lawful low c k (assign p (var_ref q x t) e) → IsDiscard k → Does z lawful c k j (assign p (var_ref q x t) e)
-  assign_by p q x t e does c _ j sound ahead out fine is_discard = of_operands z lawful c discard (e ∷ []) j (ir_meaning.define x) (λ es. one (core.assign_to (Some p) (core.named x) (coerced t (type_of_term e) (first_of es)))) sound ahead (operand_does z lawful low c j e does out fine.4, tt) (one_final z lawful c discard j (ir_meaning.define x) (λ es. one (core.assign_to (Some p) (core.named x) (coerced t (type_of_term e) (first_of es)))) (assign_final z lawful c p x t (type_of_term e) j sound fine.1 fine.2 fine.3))
+  assign_by p q x t e does c _ j sound ahead out fine is_discard = of_operands z lawful c discard (piece z lawful low c.targets e ∷ []) j (ir_meaning.define x) (λ es. one (core.assign_to (Some p) (core.named x) (coerced t (type_of_term e) (first_of es)))) sound ahead (operand_does z lawful low c j e does out fine.4, tt) (one_final z lawful c discard j (ir_meaning.define x) (λ es. one (core.assign_to (Some p) (core.named x) (coerced t (type_of_term e) (first_of es)))) (assign_final z lawful c p x t (type_of_term e) j sound fine.1 fine.2 fine.3))
 
   log_by : (p : Position) (e : Term) → TreeDoes z lawful low e → (c : Context) (k : Destination) (j : ℕ) → Sound z.is_mutable c → Ahead c j → Outside c (Own e) → FineHere z lawful low c k (log_line p e) → IsDiscard k → Does z lawful c k j (log_line p e)
-  log_by p e does c _ j sound ahead out fine is_discard = of_operands z lawful c discard (e ∷ []) j ir_meaning.log (λ es. one (core.log_of (Some p) (first_of es))) sound ahead (operand_does z lawful low c j e does out fine.1, tt) (one_final z lawful c discard j ir_meaning.log (λ es. one (core.log_of (Some p) (first_of es))) (log_final z lawful c p j))
+  log_by p e does c _ j sound ahead out fine is_discard = of_operands z lawful c discard (piece z lawful low c.targets e ∷ []) j ir_meaning.log (λ es. one (core.log_of (Some p) (first_of es))) sound ahead (operand_does z lawful low c j e does out fine.1, tt) (one_final z lawful c discard j ir_meaning.log (λ es. one (core.log_of (Some p) (first_of es))) (log_final z lawful c p j))
 
   labeled_does : (p : Position) (l : List ℕ) (t : IrType) (e : Term) → TreeDoes z lawful low e → TreeDoes z lawful low (labeled p l t e)
   labeled_does p l t e does c k j sound ahead out wr fine = labeled_alike z lawful c l k p (ir_meaning.step z.place.classes z.low e) (into z.is_mutable (record { label = l; goes_to = k } ∷ c.targets) k j e) (sound-labelling z lawful c l k sound wr) wr (undeclared (labelling z lawful c l k) (Own e) j (into z.is_mutable (record { label = l; goes_to = k } ∷ c.targets) k j e).statements (record { scope = out.scope; writable = out.writable; kept = out.kept }) (record { writable = ahead.writable; kept = ahead.kept }) (new z.is_mutable (record { label = l; goes_to = k } ∷ c.targets) e k j)) (does (labelling z lawful c l k) k j (sound-labelling z lawful c l k sound wr) (record { writable = ahead.writable; kept = ahead.kept }) (record { scope = out.scope; writable = out.writable; kept = out.kept }) wr fine)
@@ -83,15 +82,15 @@ module _ (z : Setting) (lawful : Lawful z) (low : LowAlike z) where
   return_does p e l does c k j sound ahead out wr fine w env s sc u r same = return_alike z lawful c k (target_of c.targets l) p l (ir_meaning.step z.place.classes z.low e) (into z.is_mutable c.targets (target_of c.targets l) j e) refl w env s sc u (does c (target_of c.targets l) j sound ahead out (sound.reached l) fine w env s sc u r same)
 
   if_does : (p : Position) (a b d : Term) (t : IrType) → TreeDoes z lawful low a → TreeDoes z lawful low b → TreeDoes z lawful low d → TreeDoes z lawful low (if_then p a b d t)
-  if_does p a b d t does_a does_b does_d c k j sound ahead out wr fine = of_operands z lawful c k (a ∷ []) j (ir_meaning.branch (ir_meaning.step z.place.classes z.low b) (ir_meaning.step z.place.classes z.low d)) (λ es i. branches p (first_of es) (into z.is_mutable c.targets k i b) (λ i. into z.is_mutable c.targets k i d)) sound ahead (operand_does z lawful low c j a does_a (outside-part c (Own (if_then p a b d t)) (Own a) (λ x o. inl o) out) fine.0, tt) (one_final z lawful c k j (ir_meaning.branch (ir_meaning.step z.place.classes z.low b) (ir_meaning.step z.place.classes z.low d)) (λ es i. branches p (first_of es) (into z.is_mutable c.targets k i b) (λ i. into z.is_mutable c.targets k i d)) (if_final z lawful c k p (λ i. into z.is_mutable c.targets k i b) (λ i. into z.is_mutable c.targets k i d) (ir_meaning.step z.place.classes z.low b) (ir_meaning.step z.place.classes z.low d) j sound wr (λ i l. onward z.is_mutable c.targets b k i) (λ i l ah. undeclared c (Own b) i (into z.is_mutable c.targets k i b).statements (outside-part c (Own (if_then p a b d t)) (Own b) (λ x o. inr (inl o)) out) ah (new z.is_mutable c.targets b k i)) (λ i l ah. undeclared c (Own d) i (into z.is_mutable c.targets k i d).statements (outside-part c (Own (if_then p a b d t)) (Own d) (λ x o. inr (inr o)) out) ah (new z.is_mutable c.targets d k i)) (λ i l ah. does_b c k i sound ah (outside-part c (Own (if_then p a b d t)) (Own b) (λ x o. inr (inl o)) out) wr fine.1) (λ i l ah. does_d c k i sound ah (outside-part c (Own (if_then p a b d t)) (Own d) (λ x o. inr (inr o)) out) wr fine.2)))
+  if_does p a b d t does_a does_b does_d c k j sound ahead out wr fine = of_operands z lawful c k (piece z lawful low c.targets a ∷ []) j (ir_meaning.branch (ir_meaning.step z.place.classes z.low b) (ir_meaning.step z.place.classes z.low d)) (λ es i. branches p (first_of es) (into z.is_mutable c.targets k i b) (λ i. into z.is_mutable c.targets k i d)) sound ahead (operand_does z lawful low c j a does_a (outside-part c (Own (if_then p a b d t)) (Own a) (λ x o. inl o) out) fine.0, tt) (one_final z lawful c k j (ir_meaning.branch (ir_meaning.step z.place.classes z.low b) (ir_meaning.step z.place.classes z.low d)) (λ es i. branches p (first_of es) (into z.is_mutable c.targets k i b) (λ i. into z.is_mutable c.targets k i d)) (if_final z lawful c k p (λ i. into z.is_mutable c.targets k i b) (λ i. into z.is_mutable c.targets k i d) (ir_meaning.step z.place.classes z.low b) (ir_meaning.step z.place.classes z.low d) j sound wr (λ i l. onward z.is_mutable c.targets b k i) (λ i l ah. undeclared c (Own b) i (into z.is_mutable c.targets k i b).statements (outside-part c (Own (if_then p a b d t)) (Own b) (λ x o. inr (inl o)) out) ah (new z.is_mutable c.targets b k i)) (λ i l ah. undeclared c (Own d) i (into z.is_mutable c.targets k i d).statements (outside-part c (Own (if_then p a b d t)) (Own d) (λ x o. inr (inr o)) out) ah (new z.is_mutable c.targets d k i)) (λ i l ah. does_b c k i sound ah (outside-part c (Own (if_then p a b d t)) (Own b) (λ x o. inr (inl o)) out) wr fine.1) (λ i l ah. does_d c k i sound ah (outside-part c (Own (if_then p a b d t)) (Own d) (λ x o. inr (inr o)) out) wr fine.2)))
 
   unary_does : (p : Position) (o : UnaryOp) (e : Term) → TreeDoes z lawful low e → TreeDoes z lawful low (unary_op p o e)
-  unary_does p o e does c k j sound ahead out wr fine = of_operands z lawful c k (e ∷ []) j (ir_meaning.unary z.place.classes z.low o) (λ es. finish k p (unary_result o) false (core.unary_of o (first_of es))) sound ahead (operand_does z lawful low c j e does out fine.2, tt) (one_final z lawful c k j (ir_meaning.unary z.place.classes z.low o) (λ es. finish k p (unary_result o) false (core.unary_of o (first_of es))) (finish_one z lawful low c k p (unary_result o) (ir_meaning.unary z.place.classes z.low o) (core.unary_of o) j sound wr fine.0 (λ r x w env s sc u alike same. unary_alike z lawful c.scope o r x fine.1 w env s sc u alike same)))
+  unary_does p o e does c k j sound ahead out wr fine = of_operands z lawful c k (piece z lawful low c.targets e ∷ []) j (ir_meaning.unary z.place.classes z.low o) (λ es. finish k p (unary_result o) false (core.unary_of o (first_of es))) sound ahead (operand_does z lawful low c j e does out fine.2, tt) (one_final z lawful c k j (ir_meaning.unary z.place.classes z.low o) (λ es. finish k p (unary_result o) false (core.unary_of o (first_of es))) (finish_one z lawful low c k p (unary_result o) (ir_meaning.unary z.place.classes z.low o) (core.unary_of o) j sound wr fine.0 (λ r x w env s sc u alike same. unary_alike z lawful c.scope o r x fine.1 w env s sc u alike same)))
 
   binary_final : (p : Position) (o : BinaryOp) (c : Context) (k : Destination) (j : ℕ) → is_simple o ≡ true → Sound z.is_mutable c → Writes c.writable k → FitsIn k (binary_result o) → (w : World) (sc : js.Scope) → TwoFinal z lawful c k w sc j (ir_meaning.binary z.place.classes z.low o) (λ es. finish k p (binary_result o) false (core.binary_of o (first_of es) (second_of es)))
   binary_final p o c k j simple sound wr fits from before i r q e d w env s sc u ahead l g ready ks same operands = finish_alike z lawful c k p (binary_result o) (core.binary_of o e d) i sound wr fits w from before env (ir_meaning.in_order (r ∷ q ∷ []) (ir_meaning.binary z.place.classes z.low o) env s) sc u g ks ready (binary_alike z lawful c.scope o r q e d simple w env s sc u operands same)
 
-  divided_by : (p : Position) (o : BinaryOp) (e d : Term) (c : Context) (k : Destination) (j : ℕ) → IsDivision o → IsDivisor d → Sound z.is_mutable c → Ahead c j → Writes c.writable k → FitsIn k (binary_result o) → OperandDoes z lawful c j e → Does z lawful c k j (binary_op p o e d)
+  divided_by : (p : Position) (o : BinaryOp) (e d : Term) (c : Context) (k : Destination) (j : ℕ) → IsDivision o → IsDivisor d → Sound z.is_mutable c → Ahead c j → Writes c.writable k → FitsIn k (binary_result o) → OperandDoes z lawful c j (piece z lawful low c.targets e) → Does z lawful c k j (binary_op p o e d)
   divided_by p o e _ c k j i (divisor q n f ne) sound ahead wr fits operand = division_does z lawful low p c k j o e q n i f ne sound ahead wr fits operand
 
   binary_does : (p : Position) (o : BinaryOp) (e d : Term) → TreeDoes z lawful low e → TreeDoes z lawful low d → TreeDoes z lawful low (binary_op p o e d)
@@ -104,11 +103,11 @@ module _ (z : Setting) (lawful : Lawful z) (low : LowAlike z) where
       out_d = outside-part c (Own (binary_op p o e d)) (Own d) (λ x i. inr i) out
 
       by : ((is_simple o ≡ true) × FineOperand z.is_mutable z.place.is_linked c.scope e (λ y. FineHere z lawful low c (to_variable y (type_of_term e)) e) × FineOperand z.is_mutable z.place.is_linked c.scope d (λ y. FineHere z lawful low c (to_variable y (type_of_term d)) d)) ⊎ (IsDivision o × FineOperand z.is_mutable z.place.is_linked c.scope e (λ y. FineHere z lawful low c (to_variable y (type_of_term e)) e) × IsDivisor d) → Does z lawful c k j (binary_op p o e d)
-      by (inl h) = of_operands z lawful c k (e ∷ d ∷ []) j (ir_meaning.binary z.place.classes z.low o) (λ es. finish k p (binary_result o) false (core.binary_of o (first_of es) (second_of es))) sound ahead (operand_does z lawful low c j e does_e out_e h.1, (operand_does z lawful low c j d does_d out_d h.2, tt)) (two_final z lawful c k j (ir_meaning.binary z.place.classes z.low o) (λ es. finish k p (binary_result o) false (core.binary_of o (first_of es) (second_of es))) (binary_final p o c k j h.0 sound wr fine.0))
+      by (inl h) = of_operands z lawful c k (piece z lawful low c.targets e ∷ piece z lawful low c.targets d ∷ []) j (ir_meaning.binary z.place.classes z.low o) (λ es. finish k p (binary_result o) false (core.binary_of o (first_of es) (second_of es))) sound ahead (operand_does z lawful low c j e does_e out_e h.1, (operand_does z lawful low c j d does_d out_d h.2, tt)) (two_final z lawful c k j (ir_meaning.binary z.place.classes z.low o) (λ es. finish k p (binary_result o) false (core.binary_of o (first_of es) (second_of es))) (binary_final p o c k j h.0 sound wr fine.0))
       by (inr h) = divided_by p o e d c k j h.0 h.2 sound ahead wr fine.0 (operand_does z lawful low c j e does_e out_e h.1)
 
   abbrev OperandsFine : Terms → Type 1
-  OperandsFine ts = (c : Context) (k : Destination) (j : ℕ) → Outside c (OwnAll ts) → FineOperands z.is_mutable z.place.is_linked c.scope c.targets k ts → OperandsDo z lawful c j (list_of z lawful low ts)
+  OperandsFine ts = (c : Context) (k : Destination) (j : ℕ) → Outside c (OwnAll ts) → FineOperands z.is_mutable z.place.is_linked c.scope c.targets k ts → OperandsDo z lawful c j (list_of z lawful low c.targets ts)
 
   last_does : (t : Term) → TreeDoes z lawful low t → BlockDoes (more_terms t no_terms)
   last_does t does c k j sound ahead out wr fine w env s sc u r same = subst (λ o. Ends z lawful c c.scope k w sc o (into z.is_mutable c.targets k j t).statements sc u) (sym (ap (ir.go_on (ir_meaning.step z.place.classes z.low t env s)) (fun_ext (λ v. refl)) ∙ go_on-given (ir_meaning.step z.place.classes z.low t env s))) (does c k j sound ahead (outside-part c (OwnAll (more_terms t no_terms)) (Own t) (λ x o. inl o) out) wr fine w env s sc u r same)
@@ -138,7 +137,7 @@ module _ (z : Setting) (lawful : Lawful z) (low : LowAlike z) where
       out_case = outside-part c (OwnCases (more_cases (n ∷ ns) t cs)) (Own t) (λ x o. inl o) out
 
   match_does : (p : Position) (e : Term) (cs : Cases) (d : Term) (t : IrType) → TreeDoes z lawful low e → CasesDo cs → TreeDoes z lawful low d → TreeDoes z lawful low (match_on p e cs d t)
-  match_does p e cs d t does_e do_cases does_d c k j sound ahead out wr fine = of_operands z lawful c k (e ∷ []) j (ir_meaning.choose (ir_meaning.branches z.place.classes z.low cs) (ir_meaning.step z.place.classes z.low d)) (λ es i. switch_code p (first_of es) (cases z.is_mutable c.targets k i cs) (λ i. into z.is_mutable c.targets k i d)) sound ahead (operand_does z lawful low c j e does_e (outside-part c (Own (match_on p e cs d t)) (Own e) (λ x o. inl o) out) fine.0, tt) (one_final z lawful c k j (ir_meaning.choose (ir_meaning.branches z.place.classes z.low cs) (ir_meaning.step z.place.classes z.low d)) (λ es i. switch_code p (first_of es) (cases z.is_mutable c.targets k i cs) (λ i. into z.is_mutable c.targets k i d)) (match_final z lawful c k p (ir_meaning.branches z.place.classes z.low cs) (ir_meaning.step z.place.classes z.low d) (λ i. cases z.is_mutable c.targets k i cs) (λ i. into z.is_mutable c.targets k i d) j sound wr (λ i l. cases-onward z.is_mutable c.targets cs k i) (λ i l ah. do_cases c k i sound ah (outside-part c (Own (match_on p e cs d t)) (OwnCases cs) (λ x o. inr (inl o)) out) wr fine.1) (λ i l ah. undeclared-settled c (into z.is_mutable c.targets k i d).statements (undeclared c (Own d) i (into z.is_mutable c.targets k i d).statements out_default ah (new z.is_mutable c.targets d k i))) (λ i l ah. does_d (settled c) k i (sound-settled z c sound) (ahead-settled c i ah) (outside-settled c (Own d) out_default) wr fine.2)))
+  match_does p e cs d t does_e do_cases does_d c k j sound ahead out wr fine = of_operands z lawful c k (piece z lawful low c.targets e ∷ []) j (ir_meaning.choose (ir_meaning.branches z.place.classes z.low cs) (ir_meaning.step z.place.classes z.low d)) (λ es i. switch_code p (first_of es) (cases z.is_mutable c.targets k i cs) (λ i. into z.is_mutable c.targets k i d)) sound ahead (operand_does z lawful low c j e does_e (outside-part c (Own (match_on p e cs d t)) (Own e) (λ x o. inl o) out) fine.0, tt) (one_final z lawful c k j (ir_meaning.choose (ir_meaning.branches z.place.classes z.low cs) (ir_meaning.step z.place.classes z.low d)) (λ es i. switch_code p (first_of es) (cases z.is_mutable c.targets k i cs) (λ i. into z.is_mutable c.targets k i d)) (match_final z lawful c k p (ir_meaning.branches z.place.classes z.low cs) (ir_meaning.step z.place.classes z.low d) (λ i. cases z.is_mutable c.targets k i cs) (λ i. into z.is_mutable c.targets k i d) j sound wr (λ i l. cases-onward z.is_mutable c.targets cs k i) (λ i l ah. do_cases c k i sound ah (outside-part c (Own (match_on p e cs d t)) (OwnCases cs) (λ x o. inr (inl o)) out) wr fine.1) (λ i l ah. undeclared-settled c (into z.is_mutable c.targets k i d).statements (undeclared c (Own d) i (into z.is_mutable c.targets k i d).statements out_default ah (new z.is_mutable c.targets d k i))) (λ i l ah. does_d (settled c) k i (sound-settled z c sound) (ahead-settled c i ah) (outside-settled c (Own d) out_default) wr fine.2)))
     where
       out_default : Outside c (Own d)
       out_default = outside-part c (Own (match_on p e cs d t)) (Own d) (λ x o. inr (inr o)) out

@@ -21,7 +21,7 @@ use Rattle.sj_emit_expr.specs.Templates.{statement_templates, case_templates}
 use Rattle.sj_trees.specs.declared.positions.Position.{Position}
 use Rattle.sj_plain.specs.Settings.{Setting, shown, run, SameState, Lawful}
 use Rattle.sj_bodies.proofs.Blocks.{Outside, Undeclared, scoped_alike}
-use Rattle.sj_bodies.proofs.Contexts.{Context, Writes, Sound, Ahead, Ready, ready-lift, Keeps, Arrives, let_go, stored, returned, Came, gave, left, stopped}
+use Rattle.sj_bodies.proofs.Contexts.{Context, Writes, Sound, Ahead, Ready, ready-lift, Keeps, Less, Arrives, let_go, stored, returned, Came, gave, left, stopped}
 use Rattle.sj_bodies.proofs.Declared.{Declares, declares-followed}
 use Rattle.sj_bodies.proofs.Forms.{OneFinal, rebased, act_alike, ahead-later}
 use Rattle.sj_bodies.proofs.Loops.{Alike}
@@ -42,7 +42,7 @@ pub undeclared-settled : (c : Context) (ss : core.Statements) → Undeclared c s
 undeclared-settled c ss h = record { scope = h.scope; writable = h.writable; kept = h.kept }
 
 pub sound-settled : (z : Setting) (c : Context) → Sound z.is_mutable c → Sound z.is_mutable (settled c)
-sound-settled z c h = record { apart = h.apart; hidden = h.hidden; constant = h.constant; changing = h.changing; reached = h.reached }
+sound-settled z c h = record { hidden = h.hidden; constant = h.constant; changing = h.changing; reached = h.reached }
 
 -- the statements of a case end the switch
 abbrev pub one_break : core.Statements
@@ -85,7 +85,7 @@ module _ (z : Setting) (lawful : Lawful z) where
       leaves = js_meaning.leaving names sc
 
   -- what leaves to a label passes by the end of the switch
-  left_settles : (c : Context) (k : Destination) (from : World) (before : js.Scope) (y : World) (l : List ℕ) (v : ir.Value) (env : ir.Env) (s : ir.State) (sc : js.Scope) (u : js.State) (e : js.Completion) (d : Destination) → target_of c.targets l ≡ d → Grows from y → Arrives z.place y v sc (js.breaks (z.place.label l)) d e → Ready z.place c.scope c.writable y env sc → Keeps z.place c.kept before sc → SameState z.place y s u → Sim z.direction (Came z.place c c.scope k from before) (done (ir.ends (ir.leaves l v) env s)) (js_meaning.behind_switch (js.ends e sc u))
+  left_settles : (c : Context) (k : Destination) (from : World) (before : js.Scope) (y : World) (l : List ℕ) (v : ir.Value) (env : ir.Env) (s : ir.State) (sc : js.Scope) (u : js.State) (e : js.Completion) (d : Destination) → target_of c.targets l ≡ d → Grows from y → Arrives z.place y v sc (js.breaks (z.place.label l)) d e → Ready z.place c.scope c.writable y env sc → Keeps z.place (Less c.kept (target_of c.targets l)) before sc → SameState z.place y s u → Sim z.direction (Came z.place c c.scope k from before) (done (ir.ends (ir.leaves l v) env s)) (js_meaning.behind_switch (js.ends e sc u))
   left_settles c k from before y l v env s sc u _ _ t g let_go r ks same = sim_done z.direction (Came z.place c c.scope k from before) (ir.ends (ir.leaves l v) env s) (js.ends (js.breaks (z.place.label l)) sc u) (left y l v env s sc u (js.breaks (z.place.label l)) g (subst (λ d. Arrives z.place y v sc (js.breaks (z.place.label l)) d (js.breaks (z.place.label l))) (sym t) let_go) r ks same)
   left_settles c k from before y l v env s sc u _ _ t g (stored x i j q h) r ks same = sim_done z.direction (Came z.place c c.scope k from before) (ir.ends (ir.leaves l v) env s) (js.ends (js.breaks (z.place.label l)) sc u) (left y l v env s sc u (js.breaks (z.place.label l)) g (subst (λ d. Arrives z.place y v sc (js.breaks (z.place.label l)) d (js.breaks (z.place.label l))) (sym t) (stored x i j q h)) r ks same)
   left_settles c k from before y l v env s sc u _ _ t g (returned i j q) r ks same = sim_done z.direction (Came z.place c c.scope k from before) (ir.ends (ir.leaves l v) env s) (js.ends (js.returns j) sc u) (left y l v env s sc u (js.returns j) g (subst (λ d. Arrives z.place y v sc (js.breaks (z.place.label l)) d (js.returns j)) (sym t) (returned i j q)) r ks same)
@@ -140,7 +140,4 @@ module _ (z : Setting) (lawful : Lawful z) where
 
       goes : (y : World) (v : ir.Value) (x : js.Value) (s : ir.State) (u : js.State) → Grows w y → SameValue y v x → SameState z.place y s u → Sim z.direction (Came z.place c c.scope k from before) (ir_meaning.choose bs r (v ∷ []) env s) (then_do (js_meaning.from_case (clauses_in (made i).cases) (block_in (other (made i).next).statements (other (made i).next).statements) x sc u) js_meaning.behind_switch)
       goes y _ _ s u h (same_number n f) same = rebased z lawful c c.scope k from y before sc (ir_meaning.branch_of bs r n env s) (then_do (js_meaning.from_case (clauses_in (made i).cases) (block_in (other (made i).next).statements (other (made i).next).statements) (js.number n) sc u) js_meaning.behind_switch) (grows-trans from w y g h) ks (chosen_alike c k bs (made i).cases r (other (made i).next).statements (cases_do i l ahead) (free (made i).next later behind) sound wr (does (made i).next later behind) n y env s sc u (ready-lift z c.scope c.writable w y env sc h ready) same)
-      goes y _ _ s u h same_undefined same = sim_wrong z.direction (Came z.place c c.scope k from before) _
-      goes y _ _ s u h same_null same = sim_wrong z.direction (Came z.place c c.scope k from before) _
-      goes y _ _ s u h (same_boolean b) same = sim_wrong z.direction (Came z.place c c.scope k from before) _
-      goes y _ _ s u h (same_text us) same = sim_wrong z.direction (Came z.place c c.scope k from before) _
+      goes y _ _ s u h _ same = sim_wrong z.direction (Came z.place c c.scope k from before) _

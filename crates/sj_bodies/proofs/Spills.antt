@@ -25,7 +25,7 @@ use Rattle.sj_plain.specs.Settings.{Setting, shown, run, SameState, Valued, valu
 use Rattle.sj_names.proofs.Same.{impossible}
 use Rattle.sj_plain.proofs.Plain.{all_shown, plain_alike, as_operand, fits-exact}
 use Rattle.sj_plain.proofs.Orders.{OperandAlike, OperandsAlike, no_operands, more_operands}
-use Rattle.sj_bodies.proofs.Contexts.{Context, Sound, Ahead, IsOpen, Ready, ready-lift, Keeps, keeps-refl, keeps-trans, stored, Came, gave, left, stopped, started-here, started-ready, started-keeps}
+use Rattle.sj_bodies.proofs.Contexts.{Context, Sound, Ahead, IsOpen, Ready, ready-lift, Keeps, Less, less-trans, keeps-refl, keeps-trans, keeps-fewer, stored, Came, gave, left, stopped, started-here, started-ready, started-keeps}
 use Rattle.sj_bodies.proofs.Statements.{run-followed, leaves_on, Ends}
 use Rattle.sj_plain.proofs.Worlds.{World, Grows, grows-refl, grows-trans, SameValue, same_undefined, same_null, same_boolean, same_number, same_text, value-lift}
 
@@ -50,76 +50,28 @@ numbered-named x j e = absurd (cc)
 pub extends-more : (c : Context) (p : core.Variable → Type 0) (j : ℕ) → Extends c p → Extends c (λ y. (y ≡ core.numbered j) ⊎ p y)
 extends-more c p j e = record { more = λ y h. inr (e.more y h); names = λ x h. ⊎_elim (λ i. absurd (numbered-named x j i)) (e.names x) h }
 
+-- an operand: what the IR does for it, and what is written for it
+pub record Piece : Type 0 where
+  pub run : ir.Run
+  pub here : Operand
+
 module _ (z : Setting) (lawful : Lawful z) where
   -- a tree and its statements, in a context, with a destination and numbers from this on
   abbrev pub Does : Context → Destination → ℕ → Term → Type 0
   Does c k j t = (w : World) (env : ir.Env) (s : ir.State) (sc : js.Scope) (u : js.State) → Ready z.place c.scope c.writable w env sc → SameState z.place w s u → Sim z.direction (Came z.place c c.scope k w sc) (ir_meaning.step z.place.classes z.low t env s) (run z (into z.is_mutable c.targets k j t).statements sc u)
 
-  abbrev pub runs : List Term → List ir.Run
-  runs [] = []
-  runs (t ∷ ts) = ir_meaning.step z.place.classes z.low t ∷ runs ts
-
-  abbrev pub operands_in : Targets → List Term → List Operand
-  operands_in ls [] = []
-  operands_in ls (t ∷ ts) = operand z.is_mutable t (λ k j. into z.is_mutable ls k j t) ∷ operands_in ls ts
-
-  -- the numbers that a tree's variables for operands begin with are never lower behind it
-  abbrev pub Onward : Targets → Term → Type 0
-  Onward ls t = (k : Destination) (j : ℕ) → j ≤ (into z.is_mutable ls k j t).next
-
-  -- what is known of an operand: it is plain; or it isn't, and its statements bring its value to a variable, whatever more is kept
-  abbrev pub OperandDoes : Context → ℕ → Term → Type 1
-  OperandDoes c j t = ((is_plain t ≡ true) × Plain z.place.is_linked c.scope t) ⊎ ((is_plain t ≡ false) × (is_fixed z.is_mutable t ≡ false) × Onward c.targets t × ((p : core.Variable → Type 0) (i : ℕ) → j ≤ i → Extends c p → Sound z.is_mutable (keeping c p) → Ahead (keeping c p) i → Does (writing (keeping c p) (core.numbered i)) (to_variable (core.numbered i) (type_of_term t)) (suc i) t))
-
-  abbrev pub OperandsDo : Context → ℕ → List Term → Type 1
-  OperandsDo c j [] = Unit {1}
-  OperandsDo c j (t ∷ ts) = OperandDoes c j t × OperandsDo c j ts
-
-  operands-later : (c : Context) (i j : ℕ) (ts : List Term) → i ≤ j → OperandsDo c i ts → OperandsDo c j ts
-  operands-later c i j [] h d = tt
-  operands-later c i j (t ∷ ts) h (inl e, ds) = (inl e, operands-later c i j ts h ds)
-  operands-later c i j (t ∷ ts) h (inr e, ds) = (inr (e.0, e.1, e.2, λ p k l. e.3 p k (omega arith)), operands-later c i j ts h ds)
-
-  pub data Sized : List ir.Run → ℕ → Type 0 where
-    none_left : Sized [] zero
-    one_left : (r : ir.Run) (rs : List ir.Run) (n : ℕ) → Sized rs n → Sized (r ∷ rs) (suc n)
-
-  abbrev pub count : List Term → ℕ
-  count [] = zero
-  count (t ∷ ts) = suc (count ts)
-
-  runs-sized : (ts : List Term) → Sized (runs ts) (count ts)
-  runs-sized [] = none_left
-  runs-sized (t ∷ ts) = one_left (ir_meaning.step z.place.classes z.low t) (runs ts) (count ts) (runs-sized ts)
-
-  -- what is done with the values of operands, once their statements are behind
-  abbrev pub Final : Context → Destination → World → js.Scope → (core.Variable → Type 0) → ℕ → js.Scope → World → ℕ → (List ir.Value → ir.Run) → (List core.Expression → ℕ → Code) → Type 1
-  Final c k from before p j start at n act rest_of = (q : core.Variable → Type 0) (i : ℕ) (rs : List ir.Run) (es : List core.Expression) (w : World) (env : ir.Env) (s : ir.State) (sc : js.Scope) (u : js.State) → ((y : core.Variable) → p y → q y) → Sound z.is_mutable (keeping c q) → Ahead (keeping c q) i → j ≤ i → Grows at w → Ready z.place c.scope c.writable w env sc → Keeps z.place c.kept before sc → Keeps z.place p start sc → SameState z.place w s u → Sized rs n → OperandsAlike z w env sc rs (all_shown z lawful c.scope es) → Ends z lawful c c.scope k from before (ir_meaning.in_order rs act env s) (rest_of es i).statements sc u
-
-  abbrev pub SpillDoes : Context → Destination → World → js.Scope → List Term → Type 1
-  SpillDoes c k from before ts = (p : core.Variable → Type 0) (j : ℕ) (act : List ir.Value → ir.Run) (rest_of : List core.Expression → ℕ → Code) (w : World) (env : ir.Env) (s : ir.State) (sc : js.Scope) (u : js.State) → OperandsDo c j ts → Extends c p → Sound z.is_mutable (keeping c p) → Ahead (keeping c p) j → Final c k from before p j sc w (count ts) act rest_of → Grows from w → Ready z.place c.scope c.writable w env sc → Keeps z.place c.kept before sc → SameState z.place w s u → Ends z lawful c c.scope k from before (ir_meaning.in_order (runs ts) act env s) (then_use (spill (operands_in c.targets ts) j) rest_of).statements sc u
-
-  plain_operand : (c : Context) (j : ℕ) (t : Term) → is_plain t ≡ true → OperandDoes c j t → Plain z.place.is_linked c.scope t
-  plain_operand c j t e (inl h) = h.1
-  plain_operand c j t e (inr h) = impossible (sym h.0 ∙ e)
-
-  both_true : (a b : Bool) → (a && b) ≡ true → (a ≡ true) × (b ≡ true)
-  both_true true b h = (refl, h)
-  both_true false b h = impossible h
-
-  all_plain_alike : (c : Context) (j : ℕ) (ts : List Term) → all_plain (operands_in c.targets ts) ≡ true → OperandsDo c j ts → (w : World) (env : ir.Env) (sc : js.Scope) → Sees z.place c.scope w env sc → OperandsAlike z w env sc (runs ts) (all_shown z lawful c.scope (texts (operands_in c.targets ts)))
-  all_plain_alike c j [] e d w env sc sees = no_operands
-  all_plain_alike c j (t ∷ ts) e d w env sc sees = let h = both_true (is_plain t) (all_plain (operands_in c.targets ts)) e in more_operands (ir_meaning.step z.place.classes z.low t) (shown z (expression_of t)) (runs ts) (all_shown z lawful c.scope (texts (operands_in c.targets ts))) (as_operand z lawful c.scope t (plain_alike z lawful c.scope t (plain_operand c j t h.0 d.0)) w env sc sees) (all_plain_alike c j ts h.1 d.1 w env sc sees)
-
   -- an operand that gives a value at once, and whose expression goes on to give what stands for it
-  pub record FixedRun (p : core.Variable → Type 0) (w : World) (env : ir.Env) (sc : js.Scope) (t : Term) : Type 0 where
+  pub record FixedRun (p : core.Variable → Type 0) (w : World) (env : ir.Env) (sc : js.Scope) (r : ir.Run) (e : core.Expression) : Type 0 where
     pub value : ir.Value
     pub js_value : js.Value
-    pub gives : (s : ir.State) → ir_meaning.step z.place.classes z.low t env s ≡ done (ir.ends (ir.gives value) env s)
+    pub gives : (s : ir.State) → r env s ≡ done (ir.ends (ir.gives value) env s)
     pub alike : SameValue w value js_value
-    pub goes_on : (later : js.Scope) (u : js.State) → Keeps z.place p sc later → shown z (expression_of t) later u ≡ done (js.gives js_value u)
+    pub goes_on : (later : js.Scope) (u : js.State) → Keeps z.place p sc later → shown z e later u ≡ done (js.gives js_value u)
 
-  local_fixed : (p : core.Variable → Type 0) (w : World) (env : ir.Env) (sc : js.Scope) (q : Position) (x : List ℕ) (t : IrType) → p (core.named x) → (o : Option ir.Value) (cell : js.Cell) → Holding w o cell → env.locals x ≡ o → sc.bindings (z.place.name (core.named x)) ≡ cell → FixedRun p w env sc (var_ref q x t)
+  abbrev FixedTree : (p : core.Variable → Type 0) (w : World) (env : ir.Env) (sc : js.Scope) (t : Term) → Type 0
+  FixedTree p w env sc t = FixedRun p w env sc (ir_meaning.step z.place.classes z.low t) (expression_of t)
+
+  local_fixed : (p : core.Variable → Type 0) (w : World) (env : ir.Env) (sc : js.Scope) (q : Position) (x : List ℕ) (t : IrType) → p (core.named x) → (o : Option ir.Value) (cell : js.Cell) → Holding w o cell → env.locals x ≡ o → sc.bindings (z.place.name (core.named x)) ≡ cell → FixedTree p w env sc (var_ref q x t)
   local_fixed p w env sc q x t kept _ _ (holding v j a) e h = record {
     value = v;
     js_value = j;
@@ -132,10 +84,10 @@ module _ (z : Setting) (lawful : Lawful z) where
   not_mutable true h = impossible h
   not_mutable false h = refl
 
-  literal_fixed : (p : core.Variable → Type 0) (w : World) (env : ir.Env) (sc : js.Scope) (t : Term) (n : ℤ) → FitsSigned w32 n → ((s : ir.State) → ir_meaning.step z.place.classes z.low t env s ≡ done (ir.ends (ir.gives (ir.number n)) env s)) → ((later : js.Scope) (u : js.State) → shown z (expression_of t) later u ≡ js_meaning.literal n later u) → FixedRun p w env sc t
+  literal_fixed : (p : core.Variable → Type 0) (w : World) (env : ir.Env) (sc : js.Scope) (t : Term) (n : ℤ) → FitsSigned w32 n → ((s : ir.State) → ir_meaning.step z.place.classes z.low t env s ≡ done (ir.ends (ir.gives (ir.number n)) env s)) → ((later : js.Scope) (u : js.State) → shown z (expression_of t) later u ≡ js_meaning.literal n later u) → FixedTree p w env sc t
   literal_fixed p w env sc t n f g h = record { value = ir.number n; js_value = js.number n; gives = g; alike = same_number n f; goes_on = λ later u ks. h later u ∙ ap (λ (b : Bool). if b then done (js.gives (js.number n) u) else wrong) (fits-exact n f) }
 
-  pub fixed_run : (c : Context) (p : core.Variable → Type 0) (t : Term) → Sound z.is_mutable (keeping c p) → is_fixed z.is_mutable t ≡ true → Plain z.place.is_linked c.scope t → (w : World) (env : ir.Env) (sc : js.Scope) → Sees z.place c.scope w env sc → FixedRun p w env sc t
+  pub fixed_run : (c : Context) (p : core.Variable → Type 0) (t : Term) → Sound z.is_mutable (keeping c p) → is_fixed z.is_mutable t ≡ true → Plain z.place.is_linked c.scope t → (w : World) (env : ir.Env) (sc : js.Scope) → Sees z.place c.scope w env sc → FixedTree p w env sc t
   fixed_run c p (undefined_literal q) sound e h w env sc sees = record { value = ir.undefined; js_value = js.undefined; gives = λ s. refl; alike = same_undefined; goes_on = λ later u ks. refl }
   fixed_run c p (null_literal q) sound e h w env sc sees = record { value = ir.null; js_value = js.null; gives = λ s. refl; alike = same_null; goes_on = λ later u ks. refl }
   fixed_run c p (boolean_literal q b) sound e h w env sc sees = record { value = ir.boolean b; js_value = js.boolean b; gives = λ s. refl; alike = same_boolean b; goes_on = λ later u ks. refl }
@@ -150,22 +102,85 @@ module _ (z : Setting) (lawful : Lawful z) where
   fixed_run c p (binary_op q o a b) sound e h w env sc sees = impossible e
   fixed_run c p _ sound e h w env sc sees = absurd h
 
+  -- what is known of a plain one
+  pub record Plainly (c : Context) (t : Piece) : Type 1 where
+    pub alike : (w : World) (env : ir.Env) (sc : js.Scope) → Sees z.place c.scope w env sc → OperandAlike z w env sc t.run (shown z t.here.text)
+    pub fixes : t.here.fixed ≡ true → (p : core.Variable → Type 0) → Sound z.is_mutable (keeping c p) → (w : World) (env : ir.Env) (sc : js.Scope) → Sees z.place c.scope w env sc → FixedRun p w env sc t.run t.here.text
+
+  abbrev pub PieceDoes : Context → Destination → ℕ → Piece → Type 0
+  PieceDoes c k j t = (w : World) (env : ir.Env) (s : ir.State) (sc : js.Scope) (u : js.State) → Ready z.place c.scope c.writable w env sc → SameState z.place w s u → Sim z.direction (Came z.place c c.scope k w sc) (t.run env s) (run z (t.here.code k j).statements sc u)
+
+  abbrev pub runs : List Piece → List ir.Run
+  runs [] = []
+  runs (t ∷ ts) = t.run ∷ runs ts
+
+  abbrev pub operands_in : List Piece → List Operand
+  operands_in [] = []
+  operands_in (t ∷ ts) = t.here ∷ operands_in ts
+
+  -- the numbers that a tree's variables for operands begin with are never lower behind it
+  abbrev pub Onward : Piece → Type 0
+  Onward t = (k : Destination) (j : ℕ) → j ≤ (t.here.code k j).next
+
+  -- what is known of an operand: it is plain; or it isn't, and its statements bring its value to a variable, whatever more is kept
+  abbrev pub OperandDoes : Context → ℕ → Piece → Type 1
+  OperandDoes c j t = ((t.here.plain ≡ true) × Plainly c t) ⊎ ((t.here.plain ≡ false) × (t.here.fixed ≡ false) × Onward t × ((p : core.Variable → Type 0) (i : ℕ) → j ≤ i → Extends c p → Sound z.is_mutable (keeping c p) → Ahead (keeping c p) i → PieceDoes (writing (keeping c p) (core.numbered i)) (to_variable (core.numbered i) (t.here.tpe)) (suc i) t))
+
+  abbrev pub OperandsDo : Context → ℕ → List Piece → Type 1
+  OperandsDo c j [] = Unit {1}
+  OperandsDo c j (t ∷ ts) = OperandDoes c j t × OperandsDo c j ts
+
+  operands-later : (c : Context) (i j : ℕ) (ts : List Piece) → i ≤ j → OperandsDo c i ts → OperandsDo c j ts
+  operands-later c i j [] h d = tt
+  operands-later c i j (t ∷ ts) h (inl e, ds) = (inl e, operands-later c i j ts h ds)
+  operands-later c i j (t ∷ ts) h (inr e, ds) = (inr (e.0, e.1, e.2, λ p k l. e.3 p k (omega arith)), operands-later c i j ts h ds)
+
+  pub data Sized : List ir.Run → ℕ → Type 0 where
+    none_left : Sized [] zero
+    one_left : (r : ir.Run) (rs : List ir.Run) (n : ℕ) → Sized rs n → Sized (r ∷ rs) (suc n)
+
+  abbrev pub count : List Piece → ℕ
+  count [] = zero
+  count (t ∷ ts) = suc (count ts)
+
+  runs-sized : (ts : List Piece) → Sized (runs ts) (count ts)
+  runs-sized [] = none_left
+  runs-sized (t ∷ ts) = one_left t.run (runs ts) (count ts) (runs-sized ts)
+
+  -- what is done with the values of operands, once their statements are behind
+  abbrev pub Final : Context → Destination → World → js.Scope → (core.Variable → Type 0) → ℕ → js.Scope → World → ℕ → (List ir.Value → ir.Run) → (List core.Expression → ℕ → Code) → Type 1
+  Final c k from before p j start at n act rest_of = (q : core.Variable → Type 0) (i : ℕ) (rs : List ir.Run) (es : List core.Expression) (w : World) (env : ir.Env) (s : ir.State) (sc : js.Scope) (u : js.State) → ((y : core.Variable) → p y → q y) → Sound z.is_mutable (keeping c q) → Ahead (keeping c q) i → j ≤ i → Grows at w → Ready z.place c.scope c.writable w env sc → Keeps z.place c.kept before sc → Keeps z.place p start sc → SameState z.place w s u → Sized rs n → OperandsAlike z w env sc rs (all_shown z lawful c.scope es) → Ends z lawful c c.scope k from before (ir_meaning.in_order rs act env s) (rest_of es i).statements sc u
+
+  abbrev pub SpillDoes : Context → Destination → World → js.Scope → List Piece → Type 1
+  SpillDoes c k from before ts = (p : core.Variable → Type 0) (j : ℕ) (act : List ir.Value → ir.Run) (rest_of : List core.Expression → ℕ → Code) (w : World) (env : ir.Env) (s : ir.State) (sc : js.Scope) (u : js.State) → OperandsDo c j ts → Extends c p → Sound z.is_mutable (keeping c p) → Ahead (keeping c p) j → Final c k from before p j sc w (count ts) act rest_of → Grows from w → Ready z.place c.scope c.writable w env sc → Keeps z.place c.kept before sc → SameState z.place w s u → Ends z lawful c c.scope k from before (ir_meaning.in_order (runs ts) act env s) (then_use (spill (operands_in ts) j) rest_of).statements sc u
+
+  plain_operand : (c : Context) (j : ℕ) (t : Piece) → t.here.plain ≡ true → OperandDoes c j t → Plainly c t
+  plain_operand c j t e (inl h) = h.1
+  plain_operand c j t e (inr h) = absurd (impossible (sym h.0 ∙ e))
+
+  both_true : (a b : Bool) → (a && b) ≡ true → (a ≡ true) × (b ≡ true)
+  both_true true b h = (refl, h)
+  both_true false b h = impossible h
+
+  all_plain_alike : (c : Context) (j : ℕ) (ts : List Piece) → all_plain (operands_in ts) ≡ true → OperandsDo c j ts → (w : World) (env : ir.Env) (sc : js.Scope) → Sees z.place c.scope w env sc → OperandsAlike z w env sc (runs ts) (all_shown z lawful c.scope (texts (operands_in ts)))
+  all_plain_alike c j [] e d w env sc sees = no_operands
+  all_plain_alike c j (t ∷ ts) e d w env sc sees = let h = both_true (t.here.plain) (all_plain (operands_in ts)) e in more_operands (t.run) (shown z (t.here.text)) (runs ts) (all_shown z lawful c.scope (texts (operands_in ts))) ((plain_operand c j t h.0 d.0).alike w env sc sees) (all_plain_alike c j ts h.1 d.1 w env sc sees)
+
   -- an operand's value in a variable that keeps it
   variable_alike : (y w : World) (env : ir.Env) (sc : js.Scope) (x : core.Variable) (const : Bool) (v : ir.Value) (j : js.Value) → Grows y w → SameValue y v j → sc.bindings (z.place.name x) ≡ js.holds const j → OperandAlike z w env sc (ir.given v) (shown z (core.variable_use x))
   variable_alike y w env sc x const v j g a e k s u h same = subst (λ q. Sim z.direction (Valued z.place k env) (done (ir.ends (ir.gives v) env s)) q) (sym (ap (λ (cell : js.Cell). js_meaning.cell_value (js_meaning.or_outer cell (js_meaning.top_cell (owner z.place.program sc.file (z.place.name x)) (z.place.name x) u)) u) e)) (sim_done z.direction (Valued z.place k env) (ir.ends (ir.gives v) env s) (js.gives j u) (valued k v j s u (grows-refl k) (value-lift y k v j (grows-trans y w k g h) a) same))
 
-  fixed_alike : (p : core.Variable → Type 0) (y w : World) (env env' : ir.Env) (sc sc' : js.Scope) (t : Term) (f : FixedRun p y env sc t) → Grows y w → Keeps z.place p sc sc' → OperandAlike z w env' sc' (ir.given f.value) (shown z (expression_of t))
-  fixed_alike p y w env env' sc sc' t f g ks k s u h same = subst (λ q. Sim z.direction (Valued z.place k env') (done (ir.ends (ir.gives f.value) env' s)) q) (sym (f.goes_on sc' u ks)) (sim_done z.direction (Valued z.place k env') (ir.ends (ir.gives f.value) env' s) (js.gives f.js_value u) (valued k f.value f.js_value s u (grows-refl k) (value-lift y k f.value f.js_value (grows-trans y w k g h) f.alike) same))
+  fixed_alike : (p : core.Variable → Type 0) (y w : World) (env env' : ir.Env) (sc sc' : js.Scope) (r : ir.Run) (e : core.Expression) (f : FixedRun p y env sc r e) → Grows y w → Keeps z.place p sc sc' → OperandAlike z w env' sc' (ir.given f.value) (shown z e)
+  fixed_alike p y w env env' sc sc' r e f g ks k s u h same = subst (λ q. Sim z.direction (Valued z.place k env') (done (ir.ends (ir.gives f.value) env' s)) q) (sym (f.goes_on sc' u ks)) (sim_done z.direction (Valued z.place k env') (ir.ends (ir.gives f.value) env' s) (js.gives f.js_value u) (valued k f.value f.js_value s u (grows-refl k) (value-lift y k f.value f.js_value (grows-trans y w k g h) f.alike) same))
 
   pub numbered-same : (i j : ℕ) → core.numbered i ≡ core.numbered j → i ≡ j
   numbered-same i j e = cc
 
   pub sound-kept : (c : Context) (p : core.Variable → Type 0) (j : ℕ) → Sound z.is_mutable (keeping c p) → Ahead (keeping c p) j → Sound z.is_mutable (keeping c (λ y. (y ≡ core.numbered j) ⊎ p y))
   sound-kept c p j sound ahead = record {
-    apart = λ y wr k. ⊎_elim (λ e. ahead.writable j (omega arith) (subst c.writable e wr)) (sound.apart y wr) k;
     hidden = sound.hidden;
     constant = λ x h m. inr (sound.constant x h m);
-    changing = λ x k m. ⊎_elim (λ e. numbered-named x j e) (λ i. sound.changing x i m) k;
+    changing = λ x g k m. ⊎_elim (λ e. numbered-named x j e) (λ i. sound.changing x g i m) k;
     reached = sound.reached;
   }
 
@@ -187,15 +202,15 @@ module _ (z : Setting) (lawful : Lawful z) where
       each _ _ (valued y v x s u h a same) = goes y v x s u h a same
 
   -- all operands are plain
-  spill_all : (c : Context) (k : Destination) (from : World) (before : js.Scope) (t : Term) (ts : List Term) → all_plain (operands_in c.targets (t ∷ ts)) ≡ true → (p : core.Variable → Type 0) (j : ℕ) (act : List ir.Value → ir.Run) (made : List core.Expression → ℕ → Code) (w : World) (env : ir.Env) (s : ir.State) (sc : js.Scope) (u : js.State) → OperandsDo c j (t ∷ ts) → Sound z.is_mutable (keeping c p) → Ahead (keeping c p) j → Final c k from before p j sc w (count (t ∷ ts)) act made → Ready z.place c.scope c.writable w env sc → Keeps z.place c.kept before sc → SameState z.place w s u → Ends z lawful c c.scope k from before (ir_meaning.in_order (runs (t ∷ ts)) act env s) (made (texts (operands_in c.targets (t ∷ ts))) j).statements sc u
-  spill_all c k from before t ts e p j act made w env s sc u ds sound ahead final r ks same = final p j (runs (t ∷ ts)) (texts (operands_in c.targets (t ∷ ts))) w env s sc u (λ y h. h) sound ahead (omega arith) (grows-refl w) r ks (keeps-refl z p sc) same (runs-sized (t ∷ ts)) (all_plain_alike c j (t ∷ ts) e ds w env sc r.sees)
+  spill_all : (c : Context) (k : Destination) (from : World) (before : js.Scope) (t : Piece) (ts : List Piece) → all_plain (operands_in (t ∷ ts)) ≡ true → (p : core.Variable → Type 0) (j : ℕ) (act : List ir.Value → ir.Run) (made : List core.Expression → ℕ → Code) (w : World) (env : ir.Env) (s : ir.State) (sc : js.Scope) (u : js.State) → OperandsDo c j (t ∷ ts) → Sound z.is_mutable (keeping c p) → Ahead (keeping c p) j → Final c k from before p j sc w (count (t ∷ ts)) act made → Ready z.place c.scope c.writable w env sc → Keeps z.place c.kept before sc → SameState z.place w s u → Ends z lawful c c.scope k from before (ir_meaning.in_order (runs (t ∷ ts)) act env s) (made (texts (operands_in (t ∷ ts))) j).statements sc u
+  spill_all c k from before t ts e p j act made w env s sc u ds sound ahead final r ks same = final p j (runs (t ∷ ts)) (texts (operands_in (t ∷ ts))) w env s sc u (λ y h. h) sound ahead (omega arith) (grows-refl w) r ks (keeps-refl z p sc) same (runs-sized (t ∷ ts)) (all_plain_alike c j (t ∷ ts) e ds w env sc r.sees)
 
   -- a fixed operand in front of one that isn't plain
-  spill_fixed : (c : Context) (k : Destination) (from : World) (before : js.Scope) (t : Term) (ts : List Term) → SpillDoes c k from before ts → is_fixed z.is_mutable t ≡ true → Plain z.place.is_linked c.scope t → (p : core.Variable → Type 0) (j : ℕ) (act : List ir.Value → ir.Run) (made : List core.Expression → ℕ → Code) (w : World) (env : ir.Env) (s : ir.State) (sc : js.Scope) (u : js.State) → OperandsDo c j ts → Extends c p → Sound z.is_mutable (keeping c p) → Ahead (keeping c p) j → Final c k from before p j sc w (count (t ∷ ts)) act made → Grows from w → Ready z.place c.scope c.writable w env sc → Keeps z.place c.kept before sc → SameState z.place w s u → Ends z lawful c c.scope k from before (ir_meaning.in_order (runs (t ∷ ts)) act env s) (then_use (spill (operands_in c.targets ts) j) (λ es. made (expression_of t ∷ es))).statements sc u
-  spill_fixed c k from before t ts others e plain p j act made w env s sc u ds sub sound ahead final g r ks same = subst (λ o. Ends z lawful c c.scope k from before (ir.go_on o (λ v. ir_meaning.in_order (runs ts) (λ vs. act (v ∷ vs)))) (then_use (spill (operands_in c.targets ts) j) (λ es. made (expression_of t ∷ es))).statements sc u) (sym (f.gives s)) (others p j (λ vs. act (f.value ∷ vs)) (λ es. made (expression_of t ∷ es)) w env s sc u ds sub sound ahead (λ q i rs es y env' s' sc' u' more so ah l h ready kb kp states sized operands. final q i (ir.given f.value ∷ rs) (expression_of t ∷ es) y env' s' sc' u' more so ah l h ready kb kp states (one_left (ir.given f.value) rs (count ts) sized) (more_operands (ir.given f.value) (shown z (expression_of t)) rs (all_shown z lawful c.scope es) (fixed_alike p w y env env' sc sc' t f h kp) operands)) g r ks same)
+  spill_fixed : (c : Context) (k : Destination) (from : World) (before : js.Scope) (t : Piece) (ts : List Piece) → SpillDoes c k from before ts → t.here.fixed ≡ true → Plainly c t → (p : core.Variable → Type 0) (j : ℕ) (act : List ir.Value → ir.Run) (made : List core.Expression → ℕ → Code) (w : World) (env : ir.Env) (s : ir.State) (sc : js.Scope) (u : js.State) → OperandsDo c j ts → Extends c p → Sound z.is_mutable (keeping c p) → Ahead (keeping c p) j → Final c k from before p j sc w (count (t ∷ ts)) act made → Grows from w → Ready z.place c.scope c.writable w env sc → Keeps z.place c.kept before sc → SameState z.place w s u → Ends z lawful c c.scope k from before (ir_meaning.in_order (runs (t ∷ ts)) act env s) (then_use (spill (operands_in ts) j) (λ es. made (t.here.text ∷ es))).statements sc u
+  spill_fixed c k from before t ts others e plain p j act made w env s sc u ds sub sound ahead final g r ks same = known (plain.fixes e p sound w env sc r.sees)
     where
-      f : FixedRun p w env sc t
-      f = fixed_run c p t sound e plain w env sc r.sees
+      known : FixedRun p w env sc t.run t.here.text → Ends z lawful c c.scope k from before (ir_meaning.in_order (runs (t ∷ ts)) act env s) (then_use (spill (operands_in ts) j) (λ es. made (t.here.text ∷ es))).statements sc u
+      known f = subst (λ o. Ends z lawful c c.scope k from before (ir.go_on o (λ v. ir_meaning.in_order (runs ts) (λ vs. act (v ∷ vs)))) (then_use (spill (operands_in ts) j) (λ es. made (t.here.text ∷ es))).statements sc u) (sym (f.gives s)) (others p j (λ vs. act (f.value ∷ vs)) (λ es. made (t.here.text ∷ es)) w env s sc u ds sub sound ahead (λ q i rs es y env' s' sc' u' more so ah l h ready kb kp states sized operands. final q i (ir.given f.value ∷ rs) (t.here.text ∷ es) y env' s' sc' u' more so ah l h ready kb kp states (one_left (ir.given f.value) rs (count ts) sized) (more_operands (ir.given f.value) (shown z (t.here.text)) rs (all_shown z lawful c.scope es) (fixed_alike p w y env env' sc sc' t.run t.here.text f h kp) operands)) g r ks same)
 
   -- what is known behind an operand that has been saved in the variable of this number
   saved_final : (c : Context) (k : Destination) (from : World) (before : js.Scope) (p : core.Variable → Type 0) (j i : ℕ) (n : ℕ) (w y : World) (sc sc' : js.Scope) (act : List ir.Value → ir.Run) (made : List core.Expression → ℕ → Code) (v : ir.Value) (x : js.Value) (const : Bool) → suc j ≤ i → Final c k from before p j sc w (suc n) act made → Grows w y → Keeps z.place p sc sc' → SameValue y v x → sc'.bindings (z.place.name (core.numbered j)) ≡ js.holds const x → Final c k from before (λ a. (a ≡ core.numbered j) ⊎ p a) i sc' y n (λ vs. act (v ∷ vs)) (λ es. made (core.variable_use (core.numbered j) ∷ es))
@@ -205,24 +220,24 @@ module _ (z : Setting) (lawful : Lawful z) where
   numbered_open c p j ahead x h e = ahead.writable j (omega arith) (subst c.writable e h)
 
   -- a plain operand that isn't fixed, in front of one that isn't plain: a constant
-  spill_constant : (c : Context) (k : Destination) (from : World) (before : js.Scope) (t : Term) (ts : List Term) → SpillDoes c k from before ts → Plain z.place.is_linked c.scope t → (p : core.Variable → Type 0) (j : ℕ) (act : List ir.Value → ir.Run) (made : List core.Expression → ℕ → Code) (w : World) (env : ir.Env) (s : ir.State) (sc : js.Scope) (u : js.State) → OperandsDo c j ts → Extends c p → Sound z.is_mutable (keeping c p) → Ahead (keeping c p) j → Final c k from before p j sc w (count (t ∷ ts)) act made → Grows from w → Ready z.place c.scope c.writable w env sc → Keeps z.place c.kept before sc → SameState z.place w s u → Ends z lawful c c.scope k from before (ir_meaning.in_order (runs (t ∷ ts)) act env s) (core.statement (core.constant_of (Some (position_of t)) (core.numbered j) (expression_of t)) (then_use (spill (operands_in c.targets ts) (suc j)) (λ es. made (core.variable_use (core.numbered j) ∷ es))).statements) sc u
-  spill_constant c k from before t ts others plain p j act made w env s sc u ds sub sound ahead final g r ks same = valued_seq (Came z.place c c.scope k from before) w env sc u (ir_meaning.step z.place.classes z.low t env s) (expression_of t) (λ v. ir_meaning.in_order (runs ts) (λ vs. act (v ∷ vs))) (λ v u. done (js.ends js.normally (js_meaning.start true (z.place.name (core.numbered j)) v sc) u)) (run z (then_use (spill (operands_in c.targets ts) (suc j)) (λ es. made (core.variable_use (core.numbered j) ∷ es))).statements) (plain_alike z lawful c.scope t plain w env s sc u r.sees same) goes
+  spill_constant : (c : Context) (k : Destination) (from : World) (before : js.Scope) (t : Piece) (ts : List Piece) → SpillDoes c k from before ts → Plainly c t → (p : core.Variable → Type 0) (j : ℕ) (act : List ir.Value → ir.Run) (made : List core.Expression → ℕ → Code) (w : World) (env : ir.Env) (s : ir.State) (sc : js.Scope) (u : js.State) → OperandsDo c j ts → Extends c p → Sound z.is_mutable (keeping c p) → Ahead (keeping c p) j → Final c k from before p j sc w (count (t ∷ ts)) act made → Grows from w → Ready z.place c.scope c.writable w env sc → Keeps z.place c.kept before sc → SameState z.place w s u → Ends z lawful c c.scope k from before (ir_meaning.in_order (runs (t ∷ ts)) act env s) (core.statement (core.constant_of (Some (t.here.at)) (core.numbered j) (t.here.text)) (then_use (spill (operands_in ts) (suc j)) (λ es. made (core.variable_use (core.numbered j) ∷ es))).statements) sc u
+  spill_constant c k from before t ts others plain p j act made w env s sc u ds sub sound ahead final g r ks same = valued_seq (Came z.place c c.scope k from before) w env sc u (t.run env s) (t.here.text) (λ v. ir_meaning.in_order (runs ts) (λ vs. act (v ∷ vs))) (λ v u. done (js.ends js.normally (js_meaning.start true (z.place.name (core.numbered j)) v sc) u)) (run z (then_use (spill (operands_in ts) (suc j)) (λ es. made (core.variable_use (core.numbered j) ∷ es))).statements) (plain.alike w env sc r.sees w s u (grows-refl w) same) goes
     where
-      goes : (y : World) (v : ir.Value) (x : js.Value) (s : ir.State) (u : js.State) → Grows w y → SameValue y v x → SameState z.place y s u → Ends z lawful c c.scope k from before (ir_meaning.in_order (runs ts) (λ vs. act (v ∷ vs)) env s) (then_use (spill (operands_in c.targets ts) (suc j)) (λ es. made (core.variable_use (core.numbered j) ∷ es))).statements (js_meaning.start true (z.place.name (core.numbered j)) x sc) u
+      goes : (y : World) (v : ir.Value) (x : js.Value) (s : ir.State) (u : js.State) → Grows w y → SameValue y v x → SameState z.place y s u → Ends z lawful c c.scope k from before (ir_meaning.in_order (runs ts) (λ vs. act (v ∷ vs)) env s) (then_use (spill (operands_in ts) (suc j)) (λ es. made (core.variable_use (core.numbered j) ∷ es))).statements (js_meaning.start true (z.place.name (core.numbered j)) x sc) u
       goes y v x s u h alike same = others (λ a. (a ≡ core.numbered j) ⊎ p a) (suc j) (λ vs. act (v ∷ vs)) (λ es. made (core.variable_use (core.numbered j) ∷ es)) y env s (js_meaning.start true (z.place.name (core.numbered j)) x sc) u (operands-later c j (suc j) ts (omega arith) ds) (extends-more c p j sub) (sound-kept c p j sound ahead) (ahead-kept c p j (suc j) (omega arith) ahead) (saved_final c k from before p j (suc j) (count ts) w y sc (js_meaning.start true (z.place.name (core.numbered j)) x sc) act made v x true (omega arith) final h (started-keeps z lawful p true (core.numbered j) x sc (ahead.kept j (omega arith))) alike (started-here z lawful true (core.numbered j) x sc)) (grows-trans from w y g h) (ready-lift z c.scope c.writable w y env (js_meaning.start true (z.place.name (core.numbered j)) x sc) h (started-ready z lawful c.scope c.writable true (core.numbered j) x w env sc (λ a b. numbered-named a j) (numbered_open c p j ahead) r)) (keeps-trans z c.kept before sc (js_meaning.start true (z.place.name (core.numbered j)) x sc) ks (started-keeps z lawful c.kept true (core.numbered j) x sc (λ b. ahead.kept j (omega arith) (sub.more (core.numbered j) b)))) same
 
   -- an operand that isn't plain: a variable, and the statements that bring its value there
-  spill_code_does : (c : Context) (k : Destination) (from : World) (before : js.Scope) (t : Term) (ts : List Term) → SpillDoes c k from before ts → Onward c.targets t → (p : core.Variable → Type 0) (j : ℕ) → Does (writing (keeping c p) (core.numbered j)) (to_variable (core.numbered j) (type_of_term t)) (suc j) t → (act : List ir.Value → ir.Run) (made : List core.Expression → ℕ → Code) (w : World) (env : ir.Env) (s : ir.State) (sc : js.Scope) (u : js.State) → OperandsDo c j ts → Extends c p → Sound z.is_mutable (keeping c p) → Ahead (keeping c p) j → Final c k from before p j sc w (count (t ∷ ts)) act made → Grows from w → Ready z.place c.scope c.writable w env sc → Keeps z.place c.kept before sc → SameState z.place w s u → Ends z lawful c c.scope k from before (ir_meaning.in_order (runs (t ∷ ts)) act env s) (core.statement (core.declare_of (Some (position_of t)) (core.numbered j)) (followed (into z.is_mutable c.targets (to_variable (core.numbered j) (type_of_term t)) (suc j) t).statements (then_use (spill (operands_in c.targets ts) (into z.is_mutable c.targets (to_variable (core.numbered j) (type_of_term t)) (suc j) t).next) (λ es. made (core.variable_use (core.numbered j) ∷ es))).statements)) sc u
-  spill_code_does c k from before t ts others onward p j does act made w env s sc u ds sub sound ahead final g r ks same = subst (λ q. Sim z.direction (Came z.place c c.scope k from before) (ir.go_on (ir_meaning.step z.place.classes z.low t env s) f) q) (sym (run-followed z code.statements rest started u)) (sim_then z.direction (Came z.place (writing (keeping c p) x) c.scope (to_variable x (type_of_term t)) w started) (Came z.place c c.scope k from before) (ir_meaning.step z.place.classes z.low t env s) (run z code.statements started u) (ir.onward f) (js.next_statement (run z rest)) (does w env s started u (record { sees = r1.sees; «open» = open1 }) same) each)
+  spill_code_does : (c : Context) (k : Destination) (from : World) (before : js.Scope) (t : Piece) (ts : List Piece) → SpillDoes c k from before ts → Onward t → (p : core.Variable → Type 0) (j : ℕ) → PieceDoes (writing (keeping c p) (core.numbered j)) (to_variable (core.numbered j) (t.here.tpe)) (suc j) t → (act : List ir.Value → ir.Run) (made : List core.Expression → ℕ → Code) (w : World) (env : ir.Env) (s : ir.State) (sc : js.Scope) (u : js.State) → OperandsDo c j ts → Extends c p → Sound z.is_mutable (keeping c p) → Ahead (keeping c p) j → Final c k from before p j sc w (count (t ∷ ts)) act made → Grows from w → Ready z.place c.scope c.writable w env sc → Keeps z.place c.kept before sc → SameState z.place w s u → Ends z lawful c c.scope k from before (ir_meaning.in_order (runs (t ∷ ts)) act env s) (core.statement (core.declare_of (Some (t.here.at)) (core.numbered j)) (followed (t.here.code (to_variable (core.numbered j) (t.here.tpe)) (suc j)).statements (then_use (spill (operands_in ts) (t.here.code (to_variable (core.numbered j) (t.here.tpe)) (suc j)).next) (λ es. made (core.variable_use (core.numbered j) ∷ es))).statements)) sc u
+  spill_code_does c k from before t ts others onward p j does act made w env s sc u ds sub sound ahead final g r ks same = subst (λ q. Sim z.direction (Came z.place c c.scope k from before) (ir.go_on (t.run env s) f) q) (sym (run-followed z code.statements rest started u)) (sim_then z.direction (Came z.place (writing (keeping c p) x) c.scope (to_variable x (t.here.tpe)) w started) (Came z.place c c.scope k from before) (t.run env s) (run z code.statements started u) (ir.onward f) (js.next_statement (run z rest)) (does w env s started u (record { sees = r1.sees; «open» = open1 }) same) each)
     where
       x : core.Variable
       x = core.numbered j
 
       code : Code
-      code = into z.is_mutable c.targets (to_variable x (type_of_term t)) (suc j) t
+      code = t.here.code (to_variable x (t.here.tpe)) (suc j)
 
       rest : core.Statements
-      rest = (then_use (spill (operands_in c.targets ts) code.next) (λ es. made (core.variable_use x ∷ es))).statements
+      rest = (then_use (spill (operands_in ts) code.next) (λ es. made (core.variable_use x ∷ es))).statements
 
       started : js.Scope
       started = js_meaning.start false (z.place.name x) js.undefined sc
@@ -240,25 +255,28 @@ module _ (z : Setting) (lawful : Lawful z) where
       kept_here : p x → ⊥
       kept_here = ahead.kept j (omega arith)
 
-      each : (a : ir.Ended) (b : js.StatementEnd) → Came z.place (writing (keeping c p) x) c.scope (to_variable x (type_of_term t)) w started a b → Sim z.direction (Came z.place c c.scope k from before) (ir.onward f a) (js.next_statement (run z rest) b)
-      each _ _ (gave y v env' s' sc2 u' _ h (stored _ _ q a e) r2 k2 states) = others (λ b. (b ≡ x) ⊎ p b) code.next (λ vs. act (v ∷ vs)) (λ es. made (core.variable_use x ∷ es)) y env' s' sc2 u' (operands-later c j code.next ts (omega (arith, onward (to_variable x (type_of_term t)) (suc j))) ds) (extends-more c p j sub) (sound-kept c p j sound ahead) (ahead-kept c p j code.next (onward (to_variable x (type_of_term t)) (suc j)) ahead) (saved_final c k from before p j code.next (count ts) w y sc sc2 act made v q false (onward (to_variable x (type_of_term t)) (suc j)) final h (keeps-trans z p sc started sc2 (started-keeps z lawful p false x js.undefined sc kept_here) k2) a e) (grows-trans from w y g h) (record { sees = r2.sees; «open» = λ a b. r2.«open» a (inr b) }) (keeps-trans z c.kept before sc sc2 ks (keeps-trans z c.kept sc started sc2 (started-keeps z lawful c.kept false x js.undefined sc (λ b. kept_here (sub.more x b))) (record { same = λ a b. k2.same a (sub.more a b) }))) states
-      each _ _ (left y l v env' s' sc2 u' e h a r2 k2 states) = leaves_on z lawful c c.scope k from before (run z rest) y l v env' s' sc2 u' e (target_of c.targets l) refl (grows-trans from w y g h) a (record { sees = r2.sees; «open» = λ a b. r2.«open» a (inr b) }) (keeps-trans z c.kept before sc sc2 ks (keeps-trans z c.kept sc started sc2 (started-keeps z lawful c.kept false x js.undefined sc (λ b. kept_here (sub.more x b))) (record { same = λ a b. k2.same a (sub.more a b) }))) states
-      each _ _ (stopped y env' s' sc2 u' t h r2 k2 states) = sim_done z.direction (Came z.place c c.scope k from before) (ir.ends ir.stops env' s') (js.ends js.breaks_nearest sc2 u') (stopped y env' s' sc2 u' t (grows-trans from w y g h) (record { sees = r2.sees; «open» = λ a b. r2.«open» a (inr b) }) (keeps-trans z c.kept before sc sc2 ks (keeps-trans z c.kept sc started sc2 (started-keeps z lawful c.kept false x js.undefined sc (λ b. kept_here (sub.more x b))) (record { same = λ a b. k2.same a (sub.more a b) }))) states)
+      all_kept : (sc2 : js.Scope) → Keeps z.place (Less p (to_variable x (t.here.tpe))) started sc2 → Keeps z.place p started sc2
+      all_kept sc2 k2 = keeps-fewer z (Less p (to_variable x (t.here.tpe))) p started sc2 (λ b h. (h, λ e. kept_here (subst p (sym e) h))) k2
+
+      each : (a : ir.Ended) (b : js.StatementEnd) → Came z.place (writing (keeping c p) x) c.scope (to_variable x (t.here.tpe)) w started a b → Sim z.direction (Came z.place c c.scope k from before) (ir.onward f a) (js.next_statement (run z rest) b)
+      each _ _ (gave y v env' s' sc2 u' _ h (stored _ _ q a e) r2 k2 states) = others (λ b. (b ≡ x) ⊎ p b) code.next (λ vs. act (v ∷ vs)) (λ es. made (core.variable_use x ∷ es)) y env' s' sc2 u' (operands-later c j code.next ts (omega (arith, onward (to_variable x (t.here.tpe)) (suc j))) ds) (extends-more c p j sub) (sound-kept c p j sound ahead) (ahead-kept c p j code.next (onward (to_variable x (t.here.tpe)) (suc j)) ahead) (saved_final c k from before p j code.next (count ts) w y sc sc2 act made v q false (onward (to_variable x (t.here.tpe)) (suc j)) final h (keeps-trans z p sc started sc2 (started-keeps z lawful p false x js.undefined sc kept_here) (all_kept sc2 k2)) a e) (grows-trans from w y g h) (record { sees = r2.sees; «open» = λ a b. r2.«open» a (inr b) }) (keeps-trans z c.kept before sc sc2 ks (keeps-trans z c.kept sc started sc2 (started-keeps z lawful c.kept false x js.undefined sc (λ b. kept_here (sub.more x b))) (keeps-fewer z p c.kept started sc2 sub.more (all_kept sc2 k2)))) states
+      each _ _ (left y l v env' s' sc2 u' e h a r2 k2 states) = leaves_on z lawful c c.scope k from before (run z rest) y l v env' s' sc2 u' e (target_of c.targets l) refl (grows-trans from w y g h) a (record { sees = r2.sees; «open» = λ a b. r2.«open» a (inr b) }) (less-trans z c.kept (target_of c.targets l) before sc sc2 ks (less-trans z c.kept (target_of c.targets l) sc started sc2 (started-keeps z lawful c.kept false x js.undefined sc (λ b. kept_here (sub.more x b))) (keeps-fewer z (Less p (target_of c.targets l)) (Less c.kept (target_of c.targets l)) started sc2 (λ y i. (sub.more y i.0, i.1)) k2))) states
+      each _ _ (stopped y env' s' sc2 u' t h r2 k2 states) = sim_done z.direction (Came z.place c c.scope k from before) (ir.ends ir.stops env' s') (js.ends js.breaks_nearest sc2 u') (stopped y env' s' sc2 u' t (grows-trans from w y g h) (record { sees = r2.sees; «open» = λ a b. r2.«open» a (inr b) }) (keeps-trans z c.kept before sc sc2 ks (keeps-trans z c.kept sc started sc2 (started-keeps z lawful c.kept false x js.undefined sc (λ b. kept_here (sub.more x b))) (keeps-fewer z p c.kept started sc2 sub.more k2))) states)
 
   -- one operand, by whether it and all behind it are plain, whether it is fixed, and whether it is plain
-  spill_one : (c : Context) (k : Destination) (from : World) (before : js.Scope) (t : Term) (ts : List Term) → SpillDoes c k from before ts → (a f b : Bool) → (is_plain t && all_plain (operands_in c.targets ts)) ≡ a → is_fixed z.is_mutable t ≡ f → is_plain t ≡ b → (p : core.Variable → Type 0) (j : ℕ) (act : List ir.Value → ir.Run) (made : List core.Expression → ℕ → Code) (w : World) (env : ir.Env) (s : ir.State) (sc : js.Scope) (u : js.State) → OperandsDo c j (t ∷ ts) → Extends c p → Sound z.is_mutable (keeping c p) → Ahead (keeping c p) j → Final c k from before p j sc w (count (t ∷ ts)) act made → Grows from w → Ready z.place c.scope c.writable w env sc → Keeps z.place c.kept before sc → SameState z.place w s u → Ends z lawful c c.scope k from before (ir_meaning.in_order (runs (t ∷ ts)) act env s) (then_use (spill_case a f b (operand z.is_mutable t (λ k j. into z.is_mutable c.targets k j t)) (operands_in c.targets ts) (spill (operands_in c.targets ts)) j) made).statements sc u
+  spill_one : (c : Context) (k : Destination) (from : World) (before : js.Scope) (t : Piece) (ts : List Piece) → SpillDoes c k from before ts → (a f b : Bool) → (t.here.plain && all_plain (operands_in ts)) ≡ a → t.here.fixed ≡ f → t.here.plain ≡ b → (p : core.Variable → Type 0) (j : ℕ) (act : List ir.Value → ir.Run) (made : List core.Expression → ℕ → Code) (w : World) (env : ir.Env) (s : ir.State) (sc : js.Scope) (u : js.State) → OperandsDo c j (t ∷ ts) → Extends c p → Sound z.is_mutable (keeping c p) → Ahead (keeping c p) j → Final c k from before p j sc w (count (t ∷ ts)) act made → Grows from w → Ready z.place c.scope c.writable w env sc → Keeps z.place c.kept before sc → SameState z.place w s u → Ends z lawful c c.scope k from before (ir_meaning.in_order (runs (t ∷ ts)) act env s) (then_use (spill_case a f b t.here (operands_in ts) (spill (operands_in ts)) j) made).statements sc u
   spill_one c k from before t ts others true f b e1 e2 e3 p j act made w env s sc u ds sub sound ahead final g r ks same = spill_all c k from before t ts e1 p j act made w env s sc u ds sound ahead final r ks same
   spill_one c k from before t ts others false true b e1 e2 e3 p j act made w env s sc u (inl d, ds) sub sound ahead final g r ks same = spill_fixed c k from before t ts others e2 d.1 p j act made w env s sc u ds sub sound ahead final g r ks same
   spill_one c k from before t ts others false true b e1 e2 e3 p j act made w env s sc u (inr d, ds) sub sound ahead final g r ks same = impossible (sym d.1 ∙ e2)
   spill_one c k from before t ts others false false true e1 e2 e3 p j act made w env s sc u (inl d, ds) sub sound ahead final g r ks same = spill_constant c k from before t ts others d.1 p j act made w env s sc u ds sub sound ahead final g r ks same
   spill_one c k from before t ts others false false true e1 e2 e3 p j act made w env s sc u (inr d, ds) sub sound ahead final g r ks same = impossible (sym d.0 ∙ e3)
   spill_one c k from before t ts others false false false e1 e2 e3 p j act made w env s sc u (inl d, ds) sub sound ahead final g r ks same = impossible (sym e3 ∙ d.0)
-  spill_one c k from before t ts others false false false e1 e2 e3 p j act made w env s sc u (inr d, ds) sub sound ahead final g r ks same = subst (λ ss. Ends z lawful c c.scope k from before (ir_meaning.in_order (runs (t ∷ ts)) act env s) (core.statement (core.declare_of (Some (position_of t)) (core.numbered j)) ss) sc u) (sym (followed-associative code.statements (spill (operands_in c.targets ts) code.next).statements (made (core.variable_use (core.numbered j) ∷ (spill (operands_in c.targets ts) code.next).expressions) (spill (operands_in c.targets ts) code.next).next).statements)) (spill_code_does c k from before t ts others d.2 p j (d.3 p j (omega arith) sub sound ahead) act made w env s sc u ds sub sound ahead final g r ks same)
+  spill_one c k from before t ts others false false false e1 e2 e3 p j act made w env s sc u (inr d, ds) sub sound ahead final g r ks same = subst (λ ss. Ends z lawful c c.scope k from before (ir_meaning.in_order (runs (t ∷ ts)) act env s) (core.statement (core.declare_of (Some (t.here.at)) (core.numbered j)) ss) sc u) (sym (followed-associative code.statements (spill (operands_in ts) code.next).statements (made (core.variable_use (core.numbered j) ∷ (spill (operands_in ts) code.next).expressions) (spill (operands_in ts) code.next).next).statements)) (spill_code_does c k from before t ts others d.2 p j (d.3 p j (omega arith) sub sound ahead) act made w env s sc u ds sub sound ahead final g r ks same)
     where
       code : Code
-      code = into z.is_mutable c.targets (to_variable (core.numbered j) (type_of_term t)) (suc j) t
+      code = t.here.code (to_variable (core.numbered j) (t.here.tpe)) (suc j)
 
   -- what operands come to in order, their statements and expressions come to
-  pub spill_does : (c : Context) (k : Destination) (from : World) (before : js.Scope) (ts : List Term) → SpillDoes c k from before ts
+  pub spill_does : (c : Context) (k : Destination) (from : World) (before : js.Scope) (ts : List Piece) → SpillDoes c k from before ts
   spill_does c k from before [] p j act made w env s sc u ds sub sound ahead final g r ks same = final p j [] [] w env s sc u (λ y h. h) sound ahead (omega arith) (grows-refl w) r ks (keeps-refl z p sc) same none_left no_operands
-  spill_does c k from before (t ∷ ts) p j act made w env s sc u ds sub sound ahead final g r ks same = spill_one c k from before t ts (spill_does c k from before ts) (is_plain t && all_plain (operands_in c.targets ts)) (is_fixed z.is_mutable t) (is_plain t) refl refl refl p j act made w env s sc u ds sub sound ahead final g r ks same
+  spill_does c k from before (t ∷ ts) p j act made w env s sc u ds sub sound ahead final g r ks same = spill_one c k from before t ts (spill_does c k from before ts) (t.here.plain && all_plain (operands_in ts)) (t.here.fixed) (t.here.plain) refl refl refl p j act made w env s sc u ds sub sound ahead final g r ks same

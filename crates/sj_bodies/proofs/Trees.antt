@@ -35,7 +35,7 @@ use Rattle.sj_bodies.proofs.Forms.{sound-writing, ahead-writing, outside-writing
 use Rattle.sj_bodies.proofs.Numbers.{onward}
 use Rattle.sj_plain.proofs.Orders.{OperandAlike}
 use Rattle.sj_plain.proofs.Plain.{plain_alike, as_operand, call_alike, division_alike, division_act}
-use Rattle.sj_bodies.proofs.Spills.{keeping, writing, Does, Final, OperandDoes, OperandsDo, runs, operands_in, count}
+use Rattle.sj_bodies.proofs.Spills.{keeping, writing, Does, Final, Piece, fixed_run, OperandDoes, OperandsDo, runs, operands_in, count}
 use Rattle.sj_bodies.proofs.Statements.{finish_alike, Ends}
 use Rattle.sj_plain.proofs.Worlds.{World}
 
@@ -67,8 +67,12 @@ module _ (z : Setting) (lawful : Lawful z) (low : LowAlike z) where
   abbrev pub TreeDoes : Term → Type 1
   TreeDoes t = (c : Context) (k : Destination) (j : ℕ) → Sound z.is_mutable c → Ahead c j → Outside c (Own t) → Writes c.writable k → FineHere c k t → Does z lawful c k j t
 
-  pub operand_does : (c : Context) (j : ℕ) (t : Term) → TreeDoes t → Outside c (Own t) → FineOperand z.is_mutable z.place.is_linked c.scope t (λ y. FineHere c (to_variable y (type_of_term t)) t) → OperandDoes z lawful c j t
-  operand_does c j t does out (inl h) = inl h
+  -- a tree as an operand
+  abbrev pub piece : Targets → Term → Piece
+  piece ls t = record { run = ir_meaning.step z.place.classes z.low t; here = operand z.is_mutable t (λ k j. into z.is_mutable ls k j t) }
+
+  pub operand_does : (c : Context) (j : ℕ) (t : Term) → TreeDoes t → Outside c (Own t) → FineOperand z.is_mutable z.place.is_linked c.scope t (λ y. FineHere c (to_variable y (type_of_term t)) t) → OperandDoes z lawful c j (piece c.targets t)
+  operand_does c j t does out (inl h) = inl (h.0, record { alike = λ w env sc sees. as_operand z lawful c.scope t (plain_alike z lawful c.scope t h.1) w env sc sees; fixes = λ e p sound w env sc sees. fixed_run z lawful c p t sound e h.1 w env sc sees })
   operand_does c j t does out (inr h) = inr (h.0, h.1, (λ k i. onward z.is_mutable c.targets t k i), λ p i l ext sound ahead. does (writing (keeping c p) (core.numbered i)) (to_variable (core.numbered i) (type_of_term t)) (suc i) (sound-writing z lawful (keeping c p) i sound ahead) (ahead-writing z lawful (keeping c p) i ahead) (outside-writing z lawful c p i (Own t) ext out) (inl refl) (h.2 (core.numbered i)))
 
   -- a definition by what is known of its right side
@@ -95,21 +99,21 @@ module _ (z : Setting) (lawful : Lawful z) (low : LowAlike z) where
   divisor_stays false false o q n ls k p op j = refl
 
   -- arguments as a list
-  abbrev pub list_of : Terms → List Term
-  list_of no_terms = []
-  list_of (more_terms t ts) = t ∷ list_of ts
+  abbrev pub list_of : Targets → Terms → List Piece
+  list_of ls no_terms = []
+  list_of ls (more_terms t ts) = piece ls t ∷ list_of ls ts
 
-  operands-list : (ls : Targets) (ts : Terms) → operands z.is_mutable ls ts ≡ operands_in z lawful ls (list_of ts)
+  operands-list : (ls : Targets) (ts : Terms) → operands z.is_mutable ls ts ≡ operands_in z lawful (list_of ls ts)
   operands-list ls no_terms = refl
   operands-list ls (more_terms t ts) = ap (λ os. operand z.is_mutable t (λ k j. into z.is_mutable ls k j t) ∷ os) (operands-list ls ts)
 
-  runs-list : (ts : Terms) → ir_meaning.operands z.place.classes z.low ts ≡ runs z lawful (list_of ts)
-  runs-list no_terms = refl
-  runs-list (more_terms t ts) = ap (λ rs. ir_meaning.step z.place.classes z.low t ∷ rs) (runs-list ts)
+  runs-list : (ls : Targets) (ts : Terms) → ir_meaning.operands z.place.classes z.low ts ≡ runs z lawful (list_of ls ts)
+  runs-list ls no_terms = refl
+  runs-list ls (more_terms t ts) = ap (λ rs. ir_meaning.step z.place.classes z.low t ∷ rs) (runs-list ls ts)
 
   -- a call, by what is known of its arguments
-  pub call_does : (p : Position) (c : Context) (k : Destination) (j : ℕ) (m : MethodName) (cn : List ℕ) (n : Namespace) (ts : Terms) (t : IrType) → Sound z.is_mutable c → Ahead c j → Writes c.writable k → FitsIn k t → z.place.is_linked (member cn n m) ≡ true → NoBoxes m.params (types_of ts) → OperandsDo z lawful c j (list_of ts) → Does z lawful c k j (apply_static p cn n m ts t)
-  call_does p c k j m cn n ts t sound ahead wr fits linked boxes ds w env s sc u r same = subst (λ os. Ends z lawful c c.scope k w sc (ir_meaning.in_order (ir_meaning.operands z.place.classes z.low ts) act env s) (then_use (spill os j) made).statements sc u) (sym (operands-list c.targets ts)) (subst (λ rs. Ends z lawful c c.scope k w sc (ir_meaning.in_order rs act env s) (then_use (spill (operands_in z lawful c.targets (list_of ts)) j) made).statements sc u) (sym (runs-list ts)) (of_operands z lawful c k (list_of ts) j act made sound ahead ds final w env s sc u r same))
+  pub call_does : (p : Position) (c : Context) (k : Destination) (j : ℕ) (m : MethodName) (cn : List ℕ) (n : Namespace) (ts : Terms) (t : IrType) → Sound z.is_mutable c → Ahead c j → Writes c.writable k → FitsIn k t → z.place.is_linked (member cn n m) ≡ true → NoBoxes m.params (types_of ts) → OperandsDo z lawful c j (list_of c.targets ts) → Does z lawful c k j (apply_static p cn n m ts t)
+  call_does p c k j m cn n ts t sound ahead wr fits linked boxes ds w env s sc u r same = subst (λ os. Ends z lawful c c.scope k w sc (ir_meaning.in_order (ir_meaning.operands z.place.classes z.low ts) act env s) (then_use (spill os j) made).statements sc u) (sym (operands-list c.targets ts)) (subst (λ rs. Ends z lawful c c.scope k w sc (ir_meaning.in_order rs act env s) (then_use (spill (operands_in z lawful (list_of c.targets ts)) j) made).statements sc u) (sym (runs-list c.targets ts)) (of_operands z lawful c k (list_of c.targets ts) j act made sound ahead ds final w env s sc u r same))
     where
       act : List ir.Value → ir.Run
       act = ir_meaning.call z.low (ir_world.member_of z.place.classes cn n m) None
@@ -117,9 +121,9 @@ module _ (z : Setting) (lawful : Lawful z) (low : LowAlike z) where
       made : List core.Expression → ℕ → Code
       made es = finish k p t false (core.static_call (member cn n m) (expressions_of (coerced_arguments m.params (types_of ts) es)))
 
-      final : (w : World) (sc : js.Scope) → Final z lawful c k w sc c.kept j sc w (count z lawful (list_of ts)) act made
+      final : (w : World) (sc : js.Scope) → Final z lawful c k w sc c.kept j sc w (count z lawful (list_of c.targets ts)) act made
       final from before q i rs es w env s sc u more so ah l g ready kb ks same sized alike = finish_alike z lawful c k p t (core.static_call (member cn n m) (expressions_of (coerced_arguments m.params (types_of ts) es))) i sound wr fits w from before env (ir_meaning.in_order rs act env s) sc u g kb ready (call_alike z lawful c.scope (member cn n m) rs (coerced_arguments m.params (types_of ts) es) es (arguments-same m.params (types_of ts) es boxes) linked w env s sc u ready.sees.inside alike same)
 
   -- a division, by what is known of its dividend
-  pub division_does : (p : Position) (c : Context) (k : Destination) (j : ℕ) (o : BinaryOp) (e : Term) (q : Position) (n : ℤ) → IsDivision o → FitsSigned w32 n → n ≢ pos 0 → Sound z.is_mutable c → Ahead c j → Writes c.writable k → FitsIn k (binary_result o) → OperandDoes z lawful c j e → Does z lawful c k j (binary_op p o e (int_literal q n))
-  division_does p c k j o e q n d f ne sound ahead wr fits dividend w env s sc u r same = subst (λ code. Ends z lawful c c.scope k w sc (ir_meaning.in_order (ir_meaning.step z.place.classes z.low e ∷ []) (division_act z lawful c.scope o n) env s) code.statements sc u) (sym (divisor_stays (is_fixed z.is_mutable e) (is_plain e) (operand z.is_mutable e (λ k j. into z.is_mutable c.targets k j e)) q n c.targets k p o j)) (of_operands z lawful c k (e ∷ []) j (division_act z lawful c.scope o n) (λ es. finish k p (binary_result o) false (core.binary_of o (first_of es) (core.number_value n))) sound ahead (dividend, tt) (one_final z lawful c k j (division_act z lawful c.scope o n) (λ es. finish k p (binary_result o) false (core.binary_of o (first_of es) (core.number_value n))) (finish_one c k p (binary_result o) (division_act z lawful c.scope o n) (λ x. core.binary_of o x (core.number_value n)) j sound wr fits (λ a x w env s sc u alike same. division_alike z lawful c.scope o a x n d f ne w env s sc u alike same))) w env s sc u r same)
+  pub division_does : (p : Position) (c : Context) (k : Destination) (j : ℕ) (o : BinaryOp) (e : Term) (q : Position) (n : ℤ) → IsDivision o → FitsSigned w32 n → n ≢ pos 0 → Sound z.is_mutable c → Ahead c j → Writes c.writable k → FitsIn k (binary_result o) → OperandDoes z lawful c j (piece c.targets e) → Does z lawful c k j (binary_op p o e (int_literal q n))
+  division_does p c k j o e q n d f ne sound ahead wr fits dividend w env s sc u r same = subst (λ code. Ends z lawful c c.scope k w sc (ir_meaning.in_order (ir_meaning.step z.place.classes z.low e ∷ []) (division_act z lawful c.scope o n) env s) code.statements sc u) (sym (divisor_stays (is_fixed z.is_mutable e) (is_plain e) (operand z.is_mutable e (λ k j. into z.is_mutable c.targets k j e)) q n c.targets k p o j)) (of_operands z lawful c k (piece c.targets e ∷ []) j (division_act z lawful c.scope o n) (λ es. finish k p (binary_result o) false (core.binary_of o (first_of es) (core.number_value n))) sound ahead (dividend, tt) (one_final z lawful c k j (division_act z lawful c.scope o n) (λ es. finish k p (binary_result o) false (core.binary_of o (first_of es) (core.number_value n))) (finish_one c k p (binary_result o) (division_act z lawful c.scope o n) (λ x. core.binary_of o x (core.number_value n)) j sound wr fits (λ a x w env s sc u alike same. division_alike z lawful c.scope o a x n d f ne w env s sc u alike same))) w env s sc u r same)

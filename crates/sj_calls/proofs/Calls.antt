@@ -42,10 +42,9 @@ start is_mutable scope = record { scope = scope; writable = λ y. ⊥; kept = Ke
 
 pub sound-start : (is_mutable : List ℕ → Bool) (scope : List ℕ → Type 0) → Sound is_mutable (start is_mutable scope)
 sound-start is_mutable scope = record {
-  apart = λ y wr k. wr;
   hidden = λ x wr g. wr;
   constant = λ x g m. (g, m);
-  changing = λ x k m. impossible (sym k.1 ∙ m);
+  changing = λ x g k m. impossible (sym k.1 ∙ m);
   reached = λ l. tt;
 }
 
