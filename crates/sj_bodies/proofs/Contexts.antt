@@ -93,6 +93,7 @@ pub data Arrives (p : Place) (w : World) (v : ir.Value) (sc : js.Scope) (usual :
 pub data Came (p : Place) (c : Context) (scope : List ℕ → Type 0) (k : Destination) (from : World) (before : js.Scope) : ir.Ended → js.StatementEnd → Type 0 where
   gave : (w : World) (v : ir.Value) (env : ir.Env) (s : ir.State) (sc : js.Scope) (u : js.State) (e : js.Completion) → Grows from w → Arrives p w v sc js.normally k e → Ready p scope c.writable w env sc → Keeps p (Less c.kept k) before sc → SameState p w s u → Came p c scope k from before (ir.ends (ir.gives v) env s) (js.ends e sc u)
   left : (w : World) (l : List ℕ) (v : ir.Value) (env : ir.Env) (s : ir.State) (sc : js.Scope) (u : js.State) (e : js.Completion) → Grows from w → Arrives p w v sc (js.breaks (p.label l)) (target_of c.targets l) e → Ready p c.scope c.writable w env sc → Keeps p (Less c.kept (target_of c.targets l)) before sc → SameState p w s u → Came p c scope k from before (ir.ends (ir.leaves l v) env s) (js.ends e sc u)
+  threw : (w : World) (v : ir.Value) (x : js.Value) (env : ir.Env) (s : ir.State) (sc : js.Scope) (u : js.State) → Grows from w → SameValue w v x → Ready p c.scope c.writable w env sc → Keeps p c.kept before sc → SameState p w s u → Came p c scope k from before (ir.ends (ir.throws v) env s) (js.ends (js.thrown_with x) sc u)
   stopped : (w : World) (env : ir.Env) (s : ir.State) (sc : js.Scope) (u : js.State) → c.turning → Grows from w → Ready p c.scope c.writable w env sc → Keeps p c.kept before sc → SameState p w s u → Came p c scope k from before (ir.ends ir.stops env s) (js.ends js.breaks_nearest sc u)
 
 -- texts that aren't equal

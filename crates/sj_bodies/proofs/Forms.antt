@@ -22,12 +22,12 @@ use Rattle.sj_plain.specs.Conditions.{NoBox}
 use Rattle.sj_plain.specs.Settings.{Setting, shown, run, SameState, Valued, valued, Lawful, Holding, holding, Sees}
 use Rattle.sj_plain.proofs.Conditions.{coerced-same}
 use Rattle.sj_bodies.proofs.Blocks.{Outside, Undeclared, block_alike}
-use Rattle.sj_bodies.proofs.Contexts.{Context, Writes, Sound, Ahead, IsOpen, Ready, ready-lift, Keeps, Goes, Less, keeps-less, less-trans, keeps-fewer, keeps-refl, keeps-trans, Arrives, let_go, stored, Came, gave, left, stopped, equals, is-equal, started-here, started-other, started-inside, started-ready, started-keeps}
+use Rattle.sj_bodies.proofs.Contexts.{Context, Writes, Sound, Ahead, IsOpen, Ready, ready-lift, Keeps, Goes, Less, keeps-less, less-trans, keeps-fewer, keeps-refl, keeps-trans, Arrives, let_go, stored, Came, gave, left, threw, stopped, equals, is-equal, started-here, started-other, started-inside, started-ready, started-keeps}
 use Rattle.sj_bodies.specs.Fine.{FitsIn}
 use Rattle.sj_names.proofs.Same.{impossible}
 use Rattle.sj_plain.proofs.Orders.{OperandAlike, OperandsAlike, no_operands, more_operands, in_order_alike, ActsAlike}
 use Rattle.sj_bodies.proofs.Spills.{keeping, writing, Extends, extends-refl, Final, OperandsDo, Piece, runs, operands_in, count, none_left, one_left, spill_does, numbered-named, numbered-same}
-use Rattle.sj_bodies.proofs.Statements.{act_of, ends-one, assigned, started-open, finish_alike, Ends}
+use Rattle.sj_bodies.proofs.Statements.{act_of, ends-one, assigned, started-open, finish_alike, ThrowsOn, throws-on, valued_then, valued_done, Ends}
 use Rattle.sj_plain.proofs.Worlds.{World, Grows, grows-refl, grows-trans, SameValue, same_undefined, same_null, same_boolean, same_number, same_text, no_values, one_more}
 
 pub writes-more : (q p : core.Variable → Type 0) (k : Destination) → ((y : core.Variable) → q y → p y) → Writes q k → Writes p k
@@ -119,15 +119,12 @@ module _ (z : Setting) (lawful : Lawful z) where
   define_is x v env s = refl
 
   -- one operand, of whose value something is made, and then a statement of its expression
-  pub act_alike : (F : ir.Ended → js.StatementEnd → Type 0) (w : World) (env : ir.Env) (s : ir.State) (sc : js.Scope) (u : js.State) (r : ir.Run) (e : core.Expression) (act : List ir.Value → ir.Run) (g : js.Value → js.State → Out js.StatementEnd) → OperandAlike z w env sc r (shown z e) → SameState z.place w s u → ((y : World) (v : ir.Value) (x : js.Value) (s : ir.State) (u : js.State) → Grows w y → SameValue y v x → SameState z.place y s u → Sim z.direction F (act (v ∷ []) env s) (g x u)) → Sim z.direction F (ir_meaning.in_order (r ∷ []) act env s) (then_do (shown z e sc u) (js.in_statement sc g))
-  act_alike F w env s sc u r e act g operand same goes = sim_then z.direction (Valued z.place w env) F (r env s) (shown z e sc u) (ir.onward (λ v. ir_meaning.in_order [] (λ vs. act (v ∷ vs)))) (js.in_statement sc g) (operand w s u (grows-refl w) same) each
-    where
-      each : (a : ir.Ended) (b : js.ExpressionEnd) → Valued z.place w env a b → Sim z.direction F (ir.onward (λ v. ir_meaning.in_order [] (λ vs. act (v ∷ vs))) a) (js.in_statement sc g b)
-      each _ _ (valued y v x s u h a same) = goes y v x s u h a same
+  pub act_alike : (F : ir.Ended → js.StatementEnd → Type 0) (w : World) (env : ir.Env) (s : ir.State) (sc : js.Scope) (u : js.State) (r : ir.Run) (e : core.Expression) (act : List ir.Value → ir.Run) (g : js.Value → js.State → Out js.StatementEnd) → OperandAlike z w env sc r (shown z e) → SameState z.place w s u → ThrowsOn z lawful F w env sc → ((y : World) (v : ir.Value) (x : js.Value) (s : ir.State) (u : js.State) → Grows w y → SameValue y v x → SameState z.place y s u → Sim z.direction F (act (v ∷ []) env s) (g x u)) → Sim z.direction F (ir_meaning.in_order (r ∷ []) act env s) (then_do (shown z e sc u) (js.in_statement sc g))
+  act_alike F w env s sc u r e act g operand same through goes = sim_then z.direction (Valued z.place w env) F (r env s) (shown z e sc u) (ir.onward (λ v. ir_meaning.in_order [] (λ vs. act (v ∷ vs)))) (js.in_statement sc g) (operand w s u (grows-refl w) same) (valued_then z lawful F w env sc (λ v. ir_meaning.in_order [] (λ vs. act (v ∷ vs))) g through goes)
 
   -- an assignment to a local in scope that isn't kept
   pub assign_final : (c : Context) (p : Position) (x : List ℕ) (t i : IrType) (j : ℕ) → Sound z.is_mutable c → c.scope x → z.is_mutable x ≡ true → NoBox t i → (w : World) (sc : js.Scope) → OneFinal c discard w sc j (ir_meaning.define x) (λ es. one (core.assign_to (Some p) (core.named x) (coerced t i (first_of es))))
-  assign_final c p x t i j sound inside mutable fits from before n r e w env s sc u ahead l g ready ks same operand = subst (λ d. Ends z lawful c c.scope discard from before (ir_meaning.in_order (r ∷ []) (ir_meaning.define x) env s) (core.statement (core.assign_to (Some p) (core.named x) d) core.no_statements) sc u) (sym (coerced-same t i e fits)) (ends-one z lawful c c.scope discard from before (ir_meaning.in_order (r ∷ []) (ir_meaning.define x) env s) (core.assign_to (Some p) (core.named x) e) sc u (act_alike (Came z.place c c.scope discard from before) w env s sc u r e (ir_meaning.define x) (λ v. js_meaning.assign z.place.program (z.place.name (core.named x)) v (sc.bindings (z.place.name (core.named x))) sc) operand same goes))
+  assign_final c p x t i j sound inside mutable fits from before n r e w env s sc u ahead l g ready ks same operand = subst (λ d. Ends z lawful c c.scope discard from before (ir_meaning.in_order (r ∷ []) (ir_meaning.define x) env s) (core.statement (core.assign_to (Some p) (core.named x) d) core.no_statements) sc u) (sym (coerced-same t i e fits)) (ends-one z lawful c c.scope discard from before (ir_meaning.in_order (r ∷ []) (ir_meaning.define x) env s) (core.assign_to (Some p) (core.named x) e) sc u (act_alike (Came z.place c c.scope discard from before) w env s sc u r e (ir_meaning.define x) (λ v. js_meaning.assign z.place.program (z.place.name (core.named x)) v (sc.bindings (z.place.name (core.named x))) sc) operand same (throws-on z lawful c c.scope discard from w before env sc g ks ready) goes))
     where
       open_here : (o : Option ir.Value) (cell : js.Cell) → Holding w o cell → IsOpen cell
       open_here _ _ (holding v q a) = record { value = q; is = refl }
@@ -139,10 +136,7 @@ module _ (z : Setting) (lawful : Lawful z) where
   log_acts : (w : World) (env : ir.Env) (sc : js.Scope) → ActsAlike z w w env ir_meaning.log js_meaning.log sc
   log_acts w env sc y _ _ s u g no_values same = sim_wrong z.direction (Valued z.place w env) _
   log_acts w env sc y _ _ s u g (one_more _ _ _ _ (same_text us) no_values) same = sim_says z.direction (Valued z.place w env) us (ir.ends (ir.gives ir.undefined) env s) (js.gives js.undefined u) (valued y ir.undefined js.undefined s u g same_undefined same)
-  log_acts w env sc y _ _ s u g (one_more _ _ _ _ same_undefined no_values) same = sim_wrong z.direction (Valued z.place w env) _
-  log_acts w env sc y _ _ s u g (one_more _ _ _ _ same_null no_values) same = sim_wrong z.direction (Valued z.place w env) _
-  log_acts w env sc y _ _ s u g (one_more _ _ _ _ (same_boolean b) no_values) same = sim_wrong z.direction (Valued z.place w env) _
-  log_acts w env sc y _ _ s u g (one_more _ _ _ _ (same_number n f) no_values) same = sim_wrong z.direction (Valued z.place w env) _
+  log_acts w env sc y _ _ s u g (one_more _ _ _ _ _ no_values) same = sim_wrong z.direction (Valued z.place w env) _
   log_acts w env sc y _ _ s u g (one_more v x _ _ a (one_more v' x' vs xs b d)) same = subst (λ o. Sim z.direction (Valued z.place w env) o (js_meaning.log (x ∷ x' ∷ xs) sc u)) (sym (log_wrong v v' vs env s)) (sim_wrong z.direction (Valued z.place w env) _)
     where
       log_wrong : (v v' : ir.Value) (vs : List ir.Value) (env : ir.Env) (s : ir.State) → ir_meaning.log (v ∷ v' ∷ vs) env s ≡ wrong
@@ -150,15 +144,16 @@ module _ (z : Setting) (lawful : Lawful z) where
       log_wrong _ v' vs env s = refl
 
   pub log_final : (c : Context) (p : Position) (j : ℕ) → (w : World) (sc : js.Scope) → OneFinal c discard w sc j ir_meaning.log (λ es. one (core.log_of (Some p) (first_of es)))
-  log_final c p j from before n r e w env s sc u ahead l g ready ks same operand = ends-one z lawful c c.scope discard from before (ir_meaning.in_order (r ∷ []) ir_meaning.log env s) (core.log_of (Some p) e) sc u (subst (λ o. Sim z.direction (Came z.place c c.scope discard from before) o (then_do (js_meaning.in_order (shown z e ∷ []) js_meaning.log sc u) (js.in_statement sc (λ v. js_meaning.nothing sc)))) (then_do-right (ir_meaning.in_order (r ∷ []) ir_meaning.log env s)) (sim_then z.direction (Valued z.place w env) (Came z.place c c.scope discard from before) (ir_meaning.in_order (r ∷ []) ir_meaning.log env s) (js_meaning.in_order (shown z e ∷ []) js_meaning.log sc u) done (js.in_statement sc (λ v. js_meaning.nothing sc)) (in_order_alike z w w env sc w (r ∷ []) (shown z e ∷ []) ir_meaning.log js_meaning.log (more_operands r (shown z e) [] [] operand no_operands) (log_acts w env sc) w s u (grows-refl w) (grows-refl w) same) each))
+  log_final c p j from before n r e w env s sc u ahead l g ready ks same operand = ends-one z lawful c c.scope discard from before (ir_meaning.in_order (r ∷ []) ir_meaning.log env s) (core.log_of (Some p) e) sc u (subst (λ o. Sim z.direction (Came z.place c c.scope discard from before) o (then_do (js_meaning.in_order (shown z e ∷ []) js_meaning.log sc u) (js.in_statement sc (λ v. js_meaning.nothing sc)))) (then_do-right (ir_meaning.in_order (r ∷ []) ir_meaning.log env s)) (sim_then z.direction (Valued z.place w env) (Came z.place c c.scope discard from before) (ir_meaning.in_order (r ∷ []) ir_meaning.log env s) (js_meaning.in_order (shown z e ∷ []) js_meaning.log sc u) done (js.in_statement sc (λ v. js_meaning.nothing sc)) (in_order_alike z w w env sc w (r ∷ []) (shown z e ∷ []) ir_meaning.log js_meaning.log (more_operands r (shown z e) [] [] operand no_operands) (log_acts w env sc) w s u (grows-refl w) (grows-refl w) (grows-refl w) same) (valued_done z lawful (Came z.place c c.scope discard from before) w env sc (λ v. js_meaning.nothing sc) (throws-on z lawful c c.scope discard from w before env sc g ks ready) each)))
     where
-      each : (a : ir.Ended) (b : js.ExpressionEnd) → Valued z.place w env a b → Sim z.direction (Came z.place c c.scope discard from before) (done a) (js.in_statement sc (λ v. js_meaning.nothing sc) b)
-      each _ _ (valued y v x s u h a same) = sim_done z.direction (Came z.place c c.scope discard from before) (ir.ends (ir.gives v) env s) (js.ends js.normally sc u) (gave y v env s sc u js.normally (grows-trans from w y g h) let_go (ready-lift z c.scope c.writable w y env sc h ready) (keeps-less z c.kept discard before sc ks) same)
+      each : (y : World) (v : ir.Value) (x : js.Value) (s : ir.State) (u : js.State) → Grows w y → SameValue y v x → SameState z.place y s u → Sim z.direction (Came z.place c c.scope discard from before) (done (ir.ends (ir.gives v) env s)) (js_meaning.nothing sc u)
+      each y v x s u h a same = sim_done z.direction (Came z.place c c.scope discard from before) (ir.ends (ir.gives v) env s) (js.ends js.normally sc u) (gave y v env s sc u js.normally (grows-trans from w y g h) let_go (ready-lift z c.scope c.writable w y env sc h ready) (keeps-less z c.kept discard before sc ks) same)
 
   -- the same, seen from an earlier world and scope
   pub came-rebase : (c : Context) (scope : List ℕ → Type 0) (k : Destination) (from y : World) (before sc : js.Scope) → Grows from y → Keeps z.place c.kept before sc → (a : ir.Ended) (b : js.StatementEnd) → Came z.place c scope k y sc a b → Came z.place c scope k from before a b
   came-rebase c scope k from y before sc g ks _ _ (gave w v env s sc' u e h a r kp same) = gave w v env s sc' u e (grows-trans from y w g h) a r (less-trans z c.kept k before sc sc' ks kp) same
   came-rebase c scope k from y before sc g ks _ _ (left w l v env s sc' u e h a r kp same) = left w l v env s sc' u e (grows-trans from y w g h) a r (less-trans z c.kept (target_of c.targets l) before sc sc' ks kp) same
+  came-rebase c scope k from y before sc g ks _ _ (threw w v x env s sc' u h a r kp same) = threw w v x env s sc' u (grows-trans from y w g h) a r (keeps-trans z c.kept before sc sc' ks kp) same
   came-rebase c scope k from y before sc g ks _ _ (stopped w env s sc' u t h r kp same) = stopped w env s sc' u t (grows-trans from y w g h) r (keeps-trans z c.kept before sc sc' ks kp) same
 
   pub rebased : (c : Context) (scope : List ℕ → Type 0) (k : Destination) (from y : World) (before sc : js.Scope) (o : Out ir.Ended) (q : Out js.StatementEnd) → Grows from y → Keeps z.place c.kept before sc → Sim z.direction (Came z.place c scope k y sc) o q → Sim z.direction (Came z.place c scope k from before) o q
@@ -168,6 +163,7 @@ module _ (z : Setting) (lawful : Lawful z) where
   pub came-narrow : (c d : Context) (inner scope : List ℕ → Type 0) (k : Destination) (from y : World) (before sc : js.Scope) → d.writable ≡ c.writable → d.targets ≡ c.targets → (d.turning → c.turning) → ((x : List ℕ) → c.scope x → d.scope x) → ((x : List ℕ) → scope x → inner x) → ((x : core.Variable) → c.kept x → d.kept x) → Grows from y → Keeps z.place c.kept before sc → (a : ir.Ended) (b : js.StatementEnd) → Came z.place d inner k y sc a b → Came z.place c scope k from before a b
   came-narrow c d inner scope k from y before sc q t turn out sub more g ks _ _ (gave w v env s sc' u e h a r kp same) = gave w v env s sc' u e (grows-trans from y w g h) a (subst (λ x. Ready z.place scope x w env sc') q (narrower inner scope d.writable w env sc' sub r)) (less-trans z c.kept k before sc sc' ks (keeps-fewer z (Less d.kept k) (Less c.kept k) sc sc' (λ y i. (more y i.0, i.1)) kp)) same
   came-narrow c d inner scope k from y before sc q t turn out sub more g ks _ _ (left w l v env s sc' u e h a r kp same) = left w l v env s sc' u e (grows-trans from y w g h) (subst (λ x. Arrives z.place w v sc' (js.breaks (z.place.label l)) (target_of x l) e) t a) (subst (λ x. Ready z.place c.scope x w env sc') q (narrower d.scope c.scope d.writable w env sc' out r)) (less-trans z c.kept (target_of c.targets l) before sc sc' ks (keeps-fewer z (Less d.kept (target_of d.targets l)) (Less c.kept (target_of c.targets l)) sc sc' (λ y i. (more y i.0, subst (λ x. Goes (target_of x l) y → ⊥) (sym t) i.1)) kp)) same
+  came-narrow c d inner scope k from y before sc q t turn out sub more g ks _ _ (threw w v x env s sc' u h a r kp same) = threw w v x env s sc' u (grows-trans from y w g h) a (subst (λ x. Ready z.place c.scope x w env sc') q (narrower d.scope c.scope d.writable w env sc' out r)) (keeps-trans z c.kept before sc sc' ks (keeps-fewer z d.kept c.kept sc sc' more kp)) same
   came-narrow c d inner scope k from y before sc q t turn out sub more g ks _ _ (stopped w env s sc' u h0 h r kp same) = stopped w env s sc' u (turn h0) (grows-trans from y w g h) (subst (λ x. Ready z.place c.scope x w env sc') q (narrower d.scope c.scope d.writable w env sc' out r)) (keeps-trans z c.kept before sc sc' ks (keeps-fewer z d.kept c.kept sc sc' more kp)) same
 
   -- a branch by a condition: both branches stand in blocks of their own
@@ -176,7 +172,7 @@ module _ (z : Setting) (lawful : Lawful z) where
   choice_shown e a (core.statement t ts) sc u p = refl
 
   pub if_final : (c : Context) (k : Destination) (p : Position) (a b : ℕ → Code) (first second : ir.Run) (j : ℕ) → Sound z.is_mutable c → Writes c.writable k → ((i : ℕ) → j ≤ i → i ≤ (a i).next) → ((i : ℕ) → j ≤ i → Ahead c i → Undeclared c (a i).statements) → ((i : ℕ) → j ≤ i → Ahead c i → Undeclared c (b i).statements) → ((i : ℕ) → j ≤ i → Ahead c i → (w : World) (env : ir.Env) (s : ir.State) (sc : js.Scope) (u : js.State) → Ready z.place c.scope c.writable w env sc → SameState z.place w s u → Ends z lawful c c.scope k w sc (first env s) (a i).statements sc u) → ((i : ℕ) → j ≤ i → Ahead c i → (w : World) (env : ir.Env) (s : ir.State) (sc : js.Scope) (u : js.State) → Ready z.place c.scope c.writable w env sc → SameState z.place w s u → Ends z lawful c c.scope k w sc (second env s) (b i).statements sc u) → (w : World) (sc : js.Scope) → OneFinal c k w sc j (ir_meaning.branch first second) (λ es i. branches p (first_of es) (a i) b)
-  if_final c k p a b first second j sound wr up free_a free_b does_a does_b from before i r e w env s sc u ahead l g ready ks same operand = ends-one z lawful c c.scope k from before (ir_meaning.in_order (r ∷ []) (ir_meaning.branch first second) env s) (core.if_of (Some p) e (a i).statements (b (a i).next).statements) sc u (subst (λ o. Sim z.direction (Came z.place c c.scope k from before) (ir_meaning.in_order (r ∷ []) (ir_meaning.branch first second) env s) o) (sym (choice_shown e (a i).statements (b (a i).next).statements sc u p)) (act_alike (Came z.place c c.scope k from before) w env s sc u r e (ir_meaning.branch first second) (λ v. js_meaning.taken (js_meaning.in_block (statement_templates z.place.name z.place.label (a i).statements) (run z (a i).statements)) (js_meaning.in_block (statement_templates z.place.name z.place.label (b (a i).next).statements) (run z (b (a i).next).statements)) v sc) operand same goes))
+  if_final c k p a b first second j sound wr up free_a free_b does_a does_b from before i r e w env s sc u ahead l g ready ks same operand = ends-one z lawful c c.scope k from before (ir_meaning.in_order (r ∷ []) (ir_meaning.branch first second) env s) (core.if_of (Some p) e (a i).statements (b (a i).next).statements) sc u (subst (λ o. Sim z.direction (Came z.place c c.scope k from before) (ir_meaning.in_order (r ∷ []) (ir_meaning.branch first second) env s) o) (sym (choice_shown e (a i).statements (b (a i).next).statements sc u p)) (act_alike (Came z.place c c.scope k from before) w env s sc u r e (ir_meaning.branch first second) (λ v. js_meaning.taken (js_meaning.in_block (statement_templates z.place.name z.place.label (a i).statements) (run z (a i).statements)) (js_meaning.in_block (statement_templates z.place.name z.place.label (b (a i).next).statements) (run z (b (a i).next).statements)) v sc) operand same (throws-on z lawful c c.scope k from w before env sc g ks ready) goes))
     where
       later : j ≤ (a i).next
       later = let h = up i l in omega arith
@@ -191,7 +187,7 @@ module _ (z : Setting) (lawful : Lawful z) where
 
   -- a definition: the local holds its first value, and is in scope behind it
   define_plain : (c : Context) (p : Position) (x : List ℕ) (t : IrType) (r : ir.Run) (e : core.Expression) → Sound z.is_mutable c → (c.kept (core.named x) → ⊥) → (w : World) (env : ir.Env) (s : ir.State) (sc : js.Scope) (u : js.State) → Ready z.place c.scope c.writable w env sc → SameState z.place w s u → OperandAlike z w env sc r (shown z e) → Ends z lawful c (λ y. (y ≡ x) ⊎ c.scope y) discard w sc (ir_meaning.in_order (r ∷ []) (ir_meaning.define x) env s) (core.statement (core.define_of (Some p) (core.named x) e) core.no_statements) sc u
-  define_plain c p x t r e sound fresh w env s sc u ready same operand = ends-one z lawful c (λ y. (y ≡ x) ⊎ c.scope y) discard w sc (ir_meaning.in_order (r ∷ []) (ir_meaning.define x) env s) (core.define_of (Some p) (core.named x) e) sc u (act_alike (Came z.place c (λ y. (y ≡ x) ⊎ c.scope y) discard w sc) w env s sc u r e (ir_meaning.define x) (λ v u. done (js.ends js.normally (js_meaning.start false (z.place.name (core.named x)) v sc) u)) operand same (λ y v q s u h a same. sim_done z.direction (Came z.place c (λ y. (y ≡ x) ⊎ c.scope y) discard w sc) (ir.ends (ir.gives ir.undefined) (ir_meaning.set_local x v env) s) (js.ends js.normally (js_meaning.start false (z.place.name (core.named x)) q sc) u) (gave y ir.undefined (ir_meaning.set_local x v env) s (js_meaning.start false (z.place.name (core.named x)) q sc) u js.normally h let_go (set-ready c.scope c.writable x y v q env sc a (ready-lift z c.scope c.writable w y env sc h ready)) (keeps-less z c.kept discard sc (js_meaning.start false (z.place.name (core.named x)) q sc) (started-keeps z lawful c.kept false (core.named x) q sc fresh)) same)))
+  define_plain c p x t r e sound fresh w env s sc u ready same operand = ends-one z lawful c (λ y. (y ≡ x) ⊎ c.scope y) discard w sc (ir_meaning.in_order (r ∷ []) (ir_meaning.define x) env s) (core.define_of (Some p) (core.named x) e) sc u (act_alike (Came z.place c (λ y. (y ≡ x) ⊎ c.scope y) discard w sc) w env s sc u r e (ir_meaning.define x) (λ v u. done (js.ends js.normally (js_meaning.start false (z.place.name (core.named x)) v sc) u)) operand same (throws-on z lawful c (λ y. (y ≡ x) ⊎ c.scope y) discard w w sc env sc (grows-refl w) (keeps-refl z c.kept sc) ready) (λ y v q s u h a same. sim_done z.direction (Came z.place c (λ y. (y ≡ x) ⊎ c.scope y) discard w sc) (ir.ends (ir.gives ir.undefined) (ir_meaning.set_local x v env) s) (js.ends js.normally (js_meaning.start false (z.place.name (core.named x)) q sc) u) (gave y ir.undefined (ir_meaning.set_local x v env) s (js_meaning.start false (z.place.name (core.named x)) q sc) u js.normally h let_go (set-ready c.scope c.writable x y v q env sc a (ready-lift z c.scope c.writable w y env sc h ready)) (keeps-less z c.kept discard sc (js_meaning.start false (z.place.name (core.named x)) q sc) (started-keeps z lawful c.kept false (core.named x) q sc fresh)) same)))
 
   -- the context in which a local is being defined
   abbrev pub defining : Context → List ℕ → Context
@@ -213,6 +209,7 @@ module _ (z : Setting) (lawful : Lawful z) where
       each : (a : ir.Ended) (b : js.StatementEnd) → Came z.place (defining c x) c.scope (to_variable (core.named x) t) w started a b → Sim z.direction (Came z.place c (λ y. (y ≡ x) ⊎ c.scope y) discard w sc) (ir.onward (λ v. ir_meaning.in_order [] (λ vs. ir_meaning.define x (v ∷ vs))) a) (done b)
       each _ _ (gave y v env' s' sc2 u' _ h (stored _ _ q a e) r2 k2 states) = sim_done z.direction (Came z.place c (λ y. (y ≡ x) ⊎ c.scope y) discard w sc) (ir.ends (ir.gives ir.undefined) (ir_meaning.set_local x v env') s') (js.ends js.normally sc2 u') (gave y ir.undefined (ir_meaning.set_local x v env') s' sc2 u' js.normally h let_go (record { sees = record { inside = r2.sees.inside; locals = set-locals c.scope x y v q env' sc2 a (λ b d i. r2.sees.locals b i) e }; «open» = λ b i. r2.«open» b (inr i) }) (keeps-less z c.kept discard sc sc2 (keeps-trans z c.kept sc started sc2 (started-keeps z lawful c.kept false (core.named x) js.undefined sc fresh) (keeps-fewer z (Less c.kept (to_variable (core.named x) t)) c.kept started sc2 (λ b i. (i, λ e. fresh (subst c.kept (sym e) i))) k2))) states)
       each _ _ (left y l v env' s' sc2 u' e h a r2 k2 states) = sim_done z.direction (Came z.place c (λ y. (y ≡ x) ⊎ c.scope y) discard w sc) (ir.ends (ir.leaves l v) env' s') (js.ends e sc2 u') (left y l v env' s' sc2 u' e h a (record { sees = r2.sees; «open» = λ b i. r2.«open» b (inr i) }) (less-trans z c.kept (target_of c.targets l) sc started sc2 (started-keeps z lawful c.kept false (core.named x) js.undefined sc fresh) k2) states)
+      each _ _ (threw y v q env' s' sc2 u' h a r2 k2 states) = sim_done z.direction (Came z.place c (λ y. (y ≡ x) ⊎ c.scope y) discard w sc) (ir.ends (ir.throws v) env' s') (js.ends (js.thrown_with q) sc2 u') (threw y v q env' s' sc2 u' h a (record { sees = r2.sees; «open» = λ b i. r2.«open» b (inr i) }) (keeps-trans z c.kept sc started sc2 (started-keeps z lawful c.kept false (core.named x) js.undefined sc fresh) k2) states)
       each _ _ (stopped y env' s' sc2 u' t h r2 k2 states) = sim_done z.direction (Came z.place c (λ y. (y ≡ x) ⊎ c.scope y) discard w sc) (ir.ends ir.stops env' s') (js.ends js.breaks_nearest sc2 u') (stopped y env' s' sc2 u' t h (record { sees = r2.sees; «open» = λ b i. r2.«open» b (inr i) }) (keeps-trans z c.kept sc started sc2 (started-keeps z lawful c.kept false (core.named x) js.undefined sc fresh) k2) states)
 
   pub sound-defining : (c : Context) (x : List ℕ) → Sound z.is_mutable c → (c.scope x → ⊥) → (c.kept (core.named x) → ⊥) → Sound z.is_mutable (defining c x)

@@ -18,7 +18,7 @@ use Rattle.sj_trees.specs.declared.positions.Position.{Position}
 use Rattle.sj_trees.specs.declared.types.IrType.{IrType}
 use Rattle.sj_plain.specs.Settings.{Setting, run, SameState, Lawful}
 use Rattle.sj_bodies.proofs.Blocks.{Undeclared, block_alike}
-use Rattle.sj_bodies.proofs.Contexts.{Context, Writes, Sound, Ready, Keeps, Less, Arrives, let_go, stored, returned, Came, gave, left, stopped, differs, equals, is-equal}
+use Rattle.sj_bodies.proofs.Contexts.{Context, Writes, Sound, Ready, Keeps, Less, Arrives, let_go, stored, returned, Came, gave, left, threw, stopped, differs, equals, is-equal}
 use Rattle.sj_names.proofs.Same.{impossible}
 use Rattle.sj_bodies.proofs.Statements.{run-followed, leaves_on, ends-one, Ends}
 use Rattle.sj_plain.proofs.Worlds.{World}
@@ -58,6 +58,7 @@ module _ (z : Setting) (lawful : Lawful z) where
   -- what leaves to a label has come to the labelled block, which is no end of the function
   arrive_block : (c : Context) (l : List ℕ) (k : Destination) (plain : (t : IrType) → k ≡ to_result t → ⊥) (w : World) (sc : js.Scope) (a : ir.Ended) (b : js.StatementEnd) → Came z.place (labelling c l k) c.scope k w sc a b → Sim z.direction (Came z.place c c.scope k w sc) (ir_meaning.arrive l a) (js_meaning.arrive (z.place.label l) b)
   arrive_block c l k plain w sc _ _ (stopped y env s sc' u t g r ks same) = sim_done z.direction (Came z.place c c.scope k w sc) (ir.ends ir.stops env s) (js.ends js.breaks_nearest sc' u) (stopped y env s sc' u t g r ks same)
+  arrive_block c l k plain w sc _ _ (threw y v x env s sc' u g a r ks same) = sim_done z.direction (Came z.place c c.scope k w sc) (ir.ends (ir.throws v) env s) (js.ends (js.thrown_with x) sc' u) (threw y v x env s sc' u g a r ks same)
   arrive_block c l k plain w sc _ _ (gave y v env s sc' u e g a r ks same) = passes k e a refl
     where
       passes : (d : Destination) (e : js.Completion) → Arrives z.place y v sc' js.normally d e → k ≡ d → Sim z.direction (Came z.place c c.scope k w sc) (done (ir.ends (ir.gives v) env s)) (js_meaning.arrive (z.place.label l) (js.ends e sc' u))
@@ -83,6 +84,7 @@ module _ (z : Setting) (lawful : Lawful z) where
   -- the same where the labelled block is the end of the function, and so has no label in the emitted code
   arrive_end : (c : Context) (l : List ℕ) (t : IrType) (w : World) (sc : js.Scope) (a : ir.Ended) (b : js.StatementEnd) → Came z.place (labelling c l (to_result t)) c.scope (to_result t) w sc a b → Sim z.direction (Came z.place c c.scope (to_result t) w sc) (ir_meaning.arrive l a) (done b)
   arrive_end c l t w sc _ _ (stopped y env s sc' u h g r ks same) = sim_done z.direction (Came z.place c c.scope (to_result t) w sc) (ir.ends ir.stops env s) (js.ends js.breaks_nearest sc' u) (stopped y env s sc' u h g r ks same)
+  arrive_end c l t w sc _ _ (threw y v x env s sc' u g a r ks same) = sim_done z.direction (Came z.place c c.scope (to_result t) w sc) (ir.ends (ir.throws v) env s) (js.ends (js.thrown_with x) sc' u) (threw y v x env s sc' u g a r ks same)
   arrive_end c l t w sc _ _ (gave y v env s sc' u e g a r ks same) = sim_done z.direction (Came z.place c c.scope (to_result t) w sc) (ir.ends (ir.gives v) env s) (js.ends e sc' u) (gave y v env s sc' u e g a r ks same)
   arrive_end c l t w sc _ _ (left y m v env s sc' u e g a r ks same) = go (pointwise nat_eq m l) refl
     where
@@ -110,6 +112,7 @@ module _ (z : Setting) (lawful : Lawful z) where
   jump : (c : Context) (k : Destination) (p : Position) (l : List ℕ) (w : World) (sc : js.Scope) (d : Destination) → target_of c.targets l ≡ d → ((t : IrType) → d ≡ to_result t → ⊥) → (a : ir.Ended) (b : js.StatementEnd) → Came z.place c c.scope d w sc a b → Sim z.direction (Came z.place c c.scope k w sc) (leaving l a) (js.next_statement (run z (core.statement (core.leave_label (Some p) l) core.no_statements)) b)
   jump c k p l w sc d t plain _ _ (stopped y env s sc' u h g r ks same) = sim_done z.direction (Came z.place c c.scope k w sc) (ir.ends ir.stops env s) (js.ends js.breaks_nearest sc' u) (stopped y env s sc' u h g r ks same)
   jump c k p l w sc d t plain _ _ (left y m v env s sc' u e g a r ks same) = leaves_on z lawful c c.scope k w sc (run z (core.statement (core.leave_label (Some p) l) core.no_statements)) y m v env s sc' u e (target_of c.targets m) refl g a r ks same
+  jump c k p l w sc d t plain _ _ (threw y v x env s sc' u g a r ks same) = sim_done z.direction (Came z.place c c.scope k w sc) (ir.ends (ir.throws v) env s) (js.ends (js.thrown_with x) sc' u) (threw y v x env s sc' u g a r ks same)
   jump c k p l w sc d t plain _ _ (gave y v env s sc' u e g a r ks same) = passes (subst (λ d. Keeps z.place (Less c.kept d) sc sc') (sym t) ks) d e a t plain
     where
       passes : Keeps z.place (Less c.kept (target_of c.targets l)) sc sc' → (d : Destination) (e : js.Completion) → Arrives z.place y v sc' js.normally d e → target_of c.targets l ≡ d → ((t : IrType) → d ≡ to_result t → ⊥) → Sim z.direction (Came z.place c c.scope k w sc) (done (ir.ends (ir.leaves l v) env s)) (js.next_statement (run z (core.statement (core.leave_label (Some p) l) core.no_statements)) (js.ends e sc' u))
@@ -120,6 +123,7 @@ module _ (z : Setting) (lawful : Lawful z) where
   jump_end : (c : Context) (k : Destination) (l : List ℕ) (w : World) (sc : js.Scope) (i : IrType) → target_of c.targets l ≡ to_result i → (a : ir.Ended) (b : js.StatementEnd) → Came z.place c c.scope (to_result i) w sc a b → Sim z.direction (Came z.place c c.scope k w sc) (leaving l a) (done b)
   jump_end c k l w sc i t _ _ (stopped y env s sc' u h g r ks same) = sim_done z.direction (Came z.place c c.scope k w sc) (ir.ends ir.stops env s) (js.ends js.breaks_nearest sc' u) (stopped y env s sc' u h g r ks same)
   jump_end c k l w sc i t _ _ (left y m v env s sc' u e g a r ks same) = sim_done z.direction (Came z.place c c.scope k w sc) (ir.ends (ir.leaves m v) env s) (js.ends e sc' u) (left y m v env s sc' u e g a r ks same)
+  jump_end c k l w sc i t _ _ (threw y v x env s sc' u g a r ks same) = sim_done z.direction (Came z.place c c.scope k w sc) (ir.ends (ir.throws v) env s) (js.ends (js.thrown_with x) sc' u) (threw y v x env s sc' u g a r ks same)
   jump_end c k l w sc i t _ _ (gave y v env s sc' u _ g (returned _ j f) r ks same) = sim_done z.direction (Came z.place c c.scope k w sc) (ir.ends (ir.leaves l v) env s) (js.ends (js.returns j) sc' u) (left y l v env s sc' u (js.returns j) g (subst (λ d. Arrives z.place y v sc' (js.breaks (z.place.label l)) d (js.returns j)) (sym t) (returned i j f)) r (subst (λ d. Keeps z.place (Less c.kept d) sc sc') (sym t) ks) same)
 
   pub return_alike : (c : Context) (k d : Destination) (p : Position) (l : List ℕ) (r : ir.Run) (code : Code) → target_of c.targets l ≡ d → (w : World) (env : ir.Env) (s : ir.State) (sc : js.Scope) (u : js.State) → Sim z.direction (Came z.place c c.scope d w sc) (r env s) (run z code.statements sc u) → Ends z lawful c c.scope k w sc (ir_meaning.in_order (r ∷ []) (ir_meaning.leave l) env s) (leaving_code d p l code).statements sc u

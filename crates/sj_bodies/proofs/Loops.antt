@@ -13,13 +13,13 @@ use Rattle.sj_desugar.specs.Desugar.{target_of, first_of, wrapped, break_unless}
 use Rattle.sj_desugar.specs.Spill.{Destination, discard, Code, put_first}
 use Rattle.sj_emit_expr.specs.Templates.{statement_templates}
 use Rattle.sj_trees.specs.declared.positions.Position.{Position}
-use Rattle.sj_plain.specs.Settings.{Setting, shown, run, SameState, Valued, valued, Lawful}
+use Rattle.sj_plain.specs.Settings.{Setting, shown, run, SameState, Valued, valued, thrown, Lawful}
 use Rattle.sj_bodies.proofs.Blocks.{Undeclared, block_alike}
-use Rattle.sj_bodies.proofs.Contexts.{Context, Sound, Ahead, Ready, ready-lift, Keeps, Less, keeps-less, keeps-all, keeps-refl, Arrives, let_go, stored, returned, Came, gave, left, stopped}
+use Rattle.sj_bodies.proofs.Contexts.{Context, Sound, Ahead, Ready, ready-lift, Keeps, Less, keeps-less, keeps-all, keeps-refl, Arrives, let_go, stored, returned, Came, gave, left, threw, stopped}
 use Rattle.sj_bodies.specs.Fine.{IsDiscard, is_discard}
 use Rattle.sj_bodies.proofs.Forms.{OneFinal, rebased}
 use Rattle.sj_plain.proofs.Orders.{OperandAlike}
-use Rattle.sj_bodies.proofs.Statements.{act_of, ends-one, Ends}
+use Rattle.sj_bodies.proofs.Statements.{act_of, ends-one, throws-on, Ends}
 use Rattle.sj_plain.proofs.Worlds.{World, Grows, grows-refl, grows-trans, SameValue, same_undefined, same_null, same_boolean, same_number, same_text}
 
 -- the context of a loop's turn: its condition may not hold any more where the loop's value is given up
@@ -47,6 +47,7 @@ module _ (z : Setting) (lawful : Lawful z) where
   turns : (c : Context) (k : Destination) (next : ir.Run) (js_next : js.Execution) → Alike c k next js_next → (w : World) (sc : js.Scope) (a : ir.Ended) (b : js.StatementEnd) → Came z.place (in_turn c k) c.scope discard w sc a b → Sim z.direction (Came z.place c c.scope k w sc) (ir_meaning.after_turn next a) (js_meaning.next_turn js_next b)
   turns c k next js_next low w sc _ _ (gave y v env s sc' u _ g let_go r ks same) = rebased z lawful c c.scope k w y sc sc' (next env s) (js_next sc' u) g (keeps-all z c.kept sc sc' ks) (low y env s sc' u r same)
   turns c k next js_next low w sc _ _ (left y l v env s sc' u e g a r ks same) = passes c k w sc js_next y l v env s sc' u e (target_of c.targets l) refl g a r ks same
+  turns c k next js_next low w sc _ _ (threw y v x env s sc' u g a r ks same) = sim_done z.direction (Came z.place c c.scope k w sc) (ir.ends (ir.throws v) env s) (js.ends (js.thrown_with x) sc' u) (threw y v x env s sc' u g a r ks same)
   turns c k next js_next low w sc _ _ (stopped y env s sc' u t g r ks same) = stops_here c k t w y env s sc sc' u g r ks same
 
   pub sound-turn : (c : Context) (k : Destination) → Sound z.is_mutable c → Sound z.is_mutable (in_turn c k)
@@ -79,6 +80,7 @@ module _ (z : Setting) (lawful : Lawful z) where
 
       each : (a : ir.Ended) (b : js.ExpressionEnd) → Valued z.place w env a b → Sim z.direction (Came z.place c c.scope discard w sc) (then_do (ir.onward (λ v. ir_meaning.in_order [] (λ vs. ir_meaning.branch body stop (v ∷ vs))) a) (ir_meaning.after_turn next)) (js.in_statement sc (λ v. js_meaning.taken (λ sc s. then_do (js_meaning.in_block (statement_templates z.place.name z.place.label code.statements) (run z code.statements) sc s) (js_meaning.next_turn low_js)) js_meaning.nothing v sc) b)
       each _ _ (valued y v x s u g a same) = goes y v x s u g a same
+      each _ _ (thrown y v x s u g a same) = sim_done z.direction (Came z.place c c.scope discard w sc) (ir.ends (ir.throws v) env s) (js.ends (js.thrown_with x) sc u) (throws-on z lawful c c.scope discard w w sc env sc (grows-refl w) (keeps-refl z c.kept sc) ready y v x s u g a same)
 
   -- a turn that is its block: `while (true)` and `do`
   pub forever_alike : (c : Context) (k : Destination) (p : Position) (turn next : ir.Run) (code : Code) (st : core.Statement) → Sound z.is_mutable c → Undeclared c code.statements → Alike (in_turn c k) discard turn (run z code.statements) → Alike c k next (z.js_low (statement_templates z.place.name z.place.label (core.statement st core.no_statements))) → ((sc : js.Scope) (u : js.State) → act_of z st sc u ≡ then_do (js_meaning.in_block (statement_templates z.place.name z.place.label code.statements) (run z code.statements) sc u) (js_meaning.next_turn (z.js_low (statement_templates z.place.name z.place.label (core.statement st core.no_statements))))) → (w : World) (env : ir.Env) (s : ir.State) (sc : js.Scope) (u : js.State) → Ready z.place c.scope c.writable w env sc → SameState z.place w s u → Ends z lawful c c.scope k w sc (then_do (turn env s) (ir_meaning.after_turn next)) (core.statement st core.no_statements) sc u
@@ -110,3 +112,4 @@ module _ (z : Setting) (lawful : Lawful z) where
 
       each : (a : ir.Ended) (b : js.ExpressionEnd) → Valued z.place w env a b → Sim z.direction (Came z.place (in_turn c k) c.scope discard from before) (onward_first a) (then_do (then_do (js.with_value (negates sc) b) (js.in_statement sc (breaks_if sc))) (js.next_statement rest))
       each _ _ (valued y v x s u h a same) = goes y v x s u h a same
+      each _ _ (thrown y v x s u h a same) = sim_done z.direction (Came z.place (in_turn c k) c.scope discard from before) (ir.ends (ir.throws v) env s) (js.ends (js.thrown_with x) sc u) (throws-on z lawful (in_turn c k) c.scope discard from w before env sc g ks ready y v x s u h a same)

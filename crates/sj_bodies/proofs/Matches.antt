@@ -21,11 +21,11 @@ use Rattle.sj_emit_expr.specs.Templates.{statement_templates, case_templates}
 use Rattle.sj_trees.specs.declared.positions.Position.{Position}
 use Rattle.sj_plain.specs.Settings.{Setting, shown, run, SameState, Lawful}
 use Rattle.sj_bodies.proofs.Blocks.{Outside, Undeclared, scoped_alike}
-use Rattle.sj_bodies.proofs.Contexts.{Context, Writes, Sound, Ahead, Ready, ready-lift, Keeps, Less, Arrives, let_go, stored, returned, Came, gave, left, stopped}
+use Rattle.sj_bodies.proofs.Contexts.{Context, Writes, Sound, Ahead, Ready, ready-lift, Keeps, Less, Arrives, let_go, stored, returned, Came, gave, left, threw, stopped}
 use Rattle.sj_bodies.proofs.Declared.{Declares, declares-followed}
 use Rattle.sj_bodies.proofs.Forms.{OneFinal, rebased, act_alike, ahead-later}
 use Rattle.sj_bodies.proofs.Loops.{Alike}
-use Rattle.sj_bodies.proofs.Statements.{run-followed, act_of, ends-one}
+use Rattle.sj_bodies.proofs.Statements.{run-followed, act_of, ends-one, throws-on}
 use Rattle.sj_plain.proofs.Worlds.{World, Grows, grows-trans, SameValue, same_undefined, same_null, same_boolean, same_number, same_text}
 
 -- the context of a case: it is no turn of a loop, since a break in it ends the switch
@@ -95,6 +95,7 @@ module _ (z : Setting) (lawful : Lawful z) where
   settles c _ from before _ _ (gave y v env s sc u _ g (stored x t j a h) r ks same) = sim_done z.direction (Came z.place c c.scope (to_variable x t) from before) (ir.ends (ir.gives v) env s) (js.ends js.normally sc u) (gave y v env s sc u js.normally g (stored x t j a h) r ks same)
   settles c _ from before _ _ (gave y v env s sc u _ g (returned t j a) r ks same) = sim_done z.direction (Came z.place c c.scope (to_result t) from before) (ir.ends (ir.gives v) env s) (js.ends (js.returns j) sc u) (gave y v env s sc u (js.returns j) g (returned t j a) r ks same)
   settles c k from before _ _ (left y l v env s sc u e g a r ks same) = left_settles c k from before y l v env s sc u e (target_of c.targets l) refl g a r ks same
+  settles c k from before _ _ (threw y v x env s sc u g a r ks same) = sim_done z.direction (Came z.place c c.scope k from before) (ir.ends (ir.throws v) env s) (js.ends (js.thrown_with x) sc u) (threw y v x env s sc u g a r ks same)
   settles c k from before _ _ (stopped y env s sc u t g r ks same) = absurd t
 
   -- a case or the default in its block, and the end of the switch
@@ -130,7 +131,7 @@ module _ (z : Setting) (lawful : Lawful z) where
   switch_shown p e cs ss sc u = then_do-associative (shown z e sc u) (js.in_statement sc (λ v. js_meaning.from_case (clauses_in cs) (block_in ss ss) v sc)) js_meaning.behind_switch ∙ ap (then_do (shown z e sc u)) (fun_ext (selected cs ss sc))
 
   pub match_final : (c : Context) (k : Destination) (p : Position) (bs : List ir_meaning.Branch) (r : ir.Run) (made : ℕ → Branches) (other : ℕ → Code) (j : ℕ) → Sound z.is_mutable c → Writes c.writable k → ((i : ℕ) → j ≤ i → i ≤ (made i).next) → ((i : ℕ) → j ≤ i → Ahead c i → CasesAlike c k bs (made i).cases) → ((i : ℕ) → j ≤ i → Ahead c i → Undeclared (settled c) (other i).statements) → ((i : ℕ) → j ≤ i → Ahead c i → Alike z lawful (settled c) k r (run z (other i).statements)) → (w : World) (sc : js.Scope) → OneFinal z lawful c k w sc j (ir_meaning.choose bs r) (λ es i. switch_code p (first_of es) (made i) other)
-  match_final c k p bs r made other j sound wr up cases_do free does from before i q e w env s sc u ahead l g ready ks same operand = ends-one z lawful c c.scope k from before (ir_meaning.in_order (q ∷ []) (ir_meaning.choose bs r) env s) (core.switch_of (Some p) e (made i).cases (other (made i).next).statements) sc u (subst (λ o. Sim z.direction (Came z.place c c.scope k from before) (ir_meaning.in_order (q ∷ []) (ir_meaning.choose bs r) env s) o) (sym (switch_shown p e (made i).cases (other (made i).next).statements sc u)) (act_alike z lawful (Came z.place c c.scope k from before) w env s sc u q e (ir_meaning.choose bs r) (λ v u. then_do (js_meaning.from_case (clauses_in (made i).cases) (block_in (other (made i).next).statements (other (made i).next).statements) v sc u) js_meaning.behind_switch) operand same goes))
+  match_final c k p bs r made other j sound wr up cases_do free does from before i q e w env s sc u ahead l g ready ks same operand = ends-one z lawful c c.scope k from before (ir_meaning.in_order (q ∷ []) (ir_meaning.choose bs r) env s) (core.switch_of (Some p) e (made i).cases (other (made i).next).statements) sc u (subst (λ o. Sim z.direction (Came z.place c c.scope k from before) (ir_meaning.in_order (q ∷ []) (ir_meaning.choose bs r) env s) o) (sym (switch_shown p e (made i).cases (other (made i).next).statements sc u)) (act_alike z lawful (Came z.place c c.scope k from before) w env s sc u q e (ir_meaning.choose bs r) (λ v u. then_do (js_meaning.from_case (clauses_in (made i).cases) (block_in (other (made i).next).statements (other (made i).next).statements) v sc u) js_meaning.behind_switch) operand same (throws-on z lawful c c.scope k from w before env sc g ks ready) goes))
     where
       later : j ≤ (made i).next
       later = let h = up i l in omega arith

@@ -23,9 +23,9 @@ use Rattle.sj_trees.specs.declared.classes.ParamDef.{ParamDef}
 use Rattle.sj_trees.specs.declared.types.IrType.{IrType}
 use Rattle.sj_trees.specs.declared.types.IrType.TheVariants.{NoType}
 use Rattle.sj_bodies.specs.Locals.{Own}
-use Rattle.sj_plain.specs.Settings.{Place, Setting, SameState, Valued, valued, NamesDiffer, Holding, holding}
+use Rattle.sj_plain.specs.Settings.{Place, Setting, SameState, Valued, valued, thrown, NamesDiffer, Holding, holding}
 use Rattle.sj_bodies.proofs.Blocks.{Outside, bind-undeclared}
-use Rattle.sj_bodies.proofs.Contexts.{Context, Writes, Sound, Ahead, Ready, let_go, returned, Came, gave, left, stopped, differs, equals, is-equal}
+use Rattle.sj_bodies.proofs.Contexts.{Context, Writes, Sound, Ahead, Ready, let_go, returned, Came, gave, left, threw, stopped, differs, equals, is-equal}
 use Rattle.sj_bodies.proofs.Declared.{declared-named}
 use Rattle.sj_names.proofs.Same.{impossible}
 use Rattle.sj_bodies.proofs.Trees.{LowAlike}
@@ -76,6 +76,7 @@ pub comes_back : (d : Direction) (p : Place) (t : IrType) (k : Destination) → 
 comes_back d p _ _ gives_up c scope w before env _ _ (gave y v inner s sc u _ g let_go r ks same) = sim_done d (Valued p w env) (ir.ends (ir.gives ir.undefined) env s) (js.gives js.undefined u) (valued y ir.undefined js.undefined s u g same_undefined same)
 comes_back d p _ _ (hands_on t h) c scope w before env _ _ (gave y v inner s sc u _ g (returned _ j a) r ks same) = subst (λ x. Sim d (Valued p w env) (ir.given x env s) (done (js.gives j u))) (sym (result-same t v h)) (sim_done d (Valued p w env) (ir.ends (ir.gives v) env s) (js.gives j u) (valued y v j s u g a same))
 comes_back d p t k i c scope w before env _ _ (left y l v inner s sc u e g a r ks same) = sim_wrong d (Valued p w env) (js_meaning.returned (js.ends e sc u))
+comes_back d p t k i c scope w before env _ _ (threw y v x inner s sc u g a r ks same) = sim_done d (Valued p w env) (ir.ends (ir.throws v) env s) (js.throws x u) (thrown y v x s u g a same)
 comes_back d p t k i c scope w before env _ _ (stopped y inner s sc u q g r ks same) = sim_wrong d (Valued p w env) (js_meaning.returned (js.ends js.breaks_nearest sc u))
 
 -- the parameters hold their arguments on both sides

@@ -1,10 +1,13 @@
 -- A file that has the functions of methods and calls initializers shows what these show.
-use Rattle.std.proofs.Common.{◌≡◌, ℕ, Bool, true, false, List, [], ◌∷◌, ◌++◌, ◌&&◌, map, refl, sym, ap, ◌∙◌, subst, Contains, Option, Some, None, if◌then◌else◌, length}
+use Rattle.std.proofs.Common.{◌≡◌, ℕ, Bool, true, false, List, [], ◌∷◌, ◌++◌, ◌&&◌, map, refl, sym, ap, ◌∙◌, subst, Contains, Option, Some, None, if◌then◌else◌, length, ◌<◌, ◌^◌, arith}
+use Rattle.std.specs.Int.{w32}
+use Rattle.std.specs.Prelude.{ℤ, pos, negsuc, FitsSigned}
 use Rattle.std.specs.List.{list_all}
 use Rattle.std.proofs.lemmas.Bool.{and_parts}
 use Rattle.std.proofs.lemmas.List.Elements.{Contains-append_left, Contains-append_right, Contains-push}
-use Rattle.outcomes.specs.Outcome.{Out, wrong, then_do}
-use Rattle.outcomes.specs.Shown.{normal, Shown}
+use Rattle.outcomes.specs.Outcome.{Out, done, wrong, then_do}
+use Rattle.outcomes.specs.Shown as shown
+use Rattle.outcomes.specs.Shown.{normal, uncaught, Shown}
 use Rattle.outcomes.specs.Agreement.{Direction, forward, backward, Within, Sim, IsNotWrong, Agree}
 use Rattle.outcomes.proofs.Sequence.{then_do-associative}
 use Rattle.outcomes.proofs.Simulation.{sim_done, sim_then, agree-from_sim}
@@ -22,8 +25,8 @@ use Rattle.sj_desugar.specs.Desugar.{desugared}
 use Rattle.sj_emit_expr.specs.Templates.{member_name, parameter_names}
 use Rattle.sj_names.specs.declared.entry_points.EntryPoint.{EntryPoint}
 use Rattle.sj_names.specs.declared.method_names.Member.{Member}
-use Rattle.sj_plain.specs.Settings.{Place, SameState, Valued, valued, NamesDiffer}
-use Rattle.sj_plain.specs.Worlds.{World, no_values}
+use Rattle.sj_plain.specs.Settings.{Place, SameState, Valued, valued, thrown, NamesDiffer}
+use Rattle.sj_plain.specs.Worlds.{World, SameValue, same_undefined, same_null, same_boolean, same_number, same_text, no_values}
 use Rattle.sj_bodies.proofs.Contexts.{equals}
 use Rattle.sj_calls.specs.Files.{EmittedMethod, function_item_of, initializer_member, call_item_of, module_with, program_with, IsEmitted, HasFunction}
 use Rattle.sj_calls.specs.Methods.{parameters_in, function_of, Linked, ir_call, js_call}
@@ -50,6 +53,18 @@ order_by p f content = (files.finish f (files.visit_all (files.visit p (length p
 
 order_is : (f : Name) (m : Module) → m.imports ≡ [] → files.running_order (alone f m) f ≡ f ∷ []
 order_is f m none = ap (order_by (alone f m) f) (module_there f m) ∙ ap (λ is. (files.finish f (files.visit_all (files.visit (alone f m) 1) is (record { entered = f ∷ []; finished = [] }))).finished) none
+
+-- a value that nothing catches is shown alike
+number_shown : (n : ℤ) → FitsSigned w32 n → js_showing.is_below (2 ^ 31) n ≡ true
+number_shown (pos n) f = let h : n < 2 ^ 31 = f.sfits in grind arith
+number_shown (negsuc n) f = let h : n < 2 ^ 31 = f.sfits in grind arith
+
+uncaught_alike : (p : js.Program) (d : Direction) (w : World) (v : ir.Value) (x : js.Value) (s : ir.State) (u : js.State) → SameValue w v x → Sim d ◌≡◌ (ir_showing.uncaught_or_wrong (ir_showing.thrown s v)) (js_showing.uncaught_or_wrong (js_showing.thrown p u x))
+uncaught_alike p d w _ _ s u same_undefined = sim_done d ◌≡◌ (uncaught shown.undefined) (uncaught shown.undefined) refl
+uncaught_alike p d w _ _ s u same_null = sim_done d ◌≡◌ (uncaught shown.null) (uncaught shown.null) refl
+uncaught_alike p d w _ _ s u (same_boolean b) = sim_done d ◌≡◌ (uncaught (shown.boolean b)) (uncaught (shown.boolean b)) refl
+uncaught_alike p d w _ _ s u (same_number n f) = subst (λ (b : Bool). Sim d ◌≡◌ (done (uncaught (shown.number n))) (js_showing.uncaught_or_wrong (if b then Some (shown.number n) else None))) (sym (number_shown n f)) (sim_done d ◌≡◌ (uncaught (shown.number n)) (uncaught (shown.number n)) refl)
+uncaught_alike p d w _ _ s u (same_text us) = sim_done d ◌≡◌ (uncaught (shown.text us)) (uncaught (shown.text us)) refl
 
 -- functions do nothing as items
 past_functions : (p : js.Program) (k : ℕ) (f : Name) (fs : List EmittedMethod) (is : List Item) (u : js.State) → js_meaning.run_items p k f (map function_item_of fs ++ is) u ≡ js_meaning.run_items p k f is u
@@ -147,6 +162,7 @@ module _ (w : ir_world.World) (id : List ℕ) (fs : List EmittedMethod) (es : Li
 
         next : (d : Direction) (n k : ℕ) (is : List EntryPoint) (y : World) → ((z : World) (v : ir.Value) (s : ir.State) (u : js.State) → SameState place z s u → Sim d ◌≡◌ (ir_showing.all_show w n is s) (ended k (calls is k u))) → (a : ir.Ended) (b : js.ExpressionEnd) → Valued place y ir_showing.outside a b → Sim d ◌≡◌ (ir_showing.next_or_end (ir_showing.all_show w n is) a) (then_do (then_do (js.with_value (λ v. js_meaning.run_items program k file (map call_item_of is)) b) (js.with_value (λ v. js_meaning.run_files program k []))) (js_showing.ending program))
         next d n k is y others _ _ (valued z v x s u g a same) = others z v s u same
+        next d n k is y others _ _ (thrown z v x s u g a same) = uncaught_alike program d z v x s u a
 
     -- what the file shows
     abbrev order_shows : ℕ → List Name → Shown

@@ -1,16 +1,16 @@
 -- Operands in order, on both sides.
 use Rattle.std.proofs.Common.{◌≡◌, List, [], ◌∷◌, refl, ap, ◌∙◌}
 use mathlib.Core.Path.{fun_ext}
-use Rattle.outcomes.specs.Outcome.{Out, then_do}
+use Rattle.outcomes.specs.Outcome.{Out, done, then_do}
 use Rattle.outcomes.specs.Agreement.{Sim}
 use Rattle.outcomes.proofs.Sequence.{then_do-associative}
-use Rattle.outcomes.proofs.Simulation.{sim_then}
+use Rattle.outcomes.proofs.Simulation.{sim_done, sim_then}
 use Rattle.ir_mean.specs.Meaning as ir_meaning
 use Rattle.ir_mean.specs.States as ir
 use Rattle.js_mean.specs.Meaning as js_meaning
 use Rattle.js_mean.specs.States as js
 use Rattle.sj_plain.proofs.Worlds.{World, Grows, grows-refl, grows-trans, SameValue, value-lift, SameValues, no_values, one_more}
-use Rattle.sj_plain.specs.Settings.{Setting, SameState, Valued, valued}
+use Rattle.sj_plain.specs.Settings.{Setting, SameState, Valued, valued, thrown}
 
 -- values that operands gave, in a world that has grown from the second, and what is done with them, in one that has grown from the first
 abbrev pub ActsAlike : (z : Setting) (base from : World) (env : ir.Env) → (List ir.Value → ir.Run) → (List js.Value → js.Evaluation) → js.Scope → Type 0
@@ -30,13 +30,15 @@ operands-lift z from to env sc _ _ g (more_operands r e rs es one others) = more
 
 pub valued-weaken : (z : Setting) (v w : World) (env : ir.Env) (a : ir.Ended) (b : js.ExpressionEnd) → Grows v w → Valued z.place w env a b → Valued z.place v env a b
 valued-weaken z v w env _ _ g (valued y x j s u h same states) = valued y x j s u (grows-trans v w y g h) same states
+valued-weaken z v w env _ _ g (thrown y x j s u h same states) = thrown y x j s u (grows-trans v w y g h) same states
 
-first_then : (z : Setting) (base w : World) (env : ir.Env) (sc : js.Scope) (k : ir.Value → ir.Run) (f : js.Value → js.State → Out js.ExpressionEnd) → ((y : World) (v : ir.Value) (x : js.Value) (s : ir.State) (u : js.State) → Grows w y → SameValue y v x → SameState z.place y s u → Sim z.direction (Valued z.place base env) (k v env s) (f x u)) → (a : ir.Ended) (b : js.ExpressionEnd) → Valued z.place w env a b → Sim z.direction (Valued z.place base env) (ir.onward k a) (js.with_value f b)
-first_then z base w env sc k f goes _ _ (valued y v x s u g alike states) = goes y v x s u g alike states
+first_then : (z : Setting) (base w : World) (env : ir.Env) (sc : js.Scope) (k : ir.Value → ir.Run) (f : js.Value → js.State → Out js.ExpressionEnd) → Grows base w → ((y : World) (v : ir.Value) (x : js.Value) (s : ir.State) (u : js.State) → Grows w y → SameValue y v x → SameState z.place y s u → Sim z.direction (Valued z.place base env) (k v env s) (f x u)) → (a : ir.Ended) (b : js.ExpressionEnd) → Valued z.place w env a b → Sim z.direction (Valued z.place base env) (ir.onward k a) (js.with_value f b)
+first_then z base w env sc k f from goes _ _ (valued y v x s u g alike states) = goes y v x s u g alike states
+first_then z base w env sc k f from goes _ _ (thrown y v x s u g alike states) = sim_done z.direction (Valued z.place base env) (ir.ends (ir.throws v) env s) (js.throws x u) (thrown y v x s u (grows-trans base w y from g) alike states)
 
-pub in_order_alike : (z : Setting) (base from : World) (env : ir.Env) (sc : js.Scope) (at : World) (rs : List ir.Run) (es : List js.Evaluation) (act : List ir.Value → ir.Run) (jact : List js.Value → js.Evaluation) → OperandsAlike z from env sc rs es → ActsAlike z base at env act jact sc → (w : World) (s : ir.State) (u : js.State) → Grows from w → Grows at w → SameState z.place w s u → Sim z.direction (Valued z.place base env) (ir_meaning.in_order rs act env s) (js_meaning.in_order es jact sc u)
-in_order_alike z base from env sc at _ _ act jact no_operands acts w s u g h same = acts w [] [] s u h no_values same
-in_order_alike z base from env sc at _ _ act jact (more_operands r e rs es one others) acts w s u g h same = sim_then z.direction (Valued z.place w env) (Valued z.place base env) (r env s) (e sc u) (ir.onward (λ v. ir_meaning.in_order rs (λ vs. act (v ∷ vs)))) (js.with_value (λ x. js_meaning.in_order es (λ xs. jact (x ∷ xs)) sc)) (one w s u g same) (first_then z base w env sc (λ v. ir_meaning.in_order rs (λ vs. act (v ∷ vs))) (λ x. js_meaning.in_order es (λ xs. jact (x ∷ xs)) sc) (λ y v x t q i alike states. in_order_alike z base from env sc y rs es (λ vs. act (v ∷ vs)) (λ xs. jact (x ∷ xs)) others (λ k vs xs s u j same states. acts k (v ∷ vs) (x ∷ xs) s u (grows-trans at y k (grows-trans at w y h i) j) (one_more v x vs xs (value-lift y k v x j alike) same) states) y t q (grows-trans from w y g i) (grows-refl y) states))
+pub in_order_alike : (z : Setting) (base from : World) (env : ir.Env) (sc : js.Scope) (at : World) (rs : List ir.Run) (es : List js.Evaluation) (act : List ir.Value → ir.Run) (jact : List js.Value → js.Evaluation) → OperandsAlike z from env sc rs es → ActsAlike z base at env act jact sc → (w : World) (s : ir.State) (u : js.State) → Grows base w → Grows from w → Grows at w → SameState z.place w s u → Sim z.direction (Valued z.place base env) (ir_meaning.in_order rs act env s) (js_meaning.in_order es jact sc u)
+in_order_alike z base from env sc at _ _ act jact no_operands acts w s u b g h same = acts w [] [] s u h no_values same
+in_order_alike z base from env sc at _ _ act jact (more_operands r e rs es one others) acts w s u b g h same = sim_then z.direction (Valued z.place w env) (Valued z.place base env) (r env s) (e sc u) (ir.onward (λ v. ir_meaning.in_order rs (λ vs. act (v ∷ vs)))) (js.with_value (λ x. js_meaning.in_order es (λ xs. jact (x ∷ xs)) sc)) (one w s u g same) (first_then z base w env sc (λ v. ir_meaning.in_order rs (λ vs. act (v ∷ vs))) (λ x. js_meaning.in_order es (λ xs. jact (x ∷ xs)) sc) b (λ y v x t q i alike states. in_order_alike z base from env sc y rs es (λ vs. act (v ∷ vs)) (λ xs. jact (x ∷ xs)) others (λ k vs xs s u j same states. acts k (v ∷ vs) (x ∷ xs) s u (grows-trans at y k (grows-trans at w y h i) j) (one_more v x vs xs (value-lift y k v x j alike) same) states) y t q (grows-trans base w y b i) (grows-trans from w y g i) (grows-refl y) states))
 
 with_value-associative : (f g : js.Value → js.State → Out js.ExpressionEnd) (b : js.ExpressionEnd) → then_do (js.with_value f b) (js.with_value g) ≡ js.with_value (λ x s. then_do (f x s) (js.with_value g)) b
 with_value-associative f g (js.gives x s) = refl

@@ -78,10 +78,7 @@ module _ (z : Setting) (lawful : Lawful z) (scope : List ℕ → Type 0) where
   branch_acts w env sc first second one other f g y _ _ s u h no_values same = sim_wrong z.direction (Valued z.place w env) _
   branch_acts w env sc first second one other f g y _ _ s u h (one_more _ _ _ _ (same_boolean true) no_values) same = weaker w y env (first env s) (one sc u) h (f y s u h same)
   branch_acts w env sc first second one other f g y _ _ s u h (one_more _ _ _ _ (same_boolean false) no_values) same = weaker w y env (second env s) (other sc u) h (g y s u h same)
-  branch_acts w env sc first second one other f g y _ _ s u h (one_more _ _ _ _ same_undefined no_values) same = sim_wrong z.direction (Valued z.place w env) _
-  branch_acts w env sc first second one other f g y _ _ s u h (one_more _ _ _ _ same_null no_values) same = sim_wrong z.direction (Valued z.place w env) _
-  branch_acts w env sc first second one other f g y _ _ s u h (one_more _ _ _ _ (same_number n k) no_values) same = sim_wrong z.direction (Valued z.place w env) _
-  branch_acts w env sc first second one other f g y _ _ s u h (one_more _ _ _ _ (same_text us) no_values) same = sim_wrong z.direction (Valued z.place w env) _
+  branch_acts w env sc first second one other f g y _ _ s u h (one_more _ _ _ _ _ no_values) same = sim_wrong z.direction (Valued z.place w env) _
   branch_acts w env sc first second one other f g y _ _ s u h (one_more v x _ _ a (one_more v' x' vs xs b c)) same = subst (λ o. Sim z.direction (Valued z.place w env) o (js_meaning.chosen one other (x ∷ x' ∷ xs) sc u)) (sym (branch_wrong first second v v' vs env s)) (sim_wrong z.direction (Valued z.place w env) _)
 
   abbrev pub all_shown : List core.Expression → List js.Evaluation
@@ -156,19 +153,19 @@ module _ (z : Setting) (lawful : Lawful z) (scope : List ℕ → Type 0) where
   as_operand t h w env sc sees y s u g same = h y env s sc u (sees-lift z scope w y env sc g sees) same
 
   if_alike : (c a b : Term) (e f : core.Expression) → PlainAlike c → PlainAlike a → PlainAlike b → e ≡ expression_of a → f ≡ expression_of b → (w : World) (env : ir.Env) (s : ir.State) (sc : js.Scope) (u : js.State) → Sees z.place scope w env sc → SameState z.place w s u → Sim z.direction (Valued z.place w env) (ir_meaning.in_order (ir_meaning.step z.place.classes z.low c ∷ []) (ir_meaning.branch (ir_meaning.step z.place.classes z.low a) (ir_meaning.step z.place.classes z.low b)) env s) (shown z (core.choice_of (expression_of c) e f) sc u)
-  if_alike c a b e f hc ha hb ea eb w env s sc u sees same = by_equal w env _ _ _ _ refl (λ i. shown z (core.choice_of (expression_of c) (ea i) (eb i)) sc u) (in_order_alike z w w env sc w (ir_meaning.step z.place.classes z.low c ∷ []) (shown z (expression_of c) ∷ []) (ir_meaning.branch (ir_meaning.step z.place.classes z.low a) (ir_meaning.step z.place.classes z.low b)) (js_meaning.chosen (shown z (expression_of a)) (shown z (expression_of b))) (more_operands _ _ _ _ (as_operand c hc w env sc sees) no_operands) (branch_acts w env sc (ir_meaning.step z.place.classes z.low a) (ir_meaning.step z.place.classes z.low b) (shown z (expression_of a)) (shown z (expression_of b)) (as_operand a ha w env sc sees) (as_operand b hb w env sc sees)) w s u (grows-refl w) (grows-refl w) same)
+  if_alike c a b e f hc ha hb ea eb w env s sc u sees same = by_equal w env _ _ _ _ refl (λ i. shown z (core.choice_of (expression_of c) (ea i) (eb i)) sc u) (in_order_alike z w w env sc w (ir_meaning.step z.place.classes z.low c ∷ []) (shown z (expression_of c) ∷ []) (ir_meaning.branch (ir_meaning.step z.place.classes z.low a) (ir_meaning.step z.place.classes z.low b)) (js_meaning.chosen (shown z (expression_of a)) (shown z (expression_of b))) (more_operands _ _ _ _ (as_operand c hc w env sc sees) no_operands) (branch_acts w env sc (ir_meaning.step z.place.classes z.low a) (ir_meaning.step z.place.classes z.low b) (shown z (expression_of a)) (shown z (expression_of b)) (as_operand a ha w env sc sees) (as_operand b hb w env sc sees)) w s u (grows-refl w) (grows-refl w) (grows-refl w) same)
 
   pub call_alike : (m : Member) (rs : List ir.Run) (es es' : List core.Expression) → es ≡ es' → z.place.is_linked m ≡ true → (w : World) (env : ir.Env) (s : ir.State) (sc : js.Scope) (u : js.State) → Inside z.place sc → OperandsAlike z w env sc rs (all_shown es') → SameState z.place w s u → Sim z.direction (Valued z.place w env) (ir_meaning.in_order rs (ir_meaning.call z.low (ir_world.member_of z.place.classes m.class m.namespace m.method) None) env s) (shown z (core.static_call m (expressions_of es)) sc u)
-  call_alike m rs es es' e linked w env s sc u inside operands same = by_equal w env _ _ _ _ refl (ap (λ o. then_do o (js.with_value (λ f. js_meaning.in_order (js_meaning.arguments z.place.program z.js_low (expression_templates z.place.name z.place.label (expressions_of es))) (js_meaning.call z.place.program z.js_low f) sc))) (name_shown m w s sc u linked inside same) ∙ ap (λ args. js_meaning.in_order args (js_meaning.call z.place.program z.js_low (js.function z.place.file (member_name m))) sc u) (arguments_shown es ∙ ap all_shown e)) (in_order_alike z w w env sc w rs (all_shown es') (ir_meaning.call z.low (ir_world.member_of z.place.classes m.class m.namespace m.method) None) (js_meaning.call z.place.program z.js_low (js.function z.place.file (member_name m))) operands (call_acts m w env sc linked) w s u (grows-refl w) (grows-refl w) same)
+  call_alike m rs es es' e linked w env s sc u inside operands same = by_equal w env _ _ _ _ refl (ap (λ o. then_do o (js.with_value (λ f. js_meaning.in_order (js_meaning.arguments z.place.program z.js_low (expression_templates z.place.name z.place.label (expressions_of es))) (js_meaning.call z.place.program z.js_low f) sc))) (name_shown m w s sc u linked inside same) ∙ ap (λ args. js_meaning.in_order args (js_meaning.call z.place.program z.js_low (js.function z.place.file (member_name m))) sc u) (arguments_shown es ∙ ap all_shown e)) (in_order_alike z w w env sc w rs (all_shown es') (ir_meaning.call z.low (ir_world.member_of z.place.classes m.class m.namespace m.method) None) (js_meaning.call z.place.program z.js_low (js.function z.place.file (member_name m))) operands (call_acts m w env sc linked) w s u (grows-refl w) (grows-refl w) (grows-refl w) same)
 
   pub unary_alike : (o : UnaryOp) (r : ir.Run) (e : core.Expression) → is_simple_unary o ≡ true → (w : World) (env : ir.Env) (s : ir.State) (sc : js.Scope) (u : js.State) → OperandAlike z w env sc r (shown z e) → SameState z.place w s u → Sim z.direction (Valued z.place w env) (ir_meaning.in_order (r ∷ []) (ir_meaning.unary z.place.classes z.low o) env s) (shown z (core.unary_of o e) sc u)
-  unary_alike o r e simple w env s sc u operand same = by_equal w env _ _ _ _ refl (unary_shown z.place.program z.js_low (expression_template z.place.name z.place.label e) sc u o simple) (in_order_alike z w w env sc w (r ∷ []) (shown z e ∷ []) (ir_meaning.unary z.place.classes z.low o) (by_one_value (one_template_value o)) (more_operands _ _ _ _ operand no_operands) (unary_acts z w env sc o simple) w s u (grows-refl w) (grows-refl w) same)
+  unary_alike o r e simple w env s sc u operand same = by_equal w env _ _ _ _ refl (unary_shown z.place.program z.js_low (expression_template z.place.name z.place.label e) sc u o simple) (in_order_alike z w w env sc w (r ∷ []) (shown z e ∷ []) (ir_meaning.unary z.place.classes z.low o) (by_one_value (one_template_value o)) (more_operands _ _ _ _ operand no_operands) (unary_acts z w env sc o simple) w s u (grows-refl w) (grows-refl w) (grows-refl w) same)
 
   pub binary_alike : (o : BinaryOp) (r q : ir.Run) (e d : core.Expression) → is_simple o ≡ true → (w : World) (env : ir.Env) (s : ir.State) (sc : js.Scope) (u : js.State) → OperandsAlike z w env sc (r ∷ q ∷ []) (shown z e ∷ shown z d ∷ []) → SameState z.place w s u → Sim z.direction (Valued z.place w env) (ir_meaning.in_order (r ∷ q ∷ []) (ir_meaning.binary z.place.classes z.low o) env s) (shown z (core.binary_of o e d) sc u)
-  binary_alike o r q e d simple w env s sc u operands same = by_equal w env _ _ _ _ refl (binary_shown z.place.program z.js_low (is_nonzero_literal d) (expression_template z.place.name z.place.label e) (expression_template z.place.name z.place.label d) (not_ratio z e) sc u o simple) (in_order_alike z w w env sc w (r ∷ q ∷ []) (shown z e ∷ shown z d ∷ []) (ir_meaning.binary z.place.classes z.low o) (by_value (template_value o)) operands (binary_acts z w env sc o simple) w s u (grows-refl w) (grows-refl w) same)
+  binary_alike o r q e d simple w env s sc u operands same = by_equal w env _ _ _ _ refl (binary_shown z.place.program z.js_low (is_nonzero_literal d) (expression_template z.place.name z.place.label e) (expression_template z.place.name z.place.label d) (not_ratio z e) sc u o simple) (in_order_alike z w w env sc w (r ∷ q ∷ []) (shown z e ∷ shown z d ∷ []) (ir_meaning.binary z.place.classes z.low o) (by_value (template_value o)) operands (binary_acts z w env sc o simple) w s u (grows-refl w) (grows-refl w) (grows-refl w) same)
 
   pub division_alike : (o : BinaryOp) (r : ir.Run) (e : core.Expression) (n : ℤ) → IsDivision o → FitsSigned w32 n → n ≢ pos 0 → (w : World) (env : ir.Env) (s : ir.State) (sc : js.Scope) (u : js.State) → OperandAlike z w env sc r (shown z e) → SameState z.place w s u → Sim z.direction (Valued z.place w env) (ir_meaning.in_order (r ∷ []) (division_act o n) env s) (shown z (core.binary_of o e (core.number_value n)) sc u)
-  division_alike o r e n d f ne w env s sc u operand same = by_equal w env _ _ _ _ refl (division_shown o d n f ne (expression_template z.place.name z.place.label e) sc u) (in_order_alike z w w env sc w (r ∷ []) (shown z e ∷ []) (division_act o n) (by_one_value (λ x. number_over (whole_of o) (js_operators.to_number x) n)) (more_operands _ _ _ _ operand no_operands) (division_acts o d n f ne w env sc) w s u (grows-refl w) (grows-refl w) same)
+  division_alike o r e n d f ne w env s sc u operand same = by_equal w env _ _ _ _ refl (division_shown o d n f ne (expression_template z.place.name z.place.label e) sc u) (in_order_alike z w w env sc w (r ∷ []) (shown z e ∷ []) (division_act o n) (by_one_value (λ x. number_over (whole_of o) (js_operators.to_number x) n)) (more_operands _ _ _ _ operand no_operands) (division_acts o d n f ne w env sc) w s u (grows-refl w) (grows-refl w) (grows-refl w) same)
 
   -- a binary operator, by what it is
   binary_plain : (q : Position) (o : BinaryOp) (e d : Term) → PlainAlike e → ((is_simple o ≡ true) × PlainAlike d) ⊎ (IsDivision o × IsDivisor d) → PlainAlike (binary_op q o e d)

@@ -48,9 +48,10 @@ pub record Inside (p : Place) (sc : js.Scope) : Type 0 where
   pub file : sc.file ≡ p.file
   pub free : (m : Member) → sc.bindings (member_name m) ≡ js.absent
 
--- an expression of the IR that gave a value and changed no local, and the expression that is emitted for it
+-- an expression of the IR that gave a value or threw one and changed no local, and the expression that is emitted for it
 pub data Valued (p : Place) (from : World) (env : ir.Env) : ir.Ended → js.ExpressionEnd → Type 0 where
   valued : (w : World) (v : ir.Value) (x : js.Value) (s : ir.State) (u : js.State) → Grows from w → SameValue w v x → SameState p w s u → Valued p from env (ir.ends (ir.gives v) env s) (js.gives x u)
+  thrown : (w : World) (v : ir.Value) (x : js.Value) (s : ir.State) (u : js.State) → Grows from w → SameValue w v x → SameState p w s u → Valued p from env (ir.ends (ir.throws v) env s) (js.throws x u)
 
 -- a member of the IR's program, and its function: what a call of the one and of the other come to
 abbrev pub CallsAlike : Setting → Member → Type 0
