@@ -15,9 +15,8 @@ use Rattle.js_tree.specs.Terms.{Name}
 use Rattle.sj_core.specs.Terms as core
 use Rattle.sj_desugar.specs.Desugar.{target_of}
 use Rattle.sj_desugar.specs.Spill.{Destination}
-use Rattle.sj_emit_expr.specs.Templates.{member_name, statement_templates}
-use Rattle.sj_names.specs.declared.method_names.Member.{Member}
-use Rattle.sj_plain.specs.Settings.{Setting, run, Lawful, Holding}
+use Rattle.sj_emit_expr.specs.Templates.{statement_templates}
+use Rattle.sj_plain.specs.Settings.{Setting, run, Lawful, Holding, OfNoVariable}
 use Rattle.sj_bodies.proofs.Contexts.{Context, Writes, Sound, Ahead, Ready, Keeps, Less, Arrives, let_go, stored, returned, Came, gave, left, threw, stopped}
 use Rattle.sj_bodies.proofs.Declared.{Declares, declared-named, IsNew}
 use Rattle.sj_names.proofs.Same.{impossible}
@@ -74,12 +73,12 @@ module _ (z : Setting) (lawful : Lawful z) (c : Context) (ss : core.Statements) 
       go false e = e
       go true e = let n = declared-named z ss (z.place.name y) e in absurd (h (subst (Declares ss) (lawful.names.variables n.variable y n.name) n.declares))
 
-  no_function : (m : Member) → is_among (declared shown_statements) (member_name m) ≡ false
-  no_function m = go (is_among (declared shown_statements) (member_name m)) refl
+  not_among : (x : Name) → OfNoVariable z.place x → is_among (declared shown_statements) x ≡ false
+  not_among x none = go (is_among (declared shown_statements) x) refl
     where
-      go : (b : Bool) → is_among (declared shown_statements) (member_name m) ≡ b → is_among (declared shown_statements) (member_name m) ≡ false
+      go : (b : Bool) → is_among (declared shown_statements) x ≡ b → is_among (declared shown_statements) x ≡ false
       go false e = e
-      go true e = let n = declared-named z ss (member_name m) e in absurd (lawful.names.functions n.variable m n.name)
+      go true e = let n = declared-named z ss x e in absurd (none n.variable n.name)
 
   entered : (sc : js.Scope) (n : Name) → is_among (declared shown_statements) n ≡ false → (js_meaning.enter shown_statements sc).bindings n ≡ sc.bindings n
   entered sc n h = bind-undeclared shown_statements sc.bindings n h
@@ -89,13 +88,13 @@ module _ (z : Setting) (lawful : Lawful z) (c : Context) (ss : core.Statements) 
 
   enter-ready : (w : World) (env : ir.Env) (sc : js.Scope) → Ready z.place c.scope c.writable w env sc → Ready z.place c.scope c.writable w env (js_meaning.enter shown_statements sc)
   enter-ready w env sc r = record {
-    sees = record { inside = record { file = r.sees.inside.file; free = λ m. entered sc (member_name m) (no_function m) ∙ r.sees.inside.free m }; locals = λ x i. subst (Holding w (env.locals x)) (sym (entered sc (z.place.name (core.named x)) (not_declared (core.named x) (free.scope x i)))) (r.sees.locals x i) };
+    sees = record { inside = record { file = r.sees.inside.file; free = λ x none. entered sc x (not_among x none) ∙ r.sees.inside.free x none }; locals = λ x i. subst (Holding w (env.locals x)) (sym (entered sc (z.place.name (core.named x)) (not_declared (core.named x) (free.scope x i)))) (r.sees.locals x i) };
     «open» = λ y i. record { value = (r.«open» y i).value; is = entered sc (z.place.name y) (not_declared y (free.writable y i)) ∙ (r.«open» y i).is };
   }
 
   leave-ready : (w : World) (env : ir.Env) (outer inner : js.Scope) → Ready z.place c.scope c.writable w env inner → Ready z.place c.scope c.writable w env (js_meaning.leave shown_statements outer inner)
   leave-ready w env outer inner r = record {
-    sees = record { inside = record { file = r.sees.inside.file; free = λ m. behind_block outer inner (member_name m) (no_function m) ∙ r.sees.inside.free m }; locals = λ x i. subst (Holding w (env.locals x)) (sym (behind_block outer inner (z.place.name (core.named x)) (not_declared (core.named x) (free.scope x i)))) (r.sees.locals x i) };
+    sees = record { inside = record { file = r.sees.inside.file; free = λ x none. behind_block outer inner x (not_among x none) ∙ r.sees.inside.free x none }; locals = λ x i. subst (Holding w (env.locals x)) (sym (behind_block outer inner (z.place.name (core.named x)) (not_declared (core.named x) (free.scope x i)))) (r.sees.locals x i) };
     «open» = λ y i. record { value = (r.«open» y i).value; is = behind_block outer inner (z.place.name y) (not_declared y (free.writable y i)) ∙ (r.«open» y i).is };
   }
 

@@ -9,7 +9,6 @@ use Rattle.js_mean.specs.States as js
 use Rattle.sj_core.specs.Terms as core
 use Rattle.sj_desugar.specs.Desugar.{Targets, target_of}
 use Rattle.sj_desugar.specs.Spill.{Destination, discard, to_variable, to_result}
-use Rattle.sj_emit_expr.specs.Templates.{member_name}
 use Rattle.sj_trees.specs.declared.types.IrType.{IrType}
 use Rattle.sj_plain.specs.Settings.{Place, Setting, SameState, Inside, Lawful, Holding, Sees}
 use Rattle.sj_plain.proofs.Plain.{sees-lift}
@@ -119,7 +118,7 @@ module _ (z : Setting) (lawful : Lawful z) where
   started-other const y x v sc h = ap (λ (t : Bool). if t then js.holds const v else sc.bindings (z.place.name x)) (differs (z.place.name x) (z.place.name y) (λ e. h (lawful.names.variables x y e)))
 
   pub started-inside : (const : Bool) (y : core.Variable) (v : js.Value) (sc : js.Scope) → Inside z.place sc → Inside z.place (js_meaning.start const (z.place.name y) v sc)
-  started-inside const y v sc i = record { file = i.file; free = λ m. ap (λ (t : Bool). if t then js.holds const v else sc.bindings (member_name m)) (differs (member_name m) (z.place.name y) (λ e. lawful.names.functions y m (sym e))) ∙ i.free m }
+  started-inside const y v sc i = record { file = i.file; free = λ x none. ap (λ (t : Bool). if t then js.holds const v else sc.bindings x) (differs x (z.place.name y) (λ e. none y (sym e))) ∙ i.free x none }
 
   -- a binding that is no local in scope and may not be written otherwise
   pub started-ready : (scope : List ℕ → Type 0) (q : core.Variable → Type 0) (const : Bool) (y : core.Variable) (v : js.Value) (w : World) (env : ir.Env) (sc : js.Scope) → ((x : List ℕ) → scope x → core.named x ≡ y → ⊥) → ((x : core.Variable) → q x → x ≡ y → ⊥) → Ready z.place scope q w env sc → Ready z.place scope q w env (js_meaning.start const (z.place.name y) v sc)

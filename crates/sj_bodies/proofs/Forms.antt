@@ -15,7 +15,6 @@ use Rattle.sj_desugar.specs.Coercions.{coerced}
 use Rattle.sj_desugar.specs.Desugar.{target_of, first_of, finish, operand, branches}
 use Rattle.sj_desugar.specs.Spill.{Destination, discard, to_variable, to_result, Code, one, put_first, then_use, spill}
 use Rattle.sj_emit_expr.specs.Templates.{statement_templates}
-use Rattle.sj_trees.specs.Term.{Term}
 use Rattle.sj_trees.specs.declared.positions.Position.{Position}
 use Rattle.sj_trees.specs.declared.types.IrType.{IrType}
 use Rattle.sj_plain.specs.Conditions.{NoBox}
@@ -28,7 +27,7 @@ use Rattle.sj_names.proofs.Same.{impossible}
 use Rattle.sj_plain.proofs.Orders.{OperandAlike, OperandsAlike, no_operands, more_operands, in_order_alike, ActsAlike}
 use Rattle.sj_bodies.proofs.Spills.{keeping, writing, Extends, extends-refl, Final, OperandsDo, Piece, runs, operands_in, count, none_left, one_left, spill_does, numbered-named, numbered-same}
 use Rattle.sj_bodies.proofs.Statements.{act_of, ends-one, assigned, started-open, finish_alike, ThrowsOn, throws-on, valued_then, valued_done, Ends}
-use Rattle.sj_plain.proofs.Worlds.{World, Grows, grows-refl, grows-trans, SameValue, same_undefined, same_null, same_boolean, same_number, same_text, no_values, one_more}
+use Rattle.sj_plain.proofs.Worlds.{World, Grows, grows-refl, grows-trans, SameValue, same_undefined, same_boolean, same_text, no_values, one_more}
 
 pub writes-more : (q p : core.Variable → Type 0) (k : Destination) → ((y : core.Variable) → q y → p y) → Writes q k → Writes p k
 writes-more q p discard h w = tt

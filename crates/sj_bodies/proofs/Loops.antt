@@ -20,7 +20,7 @@ use Rattle.sj_bodies.specs.Fine.{IsDiscard, is_discard}
 use Rattle.sj_bodies.proofs.Forms.{OneFinal, rebased}
 use Rattle.sj_plain.proofs.Orders.{OperandAlike}
 use Rattle.sj_bodies.proofs.Statements.{act_of, ends-one, throws-on, Ends}
-use Rattle.sj_plain.proofs.Worlds.{World, Grows, grows-refl, grows-trans, SameValue, same_undefined, same_null, same_boolean, same_number, same_text}
+use Rattle.sj_plain.proofs.Worlds.{World, Grows, grows-refl, grows-trans, SameValue, same_boolean}
 
 -- the context of a loop's turn: its condition may not hold any more where the loop's value is given up
 abbrev pub in_turn : Context → Destination → Context

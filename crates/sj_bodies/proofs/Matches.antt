@@ -26,7 +26,7 @@ use Rattle.sj_bodies.proofs.Declared.{Declares, declares-followed}
 use Rattle.sj_bodies.proofs.Forms.{OneFinal, rebased, act_alike, ahead-later}
 use Rattle.sj_bodies.proofs.Loops.{Alike}
 use Rattle.sj_bodies.proofs.Statements.{run-followed, act_of, ends-one, throws-on}
-use Rattle.sj_plain.proofs.Worlds.{World, Grows, grows-trans, SameValue, same_undefined, same_null, same_boolean, same_number, same_text}
+use Rattle.sj_plain.proofs.Worlds.{World, Grows, grows-trans, SameValue, same_number}
 
 -- the context of a case: it is no turn of a loop, since a break in it ends the switch
 abbrev pub settled : Context → Context

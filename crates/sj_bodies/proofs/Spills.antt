@@ -13,17 +13,16 @@ use Rattle.js_mean.specs.Meaning as js_meaning
 use Rattle.js_mean.specs.States as js
 use Rattle.sj_core.specs.Terms as core
 use Rattle.sj_core.specs.Terms.{followed}
-use Rattle.sj_desugar.specs.Desugar.{operand, into, operands, expression_of, position_of, target_of, Targets}
-use Rattle.sj_desugar.specs.Plain.{is_plain, is_fixed}
+use Rattle.sj_desugar.specs.Desugar.{into, operands, expression_of, target_of}
+use Rattle.sj_desugar.specs.Plain.{is_fixed}
 use Rattle.sj_desugar.specs.Spill.{Destination, to_variable, Code, Operand, all_plain, texts, spill, spill_case, then_use}
 use Rattle.sj_trees.specs.Term.{Term, if_then, apply_static, unary_op, binary_op, undefined_literal, null_literal, boolean_literal, byte_literal, short_literal, int_literal, string_literal, var_ref}
-use Rattle.sj_trees.specs.TypeOf.{type_of_term}
 use Rattle.sj_trees.specs.declared.positions.Position.{Position}
 use Rattle.sj_trees.specs.declared.types.IrType.{IrType}
 use Rattle.sj_plain.specs.Conditions.{Plain}
 use Rattle.sj_plain.specs.Settings.{Setting, shown, run, SameState, Valued, valued, thrown, Lawful, Holding, holding, Sees}
 use Rattle.sj_names.proofs.Same.{impossible}
-use Rattle.sj_plain.proofs.Plain.{all_shown, plain_alike, as_operand, fits-exact}
+use Rattle.sj_plain.proofs.Plain.{all_shown, fits-exact}
 use Rattle.sj_plain.proofs.Orders.{OperandAlike, OperandsAlike, no_operands, more_operands}
 use Rattle.sj_bodies.proofs.Contexts.{Context, Sound, Ahead, IsOpen, Ready, ready-lift, Keeps, Less, less-trans, keeps-refl, keeps-trans, keeps-fewer, stored, Came, gave, left, threw, stopped, started-here, started-ready, started-keeps}
 use Rattle.sj_bodies.proofs.Statements.{run-followed, leaves_on, ThrowsOn, throws-on, Ends}

@@ -23,7 +23,7 @@ use Rattle.sj_trees.specs.declared.classes.ParamDef.{ParamDef}
 use Rattle.sj_trees.specs.declared.types.IrType.{IrType}
 use Rattle.sj_trees.specs.declared.types.IrType.TheVariants.{NoType}
 use Rattle.sj_bodies.specs.Locals.{Own}
-use Rattle.sj_plain.specs.Settings.{Place, Setting, SameState, Valued, valued, thrown, NamesDiffer, Holding, holding}
+use Rattle.sj_plain.specs.Settings.{Place, Setting, SameState, Valued, valued, thrown, NamesDiffer, OfNoVariable, Holding, holding}
 use Rattle.sj_bodies.proofs.Blocks.{Outside, bind-undeclared}
 use Rattle.sj_bodies.proofs.Contexts.{Context, Writes, Sound, Ahead, Ready, let_go, returned, Came, gave, left, threw, stopped, differs, equals, is-equal}
 use Rattle.sj_bodies.proofs.Declared.{declared-named}
@@ -107,18 +107,18 @@ module _ (p : Place) (names : NamesDiffer p) where
   bound w (d ∷ ds) _ _ b (one_more v x vs xs a rest) = ⊎_elim (λ e. inl (ap (ir_meaning.holding d.name v) e)) (λ h. inr (one_bound w d ds v vs x xs b a h)) (bound w ds vs xs b rest)
 
   -- no parameter has the name of a function
-  pub parameters-free : (ns : List (List ℕ)) (xs : List js.Value) (b : Name → js.Cell) (m : Member) → b (member_name m) ≡ js.absent → js_meaning.bind_parameters (parameters_in p ns) xs b (member_name m) ≡ js.absent
-  parameters-free [] xs b m h = h
-  parameters-free (n ∷ ns) [] b m h = ap (λ (t : Bool). if t then js.holds false js.undefined else js_meaning.bind_parameters (parameters_in p ns) [] b (member_name m)) (differs (member_name m) (p.name (core.named n)) (λ e. names.functions (core.named n) m (sym e))) ∙ parameters-free ns [] b m h
-  parameters-free (n ∷ ns) (x ∷ xs) b m h = ap (λ (t : Bool). if t then js.holds false x else js_meaning.bind_parameters (parameters_in p ns) xs b (member_name m)) (differs (member_name m) (p.name (core.named n)) (λ e. names.functions (core.named n) m (sym e))) ∙ parameters-free ns xs b m h
+  pub parameters-free : (ns : List (List ℕ)) (xs : List js.Value) (b : Name → js.Cell) (y : Name) → OfNoVariable p y → b y ≡ js.absent → js_meaning.bind_parameters (parameters_in p ns) xs b y ≡ js.absent
+  parameters-free [] xs b y none h = h
+  parameters-free (n ∷ ns) [] b y none h = ap (λ (t : Bool). if t then js.holds false js.undefined else js_meaning.bind_parameters (parameters_in p ns) [] b y) (differs y (p.name (core.named n)) (λ e. none (core.named n) (sym e))) ∙ parameters-free ns [] b y none h
+  parameters-free (n ∷ ns) (x ∷ xs) b y none h = ap (λ (t : Bool). if t then js.holds false x else js_meaning.bind_parameters (parameters_in p ns) xs b y) (differs y (p.name (core.named n)) (λ e. none (core.named n) (sym e))) ∙ parameters-free ns xs b y none h
 
   -- neither does a body declare one
-  pub body-free : (z : Setting) → z.place ≡ p → (ss : core.Statements) (m : Member) → js_meaning.bind_declared (statement_templates p.name p.label ss) (λ x. js.absent) (member_name m) ≡ js.absent
-  body-free z is ss m = bind-undeclared (statement_templates p.name p.label ss) (λ x. js.absent) (member_name m) (go (is_among (declared (statement_templates p.name p.label ss)) (member_name m)) refl)
+  pub body-free : (z : Setting) → z.place ≡ p → (ss : core.Statements) (y : Name) → OfNoVariable p y → js_meaning.bind_declared (statement_templates p.name p.label ss) (λ x. js.absent) y ≡ js.absent
+  body-free z is ss y none = bind-undeclared (statement_templates p.name p.label ss) (λ x. js.absent) y (go (is_among (declared (statement_templates p.name p.label ss)) y) refl)
     where
-      go : (b : Bool) → is_among (declared (statement_templates p.name p.label ss)) (member_name m) ≡ b → is_among (declared (statement_templates p.name p.label ss)) (member_name m) ≡ false
+      go : (b : Bool) → is_among (declared (statement_templates p.name p.label ss)) y ≡ b → is_among (declared (statement_templates p.name p.label ss)) y ≡ false
       go false e = e
-      go true e = let n = declared-named z ss (member_name m) (subst (λ q. is_among (declared (statement_templates q.name q.label ss)) (member_name m) ≡ true) (sym is) e) in absurd (names.functions n.variable m (subst (λ q. q.name n.variable ≡ member_name m) is n.name))
+      go true e = let n = declared-named z ss y (subst (λ q. is_among (declared (statement_templates q.name q.label ss)) y ≡ true) (sym is) e) in absurd (none n.variable (subst (λ q. q.name n.variable ≡ y) is n.name))
 
   -- calls of a member and of its function are alike where the levels below are
   pub call_alike : (d : Direction) (low : ir_meaning.Low) (js_low : js_meaning.Low) (m : Member) (l : Linked p m) → LowAlike (record { place = p; direction = d; is_mutable = is_mutable_in l.definition l.its_body; low = low; js_low = js_low }) → (w : World) (vs : List ir.Value) (xs : List js.Value) (env : ir.Env) (s : ir.State) (u : js.State) → SameValues w vs xs → SameState p w s u → Sim d (Valued p w env) (ir_meaning.call low (member_of p.classes m.class m.namespace m.method) None vs env s) (js_meaning.code_call js_low p.file (js_meaning.code_of p.program p.file (member_name m)) xs u)
@@ -164,4 +164,4 @@ module _ (p : Place) (names : NamesDiffer p) where
           inner = record { this_value = None; locals = h.locals; sure = sure_locals l.its_body }
 
           ready : Ready p scope (λ y. ⊥) w inner sc
-          ready = record { sees = record { inside = record { file = refl; free = λ q. parameters-free (names_of l.definition.params) xs names_declared q (body-free z refl (desugared l.definition l.its_body).body q) }; locals = h.hold }; «open» = λ y wr. absurd wr }
+          ready = record { sees = record { inside = record { file = refl; free = λ y none. parameters-free (names_of l.definition.params) xs names_declared y none (body-free z refl (desugared l.definition l.its_body).body y none) }; locals = h.hold }; «open» = λ y wr. absurd wr }

@@ -53,9 +53,9 @@ begins Private c k a rest e = let h : a ≡ 112 = ap first e in (omega arith, om
 begins PrivateStatic c k a rest e = let h : a ≡ 112 = ap first e in (omega arith, omega arith)
 begins Constructor c k a rest e = let h : a ≡ 99 = ap first e in (omega arith, omega arith)
 
-no_function : (x : Variable) (m : Member) → variable_name x ≡ member_name m → ⊥
-no_function (named x) m e = let h = begins m.namespace m.class m.method 118 (95 ∷ mangled x) e in let k : 118 ≤ 115 = h.1 in omega arith
-no_function (numbered n) m e = let h = begins m.namespace m.class m.method 36 (number_text n) e in let k : 99 ≤ 36 = h.0 in omega arith
+no_function : (m : Member) (x : Variable) → variable_name x ≡ member_name m → ⊥
+no_function m (named x) e = let h = begins m.namespace m.class m.method 118 (95 ∷ mangled x) e in let k : 118 ≤ 115 = h.1 in omega arith
+no_function m (numbered n) e = let h = begins m.namespace m.class m.method 36 (number_text n) e in let k : 99 ≤ 36 = h.0 in omega arith
 
 pub emitted_names_differ : (classes : ir_world.World) (program : js.Program) (file : Name) (is_linked : Member → Bool) → ((m : Member) → is_linked m ≡ true → owner program file (member_name m) ≡ Some file) → NamesDiffer (emitted_in classes program file is_linked)
 emitted_names_differ classes program file is_linked own = record { variables = variables-differ; labels = labels-differ; functions = no_function; own = own }

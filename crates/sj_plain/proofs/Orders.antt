@@ -1,7 +1,7 @@
 -- Operands in order, on both sides.
 use Rattle.std.proofs.Common.{◌≡◌, List, [], ◌∷◌, refl, ap, ◌∙◌}
 use mathlib.Core.Path.{fun_ext}
-use Rattle.outcomes.specs.Outcome.{Out, done, then_do}
+use Rattle.outcomes.specs.Outcome.{Out, then_do}
 use Rattle.outcomes.specs.Agreement.{Sim}
 use Rattle.outcomes.proofs.Sequence.{then_do-associative}
 use Rattle.outcomes.proofs.Simulation.{sim_done, sim_then}

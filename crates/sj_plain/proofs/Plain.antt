@@ -61,7 +61,7 @@ module _ (z : Setting) (lawful : Lawful z) (scope : List ℕ → Type 0) where
 
   -- a call: the name stands for the function, the arguments are evaluated, and the bodies are alike
   name_shown : (m : Member) (w : World) (s : ir.State) (sc : js.Scope) (u : js.State) → z.place.is_linked m ≡ true → Inside z.place sc → SameState z.place w s u → js_meaning.name_value z.place.program (member_name m) sc u ≡ done (js.gives (js.function z.place.file (member_name m)) u)
-  name_shown m w s sc u linked inside same = (λ i. js_meaning.cell_value (js_meaning.or_outer (inside.free m i) (js_meaning.top_cell (owner z.place.program (inside.file i) (member_name m)) (member_name m) u)) u) ∙ (λ i. js_meaning.cell_value (js_meaning.top_cell (lawful.names.own m linked i) (member_name m) u) u) ∙ (λ i. js_meaning.cell_value (same.functions m linked i) u)
+  name_shown m w s sc u linked inside same = (λ i. js_meaning.cell_value (js_meaning.or_outer (inside.free (member_name m) (lawful.names.functions m) i) (js_meaning.top_cell (owner z.place.program (inside.file i) (member_name m)) (member_name m) u)) u) ∙ (λ i. js_meaning.cell_value (js_meaning.top_cell (lawful.names.own m linked i) (member_name m) u) u) ∙ (λ i. js_meaning.cell_value (same.functions m linked i) u)
 
   weaker : (v w : World) (env : ir.Env) (o : Out ir.Ended) (q : Out js.ExpressionEnd) → Grows v w → Sim z.direction (Valued z.place w env) o q → Sim z.direction (Valued z.place v env) o q
   weaker v w env o q g h = sim_weaken z.direction (Valued z.place w env) (Valued z.place v env) o q (λ a b. valued-weaken z v w env a b g) h

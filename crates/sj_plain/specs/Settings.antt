@@ -43,10 +43,14 @@ pub record SameState (p : Place) (w : World) (s : ir.State) (u : js.State) : Typ
   pub addresses : length w ≡ length s.heap
   pub functions : (m : Member) → p.is_linked m ≡ true → u.tops p.file (member_name m) ≡ js.holds false (js.function p.file (member_name m))
 
--- the scope belongs to the function of a method: no function of the program is bound in it
+-- a name that no variable has: those of functions, and of whatever else stands at the top of a file
+abbrev pub OfNoVariable : Place → Name → Type 0
+OfNoVariable p x = (y : core.Variable) → p.name y ≡ x → ⊥
+
+-- the scope belongs to the function of a method: nothing but variables is bound in it
 pub record Inside (p : Place) (sc : js.Scope) : Type 0 where
   pub file : sc.file ≡ p.file
-  pub free : (m : Member) → sc.bindings (member_name m) ≡ js.absent
+  pub free : (x : Name) → OfNoVariable p x → sc.bindings x ≡ js.absent
 
 -- an expression of the IR that gave a value or threw one and changed no local, and the expression that is emitted for it
 pub data Valued (p : Place) (from : World) (env : ir.Env) : ir.Ended → js.ExpressionEnd → Type 0 where
@@ -61,7 +65,7 @@ CallsAlike z m = (w : World) (vs : List ir.Value) (xs : List js.Value) (env : ir
 pub record NamesDiffer (p : Place) : Type 0 where
   pub variables : (x y : core.Variable) → p.name x ≡ p.name y → x ≡ y
   pub labels : (l m : List ℕ) → p.label l ≡ p.label m → l ≡ m
-  pub functions : (x : core.Variable) (m : Member) → p.name x ≡ member_name m → ⊥
+  pub functions : (m : Member) → OfNoVariable p (member_name m)
   pub own : (m : Member) → p.is_linked m ≡ true → owner p.program p.file (member_name m) ≡ Some p.file
 
 pub record Lawful (z : Setting) : Type 0 where
