@@ -1,10 +1,12 @@
 -- What a class refers to, what refers to it, and the tags that were found.
+pub use Rattle.class_ways.specs.Next.{from_of, to_of, targets, sources}
 use Rattle.std.specs.Prelude.{◌≡◌, ◌↔◌, ◌⊎◌, List, [], ◌∷◌, ◌++◌, ◌&&◌, Contains, map, filter, if◌then◌else◌}
 use Rattle.std.specs.Ordering.{nat_cmp, is_lt}
 use Rattle.std.specs.Cmp.Lexicographic.{slice_cmp}
 use Rattle.std.specs.List.{list_any}
 use Rattle.sj_names.specs.declared.entry_points.EntryPoint.{EntryPoint}
-use Rattle.sj_graph.specs.declared.graphs.Reference.{Reference}
+use Rattle.class_ways.specs.Next.{next_at}
+use Rattle.class_ways.specs.declared.ways.Ways.{Ways}
 use Rattle.sj_split.specs.declared.tags.Reach.{Reach}
 use Rattle.sj_split.specs.Orders.{is_same, IsBefore, AreIncreasing}
 use Rattle.sj_split.specs.declared.homes.Settled.{Settled}
@@ -14,19 +16,13 @@ use Rattle.module_names.specs.Names.{Key}
 use Rattle.sj_split.specs.Walks.{Name, Id, References, Reaches, IsReached, IsLeastOfComponent}
 use Rattle.sj_split.specs.Homes.{class_of}
 
-abbrev pub from_of : Reference → Name
-from_of one = one.from
+-- the ways lead from each class to those to which it refers
+abbrev pub AreForward : References → Ways → Type 0
+AreForward references ways = (class : Name) → next_at ways class ≡ targets references class
 
-abbrev pub to_of : Reference → Name
-to_of one = one.to
-
--- the classes to which a class refers
-abbrev pub targets : References → Name → List Name
-targets references class = map to_of (filter (λ one. is_same one.from class) references)
-
--- the classes that refer to a class
-abbrev pub sources : References → Name → List Name
-sources references class = map from_of (filter (λ one. is_same one.to class) references)
+-- the ways lead from each class to those that refer to it
+abbrev pub AreBackward : References → Ways → Type 0
+AreBackward references ways = (class : Name) → next_at ways class ≡ sources references class
 
 abbrev pub entry_class : EntryPoint → Name
 entry_class entry = entry.class

@@ -1,24 +1,25 @@
 // Homes by components.
 ghost use Rattle.std.specs.Prelude.{◌≡◌, IfOk};
-ghost use Rattle.sj_split.specs.Walks.{IsLeastOfComponent};
-ghost use Rattle.sj_split.specs.Steps.{lesser, IsLeastBetween};
+ghost use Rattle.sj_split.specs.Walks.{References, IsLeastOfComponent};
+ghost use Rattle.sj_split.specs.Steps.{AreForward, AreBackward, lesser, IsLeastBetween};
 
 use crate::walks::{leading_to, led_to};
+use class_ways::Ways;
 use indexmap::IndexSet;
-use sj_graph::Reference;
 use sj_names::{ClassName, NoMemory, Text};
 use std::alloc::Global;
 
 /// The least name in the component of `class`.
 pub fn least_of_component(
     alloc: Global,
-    references: &[Reference],
+    forward: &Ways,
+    backward: &Ways,
     class: &ClassName,
 ) -> Result<Text, NoMemory>
-    ensures { IfOk result (λ least. IsLeastOfComponent references.now class.now least) }
+    ensures { IfOk result (λ least. (references : References) → AreForward references forward.now → AreBackward references backward.now → IsLeastOfComponent references class.now least) }
 {
-    let after = led_to(alloc, references, class)?;
-    let before = leading_to(alloc, references, class)?;
+    let after = led_to(alloc, forward, class)?;
+    let before = leading_to(alloc, backward, class)?;
     let least = least_between(&after, &before, class);
     Ok(Text::from_str(alloc, least.text())?)
 }

@@ -9,7 +9,7 @@ pub loop-class-init : goal.loop-class-init
 loop-class-init c = gathering_begins class_of (IsLeastHome c.args.references.now) c.args.classes.now c.new-homes.result.items c.new-homes.ensures.items
 
 pub loop-class-preserved : goal.loop-class-preserved
-loop-class-preserved c = gathering_more class_of (IsLeastHome c.args.references.now) c.args.classes.now c.loop-class.class-index c.loop-class.homes.items c.push.new.self.items _ c.class-item.result c.loop-class.invariant (omega arith) c.class-item.is c.in_ok-class.ensures (record { least = c.in_ok-least.least; is_least = subst (λ (n : Name). IsLeastOfComponent c.args.references.now n c.in_ok-least.least) (sym c.in_ok-class.ensures) c.in_ok-least.ensures; is_home = refl }) c.in_ok-push.ensures.items
+loop-class-preserved c = gathering_more class_of (IsLeastHome c.args.references.now) c.args.classes.now c.loop-class.class-index c.loop-class.homes.items c.push.new.self.items _ c.class-item.result c.loop-class.invariant (omega arith) c.class-item.is c.in_ok-class.ensures (record { least = c.in_ok-least.least; is_least = subst (λ (n : Name). IsLeastOfComponent c.args.references.now n c.in_ok-least.least) (sym c.in_ok-class.ensures) (c.in_ok-least.ensures c.args.references.now c.in_ok-forward.ensures c.in_ok-backward.ensures); is_home = refl }) c.in_ok-push.ensures.items
 
 pub returns : goal.returns
 returns c = record {
