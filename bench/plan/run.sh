@@ -4,7 +4,7 @@ set -eu
 
 . "$(dirname "$0")/../program.sh"
 
-begin plan_bench 'anyhow sj_graph sj_names sj_split' sj_names sj_units js_tree worklist module_names sj_graph sj_split
+begin plan_bench 'anyhow sj_graph sj_names sj_split' sj_names sj_units js_tree worklist module_names sj_graph class_ways sj_split
 
 cat > "$main" <<'PROGRAM'
 //! The time of plans of three graphs, in both styles.
@@ -22,9 +22,8 @@ use sj_split::{Style, plan};
 use std::alloc::Global;
 use std::time::Instant;
 
-const CLASSES: u32 = 400;
-
-const IDS: u32 = 20;
+// How many classes and public ids there are.
+const SIZES: [(u32, u32); 2] = [(400, 20), (2000, 100)];
 
 fn name(alloc: Global, number: u32) -> Result<ClassName> {
     let text = format!(in alloc; "library.part{}.Class{number}", number % 97)?;
@@ -32,13 +31,13 @@ fn name(alloc: Global, number: u32) -> Result<ClassName> {
 }
 
 // Each class refers to the `each` classes behind it; behind the last comes the first in a ring.
-fn graph(alloc: Global, each: u32, ring: bool) -> Result<Graph> {
+fn graph(alloc: Global, classes: u32, each: u32, ring: bool) -> Result<Graph> {
     let mut owners = Vec::new(alloc);
     let mut references = Vec::new(alloc);
-    for number in 0..CLASSES {
+    for number in 0..classes {
         owners.push(name(alloc, number)?)?;
         for step in 0..each {
-            add_reference(alloc, number, step, ring, &mut references)?;
+            add_reference(alloc, classes, number, step, ring, &mut references)?;
         }
     }
     Ok(Graph {
@@ -49,23 +48,24 @@ fn graph(alloc: Global, each: u32, ring: bool) -> Result<Graph> {
 
 fn add_reference(
     alloc: Global,
+    classes: u32,
     number: u32,
     step: u32,
     ring: bool,
     references: &mut Vec<Reference>,
 ) -> Result<()> {
     let behind = number.saturating_add(step).saturating_add(1);
-    if behind < CLASSES || ring {
+    if classes > 0 && (behind < classes || ring) {
         let from = name(alloc, number)?;
-        let to = name(alloc, behind % CLASSES)?;
+        let to = name(alloc, behind % classes)?;
         references.push(Reference { from, to })?;
     }
     Ok(())
 }
 
-fn entries(alloc: Global) -> Result<Vec<EntryPoint>> {
+fn entries(alloc: Global, ids: u32) -> Result<Vec<EntryPoint>> {
     let mut list = Vec::new(alloc);
-    for number in 0..IDS {
+    for number in 0..ids {
         list.push(entry(alloc, number)?)?;
     }
     Ok(list)
@@ -97,9 +97,9 @@ fn are_valid(list: &[EntryPoint]) -> bool
 }
 
 // The milliseconds of a plan, and how many modules it has.
-fn measured(rt: &HostRuntime, graph: &Graph, style: Style) -> Result<(u128, usize)> {
+fn measured(rt: &HostRuntime, ids: u32, graph: &Graph, style: Style) -> Result<(u128, usize)> {
     let alloc = rt.alloc();
-    let list = entries(alloc)?;
+    let list = entries(alloc, ids)?;
     if !are_entries(&list) {
         return Ok((0, 0));
     }
@@ -109,14 +109,23 @@ fn measured(rt: &HostRuntime, graph: &Graph, style: Style) -> Result<(u128, usiz
     Ok((start.elapsed(rt)?.as_millis(), plan.len()))
 }
 
-fn main(rt: HostRuntime) -> Result<()> {
+// The times of the plans of three graphs with so many classes and public ids.
+fn measure(rt: &HostRuntime, classes: u32, ids: u32) -> Result<()> {
     let alloc = rt.alloc();
+    println!(rt; "{classes} classes, {ids} public ids")?;
     for (what, each, ring) in [("chain", 1, false), ("ring", 1, true), ("fifty others", 50, true)] {
-        let graph = graph(alloc, each, ring)?;
-        let (fewest, files) = measured(&rt, &graph, Style::Fewest)?;
+        let graph = graph(alloc, classes, each, ring)?;
+        let (fewest, files) = measured(rt, ids, &graph, Style::Fewest)?;
         println!(rt; "{what}, fewest: {fewest} ms, {files} files")?;
-        let (smallest, files) = measured(&rt, &graph, Style::Smallest)?;
+        let (smallest, files) = measured(rt, ids, &graph, Style::Smallest)?;
         println!(rt; "{what}, smallest: {smallest} ms, {files} files")?;
+    }
+    Ok(())
+}
+
+fn main(rt: HostRuntime) -> Result<()> {
+    for (classes, ids) in SIZES {
+        measure(&rt, classes, ids)?;
     }
     Ok(())
 }

@@ -18,19 +18,19 @@ pub struct Expected {
 }
 
 impl Expected {
-    pub fn new(alloc: Global) -> Expected {
+    pub(crate) fn new(alloc: Global) -> Expected {
         Expected {
             lines: Vec::new(alloc),
             used: 0,
         }
     }
 
-    pub fn of_lines(lines: Vec<String>) -> Expected {
+    pub(crate) fn of_lines(lines: Vec<String>) -> Expected {
         Expected { lines, used: 0 }
     }
 
     /// Whether this is the next line.
-    pub fn is_next(&mut self, answer: &str) -> bool {
+    pub(crate) fn is_next(&mut self, answer: &str) -> bool {
         match self.lines.get(self.used) {
             Some(line) => {
                 self.used = self.used.saturating_add(1);
@@ -41,13 +41,13 @@ impl Expected {
     }
 
     /// Whether all lines were asked for.
-    pub fn is_used_up(&self) -> bool {
+    pub(crate) fn is_used_up(&self) -> bool {
         self.used == self.lines.len()
     }
 }
 
 /// The lines of the plan of a block.
-pub fn planned_lines(alloc: Global, block: &Block, style: &str) -> Result<Vec<String>> {
+pub(crate) fn planned_lines(alloc: Global, block: &Block, style: &str) -> Result<Vec<String>> {
     let style = if style == "fewest" {
         Style::Fewest
     } else {

@@ -16,7 +16,7 @@ pub struct Block {
 }
 
 impl Block {
-    pub fn new(alloc: Global) -> Block {
+    pub(crate) fn new(alloc: Global) -> Block {
         Block {
             pieces: Vec::new(alloc),
             owners: Vec::new(alloc),
@@ -26,7 +26,7 @@ impl Block {
     }
 
     /// Adds what a line says.
-    pub fn add(&mut self, alloc: Global, kind: &str, fields: &str) -> Result<()> {
+    pub(crate) fn add(&mut self, alloc: Global, kind: &str, fields: &str) -> Result<()> {
         let (first, rest) = fields.split_once('\t').unwrap_or((fields, ""));
         match kind {
             "piece" => self.pieces.push(piece(alloc, first, rest)?)?,
@@ -42,7 +42,7 @@ impl Block {
     }
 
     /// The graph that the lines say.
-    pub fn graph(&self, alloc: Global) -> Result<Graph> {
+    pub(crate) fn graph(&self, alloc: Global) -> Result<Graph> {
         let mut owners = Vec::new(alloc);
         for owner in &self.owners {
             owners.push(owner.copied()?)?;
@@ -58,7 +58,7 @@ impl Block {
     }
 
     /// The entries that the lines say.
-    pub fn entries(&self, alloc: Global) -> Result<Vec<EntryPoint>> {
+    pub(crate) fn entries(&self, alloc: Global) -> Result<Vec<EntryPoint>> {
         let mut entries = Vec::new(alloc);
         for entry in &self.entries {
             entries.push(entry.copied()?)?;
@@ -67,7 +67,7 @@ impl Block {
     }
 
     /// Whether the graph of the pieces is the one that the lines say. Where there are no pieces nothing is asked.
-    pub fn is_graph_of_pieces(&self, alloc: Global) -> Result<bool> {
+    pub(crate) fn is_graph_of_pieces(&self, alloc: Global) -> Result<bool> {
         if self.pieces.is_empty() {
             return Ok(true);
         }

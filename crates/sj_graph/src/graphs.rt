@@ -1,8 +1,7 @@
 // Graphs of classes.
 ghost use Rattle.std.specs.Prelude.{◌≡◌, IfOk};
 
-use sj_names::{ClassName, Items};
-use std::alloc::AllocError;
+use sj_names::{ClassName, Items, NoMemory};
 
 /// A class and a class to which it refers.
 #[derive(Drop, PartialEq, Eq, Hash)]
@@ -13,7 +12,7 @@ pub struct Reference {
 
 impl Reference {
     /// The same reference once more.
-    pub fn copied(&self) -> Result<Reference, AllocError>
+    pub fn copied(&self) -> Result<Reference, NoMemory>
         ensures { IfOk result (λ r. r ≡ self.now) }
     {
         let from = self.from.copied()?;

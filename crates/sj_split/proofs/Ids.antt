@@ -29,7 +29,7 @@ free : (id : Id) → list_all is_id_byte id ≡ true → IsFree id
 free [] h = All-nil (λ byte. is_space byte ≡ false)
 free (byte ∷ bytes) h = let p = and_parts (is_id_byte byte) (list_all is_id_byte bytes) h in All-cons (λ b. is_space b ≡ false) byte bytes (not_space byte p.0) (free bytes p.1)
 
-each_passes : {X : Type 0} (test : X → Bool) (xs : List X) (x : X) → list_all test xs ≡ true → Contains xs x → test x ≡ true
+pub each_passes : {X : Type 0} (test : X → Bool) (xs : List X) (x : X) → list_all test xs ≡ true → Contains xs x → test x ≡ true
 each_passes test [] x h there = nothing_in x there
 each_passes {X} test (y ∷ ys) x h there = let p = and_parts (test y) (list_all test ys) h in elim (cons_cases y x ys there) [ inl e ↦ subst (λ (z : X). test z ≡ true) e p.0 | inr later ↦ each_passes test ys x p.1 later ]
 

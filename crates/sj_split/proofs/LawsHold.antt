@@ -26,10 +26,10 @@ apart_from_neither a b p q = go (slice_cmp nat_cmp a b) refl
     go Greater e = absurd (q (nat_list_cmp_total.antisymm b a ∙ ap ordering_reverse e))
 
 module _ (references : References) where
-  component_turned : (a b : Name) → SameComponent references a b → SameComponent references b a
+  pub component_turned : (a b : Name) → SameComponent references a b → SameComponent references b a
   component_turned a b c = record { there = c.back; back = c.there }
 
-  component_joined : (a b d : Name) → SameComponent references a b → SameComponent references b d → SameComponent references a d
+  pub component_joined : (a b d : Name) → SameComponent references a b → SameComponent references b d → SameComponent references a d
   component_joined a b d c e = record { there = joined references a b d c.there e.there; back = joined references d b a e.back c.back }
 
   one_least : (a b least other : Name) → IsLeastOfComponent references a least → IsLeastOfComponent references b other → SameComponent references a b → least ≡ other

@@ -10,3 +10,4 @@ pub mod Unique
 pub mod LawsHold
 pub mod OnePlace
 pub mod Ids
+pub mod Noted

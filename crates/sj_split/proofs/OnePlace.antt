@@ -21,22 +21,22 @@ use Rattle.sj_split.proofs.Walked.{same_name}
 use Rattle.sj_split.proofs.Least.{not_before_itself}
 use Rattle.sj_split.proofs.Unique.{below_each, first_of_increasing, rest_of_increasing}
 
-public_home : (id : Id) (home : Home) → is_public id home ≡ true → home ≡ Public id
+pub public_home : (id : Id) (home : Home) → is_public id home ≡ true → home ≡ Public id
 public_home id (Public other) h = ap Public (same_name other id h)
 public_home id (Internal key) h = cc
 
-internal_home : (key : Key) (home : Home) → is_internal key home ≡ true → home ≡ Internal key
+pub internal_home : (key : Key) (home : Home) → is_internal key home ≡ true → home ≡ Internal key
 internal_home key (Public id) h = cc
 internal_home key (Internal other) h = ap Internal (same_name other key h)
 
 -- a class whose home passes the test
-record Placed (test : Home → Bool) (homes : List Settled) (class : Name) : Type 0 where
+pub record Placed (test : Home → Bool) (homes : List Settled) (class : Name) : Type 0 where
   pub one : Settled
   pub among : Contains homes one
   pub named : one.class ≡ class
   pub passes : test one.home ≡ true
 
-placed : (test : Home → Bool) (homes : List Settled) (class : Name) → Contains (classes_at test homes) class → Placed test homes class
+pub placed : (test : Home → Bool) (homes : List Settled) (class : Name) → Contains (classes_at test homes) class → Placed test homes class
 placed test homes class h = by (from_map class_of (filter (λ settled. test settled.home) homes) class h)
   where
     by : Mapped class_of (filter (λ settled. test settled.home) homes) class → Placed test homes class
@@ -46,7 +46,7 @@ placed test homes class h = by (from_map class_of (filter (λ settled. test sett
 not_twice : (one other : Settled) (homes : List Settled) → AreIncreasing (map class_of (one ∷ homes)) → Contains homes other → one.class ≡ other.class → ⊥
 not_twice one other homes increasing there e = not_before_itself other.class (subst (λ (n : Name). IsBefore n other.class) e (below_each one.class (map class_of homes) other.class (first_of_increasing one.class (map class_of homes) increasing) (into_map class_of homes other there)))
 
-one_settled : (homes : List Settled) → AreIncreasing (map class_of homes) → (one other : Settled) → Contains homes one → Contains homes other → one.class ≡ other.class → one ≡ other
+pub one_settled : (homes : List Settled) → AreIncreasing (map class_of homes) → (one other : Settled) → Contains homes one → Contains homes other → one.class ≡ other.class → one ≡ other
 one_settled [] increasing one other h k e = nothing_in one h
 one_settled (first ∷ homes) increasing one other h k e = by (cons_cases first one homes h) (cons_cases first other homes k) (one_settled homes (rest_of_increasing first.class (map class_of homes) increasing) one other)
   where
@@ -58,7 +58,7 @@ one_settled (first ∷ homes) increasing one other h k e = by (cons_cases first 
 
 module _ (owners : List Name) (homes : List Settled) where
   -- the module is that of the key
-  abbrev InternalOf : List Key → List Bytes → Key → PlannedModule → Type 0
+  abbrev pub InternalOf : List Key → List Bytes → Key → PlannedModule → Type 0
   InternalOf [] names key m = ⊥
   InternalOf (k ∷ keys) [] key m = ⊥
   InternalOf (k ∷ keys) (name ∷ names) key m = ((k ≡ key) × (m ≡ module_without_initializers name (classes_at (is_internal k) homes))) ⊎ InternalOf keys names key m
@@ -69,7 +69,7 @@ module _ (owners : List Name) (homes : List Settled) where
   key_among (k ∷ keys) (name ∷ names) key m (inl p) = subst (λ (x : Key). Contains (k ∷ keys) x) p.0 (at_first k keys)
   key_among (k ∷ keys) (name ∷ names) key m (inr h) = further k key keys (key_among keys names key m h)
 
-  classes_are : (keys : List Key) (names : List Bytes) (key : Key) (m : PlannedModule) → InternalOf keys names key m → m.classes ≡ classes_at (is_internal key) homes
+  pub classes_are : (keys : List Key) (names : List Bytes) (key : Key) (m : PlannedModule) → InternalOf keys names key m → m.classes ≡ classes_at (is_internal key) homes
   classes_are [] names key m h = absurd h
   classes_are (k ∷ keys) [] key m h = absurd h
   classes_are (k ∷ keys) (name ∷ names) key m (inl p) = ap (λ (x : PlannedModule). x.classes) p.1 ∙ ap (λ (x : Key). classes_at (is_internal x) homes) p.0
@@ -83,7 +83,7 @@ module _ (owners : List Name) (homes : List Settled) where
   one_internal (first ∷ keys) (name ∷ names) key m n increasing (inr p) (inl q) = absurd (not_before_itself key (subst (λ (x : Key). IsBefore x key) q.0 (below_each first keys key (first_of_increasing first keys increasing) (key_among keys names key m p))))
   one_internal (first ∷ keys) (name ∷ names) key m n increasing (inr p) (inr q) = one_internal keys names key m n (rest_of_increasing first keys increasing) p q
 
-  record Found (keys : List Key) (names : List Bytes) (m : PlannedModule) : Type 0 where
+  pub record Found (keys : List Key) (names : List Bytes) (m : PlannedModule) : Type 0 where
     pub key : Key
     pub is : InternalOf keys names key m
 
@@ -94,7 +94,7 @@ module _ (owners : List Name) (homes : List Settled) where
   found_rest : (k : Key) (keys : List Key) (name : Bytes) (names : List Bytes) (m : PlannedModule) → Found keys names m → Found (k ∷ keys) (name ∷ names) m
   found_rest k keys name names m f = record { key = f.key; is = inr f.is }
 
-  found : (keys : List Key) (names : List Bytes) (m : PlannedModule) → Contains (internal_modules owners homes keys names) m → Found keys names m
+  pub found : (keys : List Key) (names : List Bytes) (m : PlannedModule) → Contains (internal_modules owners homes keys names) m → Found keys names m
   found [] names m h = nothing_in m h
   found (k ∷ keys) [] m h = nothing_in m h
   found (k ∷ keys) (name ∷ names) m h = elim (Contains-append_cases (with_piece owners (classes_at (is_internal k) homes) name) (internal_modules owners homes keys names) m h) [ inl here ↦ found_head k keys name names m (has_piece owners (classes_at (is_internal k) homes)) here | inr later ↦ found_rest k keys name names m (found keys names m later) ]
@@ -128,7 +128,7 @@ module _ (owners : List Name) (homes : List Settled) where
         let key : p.key ≡ q.key = cc in
         one_internal keys names q.key m n keys_in_order (subst (λ (x : Key). InternalOf keys names x m) key p.is) q.is
 
-parted : (graph : Graph) (entries : List EntryPoint) (homes : List Settled) (ids : List Id) (keys : List Key) (names : List Bytes) (m : PlannedModule) → Contains (map (public_module entries homes) ids ++ internal_modules graph.owners homes keys names) m → Mapped (public_module entries homes) ids m ⊎ Found graph.owners homes keys names m
+pub parted : (graph : Graph) (entries : List EntryPoint) (homes : List Settled) (ids : List Id) (keys : List Key) (names : List Bytes) (m : PlannedModule) → Contains (map (public_module entries homes) ids ++ internal_modules graph.owners homes keys names) m → Mapped (public_module entries homes) ids m ⊎ Found graph.owners homes keys names m
 parted graph entries homes ids keys names m h = elim (Contains-append_cases (map (public_module entries homes) ids) (internal_modules graph.owners homes keys names) m h) [ inl public ↦ inl (from_map (public_module entries homes) ids m public) | inr internal ↦ inr (found graph.owners homes keys names m internal) ]
 
 pub classes_have_one_place : OnePlace

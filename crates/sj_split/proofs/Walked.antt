@@ -81,6 +81,20 @@ module _ (references : References) where
       go _ stay = stay
       go _ (on x y path step) = back_in_front y x b (into_sources y x step) (go x path)
 
+  -- paths by steps that are the same at each class
+  path_moved : (next others : Name → List Name) → ((class : Name) → next class ≡ others class) → (a b : Name) → Path (Leads next) a b → Path (Leads others) a b
+  path_moved next others same a _ stay = stay
+  path_moved next others same a _ (on x y path step) = on x y (path_moved next others same a x path) (subst (λ (l : List Name). Contains l y) (same x) step)
+
+  pub paths_moved : (next others : Name → List Name) → ((class : Name) → next class ≡ others class) → (a b : Name) → Path (Leads next) a b ↔ Path (Leads others) a b
+  paths_moved next others same a b = (path_moved next others same a b, path_moved others next (λ class. sym (same class)) a b)
+
+  pub found_moved : (next others : Name → List Name) → ((class : Name) → next class ≡ others class) → (start : List Name) (x : Name) → IsFound next start x ↔ IsFound others start x
+  found_moved next others same start x = (
+    λ f. record { from = f.from; begins = f.begins; path = path_moved next others same f.from x f.path },
+    λ f. record { from = f.from; begins = f.begins; path = path_moved others next (λ class. sym (same class)) f.from x f.path },
+  )
+
   pub found_targets : (a b : Name) (found : List Name) → (Contains found b ↔ Path (Leads (targets references)) a b) → Contains found b ↔ Walk references a b
   found_targets a b found both = (λ h. walk_from_targets a b (both.0 h), λ w. both.1 (walk_into_targets a b w))
 

@@ -1,12 +1,15 @@
 -- What a class refers to, what refers to it, and the tags that were found.
-use Rattle.std.specs.Prelude.{◌≡◌, ◌↔◌, ◌⊎◌, List, [], ◌∷◌, ◌++◌, ◌&&◌, Contains, map, filter, if◌then◌else◌}
+pub use Rattle.class_ways.specs.Next.{from_of, to_of, targets, sources}
+use Rattle.std.specs.Prelude.{◌≡◌, ◌↔◌, ◌⊎◌, List, [], ◌∷◌, ◌++◌, ◌&&◌, Contains, map, filter, Some, if◌then◌else◌}
 use Rattle.std.specs.Ordering.{nat_cmp, is_lt}
 use Rattle.std.specs.Cmp.Lexicographic.{slice_cmp}
 use Rattle.std.specs.List.{list_any}
 use Rattle.sj_names.specs.declared.entry_points.EntryPoint.{EntryPoint}
-use Rattle.sj_graph.specs.declared.graphs.Reference.{Reference}
+use Rattle.class_ways.specs.Next.{next_at}
+use Rattle.class_ways.specs.declared.ways.Ways.{Ways}
 use Rattle.sj_split.specs.declared.tags.Reach.{Reach}
-use Rattle.sj_split.specs.Orders.{is_same, IsBefore, AreIncreasing}
+use Rattle.indexmap.specs.IndexMap.{IndexMap, get}
+use Rattle.sj_split.specs.Orders.{Bytes, is_same, IsBefore, AreIncreasing}
 use Rattle.sj_split.specs.declared.homes.Settled.{Settled}
 use Rattle.sj_split.specs.declared.homes.Home.{Home}
 use Rattle.sj_split.specs.declared.homes.Home.TheVariants.{Public, Internal}
@@ -14,19 +17,13 @@ use Rattle.module_names.specs.Names.{Key}
 use Rattle.sj_split.specs.Walks.{Name, Id, References, Reaches, IsReached, IsLeastOfComponent}
 use Rattle.sj_split.specs.Homes.{class_of}
 
-abbrev pub from_of : Reference → Name
-from_of one = one.from
+-- the ways lead from each class to those to which it refers
+abbrev pub AreForward : References → Ways → Type 0
+AreForward references ways = (class : Name) → next_at ways class ≡ targets references class
 
-abbrev pub to_of : Reference → Name
-to_of one = one.to
-
--- the classes to which a class refers
-abbrev pub targets : References → Name → List Name
-targets references class = map to_of (filter (λ one. is_same one.from class) references)
-
--- the classes that refer to a class
-abbrev pub sources : References → Name → List Name
-sources references class = map from_of (filter (λ one. is_same one.to class) references)
+-- the ways lead from each class to those that refer to it
+abbrev pub AreBackward : References → Ways → Type 0
+AreBackward references ways = (class : Name) → next_at ways class ≡ sources references class
 
 abbrev pub entry_class : EntryPoint → Name
 entry_class entry = entry.class
@@ -84,3 +81,11 @@ pub record IsLeastHome (references : References) (settled : Settled) : Type 0 wh
   pub least : Name
   pub is_least : IsLeastOfComponent references settled.class least
   pub is_home : settled.home ≡ Internal least
+
+-- what is known of classes is the least name of their components
+abbrev pub AreLeast : {S : Type 0} → References → IndexMap Name Bytes S → Type 0
+AreLeast references known = (class least : Name) → get is_same known class ≡ Some least → IsLeastOfComponent references class least
+
+-- only classes in both lists became known, by this name
+abbrev pub IsNoted : {S : Type 0} → List Name → List Name → Name → IndexMap Name Bytes S → IndexMap Name Bytes S → Type 0
+IsNoted after before least old new = (class name : Name) → get is_same new class ≡ Some name → (get is_same old class ≡ Some name) ⊎ (Contains after class × Contains before class × (name ≡ least))

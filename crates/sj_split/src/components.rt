@@ -1,26 +1,64 @@
 // Homes by components.
-ghost use Rattle.std.specs.Prelude.{◌≡◌, IfOk};
-ghost use Rattle.sj_split.specs.Walks.{IsLeastOfComponent};
-ghost use Rattle.sj_split.specs.Steps.{lesser, IsLeastBetween};
+ghost use Rattle.std.specs.Prelude.{◌≡◌, ◌∷◌, [], IfOk, OnOk};
+ghost use Rattle.sj_split.specs.Walks.{References, IsLeastOfComponent};
+ghost use Rattle.sj_split.specs.Steps.{AreForward, AreBackward, AreLeast, IsNoted, lesser, IsLeastBetween};
 
 use crate::walks::{leading_to, led_to};
-use indexmap::IndexSet;
-use sj_graph::Reference;
+use class_ways::Ways;
+use indexmap::{IndexMap, IndexSet};
 use sj_names::{ClassName, NoMemory, Text};
 use std::alloc::Global;
 
-/// The least name in the component of `class`.
+/// The least name in the component of `class`, which is looked up where it is known; else it is found, and is known then for each class of
+/// the component.
 pub fn least_of_component(
     alloc: Global,
-    references: &[Reference],
+    forward: &Ways,
+    backward: &Ways,
     class: &ClassName,
+    known: &mut IndexMap<ClassName, Text>,
 ) -> Result<Text, NoMemory>
-    ensures { IfOk result (λ least. IsLeastOfComponent references.now class.now least) }
+    ensures least { IfOk result (λ least. (references : References) → AreForward references forward.now → AreBackward references backward.now → AreLeast references known.old → IsLeastOfComponent references class.now least) }
+    ensures known { OnOk result ((references : References) → AreForward references forward.now → AreBackward references backward.now → AreLeast references known.old → AreLeast references known.new) }
 {
-    let after = led_to(alloc, references, class)?;
-    let before = leading_to(alloc, references, class)?;
+    if let Some(least) = known.get(class) {
+        return Ok(least.copied()?);
+    }
+    let after = led_to(alloc, forward, class)?;
+    let before = leading_to(alloc, backward, class)?;
     let least = least_between(&after, &before, class);
-    Ok(Text::from_str(alloc, least.text())?)
+    let least = Text::from_str(alloc, least.text())?;
+    note_members(&after, &before, &least, known)?;
+    Ok(least)
+}
+
+// Notes the least name for each class that is in both sets.
+fn note_members(
+    after: &IndexSet<ClassName>,
+    before: &IndexSet<ClassName>,
+    least: &Text,
+    known: &mut IndexMap<ClassName, Text>,
+) -> Result<(), NoMemory>
+    ensures { OnOk result (IsNoted after.now.keys before.now.keys least.now known.old known.new) }
+{
+    for place in 0..after.len() {
+        note_member(&after[place], before, least, known)?;
+    }
+    Ok(())
+}
+
+fn note_member(
+    class: &ClassName,
+    before: &IndexSet<ClassName>,
+    least: &Text,
+    known: &mut IndexMap<ClassName, Text>,
+) -> Result<(), NoMemory>
+    ensures { OnOk result (IsNoted (class.now ∷ []) before.now.keys least.now known.old known.new) }
+{
+    if before.contains(class) {
+        known.insert(class.copied()?, least.copied()?)?;
+    }
+    Ok(())
 }
 
 // The least of `class` and of those that are in both sets.

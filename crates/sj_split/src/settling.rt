@@ -9,6 +9,8 @@ use crate::components::least_of_component;
 use crate::homes::{Home, Settled};
 use crate::tags::{home_of_tags, reaches, tags};
 use crate::walks::reached;
+use class_ways::Ways;
+use indexmap::IndexMap;
 use sj_graph::Reference;
 use sj_names::{ClassName, EntryPoint, NoMemory, Text};
 use std::alloc::Global;
@@ -65,9 +67,12 @@ fn homes_by_components(
 ) -> Result<Vec<Settled>, NoMemory>
     ensures { IfOk result (λ homes. AreSettled (IsLeastHome references.now) classes.now homes.items) }
 {
+    let forward = Ways::to_targets(alloc, references)?;
+    let backward = Ways::to_sources(alloc, references)?;
+    let mut known = IndexMap::new(alloc);
     let mut homes = Vec::new(alloc);
     for class in classes {
-        let least = least_of_component(alloc, references, class)?;
+        let least = least_of_component(alloc, &forward, &backward, class, &mut known)?;
         let home = Home::Internal(least);
         let class = class.copied()?;
         homes.push(Settled { class, home })?;

@@ -6,6 +6,7 @@ ghost use Rattle.sj_split.specs.Steps.{tags_in, AreReaches};
 
 use crate::homes::Home;
 use crate::walks::reached_by;
+use class_ways::Ways;
 use indexmap::IndexSet;
 use sj_graph::Reference;
 use sj_names::{ClassName, EntryPoint, NoMemory, Text};
@@ -27,9 +28,10 @@ pub fn reaches(
 ) -> Result<Vec<Reach>, NoMemory>
     ensures { IfOk result (λ reaches. AreReaches references.now entries.now ids.now reaches.items) }
 {
+    let forward = Ways::to_targets(alloc, references)?;
     let mut reaches = Vec::new(alloc);
     for id in ids {
-        let classes = reached_by(alloc, references, entries, id)?;
+        let classes = reached_by(alloc, &forward, entries, id)?;
         reaches.push(Reach {
             id: id.copied()?,
             classes,

@@ -2,15 +2,16 @@
 ghost use Rattle.std.specs.Prelude.{◌≡◌, ◌↔◌, [], IfOk, OnOk, Contains, map};
 ghost use Rattle.indexmap.specs.IndexSet.{insert_all};
 ghost use Rattle.sj_split.specs.Orders.{is_same};
-ghost use Rattle.sj_split.specs.Walks.{Name, Walk, Reaches};
-ghost use Rattle.sj_split.specs.Steps.{targets, sources, entry_class, first_classes, AreReached};
+ghost use Rattle.sj_split.specs.Walks.{Name, References, Walk, Reaches};
+ghost use Rattle.sj_split.specs.Steps.{entry_class, first_classes, AreForward, AreBackward, AreReached};
 
 use crate::orders::each_once_in_order;
+use class_ways::Ways;
 use indexmap::IndexSet;
 use sj_graph::Reference;
 use sj_names::{ClassName, EntryPoint, NoMemory, Text};
 use std::alloc::Global;
-use worklist::{Step, search, search_from};
+use worklist::{search, search_from};
 
 /// The classes that the initializers of the public modules lead to, in the order of their bytes.
 pub fn reached(
@@ -20,8 +21,9 @@ pub fn reached(
 ) -> Result<Vec<ClassName>, NoMemory>
     ensures { IfOk result (λ classes. AreReached references.now entries.now classes.items) }
 {
+    let forward = Ways::to_targets(alloc, references)?;
     let mut found = entry_classes(alloc, entries)?;
-    search(&Targets { references }, &mut found)?;
+    search(&forward, &mut found)?;
     Ok(each_once_in_order(listed(alloc, &found)?))
 }
 
@@ -39,14 +41,14 @@ fn entry_classes(alloc: Global, entries: &[EntryPoint]) -> Result<IndexSet<Class
 /// The classes that a public module reaches.
 pub fn reached_by(
     alloc: Global,
-    references: &[Reference],
+    forward: &Ways,
     entries: &[EntryPoint],
     id: &Text,
 ) -> Result<IndexSet<ClassName>, NoMemory>
-    ensures { IfOk result (λ found. (class : Name) → Contains found.keys class ↔ Reaches references.now entries.now id.now class) }
+    ensures { IfOk result (λ found. (references : References) → AreForward references forward.now → (class : Name) → Contains found.keys class ↔ Reaches references entries.now id.now class) }
 {
     let mut found = module_classes(alloc, entries, id)?;
-    search(&Targets { references }, &mut found)?;
+    search(forward, &mut found)?;
     Ok(found)
 }
 
@@ -70,24 +72,24 @@ fn module_classes(
 /// The classes to which walks lead from `class`.
 pub fn led_to(
     alloc: Global,
-    references: &[Reference],
+    forward: &Ways,
     class: &ClassName,
 ) -> Result<IndexSet<ClassName>, NoMemory>
-    ensures { IfOk result (λ found. (other : Name) → Contains found.keys other ↔ Walk references.now class.now other) }
+    ensures { IfOk result (λ found. (references : References) → AreForward references forward.now → (other : Name) → Contains found.keys other ↔ Walk references class.now other) }
 {
-    let found = search_from(alloc, &Targets { references }, class.copied()?)?;
+    let found = search_from(alloc, forward, class.copied()?)?;
     Ok(found)
 }
 
 /// The classes from which walks lead to `class`.
 pub fn leading_to(
     alloc: Global,
-    references: &[Reference],
+    backward: &Ways,
     class: &ClassName,
 ) -> Result<IndexSet<ClassName>, NoMemory>
-    ensures { IfOk result (λ found. (other : Name) → Contains found.keys other ↔ Walk references.now other class.now) }
+    ensures { IfOk result (λ found. (references : References) → AreBackward references backward.now → (other : Name) → Contains found.keys other ↔ Walk references other class.now) }
 {
-    let found = search_from(alloc, &Sources { references }, class.copied()?)?;
+    let found = search_from(alloc, backward, class.copied()?)?;
     Ok(found)
 }
 
@@ -100,42 +102,4 @@ fn listed(alloc: Global, found: &IndexSet<ClassName>) -> Result<Vec<ClassName>, 
         list.push(found[place].copied()?)?;
     }
     Ok(list)
-}
-
-// From a class to those to which it refers.
-#[derive(Drop)]
-struct Targets<'g> {
-    references: &'g [Reference],
-}
-
-impl<'g> Step<ClassName> for Targets<'g> {
-    ghost next = { λ s class. targets s.references.now class };
-
-    fn add_next(&self, class: &ClassName, found: &mut IndexSet<ClassName>) -> Result<(), NoMemory> {
-        for reference in self.references {
-            if reference.from.is_same(class) {
-                found.insert(reference.to.copied()?)?;
-            }
-        }
-        Ok(())
-    }
-}
-
-// From a class to those that refer to it.
-#[derive(Drop)]
-struct Sources<'g> {
-    references: &'g [Reference],
-}
-
-impl<'g> Step<ClassName> for Sources<'g> {
-    ghost next = { λ s class. sources s.references.now class };
-
-    fn add_next(&self, class: &ClassName, found: &mut IndexSet<ClassName>) -> Result<(), NoMemory> {
-        for reference in self.references {
-            if reference.to.is_same(class) {
-                found.insert(reference.from.copied()?)?;
-            }
-        }
-        Ok(())
-    }
 }

@@ -9,7 +9,7 @@ pub loop-id-init : goal.loop-id-init
 loop-id-init c = gathering_begins id_of (IsReach c.args.references.now c.args.entries.now) c.args.ids.now c.new-reaches.result.items c.new-reaches.ensures.items
 
 pub loop-id-preserved : goal.loop-id-preserved
-loop-id-preserved c = gathering_more id_of (IsReach c.args.references.now c.args.entries.now) c.args.ids.now c.loop-id.id-index c.loop-id.reaches.items c.push.new.self.items _ c.id-item.result c.loop-id.invariant (omega arith) c.id-item.is c.in_ok-copied.ensures (λ class. subst (λ (id : Name). Contains c.in_ok-classes.classes.keys class ↔ Reaches c.args.references.now c.args.entries.now id class) (sym c.in_ok-copied.ensures) (c.in_ok-classes.ensures class)) c.in_ok-push.ensures.items
+loop-id-preserved c = gathering_more id_of (IsReach c.args.references.now c.args.entries.now) c.args.ids.now c.loop-id.id-index c.loop-id.reaches.items c.push.new.self.items _ c.id-item.result c.loop-id.invariant (omega arith) c.id-item.is c.in_ok-copied.ensures (λ class. subst (λ (id : Name). Contains c.in_ok-classes.classes.keys class ↔ Reaches c.args.references.now c.args.entries.now id class) (sym c.in_ok-copied.ensures) (c.in_ok-classes.ensures c.args.references.now c.in_ok-forward.ensures class)) c.in_ok-push.ensures.items
 
 pub returns : goal.returns
 returns c = record {
