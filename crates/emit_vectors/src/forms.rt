@@ -3,7 +3,7 @@ use sj_names::Namespace;
 use sj_trees::{BinaryOp, IrType, MatchCase, MethodDef, Tree, UnaryOp};
 
 /// Whether a method is static, and each tree of its body is of a form that is built.
-pub fn is_built(method: &MethodDef) -> bool {
+pub(crate) fn is_built(method: &MethodDef) -> bool {
     let is_static = method.namespace == Namespace::PublicStatic
         || method.namespace == Namespace::PrivateStatic;
     match &method.body {

@@ -6,7 +6,7 @@ use std::alloc::Global;
 
 /// Whether the case is met: the text, in hexadecimal, is taken as this kind of name exactly where `verdict` is `ok`, a taken
 /// name is spelled by that text, and it is mangled as told.
-pub fn is_met(
+pub(crate) fn is_met(
     alloc: Global,
     kind: &str,
     text: &str,

@@ -5,7 +5,12 @@ use std::alloc::Global;
 
 /// Whether the case is met: the bytes, in hexadecimal, are read exactly where `verdict` is `ok`, as the units told, four
 /// hexadecimal digits each, and are written again.
-pub fn is_met(alloc: Global, bytes: &str, verdict: &str, units: &str) -> Result<bool, Undecided> {
+pub(crate) fn is_met(
+    alloc: Global,
+    bytes: &str,
+    verdict: &str,
+    units: &str,
+) -> Result<bool, Undecided> {
     let bytes = hex::decode(alloc, bytes)?;
     match taken_units(read_modified(alloc, bytes.as_slice()))? {
         Some(read) => {

@@ -11,7 +11,7 @@ use std::alloc::Global;
 use std::result;
 
 /// The lines on the member of this spelling.
-pub fn report(alloc: Global, world: &LinkedWorld, spelling: &str) -> Result<String> {
+pub(crate) fn report(alloc: Global, world: &LinkedWorld, spelling: &str) -> Result<String> {
     let Some(member) = member_of(alloc, spelling)? else {
         return Ok(String::from_str(alloc, "no member\n")?);
     };

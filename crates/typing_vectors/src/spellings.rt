@@ -21,7 +21,7 @@ pub fn namespace_of(word: &str) -> Namespace
 }
 
 /// The line on a question and its answer.
-pub fn exchange_text(
+pub(crate) fn exchange_text(
     alloc: Global,
     question: &Question,
     answer: &Answer,

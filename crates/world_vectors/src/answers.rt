@@ -6,7 +6,7 @@ use sj_world::{Owned, Resolution, World, WorldError};
 use std::alloc::Global;
 use std::result;
 
-pub fn is_met(
+pub(crate) fn is_met(
     alloc: Global,
     world: &result::Result<World, WorldError>,
     kind: &str,

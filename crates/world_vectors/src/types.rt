@@ -3,7 +3,7 @@ use sj_names::{ClassName, NameError, TypeRef};
 use sj_trees::IrType;
 use std::alloc::Global;
 
-pub fn type_of(alloc: Global, text: &str) -> Result<IrType, NameError> {
+pub(crate) fn type_of(alloc: Global, text: &str) -> Result<IrType, NameError> {
     if let Some(name) = quoted(text, "(L \"") {
         return Ok(IrType::Class(ClassName::parse(alloc, name)?));
     }
