@@ -1,0 +1,18 @@
+// Laws of reachable facts.
+ghost use Rattle.sj_reach.specs.Laws.{ReachableFactsAreClosed, ReachableFactsAreLeast};
+ghost use Rattle.sj_reach.specs.Rows.{WorkedReachability};
+
+/// What follows by a rule from facts that are reachable is reachable.
+pub fn reachable_facts_are_closed()
+    ensures { ReachableFactsAreClosed }
+{}
+
+/// Whatever holds of all that follows by a rule from facts of which it holds, holds of each reachable fact.
+pub fn reachable_facts_are_least()
+    ensures { ReachableFactsAreLeast }
+{}
+
+/// Small folders, each with what is told of it: one for each code.
+pub fn worked_reachability()
+    ensures { WorkedReachability }
+{}
