@@ -1,6 +1,6 @@
 // Laws of reachable facts.
 ghost use Rattle.sj_reach.specs.Laws.{ReachableFactsAreClosed, ReachableFactsAreLeast};
-ghost use Rattle.sj_reach.specs.Rows.{WorkedReachability};
+ghost use Rattle.sj_reach.specs.Rows.{WorkedFacts, WorkedReachability};
 
 /// What follows by a rule from facts that are reachable is reachable.
 pub fn reachable_facts_are_closed()
@@ -10,6 +10,11 @@ pub fn reachable_facts_are_closed()
 /// Whatever holds of all that follows by a rule from facts of which it holds, holds of each reachable fact.
 pub fn reachable_facts_are_least()
     ensures { ReachableFactsAreLeast }
+{}
+
+/// Small folders, and facts that are reachable in them.
+pub fn worked_facts()
+    ensures { WorkedFacts }
 {}
 
 /// Small folders, each with what is told of it: one for each code.

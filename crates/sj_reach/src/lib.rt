@@ -4,4 +4,6 @@
 
 mod laws;
 
-pub use laws::{reachable_facts_are_closed, reachable_facts_are_least, worked_reachability};
+pub use laws::{
+    reachable_facts_are_closed, reachable_facts_are_least, worked_facts, worked_reachability,
+};

@@ -18,6 +18,10 @@ behind_the_end : command (codes "link" ∷ codes "--split=smallest" ∷ codes "e
 unfolding given
 behind_the_end = refl
 
+joined_value : command (codes "link" ∷ codes "--split=smallest" ∷ codes "e" ∷ codes "out" ∷ codes "--" ∷ codes "f1" ∷ []) ≡ Some (Command.Link (record { style = Style.Smallest; optimize = true; entries = codes "e"; out = codes "out"; folders = codes "f1" ∷ [] }))
+unfolding given
+joined_value = refl
+
 dash_alone : command (codes "link" ∷ codes "-" ∷ codes "out" ∷ codes "f1" ∷ []) ≡ Some (Command.Link (record { style = Style.Fewest; optimize = true; entries = codes "-"; out = codes "out"; folders = codes "f1" ∷ [] }))
 unfolding given
 dash_alone = refl
