@@ -18,15 +18,16 @@ use Rattle.sj_split.specs.declared.plans.PlannedModule.{PlannedModule}
 use Rattle.sj_split.specs.declared.plans.Style.{Style}
 use Rattle.sj_split.specs.declared.plans.Style.TheVariants.{Fewest, Smallest}
 use Rattle.sj_split.specs.Orders.{Bytes, is_same}
-use Rattle.sj_split.specs.Walks.{Name, Id, References, Reaches, IsReached}
+use Rattle.sj_split.specs.Walks.{Name, Id, References, Reaches, IsReached, SameComponent}
 use Rattle.sj_split.specs.Homes.{class_of, home_of_tags, IsHome}
 use Rattle.sj_split.specs.Modules.{is_public, is_internal, classes_at, public_module, is_among, has_piece, with_piece, module_without_initializers, internal_modules, module_of, home_of, IsPlan}
-use Rattle.sj_split.proofs.LawsHold.{one_home}
+use Rattle.sj_split.proofs.Ids.{homes_tell_tags}
+use Rattle.sj_split.proofs.LawsHold.{one_home, components_are_homes, tags_decide_homes}
 use Rattle.sj_split.proofs.Members.{at_first, further, cons_cases, into_map, Mapped, from_map, into_filter}
 use Rattle.sj_split.proofs.OnePlace.{classes_have_one_place, public_home, internal_home, Placed, placed, Found, classes_are, found as found_in}
 use Rattle.sj_split.proofs.Planned.{names_length}
 use Rattle.sj_split.proofs.Walked.{same_name, is_same_itself}
-use Rattle.plan_laws.specs.Laws.{IsPlaced, IsPublic, HasOwner, ModulesAreHomes, PlacedWhere, PlacedAreReached}
+use Rattle.plan_laws.specs.Laws.{IsPlaced, IsPublic, HasOwner, ModulesAreComponents, ModulesAreHomes, ModulesAreTags, PlacedWhere, PlacedAreReached}
 
 -- an item that passes the test
 record Passing {X : Type 0} (test : X → Bool) (xs : List X) : Type 0 where
@@ -250,3 +251,40 @@ placed_where_public_or_owning digest_of graph entries style modules is class hom
 
 pub placed_classes_are_reached : PlacedAreReached
 placed_classes_are_reached digest_of graph entries style modules is class p = (is.are_homes.reached class).0 (settled_in digest_of graph entries style modules is class p.planned p.among p.inside)
+
+-- the home of a class in a module of the plan
+home_in : (digest_of : Key → Digest) (graph : Graph) (entries : List EntryPoint) (style : Style) (modules : List PlannedModule) → IsPlan digest_of graph entries style modules → (class : Name) (m : PlannedModule) → Contains modules m → Contains m.classes class → (home : Home) × IsHome graph.references entries style class home
+home_in digest_of graph entries style modules is class m there inside = let s = from_map class_of is.homes class (settled_in digest_of graph entries style modules is class m there inside) in (s.item.home, subst (λ name. IsHome graph.references entries style name s.item.home) s.is (is.are_homes.right s.item s.among))
+
+pub modules_are_components : ModulesAreComponents
+modules_are_components digest_of graph entries modules is a b m n there here in_a in_b = (
+  λ e. same.0 (one.0 e),
+  λ c. one.1 (same.1 c),
+)
+  where
+    home_a : (home : Home) × IsHome graph.references entries Smallest a home
+    home_a = home_in digest_of graph entries Smallest modules is a m there in_a
+
+    home_b : (home : Home) × IsHome graph.references entries Smallest b home
+    home_b = home_in digest_of graph entries Smallest modules is b n here in_b
+
+    one : (m ≡ n) ↔ (home_a.0 ≡ home_b.0)
+    one = modules_are_homes digest_of graph entries Smallest modules is a b home_a.0 home_b.0 home_a.1 home_b.1 m n there here in_a in_b
+
+    same : (home_a.0 ≡ home_b.0) ↔ SameComponent graph.references a b
+    same = components_are_homes graph.references entries a b home_a.0 home_b.0 home_a.1 home_b.1
+
+pub modules_are_tags : ModulesAreTags
+modules_are_tags digest_of graph entries modules are is a b m n there here in_a in_b = (
+  λ e. homes_tell_tags graph.references entries are a b home_a.0 home_a.1 (subst (λ home. IsHome graph.references entries Fewest b home) (sym (one.0 e)) home_b.1),
+  λ same. one.1 (tags_decide_homes graph.references entries a b home_a.0 home_b.0 home_a.1 home_b.1 same),
+)
+  where
+    home_a : (home : Home) × IsHome graph.references entries Fewest a home
+    home_a = home_in digest_of graph entries Fewest modules is a m there in_a
+
+    home_b : (home : Home) × IsHome graph.references entries Fewest b home
+    home_b = home_in digest_of graph entries Fewest modules is b n here in_b
+
+    one : (m ≡ n) ↔ (home_a.0 ≡ home_b.0)
+    one = modules_are_homes digest_of graph entries Fewest modules is a b home_a.0 home_b.0 home_a.1 home_b.1 m n there here in_a in_b

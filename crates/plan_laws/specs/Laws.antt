@@ -8,11 +8,12 @@ use Rattle.sj_names.specs.declared.entry_points.EntryPoint.{EntryPoint}
 use Rattle.sj_split.specs.Homes.{IsHome}
 use Rattle.sj_split.specs.Modules.{IsPlan}
 use Rattle.sj_split.specs.Orders.{Bytes, is_same}
-use Rattle.sj_split.specs.Walks.{Name, Id, IsReached}
+use Rattle.sj_split.specs.Walks.{Name, Id, IsReached, Reaches, SameComponent}
 use Rattle.sj_split.specs.declared.homes.Home.{Home}
 use Rattle.sj_split.specs.declared.homes.Home.TheVariants.{Public}
 use Rattle.sj_split.specs.declared.plans.PlannedModule.{PlannedModule}
 use Rattle.sj_split.specs.declared.plans.Style.{Style}
+use Rattle.sj_split.specs.declared.plans.Style.TheVariants.{Fewest, Smallest}
 
 -- all digests have one length
 pub record HaveOneLength (digest_of : Key → Digest) : Type 0 where
@@ -72,6 +73,14 @@ PlacedAreReached = (digest_of : Key → Digest) (graph : Graph) (entries : List 
 -- two classes with homes, each in a module of the plan, are in one exactly where their homes are one
 abbrev pub ModulesAreHomes : Type 0
 ModulesAreHomes = (digest_of : Key → Digest) (graph : Graph) (entries : List EntryPoint) (style : Style) (modules : List PlannedModule) → IsPlan digest_of graph entries style modules → (a b : Name) (home other : Home) → IsHome graph.references entries style a home → IsHome graph.references entries style b other → (m n : PlannedModule) → Contains modules m → Contains modules n → Contains m.classes a → Contains n.classes b → (m ≡ n) ↔ (home ≡ other)
+
+-- in smallest style two classes that are in modules of the plan are in one exactly where walks lead both ways between them
+abbrev pub ModulesAreComponents : Type 0
+ModulesAreComponents = (digest_of : Key → Digest) (graph : Graph) (entries : List EntryPoint) (modules : List PlannedModule) → IsPlan digest_of graph entries Smallest modules → (a b : Name) (m n : PlannedModule) → Contains modules m → Contains modules n → Contains m.classes a → Contains n.classes b → (m ≡ n) ↔ SameComponent graph.references a b
+
+-- in fewest style they are in one exactly where the same public modules reach them
+abbrev pub ModulesAreTags : Type 0
+ModulesAreTags = (digest_of : Key → Digest) (graph : Graph) (entries : List EntryPoint) (modules : List PlannedModule) → AreEntries entries → IsPlan digest_of graph entries Fewest modules → (a b : Name) (m n : PlannedModule) → Contains modules m → Contains modules n → Contains m.classes a → Contains n.classes b → (m ≡ n) ↔ ((id : Id) → Reaches graph.references entries id a ↔ Reaches graph.references entries id b)
 
 -- two plans of the same are one
 abbrev pub PlansAreOne : Type 0

@@ -1,6 +1,6 @@
 // Laws of plans.
 ghost use Rattle.module_names.specs.Names.{sha1_digest};
-ghost use Rattle.plan_laws.specs.Laws.{HaveOneLength, IdsAreNotInternal, ModulesAreHomes, NamesDiffer, PlacedAreReached, PlacedWhere, PlansAreOne};
+ghost use Rattle.plan_laws.specs.Laws.{HaveOneLength, IdsAreNotInternal, ModulesAreComponents, ModulesAreHomes, ModulesAreTags, NamesDiffer, PlacedAreReached, PlacedWhere, PlansAreOne};
 
 /// No two modules of a plan have one name, where the digests have one length and no public id begins with `internal-`.
 pub fn names_differ()
@@ -31,6 +31,16 @@ pub fn placed_classes_are_reached()
 /// Two classes that are in modules of a plan are in the same one exactly where they have the same home.
 pub fn modules_are_homes()
     ensures { ModulesAreHomes }
+{}
+
+/// In smallest style two classes that are in modules of the plan are in one exactly where walks lead both ways between them.
+pub fn modules_are_components()
+    ensures { ModulesAreComponents }
+{}
+
+/// In fewest style two classes that are in modules of the plan are in one exactly where the same public modules reach them.
+pub fn modules_are_tags()
+    ensures { ModulesAreTags }
 {}
 
 /// There is one plan, where the names of its modules differ.
