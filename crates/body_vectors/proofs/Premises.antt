@@ -20,7 +20,7 @@ use Rattle.sj_bodies.proofs.Contexts.{equals}
 use Rattle.sj_calls.specs.Files.{EmittedMethod}
 use Rattle.sj_calls.proofs.Items.{nothing_in, in_front_or_behind}
 use Rattle.sj_names.proofs.Same.{impossible}
-use Rattle.sj_sound.specs.Linked.{has_function, have_functions}
+use Rattle.sj_sound.specs.Linked.{has_function, have_functions, functions_of}
 use Rattle.sj_sound.proofs.Topped.{topped}
 use Rattle.sj_world.specs.Ancestors.{directly_above}
 use Rattle.sj_world.specs.Known.{Classes, object}
@@ -95,8 +95,8 @@ own (e ∷ es) h = let p = and_parts (list_all (is_unlike e) es) (all_unlike es)
 
 -- what isn't told by refl alone of a method of `java.lang.Object`
 pub record Judged (w : Classes) (fs : List EmittedMethod) (d : MethodDef) : Type 0 where
-  pub rows : Rows (IsSub w) (has_function fs) [] (body_in d)
-  pub yields : Yields (IsSub w) (has_function fs) (body_in d) d.result
+  pub rows : Rows (IsSub w) (functions_of fs) [] (body_in d)
+  pub yields : Yields (IsSub w) (functions_of fs) (body_in d) d.result
   pub result : IsResult d.result
   pub values : AllHaveValues d.params
   pub method_name : IsMethodName d.name

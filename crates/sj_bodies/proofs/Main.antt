@@ -39,7 +39,7 @@ use Rattle.sj_plain.proofs.Worlds.{World, Grows, grows-refl}
 
 module _ (z : Setting) (lawful : Lawful z) (low : LowAlike z) where
   abbrev BlockDoes : Terms → Type 1
-  BlockDoes ts = (c : Context) (k : Destination) (j : ℕ) → Sound z.is_mutable c → Ahead c j → Outside c (OwnAll ts) → Writes c.writable k → FineBlock z.is_mutable z.place.is_linked c.scope c.targets k ts → (w : World) (env : ir.Env) (s : ir.State) (sc : js.Scope) (u : js.State) → Ready z.place c.scope c.writable w env sc → SameState z.place w s u → Ends z lawful c c.scope k w sc (ir_meaning.block z.place.classes z.low ts env s) (block z.is_mutable c.targets k j ts).statements sc u
+  BlockDoes ts = (c : Context) (k : Destination) (j : ℕ) → Sound z.is_mutable c → Ahead c j → Outside c (OwnAll ts) → Writes c.writable k → FineBlock z.is_mutable z.place.has c.scope c.targets k ts → (w : World) (env : ir.Env) (s : ir.State) (sc : js.Scope) (u : js.State) → Ready z.place c.scope c.writable w env sc → SameState z.place w s u → Ends z lawful c c.scope k w sc (ir_meaning.block z.place.classes z.low ts env s) (block z.is_mutable c.targets k j ts).statements sc u
 
   -- a tree of a block, and those behind it
   one_and_rest : (t : Term) (rest : Terms) (d : Terms) → (c : Context) (k : Destination) (j : ℕ) (first : List ℕ → Type 0) → (w : World) (env : ir.Env) (s : ir.State) (sc : js.Scope) (u : js.State) → Sim z.direction (Came z.place c first discard w sc) (ir_meaning.step z.place.classes z.low t env s) (run z (into z.is_mutable c.targets discard j t).statements sc u) → ((y : World) (v : ir.Value) (env : ir.Env) (s : ir.State) (sc' : js.Scope) (u : js.State) → Grows w y → Ready z.place first c.writable y env sc' → Keeps z.place c.kept sc sc' → SameState z.place y s u → Sim z.direction (Came z.place c c.scope k w sc) (ir_meaning.rest z.place.classes z.low rest v env s) (run z (block z.is_mutable c.targets k (into z.is_mutable c.targets discard j t).next rest).statements sc' u)) → Sim z.direction (Came z.place c c.scope k w sc) (ir.go_on (ir_meaning.step z.place.classes z.low t env s) (ir_meaning.rest z.place.classes z.low rest)) (run z (core.followed (into z.is_mutable c.targets discard j t).statements (block z.is_mutable c.targets k (into z.is_mutable c.targets discard j t).next rest).statements) sc u)
@@ -102,17 +102,17 @@ module _ (z : Setting) (lawful : Lawful z) (low : LowAlike z) where
       out_d : Outside c (Own d)
       out_d = outside-part c (Own (binary_op p o e d)) (Own d) (λ x i. inr i) out
 
-      by : ((is_simple o ≡ true) × FineOperand z.is_mutable z.place.is_linked c.scope e (λ y. FineHere z lawful low c (to_variable y (type_of_term e)) e) × FineOperand z.is_mutable z.place.is_linked c.scope d (λ y. FineHere z lawful low c (to_variable y (type_of_term d)) d)) ⊎ (IsDivision o × FineOperand z.is_mutable z.place.is_linked c.scope e (λ y. FineHere z lawful low c (to_variable y (type_of_term e)) e) × IsDivisor d) → Does z lawful c k j (binary_op p o e d)
+      by : ((is_simple o ≡ true) × FineOperand z.is_mutable z.place.has c.scope e (λ y. FineHere z lawful low c (to_variable y (type_of_term e)) e) × FineOperand z.is_mutable z.place.has c.scope d (λ y. FineHere z lawful low c (to_variable y (type_of_term d)) d)) ⊎ (IsDivision o × FineOperand z.is_mutable z.place.has c.scope e (λ y. FineHere z lawful low c (to_variable y (type_of_term e)) e) × IsDivisor d) → Does z lawful c k j (binary_op p o e d)
       by (inl h) = of_operands z lawful c k (piece z lawful low c.targets e ∷ piece z lawful low c.targets d ∷ []) j (ir_meaning.binary z.place.classes z.low o) (λ es. finish k p (binary_result o) false (core.binary_of o (first_of es) (second_of es))) sound ahead (operand_does z lawful low c j e does_e out_e h.1, (operand_does z lawful low c j d does_d out_d h.2, tt)) (two_final z lawful c k j (ir_meaning.binary z.place.classes z.low o) (λ es. finish k p (binary_result o) false (core.binary_of o (first_of es) (second_of es))) (binary_final p o c k j h.0 sound wr fine.0))
       by (inr h) = divided_by p o e d c k j h.0 h.2 sound ahead wr fine.0 (operand_does z lawful low c j e does_e out_e h.1)
 
   abbrev OperandsFine : Terms → Type 1
-  OperandsFine ts = (c : Context) (k : Destination) (j : ℕ) → Outside c (OwnAll ts) → FineOperands z.is_mutable z.place.is_linked c.scope c.targets k ts → OperandsDo z lawful c j (list_of z lawful low c.targets ts)
+  OperandsFine ts = (c : Context) (k : Destination) (j : ℕ) → Outside c (OwnAll ts) → FineOperands z.is_mutable z.place.has c.scope c.targets k ts → OperandsDo z lawful c j (list_of z lawful low c.targets ts)
 
   last_does : (t : Term) → TreeDoes z lawful low t → BlockDoes (more_terms t no_terms)
   last_does t does c k j sound ahead out wr fine w env s sc u r same = subst (λ o. Ends z lawful c c.scope k w sc o (into z.is_mutable c.targets k j t).statements sc u) (sym (ap (ir.go_on (ir_meaning.step z.place.classes z.low t env s)) (fun_ext (λ v. refl)) ∙ go_on-given (ir_meaning.step z.place.classes z.low t env s))) (does c k j sound ahead (outside-part c (OwnAll (more_terms t no_terms)) (Own t) (λ x o. inl o) out) wr fine w env s sc u r same)
 
-  next_does : (t u : Term) (us : Terms) → TreeDoes z lawful low t → BlockDoes (more_terms u us) → (c : Context) (k : Destination) (j : ℕ) → Sound z.is_mutable c → Ahead c j → Outside c (OwnAll (more_terms t (more_terms u us))) → Writes c.writable k → FineHere z lawful low c discard t → FineBlock z.is_mutable z.place.is_linked c.scope c.targets k (more_terms u us) → (w : World) (env : ir.Env) (s : ir.State) (sc : js.Scope) (q : js.State) → Ready z.place c.scope c.writable w env sc → SameState z.place w s q → Ends z lawful c c.scope k w sc (ir_meaning.block z.place.classes z.low (more_terms t (more_terms u us)) env s) (block z.is_mutable c.targets k j (more_terms t (more_terms u us))).statements sc q
+  next_does : (t u : Term) (us : Terms) → TreeDoes z lawful low t → BlockDoes (more_terms u us) → (c : Context) (k : Destination) (j : ℕ) → Sound z.is_mutable c → Ahead c j → Outside c (OwnAll (more_terms t (more_terms u us))) → Writes c.writable k → FineHere z lawful low c discard t → FineBlock z.is_mutable z.place.has c.scope c.targets k (more_terms u us) → (w : World) (env : ir.Env) (s : ir.State) (sc : js.Scope) (q : js.State) → Ready z.place c.scope c.writable w env sc → SameState z.place w s q → Ends z lawful c c.scope k w sc (ir_meaning.block z.place.classes z.low (more_terms t (more_terms u us)) env s) (block z.is_mutable c.targets k j (more_terms t (more_terms u us))).statements sc q
   next_does t u us does others c k j sound ahead out wr fine fines w env s sc q r same = one_and_rest t (more_terms u us) us c k j c.scope w env s sc q (does c discard j sound ahead (outside-part c (OwnAll (more_terms t (more_terms u us))) (Own t) (λ x o. inl o) out) tt fine w env s sc q r same) (λ y v env s sc' q g ready ks same. rebased z lawful c c.scope k w y sc sc' (ir_meaning.block z.place.classes z.low (more_terms u us) env s) (run z (block z.is_mutable c.targets k (into z.is_mutable c.targets discard j t).next (more_terms u us)).statements sc' q) g ks (others c k (into z.is_mutable c.targets discard j t).next sound (ahead-later z lawful c j (into z.is_mutable c.targets discard j t).next (onward z.is_mutable c.targets t discard j) ahead) (outside-part c (OwnAll (more_terms t (more_terms u us))) (OwnAll (more_terms u us)) (λ x o. inr o) out) wr fines y env s sc' q ready same))
 
   defined_does : (p : Position) (x : List ℕ) (t : IrType) (b : Bool) (e u : Term) (us : Terms) → TreeDoes z lawful low e → BlockDoes (more_terms u us) → BlockDoes (more_terms (var_def p x t b e) (more_terms u us))
@@ -125,7 +125,7 @@ module _ (z : Setting) (lawful : Lawful z) (low : LowAlike z) where
       out_first = outside-part c (OwnAll (more_terms (var_def p x t b e) (more_terms u us))) (Own (var_def p x t b e)) (λ x o. inl o) out
 
   abbrev CasesDo : Cases → Type 1
-  CasesDo cs = (c : Context) (k : Destination) (j : ℕ) → Sound z.is_mutable c → Ahead c j → Outside c (OwnCases cs) → Writes c.writable k → FineCases z.is_mutable z.place.is_linked c.scope c.targets k cs → CasesAlike z lawful c k (ir_meaning.branches z.place.classes z.low cs) (cases z.is_mutable c.targets k j cs).cases
+  CasesDo cs = (c : Context) (k : Destination) (j : ℕ) → Sound z.is_mutable c → Ahead c j → Outside c (OwnCases cs) → Writes c.writable k → FineCases z.is_mutable z.place.has c.scope c.targets k cs → CasesAlike z lawful c k (ir_meaning.branches z.place.classes z.low cs) (cases z.is_mutable c.targets k j cs).cases
 
   case_does : (n : ℤ) (ns : List ℤ) (t : Term) (cs : Cases) → TreeDoes z lawful low t → CasesDo cs → CasesDo (more_cases (n ∷ ns) t cs)
   case_does n ns t cs does others c k j sound ahead out wr fine = with_keys (n ∷ ns) (ir_meaning.step z.place.classes z.low t) code.statements (ir_meaning.branches z.place.classes z.low cs) (cases z.is_mutable c.targets k code.next cs).cases (undeclared-case c code.statements (undeclared c (Own t) j code.statements out_case ahead (new z.is_mutable c.targets t k j))) (does (settled c) k j (sound-settled z c sound) (ahead-settled c j ahead) (outside-settled c (Own t) out_case) wr fine.0) (others c k code.next sound (ahead-later z lawful c j code.next (onward z.is_mutable c.targets t k j) ahead) (outside-part c (OwnCases (more_cases (n ∷ ns) t cs)) (OwnCases cs) (λ x o. inr o) out) wr fine.1)

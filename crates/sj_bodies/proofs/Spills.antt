@@ -86,7 +86,7 @@ module _ (z : Setting) (lawful : Lawful z) where
   literal_fixed : (p : core.Variable → Type 0) (w : World) (env : ir.Env) (sc : js.Scope) (t : Term) (n : ℤ) → FitsSigned w32 n → ((s : ir.State) → ir_meaning.step z.place.classes z.low t env s ≡ done (ir.ends (ir.gives (ir.number n)) env s)) → ((later : js.Scope) (u : js.State) → shown z (expression_of t) later u ≡ js_meaning.literal n later u) → FixedTree p w env sc t
   literal_fixed p w env sc t n f g h = record { value = ir.number n; js_value = js.number n; gives = g; alike = same_number n f; goes_on = λ later u ks. h later u ∙ ap (λ (b : Bool). if b then done (js.gives (js.number n) u) else wrong) (fits-exact n f) }
 
-  pub fixed_run : (c : Context) (p : core.Variable → Type 0) (t : Term) → Sound z.is_mutable (keeping c p) → is_fixed z.is_mutable t ≡ true → Plain z.place.is_linked c.scope t → (w : World) (env : ir.Env) (sc : js.Scope) → Sees z.place c.scope w env sc → FixedTree p w env sc t
+  pub fixed_run : (c : Context) (p : core.Variable → Type 0) (t : Term) → Sound z.is_mutable (keeping c p) → is_fixed z.is_mutable t ≡ true → Plain z.place.has c.scope t → (w : World) (env : ir.Env) (sc : js.Scope) → Sees z.place c.scope w env sc → FixedTree p w env sc t
   fixed_run c p (undefined_literal q) sound e h w env sc sees = record { value = ir.undefined; js_value = js.undefined; gives = λ s. refl; alike = same_undefined; goes_on = λ later u ks. refl }
   fixed_run c p (null_literal q) sound e h w env sc sees = record { value = ir.null; js_value = js.null; gives = λ s. refl; alike = same_null; goes_on = λ later u ks. refl }
   fixed_run c p (boolean_literal q b) sound e h w env sc sees = record { value = ir.boolean b; js_value = js.boolean b; gives = λ s. refl; alike = same_boolean b; goes_on = λ later u ks. refl }

@@ -6,13 +6,12 @@ use Rattle.sj_core.specs.Terms as core
 use Rattle.sj_desugar.specs.Desugar.{Targets, target_of, member, types_of, has_no_value}
 use Rattle.sj_desugar.specs.Plain.{is_plain, is_fixed}
 use Rattle.sj_desugar.specs.Spill.{Destination, discard, to_variable, to_result}
-use Rattle.sj_names.specs.declared.method_names.Member.{Member}
 use Rattle.sj_trees.specs.Term.{Term, Terms, no_terms, more_terms, Cases, no_cases, more_cases, var_def, skip, block_of, labeled, assign, return_to, if_then, while_loop, do_while, match_on, apply_static, unary_op, binary_op, undefined_literal, null_literal, boolean_literal, byte_literal, short_literal, int_literal, string_literal, var_ref, log_line}
 use Rattle.sj_trees.specs.TypeOf.{type_of_term, unary_result, binary_result}
 use Rattle.sj_trees.specs.declared.positions.Position.{Position}
 use Rattle.sj_trees.specs.declared.types.IrType.{IrType}
 use Rattle.sj_trees.specs.declared.types.IrType.TheVariants.{Undefined, Null, Boolean, Byte, Short, Int, String}
-use Rattle.sj_plain.specs.Conditions.{is_simple, is_simple_unary, NoBox, NoBoxes, IsDivision, IsDivisor, Plain}
+use Rattle.sj_plain.specs.Conditions.{is_simple, is_simple_unary, NoBox, NoBoxes, IsDivision, IsDivisor, Plain, Has}
 use Rattle.sj_bodies.specs.Locals.{Own, OwnAll}
 
 pub data IsDiscard : Destination → Type 0 where
@@ -27,14 +26,14 @@ FitsIn discard t = Unit {0}
 FitsIn (to_variable x expected) t = (has_no_value t ≡ false) × NoBox expected t
 FitsIn (to_result expected) t = (has_no_value t ≡ false) × NoBox expected t
 
-module _ (is_mutable : List ℕ → Bool) (is_linked : Member → Bool) where
+module _ (is_mutable : List ℕ → Bool) (has : Has) where
   -- an operand is plain, or it may be brought to any variable of its type
   abbrev pub FineOperand : (List ℕ → Type 0) → Term → (core.Variable → Type 0) → Type 0
-  FineOperand scope t fine = ((is_plain t ≡ true) × Plain is_linked scope t) ⊎ ((is_plain t ≡ false) × (is_fixed is_mutable t ≡ false) × ((y : core.Variable) → fine y))
+  FineOperand scope t fine = ((is_plain t ≡ true) × Plain has scope t) ⊎ ((is_plain t ≡ false) × (is_fixed is_mutable t ≡ false) × ((y : core.Variable) → fine y))
 
   abbrev mutual
     pub Fine : (List ℕ → Type 0) → Targets → Destination → Term → Type 0
-    Fine g ls k (var_def p x t b e) = IsDiscard k × (Own e x → ⊥) × (((is_plain e ≡ true) × Plain is_linked g e × NoBox t (type_of_term e)) ⊎ ((is_plain e ≡ false) × Fine g ls (to_variable (core.named x) t) e))
+    Fine g ls k (var_def p x t b e) = IsDiscard k × (Own e x → ⊥) × (((is_plain e ≡ true) × Plain has g e × NoBox t (type_of_term e)) ⊎ ((is_plain e ≡ false) × Fine g ls (to_variable (core.named x) t) e))
     Fine g ls k (skip p) = IsDiscard k
     Fine g ls k (block_of p ts) = FineBlock g ls k ts
     Fine g ls k (labeled p l t e) = Fine g (record { label = l; goes_to = k } ∷ ls) k e
@@ -44,7 +43,7 @@ module _ (is_mutable : List ℕ → Bool) (is_linked : Member → Bool) where
     Fine g ls k (while_loop p c b) = ((IsDiscard k × FineOperand g c (λ y. Fine g ls (to_variable y (type_of_term c)) c)) ⊎ IsTrueLiteral c) × Fine g ls discard b
     Fine g ls k (do_while p b c) = ((IsDiscard k × FineOperand g c (λ y. Fine g ls (to_variable y (type_of_term c)) c)) ⊎ IsTrueLiteral c) × Fine g ls discard b
     Fine g ls k (match_on p e cs d t) = FineOperand g e (λ y. Fine g ls (to_variable y (type_of_term e)) e) × FineCases g ls k cs × Fine g ls k d
-    Fine g ls k (apply_static p c n m ts t) = FitsIn k t × (is_linked (member c n m) ≡ true) × NoBoxes m.params (types_of ts) × FineOperands g ls k ts
+    Fine g ls k (apply_static p c n m ts t) = FitsIn k t × (has.linked (member c n m) ≡ true) × NoBoxes m.params (types_of ts) × FineOperands g ls k ts
     Fine g ls k (unary_op p o e) = FitsIn k (unary_result o) × (is_simple_unary o ≡ true) × FineOperand g e (λ y. Fine g ls (to_variable y (type_of_term e)) e)
     Fine g ls k (binary_op p o e d) = FitsIn k (binary_result o) × (((is_simple o ≡ true) × FineOperand g e (λ y. Fine g ls (to_variable y (type_of_term e)) e) × FineOperand g d (λ y. Fine g ls (to_variable y (type_of_term d)) d)) ⊎ (IsDivision o × FineOperand g e (λ y. Fine g ls (to_variable y (type_of_term e)) e) × IsDivisor d))
     Fine g ls k (undefined_literal p) = FitsIn k Undefined

@@ -34,6 +34,7 @@ use Rattle.sj_calls.specs.Names.{emitted_in}
 use Rattle.sj_calls.proofs.Items.{code_with, code_found, cell_found}
 use Rattle.sj_calls.proofs.Levels.{calls_agree}
 use Rattle.sj_calls.proofs.Names.{emitted_names_differ}
+use Rattle.sj_plain.specs.Conditions.{Has}
 
 -- a program of one file, and what is found in it
 abbrev alone : Name → Module → js.Program
@@ -71,7 +72,7 @@ past_functions : (p : js.Program) (k : ℕ) (f : Name) (fs : List EmittedMethod)
 past_functions p k f [] is u = refl
 past_functions p k f (g ∷ gs) is u = past_functions p k f gs is u
 
-module _ (w : ir_world.World) (id : List ℕ) (fs : List EmittedMethod) (es : List EntryPoint) (is_linked : Member → Bool) where
+module _ (w : ir_world.World) (id : List ℕ) (fs : List EmittedMethod) (es : List EntryPoint) (has : Has) where
   abbrev file : Name
   file = js_showing.file_of id
 
@@ -79,7 +80,7 @@ module _ (w : ir_world.World) (id : List ℕ) (fs : List EmittedMethod) (es : Li
   program = program_with id fs es
 
   abbrev place : Place
-  place = emitted_in w program file is_linked
+  place = emitted_in w program file has
 
   parameters-are : (xs : List (List ℕ)) → parameter_names xs ≡ parameters_in place xs
   parameters-are [] = refl
@@ -88,7 +89,7 @@ module _ (w : ir_world.World) (id : List ℕ) (fs : List EmittedMethod) (es : Li
   pub code-is : (e : EmittedMethod) → code_with e ≡ function_of place e.definition e.its_body
   code-is e = λ i. record { parameters = parameters-are (desugared e.definition e.its_body).params i; body = (code_with e).body }
 
-  linked_by : is_proper_module (module_with fs es) ≡ true → (e : EmittedMethod) → Contains fs e → IsEmitted w is_linked e → Linked place e.member
+  linked_by : is_proper_module (module_with fs es) ≡ true → (e : EmittedMethod) → Contains fs e → IsEmitted w has e → Linked place e.member
   linked_by proper e listed h = record {
     definition = e.definition;
     its_body = e.its_body;
@@ -104,8 +105,8 @@ module _ (w : ir_world.World) (id : List ℕ) (fs : List EmittedMethod) (es : Li
       distinct : are_distinct (item_names (map function_item_of fs ++ map call_item_of es)) ≡ true
       distinct = (and_parts names true (and_parts (names && true) true (and_parts (names && true && true) (list_all is_proper_item (map function_item_of fs ++ map call_item_of es)) proper).0).0).0
 
-  module _ (proper : is_proper_module (module_with fs es) ≡ true) (emitted : (e : EmittedMethod) → Contains fs e → IsEmitted w is_linked e) (functions : (m : Member) → is_linked m ≡ true → HasFunction fs m) where
-    linked : (m : Member) → is_linked m ≡ true → Linked place m
+  module _ (proper : is_proper_module (module_with fs es) ≡ true) (emitted : (e : EmittedMethod) → Contains fs e → IsEmitted w has e) (functions : (m : Member) → has.linked m ≡ true → HasFunction fs m) where
+    linked : (m : Member) → has.linked m ≡ true → Linked place m
     linked m l = let h = functions m l in subst (Linked place) h.is (linked_by proper h.method h.listed (emitted h.method h.listed))
 
     opening_same : SameState place [] (ir_world.opening w) (js_meaning.opening program)
@@ -114,17 +115,17 @@ module _ (w : ir_world.World) (id : List ℕ) (fs : List EmittedMethod) (es : Li
       functions = λ m l. let h = functions m l in ap (λ o. js_meaning.module_cell file o (member_name m)) (module_there file (module_with fs es)) ∙ subst (λ x. js_meaning.items_cell file (map function_item_of fs ++ map call_item_of es) (member_name x) ≡ js.holds false (js.function file (member_name x))) h.is (cell_found file fs (map call_item_of es) h.method h.listed);
     }
 
-    own : (m : Member) → is_linked m ≡ true → files.owner program file (member_name m) ≡ Some file
+    own : (m : Member) → has.linked m ≡ true → files.owner program file (member_name m) ≡ Some file
     own m l = own_name file (module_with fs es) (member_name m) refl
 
     names : NamesDiffer place
-    names = emitted_names_differ w program file is_linked own
+    names = emitted_names_differ w program file has own
 
     -- an initializer, and the item that calls it
     abbrev item_run : EntryPoint → ℕ → js.State → Out js.ExpressionEnd
     item_run e k u = js_meaning.evaluate program (js_meaning.below program k) (call_of (member_name (initializer_member e)) no_expressions) (js_meaning.top_scope program file) u
 
-    item_is : (e : EntryPoint) (k : ℕ) (y : World) (s : ir.State) (u : js.State) → is_linked (initializer_member e) ≡ true → SameState place y s u → item_run e k u ≡ js_call place (initializer_member e) [] u k
+    item_is : (e : EntryPoint) (k : ℕ) (y : World) (s : ir.State) (u : js.State) → has.linked (initializer_member e) ≡ true → SameState place y s u → item_run e k u ≡ js_call place (initializer_member e) [] u k
     item_is e k y s u l same = ap (λ o. called (js_meaning.top_cell o name u)) (own (initializer_member e) l) ∙ ap called (same.functions (initializer_member e) l)
       where
         name : Name
@@ -133,7 +134,7 @@ module _ (w : ir_world.World) (id : List ℕ) (fs : List EmittedMethod) (es : Li
         called : js.Cell → Out js.ExpressionEnd
         called cell = then_do (js_meaning.cell_value cell u) (js.with_value (λ g. js_meaning.in_order [] (js_meaning.call program (js_meaning.below program k) g) (js_meaning.top_scope program file)))
 
-    item_alike : (d : Direction) (n k : ℕ) → Within d n k → (e : EntryPoint) → is_linked (initializer_member e) ≡ true → (y : World) (s : ir.State) (u : js.State) → SameState place y s u → Sim d (Valued place y ir_showing.outside) (ir_call place (initializer_member e) [] ir_showing.outside s n) (item_run e k u)
+    item_alike : (d : Direction) (n k : ℕ) → Within d n k → (e : EntryPoint) → has.linked (initializer_member e) ≡ true → (y : World) (s : ir.State) (u : js.State) → SameState place y s u → Sim d (Valued place y ir_showing.outside) (ir_call place (initializer_member e) [] ir_showing.outside s n) (item_run e k u)
     item_alike forward n k h e l y s u same = subst (λ o. Sim forward (Valued place y ir_showing.outside) (ir_call place (initializer_member e) [] ir_showing.outside s n) o) (sym (item_is e k y s u l same)) ((calls_agree place names linked (initializer_member e) l y [] [] ir_showing.outside s u no_values same).there n k h)
     item_alike backward n k h e l y s u same = subst (λ o. Sim backward (Valued place y ir_showing.outside) (ir_call place (initializer_member e) [] ir_showing.outside s n) o) (sym (item_is e k y s u l same)) ((calls_agree place names linked (initializer_member e) l y [] [] ir_showing.outside s u no_values same).back n k h)
 
@@ -144,7 +145,7 @@ module _ (w : ir_world.World) (id : List ℕ) (fs : List EmittedMethod) (es : Li
     abbrev calls : List EntryPoint → ℕ → js.State → Out js.ExpressionEnd
     calls is k u = js_meaning.run_items program k file (map call_item_of is) u
 
-    calls_alike : (d : Direction) (n k : ℕ) → Within d n k → (is : List EntryPoint) → ((e : EntryPoint) → Contains is e → is_linked (initializer_member e) ≡ true) → (y : World) (s : ir.State) (u : js.State) → SameState place y s u → Sim d ◌≡◌ (ir_showing.all_show w n is s) (ended k (calls is k u))
+    calls_alike : (d : Direction) (n k : ℕ) → Within d n k → (is : List EntryPoint) → ((e : EntryPoint) → Contains is e → has.linked (initializer_member e) ≡ true) → (y : World) (s : ir.State) (u : js.State) → SameState place y s u → Sim d ◌≡◌ (ir_showing.all_show w n is s) (ended k (calls is k u))
     calls_alike d n k h [] all y s u same = sim_done d ◌≡◌ normal normal refl
     calls_alike d n k h (e ∷ is) all y s u same = subst (λ o. Sim d ◌≡◌ (ir_showing.all_show w n (e ∷ is) s) o) (sym regrouped) (sim_then d (Valued place y ir_showing.outside) ◌≡◌ (ir_call place (initializer_member e) [] ir_showing.outside s n) (item_run e k u) (ir_showing.next_or_end (ir_showing.all_show w n is)) behind (item_alike d n k h e (all e (Contains-append_left (e ∷ []) is e (Contains-push [] e))) y s u same) (next d n k is y (λ z v s u same. calls_alike d n k h is (λ x i. all x (Contains-append_right (e ∷ []) is x i)) z s u same)))
       where
@@ -174,8 +175,8 @@ module _ (w : ir_world.World) (id : List ℕ) (fs : List EmittedMethod) (es : Li
     js_is : (k : ℕ) → js_showing.js_shows program id k ≡ ended k (calls es k (js_meaning.opening program))
     js_is k = ap (order_shows k) (order_is file (module_with fs es) refl) ∙ ap (content_shows k) (module_there file (module_with fs es)) ∙ (λ i. if (proper i && true && true) then ended k (past_functions program k file fs (map call_item_of es) (js_meaning.opening program) i) else wrong)
 
-    pub shows_alike : ((e : EntryPoint) → Contains es e → is_linked (initializer_member e) ≡ true) → (d : Direction) (n k : ℕ) → Within d n k → Sim d ◌≡◌ (ir_showing.all_show w n es (ir_world.opening w)) (js_showing.js_shows program id k)
+    pub shows_alike : ((e : EntryPoint) → Contains es e → has.linked (initializer_member e) ≡ true) → (d : Direction) (n k : ℕ) → Within d n k → Sim d ◌≡◌ (ir_showing.all_show w n es (ir_world.opening w)) (js_showing.js_shows program id k)
     shows_alike all d n k h = subst (λ o. Sim d ◌≡◌ (ir_showing.all_show w n es (ir_world.opening w)) o) (sym (js_is k)) (calls_alike d n k h es all [] (ir_world.opening w) (js_meaning.opening program) opening_same)
 
-pub file_agrees : (w : ir_world.World) (entries : List EntryPoint) (id : List ℕ) (fs : List EmittedMethod) (is_linked : Member → Bool) → is_proper_module (module_with fs (ir_showing.initializers entries id)) ≡ true → ((e : EmittedMethod) → Contains fs e → IsEmitted w is_linked e) → ((m : Member) → is_linked m ≡ true → HasFunction fs m) → ((e : EntryPoint) → Contains (ir_showing.initializers entries id) e → is_linked (initializer_member e) ≡ true) → ((n : ℕ) → IsNotWrong (ir_showing.ir_shows w entries id n).end) → Agree (ir_showing.ir_shows w entries id) (js_showing.js_shows (program_with id fs (ir_showing.initializers entries id)) id)
-file_agrees w entries id fs is_linked proper emitted functions all right = agree-from_sim (ir_showing.ir_shows w entries id) (js_showing.js_shows (program_with id fs (ir_showing.initializers entries id)) id) (shows_alike w id fs (ir_showing.initializers entries id) is_linked proper emitted functions all) right
+pub file_agrees : (w : ir_world.World) (entries : List EntryPoint) (id : List ℕ) (fs : List EmittedMethod) (has : Has) → is_proper_module (module_with fs (ir_showing.initializers entries id)) ≡ true → ((e : EmittedMethod) → Contains fs e → IsEmitted w has e) → ((m : Member) → has.linked m ≡ true → HasFunction fs m) → ((e : EntryPoint) → Contains (ir_showing.initializers entries id) e → has.linked (initializer_member e) ≡ true) → ((n : ℕ) → IsNotWrong (ir_showing.ir_shows w entries id n).end) → Agree (ir_showing.ir_shows w entries id) (js_showing.js_shows (program_with id fs (ir_showing.initializers entries id)) id)
+file_agrees w entries id fs has proper emitted functions all right = agree-from_sim (ir_showing.ir_shows w entries id) (js_showing.js_shows (program_with id fs (ir_showing.initializers entries id)) id) (shows_alike w id fs (ir_showing.initializers entries id) has proper emitted functions all) right

@@ -1,5 +1,5 @@
 -- A file that has the functions of methods, and behind them the calls of initializers.
-use Rattle.std.specs.Prelude.{◌≡◌, ℕ, Bool, List, [], ◌∷◌, ◌++◌, map, Some}
+use Rattle.std.specs.Prelude.{◌≡◌, ℕ, List, [], ◌∷◌, ◌++◌, map, Some}
 use Rattle.std.specs.List.{Contains}
 use Rattle.ir_mean.specs.World.{World, member_of}
 use Rattle.js_mean.specs.Shows.{file_of}
@@ -15,6 +15,7 @@ use Rattle.sj_names.specs.declared.references.TypeRef.TheVariants.{Void}
 use Rattle.sj_trees.specs.Term.{Term}
 use Rattle.sj_trees.specs.declared.classes.MethodDef.{MethodDef}
 use Rattle.sj_calls.specs.Methods.{FineMethod}
+use Rattle.sj_plain.specs.Conditions.{Has}
 
 -- a member whose function is emitted, with its method and its body
 pub record EmittedMethod : Type 0 where
@@ -45,10 +46,10 @@ abbrev pub program_with : List ℕ → List EmittedMethod → List EntryPoint �
 program_with id fs es = record { file = file_of id; content = Some (module_with fs es) } ∷ []
 
 -- the method is that of its member in the classes, and its body is fine where calls are of linked members
-pub record IsEmitted (w : World) (is_linked : Member → Bool) (e : EmittedMethod) : Type 0 where
+pub record IsEmitted (w : World) (has : Has) (e : EmittedMethod) : Type 0 where
   pub found : member_of w e.member.class e.member.namespace e.member.method ≡ Some e.definition
   pub has_body : e.definition.body ≡ Some e.its_body
-  pub fine : FineMethod is_linked e.definition e.its_body
+  pub fine : FineMethod has e.definition e.its_body
 
 -- one of these methods is that of the member
 pub record HasFunction (fs : List EmittedMethod) (m : Member) : Type 0 where

@@ -1,5 +1,5 @@
 -- Methods that are linked, what is asked of each, and when the calls of one and of its function are alike.
-use Rattle.std.specs.Prelude.{◌≡◌, ◌≤◌, ℕ, Bool, List, [], ◌∷◌, ◌⊎◌, Some, None}
+use Rattle.std.specs.Prelude.{◌≡◌, ◌≤◌, ℕ, List, [], ◌∷◌, ◌⊎◌, Some, None}
 use Rattle.js_tree.specs.Terms.{Name}
 use Rattle.outcomes.specs.Outcome.{Out}
 use Rattle.outcomes.specs.Agreement.{forward, backward, Sim}
@@ -19,6 +19,7 @@ use Rattle.sj_bodies.specs.Fine.{Fine}
 use Rattle.sj_bodies.specs.Locals.{Own}
 use Rattle.sj_plain.specs.Settings.{Place, Valued}
 use Rattle.sj_plain.specs.Worlds.{World}
+use Rattle.sj_plain.specs.Conditions.{Has}
 
 -- the parameters of a function
 abbrev pub parameters_in : Place → List (List ℕ) → List Name
@@ -34,8 +35,8 @@ IsParameter [] x = ⊥
 IsParameter (d ∷ ds) x = (x ≡ d.name) ⊎ IsParameter ds x
 
 -- the body is fine where it brings its value out of the method, with the parameters in scope, and it defines no parameter again
-pub record FineMethod (is_linked : Member → Bool) (d : MethodDef) (e : Term) : Type 0 where
-  pub fine : Fine (is_mutable_in d e) is_linked (IsParameter d.params) [] (result_destination d.result) e
+pub record FineMethod (has : Has) (d : MethodDef) (e : Term) : Type 0 where
+  pub fine : Fine (is_mutable_in d e) has (IsParameter d.params) [] (result_destination d.result) e
   pub fresh : (x : List ℕ) → Own e x → IsParameter d.params x → ⊥
 
 -- a member of the classes with a body that is fine, whose function stands in the file
@@ -45,7 +46,7 @@ pub record Linked (p : Place) (m : Member) : Type 0 where
   pub found : member_of p.classes m.class m.namespace m.method ≡ Some definition
   pub has_body : definition.body ≡ Some its_body
   pub emitted : js_meaning.code_of p.program p.file (member_name m) ≡ Some (function_of p definition its_body)
-  pub fine : FineMethod p.is_linked definition its_body
+  pub fine : FineMethod p.has definition its_body
 
 -- a call of a member by the IR, and a call of its function, with a bound on what its body does
 abbrev pub ir_call : Place → Member → List ir.Value → ir.Env → ir.State → ℕ → Out ir.Ended

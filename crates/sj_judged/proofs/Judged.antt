@@ -14,7 +14,7 @@ use Rattle.sj_trees.specs.declared.classes.ClassDef.{ClassDef}
 use Rattle.listing_spelling.specs.Rules.{HasListing, IsListedMethod, IsListedTree}
 use Rattle.file_listings.proofs.ListedClasses.{file_is_listed}
 use Rattle.sj_calls.specs.Files.{EmittedMethod, program_with}
-use Rattle.sj_sound.specs.Linked.{has_function, have_functions}
+use Rattle.sj_sound.specs.Linked.{has_function, have_functions, functions_of}
 use Rattle.sj_proper.specs.Program.{HaveOwnMembers}
 use Rattle.sj_kept.specs.Programs.{IsAccepted}
 use Rattle.sj_kept.proofs.Classes.{keeps-superclass, signature-keeps}
@@ -63,8 +63,8 @@ module _ (w : World) (fs : List EmittedMethod) (classes : (c : ClassDef) → Con
     named = sym its.named;
     found = h.found;
     has_body = h.has_body;
-    rows = has_rows w (has_function fs) e.definition e.its_body h.has_body h.typed h.built.body body;
-    yields = yields_result w (has_function fs) e.definition e.its_body h.has_body h.typed;
+    rows = has_rows w (functions_of fs) e.definition e.its_body h.has_body h.typed h.built.body body;
+    yields = yields_result w (functions_of fs) e.definition e.its_body h.has_body h.typed;
     result = result_is e.definition.name.result e.definition.result types.1 h.built.result;
     values = parameters_have_values e.definition.params e.definition.name.params types.0 method.0.0.params h.built.parameters;
     class_name = subst (λ (n : List ℕ). IsTrue (is_class_name n)) (sym its.class_is) listing.name.0;

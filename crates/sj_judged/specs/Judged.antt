@@ -6,7 +6,7 @@ use Rattle.sj_format.specs.Files.{FileIs}
 use Rattle.sj_local.specs.Broken.{FirstBroken}
 use Rattle.sj_trees.specs.declared.classes.ClassDef.{ClassDef}
 use Rattle.sj_calls.specs.Files.{EmittedMethod}
-use Rattle.sj_sound.specs.Linked.{has_function}
+use Rattle.sj_sound.specs.Linked.{has_function, functions_of}
 use Rattle.sj_typing.specs.Typed.{IsTyped}
 use Rattle.sj_typed.specs.Built.{MethodBuilt}
 
@@ -23,4 +23,4 @@ pub record IsJudgedMethod (w : World) (fs : List EmittedMethod) (e : EmittedMeth
   pub found : member_of w e.member.class e.member.namespace e.member.method ≡ Some e.definition
   pub has_body : e.definition.body ≡ Some e.its_body
   pub typed : IsTyped w e.definition
-  pub built : MethodBuilt (has_function fs) e.definition e.its_body
+  pub built : MethodBuilt (functions_of fs) e.definition e.its_body

@@ -18,6 +18,7 @@ use Rattle.sj_sound.specs.Typing as scenes
 use Rattle.sj_kept.specs.Rows.{Rows, AllRows, CaseRows}
 use Rattle.sj_trees.proofs.SameTypes.{type-same}
 use Rattle.sj_kept.proofs.Types.{empty-is}
+use Rattle.sj_plain.specs.Conditions.{Has}
 
 -- no tree of these breaks the rules on definitions, variables and jumps
 pub record Keeps (x : Node) : Type 0 where
@@ -86,7 +87,7 @@ defined-value true t h = empty-is t ∙ h
 defined-value false t h = impossible (sym h)
 
 -- what is asked apart from the local rules: no later definition has the name of an earlier one
-module _ (sub : IrType → IrType → Type 0) (is_linked : Member → Bool) where
+module _ (sub : IrType → IrType → Type 0) (has : Has) where
   abbrev At : Context → Term → List Node
   At x t = node x t ∷ below x t
 
@@ -96,7 +97,7 @@ module _ (sub : IrType → IrType → Type 0) (is_linked : Member → Bool) wher
 
   mutual
     -- a tree that stands where `x` tells, and the trees in it
-    pub typed : (t : Term) (x y : Context) (s : Scene) (around : List (List ℕ)) → y.scope ≡ x.scope → SameScope x.scope s.locals → Keeps (node y t) → AllKeep (below x t) → Once around t → Rows sub is_linked s.labels t → Typed sub is_linked s t
+    pub typed : (t : Term) (x y : Context) (s : Scene) (around : List (List ℕ)) → y.scope ≡ x.scope → SameScope x.scope s.locals → Keeps (node y t) → AllKeep (below x t) → Once around t → Rows sub has s.labels t → Typed sub has s t
     typed (var_def p n t m e) x y s a z c k h o r = (r.0, (defined-value y.in_block t k.definition, r.1), o.0, typed e x x s a refl c h.0 h.1 o.1 r.2)
     typed (skip p) x y s a z c k h o r = tt
     typed (block_of p ts) x y s a z c k h o r = typed_block ts (in_a_block x) s a c h o k.definition r
@@ -122,16 +123,16 @@ module _ (sub : IrType → IrType → Type 0) (is_linked : Member → Bool) wher
     typed (log_line p e) x y s a z c k h o r = (r.0, typed e x x s a refl c h.0 h.1 o r.1)
     typed _ x y s a z c k h o r = absurd r
 
-    typed_block : (ts : Terms) (x : Context) (s : Scene) (around : List (List ℕ)) → SameScope x.scope s.locals → AllKeep (statements_below x ts) → OnceAll around ts → has_no_terms ts ≡ false → AllRows sub is_linked s.labels ts → TypedBlock sub is_linked s ts
+    typed_block : (ts : Terms) (x : Context) (s : Scene) (around : List (List ℕ)) → SameScope x.scope s.locals → AllKeep (statements_below x ts) → OnceAll around ts → has_no_terms ts ≡ false → AllRows sub has s.labels ts → TypedBlock sub has s ts
     typed_block no_terms x s a c h o e r = impossible (sym e)
     typed_block (more_terms t no_terms) x s a c h o e r = typed t (inside x) x s a refl c h.0 (keep-front (below (inside x) t) [] h.1) o.0 r.0
     typed_block (more_terms (var_def p n t m d) (more_terms u us)) x s a c h o e r = (typed (var_def p n t m d) (inside x) x s a refl c h.0 (keep-front (below (inside x) (var_def p n t m d)) (statements_below (behind (var_def p n t m d) x) (more_terms u us)) h.1) o.0 r.0, (λ y i k. o.2 y (inl i) k), typed_block (more_terms u us) (behind (var_def p n t m d) x) (scenes.behind (var_def p n t m d) s) a (scope-behind x.scope s.locals (record { name = n; «mutable» = m; tpe = t }) c) (keep-behind (below (inside x) (var_def p n t m d)) (statements_below (behind (var_def p n t m d) x) (more_terms u us)) h.1) o.1 refl r.1)
     typed_block (more_terms t (more_terms u us)) x s a c h o e r = (typed t (inside x) x s a refl c h.0 (keep-front (below (inside x) t) (statements_below (behind t x) (more_terms u us)) h.1) o.0 r.0, (λ y i k. absurd i), typed_block (more_terms u us) (behind t x) s a (scope-nothing x.scope s.locals c) (keep-behind (below (inside x) t) (statements_below (behind t x) (more_terms u us)) h.1) o.1 refl r.1)
 
-    typed_all : (ts : Terms) (x : Context) (s : Scene) (around : List (List ℕ)) → SameScope x.scope s.locals → AllKeep (all_below x ts) → OnceAll around ts → AllRows sub is_linked s.labels ts → TypedAll sub is_linked s ts
+    typed_all : (ts : Terms) (x : Context) (s : Scene) (around : List (List ℕ)) → SameScope x.scope s.locals → AllKeep (all_below x ts) → OnceAll around ts → AllRows sub has s.labels ts → TypedAll sub has s ts
     typed_all no_terms x s a c h o r = tt
     typed_all (more_terms t ts) x s a c h o r = (typed t x x s a refl c h.0 (keep-front (below x t) (all_below x ts) h.1) o.0 r.0, typed_all ts x s a c (keep-behind (At x t) (all_below x ts) h) o.1 r.1)
 
-    typed_cases : (cs : Cases) (x : Context) (s : Scene) (around : List (List ℕ)) (t : IrType) → SameScope x.scope s.locals → AllKeep (cases_below x cs) → OnceCases around cs → CaseRows sub is_linked s.labels t cs → TypedCases sub is_linked s t cs
+    typed_cases : (cs : Cases) (x : Context) (s : Scene) (around : List (List ℕ)) (t : IrType) → SameScope x.scope s.locals → AllKeep (cases_below x cs) → OnceCases around cs → CaseRows sub has s.labels t cs → TypedCases sub has s t cs
     typed_cases no_cases x s a t c h o r = tt
     typed_cases (more_cases ns e cs) x s a t c h o r = (r.0, typed e x x s a refl c h.0 (keep-front (below x e) (cases_below x cs) h.1) o.0 r.1, typed_cases cs x s a t c (keep-behind (At x e) (cases_below x cs) h) o.1 r.2)

@@ -32,6 +32,7 @@ use Rattle.sj_kept.specs.Kept.{KeepsTreeRules, DefinesOnce}
 use Rattle.sj_kept.specs.Rows.{Rows}
 use Rattle.sj_kept.proofs.Distinct.{Has, NoRepeat, declares, own-declares, repeat-parts, once}
 use Rattle.sj_kept.proofs.Kept.{AllKeep, SameLocal, neither, both_have, typed}
+use Rattle.sj_plain.specs.Conditions.{Has}
 
 suc-none : (o : Option ℕ) → option_map suc o ≡ None → o ≡ None
 suc-none None h = refl
@@ -139,7 +140,7 @@ params-same (p ∷ ps) h y = go (pointwise nat_eq y p.name) refl (params-same ps
     go true e k = subst (λ o. SameLocal (last_some (Some (rules.local_of p)) o) (Some p)) (sym (same-none (innermost (locals_of ps) y) (local_of ps y) k (none-there ps y (λ i. h.0 (subst (IsAmong (names_of ps)) (is-equal y p.name e) i))))) (both_have p)
     go false e k = subst (λ o. SameLocal o (local_of ps y)) (sym (last-none (innermost (locals_of ps) y))) k
 
-module _ (sub : IrType → IrType → Type 0) (is_linked : Member → Bool) (c : ClassDef) (d : MethodDef) (e : Term) (body : d.body ≡ Some e) (kept : KeepsTreeRules c d) where
+module _ (sub : IrType → IrType → Type 0) (has : Has) (c : ClassDef) (d : MethodDef) (e : Term) (body : d.body ≡ Some e) (kept : KeepsTreeRules c d) where
   twice : DeclaresTwice d None
   twice = kept.declared
 
@@ -161,9 +162,9 @@ module _ (sub : IrType → IrType → Type 0) (is_linked : Member → Bool) (c :
   pub body_keeps : DefinesOnce d e
   body_keeps = record { once = body_once; parameters = distinct; fresh = λ x o i. apart.2 (declaration.Local x) (param-among d.params x (param-is d.params x i)) (own-declares e (outermost d) x o) }
 
-  pub rules_kept : Rows sub is_linked [] e → Yields sub is_linked e d.result → IsResult d.result → ((x : List ℕ) (p : ParamDef) → local_of d.params x ≡ Some p → HasValue p.tpe) → KeepsRules sub is_linked d e
+  pub rules_kept : Rows sub has [] e → Yields sub has e d.result → IsResult d.result → ((x : List ℕ) (p : ParamDef) → local_of d.params x ≡ Some p → HasValue p.tpe) → KeepsRules sub has d e
   rules_kept rows yields result values = record {
-    typed = typed sub is_linked e (outermost d) (outermost d) (record { locals = d.params; labels = [] }) [] refl (record { same = params-same d.params distinct }) keep.0 keep.1 body_once rows;
+    typed = typed sub has e (outermost d) (outermost d) (record { locals = d.params; labels = [] }) [] refl (record { same = params-same d.params distinct }) keep.0 keep.1 body_once rows;
     yields = yields;
     result = result;
     values = values;

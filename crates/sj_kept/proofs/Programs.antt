@@ -7,7 +7,7 @@ use Rattle.js_mean.specs.Shows.{js_shows}
 use Rattle.sj_names.specs.declared.entry_points.EntryPoint.{EntryPoint}
 use Rattle.sj_names.specs.declared.method_names.MethodName.{MethodName}
 use Rattle.sj_calls.specs.Files.{EmittedMethod, program_with}
-use Rattle.sj_sound.specs.Linked.{has_function, have_functions, IsRight}
+use Rattle.sj_sound.specs.Linked.{has_function, have_functions, IsRight, functions_of}
 use Rattle.sj_sound.specs.Rules.{HaveTypes}
 use Rattle.sj_world.specs.Laws.{IsTopped}
 use Rattle.sj_world.specs.Subtypes.{IsSub}
@@ -24,7 +24,7 @@ module _ (w : World) (fs : List EmittedMethod) (e : EmittedMethod) (h : IsAccept
   kept = class-keeps h.owner h.unbroken e.definition h.listed
 
   defined : DefinesOnce e.definition e.its_body
-  defined = body_keeps (IsSub w) (has_function fs) h.owner e.definition e.its_body h.has_body kept
+  defined = body_keeps (IsSub w) (functions_of fs) h.owner e.definition e.its_body h.has_body kept
 
   types : HaveTypes e.definition.params e.definition.name.params × (e.definition.result ≡ call_type e.definition.name.result)
   types = signature-keeps h.owner h.unbroken e.definition h.listed
@@ -35,7 +35,7 @@ module _ (w : World) (fs : List EmittedMethod) (e : EmittedMethod) (h : IsAccept
     has_body = h.has_body;
     parameters = subst (λ (n : MethodName). HaveTypes e.definition.params n.params) h.named types.0;
     result_is = types.1 ∙ ap (λ (n : MethodName). call_type n.result) h.named;
-    rules = rules_kept (IsSub w) (has_function fs) h.owner e.definition e.its_body h.has_body kept h.rows h.yields h.result h.values;
+    rules = rules_kept (IsSub w) (functions_of fs) h.owner e.definition e.its_body h.has_body kept h.rows h.yields h.result h.values;
   }
 
   pub whole : IsWhole w fs e

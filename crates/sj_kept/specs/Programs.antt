@@ -8,7 +8,7 @@ use Rattle.sj_names.specs.MethodNames.{IsMethodName}
 use Rattle.sj_trees.specs.declared.classes.ClassDef.{ClassDef}
 use Rattle.sj_trees.specs.declared.classes.ParamDef.{ParamDef}
 use Rattle.sj_calls.specs.Files.{EmittedMethod}
-use Rattle.sj_sound.specs.Linked.{has_function}
+use Rattle.sj_sound.specs.Linked.{has_function, functions_of}
 use Rattle.sj_world.specs.Subtypes.{IsSub}
 use Rattle.sj_sound.specs.Typing.{local_of, HasValue, IsResult, Yields}
 use Rattle.sj_kept.specs.Rows.{Rows}
@@ -23,8 +23,8 @@ pub record IsAccepted (w : World) (fs : List EmittedMethod) (e : EmittedMethod) 
   pub named : e.definition.name ≡ e.member.method
   pub found : member_of w e.member.class e.member.namespace e.member.method ≡ Some e.definition
   pub has_body : e.definition.body ≡ Some e.its_body
-  pub rows : Rows (IsSub w) (has_function fs) [] e.its_body
-  pub yields : Yields (IsSub w) (has_function fs) e.its_body e.definition.result
+  pub rows : Rows (IsSub w) (functions_of fs) [] e.its_body
+  pub yields : Yields (IsSub w) (functions_of fs) e.its_body e.definition.result
   pub result : IsResult e.definition.result
   pub values : (x : List ℕ) (p : ParamDef) → local_of e.definition.params x ≡ Some p → HasValue p.tpe
   pub class_name : IsTrue (is_class_name e.member.class)

@@ -8,14 +8,14 @@ use Rattle.sj_trees.specs.Term.{Term, Terms, no_terms, more_terms, Cases, no_cas
 use Rattle.sj_trees.specs.TypeOf.{type_of_term}
 use Rattle.sj_trees.specs.declared.types.IrType.{IrType}
 use Rattle.sj_trees.specs.declared.types.IrType.TheVariants.{Boolean, Int, String}
-use Rattle.sj_plain.specs.Conditions.{is_simple, is_simple_unary, IsDivision, IsDivisor}
+use Rattle.sj_plain.specs.Conditions.{is_simple, is_simple_unary, IsDivision, IsDivisor, Has}
 use Rattle.sj_sound.specs.Typing.{Label, type_of_label, IsResult, unary_operand, binary_operand, call_type, Yields, ArgumentsFit}
 
-module _ (sub : IrType → IrType → Type 0) (is_linked : Member → Bool) where
+module _ (sub : IrType → IrType → Type 0) (has : Has) where
   pub record Returns (ls : List Label) (l : List ℕ) (e : Term) : Type 0 where
     pub tpe : IrType
     pub is : type_of_label ls l ≡ Some tpe
-    pub yields : Yields sub is_linked e tpe
+    pub yields : Yields sub has e tpe
 
   abbrev mutual
     -- a tree of the forms that are built, with these labels around it, the innermost first; no type is char
@@ -23,14 +23,14 @@ module _ (sub : IrType → IrType → Type 0) (is_linked : Member → Bool) wher
     Rows ls (var_def p x t b e) = sub (type_of_term e) t × (is_char t ≡ false) × Rows ls e
     Rows ls (skip p) = Unit {0}
     Rows ls (block_of p ts) = AllRows ls ts
-    Rows ls (labeled p l t e) = Yields sub is_linked e t × (is_char t ≡ false) × Rows (record { name = l; tpe = t } ∷ ls) e
+    Rows ls (labeled p l t e) = Yields sub has e t × (is_char t ≡ false) × Rows (record { name = l; tpe = t } ∷ ls) e
     Rows ls (assign p (var_ref q x t) e) = sub (type_of_term e) t × Rows ls e
     Rows ls (return_to p e l) = Returns ls l e × Rows ls e
-    Rows ls (if_then p c a b t) = sub (type_of_term c) Boolean × Yields sub is_linked a t × Yields sub is_linked b t × (is_char t ≡ false) × Rows ls c × Rows ls a × Rows ls b
+    Rows ls (if_then p c a b t) = sub (type_of_term c) Boolean × Yields sub has a t × Yields sub has b t × (is_char t ≡ false) × Rows ls c × Rows ls a × Rows ls b
     Rows ls (while_loop p c b) = sub (type_of_term c) Boolean × Rows ls c × Rows ls b
     Rows ls (do_while p b c) = sub (type_of_term c) Boolean × Rows ls b × Rows ls c
-    Rows ls (match_on p e cs d t) = sub (type_of_term e) Int × Yields sub is_linked d t × (is_char t ≡ false) × Rows ls e × CaseRows ls t cs × Rows ls d
-    Rows ls (apply_static p c n m ts t) = (is_linked (member c n m) ≡ true) × IsResult t × ArgumentsFit sub is_linked ts m.params × AllRows ls ts × (t ≡ call_type m.result)
+    Rows ls (match_on p e cs d t) = sub (type_of_term e) Int × Yields sub has d t × (is_char t ≡ false) × Rows ls e × CaseRows ls t cs × Rows ls d
+    Rows ls (apply_static p c n m ts t) = (has.linked (member c n m) ≡ true) × IsResult t × ArgumentsFit sub has ts m.params × AllRows ls ts × (t ≡ call_type m.result)
     Rows ls (unary_op p o e) = (is_simple_unary o ≡ true) × sub (type_of_term e) (unary_operand o) × Rows ls e
     Rows ls (binary_op p o e d) = ((is_simple o ≡ true) × sub (type_of_term e) (binary_operand o) × sub (type_of_term d) (binary_operand o) × Rows ls e × Rows ls d) ⊎ (IsDivision o × sub (type_of_term e) Int × Rows ls e × IsDivisor d)
     Rows ls (undefined_literal p) = Unit {0}
@@ -50,4 +50,4 @@ module _ (sub : IrType → IrType → Type 0) (is_linked : Member → Bool) wher
 
     pub CaseRows : List Label → IrType → Cases → Type 0
     CaseRows ls t no_cases = Unit {0}
-    CaseRows ls t (more_cases ns e cs) = Yields sub is_linked e t × Rows ls e × CaseRows ls t cs
+    CaseRows ls t (more_cases ns e cs) = Yields sub has e t × Rows ls e × CaseRows ls t cs

@@ -60,13 +60,13 @@ module _ (z : Setting) (lawful : Lawful z) (scope : List ℕ → Type 0) where
   local_alike w env s u _ _ outer (holding v x a) same = gives_alike w env s u v x a same
 
   -- a call: the name stands for the function, the arguments are evaluated, and the bodies are alike
-  name_shown : (m : Member) (w : World) (s : ir.State) (sc : js.Scope) (u : js.State) → z.place.is_linked m ≡ true → Inside z.place sc → SameState z.place w s u → js_meaning.name_value z.place.program (member_name m) sc u ≡ done (js.gives (js.function z.place.file (member_name m)) u)
+  name_shown : (m : Member) (w : World) (s : ir.State) (sc : js.Scope) (u : js.State) → z.place.has.linked m ≡ true → Inside z.place sc → SameState z.place w s u → js_meaning.name_value z.place.program (member_name m) sc u ≡ done (js.gives (js.function z.place.file (member_name m)) u)
   name_shown m w s sc u linked inside same = (λ i. js_meaning.cell_value (js_meaning.or_outer (inside.free (member_name m) (lawful.names.functions m) i) (js_meaning.top_cell (owner z.place.program (inside.file i) (member_name m)) (member_name m) u)) u) ∙ (λ i. js_meaning.cell_value (js_meaning.top_cell (lawful.names.own m linked i) (member_name m) u) u) ∙ (λ i. js_meaning.cell_value (same.functions m linked i) u)
 
   weaker : (v w : World) (env : ir.Env) (o : Out ir.Ended) (q : Out js.ExpressionEnd) → Grows v w → Sim z.direction (Valued z.place w env) o q → Sim z.direction (Valued z.place v env) o q
   weaker v w env o q g h = sim_weaken z.direction (Valued z.place w env) (Valued z.place v env) o q (λ a b. valued-weaken z v w env a b g) h
 
-  call_acts : (m : Member) (w : World) (env : ir.Env) (sc : js.Scope) → z.place.is_linked m ≡ true → ActsAlike z w w env (ir_meaning.call z.low (ir_world.member_of z.place.classes m.class m.namespace m.method) None) (js_meaning.call z.place.program z.js_low (js.function z.place.file (member_name m))) sc
+  call_acts : (m : Member) (w : World) (env : ir.Env) (sc : js.Scope) → z.place.has.linked m ≡ true → ActsAlike z w w env (ir_meaning.call z.low (ir_world.member_of z.place.classes m.class m.namespace m.method) None) (js_meaning.call z.place.program z.js_low (js.function z.place.file (member_name m))) sc
   call_acts m w env sc linked y vs xs s u g alike same = weaker w y env (ir_meaning.call z.low (ir_world.member_of z.place.classes m.class m.namespace m.method) None vs env s) (js_meaning.code_call z.js_low z.place.file (js_meaning.code_of z.place.program z.place.file (member_name m)) xs u) g (lawful.calls m linked y vs xs env s u alike same)
 
   branch_wrong : (first second : ir.Run) (v v' : ir.Value) (vs : List ir.Value) (env : ir.Env) (s : ir.State) → ir_meaning.branch first second (v ∷ v' ∷ vs) env s ≡ wrong
@@ -155,7 +155,7 @@ module _ (z : Setting) (lawful : Lawful z) (scope : List ℕ → Type 0) where
   if_alike : (c a b : Term) (e f : core.Expression) → PlainAlike c → PlainAlike a → PlainAlike b → e ≡ expression_of a → f ≡ expression_of b → (w : World) (env : ir.Env) (s : ir.State) (sc : js.Scope) (u : js.State) → Sees z.place scope w env sc → SameState z.place w s u → Sim z.direction (Valued z.place w env) (ir_meaning.in_order (ir_meaning.step z.place.classes z.low c ∷ []) (ir_meaning.branch (ir_meaning.step z.place.classes z.low a) (ir_meaning.step z.place.classes z.low b)) env s) (shown z (core.choice_of (expression_of c) e f) sc u)
   if_alike c a b e f hc ha hb ea eb w env s sc u sees same = by_equal w env _ _ _ _ refl (λ i. shown z (core.choice_of (expression_of c) (ea i) (eb i)) sc u) (in_order_alike z w w env sc w (ir_meaning.step z.place.classes z.low c ∷ []) (shown z (expression_of c) ∷ []) (ir_meaning.branch (ir_meaning.step z.place.classes z.low a) (ir_meaning.step z.place.classes z.low b)) (js_meaning.chosen (shown z (expression_of a)) (shown z (expression_of b))) (more_operands _ _ _ _ (as_operand c hc w env sc sees) no_operands) (branch_acts w env sc (ir_meaning.step z.place.classes z.low a) (ir_meaning.step z.place.classes z.low b) (shown z (expression_of a)) (shown z (expression_of b)) (as_operand a ha w env sc sees) (as_operand b hb w env sc sees)) w s u (grows-refl w) (grows-refl w) (grows-refl w) same)
 
-  pub call_alike : (m : Member) (rs : List ir.Run) (es es' : List core.Expression) → es ≡ es' → z.place.is_linked m ≡ true → (w : World) (env : ir.Env) (s : ir.State) (sc : js.Scope) (u : js.State) → Inside z.place sc → OperandsAlike z w env sc rs (all_shown es') → SameState z.place w s u → Sim z.direction (Valued z.place w env) (ir_meaning.in_order rs (ir_meaning.call z.low (ir_world.member_of z.place.classes m.class m.namespace m.method) None) env s) (shown z (core.static_call m (expressions_of es)) sc u)
+  pub call_alike : (m : Member) (rs : List ir.Run) (es es' : List core.Expression) → es ≡ es' → z.place.has.linked m ≡ true → (w : World) (env : ir.Env) (s : ir.State) (sc : js.Scope) (u : js.State) → Inside z.place sc → OperandsAlike z w env sc rs (all_shown es') → SameState z.place w s u → Sim z.direction (Valued z.place w env) (ir_meaning.in_order rs (ir_meaning.call z.low (ir_world.member_of z.place.classes m.class m.namespace m.method) None) env s) (shown z (core.static_call m (expressions_of es)) sc u)
   call_alike m rs es es' e linked w env s sc u inside operands same = by_equal w env _ _ _ _ refl (ap (λ o. then_do o (js.with_value (λ f. js_meaning.in_order (js_meaning.arguments z.place.program z.js_low (expression_templates z.place.name z.place.label (expressions_of es))) (js_meaning.call z.place.program z.js_low f) sc))) (name_shown m w s sc u linked inside same) ∙ ap (λ args. js_meaning.in_order args (js_meaning.call z.place.program z.js_low (js.function z.place.file (member_name m))) sc u) (arguments_shown es ∙ ap all_shown e)) (in_order_alike z w w env sc w rs (all_shown es') (ir_meaning.call z.low (ir_world.member_of z.place.classes m.class m.namespace m.method) None) (js_meaning.call z.place.program z.js_low (js.function z.place.file (member_name m))) operands (call_acts m w env sc linked) w s u (grows-refl w) (grows-refl w) (grows-refl w) same)
 
   pub unary_alike : (o : UnaryOp) (r : ir.Run) (e : core.Expression) → is_simple_unary o ≡ true → (w : World) (env : ir.Env) (s : ir.State) (sc : js.Scope) (u : js.State) → OperandAlike z w env sc r (shown z e) → SameState z.place w s u → Sim z.direction (Valued z.place w env) (ir_meaning.in_order (r ∷ []) (ir_meaning.unary z.place.classes z.low o) env s) (shown z (core.unary_of o e) sc u)
@@ -174,7 +174,7 @@ module _ (z : Setting) (lawful : Lawful z) (scope : List ℕ → Type 0) where
 
   mutual
     -- both directions at once: what a plain tree comes to, its expression comes to
-    pub plain_alike : (t : Term) → Plain z.place.is_linked scope t → PlainAlike t
+    pub plain_alike : (t : Term) → Plain z.place.has scope t → PlainAlike t
     plain_alike (if_then p c a b t) h w env s sc u sees same = if_alike c a b (coerced t (type_of_term a) (expression_of a)) (coerced t (type_of_term b) (expression_of b)) (plain_alike c h.0) (plain_alike a h.1) (plain_alike b h.2) (coerced-same t (type_of_term a) (expression_of a) h.3) (coerced-same t (type_of_term b) (expression_of b) h.4) w env s sc u sees same
     plain_alike (apply_static p c n m ts t) h w env s sc u sees same = call_alike (member c n m) (ir_meaning.operands z.place.classes z.low ts) (coerced_arguments m.params (types_of ts) (all_expressions ts)) (all_expressions ts) (arguments-same m.params (types_of ts) (all_expressions ts) h.1) h.0 w env s sc u sees.inside (all_alike ts h.2 w env sc sees) same
     plain_alike (unary_op p o e) h w env s sc u sees same = unary_alike o (ir_meaning.step z.place.classes z.low e) (expression_of e) h.0 w env s sc u (as_operand e (plain_alike e h.1) w env sc sees) same
@@ -190,6 +190,6 @@ module _ (z : Setting) (lawful : Lawful z) (scope : List ℕ → Type 0) where
     plain_alike (var_ref p x t) h w env s sc u sees same = local_alike w env s u (env.locals x) (sc.bindings (z.place.name (core.named x))) (js_meaning.top_cell (owner z.place.program sc.file (z.place.name (core.named x))) (z.place.name (core.named x)) u) (sees.locals x h) same
     plain_alike _ h w env s sc u sees same = absurd h
 
-    pub all_alike : (ts : Terms) → AllPlain z.place.is_linked scope ts → (w : World) (env : ir.Env) (sc : js.Scope) → Sees z.place scope w env sc → OperandsAlike z w env sc (ir_meaning.operands z.place.classes z.low ts) (all_shown (all_expressions ts))
+    pub all_alike : (ts : Terms) → AllPlain z.place.has scope ts → (w : World) (env : ir.Env) (sc : js.Scope) → Sees z.place scope w env sc → OperandsAlike z w env sc (ir_meaning.operands z.place.classes z.low ts) (all_shown (all_expressions ts))
     all_alike no_terms h w env sc sees = no_operands
     all_alike (more_terms t ts) h w env sc sees = more_operands _ _ _ _ (as_operand t (plain_alike t h.0) w env sc sees) (all_alike ts h.1 w env sc sees)

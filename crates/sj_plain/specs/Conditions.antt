@@ -63,14 +63,18 @@ pub data IsDivision : BinaryOp → Type 0 where
 pub data IsDivisor : Term → Type 0 where
   divisor : (p : Position) (z : ℤ) → FitsSigned w32 z → z ≢ pos 0 → IsDivisor (int_literal p z)
 
--- the members that are linked, and the locals in scope
-module _ (is_linked : Member → Bool) (scope : List ℕ → Type 0) where
+-- what a body can use: the members that are linked. Forms that make objects, read fields or load modules add what there is of these.
+pub record Has : Type 0 where
+  pub linked : Member → Bool
+
+-- what there is, and the locals in scope
+module _ (has : Has) (scope : List ℕ → Type 0) where
   abbrev mutual
     -- a plain tree of the forms that are built, whose locals are in scope, whose calls are of linked members, whose literals are of their types, and
     -- in which no char stands where another type is expected
     pub Plain : Term → Type 0
     Plain (if_then p c a b t) = Plain c × Plain a × Plain b × NoBox t (type_of_term a) × NoBox t (type_of_term b)
-    Plain (apply_static p c n m ts t) = (is_linked (member c n m) ≡ true) × NoBoxes m.params (types_of ts) × AllPlain ts
+    Plain (apply_static p c n m ts t) = (has.linked (member c n m) ≡ true) × NoBoxes m.params (types_of ts) × AllPlain ts
     Plain (unary_op p o e) = (is_simple_unary o ≡ true) × Plain e
     Plain (binary_op p o e d) = ((is_simple o ≡ true) × Plain e × Plain d) ⊎ (IsDivision o × Plain e × IsDivisor d)
     Plain (undefined_literal p) = Unit {0}

@@ -12,6 +12,7 @@ use Rattle.sj_core.specs.Terms as core
 use Rattle.sj_emit_expr.specs.Templates.{member_name, expression_template, statement_templates}
 use Rattle.sj_names.specs.declared.method_names.Member.{Member}
 use Rattle.sj_plain.specs.Worlds.{World, Grows, SameValue, SameValues}
+use Rattle.sj_plain.specs.Conditions.{Has}
 
 -- what is fixed: the two programs, the names that stand for variables, labels and members, and the members that are linked
 pub record Place : Type 0 where
@@ -20,7 +21,7 @@ pub record Place : Type 0 where
   pub file : Name
   pub name : core.Variable → Name
   pub label : List ℕ → Name
-  pub is_linked : Member → Bool
+  pub has : Has
 
 -- a place, the half of the agreement that is spoken of, the mutable locals of the body, and what the levels below give
 pub record Setting : Type 0 where
@@ -41,7 +42,7 @@ run z ss = js_meaning.execute_all z.place.program z.js_low (statement_templates 
 -- of the file
 pub record SameState (p : Place) (w : World) (s : ir.State) (u : js.State) : Type 0 where
   pub addresses : length w ≡ length s.heap
-  pub functions : (m : Member) → p.is_linked m ≡ true → u.tops p.file (member_name m) ≡ js.holds false (js.function p.file (member_name m))
+  pub functions : (m : Member) → p.has.linked m ≡ true → u.tops p.file (member_name m) ≡ js.holds false (js.function p.file (member_name m))
 
 -- a name that no variable has: those of functions, and of whatever else stands at the top of a file
 abbrev pub OfNoVariable : Place → Name → Type 0
@@ -66,11 +67,11 @@ pub record NamesDiffer (p : Place) : Type 0 where
   pub variables : (x y : core.Variable) → p.name x ≡ p.name y → x ≡ y
   pub labels : (l m : List ℕ) → p.label l ≡ p.label m → l ≡ m
   pub functions : (m : Member) → OfNoVariable p (member_name m)
-  pub own : (m : Member) → p.is_linked m ≡ true → owner p.program p.file (member_name m) ≡ Some p.file
+  pub own : (m : Member) → p.has.linked m ≡ true → owner p.program p.file (member_name m) ≡ Some p.file
 
 pub record Lawful (z : Setting) : Type 0 where
   pub names : NamesDiffer z.place
-  pub calls : (m : Member) → z.place.is_linked m ≡ true → CallsAlike z m
+  pub calls : (m : Member) → z.place.has.linked m ≡ true → CallsAlike z m
 
 -- what a local holds, and the binding that stands for it
 pub data Holding (w : World) : Option ir.Value → js.Cell → Type 0 where

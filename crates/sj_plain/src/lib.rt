@@ -21,5 +21,5 @@ ghost use Rattle.sj_plain.specs.Worlds.{World};
 /// That is, where both are done they have shown the same lines, and the values and states that they come to stand for each other; where a
 /// side is going, what it has shown begins what the other shows. A tree that is wrong promises nothing.
 pub fn plain_trees_agree()
-    ensures { (z : Setting) → Lawful z → (scope : List ℕ → Bool) (t : Term) → Plain z.place.is_linked (λ x. scope x ≡ true) t → (w : World) (env : ir.Env) (s : ir.State) (sc : js.Scope) (u : js.State) → Sees z.place (λ x. scope x ≡ true) w env sc → SameState z.place w s u → Sim z.direction (Valued z.place w env) (ir_meaning.step z.place.classes z.low t env s) (shown z (expression_of t) sc u) }
+    ensures { (z : Setting) → Lawful z → (scope : List ℕ → Bool) (t : Term) → Plain z.place.has (λ x. scope x ≡ true) t → (w : World) (env : ir.Env) (s : ir.State) (sc : js.Scope) (u : js.State) → Sees z.place (λ x. scope x ≡ true) w env sc → SameState z.place w s u → Sim z.direction (Valued z.place w env) (ir_meaning.step z.place.classes z.low t env s) (shown z (expression_of t) sc u) }
 {}

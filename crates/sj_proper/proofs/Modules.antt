@@ -18,7 +18,6 @@ use Rattle.sj_emit_expr.specs.Names.{variable_name, label_name}
 use Rattle.sj_emit_expr.specs.Templates.{member_name, statement_templates}
 use Rattle.sj_mangling.proofs.FunctionNames.{function_names_differ}
 use Rattle.sj_names.specs.declared.entry_points.EntryPoint.{EntryPoint}
-use Rattle.sj_names.specs.declared.method_names.Member.{Member}
 use Rattle.sj_trees.specs.Term.{Term}
 use Rattle.sj_trees.specs.declared.classes.MethodDef.{MethodDef}
 use Rattle.sj_trees.specs.declared.classes.ParamDef.{ParamDef}
@@ -40,6 +39,7 @@ use Rattle.sj_proper.specs.Program.{AreDistinct, HaveOwnMembers, IsWhole}
 use Rattle.sj_proper.proofs.Core.{Distinct, distinct-templates, proper-templates, not_again}
 use Rattle.sj_proper.proofs.Good.{Good}
 use Rattle.sj_proper.proofs.Trees.{good}
+use Rattle.sj_plain.specs.Conditions.{Has}
 
 both : (a b : Bool) → a ≡ true → b ≡ true → (a && b) ≡ true
 both true b h k = k
@@ -61,9 +61,9 @@ parameter-among (d ∷ ds) x (inr h) = inr (parameter-among ds x h)
 named-same : (x y : List ℕ) → core.named x ≡ core.named y → x ≡ y
 named-same x y e = cc
 
-module _ (w : ir_world.World) (id : List ℕ) (fs : List EmittedMethod) (es : List EntryPoint) (is_linked : Member → Bool) where
+module _ (w : ir_world.World) (id : List ℕ) (fs : List EmittedMethod) (es : List EntryPoint) (has : Has) where
   abbrev place : Place
-  place = emitted_in w (program_with id fs es) (file_of id) is_linked
+  place = emitted_in w (program_with id fs es) (file_of id) has
 
   -- a setting with these names
   abbrev z : Setting
@@ -88,7 +88,7 @@ module _ (w : ir_world.World) (id : List ℕ) (fs : List EmittedMethod) (es : Li
       g = good (is_mutable_in d e) e [] [] [] false (result_destination d.result) 1 once (record { has = λ l i k. absurd i; outer = λ l i. i })
 
   pub item_proper : (e : EmittedMethod) → Once [] e.its_body → AreDistinct (names_of e.definition.params) → ((x : List ℕ) → Own e.its_body x → IsParameter e.definition.params x → ⊥) → is_proper_item (function_item_of e) ≡ true
-  item_proper e once distinct fresh = subst (λ (c : js_meaning.Code). is_proper_function false c.parameters c.body ≡ true) (sym (code-is w id fs es is_linked e)) (function_proper e.definition e.its_body once distinct fresh)
+  item_proper e once distinct fresh = subst (λ (c : js_meaning.Code). is_proper_function false c.parameters c.body ≡ true) (sym (code-is w id fs es has e)) (function_proper e.definition e.its_body once distinct fresh)
 
 -- items, and the names that they declare
 calls_proper : (is : List EntryPoint) → list_all is_proper_item (map call_item_of is) ≡ true
@@ -126,7 +126,7 @@ module _ (w : ir_world.World) (fs : List EmittedMethod) where
   names_differ (g ∷ gs) all own = both (not (is_among (map name_of gs) (name_of g))) (are_distinct (map name_of gs)) (not_is (is_among (map name_of gs) (name_of g)) (new_name g gs (all g (Contains-append_left (g ∷ []) gs g (Contains-push [] g))) (λ e i. all e (Contains-append_right (g ∷ []) gs e i)) own.0)) (names_differ gs (λ e i. all e (Contains-append_right (g ∷ []) gs e i)) own.1)
 
   pub module_proper : (id : List ℕ) (es : List EntryPoint) → ((e : EmittedMethod) → Contains fs e → IsWhole w fs e) → HaveOwnMembers fs → is_proper_module (module_with fs es) ≡ true
-  module_proper id es all own = both (names && true && true) (list_all is_proper_item (map function_item_of fs ++ map call_item_of es)) (ap (λ b. b && true && true) (ap are_distinct (items_named fs es) ∙ names_differ fs all own)) (items_proper fs es (λ e i. let h = all e i in item_proper w id fs es (λ m. true) e h.once h.parameters h.right.rules.fresh))
+  module_proper id es all own = both (names && true && true) (list_all is_proper_item (map function_item_of fs ++ map call_item_of es)) (ap (λ b. b && true && true) (ap are_distinct (items_named fs es) ∙ names_differ fs all own)) (items_proper fs es (λ e i. let h = all e i in item_proper w id fs es (record { linked = λ m. true }) e h.once h.parameters h.right.rules.fresh))
     where
       names : Bool
       names = are_distinct (item_names (map function_item_of fs ++ map call_item_of es))

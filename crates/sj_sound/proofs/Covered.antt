@@ -8,7 +8,6 @@ use Rattle.sj_desugar.specs.Coercions.{is_char}
 use Rattle.sj_desugar.specs.Desugar.{Targets, target_of, types_of, has_no_value}
 use Rattle.sj_desugar.specs.Plain.{is_plain, are_plain, is_fixed, is_no_type}
 use Rattle.sj_desugar.specs.Spill.{Destination, discard, to_variable, to_result}
-use Rattle.sj_names.specs.declared.method_names.Member.{Member}
 use Rattle.sj_names.specs.declared.references.TypeRef.{TypeRef}
 use Rattle.sj_trees.specs.Term.{Term, Terms, no_terms, more_terms, Cases, no_cases, more_cases, var_def, skip, block_of, labeled, assign, return_to, if_then, while_loop, do_while, match_on, apply_static, unary_op, binary_op, undefined_literal, null_literal, boolean_literal, char_literal, byte_literal, short_literal, int_literal, long_literal, string_literal, var_ref, this_ref, log_line}
 use Rattle.sj_trees.specs.TypeOf.{type_of_term, type_of_last, loop_type, unary_result, binary_result}
@@ -21,7 +20,7 @@ use Rattle.sj_trees.specs.declared.operators.UnaryOp.TheVariants.{BooleanNot, By
 use Rattle.sj_trees.specs.declared.positions.Position.{Position}
 use Rattle.sj_trees.specs.declared.types.IrType.{IrType}
 use Rattle.sj_trees.specs.declared.types.IrType.TheVariants.{Boolean, Int, String, NoType, Null, Undefined, Byte, Short}
-use Rattle.sj_plain.specs.Conditions.{is_simple_unary, NoBox, NoBoxes, Plain, AllPlain}
+use Rattle.sj_plain.specs.Conditions.{is_simple_unary, NoBox, NoBoxes, Plain, AllPlain, Has}
 use Rattle.sj_bodies.specs.Fine.{IsDiscard, is_discard, IsTrueLiteral, true_literal, FitsIn, FineOperand, Fine, FineBlock, FineOperands, FineCases}
 use Rattle.sj_bodies.proofs.Contexts.{is-equal}
 use Rattle.sj_names.proofs.Same.{impossible}
@@ -109,7 +108,7 @@ true-or-none (boolean_literal p true) = inr (true_literal p)
 true-or-none (boolean_literal p false) = inl refl
 true-or-none _ = inl refl
 
-module _ (sub : IrType → IrType → Type 0) (law : IsSubtyping sub) (is_mutable : List ℕ → Bool) (is_linked : Member → Bool) where
+module _ (sub : IrType → IrType → Type 0) (law : IsSubtyping sub) (is_mutable : List ℕ → Bool) (has : Has) where
   -- a type that may be brought to a destination: it is given up, or fits one that has values
   abbrev pub Asks : Destination → IrType → Type 0
   Asks discard t = Unit {0}
@@ -131,7 +130,7 @@ module _ (sub : IrType → IrType → Type 0) (law : IsSubtyping sub) (is_mutabl
   asks-none (to_variable x i) s h = absurd (h.1 (law.from_none i h.0))
   asks-none (to_result i) s h = absurd (h.1 (law.from_none i h.0))
 
-  yields : (k : Destination) (e : Term) (t : IrType) → Asks k t → Yields sub is_linked e t → Asks k (type_of_term e)
+  yields : (k : Destination) (e : Term) (t : IrType) → Asks k t → Yields sub has e t → Asks k (type_of_term e)
   yields k e t h (inl none) = asks-none k (type_of_term e) (subst (Asks k) none h)
   yields k e t h (inr f) = asks-narrow k (type_of_term e) t f h
 
@@ -176,7 +175,7 @@ module _ (sub : IrType → IrType → Type 0) (law : IsSubtyping sub) (is_mutabl
 
   -- no tree is a char
   mutual
-    no_char : (t : Term) (s : Scene) → HaveValues s.locals → Typed sub is_linked s t → (is_char (type_of_term t) ≡ false)
+    no_char : (t : Term) (s : Scene) → HaveValues s.locals → Typed sub has s t → (is_char (type_of_term t) ≡ false)
     no_char (var_def p x t b e) s v h = refl
     no_char (skip p) s v h = refl
     no_char (block_of p ts) s v h = last_no_char ts s v h NoType
@@ -201,20 +200,20 @@ module _ (sub : IrType → IrType → Type 0) (law : IsSubtyping sub) (is_mutabl
     no_char (log_line p e) s v h = refl
     no_char _ s v h = absurd h
 
-    last_no_char : (ts : Terms) (s : Scene) → HaveValues s.locals → TypedBlock sub is_linked s ts → (i : IrType) → (is_char (type_of_last i ts) ≡ false)
+    last_no_char : (ts : Terms) (s : Scene) → HaveValues s.locals → TypedBlock sub has s ts → (i : IrType) → (is_char (type_of_last i ts) ≡ false)
     last_no_char no_terms s v h i = absurd h
     last_no_char (more_terms t no_terms) s v h i = no_char t s v h
     last_no_char (more_terms (var_def p x t b e) (more_terms u us)) s v h i = last_no_char (more_terms u us) (behind (var_def p x t b e) s) (values-behind s.locals (record { name = x; «mutable» = b; tpe = t }) v h.0.1) h.2 NoType
     last_no_char (more_terms t (more_terms u us)) s v h i = last_no_char (more_terms u us) s v h.2 (type_of_term t)
 
-  no_boxes : (rs : List TypeRef) (ts : Terms) (s : Scene) → HaveValues s.locals → TypedAll sub is_linked s ts → NoBoxes rs (types_of ts)
+  no_boxes : (rs : List TypeRef) (ts : Terms) (s : Scene) → HaveValues s.locals → TypedAll sub has s ts → NoBoxes rs (types_of ts)
   no_boxes [] ts s v h = tt
   no_boxes (r ∷ rs) no_terms s v h = tt
   no_boxes (r ∷ rs) (more_terms t ts) s v h = (no_box (reference_type r) (type_of_term t) (no_char t s v h.0), no_boxes rs ts s v h.1)
 
   -- what is plain
   mutual
-    plain : (t : Term) (s : Scene) → HaveValues s.locals → Typed sub is_linked s t → is_plain t ≡ true → Plain is_linked (IsParameter s.locals) t
+    plain : (t : Term) (s : Scene) → HaveValues s.locals → Typed sub has s t → is_plain t ≡ true → Plain has (IsParameter s.locals) t
     plain (if_then p c a b t) s v h k =
         let x = and_parts (not (is_no_type t) && is_plain c && is_plain a) (is_plain b) k in
         let y = and_parts (not (is_no_type t) && is_plain c) (is_plain a) x.0 in
@@ -244,28 +243,28 @@ module _ (sub : IrType → IrType → Type 0) (law : IsSubtyping sub) (is_mutabl
     plain (log_line p e) s v h k = impossible k
     plain _ s v h k = absurd h
 
-    all_plain : (ts : Terms) (s : Scene) → HaveValues s.locals → TypedAll sub is_linked s ts → are_plain ts ≡ true → AllPlain is_linked (IsParameter s.locals) ts
+    all_plain : (ts : Terms) (s : Scene) → HaveValues s.locals → TypedAll sub has s ts → are_plain ts ≡ true → AllPlain has (IsParameter s.locals) ts
     all_plain no_terms s v h k = tt
     all_plain (more_terms t ts) s v h k = let x = and_parts (is_plain t) (are_plain ts) k in (plain t s v h.0 x.0, all_plain ts s v h.1 x.1)
 
   abbrev FineAt : Scene → Targets → Destination → Term → Type 0
-  FineAt s ls k t = Fine is_mutable is_linked (IsParameter s.locals) ls k t
+  FineAt s ls k t = Fine is_mutable has (IsParameter s.locals) ls k t
 
   abbrev FineOperandAt : Scene → Targets → Term → Type 0
-  FineOperandAt s ls e = FineOperand is_mutable is_linked (IsParameter s.locals) e (λ y. FineAt s ls (to_variable y (type_of_term e)) e)
+  FineOperandAt s ls e = FineOperand is_mutable has (IsParameter s.locals) e (λ y. FineAt s ls (to_variable y (type_of_term e)) e)
 
   -- an operand, by whether it is plain
-  operand_by : (s : Scene) (ls : Targets) (e : Term) → HaveValues s.locals → Typed sub is_linked s e → ((y : core.Variable) → FineAt s ls (to_variable y (type_of_term e)) e) → FineOperandAt s ls e
+  operand_by : (s : Scene) (ls : Targets) (e : Term) → HaveValues s.locals → Typed sub has s e → ((y : core.Variable) → FineAt s ls (to_variable y (type_of_term e)) e) → FineOperandAt s ls e
   operand_by s ls e v h code = go (is_plain e) refl
     where
       go : (b : Bool) → is_plain e ≡ b → FineOperandAt s ls e
       go true i = inl (i, plain e s v h i)
       go false i = inr (i, not_fixed is_mutable e i, code)
 
-  definition_by : (s : Scene) (ls : Targets) (k : Destination) (p : Position) (x : List ℕ) (t : IrType) (b : Bool) (e : Term) → HaveValues s.locals → IsDiscard k → Typed sub is_linked s (var_def p x t b e) → FineAt s ls (to_variable (core.named x) t) e → FineAt s ls k (var_def p x t b e)
+  definition_by : (s : Scene) (ls : Targets) (k : Destination) (p : Position) (x : List ℕ) (t : IrType) (b : Bool) (e : Term) → HaveValues s.locals → IsDiscard k → Typed sub has s (var_def p x t b e) → FineAt s ls (to_variable (core.named x) t) e → FineAt s ls k (var_def p x t b e)
   definition_by s ls k p x t b e v g h code = (g, h.2, go (is_plain e) refl)
     where
-      go : (b : Bool) → is_plain e ≡ b → ((is_plain e ≡ true) × Plain is_linked (IsParameter s.locals) e × NoBox t (type_of_term e)) ⊎ ((is_plain e ≡ false) × FineAt s ls (to_variable (core.named x) t) e)
+      go : (b : Bool) → is_plain e ≡ b → ((is_plain e ≡ true) × Plain has (IsParameter s.locals) e × NoBox t (type_of_term e)) ⊎ ((is_plain e ≡ false) × FineAt s ls (to_variable (core.named x) t) e)
       go true i = inl (i, plain e s v h.3 i, no_box t (type_of_term e) (no_char e s v h.3))
       go false i = inr (i, code)
 
@@ -273,7 +272,7 @@ module _ (sub : IrType → IrType → Type 0) (law : IsSubtyping sub) (is_mutabl
   Mutable mutates = (x : List ℕ) → mutates x → is_mutable x ≡ true
 
   mutual
-    pub fine : (t : Term) (s : Scene) (ls : Targets) (k : Destination) → HaveValues s.locals → AreMutable is_mutable s.locals → Reach s.labels ls → Mutable (Mutates t) → Asks k (type_of_term t) → Typed sub is_linked s t → FineAt s ls k t
+    pub fine : (t : Term) (s : Scene) (ls : Targets) (k : Destination) → HaveValues s.locals → AreMutable is_mutable s.locals → Reach s.labels ls → Mutable (Mutates t) → Asks k (type_of_term t) → Typed sub has s t → FineAt s ls k t
     fine (var_def p x t b e) s ls k v m r mut asks h = definition_by s ls k p x t b e v (given_up k asks) h (fine e s ls (to_variable (core.named x) t) v m r (λ y i. mut y (inr i)) (h.0, value-not t h.1) h.3)
     fine (skip p) s ls k v m r mut asks h = given_up k asks
     fine (block_of p ts) s ls k v m r mut asks h = fine_block ts s ls k v m r mut NoType asks h
@@ -299,17 +298,17 @@ module _ (sub : IrType → IrType → Type 0) (law : IsSubtyping sub) (is_mutabl
     fine (log_line p e) s ls k v m r mut asks h = (given_up k asks, operand_by s ls e v h.1 (λ y. fine e s ls (to_variable y (type_of_term e)) v m r mut (asks-own y (type_of_term e) String h.0 (value-not String (refl, refl))) h.1))
     fine _ s ls k v m r mut asks h = absurd h
 
-    fine_block : (ts : Terms) (s : Scene) (ls : Targets) (k : Destination) → HaveValues s.locals → AreMutable is_mutable s.locals → Reach s.labels ls → Mutable (MutatesAll ts) → (i : IrType) → Asks k (type_of_last i ts) → TypedBlock sub is_linked s ts → FineBlock is_mutable is_linked (IsParameter s.locals) ls k ts
+    fine_block : (ts : Terms) (s : Scene) (ls : Targets) (k : Destination) → HaveValues s.locals → AreMutable is_mutable s.locals → Reach s.labels ls → Mutable (MutatesAll ts) → (i : IrType) → Asks k (type_of_last i ts) → TypedBlock sub has s ts → FineBlock is_mutable has (IsParameter s.locals) ls k ts
     fine_block no_terms s ls k v m r mut i asks h = absurd h
     fine_block (more_terms t no_terms) s ls k v m r mut i asks h = fine t s ls k v m r (λ x i. mut x (inl i)) asks h
     fine_block (more_terms (var_def p x t b e) (more_terms u us)) s ls k v m r mut i asks h = (definition_by s ls discard p x t b e v is_discard h.0 (fine e s ls (to_variable (core.named x) t) v m r (λ y i. mut y (inl (inr i))) (h.0.0, value-not t h.0.1) h.0.3), h.1 x refl, fine_block (more_terms u us) (behind (var_def p x t b e) s) ls k (values-behind s.locals (record { name = x; «mutable» = b; tpe = t }) v h.0.1) (mutable-behind is_mutable s.locals (record { name = x; «mutable» = b; tpe = t }) m (λ i. mut x (inl (inl (i, refl))))) r (λ y i. mut y (inr i)) NoType asks h.2)
     fine_block (more_terms t (more_terms u us)) s ls k v m r mut i asks h = (fine t s ls discard v m r (λ x i. mut x (inl i)) tt h.0, fine_block (more_terms u us) s ls k v m r (λ x i. mut x (inr i)) (type_of_term t) asks h.2)
 
-    fine_operands : (ts : Terms) (rs : List TypeRef) (s : Scene) (ls : Targets) (k : Destination) → HaveValues s.locals → AreMutable is_mutable s.locals → Reach s.labels ls → Mutable (MutatesAll ts) → ArgumentsFit sub is_linked ts rs → TypedAll sub is_linked s ts → FineOperands is_mutable is_linked (IsParameter s.locals) ls k ts
+    fine_operands : (ts : Terms) (rs : List TypeRef) (s : Scene) (ls : Targets) (k : Destination) → HaveValues s.locals → AreMutable is_mutable s.locals → Reach s.labels ls → Mutable (MutatesAll ts) → ArgumentsFit sub has ts rs → TypedAll sub has s ts → FineOperands is_mutable has (IsParameter s.locals) ls k ts
     fine_operands no_terms rs s ls k v m r mut f h = tt
     fine_operands (more_terms t ts) [] s ls k v m r mut f h = absurd f
     fine_operands (more_terms t ts) (q ∷ rs) s ls k v m r mut f h = (operand_by s ls t v h.0 (λ y. fine t s ls (to_variable y (type_of_term t)) v m r (λ x i. mut x (inl i)) (asks-own y (type_of_term t) (reference_type q) f.0 (value-not (reference_type q) f.1)) h.0), fine_operands ts rs s ls k v m r (λ x i. mut x (inr i)) f.2 h.1)
 
-    fine_cases : (cs : Cases) (s : Scene) (ls : Targets) (k : Destination) (t : IrType) → HaveValues s.locals → AreMutable is_mutable s.locals → Reach s.labels ls → Mutable (MutatesCases cs) → Asks k t → TypedCases sub is_linked s t cs → FineCases is_mutable is_linked (IsParameter s.locals) ls k cs
+    fine_cases : (cs : Cases) (s : Scene) (ls : Targets) (k : Destination) (t : IrType) → HaveValues s.locals → AreMutable is_mutable s.locals → Reach s.labels ls → Mutable (MutatesCases cs) → Asks k t → TypedCases sub has s t cs → FineCases is_mutable has (IsParameter s.locals) ls k cs
     fine_cases no_cases s ls k t v m r mut asks h = tt
     fine_cases (more_cases ns e cs) s ls k t v m r mut asks h = (fine e s ls k v m r (λ x i. mut x (inl i)) (yields k e t asks h.0) h.1, fine_cases cs s ls k t v m r (λ x i. mut x (inr i)) asks h.2)

@@ -2,14 +2,13 @@
 use Rattle.std.proofs.Common.{◌≡◌, ℕ, Bool, true, false, List, [], ◌∷◌, ◌||◌, ◌⊎◌, inl, inr, refl, sym, ap, ◌∙◌}
 use Rattle.sj_desugar.specs.Desugar.{is_mutable_in}
 use Rattle.sj_desugar.specs.Plain.{is_among, if_mutable, mutable_in, mutable_in_all, mutable_in_cases, mutable_params}
-use Rattle.sj_names.specs.declared.method_names.Member.{Member}
 use Rattle.sj_trees.specs.Term.{Term, Terms, no_terms, more_terms, Cases, no_cases, more_cases, var_def, skip, block_of, labeled, assign, return_to, if_then, while_loop, do_while, match_on, apply_static, unary_op, binary_op, undefined_literal, null_literal, boolean_literal, byte_literal, short_literal, int_literal, string_literal, var_ref, log_line}
 use Rattle.sj_trees.specs.declared.classes.MethodDef.{MethodDef}
 use Rattle.sj_trees.specs.declared.classes.ParamDef.{ParamDef}
 use Rattle.sj_trees.specs.declared.types.IrType.{IrType}
 use Rattle.std.specs.Prelude.{Some, nat_eq, if◌then◌else◌}
 use Rattle.std.specs.Cmp.Lexicographic.{pointwise}
-use Rattle.sj_plain.specs.Conditions.{IsDivisor, divisor}
+use Rattle.sj_plain.specs.Conditions.{IsDivisor, divisor, Has}
 use Rattle.sj_bodies.proofs.Contexts.{equals, is-equal}
 use Rattle.sj_names.proofs.Same.{impossible}
 use Rattle.sj_sound.specs.Typing.{Scene, local_of, behind, in_label, Typed, TypedBlock, TypedAll, TypedCases}
@@ -66,9 +65,9 @@ keeps-divisor _ (divisor p n f ne) y xs i = i
 no_divisor : (d : Term) → IsDivisor d → (y : List ℕ) → Mutates d y → ⊥
 no_divisor _ (divisor p n f ne) y h = h
 
-module _ (sub : IrType → IrType → Type 0) (is_linked : Member → Bool) (y : List ℕ) where
+module _ (sub : IrType → IrType → Type 0) (has : Has) (y : List ℕ) where
   mutual
-    pub keeps : (t : Term) (s : Scene) → Typed sub is_linked s t → Keeps (mutable_in t) y
+    pub keeps : (t : Term) (s : Scene) → Typed sub has s t → Keeps (mutable_in t) y
     keeps (var_def p x t b e) s h xs i = if-keeps b x y (mutable_in e xs) (keeps e s h.3 xs i)
     keeps (skip p) s h xs i = i
     keeps (block_of p ts) s h xs i = keeps-block ts s h xs i
@@ -94,21 +93,21 @@ module _ (sub : IrType → IrType → Type 0) (is_linked : Member → Bool) (y :
     keeps (log_line p e) s h xs i = keeps e s h.1 xs i
     keeps _ s h xs i = absurd h
 
-    keeps-block : (ts : Terms) (s : Scene) → TypedBlock sub is_linked s ts → Keeps (mutable_in_all ts) y
+    keeps-block : (ts : Terms) (s : Scene) → TypedBlock sub has s ts → Keeps (mutable_in_all ts) y
     keeps-block no_terms s h xs i = absurd h
     keeps-block (more_terms t no_terms) s h xs i = keeps t s h xs i
     keeps-block (more_terms t (more_terms u us)) s h xs i = keeps t s h.0 (mutable_in_all (more_terms u us) xs) (keeps-block (more_terms u us) (behind t s) h.2 xs i)
 
-    keeps-all : (ts : Terms) (s : Scene) → TypedAll sub is_linked s ts → Keeps (mutable_in_all ts) y
+    keeps-all : (ts : Terms) (s : Scene) → TypedAll sub has s ts → Keeps (mutable_in_all ts) y
     keeps-all no_terms s h xs i = i
     keeps-all (more_terms t ts) s h xs i = keeps t s h.0 (mutable_in_all ts xs) (keeps-all ts s h.1 xs i)
 
-    keeps-cases : (cs : Cases) (s : Scene) (r : IrType) → TypedCases sub is_linked s r cs → Keeps (mutable_in_cases cs) y
+    keeps-cases : (cs : Cases) (s : Scene) (r : IrType) → TypedCases sub has s r cs → Keeps (mutable_in_cases cs) y
     keeps-cases no_cases s r h xs i = i
     keeps-cases (more_cases ns t cs) s r h xs i = keeps t s h.1 (mutable_in_cases cs xs) (keeps-cases cs s r h.2 xs i)
 
   mutual
-    pub among : (t : Term) (s : Scene) → Typed sub is_linked s t → Mutates t y → (xs : List (List ℕ)) → is_among (mutable_in t xs) y ≡ true
+    pub among : (t : Term) (s : Scene) → Typed sub has s t → Mutates t y → (xs : List (List ℕ)) → is_among (mutable_in t xs) y ≡ true
     among (var_def p x t b e) s h (inl m) xs = if-here b x y (mutable_in e xs) m.0 m.1
     among (var_def p x t b e) s h (inr m) xs = if-keeps b x y (mutable_in e xs) (among e s h.3 m xs)
     among (block_of p ts) s h m xs = among-block ts s h m xs
@@ -135,19 +134,19 @@ module _ (sub : IrType → IrType → Type 0) (is_linked : Member → Bool) (y :
     among (log_line p e) s h m xs = among e s h.1 m xs
     among _ s h m xs = absurd m
 
-    among-block : (ts : Terms) (s : Scene) → TypedBlock sub is_linked s ts → MutatesAll ts y → (xs : List (List ℕ)) → is_among (mutable_in_all ts xs) y ≡ true
+    among-block : (ts : Terms) (s : Scene) → TypedBlock sub has s ts → MutatesAll ts y → (xs : List (List ℕ)) → is_among (mutable_in_all ts xs) y ≡ true
     among-block no_terms s h m xs = absurd h
     among-block (more_terms t no_terms) s h (inl m) xs = among t s h m xs
     among-block (more_terms t no_terms) s h (inr m) xs = absurd m
     among-block (more_terms t (more_terms u us)) s h (inl m) xs = among t s h.0 m (mutable_in_all (more_terms u us) xs)
     among-block (more_terms t (more_terms u us)) s h (inr m) xs = keeps t s h.0 (mutable_in_all (more_terms u us) xs) (among-block (more_terms u us) (behind t s) h.2 m xs)
 
-    among-all : (ts : Terms) (s : Scene) → TypedAll sub is_linked s ts → MutatesAll ts y → (xs : List (List ℕ)) → is_among (mutable_in_all ts xs) y ≡ true
+    among-all : (ts : Terms) (s : Scene) → TypedAll sub has s ts → MutatesAll ts y → (xs : List (List ℕ)) → is_among (mutable_in_all ts xs) y ≡ true
     among-all no_terms s h m xs = absurd m
     among-all (more_terms t ts) s h (inl m) xs = among t s h.0 m (mutable_in_all ts xs)
     among-all (more_terms t ts) s h (inr m) xs = keeps t s h.0 (mutable_in_all ts xs) (among-all ts s h.1 m xs)
 
-    among-cases : (cs : Cases) (s : Scene) (r : IrType) → TypedCases sub is_linked s r cs → MutatesCases cs y → (xs : List (List ℕ)) → is_among (mutable_in_cases cs xs) y ≡ true
+    among-cases : (cs : Cases) (s : Scene) (r : IrType) → TypedCases sub has s r cs → MutatesCases cs y → (xs : List (List ℕ)) → is_among (mutable_in_cases cs xs) y ≡ true
     among-cases no_cases s r h m xs = absurd m
     among-cases (more_cases ns t cs) s r h (inl m) xs = among t s h.1 m (mutable_in_cases cs xs)
     among-cases (more_cases ns t cs) s r h (inr m) xs = keeps t s h.1 (mutable_in_cases cs xs) (among-cases cs s r h.2 m xs)
@@ -166,8 +165,8 @@ params-among (c ∷ cs) y d e m xs = go (pointwise nat_eq y c.name) refl e (λ k
     go false i k later = if-keeps c.«mutable» c.name y (mutable_params cs xs) (later k)
 
 -- what is a mutable local is taken for one
-pub mutable-known : (sub : IrType → IrType → Type 0) (is_linked : Member → Bool) (d : MethodDef) (e : Term) (s : Scene) → Typed sub is_linked s e → (y : List ℕ) → Mutates e y → is_mutable_in d e y ≡ true
-mutable-known sub is_linked d e s h y m = params-keep d.params y (mutable_in e []) (among sub is_linked y e s h m [])
+pub mutable-known : (sub : IrType → IrType → Type 0) (has : Has) (d : MethodDef) (e : Term) (s : Scene) → Typed sub has s e → (y : List ℕ) → Mutates e y → is_mutable_in d e y ≡ true
+mutable-known sub has d e s h y m = params-keep d.params y (mutable_in e []) (among sub has y e s h m [])
 
 pub parameter-known : (d : MethodDef) (e : Term) (y : List ℕ) (p : ParamDef) → local_of d.params y ≡ Some p → p.«mutable» ≡ true → is_mutable_in d e y ≡ true
 parameter-known d e y p i m = params-among d.params y p i m (mutable_in e [])

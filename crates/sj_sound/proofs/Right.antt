@@ -22,7 +22,7 @@ use Rattle.sj_trees.specs.declared.operators.BinaryOp.{BinaryOp}
 use Rattle.sj_trees.specs.declared.positions.Position.{Position}
 use Rattle.sj_trees.specs.declared.types.IrType.{IrType}
 use Rattle.sj_trees.specs.declared.types.IrType.TheVariants.{Undefined, Null, Boolean, Byte, Short, Int, String, NoType, Nothing}
-use Rattle.sj_plain.specs.Conditions.{IsDivision, IsDivisor, divisor}
+use Rattle.sj_plain.specs.Conditions.{IsDivision, IsDivisor, divisor, Has}
 use Rattle.sj_bodies.specs.Fine.{IsTrueLiteral, true_literal}
 use Rattle.sj_bodies.specs.Locals.{Own, OwnAll, OwnCases}
 use Rattle.sj_bodies.proofs.Contexts.{is-equal}
@@ -49,7 +49,7 @@ comes_after P Q l Wrong f h k = absurd h
 pub comes_then : {A B : Type 0} (P : A → Type 0) (Q : B → Type 0) (o : Out A) (f : A → Out B) → Comes P o.end → ((a : A) → P a → Comes Q (f a).end) → Comes Q (then_do o f).end
 comes_then P Q o f h k = comes_after P Q o.lines o.end f h k
 
-module _ (sub : IrType → IrType → Type 0) (law : IsSubtyping sub) (is_linked : Member → Bool) (w : World) where
+module _ (sub : IrType → IrType → Type 0) (law : IsSubtyping sub) (has : Has) (w : World) where
   -- what a tree of the type gives: any value where it is none
   abbrev pub GivesType : ir.Value → IrType → Type 0
   GivesType v t = (t ≡ NoType) ⊎ HasType sub law v t
@@ -89,7 +89,7 @@ module _ (sub : IrType → IrType → Type 0) (law : IsSubtyping sub) (is_linked
       go y c e true j = subst (λ o. HoldsType o c.tpe) (sym (ap (λ (b : Bool). if b then Some v else env.locals y) j)) (subst (λ (a : ParamDef). HoldsType (Some v) a.tpe) (same d c (sym there ∙ ap (local_of ds) (sym (is-equal y x j)) ∙ e)) (holds_type v d.tpe i))
       go y c e false j = subst (λ o. HoldsType o c.tpe) (sym (ap (λ (b : Bool). if b then Some v else env.locals y) j)) (h.holds y c e)
 
-  gives-yield : (v : ir.Value) (e : Term) (t : IrType) → GivesType v (type_of_term e) → Yields sub is_linked e t → GivesType v t
+  gives-yield : (v : ir.Value) (e : Term) (t : IrType) → GivesType v (type_of_term e) → Yields sub has e t → GivesType v t
   gives-yield v e t g (inl none) = inl none
   gives-yield v e t (inl none) (inr f) = inl (law.from_none t (subst (λ s. sub s t) none f))
   gives-yield v e t (inr h) (inr f) = inr (wider sub law v (type_of_term e) t f h)
@@ -123,7 +123,7 @@ module _ (sub : IrType → IrType → Type 0) (law : IsSubtyping sub) (is_linked
   branch_right s t first second _ env st (a_boolean true) h k = h
   branch_right s t first second _ env st (a_boolean false) h k = k
 
-  yields-right : (s : Scene) (inner : List ParamDef) (e : Term) (t : IrType) (a : End ir.Ended) → Yields sub is_linked e t → Comes (CameRight s inner (type_of_term e)) a → Comes (CameRight s inner t) a
+  yields-right : (s : Scene) (inner : List ParamDef) (e : Term) (t : IrType) (a : End ir.Ended) → Yields sub has e t → Comes (CameRight s inner (type_of_term e)) a → Comes (CameRight s inner t) a
   yields-right s inner e t (Done _) y (gave v env st g i) = gave v env st (gives-yield v e t g y) i
   yields-right s inner e t (Done _) y (left l v env st r i g k) = left l v env st r i g k
   yields-right s inner e t Going y h = tt
@@ -145,7 +145,7 @@ module _ (sub : IrType → IrType → Type 0) (law : IsSubtyping sub) (is_linked
   leave-right s d t Wrong fresh h = h
 
   -- a label is reached
-  arrives-right : (s : Scene) (l : List ℕ) (e : Term) (t : IrType) → Yields sub is_linked e t → (a : ir.Ended) → CameRight (in_label l t s) s.locals (type_of_term e) a → Right s t (ir_meaning.arrive l a)
+  arrives-right : (s : Scene) (l : List ℕ) (e : Term) (t : IrType) → Yields sub has e t → (a : ir.Ended) → CameRight (in_label l t s) s.locals (type_of_term e) a → Right s t (ir_meaning.arrive l a)
   arrives-right s l e t y _ (gave v env st g i) = gave v env st (gives-yield v e t g y) i
   arrives-right s l e t y _ (left m v env st r i g k) = go (pointwise nat_eq m l) i
     where
@@ -205,7 +205,7 @@ module _ (sub : IrType → IrType → Type 0) (law : IsSubtyping sub) (is_linked
 
   -- the level below is right
   abbrev pub LowRight : ir_meaning.Low → Type 0
-  LowRight low = (t : Term) (s : Scene) → HaveValues s.locals → Typed sub is_linked s t → Fresh s (Own t) → (env : ir.Env) (st : ir.State) → EnvTyped s.locals env → Right s (type_of_term t) (low t env st)
+  LowRight low = (t : Term) (s : Scene) → HaveValues s.locals → Typed sub has s t → Fresh s (Own t) → (env : ir.Env) (st : ir.State) → EnvTyped s.locals env → Right s (type_of_term t) (low t env st)
 
   pub no_label : {A : Type 0} (l : List ℕ) (r : IrType) → ◌≡◌ {A = Option IrType} None (Some r) → A
   no_label l r e = impossible (cc)
@@ -222,7 +222,7 @@ module _ (sub : IrType → IrType → Type 0) (law : IsSubtyping sub) (is_linked
       go true e = inl (is_none t e)
       go false e = subst (λ x. GivesType x t) (sym (result-same t v e)) (inr h)
 
-  pub call_right : (low : ir_meaning.Low) → LowRight low → (m : Member) → RightMember sub w is_linked m → (s : Scene) (t : IrType) → t ≡ call_type m.method.result → (vs : List ir.Value) → ValuesFit vs m.method.params → (env : ir.Env) (st : ir.State) → EnvTyped s.locals env → Right s t (ir_meaning.call low (member_of w m.class m.namespace m.method) None vs env st)
+  pub call_right : (low : ir_meaning.Low) → LowRight low → (m : Member) → RightMember sub w has m → (s : Scene) (t : IrType) → t ≡ call_type m.method.result → (vs : List ir.Value) → ValuesFit vs m.method.params → (env : ir.Env) (st : ir.State) → EnvTyped s.locals env → Right s t (ir_meaning.call low (member_of w m.class m.namespace m.method) None vs env st)
   call_right low right m l s t is vs fit env st e = subst (λ o. Right s t o) (sym called) (comes_then (CameRight scene l.definition.params l.definition.result) (CameRight s s.locals t) (low l.its_body inner st) (ir_meaning.returned l.definition.result env) (yields-right scene l.definition.params l.its_body l.definition.result (low l.its_body inner st).end l.rules.yields (right l.its_body scene l.rules.values l.rules.typed l.rules.fresh inner st (record { holds = b.hold }))) back)
     where
       scene : Scene
@@ -241,15 +241,15 @@ module _ (sub : IrType → IrType → Type 0) (law : IsSubtyping sub) (is_linked
       back _ (gave v en st g i) = gave (ir_meaning.result_value l.definition.result v) env st (subst (GivesType (ir_meaning.result_value l.definition.result v)) (l.result_is ∙ sym is) (result-type l.definition.result v g)) e
       back _ (left q v en st r i g k) = no_label q r i
 
-  module _ (members : (m : Member) → is_linked m ≡ true → RightMember sub w is_linked m) (low : ir_meaning.Low) (right : LowRight low) where
+  module _ (members : (m : Member) → has.linked m ≡ true → RightMember sub w has m) (low : ir_meaning.Low) (right : LowRight low) where
     abbrev step : Term → ir.Run
     step = ir_meaning.step w low
 
     abbrev TreeRight : Term → Type 0
-    TreeRight t = (s : Scene) → HaveValues s.locals → Typed sub is_linked s t → Fresh s (Own t) → (env : ir.Env) (st : ir.State) → EnvTyped s.locals env → Right s (type_of_term t) (step t env st)
+    TreeRight t = (s : Scene) → HaveValues s.locals → Typed sub has s t → Fresh s (Own t) → (env : ir.Env) (st : ir.State) → EnvTyped s.locals env → Right s (type_of_term t) (step t env st)
 
     -- a definition: the local is in scope behind it
-    definition_right : (p : Position) (x : List ℕ) (t : IrType) (b : Bool) (e : Term) → TreeRight e → (s : Scene) → HaveValues s.locals → Typed sub is_linked s (var_def p x t b e) → Fresh s (Own (var_def p x t b e)) → (env : ir.Env) (st : ir.State) → EnvTyped s.locals env → Comes (CameRight s (record { name = x; «mutable» = b; tpe = t } ∷ s.locals) NoType) (step (var_def p x t b e) env st).end
+    definition_right : (p : Position) (x : List ℕ) (t : IrType) (b : Bool) (e : Term) → TreeRight e → (s : Scene) → HaveValues s.locals → Typed sub has s (var_def p x t b e) → Fresh s (Own (var_def p x t b e)) → (env : ir.Env) (st : ir.State) → EnvTyped s.locals env → Comes (CameRight s (record { name = x; «mutable» = b; tpe = t } ∷ s.locals) NoType) (step (var_def p x t b e) env st).end
     definition_right p x t b e does s v h fresh env st i = one_right s (record { name = x; «mutable» = b; tpe = t } ∷ s.locals) (type_of_term e) NoType (step e) (ir_meaning.define x) env st (does s v h.3 (λ y o. fresh y (inr o)) env st i) (λ q env st g i. gave ir.undefined (ir_meaning.set_local x q env) st (inl refl) (env-set s.locals (record { name = x; «mutable» = b; tpe = t }) env q (operand-type q (type_of_term e) t g h.0 (value-not t h.1)) i))
 
     operand_right : (e : Term) (s : Scene) (t r : IrType) (act : List ir.Value → ir.Run) (env : ir.Env) (st : ir.State) → Right s (type_of_term e) (step e env st) → sub (type_of_term e) r → (r ≡ NoType → ⊥) → ((v : ir.Value) (env : ir.Env) (st : ir.State) → HasType sub law v r → EnvTyped s.locals env → Right s t (act (v ∷ []) env st)) → Right s t (ir_meaning.in_order (step e ∷ []) act env st)
@@ -268,15 +268,15 @@ module _ (sub : IrType → IrType → Type 0) (law : IsSubtyping sub) (is_linked
     tested_right : (c : Term) (first : ir.Run) (s : Scene) (t : IrType) → t ≡ NoType → (env : ir.Env) (st : ir.State) → Right s (type_of_term c) (step c env st) → sub (type_of_term c) Boolean → ((env : ir.Env) (st : ir.State) → EnvTyped s.locals env → Comes (Turned s t) (first env st).end) → Comes (Turned s t) (ir_meaning.in_order (step c ∷ []) (ir_meaning.branch first (λ env s. record { lines = []; end = Done (ir.ends ir.stops env s) })) env st).end
     tested_right c first s t none env st h f body = go_on_right s s.locals (type_of_term c) (Turned s t) (step c env st) (λ v. ir_meaning.in_order [] (λ vs. ir_meaning.branch first (λ env s. record { lines = []; end = Done (ir.ends ir.stops env s) }) (v ∷ vs))) h (λ v env st g i. test_right s t first v env st none (as_boolean sub law v (operand-type v (type_of_term c) Boolean g f boolean_not)) i (body env st i)) (λ l v env st r i g e. turned_away l v env st r i g e)
 
-    while_turn : (p : Position) (c b : Term) → TreeRight c → TreeRight b → (s : Scene) → HaveValues s.locals → Typed sub is_linked s (while_loop p c b) → Fresh s (Own (while_loop p c b)) → (loop_type c ≡ NoType) ⊎ IsTrueLiteral c → (env : ir.Env) (st : ir.State) → EnvTyped s.locals env → Comes (Turned s (loop_type c)) (ir_meaning.in_order (step c ∷ []) (ir_meaning.branch (step b) (λ env s. record { lines = []; end = Done (ir.ends ir.stops env s) })) env st).end
+    while_turn : (p : Position) (c b : Term) → TreeRight c → TreeRight b → (s : Scene) → HaveValues s.locals → Typed sub has s (while_loop p c b) → Fresh s (Own (while_loop p c b)) → (loop_type c ≡ NoType) ⊎ IsTrueLiteral c → (env : ir.Env) (st : ir.State) → EnvTyped s.locals env → Comes (Turned s (loop_type c)) (ir_meaning.in_order (step c ∷ []) (ir_meaning.branch (step b) (λ env s. record { lines = []; end = Done (ir.ends ir.stops env s) })) env st).end
     while_turn p c b dc db s v h fresh (inl none) env st i = tested_right c (step b) s (loop_type c) none env st (dc s v h.1 (λ x o. fresh x (inl o)) env st i) h.0 (λ env st i. as_turn s (type_of_term b) (loop_type c) (step b env st).end (db s v h.2 (λ x o. fresh x (inr o)) env st i))
     while_turn p _ b dc db s v h fresh (inr (true_literal q)) env st i = as_turn s (type_of_term b) Nothing (step b env st).end (db s v h.2 (λ x o. fresh x (inr o)) env st i)
 
-    do_test : (p : Position) (b c : Term) → TreeRight c → (s : Scene) → HaveValues s.locals → Typed sub is_linked s (do_while p b c) → Fresh s (Own (do_while p b c)) → (loop_type c ≡ NoType) ⊎ IsTrueLiteral c → (env : ir.Env) (st : ir.State) → EnvTyped s.locals env → Comes (Turned s (loop_type c)) (ir_meaning.in_order (step c ∷ []) (ir_meaning.branch (ir.given ir.undefined) (λ env s. record { lines = []; end = Done (ir.ends ir.stops env s) })) env st).end
+    do_test : (p : Position) (b c : Term) → TreeRight c → (s : Scene) → HaveValues s.locals → Typed sub has s (do_while p b c) → Fresh s (Own (do_while p b c)) → (loop_type c ≡ NoType) ⊎ IsTrueLiteral c → (env : ir.Env) (st : ir.State) → EnvTyped s.locals env → Comes (Turned s (loop_type c)) (ir_meaning.in_order (step c ∷ []) (ir_meaning.branch (ir.given ir.undefined) (λ env s. record { lines = []; end = Done (ir.ends ir.stops env s) })) env st).end
     do_test p b c dc s v h fresh (inl none) env st i = tested_right c (ir.given ir.undefined) s (loop_type c) none env st (dc s v h.2 (λ x o. fresh x (inr o)) env st i) h.0 (λ env st i. turned ir.undefined env st i)
     do_test p b _ dc s v h fresh (inr (true_literal q)) env st i = turned ir.undefined env st i
 
-    do_turn : (p : Position) (b c : Term) → TreeRight b → TreeRight c → (s : Scene) → HaveValues s.locals → Typed sub is_linked s (do_while p b c) → Fresh s (Own (do_while p b c)) → (env : ir.Env) (st : ir.State) → EnvTyped s.locals env → Comes (Turned s (loop_type c)) (ir.go_on (step b env st) (λ v. ir_meaning.in_order (step c ∷ []) (ir_meaning.branch (ir.given ir.undefined) (λ env s. record { lines = []; end = Done (ir.ends ir.stops env s) })))).end
+    do_turn : (p : Position) (b c : Term) → TreeRight b → TreeRight c → (s : Scene) → HaveValues s.locals → Typed sub has s (do_while p b c) → Fresh s (Own (do_while p b c)) → (env : ir.Env) (st : ir.State) → EnvTyped s.locals env → Comes (Turned s (loop_type c)) (ir.go_on (step b env st) (λ v. ir_meaning.in_order (step c ∷ []) (ir_meaning.branch (ir.given ir.undefined) (λ env s. record { lines = []; end = Done (ir.ends ir.stops env s) })))).end
     do_turn p b c db dc s v h fresh env st i = go_on_right s s.locals (type_of_term b) (Turned s (loop_type c)) (step b env st) (λ v. ir_meaning.in_order (step c ∷ []) (ir_meaning.branch (ir.given ir.undefined) (λ env s. record { lines = []; end = Done (ir.ends ir.stops env s) }))) (db s v h.1 (λ x o. fresh x (inl o)) env st i) (λ q env st g i. do_test p b c dc s v h fresh (true-or-none c) env st i) (λ l v env st r i g e. turned_away l v env st r i g e)
 
     log_right : (s : Scene) (v : ir.Value) (env : ir.Env) (st : ir.State) → IsText v → EnvTyped s.locals env → Right s NoType (ir_meaning.log (v ∷ []) env st)
@@ -318,22 +318,22 @@ module _ (sub : IrType → IrType → Type 0) (law : IsSubtyping sub) (is_linked
       tree_right (log_line p e) = λ s v h fresh env st i. operand_right e s NoType String ir_meaning.log env st (tree_right e s v h.1 fresh env st i) h.0 string_not (λ q env st k i. log_right s q env st (as_text sub law q k) i)
       tree_right _ = λ s v h fresh env st i. absurd h
 
-      block_right : (ts : Terms) (s : Scene) → HaveValues s.locals → TypedBlock sub is_linked s ts → Fresh s (OwnAll ts) → (env : ir.Env) (st : ir.State) → EnvTyped s.locals env → (q : IrType) → Right s (type_of_last q ts) (ir_meaning.block w low ts env st)
+      block_right : (ts : Terms) (s : Scene) → HaveValues s.locals → TypedBlock sub has s ts → Fresh s (OwnAll ts) → (env : ir.Env) (st : ir.State) → EnvTyped s.locals env → (q : IrType) → Right s (type_of_last q ts) (ir_meaning.block w low ts env st)
       block_right no_terms s v h fresh env st i q = absurd h
       block_right (more_terms t no_terms) s v h fresh env st i q = go_on_right s s.locals (type_of_term t) (CameRight s s.locals (type_of_term t)) (step t env st) (ir_meaning.rest w low no_terms) (tree_right t s v h (λ x o. fresh x (inl o)) env st i) (λ a env st g i. gave a env st g i) (λ l v env st r i g e. left l v env st r i g e)
       block_right (more_terms (var_def p x t b e) (more_terms u us)) s v h fresh env st i q = go_on_right s (record { name = x; «mutable» = b; tpe = t } ∷ s.locals) NoType (CameRight s s.locals (type_of_last (type_of_term u) us)) (step (var_def p x t b e) env st) (ir_meaning.rest w low (more_terms u us)) (definition_right p x t b e (tree_right e) s v h.0 (λ y o. fresh y (inl o)) env st i) (λ a env st g i. leave-right s (record { name = x; «mutable» = b; tpe = t }) (type_of_last (type_of_term u) us) (ir_meaning.block w low (more_terms u us) env st).end (fresh x (inl (inl refl))) (block_right (more_terms u us) (behind (var_def p x t b e) s) (values-behind s.locals (record { name = x; «mutable» = b; tpe = t }) v h.0.1) h.2 (λ y o j. ⊎_elim (λ same. h.1 x refl (subst (OwnAll (more_terms u us)) same o)) (λ there. fresh y (inr o) there) j) env st i NoType)) (λ l v env st r i g e. left l v env st r i g e)
       block_right (more_terms t (more_terms u us)) s v h fresh env st i q = go_on_right s s.locals (type_of_term t) (CameRight s s.locals (type_of_last (type_of_term u) us)) (step t env st) (ir_meaning.rest w low (more_terms u us)) (tree_right t s v h.0 (λ x o. fresh x (inl o)) env st i) (λ a env st g i. block_right (more_terms u us) s v h.2 (λ x o. fresh x (inr o)) env st i NoType) (λ l v env st r i g e. left l v env st r i g e)
 
-      arguments_right : (ts : Terms) (rs : List TypeRef) (s : Scene) (t : IrType) → HaveValues s.locals → ArgumentsFit sub is_linked ts rs → TypedAll sub is_linked s ts → Fresh s (OwnAll ts) → (act : List ir.Value → ir.Run) (env : ir.Env) (st : ir.State) → EnvTyped s.locals env → ((vs : List ir.Value) (env : ir.Env) (st : ir.State) → ValuesFit vs rs → EnvTyped s.locals env → Right s t (act vs env st)) → Right s t (ir_meaning.in_order (ir_meaning.operands w low ts) act env st)
+      arguments_right : (ts : Terms) (rs : List TypeRef) (s : Scene) (t : IrType) → HaveValues s.locals → ArgumentsFit sub has ts rs → TypedAll sub has s ts → Fresh s (OwnAll ts) → (act : List ir.Value → ir.Run) (env : ir.Env) (st : ir.State) → EnvTyped s.locals env → ((vs : List ir.Value) (env : ir.Env) (st : ir.State) → ValuesFit vs rs → EnvTyped s.locals env → Right s t (act vs env st)) → Right s t (ir_meaning.in_order (ir_meaning.operands w low ts) act env st)
       arguments_right no_terms [] s t v f h fresh act env st i on = on [] env st none_left i
       arguments_right no_terms (r ∷ rs) s t v f h fresh act env st i on = absurd f
       arguments_right (more_terms e es) [] s t v f h fresh act env st i on = absurd f
       arguments_right (more_terms e es) (r ∷ rs) s t v f h fresh act env st i on = go_on_right s s.locals (type_of_term e) (CameRight s s.locals t) (step e env st) (λ a. ir_meaning.in_order (ir_meaning.operands w low es) (λ vs. act (a ∷ vs))) (tree_right e s v h.0 (λ x o. fresh x (inl o)) env st i) (λ a env st g i. arguments_right es rs s t v f.2 h.1 (λ x o. fresh x (inr o)) (λ vs. act (a ∷ vs)) env st i (λ vs env st k i. on (a ∷ vs) env st (one_fits a r vs rs (operand-type a (type_of_term e) (reference_type r) g f.0 (value-not (reference_type r) f.1)) k) i)) (λ l v env st r i g e. left l v env st r i g e)
 
-      cases_right : (cs : Cases) (s : Scene) (t : IrType) → HaveValues s.locals → TypedCases sub is_linked s t cs → Fresh s (OwnCases cs) → (d : ir.Run) (n : ℤ) (env : ir.Env) (st : ir.State) → EnvTyped s.locals env → Right s t (d env st) → Right s t (ir_meaning.branch_of (ir_meaning.branches w low cs) d n env st)
+      cases_right : (cs : Cases) (s : Scene) (t : IrType) → HaveValues s.locals → TypedCases sub has s t cs → Fresh s (OwnCases cs) → (d : ir.Run) (n : ℤ) (env : ir.Env) (st : ir.State) → EnvTyped s.locals env → Right s t (d env st) → Right s t (ir_meaning.branch_of (ir_meaning.branches w low cs) d n env st)
       cases_right no_cases s t v h fresh d n env st i k = k
       cases_right (more_cases ns e cs) s t v h fresh d n env st i k = one_or_later s t (list_any (int_eq n) ns) (step e) (ir_meaning.branch_of (ir_meaning.branches w low cs) d n) env st (yields-right s s.locals e t (step e env st).end h.0 (tree_right e s v h.1 (λ x o. fresh x (inl o)) env st i)) (cases_right cs s t v h.2 (λ x o. fresh x (inr o)) d n env st i k)
 
-  pub bodies_right : ((m : Member) → is_linked m ≡ true → RightMember sub w is_linked m) → (n : ℕ) → LowRight (ir_meaning.below w n)
+  pub bodies_right : ((m : Member) → has.linked m ≡ true → RightMember sub w has m) → (n : ℕ) → LowRight (ir_meaning.below w n)
   bodies_right members zero t s v h fresh env st i = tt
   bodies_right members (suc n) t s v h fresh env st i = tree_right members (ir_meaning.below w n) (bodies_right members n) t s v h fresh env st i

@@ -25,7 +25,7 @@ use Rattle.sj_calls.specs.Methods.{FineMethod}
 use Rattle.sj_calls.proofs.Calls.{Way, gives_up, hands_on, way}
 use Rattle.sj_calls.proofs.Items.{nothing_in, in_front_or_behind}
 use Rattle.sj_calls.proofs.Whole as calls
-use Rattle.sj_sound.specs.Linked.{has_function, have_functions, IsRight}
+use Rattle.sj_sound.specs.Linked.{has_function, have_functions, IsRight, functions_of}
 use Rattle.sj_sound.specs.Rules.{KeepsRules, RightMember}
 use Rattle.sj_sound.specs.Subtyping.{IsSubtyping}
 use Rattle.sj_sound.specs.Typing.{Scene}
@@ -36,17 +36,18 @@ use Rattle.sj_sound.proofs.InWorld.{in_world}
 use Rattle.sj_sound.proofs.Mutable.{mutable-known, parameter-known}
 use Rattle.sj_sound.proofs.Right.{Comes, comes_then, CameRight, gave, left, EnvTyped, none_left, call_right, bodies_right, no_label, nothing_there}
 use Rattle.sj_sound.proofs.Same.{has_function-is}
+use Rattle.sj_plain.specs.Conditions.{Has}
 
-module _ (sub : IrType → IrType → Type 0) (law : IsSubtyping sub) (is_linked : Member → Bool) where
-  asks-result : (is_mutable : List ℕ → Bool) (e : Term) (t : IrType) (k : Destination) → Way t k → (t ≡ NoType) ⊎ sub (type_of_term e) t → Asks sub law is_mutable is_linked k (type_of_term e)
+module _ (sub : IrType → IrType → Type 0) (law : IsSubtyping sub) (has : Has) where
+  asks-result : (is_mutable : List ℕ → Bool) (e : Term) (t : IrType) (k : Destination) → Way t k → (t ≡ NoType) ⊎ sub (type_of_term e) t → Asks sub law is_mutable has k (type_of_term e)
   asks-result is_mutable e _ _ gives_up y = tt
   asks-result is_mutable e _ _ (hands_on t h) (inl none) = impossible (sym h ∙ ap is_no_type none)
   asks-result is_mutable e _ _ (hands_on t h) (inr f) = (f, λ none. impossible (sym h ∙ ap is_no_type none))
 
   -- a method that keeps the rules is fine
-  pub method-fine : (d : MethodDef) (e : Term) → KeepsRules sub is_linked d e → FineMethod is_linked d e
+  pub method-fine : (d : MethodDef) (e : Term) → KeepsRules sub has d e → FineMethod has d e
   method-fine d e r = record {
-    fine = fine sub law (is_mutable_in d e) is_linked e (record { locals = d.params; labels = [] }) [] (result_destination d.result) r.values (λ x p i m. parameter-known d e x p i m) tt (λ x m. mutable-known sub is_linked d e (record { locals = d.params; labels = [] }) r.typed x m) (asks-result (is_mutable_in d e) e d.result (result_destination d.result) (way d.result) r.yields) r.typed;
+    fine = fine sub law (is_mutable_in d e) has e (record { locals = d.params; labels = [] }) [] (result_destination d.result) r.values (λ x p i m. parameter-known d e x p i m) tt (λ x m. mutable-known sub has d e (record { locals = d.params; labels = [] }) r.typed x m) (asks-result (is_mutable_in d e) e d.result (result_destination d.result) (way d.result) r.yields) r.typed;
     fresh = r.fresh;
   }
 
@@ -56,36 +57,36 @@ comes-not_wrong Going h = tt
 comes-not_wrong Wrong h = h
 
 module _ (w : ir_world.World) (topped : IsTopped w) (fs : List EmittedMethod) (right : (e : EmittedMethod) → Contains fs e → IsRight w fs e) where
-  emitted : (e : EmittedMethod) → Contains fs e → IsEmitted w (has_function fs) e
-  emitted e i = let r = right e i in record { found = r.found; has_body = r.has_body; fine = method-fine (IsSub w) (in_world w topped) (has_function fs) e.definition e.its_body r.rules }
+  emitted : (e : EmittedMethod) → Contains fs e → IsEmitted w (functions_of fs) e
+  emitted e i = let r = right e i in record { found = r.found; has_body = r.has_body; fine = method-fine (IsSub w) (in_world w topped) (functions_of fs) e.definition e.its_body r.rules }
 
-  member-of : (e : EmittedMethod) → IsRight w fs e → RightMember (IsSub w) w (has_function fs) e.member
+  member-of : (e : EmittedMethod) → IsRight w fs e → RightMember (IsSub w) w (functions_of fs) e.member
   member-of e r = record { definition = e.definition; its_body = e.its_body; found = r.found; has_body = r.has_body; rules = r.rules; parameters = r.parameters; result_is = r.result_is }
 
-  members : (m : Member) → has_function fs m ≡ true → RightMember (IsSub w) w (has_function fs) m
-  members m l = let h = has_function-is fs m l in subst (RightMember (IsSub w) w (has_function fs)) h.is (member-of h.method (right h.method h.listed))
+  members : (m : Member) → has_function fs m ≡ true → RightMember (IsSub w) w (functions_of fs) m
+  members m l = let h = has_function-is fs m l in subst (RightMember (IsSub w) w (functions_of fs)) h.is (member-of h.method (right h.method h.listed))
 
   abbrev nowhere : Scene
   nowhere = record { locals = []; labels = [] }
 
-  nothing_held : EnvTyped (IsSub w) (in_world w topped) (has_function fs) w [] ir_showing.outside
-  nothing_held = record { holds = nothing_there (IsSub w) (in_world w topped) (has_function fs) w }
+  nothing_held : EnvTyped (IsSub w) (in_world w topped) (functions_of fs) w [] ir_showing.outside
+  nothing_held = record { holds = nothing_there (IsSub w) (in_world w topped) (functions_of fs) w }
 
   -- the initializers are wrong at no bound
   all_right : (n : ℕ) (es : List EntryPoint) → have_functions fs es ≡ true → (st : ir.State) → Comes (λ a. Unit {0}) (ir_showing.all_show w n es st).end
   all_right n [] h st = tt
-  all_right n (e ∷ es) h st = comes_then (CameRight (IsSub w) (in_world w topped) (has_function fs) w nowhere [] NoType) (λ a. Unit {0}) (ir_meaning.meaning w n (ir_showing.initializer_call e) ir_showing.outside st) (ir_showing.next_or_end (ir_showing.all_show w n es)) (call_right (IsSub w) (in_world w topped) (has_function fs) w (ir_meaning.below w n) (bodies_right (IsSub w) (in_world w topped) (has_function fs) w members n) (initializer_member e) (members (initializer_member e) k.0) nowhere NoType refl [] none_left ir_showing.outside st nothing_held) (next n es (all_right n es k.1))
+  all_right n (e ∷ es) h st = comes_then (CameRight (IsSub w) (in_world w topped) (functions_of fs) w nowhere [] NoType) (λ a. Unit {0}) (ir_meaning.meaning w n (ir_showing.initializer_call e) ir_showing.outside st) (ir_showing.next_or_end (ir_showing.all_show w n es)) (call_right (IsSub w) (in_world w topped) (functions_of fs) w (ir_meaning.below w n) (bodies_right (IsSub w) (in_world w topped) (functions_of fs) w members n) (initializer_member e) (members (initializer_member e) k.0) nowhere NoType refl [] none_left ir_showing.outside st nothing_held) (next n es (all_right n es k.1))
     where
       k : (has_function fs (initializer_member e) ≡ true) × (have_functions fs es ≡ true)
       k = and_parts (has_function fs (initializer_member e)) (have_functions fs es) h
 
-      next : (n : ℕ) (es : List EntryPoint) → ((st : ir.State) → Comes (λ a. Unit {0}) (ir_showing.all_show w n es st).end) → (a : ir.Ended) → CameRight (IsSub w) (in_world w topped) (has_function fs) w nowhere [] NoType a → Comes (λ a. Unit {0}) (ir_showing.next_or_end (ir_showing.all_show w n es) a).end
+      next : (n : ℕ) (es : List EntryPoint) → ((st : ir.State) → Comes (λ a. Unit {0}) (ir_showing.all_show w n es st).end) → (a : ir.Ended) → CameRight (IsSub w) (in_world w topped) (functions_of fs) w nowhere [] NoType a → Comes (λ a. Unit {0}) (ir_showing.next_or_end (ir_showing.all_show w n es) a).end
       next n es others _ (gave v env st g i) = others st
-      next n es others _ (left l v env st r i g k) = no_label (IsSub w) (in_world w topped) (has_function fs) w l r i
+      next n es others _ (left l v env st r i g k) = no_label (IsSub w) (in_world w topped) (functions_of fs) w l r i
 
 pub called : (fs : List EmittedMethod) (es : List EntryPoint) → have_functions fs es ≡ true → (e : EntryPoint) → Contains es e → has_function fs (initializer_member e) ≡ true
 called fs [] h e i = nothing_in e i
 called fs (c ∷ cs) h e i = let k = and_parts (has_function fs (initializer_member c)) (have_functions fs cs) h in ⊎_elim (λ same. subst (λ x. has_function fs (initializer_member x) ≡ true) same k.0) (λ later. called fs cs k.1 e later) (in_front_or_behind c cs e i)
 
 pub program_agrees : (w : ir_world.World) → IsTopped w → (entries : List EntryPoint) (id : List ℕ) (fs : List EmittedMethod) → is_proper_module (module_with fs (ir_showing.initializers entries id)) ≡ true → ((e : EmittedMethod) → Contains fs e → IsRight w fs e) → have_functions fs (ir_showing.initializers entries id) ≡ true → Agree (ir_showing.ir_shows w entries id) (js_showing.js_shows (program_with id fs (ir_showing.initializers entries id)) id)
-program_agrees w topped entries id fs proper right all = calls.file_agrees w entries id fs (has_function fs) proper (emitted w topped fs right) (has_function-is fs) (called fs (ir_showing.initializers entries id) all) (λ n. comes-not_wrong (ir_showing.ir_shows w entries id n).end (all_right w topped fs right n (ir_showing.initializers entries id) all (ir_world.opening w)))
+program_agrees w topped entries id fs proper right all = calls.file_agrees w entries id fs (functions_of fs) proper (emitted w topped fs right) (has_function-is fs) (called fs (ir_showing.initializers entries id) all) (λ n. comes-not_wrong (ir_showing.ir_shows w entries id n).end (all_right w topped fs right n (ir_showing.initializers entries id) all (ir_world.opening w)))

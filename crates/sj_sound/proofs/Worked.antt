@@ -7,14 +7,13 @@ use Rattle.outcomes.specs.Agreement.{Agree}
 use Rattle.ir_mean.specs.Rows.{once, triples}
 use Rattle.ir_mean.specs.Shows.{ir_shows}
 use Rattle.js_mean.specs.Shows.{js_shows}
-use Rattle.sj_names.specs.declared.method_names.Member.{Member}
 use Rattle.sj_trees.specs.declared.classes.ParamDef.{ParamDef}
 use Rattle.sj_trees.specs.declared.types.IrType.TheVariants.{Int}
 use Rattle.sj_bodies.specs.Locals.{Own}
 use Rattle.sj_names.proofs.Same.{impossible}
 use Rattle.sj_calls.specs.Files.{EmittedMethod, program_with}
 use Rattle.sj_calls.proofs.Items.{nothing_in, in_front_or_behind}
-use Rattle.sj_sound.specs.Linked.{has_function, IsRight}
+use Rattle.sj_sound.specs.Linked.{IsRight, functions_of}
 use Rattle.sj_sound.specs.Rules.{KeepsRules}
 use Rattle.sj_world.specs.Laws.{IsTopped}
 use Rattle.sj_world.specs.Subtypes.{IsSub, equal}
@@ -22,12 +21,13 @@ use Rattle.sj_sound.proofs.Topped.{topped}
 use Rattle.sj_sound.specs.Typing.{Scene, local_of, HasValue, IsLocal, IsVariable}
 use Rattle.sj_sound.specs.Worked.{tests_it, main_method, tripling_method, worked_world, emitted, worked_methods}
 use Rattle.sj_sound.proofs.Whole.{program_agrees}
+use Rattle.sj_plain.specs.Conditions.{Has}
 
 fits : (n : ℕ) → n < 2 ^ 31 → FitsSigned w32 (pos n)
 fits n h = record { sfits = h }
 
-abbrev linked : Member → Bool
-linked = has_function worked_methods
+abbrev linked : Has
+linked = functions_of worked_methods
 
 main_rules : KeepsRules (IsSub worked_world) linked main_method tests_it
 main_rules = record {

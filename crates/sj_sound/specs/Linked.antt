@@ -9,6 +9,7 @@ use Rattle.sj_calls.specs.Files.{EmittedMethod, initializer_member}
 use Rattle.sj_sound.specs.Rules.{KeepsRules, HaveTypes}
 use Rattle.sj_world.specs.Subtypes.{IsSub}
 use Rattle.sj_sound.specs.Typing.{call_type}
+use Rattle.sj_plain.specs.Conditions.{Has}
 
 abbrev pub is_same_member : Member → Member → Bool
 is_same_member m k = is_same_text m.class k.class && is_same_namespace m.namespace k.namespace && is_same_method m.method k.method
@@ -16,6 +17,10 @@ is_same_member m k = is_same_text m.class k.class && is_same_namespace m.namespa
 -- one of these methods is that of the member
 abbrev pub has_function : List EmittedMethod → Member → Bool
 has_function fs m = list_any (λ (e : EmittedMethod). is_same_member m e.member) fs
+
+-- what there is where just these functions are
+abbrev pub functions_of : List EmittedMethod → Has
+functions_of fs = record { linked = has_function fs }
 
 -- each of these initializers calls one of these methods
 abbrev pub have_functions : List EmittedMethod → List EntryPoint → Bool
@@ -28,4 +33,4 @@ pub record IsRight (w : World) (fs : List EmittedMethod) (e : EmittedMethod) : T
   pub has_body : e.definition.body ≡ Some e.its_body
   pub parameters : HaveTypes e.definition.params e.member.method.params
   pub result_is : e.definition.result ≡ call_type e.member.method.result
-  pub rules : KeepsRules (IsSub w) (has_function fs) e.definition e.its_body
+  pub rules : KeepsRules (IsSub w) (functions_of fs) e.definition e.its_body

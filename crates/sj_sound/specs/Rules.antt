@@ -1,5 +1,5 @@
 -- What is asked of a method whose body is of the forms that are built.
-use Rattle.std.specs.Prelude.{◌≡◌, ℕ, Bool, List, [], ◌∷◌, Some}
+use Rattle.std.specs.Prelude.{◌≡◌, ℕ, List, [], ◌∷◌, Some}
 use Rattle.ir_mean.specs.World.{World, member_of}
 use Rattle.sj_names.specs.declared.method_names.Member.{Member}
 use Rattle.sj_names.specs.declared.references.TypeRef.{TypeRef}
@@ -11,12 +11,13 @@ use Rattle.sj_trees.specs.declared.types.IrType.{IrType}
 use Rattle.sj_bodies.specs.Locals.{Own}
 use Rattle.sj_calls.specs.Methods.{IsParameter}
 use Rattle.sj_sound.specs.Typing.{HasValue, IsResult, Yields, Typed, local_of, call_type}
+use Rattle.sj_plain.specs.Conditions.{Has}
 
 -- the body keeps the rules with the parameters in scope, yields the result, and defines no parameter again; there are values of each
 -- parameter's type, and of the result's unless it is none
-pub record KeepsRules (sub : IrType → IrType → Type 0) (is_linked : Member → Bool) (d : MethodDef) (e : Term) : Type 0 where
-  pub typed : Typed sub is_linked (record { locals = d.params; labels = [] }) e
-  pub yields : Yields sub is_linked e d.result
+pub record KeepsRules (sub : IrType → IrType → Type 0) (has : Has) (d : MethodDef) (e : Term) : Type 0 where
+  pub typed : Typed sub has (record { locals = d.params; labels = [] }) e
+  pub yields : Yields sub has e d.result
   pub result : IsResult d.result
   pub values : (x : List ℕ) (p : ParamDef) → local_of d.params x ≡ Some p → HasValue p.tpe
   pub fresh : (x : List ℕ) → Own e x → IsParameter d.params x → ⊥
@@ -28,11 +29,11 @@ HaveTypes (d ∷ ds) (r ∷ rs) = (d.tpe ≡ reference_type r) × HaveTypes ds r
 HaveTypes _ _ = ⊥
 
 -- a member of the classes with a body that keeps the rules, and with the types that its name tells
-pub record RightMember (sub : IrType → IrType → Type 0) (w : World) (is_linked : Member → Bool) (m : Member) : Type 0 where
+pub record RightMember (sub : IrType → IrType → Type 0) (w : World) (has : Has) (m : Member) : Type 0 where
   pub definition : MethodDef
   pub its_body : Term
   pub found : member_of w m.class m.namespace m.method ≡ Some definition
   pub has_body : definition.body ≡ Some its_body
-  pub rules : KeepsRules sub is_linked definition its_body
+  pub rules : KeepsRules sub has definition its_body
   pub parameters : HaveTypes definition.params m.method.params
   pub result_is : definition.result ≡ call_type m.method.result

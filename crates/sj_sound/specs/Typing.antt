@@ -1,10 +1,9 @@
 -- The rules of trees of the forms that are built, over a relation of subtypes: the types of their parts, and the locals and labels that they use.
-use Rattle.std.specs.Prelude.{◌≡◌, ℕ, Bool, true, false, List, [], ◌∷◌, ◌⊎◌, FitsSigned, nat_eq, Option, Some, None, if◌then◌else◌}
+use Rattle.std.specs.Prelude.{◌≡◌, ℕ, true, false, List, [], ◌∷◌, ◌⊎◌, FitsSigned, nat_eq, Option, Some, None, if◌then◌else◌}
 use Rattle.std.specs.Int.{w32}
 use Rattle.std.specs.Cmp.Lexicographic.{pointwise}
 use Rattle.sj_desugar.specs.Coercions.{is_char}
 use Rattle.sj_desugar.specs.Desugar.{member, has_no_value}
-use Rattle.sj_names.specs.declared.method_names.Member.{Member}
 use Rattle.sj_names.specs.declared.references.TypeRef.{TypeRef}
 use Rattle.sj_trees.specs.Term.{Term, Terms, no_terms, more_terms, Cases, no_cases, more_cases, var_def, skip, block_of, labeled, assign, return_to, if_then, while_loop, do_while, match_on, apply_static, unary_op, binary_op, undefined_literal, null_literal, boolean_literal, byte_literal, short_literal, int_literal, string_literal, var_ref, log_line}
 use Rattle.sj_trees.specs.TypeOf.{type_of_term}
@@ -16,7 +15,7 @@ use Rattle.sj_trees.specs.declared.operators.UnaryOp.{UnaryOp}
 use Rattle.sj_trees.specs.declared.operators.UnaryOp.TheVariants.{BooleanNot, ByteToInt, ShortToInt}
 use Rattle.sj_trees.specs.declared.types.IrType.{IrType}
 use Rattle.sj_trees.specs.declared.types.IrType.TheVariants.{Any, Boolean, Byte, Short, Int, String, NoType}
-use Rattle.sj_plain.specs.Conditions.{is_simple, is_simple_unary, IsDivision, IsDivisor}
+use Rattle.sj_plain.specs.Conditions.{is_simple, is_simple_unary, IsDivision, IsDivisor, Has}
 use Rattle.sj_bodies.specs.Locals.{Own, OwnAll}
 
 -- a label with the type of what leaves to it
@@ -89,7 +88,7 @@ behind _ s = s
 abbrev pub in_label : List ℕ → IrType → Scene → Scene
 in_label l t s = record { locals = s.locals; labels = record { name = l; tpe = t } ∷ s.labels }
 
-module _ (sub : IrType → IrType → Type 0) (is_linked : Member → Bool) where
+module _ (sub : IrType → IrType → Type 0) (has : Has) where
   -- there is no value to yield, or the tree's fits
   abbrev pub Yields : Term → IrType → Type 0
   Yields e t = (t ≡ NoType) ⊎ sub (type_of_term e) t
@@ -118,7 +117,7 @@ module _ (sub : IrType → IrType → Type 0) (is_linked : Member → Bool) wher
     Typed s (while_loop p c b) = sub (type_of_term c) Boolean × Typed s c × Typed s b
     Typed s (do_while p b c) = sub (type_of_term c) Boolean × Typed s b × Typed s c
     Typed s (match_on p e cs d t) = sub (type_of_term e) Int × Yields d t × (is_char t ≡ false) × Typed s e × TypedCases s t cs × Typed s d
-    Typed s (apply_static p c n m ts t) = (is_linked (member c n m) ≡ true) × IsResult t × ArgumentsFit ts m.params × TypedAll s ts × (t ≡ call_type m.result)
+    Typed s (apply_static p c n m ts t) = (has.linked (member c n m) ≡ true) × IsResult t × ArgumentsFit ts m.params × TypedAll s ts × (t ≡ call_type m.result)
     Typed s (unary_op p o e) = (is_simple_unary o ≡ true) × sub (type_of_term e) (unary_operand o) × Typed s e
     Typed s (binary_op p o e d) = ((is_simple o ≡ true) × sub (type_of_term e) (binary_operand o) × sub (type_of_term d) (binary_operand o) × Typed s e × Typed s d) ⊎ (IsDivision o × sub (type_of_term e) Int × Typed s e × IsDivisor d)
     Typed s (undefined_literal p) = Unit {0}

@@ -21,7 +21,7 @@ use Rattle.sj_trees.specs.declared.types.IrType.{IrType}
 use Rattle.sj_trees.specs.declared.types.IrType.TheVariants as type
 use Rattle.sj_trees.specs.Term.{Term, Terms, no_terms, more_terms, Cases, no_cases, more_cases, var_def, skip, block_of, labeled, assign, return_to, if_then, while_loop, do_while, match_on, apply_static, unary_op, binary_op, undefined_literal, null_literal, boolean_literal, byte_literal, short_literal, int_literal, string_literal, var_ref, log_line}
 use Rattle.sj_trees.specs.TypeOf.{type_of_term}
-use Rattle.sj_plain.specs.Conditions.{is_simple, is_simple_unary, IsDivision, a_quotient, a_remainder}
+use Rattle.sj_plain.specs.Conditions.{is_simple, is_simple_unary, IsDivision, a_quotient, a_remainder, Has}
 use Rattle.sj_sound.specs.Typing as sound
 use Rattle.sj_kept.specs.Rows.{Rows, AllRows, CaseRows}
 use Rattle.sj_world.specs.Known.{Classes}
@@ -36,15 +36,15 @@ use Rattle.sj_typing.specs.Typed.{MeetsThere, IsTyped}
 use Rattle.sj_typed.specs.Built.{is_no_char, are_no_chars, Built, AllBuilt, CasesBuilt}
 use Rattle.sj_typed.proofs.Values.{parameter_value, result_is, fits, divisor_of}
 
-yields : (w : Classes) (is_linked : Member → Bool) (e : Term) (t : IrType) → rules.Yields w e t → sound.Yields (IsSub w) is_linked e t
-yields w is_linked e t (rules.nothing_wanted none) = inl none
-yields w is_linked e t (rules.fitting fits) = inr fits
+yields : (w : Classes) (has : Has) (e : Term) (t : IrType) → rules.Yields w e t → sound.Yields (IsSub w) has e t
+yields w has e t (rules.nothing_wanted none) = inl none
+yields w has e t (rules.fitting fits) = inr fits
 
-arguments : (w : Classes) (is_linked : Member → Bool) (es : Terms) (rs : List TypeRef) → are_no_chars rs ≡ true → All IsParameter rs → rules.ArgumentsFit w es rs → sound.ArgumentsFit (IsSub w) is_linked es rs
-arguments w is_linked no_terms [] built params fits = tt
-arguments w is_linked no_terms (r ∷ rs) built params fits = absurd fits
-arguments w is_linked (more_terms e es) [] built params fits = absurd fits
-arguments w is_linked (more_terms e es) (r ∷ rs) built params fits = let p = and_parts (is_no_char r) (are_no_chars rs) built in (fits.0, parameter_value r (All-head IsParameter r rs params) p.0, arguments w is_linked es rs p.1 (All-tail IsParameter r rs params) fits.1)
+arguments : (w : Classes) (has : Has) (es : Terms) (rs : List TypeRef) → are_no_chars rs ≡ true → All IsParameter rs → rules.ArgumentsFit w es rs → sound.ArgumentsFit (IsSub w) has es rs
+arguments w has no_terms [] built params fits = tt
+arguments w has no_terms (r ∷ rs) built params fits = absurd fits
+arguments w has (more_terms e es) [] built params fits = absurd fits
+arguments w has (more_terms e es) (r ∷ rs) built params fits = let p = and_parts (is_no_char r) (are_no_chars rs) built in (fits.0, parameter_value r (All-head IsParameter r rs params) p.0, arguments w has es rs p.1 (All-tail IsParameter r rs params) fits.1)
 
 -- ---- operators
 
@@ -112,7 +112,7 @@ one_more ls bs l t around m = behind_all ls (record { name = l; tpe = t }) m Non
 
 -- ---- trees
 
-module _ (w : Classes) (space : Namespace) (is_linked : Member → Bool) where
+module _ (w : Classes) (space : Namespace) (has : Has) where
   abbrev Met : List Node → Type 0
   Met xs = All (MeetsThere w space) xs
 
@@ -132,36 +132,36 @@ module _ (w : Classes) (space : Namespace) (is_linked : Member → Bool) where
   inner ls n t h = front (below ls n t) (node n ls t ∷ []) h
 
   -- an operator, by its operands
-  operands_rows : (p : Position) (o : BinaryOp) (e d : Term) (bs : List sound.Label) → (Built is_linked e → Rows (IsSub w) is_linked bs e) → (Built is_linked d → Rows (IsSub w) is_linked bs d) → Built is_linked (binary_op p o e d) → IsListedTree d → OperandsFit w o e d → Rows (IsSub w) is_linked bs (binary_op p o e d)
+  operands_rows : (p : Position) (o : BinaryOp) (e d : Term) (bs : List sound.Label) → (Built has e → Rows (IsSub w) has bs e) → (Built has d → Rows (IsSub w) has bs d) → Built has (binary_op p o e d) → IsListedTree d → OperandsFit w o e d → Rows (IsSub w) has bs (binary_op p o e d)
   operands_rows p o e d bs one other (inl built) listed its = let fit = operands w o e d built.0 its in inl (built.0, fit.0, fit.1, one built.1, other built.2)
   operands_rows p o e d bs one other (inr built) listed its = inr (built.0, dividend w o e d built.0 its, one built.1, divisor_of d built.2 listed)
 
   mutual
-    rows : (t : Term) (ls : List Label) (bs : List sound.Label) (n : ℕ) → SameLabels ls bs → Built is_linked t → IsListedTree t → Met (nodes ls n t) → Rows (IsSub w) is_linked bs t
+    rows : (t : Term) (ls : List Label) (bs : List sound.Label) (n : ℕ) → SameLabels ls bs → Built has t → IsListedTree t → Met (nodes ls n t) → Rows (IsSub w) has bs t
     rows (var_def p x t b e) ls bs n around built listed all = let its = own ls n (var_def p x t b e) all in let met = inner ls n (var_def p x t b e) all in (its, built.0, rows e ls bs (n + 1) around built.1 listed.2 met)
     rows (skip p) ls bs n around built listed all = tt
     rows (block_of p ts) ls bs n around built listed all = let met = inner ls n (block_of p ts) all in all_rows ts ls bs (n + 1) around built listed met
-    rows (labeled p l t e) ls bs n around built listed all = let its = own ls n (labeled p l t e) all in let met = inner ls n (labeled p l t e) all in (yields w is_linked e t its, built.0, rows e (inside l t ls) (record { name = l; tpe = t } ∷ bs) (n + 1) (one_more ls bs l t around) built.1 listed.2 met)
+    rows (labeled p l t e) ls bs n around built listed all = let its = own ls n (labeled p l t e) all in let met = inner ls n (labeled p l t e) all in (yields w has e t its, built.0, rows e (inside l t ls) (record { name = l; tpe = t } ∷ bs) (n + 1) (one_more ls bs l t around) built.1 listed.2 met)
     rows (assign p (var_ref q x t) e) ls bs n around built listed all = let its = own ls n (assign p (var_ref q x t) e) all in let met = inner ls n (assign p (var_ref q x t) e) all in (its.1, rows e ls bs (n + 1 + size (var_ref q x t)) around built listed.1 (back (nodes ls (n + 1) (var_ref q x t)) (nodes ls (n + 1 + size (var_ref q x t)) e) met))
     rows (return_to p e l) ls bs n around built listed all =
         let its = own ls n (return_to p e l) all in let met = inner ls n (return_to p e l) all in
         let is : sound.type_of_label bs l ≡ Some its.tpe = sym (around l) ∙ its.is_type in
-        (record { tpe = its.tpe; is = is; yields = yields w is_linked e its.tpe its.yields }, rows e ls bs (n + 1) around built listed.0 met)
+        (record { tpe = its.tpe; is = is; yields = yields w has e its.tpe its.yields }, rows e ls bs (n + 1) around built listed.0 met)
     rows (if_then p c a b t) ls bs n around built listed all =
         let its = own ls n (if_then p c a b t) all in let met = inner ls n (if_then p c a b t) all in
         let behind : Met (nodes ls (n + 1 + size c) a ++ nodes ls (n + 1 + size c + size a) b) = back (nodes ls (n + 1) c) (nodes ls (n + 1 + size c) a ++ nodes ls (n + 1 + size c + size a) b) met in
-        (its.0, yields w is_linked a t its.1, yields w is_linked b t its.2, built.0, rows c ls bs (n + 1) around built.1 listed.0 (front (nodes ls (n + 1) c) (nodes ls (n + 1 + size c) a ++ nodes ls (n + 1 + size c + size a) b) met), rows a ls bs (n + 1 + size c) around built.2 listed.1 (front (nodes ls (n + 1 + size c) a) (nodes ls (n + 1 + size c + size a) b) behind), rows b ls bs (n + 1 + size c + size a) around built.3 listed.2 (back (nodes ls (n + 1 + size c) a) (nodes ls (n + 1 + size c + size a) b) behind))
+        (its.0, yields w has a t its.1, yields w has b t its.2, built.0, rows c ls bs (n + 1) around built.1 listed.0 (front (nodes ls (n + 1) c) (nodes ls (n + 1 + size c) a ++ nodes ls (n + 1 + size c + size a) b) met), rows a ls bs (n + 1 + size c) around built.2 listed.1 (front (nodes ls (n + 1 + size c) a) (nodes ls (n + 1 + size c + size a) b) behind), rows b ls bs (n + 1 + size c + size a) around built.3 listed.2 (back (nodes ls (n + 1 + size c) a) (nodes ls (n + 1 + size c + size a) b) behind))
     rows (while_loop p c b) ls bs n around built listed all = let its = own ls n (while_loop p c b) all in let met = inner ls n (while_loop p c b) all in (its, rows c ls bs (n + 1) around built.0 listed.0 (front (nodes ls (n + 1) c) (nodes ls (n + 1 + size c) b) met), rows b ls bs (n + 1 + size c) around built.1 listed.1 (back (nodes ls (n + 1) c) (nodes ls (n + 1 + size c) b) met))
     rows (do_while p b c) ls bs n around built listed all = let its = own ls n (do_while p b c) all in let met = inner ls n (do_while p b c) all in (its, rows b ls bs (n + 1) around built.0 listed.0 (front (nodes ls (n + 1) b) (nodes ls (n + 1 + size b) c) met), rows c ls bs (n + 1 + size b) around built.1 listed.1 (back (nodes ls (n + 1) b) (nodes ls (n + 1 + size b) c) met))
     rows (match_on p e cs d t) ls bs n around built listed all =
         let its = own ls n (match_on p e cs d t) all in let met = inner ls n (match_on p e cs d t) all in
         let k = n + 1 + size e in
         let behind : Met (nodes_of_cases ls k cs ++ nodes ls (k + size_of_cases cs) d) = back (nodes ls (n + 1) e) (nodes_of_cases ls k cs ++ nodes ls (k + size_of_cases cs) d) met in
-        (its.0, yields w is_linked d t its.2, built.0, rows e ls bs (n + 1) around built.1 listed.0 (front (nodes ls (n + 1) e) (nodes_of_cases ls k cs ++ nodes ls (k + size_of_cases cs) d) met), case_rows cs ls bs t k around built.2 listed.1 its.1 (front (nodes_of_cases ls k cs) (nodes ls (k + size_of_cases cs) d) behind), rows d ls bs (k + size_of_cases cs) around built.3 listed.2 (back (nodes_of_cases ls k cs) (nodes ls (k + size_of_cases cs) d) behind))
+        (its.0, yields w has d t its.2, built.0, rows e ls bs (n + 1) around built.1 listed.0 (front (nodes ls (n + 1) e) (nodes_of_cases ls k cs ++ nodes ls (k + size_of_cases cs) d) met), case_rows cs ls bs t k around built.2 listed.1 its.1 (front (nodes_of_cases ls k cs) (nodes ls (k + size_of_cases cs) d) behind), rows d ls bs (k + size_of_cases cs) around built.3 listed.2 (back (nodes_of_cases ls k cs) (nodes ls (k + size_of_cases cs) d) behind))
     rows (apply_static p c s m ts t) ls bs n around built listed all =
         let its = own ls n (apply_static p c s m ts t) all in let met = inner ls n (apply_static p c s m ts t) all in
         let called : t ≡ sound.call_type m.result = its.1 ∙ same_call_type m.result in
-        (built.0, result_is m.result t called built.1, arguments w is_linked ts m.params built.2 listed.1.0.params its.2, all_rows ts ls bs (n + 1) around built.3 listed.2 met, called)
+        (built.0, result_is m.result t called built.1, arguments w has ts m.params built.2 listed.1.0.params its.2, all_rows ts ls bs (n + 1) around built.3 listed.2 met, called)
     rows (unary_op p o e) ls bs n around built listed all = let its = own ls n (unary_op p o e) all in let met = inner ls n (unary_op p o e) all in (built.0, operand w o e built.0 its, rows e ls bs (n + 1) around built.1 listed met)
     rows (binary_op p o e d) ls bs n around built listed all = let its = own ls n (binary_op p o e d) all in let met = inner ls n (binary_op p o e d) all in operands_rows p o e d bs (λ b. rows e ls bs (n + 1) around b listed.0 (front (nodes ls (n + 1) e) (nodes ls (n + 1 + size e) d) met)) (λ b. rows d ls bs (n + 1 + size e) around b listed.1 (back (nodes ls (n + 1) e) (nodes ls (n + 1 + size e) d) met)) built listed.1 its
     rows (undefined_literal p) ls bs n around built listed all = tt
@@ -175,13 +175,13 @@ module _ (w : Classes) (space : Namespace) (is_linked : Member → Bool) where
     rows (log_line p e) ls bs n around built listed all = let its = own ls n (log_line p e) all in let met = inner ls n (log_line p e) all in (its, rows e ls bs (n + 1) around built listed met)
     rows t ls bs n around built listed all = absurd built
 
-    all_rows : (ts : Terms) (ls : List Label) (bs : List sound.Label) (n : ℕ) → SameLabels ls bs → AllBuilt is_linked ts → AreListedTrees ts → Met (nodes_of_all ls n ts) → AllRows (IsSub w) is_linked bs ts
+    all_rows : (ts : Terms) (ls : List Label) (bs : List sound.Label) (n : ℕ) → SameLabels ls bs → AllBuilt has ts → AreListedTrees ts → Met (nodes_of_all ls n ts) → AllRows (IsSub w) has bs ts
     all_rows no_terms ls bs n around built listed met = tt
     all_rows (more_terms t ts) ls bs n around built listed met = (rows t ls bs n around built.0 listed.0 (front (nodes ls n t) (nodes_of_all ls (n + size t) ts) met), all_rows ts ls bs (n + size t) around built.1 listed.1 (back (nodes ls n t) (nodes_of_all ls (n + size t) ts) met))
 
-    case_rows : (cs : Cases) (ls : List Label) (bs : List sound.Label) (t : IrType) (n : ℕ) → SameLabels ls bs → CasesBuilt is_linked cs → AreListedCases cs → CasesYield w cs t → Met (nodes_of_cases ls n cs) → CaseRows (IsSub w) is_linked bs t cs
+    case_rows : (cs : Cases) (ls : List Label) (bs : List sound.Label) (t : IrType) (n : ℕ) → SameLabels ls bs → CasesBuilt has cs → AreListedCases cs → CasesYield w cs t → Met (nodes_of_cases ls n cs) → CaseRows (IsSub w) has bs t cs
     case_rows no_cases ls bs t n around built listed its met = tt
-    case_rows (more_cases keys e cs) ls bs t n around built listed its met = (yields w is_linked e t its.0, rows e ls bs n around built.0 listed.1 (front (nodes ls n e) (nodes_of_cases ls (n + size e) cs) met), case_rows cs ls bs t (n + size e) around built.1 listed.2 its.1 (back (nodes ls n e) (nodes_of_cases ls (n + size e) cs) met))
+    case_rows (more_cases keys e cs) ls bs t n around built listed its met = (yields w has e t its.0, rows e ls bs n around built.0 listed.1 (front (nodes ls n e) (nodes_of_cases ls (n + size e) cs) met), case_rows cs ls bs t (n + size e) around built.1 listed.2 its.1 (back (nodes ls n e) (nodes_of_cases ls (n + size e) cs) met))
 
 no_labels : SameLabels [] []
 no_labels l = refl
@@ -189,8 +189,8 @@ no_labels l = refl
 one_body : {o : Option Term} {e d : Term} → o ≡ Some e → o ≡ Some d → e ≡ d
 one_body e d = cc
 
-pub has_rows : (w : Classes) (is_linked : Member → Bool) (d : MethodDef) (e : Term) → d.body ≡ Some e → IsTyped w d → Built is_linked e → IsListedTree e → Rows (IsSub w) is_linked [] e
-has_rows w is_linked d e is typed built listed = rows w d.namespace is_linked e [] [] 0 no_labels built listed (subst (λ (b : Term). All (MeetsThere w d.namespace) (nodes [] 0 b)) (one_body typed.has_body is) typed.met)
+pub has_rows : (w : Classes) (has : Has) (d : MethodDef) (e : Term) → d.body ≡ Some e → IsTyped w d → Built has e → IsListedTree e → Rows (IsSub w) has [] e
+has_rows w has d e is typed built listed = rows w d.namespace has e [] [] 0 no_labels built listed (subst (λ (b : Term). All (MeetsThere w d.namespace) (nodes [] 0 b)) (one_body typed.has_body is) typed.met)
 
-pub yields_result : (w : Classes) (is_linked : Member → Bool) (d : MethodDef) (e : Term) → d.body ≡ Some e → IsTyped w d → sound.Yields (IsSub w) is_linked e d.result
-yields_result w is_linked d e is typed = yields w is_linked e d.result (subst (λ (b : Term). rules.Yields w b d.result) (one_body typed.has_body is) typed.yields)
+pub yields_result : (w : Classes) (has : Has) (d : MethodDef) (e : Term) → d.body ≡ Some e → IsTyped w d → sound.Yields (IsSub w) has e d.result
+yields_result w has d e is typed = yields w has e d.result (subst (λ (b : Term). rules.Yields w b d.result) (one_body typed.has_body is) typed.yields)

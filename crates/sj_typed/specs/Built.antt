@@ -5,7 +5,7 @@ use Rattle.sj_desugar.specs.Coercions.{is_char}
 use Rattle.sj_desugar.specs.Desugar.{member}
 use Rattle.sj_names.specs.declared.method_names.Member.{Member}
 use Rattle.sj_names.specs.declared.references.TypeRef.{TypeRef}
-use Rattle.sj_plain.specs.Conditions.{is_simple, is_simple_unary, IsDivision}
+use Rattle.sj_plain.specs.Conditions.{is_simple, is_simple_unary, IsDivision, Has}
 use Rattle.sj_trees.specs.Term.{Term, Terms, no_terms, more_terms, Cases, no_cases, more_cases, var_def, skip, block_of, labeled, assign, return_to, if_then, while_loop, do_while, match_on, apply_static, unary_op, binary_op, undefined_literal, null_literal, boolean_literal, byte_literal, short_literal, int_literal, string_literal, var_ref, log_line}
 use Rattle.sj_trees.specs.Types.{reference_type}
 use Rattle.sj_trees.specs.declared.classes.MethodDef.{MethodDef}
@@ -22,7 +22,7 @@ are_no_chars = list_all is_no_char
 pub data IsOtherThanZero : Term → Type 0 where
   other_than_zero : (p : Position) (z : ℤ) → z ≢ pos 0 → IsOtherThanZero (int_literal p z)
 
-module _ (is_linked : Member → Bool) where
+module _ (has : Has) where
   abbrev mutual
     -- a tree of the forms that are built: calls are of linked members, divisors are literals, and no type that it declares or gives is char. Of a
     -- variable that is read any type may be given, since what declares it is asked.
@@ -37,7 +37,7 @@ module _ (is_linked : Member → Bool) where
     Built (while_loop p c b) = Built c × Built b
     Built (do_while p b c) = Built b × Built c
     Built (match_on p e cs d t) = (is_char t ≡ false) × Built e × CasesBuilt cs × Built d
-    Built (apply_static p c n m ts t) = (is_linked (member c n m) ≡ true) × (is_char t ≡ false) × (are_no_chars m.params ≡ true) × AllBuilt ts
+    Built (apply_static p c n m ts t) = (has.linked (member c n m) ≡ true) × (is_char t ≡ false) × (are_no_chars m.params ≡ true) × AllBuilt ts
     Built (unary_op p o e) = (is_simple_unary o ≡ true) × Built e
     Built (binary_op p o e d) = ((is_simple o ≡ true) × Built e × Built d) ⊎ (IsDivision o × Built e × IsOtherThanZero d)
     Built (undefined_literal p) = Unit {0}
@@ -60,7 +60,7 @@ module _ (is_linked : Member → Bool) where
     CasesBuilt (more_cases ns e cs) = Built e × CasesBuilt cs
 
 -- a method of this body is built: no parameter and no result is a char
-pub record MethodBuilt (is_linked : Member → Bool) (d : MethodDef) (e : Term) : Type 0 where
+pub record MethodBuilt (has : Has) (d : MethodDef) (e : Term) : Type 0 where
   pub parameters : are_no_chars d.name.params ≡ true
   pub result : is_char d.result ≡ false
-  pub body : Built is_linked e
+  pub body : Built has e
