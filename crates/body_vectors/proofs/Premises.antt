@@ -20,7 +20,7 @@ use Rattle.sj_bodies.proofs.Contexts.{equals}
 use Rattle.sj_calls.specs.Files.{EmittedMethod}
 use Rattle.sj_calls.proofs.Items.{nothing_in, in_front_or_behind}
 use Rattle.sj_names.proofs.Same.{impossible}
-use Rattle.sj_sound.specs.Linked.{has_function, have_functions, functions_of}
+use Rattle.sj_sound.specs.Linked.{have_functions, functions_of}
 use Rattle.sj_sound.proofs.Topped.{topped}
 use Rattle.sj_world.specs.Ancestors.{directly_above}
 use Rattle.sj_world.specs.Known.{Classes, object}

@@ -5,7 +5,7 @@
 //! their clauses are theorems.
 #![tactic(auto)]
 
-ghost use Rattle.std.specs.Prelude.{◌≡◌, ℕ, Bool, true, List, Some};
+ghost use Rattle.std.specs.Prelude.{◌≡◌, ℕ, true, List, Some};
 ghost use Rattle.std.specs.List.{Contains};
 ghost use Rattle.outcomes.specs.Agreement.{IsNotWrong, Agree};
 ghost use Rattle.ir_mean.specs.Shows.{initializers, ir_shows};

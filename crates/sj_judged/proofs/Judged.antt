@@ -14,7 +14,7 @@ use Rattle.sj_trees.specs.declared.classes.ClassDef.{ClassDef}
 use Rattle.listing_spelling.specs.Rules.{HasListing, IsListedMethod, IsListedTree}
 use Rattle.file_listings.proofs.ListedClasses.{file_is_listed}
 use Rattle.sj_calls.specs.Files.{EmittedMethod, program_with}
-use Rattle.sj_sound.specs.Linked.{has_function, have_functions, functions_of}
+use Rattle.sj_sound.specs.Linked.{have_functions, functions_of}
 use Rattle.sj_proper.specs.Program.{HaveOwnMembers}
 use Rattle.sj_kept.specs.Programs.{IsAccepted}
 use Rattle.sj_kept.proofs.Classes.{keeps-superclass, signature-keeps}

@@ -6,7 +6,7 @@ use Rattle.sj_format.specs.Files.{FileIs}
 use Rattle.sj_local.specs.Broken.{FirstBroken}
 use Rattle.sj_trees.specs.declared.classes.ClassDef.{ClassDef}
 use Rattle.sj_calls.specs.Files.{EmittedMethod}
-use Rattle.sj_sound.specs.Linked.{has_function, functions_of}
+use Rattle.sj_sound.specs.Linked.{functions_of}
 use Rattle.sj_typing.specs.Typed.{IsTyped}
 use Rattle.sj_typed.specs.Built.{MethodBuilt}
 

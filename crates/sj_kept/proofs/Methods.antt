@@ -14,7 +14,6 @@ use Rattle.sj_local.specs.Firsts.{FirstRepeat, nothing_left, here, later, in_32_
 use Rattle.sj_local.specs.Nodes.{Node, node, below}
 use Rattle.sj_local.specs.TreeRules.{last_some, innermost, declarations, declared_by, declared_from, declared_param, declared_in, DeclaresTwice, breaks, outermost, method_nodes, body_nodes}
 use Rattle.sj_local.specs.TreeRules as rules
-use Rattle.sj_names.specs.declared.method_names.Member.{Member}
 use Rattle.sj_names.specs.declared.method_names.Namespace.{Namespace}
 use Rattle.sj_trees.specs.Term.{Term}
 use Rattle.sj_trees.specs.declared.classes.ClassDef.{ClassDef}

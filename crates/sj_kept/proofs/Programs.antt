@@ -7,7 +7,7 @@ use Rattle.js_mean.specs.Shows.{js_shows}
 use Rattle.sj_names.specs.declared.entry_points.EntryPoint.{EntryPoint}
 use Rattle.sj_names.specs.declared.method_names.MethodName.{MethodName}
 use Rattle.sj_calls.specs.Files.{EmittedMethod, program_with}
-use Rattle.sj_sound.specs.Linked.{has_function, have_functions, IsRight, functions_of}
+use Rattle.sj_sound.specs.Linked.{have_functions, IsRight, functions_of}
 use Rattle.sj_sound.specs.Rules.{HaveTypes}
 use Rattle.sj_world.specs.Laws.{IsTopped}
 use Rattle.sj_world.specs.Subtypes.{IsSub}

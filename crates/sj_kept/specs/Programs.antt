@@ -8,7 +8,7 @@ use Rattle.sj_names.specs.MethodNames.{IsMethodName}
 use Rattle.sj_trees.specs.declared.classes.ClassDef.{ClassDef}
 use Rattle.sj_trees.specs.declared.classes.ParamDef.{ParamDef}
 use Rattle.sj_calls.specs.Files.{EmittedMethod}
-use Rattle.sj_sound.specs.Linked.{has_function, functions_of}
+use Rattle.sj_sound.specs.Linked.{functions_of}
 use Rattle.sj_world.specs.Subtypes.{IsSub}
 use Rattle.sj_sound.specs.Typing.{local_of, HasValue, IsResult, Yields}
 use Rattle.sj_kept.specs.Rows.{Rows}

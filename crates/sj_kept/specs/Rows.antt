@@ -1,9 +1,8 @@
 -- The rows of typing for trees of the forms that are built: what is asked of the types of their parts, and of nothing else.
-use Rattle.std.specs.Prelude.{◌≡◌, ℕ, Bool, true, false, List, ◌∷◌, ◌⊎◌, FitsSigned, Some}
+use Rattle.std.specs.Prelude.{◌≡◌, ℕ, true, false, List, ◌∷◌, ◌⊎◌, FitsSigned, Some}
 use Rattle.std.specs.Int.{w32}
 use Rattle.sj_desugar.specs.Coercions.{is_char}
 use Rattle.sj_desugar.specs.Desugar.{member}
-use Rattle.sj_names.specs.declared.method_names.Member.{Member}
 use Rattle.sj_trees.specs.Term.{Term, Terms, no_terms, more_terms, Cases, no_cases, more_cases, var_def, skip, block_of, labeled, assign, return_to, if_then, while_loop, do_while, match_on, apply_static, unary_op, binary_op, undefined_literal, null_literal, boolean_literal, byte_literal, short_literal, int_literal, string_literal, var_ref, log_line}
 use Rattle.sj_trees.specs.TypeOf.{type_of_term}
 use Rattle.sj_trees.specs.declared.types.IrType.{IrType}

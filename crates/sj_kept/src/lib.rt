@@ -4,7 +4,7 @@
 //! clauses are theorems.
 #![tactic(auto)]
 
-ghost use Rattle.std.specs.Prelude.{◌≡◌, ℕ, Bool, true, List, [], Some, None};
+ghost use Rattle.std.specs.Prelude.{◌≡◌, ℕ, true, List, [], Some, None};
 ghost use Rattle.std.specs.List.{Contains};
 ghost use Rattle.outcomes.specs.Agreement.{Agree};
 ghost use Rattle.ir_mean.specs.Shows.{initializers, ir_shows};
@@ -12,7 +12,6 @@ ghost use Rattle.ir_mean.specs.World.{World};
 ghost use Rattle.js_mean.specs.Shows.{js_shows};
 ghost use Rattle.sj_local.specs.Broken.{FirstBroken};
 ghost use Rattle.sj_names.specs.declared.entry_points.EntryPoint.{EntryPoint};
-ghost use Rattle.sj_names.specs.declared.method_names.Member.{Member};
 ghost use Rattle.sj_trees.specs.Term.{Term};
 ghost use Rattle.sj_trees.specs.declared.classes.ClassDef.{ClassDef};
 ghost use Rattle.sj_trees.specs.declared.classes.MethodDef.{MethodDef};

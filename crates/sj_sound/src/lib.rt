@@ -4,7 +4,7 @@
 //! theorems.
 #![tactic(auto)]
 
-ghost use Rattle.std.specs.Prelude.{◌≡◌, ℕ, Bool, true, List, [], ◌∷◌, codes};
+ghost use Rattle.std.specs.Prelude.{◌≡◌, ℕ, true, List, [], ◌∷◌, codes};
 ghost use Rattle.std.specs.List.{Contains};
 ghost use Rattle.outcomes.specs.Agreement.{Agree};
 ghost use Rattle.outcomes.specs.Outcome.{Done, Going};
@@ -15,7 +15,6 @@ ghost use Rattle.ir_mean.specs.World.{World};
 ghost use Rattle.js_mean.specs.Proper.{is_proper_module};
 ghost use Rattle.js_mean.specs.Shows.{js_shows};
 ghost use Rattle.sj_names.specs.declared.entry_points.EntryPoint.{EntryPoint};
-ghost use Rattle.sj_names.specs.declared.method_names.Member.{Member};
 ghost use Rattle.sj_trees.specs.Term.{Term};
 ghost use Rattle.sj_trees.specs.declared.classes.MethodDef.{MethodDef};
 ghost use Rattle.sj_calls.specs.Files.{EmittedMethod, module_with, program_with};

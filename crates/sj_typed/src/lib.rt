@@ -4,10 +4,9 @@
 //! `specs/` has what is asked of a body beside its typing. The function here is a law.
 #![tactic(auto)]
 
-ghost use Rattle.std.specs.Prelude.{◌≡◌, Bool, [], Some};
+ghost use Rattle.std.specs.Prelude.{◌≡◌, [], Some};
 ghost use Rattle.listing_spelling.specs.Rules.{IsListedTree};
 ghost use Rattle.sj_kept.specs.Rows.{Rows};
-ghost use Rattle.sj_names.specs.declared.method_names.Member.{Member};
 ghost use Rattle.sj_sound.specs.Typing.{Yields};
 ghost use Rattle.sj_trees.specs.Term.{Term};
 ghost use Rattle.sj_trees.specs.declared.classes.MethodDef.{MethodDef};
