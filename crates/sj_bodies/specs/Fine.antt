@@ -11,7 +11,7 @@ use Rattle.sj_trees.specs.TypeOf.{type_of_term, unary_result, binary_result}
 use Rattle.sj_trees.specs.declared.positions.Position.{Position}
 use Rattle.sj_trees.specs.declared.types.IrType.{IrType}
 use Rattle.sj_trees.specs.declared.types.IrType.TheVariants.{Undefined, Null, Boolean, Byte, Short, Int, String}
-use Rattle.sj_plain.specs.Conditions.{is_simple, is_simple_unary, NoBox, NoBoxes, IsDivision, IsDivisor, Plain, Has}
+use Rattle.sj_plain.specs.Conditions.{is_simple, is_simple_unary, NoBox, NoBoxes, IsDivision, IsDivisor, Plain, Usable}
 use Rattle.sj_bodies.specs.Locals.{Own, OwnAll}
 
 pub data IsDiscard : Destination → Type 0 where
@@ -26,7 +26,7 @@ FitsIn discard t = Unit {0}
 FitsIn (to_variable x expected) t = (has_no_value t ≡ false) × NoBox expected t
 FitsIn (to_result expected) t = (has_no_value t ≡ false) × NoBox expected t
 
-module _ (is_mutable : List ℕ → Bool) (has : Has) where
+module _ (is_mutable : List ℕ → Bool) (has : Usable) where
   -- an operand is plain, or it may be brought to any variable of its type
   abbrev pub FineOperand : (List ℕ → Type 0) → Term → (core.Variable → Type 0) → Type 0
   FineOperand scope t fine = ((is_plain t ≡ true) × Plain has scope t) ⊎ ((is_plain t ≡ false) × (is_fixed is_mutable t ≡ false) × ((y : core.Variable) → fine y))

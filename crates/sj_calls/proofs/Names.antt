@@ -18,7 +18,7 @@ use Rattle.sj_names.specs.declared.method_names.Namespace.{Namespace}
 use Rattle.sj_names.specs.declared.method_names.Namespace.TheVariants.{Public, PublicStatic, Private, PrivateStatic, Constructor}
 use Rattle.sj_plain.specs.Settings.{NamesDiffer}
 use Rattle.sj_calls.specs.Names.{emitted_in}
-use Rattle.sj_plain.specs.Conditions.{Has}
+use Rattle.sj_plain.specs.Conditions.{Usable}
 
 abbrev first : List ℕ → ℕ
 first [] = 0
@@ -58,5 +58,5 @@ no_function : (m : Member) (x : Variable) → variable_name x ≡ member_name m 
 no_function m (named x) e = let h = begins m.namespace m.class m.method 118 (95 ∷ mangled x) e in let k : 118 ≤ 115 = h.1 in omega arith
 no_function m (numbered n) e = let h = begins m.namespace m.class m.method 36 (number_text n) e in let k : 99 ≤ 36 = h.0 in omega arith
 
-pub emitted_names_differ : (classes : ir_world.World) (program : js.Program) (file : Name) (has : Has) → ((m : Member) → has.linked m ≡ true → owner program file (member_name m) ≡ Some file) → NamesDiffer (emitted_in classes program file has)
+pub emitted_names_differ : (classes : ir_world.World) (program : js.Program) (file : Name) (has : Usable) → ((m : Member) → has.linked m ≡ true → owner program file (member_name m) ≡ Some file) → NamesDiffer (emitted_in classes program file has)
 emitted_names_differ classes program file has own = record { variables = variables-differ; labels = labels-differ; functions = no_function; own = own }

@@ -34,7 +34,7 @@ use Rattle.sj_calls.specs.Names.{emitted_in}
 use Rattle.sj_calls.proofs.Items.{code_with, code_found, cell_found}
 use Rattle.sj_calls.proofs.Levels.{calls_agree}
 use Rattle.sj_calls.proofs.Names.{emitted_names_differ}
-use Rattle.sj_plain.specs.Conditions.{Has}
+use Rattle.sj_plain.specs.Conditions.{Usable}
 
 -- a program of one file, and what is found in it
 abbrev alone : Name → Module → js.Program
@@ -72,7 +72,7 @@ past_functions : (p : js.Program) (k : ℕ) (f : Name) (fs : List EmittedMethod)
 past_functions p k f [] is u = refl
 past_functions p k f (g ∷ gs) is u = past_functions p k f gs is u
 
-module _ (w : ir_world.World) (id : List ℕ) (fs : List EmittedMethod) (es : List EntryPoint) (has : Has) where
+module _ (w : ir_world.World) (id : List ℕ) (fs : List EmittedMethod) (es : List EntryPoint) (has : Usable) where
   abbrev file : Name
   file = js_showing.file_of id
 
@@ -178,5 +178,5 @@ module _ (w : ir_world.World) (id : List ℕ) (fs : List EmittedMethod) (es : Li
     pub shows_alike : ((e : EntryPoint) → Contains es e → has.linked (initializer_member e) ≡ true) → (d : Direction) (n k : ℕ) → Within d n k → Sim d ◌≡◌ (ir_showing.all_show w n es (ir_world.opening w)) (js_showing.js_shows program id k)
     shows_alike all d n k h = subst (λ o. Sim d ◌≡◌ (ir_showing.all_show w n es (ir_world.opening w)) o) (sym (js_is k)) (calls_alike d n k h es all [] (ir_world.opening w) (js_meaning.opening program) opening_same)
 
-pub file_agrees : (w : ir_world.World) (entries : List EntryPoint) (id : List ℕ) (fs : List EmittedMethod) (has : Has) → is_proper_module (module_with fs (ir_showing.initializers entries id)) ≡ true → ((e : EmittedMethod) → Contains fs e → IsEmitted w has e) → ((m : Member) → has.linked m ≡ true → HasFunction fs m) → ((e : EntryPoint) → Contains (ir_showing.initializers entries id) e → has.linked (initializer_member e) ≡ true) → ((n : ℕ) → IsNotWrong (ir_showing.ir_shows w entries id n).end) → Agree (ir_showing.ir_shows w entries id) (js_showing.js_shows (program_with id fs (ir_showing.initializers entries id)) id)
+pub file_agrees : (w : ir_world.World) (entries : List EntryPoint) (id : List ℕ) (fs : List EmittedMethod) (has : Usable) → is_proper_module (module_with fs (ir_showing.initializers entries id)) ≡ true → ((e : EmittedMethod) → Contains fs e → IsEmitted w has e) → ((m : Member) → has.linked m ≡ true → HasFunction fs m) → ((e : EntryPoint) → Contains (ir_showing.initializers entries id) e → has.linked (initializer_member e) ≡ true) → ((n : ℕ) → IsNotWrong (ir_showing.ir_shows w entries id n).end) → Agree (ir_showing.ir_shows w entries id) (js_showing.js_shows (program_with id fs (ir_showing.initializers entries id)) id)
 file_agrees w entries id fs has proper emitted functions all right = agree-from_sim (ir_showing.ir_shows w entries id) (js_showing.js_shows (program_with id fs (ir_showing.initializers entries id)) id) (shows_alike w id fs (ir_showing.initializers entries id) has proper emitted functions all) right

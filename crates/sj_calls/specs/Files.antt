@@ -15,7 +15,7 @@ use Rattle.sj_names.specs.declared.references.TypeRef.TheVariants.{Void}
 use Rattle.sj_trees.specs.Term.{Term}
 use Rattle.sj_trees.specs.declared.classes.MethodDef.{MethodDef}
 use Rattle.sj_calls.specs.Methods.{FineMethod}
-use Rattle.sj_plain.specs.Conditions.{Has}
+use Rattle.sj_plain.specs.Conditions.{Usable}
 
 -- a member whose function is emitted, with its method and its body
 pub record EmittedMethod : Type 0 where
@@ -46,7 +46,7 @@ abbrev pub program_with : List ℕ → List EmittedMethod → List EntryPoint �
 program_with id fs es = record { file = file_of id; content = Some (module_with fs es) } ∷ []
 
 -- the method is that of its member in the classes, and its body is fine where calls are of linked members
-pub record IsEmitted (w : World) (has : Has) (e : EmittedMethod) : Type 0 where
+pub record IsEmitted (w : World) (has : Usable) (e : EmittedMethod) : Type 0 where
   pub found : member_of w e.member.class e.member.namespace e.member.method ≡ Some e.definition
   pub has_body : e.definition.body ≡ Some e.its_body
   pub fine : FineMethod has e.definition e.its_body

@@ -19,7 +19,7 @@ use Rattle.sj_bodies.specs.Fine.{Fine}
 use Rattle.sj_bodies.specs.Locals.{Own}
 use Rattle.sj_plain.specs.Settings.{Place, Valued}
 use Rattle.sj_plain.specs.Worlds.{World}
-use Rattle.sj_plain.specs.Conditions.{Has}
+use Rattle.sj_plain.specs.Conditions.{Usable}
 
 -- the parameters of a function
 abbrev pub parameters_in : Place → List (List ℕ) → List Name
@@ -35,7 +35,7 @@ IsParameter [] x = ⊥
 IsParameter (d ∷ ds) x = (x ≡ d.name) ⊎ IsParameter ds x
 
 -- the body is fine where it brings its value out of the method, with the parameters in scope, and it defines no parameter again
-pub record FineMethod (has : Has) (d : MethodDef) (e : Term) : Type 0 where
+pub record FineMethod (has : Usable) (d : MethodDef) (e : Term) : Type 0 where
   pub fine : Fine (is_mutable_in d e) has (IsParameter d.params) [] (result_destination d.result) e
   pub fresh : (x : List ℕ) → Own e x → IsParameter d.params x → ⊥
 

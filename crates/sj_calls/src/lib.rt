@@ -24,7 +24,7 @@ ghost use Rattle.sj_plain.specs.Worlds.{World, SameValues};
 ghost use Rattle.sj_calls.specs.Files.{EmittedMethod, initializer_member, module_with, program_with, IsEmitted, HasFunction};
 ghost use Rattle.sj_calls.specs.Methods.{Linked, CallsAgree};
 ghost use Rattle.sj_calls.specs.Names.{emitted_in};
-ghost use Rattle.sj_plain.specs.Conditions.{Has};
+ghost use Rattle.sj_plain.specs.Conditions.{Usable};
 
 /// The theorem on calls, for any names of variables and labels that differ: let each linked member be a method of the classes whose body is fine
 /// and whose emitted function stands in the file. Then a call of a linked member by the IR and a call of its function agree where the
@@ -36,7 +36,7 @@ pub fn calls_agree()
 /// The names of the emitted code differ: no two variables have one name, whatever numbers a name is made of, no two labels, and no variable has
 /// the name of a function; let the name of each linked member's function be one that its own file declares.
 pub fn emitted_names_differ()
-    ensures { (classes : ir_world.World) (program : js.Program) (file : Name) (has : Has) → ((m : Member) → has.linked m ≡ true → owner program file (member_name m) ≡ Some file) → NamesDiffer (emitted_in classes program file has) }
+    ensures { (classes : ir_world.World) (program : js.Program) (file : Name) (has : Usable) → ((m : Member) → has.linked m ≡ true → owner program file (member_name m) ≡ Some file) → NamesDiffer (emitted_in classes program file has) }
 {}
 
 /// The theorem on files: take a module that has the functions of these methods in this order and then calls the initializers of a public module,
@@ -44,5 +44,5 @@ pub fn emitted_names_differ()
 /// called have one of the functions, and let the initializers be among them. Then the file shows of the public module what the classes show,
 /// unless the classes are wrong at some bound: what the one shows within any bound the other shows within some bound, and the other way round.
 pub fn file_of_functions_agrees()
-    ensures { (w : ir_world.World) (entries : List EntryPoint) (id : List ℕ) (fs : List EmittedMethod) (has : Has) → is_proper_module (module_with fs (initializers entries id)) ≡ true → ((e : EmittedMethod) → Contains fs e → IsEmitted w has e) → ((m : Member) → has.linked m ≡ true → HasFunction fs m) → ((e : EntryPoint) → Contains (initializers entries id) e → has.linked (initializer_member e) ≡ true) → ((n : ℕ) → IsNotWrong (ir_shows w entries id n).end) → Agree (ir_shows w entries id) (js_shows (program_with id fs (initializers entries id)) id) }
+    ensures { (w : ir_world.World) (entries : List EntryPoint) (id : List ℕ) (fs : List EmittedMethod) (has : Usable) → is_proper_module (module_with fs (initializers entries id)) ≡ true → ((e : EmittedMethod) → Contains fs e → IsEmitted w has e) → ((m : Member) → has.linked m ≡ true → HasFunction fs m) → ((e : EntryPoint) → Contains (initializers entries id) e → has.linked (initializer_member e) ≡ true) → ((n : ℕ) → IsNotWrong (ir_shows w entries id n).end) → Agree (ir_shows w entries id) (js_shows (program_with id fs (initializers entries id)) id) }
 {}

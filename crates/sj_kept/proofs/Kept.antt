@@ -17,7 +17,7 @@ use Rattle.sj_sound.specs.Typing as scenes
 use Rattle.sj_kept.specs.Rows.{Rows, AllRows, CaseRows}
 use Rattle.sj_trees.proofs.SameTypes.{type-same}
 use Rattle.sj_kept.proofs.Types.{empty-is}
-use Rattle.sj_plain.specs.Conditions.{Has}
+use Rattle.sj_plain.specs.Conditions.{Usable}
 
 -- no tree of these breaks the rules on definitions, variables and jumps
 pub record Keeps (x : Node) : Type 0 where
@@ -86,7 +86,7 @@ defined-value true t h = empty-is t ∙ h
 defined-value false t h = impossible (sym h)
 
 -- what is asked apart from the local rules: no later definition has the name of an earlier one
-module _ (sub : IrType → IrType → Type 0) (has : Has) where
+module _ (sub : IrType → IrType → Type 0) (has : Usable) where
   abbrev At : Context → Term → List Node
   At x t = node x t ∷ below x t
 

@@ -31,7 +31,7 @@ use Rattle.sj_kept.specs.Kept.{KeepsTreeRules, DefinesOnce}
 use Rattle.sj_kept.specs.Rows.{Rows}
 use Rattle.sj_kept.proofs.Distinct.{Has, NoRepeat, declares, own-declares, repeat-parts, once}
 use Rattle.sj_kept.proofs.Kept.{AllKeep, SameLocal, neither, both_have, typed}
-use Rattle.sj_plain.specs.Conditions.{Has}
+use Rattle.sj_plain.specs.Conditions.{Usable}
 
 suc-none : (o : Option ℕ) → option_map suc o ≡ None → o ≡ None
 suc-none None h = refl
@@ -139,7 +139,7 @@ params-same (p ∷ ps) h y = go (pointwise nat_eq y p.name) refl (params-same ps
     go true e k = subst (λ o. SameLocal (last_some (Some (rules.local_of p)) o) (Some p)) (sym (same-none (innermost (locals_of ps) y) (local_of ps y) k (none-there ps y (λ i. h.0 (subst (IsAmong (names_of ps)) (is-equal y p.name e) i))))) (both_have p)
     go false e k = subst (λ o. SameLocal o (local_of ps y)) (sym (last-none (innermost (locals_of ps) y))) k
 
-module _ (sub : IrType → IrType → Type 0) (has : Has) (c : ClassDef) (d : MethodDef) (e : Term) (body : d.body ≡ Some e) (kept : KeepsTreeRules c d) where
+module _ (sub : IrType → IrType → Type 0) (has : Usable) (c : ClassDef) (d : MethodDef) (e : Term) (body : d.body ≡ Some e) (kept : KeepsTreeRules c d) where
   twice : DeclaresTwice d None
   twice = kept.declared
 

@@ -7,10 +7,10 @@ use Rattle.sj_trees.specs.Term.{Term, Terms, no_terms, more_terms, Cases, no_cas
 use Rattle.sj_trees.specs.TypeOf.{type_of_term}
 use Rattle.sj_trees.specs.declared.types.IrType.{IrType}
 use Rattle.sj_trees.specs.declared.types.IrType.TheVariants.{Boolean, Int, String}
-use Rattle.sj_plain.specs.Conditions.{is_simple, is_simple_unary, IsDivision, IsDivisor, Has}
+use Rattle.sj_plain.specs.Conditions.{is_simple, is_simple_unary, IsDivision, IsDivisor, Usable}
 use Rattle.sj_sound.specs.Typing.{Label, type_of_label, IsResult, unary_operand, binary_operand, call_type, Yields, ArgumentsFit}
 
-module _ (sub : IrType → IrType → Type 0) (has : Has) where
+module _ (sub : IrType → IrType → Type 0) (has : Usable) where
   pub record Returns (ls : List Label) (l : List ℕ) (e : Term) : Type 0 where
     pub tpe : IrType
     pub is : type_of_label ls l ≡ Some tpe

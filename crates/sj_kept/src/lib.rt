@@ -26,7 +26,7 @@ ghost use Rattle.sj_kept.specs.Kept.{KeepsTreeRules, DefinesOnce};
 ghost use Rattle.sj_kept.specs.Programs.{IsAccepted};
 ghost use Rattle.sj_kept.specs.Rows.{Rows};
 ghost use Rattle.sj_proper.specs.Program.{HaveOwnMembers};
-ghost use Rattle.sj_plain.specs.Conditions.{Has};
+ghost use Rattle.sj_plain.specs.Conditions.{Usable};
 
 /// Each method of a class that breaks none of the local rules keeps those on declarations, definitions, variables and jumps.
 pub fn classes_keep_tree_rules()
@@ -46,7 +46,7 @@ pub fn locals_are_defined_once()
 /// A method that keeps the rules on trees, and whose body has the rows of typing and yields the result, keeps the rules over trees, so it is covered by
 /// the theorem on programs; where its parameters and its result have types with values that are built.
 pub fn bodies_keep_the_rules()
-    ensures { (w : World) (has : Has) (c : ClassDef) (d : MethodDef) (e : Term) → d.body ≡ Some e → KeepsTreeRules c d → Rows (IsSub w) has [] e → Yields (IsSub w) has e d.result → IsResult d.result → ((x : List ℕ) (p : ParamDef) → local_of d.params x ≡ Some p → HasValue p.tpe) → KeepsRules (IsSub w) has d e }
+    ensures { (w : World) (has : Usable) (c : ClassDef) (d : MethodDef) (e : Term) → d.body ≡ Some e → KeepsTreeRules c d → Rows (IsSub w) has [] e → Yields (IsSub w) has e d.result → IsResult d.result → ((x : List ℕ) (p : ParamDef) → local_of d.params x ≡ Some p → HasValue p.tpe) → KeepsRules (IsSub w) has d e }
 {}
 
 /// The theorem on classes of integer bodies: take methods, no two of one member, each of a class that breaks none of the local rules, with the rows

@@ -64,11 +64,11 @@ pub data IsDivisor : Term → Type 0 where
   divisor : (p : Position) (z : ℤ) → FitsSigned w32 z → z ≢ pos 0 → IsDivisor (int_literal p z)
 
 -- what a body can use: the members that are linked. Forms that make objects, read fields or load modules add what there is of these.
-pub record Has : Type 0 where
+pub record Usable : Type 0 where
   pub linked : Member → Bool
 
 -- what there is, and the locals in scope
-module _ (has : Has) (scope : List ℕ → Type 0) where
+module _ (has : Usable) (scope : List ℕ → Type 0) where
   abbrev mutual
     -- a plain tree of the forms that are built, whose locals are in scope, whose calls are of linked members, whose literals are of their types, and
     -- in which no char stands where another type is expected

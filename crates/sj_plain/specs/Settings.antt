@@ -12,7 +12,7 @@ use Rattle.sj_core.specs.Terms as core
 use Rattle.sj_emit_expr.specs.Templates.{member_name, expression_template, statement_templates}
 use Rattle.sj_names.specs.declared.method_names.Member.{Member}
 use Rattle.sj_plain.specs.Worlds.{World, Grows, SameValue, SameValues}
-use Rattle.sj_plain.specs.Conditions.{Has}
+use Rattle.sj_plain.specs.Conditions.{Usable}
 
 -- what is fixed: the two programs, the names that stand for variables, labels and members, and the members that are linked
 pub record Place : Type 0 where
@@ -21,7 +21,7 @@ pub record Place : Type 0 where
   pub file : Name
   pub name : core.Variable → Name
   pub label : List ℕ → Name
-  pub has : Has
+  pub has : Usable
 
 -- a place, the half of the agreement that is spoken of, the mutable locals of the body, and what the levels below give
 pub record Setting : Type 0 where

@@ -39,7 +39,7 @@ use Rattle.sj_proper.specs.Program.{AreDistinct, HaveOwnMembers, IsWhole}
 use Rattle.sj_proper.proofs.Core.{Distinct, distinct-templates, proper-templates, not_again}
 use Rattle.sj_proper.proofs.Good.{Good}
 use Rattle.sj_proper.proofs.Trees.{good}
-use Rattle.sj_plain.specs.Conditions.{Has}
+use Rattle.sj_plain.specs.Conditions.{Usable}
 
 both : (a b : Bool) → a ≡ true → b ≡ true → (a && b) ≡ true
 both true b h k = k
@@ -61,7 +61,7 @@ parameter-among (d ∷ ds) x (inr h) = inr (parameter-among ds x h)
 named-same : (x y : List ℕ) → core.named x ≡ core.named y → x ≡ y
 named-same x y e = cc
 
-module _ (w : ir_world.World) (id : List ℕ) (fs : List EmittedMethod) (es : List EntryPoint) (has : Has) where
+module _ (w : ir_world.World) (id : List ℕ) (fs : List EmittedMethod) (es : List EntryPoint) (has : Usable) where
   abbrev place : Place
   place = emitted_in w (program_with id fs es) (file_of id) has
 

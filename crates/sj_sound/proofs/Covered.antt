@@ -20,7 +20,7 @@ use Rattle.sj_trees.specs.declared.operators.UnaryOp.TheVariants.{BooleanNot, By
 use Rattle.sj_trees.specs.declared.positions.Position.{Position}
 use Rattle.sj_trees.specs.declared.types.IrType.{IrType}
 use Rattle.sj_trees.specs.declared.types.IrType.TheVariants.{Boolean, Int, String, NoType, Null, Undefined, Byte, Short}
-use Rattle.sj_plain.specs.Conditions.{is_simple_unary, NoBox, NoBoxes, Plain, AllPlain, Has}
+use Rattle.sj_plain.specs.Conditions.{is_simple_unary, NoBox, NoBoxes, Plain, AllPlain, Usable}
 use Rattle.sj_bodies.specs.Fine.{IsDiscard, is_discard, IsTrueLiteral, true_literal, FitsIn, FineOperand, Fine, FineBlock, FineOperands, FineCases}
 use Rattle.sj_bodies.proofs.Contexts.{is-equal}
 use Rattle.sj_names.proofs.Same.{impossible}
@@ -108,7 +108,7 @@ true-or-none (boolean_literal p true) = inr (true_literal p)
 true-or-none (boolean_literal p false) = inl refl
 true-or-none _ = inl refl
 
-module _ (sub : IrType → IrType → Type 0) (law : IsSubtyping sub) (is_mutable : List ℕ → Bool) (has : Has) where
+module _ (sub : IrType → IrType → Type 0) (law : IsSubtyping sub) (is_mutable : List ℕ → Bool) (has : Usable) where
   -- a type that may be brought to a destination: it is given up, or fits one that has values
   abbrev pub Asks : Destination → IrType → Type 0
   Asks discard t = Unit {0}

@@ -8,7 +8,7 @@ use Rattle.sj_trees.specs.declared.classes.ParamDef.{ParamDef}
 use Rattle.sj_trees.specs.declared.types.IrType.{IrType}
 use Rattle.std.specs.Prelude.{Some, nat_eq, if◌then◌else◌}
 use Rattle.std.specs.Cmp.Lexicographic.{pointwise}
-use Rattle.sj_plain.specs.Conditions.{IsDivisor, divisor, Has}
+use Rattle.sj_plain.specs.Conditions.{IsDivisor, divisor, Usable}
 use Rattle.sj_bodies.proofs.Contexts.{equals, is-equal}
 use Rattle.sj_names.proofs.Same.{impossible}
 use Rattle.sj_sound.specs.Typing.{Scene, local_of, behind, in_label, Typed, TypedBlock, TypedAll, TypedCases}
@@ -65,7 +65,7 @@ keeps-divisor _ (divisor p n f ne) y xs i = i
 no_divisor : (d : Term) → IsDivisor d → (y : List ℕ) → Mutates d y → ⊥
 no_divisor _ (divisor p n f ne) y h = h
 
-module _ (sub : IrType → IrType → Type 0) (has : Has) (y : List ℕ) where
+module _ (sub : IrType → IrType → Type 0) (has : Usable) (y : List ℕ) where
   mutual
     pub keeps : (t : Term) (s : Scene) → Typed sub has s t → Keeps (mutable_in t) y
     keeps (var_def p x t b e) s h xs i = if-keeps b x y (mutable_in e xs) (keeps e s h.3 xs i)
@@ -165,7 +165,7 @@ params-among (c ∷ cs) y d e m xs = go (pointwise nat_eq y c.name) refl e (λ k
     go false i k later = if-keeps c.«mutable» c.name y (mutable_params cs xs) (later k)
 
 -- what is a mutable local is taken for one
-pub mutable-known : (sub : IrType → IrType → Type 0) (has : Has) (d : MethodDef) (e : Term) (s : Scene) → Typed sub has s e → (y : List ℕ) → Mutates e y → is_mutable_in d e y ≡ true
+pub mutable-known : (sub : IrType → IrType → Type 0) (has : Usable) (d : MethodDef) (e : Term) (s : Scene) → Typed sub has s e → (y : List ℕ) → Mutates e y → is_mutable_in d e y ≡ true
 mutable-known sub has d e s h y m = params-keep d.params y (mutable_in e []) (among sub has y e s h m [])
 
 pub parameter-known : (d : MethodDef) (e : Term) (y : List ℕ) (p : ParamDef) → local_of d.params y ≡ Some p → p.«mutable» ≡ true → is_mutable_in d e y ≡ true

@@ -22,7 +22,7 @@ use Rattle.sj_trees.specs.declared.operators.BinaryOp.{BinaryOp}
 use Rattle.sj_trees.specs.declared.positions.Position.{Position}
 use Rattle.sj_trees.specs.declared.types.IrType.{IrType}
 use Rattle.sj_trees.specs.declared.types.IrType.TheVariants.{Undefined, Null, Boolean, Byte, Short, Int, String, NoType, Nothing}
-use Rattle.sj_plain.specs.Conditions.{IsDivision, IsDivisor, divisor, Has}
+use Rattle.sj_plain.specs.Conditions.{IsDivision, IsDivisor, divisor, Usable}
 use Rattle.sj_bodies.specs.Fine.{IsTrueLiteral, true_literal}
 use Rattle.sj_bodies.specs.Locals.{Own, OwnAll, OwnCases}
 use Rattle.sj_bodies.proofs.Contexts.{is-equal}
@@ -49,7 +49,7 @@ comes_after P Q l Wrong f h k = absurd h
 pub comes_then : {A B : Type 0} (P : A → Type 0) (Q : B → Type 0) (o : Out A) (f : A → Out B) → Comes P o.end → ((a : A) → P a → Comes Q (f a).end) → Comes Q (then_do o f).end
 comes_then P Q o f h k = comes_after P Q o.lines o.end f h k
 
-module _ (sub : IrType → IrType → Type 0) (law : IsSubtyping sub) (has : Has) (w : World) where
+module _ (sub : IrType → IrType → Type 0) (law : IsSubtyping sub) (has : Usable) (w : World) where
   -- what a tree of the type gives: any value where it is none
   abbrev pub GivesType : ir.Value → IrType → Type 0
   GivesType v t = (t ≡ NoType) ⊎ HasType sub law v t

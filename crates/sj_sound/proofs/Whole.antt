@@ -36,9 +36,9 @@ use Rattle.sj_sound.proofs.InWorld.{in_world}
 use Rattle.sj_sound.proofs.Mutable.{mutable-known, parameter-known}
 use Rattle.sj_sound.proofs.Right.{Comes, comes_then, CameRight, gave, left, EnvTyped, none_left, call_right, bodies_right, no_label, nothing_there}
 use Rattle.sj_sound.proofs.Same.{has_function-is}
-use Rattle.sj_plain.specs.Conditions.{Has}
+use Rattle.sj_plain.specs.Conditions.{Usable}
 
-module _ (sub : IrType → IrType → Type 0) (law : IsSubtyping sub) (has : Has) where
+module _ (sub : IrType → IrType → Type 0) (law : IsSubtyping sub) (has : Usable) where
   asks-result : (is_mutable : List ℕ → Bool) (e : Term) (t : IrType) (k : Destination) → Way t k → (t ≡ NoType) ⊎ sub (type_of_term e) t → Asks sub law is_mutable has k (type_of_term e)
   asks-result is_mutable e _ _ gives_up y = tt
   asks-result is_mutable e _ _ (hands_on t h) (inl none) = impossible (sym h ∙ ap is_no_type none)

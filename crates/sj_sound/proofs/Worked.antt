@@ -21,12 +21,12 @@ use Rattle.sj_sound.proofs.Topped.{topped}
 use Rattle.sj_sound.specs.Typing.{Scene, local_of, HasValue, IsLocal, IsVariable}
 use Rattle.sj_sound.specs.Worked.{tests_it, main_method, tripling_method, worked_world, emitted, worked_methods}
 use Rattle.sj_sound.proofs.Whole.{program_agrees}
-use Rattle.sj_plain.specs.Conditions.{Has}
+use Rattle.sj_plain.specs.Conditions.{Usable}
 
 fits : (n : ℕ) → n < 2 ^ 31 → FitsSigned w32 (pos n)
 fits n h = record { sfits = h }
 
-abbrev linked : Has
+abbrev linked : Usable
 linked = functions_of worked_methods
 
 main_rules : KeepsRules (IsSub worked_world) linked main_method tests_it

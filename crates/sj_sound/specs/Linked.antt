@@ -9,7 +9,7 @@ use Rattle.sj_calls.specs.Files.{EmittedMethod, initializer_member}
 use Rattle.sj_sound.specs.Rules.{KeepsRules, HaveTypes}
 use Rattle.sj_world.specs.Subtypes.{IsSub}
 use Rattle.sj_sound.specs.Typing.{call_type}
-use Rattle.sj_plain.specs.Conditions.{Has}
+use Rattle.sj_plain.specs.Conditions.{Usable}
 
 abbrev pub is_same_member : Member → Member → Bool
 is_same_member m k = is_same_text m.class k.class && is_same_namespace m.namespace k.namespace && is_same_method m.method k.method
@@ -19,7 +19,7 @@ abbrev pub has_function : List EmittedMethod → Member → Bool
 has_function fs m = list_any (λ (e : EmittedMethod). is_same_member m e.member) fs
 
 -- what there is where just these functions are
-abbrev pub functions_of : List EmittedMethod → Has
+abbrev pub functions_of : List EmittedMethod → Usable
 functions_of fs = record { linked = has_function fs }
 
 -- each of these initializers calls one of these methods

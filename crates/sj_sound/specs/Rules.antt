@@ -11,11 +11,11 @@ use Rattle.sj_trees.specs.declared.types.IrType.{IrType}
 use Rattle.sj_bodies.specs.Locals.{Own}
 use Rattle.sj_calls.specs.Methods.{IsParameter}
 use Rattle.sj_sound.specs.Typing.{HasValue, IsResult, Yields, Typed, local_of, call_type}
-use Rattle.sj_plain.specs.Conditions.{Has}
+use Rattle.sj_plain.specs.Conditions.{Usable}
 
 -- the body keeps the rules with the parameters in scope, yields the result, and defines no parameter again; there are values of each
 -- parameter's type, and of the result's unless it is none
-pub record KeepsRules (sub : IrType → IrType → Type 0) (has : Has) (d : MethodDef) (e : Term) : Type 0 where
+pub record KeepsRules (sub : IrType → IrType → Type 0) (has : Usable) (d : MethodDef) (e : Term) : Type 0 where
   pub typed : Typed sub has (record { locals = d.params; labels = [] }) e
   pub yields : Yields sub has e d.result
   pub result : IsResult d.result
@@ -29,7 +29,7 @@ HaveTypes (d ∷ ds) (r ∷ rs) = (d.tpe ≡ reference_type r) × HaveTypes ds r
 HaveTypes _ _ = ⊥
 
 -- a member of the classes with a body that keeps the rules, and with the types that its name tells
-pub record RightMember (sub : IrType → IrType → Type 0) (w : World) (has : Has) (m : Member) : Type 0 where
+pub record RightMember (sub : IrType → IrType → Type 0) (w : World) (has : Usable) (m : Member) : Type 0 where
   pub definition : MethodDef
   pub its_body : Term
   pub found : member_of w m.class m.namespace m.method ≡ Some definition

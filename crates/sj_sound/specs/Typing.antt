@@ -15,7 +15,7 @@ use Rattle.sj_trees.specs.declared.operators.UnaryOp.{UnaryOp}
 use Rattle.sj_trees.specs.declared.operators.UnaryOp.TheVariants.{BooleanNot, ByteToInt, ShortToInt}
 use Rattle.sj_trees.specs.declared.types.IrType.{IrType}
 use Rattle.sj_trees.specs.declared.types.IrType.TheVariants.{Any, Boolean, Byte, Short, Int, String, NoType}
-use Rattle.sj_plain.specs.Conditions.{is_simple, is_simple_unary, IsDivision, IsDivisor, Has}
+use Rattle.sj_plain.specs.Conditions.{is_simple, is_simple_unary, IsDivision, IsDivisor, Usable}
 use Rattle.sj_bodies.specs.Locals.{Own, OwnAll}
 
 -- a label with the type of what leaves to it
@@ -88,7 +88,7 @@ behind _ s = s
 abbrev pub in_label : List ℕ → IrType → Scene → Scene
 in_label l t s = record { locals = s.locals; labels = record { name = l; tpe = t } ∷ s.labels }
 
-module _ (sub : IrType → IrType → Type 0) (has : Has) where
+module _ (sub : IrType → IrType → Type 0) (has : Usable) where
   -- there is no value to yield, or the tree's fits
   abbrev pub Yields : Term → IrType → Type 0
   Yields e t = (t ≡ NoType) ⊎ sub (type_of_term e) t

@@ -26,7 +26,7 @@ ghost use Rattle.sj_world.specs.Known.{Classes};
 ghost use Rattle.sj_world.specs.Laws.{IsTopped};
 ghost use Rattle.sj_world.specs.Subtypes.{IsSub};
 ghost use Rattle.sj_sound.specs.Worked.{worked_world, worked_methods};
-ghost use Rattle.sj_plain.specs.Conditions.{Has};
+ghost use Rattle.sj_plain.specs.Conditions.{Usable};
 
 /// Subtyping in a world where nothing stands above `java.lang.Object` has the properties that are asked of subtyping.
 pub fn subtypes_of_worlds_are_ordered()
@@ -35,7 +35,7 @@ pub fn subtypes_of_worlds_are_ordered()
 
 /// A method whose body keeps the rules is covered by the theorem on calls.
 pub fn bodies_are_covered()
-    ensures { (w : World) → IsTopped w → (has : Has) (d : MethodDef) (e : Term) → KeepsRules (IsSub w) has d e → FineMethod has d e }
+    ensures { (w : World) → IsTopped w → (has : Usable) (d : MethodDef) (e : Term) → KeepsRules (IsSub w) has d e → FineMethod has d e }
 {}
 
 /// The theorem on programs of such methods: take a module that has the functions of these methods in this order and then calls the initializers

@@ -20,7 +20,7 @@ use Rattle.sj_trees.specs.declared.types.IrType.{IrType}
 use Rattle.sj_trees.specs.declared.types.IrType.TheVariants as type
 use Rattle.sj_trees.specs.Term.{Term, Terms, no_terms, more_terms, Cases, no_cases, more_cases, var_def, skip, block_of, labeled, assign, return_to, if_then, while_loop, do_while, match_on, apply_static, unary_op, binary_op, undefined_literal, null_literal, boolean_literal, byte_literal, short_literal, int_literal, string_literal, var_ref, log_line}
 use Rattle.sj_trees.specs.TypeOf.{type_of_term}
-use Rattle.sj_plain.specs.Conditions.{is_simple, is_simple_unary, IsDivision, a_quotient, a_remainder, Has}
+use Rattle.sj_plain.specs.Conditions.{is_simple, is_simple_unary, IsDivision, a_quotient, a_remainder, Usable}
 use Rattle.sj_sound.specs.Typing as sound
 use Rattle.sj_kept.specs.Rows.{Rows, AllRows, CaseRows}
 use Rattle.sj_world.specs.Known.{Classes}
@@ -35,11 +35,11 @@ use Rattle.sj_typing.specs.Typed.{MeetsThere, IsTyped}
 use Rattle.sj_typed.specs.Built.{is_no_char, are_no_chars, Built, AllBuilt, CasesBuilt}
 use Rattle.sj_typed.proofs.Values.{parameter_value, result_is, fits, divisor_of}
 
-yields : (w : Classes) (has : Has) (e : Term) (t : IrType) → rules.Yields w e t → sound.Yields (IsSub w) has e t
+yields : (w : Classes) (has : Usable) (e : Term) (t : IrType) → rules.Yields w e t → sound.Yields (IsSub w) has e t
 yields w has e t (rules.nothing_wanted none) = inl none
 yields w has e t (rules.fitting fits) = inr fits
 
-arguments : (w : Classes) (has : Has) (es : Terms) (rs : List TypeRef) → are_no_chars rs ≡ true → All IsParameter rs → rules.ArgumentsFit w es rs → sound.ArgumentsFit (IsSub w) has es rs
+arguments : (w : Classes) (has : Usable) (es : Terms) (rs : List TypeRef) → are_no_chars rs ≡ true → All IsParameter rs → rules.ArgumentsFit w es rs → sound.ArgumentsFit (IsSub w) has es rs
 arguments w has no_terms [] built params fits = tt
 arguments w has no_terms (r ∷ rs) built params fits = absurd fits
 arguments w has (more_terms e es) [] built params fits = absurd fits
@@ -111,7 +111,7 @@ one_more ls bs l t around m = behind_all ls (record { name = l; tpe = t }) m Non
 
 -- ---- trees
 
-module _ (w : Classes) (space : Namespace) (has : Has) where
+module _ (w : Classes) (space : Namespace) (has : Usable) where
   abbrev Met : List Node → Type 0
   Met xs = All (MeetsThere w space) xs
 
@@ -188,8 +188,8 @@ no_labels l = refl
 one_body : {o : Option Term} {e d : Term} → o ≡ Some e → o ≡ Some d → e ≡ d
 one_body e d = cc
 
-pub has_rows : (w : Classes) (has : Has) (d : MethodDef) (e : Term) → d.body ≡ Some e → IsTyped w d → Built has e → IsListedTree e → Rows (IsSub w) has [] e
+pub has_rows : (w : Classes) (has : Usable) (d : MethodDef) (e : Term) → d.body ≡ Some e → IsTyped w d → Built has e → IsListedTree e → Rows (IsSub w) has [] e
 has_rows w has d e is typed built listed = rows w d.namespace has e [] [] 0 no_labels built listed (subst (λ (b : Term). All (MeetsThere w d.namespace) (nodes [] 0 b)) (one_body typed.has_body is) typed.met)
 
-pub yields_result : (w : Classes) (has : Has) (d : MethodDef) (e : Term) → d.body ≡ Some e → IsTyped w d → sound.Yields (IsSub w) has e d.result
+pub yields_result : (w : Classes) (has : Usable) (d : MethodDef) (e : Term) → d.body ≡ Some e → IsTyped w d → sound.Yields (IsSub w) has e d.result
 yields_result w has d e is typed = yields w has e d.result (subst (λ (b : Term). rules.Yields w b d.result) (one_body typed.has_body is) typed.yields)

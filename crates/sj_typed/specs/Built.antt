@@ -4,7 +4,7 @@ use Rattle.std.specs.List.{list_all}
 use Rattle.sj_desugar.specs.Coercions.{is_char}
 use Rattle.sj_desugar.specs.Desugar.{member}
 use Rattle.sj_names.specs.declared.references.TypeRef.{TypeRef}
-use Rattle.sj_plain.specs.Conditions.{is_simple, is_simple_unary, IsDivision, Has}
+use Rattle.sj_plain.specs.Conditions.{is_simple, is_simple_unary, IsDivision, Usable}
 use Rattle.sj_trees.specs.Term.{Term, Terms, no_terms, more_terms, Cases, no_cases, more_cases, var_def, skip, block_of, labeled, assign, return_to, if_then, while_loop, do_while, match_on, apply_static, unary_op, binary_op, undefined_literal, null_literal, boolean_literal, byte_literal, short_literal, int_literal, string_literal, var_ref, log_line}
 use Rattle.sj_trees.specs.Types.{reference_type}
 use Rattle.sj_trees.specs.declared.classes.MethodDef.{MethodDef}
@@ -21,7 +21,7 @@ are_no_chars = list_all is_no_char
 pub data IsOtherThanZero : Term → Type 0 where
   other_than_zero : (p : Position) (z : ℤ) → z ≢ pos 0 → IsOtherThanZero (int_literal p z)
 
-module _ (has : Has) where
+module _ (has : Usable) where
   abbrev mutual
     -- a tree of the forms that are built: calls are of linked members, divisors are literals, and no type that it declares or gives is char. Of a
     -- variable that is read any type may be given, since what declares it is asked.
@@ -59,7 +59,7 @@ module _ (has : Has) where
     CasesBuilt (more_cases ns e cs) = Built e × CasesBuilt cs
 
 -- a method of this body is built: no parameter and no result is a char
-pub record MethodBuilt (has : Has) (d : MethodDef) (e : Term) : Type 0 where
+pub record MethodBuilt (has : Usable) (d : MethodDef) (e : Term) : Type 0 where
   pub parameters : are_no_chars d.name.params ≡ true
   pub result : is_char d.result ≡ false
   pub body : Built has e

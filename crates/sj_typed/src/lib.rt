@@ -14,11 +14,11 @@ ghost use Rattle.sj_typed.specs.Built.{Built};
 ghost use Rattle.sj_typing.specs.Typed.{IsTyped};
 ghost use Rattle.sj_world.specs.Known.{Classes};
 ghost use Rattle.sj_world.specs.Subtypes.{IsSub};
-ghost use Rattle.sj_plain.specs.Conditions.{Has};
+ghost use Rattle.sj_plain.specs.Conditions.{Usable};
 
 /// A method that is typed in a world, and whose body has a listing and is of the forms that are built, has the rows of typing in that world, and its
 /// body yields its result.
 pub fn typed_bodies_have_the_rows()
-    ensures rows { (w : Classes) (has : Has) (d : MethodDef) (e : Term) → d.body ≡ Some e → IsTyped w d → Built has e → IsListedTree e → Rows (IsSub w) has [] e }
-    ensures yields { (w : Classes) (has : Has) (d : MethodDef) (e : Term) → d.body ≡ Some e → IsTyped w d → Yields (IsSub w) has e d.result }
+    ensures rows { (w : Classes) (has : Usable) (d : MethodDef) (e : Term) → d.body ≡ Some e → IsTyped w d → Built has e → IsListedTree e → Rows (IsSub w) has [] e }
+    ensures yields { (w : Classes) (has : Usable) (d : MethodDef) (e : Term) → d.body ≡ Some e → IsTyped w d → Yields (IsSub w) has e d.result }
 {}
