@@ -8,7 +8,7 @@ use std::alloc::Global;
 use std::marker::Model;
 
 /// What a form of a body asks for.
-#[derive(Drop, PartialEq, Eq, Hash)]
+#[derive(PartialEq, Eq, Hash)]
 pub enum Info {
     /// A new object of the class, by this constructor.
     New(ClassName, MethodName),
@@ -30,6 +30,23 @@ pub enum Info {
     ArrayForm,
     /// An exception of the class, by its constructor that takes a text.
     Throws(ClassName),
+}
+
+impl Drop for Info {
+    fn drop(self) {
+        match self {
+            Info::New(_one, _two) => {}
+            Info::Load(_one) => {}
+            Info::Field(_one, _two, _) => {}
+            Info::Static(_one) => {}
+            Info::Resolved(_one, _two) => {}
+            Info::Called(_one, _two) => {}
+            Info::Reflective(_one) => {}
+            Info::Class(_one) => {}
+            Info::ArrayForm => {}
+            Info::Throws(_one) => {}
+        }
+    }
 }
 
 /// What a body asks for: a contract sees the list.
