@@ -12,6 +12,7 @@ use Rattle.sj_names.specs.declared.method_names.Namespace.TheVariants.{Public, P
 use Rattle.sj_infos.specs.Infos.{asked_in}
 use Rattle.sj_infos.specs.declared.infos.Info.{Info}
 use Rattle.sj_world.specs.Known.{object}
+use Rattle.sj_ask.specs.Members.{IsMethod}
 use Rattle.sj_world.specs.Ancestors.{IsAncestor, by_path, is_object}
 use Rattle.sj_world.specs.Calls.{IsNamedBy, IsProxyTarget, narrowest}
 use Rattle.sj_world.specs.Paths.{IsFirst, stay}
@@ -21,7 +22,7 @@ use Rattle.sj_world.specs.declared.linked.Fact.TheVariants as fact
 use Rattle.sj_reach.specs.Reachable.{Reachable}
 use Rattle.sj_reach.specs.Refusals.{no_class, no_member, no_body, no_field, no_class_made, no_module}
 use Rattle.sj_reach.specs.Rows.{a_method, class_with_m, new_a, made_and, call_m, call_by_proxy, call_as_a, field_of_a, array_of_ints, is_an_i, quotient, proxy, IsReached, WorkedFacts, plain_name, folder, main_entries, static_method, static_call, static_field, WorkedReachability}
-use Rattle.sj_reach.specs.Rules.{Reads, IsNamed, of_entry, of_new, of_load, of_throw, of_call, on_made, asked_body, static_class, new_made, new_needed, call, dispatched, reflective, load_used, load_made, resolved_body, field_needed, array_made, class_named, throw_made, entry_member}
+use Rattle.sj_reach.specs.Rules.{Reads, of_entry, of_new, of_load, of_throw, of_call, on_made, asked_body, static_class, new_made, new_needed, call, dispatched, reflective, load_used, load_made, resolved_body, field_needed, array_made, class_named, throw_made, entry_member}
 use Rattle.sj_reach.proofs.Derivations.{closed}
 
 first_of : {X : Type 0} (Has : X → Type 0) (x : X) (xs : List X) → Has x → IsFirst Has (x ∷ xs) x
@@ -46,18 +47,18 @@ main_method = static_method (codes "main") (Some (static_call object (codes "go"
 apart : main_method.name ≡ go.method → ⊥
 apart e = let b : false ≡ true = ap (λ (n : MethodName). is_same_text n.simple (codes "go")) e in cc
 
-main_is_not_go : (y : MethodDef) → Some main_method ≡ Some y → IsNamed go y → ⊥
+main_is_not_go : (y : MethodDef) → Some main_method ≡ Some y → IsMethod go y → ⊥
 main_is_not_go y e h = let q : main_method ≡ y = cc in apart (ap (λ (d : MethodDef). d.name) q ∙ h.name_is)
 
-no_go : (i : ℕ) (y : MethodDef) → slice_get (main_method ∷ []) i ≡ Some y → IsNamed go y → ⊥
+no_go : (i : ℕ) (y : MethodDef) → slice_get (main_method ∷ []) i ≡ Some y → IsMethod go y → ⊥
 no_go zero y e h = main_is_not_go y e h
 no_go (suc i) y e h = cc
 
-before_go : (i : ℕ) (y : MethodDef) → i < 1 → slice_get (main_method ∷ static_method (codes "go") None ∷ []) i ≡ Some y → IsNamed go y → ⊥
+before_go : (i : ℕ) (y : MethodDef) → i < 1 → slice_get (main_method ∷ static_method (codes "go") None ∷ []) i ≡ Some y → IsMethod go y → ⊥
 before_go zero y l e h = main_is_not_go y e h
 before_go (suc i) y l e h = omega arith
 
-second : IsFirst (IsNamed go) (main_method ∷ static_method (codes "go") None ∷ []) (static_method (codes "go") None)
+second : IsFirst (IsMethod go) (main_method ∷ static_method (codes "go") None ∷ []) (static_method (codes "go") None)
 second = record { place = 1; stands = refl; has = record { namespace_is = refl; name_is = refl }; none_before = before_go }
 
 constructor_is_not_m : (y : MethodDef) → Some (a_method Constructor init (Some (skip nowhere))) ≡ Some y → IsBody (plain_name (codes "m")) y → ⊥

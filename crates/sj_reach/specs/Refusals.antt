@@ -9,8 +9,8 @@ use Rattle.sj_names.specs.MethodNames.{spelled_method}
 use Rattle.sj_trees.specs.declared.classes.ClassDef.{ClassDef}
 use Rattle.sj_trees.specs.declared.classes.ClassKind.{ClassKind}
 use Rattle.sj_trees.specs.declared.classes.ClassKind.TheVariants.{Class, ModuleClass, Interface}
-use Rattle.sj_trees.specs.declared.classes.FieldDef.{FieldDef}
 use Rattle.sj_trees.specs.declared.classes.MethodDef.{MethodDef}
+use Rattle.sj_ask.specs.Members.{IsField, IsMethod, IsMethodOf}
 use Rattle.sj_infos.specs.declared.infos.Info.TheVariants as info
 use Rattle.sj_world.specs.Calls.{IsProxyTarget}
 use Rattle.sj_world.specs.Known.{Name, Classes, class_of, is_hijacked}
@@ -18,7 +18,7 @@ use Rattle.sj_world.specs.Paths.{HasNone}
 use Rattle.sj_world.specs.Resolution.{Resolves, abstract, missing}
 use Rattle.sj_world.specs.declared.linked.Fact.{Fact}
 use Rattle.sj_world.specs.declared.linked.Fact.TheVariants as fact
-use Rattle.sj_reach.specs.Rules.{Reads, IsAsked, IsCalledOn, IsNamed, IsDefinition, public_member}
+use Rattle.sj_reach.specs.Rules.{Reads, IsAsked, IsCalledOn, public_member}
 
 -- why a folder is refused: 12 to 16, with the place
 pub data Refusal : Type 0 where
@@ -60,28 +60,23 @@ pub record IsOtherKind (w : Classes) (kind : ClassKind) (c : Name) : Type 0 wher
   pub is_class : class_of w c ≡ Some class
   pub other : class.kind ≡ kind → ⊥
 
--- a field of this name and mark
-pub record IsFieldNamed (f : Name) (s : Bool) (d : FieldDef) : Type 0 where
-  pub name_is : d.name ≡ f
-  pub mark_is : d.is_static ≡ s
-
 -- the class of a member is there and doesn't define it
 pub record IsUndefined (w : Classes) (k : Member) : Type 0 where
   pub class : ClassDef
   pub is_class : class_of w k.class ≡ Some class
-  pub none : HasNone (IsNamed k) class.methods
+  pub none : HasNone (IsMethod k) class.methods
 
 -- the class of a member defines it without a body
 pub record IsAbstract (w : Classes) (k : Member) : Type 0 where
   pub definition : MethodDef
-  pub defined : IsDefinition w k definition
+  pub defined : IsMethodOf w k definition
   pub has_none : definition.body ≡ None
 
 -- the class is there and has no such field
 pub record LacksField (w : Classes) (c f : Name) (s : Bool) : Type 0 where
   pub class : ClassDef
   pub is_class : class_of w c ≡ Some class
-  pub none : HasNone (IsFieldNamed f s) class.fields
+  pub none : HasNone (IsField f s) class.fields
 
 -- the class of this name is there
 pub record IsPresent (w : Classes) (c : Name) : Type 0 where

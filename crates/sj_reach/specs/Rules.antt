@@ -6,15 +6,14 @@ use Rattle.sj_names.specs.declared.method_names.Member.{Member}
 use Rattle.sj_names.specs.declared.method_names.MethodName.{MethodName}
 use Rattle.sj_names.specs.declared.method_names.Namespace.TheVariants.{Public, PublicStatic, Constructor}
 use Rattle.sj_names.specs.declared.references.TypeRef.TheVariants as reference
-use Rattle.sj_trees.specs.declared.classes.ClassDef.{ClassDef}
 use Rattle.sj_trees.specs.declared.classes.MethodDef.{MethodDef}
+use Rattle.sj_ask.specs.Members.{IsMethodOf}
 use Rattle.sj_infos.specs.Infos.{asked_by}
 use Rattle.sj_infos.specs.declared.infos.Info.{Info}
 use Rattle.sj_infos.specs.declared.infos.Info.TheVariants as info
 use Rattle.sj_world.specs.Ancestors.{IsAncestor, IsWritten}
 use Rattle.sj_world.specs.Calls.{IsProxyTarget}
-use Rattle.sj_world.specs.Known.{Name, Classes, class_of, is_hijacked, object}
-use Rattle.sj_world.specs.Paths.{IsFirst}
+use Rattle.sj_world.specs.Known.{Name, Classes, is_hijacked, object}
 use Rattle.sj_world.specs.Resolution.{Resolves, target}
 use Rattle.sj_world.specs.declared.linked.Fact.{Fact}
 use Rattle.sj_world.specs.declared.linked.Fact.TheVariants as fact
@@ -37,24 +36,13 @@ public_member c m = record { class = c; namespace = Public; method = m }
 abbrev pub constructor_member : Name → MethodName → Member
 constructor_member c m = record { class = c; namespace = Constructor; method = m }
 
--- a method of this namespace and name
-pub record IsNamed (k : Member) (d : MethodDef) : Type 0 where
-  pub namespace_is : d.namespace ≡ k.namespace
-  pub name_is : d.name ≡ k.method
-
--- the class of a member defines it so
-pub record IsDefinition (w : Classes) (k : Member) (d : MethodDef) : Type 0 where
-  pub class : ClassDef
-  pub is_class : class_of w k.class ≡ Some class
-  pub first : IsFirst (IsNamed k) class.methods d
-
 module _ (w : Classes) (entries : List EntryPoint) (Holds : Fact → Type 0) where
   -- a body that is needed asks for this
   pub record Reads (i : Info) : Type 0 where
     pub member : Member
     pub needed : Holds (fact.Body member)
     pub definition : MethodDef
-    pub defined : IsDefinition w member definition
+    pub defined : IsMethodOf w member definition
     pub asked : Contains (asked_by definition) i
 
   -- the members that are asked for as they stand in their class, and not by what a call resolves to
