@@ -1,4 +1,5 @@
 pub mod Exact
 pub mod Fits
+pub mod Longs
 pub mod Operators
 pub mod Words
