@@ -17,9 +17,12 @@ mutual
     null_value : Expression
     boolean_value : Bool → Expression
     number_value : ℤ → Expression
+    long_value : ℤ → Expression
     text_value : List ℕ → Expression
     variable_use : Variable → Expression
     boxed_char : Expression → Expression
+    char_text : Expression → Expression
+    value_text : Expression → Expression
     choice_of : Expression → Expression → Expression → Expression
     static_call : Member → Expressions → Expression
     unary_of : UnaryOp → Expression → Expression

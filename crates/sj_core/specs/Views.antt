@@ -1,6 +1,6 @@
 -- The terms that expressions, statements and methods of the core stand for.
 use Rattle.std.specs.Prelude.{List, [], ◌∷◌, ℤ, map}
-use Rattle.sj_core.specs.Terms.{Variable, named, numbered, Expression, undefined_value, null_value, boolean_value, number_value, text_value, variable_use, boxed_char, choice_of, static_call, unary_of, binary_of, Expressions, no_expressions, expression, Statement, constant_of, define_of, declare_of, assign_to, evaluate_of, return_of, log_of, leave_label, break_nearest, if_of, while_of, loop_of, labeled_of, switch_of, Statements, no_statements, statement, Cases, no_cases, switch_case, Method}
+use Rattle.sj_core.specs.Terms.{Variable, named, numbered, Expression, undefined_value, null_value, boolean_value, number_value, long_value, text_value, variable_use, boxed_char, char_text, value_text, choice_of, static_call, unary_of, binary_of, Expressions, no_expressions, expression, Statement, constant_of, define_of, declare_of, assign_to, evaluate_of, return_of, log_of, leave_label, break_nearest, if_of, while_of, loop_of, labeled_of, switch_of, Statements, no_statements, statement, Cases, no_cases, switch_case, Method}
 use Rattle.sj_core.specs.declared.expressions.CoreVariable.{CoreVariable}
 use Rattle.sj_core.specs.declared.expressions.CoreVariable.TheVariants as Variables
 use Rattle.sj_core.specs.declared.expressions.CoreExpression.{CoreExpression, fold-CoreExpression}
@@ -29,9 +29,12 @@ expression_step CoreExpression-F.Undefined = undefined_value
 expression_step CoreExpression-F.Null = null_value
 expression_step (CoreExpression-F.Boolean b) = boolean_value b
 expression_step (CoreExpression-F.Number z) = number_value z
+expression_step (CoreExpression-F.Long z) = long_value z
 expression_step (CoreExpression-F.Text us) = text_value us
 expression_step (CoreExpression-F.Variable x) = variable_use (variable_view x)
 expression_step (CoreExpression-F.Boxed e) = boxed_char e.value
+expression_step (CoreExpression-F.CharText e) = char_text e.value
+expression_step (CoreExpression-F.ValueText e) = value_text e.value
 expression_step (CoreExpression-F.Choice c a b) = choice_of c.value a.value b.value
 expression_step (CoreExpression-F.StaticCall m es) = static_call m (expressions_of es.items)
 expression_step (CoreExpression-F.Unary op e) = unary_of op e.value

@@ -18,12 +18,17 @@ pub enum CoreExpression {
     Undefined,
     Null,
     Boolean(bool),
-    /// A byte, a short or an int.
+    /// A byte, a short or an int, or a char where its type is char.
     Number(i32),
+    Long(i64),
     Text(Units),
     Variable(CoreVariable),
     /// A char as an object that holds it.
     Boxed(Box<CoreExpression>),
+    /// The text of a char: its one unit.
+    CharText(Box<CoreExpression>),
+    /// The text of a value other than a char.
+    ValueText(Box<CoreExpression>),
     /// One of two by a condition.
     Choice(Box<CoreExpression>, Box<CoreExpression>, Box<CoreExpression>),
     /// A call of a static method with its arguments.
@@ -39,10 +44,13 @@ impl Drop for CoreExpression {
             CoreExpression::Undefined
             | CoreExpression::Null
             | CoreExpression::Boolean(_)
-            | CoreExpression::Number(_) => {}
+            | CoreExpression::Number(_)
+            | CoreExpression::Long(_) => {}
             CoreExpression::Text(_one) => {}
             CoreExpression::Variable(_one) => {}
             CoreExpression::Boxed(_one) => {}
+            CoreExpression::CharText(_one) => {}
+            CoreExpression::ValueText(_one) => {}
             CoreExpression::Choice(_one, _two, _three) => {}
             CoreExpression::StaticCall(_one, _two) => {}
             CoreExpression::Unary(_, _one) => {}

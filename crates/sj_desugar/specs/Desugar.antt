@@ -1,5 +1,5 @@
 -- Trees as statements and expressions of the core.
-use Rattle.std.specs.Prelude.{ℕ, Bool, true, false, List, [], ◌∷◌, ℤ, Some, None, if◌then◌else◌}
+use Rattle.std.specs.Prelude.{ℕ, Bool, true, false, List, [], ◌∷◌, ℤ, pos, Some, None, if◌then◌else◌}
 use Rattle.std.specs.Cmp.Lexicographic.{pointwise}
 use Rattle.std.specs.Prelude.{nat_eq}
 use Rattle.sj_names.specs.declared.method_names.Member.{Member}
@@ -12,12 +12,13 @@ use Rattle.sj_trees.specs.declared.classes.ParamDef.{ParamDef}
 use Rattle.sj_trees.specs.declared.operators.UnaryOp.TheVariants.{BooleanNot}
 use Rattle.sj_trees.specs.declared.positions.Position.{Position}
 use Rattle.sj_trees.specs.declared.types.IrType.{IrType}
-use Rattle.sj_trees.specs.declared.types.IrType.TheVariants.{Nothing, Undefined, Boolean, Byte, Short, Int, String, Null, NoType}
+use Rattle.sj_trees.specs.declared.types.IrType.TheVariants.{Nothing, Undefined, Boolean, Char, Byte, Short, Int, Long, String, Null, NoType}
 use Rattle.sj_core.specs.Terms as core
-use Rattle.sj_core.specs.Terms.{named, Expression, undefined_value, null_value, boolean_value, number_value, text_value, variable_use, choice_of, static_call, unary_of, binary_of, Statement, define_of, declare_of, assign_to, evaluate_of, return_of, log_of, leave_label, break_nearest, if_of, while_of, loop_of, labeled_of, switch_of, Statements, no_statements, statement, followed, Method}
+use Rattle.sj_core.specs.Terms.{named, Expression, undefined_value, null_value, boolean_value, number_value, long_value, text_value, variable_use, choice_of, static_call, unary_of, binary_of, Statement, define_of, declare_of, assign_to, evaluate_of, return_of, log_of, leave_label, break_nearest, if_of, while_of, loop_of, labeled_of, switch_of, Statements, no_statements, statement, followed, Method}
 use Rattle.sj_core.specs.Views.{expressions_of}
 use Rattle.sj_desugar.specs.Coercions.{coerced, coerced_arguments}
 use Rattle.sj_desugar.specs.Plain.{is_no_type, is_plain, is_fixed, is_among, mutable_in, mutable_params}
+use Rattle.sj_desugar.specs.Texts.{operand_of}
 use Rattle.sj_desugar.specs.Spill.{Destination, discard, to_variable, to_result, Code, no_code, one, put_first, joined, then_code, Operand, spill, then_use}
 
 -- the position of a tree
@@ -92,13 +93,15 @@ abbrev mutual
   expression_of (if_then p c a b t) = choice_of (expression_of c) (coerced t (type_of_term a) (expression_of a)) (coerced t (type_of_term b) (expression_of b))
   expression_of (apply_static p c n m ts t) = static_call (member c n m) (expressions_of (coerced_arguments m.params (types_of ts) (all_expressions ts)))
   expression_of (unary_op p o e) = unary_of o (expression_of e)
-  expression_of (binary_op p o e d) = binary_of o (expression_of e) (expression_of d)
+  expression_of (binary_op p o e d) = binary_of o (operand_of o (type_of_term e) (expression_of e)) (operand_of o (type_of_term d) (expression_of d))
   expression_of (undefined_literal p) = undefined_value
   expression_of (null_literal p) = null_value
   expression_of (boolean_literal p b) = boolean_value b
+  expression_of (char_literal p u) = number_value (pos u)
   expression_of (byte_literal p z) = number_value z
   expression_of (short_literal p z) = number_value z
   expression_of (int_literal p z) = number_value z
+  expression_of (long_literal p z) = long_value z
   expression_of (string_literal p us) = text_value us
   expression_of (var_ref p x t) = variable_use (named x)
   expression_of _ = undefined_value
@@ -189,13 +192,15 @@ module _ (is_mutable : List ℕ → Bool) where
     into ls k j (match_on p e cs d t) = then_use (spill (operand e (λ k j. into ls k j e) ∷ []) j) (λ es j. switch_code p (first_of es) (cases ls k j cs) (λ j. into ls k j d))
     into ls k j (apply_static p c n m ts t) = then_use (spill (operands ls ts) j) (λ es. finish k p t false (static_call (member c n m) (expressions_of (coerced_arguments m.params (types_of ts) es))))
     into ls k j (unary_op p o e) = then_use (spill (operand e (λ k j. into ls k j e) ∷ []) j) (λ es. finish k p (unary_result o) false (unary_of o (first_of es)))
-    into ls k j (binary_op p o e d) = then_use (spill (operand e (λ k j. into ls k j e) ∷ operand d (λ k j. into ls k j d) ∷ []) j) (λ es. finish k p (binary_result o) false (binary_of o (first_of es) (second_of es)))
+    into ls k j (binary_op p o e d) = then_use (spill (operand e (λ k j. into ls k j e) ∷ operand d (λ k j. into ls k j d) ∷ []) j) (λ es. finish k p (binary_result o) false (binary_of o (operand_of o (type_of_term e) (first_of es)) (operand_of o (type_of_term d) (second_of es))))
     into ls k j (undefined_literal p) = finish k p Undefined true undefined_value j
     into ls k j (null_literal p) = finish k p Null true null_value j
     into ls k j (boolean_literal p b) = finish k p Boolean true (boolean_value b) j
+    into ls k j (char_literal p u) = finish k p Char true (number_value (pos u)) j
     into ls k j (byte_literal p z) = finish k p Byte true (number_value z) j
     into ls k j (short_literal p z) = finish k p Short true (number_value z) j
     into ls k j (int_literal p z) = finish k p Int true (number_value z) j
+    into ls k j (long_literal p z) = finish k p Long true (long_value z) j
     into ls k j (string_literal p us) = finish k p String true (text_value us) j
     into ls k j (var_ref p x t) = finish k p t true (variable_use (named x)) j
     into ls k j (log_line p e) = then_use (spill (operand e (λ k j. into ls k j e) ∷ []) j) (λ es. one (log_of (Some p) (first_of es)))

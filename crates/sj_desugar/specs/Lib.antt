@@ -2,3 +2,4 @@ pub mod Coercions
 pub mod Desugar
 pub mod Plain
 pub mod Spill
+pub mod Texts

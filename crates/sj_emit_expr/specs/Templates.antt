@@ -1,20 +1,20 @@
 -- The emitted text of each expression and statement of the core: one line a form and an operator.
 use Rattle.std.specs.Prelude.{ℕ, zero, Bool, true, false, List, [], ◌∷◌, pos, codes}
 use Rattle.js_tree.specs.Terms as js
-use Rattle.js_tree.specs.Terms.{Name, null_literal, boolean_literal, undefined_literal, number_literal, text_literal, name_use, call_of, new_of, binary_of, conditional_of, host_call, host_call_of_two, const_of, let_of, expression_statement, assign_name, break_to, if_only, if_else, do_forever, switch_on}
-use Rattle.js_tree.specs.declared.operators.BinaryOperator.TheVariants.{Add, Subtract, Divide, Remainder, BitAnd, BitOr, BitXor, ShiftLeft, ShiftRight, ShiftRightUnsigned, StrictEqual, StrictNotEqual, Less, LessOrEqual, Greater, GreaterOrEqual}
-use Rattle.js_tree.specs.declared.operators.HostFunction.TheVariants.{ConsoleLog}
-use Rattle.js_tree.specs.declared.operators.HostOperation.TheVariants.{MathImul}
+use Rattle.js_tree.specs.Terms.{Name, null_literal, boolean_literal, undefined_literal, number_literal, big_literal, text_literal, name_use, call_of, new_of, binary_of, conditional_of, host_call, host_call_of_two, const_of, let_of, expression_statement, assign_name, break_to, if_only, if_else, do_forever, switch_on}
+use Rattle.js_tree.specs.declared.operators.BinaryOperator.TheVariants.{Add, Subtract, Multiply, Divide, Remainder, BitAnd, BitOr, BitXor, ShiftLeft, ShiftRight, ShiftRightUnsigned, StrictEqual, StrictNotEqual, Less, LessOrEqual, Greater, GreaterOrEqual}
+use Rattle.js_tree.specs.declared.operators.HostFunction.TheVariants.{BigInt, Number, StringFromCharCode, ConsoleLog}
+use Rattle.js_tree.specs.declared.operators.HostOperation.TheVariants.{BigIntAsIntN, BigIntAsUintN, MathImul}
 use Rattle.js_tree.specs.declared.operators.UnaryOperator.TheVariants.{Not}
 use Rattle.sj_core.specs.Terms as core
-use Rattle.sj_core.specs.Terms.{Variable, undefined_value, null_value, boolean_value, number_value, text_value, variable_use, boxed_char, choice_of, static_call, constant_of, define_of, assign_to, evaluate_of, log_of, leave_label, if_of, loop_of, switch_of, Method}
+use Rattle.sj_core.specs.Terms.{Variable, undefined_value, null_value, boolean_value, number_value, long_value, text_value, variable_use, boxed_char, char_text, value_text, choice_of, static_call, constant_of, define_of, assign_to, evaluate_of, log_of, leave_label, if_of, loop_of, switch_of, Method}
 use Rattle.sj_emit_expr.specs.Names.{variable_name, label_name}
 use Rattle.sj_mangling.specs.Bindings.{function_name}
 use Rattle.sj_names.specs.declared.method_names.Member.{Member}
 use Rattle.sj_trees.specs.declared.operators.BinaryOp.{BinaryOp}
-use Rattle.sj_trees.specs.declared.operators.BinaryOp.TheVariants.{BooleanEqual, BooleanNotEqual, BooleanOr, BooleanAnd, IntAdd, IntSubtract, IntMultiply, IntDivide, IntRemainder, IntOr, IntAnd, IntXor, IntShiftLeft, IntShiftRightLogical, IntShiftRightArithmetic, IntEqual, IntNotEqual, IntLess, IntLessOrEqual, IntGreater, IntGreaterOrEqual}
+use Rattle.sj_trees.specs.declared.operators.BinaryOp.TheVariants.{StringConcatenate, BooleanEqual, BooleanNotEqual, BooleanOr, BooleanAnd, IntAdd, IntSubtract, IntMultiply, IntDivide, IntRemainder, IntOr, IntAnd, IntXor, IntShiftLeft, IntShiftRightLogical, IntShiftRightArithmetic, IntEqual, IntNotEqual, IntLess, IntLessOrEqual, IntGreater, IntGreaterOrEqual, LongAdd, LongSubtract, LongMultiply, LongDivide, LongRemainder, LongOr, LongAnd, LongXor, LongShiftLeft, LongShiftRightLogical, LongShiftRightArithmetic, LongEqual, LongNotEqual, LongLess, LongLessOrEqual, LongGreater, LongGreaterOrEqual}
 use Rattle.sj_trees.specs.declared.operators.UnaryOp.{UnaryOp}
-use Rattle.sj_trees.specs.declared.operators.UnaryOp.TheVariants.{BooleanNot, CharToInt, ByteToInt, ShortToInt, IntToByte, IntToShort}
+use Rattle.sj_trees.specs.declared.operators.UnaryOp.TheVariants.{BooleanNot, CharToInt, ByteToInt, ShortToInt, IntToLong, IntToChar, IntToByte, IntToShort, LongToInt}
 
 abbrev pub whole : ℕ → js.Expression
 whole n = number_literal (pos n)
@@ -30,15 +30,28 @@ or_zero e = binary_of e BitOr (whole 0)
 abbrev pub cut : ℕ → js.Expression → js.Expression
 cut n e = binary_of (binary_of e ShiftLeft (whole n)) ShiftRight (whole n)
 
--- an operator that isn't built yet stands as undefined
+-- `BigInt.asIntN(64, e)`
+abbrev pub wrapped : js.Expression → js.Expression
+wrapped e = host_call_of_two BigIntAsIntN (whole 64) e
+
+-- `BigInt((e & 63))`: by how many places a long is shifted
+abbrev pub places : js.Expression → js.Expression
+places e = host_call BigInt (binary_of e BitAnd (whole 63))
+
+-- `("" + e)`
+abbrev pub as_text : js.Expression → js.Expression
+as_text e = binary_of (text_literal []) Add e
+
 abbrev pub unary_template : UnaryOp → js.Expression → js.Expression
 unary_template BooleanNot e = negated e
 unary_template CharToInt e = e
 unary_template ByteToInt e = e
 unary_template ShortToInt e = e
+unary_template IntToLong e = host_call BigInt e
+unary_template IntToChar e = binary_of e BitAnd (whole 65535)
 unary_template IntToByte e = cut 24 e
 unary_template IntToShort e = cut 16 e
-unary_template _ e = undefined_literal
+unary_template LongToInt e = host_call Number (host_call_of_two BigIntAsIntN (whole 32) e)
 
 -- a literal other than zero
 abbrev pub is_nonzero_literal : core.Expression → Bool
@@ -47,11 +60,14 @@ is_nonzero_literal null_value = true
 is_nonzero_literal (boolean_value b) = true
 is_nonzero_literal (number_value (pos zero)) = false
 is_nonzero_literal (number_value z) = true
+is_nonzero_literal (long_value (pos zero)) = false
+is_nonzero_literal (long_value z) = true
 is_nonzero_literal (text_value us) = true
 is_nonzero_literal _ = false
 
--- by whether the right operand is a literal other than zero, which alone a division here has
+-- by whether the right operand is a literal other than zero; an operator that isn't built yet stands as undefined
 abbrev pub binary_template : Bool → BinaryOp → js.Expression → js.Expression → js.Expression
+binary_template nonzero StringConcatenate e g = binary_of e Add g
 binary_template nonzero BooleanEqual e g = binary_of e StrictEqual g
 binary_template nonzero BooleanNotEqual e g = binary_of e StrictNotEqual g
 binary_template nonzero BooleanOr e g = negated (negated (binary_of e BitOr g))
@@ -75,6 +91,25 @@ binary_template nonzero IntLess e g = binary_of e Less g
 binary_template nonzero IntLessOrEqual e g = binary_of e LessOrEqual g
 binary_template nonzero IntGreater e g = binary_of e Greater g
 binary_template nonzero IntGreaterOrEqual e g = binary_of e GreaterOrEqual g
+binary_template nonzero LongAdd e g = wrapped (binary_of e Add g)
+binary_template nonzero LongSubtract e g = wrapped (binary_of e Subtract g)
+binary_template nonzero LongMultiply e g = wrapped (binary_of e Multiply g)
+binary_template true LongDivide e g = wrapped (binary_of e Divide g)
+binary_template false LongDivide e g = call_of (codes "$ld") (js.expression e (js.expression g js.no_expressions))
+binary_template true LongRemainder e g = binary_of e Remainder g
+binary_template false LongRemainder e g = call_of (codes "$lm") (js.expression e (js.expression g js.no_expressions))
+binary_template nonzero LongOr e g = binary_of e BitOr g
+binary_template nonzero LongAnd e g = binary_of e BitAnd g
+binary_template nonzero LongXor e g = binary_of e BitXor g
+binary_template nonzero LongShiftLeft e g = wrapped (binary_of e ShiftLeft (places g))
+binary_template nonzero LongShiftRightLogical e g = wrapped (binary_of (host_call_of_two BigIntAsUintN (whole 64) e) ShiftRight (places g))
+binary_template nonzero LongShiftRightArithmetic e g = binary_of e ShiftRight (places g)
+binary_template nonzero LongEqual e g = binary_of e StrictEqual g
+binary_template nonzero LongNotEqual e g = binary_of e StrictNotEqual g
+binary_template nonzero LongLess e g = binary_of e Less g
+binary_template nonzero LongLessOrEqual e g = binary_of e LessOrEqual g
+binary_template nonzero LongGreater e g = binary_of e Greater g
+binary_template nonzero LongGreaterOrEqual e g = binary_of e GreaterOrEqual g
 binary_template nonzero _ e g = undefined_literal
 
 abbrev pub member_name : Member → Name
@@ -93,9 +128,12 @@ module _ (name : Variable → Name) (label : List ℕ → Name) where
     expression_template null_value = null_literal
     expression_template (boolean_value b) = boolean_literal b
     expression_template (number_value z) = number_literal z
+    expression_template (long_value z) = big_literal z
     expression_template (text_value us) = text_literal us
     expression_template (variable_use x) = name_use (name x)
     expression_template (boxed_char e) = new_of (codes "$C") (js.expression (expression_template e) js.no_expressions)
+    expression_template (char_text e) = host_call StringFromCharCode (expression_template e)
+    expression_template (value_text e) = as_text (expression_template e)
     expression_template (choice_of c e g) = conditional_of (expression_template c) (expression_template e) (expression_template g)
     expression_template (static_call m es) = call_of (member_name m) (expression_templates es)
     expression_template (core.unary_of o e) = unary_template o (expression_template e)

@@ -3,11 +3,11 @@ use Rattle.std.specs.Prelude.{ℕ, Bool, false, ◌&&◌, List, [], ◌∷◌, �
 use Rattle.std.specs.Cmp.Lexicographic.{pointwise}
 use Rattle.std.specs.List.{list_any}
 use Rattle.js_tree.specs.declared.items.Binding.{Binding}
-use Rattle.sj_core.specs.Terms.{Expression, boxed_char, choice_of, static_call, unary_of, binary_of, Expressions, no_expressions, expression, Statement, constant_of, define_of, declare_of, assign_to, evaluate_of, return_of, log_of, leave_label, break_nearest, if_of, while_of, loop_of, labeled_of, switch_of, Statements, no_statements, statement, Cases, no_cases, switch_case}
+use Rattle.sj_core.specs.Terms.{Expression, boxed_char, char_text, value_text, choice_of, static_call, unary_of, binary_of, Expressions, no_expressions, expression, Statement, constant_of, define_of, declare_of, assign_to, evaluate_of, return_of, log_of, leave_label, break_nearest, if_of, while_of, loop_of, labeled_of, switch_of, Statements, no_statements, statement, Cases, no_cases, switch_case}
 use Rattle.sj_emit_expr.specs.Templates.{member_name, is_nonzero_literal}
 use Rattle.sj_names.specs.declared.method_names.Member.{Member}
 use Rattle.sj_trees.specs.declared.operators.BinaryOp.{BinaryOp}
-use Rattle.sj_trees.specs.declared.operators.BinaryOp.TheVariants.{IntDivide, IntRemainder}
+use Rattle.sj_trees.specs.declared.operators.BinaryOp.TheVariants.{IntDivide, IntRemainder, LongDivide, LongRemainder}
 
 abbrev pub object_binding : List ℕ → Binding
 object_binding x = record { owner = codes "java.lang.Object"; name = x }
@@ -19,12 +19,16 @@ function_binding m = record { owner = m.class; name = member_name m }
 abbrev pub helper_of : Bool → BinaryOp → List Binding
 helper_of false IntDivide = object_binding (codes "$id") ∷ []
 helper_of false IntRemainder = object_binding (codes "$im") ∷ []
+helper_of false LongDivide = object_binding (codes "$ld") ∷ []
+helper_of false LongRemainder = object_binding (codes "$lm") ∷ []
 helper_of _ _ = []
 
 abbrev mutual
   -- each use in the order of the text
   pub uses_in : Expression → List Binding
   uses_in (boxed_char e) = object_binding (codes "$C") ∷ uses_in e
+  uses_in (char_text e) = uses_in e
+  uses_in (value_text e) = uses_in e
   uses_in (choice_of c e g) = uses_in c ++ uses_in e ++ uses_in g
   uses_in (static_call m es) = function_binding m ∷ uses_in_all es
   uses_in (unary_of o e) = uses_in e
