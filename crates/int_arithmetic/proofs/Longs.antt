@@ -98,6 +98,9 @@ remainder-fits a b f = let h = mag_rem a b in let k = f.sfits in record { sfits 
 fits_in_range : (z : ℤ) → FitsSigned w64 z → bigs.in_range z ≡ Some z
 fits_in_range z f = in_range-is z (let h : unsigned_abs z ≤ 2 ^ 63 = size z f in omega arith)
 
+pub in_range-fits : (z : ℤ) → FitsSigned w64 z → bigs.is_in_range z ≡ true
+in_range-fits z f = in_range_go z (let h : unsigned_abs z ≤ 2 ^ 63 = size z f in omega arith)
+
 pub remainder-is : (a b : ℤ) → FitsSigned w64 a → b ≢ pos 0 → bigs.remainder a b ≡ Some (longs.remainder a b)
 remainder-is a (pos zero) f h = absurd (h refl)
 remainder-is a (pos (suc n)) f h = fits_in_range (int_rem a (pos (suc n))) (remainder-fits a (pos (suc n)) f)

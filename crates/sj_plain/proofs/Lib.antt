@@ -1,6 +1,9 @@
-pub mod Conditions
-pub mod Operators
-pub mod Orders
-pub mod Plain
-pub mod Templates
+pub mod Standing
 pub mod Worlds
+pub mod Operators
+pub mod Told
+pub mod Orders
+pub mod Templates
+pub mod Shifts
+pub mod Divisions
+pub mod Plain

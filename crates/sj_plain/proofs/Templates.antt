@@ -1,10 +1,13 @@
 -- The templates of operators compute what they are to compute, from operands in order.
-use Rattle.std.proofs.Common.{◌≡◌, ℕ, zero, suc, Bool, true, false, List, [], ◌∷◌, Some, None, Option, refl, sym, ap, ◌∙◌, subst}
-use Rattle.std.specs.Prelude.{ℤ, pos, negsuc, not, if◌then◌else◌}
+use Rattle.std.proofs.Common.{◌≡◌, ℕ, ◌<◌, ◌^◌, arith, Bool, true, List, [], ◌∷◌, Some, None, Option, refl, sym, ap, ◌∙◌, subst}
+use Rattle.std.specs.Prelude.{ℤ, pos, negsuc, not, FitsSigned, if◌then◌else◌}
+use Rattle.std.specs.Int.{w32}
 use mathlib.Core.Path.{fun_ext}
 use Rattle.int_arithmetic.specs.Numbers as numbers
 use Rattle.int_arithmetic.specs.Signed as signed
-use Rattle.int_arithmetic.proofs.Fits.{byte-fits, short-fits}
+use Rattle.int_arithmetic.specs.Modulo.{modulo}
+use Rattle.int_arithmetic.proofs.Fits.{wrapped-fits, byte-fits, short-fits}
+use Rattle.int_arithmetic.proofs.Longs.{int_is_long, to_unit-is, unit-below, to_int-is}
 use Rattle.int_arithmetic.proofs.Operators.{to_byte-is, to_short-is}
 use Rattle.outcomes.specs.Outcome.{Out, done, wrong, then_do}
 use Rattle.outcomes.specs.Agreement.{Sim}
@@ -20,16 +23,17 @@ use Rattle.js_tree.specs.Terms as tree
 use Rattle.js_tree.specs.declared.operators.BinaryOperator.{BinaryOperator}
 use Rattle.js_tree.specs.declared.operators.BinaryOperator.TheVariants as Op
 use Rattle.js_tree.specs.declared.operators.UnaryOperator.TheVariants.{Not}
-use Rattle.sj_core.specs.Terms as core
-use Rattle.sj_emit_expr.specs.Templates.{unary_template, binary_template, is_nonzero_literal, expression_template}
+use Rattle.sj_emit_expr.specs.Templates.{unary_template, binary_template, wrapped}
 use Rattle.sj_trees.specs.declared.operators.BinaryOp.{BinaryOp}
-use Rattle.sj_trees.specs.declared.operators.BinaryOp.TheVariants.{BooleanEqual, BooleanNotEqual, BooleanOr, BooleanAnd, IntAdd, IntSubtract, IntMultiply, IntDivide, IntRemainder, IntOr, IntAnd, IntXor, IntShiftLeft, IntShiftRightLogical, IntShiftRightArithmetic, IntEqual, IntNotEqual, IntLess, IntLessOrEqual, IntGreater, IntGreaterOrEqual}
+use Rattle.sj_trees.specs.declared.operators.BinaryOp.TheVariants.{BooleanEqual, BooleanNotEqual, BooleanOr, BooleanAnd, IntAdd, IntSubtract, IntMultiply, IntOr, IntAnd, IntXor, IntShiftLeft, IntShiftRightLogical, IntShiftRightArithmetic, IntEqual, IntNotEqual, IntLess, IntLessOrEqual, IntGreater, IntGreaterOrEqual, LongAdd, LongSubtract, LongMultiply, LongOr, LongAnd, LongXor, LongEqual, LongNotEqual, LongLess, LongLessOrEqual, LongGreater, LongGreaterOrEqual}
 use Rattle.sj_trees.specs.declared.operators.UnaryOp.{UnaryOp}
-use Rattle.sj_trees.specs.declared.operators.UnaryOp.TheVariants.{BooleanNot, ByteToInt, ShortToInt, IntToByte, IntToShort}
-use Rattle.sj_plain.proofs.Worlds.{World, Grows, SameValue, same_boolean, same_number, one_more, no_values}
-use Rattle.sj_plain.specs.Conditions.{is_simple, is_simple_unary}
+use Rattle.sj_trees.specs.declared.operators.UnaryOp.TheVariants.{BooleanNot, CharToInt, ByteToInt, ShortToInt, IntToLong, IntToChar, IntToByte, IntToShort, LongToInt}
+use Rattle.sj_trees.specs.TypeOf.{unary_result, binary_result}
+use Rattle.sj_trees.specs.declared.types.IrType.{IrType}
+use Rattle.sj_trees.specs.declared.types.IrType.TheVariants.{Byte, Short, Int}
+use Rattle.sj_plain.proofs.Worlds.{World, Grows, Stands, same_boolean, same_char, same_number, same_long, one_more, no_values}
 use Rattle.sj_names.proofs.Same.{impossible}
-use Rattle.sj_plain.proofs.Operators.{template_value, or_zero_value, boolean_of, GivenIf, values_alike}
+use Rattle.sj_plain.proofs.Operators.{template_value, or_zero_value, boolean_of, wrapped_value, is_direct, number_given, long_given, GivenIf, values_alike}
 use Rattle.sj_plain.proofs.Orders.{ActsAlike, in_order-then}
 use Rattle.sj_plain.specs.Settings.{Setting, SameState, Valued, valued}
 
@@ -38,26 +42,7 @@ abbrev pub by_value : (js.Value → js.Value → Option js.Value) → List js.Va
 by_value f (v ∷ w ∷ []) sc u = js_meaning.value_or_wrong (f v w) sc u
 by_value f _ sc u = wrong
 
--- no template is a bare quotient or remainder
-not_ratio-unary : (p : js.Program) (low : js_meaning.Low) (o : UnaryOp) (e : tree.Expression) → js_meaning.ratio_of p low e ≡ None → js_meaning.ratio_of p low (unary_template o e) ≡ None
-not_ratio-unary p low UnaryOp.CharToInt e h = h
-not_ratio-unary p low ByteToInt e h = h
-not_ratio-unary p low ShortToInt e h = h
-not_ratio-unary p low _ e h = refl
-
-not_ratio-binary : (p : js.Program) (low : js_meaning.Low) (b : Bool) (o : BinaryOp) (e g : tree.Expression) → js_meaning.ratio_of p low (binary_template b o e g) ≡ None
-not_ratio-binary p low true IntDivide e g = refl
-not_ratio-binary p low false IntDivide e g = refl
-not_ratio-binary p low true IntRemainder e g = refl
-not_ratio-binary p low false IntRemainder e g = refl
-not_ratio-binary p low b _ e g = refl
-
-pub not_ratio : (z : Setting) (e : core.Expression) → js_meaning.ratio_of z.place.program z.js_low (expression_template z.place.name z.place.label e) ≡ None
-not_ratio z (core.unary_of o e) = not_ratio-unary z.place.program z.js_low o (expression_template z.place.name z.place.label e) (not_ratio z e)
-not_ratio z (core.binary_of o e g) = not_ratio-binary z.place.program z.js_low (is_nonzero_literal g) o (expression_template z.place.name z.place.label e) (expression_template z.place.name z.place.label g)
-not_ratio z _ = refl
-
-binary-act : (op : BinaryOperator) (xs : List js.Value) (sc : js.Scope) (u : js.State) → js_meaning.binary op xs sc u ≡ by_value (js_operators.binary_value op) xs sc u
+pub binary-act : (op : BinaryOperator) (xs : List js.Value) (sc : js.Scope) (u : js.State) → js_meaning.binary op xs sc u ≡ by_value (js_operators.binary_value op) xs sc u
 binary-act op [] sc u = refl
 binary-act op (v ∷ []) sc u = refl
 binary-act op (v ∷ w ∷ []) sc u = refl
@@ -93,16 +78,23 @@ module _ (p : js.Program) (low : js_meaning.Low) where
   or_zero_shown : (inner : tree.Expression) (es : List js.Evaluation) (f : js.Value → js.Value → Option js.Value) (sc : js.Scope) (u : js.State) → js_meaning.ratio_of p low inner ≡ None → js_meaning.evaluate p low inner sc u ≡ js_meaning.in_order es (by_value f) sc u → js_meaning.evaluate p low (tree.binary_of inner Op.BitOr (tree.number_literal (pos 0))) sc u ≡ js_meaning.in_order es (by_value (λ v w. or_zero_value (f v w))) sc u
   or_zero_shown inner es f sc u r h = ap (λ t. js_meaning.bits_or t (js_meaning.evaluate p low inner) (js_meaning.evaluate p low (tree.number_literal (pos 0))) sc u) r ∙ ap (λ o. then_do o (js.with_value (λ v. js_meaning.in_order (js_meaning.evaluate p low (tree.number_literal (pos 0)) ∷ []) (λ vs. js_meaning.binary Op.BitOr (v ∷ vs)) sc))) h ∙ in_order-then es (by_value f) (λ v. js_meaning.in_order (js_meaning.evaluate p low (tree.number_literal (pos 0)) ∷ []) (λ vs. js_meaning.binary Op.BitOr (v ∷ vs)) sc) sc u ∙ same_act es (λ xs sc' u. then_do (by_value f xs sc' u) (js.with_value (λ v. js_meaning.in_order (js_meaning.evaluate p low (tree.number_literal (pos 0)) ∷ []) (λ vs. js_meaning.binary Op.BitOr (v ∷ vs)) sc))) (by_value (λ v w. or_zero_value (f v w))) sc u (or_zero_act f sc)
 
-  -- where the left operand of a bitwise or is no ratio, it is none whatever the right operand is
-  over_none : (g : tree.Expression) → js_meaning.over_zero g None ≡ None
-  over_none (tree.number_literal (pos zero)) = refl
-  over_none (tree.number_literal (pos (suc n))) = refl
-  over_none (tree.number_literal (negsuc n)) = refl
-  over_none _ = refl
-
   -- a bitwise or whose left operand is no ratio
-  or_shown : (e g : tree.Expression) (sc : js.Scope) (u : js.State) → js_meaning.ratio_of p low e ≡ None → js_meaning.evaluate p low (tree.binary_of e Op.BitOr g) sc u ≡ js_meaning.in_order (js_meaning.evaluate p low e ∷ js_meaning.evaluate p low g ∷ []) (by_value (js_operators.binary_value Op.BitOr)) sc u
-  or_shown e g sc u r = ap (λ t. js_meaning.bits_or (js_meaning.over_zero g t) (js_meaning.evaluate p low e) (js_meaning.evaluate p low g) sc u) r ∙ ap (λ t. js_meaning.bits_or t (js_meaning.evaluate p low e) (js_meaning.evaluate p low g) sc u) (over_none g) ∙ same_act (js_meaning.evaluate p low e ∷ js_meaning.evaluate p low g ∷ []) (js_meaning.binary Op.BitOr) (by_value (js_operators.binary_value Op.BitOr)) sc u (binary-act Op.BitOr)
+  or_shown : (e g : tree.Expression) (sc : js.Scope) (u : js.State) → js_meaning.over_zero g (js_meaning.ratio_of p low e) ≡ None → js_meaning.evaluate p low (tree.binary_of e Op.BitOr g) sc u ≡ js_meaning.in_order (js_meaning.evaluate p low e ∷ js_meaning.evaluate p low g ∷ []) (by_value (js_operators.binary_value Op.BitOr)) sc u
+  or_shown e g sc u r = ap (λ t. js_meaning.bits_or t (js_meaning.evaluate p low e) (js_meaning.evaluate p low g) sc u) r ∙ same_act (js_meaning.evaluate p low e ∷ js_meaning.evaluate p low g ∷ []) (js_meaning.binary Op.BitOr) (by_value (js_operators.binary_value Op.BitOr)) sc u (binary-act Op.BitOr)
+
+  -- `BigInt.asIntN(64, e)` of what two operands give
+  pub wrapped_next : (o : Option js.Value) (sc sc' : js.Scope) (u : js.State) → then_do (js_meaning.value_or_wrong o sc u) (js.with_value (λ v. js_meaning.value_or_wrong (js_operators.as_signed_value (js.number (pos 64)) v) sc')) ≡ js_meaning.value_or_wrong (wrapped_value o) sc u
+  wrapped_next None sc sc' u = refl
+  wrapped_next (Some v) sc sc' u = scope_free (js_operators.as_signed_value (js.number (pos 64)) v) sc' sc u
+
+  wrapped_act : (f : js.Value → js.Value → Option js.Value) (sc' : js.Scope) (xs : List js.Value) (sc : js.Scope) (u : js.State) → then_do (by_value f xs sc u) (js.with_value (λ v. js_meaning.value_or_wrong (js_operators.as_signed_value (js.number (pos 64)) v) sc')) ≡ by_value (λ v w. wrapped_value (f v w)) xs sc u
+  wrapped_act f sc' [] sc u = refl
+  wrapped_act f sc' (v ∷ []) sc u = refl
+  wrapped_act f sc' (v ∷ w ∷ []) sc u = wrapped_next (f v w) sc sc' u
+  wrapped_act f sc' (v ∷ w ∷ x ∷ xs) sc u = refl
+
+  pub wrapped_shown : (inner : tree.Expression) (es : List js.Evaluation) (f : js.Value → js.Value → Option js.Value) (sc : js.Scope) (u : js.State) → js_meaning.evaluate p low inner sc u ≡ js_meaning.in_order es (by_value f) sc u → js_meaning.evaluate p low (wrapped inner) sc u ≡ js_meaning.in_order es (by_value (λ v w. wrapped_value (f v w))) sc u
+  wrapped_shown inner es f sc u h = ap (λ o. then_do o (js.with_value (λ v. js_meaning.value_or_wrong (js_operators.as_signed_value (js.number (pos 64)) v) sc))) h ∙ in_order-then es (by_value f) (λ v. js_meaning.value_or_wrong (js_operators.as_signed_value (js.number (pos 64)) v) sc) sc u ∙ same_act es (λ xs sc' u. then_do (by_value f xs sc' u) (js.with_value (λ v. js_meaning.value_or_wrong (js_operators.as_signed_value (js.number (pos 64)) v) sc))) (by_value (λ v w. wrapped_value (f v w))) sc u (wrapped_act f sc)
 
   abbrev not_twice : js.Scope → js.Value → js.State → Out js.ExpressionEnd
   not_twice sc v u = then_do (js_meaning.negated (v ∷ []) sc u) (js.with_value (λ w. js_meaning.negated (w ∷ []) sc))
@@ -121,12 +113,12 @@ module _ (p : js.Program) (low : js_meaning.Low) where
   negated_shown : (inner : tree.Expression) (es : List js.Evaluation) (f : js.Value → js.Value → Option js.Value) (sc : js.Scope) (u : js.State) → js_meaning.evaluate p low inner sc u ≡ js_meaning.in_order es (by_value f) sc u → js_meaning.evaluate p low (tree.unary_of Not (tree.unary_of Not inner)) sc u ≡ js_meaning.in_order es (by_value (λ v w. boolean_of (f v w))) sc u
   negated_shown inner es f sc u h = ap (λ o. then_do (then_do o (js.with_value (λ v. js_meaning.negated (v ∷ []) sc))) (js.with_value (λ w. js_meaning.negated (w ∷ []) sc))) h ∙ ap (λ o. then_do o (js.with_value (λ w. js_meaning.negated (w ∷ []) sc))) (in_order-then es (by_value f) (λ v. js_meaning.negated (v ∷ []) sc) sc u) ∙ in_order-then es (λ xs sc' u. then_do (by_value f xs sc' u) (js.with_value (λ v. js_meaning.negated (v ∷ []) sc))) (λ w. js_meaning.negated (w ∷ []) sc) sc u ∙ same_act es (λ xs sc' u. then_do (then_do (by_value f xs sc' u) (js.with_value (λ v. js_meaning.negated (v ∷ []) sc))) (js.with_value (λ w. js_meaning.negated (w ∷ []) sc))) (by_value (λ v w. boolean_of (f v w))) sc u (negated_act f sc)
 
-  module _ (b : Bool) (e g : tree.Expression) (r : js_meaning.ratio_of p low e ≡ None) (sc : js.Scope) (u : js.State) where
+  module _ (b : Bool) (e g : tree.Expression) (r : js_meaning.over_zero g (js_meaning.ratio_of p low e) ≡ None) (sc : js.Scope) (u : js.State) where
     plain_operator : (op : BinaryOperator) → js_meaning.in_order (js_meaning.evaluate p low e ∷ js_meaning.evaluate p low g ∷ []) (js_meaning.binary op) sc u ≡ js_meaning.in_order (js_meaning.evaluate p low e ∷ js_meaning.evaluate p low g ∷ []) (by_value (js_operators.binary_value op)) sc u
     plain_operator op = same_act (js_meaning.evaluate p low e ∷ js_meaning.evaluate p low g ∷ []) (js_meaning.binary op) (by_value (js_operators.binary_value op)) sc u (binary-act op)
 
     -- the template of an operator evaluates its operands in order, and then gives what it is to give
-    pub binary_shown : (o : BinaryOp) → is_simple o ≡ true → (js_meaning.evaluate p low (binary_template b o e g) sc u ≡ js_meaning.in_order (js_meaning.evaluate p low e ∷ js_meaning.evaluate p low g ∷ []) (by_value (template_value o)) sc u)
+    pub binary_shown : (o : BinaryOp) → is_direct o ≡ true → (js_meaning.evaluate p low (binary_template b o e g) sc u ≡ js_meaning.in_order (js_meaning.evaluate p low e ∷ js_meaning.evaluate p low g ∷ []) (by_value (template_value o)) sc u)
     binary_shown BooleanEqual h = plain_operator Op.StrictEqual
     binary_shown BooleanNotEqual h = plain_operator Op.StrictNotEqual
     binary_shown BooleanOr h = negated_shown (tree.binary_of e Op.BitOr g) (js_meaning.evaluate p low e ∷ js_meaning.evaluate p low g ∷ []) (js_operators.binary_value Op.BitOr) sc u (or_shown e g sc u r)
@@ -146,55 +138,87 @@ module _ (p : js.Program) (low : js_meaning.Low) where
     binary_shown IntLessOrEqual h = plain_operator Op.LessOrEqual
     binary_shown IntGreater h = plain_operator Op.Greater
     binary_shown IntGreaterOrEqual h = plain_operator Op.GreaterOrEqual
+    binary_shown LongAdd h = wrapped_shown (tree.binary_of e Op.Add g) (js_meaning.evaluate p low e ∷ js_meaning.evaluate p low g ∷ []) (js_operators.binary_value Op.Add) sc u (plain_operator Op.Add)
+    binary_shown LongSubtract h = wrapped_shown (tree.binary_of e Op.Subtract g) (js_meaning.evaluate p low e ∷ js_meaning.evaluate p low g ∷ []) (js_operators.binary_value Op.Subtract) sc u (plain_operator Op.Subtract)
+    binary_shown LongMultiply h = wrapped_shown (tree.binary_of e Op.Multiply g) (js_meaning.evaluate p low e ∷ js_meaning.evaluate p low g ∷ []) (js_operators.binary_value Op.Multiply) sc u (plain_operator Op.Multiply)
+    binary_shown LongOr h = or_shown e g sc u r
+    binary_shown LongAnd h = plain_operator Op.BitAnd
+    binary_shown LongXor h = plain_operator Op.BitXor
+    binary_shown LongEqual h = plain_operator Op.StrictEqual
+    binary_shown LongNotEqual h = plain_operator Op.StrictNotEqual
+    binary_shown LongLess h = plain_operator Op.Less
+    binary_shown LongLessOrEqual h = plain_operator Op.LessOrEqual
+    binary_shown LongGreater h = plain_operator Op.Greater
+    binary_shown LongGreaterOrEqual h = plain_operator Op.GreaterOrEqual
     binary_shown _ h = impossible h
 
-pub value_alike : (z : Setting) (base w : World) (env : ir.Env) (sc : js.Scope) (s : ir.State) (u : js.State) (o : ir_operators.Answer) (t : Option js.Value) → GivenIf w o t → Grows base w → SameState z.place w s u → Sim z.direction (Valued z.place base env) (ir_meaning.answered z.place.classes z.low o env s) (js_meaning.value_or_wrong t sc u)
-value_alike z base w env sc s u ir_operators.lacks t h g same = sim_wrong z.direction (Valued z.place base env) (js_meaning.value_or_wrong t sc u)
-value_alike z base w env sc s u (ir_operators.raises c message) t h g same = absurd h
-value_alike z base w env sc s u (ir_operators.answers v) t h g same = subst (λ o. Sim z.direction (Valued z.place base env) (done (ir.ends (ir.gives v) env s)) (js_meaning.value_or_wrong o sc u)) (sym h.is) (sim_done z.direction (Valued z.place base env) (ir.ends (ir.gives v) env s) (js.gives h.value u) (valued w v h.value s u g h.alike same))
+pub value_alike : (z : Setting) (base w : World) (env : ir.Env) (t : IrType) (sc : js.Scope) (s : ir.State) (u : js.State) (o : ir_operators.Answer) (q : Option js.Value) → GivenIf w t o q → Grows base w → SameState z.place w s u → Sim z.direction (Valued z.place base env t) (ir_meaning.answered z.place.classes z.low o env s) (js_meaning.value_or_wrong q sc u)
+value_alike z base w env t sc s u ir_operators.lacks q h g same = sim_wrong z.direction (Valued z.place base env t) (js_meaning.value_or_wrong q sc u)
+value_alike z base w env t sc s u (ir_operators.raises c message) q h g same = absurd h
+value_alike z base w env t sc s u (ir_operators.answers v) q h g same = subst (λ o. Sim z.direction (Valued z.place base env t) (done (ir.ends (ir.gives v) env s)) (js_meaning.value_or_wrong o sc u)) (sym h.is) (sim_done z.direction (Valued z.place base env t) (ir.ends (ir.gives v) env s) (js.gives h.value u) (valued w v h.value s u g h.alike same))
 
 -- the act of an operator, and that of its template
-pub binary_acts : (z : Setting) (base : World) (env : ir.Env) (sc : js.Scope) (o : BinaryOp) → is_simple o ≡ true → ActsAlike z base base env (ir_meaning.binary z.place.classes z.low o) (by_value (template_value o)) sc
-binary_acts z base env sc o h w _ _ s u g no_values same = sim_wrong z.direction (Valued z.place base env) _
-binary_acts z base env sc o h w _ _ s u g (one_more v x _ _ a no_values) same = sim_wrong z.direction (Valued z.place base env) _
-binary_acts z base env sc o h w _ _ s u g (one_more v1 x1 _ _ a (one_more v2 x2 _ _ b no_values)) same = value_alike z base w env sc s u (ir_operators.binary_value o v1 v2) (template_value o x1 x2) (values_alike w o v1 v2 x1 x2 h a b) g same
-binary_acts z base env sc o h w _ _ s u g (one_more v1 x1 _ _ a (one_more v2 x2 _ _ b (one_more v3 x3 vs xs c d))) same = sim_wrong z.direction (Valued z.place base env) _
+pub binary_acts : (z : Setting) (base : World) (env : ir.Env) (sc : js.Scope) (o : BinaryOp) (left right : IrType) → is_direct o ≡ true → ActsAlike z base base env (left ∷ right ∷ []) (binary_result o) (ir_meaning.binary z.place.classes z.low o) (by_value (template_value o)) sc
+binary_acts z base env sc o left right h w _ _ s u g (one_more _ v1 x1 _ _ _ a (one_more _ v2 x2 _ _ _ b no_values)) same = value_alike z base w env (binary_result o) sc s u (ir_operators.binary_value o v1 v2) (template_value o x1 x2) (values_alike w o v1 v2 x1 x2 h a.stands b.stands) g same
 
 -- `>>` behind a value
 abbrev pub shifted_back : ℤ → Option js.Value → Option js.Value
 shifted_back n None = None
 shifted_back n (Some v) = js_operators.binary_value Op.ShiftRight v (js.number n)
 
+-- `Number(e)` behind a value
+abbrev pub number_after : Option js.Value → Option js.Value
+number_after None = None
+number_after (Some v) = js_operators.number_of v
+
 -- what the template of an operator on one operand gives
 abbrev pub one_template_value : UnaryOp → js.Value → Option js.Value
 one_template_value BooleanNot v = Some (js.boolean (not (js_operators.to_boolean v)))
+one_template_value CharToInt v = Some v
 one_template_value ByteToInt v = Some v
 one_template_value ShortToInt v = Some v
+one_template_value IntToLong v = js_operators.to_big v
+one_template_value IntToChar v = js_operators.binary_value Op.BitAnd v (js.number (pos 65535))
 one_template_value IntToByte v = shifted_back (pos 24) (js_operators.binary_value Op.ShiftLeft v (js.number (pos 24)))
 one_template_value IntToShort v = shifted_back (pos 16) (js_operators.binary_value Op.ShiftLeft v (js.number (pos 16)))
-one_template_value _ v = None
+one_template_value LongToInt v = number_after (js_operators.as_signed_value (js.number (pos 32)) v)
 
 abbrev pub by_one_value : (js.Value → Option js.Value) → List js.Value → js.Evaluation
 by_one_value f (v ∷ []) sc u = js_meaning.value_or_wrong (f v) sc u
 by_one_value f _ sc u = wrong
 
-one_value_alike : (w : World) (o : UnaryOp) (v : ir.Value) (x : js.Value) → is_simple_unary o ≡ true → SameValue w v x → GivenIf w (ir_operators.unary_value o v) (one_template_value o x)
-one_value_alike w BooleanNot _ _ h (same_boolean b) = record { value = js.boolean (not b); is = refl; alike = same_boolean (not b) }
-one_value_alike w ByteToInt _ _ h (same_number a f) = record { value = js.number a; is = refl; alike = same_number a f }
-one_value_alike w ShortToInt _ _ h (same_number a f) = record { value = js.number a; is = refl; alike = same_number a f }
-one_value_alike w IntToByte _ _ h (same_number a f) = record { value = js.number (signed.wrapped_to_byte a); is = ap (λ (b : ℤ). Some (js.number b)) (to_byte-is a); alike = same_number (signed.wrapped_to_byte a) (byte-fits a) }
-one_value_alike w IntToShort _ _ h (same_number a f) = record { value = js.number (signed.wrapped_to_short a); is = ap (λ (b : ℤ). Some (js.number b)) (to_short-is a); alike = same_number (signed.wrapped_to_short a) (short-fits a) }
-one_value_alike w BooleanNot _ _ h _ = tt
-one_value_alike w ByteToInt _ _ h _ = tt
-one_value_alike w ShortToInt _ _ h _ = tt
-one_value_alike w IntToByte _ _ h _ = tt
-one_value_alike w IntToShort _ _ h _ = tt
-one_value_alike w _ _ _ h _ = impossible h
+pub unit_is_int : (u : ℕ) → u < 2 ^ 16 → FitsSigned w32 (pos u)
+unit_is_int u h = record { sfits = omega arith }
 
-pub unary_acts : (z : Setting) (base : World) (env : ir.Env) (sc : js.Scope) (o : UnaryOp) → is_simple_unary o ≡ true → ActsAlike z base base env (ir_meaning.unary z.place.classes z.low o) (by_one_value (one_template_value o)) sc
-unary_acts z base env sc o simple w _ _ s u g no_values same = sim_wrong z.direction (Valued z.place base env) _
-unary_acts z base env sc o simple w _ _ s u g (one_more v x _ _ a no_values) same = value_alike z base w env sc s u (ir_operators.unary_value o v) (one_template_value o x) (one_value_alike w o v x simple a) g same
-unary_acts z base env sc o simple w _ _ s u g (one_more v1 x1 _ _ a (one_more v2 x2 vs xs b c)) same = sim_wrong z.direction (Valued z.place base env) _
+pub fits-exact : (n : ℤ) → FitsSigned w32 n → numbers.is_exact n ≡ true
+fits-exact (pos n) f = let h : n < 2 ^ 31 = f.sfits in grind arith
+fits-exact (negsuc n) f = let h : n < 2 ^ 31 = f.sfits in grind arith
+
+exact_number : (n : ℤ) → FitsSigned w32 n → js_operators.exact n ≡ Some (js.number n)
+exact_number n f = ap (λ (b : Bool). if b then Some (js.number n) else None) (fits-exact n f)
+
+one_value_alike : (w : World) (o : UnaryOp) (v : ir.Value) (x : js.Value) → Stands w v x → GivenIf w (unary_result o) (ir_operators.unary_value o v) (one_template_value o x)
+one_value_alike w BooleanNot _ _ (same_boolean b) = record { value = js.boolean (not b); is = refl; alike = record { stands = same_boolean (not b); suits = refl } }
+one_value_alike w CharToInt _ _ (same_char u f) = number_given w Int (pos u) _ refl (unit_is_int u f) refl
+one_value_alike w ByteToInt _ _ (same_number a f) = number_given w Int a _ refl f refl
+one_value_alike w ShortToInt _ _ (same_number a f) = number_given w Int a _ refl f refl
+one_value_alike w IntToLong _ _ (same_number a f) = long_given w a _ refl (int_is_long a f)
+one_value_alike w IntToChar _ _ (same_number a f) = record { value = js.number (pos (modulo a (2 ^ 16))); is = ap (λ (b : ℤ). Some (js.number b)) (to_unit-is a); alike = record { stands = same_char (modulo a (2 ^ 16)) (unit-below a); suits = refl } }
+one_value_alike w IntToByte _ _ (same_number a f) = number_given w Byte (signed.wrapped_to_byte a) _ (ap (λ (b : ℤ). Some (js.number b)) (to_byte-is a)) (byte-fits a) refl
+one_value_alike w IntToShort _ _ (same_number a f) = number_given w Short (signed.wrapped_to_short a) _ (ap (λ (b : ℤ). Some (js.number b)) (to_short-is a)) (short-fits a) refl
+one_value_alike w LongToInt _ _ (same_long a f) = number_given w Int (signed.wrapped a) _ (ap js_operators.exact (to_int-is a) ∙ exact_number (signed.wrapped a) (wrapped-fits a)) (wrapped-fits a) refl
+one_value_alike w BooleanNot _ _ _ = tt
+one_value_alike w CharToInt _ _ _ = tt
+one_value_alike w ByteToInt _ _ _ = tt
+one_value_alike w ShortToInt _ _ _ = tt
+one_value_alike w IntToLong _ _ _ = tt
+one_value_alike w IntToChar _ _ _ = tt
+one_value_alike w IntToByte _ _ _ = tt
+one_value_alike w IntToShort _ _ _ = tt
+one_value_alike w LongToInt _ _ _ = tt
+
+pub unary_acts : (z : Setting) (base : World) (env : ir.Env) (sc : js.Scope) (o : UnaryOp) (own : IrType) → ActsAlike z base base env (own ∷ []) (unary_result o) (ir_meaning.unary z.place.classes z.low o) (by_one_value (one_template_value o)) sc
+unary_acts z base env sc o own w _ _ s u g (one_more _ v x _ _ _ a no_values) same = value_alike z base w env (unary_result o) sc s u (ir_operators.unary_value o v) (one_template_value o x) (one_value_alike w o v x a.stands) g same
 
 negated_one : (xs : List js.Value) (sc : js.Scope) (u : js.State) → js_meaning.negated xs sc u ≡ by_one_value (one_template_value BooleanNot) xs sc u
 negated_one [] sc u = refl
@@ -206,7 +230,7 @@ valued-again (js.gives v s) sc = refl
 valued-again (js.throws v s) sc = refl
 
 -- an expression by itself is one operand that is handed on
-alone_shown : (e : js.Evaluation) (sc : js.Scope) (u : js.State) → e sc u ≡ js_meaning.in_order (e ∷ []) (by_one_value Some) sc u
+pub alone_shown : (e : js.Evaluation) (sc : js.Scope) (u : js.State) → e sc u ≡ js_meaning.in_order (e ∷ []) (by_one_value Some) sc u
 alone_shown e sc u = sym (ap (then_do (e sc u)) (fun_ext (λ b. valued-again b sc)) ∙ then_do-right (e sc u))
 
 module _ (p : js.Program) (low : js_meaning.Low) where
@@ -223,11 +247,27 @@ module _ (p : js.Program) (low : js_meaning.Low) where
   pub cut_shown : (n : ℕ) (e : numbers.is_exact (pos n) ≡ true) (g : tree.Expression) (sc : js.Scope) (u : js.State) → js_meaning.evaluate p low (tree.binary_of (tree.binary_of g Op.ShiftLeft (tree.number_literal (pos n))) Op.ShiftRight (tree.number_literal (pos n))) sc u ≡ js_meaning.in_order (js_meaning.evaluate p low g ∷ []) (by_one_value (λ v. shifted_back (pos n) (js_operators.binary_value Op.ShiftLeft v (js.number (pos n))))) sc u
   cut_shown n e g sc u = in_order-then (js_meaning.evaluate p low g ∷ js_meaning.evaluate p low (tree.number_literal (pos n)) ∷ []) (js_meaning.binary Op.ShiftLeft) (back n sc) sc u ∙ ap (λ f. then_do (js_meaning.evaluate p low g sc u) (js.with_value f)) (fun_ext (λ x. fun_ext (λ q. one_shift n e sc x q)))
 
+  one-act : (f : js.Value → Option js.Value) (xs : List js.Value) (sc : js.Scope) (u : js.State) → js_meaning.by_one f xs sc u ≡ by_one_value f xs sc u
+  one-act f [] sc u = refl
+  one-act f (v ∷ []) sc u = refl
+  one-act f (v ∷ w ∷ xs) sc u = refl
+
+  number_next : (o : Option js.Value) (sc sc' : js.Scope) (u : js.State) → then_do (js_meaning.value_or_wrong o sc' u) (js.with_value (λ v. js_meaning.value_or_wrong (js_operators.number_of v) sc)) ≡ js_meaning.value_or_wrong (number_after o) sc u
+  number_next None sc sc' u = refl
+  number_next (Some v) sc sc' u = refl
+
+  -- `Number(BigInt.asIntN(32, e))`
+  to_number_shown : (e : tree.Expression) (sc : js.Scope) (u : js.State) → js_meaning.evaluate p low (unary_template LongToInt e) sc u ≡ js_meaning.in_order (js_meaning.evaluate p low e ∷ []) (by_one_value (one_template_value LongToInt)) sc u
+  to_number_shown e sc u = in_order-then (js_meaning.evaluate p low e ∷ []) (λ vs. js_meaning.by_two js_operators.as_signed_value (js.number (pos 32) ∷ vs)) (λ v. js_meaning.value_or_wrong (js_operators.number_of v) sc) sc u ∙ ap (λ f. then_do (js_meaning.evaluate p low e sc u) (js.with_value f)) (fun_ext (λ x. fun_ext (λ q. number_next (js_operators.as_signed_value (js.number (pos 32)) x) sc sc q)))
+
   module _ (e : tree.Expression) (sc : js.Scope) (u : js.State) where
-    pub unary_shown : (o : UnaryOp) → is_simple_unary o ≡ true → (js_meaning.evaluate p low (unary_template o e) sc u ≡ js_meaning.in_order (js_meaning.evaluate p low e ∷ []) (by_one_value (one_template_value o)) sc u)
-    unary_shown BooleanNot h = same_act (js_meaning.evaluate p low e ∷ []) js_meaning.negated (by_one_value (one_template_value BooleanNot)) sc u negated_one
-    unary_shown ByteToInt h = alone_shown (js_meaning.evaluate p low e) sc u
-    unary_shown ShortToInt h = alone_shown (js_meaning.evaluate p low e) sc u
-    unary_shown IntToByte h = cut_shown 24 refl e sc u
-    unary_shown IntToShort h = cut_shown 16 refl e sc u
-    unary_shown _ h = impossible h
+    pub unary_shown : (o : UnaryOp) → (js_meaning.evaluate p low (unary_template o e) sc u ≡ js_meaning.in_order (js_meaning.evaluate p low e ∷ []) (by_one_value (one_template_value o)) sc u)
+    unary_shown BooleanNot = same_act (js_meaning.evaluate p low e ∷ []) js_meaning.negated (by_one_value (one_template_value BooleanNot)) sc u negated_one
+    unary_shown CharToInt = alone_shown (js_meaning.evaluate p low e) sc u
+    unary_shown ByteToInt = alone_shown (js_meaning.evaluate p low e) sc u
+    unary_shown ShortToInt = alone_shown (js_meaning.evaluate p low e) sc u
+    unary_shown IntToLong = same_act (js_meaning.evaluate p low e ∷ []) (js_meaning.by_one js_operators.to_big) (by_one_value (one_template_value IntToLong)) sc u (one-act js_operators.to_big)
+    unary_shown IntToChar = refl
+    unary_shown IntToByte = cut_shown 24 refl e sc u
+    unary_shown IntToShort = cut_shown 16 refl e sc u
+    unary_shown LongToInt = to_number_shown e sc u

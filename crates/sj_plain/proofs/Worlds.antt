@@ -1,8 +1,11 @@
 -- Worlds grow, and what stands for each other goes on to do so.
-use Rattle.std.proofs.Common.{List, [], ◌++◌, sym, ap, ◌∙◌, append_assoc, append-nil}
+use Rattle.std.proofs.Common.{List, [], ◌∷◌, ◌++◌, sym, ap, ◌∙◌, append_assoc, append-nil}
 use Rattle.ir_mean.specs.States as ir
 use Rattle.js_mean.specs.States as js
-pub use Rattle.sj_plain.specs.Worlds.{World, Grows, SameValue, same_undefined, same_null, same_boolean, same_number, same_text, SameValues, no_values, one_more}
+pub use Rattle.sj_plain.specs.Worlds.{World, Grows, Stands, same_undefined, same_null, same_boolean, same_char, same_number, same_long, same_text, SameValue, SameValues, no_values, one_more}
+use Rattle.sj_plain.specs.Standing.{Fits, FitAll}
+use Rattle.sj_plain.proofs.Standing.{fits-suits}
+use Rattle.sj_trees.specs.declared.types.IrType.{IrType}
 
 pub grows-refl : (w : World) → Grows w w
 grows-refl w = record { more = []; parts = sym (append-nil w) }
@@ -10,13 +13,28 @@ grows-refl w = record { more = []; parts = sym (append-nil w) }
 pub grows-trans : (u v w : World) → Grows u v → Grows v w → Grows u w
 grows-trans u v w g h = record { more = g.more ++ h.more; parts = h.parts ∙ ap (λ (x : World). x ++ h.more) g.parts ∙ append_assoc u g.more h.more }
 
-pub value-lift : (u w : World) (v : ir.Value) (x : js.Value) → Grows u w → SameValue u v x → SameValue w v x
-value-lift u w _ _ g same_undefined = same_undefined
-value-lift u w _ _ g same_null = same_null
-value-lift u w _ _ g (same_boolean b) = same_boolean b
-value-lift u w _ _ g (same_number z f) = same_number z f
-value-lift u w _ _ g (same_text us) = same_text us
+pub stands-lift : (u w : World) (v : ir.Value) (x : js.Value) → Grows u w → Stands u v x → Stands w v x
+stands-lift u w _ _ g same_undefined = same_undefined
+stands-lift u w _ _ g same_null = same_null
+stands-lift u w _ _ g (same_boolean b) = same_boolean b
+stands-lift u w _ _ g (same_char c f) = same_char c f
+stands-lift u w _ _ g (same_number z f) = same_number z f
+stands-lift u w _ _ g (same_long z f) = same_long z f
+stands-lift u w _ _ g (same_text us) = same_text us
 
-pub values-lift : (u w : World) (vs : List ir.Value) (xs : List js.Value) → Grows u w → SameValues u vs xs → SameValues w vs xs
-values-lift u w _ _ g no_values = no_values
-values-lift u w _ _ g (one_more v x vs xs s ss) = one_more v x vs xs (value-lift u w v x g s) (values-lift u w vs xs g ss)
+pub value-lift : (u w : World) (t : IrType) (v : ir.Value) (x : js.Value) → Grows u w → SameValue u t v x → SameValue w t v x
+value-lift u w t v x g a = record { stands = stands-lift u w v x g a.stands; suits = a.suits }
+
+pub values-lift : (u w : World) (ts : List IrType) (vs : List ir.Value) (xs : List js.Value) → Grows u w → SameValues u ts vs xs → SameValues w ts vs xs
+values-lift u w _ _ _ g no_values = no_values
+values-lift u w _ _ _ g (one_more t v x ts vs xs s ss) = one_more t v x ts vs xs (value-lift u w t v x g s) (values-lift u w ts vs xs g ss)
+
+-- a value of a type is one of each type for which that one may stand
+pub value-fits : (w : World) (expected own : IrType) (v : ir.Value) (x : js.Value) → Fits expected own → SameValue w own v x → SameValue w expected v x
+value-fits w expected own v x f a = record { stands = a.stands; suits = fits-suits expected own v f a.suits }
+
+pub values-fit : (w : World) (expected owns : List IrType) (vs : List ir.Value) (xs : List js.Value) → FitAll expected owns → SameValues w owns vs xs → SameValues w expected vs xs
+values-fit w [] _ _ _ f no_values = no_values
+values-fit w (t ∷ ts) _ _ _ f (one_more own v x owns vs xs a others) = one_more t v x ts vs xs (value-fits w t own v x f.0 a) (values-fit w ts owns vs xs f.1 others)
+values-fit w (t ∷ ts) _ _ _ f no_values = absurd f
+values-fit w [] _ _ _ f (one_more own v x owns vs xs a others) = absurd f

@@ -1,3 +1,4 @@
+pub mod Standing
 pub mod Conditions
 pub mod Settings
 pub mod Worlds

@@ -12,7 +12,10 @@ use Rattle.sj_core.specs.Terms as core
 use Rattle.sj_emit_expr.specs.Templates.{member_name, expression_template, statement_templates}
 use Rattle.sj_names.specs.declared.method_names.Member.{Member}
 use Rattle.sj_plain.specs.Worlds.{World, Grows, SameValue, SameValues}
-use Rattle.sj_plain.specs.Conditions.{Usable}
+use Rattle.sj_plain.specs.Conditions.{Usable, Scope}
+use Rattle.sj_plain.specs.Standing.{types_referred, call_type}
+use Rattle.sj_trees.specs.declared.types.IrType.{IrType}
+use Rattle.sj_trees.specs.declared.types.IrType.TheVariants.{Any}
 
 -- what is fixed: the two programs, the names that stand for variables, labels and members, and the members that are linked
 pub record Place : Type 0 where
@@ -53,14 +56,15 @@ pub record Inside (p : Place) (sc : js.Scope) : Type 0 where
   pub file : sc.file ≡ p.file
   pub free : (x : Name) → OfNoVariable p x → sc.bindings x ≡ js.absent
 
--- an expression of the IR that gave a value or threw one and changed no local, and the expression that is emitted for it
-pub data Valued (p : Place) (from : World) (env : ir.Env) : ir.Ended → js.ExpressionEnd → Type 0 where
-  valued : (w : World) (v : ir.Value) (x : js.Value) (s : ir.State) (u : js.State) → Grows from w → SameValue w v x → SameState p w s u → Valued p from env (ir.ends (ir.gives v) env s) (js.gives x u)
-  thrown : (w : World) (v : ir.Value) (x : js.Value) (s : ir.State) (u : js.State) → Grows from w → SameValue w v x → SameState p w s u → Valued p from env (ir.ends (ir.throws v) env s) (js.throws x u)
+-- an expression of this type of the IR that gave a value or threw one and changed no local, and the expression that is emitted for it
+pub data Valued (p : Place) (from : World) (env : ir.Env) (t : IrType) : ir.Ended → js.ExpressionEnd → Type 0 where
+  valued : (w : World) (v : ir.Value) (x : js.Value) (s : ir.State) (u : js.State) → Grows from w → SameValue w t v x → SameState p w s u → Valued p from env t (ir.ends (ir.gives v) env s) (js.gives x u)
+  thrown : (w : World) (v : ir.Value) (x : js.Value) (s : ir.State) (u : js.State) → Grows from w → SameValue w Any v x → SameState p w s u → Valued p from env t (ir.ends (ir.throws v) env s) (js.throws x u)
 
--- a member of the IR's program, and its function: what a call of the one and of the other come to
+-- a member of the IR's program, and its function: what a call of the one and of the other come to, where the arguments are of the types that
+-- the member's name tells
 abbrev pub CallsAlike : Setting → Member → Type 0
-CallsAlike z m = (w : World) (vs : List ir.Value) (xs : List js.Value) (env : ir.Env) (s : ir.State) (u : js.State) → SameValues w vs xs → SameState z.place w s u → Sim z.direction (Valued z.place w env) (ir_meaning.call z.low (ir_world.member_of z.place.classes m.class m.namespace m.method) None vs env s) (js_meaning.code_call z.js_low z.place.file (js_meaning.code_of z.place.program z.place.file (member_name m)) xs u)
+CallsAlike z m = (w : World) (vs : List ir.Value) (xs : List js.Value) (env : ir.Env) (s : ir.State) (u : js.State) → SameValues w (types_referred m.method.params) vs xs → SameState z.place w s u → Sim z.direction (Valued z.place w env (call_type m.method.result)) (ir_meaning.call z.low (ir_world.member_of z.place.classes m.class m.namespace m.method) None vs env s) (js_meaning.code_call z.js_low z.place.file (js_meaning.code_of z.place.program z.place.file (member_name m)) xs u)
 
 -- two variables have two names, and two labels; no variable has the name of a function; and a linked member's function is one of the file
 pub record NamesDiffer (p : Place) : Type 0 where
@@ -73,11 +77,11 @@ pub record Lawful (z : Setting) : Type 0 where
   pub names : NamesDiffer z.place
   pub calls : (m : Member) → z.place.has.linked m ≡ true → CallsAlike z m
 
--- what a local holds, and the binding that stands for it
-pub data Holding (w : World) : Option ir.Value → js.Cell → Type 0 where
-  holding : (v : ir.Value) (x : js.Value) → SameValue w v x → Holding w (Some v) (js.holds false x)
+-- what a local of this type holds, and the binding that stands for it
+pub data Holding (w : World) (t : IrType) : Option ir.Value → js.Cell → Type 0 where
+  holding : (v : ir.Value) (x : js.Value) → SameValue w t v x → Holding w t (Some v) (js.holds false x)
 
 -- the locals in scope stand for each other
-pub record Sees (p : Place) (scope : List ℕ → Type 0) (w : World) (env : ir.Env) (sc : js.Scope) : Type 0 where
+pub record Sees (p : Place) (scope : Scope) (w : World) (env : ir.Env) (sc : js.Scope) : Type 0 where
   pub inside : Inside p sc
-  pub locals : (x : List ℕ) → scope x → Holding w (env.locals x) (sc.bindings (p.name (core.named x)))
+  pub locals : (x : List ℕ) (t : IrType) → scope x t → Holding w t (env.locals x) (sc.bindings (p.name (core.named x)))

@@ -1,8 +1,10 @@
 -- When a value of the IR and one of the emitted code stand for each other.
-use Rattle.std.specs.Prelude.{◌≡◌, ℕ, Bool, List, [], ◌∷◌, ◌++◌, ℤ, FitsSigned}
-use Rattle.std.specs.Int.{w32}
+use Rattle.std.specs.Prelude.{◌≡◌, ℕ, ◌^◌, ◌<◌, Bool, true, List, [], ◌∷◌, ◌++◌, ℤ, pos, FitsSigned}
+use Rattle.std.specs.Int.{w32, w64}
 use Rattle.ir_mean.specs.States as ir
 use Rattle.js_mean.specs.States as js
+use Rattle.sj_plain.specs.Standing.{suits}
+use Rattle.sj_trees.specs.declared.types.IrType.{IrType}
 
 -- the address that the emitted code has for each address of the IR; so far no form makes an object
 abbrev pub World : Type 0
@@ -12,14 +14,21 @@ pub record Grows (old new : World) : Type 0 where
   pub more : World
   pub parts : new ≡ old ++ more
 
--- a value, and the value of the emitted code that stands for it; so far no form makes a char, a long or a reference
-pub data SameValue (w : World) : ir.Value → js.Value → Type 0 where
-  same_undefined : SameValue w ir.undefined js.undefined
-  same_null : SameValue w ir.null js.null
-  same_boolean : (b : Bool) → SameValue w (ir.boolean b) (js.boolean b)
-  same_number : (z : ℤ) → FitsSigned w32 z → SameValue w (ir.number z) (js.number z)
-  same_text : (us : List ℕ) → SameValue w (ir.text us) (js.text us)
+-- a value, and the value of the emitted code that stands for it, a char being a Number; so far no form makes a reference
+pub data Stands (w : World) : ir.Value → js.Value → Type 0 where
+  same_undefined : Stands w ir.undefined js.undefined
+  same_null : Stands w ir.null js.null
+  same_boolean : (b : Bool) → Stands w (ir.boolean b) (js.boolean b)
+  same_char : (u : ℕ) → u < 2 ^ 16 → Stands w (ir.char u) (js.number (pos u))
+  same_number : (z : ℤ) → FitsSigned w32 z → Stands w (ir.number z) (js.number z)
+  same_long : (z : ℤ) → FitsSigned w64 z → Stands w (ir.long z) (js.big_int z)
+  same_text : (us : List ℕ) → Stands w (ir.text us) (js.text us)
 
-pub data SameValues (w : World) : List ir.Value → List js.Value → Type 0 where
-  no_values : SameValues w [] []
-  one_more : (v : ir.Value) (x : js.Value) (vs : List ir.Value) (xs : List js.Value) → SameValue w v x → SameValues w vs xs → SameValues w (v ∷ vs) (x ∷ xs)
+-- and the value is of the kind of this type
+pub record SameValue (w : World) (t : IrType) (v : ir.Value) (x : js.Value) : Type 0 where
+  pub stands : Stands w v x
+  pub suits : suits t v ≡ true
+
+pub data SameValues (w : World) : List IrType → List ir.Value → List js.Value → Type 0 where
+  no_values : SameValues w [] [] []
+  one_more : (t : IrType) (v : ir.Value) (x : js.Value) (ts : List IrType) (vs : List ir.Value) (xs : List js.Value) → SameValue w t v x → SameValues w ts vs xs → SameValues w (t ∷ ts) (v ∷ vs) (x ∷ xs)
