@@ -17,6 +17,7 @@ use Rattle.sj_desugar.specs.Desugar.{target_of}
 use Rattle.sj_desugar.specs.Spill.{Destination}
 use Rattle.sj_emit_expr.specs.Templates.{statement_templates}
 use Rattle.sj_plain.specs.Settings.{Setting, run, Lawful, Holding, OfNoVariable}
+use Rattle.sj_trees.specs.declared.types.IrType.{IrType}
 use Rattle.sj_bodies.proofs.Contexts.{Context, Writes, Sound, Ahead, Ready, Keeps, Less, Arrives, let_go, stored, returned, Came, gave, left, threw, stopped}
 use Rattle.sj_bodies.proofs.Declared.{Declares, declared-named, IsNew}
 use Rattle.sj_names.proofs.Same.{impossible}
@@ -36,13 +37,13 @@ bind-undeclared (tree.statement _ ss) b n h = bind-undeclared ss b n h
 
 -- the own names of a tree are none of those of its context
 pub record Outside (c : Context) (own : List ℕ → Type 0) : Type 0 where
-  pub scope : (x : List ℕ) → own x → c.scope x → ⊥
+  pub scope : (x : List ℕ) (t : IrType) → own x → c.scope x t → ⊥
   pub writable : (x : List ℕ) → own x → c.writable (core.named x) → ⊥
   pub kept : (x : List ℕ) → own x → c.kept (core.named x) → ⊥
 
 -- statements declare nothing of what the context has
 pub record Undeclared (c : Context) (ss : core.Statements) : Type 0 where
-  pub scope : (x : List ℕ) → c.scope x → Declares ss (core.named x) → ⊥
+  pub scope : (x : List ℕ) (t : IrType) → c.scope x t → Declares ss (core.named x) → ⊥
   pub writable : (y : core.Variable) → c.writable y → Declares ss y → ⊥
   pub kept : (y : core.Variable) → c.kept y → Declares ss y → ⊥
 
@@ -56,7 +57,7 @@ outside-kept c own j out ahead (core.numbered k) n h = ahead.kept k n h
 
 pub undeclared : (c : Context) (own : List ℕ → Type 0) (j : ℕ) (ss : core.Statements) → Outside c own → Ahead c j → ((y : core.Variable) → Declares ss y → IsNew own j y) → Undeclared c ss
 undeclared c own j ss out ahead h = record {
-  scope = λ x i d. out.scope x (h (core.named x) d) i;
+  scope = λ x t i d. out.scope x t (h (core.named x) d) i;
   writable = λ y i d. outside-writable c own j out ahead y (h y d) i;
   kept = λ y i d. outside-kept c own j out ahead y (h y d) i;
 }
@@ -88,13 +89,13 @@ module _ (z : Setting) (lawful : Lawful z) (c : Context) (ss : core.Statements) 
 
   enter-ready : (w : World) (env : ir.Env) (sc : js.Scope) → Ready z.place c.scope c.writable w env sc → Ready z.place c.scope c.writable w env (js_meaning.enter shown_statements sc)
   enter-ready w env sc r = record {
-    sees = record { inside = record { file = r.sees.inside.file; free = λ x none. entered sc x (not_among x none) ∙ r.sees.inside.free x none }; locals = λ x i. subst (Holding w (env.locals x)) (sym (entered sc (z.place.name (core.named x)) (not_declared (core.named x) (free.scope x i)))) (r.sees.locals x i) };
+    sees = record { inside = record { file = r.sees.inside.file; free = λ x none. entered sc x (not_among x none) ∙ r.sees.inside.free x none }; locals = λ x t i. subst (Holding w t (env.locals x)) (sym (entered sc (z.place.name (core.named x)) (not_declared (core.named x) (free.scope x t i)))) (r.sees.locals x t i) };
     «open» = λ y i. record { value = (r.«open» y i).value; is = entered sc (z.place.name y) (not_declared y (free.writable y i)) ∙ (r.«open» y i).is };
   }
 
   leave-ready : (w : World) (env : ir.Env) (outer inner : js.Scope) → Ready z.place c.scope c.writable w env inner → Ready z.place c.scope c.writable w env (js_meaning.leave shown_statements outer inner)
   leave-ready w env outer inner r = record {
-    sees = record { inside = record { file = r.sees.inside.file; free = λ x none. behind_block outer inner x (not_among x none) ∙ r.sees.inside.free x none }; locals = λ x i. subst (Holding w (env.locals x)) (sym (behind_block outer inner (z.place.name (core.named x)) (not_declared (core.named x) (free.scope x i)))) (r.sees.locals x i) };
+    sees = record { inside = record { file = r.sees.inside.file; free = λ x none. behind_block outer inner x (not_among x none) ∙ r.sees.inside.free x none }; locals = λ x t i. subst (Holding w t (env.locals x)) (sym (behind_block outer inner (z.place.name (core.named x)) (not_declared (core.named x) (free.scope x t i)))) (r.sees.locals x t i) };
     «open» = λ y i. record { value = (r.«open» y i).value; is = behind_block outer inner (z.place.name y) (not_declared y (free.writable y i)) ∙ (r.«open» y i).is };
   }
 

@@ -1,6 +1,6 @@
 -- What statements declare: the locals of their tree, and variables for operands from their first number on.
 use Rattle.std.proofs.Common.{◌≡◌, ℕ, suc, ◌≤◌, Bool, true, false, ◌&&◌, ◌||◌, List, [], ◌∷◌, Some, refl, sym, subst, arith, ◌⊎◌, inl, inr, ⊎_elim}
-use Rattle.std.specs.Prelude.{nat_eq}
+use Rattle.std.specs.Prelude.{nat_eq, pos}
 use Rattle.std.specs.Cmp.Lexicographic.{pointwise}
 use Rattle.js_mean.specs.Proper.{is_among, declared}
 use Rattle.js_tree.specs.Terms.{Name}
@@ -10,13 +10,14 @@ use Rattle.sj_core.specs.Views.{expressions_of}
 use Rattle.sj_desugar.specs.Coercions.{coerced, coerced_arguments}
 use Rattle.sj_desugar.specs.Desugar.{operand, into, block, operands, cases, finish, has_no_value, target_of, Targets, expression_of, labeled_code, leaving_code, wrapped, branches, break_unless, switch_code, first_of, second_of, member, types_of}
 use Rattle.sj_desugar.specs.Plain.{is_plain}
+use Rattle.sj_desugar.specs.Texts.{operand_of}
 use Rattle.sj_desugar.specs.Spill.{Destination, discard, to_variable, to_result, Code, one, put_first, Operand, all_plain, spill, spill_case, then_use, then_code}
 use Rattle.sj_emit_expr.specs.Templates.{statement_templates}
-use Rattle.sj_trees.specs.Term.{Term, Terms, no_terms, more_terms, var_def, block_of, labeled, assign, return_to, if_then, while_loop, do_while, match_on, apply_static, unary_op, binary_op, undefined_literal, null_literal, boolean_literal, byte_literal, short_literal, int_literal, string_literal, var_ref, log_line}
+use Rattle.sj_trees.specs.Term.{Term, Terms, no_terms, more_terms, var_def, block_of, labeled, assign, return_to, if_then, while_loop, do_while, match_on, apply_static, unary_op, binary_op, undefined_literal, null_literal, boolean_literal, char_literal, byte_literal, short_literal, int_literal, long_literal, string_literal, var_ref, log_line}
 use Rattle.sj_trees.specs.TypeOf.{type_of_term, unary_result, binary_result}
 use Rattle.sj_trees.specs.declared.positions.Position.{Position}
 use Rattle.sj_trees.specs.declared.types.IrType.{IrType}
-use Rattle.sj_trees.specs.declared.types.IrType.TheVariants.{Undefined, Null, Boolean, Byte, Short, Int, String}
+use Rattle.sj_trees.specs.declared.types.IrType.TheVariants.{Undefined, Null, Boolean, Char, Byte, Short, Int, Long, String}
 use Rattle.sj_plain.specs.Settings.{Setting}
 pub use Rattle.sj_bodies.specs.Locals.{Own, OwnAll, OwnCases}
 use Rattle.sj_bodies.proofs.Contexts.{is-equal}
@@ -163,10 +164,12 @@ module _ (is_mutable : List ℕ → Bool) where
     new ls (match_on p e cs c t) k j y d = behind_operands (Own (match_on p e cs c t)) (one_operand ls e) (onward is_mutable ls e, tt) ((λ k j y i. new-more (Own e) (Own (match_on p e cs c t)) j j y (λ x o. inl o) (omega arith) (new ls e k j y i)), tt) j (λ es j. switch_code p (first_of es) (cases is_mutable ls k j cs) (λ j. into is_mutable ls k j c)) y (λ es i. alone_declares (core.switch_of (Some p) (first_of es) (cases is_mutable ls k i cs).cases (into is_mutable ls k (cases is_mutable ls k i cs).next c).statements) y (λ h. h)) d
     new ls (apply_static p c n m ts t) k j y d = behind_operands (OwnAll ts) (operands is_mutable ls ts) (operands-onward is_mutable ls ts) (each-new ls ts (OwnAll ts) (λ x o. o) (operands-new ls ts)) j (λ es. finish k p t false (core.static_call (member c n m) (expressions_of (coerced_arguments m.params (types_of ts) es)))) y (λ es i. finish-declares k p t false (core.static_call (member c n m) (expressions_of (coerced_arguments m.params (types_of ts) es))) i y) d
     new ls (unary_op p o e) k j y d = behind_operands (Own e) (one_operand ls e) (onward is_mutable ls e, tt) (new ls e, tt) j (λ es. finish k p (unary_result o) false (core.unary_of o (first_of es))) y (λ es i. finish-declares k p (unary_result o) false (core.unary_of o (first_of es)) i y) d
-    new ls (binary_op p o e c) k j y d = behind_operands (Own (binary_op p o e c)) (operand is_mutable e (λ k j. into is_mutable ls k j e) ∷ one_operand ls c) (onward is_mutable ls e, (onward is_mutable ls c, tt)) ((λ k j y i. new-more (Own e) (Own (binary_op p o e c)) j j y (λ x o. inl o) (omega arith) (new ls e k j y i)), ((λ k j y i. new-more (Own c) (Own (binary_op p o e c)) j j y (λ x o. inr o) (omega arith) (new ls c k j y i)), tt)) j (λ es. finish k p (binary_result o) false (core.binary_of o (first_of es) (second_of es))) y (λ es i. finish-declares k p (binary_result o) false (core.binary_of o (first_of es) (second_of es)) i y) d
+    new ls (binary_op p o e c) k j y d = behind_operands (Own (binary_op p o e c)) (operand is_mutable e (λ k j. into is_mutable ls k j e) ∷ one_operand ls c) (onward is_mutable ls e, (onward is_mutable ls c, tt)) ((λ k j y i. new-more (Own e) (Own (binary_op p o e c)) j j y (λ x o. inl o) (omega arith) (new ls e k j y i)), ((λ k j y i. new-more (Own c) (Own (binary_op p o e c)) j j y (λ x o. inr o) (omega arith) (new ls c k j y i)), tt)) j (λ es. finish k p (binary_result o) false (core.binary_of o (operand_of o (type_of_term e) (first_of es)) (operand_of o (type_of_term c) (second_of es)))) y (λ es i. finish-declares k p (binary_result o) false (core.binary_of o (operand_of o (type_of_term e) (first_of es)) (operand_of o (type_of_term c) (second_of es))) i y) d
     new ls (undefined_literal p) k j y d = absurd (finish-declares k p Undefined true core.undefined_value j y d)
     new ls (null_literal p) k j y d = absurd (finish-declares k p Null true core.null_value j y d)
     new ls (boolean_literal p b) k j y d = absurd (finish-declares k p Boolean true (core.boolean_value b) j y d)
+    new ls (char_literal p n) k j y d = absurd (finish-declares k p Char true (core.number_value (pos n)) j y d)
+    new ls (long_literal p n) k j y d = absurd (finish-declares k p Long true (core.long_value n) j y d)
     new ls (byte_literal p n) k j y d = absurd (finish-declares k p Byte true (core.number_value n) j y d)
     new ls (short_literal p n) k j y d = absurd (finish-declares k p Short true (core.number_value n) j y d)
     new ls (int_literal p n) k j y d = absurd (finish-declares k p Int true (core.number_value n) j y d)

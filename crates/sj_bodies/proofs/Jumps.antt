@@ -21,7 +21,7 @@ use Rattle.sj_bodies.proofs.Blocks.{Undeclared, block_alike}
 use Rattle.sj_bodies.proofs.Contexts.{Context, Writes, Sound, Ready, Keeps, Less, Arrives, let_go, stored, returned, Came, gave, left, threw, stopped, differs, equals, is-equal}
 use Rattle.sj_names.proofs.Same.{impossible}
 use Rattle.sj_bodies.proofs.Statements.{run-followed, leaves_on, ends-one, Ends}
-use Rattle.sj_plain.proofs.Worlds.{World}
+use Rattle.sj_plain.proofs.Worlds.{World, SameValue}
 
 module _ (z : Setting) (lawful : Lawful z) where
   -- a context with one more label
@@ -39,6 +39,7 @@ module _ (z : Setting) (lawful : Lawful z) where
     hidden = sound.hidden;
     constant = sound.constant;
     changing = sound.changing;
+    alone = sound.alone;
     reached = λ m. go m (pointwise nat_eq m l) refl;
   }
     where
@@ -82,6 +83,9 @@ module _ (z : Setting) (lawful : Lawful z) where
       go false h = subst (λ (b : Bool). Sim z.direction (Came z.place c c.scope k w sc) (if b then ir.given v env s else done (ir.ends (ir.leaves m v) env s)) (js_meaning.arrive (z.place.label l) (js.ends e sc' u))) (sym h) (goes_on (subst (λ d. Keeps z.place (Less c.kept d) sc sc') (other_target c l m k h) ks) (target_of (record { label = l; goes_to = k } ∷ c.targets) m) e a (sym (other_target c l m k h)) (label-other l m h))
 
   -- the same where the labelled block is the end of the function, and so has no label in the emitted code
+  result_type : (s t : IrType) → to_result s ≡ to_result t → s ≡ t
+  result_type s t e = cc
+
   arrive_end : (c : Context) (l : List ℕ) (t : IrType) (w : World) (sc : js.Scope) (a : ir.Ended) (b : js.StatementEnd) → Came z.place (labelling c l (to_result t)) c.scope (to_result t) w sc a b → Sim z.direction (Came z.place c c.scope (to_result t) w sc) (ir_meaning.arrive l a) (done b)
   arrive_end c l t w sc _ _ (stopped y env s sc' u h g r ks same) = sim_done z.direction (Came z.place c c.scope (to_result t) w sc) (ir.ends ir.stops env s) (js.ends js.breaks_nearest sc' u) (stopped y env s sc' u h g r ks same)
   arrive_end c l t w sc _ _ (threw y v x env s sc' u g a r ks same) = sim_done z.direction (Came z.place c c.scope (to_result t) w sc) (ir.ends (ir.throws v) env s) (js.ends (js.thrown_with x) sc' u) (threw y v x env s sc' u g a r ks same)
@@ -91,7 +95,7 @@ module _ (z : Setting) (lawful : Lawful z) where
       comes : (d : Destination) (e : js.Completion) → Arrives z.place y v sc' (js.breaks (z.place.label m)) d e → to_result t ≡ d → Arrives z.place y v sc' js.normally (to_result t) e
       comes _ _ let_go q = absurd (cc)
       comes _ _ (stored x i j f h) q = absurd (cc)
-      comes _ _ (returned i j f) q = returned t j f
+      comes _ _ (returned i j f) q = returned t j (subst (λ n. SameValue y n v j) (sym (result_type t i q)) f)
 
       go : (b : Bool) → pointwise nat_eq m l ≡ b → Sim z.direction (Came z.place c c.scope (to_result t) w sc) (ir_meaning.arrive l (ir.ends (ir.leaves m v) env s)) (done (js.ends e sc' u))
       go true h = subst (λ (b : Bool). Sim z.direction (Came z.place c c.scope (to_result t) w sc) (if b then ir.given v env s else done (ir.ends (ir.leaves m v) env s)) (done (js.ends e sc' u))) (sym h) (sim_done z.direction (Came z.place c c.scope (to_result t) w sc) (ir.ends (ir.gives v) env s) (js.ends e sc' u) (gave y v env s sc' u e g (comes (target_of (record { label = l; goes_to = to_result t } ∷ c.targets) m) e a (sym (same_target c l m (to_result t) h))) r (subst (λ d. Keeps z.place (Less c.kept d) sc sc') (same_target c l m (to_result t) h) ks) same))

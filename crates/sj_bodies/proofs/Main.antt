@@ -1,5 +1,5 @@
 -- The theorem on trees: one induction, both directions.
-use Rattle.std.specs.Prelude.{ℤ}
+use Rattle.std.specs.Prelude.{ℤ, pos}
 use Rattle.std.proofs.Common.{◌≡◌, ℕ, Bool, true, false, List, [], ◌∷◌, Some, refl, sym, ap, ◌∙◌, subst, ◌⊎◌, inl, inr, ⊎_elim}
 use mathlib.Core.Path.{fun_ext}
 use Rattle.outcomes.specs.Outcome.{done}
@@ -12,26 +12,27 @@ use Rattle.sj_core.specs.Terms as core
 use Rattle.sj_desugar.specs.Coercions.{coerced}
 use Rattle.sj_desugar.specs.Desugar.{target_of, into, block, first_of, second_of, finish, branches, cases, switch_code}
 use Rattle.sj_desugar.specs.Spill.{Destination, discard, to_variable, Code, one}
-use Rattle.sj_trees.specs.Term.{Term, Terms, no_terms, more_terms, Cases, no_cases, more_cases, var_def, skip, block_of, labeled, assign, return_to, if_then, while_loop, do_while, match_on, apply_static, unary_op, binary_op, undefined_literal, null_literal, boolean_literal, byte_literal, short_literal, int_literal, string_literal, var_ref, log_line}
+use Rattle.sj_trees.specs.Term.{Term, Terms, no_terms, more_terms, Cases, no_cases, more_cases, var_def, skip, block_of, labeled, assign, return_to, if_then, while_loop, do_while, match_on, apply_static, unary_op, binary_op, undefined_literal, null_literal, boolean_literal, char_literal, byte_literal, short_literal, int_literal, long_literal, string_literal, var_ref, log_line}
 use Rattle.sj_trees.specs.TypeOf.{type_of_term, unary_result, binary_result}
 use Rattle.sj_trees.specs.declared.operators.BinaryOp.{BinaryOp}
 use Rattle.sj_trees.specs.declared.operators.UnaryOp.{UnaryOp}
 use Rattle.sj_trees.specs.declared.positions.Position.{Position}
 use Rattle.sj_trees.specs.declared.types.IrType.{IrType}
-use Rattle.sj_trees.specs.declared.types.IrType.TheVariants.{Undefined, Null, Boolean, Byte, Short, Int, String}
-use Rattle.sj_plain.specs.Conditions.{is_simple, IsDivision, IsDivisor, divisor}
+use Rattle.sj_plain.specs.Conditions.{left_operand, Operates, DividesBy, Scope}
+use Rattle.sj_plain.specs.Standing.{Fits}
+use Rattle.sj_desugar.specs.Texts.{operand_of}
 use Rattle.sj_plain.specs.Settings.{Setting, run, SameState, Lawful}
 use Rattle.sj_bodies.proofs.Blocks.{Outside, undeclared}
 use Rattle.sj_bodies.proofs.Contexts.{Context, Writes, Sound, Ahead, Ready, Keeps, keeps-refl, Came}
 use Rattle.sj_bodies.proofs.Declared.{Own, OwnAll, OwnCases, new}
-use Rattle.sj_bodies.specs.Fine.{IsDiscard, is_discard, FitsIn, FineOperand, FineBlock, FineOperands, FineCases}
+use Rattle.sj_bodies.specs.Fine.{IsDiscard, is_discard, FitsIn, FineOperand, FineBlock, FineOperands, FineCases, with_local}
 use Rattle.sj_bodies.proofs.Forms.{of_operands, one_final, two_final, silent, assign_final, log_final, if_final, came-narrow, rebased, ahead-later, TwoFinal}
 use Rattle.sj_bodies.proofs.Jumps.{labelling, sound-labelling, labeled_alike, return_alike}
 use Rattle.sj_bodies.proofs.Matches.{settled, sound-settled, ahead-settled, outside-settled, undeclared-settled, undeclared-case, CasesAlike, no_case, without_keys, with_keys, match_final}
 use Rattle.sj_bodies.proofs.Numbers.{onward, cases-onward}
 use Rattle.sj_names.proofs.Same.{impossible}
 use Rattle.sj_plain.proofs.Plain.{unary_alike, binary_alike}
-use Rattle.sj_bodies.proofs.Spills.{Does, OperandDoes, OperandsDo, numbered-named}
+use Rattle.sj_bodies.proofs.Spills.{Does, OperandsDo, numbered-named}
 use Rattle.sj_bodies.proofs.Statements.{run-followed, came_then, finish_alike, Ends}
 use Rattle.sj_bodies.proofs.Trees.{LowAlike, outside-part, behind, go_on-given, FineHere, TreeDoes, piece, operand_does, define_does, quiet, value_of, local_at, finish_one, list_of, call_does, division_does}
 use Rattle.sj_bodies.proofs.Turns.{while_does, do_does}
@@ -42,38 +43,49 @@ module _ (z : Setting) (lawful : Lawful z) (low : LowAlike z) where
   BlockDoes ts = (c : Context) (k : Destination) (j : ℕ) → Sound z.is_mutable c → Ahead c j → Outside c (OwnAll ts) → Writes c.writable k → FineBlock z.is_mutable z.place.has c.scope c.targets k ts → (w : World) (env : ir.Env) (s : ir.State) (sc : js.Scope) (u : js.State) → Ready z.place c.scope c.writable w env sc → SameState z.place w s u → Ends z lawful c c.scope k w sc (ir_meaning.block z.place.classes z.low ts env s) (block z.is_mutable c.targets k j ts).statements sc u
 
   -- a tree of a block, and those behind it
-  one_and_rest : (t : Term) (rest : Terms) (d : Terms) → (c : Context) (k : Destination) (j : ℕ) (first : List ℕ → Type 0) → (w : World) (env : ir.Env) (s : ir.State) (sc : js.Scope) (u : js.State) → Sim z.direction (Came z.place c first discard w sc) (ir_meaning.step z.place.classes z.low t env s) (run z (into z.is_mutable c.targets discard j t).statements sc u) → ((y : World) (v : ir.Value) (env : ir.Env) (s : ir.State) (sc' : js.Scope) (u : js.State) → Grows w y → Ready z.place first c.writable y env sc' → Keeps z.place c.kept sc sc' → SameState z.place y s u → Sim z.direction (Came z.place c c.scope k w sc) (ir_meaning.rest z.place.classes z.low rest v env s) (run z (block z.is_mutable c.targets k (into z.is_mutable c.targets discard j t).next rest).statements sc' u)) → Sim z.direction (Came z.place c c.scope k w sc) (ir.go_on (ir_meaning.step z.place.classes z.low t env s) (ir_meaning.rest z.place.classes z.low rest)) (run z (core.followed (into z.is_mutable c.targets discard j t).statements (block z.is_mutable c.targets k (into z.is_mutable c.targets discard j t).next rest).statements) sc u)
+  one_and_rest : (t : Term) (rest : Terms) (d : Terms) → (c : Context) (k : Destination) (j : ℕ) (first : Scope) → (w : World) (env : ir.Env) (s : ir.State) (sc : js.Scope) (u : js.State) → Sim z.direction (Came z.place c first discard w sc) (ir_meaning.step z.place.classes z.low t env s) (run z (into z.is_mutable c.targets discard j t).statements sc u) → ((y : World) (v : ir.Value) (env : ir.Env) (s : ir.State) (sc' : js.Scope) (u : js.State) → Grows w y → Ready z.place first c.writable y env sc' → Keeps z.place c.kept sc sc' → SameState z.place y s u → Sim z.direction (Came z.place c c.scope k w sc) (ir_meaning.rest z.place.classes z.low rest v env s) (run z (block z.is_mutable c.targets k (into z.is_mutable c.targets discard j t).next rest).statements sc' u)) → Sim z.direction (Came z.place c c.scope k w sc) (ir.go_on (ir_meaning.step z.place.classes z.low t env s) (ir_meaning.rest z.place.classes z.low rest)) (run z (core.followed (into z.is_mutable c.targets discard j t).statements (block z.is_mutable c.targets k (into z.is_mutable c.targets discard j t).next rest).statements) sc u)
   one_and_rest t rest d c k j first w env s sc u one others = subst (λ o. Sim z.direction (Came z.place c c.scope k w sc) (ir.go_on (ir_meaning.step z.place.classes z.low t env s) (ir_meaning.rest z.place.classes z.low rest)) o) (sym (run-followed z (into z.is_mutable c.targets discard j t).statements (block z.is_mutable c.targets k (into z.is_mutable c.targets discard j t).next rest).statements sc u)) (sim_then z.direction (Came z.place c first discard w sc) (Came z.place c c.scope k w sc) (ir_meaning.step z.place.classes z.low t env s) (run z (into z.is_mutable c.targets discard j t).statements sc u) (ir.onward (ir_meaning.rest z.place.classes z.low rest)) (js.next_statement (run z (block z.is_mutable c.targets k (into z.is_mutable c.targets discard j t).next rest).statements)) one (came_then z lawful c first c.scope k w sc (ir_meaning.rest z.place.classes z.low rest) (run z (block z.is_mutable c.targets k (into z.is_mutable c.targets discard j t).next rest).statements) others))
 
-  sound-behind : (c : Context) (x : List ℕ) → Sound z.is_mutable c → (c.writable (core.named x) → ⊥) → (c.kept (core.named x) → ⊥) → Sound z.is_mutable (behind z c x)
-  sound-behind c x sound unwritten fresh = record {
-    hidden = λ y wr g. ⊎_elim (λ i. unwritten (subst (λ a. c.writable (core.named a)) i wr)) (λ i. sound.hidden y wr i) g;
-    constant = λ y g m. ⊎_elim (λ i. inl (ap core.named i, subst (λ a. z.is_mutable a ≡ false) i m)) (λ i. inr (sound.constant y i m)) g;
-    changing = λ y g k m. ⊎_elim (λ i. let e : y ≡ x = cc in impossible (sym i.1 ∙ subst (λ a. z.is_mutable a ≡ true) e m)) (λ i. ⊎_elim (λ e. fresh (subst (λ a. c.kept (core.named a)) e i)) (λ s. sound.changing y s i m) g) k;
+  one_type : (c : Context) (x : List ℕ) (t : IrType) → Sound z.is_mutable c → (y : List ℕ) (i j : IrType) → with_local x t c.scope y i → with_local x t c.scope y j → i ≡ j
+  one_type c x t sound y i j (inl g) (inl h) = g.1 ∙ sym h.1
+  one_type c x t sound y i j (inl g) (inr h) = absurd (h.0 g.0)
+  one_type c x t sound y i j (inr g) (inl h) = absurd (g.0 h.0)
+  one_type c x t sound y i j (inr g) (inr h) = sound.alone y i j g.1 h.1
+
+  sound-behind : (c : Context) (x : List ℕ) (t : IrType) → Sound z.is_mutable c → (c.writable (core.named x) → ⊥) → (c.kept (core.named x) → ⊥) → Sound z.is_mutable (behind z c x t)
+  sound-behind c x t sound unwritten fresh = record {
+    hidden = λ y i wr g. ⊎_elim (λ e. unwritten (subst (λ a. c.writable (core.named a)) e.0 wr)) (λ h. sound.hidden y i wr h.1) g;
+    constant = λ y i g m. ⊎_elim (λ e. inl (ap core.named e.0, subst (λ a. z.is_mutable a ≡ false) e.0 m)) (λ h. inr (sound.constant y i h.1 m)) g;
+    changing = λ y i g k m. ⊎_elim (λ q. let e : y ≡ x = cc in impossible (sym q.1 ∙ subst (λ a. z.is_mutable a ≡ true) e m)) (λ q. ⊎_elim (λ e. fresh (subst (λ a. c.kept (core.named a)) e.0 q)) (λ h. sound.changing y i h.1 q m) g) k;
+    alone = one_type c x t sound;
     reached = sound.reached;
   }
 
-  ahead-behind : (c : Context) (x : List ℕ) (j : ℕ) → Ahead c j → Ahead (behind z c x) j
-  ahead-behind c x j ahead = record { writable = ahead.writable; kept = λ k h i. ⊎_elim (λ e. numbered-named x k (sym e.0)) (ahead.kept k h) i }
+  ahead-behind : (c : Context) (x : List ℕ) (t : IrType) (j : ℕ) → Ahead c j → Ahead (behind z c x t) j
+  ahead-behind c x t j ahead = record { writable = ahead.writable; kept = λ k h i. ⊎_elim (λ e. numbered-named x k (sym e.0)) (ahead.kept k h) i }
 
-  outside-behind : (c : Context) (x : List ℕ) (ts : Terms) → Outside c (OwnAll ts) → (OwnAll ts x → ⊥) → Outside (behind z c x) (OwnAll ts)
-  outside-behind c x ts out fresh = record {
-    scope = λ y o g. ⊎_elim (λ i. fresh (subst (OwnAll ts) i o)) (out.scope y o) g;
+  outside-behind : (c : Context) (x : List ℕ) (t : IrType) (ts : Terms) → Outside c (OwnAll ts) → (OwnAll ts x → ⊥) → Outside (behind z c x t) (OwnAll ts)
+  outside-behind c x t ts out fresh = record {
+    scope = λ y i o g. ⊎_elim (λ e. fresh (subst (OwnAll ts) e.0 o)) (λ h. out.scope y i o h.1) g;
     writable = out.writable;
     kept = λ y o k. ⊎_elim (λ i. let e : y ≡ x = cc in fresh (subst (OwnAll ts) e o)) (out.kept y o) k;
   }
+
+  -- a local that wasn't there hides none
+  none_hidden : (c : Context) (x : List ℕ) (t : IrType) → ((i : IrType) → c.scope x i → ⊥) → (y : List ℕ) (i : IrType) → c.scope y i → with_local x t c.scope y i
+  none_hidden c x t unseen y i h = inr ((λ e. unseen i (subst (λ n. c.scope n i) e h)), h)
 
   skip_by : (p : Position) (c : Context) (k : Destination) → IsDiscard k → (w : World) (env : ir.Env) (s : ir.State) (sc : js.Scope) (u : js.State) → Ready z.place c.scope c.writable w env sc → SameState z.place w s u → Ends z lawful c c.scope k w sc (done (ir.ends (ir.gives ir.undefined) env s)) core.no_statements sc u
   skip_by p c _ is_discard w env s sc u r same = silent z lawful c w ir.undefined env s sc u r same
 
   var_by : (p : Position) (x : List ℕ) (t : IrType) (b : Bool) (e : Term) → TreeDoes z lawful low e → (c : Context) (k : Destination) (j : ℕ) → Sound z.is_mutable c → Ahead c j → Outside c (Own (var_def p x t b e)) → FineHere z lawful low c k (var_def p x t b e) → IsDiscard k → Does z lawful c k j (var_def p x t b e)
-  var_by p x t b e does c _ j sound ahead out fine is_discard w env s sc u r same = sim_weaken z.direction (Came z.place c (λ y. (y ≡ x) ⊎ c.scope y) discard w sc) (Came z.place c c.scope discard w sc) (ir_meaning.step z.place.classes z.low (var_def p x t b e) env s) (run z (into z.is_mutable c.targets discard j (var_def p x t b e)).statements sc u) (came-narrow z lawful c c (λ y. (y ≡ x) ⊎ c.scope y) c.scope discard w w sc sc refl refl (λ h. h) (λ x h. h) (λ x h. inr h) (λ x h. h) (grows-refl w) (keeps-refl z c.kept sc)) (define_does z lawful low p x t b e does c j sound ahead out fine w env s sc u r same)
+  var_by p x t b e does c _ j sound ahead out fine is_discard w env s sc u r same = sim_weaken z.direction (Came z.place c (with_local x t c.scope) discard w sc) (Came z.place c c.scope discard w sc) (ir_meaning.step z.place.classes z.low (var_def p x t b e) env s) (run z (into z.is_mutable c.targets discard j (var_def p x t b e)).statements sc u) (came-narrow z lawful c c (with_local x t c.scope) c.scope discard w w sc sc refl refl (λ h. h) (λ y i h. h) (none_hidden c x t (λ i. out.scope x i (inl refl))) (λ y h. h) (grows-refl w) (keeps-refl z c.kept sc)) (define_does z lawful low p x t b e does c j sound ahead out fine w env s sc u r same)
 
   assign_by : (p q : Position) (x : List ℕ) (t : IrType) (e : Term) → TreeDoes z lawful low e → (c : Context) (k : Destination) (j : ℕ) → Sound z.is_mutable c → Ahead c j → Outside c (Own e) → FineHere z lawful low c k (assign p (var_ref q x t) e) → IsDiscard k → Does z lawful c k j (assign p (var_ref q x t) e)
-  assign_by p q x t e does c _ j sound ahead out fine is_discard = of_operands z lawful c discard (piece z lawful low c.targets e ∷ []) j (ir_meaning.define x) (λ es. one (core.assign_to (Some p) (core.named x) (coerced t (type_of_term e) (first_of es)))) sound ahead (operand_does z lawful low c j e does out fine.4, tt) (one_final z lawful c discard j (ir_meaning.define x) (λ es. one (core.assign_to (Some p) (core.named x) (coerced t (type_of_term e) (first_of es)))) (assign_final z lawful c p x t (type_of_term e) j sound fine.1 fine.2 fine.3))
+  assign_by p q x t e does c _ j sound ahead out fine is_discard = of_operands z lawful c discard (piece z lawful low c.targets e ∷ []) j (ir_meaning.define x) (λ es. one (core.assign_to (Some p) (core.named x) (coerced t (type_of_term e) (first_of es)))) sound ahead (operand_does z lawful low c j e does out fine.4, tt) (one_final z lawful c discard j (type_of_term e) (ir_meaning.define x) (λ es. one (core.assign_to (Some p) (core.named x) (coerced t (type_of_term e) (first_of es)))) (assign_final z lawful c p x t (type_of_term e) j sound fine.1 fine.2 fine.3))
 
   log_by : (p : Position) (e : Term) → TreeDoes z lawful low e → (c : Context) (k : Destination) (j : ℕ) → Sound z.is_mutable c → Ahead c j → Outside c (Own e) → FineHere z lawful low c k (log_line p e) → IsDiscard k → Does z lawful c k j (log_line p e)
-  log_by p e does c _ j sound ahead out fine is_discard = of_operands z lawful c discard (piece z lawful low c.targets e ∷ []) j ir_meaning.log (λ es. one (core.log_of (Some p) (first_of es))) sound ahead (operand_does z lawful low c j e does out fine.1, tt) (one_final z lawful c discard j ir_meaning.log (λ es. one (core.log_of (Some p) (first_of es))) (log_final z lawful c p j))
+  log_by p e does c _ j sound ahead out fine is_discard = of_operands z lawful c discard (piece z lawful low c.targets e ∷ []) j ir_meaning.log (λ es. one (core.log_of (Some p) (first_of es))) sound ahead (operand_does z lawful low c j e does out fine.1, tt) (one_final z lawful c discard j (type_of_term e) ir_meaning.log (λ es. one (core.log_of (Some p) (first_of es))) (log_final z lawful c p j (type_of_term e)))
 
   labeled_does : (p : Position) (l : List ℕ) (t : IrType) (e : Term) → TreeDoes z lawful low e → TreeDoes z lawful low (labeled p l t e)
   labeled_does p l t e does c k j sound ahead out wr fine = labeled_alike z lawful c l k p (ir_meaning.step z.place.classes z.low e) (into z.is_mutable (record { label = l; goes_to = k } ∷ c.targets) k j e) (sound-labelling z lawful c l k sound wr) wr (undeclared (labelling z lawful c l k) (Own e) j (into z.is_mutable (record { label = l; goes_to = k } ∷ c.targets) k j e).statements (record { scope = out.scope; writable = out.writable; kept = out.kept }) (record { writable = ahead.writable; kept = ahead.kept }) (new z.is_mutable (record { label = l; goes_to = k } ∷ c.targets) e k j)) (does (labelling z lawful c l k) k j (sound-labelling z lawful c l k sound wr) (record { writable = ahead.writable; kept = ahead.kept }) (record { scope = out.scope; writable = out.writable; kept = out.kept }) wr fine)
@@ -82,16 +94,13 @@ module _ (z : Setting) (lawful : Lawful z) (low : LowAlike z) where
   return_does p e l does c k j sound ahead out wr fine w env s sc u r same = return_alike z lawful c k (target_of c.targets l) p l (ir_meaning.step z.place.classes z.low e) (into z.is_mutable c.targets (target_of c.targets l) j e) refl w env s sc u (does c (target_of c.targets l) j sound ahead out (sound.reached l) fine w env s sc u r same)
 
   if_does : (p : Position) (a b d : Term) (t : IrType) → TreeDoes z lawful low a → TreeDoes z lawful low b → TreeDoes z lawful low d → TreeDoes z lawful low (if_then p a b d t)
-  if_does p a b d t does_a does_b does_d c k j sound ahead out wr fine = of_operands z lawful c k (piece z lawful low c.targets a ∷ []) j (ir_meaning.branch (ir_meaning.step z.place.classes z.low b) (ir_meaning.step z.place.classes z.low d)) (λ es i. branches p (first_of es) (into z.is_mutable c.targets k i b) (λ i. into z.is_mutable c.targets k i d)) sound ahead (operand_does z lawful low c j a does_a (outside-part c (Own (if_then p a b d t)) (Own a) (λ x o. inl o) out) fine.0, tt) (one_final z lawful c k j (ir_meaning.branch (ir_meaning.step z.place.classes z.low b) (ir_meaning.step z.place.classes z.low d)) (λ es i. branches p (first_of es) (into z.is_mutable c.targets k i b) (λ i. into z.is_mutable c.targets k i d)) (if_final z lawful c k p (λ i. into z.is_mutable c.targets k i b) (λ i. into z.is_mutable c.targets k i d) (ir_meaning.step z.place.classes z.low b) (ir_meaning.step z.place.classes z.low d) j sound wr (λ i l. onward z.is_mutable c.targets b k i) (λ i l ah. undeclared c (Own b) i (into z.is_mutable c.targets k i b).statements (outside-part c (Own (if_then p a b d t)) (Own b) (λ x o. inr (inl o)) out) ah (new z.is_mutable c.targets b k i)) (λ i l ah. undeclared c (Own d) i (into z.is_mutable c.targets k i d).statements (outside-part c (Own (if_then p a b d t)) (Own d) (λ x o. inr (inr o)) out) ah (new z.is_mutable c.targets d k i)) (λ i l ah. does_b c k i sound ah (outside-part c (Own (if_then p a b d t)) (Own b) (λ x o. inr (inl o)) out) wr fine.1) (λ i l ah. does_d c k i sound ah (outside-part c (Own (if_then p a b d t)) (Own d) (λ x o. inr (inr o)) out) wr fine.2)))
+  if_does p a b d t does_a does_b does_d c k j sound ahead out wr fine = of_operands z lawful c k (piece z lawful low c.targets a ∷ []) j (ir_meaning.branch (ir_meaning.step z.place.classes z.low b) (ir_meaning.step z.place.classes z.low d)) (λ es i. branches p (first_of es) (into z.is_mutable c.targets k i b) (λ i. into z.is_mutable c.targets k i d)) sound ahead (operand_does z lawful low c j a does_a (outside-part c (Own (if_then p a b d t)) (Own a) (λ x o. inl o) out) fine.0, tt) (one_final z lawful c k j (type_of_term a) (ir_meaning.branch (ir_meaning.step z.place.classes z.low b) (ir_meaning.step z.place.classes z.low d)) (λ es i. branches p (first_of es) (into z.is_mutable c.targets k i b) (λ i. into z.is_mutable c.targets k i d)) (if_final z lawful c k p (λ i. into z.is_mutable c.targets k i b) (λ i. into z.is_mutable c.targets k i d) (ir_meaning.step z.place.classes z.low b) (ir_meaning.step z.place.classes z.low d) j sound wr (λ i l. onward z.is_mutable c.targets b k i) (λ i l ah. undeclared c (Own b) i (into z.is_mutable c.targets k i b).statements (outside-part c (Own (if_then p a b d t)) (Own b) (λ x o. inr (inl o)) out) ah (new z.is_mutable c.targets b k i)) (λ i l ah. undeclared c (Own d) i (into z.is_mutable c.targets k i d).statements (outside-part c (Own (if_then p a b d t)) (Own d) (λ x o. inr (inr o)) out) ah (new z.is_mutable c.targets d k i)) (λ i l ah. does_b c k i sound ah (outside-part c (Own (if_then p a b d t)) (Own b) (λ x o. inr (inl o)) out) wr fine.1) (λ i l ah. does_d c k i sound ah (outside-part c (Own (if_then p a b d t)) (Own d) (λ x o. inr (inr o)) out) wr fine.2) (type_of_term a)))
 
   unary_does : (p : Position) (o : UnaryOp) (e : Term) → TreeDoes z lawful low e → TreeDoes z lawful low (unary_op p o e)
-  unary_does p o e does c k j sound ahead out wr fine = of_operands z lawful c k (piece z lawful low c.targets e ∷ []) j (ir_meaning.unary z.place.classes z.low o) (λ es. finish k p (unary_result o) false (core.unary_of o (first_of es))) sound ahead (operand_does z lawful low c j e does out fine.2, tt) (one_final z lawful c k j (ir_meaning.unary z.place.classes z.low o) (λ es. finish k p (unary_result o) false (core.unary_of o (first_of es))) (finish_one z lawful low c k p (unary_result o) (ir_meaning.unary z.place.classes z.low o) (core.unary_of o) j sound wr fine.0 (λ r x w env s sc u alike same. unary_alike z lawful c.scope o r x fine.1 w env s sc u alike same)))
+  unary_does p o e does c k j sound ahead out wr fine = of_operands z lawful c k (piece z lawful low c.targets e ∷ []) j (ir_meaning.unary z.place.classes z.low o) (λ es. finish k p (unary_result o) false (core.unary_of o (first_of es))) sound ahead (operand_does z lawful low c j e does out fine.2, tt) (one_final z lawful c k j (type_of_term e) (ir_meaning.unary z.place.classes z.low o) (λ es. finish k p (unary_result o) false (core.unary_of o (first_of es))) (finish_one z lawful low c k p (type_of_term e) (unary_result o) (ir_meaning.unary z.place.classes z.low o) (core.unary_of o) j sound wr fine.0 (λ r x w env s sc u alike same. unary_alike z lawful c.scope o (type_of_term e) r x w env s sc u alike same)))
 
-  binary_final : (p : Position) (o : BinaryOp) (c : Context) (k : Destination) (j : ℕ) → is_simple o ≡ true → Sound z.is_mutable c → Writes c.writable k → FitsIn k (binary_result o) → (w : World) (sc : js.Scope) → TwoFinal z lawful c k w sc j (ir_meaning.binary z.place.classes z.low o) (λ es. finish k p (binary_result o) false (core.binary_of o (first_of es) (second_of es)))
-  binary_final p o c k j simple sound wr fits from before i r q e d w env s sc u ahead l g ready ks same operands = finish_alike z lawful c k p (binary_result o) (core.binary_of o e d) i sound wr fits w from before env (ir_meaning.in_order (r ∷ q ∷ []) (ir_meaning.binary z.place.classes z.low o) env s) sc u g ks ready (binary_alike z lawful c.scope o r q e d simple w env s sc u operands same)
-
-  divided_by : (p : Position) (o : BinaryOp) (e d : Term) (c : Context) (k : Destination) (j : ℕ) → IsDivision o → IsDivisor d → Sound z.is_mutable c → Ahead c j → Writes c.writable k → FitsIn k (binary_result o) → OperandDoes z lawful c j (piece z lawful low c.targets e) → Does z lawful c k j (binary_op p o e d)
-  divided_by p o e _ c k j i (divisor q n f ne) sound ahead wr fits operand = division_does z lawful low p c k j o e q n i f ne sound ahead wr fits operand
+  binary_final : (p : Position) (o : BinaryOp) (s t : IrType) (c : Context) (k : Destination) (j : ℕ) → Operates o s t → Sound z.is_mutable c → Writes c.writable k → FitsIn k (binary_result o) → (w : World) (sc : js.Scope) → TwoFinal z lawful c k w sc j s t (ir_meaning.binary z.place.classes z.low o) (λ es. finish k p (binary_result o) false (core.binary_of o (operand_of o s (first_of es)) (operand_of o t (second_of es))))
+  binary_final p o m n c k j operates sound wr fits from before i r q e d w env s sc u ahead l g ready ks same operands = finish_alike z lawful c k p (binary_result o) (core.binary_of o (operand_of o m e) (operand_of o n d)) i sound wr fits w from before env (ir_meaning.in_order (r ∷ q ∷ []) (ir_meaning.binary z.place.classes z.low o) env s) sc u g ks ready (binary_alike z lawful c.scope o m n r q e d operates w env s sc u operands same)
 
   binary_does : (p : Position) (o : BinaryOp) (e d : Term) → TreeDoes z lawful low e → TreeDoes z lawful low d → TreeDoes z lawful low (binary_op p o e d)
   binary_does p o e d does_e does_d c k j sound ahead out wr fine = by fine.1
@@ -102,9 +111,9 @@ module _ (z : Setting) (lawful : Lawful z) (low : LowAlike z) where
       out_d : Outside c (Own d)
       out_d = outside-part c (Own (binary_op p o e d)) (Own d) (λ x i. inr i) out
 
-      by : ((is_simple o ≡ true) × FineOperand z.is_mutable z.place.has c.scope e (λ y. FineHere z lawful low c (to_variable y (type_of_term e)) e) × FineOperand z.is_mutable z.place.has c.scope d (λ y. FineHere z lawful low c (to_variable y (type_of_term d)) d)) ⊎ (IsDivision o × FineOperand z.is_mutable z.place.has c.scope e (λ y. FineHere z lawful low c (to_variable y (type_of_term e)) e) × IsDivisor d) → Does z lawful c k j (binary_op p o e d)
-      by (inl h) = of_operands z lawful c k (piece z lawful low c.targets e ∷ piece z lawful low c.targets d ∷ []) j (ir_meaning.binary z.place.classes z.low o) (λ es. finish k p (binary_result o) false (core.binary_of o (first_of es) (second_of es))) sound ahead (operand_does z lawful low c j e does_e out_e h.1, (operand_does z lawful low c j d does_d out_d h.2, tt)) (two_final z lawful c k j (ir_meaning.binary z.place.classes z.low o) (λ es. finish k p (binary_result o) false (core.binary_of o (first_of es) (second_of es))) (binary_final p o c k j h.0 sound wr fine.0))
-      by (inr h) = divided_by p o e d c k j h.0 h.2 sound ahead wr fine.0 (operand_does z lawful low c j e does_e out_e h.1)
+      by : (Operates o (type_of_term e) (type_of_term d) × FineOperand z.is_mutable z.place.has c.scope e (λ y. FineHere z lawful low c (to_variable y (type_of_term e)) e) × FineOperand z.is_mutable z.place.has c.scope d (λ y. FineHere z lawful low c (to_variable y (type_of_term d)) d)) ⊎ (DividesBy o d × Fits (left_operand o) (type_of_term e) × FineOperand z.is_mutable z.place.has c.scope e (λ y. FineHere z lawful low c (to_variable y (type_of_term e)) e)) → Does z lawful c k j (binary_op p o e d)
+      by (inl h) = of_operands z lawful c k (piece z lawful low c.targets e ∷ piece z lawful low c.targets d ∷ []) j (ir_meaning.binary z.place.classes z.low o) (λ es. finish k p (binary_result o) false (core.binary_of o (operand_of o (type_of_term e) (first_of es)) (operand_of o (type_of_term d) (second_of es)))) sound ahead (operand_does z lawful low c j e does_e out_e h.1, (operand_does z lawful low c j d does_d out_d h.2, tt)) (two_final z lawful c k j (type_of_term e) (type_of_term d) (ir_meaning.binary z.place.classes z.low o) (λ es. finish k p (binary_result o) false (core.binary_of o (operand_of o (type_of_term e) (first_of es)) (operand_of o (type_of_term d) (second_of es)))) (binary_final p o (type_of_term e) (type_of_term d) c k j h.0 sound wr fine.0))
+      by (inr h) = division_does z lawful low p c k j o e d h.0 h.1 sound ahead wr fine.0 (operand_does z lawful low c j e does_e out_e h.2)
 
   abbrev OperandsFine : Terms → Type 1
   OperandsFine ts = (c : Context) (k : Destination) (j : ℕ) → Outside c (OwnAll ts) → FineOperands z.is_mutable z.place.has c.scope c.targets k ts → OperandsDo z lawful c j (list_of z lawful low c.targets ts)
@@ -116,7 +125,7 @@ module _ (z : Setting) (lawful : Lawful z) (low : LowAlike z) where
   next_does t u us does others c k j sound ahead out wr fine fines w env s sc q r same = one_and_rest t (more_terms u us) us c k j c.scope w env s sc q (does c discard j sound ahead (outside-part c (OwnAll (more_terms t (more_terms u us))) (Own t) (λ x o. inl o) out) tt fine w env s sc q r same) (λ y v env s sc' q g ready ks same. rebased z lawful c c.scope k w y sc sc' (ir_meaning.block z.place.classes z.low (more_terms u us) env s) (run z (block z.is_mutable c.targets k (into z.is_mutable c.targets discard j t).next (more_terms u us)).statements sc' q) g ks (others c k (into z.is_mutable c.targets discard j t).next sound (ahead-later z lawful c j (into z.is_mutable c.targets discard j t).next (onward z.is_mutable c.targets t discard j) ahead) (outside-part c (OwnAll (more_terms t (more_terms u us))) (OwnAll (more_terms u us)) (λ x o. inr o) out) wr fines y env s sc' q ready same))
 
   defined_does : (p : Position) (x : List ℕ) (t : IrType) (b : Bool) (e u : Term) (us : Terms) → TreeDoes z lawful low e → BlockDoes (more_terms u us) → BlockDoes (more_terms (var_def p x t b e) (more_terms u us))
-  defined_does p x t b e u us does others c k j sound ahead out wr fine w env s sc q r same = one_and_rest (var_def p x t b e) (more_terms u us) us c k j (λ y. (y ≡ x) ⊎ c.scope y) w env s sc q (define_does z lawful low p x t b e does c j sound ahead out_first fine.0 w env s sc q r same) (λ y v env s sc' q g ready ks same. sim_weaken z.direction (Came z.place (behind z c x) (behind z c x).scope k y sc') (Came z.place c c.scope k w sc) (ir_meaning.block z.place.classes z.low (more_terms u us) env s) (run z (block z.is_mutable c.targets k next (more_terms u us)).statements sc' q) (came-narrow z lawful c (behind z c x) (behind z c x).scope c.scope k w y sc sc' refl refl (λ h. h) (λ x h. inr h) (λ x h. inr h) (λ x h. inr h) g ks) (others (behind z c x) k next (sound-behind c x sound (out.writable x (inl (inl refl))) (out.kept x (inl (inl refl)))) (ahead-behind c x next (ahead-later z lawful c j next (onward z.is_mutable c.targets (var_def p x t b e) discard j) ahead)) (outside-behind c x (more_terms u us) (outside-part c (OwnAll (more_terms (var_def p x t b e) (more_terms u us))) (OwnAll (more_terms u us)) (λ x o. inr o) out) fine.1) wr fine.2 y env s sc' q ready same))
+  defined_does p x t b e u us does others c k j sound ahead out wr fine w env s sc q r same = one_and_rest (var_def p x t b e) (more_terms u us) us c k j (with_local x t c.scope) w env s sc q (define_does z lawful low p x t b e does c j sound ahead out_first fine.0 w env s sc q r same) (λ y v env s sc' q g ready ks same. sim_weaken z.direction (Came z.place (behind z c x t) (behind z c x t).scope k y sc') (Came z.place c c.scope k w sc) (ir_meaning.block z.place.classes z.low (more_terms u us) env s) (run z (block z.is_mutable c.targets k next (more_terms u us)).statements sc' q) (came-narrow z lawful c (behind z c x t) (behind z c x t).scope c.scope k w y sc sc' refl refl (λ h. h) (none_hidden c x t (λ i. out.scope x i (inl (inl refl)))) (none_hidden c x t (λ i. out.scope x i (inl (inl refl)))) (λ y h. inr h) g ks) (others (behind z c x t) k next (sound-behind c x t sound (out.writable x (inl (inl refl))) (out.kept x (inl (inl refl)))) (ahead-behind c x t next (ahead-later z lawful c j next (onward z.is_mutable c.targets (var_def p x t b e) discard j) ahead)) (outside-behind c x t (more_terms u us) (outside-part c (OwnAll (more_terms (var_def p x t b e) (more_terms u us))) (OwnAll (more_terms u us)) (λ x o. inr o) out) fine.1) wr fine.2 y env s sc' q ready same))
     where
       next : ℕ
       next = (into z.is_mutable c.targets discard j (var_def p x t b e)).next
@@ -137,7 +146,7 @@ module _ (z : Setting) (lawful : Lawful z) (low : LowAlike z) where
       out_case = outside-part c (OwnCases (more_cases (n ∷ ns) t cs)) (Own t) (λ x o. inl o) out
 
   match_does : (p : Position) (e : Term) (cs : Cases) (d : Term) (t : IrType) → TreeDoes z lawful low e → CasesDo cs → TreeDoes z lawful low d → TreeDoes z lawful low (match_on p e cs d t)
-  match_does p e cs d t does_e do_cases does_d c k j sound ahead out wr fine = of_operands z lawful c k (piece z lawful low c.targets e ∷ []) j (ir_meaning.choose (ir_meaning.branches z.place.classes z.low cs) (ir_meaning.step z.place.classes z.low d)) (λ es i. switch_code p (first_of es) (cases z.is_mutable c.targets k i cs) (λ i. into z.is_mutable c.targets k i d)) sound ahead (operand_does z lawful low c j e does_e (outside-part c (Own (match_on p e cs d t)) (Own e) (λ x o. inl o) out) fine.0, tt) (one_final z lawful c k j (ir_meaning.choose (ir_meaning.branches z.place.classes z.low cs) (ir_meaning.step z.place.classes z.low d)) (λ es i. switch_code p (first_of es) (cases z.is_mutable c.targets k i cs) (λ i. into z.is_mutable c.targets k i d)) (match_final z lawful c k p (ir_meaning.branches z.place.classes z.low cs) (ir_meaning.step z.place.classes z.low d) (λ i. cases z.is_mutable c.targets k i cs) (λ i. into z.is_mutable c.targets k i d) j sound wr (λ i l. cases-onward z.is_mutable c.targets cs k i) (λ i l ah. do_cases c k i sound ah (outside-part c (Own (match_on p e cs d t)) (OwnCases cs) (λ x o. inr (inl o)) out) wr fine.1) (λ i l ah. undeclared-settled c (into z.is_mutable c.targets k i d).statements (undeclared c (Own d) i (into z.is_mutable c.targets k i d).statements out_default ah (new z.is_mutable c.targets d k i))) (λ i l ah. does_d (settled c) k i (sound-settled z c sound) (ahead-settled c i ah) (outside-settled c (Own d) out_default) wr fine.2)))
+  match_does p e cs d t does_e do_cases does_d c k j sound ahead out wr fine = of_operands z lawful c k (piece z lawful low c.targets e ∷ []) j (ir_meaning.choose (ir_meaning.branches z.place.classes z.low cs) (ir_meaning.step z.place.classes z.low d)) (λ es i. switch_code p (first_of es) (cases z.is_mutable c.targets k i cs) (λ i. into z.is_mutable c.targets k i d)) sound ahead (operand_does z lawful low c j e does_e (outside-part c (Own (match_on p e cs d t)) (Own e) (λ x o. inl o) out) fine.0, tt) (one_final z lawful c k j (type_of_term e) (ir_meaning.choose (ir_meaning.branches z.place.classes z.low cs) (ir_meaning.step z.place.classes z.low d)) (λ es i. switch_code p (first_of es) (cases z.is_mutable c.targets k i cs) (λ i. into z.is_mutable c.targets k i d)) (match_final z lawful c k p (ir_meaning.branches z.place.classes z.low cs) (ir_meaning.step z.place.classes z.low d) (λ i. cases z.is_mutable c.targets k i cs) (λ i. into z.is_mutable c.targets k i d) j sound wr (λ i l. cases-onward z.is_mutable c.targets cs k i) (λ i l ah. do_cases c k i sound ah (outside-part c (Own (match_on p e cs d t)) (OwnCases cs) (λ x o. inr (inl o)) out) wr fine.1) (λ i l ah. undeclared-settled c (into z.is_mutable c.targets k i d).statements (undeclared c (Own d) i (into z.is_mutable c.targets k i d).statements out_default ah (new z.is_mutable c.targets d k i))) (λ i l ah. does_d (settled c) k i (sound-settled z c sound) (ahead-settled c i ah) (outside-settled c (Own d) out_default) wr fine.2) (type_of_term e)))
     where
       out_default : Outside c (Own d)
       out_default = outside-part c (Own (match_on p e cs d t)) (Own d) (λ x o. inr (inr o)) out
@@ -154,17 +163,19 @@ module _ (z : Setting) (lawful : Lawful z) (low : LowAlike z) where
     does (while_loop p a b) = while_does z lawful low p a b (does a) (does b)
     does (do_while p b a) = do_does z lawful low p b a (does b) (does a)
     does (match_on p e cs d t) = match_does p e cs d t (does e) (cases_do cs) (does d)
-    does (apply_static p cn n m ts t) = λ c k j sound ahead out wr fine. call_does z lawful low p c k j m cn n ts t sound ahead wr fine.0 fine.1 fine.2 (operands_do ts c k j out fine.3)
+    does (apply_static p cn n m ts t) = λ c k j sound ahead out wr fine. call_does z lawful low p c k j m cn n ts t sound ahead wr fine.0 fine.1 fine.2 fine.3 (operands_do ts c k j out fine.4)
     does (unary_op p o e) = unary_does p o e (does e)
     does (binary_op p o e d) = binary_does p o e d (does e) (does d)
-    does (undefined_literal p) = λ c k j sound ahead out wr fine. quiet z lawful low (undefined_literal p) c k p Undefined core.undefined_value j (λ env. ir.undefined) sound wr fine tt refl (λ w env s sc r. refl)
-    does (null_literal p) = λ c k j sound ahead out wr fine. quiet z lawful low (null_literal p) c k p Null core.null_value j (λ env. ir.null) sound wr fine tt refl (λ w env s sc r. refl)
-    does (boolean_literal p b) = λ c k j sound ahead out wr fine. quiet z lawful low (boolean_literal p b) c k p Boolean (core.boolean_value b) j (λ env. ir.boolean b) sound wr fine tt refl (λ w env s sc r. refl)
-    does (byte_literal p n) = λ c k j sound ahead out wr fine. quiet z lawful low (byte_literal p n) c k p Byte (core.number_value n) j (λ env. ir.number n) sound wr fine.0 fine.1 refl (λ w env s sc r. refl)
-    does (short_literal p n) = λ c k j sound ahead out wr fine. quiet z lawful low (short_literal p n) c k p Short (core.number_value n) j (λ env. ir.number n) sound wr fine.0 fine.1 refl (λ w env s sc r. refl)
-    does (int_literal p n) = λ c k j sound ahead out wr fine. quiet z lawful low (int_literal p n) c k p Int (core.number_value n) j (λ env. ir.number n) sound wr fine.0 fine.1 refl (λ w env s sc r. refl)
-    does (string_literal p us) = λ c k j sound ahead out wr fine. quiet z lawful low (string_literal p us) c k p String (core.text_value us) j (λ env. ir.text us) sound wr fine tt refl (λ w env s sc r. refl)
-    does (var_ref p x t) = λ c k j sound ahead out wr fine. quiet z lawful low (var_ref p x t) c k p t (core.variable_use (core.named x)) j (λ env. value_of z lawful low (env.locals x)) sound wr fine.0 fine.1 refl (λ w env s sc r. local_at z lawful low w (env.locals x) (sc.bindings (z.place.name (core.named x))) env s (r.sees.locals x fine.1))
+    does (undefined_literal p) = λ c k j sound ahead out wr fine. quiet z lawful low (undefined_literal p) c k p core.undefined_value j (λ env. ir.undefined) sound wr fine tt refl (λ w env s sc r. refl)
+    does (null_literal p) = λ c k j sound ahead out wr fine. quiet z lawful low (null_literal p) c k p core.null_value j (λ env. ir.null) sound wr fine tt refl (λ w env s sc r. refl)
+    does (boolean_literal p b) = λ c k j sound ahead out wr fine. quiet z lawful low (boolean_literal p b) c k p (core.boolean_value b) j (λ env. ir.boolean b) sound wr fine tt refl (λ w env s sc r. refl)
+    does (char_literal p n) = λ c k j sound ahead out wr fine. quiet z lawful low (char_literal p n) c k p (core.number_value (pos n)) j (λ env. ir.char n) sound wr fine.0 fine.1 refl (λ w env s sc r. refl)
+    does (long_literal p n) = λ c k j sound ahead out wr fine. quiet z lawful low (long_literal p n) c k p (core.long_value n) j (λ env. ir.long n) sound wr fine.0 fine.1 refl (λ w env s sc r. refl)
+    does (byte_literal p n) = λ c k j sound ahead out wr fine. quiet z lawful low (byte_literal p n) c k p (core.number_value n) j (λ env. ir.number n) sound wr fine.0 fine.1 refl (λ w env s sc r. refl)
+    does (short_literal p n) = λ c k j sound ahead out wr fine. quiet z lawful low (short_literal p n) c k p (core.number_value n) j (λ env. ir.number n) sound wr fine.0 fine.1 refl (λ w env s sc r. refl)
+    does (int_literal p n) = λ c k j sound ahead out wr fine. quiet z lawful low (int_literal p n) c k p (core.number_value n) j (λ env. ir.number n) sound wr fine.0 fine.1 refl (λ w env s sc r. refl)
+    does (string_literal p us) = λ c k j sound ahead out wr fine. quiet z lawful low (string_literal p us) c k p (core.text_value us) j (λ env. ir.text us) sound wr fine tt refl (λ w env s sc r. refl)
+    does (var_ref p x t) = λ c k j sound ahead out wr fine. quiet z lawful low (var_ref p x t) c k p (core.variable_use (core.named x)) j (λ env. value_of z lawful low (env.locals x)) sound wr fine.0 fine.1 refl (λ w env s sc r. local_at z lawful low w t (env.locals x) (sc.bindings (z.place.name (core.named x))) env s (r.sees.locals x t fine.1))
     does (log_line p e) = λ c k j sound ahead out wr fine. log_by p e (does e) c k j sound ahead out fine fine.0
     does _ = λ c k j sound ahead out wr fine. absurd fine
 

@@ -26,7 +26,8 @@ use Rattle.sj_bodies.proofs.Declared.{Declares, declares-followed}
 use Rattle.sj_bodies.proofs.Forms.{OneFinal, rebased, act_alike, ahead-later}
 use Rattle.sj_bodies.proofs.Loops.{Alike}
 use Rattle.sj_bodies.proofs.Statements.{run-followed, act_of, ends-one, throws-on}
-use Rattle.sj_plain.proofs.Worlds.{World, Grows, grows-trans, SameValue, same_number}
+use Rattle.sj_plain.proofs.Worlds.{World, Grows, grows-trans, Stands, same_number}
+use Rattle.sj_trees.specs.declared.types.IrType.{IrType}
 
 -- the context of a case: it is no turn of a loop, since a break in it ends the switch
 abbrev pub settled : Context → Context
@@ -42,7 +43,7 @@ pub undeclared-settled : (c : Context) (ss : core.Statements) → Undeclared c s
 undeclared-settled c ss h = record { scope = h.scope; writable = h.writable; kept = h.kept }
 
 pub sound-settled : (z : Setting) (c : Context) → Sound z.is_mutable c → Sound z.is_mutable (settled c)
-sound-settled z c h = record { hidden = h.hidden; constant = h.constant; changing = h.changing; reached = h.reached }
+sound-settled z c h = record { hidden = h.hidden; constant = h.constant; changing = h.changing; alone = h.alone; reached = h.reached }
 
 -- the statements of a case end the switch
 abbrev pub one_break : core.Statements
@@ -55,7 +56,7 @@ only_break : (ss : core.Statements) (y : core.Variable) → Declares (with_break
 only_break ss y d = ⊎_elim (λ i. i) (λ i. ⊎_elim (λ e. absurd e) (λ e. absurd e) i) (declares-followed ss one_break y d)
 
 pub undeclared-case : (c : Context) (ss : core.Statements) → Undeclared c ss → Undeclared (settled c) (with_break ss)
-undeclared-case c ss h = record { scope = λ x i d. h.scope x i (only_break ss (core.named x) d); writable = λ y i d. h.writable y i (only_break ss y d); kept = λ y i d. h.kept y i (only_break ss y d) }
+undeclared-case c ss h = record { scope = λ x t i d. h.scope x t i (only_break ss (core.named x) d); writable = λ y i d. h.writable y i (only_break ss y d); kept = λ y i d. h.kept y i (only_break ss y d) }
 
 module _ (z : Setting) (lawful : Lawful z) where
   abbrev block_in : core.Statements → core.Statements → js.Execution
@@ -130,8 +131,8 @@ module _ (z : Setting) (lawful : Lawful z) where
   switch_shown : (p : Position) (e : core.Expression) (cs : core.Cases) (ss : core.Statements) (sc : js.Scope) (u : js.State) → act_of z (core.switch_of (Some p) e cs ss) sc u ≡ then_do (shown z e sc u) (js.in_statement sc (λ v u. then_do (js_meaning.from_case (clauses_in cs) (block_in ss ss) v sc u) js_meaning.behind_switch))
   switch_shown p e cs ss sc u = then_do-associative (shown z e sc u) (js.in_statement sc (λ v. js_meaning.from_case (clauses_in cs) (block_in ss ss) v sc)) js_meaning.behind_switch ∙ ap (then_do (shown z e sc u)) (fun_ext (selected cs ss sc))
 
-  pub match_final : (c : Context) (k : Destination) (p : Position) (bs : List ir_meaning.Branch) (r : ir.Run) (made : ℕ → Branches) (other : ℕ → Code) (j : ℕ) → Sound z.is_mutable c → Writes c.writable k → ((i : ℕ) → j ≤ i → i ≤ (made i).next) → ((i : ℕ) → j ≤ i → Ahead c i → CasesAlike c k bs (made i).cases) → ((i : ℕ) → j ≤ i → Ahead c i → Undeclared (settled c) (other i).statements) → ((i : ℕ) → j ≤ i → Ahead c i → Alike z lawful (settled c) k r (run z (other i).statements)) → (w : World) (sc : js.Scope) → OneFinal z lawful c k w sc j (ir_meaning.choose bs r) (λ es i. switch_code p (first_of es) (made i) other)
-  match_final c k p bs r made other j sound wr up cases_do free does from before i q e w env s sc u ahead l g ready ks same operand = ends-one z lawful c c.scope k from before (ir_meaning.in_order (q ∷ []) (ir_meaning.choose bs r) env s) (core.switch_of (Some p) e (made i).cases (other (made i).next).statements) sc u (subst (λ o. Sim z.direction (Came z.place c c.scope k from before) (ir_meaning.in_order (q ∷ []) (ir_meaning.choose bs r) env s) o) (sym (switch_shown p e (made i).cases (other (made i).next).statements sc u)) (act_alike z lawful (Came z.place c c.scope k from before) w env s sc u q e (ir_meaning.choose bs r) (λ v u. then_do (js_meaning.from_case (clauses_in (made i).cases) (block_in (other (made i).next).statements (other (made i).next).statements) v sc u) js_meaning.behind_switch) operand same (throws-on z lawful c c.scope k from w before env sc g ks ready) goes))
+  pub match_final : (c : Context) (k : Destination) (p : Position) (bs : List ir_meaning.Branch) (r : ir.Run) (made : ℕ → Branches) (other : ℕ → Code) (j : ℕ) → Sound z.is_mutable c → Writes c.writable k → ((i : ℕ) → j ≤ i → i ≤ (made i).next) → ((i : ℕ) → j ≤ i → Ahead c i → CasesAlike c k bs (made i).cases) → ((i : ℕ) → j ≤ i → Ahead c i → Undeclared (settled c) (other i).statements) → ((i : ℕ) → j ≤ i → Ahead c i → Alike z lawful (settled c) k r (run z (other i).statements)) → (own : IrType) (w : World) (sc : js.Scope) → OneFinal z lawful c k w sc j own (ir_meaning.choose bs r) (λ es i. switch_code p (first_of es) (made i) other)
+  match_final c k p bs r made other j sound wr up cases_do free does own from before i q e w env s sc u ahead l g ready ks same operand = ends-one z lawful c c.scope k from before (ir_meaning.in_order (q ∷ []) (ir_meaning.choose bs r) env s) (core.switch_of (Some p) e (made i).cases (other (made i).next).statements) sc u (subst (λ o. Sim z.direction (Came z.place c c.scope k from before) (ir_meaning.in_order (q ∷ []) (ir_meaning.choose bs r) env s) o) (sym (switch_shown p e (made i).cases (other (made i).next).statements sc u)) (act_alike z lawful (Came z.place c c.scope k from before) w env s sc u own q e (ir_meaning.choose bs r) (λ v u. then_do (js_meaning.from_case (clauses_in (made i).cases) (block_in (other (made i).next).statements (other (made i).next).statements) v sc u) js_meaning.behind_switch) operand same (throws-on z lawful c c.scope k from w before env sc g ks ready) (λ y v x s u h a same. goes y v x s u h a.stands same)))
     where
       later : j ≤ (made i).next
       later = let h = up i l in omega arith
@@ -139,6 +140,6 @@ module _ (z : Setting) (lawful : Lawful z) where
       behind : Ahead c (made i).next
       behind = ahead-later z lawful c i (made i).next (up i l) ahead
 
-      goes : (y : World) (v : ir.Value) (x : js.Value) (s : ir.State) (u : js.State) → Grows w y → SameValue y v x → SameState z.place y s u → Sim z.direction (Came z.place c c.scope k from before) (ir_meaning.choose bs r (v ∷ []) env s) (then_do (js_meaning.from_case (clauses_in (made i).cases) (block_in (other (made i).next).statements (other (made i).next).statements) x sc u) js_meaning.behind_switch)
+      goes : (y : World) (v : ir.Value) (x : js.Value) (s : ir.State) (u : js.State) → Grows w y → Stands y v x → SameState z.place y s u → Sim z.direction (Came z.place c c.scope k from before) (ir_meaning.choose bs r (v ∷ []) env s) (then_do (js_meaning.from_case (clauses_in (made i).cases) (block_in (other (made i).next).statements (other (made i).next).statements) x sc u) js_meaning.behind_switch)
       goes y _ _ s u h (same_number n f) same = rebased z lawful c c.scope k from y before sc (ir_meaning.branch_of bs r n env s) (then_do (js_meaning.from_case (clauses_in (made i).cases) (block_in (other (made i).next).statements (other (made i).next).statements) (js.number n) sc u) js_meaning.behind_switch) (grows-trans from w y g h) ks (chosen_alike c k bs (made i).cases r (other (made i).next).statements (cases_do i l ahead) (free (made i).next later behind) sound wr (does (made i).next later behind) n y env s sc u (ready-lift z c.scope c.writable w y env sc h ready) same)
       goes y _ _ s u h _ same = sim_wrong z.direction (Came z.place c c.scope k from before) _

@@ -4,7 +4,7 @@ use Rattle.sj_core.specs.Terms as core
 use Rattle.sj_desugar.specs.Desugar.{operand, into, block, operands, cases, finish, has_no_value, target_of, Targets, expression_of, labeled_code, leaving_code, wrapped, break_unless, first_of}
 use Rattle.sj_desugar.specs.Plain.{is_plain}
 use Rattle.sj_desugar.specs.Spill.{Destination, discard, to_variable, to_result, Code, one, put_first, Operand, all_plain, spill, spill_case, then_use}
-use Rattle.sj_trees.specs.Term.{Term, Terms, no_terms, more_terms, Cases, no_cases, more_cases, var_def, block_of, labeled, assign, return_to, if_then, while_loop, do_while, match_on, apply_static, unary_op, binary_op, undefined_literal, null_literal, boolean_literal, byte_literal, short_literal, int_literal, string_literal, var_ref, log_line}
+use Rattle.sj_trees.specs.Term.{Term, Terms, no_terms, more_terms, Cases, no_cases, more_cases, var_def, block_of, labeled, assign, return_to, if_then, while_loop, do_while, match_on, apply_static, unary_op, binary_op, undefined_literal, null_literal, boolean_literal, char_literal, byte_literal, short_literal, int_literal, long_literal, string_literal, var_ref, log_line}
 use Rattle.sj_trees.specs.declared.positions.Position.{Position}
 use Rattle.sj_trees.specs.declared.types.IrType.{IrType}
 
@@ -67,6 +67,8 @@ module _ (is_mutable : List ℕ → Bool) where
     onward ls (undefined_literal p) k j = finish-onward k p _ true _ j
     onward ls (null_literal p) k j = finish-onward k p _ true _ j
     onward ls (boolean_literal p b) k j = finish-onward k p _ true _ j
+    onward ls (char_literal p n) k j = finish-onward k p _ true _ j
+    onward ls (long_literal p n) k j = finish-onward k p _ true _ j
     onward ls (byte_literal p n) k j = finish-onward k p _ true _ j
     onward ls (short_literal p n) k j = finish-onward k p _ true _ j
     onward ls (int_literal p n) k j = finish-onward k p _ true _ j

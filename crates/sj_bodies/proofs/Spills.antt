@@ -1,6 +1,6 @@
 -- Spilling keeps the order of evaluation.
-use Rattle.std.proofs.Common.{◌≡◌, ℕ, zero, suc, ◌≤◌, Bool, true, false, ◌&&◌, List, [], ◌∷◌, Some, Option, refl, sym, ap, ◌∙◌, subst, arith, ◌⊎◌, inl, inr, ⊎_elim, if◌then◌else◌}
-use Rattle.std.specs.Prelude.{not, ℤ, FitsSigned}
+use Rattle.std.proofs.Common.{◌≡◌, ℕ, suc, ◌≤◌, Bool, true, false, ◌&&◌, List, [], ◌∷◌, Some, Option, refl, sym, ap, ◌∙◌, subst, arith, ◌⊎◌, inl, inr, ⊎_elim, if◌then◌else◌}
+use Rattle.std.specs.Prelude.{not, ℤ, pos, FitsSigned}
 use Rattle.std.specs.Int.{w32}
 use Rattle.outcomes.specs.Outcome.{Out, done, wrong, then_do}
 use Rattle.outcomes.specs.Agreement.{Sim}
@@ -16,17 +16,21 @@ use Rattle.sj_core.specs.Terms.{followed}
 use Rattle.sj_desugar.specs.Desugar.{into, operands, expression_of, target_of}
 use Rattle.sj_desugar.specs.Plain.{is_fixed}
 use Rattle.sj_desugar.specs.Spill.{Destination, to_variable, Code, Operand, all_plain, texts, spill, spill_case, then_use}
-use Rattle.sj_trees.specs.Term.{Term, if_then, apply_static, unary_op, binary_op, undefined_literal, null_literal, boolean_literal, byte_literal, short_literal, int_literal, string_literal, var_ref}
+use Rattle.sj_trees.specs.Term.{Term, if_then, apply_static, unary_op, binary_op, undefined_literal, null_literal, boolean_literal, char_literal, byte_literal, short_literal, int_literal, long_literal, string_literal, var_ref}
 use Rattle.sj_trees.specs.declared.positions.Position.{Position}
 use Rattle.sj_trees.specs.declared.types.IrType.{IrType}
 use Rattle.sj_plain.specs.Conditions.{Plain}
 use Rattle.sj_plain.specs.Settings.{Setting, shown, run, SameState, Valued, valued, thrown, Lawful, Holding, holding, Sees}
 use Rattle.sj_names.proofs.Same.{impossible}
-use Rattle.sj_plain.proofs.Plain.{all_shown, fits-exact}
-use Rattle.sj_plain.proofs.Orders.{OperandAlike, OperandsAlike, no_operands, more_operands}
+use Rattle.sj_plain.proofs.Templates.{fits-exact, unit_is_int}
+use Rattle.sj_plain.proofs.Told.{tells}
+use Rattle.sj_plain.specs.Standing.{suits}
+use Rattle.int_arithmetic.proofs.Longs.{in_range-fits}
+use Rattle.sj_trees.specs.TypeOf.{type_of_term}
+use Rattle.sj_plain.proofs.Orders.{text_of, OperandAlike, OperandsAlike, no_operands, more_operands}
 use Rattle.sj_bodies.proofs.Contexts.{Context, Sound, Ahead, IsOpen, Ready, ready-lift, Keeps, Less, less-trans, keeps-refl, keeps-trans, keeps-fewer, stored, Came, gave, left, threw, stopped, started-here, started-ready, started-keeps}
 use Rattle.sj_bodies.proofs.Statements.{run-followed, leaves_on, ThrowsOn, throws-on, Ends}
-use Rattle.sj_plain.proofs.Worlds.{World, Grows, grows-refl, grows-trans, SameValue, same_undefined, same_null, same_boolean, same_number, same_text, value-lift}
+use Rattle.sj_plain.proofs.Worlds.{World, Grows, grows-refl, grows-trans, SameValue, Stands, same_undefined, same_null, same_boolean, same_char, same_number, same_long, same_text, value-lift}
 
 -- a context in which further variables keep what they hold, and one in which one more may be written
 abbrev pub keeping : Context → (core.Variable → Type 0) → Context
@@ -60,17 +64,17 @@ module _ (z : Setting) (lawful : Lawful z) where
   Does c k j t = (w : World) (env : ir.Env) (s : ir.State) (sc : js.Scope) (u : js.State) → Ready z.place c.scope c.writable w env sc → SameState z.place w s u → Sim z.direction (Came z.place c c.scope k w sc) (ir_meaning.step z.place.classes z.low t env s) (run z (into z.is_mutable c.targets k j t).statements sc u)
 
   -- an operand that gives a value at once, and whose expression goes on to give what stands for it
-  pub record FixedRun (p : core.Variable → Type 0) (w : World) (env : ir.Env) (sc : js.Scope) (r : ir.Run) (e : core.Expression) : Type 0 where
+  pub record FixedRun (p : core.Variable → Type 0) (w : World) (env : ir.Env) (sc : js.Scope) (t : IrType) (r : ir.Run) (e : core.Expression) : Type 0 where
     pub value : ir.Value
     pub js_value : js.Value
     pub gives : (s : ir.State) → r env s ≡ done (ir.ends (ir.gives value) env s)
-    pub alike : SameValue w value js_value
+    pub alike : SameValue w t value js_value
     pub goes_on : (later : js.Scope) (u : js.State) → Keeps z.place p sc later → shown z e later u ≡ done (js.gives js_value u)
 
   abbrev FixedTree : (p : core.Variable → Type 0) (w : World) (env : ir.Env) (sc : js.Scope) (t : Term) → Type 0
-  FixedTree p w env sc t = FixedRun p w env sc (ir_meaning.step z.place.classes z.low t) (expression_of t)
+  FixedTree p w env sc t = FixedRun p w env sc (type_of_term t) (ir_meaning.step z.place.classes z.low t) (expression_of t)
 
-  local_fixed : (p : core.Variable → Type 0) (w : World) (env : ir.Env) (sc : js.Scope) (q : Position) (x : List ℕ) (t : IrType) → p (core.named x) → (o : Option ir.Value) (cell : js.Cell) → Holding w o cell → env.locals x ≡ o → sc.bindings (z.place.name (core.named x)) ≡ cell → FixedTree p w env sc (var_ref q x t)
+  local_fixed : (p : core.Variable → Type 0) (w : World) (env : ir.Env) (sc : js.Scope) (q : Position) (x : List ℕ) (t : IrType) → p (core.named x) → (o : Option ir.Value) (cell : js.Cell) → Holding w t o cell → env.locals x ≡ o → sc.bindings (z.place.name (core.named x)) ≡ cell → FixedTree p w env sc (var_ref q x t)
   local_fixed p w env sc q x t kept _ _ (holding v j a) e h = record {
     value = v;
     js_value = j;
@@ -83,18 +87,23 @@ module _ (z : Setting) (lawful : Lawful z) where
   not_mutable true h = impossible h
   not_mutable false h = refl
 
-  literal_fixed : (p : core.Variable → Type 0) (w : World) (env : ir.Env) (sc : js.Scope) (t : Term) (n : ℤ) → FitsSigned w32 n → ((s : ir.State) → ir_meaning.step z.place.classes z.low t env s ≡ done (ir.ends (ir.gives (ir.number n)) env s)) → ((later : js.Scope) (u : js.State) → shown z (expression_of t) later u ≡ js_meaning.literal n later u) → FixedTree p w env sc t
-  literal_fixed p w env sc t n f g h = record { value = ir.number n; js_value = js.number n; gives = g; alike = same_number n f; goes_on = λ later u ks. h later u ∙ ap (λ (b : Bool). if b then done (js.gives (js.number n) u) else wrong) (fits-exact n f) }
+  value_fixed : (p : core.Variable → Type 0) (w : World) (env : ir.Env) (sc : js.Scope) (t : Term) (v : ir.Value) (x : js.Value) → Stands w v x → suits (type_of_term t) v ≡ true → ((s : ir.State) → ir_meaning.step z.place.classes z.low t env s ≡ done (ir.ends (ir.gives v) env s)) → ((later : js.Scope) (u : js.State) → shown z (expression_of t) later u ≡ done (js.gives x u)) → FixedTree p w env sc t
+  value_fixed p w env sc t v x a k g h = record { value = v; js_value = x; gives = g; alike = record { stands = a; suits = k }; goes_on = λ later u ks. h later u }
+
+  number_fixed : (p : core.Variable → Type 0) (w : World) (env : ir.Env) (sc : js.Scope) (t : Term) (v : ir.Value) (n : ℤ) → FitsSigned w32 n → Stands w v (js.number n) → suits (type_of_term t) v ≡ true → ((s : ir.State) → ir_meaning.step z.place.classes z.low t env s ≡ done (ir.ends (ir.gives v) env s)) → ((later : js.Scope) (u : js.State) → shown z (expression_of t) later u ≡ js_meaning.literal n later u) → FixedTree p w env sc t
+  number_fixed p w env sc t v n f a k g h = value_fixed p w env sc t v (js.number n) a k g (λ later u. h later u ∙ ap (λ (b : Bool). if b then done (js.gives (js.number n) u) else wrong) (fits-exact n f))
 
   pub fixed_run : (c : Context) (p : core.Variable → Type 0) (t : Term) → Sound z.is_mutable (keeping c p) → is_fixed z.is_mutable t ≡ true → Plain z.place.has c.scope t → (w : World) (env : ir.Env) (sc : js.Scope) → Sees z.place c.scope w env sc → FixedTree p w env sc t
-  fixed_run c p (undefined_literal q) sound e h w env sc sees = record { value = ir.undefined; js_value = js.undefined; gives = λ s. refl; alike = same_undefined; goes_on = λ later u ks. refl }
-  fixed_run c p (null_literal q) sound e h w env sc sees = record { value = ir.null; js_value = js.null; gives = λ s. refl; alike = same_null; goes_on = λ later u ks. refl }
-  fixed_run c p (boolean_literal q b) sound e h w env sc sees = record { value = ir.boolean b; js_value = js.boolean b; gives = λ s. refl; alike = same_boolean b; goes_on = λ later u ks. refl }
-  fixed_run c p (string_literal q us) sound e h w env sc sees = record { value = ir.text us; js_value = js.text us; gives = λ s. refl; alike = same_text us; goes_on = λ later u ks. refl }
-  fixed_run c p (byte_literal q n) sound e h w env sc sees = literal_fixed p w env sc (byte_literal q n) n h (λ s. refl) (λ later u. refl)
-  fixed_run c p (short_literal q n) sound e h w env sc sees = literal_fixed p w env sc (short_literal q n) n h (λ s. refl) (λ later u. refl)
-  fixed_run c p (int_literal q n) sound e h w env sc sees = literal_fixed p w env sc (int_literal q n) n h (λ s. refl) (λ later u. refl)
-  fixed_run c p (var_ref q x t) sound e h w env sc sees = local_fixed p w env sc q x t (sound.constant x h (not_mutable (z.is_mutable x) e)) (env.locals x) (sc.bindings (z.place.name (core.named x))) (sees.locals x h) refl refl
+  fixed_run c p (undefined_literal q) sound e h w env sc sees = value_fixed p w env sc (undefined_literal q) ir.undefined js.undefined same_undefined refl (λ s. refl) (λ later u. refl)
+  fixed_run c p (null_literal q) sound e h w env sc sees = value_fixed p w env sc (null_literal q) ir.null js.null same_null refl (λ s. refl) (λ later u. refl)
+  fixed_run c p (boolean_literal q b) sound e h w env sc sees = value_fixed p w env sc (boolean_literal q b) (ir.boolean b) (js.boolean b) (same_boolean b) refl (λ s. refl) (λ later u. refl)
+  fixed_run c p (string_literal q us) sound e h w env sc sees = value_fixed p w env sc (string_literal q us) (ir.text us) (js.text us) (same_text us) refl (λ s. refl) (λ later u. refl)
+  fixed_run c p (char_literal q n) sound e h w env sc sees = number_fixed p w env sc (char_literal q n) (ir.char n) (pos n) (unit_is_int n h) (same_char n h) refl (λ s. refl) (λ later u. refl)
+  fixed_run c p (byte_literal q n) sound e h w env sc sees = number_fixed p w env sc (byte_literal q n) (ir.number n) n h (same_number n h) refl (λ s. refl) (λ later u. refl)
+  fixed_run c p (short_literal q n) sound e h w env sc sees = number_fixed p w env sc (short_literal q n) (ir.number n) n h (same_number n h) refl (λ s. refl) (λ later u. refl)
+  fixed_run c p (int_literal q n) sound e h w env sc sees = number_fixed p w env sc (int_literal q n) (ir.number n) n h (same_number n h) refl (λ s. refl) (λ later u. refl)
+  fixed_run c p (long_literal q n) sound e h w env sc sees = value_fixed p w env sc (long_literal q n) (ir.long n) (js.big_int n) (same_long n h) refl (λ s. refl) (λ later u. ap (λ (b : Bool). if b then done (js.gives (js.big_int n) u) else wrong) (in_range-fits n h))
+  fixed_run c p (var_ref q x t) sound e h w env sc sees = local_fixed p w env sc q x t (sound.constant x t h (not_mutable (z.is_mutable x) e)) (env.locals x) (sc.bindings (z.place.name (core.named x))) (sees.locals x t h) refl refl
   fixed_run c p (if_then q a b d t) sound e h w env sc sees = impossible e
   fixed_run c p (apply_static q x n m ts t) sound e h w env sc sees = impossible e
   fixed_run c p (unary_op q o a) sound e h w env sc sees = impossible e
@@ -103,8 +112,9 @@ module _ (z : Setting) (lawful : Lawful z) where
 
   -- what is known of a plain one
   pub record Plainly (c : Context) (t : Piece) : Type 1 where
-    pub alike : (w : World) (env : ir.Env) (sc : js.Scope) → Sees z.place c.scope w env sc → OperandAlike z w env sc t.run (shown z t.here.text)
-    pub fixes : t.here.fixed ≡ true → (p : core.Variable → Type 0) → Sound z.is_mutable (keeping c p) → (w : World) (env : ir.Env) (sc : js.Scope) → Sees z.place c.scope w env sc → FixedRun p w env sc t.run t.here.text
+    pub alike : (w : World) (env : ir.Env) (sc : js.Scope) → Sees z.place c.scope w env sc → OperandAlike z w env sc t.here.tpe t.run (shown z t.here.text)
+    pub told : tells t.here.tpe (text_of z t.here.text) ≡ true
+    pub fixes : t.here.fixed ≡ true → (p : core.Variable → Type 0) → Sound z.is_mutable (keeping c p) → (w : World) (env : ir.Env) (sc : js.Scope) → Sees z.place c.scope w env sc → FixedRun p w env sc t.here.tpe t.run t.here.text
 
   abbrev pub PieceDoes : Context → Destination → ℕ → Piece → Type 0
   PieceDoes c k j t = (w : World) (env : ir.Env) (s : ir.State) (sc : js.Scope) (u : js.State) → Ready z.place c.scope c.writable w env sc → SameState z.place w s u → Sim z.direction (Came z.place c c.scope k w sc) (t.run env s) (run z (t.here.code k j).statements sc u)
@@ -134,24 +144,16 @@ module _ (z : Setting) (lawful : Lawful z) where
   operands-later c i j (t ∷ ts) h (inl e, ds) = (inl e, operands-later c i j ts h ds)
   operands-later c i j (t ∷ ts) h (inr e, ds) = (inr (e.0, e.1, e.2, λ p k l. e.3 p k (omega arith)), operands-later c i j ts h ds)
 
-  pub data Sized : List ir.Run → ℕ → Type 0 where
-    none_left : Sized [] zero
-    one_left : (r : ir.Run) (rs : List ir.Run) (n : ℕ) → Sized rs n → Sized (r ∷ rs) (suc n)
-
-  abbrev pub count : List Piece → ℕ
-  count [] = zero
-  count (t ∷ ts) = suc (count ts)
-
-  runs-sized : (ts : List Piece) → Sized (runs ts) (count ts)
-  runs-sized [] = none_left
-  runs-sized (t ∷ ts) = one_left t.run (runs ts) (count ts) (runs-sized ts)
+  abbrev pub types : List Piece → List IrType
+  types [] = []
+  types (t ∷ ts) = t.here.tpe ∷ types ts
 
   -- what is done with the values of operands, once their statements are behind
-  abbrev pub Final : Context → Destination → World → js.Scope → (core.Variable → Type 0) → ℕ → js.Scope → World → ℕ → (List ir.Value → ir.Run) → (List core.Expression → ℕ → Code) → Type 1
-  Final c k from before p j start at n act rest_of = (q : core.Variable → Type 0) (i : ℕ) (rs : List ir.Run) (es : List core.Expression) (w : World) (env : ir.Env) (s : ir.State) (sc : js.Scope) (u : js.State) → ((y : core.Variable) → p y → q y) → Sound z.is_mutable (keeping c q) → Ahead (keeping c q) i → j ≤ i → Grows at w → Ready z.place c.scope c.writable w env sc → Keeps z.place c.kept before sc → Keeps z.place p start sc → SameState z.place w s u → Sized rs n → OperandsAlike z w env sc rs (all_shown z lawful c.scope es) → Ends z lawful c c.scope k from before (ir_meaning.in_order rs act env s) (rest_of es i).statements sc u
+  abbrev pub Final : Context → Destination → World → js.Scope → (core.Variable → Type 0) → ℕ → js.Scope → World → List IrType → (List ir.Value → ir.Run) → (List core.Expression → ℕ → Code) → Type 1
+  Final c k from before p j start at ts act rest_of = (q : core.Variable → Type 0) (i : ℕ) (rs : List ir.Run) (es : List core.Expression) (w : World) (env : ir.Env) (s : ir.State) (sc : js.Scope) (u : js.State) → ((y : core.Variable) → p y → q y) → Sound z.is_mutable (keeping c q) → Ahead (keeping c q) i → j ≤ i → Grows at w → Ready z.place c.scope c.writable w env sc → Keeps z.place c.kept before sc → Keeps z.place p start sc → SameState z.place w s u → OperandsAlike z w env sc ts rs es → Ends z lawful c c.scope k from before (ir_meaning.in_order rs act env s) (rest_of es i).statements sc u
 
   abbrev pub SpillDoes : Context → Destination → World → js.Scope → List Piece → Type 1
-  SpillDoes c k from before ts = (p : core.Variable → Type 0) (j : ℕ) (act : List ir.Value → ir.Run) (rest_of : List core.Expression → ℕ → Code) (w : World) (env : ir.Env) (s : ir.State) (sc : js.Scope) (u : js.State) → OperandsDo c j ts → Extends c p → Sound z.is_mutable (keeping c p) → Ahead (keeping c p) j → Final c k from before p j sc w (count ts) act rest_of → Grows from w → Ready z.place c.scope c.writable w env sc → Keeps z.place c.kept before sc → SameState z.place w s u → Ends z lawful c c.scope k from before (ir_meaning.in_order (runs ts) act env s) (then_use (spill (operands_in ts) j) rest_of).statements sc u
+  SpillDoes c k from before ts = (p : core.Variable → Type 0) (j : ℕ) (act : List ir.Value → ir.Run) (rest_of : List core.Expression → ℕ → Code) (w : World) (env : ir.Env) (s : ir.State) (sc : js.Scope) (u : js.State) → OperandsDo c j ts → Extends c p → Sound z.is_mutable (keeping c p) → Ahead (keeping c p) j → Final c k from before p j sc w (types ts) act rest_of → Grows from w → Ready z.place c.scope c.writable w env sc → Keeps z.place c.kept before sc → SameState z.place w s u → Ends z lawful c c.scope k from before (ir_meaning.in_order (runs ts) act env s) (then_use (spill (operands_in ts) j) rest_of).statements sc u
 
   plain_operand : (c : Context) (j : ℕ) (t : Piece) → t.here.plain ≡ true → OperandDoes c j t → Plainly c t
   plain_operand c j t e (inl h) = h.1
@@ -161,16 +163,16 @@ module _ (z : Setting) (lawful : Lawful z) where
   both_true true b h = (refl, h)
   both_true false b h = impossible h
 
-  all_plain_alike : (c : Context) (j : ℕ) (ts : List Piece) → all_plain (operands_in ts) ≡ true → OperandsDo c j ts → (w : World) (env : ir.Env) (sc : js.Scope) → Sees z.place c.scope w env sc → OperandsAlike z w env sc (runs ts) (all_shown z lawful c.scope (texts (operands_in ts)))
+  all_plain_alike : (c : Context) (j : ℕ) (ts : List Piece) → all_plain (operands_in ts) ≡ true → OperandsDo c j ts → (w : World) (env : ir.Env) (sc : js.Scope) → Sees z.place c.scope w env sc → OperandsAlike z w env sc (types ts) (runs ts) (texts (operands_in ts))
   all_plain_alike c j [] e d w env sc sees = no_operands
-  all_plain_alike c j (t ∷ ts) e d w env sc sees = let h = both_true (t.here.plain) (all_plain (operands_in ts)) e in more_operands (t.run) (shown z (t.here.text)) (runs ts) (all_shown z lawful c.scope (texts (operands_in ts))) ((plain_operand c j t h.0 d.0).alike w env sc sees) (all_plain_alike c j ts h.1 d.1 w env sc sees)
+  all_plain_alike c j (t ∷ ts) e d w env sc sees = let h = both_true (t.here.plain) (all_plain (operands_in ts)) e in more_operands t.here.tpe t.run t.here.text (types ts) (runs ts) (texts (operands_in ts)) ((plain_operand c j t h.0 d.0).told) ((plain_operand c j t h.0 d.0).alike w env sc sees) (all_plain_alike c j ts h.1 d.1 w env sc sees)
 
   -- an operand's value in a variable that keeps it
-  variable_alike : (y w : World) (env : ir.Env) (sc : js.Scope) (x : core.Variable) (const : Bool) (v : ir.Value) (j : js.Value) → Grows y w → SameValue y v j → sc.bindings (z.place.name x) ≡ js.holds const j → OperandAlike z w env sc (ir.given v) (shown z (core.variable_use x))
-  variable_alike y w env sc x const v j g a e k s u h same = subst (λ q. Sim z.direction (Valued z.place k env) (done (ir.ends (ir.gives v) env s)) q) (sym (ap (λ (cell : js.Cell). js_meaning.cell_value (js_meaning.or_outer cell (js_meaning.top_cell (owner z.place.program sc.file (z.place.name x)) (z.place.name x) u)) u) e)) (sim_done z.direction (Valued z.place k env) (ir.ends (ir.gives v) env s) (js.gives j u) (valued k v j s u (grows-refl k) (value-lift y k v j (grows-trans y w k g h) a) same))
+  variable_alike : (y w : World) (env : ir.Env) (sc : js.Scope) (t : IrType) (x : core.Variable) (const : Bool) (v : ir.Value) (j : js.Value) → Grows y w → SameValue y t v j → sc.bindings (z.place.name x) ≡ js.holds const j → OperandAlike z w env sc t (ir.given v) (shown z (core.variable_use x))
+  variable_alike y w env sc t x const v j g a e k s u h same = subst (λ q. Sim z.direction (Valued z.place k env t) (done (ir.ends (ir.gives v) env s)) q) (sym (ap (λ (cell : js.Cell). js_meaning.cell_value (js_meaning.or_outer cell (js_meaning.top_cell (owner z.place.program sc.file (z.place.name x)) (z.place.name x) u)) u) e)) (sim_done z.direction (Valued z.place k env t) (ir.ends (ir.gives v) env s) (js.gives j u) (valued k v j s u (grows-refl k) (value-lift y k t v j (grows-trans y w k g h) a) same))
 
-  fixed_alike : (p : core.Variable → Type 0) (y w : World) (env env' : ir.Env) (sc sc' : js.Scope) (r : ir.Run) (e : core.Expression) (f : FixedRun p y env sc r e) → Grows y w → Keeps z.place p sc sc' → OperandAlike z w env' sc' (ir.given f.value) (shown z e)
-  fixed_alike p y w env env' sc sc' r e f g ks k s u h same = subst (λ q. Sim z.direction (Valued z.place k env') (done (ir.ends (ir.gives f.value) env' s)) q) (sym (f.goes_on sc' u ks)) (sim_done z.direction (Valued z.place k env') (ir.ends (ir.gives f.value) env' s) (js.gives f.js_value u) (valued k f.value f.js_value s u (grows-refl k) (value-lift y k f.value f.js_value (grows-trans y w k g h) f.alike) same))
+  fixed_alike : (p : core.Variable → Type 0) (y w : World) (env env' : ir.Env) (sc sc' : js.Scope) (t : IrType) (r : ir.Run) (e : core.Expression) (f : FixedRun p y env sc t r e) → Grows y w → Keeps z.place p sc sc' → OperandAlike z w env' sc' t (ir.given f.value) (shown z e)
+  fixed_alike p y w env env' sc sc' t r e f g ks k s u h same = subst (λ q. Sim z.direction (Valued z.place k env' t) (done (ir.ends (ir.gives f.value) env' s)) q) (sym (f.goes_on sc' u ks)) (sim_done z.direction (Valued z.place k env' t) (ir.ends (ir.gives f.value) env' s) (js.gives f.js_value u) (valued k f.value f.js_value s u (grows-refl k) (value-lift y k t f.value f.js_value (grows-trans y w k g h) f.alike) same))
 
   pub numbered-same : (i j : ℕ) → core.numbered i ≡ core.numbered j → i ≡ j
   numbered-same i j e = cc
@@ -178,8 +180,9 @@ module _ (z : Setting) (lawful : Lawful z) where
   pub sound-kept : (c : Context) (p : core.Variable → Type 0) (j : ℕ) → Sound z.is_mutable (keeping c p) → Ahead (keeping c p) j → Sound z.is_mutable (keeping c (λ y. (y ≡ core.numbered j) ⊎ p y))
   sound-kept c p j sound ahead = record {
     hidden = sound.hidden;
-    constant = λ x h m. inr (sound.constant x h m);
-    changing = λ x g k m. ⊎_elim (λ e. numbered-named x j e) (λ i. sound.changing x g i m) k;
+    constant = λ x t h m. inr (sound.constant x t h m);
+    changing = λ x t g k m. ⊎_elim (λ e. numbered-named x j e) (λ i. sound.changing x t g i m) k;
+    alone = sound.alone;
     reached = sound.reached;
   }
 
@@ -194,40 +197,40 @@ module _ (z : Setting) (lawful : Lawful z) where
   followed-associative (core.statement s ss) b d = ap (core.statement s) (followed-associative ss b d)
 
   -- an expression of a statement that goes on normally, and what comes behind it
-  valued_seq : (F : ir.Ended → js.StatementEnd → Type 0) (w : World) (env : ir.Env) (sc : js.Scope) (u : js.State) (o : Out ir.Ended) (e : core.Expression) (f : ir.Value → ir.Run) (g : js.Value → js.State → Out js.StatementEnd) (next : js.Execution) → Sim z.direction (Valued z.place w env) o (shown z e sc u) → ThrowsOn z lawful F w env sc → ((y : World) (v : ir.Value) (x : js.Value) (s : ir.State) (u : js.State) → Grows w y → SameValue y v x → SameState z.place y s u → Sim z.direction F (f v env s) (then_do (g x u) (js.next_statement next))) → Sim z.direction F (ir.go_on o f) (then_do (then_do (shown z e sc u) (js.in_statement sc g)) (js.next_statement next))
-  valued_seq F w env sc u o e f g next alike through goes = subst (λ x. Sim z.direction F (ir.go_on o f) x) (sym (then_do-associative (shown z e sc u) (js.in_statement sc g) (js.next_statement next))) (sim_then z.direction (Valued z.place w env) F o (shown z e sc u) (ir.onward f) (λ b. then_do (js.in_statement sc g b) (js.next_statement next)) alike each)
+  valued_seq : (F : ir.Ended → js.StatementEnd → Type 0) (w : World) (env : ir.Env) (t : IrType) (sc : js.Scope) (u : js.State) (o : Out ir.Ended) (e : core.Expression) (f : ir.Value → ir.Run) (g : js.Value → js.State → Out js.StatementEnd) (next : js.Execution) → Sim z.direction (Valued z.place w env t) o (shown z e sc u) → ThrowsOn z lawful F w env sc → ((y : World) (v : ir.Value) (x : js.Value) (s : ir.State) (u : js.State) → Grows w y → SameValue y t v x → SameState z.place y s u → Sim z.direction F (f v env s) (then_do (g x u) (js.next_statement next))) → Sim z.direction F (ir.go_on o f) (then_do (then_do (shown z e sc u) (js.in_statement sc g)) (js.next_statement next))
+  valued_seq F w env t sc u o e f g next alike through goes = subst (λ x. Sim z.direction F (ir.go_on o f) x) (sym (then_do-associative (shown z e sc u) (js.in_statement sc g) (js.next_statement next))) (sim_then z.direction (Valued z.place w env t) F o (shown z e sc u) (ir.onward f) (λ b. then_do (js.in_statement sc g b) (js.next_statement next)) alike each)
     where
-      each : (a : ir.Ended) (b : js.ExpressionEnd) → Valued z.place w env a b → Sim z.direction F (ir.onward f a) (then_do (js.in_statement sc g b) (js.next_statement next))
+      each : (a : ir.Ended) (b : js.ExpressionEnd) → Valued z.place w env t a b → Sim z.direction F (ir.onward f a) (then_do (js.in_statement sc g b) (js.next_statement next))
       each _ _ (valued y v x s u h a same) = goes y v x s u h a same
       each _ _ (thrown y v x s u h a same) = sim_done z.direction F (ir.ends (ir.throws v) env s) (js.ends (js.thrown_with x) sc u) (through y v x s u h a same)
 
   -- all operands are plain
-  spill_all : (c : Context) (k : Destination) (from : World) (before : js.Scope) (t : Piece) (ts : List Piece) → all_plain (operands_in (t ∷ ts)) ≡ true → (p : core.Variable → Type 0) (j : ℕ) (act : List ir.Value → ir.Run) (made : List core.Expression → ℕ → Code) (w : World) (env : ir.Env) (s : ir.State) (sc : js.Scope) (u : js.State) → OperandsDo c j (t ∷ ts) → Sound z.is_mutable (keeping c p) → Ahead (keeping c p) j → Final c k from before p j sc w (count (t ∷ ts)) act made → Ready z.place c.scope c.writable w env sc → Keeps z.place c.kept before sc → SameState z.place w s u → Ends z lawful c c.scope k from before (ir_meaning.in_order (runs (t ∷ ts)) act env s) (made (texts (operands_in (t ∷ ts))) j).statements sc u
-  spill_all c k from before t ts e p j act made w env s sc u ds sound ahead final r ks same = final p j (runs (t ∷ ts)) (texts (operands_in (t ∷ ts))) w env s sc u (λ y h. h) sound ahead (omega arith) (grows-refl w) r ks (keeps-refl z p sc) same (runs-sized (t ∷ ts)) (all_plain_alike c j (t ∷ ts) e ds w env sc r.sees)
+  spill_all : (c : Context) (k : Destination) (from : World) (before : js.Scope) (t : Piece) (ts : List Piece) → all_plain (operands_in (t ∷ ts)) ≡ true → (p : core.Variable → Type 0) (j : ℕ) (act : List ir.Value → ir.Run) (made : List core.Expression → ℕ → Code) (w : World) (env : ir.Env) (s : ir.State) (sc : js.Scope) (u : js.State) → OperandsDo c j (t ∷ ts) → Sound z.is_mutable (keeping c p) → Ahead (keeping c p) j → Final c k from before p j sc w (types (t ∷ ts)) act made → Ready z.place c.scope c.writable w env sc → Keeps z.place c.kept before sc → SameState z.place w s u → Ends z lawful c c.scope k from before (ir_meaning.in_order (runs (t ∷ ts)) act env s) (made (texts (operands_in (t ∷ ts))) j).statements sc u
+  spill_all c k from before t ts e p j act made w env s sc u ds sound ahead final r ks same = final p j (runs (t ∷ ts)) (texts (operands_in (t ∷ ts))) w env s sc u (λ y h. h) sound ahead (omega arith) (grows-refl w) r ks (keeps-refl z p sc) same (all_plain_alike c j (t ∷ ts) e ds w env sc r.sees)
 
   -- a fixed operand in front of one that isn't plain
-  spill_fixed : (c : Context) (k : Destination) (from : World) (before : js.Scope) (t : Piece) (ts : List Piece) → SpillDoes c k from before ts → t.here.fixed ≡ true → Plainly c t → (p : core.Variable → Type 0) (j : ℕ) (act : List ir.Value → ir.Run) (made : List core.Expression → ℕ → Code) (w : World) (env : ir.Env) (s : ir.State) (sc : js.Scope) (u : js.State) → OperandsDo c j ts → Extends c p → Sound z.is_mutable (keeping c p) → Ahead (keeping c p) j → Final c k from before p j sc w (count (t ∷ ts)) act made → Grows from w → Ready z.place c.scope c.writable w env sc → Keeps z.place c.kept before sc → SameState z.place w s u → Ends z lawful c c.scope k from before (ir_meaning.in_order (runs (t ∷ ts)) act env s) (then_use (spill (operands_in ts) j) (λ es. made (t.here.text ∷ es))).statements sc u
+  spill_fixed : (c : Context) (k : Destination) (from : World) (before : js.Scope) (t : Piece) (ts : List Piece) → SpillDoes c k from before ts → t.here.fixed ≡ true → Plainly c t → (p : core.Variable → Type 0) (j : ℕ) (act : List ir.Value → ir.Run) (made : List core.Expression → ℕ → Code) (w : World) (env : ir.Env) (s : ir.State) (sc : js.Scope) (u : js.State) → OperandsDo c j ts → Extends c p → Sound z.is_mutable (keeping c p) → Ahead (keeping c p) j → Final c k from before p j sc w (types (t ∷ ts)) act made → Grows from w → Ready z.place c.scope c.writable w env sc → Keeps z.place c.kept before sc → SameState z.place w s u → Ends z lawful c c.scope k from before (ir_meaning.in_order (runs (t ∷ ts)) act env s) (then_use (spill (operands_in ts) j) (λ es. made (t.here.text ∷ es))).statements sc u
   spill_fixed c k from before t ts others e plain p j act made w env s sc u ds sub sound ahead final g r ks same = known (plain.fixes e p sound w env sc r.sees)
     where
-      known : FixedRun p w env sc t.run t.here.text → Ends z lawful c c.scope k from before (ir_meaning.in_order (runs (t ∷ ts)) act env s) (then_use (spill (operands_in ts) j) (λ es. made (t.here.text ∷ es))).statements sc u
-      known f = subst (λ o. Ends z lawful c c.scope k from before (ir.go_on o (λ v. ir_meaning.in_order (runs ts) (λ vs. act (v ∷ vs)))) (then_use (spill (operands_in ts) j) (λ es. made (t.here.text ∷ es))).statements sc u) (sym (f.gives s)) (others p j (λ vs. act (f.value ∷ vs)) (λ es. made (t.here.text ∷ es)) w env s sc u ds sub sound ahead (λ q i rs es y env' s' sc' u' more so ah l h ready kb kp states sized operands. final q i (ir.given f.value ∷ rs) (t.here.text ∷ es) y env' s' sc' u' more so ah l h ready kb kp states (one_left (ir.given f.value) rs (count ts) sized) (more_operands (ir.given f.value) (shown z (t.here.text)) rs (all_shown z lawful c.scope es) (fixed_alike p w y env env' sc sc' t.run t.here.text f h kp) operands)) g r ks same)
+      known : FixedRun p w env sc t.here.tpe t.run t.here.text → Ends z lawful c c.scope k from before (ir_meaning.in_order (runs (t ∷ ts)) act env s) (then_use (spill (operands_in ts) j) (λ es. made (t.here.text ∷ es))).statements sc u
+      known f = subst (λ o. Ends z lawful c c.scope k from before (ir.go_on o (λ v. ir_meaning.in_order (runs ts) (λ vs. act (v ∷ vs)))) (then_use (spill (operands_in ts) j) (λ es. made (t.here.text ∷ es))).statements sc u) (sym (f.gives s)) (others p j (λ vs. act (f.value ∷ vs)) (λ es. made (t.here.text ∷ es)) w env s sc u ds sub sound ahead (λ q i rs es y env' s' sc' u' more so ah l h ready kb kp states operands. final q i (ir.given f.value ∷ rs) (t.here.text ∷ es) y env' s' sc' u' more so ah l h ready kb kp states (more_operands t.here.tpe (ir.given f.value) t.here.text (types ts) rs es plain.told (fixed_alike p w y env env' sc sc' t.here.tpe t.run t.here.text f h kp) operands)) g r ks same)
 
   -- what is known behind an operand that has been saved in the variable of this number
-  saved_final : (c : Context) (k : Destination) (from : World) (before : js.Scope) (p : core.Variable → Type 0) (j i : ℕ) (n : ℕ) (w y : World) (sc sc' : js.Scope) (act : List ir.Value → ir.Run) (made : List core.Expression → ℕ → Code) (v : ir.Value) (x : js.Value) (const : Bool) → suc j ≤ i → Final c k from before p j sc w (suc n) act made → Grows w y → Keeps z.place p sc sc' → SameValue y v x → sc'.bindings (z.place.name (core.numbered j)) ≡ js.holds const x → Final c k from before (λ a. (a ≡ core.numbered j) ⊎ p a) i sc' y n (λ vs. act (v ∷ vs)) (λ es. made (core.variable_use (core.numbered j) ∷ es))
-  saved_final c k from before p j i n w y sc sc' act made v x const l final g kp alike e q o rs es w' env s sc2 u more so ah m h r kb ks same sized operands = final q o (ir.given v ∷ rs) (core.variable_use (core.numbered j) ∷ es) w' env s sc2 u (λ a b. more a (inr b)) so ah (omega arith) (grows-trans w y w' g h) r kb (record { same = λ a b. ks.same a (inr b) ∙ kp.same a b }) same (one_left (ir.given v) rs n sized) (more_operands (ir.given v) (shown z (core.variable_use (core.numbered j))) rs (all_shown z lawful c.scope es) (variable_alike y w' env sc2 (core.numbered j) const v x h alike (ks.same (core.numbered j) (inl refl) ∙ e)) operands)
+  saved_final : (c : Context) (k : Destination) (from : World) (before : js.Scope) (p : core.Variable → Type 0) (j i : ℕ) (own : IrType) (ts : List IrType) (w y : World) (sc sc' : js.Scope) (act : List ir.Value → ir.Run) (made : List core.Expression → ℕ → Code) (v : ir.Value) (x : js.Value) (const : Bool) → suc j ≤ i → Final c k from before p j sc w (own ∷ ts) act made → Grows w y → Keeps z.place p sc sc' → SameValue y own v x → sc'.bindings (z.place.name (core.numbered j)) ≡ js.holds const x → Final c k from before (λ a. (a ≡ core.numbered j) ⊎ p a) i sc' y ts (λ vs. act (v ∷ vs)) (λ es. made (core.variable_use (core.numbered j) ∷ es))
+  saved_final c k from before p j i own ts w y sc sc' act made v x const l final g kp alike e q o rs es w' env s sc2 u more so ah m h r kb ks same operands = final q o (ir.given v ∷ rs) (core.variable_use (core.numbered j) ∷ es) w' env s sc2 u (λ a b. more a (inr b)) so ah (omega arith) (grows-trans w y w' g h) r kb (record { same = λ a b. ks.same a (inr b) ∙ kp.same a b }) same (more_operands own (ir.given v) (core.variable_use (core.numbered j)) ts rs es refl (variable_alike y w' env sc2 own (core.numbered j) const v x h alike (ks.same (core.numbered j) (inl refl) ∙ e)) operands)
 
   numbered_open : (c : Context) (p : core.Variable → Type 0) (j : ℕ) → Ahead (keeping c p) j → (x : core.Variable) → c.writable x → x ≡ core.numbered j → ⊥
   numbered_open c p j ahead x h e = ahead.writable j (omega arith) (subst c.writable e h)
 
   -- a plain operand that isn't fixed, in front of one that isn't plain: a constant
-  spill_constant : (c : Context) (k : Destination) (from : World) (before : js.Scope) (t : Piece) (ts : List Piece) → SpillDoes c k from before ts → Plainly c t → (p : core.Variable → Type 0) (j : ℕ) (act : List ir.Value → ir.Run) (made : List core.Expression → ℕ → Code) (w : World) (env : ir.Env) (s : ir.State) (sc : js.Scope) (u : js.State) → OperandsDo c j ts → Extends c p → Sound z.is_mutable (keeping c p) → Ahead (keeping c p) j → Final c k from before p j sc w (count (t ∷ ts)) act made → Grows from w → Ready z.place c.scope c.writable w env sc → Keeps z.place c.kept before sc → SameState z.place w s u → Ends z lawful c c.scope k from before (ir_meaning.in_order (runs (t ∷ ts)) act env s) (core.statement (core.constant_of (Some (t.here.at)) (core.numbered j) (t.here.text)) (then_use (spill (operands_in ts) (suc j)) (λ es. made (core.variable_use (core.numbered j) ∷ es))).statements) sc u
-  spill_constant c k from before t ts others plain p j act made w env s sc u ds sub sound ahead final g r ks same = valued_seq (Came z.place c c.scope k from before) w env sc u (t.run env s) (t.here.text) (λ v. ir_meaning.in_order (runs ts) (λ vs. act (v ∷ vs))) (λ v u. done (js.ends js.normally (js_meaning.start true (z.place.name (core.numbered j)) v sc) u)) (run z (then_use (spill (operands_in ts) (suc j)) (λ es. made (core.variable_use (core.numbered j) ∷ es))).statements) (plain.alike w env sc r.sees w s u (grows-refl w) same) (throws-on z lawful c c.scope k from w before env sc g ks r) goes
+  spill_constant : (c : Context) (k : Destination) (from : World) (before : js.Scope) (t : Piece) (ts : List Piece) → SpillDoes c k from before ts → Plainly c t → (p : core.Variable → Type 0) (j : ℕ) (act : List ir.Value → ir.Run) (made : List core.Expression → ℕ → Code) (w : World) (env : ir.Env) (s : ir.State) (sc : js.Scope) (u : js.State) → OperandsDo c j ts → Extends c p → Sound z.is_mutable (keeping c p) → Ahead (keeping c p) j → Final c k from before p j sc w (types (t ∷ ts)) act made → Grows from w → Ready z.place c.scope c.writable w env sc → Keeps z.place c.kept before sc → SameState z.place w s u → Ends z lawful c c.scope k from before (ir_meaning.in_order (runs (t ∷ ts)) act env s) (core.statement (core.constant_of (Some (t.here.at)) (core.numbered j) (t.here.text)) (then_use (spill (operands_in ts) (suc j)) (λ es. made (core.variable_use (core.numbered j) ∷ es))).statements) sc u
+  spill_constant c k from before t ts others plain p j act made w env s sc u ds sub sound ahead final g r ks same = valued_seq (Came z.place c c.scope k from before) w env t.here.tpe sc u (t.run env s) (t.here.text) (λ v. ir_meaning.in_order (runs ts) (λ vs. act (v ∷ vs))) (λ v u. done (js.ends js.normally (js_meaning.start true (z.place.name (core.numbered j)) v sc) u)) (run z (then_use (spill (operands_in ts) (suc j)) (λ es. made (core.variable_use (core.numbered j) ∷ es))).statements) (plain.alike w env sc r.sees w s u (grows-refl w) same) (throws-on z lawful c c.scope k from w before env sc g ks r) goes
     where
-      goes : (y : World) (v : ir.Value) (x : js.Value) (s : ir.State) (u : js.State) → Grows w y → SameValue y v x → SameState z.place y s u → Ends z lawful c c.scope k from before (ir_meaning.in_order (runs ts) (λ vs. act (v ∷ vs)) env s) (then_use (spill (operands_in ts) (suc j)) (λ es. made (core.variable_use (core.numbered j) ∷ es))).statements (js_meaning.start true (z.place.name (core.numbered j)) x sc) u
-      goes y v x s u h alike same = others (λ a. (a ≡ core.numbered j) ⊎ p a) (suc j) (λ vs. act (v ∷ vs)) (λ es. made (core.variable_use (core.numbered j) ∷ es)) y env s (js_meaning.start true (z.place.name (core.numbered j)) x sc) u (operands-later c j (suc j) ts (omega arith) ds) (extends-more c p j sub) (sound-kept c p j sound ahead) (ahead-kept c p j (suc j) (omega arith) ahead) (saved_final c k from before p j (suc j) (count ts) w y sc (js_meaning.start true (z.place.name (core.numbered j)) x sc) act made v x true (omega arith) final h (started-keeps z lawful p true (core.numbered j) x sc (ahead.kept j (omega arith))) alike (started-here z lawful true (core.numbered j) x sc)) (grows-trans from w y g h) (ready-lift z c.scope c.writable w y env (js_meaning.start true (z.place.name (core.numbered j)) x sc) h (started-ready z lawful c.scope c.writable true (core.numbered j) x w env sc (λ a b. numbered-named a j) (numbered_open c p j ahead) r)) (keeps-trans z c.kept before sc (js_meaning.start true (z.place.name (core.numbered j)) x sc) ks (started-keeps z lawful c.kept true (core.numbered j) x sc (λ b. ahead.kept j (omega arith) (sub.more (core.numbered j) b)))) same
+      goes : (y : World) (v : ir.Value) (x : js.Value) (s : ir.State) (u : js.State) → Grows w y → SameValue y t.here.tpe v x → SameState z.place y s u → Ends z lawful c c.scope k from before (ir_meaning.in_order (runs ts) (λ vs. act (v ∷ vs)) env s) (then_use (spill (operands_in ts) (suc j)) (λ es. made (core.variable_use (core.numbered j) ∷ es))).statements (js_meaning.start true (z.place.name (core.numbered j)) x sc) u
+      goes y v x s u h alike same = others (λ a. (a ≡ core.numbered j) ⊎ p a) (suc j) (λ vs. act (v ∷ vs)) (λ es. made (core.variable_use (core.numbered j) ∷ es)) y env s (js_meaning.start true (z.place.name (core.numbered j)) x sc) u (operands-later c j (suc j) ts (omega arith) ds) (extends-more c p j sub) (sound-kept c p j sound ahead) (ahead-kept c p j (suc j) (omega arith) ahead) (saved_final c k from before p j (suc j) t.here.tpe (types ts) w y sc (js_meaning.start true (z.place.name (core.numbered j)) x sc) act made v x true (omega arith) final h (started-keeps z lawful p true (core.numbered j) x sc (ahead.kept j (omega arith))) alike (started-here z lawful true (core.numbered j) x sc)) (grows-trans from w y g h) (ready-lift z c.scope c.writable w y env (js_meaning.start true (z.place.name (core.numbered j)) x sc) h (started-ready z lawful c.scope c.writable true (core.numbered j) x w env sc (λ a t b. numbered-named a j) (numbered_open c p j ahead) r)) (keeps-trans z c.kept before sc (js_meaning.start true (z.place.name (core.numbered j)) x sc) ks (started-keeps z lawful c.kept true (core.numbered j) x sc (λ b. ahead.kept j (omega arith) (sub.more (core.numbered j) b)))) same
 
   -- an operand that isn't plain: a variable, and the statements that bring its value there
-  spill_code_does : (c : Context) (k : Destination) (from : World) (before : js.Scope) (t : Piece) (ts : List Piece) → SpillDoes c k from before ts → Onward t → (p : core.Variable → Type 0) (j : ℕ) → PieceDoes (writing (keeping c p) (core.numbered j)) (to_variable (core.numbered j) (t.here.tpe)) (suc j) t → (act : List ir.Value → ir.Run) (made : List core.Expression → ℕ → Code) (w : World) (env : ir.Env) (s : ir.State) (sc : js.Scope) (u : js.State) → OperandsDo c j ts → Extends c p → Sound z.is_mutable (keeping c p) → Ahead (keeping c p) j → Final c k from before p j sc w (count (t ∷ ts)) act made → Grows from w → Ready z.place c.scope c.writable w env sc → Keeps z.place c.kept before sc → SameState z.place w s u → Ends z lawful c c.scope k from before (ir_meaning.in_order (runs (t ∷ ts)) act env s) (core.statement (core.declare_of (Some (t.here.at)) (core.numbered j)) (followed (t.here.code (to_variable (core.numbered j) (t.here.tpe)) (suc j)).statements (then_use (spill (operands_in ts) (t.here.code (to_variable (core.numbered j) (t.here.tpe)) (suc j)).next) (λ es. made (core.variable_use (core.numbered j) ∷ es))).statements)) sc u
+  spill_code_does : (c : Context) (k : Destination) (from : World) (before : js.Scope) (t : Piece) (ts : List Piece) → SpillDoes c k from before ts → Onward t → (p : core.Variable → Type 0) (j : ℕ) → PieceDoes (writing (keeping c p) (core.numbered j)) (to_variable (core.numbered j) (t.here.tpe)) (suc j) t → (act : List ir.Value → ir.Run) (made : List core.Expression → ℕ → Code) (w : World) (env : ir.Env) (s : ir.State) (sc : js.Scope) (u : js.State) → OperandsDo c j ts → Extends c p → Sound z.is_mutable (keeping c p) → Ahead (keeping c p) j → Final c k from before p j sc w (types (t ∷ ts)) act made → Grows from w → Ready z.place c.scope c.writable w env sc → Keeps z.place c.kept before sc → SameState z.place w s u → Ends z lawful c c.scope k from before (ir_meaning.in_order (runs (t ∷ ts)) act env s) (core.statement (core.declare_of (Some (t.here.at)) (core.numbered j)) (followed (t.here.code (to_variable (core.numbered j) (t.here.tpe)) (suc j)).statements (then_use (spill (operands_in ts) (t.here.code (to_variable (core.numbered j) (t.here.tpe)) (suc j)).next) (λ es. made (core.variable_use (core.numbered j) ∷ es))).statements)) sc u
   spill_code_does c k from before t ts others onward p j does act made w env s sc u ds sub sound ahead final g r ks same = subst (λ q. Sim z.direction (Came z.place c c.scope k from before) (ir.go_on (t.run env s) f) q) (sym (run-followed z code.statements rest started u)) (sim_then z.direction (Came z.place (writing (keeping c p) x) c.scope (to_variable x (t.here.tpe)) w started) (Came z.place c c.scope k from before) (t.run env s) (run z code.statements started u) (ir.onward f) (js.next_statement (run z rest)) (does w env s started u (record { sees = r1.sees; «open» = open1 }) same) each)
     where
       x : core.Variable
@@ -246,7 +249,7 @@ module _ (z : Setting) (lawful : Lawful z) where
       f v = ir_meaning.in_order (runs ts) (λ vs. act (v ∷ vs))
 
       r1 : Ready z.place c.scope c.writable w env started
-      r1 = started-ready z lawful c.scope c.writable false x js.undefined w env sc (λ a b. numbered-named a j) (numbered_open c p j ahead) r
+      r1 = started-ready z lawful c.scope c.writable false x js.undefined w env sc (λ a t b. numbered-named a j) (numbered_open c p j ahead) r
 
       open1 : (y : core.Variable) → (y ≡ x) ⊎ c.writable y → IsOpen (started.bindings (z.place.name y))
       open1 y (inl e) = subst (λ a. IsOpen (started.bindings (z.place.name a))) (sym e) (record { value = js.undefined; is = started-here z lawful false x js.undefined sc })
@@ -259,13 +262,13 @@ module _ (z : Setting) (lawful : Lawful z) where
       all_kept sc2 k2 = keeps-fewer z (Less p (to_variable x (t.here.tpe))) p started sc2 (λ b h. (h, λ e. kept_here (subst p (sym e) h))) k2
 
       each : (a : ir.Ended) (b : js.StatementEnd) → Came z.place (writing (keeping c p) x) c.scope (to_variable x (t.here.tpe)) w started a b → Sim z.direction (Came z.place c c.scope k from before) (ir.onward f a) (js.next_statement (run z rest) b)
-      each _ _ (gave y v env' s' sc2 u' _ h (stored _ _ q a e) r2 k2 states) = others (λ b. (b ≡ x) ⊎ p b) code.next (λ vs. act (v ∷ vs)) (λ es. made (core.variable_use x ∷ es)) y env' s' sc2 u' (operands-later c j code.next ts (omega (arith, onward (to_variable x (t.here.tpe)) (suc j))) ds) (extends-more c p j sub) (sound-kept c p j sound ahead) (ahead-kept c p j code.next (onward (to_variable x (t.here.tpe)) (suc j)) ahead) (saved_final c k from before p j code.next (count ts) w y sc sc2 act made v q false (onward (to_variable x (t.here.tpe)) (suc j)) final h (keeps-trans z p sc started sc2 (started-keeps z lawful p false x js.undefined sc kept_here) (all_kept sc2 k2)) a e) (grows-trans from w y g h) (record { sees = r2.sees; «open» = λ a b. r2.«open» a (inr b) }) (keeps-trans z c.kept before sc sc2 ks (keeps-trans z c.kept sc started sc2 (started-keeps z lawful c.kept false x js.undefined sc (λ b. kept_here (sub.more x b))) (keeps-fewer z p c.kept started sc2 sub.more (all_kept sc2 k2)))) states
+      each _ _ (gave y v env' s' sc2 u' _ h (stored _ _ q a e) r2 k2 states) = others (λ b. (b ≡ x) ⊎ p b) code.next (λ vs. act (v ∷ vs)) (λ es. made (core.variable_use x ∷ es)) y env' s' sc2 u' (operands-later c j code.next ts (omega (arith, onward (to_variable x (t.here.tpe)) (suc j))) ds) (extends-more c p j sub) (sound-kept c p j sound ahead) (ahead-kept c p j code.next (onward (to_variable x (t.here.tpe)) (suc j)) ahead) (saved_final c k from before p j code.next t.here.tpe (types ts) w y sc sc2 act made v q false (onward (to_variable x (t.here.tpe)) (suc j)) final h (keeps-trans z p sc started sc2 (started-keeps z lawful p false x js.undefined sc kept_here) (all_kept sc2 k2)) a e) (grows-trans from w y g h) (record { sees = r2.sees; «open» = λ a b. r2.«open» a (inr b) }) (keeps-trans z c.kept before sc sc2 ks (keeps-trans z c.kept sc started sc2 (started-keeps z lawful c.kept false x js.undefined sc (λ b. kept_here (sub.more x b))) (keeps-fewer z p c.kept started sc2 sub.more (all_kept sc2 k2)))) states
       each _ _ (left y l v env' s' sc2 u' e h a r2 k2 states) = leaves_on z lawful c c.scope k from before (run z rest) y l v env' s' sc2 u' e (target_of c.targets l) refl (grows-trans from w y g h) a (record { sees = r2.sees; «open» = λ a b. r2.«open» a (inr b) }) (less-trans z c.kept (target_of c.targets l) before sc sc2 ks (less-trans z c.kept (target_of c.targets l) sc started sc2 (started-keeps z lawful c.kept false x js.undefined sc (λ b. kept_here (sub.more x b))) (keeps-fewer z (Less p (target_of c.targets l)) (Less c.kept (target_of c.targets l)) started sc2 (λ y i. (sub.more y i.0, i.1)) k2))) states
       each _ _ (threw y v q env' s' sc2 u' h a r2 k2 states) = sim_done z.direction (Came z.place c c.scope k from before) (ir.ends (ir.throws v) env' s') (js.ends (js.thrown_with q) sc2 u') (threw y v q env' s' sc2 u' (grows-trans from w y g h) a (record { sees = r2.sees; «open» = λ a b. r2.«open» a (inr b) }) (keeps-trans z c.kept before sc sc2 ks (keeps-trans z c.kept sc started sc2 (started-keeps z lawful c.kept false x js.undefined sc (λ b. kept_here (sub.more x b))) (keeps-fewer z p c.kept started sc2 sub.more k2))) states)
       each _ _ (stopped y env' s' sc2 u' t h r2 k2 states) = sim_done z.direction (Came z.place c c.scope k from before) (ir.ends ir.stops env' s') (js.ends js.breaks_nearest sc2 u') (stopped y env' s' sc2 u' t (grows-trans from w y g h) (record { sees = r2.sees; «open» = λ a b. r2.«open» a (inr b) }) (keeps-trans z c.kept before sc sc2 ks (keeps-trans z c.kept sc started sc2 (started-keeps z lawful c.kept false x js.undefined sc (λ b. kept_here (sub.more x b))) (keeps-fewer z p c.kept started sc2 sub.more k2))) states)
 
   -- one operand, by whether it and all behind it are plain, whether it is fixed, and whether it is plain
-  spill_one : (c : Context) (k : Destination) (from : World) (before : js.Scope) (t : Piece) (ts : List Piece) → SpillDoes c k from before ts → (a f b : Bool) → (t.here.plain && all_plain (operands_in ts)) ≡ a → t.here.fixed ≡ f → t.here.plain ≡ b → (p : core.Variable → Type 0) (j : ℕ) (act : List ir.Value → ir.Run) (made : List core.Expression → ℕ → Code) (w : World) (env : ir.Env) (s : ir.State) (sc : js.Scope) (u : js.State) → OperandsDo c j (t ∷ ts) → Extends c p → Sound z.is_mutable (keeping c p) → Ahead (keeping c p) j → Final c k from before p j sc w (count (t ∷ ts)) act made → Grows from w → Ready z.place c.scope c.writable w env sc → Keeps z.place c.kept before sc → SameState z.place w s u → Ends z lawful c c.scope k from before (ir_meaning.in_order (runs (t ∷ ts)) act env s) (then_use (spill_case a f b t.here (operands_in ts) (spill (operands_in ts)) j) made).statements sc u
+  spill_one : (c : Context) (k : Destination) (from : World) (before : js.Scope) (t : Piece) (ts : List Piece) → SpillDoes c k from before ts → (a f b : Bool) → (t.here.plain && all_plain (operands_in ts)) ≡ a → t.here.fixed ≡ f → t.here.plain ≡ b → (p : core.Variable → Type 0) (j : ℕ) (act : List ir.Value → ir.Run) (made : List core.Expression → ℕ → Code) (w : World) (env : ir.Env) (s : ir.State) (sc : js.Scope) (u : js.State) → OperandsDo c j (t ∷ ts) → Extends c p → Sound z.is_mutable (keeping c p) → Ahead (keeping c p) j → Final c k from before p j sc w (types (t ∷ ts)) act made → Grows from w → Ready z.place c.scope c.writable w env sc → Keeps z.place c.kept before sc → SameState z.place w s u → Ends z lawful c c.scope k from before (ir_meaning.in_order (runs (t ∷ ts)) act env s) (then_use (spill_case a f b t.here (operands_in ts) (spill (operands_in ts)) j) made).statements sc u
   spill_one c k from before t ts others true f b e1 e2 e3 p j act made w env s sc u ds sub sound ahead final g r ks same = spill_all c k from before t ts e1 p j act made w env s sc u ds sound ahead final r ks same
   spill_one c k from before t ts others false true b e1 e2 e3 p j act made w env s sc u (inl d, ds) sub sound ahead final g r ks same = spill_fixed c k from before t ts others e2 d.1 p j act made w env s sc u ds sub sound ahead final g r ks same
   spill_one c k from before t ts others false true b e1 e2 e3 p j act made w env s sc u (inr d, ds) sub sound ahead final g r ks same = impossible (sym d.1 ∙ e2)
@@ -279,5 +282,5 @@ module _ (z : Setting) (lawful : Lawful z) where
 
   -- what operands come to in order, their statements and expressions come to
   pub spill_does : (c : Context) (k : Destination) (from : World) (before : js.Scope) (ts : List Piece) → SpillDoes c k from before ts
-  spill_does c k from before [] p j act made w env s sc u ds sub sound ahead final g r ks same = final p j [] [] w env s sc u (λ y h. h) sound ahead (omega arith) (grows-refl w) r ks (keeps-refl z p sc) same none_left no_operands
+  spill_does c k from before [] p j act made w env s sc u ds sub sound ahead final g r ks same = final p j [] [] w env s sc u (λ y h. h) sound ahead (omega arith) (grows-refl w) r ks (keeps-refl z p sc) same no_operands
   spill_does c k from before (t ∷ ts) p j act made w env s sc u ds sub sound ahead final g r ks same = spill_one c k from before t ts (spill_does c k from before ts) (t.here.plain && all_plain (operands_in ts)) (t.here.fixed) (t.here.plain) refl refl refl p j act made w env s sc u ds sub sound ahead final g r ks same

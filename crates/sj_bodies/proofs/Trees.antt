@@ -1,7 +1,6 @@
 -- Each tree of the forms that are built, and its statements.
 use Rattle.std.proofs.Common.{◌≡◌, ℕ, suc, Bool, true, false, ◌&&◌, List, [], ◌∷◌, Some, None, Option, refl, sym, ap, ◌∙◌, subst, ◌⊎◌, inl, inr, ⊎_elim}
-use Rattle.std.specs.Prelude.{ℤ, pos, ◌≢◌, FitsSigned}
-use Rattle.std.specs.Int.{w32}
+use Rattle.std.specs.Prelude.{ℤ}
 use mathlib.Core.Path.{fun_ext}
 use Rattle.outcomes.specs.Outcome.{Out, done, then_do}
 use Rattle.outcomes.specs.Agreement.{Sim}
@@ -15,27 +14,30 @@ use Rattle.sj_core.specs.Views.{expressions_of}
 use Rattle.sj_desugar.specs.Coercions.{coerced_arguments}
 use Rattle.sj_desugar.specs.Desugar.{Targets, into, operands, operand, expression_of, first_of, second_of, finish, member, types_of}
 use Rattle.sj_desugar.specs.Plain.{is_plain, is_fixed}
-use Rattle.sj_desugar.specs.Spill.{Destination, discard, to_variable, Code, Operand, spill, spill_case, then_use}
+use Rattle.sj_desugar.specs.Spill.{Destination, discard, to_variable, Code, Operand, all_plain, spill, spill_case, then_use}
 use Rattle.sj_emit_expr.specs.Templates.{statement_templates}
 use Rattle.sj_names.specs.declared.method_names.MethodName.{MethodName}
 use Rattle.sj_names.specs.declared.method_names.Namespace.{Namespace}
-use Rattle.sj_trees.specs.Term.{Term, Terms, no_terms, more_terms, var_def, apply_static, binary_op, int_literal}
+use Rattle.sj_trees.specs.Term.{Term, Terms, no_terms, more_terms, var_def, apply_static, binary_op, int_literal, long_literal}
 use Rattle.sj_trees.specs.TypeOf.{type_of_term, binary_result}
 use Rattle.sj_trees.specs.declared.operators.BinaryOp.{BinaryOp}
 use Rattle.sj_trees.specs.declared.positions.Position.{Position}
 use Rattle.sj_trees.specs.declared.types.IrType.{IrType}
-use Rattle.sj_plain.specs.Conditions.{NoBoxes, IsDivision, Plain}
+use Rattle.sj_plain.specs.Conditions.{left_operand, DividesBy, by_int, by_long, Plain}
+use Rattle.sj_plain.specs.Standing.{Fits, FitAll, types_referred, call_type}
+use Rattle.sj_desugar.specs.Texts.{operand_of}
 use Rattle.sj_plain.specs.Settings.{Setting, shown, SameState, Valued, Lawful, Holding, holding}
 use Rattle.sj_bodies.proofs.Blocks.{Outside}
-use Rattle.sj_plain.proofs.Conditions.{arguments-same}
+use Rattle.sj_plain.proofs.Standing.{arguments-same}
+use Rattle.sj_plain.proofs.Divisions.{divisor_of, division_act, division_alike, dividend_alone}
 use Rattle.sj_bodies.proofs.Contexts.{Context, Writes, Sound, Ahead, Ready, Came}
 use Rattle.sj_bodies.proofs.Declared.{Own}
-use Rattle.sj_bodies.specs.Fine.{FitsIn, FineOperand, Fine}
+use Rattle.sj_bodies.specs.Fine.{FitsIn, FineOperand, Fine, with_local}
 use Rattle.sj_bodies.proofs.Forms.{sound-writing, ahead-writing, outside-writing, of_operands, one_final, quiet_alike, defining, sound-defining, ahead-defining, define_alike, OneFinal}
 use Rattle.sj_bodies.proofs.Numbers.{onward}
-use Rattle.sj_plain.proofs.Orders.{OperandAlike}
-use Rattle.sj_plain.proofs.Plain.{plain_alike, as_operand, call_alike, division_alike, division_act}
-use Rattle.sj_bodies.proofs.Spills.{keeping, writing, Does, Final, Piece, fixed_run, OperandDoes, OperandsDo, runs, operands_in, count}
+use Rattle.sj_plain.proofs.Orders.{OperandsAlike}
+use Rattle.sj_plain.proofs.Plain.{plain_alike, plain_tells, as_operand, call_alike, division_same}
+use Rattle.sj_bodies.proofs.Spills.{keeping, writing, Does, Final, Piece, fixed_run, OperandDoes, OperandsDo, runs, operands_in, types}
 use Rattle.sj_bodies.proofs.Statements.{finish_alike, Ends}
 use Rattle.sj_plain.proofs.Worlds.{World}
 
@@ -44,11 +46,11 @@ abbrev pub LowAlike : Setting → Type 1
 LowAlike z = (c : Context) (k : Destination) (j : ℕ) (t : Term) → Sound z.is_mutable c → Ahead c j → Outside c (Own t) → Writes c.writable k → Fine z.is_mutable z.place.has c.scope c.targets k t → (w : World) (env : ir.Env) (s : ir.State) (sc : js.Scope) (u : js.State) → Ready z.place c.scope c.writable w env sc → SameState z.place w s u → Sim z.direction (Came z.place c c.scope k w sc) (z.low t env s) (z.js_low (statement_templates z.place.name z.place.label (into z.is_mutable c.targets k j t).statements) sc u)
 
 pub outside-part : (c : Context) (own part : List ℕ → Type 0) → ((x : List ℕ) → part x → own x) → Outside c own → Outside c part
-outside-part c own part h out = record { scope = λ x i. out.scope x (h x i); writable = λ x i. out.writable x (h x i); kept = λ x i. out.kept x (h x i) }
+outside-part c own part h out = record { scope = λ x t i. out.scope x t (h x i); writable = λ x i. out.writable x (h x i); kept = λ x i. out.kept x (h x i) }
 
 -- the context behind the definition of a local
-abbrev pub behind : Setting → Context → List ℕ → Context
-behind z c x = record { scope = λ y. (y ≡ x) ⊎ c.scope y; writable = c.writable; kept = λ y. ((y ≡ core.named x) × (z.is_mutable x ≡ false)) ⊎ c.kept y; targets = c.targets; turning = c.turning }
+abbrev pub behind : Setting → Context → List ℕ → IrType → Context
+behind z c x t = record { scope = with_local x t c.scope; writable = c.writable; kept = λ y. ((y ≡ core.named x) × (z.is_mutable x ≡ false)) ⊎ c.kept y; targets = c.targets; turning = c.turning }
 
 onward-given : (e : ir.Ended) → ir.onward ir.given e ≡ done e
 onward-given (ir.ends (ir.gives v) env s) = refl
@@ -72,31 +74,43 @@ module _ (z : Setting) (lawful : Lawful z) (low : LowAlike z) where
   piece ls t = record { run = ir_meaning.step z.place.classes z.low t; here = operand z.is_mutable t (λ k j. into z.is_mutable ls k j t) }
 
   pub operand_does : (c : Context) (j : ℕ) (t : Term) → TreeDoes t → Outside c (Own t) → FineOperand z.is_mutable z.place.has c.scope t (λ y. FineHere c (to_variable y (type_of_term t)) t) → OperandDoes z lawful c j (piece c.targets t)
-  operand_does c j t does out (inl h) = inl (h.0, record { alike = λ w env sc sees. as_operand z lawful c.scope t (plain_alike z lawful c.scope t h.1) w env sc sees; fixes = λ e p sound w env sc sees. fixed_run z lawful c p t sound e h.1 w env sc sees })
+  operand_does c j t does out (inl h) = inl (h.0, record { alike = λ w env sc sees. as_operand z lawful c.scope t (plain_alike z lawful c.scope t h.1) w env sc sees; told = plain_tells z lawful c.scope t h.1; fixes = λ e p sound w env sc sees. fixed_run z lawful c p t sound e h.1 w env sc sees })
   operand_does c j t does out (inr h) = inr (h.0, h.1, (λ k i. onward z.is_mutable c.targets t k i), λ p i l ext sound ahead. does (writing (keeping c p) (core.numbered i)) (to_variable (core.numbered i) (type_of_term t)) (suc i) (sound-writing z lawful (keeping c p) i sound ahead) (ahead-writing z lawful (keeping c p) i ahead) (outside-writing z lawful c p i (Own t) ext out) (inl refl) (h.2 (core.numbered i)))
 
   -- a definition by what is known of its right side
-  pub define_does : (p : Position) (x : List ℕ) (t : IrType) (b : Bool) (e : Term) → TreeDoes e → (c : Context) (j : ℕ) → Sound z.is_mutable c → Ahead c j → Outside c (Own (var_def p x t b e)) → FineHere c discard (var_def p x t b e) → (w : World) (env : ir.Env) (s : ir.State) (sc : js.Scope) (u : js.State) → Ready z.place c.scope c.writable w env sc → SameState z.place w s u → Ends z lawful c (λ y. (y ≡ x) ⊎ c.scope y) discard w sc (ir_meaning.step z.place.classes z.low (var_def p x t b e) env s) (into z.is_mutable c.targets discard j (var_def p x t b e)).statements sc u
-  define_does p x t b e does c j sound ahead out fine = define_alike z lawful c p x t (type_of_term e) (ir_meaning.step z.place.classes z.low e) (expression_of e) (into z.is_mutable c.targets (to_variable (core.named x) t) j e) j (is_plain e) sound (out.scope x (inl refl)) (out.writable x (inl refl)) (out.kept x (inl refl)) (⊎_elim (λ h. inl (h.0, h.2, λ w env sc sees. as_operand z lawful c.scope e (plain_alike z lawful c.scope e h.1) w env sc sees)) (λ h. inr (h.0, does (defining z lawful c x) (to_variable (core.named x) t) j (sound-defining z lawful c x sound (out.scope x (inl refl)) (out.kept x (inl refl))) (ahead-defining z lawful c x j ahead) (record { scope = λ y o. out.scope y (inr o); writable = λ y o wr. ⊎_elim (λ i. fine.1 (subst (Own e) (cc) o)) (out.writable y (inr o)) wr; kept = λ y o. out.kept y (inr o) }) (inl refl) h.1)) fine.2)
+  pub define_does : (p : Position) (x : List ℕ) (t : IrType) (b : Bool) (e : Term) → TreeDoes e → (c : Context) (j : ℕ) → Sound z.is_mutable c → Ahead c j → Outside c (Own (var_def p x t b e)) → FineHere c discard (var_def p x t b e) → (w : World) (env : ir.Env) (s : ir.State) (sc : js.Scope) (u : js.State) → Ready z.place c.scope c.writable w env sc → SameState z.place w s u → Ends z lawful c (with_local x t c.scope) discard w sc (ir_meaning.step z.place.classes z.low (var_def p x t b e) env s) (into z.is_mutable c.targets discard j (var_def p x t b e)).statements sc u
+  define_does p x t b e does c j sound ahead out fine = define_alike z lawful c p x t (type_of_term e) (ir_meaning.step z.place.classes z.low e) (expression_of e) (into z.is_mutable c.targets (to_variable (core.named x) t) j e) j (is_plain e) sound (λ i. out.scope x i (inl refl)) (out.writable x (inl refl)) (out.kept x (inl refl)) (⊎_elim (λ h. inl (h.0, h.2, λ w env sc sees. as_operand z lawful c.scope e (plain_alike z lawful c.scope e h.1) w env sc sees)) (λ h. inr (h.0, does (defining z lawful c x) (to_variable (core.named x) t) j (sound-defining z lawful c x sound (λ i. out.scope x i (inl refl)) (out.kept x (inl refl))) (ahead-defining z lawful c x j ahead) (record { scope = λ y i o. out.scope y i (inr o); writable = λ y o wr. ⊎_elim (λ i. fine.1 (subst (Own e) (cc) o)) (out.writable y (inr o)) wr; kept = λ y o. out.kept y (inr o) }) (inl refl) h.1)) fine.2)
 
-  pub quiet : (t : Term) (c : Context) (k : Destination) (p : Position) (i : IrType) (e : core.Expression) (j : ℕ) (v : ir.Env → ir.Value) → Sound z.is_mutable c → Writes c.writable k → FitsIn k i → Plain z.place.has c.scope t → expression_of t ≡ e → ((w : World) (env : ir.Env) (s : ir.State) (sc : js.Scope) → Ready z.place c.scope c.writable w env sc → ir_meaning.step z.place.classes z.low t env s ≡ done (ir.ends (ir.gives (v env)) env s)) → (w : World) (env : ir.Env) (s : ir.State) (sc : js.Scope) (u : js.State) → Ready z.place c.scope c.writable w env sc → SameState z.place w s u → Ends z lawful c c.scope k w sc (ir_meaning.step z.place.classes z.low t env s) (finish k p i true e j).statements sc u
-  quiet t c k p i e j v sound wr fits plain is at w env s sc u r same = quiet_alike z lawful c k p i e j sound wr fits w env s sc u (ir_meaning.step z.place.classes z.low t env s) (v env) (at w env s sc r) r same (subst (λ d. Sim z.direction (Valued z.place w env) (ir_meaning.step z.place.classes z.low t env s) (shown z d sc u)) is (plain_alike z lawful c.scope t plain w env s sc u r.sees same))
+  pub quiet : (t : Term) (c : Context) (k : Destination) (p : Position) (e : core.Expression) (j : ℕ) (v : ir.Env → ir.Value) → Sound z.is_mutable c → Writes c.writable k → FitsIn k (type_of_term t) → Plain z.place.has c.scope t → expression_of t ≡ e → ((w : World) (env : ir.Env) (s : ir.State) (sc : js.Scope) → Ready z.place c.scope c.writable w env sc → ir_meaning.step z.place.classes z.low t env s ≡ done (ir.ends (ir.gives (v env)) env s)) → (w : World) (env : ir.Env) (s : ir.State) (sc : js.Scope) (u : js.State) → Ready z.place c.scope c.writable w env sc → SameState z.place w s u → Ends z lawful c c.scope k w sc (ir_meaning.step z.place.classes z.low t env s) (finish k p (type_of_term t) true e j).statements sc u
+  quiet t c k p e j v sound wr fits plain is at w env s sc u r same = quiet_alike z lawful c k p (type_of_term t) e j sound wr fits w env s sc u (ir_meaning.step z.place.classes z.low t env s) (v env) (at w env s sc r) r same (subst (λ d. Sim z.direction (Valued z.place w env (type_of_term t)) (ir_meaning.step z.place.classes z.low t env s) (shown z d sc u)) is (plain_alike z lawful c.scope t plain w env s sc u r.sees same))
 
   abbrev pub value_of : Option ir.Value → ir.Value
   value_of None = ir.undefined
   value_of (Some v) = v
 
-  pub local_at : (w : World) (o : Option ir.Value) (cell : js.Cell) (env : ir.Env) (s : ir.State) → Holding w o cell → ir_meaning.local_value o env s ≡ done (ir.ends (ir.gives (value_of o)) env s)
-  local_at w _ _ env s (holding v x a) = refl
+  pub local_at : (w : World) (t : IrType) (o : Option ir.Value) (cell : js.Cell) (env : ir.Env) (s : ir.State) → Holding w t o cell → ir_meaning.local_value o env s ≡ done (ir.ends (ir.gives (value_of o)) env s)
+  local_at w t _ _ env s (holding v x a) = refl
 
-  pub finish_one : (c : Context) (k : Destination) (p : Position) (t : IrType) (act : List ir.Value → ir.Run) (f : core.Expression → core.Expression) (j : ℕ) → Sound z.is_mutable c → Writes c.writable k → FitsIn k t → ((r : ir.Run) (e : core.Expression) (w : World) (env : ir.Env) (s : ir.State) (sc : js.Scope) (u : js.State) → OperandAlike z w env sc r (shown z e) → SameState z.place w s u → Sim z.direction (Valued z.place w env) (ir_meaning.in_order (r ∷ []) act env s) (shown z (f e) sc u)) → (w : World) (sc : js.Scope) → OneFinal z lawful c k w sc j act (λ es. finish k p t false (f (first_of es)))
-  finish_one c k p t act f j sound wr fits alike from before i r e w env s sc u ahead l g ready ks same operand = finish_alike z lawful c k p t (f e) i sound wr fits w from before env (ir_meaning.in_order (r ∷ []) act env s) sc u g ks ready (alike r e w env s sc u operand same)
+  pub finish_one : (c : Context) (k : Destination) (p : Position) (own t : IrType) (act : List ir.Value → ir.Run) (f : core.Expression → core.Expression) (j : ℕ) → Sound z.is_mutable c → Writes c.writable k → FitsIn k t → ((r : ir.Run) (e : core.Expression) (w : World) (env : ir.Env) (s : ir.State) (sc : js.Scope) (u : js.State) → OperandsAlike z w env sc (own ∷ []) (r ∷ []) (e ∷ []) → SameState z.place w s u → Sim z.direction (Valued z.place w env t) (ir_meaning.in_order (r ∷ []) act env s) (shown z (f e) sc u)) → (w : World) (sc : js.Scope) → OneFinal z lawful c k w sc j own act (λ es. finish k p t false (f (first_of es)))
+  finish_one c k p own t act f j sound wr fits alike from before i r e w env s sc u ahead l g ready ks same operand = finish_alike z lawful c k p t (f e) i sound wr fits w from before env (ir_meaning.in_order (r ∷ []) act env s) sc u g ks ready (alike r e w env s sc u operand same)
 
   -- a divisor that is a literal stays where it stands
-  divisor_stays : (f b : Bool) (o : Operand) (q : Position) (n : ℤ) (ls : Targets) (k : Destination) (p : Position) (op : BinaryOp) (j : ℕ) → then_use (spill_case (b && true) f b o (operand z.is_mutable (int_literal q n) (λ k j. into z.is_mutable ls k j (int_literal q n)) ∷ []) (spill (operand z.is_mutable (int_literal q n) (λ k j. into z.is_mutable ls k j (int_literal q n)) ∷ [])) j) (λ es. finish k p (binary_result op) false (core.binary_of op (first_of es) (second_of es))) ≡ then_use (spill_case (b && true) f b o [] (spill []) j) (λ es. finish k p (binary_result op) false (core.binary_of op (first_of es) (core.number_value n)))
-  divisor_stays f true o q n ls k p op j = refl
-  divisor_stays true false o q n ls k p op j = refl
-  divisor_stays false false o q n ls k p op j = refl
+  abbrev Divided : Bool → Bool → Operand → Targets → Destination → Position → BinaryOp → ℕ → Term → (core.Expression → core.Expression → core.Expression) → Type 0
+  Divided f b o ls k p op j d made = then_use (spill_case (b && all_plain (operand z.is_mutable d (λ k j. into z.is_mutable ls k j d) ∷ [])) f b o (operand z.is_mutable d (λ k j. into z.is_mutable ls k j d) ∷ []) (spill (operand z.is_mutable d (λ k j. into z.is_mutable ls k j d) ∷ [])) j) (λ es. finish k p (binary_result op) false (made (first_of es) (second_of es))) ≡ then_use (spill_case (b && true) f b o [] (spill []) j) (λ es. finish k p (binary_result op) false (made (first_of es) (expression_of d)))
+
+  int_stays : (f b : Bool) (o : Operand) (q : Position) (n : ℤ) (ls : Targets) (k : Destination) (p : Position) (op : BinaryOp) (j : ℕ) (made : core.Expression → core.Expression → core.Expression) → Divided f b o ls k p op j (int_literal q n) made
+  int_stays f true o q n ls k p op j made = refl
+  int_stays true false o q n ls k p op j made = refl
+  int_stays false false o q n ls k p op j made = refl
+
+  long_stays : (f b : Bool) (o : Operand) (q : Position) (n : ℤ) (ls : Targets) (k : Destination) (p : Position) (op : BinaryOp) (j : ℕ) (made : core.Expression → core.Expression → core.Expression) → Divided f b o ls k p op j (long_literal q n) made
+  long_stays f true o q n ls k p op j made = refl
+  long_stays true false o q n ls k p op j made = refl
+  long_stays false false o q n ls k p op j made = refl
+
+  divisor_stays : (o : BinaryOp) (d : Term) → DividesBy o d → (f b : Bool) (e : Operand) (ls : Targets) (k : Destination) (p : Position) (j : ℕ) (made : core.Expression → core.Expression → core.Expression) → Divided f b e ls k p o j d made
+  divisor_stays _ _ (by_int o i q n g ne) f b e ls k p j made = int_stays f b e q n ls k p o j made
+  divisor_stays _ _ (by_long o i q n g ne) f b e ls k p j made = long_stays f b e q n ls k p o j made
 
   -- arguments as a list
   abbrev pub list_of : Targets → Terms → List Piece
@@ -111,9 +125,13 @@ module _ (z : Setting) (lawful : Lawful z) (low : LowAlike z) where
   runs-list ls no_terms = refl
   runs-list ls (more_terms t ts) = ap (λ rs. ir_meaning.step z.place.classes z.low t ∷ rs) (runs-list ls ts)
 
+  types-list : (ls : Targets) (ts : Terms) → types_of ts ≡ types z lawful (list_of ls ts)
+  types-list ls no_terms = refl
+  types-list ls (more_terms t ts) = ap (λ is. type_of_term t ∷ is) (types-list ls ts)
+
   -- a call, by what is known of its arguments
-  pub call_does : (p : Position) (c : Context) (k : Destination) (j : ℕ) (m : MethodName) (cn : List ℕ) (n : Namespace) (ts : Terms) (t : IrType) → Sound z.is_mutable c → Ahead c j → Writes c.writable k → FitsIn k t → z.place.has.linked (member cn n m) ≡ true → NoBoxes m.params (types_of ts) → OperandsDo z lawful c j (list_of c.targets ts) → Does z lawful c k j (apply_static p cn n m ts t)
-  call_does p c k j m cn n ts t sound ahead wr fits linked boxes ds w env s sc u r same = subst (λ os. Ends z lawful c c.scope k w sc (ir_meaning.in_order (ir_meaning.operands z.place.classes z.low ts) act env s) (then_use (spill os j) made).statements sc u) (sym (operands-list c.targets ts)) (subst (λ rs. Ends z lawful c c.scope k w sc (ir_meaning.in_order rs act env s) (then_use (spill (operands_in z lawful (list_of c.targets ts)) j) made).statements sc u) (sym (runs-list c.targets ts)) (of_operands z lawful c k (list_of c.targets ts) j act made sound ahead ds final w env s sc u r same))
+  pub call_does : (p : Position) (c : Context) (k : Destination) (j : ℕ) (m : MethodName) (cn : List ℕ) (n : Namespace) (ts : Terms) (t : IrType) → Sound z.is_mutable c → Ahead c j → Writes c.writable k → FitsIn k t → z.place.has.linked (member cn n m) ≡ true → t ≡ call_type m.result → FitAll (types_referred m.params) (types_of ts) → OperandsDo z lawful c j (list_of c.targets ts) → Does z lawful c k j (apply_static p cn n m ts t)
+  call_does p c k j m cn n ts t sound ahead wr fits linked is fit ds w env s sc u r same = subst (λ os. Ends z lawful c c.scope k w sc (ir_meaning.in_order (ir_meaning.operands z.place.classes z.low ts) act env s) (then_use (spill os j) made).statements sc u) (sym (operands-list c.targets ts)) (subst (λ rs. Ends z lawful c c.scope k w sc (ir_meaning.in_order rs act env s) (then_use (spill (operands_in z lawful (list_of c.targets ts)) j) made).statements sc u) (sym (runs-list c.targets ts)) (of_operands z lawful c k (list_of c.targets ts) j act made sound ahead ds final w env s sc u r same))
     where
       act : List ir.Value → ir.Run
       act = ir_meaning.call z.low (ir_world.member_of z.place.classes cn n m) None
@@ -121,9 +139,12 @@ module _ (z : Setting) (lawful : Lawful z) (low : LowAlike z) where
       made : List core.Expression → ℕ → Code
       made es = finish k p t false (core.static_call (member cn n m) (expressions_of (coerced_arguments m.params (types_of ts) es)))
 
-      final : (w : World) (sc : js.Scope) → Final z lawful c k w sc c.kept j sc w (count z lawful (list_of c.targets ts)) act made
-      final from before q i rs es w env s sc u more so ah l g ready kb ks same sized alike = finish_alike z lawful c k p t (core.static_call (member cn n m) (expressions_of (coerced_arguments m.params (types_of ts) es))) i sound wr fits w from before env (ir_meaning.in_order rs act env s) sc u g kb ready (call_alike z lawful c.scope (member cn n m) rs (coerced_arguments m.params (types_of ts) es) es (arguments-same m.params (types_of ts) es boxes) linked w env s sc u ready.sees.inside alike same)
+      final : (w : World) (sc : js.Scope) → Final z lawful c k w sc c.kept j sc w (types z lawful (list_of c.targets ts)) act made
+      final from before q i rs es w env s sc u more so ah l g ready kb ks same alike = finish_alike z lawful c k p t (core.static_call (member cn n m) (expressions_of (coerced_arguments m.params (types_of ts) es))) i sound wr fits w from before env (ir_meaning.in_order rs act env s) sc u g kb ready (subst (λ i. Sim z.direction (Valued z.place w env i) (ir_meaning.in_order rs act env s) (shown z (core.static_call (member cn n m) (expressions_of (coerced_arguments m.params (types_of ts) es))) sc u)) (sym is) (call_alike z lawful c.scope (member cn n m) (types_of ts) rs (coerced_arguments m.params (types_of ts) es) es (arguments-same m.params (types_of ts) es fit) linked fit w env s sc u ready.sees.inside (subst (λ is. OperandsAlike z w env sc is rs es) (sym (types-list c.targets ts)) alike) same))
 
   -- a division, by what is known of its dividend
-  pub division_does : (p : Position) (c : Context) (k : Destination) (j : ℕ) (o : BinaryOp) (e : Term) (q : Position) (n : ℤ) → IsDivision o → FitsSigned w32 n → n ≢ pos 0 → Sound z.is_mutable c → Ahead c j → Writes c.writable k → FitsIn k (binary_result o) → OperandDoes z lawful c j (piece c.targets e) → Does z lawful c k j (binary_op p o e (int_literal q n))
-  division_does p c k j o e q n d f ne sound ahead wr fits dividend w env s sc u r same = subst (λ code. Ends z lawful c c.scope k w sc (ir_meaning.in_order (ir_meaning.step z.place.classes z.low e ∷ []) (division_act z lawful c.scope o n) env s) code.statements sc u) (sym (divisor_stays (is_fixed z.is_mutable e) (is_plain e) (operand z.is_mutable e (λ k j. into z.is_mutable c.targets k j e)) q n c.targets k p o j)) (of_operands z lawful c k (piece c.targets e ∷ []) j (division_act z lawful c.scope o n) (λ es. finish k p (binary_result o) false (core.binary_of o (first_of es) (core.number_value n))) sound ahead (dividend, tt) (one_final z lawful c k j (division_act z lawful c.scope o n) (λ es. finish k p (binary_result o) false (core.binary_of o (first_of es) (core.number_value n))) (finish_one c k p (binary_result o) (division_act z lawful c.scope o n) (λ x. core.binary_of o x (core.number_value n)) j sound wr fits (λ a x w env s sc u alike same. division_alike z lawful c.scope o a x n d f ne w env s sc u alike same))) w env s sc u r same)
+  pub division_does : (p : Position) (c : Context) (k : Destination) (j : ℕ) (o : BinaryOp) (e d : Term) → DividesBy o d → Fits (left_operand o) (type_of_term e) → Sound z.is_mutable c → Ahead c j → Writes c.writable k → FitsIn k (binary_result o) → OperandDoes z lawful c j (piece c.targets e) → Does z lawful c k j (binary_op p o e d)
+  division_does p c k j o e d by fit sound ahead wr fits dividend w env s sc u r same = subst (λ x. Ends z lawful c c.scope k w sc x (into z.is_mutable c.targets k j (binary_op p o e d)).statements sc u) (sym (dividend_alone z o d by (ir_meaning.step z.place.classes z.low e) env s)) (subst (λ code. Ends z lawful c c.scope k w sc (ir_meaning.in_order (ir_meaning.step z.place.classes z.low e ∷ []) (division_act z o (divisor_of d)) env s) code.statements sc u) (sym (divisor_stays o d by (is_fixed z.is_mutable e) (is_plain e) (operand z.is_mutable e (λ k j. into z.is_mutable c.targets k j e)) c.targets k p j made)) (of_operands z lawful c k (piece c.targets e ∷ []) j (division_act z o (divisor_of d)) (λ es. finish k p (binary_result o) false (made (first_of es) (expression_of d))) sound ahead (dividend, tt) (one_final z lawful c k j (type_of_term e) (division_act z o (divisor_of d)) (λ es. finish k p (binary_result o) false (made (first_of es) (expression_of d))) (finish_one c k p (type_of_term e) (binary_result o) (division_act z o (divisor_of d)) (λ x. made x (expression_of d)) j sound wr fits (λ a x w env s sc u alike same. subst (λ g. Sim z.direction (Valued z.place w env (binary_result o)) (ir_meaning.in_order (a ∷ []) (division_act z o (divisor_of d)) env s) (shown z g sc u)) (sym (division_same z lawful c.scope o d by (type_of_term e) (type_of_term d) x (expression_of d))) (division_alike z o d by (type_of_term e) fit a x w env s sc u alike same)))) w env s sc u r same))
+    where
+      made : core.Expression → core.Expression → core.Expression
+      made x y = core.binary_of o (operand_of o (type_of_term e) x) (operand_of o (type_of_term d) y)

@@ -81,8 +81,8 @@ module _ (z : Setting) (lawful : Lawful z) (low : LowAlike z) where
 
     -- the value of the loop is given up
     while_by : (c : Context) (k : Destination) (j : ℕ) → Sound z.is_mutable c → Ahead c j → Outside c (Own (while_loop p cond b)) → Writes c.writable k → Fine z.is_mutable z.place.has c.scope c.targets k (while_loop p cond b) → IsDiscard k × FineOperand z.is_mutable z.place.has c.scope cond (λ y. Fine z.is_mutable z.place.has c.scope c.targets (to_variable y (type_of_term cond)) cond) → Does z lawful c k j (while_loop p cond b)
-    while_by c _ j sound ahead out wr fine (is_discard, inl h) w env s sc u r same = subst (λ code. Ends z lawful c c.scope discard w sc (ir_meaning.step z.place.classes z.low (while_loop p cond b) env s) code.statements sc u) (sym (plain_code c discard j h.0)) (while_alike z lawful c p (ir_meaning.step z.place.classes z.low cond) (ir_meaning.step z.place.classes z.low b) (z.low (while_loop p cond b)) (expression_of cond) (body_code c j) (z.js_low (statement_templates z.place.name z.place.label (while_code c discard j).statements)) sound (free_body c j ahead out) (λ w env sc ready. as_operand z lawful c.scope cond (plain_alike z lawful c.scope cond h.1) w env sc ready.sees) (body_alike b does_b c discard j sound (ahead-turn z lawful c discard j ahead) (out_b c out) fine.1) (next_turns c discard j sound ahead out tt fine) (λ sc u. ap (λ code. z.js_low (statement_templates z.place.name z.place.label code.statements) sc u) (plain_code c discard j h.0)) w env s sc u r same)
-    while_by c _ j sound ahead out wr fine (is_discard, inr h) w env s sc u r same = subst (λ code. Ends z lawful c c.scope discard w sc (ir_meaning.step z.place.classes z.low (while_loop p cond b) env s) code.statements sc u) (sym (other_code c discard j h.0)) (forever_alike z lawful c discard p (ir_meaning.in_order (ir_meaning.step z.place.classes z.low cond ∷ []) (ir_meaning.branch (ir_meaning.step z.place.classes z.low b) stop)) (z.low (while_loop p cond b)) (spilled_code c j) (core.while_of (Some p) (core.boolean_value true) (spilled_code c j).statements) sound (free_spilled c j ahead out) (λ w env s sc u ready same. of_operands z lawful (in_turn c discard) discard (piece z lawful low c.targets cond ∷ []) j (ir_meaning.branch (ir_meaning.step z.place.classes z.low b) stop) (λ es i. put_first (break_unless (first_of es)) (body_code c i)) (sound-turn z lawful c discard sound) (ahead-turn z lawful c discard j ahead) (operand_does z lawful low (in_turn c discard) j cond does_cond (outside-turn c discard (Own cond) (outside-part c (Own (while_loop p cond b)) (Own cond) (λ x o. inl o) out)) (inr h), tt) (one_final z lawful (in_turn c discard) discard j (ir_meaning.branch (ir_meaning.step z.place.classes z.low b) stop) (λ es i. put_first (break_unless (first_of es)) (body_code c i)) (test_final z lawful c discard (ir_meaning.step z.place.classes z.low b) (body_code c) j sound is_discard (λ i l ah. body_alike b does_b c discard i sound ah (out_b c out) fine.1))) w env s sc u ready same) (λ w env s sc u ready same. subst (λ code. Sim z.direction (Came z.place c c.scope discard w sc) (z.low (while_loop p cond b) env s) (z.js_low (statement_templates z.place.name z.place.label code.statements) sc u)) (other_code c discard j h.0) (next_turns c discard j sound ahead out tt fine w env s sc u ready same)) (λ sc u. refl) w env s sc u r same)
+    while_by c _ j sound ahead out wr fine (is_discard, inl h) w env s sc u r same = subst (λ code. Ends z lawful c c.scope discard w sc (ir_meaning.step z.place.classes z.low (while_loop p cond b) env s) code.statements sc u) (sym (plain_code c discard j h.0)) (while_alike z lawful c p (type_of_term cond) (ir_meaning.step z.place.classes z.low cond) (ir_meaning.step z.place.classes z.low b) (z.low (while_loop p cond b)) (expression_of cond) (body_code c j) (z.js_low (statement_templates z.place.name z.place.label (while_code c discard j).statements)) sound (free_body c j ahead out) (λ w env sc ready. as_operand z lawful c.scope cond (plain_alike z lawful c.scope cond h.1) w env sc ready.sees) (body_alike b does_b c discard j sound (ahead-turn z lawful c discard j ahead) (out_b c out) fine.1) (next_turns c discard j sound ahead out tt fine) (λ sc u. ap (λ code. z.js_low (statement_templates z.place.name z.place.label code.statements) sc u) (plain_code c discard j h.0)) w env s sc u r same)
+    while_by c _ j sound ahead out wr fine (is_discard, inr h) w env s sc u r same = subst (λ code. Ends z lawful c c.scope discard w sc (ir_meaning.step z.place.classes z.low (while_loop p cond b) env s) code.statements sc u) (sym (other_code c discard j h.0)) (forever_alike z lawful c discard p (ir_meaning.in_order (ir_meaning.step z.place.classes z.low cond ∷ []) (ir_meaning.branch (ir_meaning.step z.place.classes z.low b) stop)) (z.low (while_loop p cond b)) (spilled_code c j) (core.while_of (Some p) (core.boolean_value true) (spilled_code c j).statements) sound (free_spilled c j ahead out) (λ w env s sc u ready same. of_operands z lawful (in_turn c discard) discard (piece z lawful low c.targets cond ∷ []) j (ir_meaning.branch (ir_meaning.step z.place.classes z.low b) stop) (λ es i. put_first (break_unless (first_of es)) (body_code c i)) (sound-turn z lawful c discard sound) (ahead-turn z lawful c discard j ahead) (operand_does z lawful low (in_turn c discard) j cond does_cond (outside-turn c discard (Own cond) (outside-part c (Own (while_loop p cond b)) (Own cond) (λ x o. inl o) out)) (inr h), tt) (one_final z lawful (in_turn c discard) discard j (type_of_term cond) (ir_meaning.branch (ir_meaning.step z.place.classes z.low b) stop) (λ es i. put_first (break_unless (first_of es)) (body_code c i)) (test_final z lawful c discard (ir_meaning.step z.place.classes z.low b) (body_code c) j sound is_discard (λ i l ah. body_alike b does_b c discard i sound ah (out_b c out) fine.1) (type_of_term cond))) w env s sc u ready same) (λ w env s sc u ready same. subst (λ code. Sim z.direction (Came z.place c c.scope discard w sc) (z.low (while_loop p cond b) env s) (z.js_low (statement_templates z.place.name z.place.label code.statements) sc u)) (other_code c discard j h.0) (next_turns c discard j sound ahead out tt fine w env s sc u ready same)) (λ sc u. refl) w env s sc u r same)
 
   module _ (p : Position) (b cond : Term) (does_b : TreeDoes z lawful low b) (does_cond : TreeDoes z lawful low cond) where
     abbrev do_code : Context → Destination → ℕ → Code
@@ -106,7 +106,7 @@ module _ (z : Setting) (lawful : Lawful z) (low : LowAlike z) where
 
     do_by : (c : Context) (k : Destination) (j : ℕ) → Sound z.is_mutable c → Ahead c j → Outside c (Own (do_while p b cond)) → Writes c.writable k → Fine z.is_mutable z.place.has c.scope c.targets k (do_while p b cond) → IsDiscard k × FineOperand z.is_mutable z.place.has c.scope cond (λ y. Fine z.is_mutable z.place.has c.scope c.targets (to_variable y (type_of_term cond)) cond) → Does z lawful c k j (do_while p b cond)
     unfolding turn
-    do_by c _ j sound ahead out wr fine (is_discard, h) w env s sc u r same = forever_alike z lawful c discard p turn (z.low (do_while p b cond)) (inner_code c j) (core.loop_of (Some p) (inner_code c j).statements) sound (free_inner c j ahead out) (turn_by c discard j sound ahead out fine.1 (λ y env s sc u ready same. of_operands z lawful (in_turn c discard) discard (piece z lawful low c.targets cond ∷ []) (into z.is_mutable c.targets discard j b).next (ir_meaning.branch (ir.given ir.undefined) stop) (λ es. one (break_unless (first_of es))) (sound-turn z lawful c discard sound) (ahead-later z lawful (in_turn c discard) j (into z.is_mutable c.targets discard j b).next (onward z.is_mutable c.targets b discard j) (ahead-turn z lawful c discard j ahead)) (operand_does z lawful low (in_turn c discard) (into z.is_mutable c.targets discard j b).next cond does_cond (outside-turn c discard (Own cond) (outside-part c (Own (do_while p b cond)) (Own cond) (λ x o. inr o) out)) h, tt) (one_final z lawful (in_turn c discard) discard (into z.is_mutable c.targets discard j b).next (ir_meaning.branch (ir.given ir.undefined) stop) (λ es. one (break_unless (first_of es))) (test_final z lawful c discard (ir.given ir.undefined) no_code (into z.is_mutable c.targets discard j b).next sound is_discard (λ i l ah w env s sc u ready same. silent z lawful (in_turn c discard) w ir.undefined env s sc u ready same))) y env s sc u ready same)) (low c discard j (do_while p b cond) sound ahead out tt fine) (λ sc u. refl) w env s sc u r same
+    do_by c _ j sound ahead out wr fine (is_discard, h) w env s sc u r same = forever_alike z lawful c discard p turn (z.low (do_while p b cond)) (inner_code c j) (core.loop_of (Some p) (inner_code c j).statements) sound (free_inner c j ahead out) (turn_by c discard j sound ahead out fine.1 (λ y env s sc u ready same. of_operands z lawful (in_turn c discard) discard (piece z lawful low c.targets cond ∷ []) (into z.is_mutable c.targets discard j b).next (ir_meaning.branch (ir.given ir.undefined) stop) (λ es. one (break_unless (first_of es))) (sound-turn z lawful c discard sound) (ahead-later z lawful (in_turn c discard) j (into z.is_mutable c.targets discard j b).next (onward z.is_mutable c.targets b discard j) (ahead-turn z lawful c discard j ahead)) (operand_does z lawful low (in_turn c discard) (into z.is_mutable c.targets discard j b).next cond does_cond (outside-turn c discard (Own cond) (outside-part c (Own (do_while p b cond)) (Own cond) (λ x o. inr o) out)) h, tt) (one_final z lawful (in_turn c discard) discard (into z.is_mutable c.targets discard j b).next (type_of_term cond) (ir_meaning.branch (ir.given ir.undefined) stop) (λ es. one (break_unless (first_of es))) (test_final z lawful c discard (ir.given ir.undefined) no_code (into z.is_mutable c.targets discard j b).next sound is_discard (λ i l ah w env s sc u ready same. silent z lawful (in_turn c discard) w ir.undefined env s sc u ready same) (type_of_term cond))) y env s sc u ready same)) (low c discard j (do_while p b cond) sound ahead out tt fine) (λ sc u. refl) w env s sc u r same
 
   -- a loop on the literal true never ends by its condition
   while_true : (p q : Position) (b : Term) → TreeDoes z lawful low b → (c : Context) (k : Destination) (j : ℕ) → Sound z.is_mutable c → Ahead c j → Outside c (Own (while_loop p (boolean_literal q true) b)) → Writes c.writable k → Fine z.is_mutable z.place.has c.scope c.targets k (while_loop p (boolean_literal q true) b) → Does z lawful c k j (while_loop p (boolean_literal q true) b)
