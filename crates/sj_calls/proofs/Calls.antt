@@ -1,5 +1,5 @@
 -- A call: its parameters are bound, and behind its body the locals of the caller are there again.
-use Rattle.std.proofs.Common.{◌≡◌, ℕ, Bool, true, false, List, [], ◌∷◌, Some, None, refl, sym, ap, ◌∙◌, subst, ◌⊎◌, inl, inr, ⊎_elim, if◌then◌else◌}
+use Rattle.std.proofs.Common.{◌≡◌, ℕ, Bool, true, false, List, [], ◌∷◌, Some, None, refl, sym, ap, ◌∙◌, subst, inl, inr, if◌then◌else◌}
 use Rattle.std.specs.Prelude.{nat_eq}
 use Rattle.std.specs.Cmp.Lexicographic.{pointwise}
 use Rattle.outcomes.specs.Outcome.{Out, done, then_do}
@@ -30,29 +30,46 @@ use Rattle.sj_bodies.proofs.Declared.{declared-named}
 use Rattle.sj_names.proofs.Same.{impossible}
 use Rattle.sj_bodies.proofs.Trees.{LowAlike}
 use Rattle.sj_plain.proofs.Worlds.{World, SameValue, same_undefined, SameValues, no_values, one_more}
-use Rattle.sj_calls.specs.Methods.{parameters_in, function_of, IsParameter, Linked}
+use Rattle.sj_calls.specs.Methods.{parameters_in, function_of, IsParameter, parameters_of, HaveTypes, Linked}
+use Rattle.sj_names.specs.declared.references.TypeRef.{TypeRef}
+use Rattle.sj_bodies.specs.Fine.{with_local}
+use Rattle.sj_plain.specs.Conditions.{Scope}
+use Rattle.sj_plain.specs.Standing.{types_referred, call_type}
+
+pub named_parameter : (ds : List ParamDef) (x : List ℕ) (t : IrType) → parameters_of ds x t → IsParameter ds x
+named_parameter [] x t h = h
+named_parameter (d ∷ ds) x t (inl h) = inl h.0
+named_parameter (d ∷ ds) x t (inr h) = inr (named_parameter ds x t h.1)
+
+one_type : (ds : List ParamDef) (x : List ℕ) (s t : IrType) → parameters_of ds x s → parameters_of ds x t → s ≡ t
+one_type [] x s t h k = absurd h
+one_type (d ∷ ds) x s t (inl h) (inl k) = h.1 ∙ sym k.1
+one_type (d ∷ ds) x s t (inl h) (inr k) = absurd (k.0 h.0)
+one_type (d ∷ ds) x s t (inr h) (inl k) = absurd (h.0 k.0)
+one_type (d ∷ ds) x s t (inr h) (inr k) = one_type ds x s t h.1 k.1
 
 -- what the body of a method is written in: its parameters, of which those that aren't mutable keep what they hold
 abbrev pub Kept : (List ℕ → Bool) → (List ℕ → Type 0) → core.Variable → Type 0
 Kept is_mutable scope (core.named x) = scope x × (is_mutable x ≡ false)
 Kept is_mutable scope (core.numbered k) = ⊥
 
-abbrev pub start : (List ℕ → Bool) → (List ℕ → Type 0) → Context
-start is_mutable scope = record { scope = scope; writable = λ y. ⊥; kept = Kept is_mutable scope; targets = []; turning = ⊥ }
+abbrev pub start : (List ℕ → Bool) → List ParamDef → Context
+start is_mutable ds = record { scope = parameters_of ds; writable = λ y. ⊥; kept = Kept is_mutable (IsParameter ds); targets = []; turning = ⊥ }
 
-pub sound-start : (is_mutable : List ℕ → Bool) (scope : List ℕ → Type 0) → Sound is_mutable (start is_mutable scope)
-sound-start is_mutable scope = record {
-  hidden = λ x wr g. wr;
-  constant = λ x g m. (g, m);
-  changing = λ x g k m. impossible (sym k.1 ∙ m);
+pub sound-start : (is_mutable : List ℕ → Bool) (ds : List ParamDef) → Sound is_mutable (start is_mutable ds)
+sound-start is_mutable ds = record {
+  hidden = λ x t wr g. wr;
+  constant = λ x t g m. (named_parameter ds x t g, m);
+  changing = λ x t g k m. impossible (sym k.1 ∙ m);
+  alone = one_type ds;
   reached = λ l. tt;
 }
 
-pub ahead-start : (is_mutable : List ℕ → Bool) (scope : List ℕ → Type 0) → Ahead (start is_mutable scope) 1
-ahead-start is_mutable scope = record { writable = λ k h wr. wr; kept = λ k h i. i }
+pub ahead-start : (is_mutable : List ℕ → Bool) (ds : List ParamDef) → Ahead (start is_mutable ds) 1
+ahead-start is_mutable ds = record { writable = λ k h wr. wr; kept = λ k h i. i }
 
-pub outside-start : (is_mutable : List ℕ → Bool) (scope own : List ℕ → Type 0) → ((x : List ℕ) → own x → scope x → ⊥) → Outside (start is_mutable scope) own
-outside-start is_mutable scope own fresh = record { scope = fresh; writable = λ x o wr. wr; kept = λ x o k. fresh x o k.0 }
+pub outside-start : (is_mutable : List ℕ → Bool) (ds : List ParamDef) (own : List ℕ → Type 0) → ((x : List ℕ) → own x → IsParameter ds x → ⊥) → Outside (start is_mutable ds) own
+outside-start is_mutable ds own fresh = record { scope = λ x t o g. fresh x o (named_parameter ds x t g); writable = λ x o wr. wr; kept = λ x o k. fresh x o k.0 }
 
 -- where the value of a body goes
 pub data Way : IrType → Destination → Type 0 where
@@ -72,39 +89,47 @@ result-same NoType v h = impossible (sym h)
 result-same t v h = refl
 
 -- the end of a body is the end of its call
-pub comes_back : (d : Direction) (p : Place) (t : IrType) (k : Destination) → Way t k → (c : Context) (scope : List ℕ → Type 0) (w : World) (before : js.Scope) (env : ir.Env) (a : ir.Ended) (b : js.StatementEnd) → Came p c scope k w before a b → Sim d (Valued p w env) (ir_meaning.returned t env a) (js_meaning.returned b)
-comes_back d p _ _ gives_up c scope w before env _ _ (gave y v inner s sc u _ g let_go r ks same) = sim_done d (Valued p w env) (ir.ends (ir.gives ir.undefined) env s) (js.gives js.undefined u) (valued y ir.undefined js.undefined s u g same_undefined same)
-comes_back d p _ _ (hands_on t h) c scope w before env _ _ (gave y v inner s sc u _ g (returned _ j a) r ks same) = subst (λ x. Sim d (Valued p w env) (ir.given x env s) (done (js.gives j u))) (sym (result-same t v h)) (sim_done d (Valued p w env) (ir.ends (ir.gives v) env s) (js.gives j u) (valued y v j s u g a same))
-comes_back d p t k i c scope w before env _ _ (left y l v inner s sc u e g a r ks same) = sim_wrong d (Valued p w env) (js_meaning.returned (js.ends e sc u))
-comes_back d p t k i c scope w before env _ _ (threw y v x inner s sc u g a r ks same) = sim_done d (Valued p w env) (ir.ends (ir.throws v) env s) (js.throws x u) (thrown y v x s u g a same)
-comes_back d p t k i c scope w before env _ _ (stopped y inner s sc u q g r ks same) = sim_wrong d (Valued p w env) (js_meaning.returned (js.ends js.breaks_nearest sc u))
+pub comes_back : (d : Direction) (p : Place) (t : IrType) (k : Destination) → Way t k → (c : Context) (scope : Scope) (w : World) (before : js.Scope) (env : ir.Env) (a : ir.Ended) (b : js.StatementEnd) → Came p c scope k w before a b → Sim d (Valued p w env t) (ir_meaning.returned t env a) (js_meaning.returned b)
+comes_back d p _ _ gives_up c scope w before env _ _ (gave y v inner s sc u _ g let_go r ks same) = sim_done d (Valued p w env NoType) (ir.ends (ir.gives ir.undefined) env s) (js.gives js.undefined u) (valued y ir.undefined js.undefined s u g (record { stands = same_undefined; suits = refl }) same)
+comes_back d p _ _ (hands_on t h) c scope w before env _ _ (gave y v inner s sc u _ g (returned _ j a) r ks same) = subst (λ x. Sim d (Valued p w env t) (ir.given x env s) (done (js.gives j u))) (sym (result-same t v h)) (sim_done d (Valued p w env t) (ir.ends (ir.gives v) env s) (js.gives j u) (valued y v j s u g a same))
+comes_back d p t k i c scope w before env _ _ (left y l v inner s sc u e g a r ks same) = sim_wrong d (Valued p w env t) (js_meaning.returned (js.ends e sc u))
+comes_back d p t k i c scope w before env _ _ (threw y v x inner s sc u g a r ks same) = sim_done d (Valued p w env t) (ir.ends (ir.throws v) env s) (js.throws x u) (thrown y v x s u g a same)
+comes_back d p t k i c scope w before env _ _ (stopped y inner s sc u q g r ks same) = sim_wrong d (Valued p w env t) (js_meaning.returned (js.ends js.breaks_nearest sc u))
 
 -- the parameters hold their arguments on both sides
 pub record Bound (p : Place) (w : World) (ds : List ParamDef) (vs : List ir.Value) (xs : List js.Value) (b : Name → js.Cell) : Type 0 where
   pub locals : ir.Locals
   pub are : ir_meaning.parameters ds vs ≡ Some locals
-  pub hold : (x : List ℕ) → IsParameter ds x → Holding w (locals x) (js_meaning.bind_parameters (parameters_in p (names_of ds)) xs b (p.name (core.named x)))
+  pub hold : (x : List ℕ) (t : IrType) → parameters_of ds x t → Holding w t (locals x) (js_meaning.bind_parameters (parameters_in p (names_of ds)) xs b (p.name (core.named x)))
 
 module _ (p : Place) (names : NamesDiffer p) where
   named-same : (x y : List ℕ) → core.named x ≡ core.named y → x ≡ y
   named-same x y e = cc
 
-  one_bound : (w : World) (d : ParamDef) (ds : List ParamDef) (v : ir.Value) (vs : List ir.Value) (x : js.Value) (xs : List js.Value) (b : Name → js.Cell) → SameValue w v x → Bound p w ds vs xs b → Bound p w (d ∷ ds) (v ∷ vs) (x ∷ xs) b
-  one_bound w d ds v vs x xs b a others = record { locals = λ y. if pointwise nat_eq y d.name then Some v else others.locals y; are = ap (ir_meaning.holding d.name v) others.are; hold = λ y h. go y h (pointwise nat_eq y d.name) refl }
+  one_bound : (w : World) (d : ParamDef) (ds : List ParamDef) (v : ir.Value) (vs : List ir.Value) (x : js.Value) (xs : List js.Value) (b : Name → js.Cell) → SameValue w d.tpe v x → Bound p w ds vs xs b → Bound p w (d ∷ ds) (v ∷ vs) (x ∷ xs) b
+  one_bound w d ds v vs x xs b a others = record { locals = λ y. if pointwise nat_eq y d.name then Some v else others.locals y; are = ap (ir_meaning.holding d.name v) others.are; hold = λ y t h. go y t h (pointwise nat_eq y d.name) refl }
     where
       outer : Name → js.Cell
       outer = js_meaning.bind_parameters (parameters_in p (names_of ds)) xs b
 
-      go : (y : List ℕ) → (y ≡ d.name) ⊎ IsParameter ds y → (t : Bool) → pointwise nat_eq y d.name ≡ t → Holding w (if pointwise nat_eq y d.name then Some v else others.locals y) (js_meaning.binding (p.name (core.named d.name)) (js.holds false x) outer (p.name (core.named y)))
-      go y h true e = let here : y ≡ d.name = is-equal y d.name e in subst (λ o. Holding w o (js_meaning.binding (p.name (core.named d.name)) (js.holds false x) outer (p.name (core.named y)))) (sym (ap (λ (t : Bool). if t then Some v else others.locals y) e)) (subst (λ cell. Holding w (Some v) cell) (sym (ap (λ (t : Bool). if t then js.holds false x else outer (p.name (core.named y))) (ap (λ a. pointwise nat_eq (p.name (core.named a)) (p.name (core.named d.name))) here ∙ equals (p.name (core.named d.name))))) (holding v x a))
-      go y h false e = let apart : y ≡ d.name → ⊥ = λ i. impossible (sym (subst (λ n. pointwise nat_eq y n ≡ false) (sym i) e) ∙ equals y) in subst (λ o. Holding w o (js_meaning.binding (p.name (core.named d.name)) (js.holds false x) outer (p.name (core.named y)))) (sym (ap (λ (t : Bool). if t then Some v else others.locals y) e)) (subst (λ cell. Holding w (others.locals y) cell) (sym (ap (λ (t : Bool). if t then js.holds false x else outer (p.name (core.named y))) (differs (p.name (core.named y)) (p.name (core.named d.name)) (λ i. apart (named-same y d.name (names.variables (core.named y) (core.named d.name) i)))))) (⊎_elim (λ i. absurd (apart i)) (λ i. others.hold y i) h))
+      own : (y : List ℕ) (t : IrType) → y ≡ d.name → with_local d.name d.tpe (parameters_of ds) y t → t ≡ d.tpe
+      own y t e (inl h) = h.1
+      own y t e (inr h) = absurd (h.0 e)
 
-  -- one list of arguments is the other's, and there are as many as parameters, or the call is wrong
-  pub bound : (w : World) (ds : List ParamDef) (vs : List ir.Value) (xs : List js.Value) (b : Name → js.Cell) → SameValues w vs xs → (ir_meaning.parameters ds vs ≡ None) ⊎ Bound p w ds vs xs b
-  bound w [] _ _ b no_values = inr (record { locals = λ x. None; are = refl; hold = λ x h. absurd h })
-  bound w [] _ _ b (one_more v x vs xs a rest) = inl refl
-  bound w (d ∷ ds) _ _ b no_values = inl refl
-  bound w (d ∷ ds) _ _ b (one_more v x vs xs a rest) = ⊎_elim (λ e. inl (ap (ir_meaning.holding d.name v) e)) (λ h. inr (one_bound w d ds v vs x xs b a h)) (bound w ds vs xs b rest)
+      other : (y : List ℕ) (t : IrType) → (y ≡ d.name → ⊥) → with_local d.name d.tpe (parameters_of ds) y t → parameters_of ds y t
+      other y t n (inl h) = absurd (n h.0)
+      other y t n (inr h) = h.1
+
+      go : (y : List ℕ) (t : IrType) → with_local d.name d.tpe (parameters_of ds) y t → (q : Bool) → pointwise nat_eq y d.name ≡ q → Holding w t (if pointwise nat_eq y d.name then Some v else others.locals y) (js_meaning.binding (p.name (core.named d.name)) (js.holds false x) outer (p.name (core.named y)))
+      go y t h true e = let here : y ≡ d.name = is-equal y d.name e in subst (λ o. Holding w t o (js_meaning.binding (p.name (core.named d.name)) (js.holds false x) outer (p.name (core.named y)))) (sym (ap (λ (b : Bool). if b then Some v else others.locals y) e)) (subst (λ cell. Holding w t (Some v) cell) (sym (ap (λ (b : Bool). if b then js.holds false x else outer (p.name (core.named y))) (ap (λ a. pointwise nat_eq (p.name (core.named a)) (p.name (core.named d.name))) here ∙ equals (p.name (core.named d.name))))) (holding v x (subst (λ i. SameValue w i v x) (sym (own y t here h)) a)))
+      go y t h false e = let apart : y ≡ d.name → ⊥ = λ i. impossible (sym (subst (λ n. pointwise nat_eq y n ≡ false) (sym i) e) ∙ equals y) in subst (λ o. Holding w t o (js_meaning.binding (p.name (core.named d.name)) (js.holds false x) outer (p.name (core.named y)))) (sym (ap (λ (b : Bool). if b then Some v else others.locals y) e)) (subst (λ cell. Holding w t (others.locals y) cell) (sym (ap (λ (b : Bool). if b then js.holds false x else outer (p.name (core.named y))) (differs (p.name (core.named y)) (p.name (core.named d.name)) (λ i. apart (named-same y d.name (names.variables (core.named y) (core.named d.name) i)))))) (others.hold y t (other y t apart h)))
+
+  -- one list of arguments is the other's, and there are as many as parameters
+  pub bound : (w : World) (ds : List ParamDef) (rs : List TypeRef) (vs : List ir.Value) (xs : List js.Value) (b : Name → js.Cell) → HaveTypes ds rs → SameValues w (types_referred rs) vs xs → Bound p w ds vs xs b
+  bound w [] [] _ _ b types no_values = record { locals = λ x. None; are = refl; hold = λ x t h. absurd h }
+  bound w [] (r ∷ rs) vs xs b types values = absurd types
+  bound w (d ∷ ds) [] vs xs b types values = absurd types
+  bound w (d ∷ ds) (r ∷ rs) _ _ b types (one_more _ v x _ vs xs a rest) = one_bound w d ds v vs x xs b (subst (λ t. SameValue w t v x) (sym types.0) a) (bound w ds rs vs xs b types.1 rest)
 
   -- no parameter has the name of a function
   pub parameters-free : (ns : List (List ℕ)) (xs : List js.Value) (b : Name → js.Cell) (y : Name) → OfNoVariable p y → b y ≡ js.absent → js_meaning.bind_parameters (parameters_in p ns) xs b y ≡ js.absent
@@ -121,8 +146,8 @@ module _ (p : Place) (names : NamesDiffer p) where
       go true e = let n = declared-named z ss y (subst (λ q. is_among (declared (statement_templates q.name q.label ss)) y ≡ true) (sym is) e) in absurd (none n.variable (subst (λ q. q.name n.variable ≡ y) is n.name))
 
   -- calls of a member and of its function are alike where the levels below are
-  pub call_alike : (d : Direction) (low : ir_meaning.Low) (js_low : js_meaning.Low) (m : Member) (l : Linked p m) → LowAlike (record { place = p; direction = d; is_mutable = is_mutable_in l.definition l.its_body; low = low; js_low = js_low }) → (w : World) (vs : List ir.Value) (xs : List js.Value) (env : ir.Env) (s : ir.State) (u : js.State) → SameValues w vs xs → SameState p w s u → Sim d (Valued p w env) (ir_meaning.call low (member_of p.classes m.class m.namespace m.method) None vs env s) (js_meaning.code_call js_low p.file (js_meaning.code_of p.program p.file (member_name m)) xs u)
-  call_alike d low js_low m l below w vs xs env s u values same = subst (λ o. Sim d (Valued p w env) o (js_meaning.code_call js_low p.file (js_meaning.code_of p.program p.file (member_name m)) xs u)) (sym ir_is) (subst (λ o. Sim d (Valued p w env) (ir_meaning.body_call low l.definition.result (Some l.its_body) None (ir_meaning.parameters l.definition.params vs) env s) o) (sym js_is) (⊎_elim no_locals locals (bound w l.definition.params vs xs names_declared values)))
+  pub call_alike : (d : Direction) (low : ir_meaning.Low) (js_low : js_meaning.Low) (m : Member) (l : Linked p m) → LowAlike (record { place = p; direction = d; is_mutable = is_mutable_in l.definition l.its_body; low = low; js_low = js_low }) → (w : World) (vs : List ir.Value) (xs : List js.Value) (env : ir.Env) (s : ir.State) (u : js.State) → SameValues w (types_referred m.method.params) vs xs → SameState p w s u → Sim d (Valued p w env (call_type m.method.result)) (ir_meaning.call low (member_of p.classes m.class m.namespace m.method) None vs env s) (js_meaning.code_call js_low p.file (js_meaning.code_of p.program p.file (member_name m)) xs u)
+  call_alike d low js_low m l below w vs xs env s u values same = subst (λ t. Sim d (Valued p w env t) (ir_meaning.call low (member_of p.classes m.class m.namespace m.method) None vs env s) (js_meaning.code_call js_low p.file (js_meaning.code_of p.program p.file (member_name m)) xs u)) l.result_is (subst (λ o. Sim d (Valued p w env l.definition.result) o (js_meaning.code_call js_low p.file (js_meaning.code_of p.program p.file (member_name m)) xs u)) (sym ir_is) (subst (λ o. Sim d (Valued p w env l.definition.result) (ir_meaning.body_call low l.definition.result (Some l.its_body) None (ir_meaning.parameters l.definition.params vs) env s) o) (sym js_is) (locals (bound w l.definition.params m.method.params vs xs names_declared l.parameters values))))
     where
       is_mutable : List ℕ → Bool
       is_mutable = is_mutable_in l.definition l.its_body
@@ -130,8 +155,8 @@ module _ (p : Place) (names : NamesDiffer p) where
       z : Setting
       z = record { place = p; direction = d; is_mutable = is_mutable; low = low; js_low = js_low }
 
-      scope : List ℕ → Type 0
-      scope = IsParameter l.definition.params
+      scope : Scope
+      scope = parameters_of l.definition.params
 
       k : Destination
       k = result_destination l.definition.result
@@ -154,11 +179,8 @@ module _ (p : Place) (names : NamesDiffer p) where
       js_is : js_meaning.code_call js_low p.file (js_meaning.code_of p.program p.file (member_name m)) xs u ≡ js_body
       js_is = ap (λ o. js_meaning.code_call js_low p.file o xs u) l.emitted
 
-      no_locals : ir_meaning.parameters l.definition.params vs ≡ None → Sim d (Valued p w env) (ir_meaning.body_call low l.definition.result (Some l.its_body) None (ir_meaning.parameters l.definition.params vs) env s) js_body
-      no_locals e = subst (λ o. Sim d (Valued p w env) (ir_meaning.body_call low l.definition.result (Some l.its_body) None o env s) js_body) (sym e) (sim_wrong d (Valued p w env) js_body)
-
-      locals : Bound p w l.definition.params vs xs names_declared → Sim d (Valued p w env) (ir_meaning.body_call low l.definition.result (Some l.its_body) None (ir_meaning.parameters l.definition.params vs) env s) js_body
-      locals h = subst (λ o. Sim d (Valued p w env) (ir_meaning.body_call low l.definition.result (Some l.its_body) None o env s) js_body) (sym h.are) (sim_then d (Came p (start is_mutable scope) scope k w sc) (Valued p w env) (low l.its_body inner s) (js_low code.body sc u) (ir_meaning.returned l.definition.result env) js_meaning.returned (below (start is_mutable scope) k 1 l.its_body (sound-start is_mutable scope) (ahead-start is_mutable scope) (outside-start is_mutable scope (Own l.its_body) l.fine.fresh) (writes-nothing (λ y. ⊥) l.definition.result k (way l.definition.result)) l.fine.fine w inner s sc u ready same) (comes_back d p l.definition.result k (way l.definition.result) (start is_mutable scope) scope w sc env))
+      locals : Bound p w l.definition.params vs xs names_declared → Sim d (Valued p w env l.definition.result) (ir_meaning.body_call low l.definition.result (Some l.its_body) None (ir_meaning.parameters l.definition.params vs) env s) js_body
+      locals h = subst (λ o. Sim d (Valued p w env l.definition.result) (ir_meaning.body_call low l.definition.result (Some l.its_body) None o env s) js_body) (sym h.are) (sim_then d (Came p (start is_mutable l.definition.params) scope k w sc) (Valued p w env l.definition.result) (low l.its_body inner s) (js_low code.body sc u) (ir_meaning.returned l.definition.result env) js_meaning.returned (below (start is_mutable l.definition.params) k 1 l.its_body (sound-start is_mutable l.definition.params) (ahead-start is_mutable l.definition.params) (outside-start is_mutable l.definition.params (Own l.its_body) l.fine.fresh) (writes-nothing (λ y. ⊥) l.definition.result k (way l.definition.result)) l.fine.fine w inner s sc u ready same) (comes_back d p l.definition.result k (way l.definition.result) (start is_mutable l.definition.params) scope w sc env))
         where
           inner : ir.Env
           inner = record { this_value = None; locals = h.locals; sure = sure_locals l.its_body }

@@ -14,6 +14,7 @@ use Rattle.sj_bodies.proofs.Contexts.{Came}
 use Rattle.sj_bodies.proofs.Main.{does}
 use Rattle.sj_bodies.proofs.Trees.{LowAlike}
 use Rattle.sj_plain.proofs.Worlds.{World, SameValues}
+use Rattle.sj_plain.specs.Standing.{types_referred}
 use Rattle.sj_calls.specs.Methods.{Linked, CallsAgree}
 use Rattle.sj_calls.proofs.Calls.{call_alike}
 
@@ -43,7 +44,7 @@ module _ (p : Place) (names : NamesDiffer p) (linked : (m : Member) → p.has.li
   levels forward (suc n) (suc k) h = next forward n k (levels forward n k (within-down forward n k h))
   levels backward (suc n) (suc k) h = next backward n k (levels backward n k (within-down backward n k h))
 
-  pub calls_agree : (m : Member) → p.has.linked m ≡ true → (w : World) (vs : List ir.Value) (xs : List js.Value) (env : ir.Env) (s : ir.State) (u : js.State) → SameValues w vs xs → SameState p w s u → CallsAgree p m w vs xs env s u
+  pub calls_agree : (m : Member) → p.has.linked m ≡ true → (w : World) (vs : List ir.Value) (xs : List js.Value) (env : ir.Env) (s : ir.State) (u : js.State) → SameValues w (types_referred m.method.params) vs xs → SameState p w s u → CallsAgree p m w vs xs env s u
   calls_agree m l w vs xs env s u values same = record {
     there = λ n k h. call_alike p names forward (ir_meaning.below p.classes n) (js_meaning.below p.program k) m (linked m l) (levels forward n k h (is_mutable_in (linked m l).definition (linked m l).its_body)) w vs xs env s u values same;
     back = λ n k h. call_alike p names backward (ir_meaning.below p.classes n) (js_meaning.below p.program k) m (linked m l) (levels backward n k h (is_mutable_in (linked m l).definition (linked m l).its_body)) w vs xs env s u values same;

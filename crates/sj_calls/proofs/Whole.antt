@@ -1,6 +1,6 @@
 -- A file that has the functions of methods and calls initializers shows what these show.
 use Rattle.std.proofs.Common.{◌≡◌, ℕ, Bool, true, false, List, [], ◌∷◌, ◌++◌, ◌&&◌, map, refl, sym, ap, ◌∙◌, subst, Contains, Option, Some, None, if◌then◌else◌, length, ◌<◌, ◌^◌, arith}
-use Rattle.std.specs.Int.{w32}
+use Rattle.std.specs.Int.{w32, w64}
 use Rattle.std.specs.Prelude.{ℤ, pos, negsuc, FitsSigned}
 use Rattle.std.specs.List.{list_all}
 use Rattle.std.proofs.lemmas.Bool.{and_parts}
@@ -26,7 +26,10 @@ use Rattle.sj_emit_expr.specs.Templates.{member_name, parameter_names}
 use Rattle.sj_names.specs.declared.entry_points.EntryPoint.{EntryPoint}
 use Rattle.sj_names.specs.declared.method_names.Member.{Member}
 use Rattle.sj_plain.specs.Settings.{Place, SameState, Valued, valued, thrown, NamesDiffer}
-use Rattle.sj_plain.specs.Worlds.{World, SameValue, same_undefined, same_null, same_boolean, same_number, same_text, no_values}
+use Rattle.sj_plain.specs.Worlds.{World, Stands, same_undefined, same_null, same_boolean, same_char, same_number, same_long, same_text, no_values}
+use Rattle.sj_plain.specs.Standing.{suits}
+use Rattle.sj_names.proofs.Same.{impossible}
+use Rattle.sj_trees.specs.declared.types.IrType.TheVariants.{Any, NoType}
 use Rattle.sj_bodies.proofs.Contexts.{equals}
 use Rattle.sj_calls.specs.Files.{EmittedMethod, function_item_of, initializer_member, call_item_of, module_with, program_with, IsEmitted, HasFunction}
 use Rattle.sj_calls.specs.Methods.{parameters_in, function_of, Linked, ir_call, js_call}
@@ -60,12 +63,18 @@ number_shown : (n : ℤ) → FitsSigned w32 n → js_showing.is_below (2 ^ 31) n
 number_shown (pos n) f = let h : n < 2 ^ 31 = f.sfits in grind arith
 number_shown (negsuc n) f = let h : n < 2 ^ 31 = f.sfits in grind arith
 
-uncaught_alike : (p : js.Program) (d : Direction) (w : World) (v : ir.Value) (x : js.Value) (s : ir.State) (u : js.State) → SameValue w v x → Sim d ◌≡◌ (ir_showing.uncaught_or_wrong (ir_showing.thrown s v)) (js_showing.uncaught_or_wrong (js_showing.thrown p u x))
-uncaught_alike p d w _ _ s u same_undefined = sim_done d ◌≡◌ (uncaught shown.undefined) (uncaught shown.undefined) refl
-uncaught_alike p d w _ _ s u same_null = sim_done d ◌≡◌ (uncaught shown.null) (uncaught shown.null) refl
-uncaught_alike p d w _ _ s u (same_boolean b) = sim_done d ◌≡◌ (uncaught (shown.boolean b)) (uncaught (shown.boolean b)) refl
-uncaught_alike p d w _ _ s u (same_number n f) = subst (λ (b : Bool). Sim d ◌≡◌ (done (uncaught (shown.number n))) (js_showing.uncaught_or_wrong (if b then Some (shown.number n) else None))) (sym (number_shown n f)) (sim_done d ◌≡◌ (uncaught (shown.number n)) (uncaught (shown.number n)) refl)
-uncaught_alike p d w _ _ s u (same_text us) = sim_done d ◌≡◌ (uncaught (shown.text us)) (uncaught (shown.text us)) refl
+long_shown : (n : ℤ) → FitsSigned w64 n → js_showing.is_below (2 ^ 63) n ≡ true
+long_shown (pos n) f = let h : n < 2 ^ 63 = f.sfits in grind arith
+long_shown (negsuc n) f = let h : n < 2 ^ 63 = f.sfits in grind arith
+
+uncaught_alike : (p : js.Program) (d : Direction) (w : World) (v : ir.Value) (x : js.Value) (s : ir.State) (u : js.State) → Stands w v x → suits Any v ≡ true → Sim d ◌≡◌ (ir_showing.uncaught_or_wrong (ir_showing.thrown s v)) (js_showing.uncaught_or_wrong (js_showing.thrown p u x))
+uncaught_alike p d w _ _ s u same_undefined h = sim_done d ◌≡◌ (uncaught shown.undefined) (uncaught shown.undefined) refl
+uncaught_alike p d w _ _ s u same_null h = sim_done d ◌≡◌ (uncaught shown.null) (uncaught shown.null) refl
+uncaught_alike p d w _ _ s u (same_boolean b) h = sim_done d ◌≡◌ (uncaught (shown.boolean b)) (uncaught (shown.boolean b)) refl
+uncaught_alike p d w _ _ s u (same_char n f) h = impossible h
+uncaught_alike p d w _ _ s u (same_number n f) h = subst (λ (b : Bool). Sim d ◌≡◌ (done (uncaught (shown.number n))) (js_showing.uncaught_or_wrong (if b then Some (shown.number n) else None))) (sym (number_shown n f)) (sim_done d ◌≡◌ (uncaught (shown.number n)) (uncaught (shown.number n)) refl)
+uncaught_alike p d w _ _ s u (same_long n f) h = subst (λ (b : Bool). Sim d ◌≡◌ (done (uncaught (shown.long n))) (js_showing.uncaught_or_wrong (if b then Some (shown.long n) else None))) (sym (long_shown n f)) (sim_done d ◌≡◌ (uncaught (shown.long n)) (uncaught (shown.long n)) refl)
+uncaught_alike p d w _ _ s u (same_text us) h = sim_done d ◌≡◌ (uncaught (shown.text us)) (uncaught (shown.text us)) refl
 
 -- functions do nothing as items
 past_functions : (p : js.Program) (k : ℕ) (f : Name) (fs : List EmittedMethod) (is : List Item) (u : js.State) → js_meaning.run_items p k f (map function_item_of fs ++ is) u ≡ js_meaning.run_items p k f is u
@@ -95,6 +104,8 @@ module _ (w : ir_world.World) (id : List ℕ) (fs : List EmittedMethod) (es : Li
     its_body = e.its_body;
     found = h.found;
     has_body = h.has_body;
+    parameters = h.parameters;
+    result_is = h.result_is;
     emitted = ap (λ o. js_meaning.code_in o (member_name e.member)) (module_there file (module_with fs es)) ∙ code_found fs (map call_item_of es) e listed distinct ∙ ap Some (code-is e);
     fine = h.fine;
   }
@@ -134,9 +145,9 @@ module _ (w : ir_world.World) (id : List ℕ) (fs : List EmittedMethod) (es : Li
         called : js.Cell → Out js.ExpressionEnd
         called cell = then_do (js_meaning.cell_value cell u) (js.with_value (λ g. js_meaning.in_order [] (js_meaning.call program (js_meaning.below program k) g) (js_meaning.top_scope program file)))
 
-    item_alike : (d : Direction) (n k : ℕ) → Within d n k → (e : EntryPoint) → has.linked (initializer_member e) ≡ true → (y : World) (s : ir.State) (u : js.State) → SameState place y s u → Sim d (Valued place y ir_showing.outside) (ir_call place (initializer_member e) [] ir_showing.outside s n) (item_run e k u)
-    item_alike forward n k h e l y s u same = subst (λ o. Sim forward (Valued place y ir_showing.outside) (ir_call place (initializer_member e) [] ir_showing.outside s n) o) (sym (item_is e k y s u l same)) ((calls_agree place names linked (initializer_member e) l y [] [] ir_showing.outside s u no_values same).there n k h)
-    item_alike backward n k h e l y s u same = subst (λ o. Sim backward (Valued place y ir_showing.outside) (ir_call place (initializer_member e) [] ir_showing.outside s n) o) (sym (item_is e k y s u l same)) ((calls_agree place names linked (initializer_member e) l y [] [] ir_showing.outside s u no_values same).back n k h)
+    item_alike : (d : Direction) (n k : ℕ) → Within d n k → (e : EntryPoint) → has.linked (initializer_member e) ≡ true → (y : World) (s : ir.State) (u : js.State) → SameState place y s u → Sim d (Valued place y ir_showing.outside NoType) (ir_call place (initializer_member e) [] ir_showing.outside s n) (item_run e k u)
+    item_alike forward n k h e l y s u same = subst (λ o. Sim forward (Valued place y ir_showing.outside NoType) (ir_call place (initializer_member e) [] ir_showing.outside s n) o) (sym (item_is e k y s u l same)) ((calls_agree place names linked (initializer_member e) l y [] [] ir_showing.outside s u no_values same).there n k h)
+    item_alike backward n k h e l y s u same = subst (λ o. Sim backward (Valued place y ir_showing.outside NoType) (ir_call place (initializer_member e) [] ir_showing.outside s n) o) (sym (item_is e k y s u l same)) ((calls_agree place names linked (initializer_member e) l y [] [] ir_showing.outside s u no_values same).back n k h)
 
     -- the end of the file
     abbrev ended : ℕ → Out js.ExpressionEnd → Shown
@@ -147,7 +158,7 @@ module _ (w : ir_world.World) (id : List ℕ) (fs : List EmittedMethod) (es : Li
 
     calls_alike : (d : Direction) (n k : ℕ) → Within d n k → (is : List EntryPoint) → ((e : EntryPoint) → Contains is e → has.linked (initializer_member e) ≡ true) → (y : World) (s : ir.State) (u : js.State) → SameState place y s u → Sim d ◌≡◌ (ir_showing.all_show w n is s) (ended k (calls is k u))
     calls_alike d n k h [] all y s u same = sim_done d ◌≡◌ normal normal refl
-    calls_alike d n k h (e ∷ is) all y s u same = subst (λ o. Sim d ◌≡◌ (ir_showing.all_show w n (e ∷ is) s) o) (sym regrouped) (sim_then d (Valued place y ir_showing.outside) ◌≡◌ (ir_call place (initializer_member e) [] ir_showing.outside s n) (item_run e k u) (ir_showing.next_or_end (ir_showing.all_show w n is)) behind (item_alike d n k h e (all e (Contains-append_left (e ∷ []) is e (Contains-push [] e))) y s u same) (next d n k is y (λ z v s u same. calls_alike d n k h is (λ x i. all x (Contains-append_right (e ∷ []) is x i)) z s u same)))
+    calls_alike d n k h (e ∷ is) all y s u same = subst (λ o. Sim d ◌≡◌ (ir_showing.all_show w n (e ∷ is) s) o) (sym regrouped) (sim_then d (Valued place y ir_showing.outside NoType) ◌≡◌ (ir_call place (initializer_member e) [] ir_showing.outside s n) (item_run e k u) (ir_showing.next_or_end (ir_showing.all_show w n is)) behind (item_alike d n k h e (all e (Contains-append_left (e ∷ []) is e (Contains-push [] e))) y s u same) (next d n k is y (λ z v s u same. calls_alike d n k h is (λ x i. all x (Contains-append_right (e ∷ []) is x i)) z s u same)))
       where
         rest : js.ExpressionEnd → Out js.ExpressionEnd
         rest = js.with_value (λ v. js_meaning.run_items program k file (map call_item_of is))
@@ -161,9 +172,9 @@ module _ (w : ir_world.World) (id : List ℕ) (fs : List EmittedMethod) (es : Li
         regrouped : ended k (calls (e ∷ is) k u) ≡ then_do (item_run e k u) behind
         regrouped = ap (λ o. then_do o (js_showing.ending program)) (then_do-associative (item_run e k u) rest end) ∙ then_do-associative (item_run e k u) (λ b. then_do (rest b) end) (js_showing.ending program)
 
-        next : (d : Direction) (n k : ℕ) (is : List EntryPoint) (y : World) → ((z : World) (v : ir.Value) (s : ir.State) (u : js.State) → SameState place z s u → Sim d ◌≡◌ (ir_showing.all_show w n is s) (ended k (calls is k u))) → (a : ir.Ended) (b : js.ExpressionEnd) → Valued place y ir_showing.outside a b → Sim d ◌≡◌ (ir_showing.next_or_end (ir_showing.all_show w n is) a) (then_do (then_do (js.with_value (λ v. js_meaning.run_items program k file (map call_item_of is)) b) (js.with_value (λ v. js_meaning.run_files program k []))) (js_showing.ending program))
+        next : (d : Direction) (n k : ℕ) (is : List EntryPoint) (y : World) → ((z : World) (v : ir.Value) (s : ir.State) (u : js.State) → SameState place z s u → Sim d ◌≡◌ (ir_showing.all_show w n is s) (ended k (calls is k u))) → (a : ir.Ended) (b : js.ExpressionEnd) → Valued place y ir_showing.outside NoType a b → Sim d ◌≡◌ (ir_showing.next_or_end (ir_showing.all_show w n is) a) (then_do (then_do (js.with_value (λ v. js_meaning.run_items program k file (map call_item_of is)) b) (js.with_value (λ v. js_meaning.run_files program k []))) (js_showing.ending program))
         next d n k is y others _ _ (valued z v x s u g a same) = others z v s u same
-        next d n k is y others _ _ (thrown z v x s u g a same) = uncaught_alike program d z v x s u a
+        next d n k is y others _ _ (thrown z v x s u g a same) = uncaught_alike program d z v x s u a.stands a.suits
 
     -- what the file shows
     abbrev order_shows : ℕ → List Name → Shown

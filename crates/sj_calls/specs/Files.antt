@@ -14,8 +14,9 @@ use Rattle.sj_names.specs.declared.method_names.Namespace.TheVariants.{PublicSta
 use Rattle.sj_names.specs.declared.references.TypeRef.TheVariants.{Void}
 use Rattle.sj_trees.specs.Term.{Term}
 use Rattle.sj_trees.specs.declared.classes.MethodDef.{MethodDef}
-use Rattle.sj_calls.specs.Methods.{FineMethod}
+use Rattle.sj_calls.specs.Methods.{FineMethod, HaveTypes}
 use Rattle.sj_plain.specs.Conditions.{Usable}
+use Rattle.sj_plain.specs.Standing.{call_type}
 
 -- a member whose function is emitted, with its method and its body
 pub record EmittedMethod : Type 0 where
@@ -45,10 +46,12 @@ module_with fs es = record { imports = []; items = map function_item_of fs ++ ma
 abbrev pub program_with : List ℕ → List EmittedMethod → List EntryPoint → Program
 program_with id fs es = record { file = file_of id; content = Some (module_with fs es) } ∷ []
 
--- the method is that of its member in the classes, and its body is fine where calls are of linked members
+-- the method is that of its member in the classes, with the types that its name tells, and its body is fine where calls are of linked members
 pub record IsEmitted (w : World) (has : Usable) (e : EmittedMethod) : Type 0 where
   pub found : member_of w e.member.class e.member.namespace e.member.method ≡ Some e.definition
   pub has_body : e.definition.body ≡ Some e.its_body
+  pub parameters : HaveTypes e.definition.params e.member.method.params
+  pub result_is : e.definition.result ≡ call_type e.member.method.result
   pub fine : FineMethod has e.definition e.its_body
 
 -- one of these methods is that of the member

@@ -15,11 +15,14 @@ use Rattle.sj_names.specs.declared.method_names.Member.{Member}
 use Rattle.sj_trees.specs.Term.{Term}
 use Rattle.sj_trees.specs.declared.classes.MethodDef.{MethodDef}
 use Rattle.sj_trees.specs.declared.classes.ParamDef.{ParamDef}
-use Rattle.sj_bodies.specs.Fine.{Fine}
+use Rattle.sj_bodies.specs.Fine.{Fine, with_local}
 use Rattle.sj_bodies.specs.Locals.{Own}
 use Rattle.sj_plain.specs.Settings.{Place, Valued}
 use Rattle.sj_plain.specs.Worlds.{World}
-use Rattle.sj_plain.specs.Conditions.{Usable}
+use Rattle.sj_plain.specs.Conditions.{Usable, Scope}
+use Rattle.sj_plain.specs.Standing.{call_type}
+use Rattle.sj_names.specs.declared.references.TypeRef.{TypeRef}
+use Rattle.sj_trees.specs.Types.{reference_type}
 
 -- the parameters of a function
 abbrev pub parameters_in : Place → List (List ℕ) → List Name
@@ -34,17 +37,30 @@ abbrev pub IsParameter : List ParamDef → List ℕ → Type 0
 IsParameter [] x = ⊥
 IsParameter (d ∷ ds) x = (x ≡ d.name) ⊎ IsParameter ds x
 
+-- the parameters in scope, each with its type
+abbrev pub parameters_of : List ParamDef → Scope
+parameters_of [] x t = ⊥
+parameters_of (d ∷ ds) x t = with_local d.name d.tpe (parameters_of ds) x t
+
+-- the types of parameters are those of the references in the name
+abbrev pub HaveTypes : List ParamDef → List TypeRef → Type 0
+HaveTypes [] [] = Unit {0}
+HaveTypes (d ∷ ds) (r ∷ rs) = (d.tpe ≡ reference_type r) × HaveTypes ds rs
+HaveTypes _ _ = ⊥
+
 -- the body is fine where it brings its value out of the method, with the parameters in scope, and it defines no parameter again
 pub record FineMethod (has : Usable) (d : MethodDef) (e : Term) : Type 0 where
-  pub fine : Fine (is_mutable_in d e) has (IsParameter d.params) [] (result_destination d.result) e
+  pub fine : Fine (is_mutable_in d e) has (parameters_of d.params) [] (result_destination d.result) e
   pub fresh : (x : List ℕ) → Own e x → IsParameter d.params x → ⊥
 
--- a member of the classes with a body that is fine, whose function stands in the file
+-- a member of the classes with the types that its name tells and a body that is fine, whose function stands in the file
 pub record Linked (p : Place) (m : Member) : Type 0 where
   pub definition : MethodDef
   pub its_body : Term
   pub found : member_of p.classes m.class m.namespace m.method ≡ Some definition
   pub has_body : definition.body ≡ Some its_body
+  pub parameters : HaveTypes definition.params m.method.params
+  pub result_is : definition.result ≡ call_type m.method.result
   pub emitted : js_meaning.code_of p.program p.file (member_name m) ≡ Some (function_of p definition its_body)
   pub fine : FineMethod p.has definition its_body
 
@@ -59,5 +75,5 @@ js_call p m xs u n = js_meaning.code_call (js_meaning.below p.program n) p.file 
 -- is done, the other is too, with the same lines and with a value and a state that stand for the one's; where it is going, its lines are the
 -- first of the other's. A call that is wrong by the IR promises nothing.
 pub record CallsAgree (p : Place) (m : Member) (w : World) (vs : List ir.Value) (xs : List js.Value) (env : ir.Env) (s : ir.State) (u : js.State) : Type 0 where
-  pub there : (n k : ℕ) → n ≤ k → Sim forward (Valued p w env) (ir_call p m vs env s n) (js_call p m xs u k)
-  pub back : (n k : ℕ) → k ≤ n → Sim backward (Valued p w env) (ir_call p m vs env s n) (js_call p m xs u k)
+  pub there : (n k : ℕ) → n ≤ k → Sim forward (Valued p w env (call_type m.method.result)) (ir_call p m vs env s n) (js_call p m xs u k)
+  pub back : (n k : ℕ) → k ≤ n → Sim backward (Valued p w env (call_type m.method.result)) (ir_call p m vs env s n) (js_call p m xs u k)

@@ -19,6 +19,7 @@ ghost use Rattle.js_tree.specs.Terms.{Name};
 ghost use Rattle.sj_emit_expr.specs.Templates.{member_name};
 ghost use Rattle.sj_names.specs.declared.entry_points.EntryPoint.{EntryPoint};
 ghost use Rattle.sj_names.specs.declared.method_names.Member.{Member};
+ghost use Rattle.sj_plain.specs.Standing.{types_referred};
 ghost use Rattle.sj_plain.specs.Settings.{Place, SameState, NamesDiffer};
 ghost use Rattle.sj_plain.specs.Worlds.{World, SameValues};
 ghost use Rattle.sj_calls.specs.Files.{EmittedMethod, initializer_member, module_with, program_with, IsEmitted, HasFunction};
@@ -26,11 +27,11 @@ ghost use Rattle.sj_calls.specs.Methods.{Linked, CallsAgree};
 ghost use Rattle.sj_calls.specs.Names.{emitted_in};
 ghost use Rattle.sj_plain.specs.Conditions.{Usable};
 
-/// The theorem on calls, for any names of variables and labels that differ: let each linked member be a method of the classes whose body is fine
-/// and whose emitted function stands in the file. Then a call of a linked member by the IR and a call of its function agree where the
-/// arguments and the states stand for each other: what the one shows within a bound, the other shows within each bound that isn't less.
+/// The theorem on calls, for any names of variables and labels that differ: let each linked member be a method of the classes with the types that
+/// its name tells, whose body is fine and whose emitted function stands in the file. Then a call of a linked member by the IR and a call of its function agree where the
+/// arguments, of the types that the name tells, and the states stand for each other: what the one shows within a bound, the other shows within each bound that isn't less.
 pub fn calls_agree()
-    ensures { (p : Place) → NamesDiffer p → ((m : Member) → p.has.linked m ≡ true → Linked p m) → (m : Member) → p.has.linked m ≡ true → (w : World) (vs : List ir.Value) (xs : List js.Value) (env : ir.Env) (s : ir.State) (u : js.State) → SameValues w vs xs → SameState p w s u → CallsAgree p m w vs xs env s u }
+    ensures { (p : Place) → NamesDiffer p → ((m : Member) → p.has.linked m ≡ true → Linked p m) → (m : Member) → p.has.linked m ≡ true → (w : World) (vs : List ir.Value) (xs : List js.Value) (env : ir.Env) (s : ir.State) (u : js.State) → SameValues w (types_referred m.method.params) vs xs → SameState p w s u → CallsAgree p m w vs xs env s u }
 {}
 
 /// The names of the emitted code differ: no two variables have one name, whatever numbers a name is made of, no two labels, and no variable has
@@ -40,7 +41,7 @@ pub fn emitted_names_differ()
 {}
 
 /// The theorem on files: take a module that has the functions of these methods in this order and then calls the initializers of a public module,
-/// and that has no early error. Let each method be that of its member in the classes, with a fine body, let each member that is
+/// and that has no early error. Let each method be that of its member in the classes, with the types that its name tells and a fine body, let each member that is
 /// called have one of the functions, and let the initializers be among them. Then the file shows of the public module what the classes show,
 /// unless the classes are wrong at some bound: what the one shows within any bound the other shows within some bound, and the other way round.
 pub fn file_of_functions_agrees()
