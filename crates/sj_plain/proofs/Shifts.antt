@@ -146,7 +146,7 @@ texts w String v x a k = string_texts w v x a k
 texts w Char v x a k = char_texts w v x a k
 texts w t v x a k = value_texts w t v x a (λ u. refl) k
 
-join_is : (v v' : ir.Value) → ir_operators.binary_value StringConcatenate v v' ≡ ir_operators.any_value StringConcatenate v v'
+pub join_is : (v v' : ir.Value) → ir_operators.binary_value StringConcatenate v v' ≡ ir_operators.any_value StringConcatenate v v'
 join_is (ir.boolean a) (ir.boolean b) = refl
 join_is (ir.number a) (ir.number b) = refl
 join_is (ir.long a) (ir.long b) = refl

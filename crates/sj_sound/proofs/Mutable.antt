@@ -2,13 +2,14 @@
 use Rattle.std.proofs.Common.{◌≡◌, ℕ, Bool, true, false, List, [], ◌∷◌, ◌||◌, ◌⊎◌, inl, inr, refl, sym, ap, ◌∙◌}
 use Rattle.sj_desugar.specs.Desugar.{is_mutable_in}
 use Rattle.sj_desugar.specs.Plain.{is_among, if_mutable, mutable_in, mutable_in_all, mutable_in_cases, mutable_params}
-use Rattle.sj_trees.specs.Term.{Term, Terms, no_terms, more_terms, Cases, no_cases, more_cases, var_def, skip, block_of, labeled, assign, return_to, if_then, while_loop, do_while, match_on, apply_static, unary_op, binary_op, undefined_literal, null_literal, boolean_literal, byte_literal, short_literal, int_literal, string_literal, var_ref, log_line}
+use Rattle.sj_trees.specs.Term.{Term, Terms, no_terms, more_terms, Cases, no_cases, more_cases, var_def, skip, block_of, labeled, assign, return_to, if_then, while_loop, do_while, match_on, apply_static, unary_op, binary_op, undefined_literal, null_literal, boolean_literal, char_literal, byte_literal, short_literal, int_literal, long_literal, string_literal, var_ref, log_line}
 use Rattle.sj_trees.specs.declared.classes.MethodDef.{MethodDef}
 use Rattle.sj_trees.specs.declared.classes.ParamDef.{ParamDef}
 use Rattle.sj_trees.specs.declared.types.IrType.{IrType}
 use Rattle.std.specs.Prelude.{Some, nat_eq, if◌then◌else◌}
 use Rattle.std.specs.Cmp.Lexicographic.{pointwise}
-use Rattle.sj_plain.specs.Conditions.{IsDivisor, divisor, Usable}
+use Rattle.sj_plain.specs.Conditions.{DividesBy, by_int, by_long, Usable}
+use Rattle.sj_trees.specs.declared.operators.BinaryOp.{BinaryOp}
 use Rattle.sj_bodies.proofs.Contexts.{equals, is-equal}
 use Rattle.sj_names.proofs.Same.{impossible}
 use Rattle.sj_sound.specs.Typing.{Scene, local_of, behind, in_label, Typed, TypedBlock, TypedAll, TypedCases}
@@ -59,11 +60,13 @@ if-here : (b : Bool) (x y : List ℕ) (xs : List (List ℕ)) → b ≡ true → 
 if-here true x y xs h e = at_front (pointwise nat_eq y x) (is_among xs y) (ap (pointwise nat_eq y) (sym e) ∙ equals y)
 if-here false x y xs h e = impossible h
 
-keeps-divisor : (d : Term) → IsDivisor d → (y : List ℕ) → Keeps (mutable_in d) y
-keeps-divisor _ (divisor p n f ne) y xs i = i
+keeps-divisor : (o : BinaryOp) (d : Term) → DividesBy o d → (y : List ℕ) → Keeps (mutable_in d) y
+keeps-divisor _ _ (by_int o k p n f ne) y xs i = i
+keeps-divisor _ _ (by_long o k p n f ne) y xs i = i
 
-no_divisor : (d : Term) → IsDivisor d → (y : List ℕ) → Mutates d y → ⊥
-no_divisor _ (divisor p n f ne) y h = h
+no_divisor : (o : BinaryOp) (d : Term) → DividesBy o d → (y : List ℕ) → Mutates d y → ⊥
+no_divisor _ _ (by_int o k p n f ne) y h = h
+no_divisor _ _ (by_long o k p n f ne) y h = h
 
 module _ (sub : IrType → IrType → Type 0) (has : Usable) (y : List ℕ) where
   mutual
@@ -71,20 +74,22 @@ module _ (sub : IrType → IrType → Type 0) (has : Usable) (y : List ℕ) wher
     keeps (var_def p x t b e) s h xs i = if-keeps b x y (mutable_in e xs) (keeps e s h.3 xs i)
     keeps (skip p) s h xs i = i
     keeps (block_of p ts) s h xs i = keeps-block ts s h xs i
-    keeps (labeled p l t e) s h xs i = keeps e (in_label l t s) h.2 xs i
+    keeps (labeled p l t e) s h xs i = keeps e (in_label l t s) h.1 xs i
     keeps (assign p (var_ref q x t) e) s h xs i = keeps e s h.2 xs i
     keeps (return_to p e l) s h xs i = keeps e s h.1 xs i
-    keeps (if_then p c a b t) s h xs i = keeps c s h.4 (mutable_in a (mutable_in b xs)) (keeps a s h.5 (mutable_in b xs) (keeps b s h.6 xs i))
+    keeps (if_then p c a b t) s h xs i = keeps c s h.3 (mutable_in a (mutable_in b xs)) (keeps a s h.4 (mutable_in b xs) (keeps b s h.5 xs i))
     keeps (while_loop p c b) s h xs i = keeps c s h.1 (mutable_in b xs) (keeps b s h.2 xs i)
     keeps (do_while p b c) s h xs i = keeps b s h.1 (mutable_in c xs) (keeps c s h.2 xs i)
-    keeps (match_on p e cs d t) s h xs i = keeps e s h.3 (mutable_in_cases cs (mutable_in d xs)) (keeps-cases cs s t h.4 (mutable_in d xs) (keeps d s h.5 xs i))
+    keeps (match_on p e cs d t) s h xs i = keeps e s h.2 (mutable_in_cases cs (mutable_in d xs)) (keeps-cases cs s t h.3 (mutable_in d xs) (keeps d s h.4 xs i))
     keeps (apply_static p c n m ts t) s h xs i = keeps-all ts s h.3 xs i
-    keeps (unary_op p o e) s h xs i = keeps e s h.2 xs i
-    keeps (binary_op p o e d) s (inl h) xs i = keeps e s h.3 (mutable_in d xs) (keeps d s h.4 xs i)
-    keeps (binary_op p o e d) s (inr h) xs i = keeps e s h.2 (mutable_in d xs) (keeps-divisor d h.3 y xs i)
+    keeps (unary_op p o e) s h xs i = keeps e s h.1 xs i
+    keeps (binary_op p o e d) s (inl h) xs i = keeps e s h.1 (mutable_in d xs) (keeps d s h.2 xs i)
+    keeps (binary_op p o e d) s (inr h) xs i = keeps e s h.2 (mutable_in d xs) (keeps-divisor o d h.0 y xs i)
     keeps (undefined_literal p) s h xs i = i
     keeps (null_literal p) s h xs i = i
     keeps (boolean_literal p b) s h xs i = i
+    keeps (char_literal p n) s h xs i = i
+    keeps (long_literal p n) s h xs i = i
     keeps (byte_literal p n) s h xs i = i
     keeps (short_literal p n) s h xs i = i
     keeps (int_literal p n) s h xs i = i
@@ -111,26 +116,26 @@ module _ (sub : IrType → IrType → Type 0) (has : Usable) (y : List ℕ) wher
     among (var_def p x t b e) s h (inl m) xs = if-here b x y (mutable_in e xs) m.0 m.1
     among (var_def p x t b e) s h (inr m) xs = if-keeps b x y (mutable_in e xs) (among e s h.3 m xs)
     among (block_of p ts) s h m xs = among-block ts s h m xs
-    among (labeled p l t e) s h m xs = among e (in_label l t s) h.2 m xs
+    among (labeled p l t e) s h m xs = among e (in_label l t s) h.1 m xs
     among (assign p (var_ref q x t) e) s h m xs = among e s h.2 m xs
     among (assign p d e) s h m xs = absurd h
     among (return_to p e l) s h m xs = among e s h.1 m xs
-    among (if_then p c a b t) s h (inl m) xs = among c s h.4 m (mutable_in a (mutable_in b xs))
-    among (if_then p c a b t) s h (inr (inl m)) xs = keeps c s h.4 (mutable_in a (mutable_in b xs)) (among a s h.5 m (mutable_in b xs))
-    among (if_then p c a b t) s h (inr (inr m)) xs = keeps c s h.4 (mutable_in a (mutable_in b xs)) (keeps a s h.5 (mutable_in b xs) (among b s h.6 m xs))
+    among (if_then p c a b t) s h (inl m) xs = among c s h.3 m (mutable_in a (mutable_in b xs))
+    among (if_then p c a b t) s h (inr (inl m)) xs = keeps c s h.3 (mutable_in a (mutable_in b xs)) (among a s h.4 m (mutable_in b xs))
+    among (if_then p c a b t) s h (inr (inr m)) xs = keeps c s h.3 (mutable_in a (mutable_in b xs)) (keeps a s h.4 (mutable_in b xs) (among b s h.5 m xs))
     among (while_loop p c b) s h (inl m) xs = among c s h.1 m (mutable_in b xs)
     among (while_loop p c b) s h (inr m) xs = keeps c s h.1 (mutable_in b xs) (among b s h.2 m xs)
     among (do_while p b c) s h (inl m) xs = among b s h.1 m (mutable_in c xs)
     among (do_while p b c) s h (inr m) xs = keeps b s h.1 (mutable_in c xs) (among c s h.2 m xs)
-    among (match_on p e cs d t) s h (inl m) xs = among e s h.3 m (mutable_in_cases cs (mutable_in d xs))
-    among (match_on p e cs d t) s h (inr (inl m)) xs = keeps e s h.3 (mutable_in_cases cs (mutable_in d xs)) (among-cases cs s t h.4 m (mutable_in d xs))
-    among (match_on p e cs d t) s h (inr (inr m)) xs = keeps e s h.3 (mutable_in_cases cs (mutable_in d xs)) (keeps-cases cs s t h.4 (mutable_in d xs) (among d s h.5 m xs))
+    among (match_on p e cs d t) s h (inl m) xs = among e s h.2 m (mutable_in_cases cs (mutable_in d xs))
+    among (match_on p e cs d t) s h (inr (inl m)) xs = keeps e s h.2 (mutable_in_cases cs (mutable_in d xs)) (among-cases cs s t h.3 m (mutable_in d xs))
+    among (match_on p e cs d t) s h (inr (inr m)) xs = keeps e s h.2 (mutable_in_cases cs (mutable_in d xs)) (keeps-cases cs s t h.3 (mutable_in d xs) (among d s h.4 m xs))
     among (apply_static p c n m ts t) s h i xs = among-all ts s h.3 i xs
-    among (unary_op p o e) s h m xs = among e s h.2 m xs
-    among (binary_op p o e d) s (inl h) (inl m) xs = among e s h.3 m (mutable_in d xs)
-    among (binary_op p o e d) s (inl h) (inr m) xs = keeps e s h.3 (mutable_in d xs) (among d s h.4 m xs)
+    among (unary_op p o e) s h m xs = among e s h.1 m xs
+    among (binary_op p o e d) s (inl h) (inl m) xs = among e s h.1 m (mutable_in d xs)
+    among (binary_op p o e d) s (inl h) (inr m) xs = keeps e s h.1 (mutable_in d xs) (among d s h.2 m xs)
     among (binary_op p o e d) s (inr h) (inl m) xs = among e s h.2 m (mutable_in d xs)
-    among (binary_op p o e d) s (inr h) (inr m) xs = absurd (no_divisor d h.3 y m)
+    among (binary_op p o e d) s (inr h) (inr m) xs = absurd (no_divisor o d h.0 y m)
     among (log_line p e) s h m xs = among e s h.1 m xs
     among _ s h m xs = absurd m
 

@@ -14,26 +14,28 @@ use Rattle.sj_desugar.specs.Desugar.{member}
 use Rattle.sj_desugar.specs.Plain.{is_no_type}
 use Rattle.sj_names.specs.declared.method_names.Member.{Member}
 use Rattle.sj_names.specs.declared.references.TypeRef.{TypeRef}
-use Rattle.sj_trees.specs.Term.{Term, Terms, no_terms, more_terms, Cases, no_cases, more_cases, var_def, skip, block_of, labeled, assign, return_to, if_then, while_loop, do_while, match_on, apply_static, unary_op, binary_op, undefined_literal, null_literal, boolean_literal, byte_literal, short_literal, int_literal, string_literal, var_ref, log_line}
+use Rattle.sj_trees.specs.Term.{Term, Terms, no_terms, more_terms, Cases, no_cases, more_cases, var_def, skip, block_of, labeled, assign, return_to, if_then, while_loop, do_while, match_on, apply_static, unary_op, binary_op, undefined_literal, null_literal, boolean_literal, char_literal, byte_literal, short_literal, int_literal, long_literal, string_literal, var_ref, log_line}
 use Rattle.sj_trees.specs.TypeOf.{type_of_term, type_of_last, loop_type, unary_result, binary_result}
 use Rattle.sj_trees.specs.Types.{reference_type}
 use Rattle.sj_trees.specs.declared.classes.ParamDef.{ParamDef}
 use Rattle.sj_trees.specs.declared.operators.BinaryOp.{BinaryOp}
 use Rattle.sj_trees.specs.declared.positions.Position.{Position}
 use Rattle.sj_trees.specs.declared.types.IrType.{IrType}
-use Rattle.sj_trees.specs.declared.types.IrType.TheVariants.{Undefined, Null, Boolean, Byte, Short, Int, String, NoType, Nothing}
-use Rattle.sj_plain.specs.Conditions.{IsDivision, IsDivisor, divisor, Usable}
+use Rattle.sj_trees.specs.declared.types.IrType.TheVariants.{Undefined, Null, Boolean, Byte, Short, Int, String, NoType, Nothing, Char, Long}
+use Rattle.sj_plain.specs.Conditions.{unary_operand, left_operand, right_operand, IsDivision, a_quotient, a_remainder, IsLongDivision, a_long_quotient, a_long_remainder, DividesBy, by_int, by_long, Usable}
+use Rattle.sj_plain.specs.Standing.{call_type}
 use Rattle.sj_bodies.specs.Fine.{IsTrueLiteral, true_literal}
 use Rattle.sj_bodies.specs.Locals.{Own, OwnAll, OwnCases}
 use Rattle.sj_bodies.proofs.Contexts.{is-equal}
 use Rattle.sj_names.proofs.Same.{impossible}
 use Rattle.sj_calls.specs.Methods.{IsParameter}
 use Rattle.sj_calls.proofs.Calls.{result-same}
-use Rattle.sj_sound.specs.Rules.{HaveTypes, RightMember}
+use Rattle.sj_sound.specs.Rules.{RightMember}
+use Rattle.sj_calls.specs.Methods.{HaveTypes}
 use Rattle.sj_sound.specs.Subtyping.{IsSubtyping}
-use Rattle.sj_sound.specs.Typing.{Scene, local_of, type_of_label, HasValue, unary_operand, binary_operand, behind, in_label, call_type, Yields, ArgumentsFit, Typed, TypedBlock, TypedAll, TypedCases}
-use Rattle.sj_sound.proofs.Covered.{local-there, HaveValues, values-behind, value-not, true-or-none, unary-operand-value, binary-operand-value}
-use Rattle.sj_sound.proofs.Values.{HasType, has_type, of_undefined, of_null, of_boolean, of_byte, of_short, of_int, of_text, IsBoolean, a_boolean, IsNumber, a_number, IsText, a_text, wider, as_boolean, as_int, as_text, Gives, some_of, unary_gives, binary_gives, division_gives}
+use Rattle.sj_sound.specs.Typing.{Scene, local_of, type_of_label, HasValue, behind, in_label, Yields, ArgumentsFit, Typed, TypedBlock, TypedAll, TypedCases, IsJoined, Takes, its_types, texts}
+use Rattle.sj_sound.proofs.Covered.{local-there, HaveValues, values-behind, value-not, true-or-none, unary-operand-value, left-operand-value, right-operand-value, not_no_type}
+use Rattle.sj_sound.proofs.Values.{HasType, has_type, of_undefined, of_null, of_boolean, of_byte, of_short, of_int, of_text, IsBoolean, a_boolean, IsNumber, a_number, IsText, a_text, wider, as_boolean, as_int, as_text, Gives, some_of, unary_gives, binary_gives, division_gives, of_char, of_long, as_long, join_gives, long_division_gives}
 
 -- not wrong, and where it is done, with what P says
 abbrev pub Comes : {A : Type 0} → (A → Type 0) → End A → Type 0
@@ -91,8 +93,8 @@ module _ (sub : IrType → IrType → Type 0) (law : IsSubtyping sub) (has : Usa
 
   gives-yield : (v : ir.Value) (e : Term) (t : IrType) → GivesType v (type_of_term e) → Yields sub has e t → GivesType v t
   gives-yield v e t g (inl none) = inl none
-  gives-yield v e t (inl none) (inr f) = inl (law.from_none t (subst (λ s. sub s t) none f))
-  gives-yield v e t (inr h) (inr f) = inr (wider sub law v (type_of_term e) t f h)
+  gives-yield v e t (inl none) (inr f) = inl (law.from_none t (subst (λ s. sub s t) none f.0))
+  gives-yield v e t (inr h) (inr f) = inr (wider sub law v (type_of_term e) t f.0 h)
 
   operand-type : (v : ir.Value) (s t : IrType) → GivesType v s → sub s t → (t ≡ NoType → ⊥) → HasType sub law v t
   operand-type v s t (inl none) f n = absurd (n (law.from_none t (subst (λ a. sub a t) none f)))
@@ -250,19 +252,19 @@ module _ (sub : IrType → IrType → Type 0) (law : IsSubtyping sub) (has : Usa
 
     -- a definition: the local is in scope behind it
     definition_right : (p : Position) (x : List ℕ) (t : IrType) (b : Bool) (e : Term) → TreeRight e → (s : Scene) → HaveValues s.locals → Typed sub has s (var_def p x t b e) → Fresh s (Own (var_def p x t b e)) → (env : ir.Env) (st : ir.State) → EnvTyped s.locals env → Comes (CameRight s (record { name = x; «mutable» = b; tpe = t } ∷ s.locals) NoType) (step (var_def p x t b e) env st).end
-    definition_right p x t b e does s v h fresh env st i = one_right s (record { name = x; «mutable» = b; tpe = t } ∷ s.locals) (type_of_term e) NoType (step e) (ir_meaning.define x) env st (does s v h.3 (λ y o. fresh y (inr o)) env st i) (λ q env st g i. gave ir.undefined (ir_meaning.set_local x q env) st (inl refl) (env-set s.locals (record { name = x; «mutable» = b; tpe = t }) env q (operand-type q (type_of_term e) t g h.0 (value-not t h.1)) i))
+    definition_right p x t b e does s v h fresh env st i = one_right s (record { name = x; «mutable» = b; tpe = t } ∷ s.locals) (type_of_term e) NoType (step e) (ir_meaning.define x) env st (does s v h.3 (λ y o. fresh y (inr o)) env st i) (λ q env st g i. gave ir.undefined (ir_meaning.set_local x q env) st (inl refl) (env-set s.locals (record { name = x; «mutable» = b; tpe = t }) env q (operand-type q (type_of_term e) t g h.0.0 (value-not t h.1)) i))
 
     operand_right : (e : Term) (s : Scene) (t r : IrType) (act : List ir.Value → ir.Run) (env : ir.Env) (st : ir.State) → Right s (type_of_term e) (step e env st) → sub (type_of_term e) r → (r ≡ NoType → ⊥) → ((v : ir.Value) (env : ir.Env) (st : ir.State) → HasType sub law v r → EnvTyped s.locals env → Right s t (act (v ∷ []) env st)) → Right s t (ir_meaning.in_order (step e ∷ []) act env st)
     operand_right e s t r act env st h f n on = one_right s s.locals (type_of_term e) t (step e) act env st h (λ v env st g i. on v env st (operand-type v (type_of_term e) r g f n) i)
 
     boolean_not : Boolean ≡ NoType → ⊥
-    boolean_not = value-not Boolean (refl, refl)
+    boolean_not = value-not Boolean refl
 
     int_not : Int ≡ NoType → ⊥
-    int_not = value-not Int (refl, refl)
+    int_not = value-not Int refl
 
     string_not : String ≡ NoType → ⊥
-    string_not = value-not String (refl, refl)
+    string_not = value-not String refl
 
     -- a condition, and what is done where it holds
     tested_right : (c : Term) (first : ir.Run) (s : Scene) (t : IrType) → t ≡ NoType → (env : ir.Env) (st : ir.State) → Right s (type_of_term c) (step c env st) → sub (type_of_term c) Boolean → ((env : ir.Env) (st : ir.State) → EnvTyped s.locals env → Comes (Turned s t) (first env st).end) → Comes (Turned s t) (ir_meaning.in_order (step c ∷ []) (ir_meaning.branch first (λ env s. record { lines = []; end = Done (ir.ends ir.stops env s) })) env st).end
@@ -289,27 +291,50 @@ module _ (sub : IrType → IrType → Type 0) (law : IsSubtyping sub) (has : Usa
     one_or_later s t true q others env st h k = h
     one_or_later s t false q others env st h k = k
 
-    division_right : (o : BinaryOp) (e d : Term) (s : Scene) → IsDivision o → IsDivisor d → sub (type_of_term e) Int → (env : ir.Env) (st : ir.State) → Right s (type_of_term e) (step e env st) → Right s (binary_result o) (ir_meaning.in_order (step e ∷ step d ∷ []) (ir_meaning.binary w low o) env st)
-    division_right o e _ s i (divisor p n k ne) f env st h = go_on_right s s.locals (type_of_term e) (CameRight s s.locals (binary_result o)) (step e env st) (λ v. ir_meaning.in_order (step (int_literal p n) ∷ []) (λ vs. ir_meaning.binary w low o (v ∷ vs))) h (λ v env st g j. value_right low s (binary_result o) (binary_value o v (ir.number n)) env st (division_gives sub law o i v (as_int sub law v (operand-type v (type_of_term e) Int g f int_not)) n ne) j) (λ l v env st r i g e. left l v env st r i g e)
+    division_right : (o : BinaryOp) (e d : Term) (s : Scene) → DividesBy o d → sub (type_of_term e) (left_operand o) → (env : ir.Env) (st : ir.State) → Right s (type_of_term e) (step e env st) → Right s (binary_result o) (ir_meaning.in_order (step e ∷ step d ∷ []) (ir_meaning.binary w low o) env st)
+    division_right _ e _ s (by_int o i p n k ne) f env st h = go_on_right s s.locals (type_of_term e) (CameRight s s.locals (binary_result o)) (step e env st) (λ v. ir_meaning.in_order (step (int_literal p n) ∷ []) (λ vs. ir_meaning.binary w low o (v ∷ vs))) h (λ v env st g j. value_right low s (binary_result o) (binary_value o v (ir.number n)) env st (division_gives sub law o i v (as_int sub law v (operand-type v (type_of_term e) Int g (int_operand o i e f) int_not)) n ne) j) (λ l v env st r i g e. left l v env st r i g e)
+      where
+        int_operand : (o : BinaryOp) → IsDivision o → (e : Term) → sub (type_of_term e) (left_operand o) → sub (type_of_term e) Int
+        int_operand _ a_quotient e f = f
+        int_operand _ a_remainder e f = f
+    division_right _ e _ s (by_long o i p n k ne) f env st h = go_on_right s s.locals (type_of_term e) (CameRight s s.locals (binary_result o)) (step e env st) (λ v. ir_meaning.in_order (step (long_literal p n) ∷ []) (λ vs. ir_meaning.binary w low o (v ∷ vs))) h (λ v env st g j. value_right low s (binary_result o) (binary_value o v (ir.long n)) env st (long_division_gives sub law o i v (as_long sub law v (operand-type v (type_of_term e) Long g (long_operand o i e f) (value-not Long refl))) n ne) j) (λ l v env st r i g e. left l v env st r i g e)
+      where
+        long_operand : (o : BinaryOp) → IsLongDivision o → (e : Term) → sub (type_of_term e) (left_operand o) → sub (type_of_term e) Long
+        long_operand _ a_long_quotient e f = f
+        long_operand _ a_long_remainder e f = f
+
+    -- an operand of a type that joins to a text has a value of its type
+    text-type : (v : ir.Value) (t : IrType) → IsJoined t → GivesType v t → HasType sub law v t
+    text-type v t h (inl none) = absurd (not_no_type t h none)
+    text-type v t h (inr i) = i
+
+    two_right : (o : BinaryOp) (e d : Term) (s : Scene) → Takes sub has o e d → (v a : ir.Value) → GivesType v (type_of_term e) → GivesType a (type_of_term d) → Gives sub law (binary_result o) (binary_value o v a)
+    two_right o e d s (its_types h f g) v a i j = binary_gives sub law o h v a (operand-type v (type_of_term e) (left_operand o) i f (value-not (left_operand o) (left-operand-value o))) (operand-type a (type_of_term d) (right_operand o) j g (value-not (right_operand o) (right-operand-value o)))
+    two_right o e d s (texts is f g) v a i j = subst (λ p. Gives sub law (binary_result p) (binary_value p v a)) (sym is) (join_gives sub law v a (type_of_term e) (type_of_term d) (text-type v (type_of_term e) f i) (text-type a (type_of_term d) g j))
+
+    binary_right : (o : BinaryOp) (e d : Term) (s : Scene) → Takes sub has o e d → (env : ir.Env) (st : ir.State) → Right s (type_of_term e) (step e env st) → ((env : ir.Env) (st : ir.State) → EnvTyped s.locals env → Right s (type_of_term d) (step d env st)) → Right s (binary_result o) (ir_meaning.in_order (step e ∷ step d ∷ []) (ir_meaning.binary w low o) env st)
+    binary_right o e d s takes env st first second = go_on_right s s.locals (type_of_term e) (CameRight s s.locals (binary_result o)) (step e env st) (λ a. ir_meaning.in_order (step d ∷ []) (λ vs. ir_meaning.binary w low o (a ∷ vs))) first (λ a env st g i. one_right s s.locals (type_of_term d) (binary_result o) (step d) (λ vs. ir_meaning.binary w low o (a ∷ vs)) env st (second env st i) (λ b env st k i. value_right low s (binary_result o) (binary_value o a b) env st (two_right o e d s takes a b g k) i)) (λ l v env st r i g e. left l v env st r i g e)
 
     mutual
       pub tree_right : (t : Term) → TreeRight t
       tree_right (var_def p x t b e) = λ s v h fresh env st i. narrow-right s (record { name = x; «mutable» = b; tpe = t }) NoType (step (var_def p x t b e) env st).end (fresh x (inl refl)) (definition_right p x t b e (tree_right e) s v h fresh env st i)
       tree_right (skip p) = λ s v h fresh env st i. gave ir.undefined env st (inl refl) i
       tree_right (block_of p ts) = λ s v h fresh env st i. block_right ts s v h fresh env st i NoType
-      tree_right (labeled p l t e) = λ s v h fresh env st i. comes_then (CameRight (in_label l t s) s.locals (type_of_term e)) (CameRight s s.locals t) (step e env st) (ir_meaning.arrive l) (tree_right e (in_label l t s) v h.2 fresh env st i) (arrives-right s l e t h.0)
-      tree_right (assign p (var_ref q x t) e) = λ s v h fresh env st i. operand_right e s NoType t (ir_meaning.define x) env st (tree_right e s v h.2 fresh env st i) h.1 (value-not t (subst HasValue h.0.type_is (v x h.0.local h.0.is))) (λ a env st k i. gave ir.undefined (ir_meaning.set_local x a env) st (inl refl) (env-assign s.locals x h.0.local env a h.0.is (subst (HasType sub law a) (sym h.0.type_is) k) i))
+      tree_right (labeled p l t e) = λ s v h fresh env st i. comes_then (CameRight (in_label l t s) s.locals (type_of_term e)) (CameRight s s.locals t) (step e env st) (ir_meaning.arrive l) (tree_right e (in_label l t s) v h.1 fresh env st i) (arrives-right s l e t h.0)
+      tree_right (assign p (var_ref q x t) e) = λ s v h fresh env st i. operand_right e s NoType t (ir_meaning.define x) env st (tree_right e s v h.2 fresh env st i) h.1.0 (value-not t (subst HasValue h.0.type_is (v x h.0.local h.0.is))) (λ a env st k i. gave ir.undefined (ir_meaning.set_local x a env) st (inl refl) (env-assign s.locals x h.0.local env a h.0.is (subst (HasType sub law a) (sym h.0.type_is) k) i))
       tree_right (return_to p e l) = λ s v h fresh env st i. one_right s s.locals (type_of_term e) Nothing (step e) (ir_meaning.leave l) env st (tree_right e s v h.1 fresh env st i) (λ a env st g i. left l a env st h.0.tpe h.0.is (gives-yield a e h.0.tpe g h.0.yields) i)
-      tree_right (if_then p c a b t) = λ s v h fresh env st i. operand_right c s t Boolean (ir_meaning.branch (step a) (step b)) env st (tree_right c s v h.4 (λ x o. fresh x (inl o)) env st i) h.0 boolean_not (λ q env st k i. branch_right s t (step a) (step b) q env st (as_boolean sub law q k) (yields-right s s.locals a t (step a env st).end h.1 (tree_right a s v h.5 (λ x o. fresh x (inr (inl o))) env st i)) (yields-right s s.locals b t (step b env st).end h.2 (tree_right b s v h.6 (λ x o. fresh x (inr (inr o))) env st i)))
+      tree_right (if_then p c a b t) = λ s v h fresh env st i. operand_right c s t Boolean (ir_meaning.branch (step a) (step b)) env st (tree_right c s v h.3 (λ x o. fresh x (inl o)) env st i) h.0 boolean_not (λ q env st k i. branch_right s t (step a) (step b) q env st (as_boolean sub law q k) (yields-right s s.locals a t (step a env st).end h.1 (tree_right a s v h.4 (λ x o. fresh x (inr (inl o))) env st i)) (yields-right s s.locals b t (step b env st).end h.2 (tree_right b s v h.5 (λ x o. fresh x (inr (inr o))) env st i)))
       tree_right (while_loop p c b) = λ s v h fresh env st i. comes_then (Turned s (loop_type c)) (CameRight s s.locals (loop_type c)) (ir_meaning.in_order (step c ∷ []) (ir_meaning.branch (step b) (λ env s. record { lines = []; end = Done (ir.ends ir.stops env s) })) env st) (ir_meaning.after_turn (low (while_loop p c b))) (while_turn p c b (tree_right c) (tree_right b) s v h fresh (true-or-none c) env st i) (turn_right s (loop_type c) (low (while_loop p c b)) (right (while_loop p c b) s v h fresh))
       tree_right (do_while p b c) = λ s v h fresh env st i. comes_then (Turned s (loop_type c)) (CameRight s s.locals (loop_type c)) (ir.go_on (step b env st) (λ v. ir_meaning.in_order (step c ∷ []) (ir_meaning.branch (ir.given ir.undefined) (λ env s. record { lines = []; end = Done (ir.ends ir.stops env s) })))) (ir_meaning.after_turn (low (do_while p b c))) (do_turn p b c (tree_right b) (tree_right c) s v h fresh env st i) (turn_right s (loop_type c) (low (do_while p b c)) (right (do_while p b c) s v h fresh))
-      tree_right (match_on p e cs d t) = λ s v h fresh env st i. operand_right e s t Int (ir_meaning.choose (ir_meaning.branches w low cs) (step d)) env st (tree_right e s v h.3 (λ x o. fresh x (inl o)) env st i) h.0 int_not (λ q env st k i. chosen_right s t (ir_meaning.branches w low cs) (step d) q env st (as_int sub law q k) (λ n. cases_right cs s t v h.4 (λ x o. fresh x (inr (inl o))) (step d) n env st i (yields-right s s.locals d t (step d env st).end h.1 (tree_right d s v h.5 (λ x o. fresh x (inr (inr o))) env st i))))
+      tree_right (match_on p e cs d t) = λ s v h fresh env st i. operand_right e s t Int (ir_meaning.choose (ir_meaning.branches w low cs) (step d)) env st (tree_right e s v h.2 (λ x o. fresh x (inl o)) env st i) h.0 int_not (λ q env st k i. chosen_right s t (ir_meaning.branches w low cs) (step d) q env st (as_int sub law q k) (λ n. cases_right cs s t v h.3 (λ x o. fresh x (inr (inl o))) (step d) n env st i (yields-right s s.locals d t (step d env st).end h.1 (tree_right d s v h.4 (λ x o. fresh x (inr (inr o))) env st i))))
       tree_right (apply_static p c n m ts t) = λ s v h fresh env st i. arguments_right ts m.params s t v h.2 h.3 fresh (ir_meaning.call low (member_of w c n m) None) env st i (λ vs env st k i. call_right low right (member c n m) (members (member c n m) h.0) s t h.4 vs k env st i)
-      tree_right (unary_op p o e) = λ s v h fresh env st i. operand_right e s (unary_result o) (unary_operand o) (ir_meaning.unary w low o) env st (tree_right e s v h.2 fresh env st i) h.1 (value-not (unary_operand o) (unary-operand-value o)) (λ q env st k i. value_right low s (unary_result o) (unary_value o q) env st (unary_gives sub law o h.0 q k) i)
-      tree_right (binary_op p o e d) = λ s v h fresh env st i. ⊎_elim (λ h. go_on_right s s.locals (type_of_term e) (CameRight s s.locals (binary_result o)) (step e env st) (λ a. ir_meaning.in_order (step d ∷ []) (λ vs. ir_meaning.binary w low o (a ∷ vs))) (tree_right e s v h.3 (λ x o. fresh x (inl o)) env st i) (λ a env st g i. operand_right d s (binary_result o) (binary_operand o) (λ vs. ir_meaning.binary w low o (a ∷ vs)) env st (tree_right d s v h.4 (λ x o. fresh x (inr o)) env st i) h.2 (value-not (binary_operand o) (binary-operand-value o)) (λ b env st k i. value_right low s (binary_result o) (binary_value o a b) env st (binary_gives sub law o h.0 a b (operand-type a (type_of_term e) (binary_operand o) g h.1 (value-not (binary_operand o) (binary-operand-value o))) k) i)) (λ l v env st r i g e. left l v env st r i g e)) (λ h. division_right o e d s h.0 h.3 h.1 env st (tree_right e s v h.2 (λ x o. fresh x (inl o)) env st i)) h
+      tree_right (unary_op p o e) = λ s v h fresh env st i. operand_right e s (unary_result o) (unary_operand o) (ir_meaning.unary w low o) env st (tree_right e s v h.1 fresh env st i) h.0 (value-not (unary_operand o) (unary-operand-value o)) (λ q env st k i. value_right low s (unary_result o) (unary_value o q) env st (unary_gives sub law o q k) i)
+      tree_right (binary_op p o e d) = λ s v h fresh env st i. ⊎_elim (λ h. binary_right o e d s h.0 env st (tree_right e s v h.1 (λ x o. fresh x (inl o)) env st i) (λ env st i. tree_right d s v h.2 (λ x o. fresh x (inr o)) env st i)) (λ h. division_right o e d s h.0 h.1 env st (tree_right e s v h.2 (λ x o. fresh x (inl o)) env st i)) h
       tree_right (undefined_literal p) = λ s v h fresh env st i. gave ir.undefined env st (inr (has_type Undefined of_undefined (law.same Undefined))) i
       tree_right (null_literal p) = λ s v h fresh env st i. gave ir.null env st (inr (has_type Null of_null (law.same Null))) i
       tree_right (boolean_literal p b) = λ s v h fresh env st i. gave (ir.boolean b) env st (inr (has_type Boolean (of_boolean b) (law.same Boolean))) i
+      tree_right (char_literal p n) = λ s v h fresh env st i. gave (ir.char n) env st (inr (has_type Char (of_char n) (law.same Char))) i
+      tree_right (long_literal p n) = λ s v h fresh env st i. gave (ir.long n) env st (inr (has_type Long (of_long n) (law.same Long))) i
       tree_right (byte_literal p n) = λ s v h fresh env st i. gave (ir.number n) env st (inr (has_type Byte (of_byte n) (law.same Byte))) i
       tree_right (short_literal p n) = λ s v h fresh env st i. gave (ir.number n) env st (inr (has_type Short (of_short n) (law.same Short))) i
       tree_right (int_literal p n) = λ s v h fresh env st i. gave (ir.number n) env st (inr (has_type Int (of_int n) (law.same Int))) i
@@ -328,7 +353,7 @@ module _ (sub : IrType → IrType → Type 0) (law : IsSubtyping sub) (has : Usa
       arguments_right no_terms [] s t v f h fresh act env st i on = on [] env st none_left i
       arguments_right no_terms (r ∷ rs) s t v f h fresh act env st i on = absurd f
       arguments_right (more_terms e es) [] s t v f h fresh act env st i on = absurd f
-      arguments_right (more_terms e es) (r ∷ rs) s t v f h fresh act env st i on = go_on_right s s.locals (type_of_term e) (CameRight s s.locals t) (step e env st) (λ a. ir_meaning.in_order (ir_meaning.operands w low es) (λ vs. act (a ∷ vs))) (tree_right e s v h.0 (λ x o. fresh x (inl o)) env st i) (λ a env st g i. arguments_right es rs s t v f.2 h.1 (λ x o. fresh x (inr o)) (λ vs. act (a ∷ vs)) env st i (λ vs env st k i. on (a ∷ vs) env st (one_fits a r vs rs (operand-type a (type_of_term e) (reference_type r) g f.0 (value-not (reference_type r) f.1)) k) i)) (λ l v env st r i g e. left l v env st r i g e)
+      arguments_right (more_terms e es) (r ∷ rs) s t v f h fresh act env st i on = go_on_right s s.locals (type_of_term e) (CameRight s s.locals t) (step e env st) (λ a. ir_meaning.in_order (ir_meaning.operands w low es) (λ vs. act (a ∷ vs))) (tree_right e s v h.0 (λ x o. fresh x (inl o)) env st i) (λ a env st g i. arguments_right es rs s t v f.2 h.1 (λ x o. fresh x (inr o)) (λ vs. act (a ∷ vs)) env st i (λ vs env st k i. on (a ∷ vs) env st (one_fits a r vs rs (operand-type a (type_of_term e) (reference_type r) g f.0.0 (value-not (reference_type r) f.1)) k) i)) (λ l v env st r i g e. left l v env st r i g e)
 
       cases_right : (cs : Cases) (s : Scene) (t : IrType) → HaveValues s.locals → TypedCases sub has s t cs → Fresh s (OwnCases cs) → (d : ir.Run) (n : ℤ) (env : ir.Env) (st : ir.State) → EnvTyped s.locals env → Right s t (d env st) → Right s t (ir_meaning.branch_of (ir_meaning.branches w low cs) d n env st)
       cases_right no_cases s t v h fresh d n env st i k = k

@@ -1,25 +1,27 @@
 -- Values of types, and what operators give on them.
-use Rattle.std.proofs.Common.{◌≡◌, ℕ, zero, suc, Bool, true, false, List, refl, sym, ap, ◌∙◌, ◌⊎◌, inl, inr}
+use Rattle.std.proofs.Common.{◌≡◌, ℕ, zero, suc, ◌++◌, Bool, true, false, List, Some, refl, sym, ap, ◌∙◌, subst, ◌⊎◌, inl, inr}
 use Rattle.std.specs.Prelude.{ℤ, pos, negsuc, ◌≢◌}
-use Rattle.ir_mean.specs.Operators.{Answer, answers, unary_value, binary_value, boolean_value, number_value}
+use Rattle.ir_mean.specs.Operators.{Answer, answers, unary_value, binary_value, boolean_value, number_value, long_value, shift_value, any_value, text_of, joined}
 use Rattle.ir_mean.specs.States as ir
 use Rattle.sj_trees.specs.TypeOf.{unary_result, binary_result}
 use Rattle.sj_trees.specs.declared.operators.BinaryOp.{BinaryOp}
-use Rattle.sj_trees.specs.declared.operators.BinaryOp.TheVariants.{BooleanEqual, BooleanNotEqual, BooleanOr, BooleanAnd, IntAdd, IntSubtract, IntMultiply, IntOr, IntAnd, IntXor, IntShiftLeft, IntShiftRightLogical, IntShiftRightArithmetic, IntEqual, IntNotEqual, IntLess, IntLessOrEqual, IntGreater, IntGreaterOrEqual}
+use Rattle.sj_trees.specs.declared.operators.BinaryOp.TheVariants.{StrictEqual, StrictNotEqual, StringConcatenate, BooleanEqual, BooleanNotEqual, BooleanOr, BooleanAnd, IntAdd, IntSubtract, IntMultiply, IntDivide, IntRemainder, IntOr, IntAnd, IntXor, IntShiftLeft, IntShiftRightLogical, IntShiftRightArithmetic, IntEqual, IntNotEqual, IntLess, IntLessOrEqual, IntGreater, IntGreaterOrEqual, LongAdd, LongSubtract, LongMultiply, LongDivide, LongRemainder, LongOr, LongAnd, LongXor, LongShiftLeft, LongShiftRightLogical, LongShiftRightArithmetic, LongEqual, LongNotEqual, LongLess, LongLessOrEqual, LongGreater, LongGreaterOrEqual}
 use Rattle.sj_trees.specs.declared.operators.UnaryOp.{UnaryOp}
-use Rattle.sj_trees.specs.declared.operators.UnaryOp.TheVariants.{BooleanNot, ByteToInt, ShortToInt, IntToByte, IntToShort}
+use Rattle.sj_trees.specs.declared.operators.UnaryOp.TheVariants.{BooleanNot, CharToInt, ByteToInt, ShortToInt, IntToLong, IntToChar, IntToByte, IntToShort, LongToInt}
 use Rattle.sj_trees.specs.declared.types.IrType.{IrType}
-use Rattle.sj_trees.specs.declared.types.IrType.TheVariants.{Undefined, Null, Boolean, Byte, Short, Int, String, Nothing}
-use Rattle.sj_plain.specs.Conditions.{is_simple, is_simple_unary, IsDivision, a_quotient, a_remainder}
+use Rattle.sj_trees.specs.declared.types.IrType.TheVariants.{Undefined, Null, Boolean, Char, Byte, Short, Int, Long, String, Nothing}
+use Rattle.sj_plain.specs.Conditions.{is_simple, unary_operand, left_operand, right_operand, IsDivision, a_quotient, a_remainder, IsLongDivision, a_long_quotient, a_long_remainder}
+use Rattle.sj_plain.proofs.Shifts.{join_is}
 use Rattle.sj_names.proofs.Same.{impossible}
 use Rattle.sj_sound.specs.Subtyping.{IsSubtyping}
-use Rattle.sj_sound.specs.Typing.{unary_operand, binary_operand}
 
 -- the types that a value is of by itself
 pub data IsOf : ir.Value → IrType → Type 0 where
   of_undefined : IsOf ir.undefined Undefined
   of_null : IsOf ir.null Null
   of_boolean : (b : Bool) → IsOf (ir.boolean b) Boolean
+  of_char : (u : ℕ) → IsOf (ir.char u) Char
+  of_long : (z : ℤ) → IsOf (ir.long z) Long
   of_byte : (z : ℤ) → IsOf (ir.number z) Byte
   of_short : (z : ℤ) → IsOf (ir.number z) Short
   of_int : (z : ℤ) → IsOf (ir.number z) Int
@@ -30,6 +32,12 @@ pub data IsBoolean : ir.Value → Type 0 where
 
 pub data IsNumber : ir.Value → Type 0 where
   a_number : (z : ℤ) → IsNumber (ir.number z)
+
+pub data IsChar : ir.Value → Type 0 where
+  a_char : (u : ℕ) → IsChar (ir.char u)
+
+pub data IsLong : ir.Value → Type 0 where
+  a_long : (z : ℤ) → IsLong (ir.long z)
 
 pub data IsText : ir.Value → Type 0 where
   a_text : (us : List ℕ) → IsText (ir.text us)
@@ -43,6 +51,14 @@ is_number_type _ = false
 abbrev is_boolean_type : IrType → Bool
 is_boolean_type Boolean = true
 is_boolean_type _ = false
+
+abbrev is_char_type : IrType → Bool
+is_char_type Char = true
+is_char_type _ = false
+
+abbrev is_long_type : IrType → Bool
+is_long_type Long = true
+is_long_type _ = false
 
 abbrev is_text_type : IrType → Bool
 is_text_type String = true
@@ -67,6 +83,8 @@ module _ (sub : IrType → IrType → Type 0) (law : IsSubtyping sub) where
   as_boolean _ (has_type _ (of_byte z) f) = other_kind is_boolean_type Byte Boolean refl refl refl (λ e. cc) (law.lowest Byte Boolean refl f)
   as_boolean _ (has_type _ (of_short z) f) = other_kind is_boolean_type Short Boolean refl refl refl (λ e. cc) (law.lowest Short Boolean refl f)
   as_boolean _ (has_type _ (of_int z) f) = other_kind is_boolean_type Int Boolean refl refl refl (λ e. cc) (law.lowest Int Boolean refl f)
+  as_boolean _ (has_type _ (of_char u) f) = other_kind is_boolean_type Char Boolean refl refl refl (λ e. cc) (law.lowest Char Boolean refl f)
+  as_boolean _ (has_type _ (of_long z) f) = other_kind is_boolean_type Long Boolean refl refl refl (λ e. cc) (law.lowest Long Boolean refl f)
   as_boolean _ (has_type _ (of_text us) f) = other_kind is_boolean_type String Boolean refl refl refl (λ e. cc) (law.lowest String Boolean refl f)
 
   as_number_of : (v : ir.Value) (t : IrType) → is_number_type t ≡ true → ((s : IrType) → sub s t → (s ≡ t) ⊎ (s ≡ Nothing)) → HasType v t → IsNumber v
@@ -76,10 +94,34 @@ module _ (sub : IrType → IrType → Type 0) (law : IsSubtyping sub) where
   as_number_of _ t k low (has_type _ of_undefined f) = other_kind is_number_type Undefined t refl k refl (λ e. cc) (low Undefined f)
   as_number_of _ t k low (has_type _ of_null f) = other_kind is_number_type Null t refl k refl (λ e. cc) (low Null f)
   as_number_of _ t k low (has_type _ (of_boolean b) f) = other_kind is_number_type Boolean t refl k refl (λ e. cc) (low Boolean f)
+  as_number_of _ t k low (has_type _ (of_char u) f) = other_kind is_number_type Char t refl k refl (λ e. cc) (low Char f)
+  as_number_of _ t k low (has_type _ (of_long z) f) = other_kind is_number_type Long t refl k refl (λ e. cc) (low Long f)
   as_number_of _ t k low (has_type _ (of_text us) f) = other_kind is_number_type String t refl k refl (λ e. cc) (low String f)
 
   pub as_int : (v : ir.Value) → HasType v Int → IsNumber v
   as_int v = as_number_of v Int refl (λ s. law.lowest s Int refl)
+
+  pub as_char : (v : ir.Value) → HasType v Char → IsChar v
+  as_char _ (has_type _ (of_char u) f) = a_char u
+  as_char _ (has_type _ of_undefined f) = other_kind is_char_type Undefined Char refl refl refl (λ e. cc) (law.lowest Undefined Char refl f)
+  as_char _ (has_type _ of_null f) = other_kind is_char_type Null Char refl refl refl (λ e. cc) (law.lowest Null Char refl f)
+  as_char _ (has_type _ (of_boolean b) f) = other_kind is_char_type Boolean Char refl refl refl (λ e. cc) (law.lowest Boolean Char refl f)
+  as_char _ (has_type _ (of_byte z) f) = other_kind is_char_type Byte Char refl refl refl (λ e. cc) (law.lowest Byte Char refl f)
+  as_char _ (has_type _ (of_short z) f) = other_kind is_char_type Short Char refl refl refl (λ e. cc) (law.lowest Short Char refl f)
+  as_char _ (has_type _ (of_int z) f) = other_kind is_char_type Int Char refl refl refl (λ e. cc) (law.lowest Int Char refl f)
+  as_char _ (has_type _ (of_long z) f) = other_kind is_char_type Long Char refl refl refl (λ e. cc) (law.lowest Long Char refl f)
+  as_char _ (has_type _ (of_text us) f) = other_kind is_char_type String Char refl refl refl (λ e. cc) (law.lowest String Char refl f)
+
+  pub as_long : (v : ir.Value) → HasType v Long → IsLong v
+  as_long _ (has_type _ (of_long z) f) = a_long z
+  as_long _ (has_type _ of_undefined f) = other_kind is_long_type Undefined Long refl refl refl (λ e. cc) (law.lowest Undefined Long refl f)
+  as_long _ (has_type _ of_null f) = other_kind is_long_type Null Long refl refl refl (λ e. cc) (law.lowest Null Long refl f)
+  as_long _ (has_type _ (of_boolean b) f) = other_kind is_long_type Boolean Long refl refl refl (λ e. cc) (law.lowest Boolean Long refl f)
+  as_long _ (has_type _ (of_char u) f) = other_kind is_long_type Char Long refl refl refl (λ e. cc) (law.lowest Char Long refl f)
+  as_long _ (has_type _ (of_byte z) f) = other_kind is_long_type Byte Long refl refl refl (λ e. cc) (law.lowest Byte Long refl f)
+  as_long _ (has_type _ (of_short z) f) = other_kind is_long_type Short Long refl refl refl (λ e. cc) (law.lowest Short Long refl f)
+  as_long _ (has_type _ (of_int z) f) = other_kind is_long_type Int Long refl refl refl (λ e. cc) (law.lowest Int Long refl f)
+  as_long _ (has_type _ (of_text us) f) = other_kind is_long_type String Long refl refl refl (λ e. cc) (law.lowest String Long refl f)
 
   pub as_text : (v : ir.Value) → HasType v String → IsText v
   as_text _ (has_type _ (of_text us) f) = a_text us
@@ -88,6 +130,8 @@ module _ (sub : IrType → IrType → Type 0) (law : IsSubtyping sub) where
   as_text _ (has_type _ (of_boolean b) f) = other_kind is_text_type Boolean String refl refl refl (λ e. cc) (law.lowest Boolean String refl f)
   as_text _ (has_type _ (of_byte z) f) = other_kind is_text_type Byte String refl refl refl (λ e. cc) (law.lowest Byte String refl f)
   as_text _ (has_type _ (of_short z) f) = other_kind is_text_type Short String refl refl refl (λ e. cc) (law.lowest Short String refl f)
+  as_text _ (has_type _ (of_char u) f) = other_kind is_text_type Char String refl refl refl (λ e. cc) (law.lowest Char String refl f)
+  as_text _ (has_type _ (of_long z) f) = other_kind is_text_type Long String refl refl refl (λ e. cc) (law.lowest Long String refl f)
   as_text _ (has_type _ (of_int z) f) = other_kind is_text_type Int String refl refl refl (λ e. cc) (law.lowest Int String refl f)
 
   -- a value of the type is there
@@ -100,19 +144,31 @@ module _ (sub : IrType → IrType → Type 0) (law : IsSubtyping sub) where
   int : (z : ℤ) → Gives Int (answers (ir.number z))
   int z = some_of (ir.number z) (has_type Int (of_int z) (law.same Int))
 
-  unary_number : (o : UnaryOp) (t : IrType) → ((z : ℤ) → Gives (unary_result o) (unary_value o (ir.number z))) → (v : ir.Value) → IsNumber v → Gives (unary_result o) (unary_value o v)
-  unary_number o t h _ (a_number z) = h z
+  long : (z : ℤ) → Gives Long (answers (ir.long z))
+  long z = some_of (ir.long z) (has_type Long (of_long z) (law.same Long))
+
+  unary_number : (o : UnaryOp) → ((z : ℤ) → Gives (unary_result o) (unary_value o (ir.number z))) → (v : ir.Value) → IsNumber v → Gives (unary_result o) (unary_value o v)
+  unary_number o h _ (a_number z) = h z
 
   unary_boolean : (v : ir.Value) → IsBoolean v → Gives Boolean (unary_value BooleanNot v)
   unary_boolean _ (a_boolean b) = yes_or_no _
 
-  pub unary_gives : (o : UnaryOp) → is_simple_unary o ≡ true → (v : ir.Value) → HasType v (unary_operand o) → Gives (unary_result o) (unary_value o v)
-  unary_gives BooleanNot h v i = unary_boolean v (as_boolean v i)
-  unary_gives ByteToInt h v i = unary_number ByteToInt Byte (λ z. int z) v (as_number_of v Byte refl (λ s. law.lowest s Byte refl) i)
-  unary_gives ShortToInt h v i = unary_number ShortToInt Short (λ z. int z) v (as_number_of v Short refl (λ s. law.lowest s Short refl) i)
-  unary_gives IntToByte h v i = unary_number IntToByte Int (λ z. some_of (ir.number _) (has_type Byte (of_byte _) (law.same Byte))) v (as_int v i)
-  unary_gives IntToShort h v i = unary_number IntToShort Int (λ z. some_of (ir.number _) (has_type Short (of_short _) (law.same Short))) v (as_int v i)
-  unary_gives _ h v i = impossible h
+  unary_char : (v : ir.Value) → IsChar v → Gives Int (unary_value CharToInt v)
+  unary_char _ (a_char u) = int _
+
+  unary_long : (v : ir.Value) → IsLong v → Gives Int (unary_value LongToInt v)
+  unary_long _ (a_long z) = int _
+
+  pub unary_gives : (o : UnaryOp) (v : ir.Value) → HasType v (unary_operand o) → Gives (unary_result o) (unary_value o v)
+  unary_gives BooleanNot v i = unary_boolean v (as_boolean v i)
+  unary_gives CharToInt v i = unary_char v (as_char v i)
+  unary_gives ByteToInt v i = unary_number ByteToInt (λ z. int z) v (as_number_of v Byte refl (λ s. law.lowest s Byte refl) i)
+  unary_gives ShortToInt v i = unary_number ShortToInt (λ z. int z) v (as_number_of v Short refl (λ s. law.lowest s Short refl) i)
+  unary_gives IntToLong v i = unary_number IntToLong (λ z. long z) v (as_int v i)
+  unary_gives IntToChar v i = unary_number IntToChar (λ z. some_of (ir.char _) (has_type Char (of_char _) (law.same Char))) v (as_int v i)
+  unary_gives IntToByte v i = unary_number IntToByte (λ z. some_of (ir.number _) (has_type Byte (of_byte _) (law.same Byte))) v (as_int v i)
+  unary_gives IntToShort v i = unary_number IntToShort (λ z. some_of (ir.number _) (has_type Short (of_short _) (law.same Short))) v (as_int v i)
+  unary_gives LongToInt v i = unary_long v (as_long v i)
 
   on_booleans : (o : BinaryOp) → ((a b : Bool) → Gives (binary_result o) (boolean_value o a b)) → (v w : ir.Value) → IsBoolean v → IsBoolean w → Gives (binary_result o) (binary_value o v w)
   on_booleans o h _ _ (a_boolean a) (a_boolean b) = h a b
@@ -120,7 +176,20 @@ module _ (sub : IrType → IrType → Type 0) (law : IsSubtyping sub) where
   on_numbers : (o : BinaryOp) → ((a b : ℤ) → Gives (binary_result o) (number_value o a b)) → (v w : ir.Value) → IsNumber v → IsNumber w → Gives (binary_result o) (binary_value o v w)
   on_numbers o h _ _ (a_number a) (a_number b) = h a b
 
-  pub binary_gives : (o : BinaryOp) → is_simple o ≡ true → (v w : ir.Value) → HasType v (binary_operand o) → HasType w (binary_operand o) → Gives (binary_result o) (binary_value o v w)
+  on_longs : (o : BinaryOp) → ((a b : ℤ) → Gives (binary_result o) (long_value o a b)) → (v w : ir.Value) → IsLong v → IsLong w → Gives (binary_result o) (binary_value o v w)
+  on_longs o h _ _ (a_long a) (a_long b) = h a b
+
+  on_shifts : (o : BinaryOp) → ((a b : ℤ) → Gives (binary_result o) (shift_value o a b)) → (v w : ir.Value) → IsLong v → IsNumber w → Gives (binary_result o) (binary_value o v w)
+  on_shifts o h _ _ (a_long a) (a_number b) = h a b
+
+  pub binary_gives : (o : BinaryOp) → is_simple o ≡ true → (v w : ir.Value) → HasType v (left_operand o) → HasType w (right_operand o) → Gives (binary_result o) (binary_value o v w)
+  binary_gives StrictEqual h v w i j = impossible h
+  binary_gives StrictNotEqual h v w i j = impossible h
+  binary_gives StringConcatenate h v w i j = impossible h
+  binary_gives IntDivide h v w i j = impossible h
+  binary_gives IntRemainder h v w i j = impossible h
+  binary_gives LongDivide h v w i j = impossible h
+  binary_gives LongRemainder h v w i j = impossible h
   binary_gives BooleanEqual h v w i j = on_booleans BooleanEqual (λ a b. yes_or_no _) v w (as_boolean v i) (as_boolean w j)
   binary_gives BooleanNotEqual h v w i j = on_booleans BooleanNotEqual (λ a b. yes_or_no _) v w (as_boolean v i) (as_boolean w j)
   binary_gives BooleanOr h v w i j = on_booleans BooleanOr (λ a b. yes_or_no _) v w (as_boolean v i) (as_boolean w j)
@@ -140,7 +209,43 @@ module _ (sub : IrType → IrType → Type 0) (law : IsSubtyping sub) where
   binary_gives IntLessOrEqual h v w i j = on_numbers IntLessOrEqual (λ a b. yes_or_no _) v w (as_int v i) (as_int w j)
   binary_gives IntGreater h v w i j = on_numbers IntGreater (λ a b. yes_or_no _) v w (as_int v i) (as_int w j)
   binary_gives IntGreaterOrEqual h v w i j = on_numbers IntGreaterOrEqual (λ a b. yes_or_no _) v w (as_int v i) (as_int w j)
-  binary_gives _ h v w i j = impossible h
+  binary_gives LongAdd h v w i j = on_longs LongAdd (λ a b. long _) v w (as_long v i) (as_long w j)
+  binary_gives LongSubtract h v w i j = on_longs LongSubtract (λ a b. long _) v w (as_long v i) (as_long w j)
+  binary_gives LongMultiply h v w i j = on_longs LongMultiply (λ a b. long _) v w (as_long v i) (as_long w j)
+  binary_gives LongOr h v w i j = on_longs LongOr (λ a b. long _) v w (as_long v i) (as_long w j)
+  binary_gives LongAnd h v w i j = on_longs LongAnd (λ a b. long _) v w (as_long v i) (as_long w j)
+  binary_gives LongXor h v w i j = on_longs LongXor (λ a b. long _) v w (as_long v i) (as_long w j)
+  binary_gives LongShiftLeft h v w i j = on_shifts LongShiftLeft (λ a b. long _) v w (as_long v i) (as_int w j)
+  binary_gives LongShiftRightLogical h v w i j = on_shifts LongShiftRightLogical (λ a b. long _) v w (as_long v i) (as_int w j)
+  binary_gives LongShiftRightArithmetic h v w i j = on_shifts LongShiftRightArithmetic (λ a b. long _) v w (as_long v i) (as_int w j)
+  binary_gives LongEqual h v w i j = on_longs LongEqual (λ a b. yes_or_no _) v w (as_long v i) (as_long w j)
+  binary_gives LongNotEqual h v w i j = on_longs LongNotEqual (λ a b. yes_or_no _) v w (as_long v i) (as_long w j)
+  binary_gives LongLess h v w i j = on_longs LongLess (λ a b. yes_or_no _) v w (as_long v i) (as_long w j)
+  binary_gives LongLessOrEqual h v w i j = on_longs LongLessOrEqual (λ a b. yes_or_no _) v w (as_long v i) (as_long w j)
+  binary_gives LongGreater h v w i j = on_longs LongGreater (λ a b. yes_or_no _) v w (as_long v i) (as_long w j)
+  binary_gives LongGreaterOrEqual h v w i j = on_longs LongGreaterOrEqual (λ a b. yes_or_no _) v w (as_long v i) (as_long w j)
+
+  -- each value has a text but a reference, of which no type is known here
+  data HasText : ir.Value → Type 0 where
+    a_text_of : (v : ir.Value) (us : List ℕ) → text_of v ≡ Some us → HasText v
+
+  text_there : (v : ir.Value) (o : IrType) → IsOf v o → HasText v
+  text_there _ _ of_undefined = a_text_of ir.undefined _ refl
+  text_there _ _ of_null = a_text_of ir.null _ refl
+  text_there _ _ (of_boolean true) = a_text_of (ir.boolean true) _ refl
+  text_there _ _ (of_boolean false) = a_text_of (ir.boolean false) _ refl
+  text_there _ _ (of_char u) = a_text_of (ir.char u) _ refl
+  text_there _ _ (of_byte z) = a_text_of (ir.number z) _ refl
+  text_there _ _ (of_short z) = a_text_of (ir.number z) _ refl
+  text_there _ _ (of_int z) = a_text_of (ir.number z) _ refl
+  text_there _ _ (of_long z) = a_text_of (ir.long z) _ refl
+  text_there _ _ (of_text us) = a_text_of (ir.text us) us refl
+
+  joined_gives : (v w : ir.Value) → HasText v → HasText w → Gives String (any_value StringConcatenate v w)
+  joined_gives _ _ (a_text_of v us e) (a_text_of w vs f) = subst (Gives String) (λ i. joined (sym e i) (sym f i)) (some_of (ir.text (us ++ vs)) (has_type String (of_text (us ++ vs)) (law.same String)))
+
+  pub join_gives : (v w : ir.Value) (s t : IrType) → HasType v s → HasType w t → Gives String (binary_value StringConcatenate v w)
+  join_gives v w s t (has_type o i f) (has_type q j g) = subst (Gives String) (sym (join_is v w)) (joined_gives v w (text_there v o i) (text_there w q j))
 
   pub division_gives : (o : BinaryOp) → IsDivision o → (v : ir.Value) → IsNumber v → (n : ℤ) → n ≢ pos 0 → Gives (binary_result o) (binary_value o v (ir.number n))
   division_gives _ a_quotient _ (a_number a) (pos zero) ne = absurd (ne refl)
@@ -149,3 +254,11 @@ module _ (sub : IrType → IrType → Type 0) (law : IsSubtyping sub) where
   division_gives _ a_remainder _ (a_number a) (pos zero) ne = absurd (ne refl)
   division_gives _ a_remainder _ (a_number a) (pos (suc n)) ne = int _
   division_gives _ a_remainder _ (a_number a) (negsuc n) ne = int _
+
+  pub long_division_gives : (o : BinaryOp) → IsLongDivision o → (v : ir.Value) → IsLong v → (n : ℤ) → n ≢ pos 0 → Gives (binary_result o) (binary_value o v (ir.long n))
+  long_division_gives _ a_long_quotient _ (a_long a) (pos zero) ne = absurd (ne refl)
+  long_division_gives _ a_long_quotient _ (a_long a) (pos (suc n)) ne = long _
+  long_division_gives _ a_long_quotient _ (a_long a) (negsuc n) ne = long _
+  long_division_gives _ a_long_remainder _ (a_long a) (pos zero) ne = absurd (ne refl)
+  long_division_gives _ a_long_remainder _ (a_long a) (pos (suc n)) ne = long _
+  long_division_gives _ a_long_remainder _ (a_long a) (negsuc n) ne = long _

@@ -28,7 +28,7 @@ use Rattle.sj_calls.proofs.Whole as calls
 use Rattle.sj_sound.specs.Linked.{has_function, have_functions, IsRight, functions_of}
 use Rattle.sj_sound.specs.Rules.{KeepsRules, RightMember}
 use Rattle.sj_sound.specs.Subtyping.{IsSubtyping}
-use Rattle.sj_sound.specs.Typing.{Scene}
+use Rattle.sj_sound.specs.Typing.{NoBox, Scene}
 use Rattle.sj_world.specs.Laws.{IsTopped}
 use Rattle.sj_world.specs.Subtypes.{IsSub}
 use Rattle.sj_sound.proofs.Covered.{Asks, fine}
@@ -39,7 +39,7 @@ use Rattle.sj_sound.proofs.Same.{has_function-is}
 use Rattle.sj_plain.specs.Conditions.{Usable}
 
 module _ (sub : IrType → IrType → Type 0) (law : IsSubtyping sub) (has : Usable) where
-  asks-result : (is_mutable : List ℕ → Bool) (e : Term) (t : IrType) (k : Destination) → Way t k → (t ≡ NoType) ⊎ sub (type_of_term e) t → Asks sub law is_mutable has k (type_of_term e)
+  asks-result : (is_mutable : List ℕ → Bool) (e : Term) (t : IrType) (k : Destination) → Way t k → (t ≡ NoType) ⊎ (sub (type_of_term e) t × NoBox t (type_of_term e)) → Asks sub law is_mutable has k (type_of_term e)
   asks-result is_mutable e _ _ gives_up y = tt
   asks-result is_mutable e _ _ (hands_on t h) (inl none) = impossible (sym h ∙ ap is_no_type none)
   asks-result is_mutable e _ _ (hands_on t h) (inr f) = (f, λ none. impossible (sym h ∙ ap is_no_type none))
@@ -58,7 +58,7 @@ comes-not_wrong Wrong h = h
 
 module _ (w : ir_world.World) (topped : IsTopped w) (fs : List EmittedMethod) (right : (e : EmittedMethod) → Contains fs e → IsRight w fs e) where
   emitted : (e : EmittedMethod) → Contains fs e → IsEmitted w (functions_of fs) e
-  emitted e i = let r = right e i in record { found = r.found; has_body = r.has_body; fine = method-fine (IsSub w) (in_world w topped) (functions_of fs) e.definition e.its_body r.rules }
+  emitted e i = let r = right e i in record { found = r.found; has_body = r.has_body; parameters = r.parameters; result_is = r.result_is; fine = method-fine (IsSub w) (in_world w topped) (functions_of fs) e.definition e.its_body r.rules }
 
   member-of : (e : EmittedMethod) → IsRight w fs e → RightMember (IsSub w) w (functions_of fs) e.member
   member-of e r = record { definition = e.definition; its_body = e.its_body; found = r.found; has_body = r.has_body; rules = r.rules; parameters = r.parameters; result_is = r.result_is }

@@ -18,7 +18,7 @@ use Rattle.sj_sound.specs.Rules.{KeepsRules}
 use Rattle.sj_world.specs.Laws.{IsTopped}
 use Rattle.sj_world.specs.Subtypes.{IsSub, equal}
 use Rattle.sj_sound.proofs.Topped.{topped}
-use Rattle.sj_sound.specs.Typing.{Scene, local_of, HasValue, IsLocal, IsVariable}
+use Rattle.sj_sound.specs.Typing.{Scene, local_of, HasValue, IsLocal, IsVariable, its_types}
 use Rattle.sj_sound.specs.Worked.{tests_it, main_method, tripling_method, worked_world, emitted, worked_methods}
 use Rattle.sj_sound.proofs.Whole.{program_agrees}
 use Rattle.sj_plain.specs.Conditions.{Usable}
@@ -31,7 +31,7 @@ linked = functions_of worked_methods
 
 main_rules : KeepsRules (IsSub worked_world) linked main_method tests_it
 main_rules = record {
-  typed = (equal refl, inl refl, inl refl, refl, inl (refl, equal refl, equal refl, (refl, inr (refl, refl), (equal refl, (refl, refl), tt), (fits 1 (omega arith), tt), refl), fits 27 (omega arith)), (equal refl, tt), (equal refl, tt));
+  typed = (equal refl, inl refl, inl refl, inl (its_types refl (equal refl) (equal refl), (refl, inr refl, ((equal refl, refl), refl, tt), (fits 1 (omega arith), tt), refl), fits 27 (omega arith)), (equal refl, tt), (equal refl, tt));
   yields = inl refl;
   result = inl refl;
   values = λ x p e. impossible (cc);
@@ -54,7 +54,7 @@ only_parameter : (x : List ℕ) (p : ParamDef) → local_of tripling_method.para
 only_parameter x p e = go (pointwise nat_eq x (codes "p")) e
   where
     go : (b : Bool) → (if b then Some (record { name = codes "p"; «mutable» = true; tpe = Int }) else None) ≡ Some p → HasValue p.tpe
-    go true k = let same : record { name = codes "p"; «mutable» = true; tpe = Int } ≡ p = cc in subst (λ (a : ParamDef). HasValue a.tpe) same (refl, refl)
+    go true k = let same : record { name = codes "p"; «mutable» = true; tpe = Int } ≡ p = cc in subst (λ (a : ParamDef). HasValue a.tpe) same refl
     go false k = impossible (cc)
 
 no_local : (x : List ℕ) → Own triples x → ⊥
@@ -62,9 +62,9 @@ no_local x o = ⊎_elim (λ i. ⊎_elim (λ j. ⊎_elim (λ k. k) (λ k. k) j) (
 
 tripling_rules : KeepsRules (IsSub worked_world) linked tripling_method triples
 tripling_rules = record {
-  typed = ((equal refl, inl (refl, equal refl, equal refl, p_local, fits 10 (omega arith)), (p_variable, equal refl, inl (refl, equal refl, equal refl, p_local, fits 3 (omega arith)))), (λ x d o. d), p_local);
-  yields = inr (equal refl);
-  result = inr (refl, refl);
+  typed = ((equal refl, inl (its_types refl (equal refl) (equal refl), p_local, fits 10 (omega arith)), (p_variable, (equal refl, refl), inl (its_types refl (equal refl) (equal refl), p_local, fits 3 (omega arith)))), (λ x d o. d), p_local);
+  yields = inr (equal refl, refl);
+  result = inr refl;
   values = only_parameter;
   fresh = λ x o i. no_local x o;
 }

@@ -6,9 +6,10 @@ use Rattle.ir_mean.specs.World.{World, member_of}
 use Rattle.sj_names.specs.declared.entry_points.EntryPoint.{EntryPoint}
 use Rattle.sj_names.specs.declared.method_names.Member.{Member}
 use Rattle.sj_calls.specs.Files.{EmittedMethod, initializer_member}
-use Rattle.sj_sound.specs.Rules.{KeepsRules, HaveTypes}
+use Rattle.sj_sound.specs.Rules.{KeepsRules}
+use Rattle.sj_calls.specs.Methods.{HaveTypes}
 use Rattle.sj_world.specs.Subtypes.{IsSub}
-use Rattle.sj_sound.specs.Typing.{call_type}
+use Rattle.sj_plain.specs.Standing.{call_type}
 use Rattle.sj_plain.specs.Conditions.{Usable}
 
 abbrev pub is_same_member : Member → Member → Bool

@@ -1,16 +1,15 @@
 -- What is asked of a method whose body is of the forms that are built.
-use Rattle.std.specs.Prelude.{◌≡◌, ℕ, List, [], ◌∷◌, Some}
+use Rattle.std.specs.Prelude.{◌≡◌, ℕ, List, [], Some}
 use Rattle.ir_mean.specs.World.{World, member_of}
 use Rattle.sj_names.specs.declared.method_names.Member.{Member}
-use Rattle.sj_names.specs.declared.references.TypeRef.{TypeRef}
 use Rattle.sj_trees.specs.Term.{Term}
-use Rattle.sj_trees.specs.Types.{reference_type}
 use Rattle.sj_trees.specs.declared.classes.MethodDef.{MethodDef}
 use Rattle.sj_trees.specs.declared.classes.ParamDef.{ParamDef}
 use Rattle.sj_trees.specs.declared.types.IrType.{IrType}
 use Rattle.sj_bodies.specs.Locals.{Own}
-use Rattle.sj_calls.specs.Methods.{IsParameter}
-use Rattle.sj_sound.specs.Typing.{HasValue, IsResult, Yields, Typed, local_of, call_type}
+use Rattle.sj_calls.specs.Methods.{IsParameter, HaveTypes}
+use Rattle.sj_plain.specs.Standing.{call_type}
+use Rattle.sj_sound.specs.Typing.{HasValue, IsResult, Yields, Typed, local_of}
 use Rattle.sj_plain.specs.Conditions.{Usable}
 
 -- the body keeps the rules with the parameters in scope, yields the result, and defines no parameter again; there are values of each
@@ -21,12 +20,6 @@ pub record KeepsRules (sub : IrType → IrType → Type 0) (has : Usable) (d : M
   pub result : IsResult d.result
   pub values : (x : List ℕ) (p : ParamDef) → local_of d.params x ≡ Some p → HasValue p.tpe
   pub fresh : (x : List ℕ) → Own e x → IsParameter d.params x → ⊥
-
--- the types of parameters are those of the references in the name
-abbrev pub HaveTypes : List ParamDef → List TypeRef → Type 0
-HaveTypes [] [] = Unit {0}
-HaveTypes (d ∷ ds) (r ∷ rs) = (d.tpe ≡ reference_type r) × HaveTypes ds rs
-HaveTypes _ _ = ⊥
 
 -- a member of the classes with a body that keeps the rules, and with the types that its name tells
 pub record RightMember (sub : IrType → IrType → Type 0) (w : World) (has : Usable) (m : Member) : Type 0 where

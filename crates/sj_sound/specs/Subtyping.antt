@@ -1,15 +1,17 @@
 -- What is asked of a relation of subtypes.
 use Rattle.std.specs.Prelude.{◌≡◌, Bool, true, false, ◌⊎◌}
 use Rattle.sj_trees.specs.declared.types.IrType.{IrType}
-use Rattle.sj_trees.specs.declared.types.IrType.TheVariants.{Nothing, Undefined, Boolean, Byte, Short, Int, String, NoType}
+use Rattle.sj_trees.specs.declared.types.IrType.TheVariants.{Nothing, Undefined, Boolean, Char, Byte, Short, Int, Long, String, NoType}
 
 -- a type of which only itself and nothing are subtypes
 abbrev pub is_lowest : IrType → Bool
 is_lowest Undefined = true
 is_lowest Boolean = true
+is_lowest Char = true
 is_lowest Byte = true
 is_lowest Short = true
 is_lowest Int = true
+is_lowest Long = true
 is_lowest String = true
 is_lowest NoType = true
 is_lowest Nothing = true

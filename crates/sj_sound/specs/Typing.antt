@@ -1,21 +1,20 @@
 -- The rules of trees of the forms that are built, over a relation of subtypes: the types of their parts, and the locals and labels that they use.
-use Rattle.std.specs.Prelude.{◌≡◌, ℕ, true, false, List, [], ◌∷◌, ◌⊎◌, FitsSigned, nat_eq, Option, Some, None, if◌then◌else◌}
-use Rattle.std.specs.Int.{w32}
+use Rattle.std.specs.Prelude.{◌≡◌, ℕ, ◌^◌, ◌<◌, true, false, ◌&&◌, not, List, [], ◌∷◌, ◌⊎◌, FitsSigned, nat_eq, codes, Option, Some, None, if◌then◌else◌}
+use Rattle.std.specs.Int.{w32, w64}
 use Rattle.std.specs.Cmp.Lexicographic.{pointwise}
 use Rattle.sj_desugar.specs.Coercions.{is_char}
 use Rattle.sj_desugar.specs.Desugar.{member, has_no_value}
 use Rattle.sj_names.specs.declared.references.TypeRef.{TypeRef}
-use Rattle.sj_trees.specs.Term.{Term, Terms, no_terms, more_terms, Cases, no_cases, more_cases, var_def, skip, block_of, labeled, assign, return_to, if_then, while_loop, do_while, match_on, apply_static, unary_op, binary_op, undefined_literal, null_literal, boolean_literal, byte_literal, short_literal, int_literal, string_literal, var_ref, log_line}
+use Rattle.sj_trees.specs.Term.{Term, Terms, no_terms, more_terms, Cases, no_cases, more_cases, var_def, skip, block_of, labeled, assign, return_to, if_then, while_loop, do_while, match_on, apply_static, unary_op, binary_op, undefined_literal, null_literal, boolean_literal, char_literal, byte_literal, short_literal, int_literal, long_literal, string_literal, var_ref, log_line}
 use Rattle.sj_trees.specs.TypeOf.{type_of_term}
 use Rattle.sj_trees.specs.Types.{reference_type}
 use Rattle.sj_trees.specs.declared.classes.ParamDef.{ParamDef}
 use Rattle.sj_trees.specs.declared.operators.BinaryOp.{BinaryOp}
-use Rattle.sj_trees.specs.declared.operators.BinaryOp.TheVariants.{BooleanEqual, BooleanNotEqual, BooleanOr, BooleanAnd}
-use Rattle.sj_trees.specs.declared.operators.UnaryOp.{UnaryOp}
-use Rattle.sj_trees.specs.declared.operators.UnaryOp.TheVariants.{BooleanNot, ByteToInt, ShortToInt}
+use Rattle.sj_trees.specs.declared.operators.BinaryOp.TheVariants.{StringConcatenate}
 use Rattle.sj_trees.specs.declared.types.IrType.{IrType}
-use Rattle.sj_trees.specs.declared.types.IrType.TheVariants.{Any, Boolean, Byte, Short, Int, String, NoType}
-use Rattle.sj_plain.specs.Conditions.{is_simple, is_simple_unary, IsDivision, IsDivisor, Usable}
+use Rattle.sj_trees.specs.declared.types.IrType.TheVariants.{Any, Boolean, Int, String, Class, Array, NoType}
+use Rattle.sj_plain.specs.Conditions.{is_simple, unary_operand, left_operand, right_operand, DividesBy, Usable}
+use Rattle.sj_plain.specs.Standing.{call_type}
 use Rattle.sj_bodies.specs.Locals.{Own, OwnAll}
 
 -- a label with the type of what leaves to it
@@ -37,9 +36,21 @@ abbrev pub type_of_label : List Label → List ℕ → Option IrType
 type_of_label [] l = None
 type_of_label (b ∷ bs) l = if pointwise nat_eq l b.name then Some b.tpe else type_of_label bs l
 
--- a type of which there are values, other than char, whose values aren't built yet
+-- a type of which there are values
 abbrev pub HasValue : IrType → Type 0
-HasValue t = (has_no_value t ≡ false) × (is_char t ≡ false)
+HasValue t = has_no_value t ≡ false
+
+-- no char stands where another type is expected: no form that is built makes an object that holds it
+abbrev pub NoBox : IrType → IrType → Type 0
+NoBox expected own = (is_char own && not (is_char expected)) ≡ false
+
+-- what joins to a text: nothing, a primitive type, or `java.lang.String`
+abbrev pub IsJoined : IrType → Type 0
+IsJoined Any = ⊥
+IsJoined NoType = ⊥
+IsJoined (Array r) = ⊥
+IsJoined (Class c) = c ≡ codes "java.lang.String"
+IsJoined _ = Unit {0}
 
 -- none, or a type of which there are values
 abbrev pub IsResult : IrType → Type 0
@@ -57,25 +68,6 @@ pub record IsVariable (s : Scene) (x : List ℕ) (t : IrType) : Type 0 where
   pub type_is : local.tpe ≡ t
   pub mutable : local.mutable ≡ true
 
--- the type of a call: that of its result, and any for a reflective call
-abbrev pub call_type : Option TypeRef → IrType
-call_type None = Any
-call_type (Some r) = reference_type r
-
--- the type of an operand of an operator that is built
-abbrev pub unary_operand : UnaryOp → IrType
-unary_operand BooleanNot = Boolean
-unary_operand ByteToInt = Byte
-unary_operand ShortToInt = Short
-unary_operand _ = Int
-
-abbrev pub binary_operand : BinaryOp → IrType
-binary_operand BooleanEqual = Boolean
-binary_operand BooleanNotEqual = Boolean
-binary_operand BooleanOr = Boolean
-binary_operand BooleanAnd = Boolean
-binary_operand _ = Int
-
 -- what a statement of a block defines for those behind it
 abbrev pub Defines : Term → List ℕ → Type 0
 Defines (var_def p x t b e) y = x ≡ y
@@ -89,9 +81,18 @@ abbrev pub in_label : List ℕ → IrType → Scene → Scene
 in_label l t s = record { locals = s.locals; labels = record { name = l; tpe = t } ∷ s.labels }
 
 module _ (sub : IrType → IrType → Type 0) (has : Usable) where
+  -- the tree stands where the type is expected
+  abbrev pub FitsType : Term → IrType → Type 0
+  FitsType e t = sub (type_of_term e) t × NoBox t (type_of_term e)
+
   -- there is no value to yield, or the tree's fits
   abbrev pub Yields : Term → IrType → Type 0
-  Yields e t = (t ≡ NoType) ⊎ sub (type_of_term e) t
+  Yields e t = (t ≡ NoType) ⊎ FitsType e t
+
+  -- the operands of an operator: of its own types, or texts that are joined
+  pub data Takes (o : BinaryOp) (e d : Term) : Type 0 where
+    its_types : is_simple o ≡ true → sub (type_of_term e) (left_operand o) → sub (type_of_term d) (right_operand o) → Takes o e d
+    texts : o ≡ StringConcatenate → IsJoined (type_of_term e) → IsJoined (type_of_term d) → Takes o e d
 
   pub record ReturnsTo (s : Scene) (l : List ℕ) (e : Term) : Type 0 where
     pub tpe : IrType
@@ -101,31 +102,33 @@ module _ (sub : IrType → IrType → Type 0) (has : Usable) where
   -- arguments are as many as the parameters, of which each has a value, and fit their types
   abbrev pub ArgumentsFit : Terms → List TypeRef → Type 0
   ArgumentsFit no_terms [] = Unit {0}
-  ArgumentsFit (more_terms e es) (r ∷ rs) = sub (type_of_term e) (reference_type r) × HasValue (reference_type r) × ArgumentsFit es rs
+  ArgumentsFit (more_terms e es) (r ∷ rs) = FitsType e (reference_type r) × HasValue (reference_type r) × ArgumentsFit es rs
   ArgumentsFit _ _ = ⊥
 
   abbrev mutual
-    -- a tree of the forms that are built that keeps the rules; a local is defined once in a method, and no type is char
+    -- a tree of the forms that are built that keeps the rules; a local is defined once in a method
     pub Typed : Scene → Term → Type 0
-    Typed s (var_def p x t b e) = sub (type_of_term e) t × HasValue t × (Own e x → ⊥) × Typed s e
+    Typed s (var_def p x t b e) = FitsType e t × HasValue t × (Own e x → ⊥) × Typed s e
     Typed s (skip p) = Unit {0}
     Typed s (block_of p ts) = TypedBlock s ts
-    Typed s (labeled p l t e) = Yields e t × (is_char t ≡ false) × Typed (in_label l t s) e
-    Typed s (assign p (var_ref q x t) e) = IsVariable s x t × sub (type_of_term e) t × Typed s e
+    Typed s (labeled p l t e) = Yields e t × Typed (in_label l t s) e
+    Typed s (assign p (var_ref q x t) e) = IsVariable s x t × FitsType e t × Typed s e
     Typed s (return_to p e l) = ReturnsTo s l e × Typed s e
-    Typed s (if_then p c a b t) = sub (type_of_term c) Boolean × Yields a t × Yields b t × (is_char t ≡ false) × Typed s c × Typed s a × Typed s b
+    Typed s (if_then p c a b t) = sub (type_of_term c) Boolean × Yields a t × Yields b t × Typed s c × Typed s a × Typed s b
     Typed s (while_loop p c b) = sub (type_of_term c) Boolean × Typed s c × Typed s b
     Typed s (do_while p b c) = sub (type_of_term c) Boolean × Typed s b × Typed s c
-    Typed s (match_on p e cs d t) = sub (type_of_term e) Int × Yields d t × (is_char t ≡ false) × Typed s e × TypedCases s t cs × Typed s d
+    Typed s (match_on p e cs d t) = sub (type_of_term e) Int × Yields d t × Typed s e × TypedCases s t cs × Typed s d
     Typed s (apply_static p c n m ts t) = (has.linked (member c n m) ≡ true) × IsResult t × ArgumentsFit ts m.params × TypedAll s ts × (t ≡ call_type m.result)
-    Typed s (unary_op p o e) = (is_simple_unary o ≡ true) × sub (type_of_term e) (unary_operand o) × Typed s e
-    Typed s (binary_op p o e d) = ((is_simple o ≡ true) × sub (type_of_term e) (binary_operand o) × sub (type_of_term d) (binary_operand o) × Typed s e × Typed s d) ⊎ (IsDivision o × sub (type_of_term e) Int × Typed s e × IsDivisor d)
+    Typed s (unary_op p o e) = sub (type_of_term e) (unary_operand o) × Typed s e
+    Typed s (binary_op p o e d) = (Takes o e d × Typed s e × Typed s d) ⊎ (DividesBy o d × sub (type_of_term e) (left_operand o) × Typed s e)
     Typed s (undefined_literal p) = Unit {0}
     Typed s (null_literal p) = Unit {0}
     Typed s (boolean_literal p b) = Unit {0}
+    Typed s (char_literal p u) = u < 2 ^ 16
     Typed s (byte_literal p z) = FitsSigned w32 z
     Typed s (short_literal p z) = FitsSigned w32 z
     Typed s (int_literal p z) = FitsSigned w32 z
+    Typed s (long_literal p z) = FitsSigned w64 z
     Typed s (string_literal p us) = Unit {0}
     Typed s (var_ref p x t) = IsLocal s x t
     Typed s (log_line p e) = sub (type_of_term e) String × Typed s e
