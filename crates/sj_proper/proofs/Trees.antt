@@ -1,18 +1,19 @@
 -- What is written for a tree declares each variable once and has no early error.
 use Rattle.std.proofs.Common.{◌≡◌, ℕ, Bool, true, false, List, [], ◌∷◌, Some, refl, sym, ap, ◌∙◌, subst, arith, ◌⊎◌, inl, inr, ⊎_elim, if◌then◌else◌}
-use Rattle.std.specs.Prelude.{nat_eq}
+use Rattle.std.specs.Prelude.{nat_eq, pos}
 use Rattle.std.specs.Cmp.Lexicographic.{pointwise}
 use Rattle.sj_core.specs.Terms as core
 use Rattle.sj_core.specs.Views.{expressions_of}
 use Rattle.sj_desugar.specs.Coercions.{coerced, coerced_arguments}
 use Rattle.sj_desugar.specs.Desugar.{operand, into, block, operands, cases, finish, target_of, Target, Targets, expression_of, labeled_code, leaving_code, wrapped, branches, break_unless, switch_code, first_of, second_of, member, types_of}
 use Rattle.sj_desugar.specs.Plain.{is_plain}
+use Rattle.sj_desugar.specs.Texts.{operand_of}
 use Rattle.sj_desugar.specs.Spill.{Destination, discard, to_variable, to_result, Code, no_code, one, put_first, then_code, spill, then_use}
-use Rattle.sj_trees.specs.Term.{Term, Terms, no_terms, more_terms, Cases, no_cases, more_cases, var_def, block_of, labeled, assign, return_to, if_then, while_loop, do_while, match_on, apply_static, unary_op, binary_op, undefined_literal, null_literal, boolean_literal, byte_literal, short_literal, int_literal, string_literal, var_ref, log_line}
+use Rattle.sj_trees.specs.Term.{Term, Terms, no_terms, more_terms, Cases, no_cases, more_cases, var_def, block_of, labeled, assign, return_to, if_then, while_loop, do_while, match_on, apply_static, unary_op, binary_op, undefined_literal, null_literal, boolean_literal, char_literal, byte_literal, short_literal, int_literal, long_literal, string_literal, var_ref, log_line}
 use Rattle.sj_trees.specs.TypeOf.{type_of_term, unary_result, binary_result}
 use Rattle.sj_trees.specs.declared.positions.Position.{Position}
 use Rattle.sj_trees.specs.declared.types.IrType.{IrType}
-use Rattle.sj_trees.specs.declared.types.IrType.TheVariants.{Undefined, Null, Boolean, Byte, Short, Int, String}
+use Rattle.sj_trees.specs.declared.types.IrType.TheVariants.{Undefined, Null, Boolean, Char, Byte, Short, Int, Long, String}
 use Rattle.sj_bodies.specs.Locals.{Own, OwnAll}
 use Rattle.sj_bodies.proofs.Contexts.{equals, is-equal}
 use Rattle.sj_names.proofs.Same.{impossible}
@@ -113,10 +114,12 @@ module _ (is_mutable : List ℕ → Bool) where
     good (match_on p e cs d t) = λ around ts ls b k j h em. act_good e (good e) (Own (match_on p e cs d t)) (λ x o. inl o) around ts ls b j (λ es j. switch_code p (first_of es) (cases is_mutable ts k j cs) (λ j. into is_mutable ts k j d)) h.0 em (λ es i. switch-good no_name (Own d) ls b p (first_of es) (cases is_mutable ts k i cs) (λ j. into is_mutable ts k j d) i (good_cases cs around ts ls k i h.1 em) (good d around ts ls true k (cases is_mutable ts k i cs).next h.2 em))
     good (apply_static p c n m es t) = λ around ts ls b k j h em. good-use (OwnAll es) no_name (OwnAll es) ls b (operands is_mutable ts es) (λ xs. finish k p t false (core.static_call (member c n m) (expressions_of (coerced_arguments m.params (types_of es) xs)))) j (good_operands es around ts ls b h em j) (λ xs i. finish-good no_name ls b k p t false (core.static_call (member c n m) (expressions_of (coerced_arguments m.params (types_of es) xs))) i) (nothing_apart (OwnAll es)) (all_part (OwnAll es)) (no_part (OwnAll es))
     good (unary_op p o e) = λ around ts ls b k j h em. act_good e (good e) (Own e) (all_part (Own e)) around ts ls b j (λ es. finish k p (unary_result o) false (core.unary_of o (first_of es))) h em (λ es i. finish-good no_name ls b k p (unary_result o) false (core.unary_of o (first_of es)) i)
-    good (binary_op p o e d) = λ around ts ls b k j h em. good-use (Own (binary_op p o e d)) no_name (Own (binary_op p o e d)) ls b (operand is_mutable e (λ k j. into is_mutable ts k j e) ∷ operand is_mutable d (λ k j. into is_mutable ts k j d) ∷ []) (λ es. finish k p (binary_result o) false (core.binary_of o (first_of es) (second_of es))) j (operand-good (Own e) (Own d) (Own (binary_op p o e d)) ls b (operand is_mutable e (λ k j. into is_mutable ts k j e)) (operand is_mutable d (λ k j. into is_mutable ts k j d) ∷ []) (λ k j. good e around ts ls b k j h.0 em) (each_one d (good d) around ts ls b h.1 em) h.2 (λ x o. inl o) (λ x o. inr o) j) (λ es i. finish-good no_name ls b k p (binary_result o) false (core.binary_of o (first_of es) (second_of es)) i) (nothing_apart (Own (binary_op p o e d))) (all_part (Own (binary_op p o e d))) (no_part (Own (binary_op p o e d)))
+    good (binary_op p o e d) = λ around ts ls b k j h em. good-use (Own (binary_op p o e d)) no_name (Own (binary_op p o e d)) ls b (operand is_mutable e (λ k j. into is_mutable ts k j e) ∷ operand is_mutable d (λ k j. into is_mutable ts k j d) ∷ []) (λ es. finish k p (binary_result o) false (core.binary_of o (operand_of o (type_of_term e) (first_of es)) (operand_of o (type_of_term d) (second_of es)))) j (operand-good (Own e) (Own d) (Own (binary_op p o e d)) ls b (operand is_mutable e (λ k j. into is_mutable ts k j e)) (operand is_mutable d (λ k j. into is_mutable ts k j d) ∷ []) (λ k j. good e around ts ls b k j h.0 em) (each_one d (good d) around ts ls b h.1 em) h.2 (λ x o. inl o) (λ x o. inr o) j) (λ es i. finish-good no_name ls b k p (binary_result o) false (core.binary_of o (operand_of o (type_of_term e) (first_of es)) (operand_of o (type_of_term d) (second_of es))) i) (nothing_apart (Own (binary_op p o e d))) (all_part (Own (binary_op p o e d))) (no_part (Own (binary_op p o e d)))
     good (undefined_literal p) = λ around ts ls b k j h em. finish-good no_name ls b k p Undefined true core.undefined_value j
     good (null_literal p) = λ around ts ls b k j h em. finish-good no_name ls b k p Null true core.null_value j
     good (boolean_literal p v) = λ around ts ls b k j h em. finish-good no_name ls b k p Boolean true (core.boolean_value v) j
+    good (char_literal p n) = λ around ts ls b k j h em. finish-good no_name ls b k p Char true (core.number_value (pos n)) j
+    good (long_literal p n) = λ around ts ls b k j h em. finish-good no_name ls b k p Long true (core.long_value n) j
     good (byte_literal p n) = λ around ts ls b k j h em. finish-good no_name ls b k p Byte true (core.number_value n) j
     good (short_literal p n) = λ around ts ls b k j h em. finish-good no_name ls b k p Short true (core.number_value n) j
     good (int_literal p n) = λ around ts ls b k j h em. finish-good no_name ls b k p Int true (core.number_value n) j
