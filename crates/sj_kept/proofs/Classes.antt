@@ -18,8 +18,8 @@ use Rattle.sj_names.specs.declared.references.TypeRef.{TypeRef}
 use Rattle.sj_trees.specs.Types.{reference_type}
 use Rattle.sj_trees.specs.declared.classes.ParamDef.{ParamDef}
 use Rattle.sj_trees.specs.declared.types.IrType.{IrType}
-use Rattle.sj_sound.specs.Rules.{HaveTypes}
-use Rattle.sj_sound.specs.Typing.{call_type}
+use Rattle.sj_calls.specs.Methods.{HaveTypes}
+use Rattle.sj_plain.specs.Standing.{call_type}
 use Rattle.sj_kept.specs.Kept.{KeepsTreeRules}
 use Rattle.sj_trees.proofs.SameTypes.{type-same}
 use Rattle.sj_names.proofs.Same.{impossible}

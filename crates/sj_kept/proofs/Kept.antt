@@ -6,7 +6,7 @@ use Rattle.sj_local.specs.declared.walks.Local.{Local}
 use Rattle.sj_local.specs.Names.{is_empty_type}
 use Rattle.sj_local.specs.Nodes.{Context, Node, node, inside, in_a_block, with_label, behind, below, statements_below, all_below, cases_below}
 use Rattle.sj_local.specs.TreeRules.{last_some, named, innermost, has_type, is_mutable, has_no_terms, breaks_definition, breaks_variable, breaks_return}
-use Rattle.sj_trees.specs.Term.{Term, Terms, no_terms, more_terms, Cases, no_cases, more_cases, var_def, skip, block_of, labeled, assign, return_to, if_then, while_loop, do_while, match_on, apply_static, unary_op, binary_op, undefined_literal, null_literal, boolean_literal, byte_literal, short_literal, int_literal, string_literal, var_ref, log_line}
+use Rattle.sj_trees.specs.Term.{Term, Terms, no_terms, more_terms, Cases, no_cases, more_cases, var_def, skip, block_of, labeled, assign, return_to, if_then, while_loop, do_while, match_on, apply_static, unary_op, binary_op, undefined_literal, null_literal, boolean_literal, char_literal, byte_literal, short_literal, int_literal, long_literal, string_literal, var_ref, log_line}
 use Rattle.sj_trees.specs.declared.classes.ParamDef.{ParamDef}
 use Rattle.sj_trees.specs.declared.types.IrType.{IrType}
 use Rattle.sj_desugar.specs.Desugar.{has_no_value}
@@ -97,23 +97,25 @@ module _ (sub : IrType → IrType → Type 0) (has : Usable) where
   mutual
     -- a tree that stands where `x` tells, and the trees in it
     pub typed : (t : Term) (x y : Context) (s : Scene) (around : List (List ℕ)) → y.scope ≡ x.scope → SameScope x.scope s.locals → Keeps (node y t) → AllKeep (below x t) → Once around t → Rows sub has s.labels t → Typed sub has s t
-    typed (var_def p n t m e) x y s a z c k h o r = (r.0, (defined-value y.in_block t k.definition, r.1), o.0, typed e x x s a refl c h.0 h.1 o.1 r.2)
+    typed (var_def p n t m e) x y s a z c k h o r = (r.0, defined-value y.in_block t k.definition, o.0, typed e x x s a refl c h.0 h.1 o.1 r.1)
     typed (skip p) x y s a z c k h o r = tt
     typed (block_of p ts) x y s a z c k h o r = typed_block ts (in_a_block x) s a c h o k.definition r
-    typed (labeled p l t e) x y s a z c k h o r = (r.0, r.1, typed e (with_label l x) (with_label l x) (in_label l t s) (l ∷ a) refl c h.0 h.1 o.1 r.2)
+    typed (labeled p l t e) x y s a z c k h o r = (r.0, typed e (with_label l x) (with_label l x) (in_label l t s) (l ∷ a) refl c h.0 h.1 o.1 r.1)
     typed (assign p (var_ref q n t) e) x y s a z c k h o r = (variable-is s n t (innermost x.scope n) (local_of s.locals n) refl (c.same n) (not_false (has_type t (innermost x.scope n)) h.0.variable) (not_false (is_mutable (innermost x.scope n)) (subst (λ q. not (is_mutable (innermost q n)) ≡ false) z k.variable)), r.0, typed e x x s a refl c h.1.0 h.1.1 o r.1)
     typed (return_to p e l) x y s a z c k h o r = (record { tpe = r.0.tpe; is = r.0.is; yields = r.0.yields }, typed e x x s a refl c h.0 h.1 o.1 r.1)
-    typed (if_then p d e f t) x y s a z c k h o r = let m = three (At x d) (At x e) (At x f) h in (r.0, r.1, r.2, r.3, typed d x x s a refl c m.0.0 m.0.1 o.0 r.4, typed e x x s a refl c m.1.0 m.1.1 o.1 r.5, typed f x x s a refl c m.2.0 m.2.1 o.2 r.6)
+    typed (if_then p d e f t) x y s a z c k h o r = let m = three (At x d) (At x e) (At x f) h in (r.0, r.1, r.2, typed d x x s a refl c m.0.0 m.0.1 o.0 r.3, typed e x x s a refl c m.1.0 m.1.1 o.1 r.4, typed f x x s a refl c m.2.0 m.2.1 o.2 r.5)
     typed (while_loop p d e) x y s a z c k h o r = let l = keep-behind (At x d) (At x e) h in (r.0, typed d x x s a refl c h.0 (keep-front (below x d) (At x e) h.1) o.0 r.1, typed e x x s a refl c l.0 l.1 o.1 r.2)
     typed (do_while p d e) x y s a z c k h o r = let l = keep-behind (At x d) (At x e) h in (r.0, typed d x x s a refl c h.0 (keep-front (below x d) (At x e) h.1) o.0 r.1, typed e x x s a refl c l.0 l.1 o.1 r.2)
-    typed (match_on p e cs d t) x y s a z c k h o r = let m = three (At x e) (cases_below x cs) (At x d) h in (r.0, r.1, r.2, typed e x x s a refl c m.0.0 m.0.1 o.0 r.3, typed_cases cs x s a t c m.1 o.1 r.4, typed d x x s a refl c m.2.0 m.2.1 o.2 r.5)
+    typed (match_on p e cs d t) x y s a z c k h o r = let m = three (At x e) (cases_below x cs) (At x d) h in (r.0, r.1, typed e x x s a refl c m.0.0 m.0.1 o.0 r.2, typed_cases cs x s a t c m.1 o.1 r.3, typed d x x s a refl c m.2.0 m.2.1 o.2 r.4)
     typed (apply_static p q n m ts t) x y s a z c k h o r = (r.0, r.1, r.2, typed_all ts x s a c h o r.3, r.4)
-    typed (unary_op p q e) x y s a z c k h o r = (r.0, r.1, typed e x x s a refl c h.0 h.1 o r.2)
-    typed (binary_op p q d e) x y s a z c k h o (inl r) = let l = keep-behind (At x d) (At x e) h in inl (r.0, r.1, r.2, typed d x x s a refl c h.0 (keep-front (below x d) (At x e) h.1) o.0 r.3, typed e x x s a refl c l.0 l.1 o.1 r.4)
-    typed (binary_op p q d e) x y s a z c k h o (inr r) = inr (r.0, r.1, typed d x x s a refl c h.0 (keep-front (below x d) (At x e) h.1) o.0 r.2, r.3)
+    typed (unary_op p q e) x y s a z c k h o r = (r.0, typed e x x s a refl c h.0 h.1 o r.1)
+    typed (binary_op p q d e) x y s a z c k h o (inl r) = let l = keep-behind (At x d) (At x e) h in inl (r.0, typed d x x s a refl c h.0 (keep-front (below x d) (At x e) h.1) o.0 r.1, typed e x x s a refl c l.0 l.1 o.1 r.2)
+    typed (binary_op p q d e) x y s a z c k h o (inr r) = inr (r.0, r.1, typed d x x s a refl c h.0 (keep-front (below x d) (At x e) h.1) o.0 r.2)
     typed (undefined_literal p) x y s a z c k h o r = tt
     typed (null_literal p) x y s a z c k h o r = tt
     typed (boolean_literal p b) x y s a z c k h o r = tt
+    typed (char_literal p n) x y s a z c k h o r = r
+    typed (long_literal p n) x y s a z c k h o r = r
     typed (byte_literal p n) x y s a z c k h o r = r
     typed (short_literal p n) x y s a z c k h o r = r
     typed (int_literal p n) x y s a z c k h o r = r

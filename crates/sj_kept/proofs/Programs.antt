@@ -8,10 +8,10 @@ use Rattle.sj_names.specs.declared.entry_points.EntryPoint.{EntryPoint}
 use Rattle.sj_names.specs.declared.method_names.MethodName.{MethodName}
 use Rattle.sj_calls.specs.Files.{EmittedMethod, program_with}
 use Rattle.sj_sound.specs.Linked.{have_functions, IsRight, functions_of}
-use Rattle.sj_sound.specs.Rules.{HaveTypes}
+use Rattle.sj_calls.specs.Methods.{HaveTypes}
 use Rattle.sj_world.specs.Laws.{IsTopped}
 use Rattle.sj_world.specs.Subtypes.{IsSub}
-use Rattle.sj_sound.specs.Typing.{call_type}
+use Rattle.sj_plain.specs.Standing.{call_type}
 use Rattle.sj_proper.specs.Program.{HaveOwnMembers, IsWhole}
 use Rattle.sj_proper.proofs.Modules.{linked_agrees}
 use Rattle.sj_kept.specs.Kept.{KeepsTreeRules, DefinesOnce}
