@@ -25,8 +25,8 @@ use Rattle.sj_local.specs.Names.{is_object}
 use Rattle.sj_names.proofs.Same.{impossible, text-same}
 use Rattle.sj_names.specs.Same.{is_same_text}
 use Rattle.sj_sound.proofs.Topped.{topped}
-use Rattle.sj_sound.specs.Rules.{HaveTypes}
-use Rattle.sj_sound.specs.Typing.{call_type}
+use Rattle.sj_calls.specs.Methods.{HaveTypes}
+use Rattle.sj_plain.specs.Standing.{call_type}
 use Rattle.sj_trees.specs.Term.{Term}
 use Rattle.sj_world.specs.Ancestors.{listed, written, above_in}
 use Rattle.sj_world.specs.Known.{class_of, object}
@@ -64,9 +64,9 @@ module _ (w : World) (fs : List EmittedMethod) (classes : (c : ClassDef) → Con
     found = h.found;
     has_body = h.has_body;
     rows = has_rows w (functions_of fs) e.definition e.its_body h.has_body h.typed h.built.body body;
-    yields = yields_result w (functions_of fs) e.definition e.its_body h.has_body h.typed;
-    result = result_is e.definition.name.result e.definition.result types.1 h.built.result;
-    values = parameters_have_values e.definition.params e.definition.name.params types.0 method.0.0.params h.built.parameters;
+    yields = yields_result w (functions_of fs) e.definition e.its_body h.has_body h.typed h.built.result;
+    result = result_is e.definition.name.result e.definition.result types.1;
+    values = parameters_have_values e.definition.params e.definition.name.params types.0 method.0.0.params;
     class_name = subst (λ (n : List ℕ). IsTrue (is_class_name n)) (sym its.class_is) listing.name.0;
     method_name = subst IsMethodName (sym its.named) method.0.0;
   }

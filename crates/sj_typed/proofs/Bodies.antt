@@ -3,7 +3,6 @@ use Rattle.std.proofs.Common.{◌≡◌, ℕ, ◌+◌, ◌^◌, arith, Bool, tru
 use Rattle.std.specs.Prelude.{nat_eq, if◌then◌else◌}
 use Rattle.std.specs.Cmp.Lexicographic.{pointwise}
 use Rattle.std.specs.List.{All}
-use Rattle.std.proofs.lemmas.Bool.{and_parts}
 use Rattle.std.proofs.lemmas.List.Elements.{All-nil, All-cons, All-head, All-tail}
 use Rattle.std.proofs.lemmas.Slice.Eq.{bytes_eq-Decides}
 use Rattle.sj_names.specs.declared.method_names.Namespace.{Namespace}
@@ -18,9 +17,10 @@ use Rattle.sj_trees.specs.declared.operators.UnaryOp.TheVariants as unary
 use Rattle.sj_trees.specs.declared.positions.Position.{Position}
 use Rattle.sj_trees.specs.declared.types.IrType.{IrType}
 use Rattle.sj_trees.specs.declared.types.IrType.TheVariants as type
-use Rattle.sj_trees.specs.Term.{Term, Terms, no_terms, more_terms, Cases, no_cases, more_cases, var_def, skip, block_of, labeled, assign, return_to, if_then, while_loop, do_while, match_on, apply_static, unary_op, binary_op, undefined_literal, null_literal, boolean_literal, byte_literal, short_literal, int_literal, string_literal, var_ref, log_line}
+use Rattle.sj_trees.specs.Term.{Term, Terms, no_terms, more_terms, Cases, no_cases, more_cases, var_def, skip, block_of, labeled, assign, return_to, if_then, while_loop, do_while, match_on, apply_static, unary_op, binary_op, undefined_literal, null_literal, boolean_literal, char_literal, byte_literal, short_literal, int_literal, long_literal, string_literal, var_ref, log_line}
 use Rattle.sj_trees.specs.TypeOf.{type_of_term}
-use Rattle.sj_plain.specs.Conditions.{is_simple, is_simple_unary, IsDivision, a_quotient, a_remainder, Usable}
+use Rattle.sj_plain.specs.Conditions.{unary_operand, left_operand, a_quotient, a_remainder, a_long_quotient, a_long_remainder, Usable}
+use Rattle.sj_plain.specs.Standing.{call_type}
 use Rattle.sj_sound.specs.Typing as sound
 use Rattle.sj_kept.specs.Rows.{Rows, AllRows, CaseRows}
 use Rattle.sj_world.specs.Known.{Classes}
@@ -32,59 +32,90 @@ use Rattle.sj_typing.specs.Nodes.{Node, node, inside, below, nodes, nodes_of_all
 use Rattle.sj_typing.specs.Rules as rules
 use Rattle.sj_typing.specs.Rules.{Fits, OperandsFit, CasesYield}
 use Rattle.sj_typing.specs.Typed.{MeetsThere, IsTyped}
-use Rattle.sj_typed.specs.Built.{is_no_char, are_no_chars, Built, AllBuilt, CasesBuilt}
-use Rattle.sj_typed.proofs.Values.{parameter_value, result_is, fits, divisor_of}
+use Rattle.sj_typed.specs.Built.{HasNoBox, HaveNoBox, ByLiteral, by_an_int, by_a_long, IsOperator, an_operator, Built, AllBuilt, CasesBuilt}
+use Rattle.sj_typed.proofs.Values.{parameter_value, result_is, fits, fits_long, divisor_of}
 
-yields : (w : Classes) (has : Usable) (e : Term) (t : IrType) → rules.Yields w e t → sound.Yields (IsSub w) has e t
-yields w has e t (rules.nothing_wanted none) = inl none
-yields w has e t (rules.fitting fits) = inr fits
+yields : (w : Classes) (has : Usable) (e : Term) (t : IrType) → HasNoBox t e → rules.Yields w e t → sound.Yields (IsSub w) has e t
+yields w has e t box (rules.nothing_wanted none) = inl none
+yields w has e t (inl none) (rules.fitting fits) = inl none
+yields w has e t (inr box) (rules.fitting fits) = inr (fits, box)
 
-arguments : (w : Classes) (has : Usable) (es : Terms) (rs : List TypeRef) → are_no_chars rs ≡ true → All IsParameter rs → rules.ArgumentsFit w es rs → sound.ArgumentsFit (IsSub w) has es rs
+arguments : (w : Classes) (has : Usable) (es : Terms) (rs : List TypeRef) → HaveNoBox rs es → All IsParameter rs → rules.ArgumentsFit w es rs → sound.ArgumentsFit (IsSub w) has es rs
 arguments w has no_terms [] built params fits = tt
 arguments w has no_terms (r ∷ rs) built params fits = absurd fits
 arguments w has (more_terms e es) [] built params fits = absurd fits
-arguments w has (more_terms e es) (r ∷ rs) built params fits = let p = and_parts (is_no_char r) (are_no_chars rs) built in (fits.0, parameter_value r (All-head IsParameter r rs params) p.0, arguments w has es rs p.1 (All-tail IsParameter r rs params) fits.1)
+arguments w has (more_terms e es) (r ∷ rs) built params fits = ((fits.0, built.0), parameter_value r (All-head IsParameter r rs params), arguments w has es rs built.1 (All-tail IsParameter r rs params) fits.1)
 
 -- ---- operators
 
-operand : (w : Classes) (o : UnaryOp) (e : Term) → is_simple_unary o ≡ true → Fits w e (rules.unary_operand o) → IsSub w (type_of_term e) (sound.unary_operand o)
-operand w unary.BooleanNot e is fits = fits
-operand w unary.ByteToInt e is fits = fits
-operand w unary.ShortToInt e is fits = fits
-operand w unary.IntToByte e is fits = fits
-operand w unary.IntToShort e is fits = fits
-operand w unary.CharToInt e is fits = cc
-operand w unary.IntToLong e is fits = cc
-operand w unary.IntToChar e is fits = cc
-operand w unary.LongToInt e is fits = cc
+operand : (w : Classes) (o : UnaryOp) (e : Term) → Fits w e (rules.unary_operand o) → IsSub w (type_of_term e) (unary_operand o)
+operand w unary.BooleanNot e fits = fits
+operand w unary.CharToInt e fits = fits
+operand w unary.ByteToInt e fits = fits
+operand w unary.ShortToInt e fits = fits
+operand w unary.IntToLong e fits = fits
+operand w unary.IntToChar e fits = fits
+operand w unary.IntToByte e fits = fits
+operand w unary.IntToShort e fits = fits
+operand w unary.LongToInt e fits = fits
 
-operands : (w : Classes) (o : BinaryOp) (a b : Term) → is_simple o ≡ true → OperandsFit w o a b → IsSub w (type_of_term a) (sound.binary_operand o) × IsSub w (type_of_term b) (sound.binary_operand o)
-operands w binary.BooleanEqual a b is fits = (fits.0, fits.1)
-operands w binary.BooleanNotEqual a b is fits = (fits.0, fits.1)
-operands w binary.BooleanOr a b is fits = (fits.0, fits.1)
-operands w binary.BooleanAnd a b is fits = (fits.0, fits.1)
-operands w binary.IntAdd a b is fits = (fits.0, fits.1)
-operands w binary.IntSubtract a b is fits = (fits.0, fits.1)
-operands w binary.IntMultiply a b is fits = (fits.0, fits.1)
-operands w binary.IntOr a b is fits = (fits.0, fits.1)
-operands w binary.IntAnd a b is fits = (fits.0, fits.1)
-operands w binary.IntXor a b is fits = (fits.0, fits.1)
-operands w binary.IntShiftLeft a b is fits = (fits.0, fits.1)
-operands w binary.IntShiftRightLogical a b is fits = (fits.0, fits.1)
-operands w binary.IntShiftRightArithmetic a b is fits = (fits.0, fits.1)
-operands w binary.IntEqual a b is fits = (fits.0, fits.1)
-operands w binary.IntNotEqual a b is fits = (fits.0, fits.1)
-operands w binary.IntLess a b is fits = (fits.0, fits.1)
-operands w binary.IntLessOrEqual a b is fits = (fits.0, fits.1)
-operands w binary.IntGreater a b is fits = (fits.0, fits.1)
-operands w binary.IntGreaterOrEqual a b is fits = (fits.0, fits.1)
-operands w o a b is fits = cc
+joined : (t : IrType) → rules.IsText t → sound.IsJoined t
+joined type.Any h = h
+joined type.NoType h = h
+joined (type.Array r) h = h
+joined (type.Class c) h = h
+joined t h = tt
 
-dividend : (w : Classes) (o : BinaryOp) (a b : Term) → IsDivision o → OperandsFit w o a b → IsSub w (type_of_term a) type.Int
-dividend w _ a b a_quotient fits = fits.0
-dividend w _ a b a_remainder fits = fits.0
+operands : (w : Classes) (has : Usable) (o : BinaryOp) (a b : Term) → IsOperator o → OperandsFit w o a b → sound.Takes (IsSub w) has o a b
+operands w has _ a b (an_operator binary.StrictEqual e n i l) fits = absurd (e refl)
+operands w has _ a b (an_operator binary.StrictNotEqual e n i l) fits = absurd (n refl)
+operands w has _ a b (an_operator binary.IntDivide e n i l) fits = absurd (i a_quotient)
+operands w has _ a b (an_operator binary.IntRemainder e n i l) fits = absurd (i a_remainder)
+operands w has _ a b (an_operator binary.LongDivide e n i l) fits = absurd (l a_long_quotient)
+operands w has _ a b (an_operator binary.LongRemainder e n i l) fits = absurd (l a_long_remainder)
+operands w has _ a b (an_operator binary.StringConcatenate e n i l) fits = sound.texts refl (joined (type_of_term a) fits.0) (joined (type_of_term b) fits.1)
+operands w has _ a b (an_operator binary.BooleanEqual e n i l) fits = sound.its_types refl fits.0 fits.1
+operands w has _ a b (an_operator binary.BooleanNotEqual e n i l) fits = sound.its_types refl fits.0 fits.1
+operands w has _ a b (an_operator binary.BooleanOr e n i l) fits = sound.its_types refl fits.0 fits.1
+operands w has _ a b (an_operator binary.BooleanAnd e n i l) fits = sound.its_types refl fits.0 fits.1
+operands w has _ a b (an_operator binary.IntAdd e n i l) fits = sound.its_types refl fits.0 fits.1
+operands w has _ a b (an_operator binary.IntSubtract e n i l) fits = sound.its_types refl fits.0 fits.1
+operands w has _ a b (an_operator binary.IntMultiply e n i l) fits = sound.its_types refl fits.0 fits.1
+operands w has _ a b (an_operator binary.IntOr e n i l) fits = sound.its_types refl fits.0 fits.1
+operands w has _ a b (an_operator binary.IntAnd e n i l) fits = sound.its_types refl fits.0 fits.1
+operands w has _ a b (an_operator binary.IntXor e n i l) fits = sound.its_types refl fits.0 fits.1
+operands w has _ a b (an_operator binary.IntShiftLeft e n i l) fits = sound.its_types refl fits.0 fits.1
+operands w has _ a b (an_operator binary.IntShiftRightLogical e n i l) fits = sound.its_types refl fits.0 fits.1
+operands w has _ a b (an_operator binary.IntShiftRightArithmetic e n i l) fits = sound.its_types refl fits.0 fits.1
+operands w has _ a b (an_operator binary.IntEqual e n i l) fits = sound.its_types refl fits.0 fits.1
+operands w has _ a b (an_operator binary.IntNotEqual e n i l) fits = sound.its_types refl fits.0 fits.1
+operands w has _ a b (an_operator binary.IntLess e n i l) fits = sound.its_types refl fits.0 fits.1
+operands w has _ a b (an_operator binary.IntLessOrEqual e n i l) fits = sound.its_types refl fits.0 fits.1
+operands w has _ a b (an_operator binary.IntGreater e n i l) fits = sound.its_types refl fits.0 fits.1
+operands w has _ a b (an_operator binary.IntGreaterOrEqual e n i l) fits = sound.its_types refl fits.0 fits.1
+operands w has _ a b (an_operator binary.LongAdd e n i l) fits = sound.its_types refl fits.0 fits.1
+operands w has _ a b (an_operator binary.LongSubtract e n i l) fits = sound.its_types refl fits.0 fits.1
+operands w has _ a b (an_operator binary.LongMultiply e n i l) fits = sound.its_types refl fits.0 fits.1
+operands w has _ a b (an_operator binary.LongOr e n i l) fits = sound.its_types refl fits.0 fits.1
+operands w has _ a b (an_operator binary.LongAnd e n i l) fits = sound.its_types refl fits.0 fits.1
+operands w has _ a b (an_operator binary.LongXor e n i l) fits = sound.its_types refl fits.0 fits.1
+operands w has _ a b (an_operator binary.LongShiftLeft e n i l) fits = sound.its_types refl fits.0 fits.1
+operands w has _ a b (an_operator binary.LongShiftRightLogical e n i l) fits = sound.its_types refl fits.0 fits.1
+operands w has _ a b (an_operator binary.LongShiftRightArithmetic e n i l) fits = sound.its_types refl fits.0 fits.1
+operands w has _ a b (an_operator binary.LongEqual e n i l) fits = sound.its_types refl fits.0 fits.1
+operands w has _ a b (an_operator binary.LongNotEqual e n i l) fits = sound.its_types refl fits.0 fits.1
+operands w has _ a b (an_operator binary.LongLess e n i l) fits = sound.its_types refl fits.0 fits.1
+operands w has _ a b (an_operator binary.LongLessOrEqual e n i l) fits = sound.its_types refl fits.0 fits.1
+operands w has _ a b (an_operator binary.LongGreater e n i l) fits = sound.its_types refl fits.0 fits.1
+operands w has _ a b (an_operator binary.LongGreaterOrEqual e n i l) fits = sound.its_types refl fits.0 fits.1
 
-same_call_type : (o : Option TypeRef) → rules.call_type o ≡ sound.call_type o
+dividend : (w : Classes) (o : BinaryOp) (a b : Term) → ByLiteral o b → OperandsFit w o a b → IsSub w (type_of_term a) (left_operand o)
+dividend w _ a _ (by_an_int _ a_quotient p z ne) fits = fits.0
+dividend w _ a _ (by_an_int _ a_remainder p z ne) fits = fits.0
+dividend w _ a _ (by_a_long _ a_long_quotient p z ne) fits = fits.0
+dividend w _ a _ (by_a_long _ a_long_remainder p z ne) fits = fits.0
+
+same_call_type : (o : Option TypeRef) → rules.call_type o ≡ call_type o
 same_call_type None = refl
 same_call_type (Some r) = refl
 
@@ -131,41 +162,43 @@ module _ (w : Classes) (space : Namespace) (has : Usable) where
   inner ls n t h = front (below ls n t) (node n ls t ∷ []) h
 
   -- an operator, by its operands
-  operands_rows : (p : Position) (o : BinaryOp) (e d : Term) (bs : List sound.Label) → (Built has e → Rows (IsSub w) has bs e) → (Built has d → Rows (IsSub w) has bs d) → Built has (binary_op p o e d) → IsListedTree d → OperandsFit w o e d → Rows (IsSub w) has bs (binary_op p o e d)
-  operands_rows p o e d bs one other (inl built) listed its = let fit = operands w o e d built.0 its in inl (built.0, fit.0, fit.1, one built.1, other built.2)
-  operands_rows p o e d bs one other (inr built) listed its = inr (built.0, dividend w o e d built.0 its, one built.1, divisor_of d built.2 listed)
+  operands_rows : (p : Position) (o : BinaryOp) (e d : Term) (bs : List sound.Label) → (Built has bs e → Rows (IsSub w) has bs e) → (Built has bs d → Rows (IsSub w) has bs d) → Built has bs (binary_op p o e d) → IsListedTree d → OperandsFit w o e d → Rows (IsSub w) has bs (binary_op p o e d)
+  operands_rows p o e d bs one other (inl built) listed its = inl (operands w has o e d built.0 its, one built.1, other built.2)
+  operands_rows p o e d bs one other (inr built) listed its = inr (divisor_of o d built.0 listed, dividend w o e d built.0 its, one built.1)
 
   mutual
-    rows : (t : Term) (ls : List Label) (bs : List sound.Label) (n : ℕ) → SameLabels ls bs → Built has t → IsListedTree t → Met (nodes ls n t) → Rows (IsSub w) has bs t
-    rows (var_def p x t b e) ls bs n around built listed all = let its = own ls n (var_def p x t b e) all in let met = inner ls n (var_def p x t b e) all in (its, built.0, rows e ls bs (n + 1) around built.1 listed.2 met)
+    rows : (t : Term) (ls : List Label) (bs : List sound.Label) (n : ℕ) → SameLabels ls bs → Built has bs t → IsListedTree t → Met (nodes ls n t) → Rows (IsSub w) has bs t
+    rows (var_def p x t b e) ls bs n around built listed all = let its = own ls n (var_def p x t b e) all in let met = inner ls n (var_def p x t b e) all in ((its, built.0), rows e ls bs (n + 1) around built.1 listed.2 met)
     rows (skip p) ls bs n around built listed all = tt
     rows (block_of p ts) ls bs n around built listed all = let met = inner ls n (block_of p ts) all in all_rows ts ls bs (n + 1) around built listed met
-    rows (labeled p l t e) ls bs n around built listed all = let its = own ls n (labeled p l t e) all in let met = inner ls n (labeled p l t e) all in (yields w has e t its, built.0, rows e (inside l t ls) (record { name = l; tpe = t } ∷ bs) (n + 1) (one_more ls bs l t around) built.1 listed.2 met)
-    rows (assign p (var_ref q x t) e) ls bs n around built listed all = let its = own ls n (assign p (var_ref q x t) e) all in let met = inner ls n (assign p (var_ref q x t) e) all in (its.1, rows e ls bs (n + 1 + size (var_ref q x t)) around built listed.1 (back (nodes ls (n + 1) (var_ref q x t)) (nodes ls (n + 1 + size (var_ref q x t)) e) met))
+    rows (labeled p l t e) ls bs n around built listed all = let its = own ls n (labeled p l t e) all in let met = inner ls n (labeled p l t e) all in (yields w has e t built.0 its, rows e (inside l t ls) (record { name = l; tpe = t } ∷ bs) (n + 1) (one_more ls bs l t around) built.1 listed.2 met)
+    rows (assign p (var_ref q x t) e) ls bs n around built listed all = let its = own ls n (assign p (var_ref q x t) e) all in let met = inner ls n (assign p (var_ref q x t) e) all in ((its.1, built.0), rows e ls bs (n + 1 + size (var_ref q x t)) around built.1 listed.1 (back (nodes ls (n + 1) (var_ref q x t)) (nodes ls (n + 1 + size (var_ref q x t)) e) met))
     rows (return_to p e l) ls bs n around built listed all =
         let its = own ls n (return_to p e l) all in let met = inner ls n (return_to p e l) all in
         let is : sound.type_of_label bs l ≡ Some its.tpe = sym (around l) ∙ its.is_type in
-        (record { tpe = its.tpe; is = is; yields = yields w has e its.tpe its.yields }, rows e ls bs (n + 1) around built listed.0 met)
+        (record { tpe = its.tpe; is = is; yields = yields w has e its.tpe (built.0 its.tpe is) its.yields }, rows e ls bs (n + 1) around built.1 listed.0 met)
     rows (if_then p c a b t) ls bs n around built listed all =
         let its = own ls n (if_then p c a b t) all in let met = inner ls n (if_then p c a b t) all in
         let behind : Met (nodes ls (n + 1 + size c) a ++ nodes ls (n + 1 + size c + size a) b) = back (nodes ls (n + 1) c) (nodes ls (n + 1 + size c) a ++ nodes ls (n + 1 + size c + size a) b) met in
-        (its.0, yields w has a t its.1, yields w has b t its.2, built.0, rows c ls bs (n + 1) around built.1 listed.0 (front (nodes ls (n + 1) c) (nodes ls (n + 1 + size c) a ++ nodes ls (n + 1 + size c + size a) b) met), rows a ls bs (n + 1 + size c) around built.2 listed.1 (front (nodes ls (n + 1 + size c) a) (nodes ls (n + 1 + size c + size a) b) behind), rows b ls bs (n + 1 + size c + size a) around built.3 listed.2 (back (nodes ls (n + 1 + size c) a) (nodes ls (n + 1 + size c + size a) b) behind))
+        (its.0, yields w has a t built.0 its.1, yields w has b t built.1 its.2, rows c ls bs (n + 1) around built.2 listed.0 (front (nodes ls (n + 1) c) (nodes ls (n + 1 + size c) a ++ nodes ls (n + 1 + size c + size a) b) met), rows a ls bs (n + 1 + size c) around built.3 listed.1 (front (nodes ls (n + 1 + size c) a) (nodes ls (n + 1 + size c + size a) b) behind), rows b ls bs (n + 1 + size c + size a) around built.4 listed.2 (back (nodes ls (n + 1 + size c) a) (nodes ls (n + 1 + size c + size a) b) behind))
     rows (while_loop p c b) ls bs n around built listed all = let its = own ls n (while_loop p c b) all in let met = inner ls n (while_loop p c b) all in (its, rows c ls bs (n + 1) around built.0 listed.0 (front (nodes ls (n + 1) c) (nodes ls (n + 1 + size c) b) met), rows b ls bs (n + 1 + size c) around built.1 listed.1 (back (nodes ls (n + 1) c) (nodes ls (n + 1 + size c) b) met))
     rows (do_while p b c) ls bs n around built listed all = let its = own ls n (do_while p b c) all in let met = inner ls n (do_while p b c) all in (its, rows b ls bs (n + 1) around built.0 listed.0 (front (nodes ls (n + 1) b) (nodes ls (n + 1 + size b) c) met), rows c ls bs (n + 1 + size b) around built.1 listed.1 (back (nodes ls (n + 1) b) (nodes ls (n + 1 + size b) c) met))
     rows (match_on p e cs d t) ls bs n around built listed all =
         let its = own ls n (match_on p e cs d t) all in let met = inner ls n (match_on p e cs d t) all in
         let k = n + 1 + size e in
         let behind : Met (nodes_of_cases ls k cs ++ nodes ls (k + size_of_cases cs) d) = back (nodes ls (n + 1) e) (nodes_of_cases ls k cs ++ nodes ls (k + size_of_cases cs) d) met in
-        (its.0, yields w has d t its.2, built.0, rows e ls bs (n + 1) around built.1 listed.0 (front (nodes ls (n + 1) e) (nodes_of_cases ls k cs ++ nodes ls (k + size_of_cases cs) d) met), case_rows cs ls bs t k around built.2 listed.1 its.1 (front (nodes_of_cases ls k cs) (nodes ls (k + size_of_cases cs) d) behind), rows d ls bs (k + size_of_cases cs) around built.3 listed.2 (back (nodes_of_cases ls k cs) (nodes ls (k + size_of_cases cs) d) behind))
+        (its.0, yields w has d t built.0 its.2, rows e ls bs (n + 1) around built.1 listed.0 (front (nodes ls (n + 1) e) (nodes_of_cases ls k cs ++ nodes ls (k + size_of_cases cs) d) met), case_rows cs ls bs t k around built.2 listed.1 its.1 (front (nodes_of_cases ls k cs) (nodes ls (k + size_of_cases cs) d) behind), rows d ls bs (k + size_of_cases cs) around built.3 listed.2 (back (nodes_of_cases ls k cs) (nodes ls (k + size_of_cases cs) d) behind))
     rows (apply_static p c s m ts t) ls bs n around built listed all =
         let its = own ls n (apply_static p c s m ts t) all in let met = inner ls n (apply_static p c s m ts t) all in
-        let called : t ≡ sound.call_type m.result = its.1 ∙ same_call_type m.result in
-        (built.0, result_is m.result t called built.1, arguments w has ts m.params built.2 listed.1.0.params its.2, all_rows ts ls bs (n + 1) around built.3 listed.2 met, called)
-    rows (unary_op p o e) ls bs n around built listed all = let its = own ls n (unary_op p o e) all in let met = inner ls n (unary_op p o e) all in (built.0, operand w o e built.0 its, rows e ls bs (n + 1) around built.1 listed met)
+        let called : t ≡ call_type m.result = its.1 ∙ same_call_type m.result in
+        (built.0, result_is m.result t called, arguments w has ts m.params built.1 listed.1.0.params its.2, all_rows ts ls bs (n + 1) around built.2 listed.2 met, called)
+    rows (unary_op p o e) ls bs n around built listed all = let its = own ls n (unary_op p o e) all in let met = inner ls n (unary_op p o e) all in (operand w o e its, rows e ls bs (n + 1) around built listed met)
     rows (binary_op p o e d) ls bs n around built listed all = let its = own ls n (binary_op p o e d) all in let met = inner ls n (binary_op p o e d) all in operands_rows p o e d bs (λ b. rows e ls bs (n + 1) around b listed.0 (front (nodes ls (n + 1) e) (nodes ls (n + 1 + size e) d) met)) (λ b. rows d ls bs (n + 1 + size e) around b listed.1 (back (nodes ls (n + 1) e) (nodes ls (n + 1 + size e) d) met)) built listed.1 its
     rows (undefined_literal p) ls bs n around built listed all = tt
     rows (null_literal p) ls bs n around built listed all = tt
     rows (boolean_literal p b) ls bs n around built listed all = tt
+    rows (char_literal p z) ls bs n around built listed all = listed
+    rows (long_literal p z) ls bs n around built listed all = fits_long z listed
     rows (byte_literal p z) ls bs n around built listed all = fits (2 ^ 7) z (omega arith) listed
     rows (short_literal p z) ls bs n around built listed all = fits (2 ^ 15) z (omega arith) listed
     rows (int_literal p z) ls bs n around built listed all = fits (2 ^ 31) z (omega arith) listed
@@ -174,13 +207,13 @@ module _ (w : Classes) (space : Namespace) (has : Usable) where
     rows (log_line p e) ls bs n around built listed all = let its = own ls n (log_line p e) all in let met = inner ls n (log_line p e) all in (its, rows e ls bs (n + 1) around built listed met)
     rows t ls bs n around built listed all = absurd built
 
-    all_rows : (ts : Terms) (ls : List Label) (bs : List sound.Label) (n : ℕ) → SameLabels ls bs → AllBuilt has ts → AreListedTrees ts → Met (nodes_of_all ls n ts) → AllRows (IsSub w) has bs ts
+    all_rows : (ts : Terms) (ls : List Label) (bs : List sound.Label) (n : ℕ) → SameLabels ls bs → AllBuilt has bs ts → AreListedTrees ts → Met (nodes_of_all ls n ts) → AllRows (IsSub w) has bs ts
     all_rows no_terms ls bs n around built listed met = tt
     all_rows (more_terms t ts) ls bs n around built listed met = (rows t ls bs n around built.0 listed.0 (front (nodes ls n t) (nodes_of_all ls (n + size t) ts) met), all_rows ts ls bs (n + size t) around built.1 listed.1 (back (nodes ls n t) (nodes_of_all ls (n + size t) ts) met))
 
-    case_rows : (cs : Cases) (ls : List Label) (bs : List sound.Label) (t : IrType) (n : ℕ) → SameLabels ls bs → CasesBuilt has cs → AreListedCases cs → CasesYield w cs t → Met (nodes_of_cases ls n cs) → CaseRows (IsSub w) has bs t cs
+    case_rows : (cs : Cases) (ls : List Label) (bs : List sound.Label) (t : IrType) (n : ℕ) → SameLabels ls bs → CasesBuilt has bs t cs → AreListedCases cs → CasesYield w cs t → Met (nodes_of_cases ls n cs) → CaseRows (IsSub w) has bs t cs
     case_rows no_cases ls bs t n around built listed its met = tt
-    case_rows (more_cases keys e cs) ls bs t n around built listed its met = (yields w has e t its.0, rows e ls bs n around built.0 listed.1 (front (nodes ls n e) (nodes_of_cases ls (n + size e) cs) met), case_rows cs ls bs t (n + size e) around built.1 listed.2 its.1 (back (nodes ls n e) (nodes_of_cases ls (n + size e) cs) met))
+    case_rows (more_cases keys e cs) ls bs t n around built listed its met = (yields w has e t built.0 its.0, rows e ls bs n around built.1 listed.1 (front (nodes ls n e) (nodes_of_cases ls (n + size e) cs) met), case_rows cs ls bs t (n + size e) around built.2 listed.2 its.1 (back (nodes ls n e) (nodes_of_cases ls (n + size e) cs) met))
 
 no_labels : SameLabels [] []
 no_labels l = refl
@@ -188,8 +221,8 @@ no_labels l = refl
 one_body : {o : Option Term} {e d : Term} → o ≡ Some e → o ≡ Some d → e ≡ d
 one_body e d = cc
 
-pub has_rows : (w : Classes) (has : Usable) (d : MethodDef) (e : Term) → d.body ≡ Some e → IsTyped w d → Built has e → IsListedTree e → Rows (IsSub w) has [] e
+pub has_rows : (w : Classes) (has : Usable) (d : MethodDef) (e : Term) → d.body ≡ Some e → IsTyped w d → Built has [] e → IsListedTree e → Rows (IsSub w) has [] e
 has_rows w has d e is typed built listed = rows w d.namespace has e [] [] 0 no_labels built listed (subst (λ (b : Term). All (MeetsThere w d.namespace) (nodes [] 0 b)) (one_body typed.has_body is) typed.met)
 
-pub yields_result : (w : Classes) (has : Usable) (d : MethodDef) (e : Term) → d.body ≡ Some e → IsTyped w d → sound.Yields (IsSub w) has e d.result
-yields_result w has d e is typed = yields w has e d.result (subst (λ (b : Term). rules.Yields w b d.result) (one_body typed.has_body is) typed.yields)
+pub yields_result : (w : Classes) (has : Usable) (d : MethodDef) (e : Term) → d.body ≡ Some e → IsTyped w d → HasNoBox d.result e → sound.Yields (IsSub w) has e d.result
+yields_result w has d e is typed box = yields w has e d.result box (subst (λ (b : Term). rules.Yields w b d.result) (one_body typed.has_body is) typed.yields)

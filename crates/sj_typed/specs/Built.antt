@@ -1,65 +1,76 @@
--- What is asked of a method beside its typing, so that the theorem on integer bodies covers it: its forms, and that no type is char.
-use Rattle.std.specs.Prelude.{◌≡◌, ◌≢◌, ℤ, pos, Bool, true, false, List, ◌⊎◌, not}
-use Rattle.std.specs.List.{list_all}
-use Rattle.sj_desugar.specs.Coercions.{is_char}
+-- What is asked of a method beside its typing, so that the theorem on bodies covers it: its forms, and that no char becomes an object.
+use Rattle.std.specs.Prelude.{◌≡◌, ◌≢◌, ℤ, pos, true, List, [], ◌∷◌, ◌⊎◌, Some}
 use Rattle.sj_desugar.specs.Desugar.{member}
 use Rattle.sj_names.specs.declared.references.TypeRef.{TypeRef}
-use Rattle.sj_plain.specs.Conditions.{is_simple, is_simple_unary, IsDivision, Usable}
-use Rattle.sj_trees.specs.Term.{Term, Terms, no_terms, more_terms, Cases, no_cases, more_cases, var_def, skip, block_of, labeled, assign, return_to, if_then, while_loop, do_while, match_on, apply_static, unary_op, binary_op, undefined_literal, null_literal, boolean_literal, byte_literal, short_literal, int_literal, string_literal, var_ref, log_line}
+use Rattle.sj_plain.specs.Conditions.{IsDivision, IsLongDivision, Usable}
+use Rattle.sj_sound.specs.Typing.{Label, type_of_label, NoBox}
+use Rattle.sj_trees.specs.Term.{Term, Terms, no_terms, more_terms, Cases, no_cases, more_cases, var_def, skip, block_of, labeled, assign, return_to, if_then, while_loop, do_while, match_on, apply_static, unary_op, binary_op, undefined_literal, null_literal, boolean_literal, char_literal, byte_literal, short_literal, int_literal, long_literal, string_literal, var_ref, log_line}
+use Rattle.sj_trees.specs.TypeOf.{type_of_term}
 use Rattle.sj_trees.specs.Types.{reference_type}
 use Rattle.sj_trees.specs.declared.classes.MethodDef.{MethodDef}
+use Rattle.sj_trees.specs.declared.operators.BinaryOp.{BinaryOp}
+use Rattle.sj_trees.specs.declared.operators.BinaryOp.TheVariants.{StrictEqual, StrictNotEqual}
 use Rattle.sj_trees.specs.declared.positions.Position.{Position}
+use Rattle.sj_trees.specs.declared.types.IrType.{IrType}
+use Rattle.sj_trees.specs.declared.types.IrType.TheVariants.{NoType}
 
--- no parameter is a char
-abbrev pub is_no_char : TypeRef → Bool
-is_no_char r = not (is_char (reference_type r))
+-- no char stands where another type is expected; where no value is wanted, none is
+abbrev pub HasNoBox : IrType → Term → Type 0
+HasNoBox t e = (t ≡ NoType) ⊎ NoBox t (type_of_term e)
 
-abbrev pub are_no_chars : List TypeRef → Bool
-are_no_chars = list_all is_no_char
+abbrev pub HaveNoBox : List TypeRef → Terms → Type 0
+HaveNoBox (r ∷ rs) (more_terms e es) = NoBox (reference_type r) (type_of_term e) × HaveNoBox rs es
+HaveNoBox _ _ = Unit {0}
 
--- a literal other than zero
-pub data IsOtherThanZero : Term → Type 0 where
-  other_than_zero : (p : Position) (z : ℤ) → z ≢ pos 0 → IsOtherThanZero (int_literal p z)
+-- a division by a literal other than zero
+pub data ByLiteral : BinaryOp → Term → Type 0 where
+  by_an_int : (o : BinaryOp) → IsDivision o → (p : Position) (z : ℤ) → z ≢ pos 0 → ByLiteral o (int_literal p z)
+  by_a_long : (o : BinaryOp) → IsLongDivision o → (p : Position) (z : ℤ) → z ≢ pos 0 → ByLiteral o (long_literal p z)
+
+-- an operator that is built whatever its operands are: any but those of identity and of division
+pub data IsOperator : BinaryOp → Type 0 where
+  an_operator : (o : BinaryOp) → (o ≡ StrictEqual → ⊥) → (o ≡ StrictNotEqual → ⊥) → (IsDivision o → ⊥) → (IsLongDivision o → ⊥) → IsOperator o
 
 module _ (has : Usable) where
   abbrev mutual
-    -- a tree of the forms that are built: calls are of linked members, divisors are literals, and no type that it declares or gives is char. Of a
-    -- variable that is read any type may be given, since what declares it is asked.
-    pub Built : Term → Type 0
-    Built (var_def p x t b e) = (is_char t ≡ false) × Built e
-    Built (skip p) = Unit {0}
-    Built (block_of p ts) = AllBuilt ts
-    Built (labeled p l t e) = (is_char t ≡ false) × Built e
-    Built (assign p (var_ref q x t) e) = Built e
-    Built (return_to p e l) = Built e
-    Built (if_then p c a b t) = (is_char t ≡ false) × Built c × Built a × Built b
-    Built (while_loop p c b) = Built c × Built b
-    Built (do_while p b c) = Built b × Built c
-    Built (match_on p e cs d t) = (is_char t ≡ false) × Built e × CasesBuilt cs × Built d
-    Built (apply_static p c n m ts t) = (has.linked (member c n m) ≡ true) × (is_char t ≡ false) × (are_no_chars m.params ≡ true) × AllBuilt ts
-    Built (unary_op p o e) = (is_simple_unary o ≡ true) × Built e
-    Built (binary_op p o e d) = ((is_simple o ≡ true) × Built e × Built d) ⊎ (IsDivision o × Built e × IsOtherThanZero d)
-    Built (undefined_literal p) = Unit {0}
-    Built (null_literal p) = Unit {0}
-    Built (boolean_literal p b) = Unit {0}
-    Built (byte_literal p z) = Unit {0}
-    Built (short_literal p z) = Unit {0}
-    Built (int_literal p z) = Unit {0}
-    Built (string_literal p us) = Unit {0}
-    Built (var_ref p x t) = Unit {0}
-    Built (log_line p e) = Built e
-    Built _ = ⊥
+    -- a tree of the forms that are built, with these labels around it, the innermost first: calls are of linked members, divisors are literals,
+    -- and no char stands where another type is expected
+    pub Built : List Label → Term → Type 0
+    Built ls (var_def p x t b e) = NoBox t (type_of_term e) × Built ls e
+    Built ls (skip p) = Unit {0}
+    Built ls (block_of p ts) = AllBuilt ls ts
+    Built ls (labeled p l t e) = HasNoBox t e × Built (record { name = l; tpe = t } ∷ ls) e
+    Built ls (assign p (var_ref q x t) e) = NoBox t (type_of_term e) × Built ls e
+    Built ls (return_to p e l) = ((t : IrType) → type_of_label ls l ≡ Some t → HasNoBox t e) × Built ls e
+    Built ls (if_then p c a b t) = HasNoBox t a × HasNoBox t b × Built ls c × Built ls a × Built ls b
+    Built ls (while_loop p c b) = Built ls c × Built ls b
+    Built ls (do_while p b c) = Built ls b × Built ls c
+    Built ls (match_on p e cs d t) = HasNoBox t d × Built ls e × CasesBuilt ls t cs × Built ls d
+    Built ls (apply_static p c n m ts t) = (has.linked (member c n m) ≡ true) × HaveNoBox m.params ts × AllBuilt ls ts
+    Built ls (unary_op p o e) = Built ls e
+    Built ls (binary_op p o e d) = (IsOperator o × Built ls e × Built ls d) ⊎ (ByLiteral o d × Built ls e)
+    Built ls (undefined_literal p) = Unit {0}
+    Built ls (null_literal p) = Unit {0}
+    Built ls (boolean_literal p b) = Unit {0}
+    Built ls (char_literal p u) = Unit {0}
+    Built ls (byte_literal p z) = Unit {0}
+    Built ls (short_literal p z) = Unit {0}
+    Built ls (int_literal p z) = Unit {0}
+    Built ls (long_literal p z) = Unit {0}
+    Built ls (string_literal p us) = Unit {0}
+    Built ls (var_ref p x t) = Unit {0}
+    Built ls (log_line p e) = Built ls e
+    Built ls _ = ⊥
 
-    pub AllBuilt : Terms → Type 0
-    AllBuilt no_terms = Unit {0}
-    AllBuilt (more_terms t ts) = Built t × AllBuilt ts
+    pub AllBuilt : List Label → Terms → Type 0
+    AllBuilt ls no_terms = Unit {0}
+    AllBuilt ls (more_terms t ts) = Built ls t × AllBuilt ls ts
 
-    pub CasesBuilt : Cases → Type 0
-    CasesBuilt no_cases = Unit {0}
-    CasesBuilt (more_cases ns e cs) = Built e × CasesBuilt cs
+    pub CasesBuilt : List Label → IrType → Cases → Type 0
+    CasesBuilt ls t no_cases = Unit {0}
+    CasesBuilt ls t (more_cases ns e cs) = HasNoBox t e × Built ls e × CasesBuilt ls t cs
 
--- a method of this body is built: no parameter and no result is a char
+-- a method of this body is built: its value is no char where its result is of another type
 pub record MethodBuilt (has : Usable) (d : MethodDef) (e : Term) : Type 0 where
-  pub parameters : are_no_chars d.name.params ≡ true
-  pub result : is_char d.result ≡ false
-  pub body : Built has e
+  pub result : HasNoBox d.result e
+  pub body : Built has [] e

@@ -1,4 +1,4 @@
-//! What the check of types gives for the theorem on integer bodies: a body that is typed in a world, and is of the forms that are built, has
+//! What the check of types gives for the theorem on bodies: a body that is typed in a world, and is of the forms that are built, has
 //! the rows of typing on which the theorem stands.
 //!
 //! `specs/` has what is asked of a body beside its typing. The function here is a law.
@@ -10,15 +10,15 @@ ghost use Rattle.sj_kept.specs.Rows.{Rows};
 ghost use Rattle.sj_sound.specs.Typing.{Yields};
 ghost use Rattle.sj_trees.specs.Term.{Term};
 ghost use Rattle.sj_trees.specs.declared.classes.MethodDef.{MethodDef};
-ghost use Rattle.sj_typed.specs.Built.{Built};
+ghost use Rattle.sj_typed.specs.Built.{Built, HasNoBox};
 ghost use Rattle.sj_typing.specs.Typed.{IsTyped};
 ghost use Rattle.sj_world.specs.Known.{Classes};
 ghost use Rattle.sj_world.specs.Subtypes.{IsSub};
 ghost use Rattle.sj_plain.specs.Conditions.{Usable};
 
 /// A method that is typed in a world, and whose body has a listing and is of the forms that are built, has the rows of typing in that world, and its
-/// body yields its result.
+/// body yields its result where that needs no object for a char.
 pub fn typed_bodies_have_the_rows()
-    ensures rows { (w : Classes) (has : Usable) (d : MethodDef) (e : Term) → d.body ≡ Some e → IsTyped w d → Built has e → IsListedTree e → Rows (IsSub w) has [] e }
-    ensures yields { (w : Classes) (has : Usable) (d : MethodDef) (e : Term) → d.body ≡ Some e → IsTyped w d → Yields (IsSub w) has e d.result }
+    ensures rows { (w : Classes) (has : Usable) (d : MethodDef) (e : Term) → d.body ≡ Some e → IsTyped w d → Built has [] e → IsListedTree e → Rows (IsSub w) has [] e }
+    ensures yields { (w : Classes) (has : Usable) (d : MethodDef) (e : Term) → d.body ≡ Some e → IsTyped w d → HasNoBox d.result e → Yields (IsSub w) has e d.result }
 {}
