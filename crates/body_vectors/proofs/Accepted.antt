@@ -12,6 +12,7 @@ use Rattle.sj_calls.specs.Files.{EmittedMethod, program_with}
 use Rattle.sj_local.specs.Broken.{FirstBroken}
 use Rattle.sj_world.specs.Subtypes.{equal}
 use Rattle.sj_sound.proofs.Worked.{worked_topped}
+use Rattle.sj_sound.specs.Typing.{its_types}
 use Rattle.sj_sound.specs.Worked.{tests_it, main_method, tripling_method, worked_world, emitted, worked_methods}
 use Rattle.sj_proper.specs.Program.{HaveOwnMembers}
 use Rattle.sj_kept.specs.Programs.{IsAccepted}
@@ -33,7 +34,7 @@ main_accepted = record {
   named = refl;
   found = refl;
   has_body = refl;
-  rows = (equal refl, inl refl, inl refl, refl, inl (refl, equal refl, equal refl, (refl, inr (refl, refl), (equal refl, (refl, refl), tt), (fits 1 (omega arith), tt), refl), fits 27 (omega arith)), (equal refl, tt), (equal refl, tt));
+  rows = (equal refl, inl refl, inl refl, inl (its_types refl (equal refl) (equal refl), (refl, inr refl, ((equal refl, refl), refl, tt), (fits 1 (omega arith), tt), refl), fits 27 (omega arith)), (equal refl, tt), (equal refl, tt));
   yields = inl refl;
   result = inl refl;
   values = have_values main_method.params tt;
@@ -49,10 +50,10 @@ tripling_accepted = record {
   named = refl;
   found = refl;
   has_body = refl;
-  rows = ((equal refl, inl (refl, equal refl, equal refl, tt, fits 10 (omega arith)), (equal refl, inl (refl, equal refl, equal refl, tt, fits 3 (omega arith)))), (tt, tt));
-  yields = inr (equal refl);
-  result = inr (refl, refl);
-  values = have_values tripling_method.params ((refl, refl), tt);
+  rows = ((equal refl, inl (its_types refl (equal refl) (equal refl), tt, fits 10 (omega arith)), ((equal refl, refl), inl (its_types refl (equal refl) (equal refl), tt, fits 3 (omega arith)))), (tt, tt));
+  yields = inr (equal refl, refl);
+  result = inr refl;
+  values = have_values tripling_method.params (refl, tt);
   class_name = refl;
   method_name = record { simple = refl; params = All-cons IsParameter Int [] (tt, λ e. cc) (All-nil IsParameter); result = tt };
 }

@@ -2,7 +2,7 @@
 use Rattle.std.proofs.Common.{◌≡◌, ◌<◌, ◌^◌, ℕ, suc, Bool, true, false, List, [], ◌∷◌, codes, ◌&&◌, not, Option, Some, None, refl, subst, ⊎_elim, Contains, if◌then◌else◌}
 use Rattle.std.specs.Prelude.{pos, negsuc, nat_eq, ◌≢◌, FitsSigned}
 use Rattle.std.specs.Cmp.Lexicographic.{pointwise}
-use Rattle.std.specs.Int.{w32}
+use Rattle.std.specs.Int.{w32, w64}
 use Rattle.std.specs.List.{list_all}
 use Rattle.std.proofs.lemmas.Bool.{and_parts}
 use Rattle.outcomes.specs.Agreement.{Agree}
@@ -40,6 +40,13 @@ fits n h = record { sfits = h }
 
 pub fits_below : (n : ℕ) → n < 2 ^ 31 → FitsSigned w32 (negsuc n)
 fits_below n h = record { sfits = h }
+
+-- and of 64
+pub long_fits : (n : ℕ) → n < 2 ^ 63 → FitsSigned w64 (pos n)
+long_fits n h = record { sfits = h }
+
+pub long_fits_below : (n : ℕ) → n < 2 ^ 63 → FitsSigned w64 (negsuc n)
+long_fits_below n h = record { sfits = h }
 
 pub nonzero : (n : ℕ) → pos (suc n) ≢ pos 0
 nonzero n e = cc

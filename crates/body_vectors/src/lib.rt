@@ -24,7 +24,6 @@ ghost use Rattle.sj_trees.specs.declared.classes.ClassDef.{ClassDef};
 ghost use Rattle.body_vectors.specs.Judged.{IsJudged};
 ghost use Rattle.body_vectors.specs.Bounds.{all_emitted, class_within, class_shows, file_within, file_shows, function_texts};
 ghost use Rattle.body_vectors.specs.Files as files;
-ghost use Rattle.body_vectors.specs.Partly as partly;
 ghost use Rattle.body_vectors.specs.Texts as texts;
 ghost use Rattle.body_vectors.specs.Whole as whole;
 
@@ -100,41 +99,40 @@ pub fn choices()
     ensures agree { Agree (class_within whole.choices_class) (file_within whole.choices_class.methods) }
 {}
 
-/// A match without the key takes its default. The class has methods of other forms too, which no call reaches; the file has none of them.
+/// A match without the key takes its default.
 pub fn no_such_key()
-    ensures read { file_of files.no_such_key ≡ Ok partly.no_such_key_class }
-    ensures by_the_class { class_shows partly.no_such_key_class ≡ partly.no_such_key_shown }
-    ensures by_the_file { file_shows partly.no_such_key_methods ≡ partly.no_such_key_shown }
-    ensures printed { function_texts partly.no_such_key_methods ≡ texts.no_such_key }
-    ensures agree { Agree (class_within partly.no_such_key_class) (file_within partly.no_such_key_methods) }
+    ensures read { file_of files.no_such_key ≡ Ok whole.no_such_key_class }
+    ensures by_the_class { class_shows whole.no_such_key_class ≡ whole.no_such_key_shown }
+    ensures by_the_file { file_shows whole.no_such_key_class.methods ≡ whole.no_such_key_shown }
+    ensures printed { function_texts whole.no_such_key_class.methods ≡ texts.no_such_key }
+    ensures agree { Agree (class_within whole.no_such_key_class) (file_within whole.no_such_key_class.methods) }
 {}
 
-/// A local gets the value of operators, and nothing is shown. As before, the file has the methods of the forms that are built.
+/// A local gets the value of operators, and nothing is shown.
 pub fn no_lines()
-    ensures read { file_of files.no_lines ≡ Ok partly.no_lines_class }
-    ensures by_the_class { class_shows partly.no_lines_class ≡ partly.no_lines_shown }
-    ensures by_the_file { file_shows partly.no_lines_methods ≡ partly.no_lines_shown }
-    ensures printed { function_texts partly.no_lines_methods ≡ texts.no_lines }
-    ensures agree { Agree (class_within partly.no_lines_class) (file_within partly.no_lines_methods) }
+    ensures read { file_of files.no_lines ≡ Ok whole.no_lines_class }
+    ensures by_the_class { class_shows whole.no_lines_class ≡ whole.no_lines_shown }
+    ensures by_the_file { file_shows whole.no_lines_class.methods ≡ whole.no_lines_shown }
+    ensures printed { function_texts whole.no_lines_class.methods ≡ texts.no_lines }
+    ensures agree { Agree (class_within whole.no_lines_class) (file_within whole.no_lines_class.methods) }
 {}
 
-/// A condition that logs is evaluated once in each turn and once behind the last: both are going within the bound 3, and end within 10. As
-/// before, the file has the methods of the forms that are built.
+/// A condition that logs is evaluated once in each turn and once behind the last: both are going within the bound 3, and end within 10.
 pub fn four_turns()
-    ensures read { file_of files.four_turns ≡ Ok partly.four_turns_class }
-    ensures by_the_class { class_shows partly.four_turns_class ≡ partly.four_turns_shown }
-    ensures by_the_file { file_shows partly.four_turns_methods ≡ partly.four_turns_shown }
-    ensures printed { function_texts partly.four_turns_methods ≡ texts.four_turns }
-    ensures agree { Agree (class_within partly.four_turns_class) (file_within partly.four_turns_methods) }
+    ensures read { file_of files.four_turns ≡ Ok whole.four_turns_class }
+    ensures by_the_class { class_shows whole.four_turns_class ≡ whole.four_turns_shown }
+    ensures by_the_file { file_shows whole.four_turns_class.methods ≡ whole.four_turns_shown }
+    ensures printed { function_texts whole.four_turns_class.methods ≡ texts.four_turns }
+    ensures agree { Agree (class_within whole.four_turns_class) (file_within whole.four_turns_class.methods) }
 {}
 
-/// One branch of a choice logs, and the other is taken. As before, the file has the methods of the forms that are built.
+/// One branch of a choice logs, and the other is taken.
 pub fn choice_with_lines()
-    ensures read { file_of files.choice_with_lines ≡ Ok partly.choice_with_lines_class }
-    ensures by_the_class { class_shows partly.choice_with_lines_class ≡ partly.choice_with_lines_shown }
-    ensures by_the_file { file_shows partly.choice_with_lines_methods ≡ partly.choice_with_lines_shown }
-    ensures printed { function_texts partly.choice_with_lines_methods ≡ texts.choice_with_lines }
-    ensures agree { Agree (class_within partly.choice_with_lines_class) (file_within partly.choice_with_lines_methods) }
+    ensures read { file_of files.choice_with_lines ≡ Ok whole.choice_with_lines_class }
+    ensures by_the_class { class_shows whole.choice_with_lines_class ≡ whole.choice_with_lines_shown }
+    ensures by_the_file { file_shows whole.choice_with_lines_class.methods ≡ whole.choice_with_lines_shown }
+    ensures printed { function_texts whole.choice_with_lines_class.methods ≡ texts.choice_with_lines }
+    ensures agree { Agree (class_within whole.choice_with_lines_class) (file_within whole.choice_with_lines_class.methods) }
 {}
 
 /// The premises of the theorem on classes can be met: by the worked program, whose class breaks none of the local rules, and whose two methods

@@ -115,7 +115,7 @@ widened = (unary_op nowhere IntToLong (minus 4), long_below_zero 4) ∷ (unary_o
 
 -- texts of values, joined; a char is its unit
 abbrev pub joined : List Row
-joined = (on StringConcatenate (word (codes "a")) (letter 98), is_text (codes "ab")) ∷ (on StringConcatenate (minus 11) (big_minus 4), is_text (codes "-12-5")) ∷ (on StringConcatenate true_tree false_tree, is_text (codes "truefalse")) ∷ (on StringConcatenate (null_literal nowhere) (undefined_literal nowhere), is_text (codes "nullundefined")) ∷ (on StringConcatenate (word []) (whole 0), is_text (codes "0")) ∷ (on StringConcatenate (byte_literal nowhere (negsuc 127)) (word []), is_text (codes "-128")) ∷ (on StringConcatenate (array_value nowhere (record { dimensions = 1; base = BaseRef.Int }) no_terms) (word []), None) ∷ []
+joined = (on StringConcatenate (word (codes "a")) (letter 98), is_text (codes "ab")) ∷ (on StringConcatenate (letter 55357) (letter 56832), is_text (55357 ∷ 56832 ∷ [])) ∷ (on StringConcatenate (minus 11) (big_minus 4), is_text (codes "-12-5")) ∷ (on StringConcatenate true_tree false_tree, is_text (codes "truefalse")) ∷ (on StringConcatenate (null_literal nowhere) (undefined_literal nowhere), is_text (codes "nullundefined")) ∷ (on StringConcatenate (word []) (whole 0), is_text (codes "0")) ∷ (on StringConcatenate (byte_literal nowhere (negsuc 127)) (word []), is_text (codes "-128")) ∷ (on StringConcatenate (array_value nowhere (record { dimensions = 1; base = BaseRef.Int }) no_terms) (word []), None) ∷ []
 
 -- by kind and value: a char is no number, an int no long; two arrays are two
 abbrev an_array : Term

@@ -1,4 +1,4 @@
-//! The theorem on classes of integer bodies, for classes as they are judged before they are linked: read from files, without a local rule that they
+//! The theorem on classes, for classes as they are judged before they are linked: read from files, without a local rule that they
 //! break, and with methods that are typed.
 //!
 //! `specs/` has what is asked of the classes and of the methods. The functions here are laws: they do nothing when they run, and their clauses are

@@ -51,7 +51,7 @@ pub fn bodies_keep_the_rules()
     ensures { (w : World) (has : Usable) (c : ClassDef) (d : MethodDef) (e : Term) → d.body ≡ Some e → KeepsTreeRules c d → Rows (IsSub w) has [] e → Yields (IsSub w) has e d.result → IsResult d.result → ((x : List ℕ) (p : ParamDef) → local_of d.params x ≡ Some p → HasValue p.tpe) → KeepsRules (IsSub w) has d e }
 {}
 
-/// The theorem on classes of integer bodies: take methods, no two of one member, each of a class that breaks none of the local rules, with the rows
+/// The theorem on classes: take methods, no two of one member, each of a class that breaks none of the local rules, with the rows
 /// of typing; let the initializers of a public module be among them, and let nothing stand above `java.lang.Object`. Then the
 /// file that has their functions in this order and behind them the calls of the initializers shows of the public module what the classes
 /// show: what the one shows within any bound the other shows within some bound, and the other way round, and neither is wrong at any bound.

@@ -36,7 +36,7 @@ pub fn modules_have_no_early_error()
     ensures { (w : World) (fs : List EmittedMethod) (es : List EntryPoint) → ((e : EmittedMethod) → Contains fs e → IsWhole w fs e) → HaveOwnMembers fs → is_proper_module (module_with fs es) ≡ true }
 {}
 
-/// The theorem on programs of integer bodies: take methods, no two of one member, each of which is that of its member in the classes, with the
+/// The theorem on programs: take methods, no two of one member, each of which is that of its member in the classes, with the
 /// types that its name tells, with a body that keeps the rules and calls these methods alone; and let the
 /// initializers of a public module be among them; and let nothing stand above `java.lang.Object`. Then the file that has their functions in this order and behind them the calls of the
 /// initializers shows of the public module what the classes show: what the one shows within any bound the other shows within some bound, and

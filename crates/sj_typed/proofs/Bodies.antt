@@ -8,6 +8,7 @@ use Rattle.std.proofs.lemmas.Slice.Eq.{bytes_eq-Decides}
 use Rattle.sj_names.specs.declared.method_names.Namespace.{Namespace}
 use Rattle.sj_names.specs.declared.references.TypeRef.{TypeRef}
 use Rattle.sj_names.specs.MethodNames.{IsParameter}
+use Rattle.sj_names.proofs.Same.{impossible}
 use Rattle.listing_spelling.specs.Rules.{IsListedTree, AreListedTrees, AreListedCases}
 use Rattle.sj_trees.specs.declared.classes.MethodDef.{MethodDef}
 use Rattle.sj_trees.specs.declared.operators.BinaryOp.{BinaryOp}
@@ -32,7 +33,7 @@ use Rattle.sj_typing.specs.Nodes.{Node, node, inside, below, nodes, nodes_of_all
 use Rattle.sj_typing.specs.Rules as rules
 use Rattle.sj_typing.specs.Rules.{Fits, OperandsFit, CasesYield}
 use Rattle.sj_typing.specs.Typed.{MeetsThere, IsTyped}
-use Rattle.sj_typed.specs.Built.{HasNoBox, HaveNoBox, ByLiteral, by_an_int, by_a_long, IsOperator, an_operator, Built, AllBuilt, CasesBuilt}
+use Rattle.sj_typed.specs.Built.{HasNoBox, HaveNoBox, ByLiteral, by_an_int, by_a_long, is_operator, Built, AllBuilt, CasesBuilt}
 use Rattle.sj_typed.proofs.Values.{parameter_value, result_is, fits, fits_long, divisor_of}
 
 yields : (w : Classes) (has : Usable) (e : Term) (t : IrType) → HasNoBox t e → rules.Yields w e t → sound.Yields (IsSub w) has e t
@@ -66,48 +67,48 @@ joined (type.Array r) h = h
 joined (type.Class c) h = h
 joined t h = tt
 
-operands : (w : Classes) (has : Usable) (o : BinaryOp) (a b : Term) → IsOperator o → OperandsFit w o a b → sound.Takes (IsSub w) has o a b
-operands w has _ a b (an_operator binary.StrictEqual e n i l) fits = absurd (e refl)
-operands w has _ a b (an_operator binary.StrictNotEqual e n i l) fits = absurd (n refl)
-operands w has _ a b (an_operator binary.IntDivide e n i l) fits = absurd (i a_quotient)
-operands w has _ a b (an_operator binary.IntRemainder e n i l) fits = absurd (i a_remainder)
-operands w has _ a b (an_operator binary.LongDivide e n i l) fits = absurd (l a_long_quotient)
-operands w has _ a b (an_operator binary.LongRemainder e n i l) fits = absurd (l a_long_remainder)
-operands w has _ a b (an_operator binary.StringConcatenate e n i l) fits = sound.texts refl (joined (type_of_term a) fits.0) (joined (type_of_term b) fits.1)
-operands w has _ a b (an_operator binary.BooleanEqual e n i l) fits = sound.its_types refl fits.0 fits.1
-operands w has _ a b (an_operator binary.BooleanNotEqual e n i l) fits = sound.its_types refl fits.0 fits.1
-operands w has _ a b (an_operator binary.BooleanOr e n i l) fits = sound.its_types refl fits.0 fits.1
-operands w has _ a b (an_operator binary.BooleanAnd e n i l) fits = sound.its_types refl fits.0 fits.1
-operands w has _ a b (an_operator binary.IntAdd e n i l) fits = sound.its_types refl fits.0 fits.1
-operands w has _ a b (an_operator binary.IntSubtract e n i l) fits = sound.its_types refl fits.0 fits.1
-operands w has _ a b (an_operator binary.IntMultiply e n i l) fits = sound.its_types refl fits.0 fits.1
-operands w has _ a b (an_operator binary.IntOr e n i l) fits = sound.its_types refl fits.0 fits.1
-operands w has _ a b (an_operator binary.IntAnd e n i l) fits = sound.its_types refl fits.0 fits.1
-operands w has _ a b (an_operator binary.IntXor e n i l) fits = sound.its_types refl fits.0 fits.1
-operands w has _ a b (an_operator binary.IntShiftLeft e n i l) fits = sound.its_types refl fits.0 fits.1
-operands w has _ a b (an_operator binary.IntShiftRightLogical e n i l) fits = sound.its_types refl fits.0 fits.1
-operands w has _ a b (an_operator binary.IntShiftRightArithmetic e n i l) fits = sound.its_types refl fits.0 fits.1
-operands w has _ a b (an_operator binary.IntEqual e n i l) fits = sound.its_types refl fits.0 fits.1
-operands w has _ a b (an_operator binary.IntNotEqual e n i l) fits = sound.its_types refl fits.0 fits.1
-operands w has _ a b (an_operator binary.IntLess e n i l) fits = sound.its_types refl fits.0 fits.1
-operands w has _ a b (an_operator binary.IntLessOrEqual e n i l) fits = sound.its_types refl fits.0 fits.1
-operands w has _ a b (an_operator binary.IntGreater e n i l) fits = sound.its_types refl fits.0 fits.1
-operands w has _ a b (an_operator binary.IntGreaterOrEqual e n i l) fits = sound.its_types refl fits.0 fits.1
-operands w has _ a b (an_operator binary.LongAdd e n i l) fits = sound.its_types refl fits.0 fits.1
-operands w has _ a b (an_operator binary.LongSubtract e n i l) fits = sound.its_types refl fits.0 fits.1
-operands w has _ a b (an_operator binary.LongMultiply e n i l) fits = sound.its_types refl fits.0 fits.1
-operands w has _ a b (an_operator binary.LongOr e n i l) fits = sound.its_types refl fits.0 fits.1
-operands w has _ a b (an_operator binary.LongAnd e n i l) fits = sound.its_types refl fits.0 fits.1
-operands w has _ a b (an_operator binary.LongXor e n i l) fits = sound.its_types refl fits.0 fits.1
-operands w has _ a b (an_operator binary.LongShiftLeft e n i l) fits = sound.its_types refl fits.0 fits.1
-operands w has _ a b (an_operator binary.LongShiftRightLogical e n i l) fits = sound.its_types refl fits.0 fits.1
-operands w has _ a b (an_operator binary.LongShiftRightArithmetic e n i l) fits = sound.its_types refl fits.0 fits.1
-operands w has _ a b (an_operator binary.LongEqual e n i l) fits = sound.its_types refl fits.0 fits.1
-operands w has _ a b (an_operator binary.LongNotEqual e n i l) fits = sound.its_types refl fits.0 fits.1
-operands w has _ a b (an_operator binary.LongLess e n i l) fits = sound.its_types refl fits.0 fits.1
-operands w has _ a b (an_operator binary.LongLessOrEqual e n i l) fits = sound.its_types refl fits.0 fits.1
-operands w has _ a b (an_operator binary.LongGreater e n i l) fits = sound.its_types refl fits.0 fits.1
-operands w has _ a b (an_operator binary.LongGreaterOrEqual e n i l) fits = sound.its_types refl fits.0 fits.1
+operands : (w : Classes) (has : Usable) (o : BinaryOp) (a b : Term) → is_operator o ≡ true → OperandsFit w o a b → sound.Takes (IsSub w) has o a b
+operands w has binary.StrictEqual a b h fits = impossible h
+operands w has binary.StrictNotEqual a b h fits = impossible h
+operands w has binary.IntDivide a b h fits = impossible h
+operands w has binary.IntRemainder a b h fits = impossible h
+operands w has binary.LongDivide a b h fits = impossible h
+operands w has binary.LongRemainder a b h fits = impossible h
+operands w has binary.StringConcatenate a b h fits = sound.texts refl (joined (type_of_term a) fits.0) (joined (type_of_term b) fits.1)
+operands w has binary.BooleanEqual a b h fits = sound.its_types refl fits.0 fits.1
+operands w has binary.BooleanNotEqual a b h fits = sound.its_types refl fits.0 fits.1
+operands w has binary.BooleanOr a b h fits = sound.its_types refl fits.0 fits.1
+operands w has binary.BooleanAnd a b h fits = sound.its_types refl fits.0 fits.1
+operands w has binary.IntAdd a b h fits = sound.its_types refl fits.0 fits.1
+operands w has binary.IntSubtract a b h fits = sound.its_types refl fits.0 fits.1
+operands w has binary.IntMultiply a b h fits = sound.its_types refl fits.0 fits.1
+operands w has binary.IntOr a b h fits = sound.its_types refl fits.0 fits.1
+operands w has binary.IntAnd a b h fits = sound.its_types refl fits.0 fits.1
+operands w has binary.IntXor a b h fits = sound.its_types refl fits.0 fits.1
+operands w has binary.IntShiftLeft a b h fits = sound.its_types refl fits.0 fits.1
+operands w has binary.IntShiftRightLogical a b h fits = sound.its_types refl fits.0 fits.1
+operands w has binary.IntShiftRightArithmetic a b h fits = sound.its_types refl fits.0 fits.1
+operands w has binary.IntEqual a b h fits = sound.its_types refl fits.0 fits.1
+operands w has binary.IntNotEqual a b h fits = sound.its_types refl fits.0 fits.1
+operands w has binary.IntLess a b h fits = sound.its_types refl fits.0 fits.1
+operands w has binary.IntLessOrEqual a b h fits = sound.its_types refl fits.0 fits.1
+operands w has binary.IntGreater a b h fits = sound.its_types refl fits.0 fits.1
+operands w has binary.IntGreaterOrEqual a b h fits = sound.its_types refl fits.0 fits.1
+operands w has binary.LongAdd a b h fits = sound.its_types refl fits.0 fits.1
+operands w has binary.LongSubtract a b h fits = sound.its_types refl fits.0 fits.1
+operands w has binary.LongMultiply a b h fits = sound.its_types refl fits.0 fits.1
+operands w has binary.LongOr a b h fits = sound.its_types refl fits.0 fits.1
+operands w has binary.LongAnd a b h fits = sound.its_types refl fits.0 fits.1
+operands w has binary.LongXor a b h fits = sound.its_types refl fits.0 fits.1
+operands w has binary.LongShiftLeft a b h fits = sound.its_types refl fits.0 fits.1
+operands w has binary.LongShiftRightLogical a b h fits = sound.its_types refl fits.0 fits.1
+operands w has binary.LongShiftRightArithmetic a b h fits = sound.its_types refl fits.0 fits.1
+operands w has binary.LongEqual a b h fits = sound.its_types refl fits.0 fits.1
+operands w has binary.LongNotEqual a b h fits = sound.its_types refl fits.0 fits.1
+operands w has binary.LongLess a b h fits = sound.its_types refl fits.0 fits.1
+operands w has binary.LongLessOrEqual a b h fits = sound.its_types refl fits.0 fits.1
+operands w has binary.LongGreater a b h fits = sound.its_types refl fits.0 fits.1
+operands w has binary.LongGreaterOrEqual a b h fits = sound.its_types refl fits.0 fits.1
 
 dividend : (w : Classes) (o : BinaryOp) (a b : Term) → ByLiteral o b → OperandsFit w o a b → IsSub w (type_of_term a) (left_operand o)
 dividend w _ a _ (by_an_int _ a_quotient p z ne) fits = fits.0

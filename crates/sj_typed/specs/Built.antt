@@ -1,5 +1,5 @@
 -- What is asked of a method beside its typing, so that the theorem on bodies covers it: its forms, and that no char becomes an object.
-use Rattle.std.specs.Prelude.{◌≡◌, ◌≢◌, ℤ, pos, true, List, [], ◌∷◌, ◌⊎◌, Some}
+use Rattle.std.specs.Prelude.{◌≡◌, ◌≢◌, ℤ, pos, Bool, true, false, List, [], ◌∷◌, ◌⊎◌, Some}
 use Rattle.sj_desugar.specs.Desugar.{member}
 use Rattle.sj_names.specs.declared.references.TypeRef.{TypeRef}
 use Rattle.sj_plain.specs.Conditions.{IsDivision, IsLongDivision, Usable}
@@ -9,7 +9,7 @@ use Rattle.sj_trees.specs.TypeOf.{type_of_term}
 use Rattle.sj_trees.specs.Types.{reference_type}
 use Rattle.sj_trees.specs.declared.classes.MethodDef.{MethodDef}
 use Rattle.sj_trees.specs.declared.operators.BinaryOp.{BinaryOp}
-use Rattle.sj_trees.specs.declared.operators.BinaryOp.TheVariants.{StrictEqual, StrictNotEqual}
+use Rattle.sj_trees.specs.declared.operators.BinaryOp.TheVariants.{StrictEqual, StrictNotEqual, IntDivide, IntRemainder, LongDivide, LongRemainder}
 use Rattle.sj_trees.specs.declared.positions.Position.{Position}
 use Rattle.sj_trees.specs.declared.types.IrType.{IrType}
 use Rattle.sj_trees.specs.declared.types.IrType.TheVariants.{NoType}
@@ -28,8 +28,14 @@ pub data ByLiteral : BinaryOp → Term → Type 0 where
   by_a_long : (o : BinaryOp) → IsLongDivision o → (p : Position) (z : ℤ) → z ≢ pos 0 → ByLiteral o (long_literal p z)
 
 -- an operator that is built whatever its operands are: any but those of identity and of division
-pub data IsOperator : BinaryOp → Type 0 where
-  an_operator : (o : BinaryOp) → (o ≡ StrictEqual → ⊥) → (o ≡ StrictNotEqual → ⊥) → (IsDivision o → ⊥) → (IsLongDivision o → ⊥) → IsOperator o
+abbrev pub is_operator : BinaryOp → Bool
+is_operator StrictEqual = false
+is_operator StrictNotEqual = false
+is_operator IntDivide = false
+is_operator IntRemainder = false
+is_operator LongDivide = false
+is_operator LongRemainder = false
+is_operator _ = true
 
 module _ (has : Usable) where
   abbrev mutual
@@ -48,7 +54,7 @@ module _ (has : Usable) where
     Built ls (match_on p e cs d t) = HasNoBox t d × Built ls e × CasesBuilt ls t cs × Built ls d
     Built ls (apply_static p c n m ts t) = (has.linked (member c n m) ≡ true) × HaveNoBox m.params ts × AllBuilt ls ts
     Built ls (unary_op p o e) = Built ls e
-    Built ls (binary_op p o e d) = (IsOperator o × Built ls e × Built ls d) ⊎ (ByLiteral o d × Built ls e)
+    Built ls (binary_op p o e d) = ((is_operator o ≡ true) × Built ls e × Built ls d) ⊎ (ByLiteral o d × Built ls e)
     Built ls (undefined_literal p) = Unit {0}
     Built ls (null_literal p) = Unit {0}
     Built ls (boolean_literal p b) = Unit {0}

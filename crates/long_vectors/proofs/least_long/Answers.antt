@@ -1,0 +1,24 @@
+use Rattle.std.proofs.Common.{refl}
+use Rattle.std.specs.Fmt.{digits}
+use Rattle.long_vectors.proofs.Classes as classes
+use Rattle.body_vectors.proofs.Computing.{reading, printing}
+use Rattle.long_vectors.proofs.least_long.Goals as goal
+
+pub returns-clause-read : goal.returns-clause-read
+unfolding reading
+returns-clause-read c = refl
+
+pub returns-clause-by_the_class : goal.returns-clause-by_the_class
+unfolding digits
+returns-clause-by_the_class c = refl
+
+pub returns-clause-by_the_file : goal.returns-clause-by_the_file
+unfolding digits
+returns-clause-by_the_file c = refl
+
+pub returns-clause-printed : goal.returns-clause-printed
+unfolding printing
+returns-clause-printed c = refl
+
+pub returns-clause-agree : goal.returns-clause-agree
+returns-clause-agree c = classes.least_long_agrees
