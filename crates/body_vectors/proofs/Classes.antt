@@ -307,7 +307,7 @@ four_turns_second_judged = record {
 
 four_turns_third_judged : Judged (whole.four_turns_class ∷ []) (all_emitted whole.four_turns_class.methods) whole.four_turns_third
 four_turns_third_judged = record {
-  rows = (equal refl, inr (equal refl, refl), inr (equal refl, refl), inl (its_types refl (equal refl) (equal refl), inl (its_types refl (equal refl) (equal refl), inr (by_int IntDivide a_quotient nowhere (pos 32767) (fits 32767 (omega arith)) (nonzero 32766), equal refl, fits 128 (omega arith)), inl (its_types refl (equal refl) (equal refl), fits 1 (omega arith), fits_below 32768 (omega arith))), inl (its_types refl (equal refl) (equal refl), inl (its_types refl (equal refl) (equal refl), fits 65536 (omega arith), fits 7 (omega arith)), inl (its_types refl (equal refl) (equal refl), fits 7 (omega arith), fits 3 (omega arith)))), inl (its_types refl (equal refl) (equal refl), (equal refl, inr (equal refl, refl), inl (its_types refl (equal refl) (equal refl), inl (its_types refl (equal refl) (equal refl), fits 32 (omega arith), fits_below 2147483647 (omega arith)), fits 3 (omega arith)), (inr (equal refl, refl), inl (its_types refl (equal refl) (equal refl), fits 33 (omega arith), fits_below 127 (omega arith)), (inr (equal refl, refl), inr (by_int IntDivide a_quotient nowhere (pos 256) (fits 256 (omega arith)) (nonzero 255), equal refl, fits_below 0 (omega arith)), tt)), inl (its_types refl (equal refl) (equal refl), fits 127 (omega arith), fits 32767 (omega arith))), (inr (equal refl, refl), ((equal refl, inl refl, inl refl, tt, (record { tpe = Types.Int; is = refl; yields = inr (equal refl, refl) }, fits 32768 (omega arith)), tt), (inl (its_types refl (equal refl) (equal refl), fits 128 (omega arith), fits_below 0 (omega arith)), tt)))), fits 2147483647 (omega arith));
+  rows = (equal refl, inr (equal refl, refl), inr (equal refl, refl), inl (its_types refl (equal refl) (equal refl), inl (its_types refl (equal refl) (equal refl), inr (by_int _ a_quotient nowhere (pos 32767) (fits 32767 (omega arith)) (nonzero 32766), equal refl, fits 128 (omega arith)), inl (its_types refl (equal refl) (equal refl), fits 1 (omega arith), fits_below 32768 (omega arith))), inl (its_types refl (equal refl) (equal refl), inl (its_types refl (equal refl) (equal refl), fits 65536 (omega arith), fits 7 (omega arith)), inl (its_types refl (equal refl) (equal refl), fits 7 (omega arith), fits 3 (omega arith)))), inl (its_types refl (equal refl) (equal refl), (equal refl, inr (equal refl, refl), inl (its_types refl (equal refl) (equal refl), inl (its_types refl (equal refl) (equal refl), fits 32 (omega arith), fits_below 2147483647 (omega arith)), fits 3 (omega arith)), (inr (equal refl, refl), inl (its_types refl (equal refl) (equal refl), fits 33 (omega arith), fits_below 127 (omega arith)), (inr (equal refl, refl), inr (by_int _ a_quotient nowhere (pos 256) (fits 256 (omega arith)) (nonzero 255), equal refl, fits_below 0 (omega arith)), tt)), inl (its_types refl (equal refl) (equal refl), fits 127 (omega arith), fits 32767 (omega arith))), (inr (equal refl, refl), ((equal refl, inl refl, inl refl, tt, (record { tpe = Types.Int; is = refl; yields = inr (equal refl, refl) }, fits 32768 (omega arith)), tt), (inl (its_types refl (equal refl) (equal refl), fits 128 (omega arith), fits_below 0 (omega arith)), tt)))), fits 2147483647 (omega arith));
   yields = inr (equal refl, refl);
   result = inr refl;
   values = (refl, (refl, (refl, tt)));

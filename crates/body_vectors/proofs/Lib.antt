@@ -1,6 +1,6 @@
 mod Accepted
 mod Classes
-mod Computing
-mod Premises
-mod Unbroken
+pub mod Computing
+pub mod Premises
+pub mod Unbroken
 mod WasRead

@@ -1,9 +1,9 @@
 -- The IR's operators on longs, and what their templates compute on BigInts.
-use Rattle.std.proofs.Common.{◌≡◌, ℕ, zero, suc, ◌+◌, ◌-◌, ◌*◌, ◌/◌, ◌%◌, ◌^◌, ◌<◌, ◌≤◌, Bool, true, false, Some, Option, refl, sym, ap, ◌∙◌, subst, arith, if◌then◌else◌}
+use Rattle.std.proofs.Common.{◌≡◌, ℕ, zero, suc, ◌-◌, ◌*◌, ◌/◌, ◌%◌, ◌^◌, ◌<◌, ◌≤◌, Bool, true, false, Some, Option, refl, sym, ap, ◌∙◌, subst, arith, if◌then◌else◌}
 use Rattle.std.specs.Prelude.{ℤ, pos, negsuc, ◌+ℤ◌, ◌-ℤ◌, ◌*ℤ◌, bit_and, bit_or, bit_xor, int_div, int_rem, min, nat_lt, FitsSigned, unsigned_abs, ◌≢◌}
-use Rattle.std.specs.Int.{cast_signed, cast_unsigned, int_wrap, int_shr, w32, w64}
+use Rattle.std.specs.Int.{cast_signed, cast_unsigned, int_shr, w32, w64}
 use Rattle.std.specs.Int.Signed.{mag_rem, mag_shr}
-use Rattle.std.proofs.lemmas.Int.{ints, to_z-of_z, SFits-int_wrap, unsigned_abs-mul}
+use Rattle.std.proofs.lemmas.Int.{ints, to_z-of_z, unsigned_abs-mul}
 use Rattle.std.proofs.lemmas.Nat.{and_mask, and_shr, or_shr, xor_shr, and_mod, or_mod, xor_mod, and_le_l, or_lt, xor_lt}
 use Rattle.std.proofs.Math.Nat.{div-le_self, mul-le-mul, zero-mul}
 use Rattle.std.proofs.Math.Pow.{pow_mono}

@@ -171,7 +171,7 @@ joined_behind_a_line_main_judged = record {
 
 joined_behind_a_line_second_judged : Judged (recorded.joined_behind_a_line_class ∷ []) (all_emitted recorded.joined_behind_a_line_class.methods) recorded.joined_behind_a_line_second
 joined_behind_a_line_second_judged = record {
-  rows = (inr (equal refl, refl), inl (its_types refl (equal refl) (equal refl), (equal refl, inr (equal refl, refl), inr (equal refl, refl), inl (its_types refl (equal refl) (equal refl), fits 1 (omega arith), (refl, inr refl, ((equal refl, refl), refl, tt), (tt, tt), refl)), inr (by_long LongRemainder a_long_remainder nowhere (pos 4294967296) (long_fits 4294967296 (omega arith)) (nonzero 4294967295), equal refl, inl (its_types refl (equal refl) (equal refl), long_fits 0 (omega arith), long_fits 4611686018427387904 (omega arith))), inl (its_types refl (equal refl) (equal refl), long_fits 9223372036854775807 (omega arith), long_fits_below 2147483647 (omega arith))), long_fits 9223372036854775807 (omega arith)));
+  rows = (inr (equal refl, refl), inl (its_types refl (equal refl) (equal refl), (equal refl, inr (equal refl, refl), inr (equal refl, refl), inl (its_types refl (equal refl) (equal refl), fits 1 (omega arith), (refl, inr refl, ((equal refl, refl), refl, tt), (tt, tt), refl)), inr (by_long _ a_long_remainder nowhere (pos 4294967296) (long_fits 4294967296 (omega arith)) (nonzero 4294967295), equal refl, inl (its_types refl (equal refl) (equal refl), long_fits 0 (omega arith), long_fits 4611686018427387904 (omega arith))), inl (its_types refl (equal refl) (equal refl), long_fits 9223372036854775807 (omega arith), long_fits_below 2147483647 (omega arith))), long_fits 9223372036854775807 (omega arith)));
   yields = inr (equal refl, refl);
   result = inr refl;
   values = tt;
@@ -189,7 +189,7 @@ joined_behind_a_line_third_judged = record {
 
 joined_behind_a_line_fourth_judged : Judged (recorded.joined_behind_a_line_class ∷ []) (all_emitted recorded.joined_behind_a_line_class.methods) recorded.joined_behind_a_line_fourth
 joined_behind_a_line_fourth_judged = record {
-  rows = inl (its_types refl (equal refl) (equal refl), inl (its_types refl (equal refl) (equal refl), ((equal refl, tt), ((((equal refl, refl), fits 65536 (omega arith)), (tt, tt)), tt)), ((equal refl, tt), (inl (its_types refl (equal refl) (equal refl), fits 65536 (omega arith), fits 33 (omega arith)), tt))), inr (by_int IntDivide a_quotient nowhere (pos 32) (fits 32 (omega arith)) (nonzero 31), equal refl, fits_below 128 (omega arith)));
+  rows = inl (its_types refl (equal refl) (equal refl), inl (its_types refl (equal refl) (equal refl), ((equal refl, tt), ((((equal refl, refl), fits 65536 (omega arith)), (tt, tt)), tt)), ((equal refl, tt), (inl (its_types refl (equal refl) (equal refl), fits 65536 (omega arith), fits 33 (omega arith)), tt))), inr (by_int _ a_quotient nowhere (pos 32) (fits 32 (omega arith)) (nonzero 31), equal refl, fits_below 128 (omega arith)));
   yields = inr (equal refl, refl);
   result = inr refl;
   values = (refl, tt);
@@ -239,7 +239,7 @@ joined_letters_first_judged = record {
 
 joined_letters_second_judged : Judged (recorded.joined_letters_class ∷ []) (all_emitted recorded.joined_letters_class.methods) recorded.joined_letters_second
 joined_letters_second_judged = record {
-  rows = (((equal refl, refl), inl (its_types refl (equal refl) (equal refl), tt, inl (its_types refl (equal refl) (equal refl), (equal refl, inr (equal refl, refl), inr (equal refl, refl), tt, tt, tt), inr (by_int IntDivide a_quotient nowhere (pos 1) (fits 1 (omega arith)) (nonzero 0), equal refl, tt)))), (((equal refl, refl), (equal refl, inr (equal refl, refl), inr (equal refl, refl), tt, fits_below 0 (omega arith), fits 1 (omega arith))), ((equal refl, tt), (((equal refl, refl), fits 0 (omega arith)), tt))));
+  rows = (((equal refl, refl), inl (its_types refl (equal refl) (equal refl), tt, inl (its_types refl (equal refl) (equal refl), (equal refl, inr (equal refl, refl), inr (equal refl, refl), tt, tt, tt), inr (by_int _ a_quotient nowhere (pos 1) (fits 1 (omega arith)) (nonzero 0), equal refl, tt)))), (((equal refl, refl), (equal refl, inr (equal refl, refl), inr (equal refl, refl), tt, fits_below 0 (omega arith), fits 1 (omega arith))), ((equal refl, tt), (((equal refl, refl), fits 0 (omega arith)), tt))));
   yields = inl refl;
   result = inl refl;
   values = (refl, tt);
@@ -298,7 +298,7 @@ left_behind_a_line_main_judged = record {
 
 left_behind_a_line_second_judged : Judged (recorded.left_behind_a_line_class ∷ []) (all_emitted recorded.left_behind_a_line_class.methods) recorded.left_behind_a_line_second
 left_behind_a_line_second_judged = record {
-  rows = (inr (to_any refl (λ e. cc), refl), ((equal refl, inl (texts refl tt tt, ((equal refl, tt), (tt, tt)), inr (by_long LongDivide a_long_quotient nowhere (pos 9223372036854775807) (long_fits 9223372036854775807 (omega arith)) (nonzero 9223372036854775806), equal refl, long_fits 9007199254740993 (omega arith)))), (tt, tt)));
+  rows = (inr (to_any refl (λ e. cc), refl), ((equal refl, inl (texts refl tt tt, ((equal refl, tt), (tt, tt)), inr (by_long _ a_long_quotient nowhere (pos 9223372036854775807) (long_fits 9223372036854775807 (omega arith)) (nonzero 9223372036854775806), equal refl, long_fits 9007199254740993 (omega arith)))), (tt, tt)));
   yields = inr (equal refl, refl);
   result = inr refl;
   values = (refl, (refl, (refl, tt)));

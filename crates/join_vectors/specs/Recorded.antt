@@ -1,5 +1,5 @@
 -- Classes that the reference recorded, with joined texts and characters, and what each shows. In their files too each position is zero.
-use Rattle.std.specs.Prelude.{◌∷◌, [], true, false, pos, negsuc, codes, Some}
+use Rattle.std.specs.Prelude.{◌∷◌, [], ◌++◌, true, false, pos, negsuc, codes, Some}
 use Rattle.body_vectors.specs.Bounds.{Answers, all_from_one, goes_on_with, ends_with, parameter, method_of}
 use Rattle.ir_mean.specs.Rows.{object_with, static_method, nowhere, logs, object_name}
 use Rattle.sj_names.specs.declared.method_names.Namespace.TheVariants.{PublicStatic, PrivateStatic}
@@ -85,7 +85,7 @@ abbrev pub joined_values_class : ClassDef
 joined_values_class = object_with (joined_values_main ∷ [])
 
 abbrev pub joined_values_shown : Answers
-joined_values_shown = all_from_one ((110 ∷ 117 ∷ 108 ∷ 108 ∷ 117 ∷ 110 ∷ 100 ∷ 101 ∷ 102 ∷ 105 ∷ 110 ∷ 101 ∷ 100 ∷ 116 ∷ 114 ∷ 117 ∷ 101 ∷ 55296 ∷ []) ∷ codes "-128-32768" ∷ codes "-9223372036854775808a" ∷ [])
+joined_values_shown = all_from_one ((codes "nullundefinedtrue" ++ 55296 ∷ []) ∷ codes "-128-32768" ∷ codes "-9223372036854775808a" ∷ [])
 
 -- an operand of a joined text logs
 abbrev pub joined_behind_a_line_main : MethodDef

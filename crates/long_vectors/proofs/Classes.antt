@@ -21,7 +21,7 @@ least_int_divided_unbroken = unbroken recorded.least_int_divided_class (record {
 
 least_int_divided_main_judged : Judged (recorded.least_int_divided_class ∷ []) (all_emitted recorded.least_int_divided_class.methods) recorded.least_int_divided_main
 least_int_divided_main_judged = record {
-  rows = ((equal refl, inl (texts refl tt tt, tt, inr (by_int IntDivide a_quotient nowhere (negsuc 0) (fits_below 0 (omega arith)) (λ e. cc), equal refl, fits_below 2147483647 (omega arith)))), ((equal refl, inl (texts refl tt tt, tt, inr (by_int IntRemainder a_remainder nowhere (pos 2) (fits 2 (omega arith)) (nonzero 1), equal refl, fits_below 3 (omega arith)))), tt));
+  rows = ((equal refl, inl (texts refl tt tt, tt, inr (by_int _ a_quotient nowhere (negsuc 0) (fits_below 0 (omega arith)) (λ e. cc), equal refl, fits_below 2147483647 (omega arith)))), ((equal refl, inl (texts refl tt tt, tt, inr (by_int _ a_remainder nowhere (pos 2) (fits 2 (omega arith)) (nonzero 1), equal refl, fits_below 3 (omega arith)))), tt));
   yields = inl refl;
   result = inl refl;
   values = tt;
@@ -37,7 +37,7 @@ least_long_unbroken = unbroken recorded.least_long_class (record { superclass = 
 
 least_long_main_judged : Judged (recorded.least_long_class ∷ []) (all_emitted recorded.least_long_class.methods) recorded.least_long_main
 least_long_main_judged = record {
-  rows = ((equal refl, inl (texts refl tt tt, tt, inl (its_types refl (equal refl) (equal refl), long_fits_below 9223372036854775807 (omega arith), long_fits_below 0 (omega arith)))), ((equal refl, inl (texts refl tt tt, tt, inl (its_types refl (equal refl) (equal refl), long_fits_below 9223372036854775807 (omega arith), fits 64 (omega arith)))), ((equal refl, inl (texts refl tt tt, tt, inl (its_types refl (equal refl) (equal refl), long_fits_below 9223372036854775807 (omega arith), fits 65 (omega arith)))), ((equal refl, inl (texts refl tt tt, tt, inr (by_long LongDivide a_long_quotient nowhere (negsuc 0) (long_fits_below 0 (omega arith)) (λ e. cc), equal refl, long_fits_below 9223372036854775807 (omega arith)))), ((equal refl, inl (texts refl tt tt, tt, inr (by_long LongRemainder a_long_remainder nowhere (negsuc 0) (long_fits_below 0 (omega arith)) (λ e. cc), equal refl, long_fits_below 9223372036854775807 (omega arith)))), tt)))));
+  rows = ((equal refl, inl (texts refl tt tt, tt, inl (its_types refl (equal refl) (equal refl), long_fits_below 9223372036854775807 (omega arith), long_fits_below 0 (omega arith)))), ((equal refl, inl (texts refl tt tt, tt, inl (its_types refl (equal refl) (equal refl), long_fits_below 9223372036854775807 (omega arith), fits 64 (omega arith)))), ((equal refl, inl (texts refl tt tt, tt, inl (its_types refl (equal refl) (equal refl), long_fits_below 9223372036854775807 (omega arith), fits 65 (omega arith)))), ((equal refl, inl (texts refl tt tt, tt, inr (by_long _ a_long_quotient nowhere (negsuc 0) (long_fits_below 0 (omega arith)) (λ e. cc), equal refl, long_fits_below 9223372036854775807 (omega arith)))), ((equal refl, inl (texts refl tt tt, tt, inr (by_long _ a_long_remainder nowhere (negsuc 0) (long_fits_below 0 (omega arith)) (λ e. cc), equal refl, long_fits_below 9223372036854775807 (omega arith)))), tt)))));
   yields = inl refl;
   result = inl refl;
   values = tt;
@@ -316,7 +316,7 @@ longs_unread_main_judged = record {
 
 longs_unread_second_judged : Judged (recorded.longs_unread_class ∷ []) (all_emitted recorded.longs_unread_class.methods) recorded.longs_unread_second
 longs_unread_second_judged = record {
-  rows = (inr (equal refl, refl), inl (its_types refl (equal refl) (equal refl), inl (its_types refl (equal refl) (equal refl), long_fits 4611686018427387904 (omega arith), inl (its_types refl (equal refl) (equal refl), inl (its_types refl (equal refl) (equal refl), long_fits 2 (omega arith), long_fits 2147483648 (omega arith)), inl (its_types refl (equal refl) (equal refl), long_fits 3 (omega arith), long_fits 0 (omega arith)))), inl (its_types refl (equal refl) (equal refl), inr (by_long LongRemainder a_long_remainder nowhere (pos 63) (long_fits 63 (omega arith)) (nonzero 62), equal refl, inr (by_long LongRemainder a_long_remainder nowhere (pos 63) (long_fits 63 (omega arith)) (nonzero 62), equal refl, long_fits 4294967296 (omega arith))), inl (its_types refl (equal refl) (equal refl), inl (its_types refl (equal refl) (equal refl), long_fits_below 2147483647 (omega arith), tt), inl (its_types refl (equal refl) (equal refl), tt, fits 255 (omega arith))))));
+  rows = (inr (equal refl, refl), inl (its_types refl (equal refl) (equal refl), inl (its_types refl (equal refl) (equal refl), long_fits 4611686018427387904 (omega arith), inl (its_types refl (equal refl) (equal refl), inl (its_types refl (equal refl) (equal refl), long_fits 2 (omega arith), long_fits 2147483648 (omega arith)), inl (its_types refl (equal refl) (equal refl), long_fits 3 (omega arith), long_fits 0 (omega arith)))), inl (its_types refl (equal refl) (equal refl), inr (by_long _ a_long_remainder nowhere (pos 63) (long_fits 63 (omega arith)) (nonzero 62), equal refl, inr (by_long _ a_long_remainder nowhere (pos 63) (long_fits 63 (omega arith)) (nonzero 62), equal refl, long_fits 4294967296 (omega arith))), inl (its_types refl (equal refl) (equal refl), inl (its_types refl (equal refl) (equal refl), long_fits_below 2147483647 (omega arith), tt), inl (its_types refl (equal refl) (equal refl), tt, fits 255 (omega arith))))));
   yields = inr (equal refl, refl);
   result = inr refl;
   values = (refl, tt);

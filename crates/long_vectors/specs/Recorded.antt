@@ -1,5 +1,5 @@
 -- Classes that the reference recorded, with operators on longs, and what each shows. In their files too each position is zero.
-use Rattle.std.specs.Prelude.{◌∷◌, [], true, false, pos, negsuc, codes, Some}
+use Rattle.std.specs.Prelude.{◌∷◌, [], ◌++◌, true, false, pos, negsuc, codes, Some}
 use Rattle.body_vectors.specs.Bounds.{Answers, all_from_one, times, goes_on_with, ends_with, parameter, method_of}
 use Rattle.ir_mean.specs.Rows.{object_with, static_method, nowhere, logs, object_name}
 use Rattle.sj_names.specs.declared.method_names.Namespace.TheVariants.{PublicStatic, PrivateStatic}
@@ -46,7 +46,7 @@ abbrev pub three_counted_class : ClassDef
 three_counted_class = object_with (three_counted_main ∷ three_counted_second ∷ three_counted_third ∷ [])
 
 abbrev pub three_counted_shown : Answers
-three_counted_shown = goes_on_with [] ∷ goes_on_with ((117 ∷ 110 ∷ 100 ∷ 101 ∷ 102 ∷ 105 ∷ 110 ∷ 101 ∷ 100 ∷ 54 ∷ 52 ∷ 233 ∷ 55357 ∷ 56832 ∷ []) ∷ codes "1" ∷ []) ∷ goes_on_with ((117 ∷ 110 ∷ 100 ∷ 101 ∷ 102 ∷ 105 ∷ 110 ∷ 101 ∷ 100 ∷ 54 ∷ 52 ∷ 233 ∷ 55357 ∷ 56832 ∷ []) ∷ codes "1" ∷ codes "2" ∷ []) ∷ ends_with ((117 ∷ 110 ∷ 100 ∷ 101 ∷ 102 ∷ 105 ∷ 110 ∷ 101 ∷ 100 ∷ 54 ∷ 52 ∷ 233 ∷ 55357 ∷ 56832 ∷ []) ∷ codes "1" ∷ codes "2" ∷ codes "3" ∷ []) ∷ ends_with ((117 ∷ 110 ∷ 100 ∷ 101 ∷ 102 ∷ 105 ∷ 110 ∷ 101 ∷ 100 ∷ 54 ∷ 52 ∷ 233 ∷ 55357 ∷ 56832 ∷ []) ∷ codes "1" ∷ codes "2" ∷ codes "3" ∷ []) ∷ ends_with ((117 ∷ 110 ∷ 100 ∷ 101 ∷ 102 ∷ 105 ∷ 110 ∷ 101 ∷ 100 ∷ 54 ∷ 52 ∷ 233 ∷ 55357 ∷ 56832 ∷ []) ∷ codes "1" ∷ codes "2" ∷ codes "3" ∷ []) ∷ []
+three_counted_shown = goes_on_with [] ∷ goes_on_with ((codes "undefined64" ++ 233 ∷ 55357 ∷ 56832 ∷ []) ∷ codes "1" ∷ []) ∷ goes_on_with ((codes "undefined64" ++ 233 ∷ 55357 ∷ 56832 ∷ []) ∷ codes "1" ∷ codes "2" ∷ []) ∷ ends_with ((codes "undefined64" ++ 233 ∷ 55357 ∷ 56832 ∷ []) ∷ codes "1" ∷ codes "2" ∷ codes "3" ∷ []) ∷ ends_with ((codes "undefined64" ++ 233 ∷ 55357 ∷ 56832 ∷ []) ∷ codes "1" ∷ codes "2" ∷ codes "3" ∷ []) ∷ ends_with ((codes "undefined64" ++ 233 ∷ 55357 ∷ 56832 ∷ []) ∷ codes "1" ∷ codes "2" ∷ codes "3" ∷ []) ∷ []
 
 -- a call with a char and a long, joined to half of a pair
 abbrev pub char_argument_first : MethodDef
