@@ -10,11 +10,12 @@ ghost use Rattle.sj_desugaring.specs.Views.{destination_view, target_view, code_
 ghost use Rattle.sj_trees.specs.View.{view, terms_view, cases_view};
 
 use sj_desugaring::{
-    Callee, Destination, Operation, Placed, PlacedAll, SwitchCases, Target, Written, are_plain, assigned,
-    binary_value, branched, brought, call_value, case_of, coerced_argument, declared, defined,
-    expression_of, in_place, is_fixed, is_plain, joined, kept, labeled, leaving, local_destination,
-    logged, looped, looped_behind, nothing, number_behind, operand_destination, position_of,
-    switched, target_of, tested_loop, unary_value, value_of, with_label, without_first,
+    Callee, Destination, Operation, Placed, PlacedAll, SwitchCases, Target, Written, are_plain,
+    assigned, binary_value, branched, brought, call_value, case_of, coerced_argument, declared,
+    defined, expression_of, in_place, is_fixed, is_plain, joined, kept, labeled, leaving,
+    local_destination, logged, looped, looped_behind, nothing, number_behind, operand_destination,
+    position_of, switched, target_of, tested_loop, unary_value, value_of, with_label,
+    without_first,
 };
 use sj_names::{LocalName, NoMemory, TypeRef};
 use sj_trees::{MatchCase, Tree, type_of};
