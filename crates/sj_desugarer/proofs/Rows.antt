@@ -6,8 +6,8 @@ use Rattle.sj_desugar.specs.Coercions.{coerced}
 use Rattle.sj_core.specs.Views.{expressions_of}
 use Rattle.sj_desugar.specs.Desugar.{Targets, into, expression_of, cases, member, types_of, operand, operands, branched, wrapped, break_unless, switched, finish, first_of, second_of, branches, switch_code, Branches}
 use Rattle.sj_desugar.specs.Plain.{is_plain}
-use Rattle.sj_desugar.specs.Texts.{operand_of}
 use Rattle.sj_desugar.specs.Spill.{Destination, discard, Code, one, put_first, joined, Spilled, spill, then_use}
+use Rattle.sj_desugar.specs.Texts.{operand_of}
 use Rattle.sj_desugaring.specs.Arguments.{with_arguments}
 use Rattle.sj_desugaring.specs.Forms.{behind}
 use Rattle.sj_desugarer.specs.Operands.{comes_to}
