@@ -7,6 +7,7 @@ use Rattle.sj_core.specs.Views.{expressions_of}
 use Rattle.sj_desugar.specs.Desugar.{Targets, into, expression_of, cases, member, types_of, operand, operands, branched, wrapped, break_unless, switched, finish, first_of, second_of, branches, switch_code, Branches}
 use Rattle.sj_desugar.specs.Plain.{is_plain}
 use Rattle.sj_desugar.specs.Spill.{Destination, discard, Code, one, put_first, joined, Spilled, spill, then_use}
+use Rattle.sj_desugar.specs.Texts.{operand_of}
 use Rattle.sj_desugaring.specs.Arguments.{with_arguments}
 use Rattle.sj_desugaring.specs.Forms.{behind}
 use Rattle.sj_desugarer.specs.Operands.{comes_to}
@@ -38,9 +39,9 @@ module _ (m : List ℕ → Bool) (ls : Targets) (k : Destination) (j : ℕ) (p :
   unfolding comes_to
   unary-row o e = use-one (operand m e (λ k j. into m ls k j e)) j (λ es. finish k p (unary_result o) false (core.unary_of o (first_of es)))
 
-  pub binary-row : (o : BinaryOp) (e d : Term) → into m ls k j (binary_op p o e d) ≡ behind (comes_to m ls (is_plain d) j e) (λ g i. behind (comes_to m ls true i d) (λ h. finish k p (binary_result o) false (core.binary_of o g h)))
+  pub binary-row : (o : BinaryOp) (e d : Term) → into m ls k j (binary_op p o e d) ≡ behind (comes_to m ls (is_plain d) j e) (λ g i. behind (comes_to m ls true i d) (λ h. finish k p (binary_result o) false (core.binary_of o (operand_of o (type_of_term e) g) (operand_of o (type_of_term d) h))))
   unfolding comes_to
-  binary-row o e d = use-two (operand m e (λ k j. into m ls k j e)) (operand m d (λ k j. into m ls k j d)) j (λ es. finish k p (binary_result o) false (core.binary_of o (first_of es) (second_of es)))
+  binary-row o e d = use-two (operand m e (λ k j. into m ls k j e)) (operand m d (λ k j. into m ls k j d)) j (λ es. finish k p (binary_result o) false (core.binary_of o (operand_of o (type_of_term e) (first_of es)) (operand_of o (type_of_term d) (second_of es))))
 
   pub match-row : (e : Term) (cs : Cases) (d : Term) (t : IrType) → into m ls k j (match_on p e cs d t) ≡ behind (comes_to m ls true j e) (λ g i. switched p g (cases m ls k i cs) (into m ls k (cases m ls k i cs).next d))
   unfolding comes_to
@@ -70,11 +71,11 @@ module _ (m : List ℕ → Bool) (ls : Targets) (k : Destination) (j : ℕ) (p :
   pub unary-joins : (o : Placed) (u : UnaryOp) (e : Term) → o ≡ comes_to m ls true j e → into m ls k j (unary_op p u e) ≡ behind o (λ g. finish k p (unary_result u) false (core.unary_of u g))
   unary-joins o u e h = unary-row u e ∙ (λ i. behind (sym h i) (λ g. finish k p (unary_result u) false (core.unary_of u g)))
 
-  pub binary-joins : (o r : Placed) (u : BinaryOp) (e d : Term) (rest : Bool) → rest ≡ is_plain d → o ≡ comes_to m ls rest j e → r ≡ comes_to m ls true o.next d → into m ls k j (binary_op p u e d) ≡ behind o (λ g i. behind r (λ h. finish k p (binary_result u) false (core.binary_of u g h)))
+  pub binary-joins : (o r : Placed) (u : BinaryOp) (e d : Term) (rest : Bool) → rest ≡ is_plain d → o ≡ comes_to m ls rest j e → r ≡ comes_to m ls true o.next d → into m ls k j (binary_op p u e d) ≡ behind o (λ g i. behind r (λ h. finish k p (binary_result u) false (core.binary_of u (operand_of u (type_of_term e) g) (operand_of u (type_of_term d) h))))
   binary-joins o r u e d rest hr h hd =
       let e1 : comes_to m ls (is_plain d) j e ≡ o = ap (λ b. comes_to m ls b j e) (sym hr) ∙ sym h in
       let e2 : comes_to m ls true (comes_to m ls (is_plain d) j e).next d ≡ r = ap (λ (x : Placed). comes_to m ls true x.next d) e1 ∙ sym hd in
-      binary-row u e d ∙ (λ i. behind (e1 i) (λ g x. behind (e2 i) (λ h. finish k p (binary_result u) false (core.binary_of u g h))))
+      binary-row u e d ∙ (λ i. behind (e1 i) (λ g x. behind (e2 i) (λ h. finish k p (binary_result u) false (core.binary_of u (operand_of u (type_of_term e) g) (operand_of u (type_of_term d) h)))))
 
   pub match-joins : (o : Placed) (bs : Branches) (d : Code) (e : Term) (cs : Cases) (t : Term) (tpe : IrType) → o ≡ comes_to m ls true j e → bs ≡ cases m ls k o.next cs → d ≡ into m ls k bs.next t → into m ls k j (match_on p e cs t tpe) ≡ behind o (λ g i. switched p g bs d)
   match-joins o bs d e cs t tpe h hb hd =

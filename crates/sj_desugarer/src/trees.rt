@@ -10,11 +10,12 @@ ghost use Rattle.sj_desugaring.specs.Views.{destination_view, target_view, code_
 ghost use Rattle.sj_trees.specs.View.{view, terms_view, cases_view};
 
 use sj_desugaring::{
-    Callee, Destination, Placed, PlacedAll, SwitchCases, Target, Written, are_plain, assigned,
-    binary_value, branched, brought, call_value, case_of, coerced_argument, declared, defined,
-    expression_of, in_place, is_fixed, is_plain, joined, kept, labeled, leaving, local_destination,
-    logged, looped, looped_behind, nothing, number_behind, operand_destination, position_of,
-    switched, target_of, tested_loop, unary_value, value_of, with_label, without_first,
+    Callee, Destination, Operation, Placed, PlacedAll, SwitchCases, Target, Written, are_plain,
+    assigned, binary_value, branched, brought, call_value, case_of, coerced_argument, declared,
+    defined, expression_of, in_place, is_fixed, is_plain, joined, kept, labeled, leaving,
+    local_destination, logged, looped, looped_behind, nothing, number_behind, operand_destination,
+    position_of, switched, target_of, tested_loop, unary_value, value_of, with_label,
+    without_first,
 };
 use sj_names::{LocalName, NoMemory, TypeRef};
 use sj_trees::{MatchCase, Tree, type_of};
@@ -110,7 +111,12 @@ pub fn statements_of(
             let second_plain = is_plain(right);
             let one = operand_of(alloc, mutable, targets, second_plain, next, left)?;
             let other = operand_of(alloc, mutable, targets, true, one.next, right)?;
-            binary_value(alloc, destination, *position, *op, one, other)
+            let operation = Operation {
+                op: *op,
+                left,
+                right,
+            };
+            binary_value(alloc, destination, *position, &operation, one, other)
         }
         Tree::Log(position, text) => {
             let line = operand_of(alloc, mutable, targets, true, next, text)?;
@@ -119,9 +125,11 @@ pub fn statements_of(
         Tree::Undefined(_)
         | Tree::Null(_)
         | Tree::BooleanLiteral(_, _)
+        | Tree::CharLiteral(_, _)
         | Tree::ByteLiteral(_, _)
         | Tree::ShortLiteral(_, _)
         | Tree::IntLiteral(_, _)
+        | Tree::LongLiteral(_, _)
         | Tree::StringLiteral(_, _)
         | Tree::VarRef(_, _, _) => value_of(alloc, destination, next, tree),
         Tree::Skip(_)
@@ -141,8 +149,6 @@ pub fn statements_of(
         | Tree::ArraySelect(_, _, _, _)
         | Tree::IsInstanceOf(_, _, _)
         | Tree::AsInstanceOf(_, _, _)
-        | Tree::CharLiteral(_, _)
-        | Tree::LongLiteral(_, _)
         | Tree::This(_, _) => Ok(nothing(alloc, next)),
     }
 }

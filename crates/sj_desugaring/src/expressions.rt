@@ -3,6 +3,7 @@ ghost use Rattle.std.specs.Prelude.{◌≡◌, IfOk, map};
 ghost use Rattle.sj_core.specs.Views.{expression_view};
 ghost use Rattle.sj_desugar.specs.Coercions as coercions;
 ghost use Rattle.sj_desugar.specs.Desugar as desugar;
+ghost use Rattle.sj_desugar.specs.Texts as texts;
 ghost use Rattle.sj_desugaring.specs.Arguments as arguments;
 ghost use Rattle.sj_trees.specs.TypeOf.{type_of_term};
 ghost use Rattle.sj_trees.specs.View.{view, terms_view};
@@ -10,9 +11,10 @@ ghost use Rattle.sj_core.specs.Terms as terms;
 ghost use Rattle.sj_core.specs.Views as core;
 
 use crate::coercions::{coerced, coerced_argument};
+use crate::texts::operand_of;
 use sj_core::{CoreExpression, CoreVariable};
 use sj_names::{ClassName, LocalName, Member, MethodName, Namespace, NoMemory, TypeRef};
-use sj_trees::{IrType, Tree, type_of};
+use sj_trees::{BinaryOp, IrType, Tree, type_of};
 use std::alloc::Global;
 
 /// A plain tree as an expression. A form that isn't built stands as undefined.
@@ -35,15 +37,17 @@ pub fn expression_of(alloc: Global, tree: &Tree) -> Result<CoreExpression, NoMem
             Ok(CoreExpression::Unary(*op, boxed_expression(alloc, operand)?))
         }
         Tree::BinaryOp(_, op, left, right) => {
-            let left = boxed_expression(alloc, left)?;
-            let right = boxed_expression(alloc, right)?;
+            let left = operand(alloc, *op, left)?;
+            let right = operand(alloc, *op, right)?;
             Ok(CoreExpression::Binary(*op, left, right))
         }
         Tree::Null(_) => Ok(CoreExpression::Null),
         Tree::BooleanLiteral(_, value) => Ok(CoreExpression::Boolean(*value)),
+        Tree::CharLiteral(_, unit) => Ok(CoreExpression::Number(i32::from(*unit))),
         Tree::ByteLiteral(_, value) => Ok(CoreExpression::Number(i32::from(*value))),
         Tree::ShortLiteral(_, value) => Ok(CoreExpression::Number(i32::from(*value))),
         Tree::IntLiteral(_, value) => Ok(CoreExpression::Number(*value)),
+        Tree::LongLiteral(_, value) => Ok(CoreExpression::Long(*value)),
         Tree::StringLiteral(_, units) => Ok(CoreExpression::Text(units.copied()?)),
         Tree::VarRef(_, name, _) => local_use(name),
         _ => Ok(CoreExpression::Undefined),
@@ -55,6 +59,15 @@ fn boxed_expression(alloc: Global, tree: &Tree) -> Result<Box<CoreExpression>, N
     ensures { IfOk result (λ e. expression_view e.value ≡ desugar.expression_of (view tree.now)) }
 {
     Ok(Box::new(alloc, expression_of(alloc, tree)?)?)
+}
+
+// An operand of an operator.
+#[cycle(expression)]
+fn operand(alloc: Global, op: BinaryOp, tree: &Tree) -> Result<Box<CoreExpression>, NoMemory>
+    ensures { IfOk result (λ e. expression_view e.value ≡ texts.operand_of op (type_of_term (view tree.now)) (desugar.expression_of (view tree.now))) }
+{
+    let expression = expression_of(alloc, tree)?;
+    operand_of(alloc, op, tree, expression)
 }
 
 // A branch of a choice of this type.

@@ -5,6 +5,7 @@ ghost use Rattle.sj_core.specs.Views.{expression_view, expressions_of, statement
 ghost use Rattle.sj_desugar.specs.Coercions as coercions;
 ghost use Rattle.sj_desugar.specs.Desugar as desugar;
 ghost use Rattle.sj_desugar.specs.Spill as spill;
+ghost use Rattle.sj_desugar.specs.Texts as texts;
 ghost use Rattle.sj_desugaring.specs.Forms.{behind};
 ghost use Rattle.sj_trees.specs.TypeOf.{type_of_term, unary_result, binary_result};
 ghost use Rattle.sj_trees.specs.View.{view};
@@ -15,6 +16,7 @@ use crate::coercions::coerced;
 use crate::destinations::{Destination, copied_variable};
 use crate::expressions::{expression_of, static_call};
 use crate::placing::{Placed, PlacedAll};
+use crate::texts::operand_of;
 use crate::writing::{Written, joined, nothing, one, put_first};
 use sj_core::{CoreCase, CoreExpression, CoreStatement, CoreVariable};
 use sj_names::{ClassName, Items, LocalName, MethodName, Namespace, NoMemory};
@@ -362,19 +364,27 @@ pub fn unary_value(
     joined(front, back)
 }
 
-/// An operator on two operands, whose value goes to a destination.
+/// An operator with the trees of its operands.
+#[derive(Clone, Copy)]
+pub struct Operation<'t> {
+    pub op: BinaryOp,
+    pub left: &'t Tree,
+    pub right: &'t Tree,
+}
+
+/// An operator on what its two trees come to as operands. Its value goes to a destination.
 pub fn binary_value(
     alloc: Global,
     destination: &Destination,
     position: Position,
-    op: BinaryOp,
+    operation: &Operation<'_>,
     left: Placed,
     right: Placed,
 ) -> Result<Written, NoMemory>
-    ensures { IfOk result (λ w. code_view w ≡ behind (placed_view left) (λ e j. behind (placed_view right) (λ g. desugar.finish (destination_view destination.now) position (binary_result op) false (terms.binary_of op e g)))) }
+    ensures { IfOk result (λ w. code_view w ≡ behind (placed_view left) (λ e j. behind (placed_view right) (λ g. desugar.finish (destination_view destination.now) position (binary_result operation.now.op) false (terms.binary_of operation.now.op (texts.operand_of operation.now.op (type_of_term (view operation.now.left.now)) e) (texts.operand_of operation.now.op (type_of_term (view operation.now.right.now)) g))))) }
 {
-    let value = binary(alloc, op, left.expression, right.expression)?;
-    let tpe = op.result_type();
+    let value = binary(alloc, operation, left.expression, right.expression)?;
+    let tpe = operation.op.result_type();
     let back = finish(alloc, destination, position, &tpe, false, value, right.next)?;
     let first = Written {
         statements: left.statements,
@@ -389,15 +399,15 @@ pub fn binary_value(
 
 fn binary(
     alloc: Global,
-    op: BinaryOp,
+    operation: &Operation<'_>,
     left: CoreExpression,
     right: CoreExpression,
 ) -> Result<CoreExpression, NoMemory>
-    ensures { IfOk result (λ e. expression_view e ≡ terms.binary_of op (expression_view left) (expression_view right)) }
+    ensures { IfOk result (λ e. expression_view e ≡ terms.binary_of operation.now.op (texts.operand_of operation.now.op (type_of_term (view operation.now.left.now)) (expression_view left)) (texts.operand_of operation.now.op (type_of_term (view operation.now.right.now)) (expression_view right))) }
 {
-    let left = Box::new(alloc, left)?;
-    let right = Box::new(alloc, right)?;
-    Ok(CoreExpression::Binary(op, left, right))
+    let left = operand_of(alloc, operation.op, operation.left, left)?;
+    let right = operand_of(alloc, operation.op, operation.right, right)?;
+    Ok(CoreExpression::Binary(operation.op, left, right))
 }
 
 /// What a call of a static method names.

@@ -12,6 +12,7 @@ mod locals;
 mod placing;
 mod plain;
 mod positions;
+mod texts;
 mod values;
 mod writing;
 
@@ -19,8 +20,8 @@ pub use coercions::coerced_argument;
 pub use destinations::{Destination, Target, target_of, with_label};
 pub use expressions::{expression_of, without_first};
 pub use forms::{
-    Callee, SwitchCases, assigned, binary_value, branched, call_value, case_of, declared, defined,
-    logged, looped, looped_behind, switched, tested_loop, unary_value,
+    Callee, Operation, SwitchCases, assigned, binary_value, branched, call_value, case_of,
+    declared, defined, logged, looped, looped_behind, switched, tested_loop, unary_value,
 };
 pub use jumps::{labeled, leaving};
 pub use locals::mutable_locals;

@@ -63,6 +63,18 @@ pub fn value_of(
                 next,
             )
         }
+        Tree::CharLiteral(position, unit) => {
+            let value = CoreExpression::Number(i32::from(*unit));
+            finish(
+                alloc,
+                destination,
+                *position,
+                &IrType::Char,
+                true,
+                value,
+                next,
+            )
+        }
         Tree::ByteLiteral(position, value) => {
             let value = CoreExpression::Number(i32::from(*value));
             finish(
@@ -94,6 +106,18 @@ pub fn value_of(
                 destination,
                 *position,
                 &IrType::Int,
+                true,
+                value,
+                next,
+            )
+        }
+        Tree::LongLiteral(position, value) => {
+            let value = CoreExpression::Long(*value);
+            finish(
+                alloc,
+                destination,
+                *position,
+                &IrType::Long,
                 true,
                 value,
                 next,

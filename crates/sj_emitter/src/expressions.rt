@@ -6,8 +6,10 @@ ghost use Rattle.sj_emit_expr.specs.Names.{variable_name, label_name};
 ghost use Rattle.sj_emit_expr.specs.Templates as templates;
 
 use crate::names::variable_name;
-use crate::operators::{binary_template, boxed_char, is_nonzero_literal, unary_template};
-use js_tree::JsExpr;
+use crate::operators::{
+    as_text, binary_template, boxed_char, host_call, is_nonzero_literal, unary_template,
+};
+use js_tree::{HostFunction, JsExpr};
 use sj_core::CoreExpression;
 use sj_mangling::function_name;
 use sj_names::NoMemory;
@@ -23,11 +25,20 @@ pub fn emit_expression(alloc: Global, expression: &CoreExpression) -> Result<JsE
         CoreExpression::Null => Ok(JsExpr::Null),
         CoreExpression::Boolean(value) => Ok(JsExpr::Boolean(*value)),
         CoreExpression::Number(value) => Ok(JsExpr::Number(*value)),
+        CoreExpression::Long(value) => Ok(JsExpr::BigInt(*value)),
         CoreExpression::Text(units) => Ok(JsExpr::Text(units.copied()?)),
         CoreExpression::Variable(variable) => Ok(JsExpr::Name(variable_name(alloc, variable)?)),
         CoreExpression::Boxed(operand) => {
             let operand = emit_expression(alloc, operand)?;
             boxed_char(alloc, operand)
+        }
+        CoreExpression::CharText(operand) => {
+            let operand = emit_expression(alloc, operand)?;
+            host_call(alloc, HostFunction::StringFromCharCode, operand)
+        }
+        CoreExpression::ValueText(operand) => {
+            let operand = emit_expression(alloc, operand)?;
+            as_text(alloc, operand)
         }
         CoreExpression::Choice(test, yes, no) => {
             let test = emit_boxed(alloc, test)?;

@@ -9,8 +9,8 @@ ghost use Rattle.sj_emitter.specs.Cases.{case_template};
 
 use crate::expressions::emit_expression;
 use crate::names::{label_name, variable_name};
-use crate::operators::log_call;
-use js_tree::{JsExpr, JsStmt, SwitchCase};
+use crate::operators::host_call;
+use js_tree::{HostFunction, JsExpr, JsStmt, SwitchCase};
 use sj_core::{CoreCase, CoreExpression, CoreStatement, CoreVariable};
 use sj_names::{Items, NoMemory, Text};
 use std::alloc::Global;
@@ -66,7 +66,8 @@ fn emit_statement(alloc: Global, statement: &CoreStatement) -> Result<JsStmt, No
         CoreStatement::Return(_, value) => Ok(JsStmt::Return(emit_expression(alloc, value)?)),
         CoreStatement::Log(_, text) => {
             let text = emit_expression(alloc, text)?;
-            Ok(JsStmt::Expression(log_call(alloc, text)?))
+            let call = host_call(alloc, HostFunction::ConsoleLog, text)?;
+            Ok(JsStmt::Expression(call))
         }
         CoreStatement::Leave(_, label) => Ok(JsStmt::BreakTo(label_name(alloc, label)?)),
         CoreStatement::Break(_) => Ok(JsStmt::Break),

@@ -69,6 +69,8 @@ fn add_helper(
     match op {
         BinaryOp::IntDivide if !nonzero => add(bindings, object_binding(alloc, "$id")?),
         BinaryOp::IntRemainder if !nonzero => add(bindings, object_binding(alloc, "$im")?),
+        BinaryOp::LongDivide if !nonzero => add(bindings, object_binding(alloc, "$ld")?),
+        BinaryOp::LongRemainder if !nonzero => add(bindings, object_binding(alloc, "$lm")?),
         _ => Ok(()),
     }
 }
@@ -96,7 +98,9 @@ fn add_uses_in(
             add(bindings, function_binding(alloc, member)?)?;
             add_all_uses_in(alloc, arguments, bindings)
         }
-        CoreExpression::Unary(_, operand) => add_uses_in(alloc, operand, bindings),
+        CoreExpression::CharText(operand)
+        | CoreExpression::ValueText(operand)
+        | CoreExpression::Unary(_, operand) => add_uses_in(alloc, operand, bindings),
         CoreExpression::Binary(op, left, right) => {
             add_helper(alloc, is_nonzero_literal(right), *op, bindings)?;
             add_uses_in(alloc, left, bindings)?;
@@ -106,6 +110,7 @@ fn add_uses_in(
         | CoreExpression::Null
         | CoreExpression::Boolean(_)
         | CoreExpression::Number(_)
+        | CoreExpression::Long(_)
         | CoreExpression::Text(_)
         | CoreExpression::Variable(_) => Ok(()),
     }

@@ -2,16 +2,16 @@
 use Rattle.std.proofs.Common.{Bool, true, false, List, [], ◌∷◌, ℕ, refl, arith}
 use Rattle.std.specs.Prelude.{All}
 use Rattle.std.proofs.lemmas.List.Elements.{All-nil, All-cons, All-head, All-tail}
-use Rattle.js_tree.specs.Rules.{IsName, IsExpression, IsExpressions, IsStatement, AreStatements, AreCases, IsPiece}
+use Rattle.js_tree.specs.Rules.{IsName, IsUnit, IsExpression, IsExpressions, IsStatement, AreStatements, AreCases, IsPiece}
 use Rattle.js_tree.specs.Terms as js
 use Rattle.sj_core.specs.Terms as core
 use Rattle.sj_emit_expr.specs.Names.{variable_name, label_name}
 use Rattle.sj_emit_expr.specs.Templates.{unary_template, binary_template, is_nonzero_literal, choice_template, expression_template, expression_templates, statement_template, statement_templates, case_templates, parameter_names}
 use Rattle.sj_names.specs.declared.method_names.Member.{Member}
 use Rattle.sj_trees.specs.declared.operators.BinaryOp.{BinaryOp}
-use Rattle.sj_trees.specs.declared.operators.BinaryOp.TheVariants.{BooleanEqual, BooleanNotEqual, BooleanOr, BooleanAnd, IntAdd, IntSubtract, IntMultiply, IntDivide, IntRemainder, IntOr, IntAnd, IntXor, IntShiftLeft, IntShiftRightLogical, IntShiftRightArithmetic, IntEqual, IntNotEqual, IntLess, IntLessOrEqual, IntGreater, IntGreaterOrEqual}
+use Rattle.sj_trees.specs.declared.operators.BinaryOp.TheVariants.{StringConcatenate, BooleanEqual, BooleanNotEqual, BooleanOr, BooleanAnd, IntAdd, IntSubtract, IntMultiply, IntDivide, IntRemainder, IntOr, IntAnd, IntXor, IntShiftLeft, IntShiftRightLogical, IntShiftRightArithmetic, IntEqual, IntNotEqual, IntLess, IntLessOrEqual, IntGreater, IntGreaterOrEqual, LongAdd, LongSubtract, LongMultiply, LongDivide, LongRemainder, LongOr, LongAnd, LongXor, LongShiftLeft, LongShiftRightLogical, LongShiftRightArithmetic, LongEqual, LongNotEqual, LongLess, LongLessOrEqual, LongGreater, LongGreaterOrEqual}
 use Rattle.sj_trees.specs.declared.operators.UnaryOp.{UnaryOp}
-use Rattle.sj_trees.specs.declared.operators.UnaryOp.TheVariants.{BooleanNot, CharToInt, ByteToInt, ShortToInt, IntToByte, IntToShort}
+use Rattle.sj_trees.specs.declared.operators.UnaryOp.TheVariants.{BooleanNot, CharToInt, ByteToInt, ShortToInt, IntToLong, IntToChar, IntToByte, IntToShort, LongToInt}
 use Rattle.sj_pieces.specs.Keys.{IsKeyed, AreKeyed, HaveKeys, HasKeys}
 use Rattle.sj_emit_expr.specs.Pieces.{piece_of}
 use Rattle.sj_pieces.specs.Ranges.{AreBytes, FitsMember, FitsExpression, FitExpressions, FitsStatement, FitStatements, FitCases, FitsMethod}
@@ -23,11 +23,14 @@ unary-kept BooleanNot e h = h
 unary-kept CharToInt e h = h
 unary-kept ByteToInt e h = h
 unary-kept ShortToInt e h = h
+unary-kept IntToLong e h = h
+unary-kept IntToChar e h = (h, omega arith)
 unary-kept IntToByte e h = ((h, omega arith), omega arith)
 unary-kept IntToShort e h = ((h, omega arith), omega arith)
-unary-kept _ e h = tt
+unary-kept LongToInt e h = (omega arith, h)
 
 binary-kept : (nonzero : Bool) (o : BinaryOp) (e g : js.Expression) → IsExpression e → IsExpression g → IsExpression (binary_template nonzero o e g)
+binary-kept nonzero StringConcatenate e g h k = (h, k)
 binary-kept nonzero BooleanEqual e g h k = (h, k)
 binary-kept nonzero BooleanNotEqual e g h k = (h, k)
 binary-kept nonzero BooleanOr e g h k = (h, k)
@@ -51,6 +54,25 @@ binary-kept nonzero IntLess e g h k = (h, k)
 binary-kept nonzero IntLessOrEqual e g h k = (h, k)
 binary-kept nonzero IntGreater e g h k = (h, k)
 binary-kept nonzero IntGreaterOrEqual e g h k = (h, k)
+binary-kept nonzero LongAdd e g h k = (omega arith, (h, k))
+binary-kept nonzero LongSubtract e g h k = (omega arith, (h, k))
+binary-kept nonzero LongMultiply e g h k = (omega arith, (h, k))
+binary-kept true LongDivide e g h k = (omega arith, (h, k))
+binary-kept false LongDivide e g h k = (refl, (h, (k, tt)))
+binary-kept true LongRemainder e g h k = (h, k)
+binary-kept false LongRemainder e g h k = (refl, (h, (k, tt)))
+binary-kept nonzero LongOr e g h k = (h, k)
+binary-kept nonzero LongAnd e g h k = (h, k)
+binary-kept nonzero LongXor e g h k = (h, k)
+binary-kept nonzero LongShiftLeft e g h k = (omega arith, (h, (k, omega arith)))
+binary-kept nonzero LongShiftRightLogical e g h k = (omega arith, ((omega arith, h), (k, omega arith)))
+binary-kept nonzero LongShiftRightArithmetic e g h k = (h, (k, omega arith))
+binary-kept nonzero LongEqual e g h k = (h, k)
+binary-kept nonzero LongNotEqual e g h k = (h, k)
+binary-kept nonzero LongLess e g h k = (h, k)
+binary-kept nonzero LongLessOrEqual e g h k = (h, k)
+binary-kept nonzero LongGreater e g h k = (h, k)
+binary-kept nonzero LongGreaterOrEqual e g h k = (h, k)
 binary-kept nonzero _ e g h k = tt
 
 choice-kept : (c : js.Expression) (ss ts : js.Statements) → IsExpression c → AreStatements ss → AreStatements ts → IsStatement (choice_template c ss ts)
@@ -60,9 +82,12 @@ choice-kept c ss (js.statement t ts) h k l = (h, k, l)
 mutual
   expression-kept : (e : core.Expression) → FitsExpression e → IsExpression (expression_template variable_name label_name e)
   expression-kept (core.number_value z) h = h
+  expression-kept (core.long_value z) h = h
   expression-kept (core.text_value us) h = h
   expression-kept (core.variable_use x) h = variable-named x h
   expression-kept (core.boxed_char e) h = (refl, (expression-kept e h, tt))
+  expression-kept (core.char_text e) h = expression-kept e h
+  expression-kept (core.value_text e) h = (All-nil IsUnit, expression-kept e h)
   expression-kept (core.choice_of c e g) h = (expression-kept c h.0, expression-kept e h.1, expression-kept g h.2)
   expression-kept (core.static_call m es) h = (member-named m h.0, expressions-kept es h.1)
   expression-kept (core.unary_of o e) h = unary-kept o (expression_template variable_name label_name e) (expression-kept e h)

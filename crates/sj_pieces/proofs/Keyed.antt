@@ -1,5 +1,5 @@
 -- What desugaring gives has a key in each case of a switch.
-use Rattle.std.proofs.Common.{ℕ, suc, Bool, true, false, ◌&&◌, List, [], ◌∷◌, Some, None, refl}
+use Rattle.std.proofs.Common.{ℕ, pos, suc, Bool, true, false, ◌&&◌, List, [], ◌∷◌, Some, None, refl}
 use Rattle.sj_core.specs.Terms as core
 use Rattle.sj_core.specs.Terms.{followed}
 use Rattle.sj_core.specs.Views.{expressions_of}
@@ -7,12 +7,13 @@ use Rattle.sj_desugar.specs.Coercions.{coerced, coerced_arguments}
 use Rattle.sj_desugar.specs.Desugar.{operand, into, block, operands, cases, finish, has_no_value, target_of, Targets, expression_of, labeled_code, leaving_code, wrapped, branches, break_unless, switch_code, first_of, second_of, member, types_of, desugared, is_mutable_in, result_destination}
 use Rattle.sj_desugar.specs.Plain.{is_plain}
 use Rattle.sj_desugar.specs.Spill.{Destination, discard, to_variable, to_result, Code, one, put_first, Operand, all_plain, Spilled, spill, spill_case, then_use}
-use Rattle.sj_trees.specs.Term.{Term, Terms, no_terms, more_terms, Cases, no_cases, more_cases, var_def, block_of, labeled, assign, return_to, if_then, while_loop, do_while, match_on, apply_static, unary_op, binary_op, undefined_literal, null_literal, boolean_literal, byte_literal, short_literal, int_literal, string_literal, var_ref, log_line}
+use Rattle.sj_desugar.specs.Texts.{operand_of}
+use Rattle.sj_trees.specs.Term.{Term, Terms, no_terms, more_terms, Cases, no_cases, more_cases, var_def, block_of, labeled, assign, return_to, if_then, while_loop, do_while, match_on, apply_static, unary_op, binary_op, undefined_literal, null_literal, boolean_literal, char_literal, byte_literal, short_literal, int_literal, long_literal, string_literal, var_ref, log_line}
 use Rattle.sj_trees.specs.TypeOf.{type_of_term, unary_result, binary_result}
 use Rattle.sj_trees.specs.declared.classes.MethodDef.{MethodDef}
 use Rattle.sj_trees.specs.declared.positions.Position.{Position}
 use Rattle.sj_trees.specs.declared.types.IrType.{IrType}
-use Rattle.sj_trees.specs.declared.types.IrType.TheVariants.{Undefined, Null, Boolean, Byte, Short, Int, String}
+use Rattle.sj_trees.specs.declared.types.IrType.TheVariants.{Undefined, Null, Boolean, Char, Byte, Short, Int, Long, String}
 use Rattle.sj_pieces.specs.Keys.{IsKeyed, AreKeyed, HaveKeys, HasKeys}
 
 abbrev Keyed : Code → Type 0
@@ -90,13 +91,15 @@ module _ (is_mutable : List ℕ → Bool) where
     keyed (match_on p e cs b t) = λ ts k j. act_keyed e (keyed e) ts j (λ es j. switch_code p (first_of es) (cases is_mutable ts k j cs) (λ j. into is_mutable ts k j b)) (λ es i. ((keyed_cases cs ts k i, keyed b ts k (cases is_mutable ts k i cs).next), tt))
     keyed (apply_static p c n m es t) = λ ts k j. use-keyed (operands is_mutable ts es) (keyed_operands es ts) j (λ xs. finish k p t false (core.static_call (member c n m) (expressions_of (coerced_arguments m.params (types_of es) xs)))) (λ xs i. finish-keyed k p t false (core.static_call (member c n m) (expressions_of (coerced_arguments m.params (types_of es) xs))) i)
     keyed (unary_op p o e) = λ ts k j. act_keyed e (keyed e) ts j (λ es. finish k p (unary_result o) false (core.unary_of o (first_of es))) (λ es i. finish-keyed k p (unary_result o) false (core.unary_of o (first_of es)) i)
-    keyed (binary_op p o e b) = λ ts k j. use-keyed (operand is_mutable e (λ k j. into is_mutable ts k j e) ∷ one_of ts b) ((λ x t i. keyed e ts (to_variable x t) i), ((λ x t i. keyed b ts (to_variable x t) i), tt)) j (λ es. finish k p (binary_result o) false (core.binary_of o (first_of es) (second_of es))) (λ es i. finish-keyed k p (binary_result o) false (core.binary_of o (first_of es) (second_of es)) i)
+    keyed (binary_op p o e b) = λ ts k j. use-keyed (operand is_mutable e (λ k j. into is_mutable ts k j e) ∷ one_of ts b) ((λ x t i. keyed e ts (to_variable x t) i), ((λ x t i. keyed b ts (to_variable x t) i), tt)) j (λ es. finish k p (binary_result o) false (core.binary_of o (operand_of o (type_of_term e) (first_of es)) (operand_of o (type_of_term b) (second_of es)))) (λ es i. finish-keyed k p (binary_result o) false (core.binary_of o (operand_of o (type_of_term e) (first_of es)) (operand_of o (type_of_term b) (second_of es))) i)
     keyed (undefined_literal p) = λ ts k j. finish-keyed k p Undefined true core.undefined_value j
     keyed (null_literal p) = λ ts k j. finish-keyed k p Null true core.null_value j
     keyed (boolean_literal p v) = λ ts k j. finish-keyed k p Boolean true (core.boolean_value v) j
+    keyed (char_literal p u) = λ ts k j. finish-keyed k p Char true (core.number_value (pos u)) j
     keyed (byte_literal p n) = λ ts k j. finish-keyed k p Byte true (core.number_value n) j
     keyed (short_literal p n) = λ ts k j. finish-keyed k p Short true (core.number_value n) j
     keyed (int_literal p n) = λ ts k j. finish-keyed k p Int true (core.number_value n) j
+    keyed (long_literal p n) = λ ts k j. finish-keyed k p Long true (core.long_value n) j
     keyed (string_literal p us) = λ ts k j. finish-keyed k p String true (core.text_value us) j
     keyed (var_ref p x t) = λ ts k j. finish-keyed k p t true (core.variable_use (core.named x)) j
     keyed (log_line p e) = λ ts k j. act_keyed e (keyed e) ts j (λ es. one (core.log_of (Some p) (first_of es))) (λ es i. (tt, tt))

@@ -9,7 +9,7 @@ use Rattle.sj_core.specs.Terms as core
 use Rattle.sj_emit_expr.specs.Templates.{is_nonzero_literal}
 use Rattle.sj_emit_expr.specs.Uses.{object_binding, function_binding, helper_of, uses_in, uses_in_all, uses_of, uses_of_all, uses_of_cases, is_same_binding, once_each, uses}
 use Rattle.sj_trees.specs.declared.operators.BinaryOp.{BinaryOp}
-use Rattle.sj_trees.specs.declared.operators.BinaryOp.TheVariants.{IntDivide, IntRemainder}
+use Rattle.sj_trees.specs.declared.operators.BinaryOp.TheVariants.{IntDivide, IntRemainder, LongDivide, LongRemainder}
 use Rattle.sj_pieces.specs.Ranges.{FitsExpression, FitExpressions, FitsStatement, FitStatements, FitCases}
 use Rattle.sj_pieces.proofs.Names.{member-named}
 
@@ -25,11 +25,15 @@ after bs cs h k = All-append IsBinding bs cs h k
 helper-named : (nonzero : Bool) (o : BinaryOp) → Named (helper_of nonzero o)
 helper-named false IntDivide = All-cons IsBinding (object_binding (codes "$id")) [] refl none
 helper-named false IntRemainder = All-cons IsBinding (object_binding (codes "$im")) [] refl none
+helper-named false LongDivide = All-cons IsBinding (object_binding (codes "$ld")) [] refl none
+helper-named false LongRemainder = All-cons IsBinding (object_binding (codes "$lm")) [] refl none
 helper-named _ _ = none
 
 mutual
   in-named : (e : core.Expression) → FitsExpression e → Named (uses_in e)
   in-named (core.boxed_char e) h = All-cons IsBinding (object_binding (codes "$C")) (uses_in e) refl (in-named e h)
+  in-named (core.char_text e) h = in-named e h
+  in-named (core.value_text e) h = in-named e h
   in-named (core.choice_of c e g) h = after (uses_in c ++ uses_in e) (uses_in g) (after (uses_in c) (uses_in e) (in-named c h.0) (in-named e h.1)) (in-named g h.2)
   in-named (core.static_call m es) h = All-cons IsBinding (function_binding m) (uses_in_all es) (member-named m h.0) (all-named es h.1)
   in-named (core.unary_of o e) h = in-named e h

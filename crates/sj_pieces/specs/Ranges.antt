@@ -1,7 +1,7 @@
--- What the types of the parts of a method say: names are texts of bytes, numbers have 32 bits and units 16.
+-- What the types of the parts of a method say: names are texts of bytes, numbers have 32 bits, longs 64 and units 16.
 use Rattle.std.specs.Prelude.{◌<◌, ◌^◌, ℕ, List, All, IfSome}
-use Rattle.js_tree.specs.Rules.{IsNumber, IsUnit}
-use Rattle.sj_core.specs.Terms.{Variable, named, numbered, Expression, number_value, text_value, variable_use, boxed_char, choice_of, static_call, unary_of, binary_of, Expressions, no_expressions, expression, Statement, constant_of, define_of, declare_of, assign_to, evaluate_of, return_of, log_of, leave_label, break_nearest, if_of, while_of, loop_of, labeled_of, switch_of, Statements, no_statements, statement, Cases, no_cases, switch_case, Method}
+use Rattle.js_tree.specs.Rules.{IsNumber, IsBig, IsUnit}
+use Rattle.sj_core.specs.Terms.{Variable, named, numbered, Expression, number_value, long_value, text_value, variable_use, boxed_char, char_text, value_text, choice_of, static_call, unary_of, binary_of, Expressions, no_expressions, expression, Statement, constant_of, define_of, declare_of, assign_to, evaluate_of, return_of, log_of, leave_label, break_nearest, if_of, while_of, loop_of, labeled_of, switch_of, Statements, no_statements, statement, Cases, no_cases, switch_case, Method}
 use Rattle.sj_names.specs.declared.method_names.Member.{Member}
 use Rattle.sj_names.specs.declared.method_names.MethodName.{MethodName}
 use Rattle.sj_names.specs.declared.references.BaseRef.{BaseRef}
@@ -34,9 +34,12 @@ FitsVariable (numbered n) = Unit {0}
 abbrev mutual
   pub FitsExpression : Expression → Type 0
   FitsExpression (number_value z) = IsNumber z
+  FitsExpression (long_value z) = IsBig z
   FitsExpression (text_value us) = All IsUnit us
   FitsExpression (variable_use x) = FitsVariable x
   FitsExpression (boxed_char e) = FitsExpression e
+  FitsExpression (char_text e) = FitsExpression e
+  FitsExpression (value_text e) = FitsExpression e
   FitsExpression (choice_of c e g) = FitsExpression c × FitsExpression e × FitsExpression g
   FitsExpression (static_call m es) = FitsMember m × FitExpressions es
   FitsExpression (unary_of o e) = FitsExpression e

@@ -1,6 +1,6 @@
 // What the types of a method's parts say of their values. It is known where a value is read, so each part is passed over once.
 ghost use Rattle.std.specs.Prelude.{All, IfSome};
-ghost use Rattle.js_tree.specs.Rules.{IsNumber};
+ghost use Rattle.js_tree.specs.Rules.{IsNumber, IsBig};
 ghost use Rattle.sj_core.specs.Views as core;
 ghost use Rattle.sj_pieces.specs.Ranges.{AreBytes, FitsBase, FitsReference, FitsMethodName, FitsMember, FitsVariable, FitsExpression, FitExpressions, FitsStatement, FitStatements, FitCases, FitsMethod};
 
@@ -73,19 +73,25 @@ fn number_fits(number: i32)
     ensures { IsNumber number }
 {}
 
+fn long_fits(number: i64)
+    ensures { IsBig number }
+{}
+
 #[cycle(expression_ranges)]
 fn expression_fits(expression: &CoreExpression)
     ensures { FitsExpression (core.expression_view expression.now) }
 {
     match expression {
         CoreExpression::Number(number) => number_fits(*number),
+        CoreExpression::Long(number) => long_fits(*number),
         CoreExpression::Text(units) => {
             let _units = units.as_slice();
         }
         CoreExpression::Variable(variable) => variable_fits(variable),
-        CoreExpression::Boxed(operand) | CoreExpression::Unary(_, operand) => {
-            expression_fits(operand)
-        }
+        CoreExpression::Boxed(operand)
+        | CoreExpression::CharText(operand)
+        | CoreExpression::ValueText(operand)
+        | CoreExpression::Unary(_, operand) => expression_fits(operand),
         CoreExpression::Choice(test, yes, no) => {
             expression_fits(test);
             expression_fits(yes);

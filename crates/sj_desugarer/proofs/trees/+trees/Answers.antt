@@ -1,12 +1,14 @@
-use Rattle.std.proofs.Common.{◌≡◌, ◌∙◌, ◌+◌, ◌<◌, ◌++◌, ◌∷◌, [], ap, sym, subst, map, drop, length, true, refl, None, Some, IfOk, arith}
+use Rattle.std.proofs.Common.{◌≡◌, ◌∙◌, ◌+◌, ◌<◌, ◌++◌, ◌∷◌, [], ap, sym, subst, map, drop, length, true, false, refl, None, Some, IfOk, arith}
 use Rattle.std.proofs.lemmas.Bool.Decides.{nat_tests}
 use Rattle.std.proofs.lemmas.List.{map_push}
+use Rattle.sj_core.specs.Terms as core
 use Rattle.sj_core.specs.Terms.{named, assign_to, followed, statement, no_statements, break_nearest}
 use Rattle.sj_core.specs.Views.{expression_view, case_view}
 use Rattle.sj_desugar.specs.Coercions.{coerced}
-use Rattle.sj_desugar.specs.Desugar.{into, break_unless, cases}
+use Rattle.sj_desugar.specs.Desugar.{into, break_unless, cases, finish}
 use Rattle.sj_desugar.specs.Plain.{is_among, is_plain, are_plain}
-use Rattle.sj_desugar.specs.Spill.{discard, one, put_first}
+use Rattle.sj_desugar.specs.Spill.{Code, discard, one, put_first}
+use Rattle.sj_desugar.specs.Texts.{operand_of}
 use Rattle.sj_desugaring.specs.Arguments.{coerced_argument}
 use Rattle.sj_desugaring.specs.Forms.{behind, for_last}
 use Rattle.sj_desugarer.proofs.Rows.{assign-joins, if-joins, log-joins, unary-joins, binary-joins, match-joins, turn-joins, loop-joins}
@@ -16,7 +18,7 @@ use Rattle.sj_desugarer.specs.Operands.{comes_to}
 use Rattle.sj_desugaring.specs.Views.{destination_view, target_view, code_view, placed_view, branches_view}
 use Rattle.sj_trees.proofs.trees.Tree.TheLaws.{the_size}
 use Rattle.sj_trees.specs.Term.{Term, var_ref, assign, if_then, while_loop, do_while, match_on, unary_op, binary_op, log_line}
-use Rattle.sj_trees.specs.TypeOf.{type_of_term}
+use Rattle.sj_trees.specs.TypeOf.{type_of_term, binary_result}
 use Rattle.sj_trees.specs.View.{view, terms_view, cases_view, view_case, view_step, case_step, Case}
 use Rattle.sj_trees.specs.declared.trees.Tree.{Tree}
 use Rattle.sj_trees.specs.declared.trees.Tree.TheFolds.{fold-roll-Tree, fold_out-MatchCase}
@@ -70,7 +72,11 @@ statements_of-returns-in-BinaryOp t c =
     let plain : c.is_plain-second_plain.result ≡ is_plain (view n.right.value) = subst (λ (x : Tree). c.is_plain-second_plain.result ≡ is_plain (view x)) c.deref-in-BinaryOp.ensures c.is_plain-second_plain.ensures in
     let e_one : placed_view c.in_ok-one-in-BinaryOp.one ≡ comes_to m ls c.is_plain-second_plain.result a.next (view n.left.value) = subst (λ (x : Tree). placed_view c.in_ok-one-in-BinaryOp.one ≡ comes_to m ls c.is_plain-second_plain.result a.next (view x)) c.deref-in-BinaryOp-2.ensures c.in_ok-one-in-BinaryOp.ensures in
     let e_other : placed_view c.in_ok-other-in-BinaryOp.other ≡ comes_to m ls true c.in_ok-one-in-BinaryOp.one.next (view n.right.value) = subst (λ (x : Tree). placed_view c.in_ok-other-in-BinaryOp.other ≡ comes_to m ls true c.in_ok-one-in-BinaryOp.one.next (view x)) c.deref-in-BinaryOp-3.ensures c.in_ok-other-in-BinaryOp.ensures in
-    subst (λ x. IfOk c.binary_value.result (λ w. code_view w ≡ x)) (sym (ap (into m ls k a.next) v ∙ binary-joins m ls k a.next n.position (placed_view c.in_ok-one-in-BinaryOp.one) (placed_view c.in_ok-other-in-BinaryOp.other) n.op (view n.left.value) (view n.right.value) c.is_plain-second_plain.result plain e_one e_other)) c.binary_value.ensures
+    let o = placed_view c.in_ok-one-in-BinaryOp.one in
+    let r = placed_view c.in_ok-other-in-BinaryOp.other in
+    let written : (x y : Tree) → Code = λ x y. behind o (λ g i. behind r (λ h. finish k n.position (binary_result n.op) false (core.binary_of n.op (operand_of n.op (type_of_term (view x)) g) (operand_of n.op (type_of_term (view y)) h)))) in
+    let named : written c.deref-in-BinaryOp-4.result.now c.deref-in-BinaryOp-5.result.now ≡ written n.left.value n.right.value = λ i. written (c.deref-in-BinaryOp-4.ensures i) (c.deref-in-BinaryOp-5.ensures i) in
+    subst (λ x. IfOk c.binary_value.result (λ w. code_view w ≡ x)) (sym (ap (into m ls k a.next) v ∙ binary-joins m ls k a.next n.position o r n.op (view n.left.value) (view n.right.value) c.is_plain-second_plain.result plain e_one e_other ∙ sym named)) c.binary_value.ensures
 
 pub statements_of-returns-in-Match : goal.statements_of-returns-in-Match
 statements_of-returns-in-Match t c =
