@@ -1,6 +1,6 @@
 -- Classes that the reference recorded, with operators on longs, and what each shows. In their files too each position is zero.
 use Rattle.std.specs.Prelude.{◌∷◌, [], ◌++◌, true, false, pos, negsuc, codes, Some}
-use Rattle.body_vectors.specs.Bounds.{Answers, all_from_one, times, goes_on_with, ends_with, parameter, method_of}
+use Rattle.body_vectors.specs.Bounds.{Answers, all_from_one, goes_on_with, ends_with, parameter, method_of}
 use Rattle.ir_mean.specs.Rows.{object_with, static_method, nowhere, logs, object_name}
 use Rattle.sj_names.specs.declared.method_names.Namespace.TheVariants.{PublicStatic, PrivateStatic}
 use Rattle.sj_trees.specs.Term.{no_terms, no_cases, var_def, skip, block_of, labeled, assign, return_to, if_then, while_loop, do_while, match_on, apply_static, unary_op, binary_op, undefined_literal, null_literal, boolean_literal, char_literal, byte_literal, short_literal, int_literal, long_literal, string_literal, var_ref, log_line}
