@@ -1,0 +1,5 @@
+pub mod Places
+pub mod Searched
+pub mod Groups
+pub mod Finished
+pub mod Steps
