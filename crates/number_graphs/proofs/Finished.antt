@@ -1,14 +1,13 @@
 -- What a search has found in the end.
-use Rattle.std.proofs.Common.{◌≡◌, ℕ, ◌+◌, ◌<◌, ◌≤◌, List, [], ◌∷◌, ◌++◌, refl, sym, ap, ◌∙◌, subst, length, arith, inl, inr}
-use Rattle.std.specs.Prelude.{◌⊎◌, ◌↔◌}
-use Rattle.worklist.specs.Paths.{Path, stay, on}
+use Rattle.std.proofs.Common.{◌≡◌, ℕ, ◌≤◌, List, [], ◌∷◌, ◌++◌, sym, ◌∙◌, subst, length, arith, inl, inr}
+use Rattle.worklist.specs.Paths.{stay, on}
 use Rattle.number_graphs.specs.declared.paths.Found.{Found}
 use Rattle.number_graphs.specs.declared.paths.Found.TheVariants.{Not, OnPath, Within}
 use Rattle.number_graphs.specs.declared.paths.Group.{Group}
 use Rattle.number_graphs.specs.declared.paths.Search.{Search}
-use Rattle.number_graphs.specs.Graphs.{At, Lists, Leads, Walk, AreTogether, AreComponents}
-use Rattle.number_graphs.specs.Searching.{IsSearch, IsRight, IsSettled, IsKnownNumber, IsWithin, AreRead, Head}
-use Rattle.number_graphs.proofs.Places.{within, one_at, There, there, at_push}
+use Rattle.number_graphs.specs.Graphs.{At, Lists, Walk, AreComponents}
+use Rattle.number_graphs.specs.Searching.{IsSearch, IsRight, IsSettled, IsKnownNumber, IsWithin, AreRead}
+use Rattle.number_graphs.proofs.Places.{within, one_at, there, at_push}
 
 -- with no group no number is on the path
 pub none_on_path : {A : Type 0} (next : Lists) (found : List Found) (members pending : List ℕ) (groups : List Group) (firsts : List ℕ) → IsSearch next found members pending groups firsts → groups ≡ [] → (place number : ℕ) → At members place number → A

@@ -3,3 +3,4 @@ pub mod Searched
 pub mod Groups
 pub mod Finished
 pub mod Steps
+pub mod Marked

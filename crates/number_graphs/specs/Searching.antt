@@ -1,5 +1,5 @@
 -- What holds in a search for components.
-use Rattle.std.specs.Prelude.{◌≡◌, ◌↔◌, ◌⊎◌, ℕ, ◌-◌, ◌+◌, ◌<◌, ◌≤◌, List, [], ◌∷◌, ◌++◌, Some, length, slice_get, take, ⊤}
+use Rattle.std.specs.Prelude.{◌≡◌, ◌↔◌, ◌⊎◌, ℕ, ◌-◌, ◌+◌, ◌<◌, ◌≤◌, List, [], ◌∷◌, ◌++◌, length, take, ⊤}
 use Rattle.std.proofs.Math.ListN.{set}
 use Rattle.number_graphs.specs.Graphs.{At, Lists, next_of, Leads, Walk}
 use Rattle.number_graphs.specs.declared.paths.Found.{Found}

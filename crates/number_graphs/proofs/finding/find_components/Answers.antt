@@ -1,4 +1,4 @@
-use Rattle.std.proofs.Common.{arith, inl, inr}
+use Rattle.std.proofs.Common.{arith}
 use Rattle.number_graphs.specs.declared.paths.Found.TheVariants.{Not}
 use Rattle.number_graphs.proofs.Places.{within}
 use Rattle.number_graphs.proofs.finding.find_components.Goals as goal

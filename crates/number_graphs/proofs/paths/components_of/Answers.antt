@@ -1,11 +1,10 @@
-use Rattle.std.proofs.Common.{◌≡◌, ◌+◌, ◌++◌, ◌∷◌, [], get_or, length, sym, ap, ◌∙◌, subst, arith, inl, inr, List, ℕ}
+use Rattle.std.proofs.Common.{◌∷◌, [], get_or, length, ap, ◌∙◌, subst, arith, inl, inr, List, ℕ}
 use Rattle.std.proofs.lemmas.List.{length-append}
 use Rattle.std.proofs.lemmas.Option.{slice_get-get_or}
 use Rattle.number_graphs.specs.declared.paths.Found.{Found}
-use Rattle.number_graphs.specs.declared.paths.Found.TheVariants.{Not, OnPath, Within}
+use Rattle.number_graphs.specs.declared.paths.Found.TheVariants.{Not, Within}
 use Rattle.number_graphs.specs.Graphs.{At}
 use Rattle.number_graphs.specs.Searching.{IsWithin}
-use Rattle.number_graphs.proofs.Places.{at_read_as}
 use Rattle.number_graphs.proofs.Finished.{read_more}
 use Rattle.number_graphs.proofs.paths.components_of.Goals as goal
 

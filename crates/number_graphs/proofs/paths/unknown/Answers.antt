@@ -1,4 +1,4 @@
-use Rattle.std.proofs.Common.{◌≡◌, ◌+◌, ◌∷◌, [], ap, ◌∙◌, arith, length, List}
+use Rattle.std.proofs.Common.{◌∷◌, [], ap, ◌∙◌, arith, length, List}
 use Rattle.std.proofs.lemmas.List.{length-append}
 use Rattle.number_graphs.specs.declared.paths.Found.{Found}
 use Rattle.number_graphs.specs.declared.paths.Found.TheVariants.{Not}

@@ -1,6 +1,5 @@
 use Rattle.std.proofs.Common.{arith}
 use Rattle.std.proofs.lemmas.Result.{on_ok_weaker}
-use Rattle.number_graphs.specs.declared.paths.Found.{Found}
 use Rattle.number_graphs.specs.declared.paths.Found.TheVariants.{Not}
 use Rattle.number_graphs.specs.Graphs.{At}
 use Rattle.number_graphs.specs.Searching.{StaysKnown}

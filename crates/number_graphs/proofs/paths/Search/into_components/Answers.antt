@@ -1,4 +1,4 @@
-use Rattle.std.proofs.Common.{List, sym, subst}
+use Rattle.std.proofs.Common.{List, subst}
 use Rattle.number_graphs.specs.declared.paths.Found.{Found}
 use Rattle.number_graphs.specs.Graphs.{At}
 use Rattle.number_graphs.specs.Searching.{AreRead}
