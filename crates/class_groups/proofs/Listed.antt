@@ -6,7 +6,7 @@ use Rattle.std.specs.Cmp.Lexicographic.{nat_list_eq_equiv}
 use Rattle.std.specs.declared.alloc.Global.{Global}
 use Rattle.std.proofs.lemmas.Bool.Decides.{nat_tests}
 use Rattle.std.proofs.lemmas.Slice.Eq.{bytes_eq-Decides}
-use Rattle.class_ways.specs.Next.{Name, is_same, list_at}
+use Rattle.class_groups.specs.Groups.{Name, is_same, list_at}
 
 abbrev pub Lists : Type 0
 Lists = List (Vec Name Global)
