@@ -23,7 +23,7 @@ use std::alloc::Global;
 use std::time::Instant;
 
 // How many classes and public ids there are.
-const SIZES: [(u32, u32); 2] = [(400, 20), (2000, 100)];
+const SIZES: [(u32, u32); 2] = [(2000, 100), (20000, 1000)];
 
 fn name(alloc: Global, number: u32) -> Result<ClassName> {
     let text = format!(in alloc; "library.part{}.Class{number}", number % 97)?;

@@ -1,5 +1,5 @@
 -- Graphs of numbers, and their components.
-use Rattle.std.specs.Prelude.{◌≡◌, ◌↔◌, ◌≤◌, Some, slice_get, ℕ, zero, suc, ◌<◌, List, [], ◌∷◌, length, Vec, Contains, Some, slice_get}
+use Rattle.std.specs.Prelude.{◌≡◌, ◌↔◌, ◌≤◌, ℕ, zero, suc, ◌<◌, List, [], ◌∷◌, length, Vec, Contains, Some, slice_get}
 use Rattle.std.specs.Global.{Global}
 use Rattle.worklist.specs.Paths.{Path}
 
