@@ -4,7 +4,7 @@ set -eu
 
 . "$(dirname "$0")/../program.sh"
 
-begin plan_bench 'anyhow sj_graph sj_names sj_split' sj_names sj_units js_tree worklist module_names sj_graph class_ways sj_split
+begin plan_bench 'anyhow sj_graph sj_names sj_split' sj_names sj_units js_tree worklist module_names number_graphs sj_graph class_numbers class_groups sj_split
 
 cat > "$main" <<'PROGRAM'
 //! The time of plans of three graphs, in both styles.
@@ -23,7 +23,7 @@ use std::alloc::Global;
 use std::time::Instant;
 
 // How many classes and public ids there are.
-const SIZES: [(u32, u32); 2] = [(400, 20), (2000, 100)];
+const SIZES: [(u32, u32); 2] = [(2000, 100), (20000, 1000)];
 
 fn name(alloc: Global, number: u32) -> Result<ClassName> {
     let text = format!(in alloc; "library.part{}.Class{number}", number % 97)?;

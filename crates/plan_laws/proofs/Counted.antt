@@ -4,6 +4,7 @@ use Rattle.std.proofs.lemmas.List.{length-append, length-map}
 use Rattle.std.proofs.lemmas.List.Elements.{Contains-append_left, Contains-append_right}
 use Rattle.worklist.specs.Paths.{stay, on}
 use Rattle.module_names.specs.Names.{Key}
+use Rattle.sj_graph.specs.declared.graphs.Reference.{Reference}
 use Rattle.sj_graph.specs.References.{reference}
 use Rattle.sj_names.specs.declared.entry_points.EntryPoint.{EntryPoint}
 use Rattle.sj_split.specs.declared.homes.Home.{Home}
@@ -12,11 +13,14 @@ use Rattle.sj_split.specs.declared.homes.Settled.{Settled}
 use Rattle.sj_split.specs.declared.plans.Style.{Style}
 use Rattle.sj_split.specs.Homes.{class_of, AreHomes}
 use Rattle.sj_split.specs.Modules.{AreKeys}
-use Rattle.sj_split.specs.Steps.{to_of, entry_class, keys_at, keys_in}
+use Rattle.sj_split.specs.Steps.{entry_class, keys_at, keys_in}
 use Rattle.sj_split.specs.Walks.{Name, References, Walk, IsReached}
 use Rattle.sj_split.proofs.Members.{into_map}
 use Rattle.sj_split.proofs.Planned.{keys_exact}
 use Rattle.plan_laws.proofs.Apart.{increasing_apart, no_more}
+
+abbrev to_of : Reference → Name
+to_of one = one.to
 
 at_most_one : (home : Home) → length (keys_at home) ≤ 1
 at_most_one (Public id) = omega arith

@@ -1,6 +1,7 @@
 pub mod Members
 pub mod Walked
 pub mod Tagged
+pub mod Marking
 pub mod Least
 pub mod Joins
 pub mod Settles
@@ -10,4 +11,3 @@ pub mod Unique
 pub mod LawsHold
 pub mod OnePlace
 pub mod Ids
-pub mod Noted

@@ -1,22 +1,24 @@
 -- Tags that are found are the tags.
-use Rattle.std.proofs.Common.{◌≡◌, ◌<◌, length, arith, Bool, true, false, List, [], ◌∷◌, Contains, refl, sym, subst, map, cond}
+use Rattle.std.proofs.Common.{◌≡◌, ◌∙◌, ap, ℕ, Some, ◌<◌, length, arith, Bool, true, false, List, [], ◌∷◌, Contains, refl, sym, subst, map, cond}
 use Rattle.std.specs.Prelude.{filter}
-use Rattle.std.specs.List.{list_any, AllByRecursion}
+use Rattle.std.specs.List.{AllByRecursion}
 use Rattle.std.specs.List.Sorted.{IsStrictlySortedBy}
 use Rattle.std.specs.Ordering.{nat_cmp}
 use Rattle.std.specs.declared.cmp.Ordering.TheVariants.{Less}
-use Rattle.std.specs.Cmp.Lexicographic.{slice_cmp, nat_list_eq_equiv}
-use Rattle.std.proofs.lemmas.Map.Views.{list_any-from_Contains}
-use Rattle.indexmap.proofs.CallerLemmas.{Contains-list_any}
+use Rattle.std.specs.Cmp.Lexicographic.{slice_cmp}
+use Rattle.std.proofs.lemmas.Option.{slice_get-get_or, get_or_from_slice_get}
+use Rattle.number_graphs.specs.Graphs.{At}
+use Rattle.number_graphs.proofs.Places.{within}
+use Rattle.class_numbers.specs.Numbering.{IsNumbering}
+use Rattle.class_numbers.specs.declared.numbers.ClassNumbers.{ClassNumbers}
 use Rattle.sj_names.specs.declared.entry_points.EntryPoint.{EntryPoint}
 use Rattle.worklist.proofs.Inserted.{nothing_in}
 use Rattle.sj_split.specs.declared.tags.Reach.{Reach}
-use Rattle.sj_split.specs.Orders.{Bytes, is_same, AreIncreasing}
+use Rattle.sj_split.specs.Orders.{Bytes, AreIncreasing}
 use Rattle.sj_split.specs.Walks.{Name, Id, References, Reaches, IsReached, AreTags}
 use Rattle.sj_split.specs.Modules.{AreIds, module_of}
-use Rattle.sj_split.specs.Steps.{id_of, tags_in, AreReaches}
+use Rattle.sj_split.specs.Steps.{id_of, is_marked, tags_in, AreReaches}
 use Rattle.sj_split.proofs.Members.{into_map, Mapped, from_map, into_filter, from_filter}
-use Rattle.sj_split.proofs.Walked.{same_name}
 
 abbrev pub Below : Bytes → List Bytes → Type 0
 Below first texts = AllByRecursion (λ y. slice_cmp nat_cmp first y ≡ Less) texts
@@ -40,27 +42,27 @@ unfolding IsStrictlySortedBy
 increasing_filtered key test [] h = h
 increasing_filtered key test (x ∷ xs) h = increasing_by key x (filter test xs) (test x) (below_filtered key test (key x) xs h.0) (increasing_filtered key test xs h.1)
 
-list_any-Contains : (names : List Name) (name : Name) → Contains names name → list_any (is_same name) names ≡ true
-list_any-Contains names name h = list_any-from_Contains nat_list_eq_equiv name names h
-
 module _ (references : References) (entries : List EntryPoint) where
-  pub are_tags : (ids : List Id) (reaches : List Reach) (class : Name) → AreIds entries ids → AreReaches references entries ids reaches → AreTags references entries class (tags_in class reaches)
-  are_tags ids reaches class of_entries known = record {
+  pub are_tags : (numbers : ClassNumbers) → IsNumbering references numbers → (ids : List Id) (reaches : List Reach) (number : ℕ) (class : Name) → At numbers.classes.keys number class → AreIds entries ids → AreReaches entries numbers ids reaches → AreTags references entries class (tags_in number reaches)
+  are_tags numbers numbered ids reaches number class at of_entries known = record {
     increasing = increasing_filtered id_of test reaches (subst (λ l. AreIncreasing l) (sym known.ids_are) of_entries.increasing);
     exact = λ id. (λ h. out id (from_map id_of (filter test reaches) id h), λ r. back id r);
   }
     where
       test : Reach → Bool
-      test reach = list_any (is_same class) reach.classes.keys
+      test reach = is_marked number reach
+
+      low : (reach : Reach) → Contains reaches reach → number < length reach.marks.items
+      low reach among = let inside = within numbers.classes.keys number class at in let e = (known.right reach among).whole in omega (arith, inside, e)
 
       out : (id : Id) → Mapped id_of (filter test reaches) id → Reaches references entries id class
-      out id m = let p = from_filter test reaches m.item m.among in subst (λ (i : Id). Reaches references entries i class) m.is ((known.right m.item p.among class).0 (Contains-list_any is_same same_name m.item.classes.keys class p.passes))
+      out id m = let p = from_filter test reaches m.item m.among in subst (λ (i : Id). Reaches references entries i class) m.is (((known.right m.item p.among).right references numbered number class at).0 (slice_get-get_or m.item.marks.items number false (low m.item p.among) ∙ ap Some p.passes))
 
       back : (id : Id) → Reaches references entries id class → Contains (map id_of (filter test reaches)) id
       back id r = by (from_map id_of reaches id (subst (λ l. Contains l id) (sym known.ids_are) ((of_entries.exact id).1 (subst (λ (i : Id). Contains (map module_of entries) i) r.in_module (into_map module_of entries r.entry r.among)))))
         where
           by : Mapped id_of reaches id → Contains (map id_of (filter test reaches)) id
-          by m = subst (λ (i : Id). Contains (map id_of (filter test reaches)) i) m.is (into_map id_of (filter test reaches) m.item (into_filter test reaches m.item m.among (list_any-Contains m.item.classes.keys class ((known.right m.item m.among class).1 (subst (λ (i : Id). Reaches references entries i class) (sym m.is) r)))))
+          by m = subst (λ (i : Id). Contains (map id_of (filter test reaches)) i) m.is (into_map id_of (filter test reaches) m.item (into_filter test reaches m.item m.among (get_or_from_slice_get m.item.marks.items number true false (((known.right m.item m.among).right references numbered number class at).1 (subst (λ (i : Id). Reaches references entries i class) (sym m.is) r)))))
 
   pub has_tags : (class : Name) (tags : List Id) → AreTags references entries class tags → IsReached references entries class → 0 < length tags
   has_tags class tags are reached = some tags ((are.exact reached.entry.module).1 (record { entry = reached.entry; among = reached.among; in_module = refl; walk = reached.walk }))
@@ -69,5 +71,5 @@ module _ (references : References) (entries : List EntryPoint) where
       some [] h = nothing_in reached.entry.module h
       some (id ∷ ids) h = omega arith
 
-  pub found_tags : (ids : List Id) (reaches : List Reach) (class : Name) (tags : List Id) → AreIds entries ids → AreReaches references entries ids reaches → tags ≡ tags_in class reaches → AreTags references entries class tags
-  found_tags ids reaches class tags of_entries known e = subst (λ (l : List Id). AreTags references entries class l) (sym e) (are_tags ids reaches class of_entries known)
+  pub found_tags : (numbers : ClassNumbers) → IsNumbering references numbers → (ids : List Id) (reaches : List Reach) (number : ℕ) (class : Name) (tags : List Id) → At numbers.classes.keys number class → AreIds entries ids → AreReaches entries numbers ids reaches → tags ≡ tags_in number reaches → AreTags references entries class tags
+  found_tags numbers numbered ids reaches number class tags at of_entries known e = subst (λ (l : List Id). AreTags references entries class l) (sym e) (are_tags numbers numbered ids reaches number class at of_entries known)

@@ -1,29 +1,17 @@
--- What a class refers to, what refers to it, and the tags that were found.
-pub use Rattle.class_ways.specs.Next.{from_of, to_of, targets, sources}
-use Rattle.std.specs.Prelude.{◌≡◌, ◌↔◌, ◌⊎◌, List, [], ◌∷◌, ◌++◌, ◌&&◌, Contains, map, filter, Some, if◌then◌else◌}
-use Rattle.std.specs.Ordering.{nat_cmp, is_lt}
-use Rattle.std.specs.Cmp.Lexicographic.{slice_cmp}
-use Rattle.std.specs.List.{list_any}
+-- Classes by numbers, the tags that were found, and the least classes.
+use Rattle.std.specs.Prelude.{◌≡◌, ◌↔◌, ℕ, ◌<◌, Bool, true, false, List, [], ◌∷◌, ◌++◌, Contains, map, filter, length, get_or}
 use Rattle.sj_names.specs.declared.entry_points.EntryPoint.{EntryPoint}
-use Rattle.class_ways.specs.Next.{next_at}
-use Rattle.class_ways.specs.declared.ways.Ways.{Ways}
+use Rattle.number_graphs.specs.Graphs.{At}
+use Rattle.class_numbers.specs.Numbering.{IsNumbering}
+use Rattle.class_numbers.specs.declared.numbers.ClassNumbers.{ClassNumbers}
 use Rattle.sj_split.specs.declared.tags.Reach.{Reach}
-use Rattle.indexmap.specs.IndexMap.{IndexMap, get}
-use Rattle.sj_split.specs.Orders.{Bytes, is_same, IsBefore, AreIncreasing}
+use Rattle.sj_split.specs.Orders.{is_same, IsBefore, AreIncreasing}
 use Rattle.sj_split.specs.declared.homes.Settled.{Settled}
 use Rattle.sj_split.specs.declared.homes.Home.{Home}
 use Rattle.sj_split.specs.declared.homes.Home.TheVariants.{Public, Internal}
 use Rattle.module_names.specs.Names.{Key}
-use Rattle.sj_split.specs.Walks.{Name, Id, References, Reaches, IsReached, IsLeastOfComponent}
+use Rattle.sj_split.specs.Walks.{Name, Id, References, Walk, Reaches, IsReached, IsLeastOfComponent}
 use Rattle.sj_split.specs.Homes.{class_of}
-
--- the ways lead from each class to those to which it refers
-abbrev pub AreForward : References → Ways → Type 0
-AreForward references ways = (class : Name) → next_at ways class ≡ targets references class
-
--- the ways lead from each class to those that refer to it
-abbrev pub AreBackward : References → Ways → Type 0
-AreBackward references ways = (class : Name) → next_at ways class ≡ sources references class
 
 abbrev pub entry_class : EntryPoint → Name
 entry_class entry = entry.class
@@ -32,30 +20,50 @@ entry_class entry = entry.class
 abbrev pub first_classes : Id → List EntryPoint → List Name
 first_classes id entries = map entry_class (filter (λ entry. is_same entry.module id) entries)
 
+-- the classes of some references are numbered
+abbrev pub IsNumbered : ClassNumbers → Type 0
+IsNumbered numbers = (references : References) × IsNumbering references numbers
+
+-- the classes have numbers
+abbrev pub AreInside : List Name → ClassNumbers → Type 0
+AreInside classes numbers = (class : Name) → Contains classes class → Contains numbers.classes.keys class
+
+-- the numbers of classes, in their order
+pub record AreNumbersOf (keys classes : List Name) (numbers : List ℕ) : Type 0 where
+  pub whole : length numbers ≡ length classes
+  pub right : (place number : ℕ) (class : Name) → At numbers place number → At classes place class → At keys number class
+
+-- a walk leads to the class from one of these
+pub record LedTo (references : References) (starts : List Name) (class : Name) : Type 0 where
+  pub from : Name
+  pub begins : Contains starts from
+  pub walk : Walk references from class
+
+-- the number of the class is marked
+pub record IsMarked (keys : List Name) (marks : List Bool) (class : Name) : Type 0 where
+  pub number : ℕ
+  pub at : At keys number class
+  pub marked : At marks number true
+
 abbrev pub id_of : Reach → Id
 id_of reach = reach.id
 
--- the ids whose modules reach the class
-abbrev pub tags_in : Name → List Reach → List Id
-tags_in class reaches = map id_of (filter (λ reach. list_any (is_same class) reach.classes.keys) reaches)
+abbrev pub is_marked : ℕ → Reach → Bool
+is_marked number reach = get_or reach.marks.items number false
 
--- the other name, where it is among those before and stands in front of the least
-abbrev pub lesser : List Name → Name → Name → Name
-lesser before other least = if list_any (is_same other) before && is_lt (slice_cmp nat_cmp other least) then other else least
-
--- the least of the class and of the names in both lists
-pub record IsLeastBetween (class : Name) (after before : List Name) (least : Name) : Type 0 where
-  pub found : (least ≡ class) ⊎ (Contains after least × Contains before least)
-  pub first : (other : Name) → Contains after other → Contains before other → IsBefore other least → ⊥
+-- the ids whose modules reach the class with this number
+abbrev pub tags_in : ℕ → List Reach → List Id
+tags_in number reaches = map id_of (filter (is_marked number) reaches)
 
 -- what a module reaches is known
-abbrev pub IsReach : References → List EntryPoint → Reach → Type 0
-IsReach references entries reach = (class : Name) → Contains reach.classes.keys class ↔ Reaches references entries reach.id class
+pub record IsReach (entries : List EntryPoint) (numbers : ClassNumbers) (reach : Reach) : Type 0 where
+  pub whole : length reach.marks.items ≡ length numbers.classes.keys
+  pub right : (references : References) → IsNumbering references numbers → (number : ℕ) (class : Name) → At numbers.classes.keys number class → At reach.marks.items number true ↔ Reaches references entries reach.id class
 
 -- what each public module reaches, in the byte order of their ids
-pub record AreReaches (references : References) (entries : List EntryPoint) (ids : List Id) (reaches : List Reach) : Type 0 where
+pub record AreReaches (entries : List EntryPoint) (numbers : ClassNumbers) (ids : List Id) (reaches : List Reach) : Type 0 where
   pub ids_are : map id_of reaches ≡ ids
-  pub right : (reach : Reach) → Contains reaches reach → IsReach references entries reach
+  pub right : (reach : Reach) → Contains reaches reach → IsReach entries numbers reach
 
 -- the classes that some public module reaches, in byte order
 pub record AreReached (references : References) (entries : List EntryPoint) (classes : List Name) : Type 0 where
@@ -82,10 +90,17 @@ pub record IsLeastHome (references : References) (settled : Settled) : Type 0 wh
   pub is_least : IsLeastOfComponent references settled.class least
   pub is_home : settled.home ≡ Internal least
 
--- what is known of classes is the least name of their components
-abbrev pub AreLeast : {S : Type 0} → References → IndexMap Name Bytes S → Type 0
-AreLeast references known = (class least : Name) → get is_same known class ≡ Some least → IsLeastOfComponent references class least
+-- a number of each component
+pub record AreFirsts (of firsts : List ℕ) : Type 0 where
+  pub counted : (number component : ℕ) → At of number component → component < length firsts
+  pub within : (component number : ℕ) → At firsts component number → At of number component
 
--- only classes in both lists became known, by this name
-abbrev pub IsNoted : {S : Type 0} → List Name → List Name → Name → IndexMap Name Bytes S → IndexMap Name Bytes S → Type 0
-IsNoted after before least old new = (class name : Name) → get is_same new class ≡ Some name → (get is_same old class ≡ Some name) ⊎ (Contains after class × Contains before class × (name ≡ least))
+-- for each component the number of the class with the least name
+pub record AreLeast (keys : List Name) (of least : List ℕ) : Type 0 where
+  pub firsts : AreFirsts of least
+  pub least_of_all : (component number other : ℕ) (name one : Name) → At least component number → At of other component → At keys number name → At keys other one → IsBefore one name → ⊥
+
+-- the number was taken for the least of its component, if its name stands in front of that of the least so far
+pub data IsLowered (keys : List Name) (component number : ℕ) (old new : List ℕ) : Type 0 where
+  taken : (before : ℕ) (name one : Name) → At old component before → At keys before name → At keys number one → IsBefore one name → At new component number → length new ≡ length old → ((other n : ℕ) → (other ≡ component → ⊥) → At new other n → At old other n) → IsLowered keys component number old new
+  left : (before : ℕ) (name one : Name) → At old component before → At keys before name → At keys number one → (IsBefore one name → ⊥) → new ≡ old → IsLowered keys component number old new

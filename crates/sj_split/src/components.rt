@@ -1,92 +1,49 @@
-// Homes by components.
-ghost use Rattle.std.specs.Prelude.{◌≡◌, ◌∷◌, [], IfOk, OnOk};
+// The least class of each component.
+ghost use Rattle.std.specs.Prelude.{◌≡◌, ◌<◌, ℕ, List, length, Contains};
+ghost use Rattle.number_graphs.specs.Graphs.{At, AreComponents};
+ghost use Rattle.class_numbers.specs.Numbering.{IsNumbering};
 ghost use Rattle.sj_split.specs.Walks.{References, IsLeastOfComponent};
-ghost use Rattle.sj_split.specs.Steps.{AreForward, AreBackward, AreLeast, IsNoted, lesser, IsLeastBetween};
+ghost use Rattle.sj_split.specs.Steps.{AreFirsts, AreLeast, IsLowered};
 
-use crate::walks::{leading_to, led_to};
-use class_ways::Ways;
-use indexmap::{IndexMap, IndexSet};
-use sj_names::{ClassName, NoMemory, Text};
-use std::alloc::Global;
+use class_numbers::ClassNumbers;
+use sj_names::ClassName;
 
-/// The least name in the component of `class`, which is looked up where it is known; else it is found, and is known then for each class of
-/// the component.
-pub fn least_of_component(
-    alloc: Global,
-    forward: &Ways,
-    backward: &Ways,
-    class: &ClassName,
-    known: &mut IndexMap<ClassName, Text>,
-) -> Result<Text, NoMemory>
-    ensures least { IfOk result (λ least. (references : References) → AreForward references forward.now → AreBackward references backward.now → AreLeast references known.old → IsLeastOfComponent references class.now least) }
-    ensures known { OnOk result ((references : References) → AreForward references forward.now → AreBackward references backward.now → AreLeast references known.old → AreLeast references known.new) }
+/// For each component the number of its class with the least name. `firsts` has a number of each.
+pub fn least_classes(numbers: &ClassNumbers, of: &[usize], firsts: Vec<usize>) -> Vec<usize>
+    requires whole { length of.now ≡ length numbers.now.classes.keys }
+    requires firsts { AreFirsts of.now firsts.items }
+    ensures { AreLeast numbers.now.classes.keys of.now result.items }
 {
-    if let Some(least) = known.get(class) {
-        return Ok(least.copied()?);
-    }
-    let after = led_to(alloc, forward, class)?;
-    let before = leading_to(alloc, backward, class)?;
-    let least = least_between(&after, &before, class);
-    let least = Text::from_str(alloc, least.text())?;
-    note_members(&after, &before, &least, known)?;
-    Ok(least)
-}
-
-// Notes the least name for each class that is in both sets.
-fn note_members(
-    after: &IndexSet<ClassName>,
-    before: &IndexSet<ClassName>,
-    least: &Text,
-    known: &mut IndexMap<ClassName, Text>,
-) -> Result<(), NoMemory>
-    ensures { OnOk result (IsNoted after.now.keys before.now.keys least.now known.old known.new) }
-{
-    for place in 0..after.len() {
-        note_member(&after[place], before, least, known)?;
-    }
-    Ok(())
-}
-
-fn note_member(
-    class: &ClassName,
-    before: &IndexSet<ClassName>,
-    least: &Text,
-    known: &mut IndexMap<ClassName, Text>,
-) -> Result<(), NoMemory>
-    ensures { OnOk result (IsNoted (class.now ∷ []) before.now.keys least.now known.old known.new) }
-{
-    if before.contains(class) {
-        known.insert(class.copied()?, least.copied()?)?;
-    }
-    Ok(())
-}
-
-// The least of `class` and of those that are in both sets.
-fn least_between<'n>(
-    after: &'n IndexSet<ClassName>,
-    before: &IndexSet<ClassName>,
-    class: &'n ClassName,
-) -> &'n ClassName
-    ensures { IsLeastBetween class.now after.now.keys before.now.keys result.now }
-{
-    let mut least = class;
-    for place in 0..after.len() {
-        least = lesser(before, &after[place], least);
+    let mut least = firsts;
+    for number in 0..of.len() {
+        lower(numbers, of[number], number, &mut least);
     }
     least
 }
 
-// The other name, where it is among those before and stands in front of the least.
-fn lesser<'n>(
-    before: &IndexSet<ClassName>,
-    other: &'n ClassName,
-    least: &'n ClassName,
-) -> &'n ClassName
-    ensures { result.now ≡ lesser before.now.keys other.now least.now }
+// Takes the number for the least of its component, if its name stands in front of that of the least so far.
+fn lower(numbers: &ClassNumbers, component: usize, number: usize, least: &mut Vec<usize>)
+    requires component { component < length least.now.items }
+    requires number { number < length numbers.now.classes.keys }
+    requires least { (place one : ℕ) → At least.now.items place one → one < length numbers.now.classes.keys }
+    ensures { IsLowered numbers.now.classes.keys component number least.old.items least.new.items }
 {
-    if before.contains(other) && other < least {
-        other
-    } else {
-        least
+    if numbers.class(number) < numbers.class(least[component]) {
+        least[component] = number;
     }
+}
+
+/// The class of the least name in the component of `class`.
+pub fn least_of_component<'n>(
+    numbers: &'n ClassNumbers,
+    of: &[usize],
+    least: &[usize],
+    class: &ClassName,
+) -> &'n ClassName
+    requires inside { Contains numbers.now.classes.keys class.now }
+    requires whole { length of.now ≡ length numbers.now.classes.keys }
+    requires least { AreLeast numbers.now.classes.keys of.now least.now }
+    ensures { (references : References) (firsts : List ℕ) → IsNumbering references numbers.now → AreComponents numbers.now.next.items of.now firsts → IsLeastOfComponent references class.now result.now }
+{
+    numbers.class(least[of[numbers.number_of(class)]])
 }

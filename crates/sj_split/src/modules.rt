@@ -1,5 +1,9 @@
 // The modules of a plan.
-ghost use Rattle.std.specs.Prelude.{◌≡◌, ◌++◌, IfOk, OnOk, map, length, codes, All};
+ghost use Rattle.std.specs.Prelude.{◌≡◌, ◌++◌, [], IfOk, OnOk, List, map, length, codes, All};
+ghost use Rattle.indexmap.specs.IndexSet.{insert_all};
+ghost use Rattle.sj_split.specs.declared.homes.Settled.{Settled};
+ghost use Rattle.sj_split.specs.Orders.{is_same};
+ghost use Rattle.sj_split.specs.Groups.{AreByKey};
 ghost use Rattle.std.specs.List.Sorted.{IsPermutation, IsSortedByKey};
 ghost use Rattle.std.specs.Ordering.{nat_cmp};
 ghost use Rattle.std.specs.Cmp.Lexicographic.{slice_cmp};
@@ -13,6 +17,8 @@ use crate::homes::{Home, Settled};
 use crate::orders::each_once_in_order;
 use crate::settling::homes;
 use crate::{Plan, PlannedModule, Style};
+use class_groups::ClassGroups;
+use indexmap::IndexSet;
 use module_names::internal_names;
 use sj_graph::Graph;
 use sj_names::{ClassName, Entries, EntryPoint, Items, NoMemory, Text};
@@ -153,6 +159,30 @@ fn initializers(
     Ok(initializers)
 }
 
+// The owners of pieces.
+fn owner_set(alloc: Global, owners: &[ClassName]) -> Result<IndexSet<ClassName>, NoMemory>
+    ensures { IfOk result (λ set. set.keys ≡ insert_all is_same [] owners.now) }
+{
+    let mut set = IndexSet::new(alloc);
+    for owner in owners {
+        set.insert(owner.copied()?)?;
+    }
+    Ok(set)
+}
+
+// The classes of each internal module, by its key.
+fn by_key(alloc: Global, homes: &[Settled]) -> Result<ClassGroups, NoMemory>
+    ensures { IfOk result (AreByKey homes.now) }
+{
+    let mut groups = ClassGroups::new(alloc);
+    for settled in homes {
+        if let Home::Internal(key) = &settled.home {
+            groups.add(alloc, key, &settled.class)?;
+        }
+    }
+    Ok(groups)
+}
+
 // Adds the internal modules with these keys and names that own a piece.
 fn add_internal_modules(
     alloc: Global,
@@ -165,8 +195,26 @@ fn add_internal_modules(
     requires { length names.now ≡ length keys.now }
     ensures { OnOk result (modules.new.items ≡ modules.old.items ++ planned.internal_modules owners.now homes.now keys.now names.now) }
 {
+    let owners = owner_set(alloc, owners)?;
+    let groups = by_key(alloc, homes)?;
+    add_grouped_modules(alloc, &owners, &groups, keys, names, modules)?;
+    Ok(())
+}
+
+// Adds the internal modules with these keys and names that own a piece, of groups.
+fn add_grouped_modules(
+    alloc: Global,
+    owners: &IndexSet<ClassName>,
+    groups: &ClassGroups,
+    keys: &[Text],
+    names: &[Text],
+    modules: &mut Vec<PlannedModule>,
+) -> Result<(), NoMemory>
+    requires { length names.now ≡ length keys.now }
+    ensures { OnOk result ((homes : List Settled) → AreByKey homes groups.now → modules.new.items ≡ modules.old.items ++ planned.internal_modules owners.now.keys homes keys.now names.now) }
+{
     for (place, key) in keys.iter().enumerate() {
-        let classes = internal_classes(alloc, homes, key)?;
+        let classes = groups.classes(alloc, key)?;
         add_internal_module(alloc, owners, classes, &names[place], modules)?;
     }
     Ok(())
@@ -175,12 +223,12 @@ fn add_internal_modules(
 // Adds the internal module of this name, if one of the classes owns a piece.
 fn add_internal_module(
     alloc: Global,
-    owners: &[ClassName],
+    owners: &IndexSet<ClassName>,
     classes: Vec<ClassName>,
     name: &Text,
     modules: &mut Vec<PlannedModule>,
 ) -> Result<(), NoMemory>
-    ensures { OnOk result (modules.new.items ≡ modules.old.items ++ planned.with_piece owners.now classes.items name.now) }
+    ensures { OnOk result (modules.new.items ≡ modules.old.items ++ planned.with_piece owners.now.keys classes.items name.now) }
 {
     if has_piece(owners, &classes) {
         modules.push(internal_module(alloc, name, classes)?)?;
@@ -204,43 +252,17 @@ fn internal_module(
     })
 }
 
-// The classes that belong to the internal module with this key.
-fn internal_classes(
-    alloc: Global,
-    homes: &[Settled],
-    key: &Text,
-) -> Result<Vec<ClassName>, NoMemory>
-    ensures { IfOk result (λ classes. classes.items ≡ planned.classes_at (planned.is_internal key.now) homes.now) }
-{
-    let mut classes = Vec::new(alloc);
-    for settled in homes {
-        if is_internal(&settled.home, key) {
-            classes.push(settled.class.copied()?)?;
-        }
-    }
-    Ok(classes)
-}
-
-fn is_internal(home: &Home, key: &Text) -> bool
-    ensures { result ≡ planned.is_internal key.now home.now }
-{
-    match home {
-        Home::Public(_) => false,
-        Home::Internal(other) => other.is_same(key),
-    }
-}
-
 // Whether one of the classes owns a piece.
-fn has_piece(owners: &[ClassName], classes: &[ClassName]) -> bool
-    ensures { result ≡ planned.has_piece owners.now classes.now }
+fn has_piece(owners: &IndexSet<ClassName>, classes: &[ClassName]) -> bool
+    ensures { result ≡ planned.has_piece owners.now.keys classes.now }
 {
     classes.iter().any(|class| is_among(owners, class))
 }
 
-fn is_among(owners: &[ClassName], class: &ClassName) -> bool
-    ensures { result ≡ planned.is_among owners.now class.now }
+fn is_among(owners: &IndexSet<ClassName>, class: &ClassName) -> bool
+    ensures { result ≡ planned.is_among owners.now.keys class.now }
 {
-    owners.iter().any(|owner| class.is_same(owner))
+    owners.contains(class)
 }
 
 // A module and the name of its file.

@@ -1,16 +1,18 @@
 // The homes of classes.
-ghost use Rattle.std.specs.Prelude.{◌≡◌, IfOk};
+ghost use Rattle.std.specs.Prelude.{IfOk, map};
+ghost use Rattle.class_numbers.specs.Numbering.{IsNumbering};
 ghost use Rattle.sj_split.specs.Homes.{AreHomes};
 ghost use Rattle.sj_split.specs.Modules.{AreIds};
-ghost use Rattle.sj_split.specs.Steps.{AreReached, AreSettled, IsLeastHome};
+ghost use Rattle.sj_split.specs.Walks.{References};
+ghost use Rattle.sj_split.specs.Steps.{entry_class, AreReached, AreSettled, IsLeastHome, IsNumbered, AreInside};
 
 use crate::Style;
-use crate::components::least_of_component;
+use crate::components::{least_classes, least_of_component};
 use crate::homes::{Home, Settled};
 use crate::tags::{home_of_tags, reaches, tags};
 use crate::walks::reached;
-use class_ways::Ways;
-use indexmap::IndexMap;
+use class_numbers::ClassNumbers;
+use number_graphs::{Components, find_components};
 use sj_graph::Reference;
 use sj_names::{ClassName, EntryPoint, NoMemory, Text};
 use std::alloc::Global;
@@ -26,11 +28,15 @@ pub fn homes(
     requires { AreIds entries.now ids.now }
     ensures { IfOk result (λ homes. AreHomes references.now entries.now style homes.items) }
 {
-    let classes = reached(alloc, references, entries)?;
+    let numbers = ClassNumbers::new(alloc, references, entries)?;
+    let classes = reached(alloc, &numbers, entries)?;
     match style {
-        Style::Fewest => homes_by_tags(alloc, references, entries, ids, &classes),
+        Style::Fewest => {
+            let homes = homes_by_tags(alloc, &numbers, entries, ids, &classes)?;
+            Ok(homes)
+        }
         Style::Smallest => {
-            let homes = homes_by_components(alloc, references, &classes)?;
+            let homes = homes_by_components(alloc, &numbers, &classes)?;
             Ok(homes)
         }
     }
@@ -39,19 +45,22 @@ pub fn homes(
 // The homes of classes by their tags.
 fn homes_by_tags(
     alloc: Global,
-    references: &[Reference],
+    numbers: &ClassNumbers,
     entries: &[EntryPoint],
     ids: &[Text],
     classes: &[ClassName],
 ) -> Result<Vec<Settled>, NoMemory>
     requires ids { AreIds entries.now ids.now }
-    requires reached { AreReached references.now entries.now classes.now }
-    ensures { IfOk result (λ homes. AreHomes references.now entries.now Style.Fewest homes.items) }
+    requires numbered { IsNumbered numbers.now }
+    requires entries { AreInside (map entry_class entries.now) numbers.now }
+    requires inside { AreInside classes.now numbers.now }
+    requires reached { (references : References) → IsNumbering references numbers.now → AreReached references entries.now classes.now }
+    ensures { IfOk result (λ homes. (references : References) → IsNumbering references numbers.now → AreHomes references entries.now Style.Fewest homes.items) }
 {
-    let reaches = reaches(alloc, references, entries, ids)?;
+    let reaches = reaches(alloc, numbers, entries, ids)?;
     let mut homes = Vec::new(alloc);
     for class in classes {
-        let tags = tags(alloc, &reaches, class)?;
+        let tags = tags(alloc, &reaches, numbers.number_of(class))?;
         let home = home_of_tags(alloc, &tags)?;
         let class = class.copied()?;
         homes.push(Settled { class, home })?;
@@ -62,18 +71,19 @@ fn homes_by_tags(
 // The homes of classes by their components.
 fn homes_by_components(
     alloc: Global,
-    references: &[Reference],
+    numbers: &ClassNumbers,
     classes: &[ClassName],
 ) -> Result<Vec<Settled>, NoMemory>
-    ensures { IfOk result (λ homes. AreSettled (IsLeastHome references.now) classes.now homes.items) }
+    requires numbered { IsNumbered numbers.now }
+    requires inside { AreInside classes.now numbers.now }
+    ensures { IfOk result (λ homes. (references : References) → IsNumbering references numbers.now → AreSettled (IsLeastHome references) classes.now homes.items) }
 {
-    let forward = Ways::to_targets(alloc, references)?;
-    let backward = Ways::to_sources(alloc, references)?;
-    let mut known = IndexMap::new(alloc);
+    let Components { of, firsts } = find_components(alloc, numbers.next())?;
+    let least = least_classes(numbers, &of, firsts);
     let mut homes = Vec::new(alloc);
     for class in classes {
-        let least = least_of_component(alloc, &forward, &backward, class, &mut known)?;
-        let home = Home::Internal(least);
+        let least = least_of_component(numbers, &of, &least, class);
+        let home = Home::Internal(Text::from_str(alloc, least.text())?);
         let class = class.copied()?;
         homes.push(Settled { class, home })?;
     }

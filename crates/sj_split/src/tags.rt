@@ -1,52 +1,52 @@
 // Homes by tags.
-ghost use Rattle.std.specs.Prelude.{◌≡◌, ◌∷◌, ◌<◌, IfOk, length};
+ghost use Rattle.std.specs.Prelude.{◌≡◌, ◌∷◌, ◌<◌, IfOk, length, map, Contains};
 ghost use Rattle.std.specs.List.{join_with_byte};
 ghost use Rattle.sj_split.specs.Homes.{home_of_tags};
-ghost use Rattle.sj_split.specs.Steps.{tags_in, AreReaches};
+ghost use Rattle.sj_split.specs.Steps.{entry_class, tags_in, AreReaches, AreInside, IsNumbered};
 
 use crate::homes::Home;
 use crate::walks::reached_by;
-use class_ways::Ways;
-use indexmap::IndexSet;
-use sj_graph::Reference;
-use sj_names::{ClassName, EntryPoint, NoMemory, Text};
+use class_numbers::ClassNumbers;
+use sj_names::{EntryPoint, NoMemory, Text};
 use std::alloc::Global;
 
-/// The classes that a public module reaches.
+/// A public module, and for each number whether the module reaches its class.
 #[derive(Drop)]
 pub struct Reach {
     pub id: Text,
-    pub classes: IndexSet<ClassName>,
+    pub marks: Vec<bool>,
 }
 
 /// What each public module reaches.
 pub fn reaches(
     alloc: Global,
-    references: &[Reference],
+    numbers: &ClassNumbers,
     entries: &[EntryPoint],
     ids: &[Text],
 ) -> Result<Vec<Reach>, NoMemory>
-    ensures { IfOk result (λ reaches. AreReaches references.now entries.now ids.now reaches.items) }
+    requires numbered { IsNumbered numbers.now }
+    requires inside { AreInside (map entry_class entries.now) numbers.now }
+    ensures { IfOk result (λ reaches. AreReaches entries.now numbers.now ids.now reaches.items) }
 {
-    let forward = Ways::to_targets(alloc, references)?;
     let mut reaches = Vec::new(alloc);
     for id in ids {
-        let classes = reached_by(alloc, &forward, entries, id)?;
+        let marks = reached_by(alloc, numbers, entries, id)?;
         reaches.push(Reach {
             id: id.copied()?,
-            classes,
+            marks,
         })?;
     }
     Ok(reaches)
 }
 
-/// The ids of the modules that reach `class`.
-pub fn tags(alloc: Global, reaches: &[Reach], class: &ClassName) -> Result<Vec<Text>, NoMemory>
-    ensures { IfOk result (λ tags. tags.items ≡ tags_in class.now reaches.now) }
+/// The ids of the modules that reach the class with this number.
+pub fn tags(alloc: Global, reaches: &[Reach], number: usize) -> Result<Vec<Text>, NoMemory>
+    requires { (reach : Reach) → Contains reaches.now reach → number < length reach.marks.items }
+    ensures { IfOk result (λ tags. tags.items ≡ tags_in number reaches.now) }
 {
     let mut tags = Vec::new(alloc);
     for reach in reaches {
-        if reach.classes.contains(class) {
+        if reach.marks[number] {
             tags.push(reach.id.copied()?)?;
         }
     }

@@ -1,30 +1,32 @@
 // What walks reach.
-ghost use Rattle.std.specs.Prelude.{◌≡◌, ◌↔◌, [], IfOk, OnOk, Contains, map};
+ghost use Rattle.std.specs.Prelude.{◌≡◌, ◌↔◌, [], ℕ, true, IfOk, Contains, map, length};
 ghost use Rattle.indexmap.specs.IndexSet.{insert_all};
+ghost use Rattle.number_graphs.specs.Graphs.{At};
+ghost use Rattle.class_numbers.specs.Numbering.{IsNumbering};
 ghost use Rattle.sj_split.specs.Orders.{is_same};
-ghost use Rattle.sj_split.specs.Walks.{Name, References, Walk, Reaches};
-ghost use Rattle.sj_split.specs.Steps.{entry_class, first_classes, AreForward, AreBackward, AreReached};
+ghost use Rattle.sj_split.specs.Walks.{Name, References, Reaches};
+ghost use Rattle.sj_split.specs.Steps.{entry_class, first_classes, AreReached, IsNumbered, AreInside, AreNumbersOf, LedTo, IsMarked};
 
 use crate::orders::each_once_in_order;
-use class_ways::Ways;
+use class_numbers::ClassNumbers;
 use indexmap::IndexSet;
-use sj_graph::Reference;
 use sj_names::{ClassName, EntryPoint, NoMemory, Text};
 use std::alloc::Global;
-use worklist::{search, search_from};
 
 /// The classes that the initializers of the public modules lead to, in the order of their bytes.
 pub fn reached(
     alloc: Global,
-    references: &[Reference],
+    numbers: &ClassNumbers,
     entries: &[EntryPoint],
 ) -> Result<Vec<ClassName>, NoMemory>
-    ensures { IfOk result (λ classes. AreReached references.now entries.now classes.items) }
+    requires numbered { IsNumbered numbers.now }
+    requires inside { AreInside (map entry_class entries.now) numbers.now }
+    ensures reached { IfOk result (λ classes. (references : References) → IsNumbering references numbers.now → AreReached references entries.now classes.items) }
+    ensures inside { IfOk result (λ classes. AreInside classes.items numbers.now) }
 {
-    let forward = Ways::to_targets(alloc, references)?;
-    let mut found = entry_classes(alloc, entries)?;
-    search(&forward, &mut found)?;
-    Ok(each_once_in_order(listed(alloc, &found)?))
+    let found = entry_classes(alloc, entries)?;
+    let marks = led_to(alloc, numbers, &found)?;
+    Ok(each_once_in_order(marked(alloc, numbers, &marks)?))
 }
 
 // The classes of entries.
@@ -38,18 +40,21 @@ fn entry_classes(alloc: Global, entries: &[EntryPoint]) -> Result<IndexSet<Class
     Ok(found)
 }
 
-/// The classes that a public module reaches.
+/// Whether a public module reaches the class of each number.
 pub fn reached_by(
     alloc: Global,
-    forward: &Ways,
+    numbers: &ClassNumbers,
     entries: &[EntryPoint],
     id: &Text,
-) -> Result<IndexSet<ClassName>, NoMemory>
-    ensures { IfOk result (λ found. (references : References) → AreForward references forward.now → (class : Name) → Contains found.keys class ↔ Reaches references entries.now id.now class) }
+) -> Result<Vec<bool>, NoMemory>
+    requires numbered { IsNumbered numbers.now }
+    requires inside { AreInside (map entry_class entries.now) numbers.now }
+    ensures count { IfOk result (λ marks. length marks.items ≡ length numbers.now.classes.keys) }
+    ensures reached { IfOk result (λ marks. (references : References) → IsNumbering references numbers.now → (number : ℕ) (class : Name) → At numbers.now.classes.keys number class → At marks.items number true ↔ Reaches references entries.now id.now class) }
 {
-    let mut found = module_classes(alloc, entries, id)?;
-    search(forward, &mut found)?;
-    Ok(found)
+    let found = module_classes(alloc, entries, id)?;
+    let marks = led_to(alloc, numbers, &found)?;
+    Ok(marks)
 }
 
 // The classes of the entries of a public module.
@@ -69,37 +74,48 @@ fn module_classes(
     Ok(found)
 }
 
-/// The classes to which walks lead from `class`.
-pub fn led_to(
+// Whether a walk leads to the class of each number from one of these classes.
+fn led_to(
     alloc: Global,
-    forward: &Ways,
-    class: &ClassName,
-) -> Result<IndexSet<ClassName>, NoMemory>
-    ensures { IfOk result (λ found. (references : References) → AreForward references forward.now → (other : Name) → Contains found.keys other ↔ Walk references class.now other) }
+    numbers: &ClassNumbers,
+    classes: &IndexSet<ClassName>,
+) -> Result<Vec<bool>, NoMemory>
+    requires numbered { IsNumbered numbers.now }
+    requires inside { AreInside classes.now.keys numbers.now }
+    ensures count { IfOk result (λ marks. length marks.items ≡ length numbers.now.classes.keys) }
+    ensures led { IfOk result (λ marks. (references : References) → IsNumbering references numbers.now → (number : ℕ) (class : Name) → At numbers.now.classes.keys number class → At marks.items number true ↔ LedTo references classes.now.keys class) }
 {
-    let found = search_from(alloc, forward, class.copied()?)?;
-    Ok(found)
+    let starts = numbers_of(alloc, numbers, classes)?;
+    let marks = number_graphs::reached(alloc, numbers.next(), &starts)?;
+    Ok(marks)
 }
 
-/// The classes from which walks lead to `class`.
-pub fn leading_to(
+// The numbers of classes.
+fn numbers_of(
     alloc: Global,
-    backward: &Ways,
-    class: &ClassName,
-) -> Result<IndexSet<ClassName>, NoMemory>
-    ensures { IfOk result (λ found. (references : References) → AreBackward references backward.now → (other : Name) → Contains found.keys other ↔ Walk references other class.now) }
-{
-    let found = search_from(alloc, backward, class.copied()?)?;
-    Ok(found)
-}
-
-// What was found, as a list.
-fn listed(alloc: Global, found: &IndexSet<ClassName>) -> Result<Vec<ClassName>, NoMemory>
-    ensures { IfOk result (λ list. list.items ≡ found.now.keys) }
+    numbers: &ClassNumbers,
+    classes: &IndexSet<ClassName>,
+) -> Result<Vec<usize>, NoMemory>
+    requires { AreInside classes.now.keys numbers.now }
+    ensures { IfOk result (λ list. AreNumbersOf numbers.now.classes.keys classes.now.keys list.items) }
 {
     let mut list = Vec::new(alloc);
-    for place in 0..found.len() {
-        list.push(found[place].copied()?)?;
+    for place in 0..classes.len() {
+        list.push(numbers.number_of(&classes[place]))?;
+    }
+    Ok(list)
+}
+
+// The classes whose numbers are marked.
+fn marked(alloc: Global, numbers: &ClassNumbers, marks: &[bool]) -> Result<Vec<ClassName>, NoMemory>
+    requires { length marks.now ≡ length numbers.now.classes.keys }
+    ensures { IfOk result (λ list. (class : Name) → Contains list.items class ↔ IsMarked numbers.now.classes.keys marks.now class) }
+{
+    let mut list = Vec::new(alloc);
+    for number in 0..numbers.len() {
+        if marks[number] {
+            list.push(numbers.class(number).copied()?)?;
+        }
     }
     Ok(list)
 }

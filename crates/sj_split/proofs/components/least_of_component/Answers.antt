@@ -1,14 +1,11 @@
-use Rattle.std.proofs.Common.{sym, ap, subst, ◌∙◌, Some, option_copied}
-use Rattle.sj_split.specs.Walks.{Name, IsLeastOfComponent}
-use Rattle.sj_split.proofs.Least.{least_is}
-use Rattle.sj_split.proofs.Noted.{least_noted}
+use Rattle.std.proofs.Common.{get_or}
+use Rattle.sj_split.proofs.Least.{least_is, least_within}
 use Rattle.sj_split.proofs.components.least_of_component.Goals as goal
 
-pub returns-in-Some-clause-least : goal.returns-in-Some-clause-least
-returns-in-Some-clause-least c references forward backward known = known c.args.class.now c.in_ok-copied.field-0 (sym c.get.ensures.value ∙ ap option_copied c.in-Some.is ∙ ap Some (sym c.in_ok-copied.ensures))
+pub class-requires : goal.class-requires
+class-requires c = (least_within c.args.numbers.now.classes.keys c.args.of.now c.args.least.now c.number_of.result c.args.class.now c.number_of.ensures c.requires.whole c.requires.least).low
 
-pub returns-clause-least : goal.returns-clause-least
-returns-clause-least c references forward backward known = subst (λ (n : Name). IsLeastOfComponent references c.args.class.now n) (sym (c.in_ok-least.ensures ∙ c.text.ensures.text)) (least_is references c.args.class.now c.in_ok-after.after.keys c.in_ok-before.before.keys _ (c.in_ok-after.ensures references forward) (c.in_ok-before.ensures references backward) c.least_between-least.ensures)
-
-pub returns-clause-known : goal.returns-clause-known
-returns-clause-known c references forward backward known = least_noted references c.args.class.now c.in_ok-after.after.keys c.in_ok-before.before.keys c.in_ok-least.least c.args.known.now c.note_members.new.known (c.in_ok-after.ensures references forward) (c.in_ok-before.ensures references backward) (subst (λ (n : Name). IsLeastOfComponent references c.args.class.now n) (sym (c.in_ok-least.ensures ∙ c.text.ensures.text)) (least_is references c.args.class.now c.in_ok-after.after.keys c.in_ok-before.before.keys _ (c.in_ok-after.ensures references forward) (c.in_ok-before.ensures references backward) c.least_between-least.ensures)) known c.in_ok-note_members.ensures
+pub returns : goal.returns
+returns c references firsts numbered components =
+    let w = least_within c.args.numbers.now.classes.keys c.args.of.now c.args.least.now c.number_of.result c.args.class.now c.number_of.ensures c.requires.whole c.requires.least in
+    least_is references c.args.numbers.now.classes.keys c.args.numbers.now.next.items numbered c.args.of.now firsts c.args.least.now components c.requires.least c.number_of.result (get_or c.args.of.now c.number_of.result 0) (get_or c.args.least.now (get_or c.args.of.now c.number_of.result 0) 0) c.args.class.now c.class.result.now c.number_of.ensures w.at_of w.at_least c.class.ensures

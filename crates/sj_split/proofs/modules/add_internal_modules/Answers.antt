@@ -1,6 +1,7 @@
-use Rattle.std.proofs.Common.{arith}
-use Rattle.sj_split.proofs.Planned.{internal_more}
+use Rattle.std.proofs.Common.{◌++◌, List, ap, ◌∙◌}
+use Rattle.sj_split.specs.declared.plans.PlannedModule.{PlannedModule}
+use Rattle.sj_split.proofs.Planned.{internal_same}
 use Rattle.sj_split.proofs.modules.add_internal_modules.Goals as goal
 
-pub loop-place-preserved : goal.loop-place-preserved
-loop-place-preserved c = internal_more c.args.owners.now c.args.homes.now c.args.keys.now c.args.names.now c.loop-place.place c.index-keys-place.result c.index-names-place.result c.in_ok-classes.classes.items c.loop-place.modules.items _ _ (omega arith) c.requires c.index-keys-place.is c.index-names-place.is c.in_ok-classes.ensures c.in_ok-add_internal_module.ensures c.loop-place.invariant
+pub returns : goal.returns
+returns c = c.in_ok-add_grouped_modules.ensures c.args.homes.now c.in_ok-groups.ensures ∙ ap (λ (l : List PlannedModule). c.args.modules.now.items ++ l) (internal_same c.args.owners.now c.in_ok-owners.owners.keys c.args.homes.now c.args.keys.now c.args.names.now c.in_ok-owners.ensures)

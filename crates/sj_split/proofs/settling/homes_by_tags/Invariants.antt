@@ -1,6 +1,8 @@
+use Rattle.class_numbers.specs.Numbering.{IsNumbering}
+use Rattle.sj_split.specs.Walks.{References}
 use Rattle.sj_split.specs.Homes.{class_of, IsHomeByTags}
 use Rattle.sj_split.proofs.Settles.{Gathering}
 use Rattle.sj_split.proofs.settling.homes_by_tags.Given as goal
 
 abbrev pub invariant-loop-class : goal.invariant-loop-class
-invariant-loop-class l = Gathering class_of (λ one. IsHomeByTags l.references l.entries one.class one.home) l.classes l.class-index l.homes.items
+invariant-loop-class l = Gathering class_of (λ one. (references : References) → IsNumbering references l.numbers → IsHomeByTags references l.entries one.class one.home) l.classes l.class-index l.homes.items

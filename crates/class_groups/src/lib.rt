@@ -1,0 +1,6 @@
+//! Classes grouped by keys.
+#![tactic(auto)]
+
+mod groups;
+
+pub use groups::ClassGroups;

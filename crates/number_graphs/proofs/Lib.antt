@@ -1,0 +1,6 @@
+pub mod Places
+pub mod Searched
+pub mod Groups
+pub mod Finished
+pub mod Steps
+pub mod Marked

@@ -1,0 +1,3 @@
+pub mod Graphs
+pub mod Searching
+pub mod Marks
