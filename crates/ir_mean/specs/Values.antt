@@ -108,7 +108,7 @@ letter u = char_literal nowhere u
 
 -- at 64 bits, as ints are at 32; a shift is by the low six bits of its count, which is an int
 abbrev pub on_longs : List Row
-on_longs = (on LongAdd (big (2 ^ 63 - 1)) (big 1), long_below_zero (2 ^ 63 - 1)) ∷ (on LongSubtract (big_minus (2 ^ 63 - 1)) (big 1), is_long (2 ^ 63 - 1)) ∷ (on LongMultiply (big (2 ^ 32)) (big (2 ^ 32)), is_long 0) ∷ (on LongDivide (big_minus 6) (big 2), long_below_zero 2) ∷ (on LongDivide (big_minus (2 ^ 63 - 1)) (big_minus 0), long_below_zero (2 ^ 63 - 1)) ∷ (on LongRemainder (big_minus 6) (big 4), long_below_zero 2) ∷ (on LongDivide (big 1) (big 0), None) ∷ (on LongOr (big 5) (big 3), is_long 7) ∷ (on LongAnd (big_minus 0) (big 255), is_long 255) ∷ (on LongXor (big 5) (big_minus 0), long_below_zero 5) ∷ (on LongShiftLeft (big 1) (whole 65), is_long 2) ∷ (on LongShiftLeft (big 1) (whole 63), long_below_zero (2 ^ 63 - 1)) ∷ (on LongShiftRightLogical (big_minus 0) (whole 60), is_long 15) ∷ (on LongShiftRightArithmetic (big_minus 15) (whole 2), long_below_zero 3) ∷ (on LongShiftLeft (big 1) (big 1), None) ∷ (on LongAdd (big 1) (whole 1), None) ∷ (on LongEqual (big 1) (big_minus 0), no) ∷ (on LongNotEqual (big 1) (big_minus 0), yes) ∷ (on LongLess (big_minus 1) (big_minus 0), yes) ∷ (on LongLess (big 2) (big 2), no) ∷ (on LongLessOrEqual (big 2) (big 2), yes) ∷ (on LongGreater (big 2) (big 2), no) ∷ (on LongGreaterOrEqual (big 2) (big 2), yes) ∷ []
+on_longs = (on LongAdd (big (2 ^ 63 - 1)) (big 1), long_below_zero (2 ^ 63 - 1)) ∷ (on LongSubtract (big_minus (2 ^ 63 - 1)) (big 1), is_long (2 ^ 63 - 1)) ∷ (on LongMultiply (big (2 ^ 32)) (big (2 ^ 32)), is_long 0) ∷ (on LongDivide (big_minus 6) (big 2), long_below_zero 2) ∷ (on LongDivide (big_minus (2 ^ 63 - 1)) (big_minus 0), long_below_zero (2 ^ 63 - 1)) ∷ (on LongRemainder (big_minus 6) (big 4), long_below_zero 2) ∷ (on LongDivide (big 1) (big 0), None) ∷ (on LongOr (big 5) (big 3), is_long 7) ∷ (on LongAnd (big_minus 0) (big 255), is_long 255) ∷ (on LongXor (big 5) (big_minus 0), long_below_zero 5) ∷ (on LongShiftLeft (big 5) (whole 0), is_long 5) ∷ (on LongShiftLeft (big 5) (whole 64), is_long 5) ∷ (on LongShiftLeft (big 1) (whole 65), is_long 2) ∷ (on LongShiftRightArithmetic (big_minus (2 ^ 63 - 1)) (minus 0), long_below_zero 0) ∷ (on LongShiftLeft (big 1) (whole 63), long_below_zero (2 ^ 63 - 1)) ∷ (on LongShiftRightLogical (big_minus 0) (whole 60), is_long 15) ∷ (on LongShiftRightArithmetic (big_minus 15) (whole 2), long_below_zero 3) ∷ (on LongShiftLeft (big 1) (big 1), None) ∷ (on LongAdd (big 1) (whole 1), None) ∷ (on LongEqual (big 1) (big_minus 0), no) ∷ (on LongNotEqual (big 1) (big_minus 0), yes) ∷ (on LongLess (big_minus 1) (big_minus 0), yes) ∷ (on LongLess (big 2) (big 2), no) ∷ (on LongLessOrEqual (big 2) (big 2), yes) ∷ (on LongGreater (big 2) (big 2), no) ∷ (on LongGreaterOrEqual (big 2) (big 2), yes) ∷ []
 
 abbrev pub widened : List Row
 widened = (unary_op nowhere IntToLong (minus 4), long_below_zero 4) ∷ (unary_op nowhere LongToInt (big 4294967295), below_zero 0) ∷ (unary_op nowhere LongToInt (big 2147483648), below_zero 2147483647) ∷ (unary_op nowhere IntToChar (whole 65633), Some (char 97)) ∷ (unary_op nowhere IntToChar (minus 0), Some (char 65535)) ∷ (unary_op nowhere CharToInt (letter 97), is_number 97) ∷ (unary_op nowhere CharToInt (whole 97), None) ∷ (unary_op nowhere LongToInt (whole 1), None) ∷ []
