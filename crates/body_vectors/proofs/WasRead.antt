@@ -62,7 +62,7 @@ hi_main = record { body = body_in whole.logs_hi_main; has_body = refl; met = all
 pub logs_hi_judged : IsJudged whole.logs_hi_class
 logs_hi_judged = record {
   class = read_class files.logs_hi whole.logs_hi_class refl hi_read logs_hi_unbroken;
-  methods = each_of (IsJudgedMethod hi (all_emitted whole.logs_hi_class.methods)) (all_emitted whole.logs_hi_class.methods) (record { found = refl; has_body = refl; typed = hi_main; built = record { result = inl refl; body = tt } }, tt);
+  methods = each_of (IsJudgedMethod hi (all_emitted whole.logs_hi_class.methods)) (all_emitted whole.logs_hi_class.methods) (record { found = refl; has_body = refl; typed = hi_main; built = refl }, tt);
   own_members = own (all_emitted whole.logs_hi_class.methods) refl;
   called = refl;
 }
@@ -84,7 +84,7 @@ again_again = record { body = body_in whole.calls_itself_again; has_body = refl;
 pub calls_itself_judged : IsJudged whole.calls_itself_class
 calls_itself_judged = record {
   class = read_class files.calls_itself whole.calls_itself_class refl again_read calls_itself_unbroken;
-  methods = each_of (IsJudgedMethod again (all_emitted whole.calls_itself_class.methods)) (all_emitted whole.calls_itself_class.methods) (record { found = refl; has_body = refl; typed = again_main; built = record { result = inl refl; body = (refl, tt, tt) } }, (record { found = refl; has_body = refl; typed = again_again; built = record { result = inl refl; body = (tt, ((refl, tt, tt), tt)) } }, tt));
+  methods = each_of (IsJudgedMethod again (all_emitted whole.calls_itself_class.methods)) (all_emitted whole.calls_itself_class.methods) (record { found = refl; has_body = refl; typed = again_main; built = refl }, (record { found = refl; has_body = refl; typed = again_again; built = refl }, tt));
   own_members = own (all_emitted whole.calls_itself_class.methods) refl;
   called = refl;
 }
@@ -103,7 +103,7 @@ turn_main = record { body = body_in whole.one_turn_main; has_body = refl; met = 
 pub one_turn_judged : IsJudged whole.one_turn_class
 one_turn_judged = record {
   class = read_class files.one_turn whole.one_turn_class refl turn_read one_turn_unbroken;
-  methods = each_of (IsJudgedMethod turn (all_emitted whole.one_turn_class.methods)) (all_emitted whole.one_turn_class.methods) (record { found = refl; has_body = refl; typed = turn_main; built = record { result = inl refl; body = ((refl, tt), ((inl (refl, tt, tt), (refl, inl (refl, tt, tt))), (tt, tt))) } }, tt);
+  methods = each_of (IsJudgedMethod turn (all_emitted whole.one_turn_class.methods)) (all_emitted whole.one_turn_class.methods) (record { found = refl; has_body = refl; typed = turn_main; built = refl }, tt);
   own_members = own (all_emitted whole.one_turn_class.methods) refl;
   called = refl;
 }
@@ -125,7 +125,7 @@ value_main = record { body = body_in whole.block_value_main; has_body = refl; me
 pub block_value_judged : IsJudged whole.block_value_class
 block_value_judged = record {
   class = read_class files.block_value whole.block_value_class refl value_read block_value_unbroken;
-  methods = each_of (IsJudgedMethod value (all_emitted whole.block_value_class.methods)) (all_emitted whole.block_value_class.methods) (record { found = refl; has_body = refl; typed = value_first; built = record { result = inr refl; body = (inr refl, inl (refl, tt, tt)) } }, (record { found = refl; has_body = refl; typed = value_main; built = record { result = inl refl; body = ((refl, (tt, (tt, tt))), tt) } }, tt));
+  methods = each_of (IsJudgedMethod value (all_emitted whole.block_value_class.methods)) (all_emitted whole.block_value_class.methods) (record { found = refl; has_body = refl; typed = value_first; built = refl }, (record { found = refl; has_body = refl; typed = value_main; built = refl }, tt));
   own_members = own (all_emitted whole.block_value_class.methods) refl;
   called = refl;
 }

@@ -63,8 +63,8 @@ module _ (w : World) (fs : List EmittedMethod) (classes : (c : ClassDef) → Con
     named = sym its.named;
     found = h.found;
     has_body = h.has_body;
-    rows = has_rows w (functions_of fs) e.definition e.its_body h.has_body h.typed h.built.body body;
-    yields = yields_result w (functions_of fs) e.definition e.its_body h.has_body h.typed h.built.result;
+    rows = has_rows w (functions_of fs) e.definition e.its_body h.has_body h.typed h.built body;
+    yields = yields_result w (functions_of fs) e.definition e.its_body h.has_body h.typed h.built;
     result = result_is e.definition.name.result e.definition.result types.1;
     values = parameters_have_values e.definition.params e.definition.name.params types.0 method.0.0.params;
     class_name = subst (λ (n : List ℕ). IsTrue (is_class_name n)) (sym its.class_is) listing.name.0;

@@ -1,5 +1,5 @@
 -- What is judged of classes and of their methods before they are linked.
-use Rattle.std.specs.Prelude.{◌≡◌, ℕ, List, Some, None}
+use Rattle.std.specs.Prelude.{◌≡◌, ℕ, true, List, Some, None}
 use Rattle.ir_mean.specs.World.{World, member_of}
 use Rattle.file_listings.specs.Listed.{AreBytes}
 use Rattle.sj_format.specs.Files.{FileIs}
@@ -8,7 +8,7 @@ use Rattle.sj_trees.specs.declared.classes.ClassDef.{ClassDef}
 use Rattle.sj_calls.specs.Files.{EmittedMethod}
 use Rattle.sj_sound.specs.Linked.{functions_of}
 use Rattle.sj_typing.specs.Typed.{IsTyped}
-use Rattle.sj_typed.specs.Built.{MethodBuilt}
+use Rattle.sj_typed.specs.Built.{is_built_method}
 
 -- the class was read from a file, and breaks none of the local rules
 pub record IsJudgedClass (c : ClassDef) : Type 0 where
@@ -23,4 +23,4 @@ pub record IsJudgedMethod (w : World) (fs : List EmittedMethod) (e : EmittedMeth
   pub found : member_of w e.member.class e.member.namespace e.member.method ≡ Some e.definition
   pub has_body : e.definition.body ≡ Some e.its_body
   pub typed : IsTyped w e.definition
-  pub built : MethodBuilt (functions_of fs) e.definition e.its_body
+  pub built : is_built_method (functions_of fs) e.definition e.its_body ≡ true

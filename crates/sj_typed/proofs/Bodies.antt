@@ -1,6 +1,7 @@
 -- The rows of a body that is typed.
-use Rattle.std.proofs.Common.{◌≡◌, ℕ, ◌+◌, ◌^◌, arith, Bool, true, false, List, [], ◌∷◌, ◌++◌, refl, sym, ap, subst, ◌∙◌, Option, Some, None, inl, inr}
-use Rattle.std.specs.Prelude.{nat_eq, if◌then◌else◌}
+use Rattle.std.proofs.Common.{◌≡◌, ℕ, ◌+◌, ◌^◌, arith, Bool, true, false, List, [], ◌∷◌, ◌++◌, refl, sym, ap, subst, ◌∙◌, Option, Some, None, inl, inr, ◌&&◌, ◌||◌, not, ⊎_elim}
+use Rattle.std.proofs.lemmas.Bool.{and_parts}
+use Rattle.std.specs.Prelude.{◌⊎◌, nat_eq, if◌then◌else◌}
 use Rattle.std.specs.Cmp.Lexicographic.{pointwise}
 use Rattle.std.specs.List.{All}
 use Rattle.std.proofs.lemmas.List.Elements.{All-nil, All-cons, All-head, All-tail}
@@ -20,8 +21,10 @@ use Rattle.sj_trees.specs.declared.types.IrType.{IrType}
 use Rattle.sj_trees.specs.declared.types.IrType.TheVariants as type
 use Rattle.sj_trees.specs.Term.{Term, Terms, no_terms, more_terms, Cases, no_cases, more_cases, var_def, skip, block_of, labeled, assign, return_to, if_then, while_loop, do_while, match_on, apply_static, unary_op, binary_op, undefined_literal, null_literal, boolean_literal, char_literal, byte_literal, short_literal, int_literal, long_literal, string_literal, var_ref, log_line}
 use Rattle.sj_trees.specs.TypeOf.{type_of_term}
-use Rattle.sj_plain.specs.Conditions.{unary_operand, left_operand, a_quotient, a_remainder, a_long_quotient, a_long_remainder, Usable}
+use Rattle.sj_plain.specs.Conditions.{unary_operand, left_operand, DividesBy, a_quotient, a_remainder, a_long_quotient, a_long_remainder, Usable}
 use Rattle.sj_plain.specs.Standing.{call_type}
+use Rattle.sj_desugar.specs.Desugar.{member}
+use Rattle.sj_trees.specs.Types.{reference_type}
 use Rattle.sj_sound.specs.Typing as sound
 use Rattle.sj_kept.specs.Rows.{Rows, AllRows, CaseRows}
 use Rattle.sj_world.specs.Known.{Classes}
@@ -33,19 +36,22 @@ use Rattle.sj_typing.specs.Nodes.{Node, node, inside, below, nodes, nodes_of_all
 use Rattle.sj_typing.specs.Rules as rules
 use Rattle.sj_typing.specs.Rules.{Fits, OperandsFit, CasesYield}
 use Rattle.sj_typing.specs.Typed.{MeetsThere, IsTyped}
-use Rattle.sj_typed.specs.Built.{HasNoBox, HaveNoBox, ByLiteral, by_an_int, by_a_long, is_operator, Built, AllBuilt, CasesBuilt}
-use Rattle.sj_typed.proofs.Values.{parameter_value, result_is, fits, fits_long, divisor_of}
+use Rattle.sj_typed.specs.Built.{is_boxed, yields_boxed, leaves_boxed, any_is_boxed, is_operation, is_built, are_built, are_built_cases, is_built_method}
+use Rattle.sj_typed.proofs.Values.{parameter_value, result_is, fits, fits_long, int_divisor, long_divisor, no_box, no_box_yielded}
 
-yields : (w : Classes) (has : Usable) (e : Term) (t : IrType) → HasNoBox t e → rules.Yields w e t → sound.Yields (IsSub w) has e t
+yields : (w : Classes) (has : Usable) (e : Term) (t : IrType) → not (yields_boxed t e) ≡ true → rules.Yields w e t → sound.Yields (IsSub w) has e t
 yields w has e t box (rules.nothing_wanted none) = inl none
-yields w has e t (inl none) (rules.fitting fits) = inl none
-yields w has e t (inr box) (rules.fitting fits) = inr (fits, box)
+yields w has e t box (rules.fitting fits) = ⊎_elim (λ none. inl none) (λ raw. inr (fits, raw)) (no_box_yielded t e box)
 
-arguments : (w : Classes) (has : Usable) (es : Terms) (rs : List TypeRef) → HaveNoBox rs es → All IsParameter rs → rules.ArgumentsFit w es rs → sound.ArgumentsFit (IsSub w) has es rs
-arguments w has no_terms [] built params fits = tt
-arguments w has no_terms (r ∷ rs) built params fits = absurd fits
-arguments w has (more_terms e es) [] built params fits = absurd fits
-arguments w has (more_terms e es) (r ∷ rs) built params fits = ((fits.0, built.0), parameter_value r (All-head IsParameter r rs params), arguments w has es rs built.1 (All-tail IsParameter r rs params) fits.1)
+neither : (a b : Bool) → not (a || b) ≡ true → (not a ≡ true) × (not b ≡ true)
+neither true b h = impossible h
+neither false b h = (refl, h)
+
+arguments : (w : Classes) (has : Usable) (es : Terms) (rs : List TypeRef) → not (any_is_boxed rs es) ≡ true → All IsParameter rs → rules.ArgumentsFit w es rs → sound.ArgumentsFit (IsSub w) has es rs
+arguments w has no_terms [] box params fits = tt
+arguments w has no_terms (r ∷ rs) box params fits = absurd fits
+arguments w has (more_terms e es) [] box params fits = absurd fits
+arguments w has (more_terms e es) (r ∷ rs) box params fits = let raw = neither (is_boxed (reference_type r) e) (any_is_boxed rs es) box in ((fits.0, no_box (reference_type r) e raw.0), parameter_value r (All-head IsParameter r rs params), arguments w has es rs raw.1 (All-tail IsParameter r rs params) fits.1)
 
 -- ---- operators
 
@@ -67,54 +73,49 @@ joined (type.Array r) h = h
 joined (type.Class c) h = h
 joined t h = tt
 
-operands : (w : Classes) (has : Usable) (o : BinaryOp) (a b : Term) → is_operator o ≡ true → OperandsFit w o a b → sound.Takes (IsSub w) has o a b
-operands w has binary.StrictEqual a b h fits = impossible h
-operands w has binary.StrictNotEqual a b h fits = impossible h
-operands w has binary.IntDivide a b h fits = impossible h
-operands w has binary.IntRemainder a b h fits = impossible h
-operands w has binary.LongDivide a b h fits = impossible h
-operands w has binary.LongRemainder a b h fits = impossible h
-operands w has binary.StringConcatenate a b h fits = sound.texts refl (joined (type_of_term a) fits.0) (joined (type_of_term b) fits.1)
-operands w has binary.BooleanEqual a b h fits = sound.its_types refl fits.0 fits.1
-operands w has binary.BooleanNotEqual a b h fits = sound.its_types refl fits.0 fits.1
-operands w has binary.BooleanOr a b h fits = sound.its_types refl fits.0 fits.1
-operands w has binary.BooleanAnd a b h fits = sound.its_types refl fits.0 fits.1
-operands w has binary.IntAdd a b h fits = sound.its_types refl fits.0 fits.1
-operands w has binary.IntSubtract a b h fits = sound.its_types refl fits.0 fits.1
-operands w has binary.IntMultiply a b h fits = sound.its_types refl fits.0 fits.1
-operands w has binary.IntOr a b h fits = sound.its_types refl fits.0 fits.1
-operands w has binary.IntAnd a b h fits = sound.its_types refl fits.0 fits.1
-operands w has binary.IntXor a b h fits = sound.its_types refl fits.0 fits.1
-operands w has binary.IntShiftLeft a b h fits = sound.its_types refl fits.0 fits.1
-operands w has binary.IntShiftRightLogical a b h fits = sound.its_types refl fits.0 fits.1
-operands w has binary.IntShiftRightArithmetic a b h fits = sound.its_types refl fits.0 fits.1
-operands w has binary.IntEqual a b h fits = sound.its_types refl fits.0 fits.1
-operands w has binary.IntNotEqual a b h fits = sound.its_types refl fits.0 fits.1
-operands w has binary.IntLess a b h fits = sound.its_types refl fits.0 fits.1
-operands w has binary.IntLessOrEqual a b h fits = sound.its_types refl fits.0 fits.1
-operands w has binary.IntGreater a b h fits = sound.its_types refl fits.0 fits.1
-operands w has binary.IntGreaterOrEqual a b h fits = sound.its_types refl fits.0 fits.1
-operands w has binary.LongAdd a b h fits = sound.its_types refl fits.0 fits.1
-operands w has binary.LongSubtract a b h fits = sound.its_types refl fits.0 fits.1
-operands w has binary.LongMultiply a b h fits = sound.its_types refl fits.0 fits.1
-operands w has binary.LongOr a b h fits = sound.its_types refl fits.0 fits.1
-operands w has binary.LongAnd a b h fits = sound.its_types refl fits.0 fits.1
-operands w has binary.LongXor a b h fits = sound.its_types refl fits.0 fits.1
-operands w has binary.LongShiftLeft a b h fits = sound.its_types refl fits.0 fits.1
-operands w has binary.LongShiftRightLogical a b h fits = sound.its_types refl fits.0 fits.1
-operands w has binary.LongShiftRightArithmetic a b h fits = sound.its_types refl fits.0 fits.1
-operands w has binary.LongEqual a b h fits = sound.its_types refl fits.0 fits.1
-operands w has binary.LongNotEqual a b h fits = sound.its_types refl fits.0 fits.1
-operands w has binary.LongLess a b h fits = sound.its_types refl fits.0 fits.1
-operands w has binary.LongLessOrEqual a b h fits = sound.its_types refl fits.0 fits.1
-operands w has binary.LongGreater a b h fits = sound.its_types refl fits.0 fits.1
-operands w has binary.LongGreaterOrEqual a b h fits = sound.its_types refl fits.0 fits.1
-
-dividend : (w : Classes) (o : BinaryOp) (a b : Term) → ByLiteral o b → OperandsFit w o a b → IsSub w (type_of_term a) (left_operand o)
-dividend w _ a _ (by_an_int _ a_quotient p z ne) fits = fits.0
-dividend w _ a _ (by_an_int _ a_remainder p z ne) fits = fits.0
-dividend w _ a _ (by_a_long _ a_long_quotient p z ne) fits = fits.0
-dividend w _ a _ (by_a_long _ a_long_remainder p z ne) fits = fits.0
+-- operands of an operator that is built: of its types, joined, or a dividend in front of a literal
+operation : (w : Classes) (has : Usable) (o : BinaryOp) (a b : Term) → is_operation o b ≡ true → IsListedTree b → OperandsFit w o a b → sound.Takes (IsSub w) has o a b ⊎ (DividesBy o b × IsSub w (type_of_term a) (left_operand o))
+operation w has binary.StrictEqual a b h listed fits = impossible h
+operation w has binary.StrictNotEqual a b h listed fits = impossible h
+operation w has binary.IntDivide a b h listed fits = inr (int_divisor binary.IntDivide b a_quotient h listed, fits.0)
+operation w has binary.IntRemainder a b h listed fits = inr (int_divisor binary.IntRemainder b a_remainder h listed, fits.0)
+operation w has binary.LongDivide a b h listed fits = inr (long_divisor binary.LongDivide b a_long_quotient h listed, fits.0)
+operation w has binary.LongRemainder a b h listed fits = inr (long_divisor binary.LongRemainder b a_long_remainder h listed, fits.0)
+operation w has binary.StringConcatenate a b h listed fits = inl (sound.texts refl (joined (type_of_term a) fits.0) (joined (type_of_term b) fits.1))
+operation w has binary.BooleanEqual a b h listed fits = inl (sound.its_types refl fits.0 fits.1)
+operation w has binary.BooleanNotEqual a b h listed fits = inl (sound.its_types refl fits.0 fits.1)
+operation w has binary.BooleanOr a b h listed fits = inl (sound.its_types refl fits.0 fits.1)
+operation w has binary.BooleanAnd a b h listed fits = inl (sound.its_types refl fits.0 fits.1)
+operation w has binary.IntAdd a b h listed fits = inl (sound.its_types refl fits.0 fits.1)
+operation w has binary.IntSubtract a b h listed fits = inl (sound.its_types refl fits.0 fits.1)
+operation w has binary.IntMultiply a b h listed fits = inl (sound.its_types refl fits.0 fits.1)
+operation w has binary.IntOr a b h listed fits = inl (sound.its_types refl fits.0 fits.1)
+operation w has binary.IntAnd a b h listed fits = inl (sound.its_types refl fits.0 fits.1)
+operation w has binary.IntXor a b h listed fits = inl (sound.its_types refl fits.0 fits.1)
+operation w has binary.IntShiftLeft a b h listed fits = inl (sound.its_types refl fits.0 fits.1)
+operation w has binary.IntShiftRightLogical a b h listed fits = inl (sound.its_types refl fits.0 fits.1)
+operation w has binary.IntShiftRightArithmetic a b h listed fits = inl (sound.its_types refl fits.0 fits.1)
+operation w has binary.IntEqual a b h listed fits = inl (sound.its_types refl fits.0 fits.1)
+operation w has binary.IntNotEqual a b h listed fits = inl (sound.its_types refl fits.0 fits.1)
+operation w has binary.IntLess a b h listed fits = inl (sound.its_types refl fits.0 fits.1)
+operation w has binary.IntLessOrEqual a b h listed fits = inl (sound.its_types refl fits.0 fits.1)
+operation w has binary.IntGreater a b h listed fits = inl (sound.its_types refl fits.0 fits.1)
+operation w has binary.IntGreaterOrEqual a b h listed fits = inl (sound.its_types refl fits.0 fits.1)
+operation w has binary.LongAdd a b h listed fits = inl (sound.its_types refl fits.0 fits.1)
+operation w has binary.LongSubtract a b h listed fits = inl (sound.its_types refl fits.0 fits.1)
+operation w has binary.LongMultiply a b h listed fits = inl (sound.its_types refl fits.0 fits.1)
+operation w has binary.LongOr a b h listed fits = inl (sound.its_types refl fits.0 fits.1)
+operation w has binary.LongAnd a b h listed fits = inl (sound.its_types refl fits.0 fits.1)
+operation w has binary.LongXor a b h listed fits = inl (sound.its_types refl fits.0 fits.1)
+operation w has binary.LongShiftLeft a b h listed fits = inl (sound.its_types refl fits.0 fits.1)
+operation w has binary.LongShiftRightLogical a b h listed fits = inl (sound.its_types refl fits.0 fits.1)
+operation w has binary.LongShiftRightArithmetic a b h listed fits = inl (sound.its_types refl fits.0 fits.1)
+operation w has binary.LongEqual a b h listed fits = inl (sound.its_types refl fits.0 fits.1)
+operation w has binary.LongNotEqual a b h listed fits = inl (sound.its_types refl fits.0 fits.1)
+operation w has binary.LongLess a b h listed fits = inl (sound.its_types refl fits.0 fits.1)
+operation w has binary.LongLessOrEqual a b h listed fits = inl (sound.its_types refl fits.0 fits.1)
+operation w has binary.LongGreater a b h listed fits = inl (sound.its_types refl fits.0 fits.1)
+operation w has binary.LongGreaterOrEqual a b h listed fits = inl (sound.its_types refl fits.0 fits.1)
 
 same_call_type : (o : Option TypeRef) → rules.call_type o ≡ call_type o
 same_call_type None = refl
@@ -162,39 +163,51 @@ module _ (w : Classes) (space : Namespace) (has : Usable) where
   inner : (ls : List Label) (n : ℕ) (t : Term) → Met (nodes ls n t) → Met (below ls n t)
   inner ls n t h = front (below ls n t) (node n ls t ∷ []) h
 
-  -- an operator, by its operands
-  operands_rows : (p : Position) (o : BinaryOp) (e d : Term) (bs : List sound.Label) → (Built has bs e → Rows (IsSub w) has bs e) → (Built has bs d → Rows (IsSub w) has bs d) → Built has bs (binary_op p o e d) → IsListedTree d → OperandsFit w o e d → Rows (IsSub w) has bs (binary_op p o e d)
-  operands_rows p o e d bs one other (inl built) listed its = inl (operands w has o e d built.0 its, one built.1, other built.2)
-  operands_rows p o e d bs one other (inr built) listed its = inr (divisor_of o d built.0 listed, dividend w o e d built.0 its, one built.1)
-
   mutual
-    rows : (t : Term) (ls : List Label) (bs : List sound.Label) (n : ℕ) → SameLabels ls bs → Built has bs t → IsListedTree t → Met (nodes ls n t) → Rows (IsSub w) has bs t
-    rows (var_def p x t b e) ls bs n around built listed all = let its = own ls n (var_def p x t b e) all in let met = inner ls n (var_def p x t b e) all in ((its, built.0), rows e ls bs (n + 1) around built.1 listed.2 met)
+    rows : (t : Term) (ls : List Label) (bs : List sound.Label) (n : ℕ) → SameLabels ls bs → is_built has bs t ≡ true → IsListedTree t → Met (nodes ls n t) → Rows (IsSub w) has bs t
+    rows (var_def p x t b e) ls bs n around built listed all = let its = own ls n (var_def p x t b e) all in let met = inner ls n (var_def p x t b e) all in let k = and_parts (not (is_boxed t e)) (is_built has bs e) built in ((its, no_box t e k.0), rows e ls bs (n + 1) around k.1 listed.2 met)
     rows (skip p) ls bs n around built listed all = tt
     rows (block_of p ts) ls bs n around built listed all = let met = inner ls n (block_of p ts) all in all_rows ts ls bs (n + 1) around built listed met
-    rows (labeled p l t e) ls bs n around built listed all = let its = own ls n (labeled p l t e) all in let met = inner ls n (labeled p l t e) all in (yields w has e t built.0 its, rows e (inside l t ls) (record { name = l; tpe = t } ∷ bs) (n + 1) (one_more ls bs l t around) built.1 listed.2 met)
-    rows (assign p (var_ref q x t) e) ls bs n around built listed all = let its = own ls n (assign p (var_ref q x t) e) all in let met = inner ls n (assign p (var_ref q x t) e) all in ((its.1, built.0), rows e ls bs (n + 1 + size (var_ref q x t)) around built.1 listed.1 (back (nodes ls (n + 1) (var_ref q x t)) (nodes ls (n + 1 + size (var_ref q x t)) e) met))
+    rows (labeled p l t e) ls bs n around built listed all = let its = own ls n (labeled p l t e) all in let met = inner ls n (labeled p l t e) all in let k = and_parts (not (yields_boxed t e)) (is_built has (record { name = l; tpe = t } ∷ bs) e) built in (yields w has e t k.0 its, rows e (inside l t ls) (record { name = l; tpe = t } ∷ bs) (n + 1) (one_more ls bs l t around) k.1 listed.2 met)
+    rows (assign p (var_ref q x t) e) ls bs n around built listed all = let its = own ls n (assign p (var_ref q x t) e) all in let met = inner ls n (assign p (var_ref q x t) e) all in let k = and_parts (not (is_boxed t e)) (is_built has bs e) built in ((its.1, no_box t e k.0), rows e ls bs (n + 1 + size (var_ref q x t)) around k.1 listed.1 (back (nodes ls (n + 1) (var_ref q x t)) (nodes ls (n + 1 + size (var_ref q x t)) e) met))
     rows (return_to p e l) ls bs n around built listed all =
         let its = own ls n (return_to p e l) all in let met = inner ls n (return_to p e l) all in
         let is : sound.type_of_label bs l ≡ Some its.tpe = sym (around l) ∙ its.is_type in
-        (record { tpe = its.tpe; is = is; yields = yields w has e its.tpe (built.0 its.tpe is) its.yields }, rows e ls bs (n + 1) around built.1 listed.0 met)
+        let k = and_parts (not (leaves_boxed (sound.type_of_label bs l) e)) (is_built has bs e) built in
+        let raw : not (yields_boxed its.tpe e) ≡ true = subst (λ (o : Option IrType). not (leaves_boxed o e) ≡ true) is k.0 in
+        (record { tpe = its.tpe; is = is; yields = yields w has e its.tpe raw its.yields }, rows e ls bs (n + 1) around k.1 listed.0 met)
     rows (if_then p c a b t) ls bs n around built listed all =
         let its = own ls n (if_then p c a b t) all in let met = inner ls n (if_then p c a b t) all in
         let behind : Met (nodes ls (n + 1 + size c) a ++ nodes ls (n + 1 + size c + size a) b) = back (nodes ls (n + 1) c) (nodes ls (n + 1 + size c) a ++ nodes ls (n + 1 + size c + size a) b) met in
-        (its.0, yields w has a t built.0 its.1, yields w has b t built.1 its.2, rows c ls bs (n + 1) around built.2 listed.0 (front (nodes ls (n + 1) c) (nodes ls (n + 1 + size c) a ++ nodes ls (n + 1 + size c + size a) b) met), rows a ls bs (n + 1 + size c) around built.3 listed.1 (front (nodes ls (n + 1 + size c) a) (nodes ls (n + 1 + size c + size a) b) behind), rows b ls bs (n + 1 + size c + size a) around built.4 listed.2 (back (nodes ls (n + 1 + size c) a) (nodes ls (n + 1 + size c + size a) b) behind))
-    rows (while_loop p c b) ls bs n around built listed all = let its = own ls n (while_loop p c b) all in let met = inner ls n (while_loop p c b) all in (its, rows c ls bs (n + 1) around built.0 listed.0 (front (nodes ls (n + 1) c) (nodes ls (n + 1 + size c) b) met), rows b ls bs (n + 1 + size c) around built.1 listed.1 (back (nodes ls (n + 1) c) (nodes ls (n + 1 + size c) b) met))
-    rows (do_while p b c) ls bs n around built listed all = let its = own ls n (do_while p b c) all in let met = inner ls n (do_while p b c) all in (its, rows b ls bs (n + 1) around built.0 listed.0 (front (nodes ls (n + 1) b) (nodes ls (n + 1 + size b) c) met), rows c ls bs (n + 1 + size b) around built.1 listed.1 (back (nodes ls (n + 1) b) (nodes ls (n + 1 + size b) c) met))
+        let k = and_parts (not (yields_boxed t a) && not (yields_boxed t b)) (is_built has bs c && (is_built has bs a && is_built has bs b)) built in
+        let raw = and_parts (not (yields_boxed t a)) (not (yields_boxed t b)) k.0 in
+        let parts = and_parts (is_built has bs c) (is_built has bs a && is_built has bs b) k.1 in
+        let branches = and_parts (is_built has bs a) (is_built has bs b) parts.1 in
+        (its.0, yields w has a t raw.0 its.1, yields w has b t raw.1 its.2, rows c ls bs (n + 1) around parts.0 listed.0 (front (nodes ls (n + 1) c) (nodes ls (n + 1 + size c) a ++ nodes ls (n + 1 + size c + size a) b) met), rows a ls bs (n + 1 + size c) around branches.0 listed.1 (front (nodes ls (n + 1 + size c) a) (nodes ls (n + 1 + size c + size a) b) behind), rows b ls bs (n + 1 + size c + size a) around branches.1 listed.2 (back (nodes ls (n + 1 + size c) a) (nodes ls (n + 1 + size c + size a) b) behind))
+    rows (while_loop p c b) ls bs n around built listed all = let its = own ls n (while_loop p c b) all in let met = inner ls n (while_loop p c b) all in let k = and_parts (is_built has bs c) (is_built has bs b) built in (its, rows c ls bs (n + 1) around k.0 listed.0 (front (nodes ls (n + 1) c) (nodes ls (n + 1 + size c) b) met), rows b ls bs (n + 1 + size c) around k.1 listed.1 (back (nodes ls (n + 1) c) (nodes ls (n + 1 + size c) b) met))
+    rows (do_while p b c) ls bs n around built listed all = let its = own ls n (do_while p b c) all in let met = inner ls n (do_while p b c) all in let k = and_parts (is_built has bs b) (is_built has bs c) built in (its, rows b ls bs (n + 1) around k.0 listed.0 (front (nodes ls (n + 1) b) (nodes ls (n + 1 + size b) c) met), rows c ls bs (n + 1 + size b) around k.1 listed.1 (back (nodes ls (n + 1) b) (nodes ls (n + 1 + size b) c) met))
     rows (match_on p e cs d t) ls bs n around built listed all =
         let its = own ls n (match_on p e cs d t) all in let met = inner ls n (match_on p e cs d t) all in
         let k = n + 1 + size e in
         let behind : Met (nodes_of_cases ls k cs ++ nodes ls (k + size_of_cases cs) d) = back (nodes ls (n + 1) e) (nodes_of_cases ls k cs ++ nodes ls (k + size_of_cases cs) d) met in
-        (its.0, yields w has d t built.0 its.2, rows e ls bs (n + 1) around built.1 listed.0 (front (nodes ls (n + 1) e) (nodes_of_cases ls k cs ++ nodes ls (k + size_of_cases cs) d) met), case_rows cs ls bs t k around built.2 listed.1 its.1 (front (nodes_of_cases ls k cs) (nodes ls (k + size_of_cases cs) d) behind), rows d ls bs (k + size_of_cases cs) around built.3 listed.2 (back (nodes_of_cases ls k cs) (nodes ls (k + size_of_cases cs) d) behind))
+        let raw = and_parts (not (yields_boxed t d)) (is_built has bs e && (are_built_cases has bs t cs && is_built has bs d)) built in
+        let parts = and_parts (is_built has bs e) (are_built_cases has bs t cs && is_built has bs d) raw.1 in
+        let branches = and_parts (are_built_cases has bs t cs) (is_built has bs d) parts.1 in
+        (its.0, yields w has d t raw.0 its.2, rows e ls bs (n + 1) around parts.0 listed.0 (front (nodes ls (n + 1) e) (nodes_of_cases ls k cs ++ nodes ls (k + size_of_cases cs) d) met), case_rows cs ls bs t k around branches.0 listed.1 its.1 (front (nodes_of_cases ls k cs) (nodes ls (k + size_of_cases cs) d) behind), rows d ls bs (k + size_of_cases cs) around branches.1 listed.2 (back (nodes_of_cases ls k cs) (nodes ls (k + size_of_cases cs) d) behind))
     rows (apply_static p c s m ts t) ls bs n around built listed all =
         let its = own ls n (apply_static p c s m ts t) all in let met = inner ls n (apply_static p c s m ts t) all in
         let called : t ≡ call_type m.result = its.1 ∙ same_call_type m.result in
-        (built.0, result_is m.result t called, arguments w has ts m.params built.1 listed.1.0.params its.2, all_rows ts ls bs (n + 1) around built.2 listed.2 met, called)
+        let linked = and_parts (has.linked (member c s m)) (not (any_is_boxed m.params ts) && are_built has bs ts) built in
+        let parts = and_parts (not (any_is_boxed m.params ts)) (are_built has bs ts) linked.1 in
+        (linked.0, result_is m.result t called, arguments w has ts m.params parts.0 listed.1.0.params its.2, all_rows ts ls bs (n + 1) around parts.1 listed.2 met, called)
     rows (unary_op p o e) ls bs n around built listed all = let its = own ls n (unary_op p o e) all in let met = inner ls n (unary_op p o e) all in (operand w o e its, rows e ls bs (n + 1) around built listed met)
-    rows (binary_op p o e d) ls bs n around built listed all = let its = own ls n (binary_op p o e d) all in let met = inner ls n (binary_op p o e d) all in operands_rows p o e d bs (λ b. rows e ls bs (n + 1) around b listed.0 (front (nodes ls (n + 1) e) (nodes ls (n + 1 + size e) d) met)) (λ b. rows d ls bs (n + 1 + size e) around b listed.1 (back (nodes ls (n + 1) e) (nodes ls (n + 1 + size e) d) met)) built listed.1 its
+    rows (binary_op p o e d) ls bs n around built listed all =
+        let its = own ls n (binary_op p o e d) all in let met = inner ls n (binary_op p o e d) all in
+        let k = and_parts (is_operation o d) (is_built has bs e && is_built has bs d) built in
+        let parts = and_parts (is_built has bs e) (is_built has bs d) k.1 in
+        let one = rows e ls bs (n + 1) around parts.0 listed.0 (front (nodes ls (n + 1) e) (nodes ls (n + 1 + size e) d) met) in
+        let other = rows d ls bs (n + 1 + size e) around parts.1 listed.1 (back (nodes ls (n + 1) e) (nodes ls (n + 1 + size e) d) met) in
+        ⊎_elim (λ takes. inl (takes, one, other)) (λ divides. inr (divides.0, divides.1, one)) (operation w has o e d k.0 listed.1 its)
     rows (undefined_literal p) ls bs n around built listed all = tt
     rows (null_literal p) ls bs n around built listed all = tt
     rows (boolean_literal p b) ls bs n around built listed all = tt
@@ -206,15 +219,15 @@ module _ (w : Classes) (space : Namespace) (has : Usable) where
     rows (string_literal p us) ls bs n around built listed all = tt
     rows (var_ref p x t) ls bs n around built listed all = tt
     rows (log_line p e) ls bs n around built listed all = let its = own ls n (log_line p e) all in let met = inner ls n (log_line p e) all in (its, rows e ls bs (n + 1) around built listed met)
-    rows t ls bs n around built listed all = absurd built
+    rows t ls bs n around built listed all = impossible built
 
-    all_rows : (ts : Terms) (ls : List Label) (bs : List sound.Label) (n : ℕ) → SameLabels ls bs → AllBuilt has bs ts → AreListedTrees ts → Met (nodes_of_all ls n ts) → AllRows (IsSub w) has bs ts
+    all_rows : (ts : Terms) (ls : List Label) (bs : List sound.Label) (n : ℕ) → SameLabels ls bs → are_built has bs ts ≡ true → AreListedTrees ts → Met (nodes_of_all ls n ts) → AllRows (IsSub w) has bs ts
     all_rows no_terms ls bs n around built listed met = tt
-    all_rows (more_terms t ts) ls bs n around built listed met = (rows t ls bs n around built.0 listed.0 (front (nodes ls n t) (nodes_of_all ls (n + size t) ts) met), all_rows ts ls bs (n + size t) around built.1 listed.1 (back (nodes ls n t) (nodes_of_all ls (n + size t) ts) met))
+    all_rows (more_terms t ts) ls bs n around built listed met = let k = and_parts (is_built has bs t) (are_built has bs ts) built in (rows t ls bs n around k.0 listed.0 (front (nodes ls n t) (nodes_of_all ls (n + size t) ts) met), all_rows ts ls bs (n + size t) around k.1 listed.1 (back (nodes ls n t) (nodes_of_all ls (n + size t) ts) met))
 
-    case_rows : (cs : Cases) (ls : List Label) (bs : List sound.Label) (t : IrType) (n : ℕ) → SameLabels ls bs → CasesBuilt has bs t cs → AreListedCases cs → CasesYield w cs t → Met (nodes_of_cases ls n cs) → CaseRows (IsSub w) has bs t cs
+    case_rows : (cs : Cases) (ls : List Label) (bs : List sound.Label) (t : IrType) (n : ℕ) → SameLabels ls bs → are_built_cases has bs t cs ≡ true → AreListedCases cs → CasesYield w cs t → Met (nodes_of_cases ls n cs) → CaseRows (IsSub w) has bs t cs
     case_rows no_cases ls bs t n around built listed its met = tt
-    case_rows (more_cases keys e cs) ls bs t n around built listed its met = (yields w has e t built.0 its.0, rows e ls bs n around built.1 listed.1 (front (nodes ls n e) (nodes_of_cases ls (n + size e) cs) met), case_rows cs ls bs t (n + size e) around built.2 listed.2 its.1 (back (nodes ls n e) (nodes_of_cases ls (n + size e) cs) met))
+    case_rows (more_cases keys e cs) ls bs t n around built listed its met = let raw = and_parts (not (yields_boxed t e)) (is_built has bs e && are_built_cases has bs t cs) built in let parts = and_parts (is_built has bs e) (are_built_cases has bs t cs) raw.1 in (yields w has e t raw.0 its.0, rows e ls bs n around parts.0 listed.1 (front (nodes ls n e) (nodes_of_cases ls (n + size e) cs) met), case_rows cs ls bs t (n + size e) around parts.1 listed.2 its.1 (back (nodes ls n e) (nodes_of_cases ls (n + size e) cs) met))
 
 no_labels : SameLabels [] []
 no_labels l = refl
@@ -222,8 +235,8 @@ no_labels l = refl
 one_body : {o : Option Term} {e d : Term} → o ≡ Some e → o ≡ Some d → e ≡ d
 one_body e d = cc
 
-pub has_rows : (w : Classes) (has : Usable) (d : MethodDef) (e : Term) → d.body ≡ Some e → IsTyped w d → Built has [] e → IsListedTree e → Rows (IsSub w) has [] e
-has_rows w has d e is typed built listed = rows w d.namespace has e [] [] 0 no_labels built listed (subst (λ (b : Term). All (MeetsThere w d.namespace) (nodes [] 0 b)) (one_body typed.has_body is) typed.met)
+pub has_rows : (w : Classes) (has : Usable) (d : MethodDef) (e : Term) → d.body ≡ Some e → IsTyped w d → is_built_method has d e ≡ true → IsListedTree e → Rows (IsSub w) has [] e
+has_rows w has d e is typed built listed = rows w d.namespace has e [] [] 0 no_labels (and_parts (not (yields_boxed d.result e)) (is_built has [] e) built).1 listed (subst (λ (b : Term). All (MeetsThere w d.namespace) (nodes [] 0 b)) (one_body typed.has_body is) typed.met)
 
-pub yields_result : (w : Classes) (has : Usable) (d : MethodDef) (e : Term) → d.body ≡ Some e → IsTyped w d → HasNoBox d.result e → sound.Yields (IsSub w) has e d.result
-yields_result w has d e is typed box = yields w has e d.result box (subst (λ (b : Term). rules.Yields w b d.result) (one_body typed.has_body is) typed.yields)
+pub yields_result : (w : Classes) (has : Usable) (d : MethodDef) (e : Term) → d.body ≡ Some e → IsTyped w d → is_built_method has d e ≡ true → sound.Yields (IsSub w) has e d.result
+yields_result w has d e is typed built = yields w has e d.result (and_parts (not (yields_boxed d.result e)) (is_built has [] e) built).0 (subst (λ (b : Term). rules.Yields w b d.result) (one_body typed.has_body is) typed.yields)

@@ -1,82 +1,96 @@
--- What is asked of a method beside its typing, so that the theorem on bodies covers it: its forms, and that no char becomes an object.
-use Rattle.std.specs.Prelude.{◌≡◌, ◌≢◌, ℤ, pos, Bool, true, false, List, [], ◌∷◌, ◌⊎◌, Some}
+-- What is asked of a method beside its typing, so that the theorem on bodies covers it: that it is of the forms that are built, one Boolean.
+use Rattle.std.specs.Prelude.{ℤ, pos, Bool, true, false, ◌&&◌, ◌||◌, not, List, [], ◌∷◌, Option, Some, None}
+use Rattle.std.specs.Ordering.{int_eq}
+use Rattle.sj_desugar.specs.Coercions.{is_char}
 use Rattle.sj_desugar.specs.Desugar.{member}
 use Rattle.sj_names.specs.declared.references.TypeRef.{TypeRef}
-use Rattle.sj_plain.specs.Conditions.{IsDivision, IsLongDivision, Usable}
-use Rattle.sj_sound.specs.Typing.{Label, type_of_label, NoBox}
+use Rattle.sj_plain.specs.Conditions.{Usable}
+use Rattle.sj_sound.specs.Typing.{Label, type_of_label}
 use Rattle.sj_trees.specs.Term.{Term, Terms, no_terms, more_terms, Cases, no_cases, more_cases, var_def, skip, block_of, labeled, assign, return_to, if_then, while_loop, do_while, match_on, apply_static, unary_op, binary_op, undefined_literal, null_literal, boolean_literal, char_literal, byte_literal, short_literal, int_literal, long_literal, string_literal, var_ref, log_line}
 use Rattle.sj_trees.specs.TypeOf.{type_of_term}
 use Rattle.sj_trees.specs.Types.{reference_type}
 use Rattle.sj_trees.specs.declared.classes.MethodDef.{MethodDef}
 use Rattle.sj_trees.specs.declared.operators.BinaryOp.{BinaryOp}
 use Rattle.sj_trees.specs.declared.operators.BinaryOp.TheVariants.{StrictEqual, StrictNotEqual, IntDivide, IntRemainder, LongDivide, LongRemainder}
-use Rattle.sj_trees.specs.declared.positions.Position.{Position}
 use Rattle.sj_trees.specs.declared.types.IrType.{IrType}
 use Rattle.sj_trees.specs.declared.types.IrType.TheVariants.{NoType}
 
--- no char stands where another type is expected; where no value is wanted, none is
-abbrev pub HasNoBox : IrType → Term → Type 0
-HasNoBox t e = (t ≡ NoType) ⊎ NoBox t (type_of_term e)
+-- a char stands where another type is expected: there an object has to be made that holds it
+abbrev pub is_boxed : IrType → Term → Bool
+is_boxed expected e = is_char (type_of_term e) && not (is_char expected)
 
-abbrev pub HaveNoBox : List TypeRef → Terms → Type 0
-HaveNoBox (r ∷ rs) (more_terms e es) = NoBox (reference_type r) (type_of_term e) × HaveNoBox rs es
-HaveNoBox _ _ = Unit {0}
+-- a char is the value where another type is expected, if a value is wanted
+abbrev pub yields_boxed : IrType → Term → Bool
+yields_boxed NoType e = false
+yields_boxed t e = is_boxed t e
 
--- a division by a literal other than zero
-pub data ByLiteral : BinaryOp → Term → Type 0 where
-  by_an_int : (o : BinaryOp) → IsDivision o → (p : Position) (z : ℤ) → z ≢ pos 0 → ByLiteral o (int_literal p z)
-  by_a_long : (o : BinaryOp) → IsLongDivision o → (p : Position) (z : ℤ) → z ≢ pos 0 → ByLiteral o (long_literal p z)
+-- likewise, where the value leaves to a label of this type, if there is one
+abbrev pub leaves_boxed : Option IrType → Term → Bool
+leaves_boxed None e = false
+leaves_boxed (Some t) e = yields_boxed t e
 
--- an operator that is built whatever its operands are: any but those of identity and of division
-abbrev pub is_operator : BinaryOp → Bool
-is_operator StrictEqual = false
-is_operator StrictNotEqual = false
-is_operator IntDivide = false
-is_operator IntRemainder = false
-is_operator LongDivide = false
-is_operator LongRemainder = false
-is_operator _ = true
+abbrev pub any_is_boxed : List TypeRef → Terms → Bool
+any_is_boxed (r ∷ rs) (more_terms e es) = is_boxed (reference_type r) e || any_is_boxed rs es
+any_is_boxed _ _ = false
+
+-- a literal other than zero
+abbrev pub is_nonzero_int : Term → Bool
+is_nonzero_int (int_literal p z) = not (int_eq z (pos 0))
+is_nonzero_int _ = false
+
+abbrev pub is_nonzero_long : Term → Bool
+is_nonzero_long (long_literal p z) = not (int_eq z (pos 0))
+is_nonzero_long _ = false
+
+-- an operator with this right operand: any but those of identity; a divisor is a literal other than zero
+abbrev pub is_operation : BinaryOp → Term → Bool
+is_operation StrictEqual d = false
+is_operation StrictNotEqual d = false
+is_operation IntDivide d = is_nonzero_int d
+is_operation IntRemainder d = is_nonzero_int d
+is_operation LongDivide d = is_nonzero_long d
+is_operation LongRemainder d = is_nonzero_long d
+is_operation _ d = true
 
 module _ (has : Usable) where
   abbrev mutual
     -- a tree of the forms that are built, with these labels around it, the innermost first: calls are of linked members, divisors are literals,
     -- and no char stands where another type is expected
-    pub Built : List Label → Term → Type 0
-    Built ls (var_def p x t b e) = NoBox t (type_of_term e) × Built ls e
-    Built ls (skip p) = Unit {0}
-    Built ls (block_of p ts) = AllBuilt ls ts
-    Built ls (labeled p l t e) = HasNoBox t e × Built (record { name = l; tpe = t } ∷ ls) e
-    Built ls (assign p (var_ref q x t) e) = NoBox t (type_of_term e) × Built ls e
-    Built ls (return_to p e l) = ((t : IrType) → type_of_label ls l ≡ Some t → HasNoBox t e) × Built ls e
-    Built ls (if_then p c a b t) = HasNoBox t a × HasNoBox t b × Built ls c × Built ls a × Built ls b
-    Built ls (while_loop p c b) = Built ls c × Built ls b
-    Built ls (do_while p b c) = Built ls b × Built ls c
-    Built ls (match_on p e cs d t) = HasNoBox t d × Built ls e × CasesBuilt ls t cs × Built ls d
-    Built ls (apply_static p c n m ts t) = (has.linked (member c n m) ≡ true) × HaveNoBox m.params ts × AllBuilt ls ts
-    Built ls (unary_op p o e) = Built ls e
-    Built ls (binary_op p o e d) = ((is_operator o ≡ true) × Built ls e × Built ls d) ⊎ (ByLiteral o d × Built ls e)
-    Built ls (undefined_literal p) = Unit {0}
-    Built ls (null_literal p) = Unit {0}
-    Built ls (boolean_literal p b) = Unit {0}
-    Built ls (char_literal p u) = Unit {0}
-    Built ls (byte_literal p z) = Unit {0}
-    Built ls (short_literal p z) = Unit {0}
-    Built ls (int_literal p z) = Unit {0}
-    Built ls (long_literal p z) = Unit {0}
-    Built ls (string_literal p us) = Unit {0}
-    Built ls (var_ref p x t) = Unit {0}
-    Built ls (log_line p e) = Built ls e
-    Built ls _ = ⊥
+    pub is_built : List Label → Term → Bool
+    is_built ls (var_def p x t b e) = not (is_boxed t e) && is_built ls e
+    is_built ls (skip p) = true
+    is_built ls (block_of p ts) = are_built ls ts
+    is_built ls (labeled p l t e) = not (yields_boxed t e) && is_built (record { name = l; tpe = t } ∷ ls) e
+    is_built ls (assign p (var_ref q x t) e) = not (is_boxed t e) && is_built ls e
+    is_built ls (return_to p e l) = not (leaves_boxed (type_of_label ls l) e) && is_built ls e
+    is_built ls (if_then p c a b t) = (not (yields_boxed t a) && not (yields_boxed t b)) && (is_built ls c && (is_built ls a && is_built ls b))
+    is_built ls (while_loop p c b) = is_built ls c && is_built ls b
+    is_built ls (do_while p b c) = is_built ls b && is_built ls c
+    is_built ls (match_on p e cs d t) = not (yields_boxed t d) && (is_built ls e && (are_built_cases ls t cs && is_built ls d))
+    is_built ls (apply_static p c n m ts t) = has.linked (member c n m) && (not (any_is_boxed m.params ts) && are_built ls ts)
+    is_built ls (unary_op p o e) = is_built ls e
+    is_built ls (binary_op p o e d) = is_operation o d && (is_built ls e && is_built ls d)
+    is_built ls (undefined_literal p) = true
+    is_built ls (null_literal p) = true
+    is_built ls (boolean_literal p b) = true
+    is_built ls (char_literal p u) = true
+    is_built ls (byte_literal p z) = true
+    is_built ls (short_literal p z) = true
+    is_built ls (int_literal p z) = true
+    is_built ls (long_literal p z) = true
+    is_built ls (string_literal p us) = true
+    is_built ls (var_ref p x t) = true
+    is_built ls (log_line p e) = is_built ls e
+    is_built ls _ = false
 
-    pub AllBuilt : List Label → Terms → Type 0
-    AllBuilt ls no_terms = Unit {0}
-    AllBuilt ls (more_terms t ts) = Built ls t × AllBuilt ls ts
+    pub are_built : List Label → Terms → Bool
+    are_built ls no_terms = true
+    are_built ls (more_terms t ts) = is_built ls t && are_built ls ts
 
-    pub CasesBuilt : List Label → IrType → Cases → Type 0
-    CasesBuilt ls t no_cases = Unit {0}
-    CasesBuilt ls t (more_cases ns e cs) = HasNoBox t e × Built ls e × CasesBuilt ls t cs
+    pub are_built_cases : List Label → IrType → Cases → Bool
+    are_built_cases ls t no_cases = true
+    are_built_cases ls t (more_cases ns e cs) = not (yields_boxed t e) && (is_built ls e && are_built_cases ls t cs)
 
 -- a method of this body is built: its value is no char where its result is of another type
-pub record MethodBuilt (has : Usable) (d : MethodDef) (e : Term) : Type 0 where
-  pub result : HasNoBox d.result e
-  pub body : Built has [] e
+abbrev pub is_built_method : Usable → MethodDef → Term → Bool
+is_built_method has d e = not (yields_boxed d.result e) && is_built has [] e
