@@ -3,8 +3,8 @@ use Rattle.std.specs.Prelude.{◌≡◌, Bool, true, List}
 use Rattle.sj_names.specs.declared.entry_points.EntryPoint.{EntryPoint}
 use Rattle.sj_world.specs.Known.{Classes}
 use Rattle.sj_world.specs.declared.linked.Fact.{Fact}
-use Rattle.sj_reach.specs.Rules.{Rule}
-use Rattle.sj_reach.specs.Reachable.{Reachable}
+use Rattle.reach_rules.specs.Rules.{Rule}
+use Rattle.reach_rules.specs.Reachable.{Reachable}
 
 -- what follows from reachable facts is reachable
 abbrev pub ReachableFactsAreClosed : Type 0

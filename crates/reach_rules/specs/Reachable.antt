@@ -3,8 +3,8 @@ use Rattle.std.specs.Prelude.{List, [], ◌∷◌, Contains}
 use Rattle.sj_names.specs.declared.entry_points.EntryPoint.{EntryPoint}
 use Rattle.sj_world.specs.Known.{Classes}
 use Rattle.sj_world.specs.declared.linked.Fact.{Fact}
-use Rattle.sj_reach.specs.Rules.{Rule}
-use Rattle.sj_reach.specs.Refusals.{Refusal, Asks}
+use Rattle.reach_rules.specs.Rules.{Rule}
+use Rattle.reach_rules.specs.Refusals.{Refusal, Asks}
 
 module _ (w : Classes) (entries : List EntryPoint) where
   -- each fact follows from those behind it: the list is read from its end

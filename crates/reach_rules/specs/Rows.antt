@@ -18,9 +18,9 @@ use Rattle.sj_trees.specs.declared.types.IrType.{IrType}
 use Rattle.sj_trees.specs.declared.types.IrType.TheVariants.{NoType, Any, Int}
 use Rattle.sj_world.specs.Known.{Name, Classes, object}
 use Rattle.sj_world.specs.Rows.{empty_class}
-use Rattle.sj_reach.specs.Refusals.{Refusal, place, missing_class, missing_method, missing_field, wrong_kind, abstract_target}
-use Rattle.sj_reach.specs.Reachable.{Reachable, Unresolved}
-use Rattle.sj_reach.specs.Rules.{plain_constructor, message_constructor, public_member}
+use Rattle.reach_rules.specs.Refusals.{Refusal, place, missing_class, missing_method, missing_field, wrong_kind, abstract_target}
+use Rattle.reach_rules.specs.Reachable.{Reachable, Unresolved}
+use Rattle.reach_rules.specs.Rules.{plain_constructor, message_constructor, public_member}
 use Rattle.sj_world.specs.declared.linked.Fact.{Fact}
 use Rattle.sj_world.specs.declared.linked.Fact.TheVariants as fact
 
@@ -77,6 +77,9 @@ call_by_proxy = apply nowhere x proxy no_terms Any
 abbrev pub call_as_a : Term
 call_as_a = apply_statically nowhere x (codes "A") Public (plain_name (codes "m")) no_terms NoType
 
+abbrev pub call_as_i : Term
+call_as_i = apply_statically nowhere x (codes "I") Public (plain_name (codes "m")) no_terms NoType
+
 abbrev pub field_of_a : Term
 field_of_a = select nowhere x (codes "A") (codes "f") Int
 
@@ -121,3 +124,13 @@ WorkedReachability = IsTold (static_call (codes "Gone") (codes "go")) [] (missin
     × IsTold static_field [] (missing_field object (codes "f")) (codes "java.lang.Object::x:f")
     × IsTold (new_object nowhere (codes "I") (plain_name init) no_terms) [] (wrong_kind (codes "I")) (codes "I")
     × IsTold (load_module nowhere object) [] (wrong_kind object) object
+    × IsTold call_m [] (abstract_target (public_member (codes "java.lang.Boolean") (plain_name (codes "m")))) (codes "java.lang.Boolean::f:m;V")
+    × IsTold call_as_i [] (missing_method (public_member (codes "I") (plain_name (codes "m")))) (codes "I::f:m;V")
+
+-- a method that nothing calls, and which calls a class that isn't there
+abbrev pub unused : MethodDef
+unused = static_method (codes "go") (Some (static_call (codes "Gone") (codes "go")))
+
+-- what only a body names that isn't reachable isn't needed
+abbrev pub IsUnneeded : Type 0
+IsUnneeded = Reachable (folder (skip nowhere) (unused ∷ [])) main_entries (fact.Needed (codes "Gone")) → ⊥

@@ -1,6 +1,6 @@
 // Laws of reachable facts.
-ghost use Rattle.sj_reach.specs.Laws.{ReachableFactsAreClosed, ReachableFactsAreLeast};
-ghost use Rattle.sj_reach.specs.Rows.{WorkedFacts, WorkedReachability};
+ghost use Rattle.reach_rules.specs.Laws.{ReachableFactsAreClosed, ReachableFactsAreLeast};
+ghost use Rattle.reach_rules.specs.Rows.{WorkedFacts, WorkedReachability, IsUnneeded};
 
 /// What follows by a rule from facts that are reachable is reachable.
 pub fn reachable_facts_are_closed()
@@ -20,4 +20,9 @@ pub fn worked_facts()
 /// Small folders, each with what is told of it: one for each code.
 pub fn worked_reachability()
     ensures { WorkedReachability }
+{}
+
+/// A small folder in which a class isn't needed, since only a body that isn't reachable names it.
+pub fn worked_limits()
+    ensures { IsUnneeded }
 {}

@@ -19,14 +19,13 @@ use Rattle.sj_world.specs.Paths.{IsFirst, stay}
 use Rattle.sj_world.specs.Resolution.{IsBody, IsBodyAt, Resolves, by_chain, begin, target}
 use Rattle.sj_world.specs.Subtypes.{IsSub, equal}
 use Rattle.sj_world.specs.declared.linked.Fact.TheVariants as fact
-use Rattle.sj_reach.specs.Reachable.{Reachable}
-use Rattle.sj_reach.specs.Refusals.{no_class, no_member, no_body, no_field, no_class_made, no_module}
-use Rattle.sj_reach.specs.Rows.{a_method, class_with_m, new_a, made_and, call_m, call_by_proxy, call_as_a, field_of_a, array_of_ints, is_an_i, quotient, proxy, IsReached, WorkedFacts, plain_name, folder, main_entries, static_method, static_call, static_field, WorkedReachability}
-use Rattle.sj_reach.specs.Rules.{Reads, of_entry, of_new, of_load, of_throw, of_call, on_made, asked_body, static_class, new_made, new_needed, call, dispatched, reflective, load_used, load_made, resolved_body, field_needed, array_made, class_named, throw_made, entry_member}
-use Rattle.sj_reach.proofs.Derivations.{closed}
-
-first_of : {X : Type 0} (Has : X → Type 0) (x : X) (xs : List X) → Has x → IsFirst Has (x ∷ xs) x
-first_of Has x xs h = record { place = 0; stands = refl; has = h; none_before = λ i y l. absurd (let k : i < 0 = l in omega arith) }
+use Rattle.reach_rules.specs.Reachable.{Reachable}
+use Rattle.reach_rules.specs.Refusals.{no_class, no_member, no_body, no_field, no_class_made, no_module, no_target, no_dispatched_method}
+use Rattle.reach_rules.specs.Rows.{a_method, class_with_m, new_a, made_and, call_m, call_by_proxy, call_as_a, call_as_i, field_of_a, array_of_ints, is_an_i, quotient, proxy, IsReached, WorkedFacts, plain_name, folder, main_entries, static_method, static_call, static_field, WorkedReachability}
+use Rattle.reach_rules.specs.Rules.{Reads, of_entry, of_new, of_load, of_throw, of_call, on_made, on_hijacked, asked_body, static_class, new_made, new_needed, call, dispatched, reflective, load_used, load_made, resolved_body, field_needed, array_made, class_named, throw_made, entry_member}
+use Rattle.reach_rules.proofs.Derivations.{closed}
+use Rattle.reach_rules.proofs.First.{first_of}
+use Rattle.reach_rules.proofs.Lacking.{boolean_has_none, interface_has_none}
 
 -- what `main` asks for is read
 reads : (body : Term) (methods : List MethodDef) (i : Info) → Contains (asked_in body) i → Reads (folder body methods) main_entries (Reachable (folder body methods) main_entries) i
@@ -129,4 +128,6 @@ worked = (
   (no_field _ _ _ (reads static_field [] _ (0, lit< tt, refl)) (record { class = _; is_class = refl; none = record { none = λ i y e. cc } }), refl),
   (no_class_made _ _ (reads (new_object nowhere (codes "I") _ no_terms) [] _ (0, lit< tt, refl)) (record { class = _; is_class = refl; other = λ e. cc }), refl),
   (no_module _ (reads (load_module nowhere object) [] _ (0, lit< tt, refl)) (record { class = _; is_class = refl; other = λ e. cc }), refl),
+  (no_dispatched_method _ _ (on_hijacked _ object (closed _ _ _ (call _ _ (reads call_m [] _ (0, lit< tt, refl)) refl)) refl (record { known = refl; way = is_object refl })) (boolean_has_none call_m), refl),
+  (no_target _ _ (reads call_as_i [] _ (0, lit< tt, refl)) (record { class = _; is_class = refl }) (interface_has_none call_as_i), refl),
 )

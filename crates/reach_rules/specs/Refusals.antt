@@ -18,7 +18,7 @@ use Rattle.sj_world.specs.Paths.{HasNone}
 use Rattle.sj_world.specs.Resolution.{Resolves, abstract, missing}
 use Rattle.sj_world.specs.declared.linked.Fact.{Fact}
 use Rattle.sj_world.specs.declared.linked.Fact.TheVariants as fact
-use Rattle.sj_reach.specs.Rules.{Reads, IsAsked, IsCalledOn, public_member}
+use Rattle.reach_rules.specs.Rules.{Reads, IsAsked, IsCalledOn, public_member}
 
 -- why a folder is refused: 12 to 16, with the place
 pub data Refusal : Type 0 where

@@ -7,10 +7,10 @@ use Rattle.sj_names.specs.declared.method_names.MethodName.{MethodName}
 use Rattle.sj_infos.specs.declared.infos.Info.{Info}
 use Rattle.sj_world.specs.Known.{Name, Classes}
 use Rattle.sj_world.specs.declared.linked.Fact.{Fact}
-use Rattle.sj_reach.specs.Laws.{ReachableFactsAreClosed, ReachableFactsAreLeast}
-use Rattle.sj_reach.specs.Reachable.{IsDerivation, Reachable}
-use Rattle.sj_reach.specs.Rules.{Reads, IsAsked, of_entry, of_new, of_load, of_call, of_throw, IsCalledOn, on_made, on_hijacked, Rule, the_object, entry_class, above, above_hijacked, asked_body, new_needed, new_made, load_needed, load_made, load_used, field_class, field_needed, static_class, resolved_class, resolved_body, call_class, call_hijacked, call, dispatched, reflective, reflective_hijacked, array_made, class_named, throw_needed, throw_made}
-use Rattle.sj_reach.proofs.Grows.{reads-grow, rule-grow}
+use Rattle.reach_rules.specs.Laws.{ReachableFactsAreClosed, ReachableFactsAreLeast}
+use Rattle.reach_rules.specs.Reachable.{IsDerivation, Reachable}
+use Rattle.reach_rules.specs.Rules.{Reads, IsAsked, of_entry, of_new, of_load, of_call, of_throw, IsCalledOn, on_made, on_hijacked, Rule, the_object, entry_class, above, above_hijacked, asked_body, new_needed, new_made, load_needed, load_made, load_used, field_class, field_needed, static_class, resolved_class, resolved_body, call_class, call_hijacked, call, dispatched, reflective, reflective_hijacked, array_made, class_named, throw_needed, throw_made}
+use Rattle.reach_rules.proofs.Grows.{reads-grow, rule-grow}
 
 nothing : {X : Type 0} (x : X) → Contains [] x → ⊥
 nothing x h = let l : h.0 < 0 = h.1 in omega arith
@@ -19,7 +19,7 @@ head_or_tail : (f : Fact) (fs : List Fact) (x : Fact) → Contains (f ∷ fs) x 
 head_or_tail f fs x h = ⊎_elim (λ a. ⊎_elim (λ n. absurd (nothing x n)) (λ e. inl e) (Contains-push_cases [] f x a)) (λ t. inr t) (Contains-append_cases (f ∷ []) fs x h)
 
 -- what is closed holds of each fact of a derivation
-derived-all : (w : Classes) (entries : List EntryPoint) (P : Fact → Type 0) → ((f : Fact) → Rule w entries P f → P f) → (fs : List Fact) → IsDerivation w entries fs → (f : Fact) → Contains fs f → P f
+pub derived-all : (w : Classes) (entries : List EntryPoint) (P : Fact → Type 0) → ((f : Fact) → Rule w entries P f → P f) → (fs : List Fact) → IsDerivation w entries fs → (f : Fact) → Contains fs f → P f
 derived-all w entries P closed [] d x h = absurd (nothing x h)
 derived-all w entries P closed (f ∷ fs) d x h = ⊎_elim (λ e. subst P e (closed f (rule-grow w entries (Contains fs) P (derived-all w entries P closed fs d.1) f d.0))) (derived-all w entries P closed fs d.1 x) (head_or_tail f fs x h)
 

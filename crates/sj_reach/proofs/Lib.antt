@@ -1,3 +1,0 @@
-pub mod Grows
-pub mod Derivations
-pub mod Rows
