@@ -1,0 +1,5 @@
+pub mod Conclusions
+pub mod Steps
+pub mod Proxies
+pub mod Seen
+pub mod Answers
