@@ -1,8 +1,6 @@
 // What calls run on the instances of classes.
 ghost use Rattle.std.specs.Prelude.{OnOk};
 ghost use Rattle.class_lists.specs.Lists.{items_at};
-ghost use Rattle.sj_names.specs.WellKnown as known;
-ghost use Rattle.sj_world.specs.Ancestors.{IsAncestor};
 ghost use Rattle.sj_reach.specs.Conclusions.{Adds, Among};
 ghost use Rattle.sj_reach.specs.Steps as steps;
 

@@ -1,5 +1,5 @@
 // What follows from a class that is needed.
-ghost use Rattle.std.specs.Prelude.{◌≡◌, ◌↔◌, OnOk, IsTrue};
+ghost use Rattle.std.specs.Prelude.{◌↔◌, OnOk, IsTrue};
 ghost use Rattle.reach_rules.specs.Refusals.{IsOtherKind};
 ghost use Rattle.sj_reach.specs.Conclusions.{Adds, Among};
 ghost use Rattle.sj_reach.specs.Steps as steps;

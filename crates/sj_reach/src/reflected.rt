@@ -1,6 +1,5 @@
 // What reflective calls reach.
-ghost use Rattle.std.specs.Prelude.{◌≡◌, OnOk};
-ghost use Rattle.sj_names.specs.WellKnown as known;
+ghost use Rattle.std.specs.Prelude.{OnOk};
 ghost use Rattle.sj_reach.specs.Conclusions.{Adds, Just, Among, follows};
 ghost use Rattle.sj_reach.specs.Steps as steps;
 

@@ -1,11 +1,6 @@
 // What has been gone through, as far as more follows from it together with a later fact.
-ghost use Rattle.std.specs.Prelude.{◌≡◌, ◌↔◌, ◌++◌, ◌∷◌, [], List, Contains, IfOk, OnOk};
-ghost use Rattle.class_lists.specs.Lists.{items_at};
-ghost use Rattle.sj_names.specs.WellKnown.{hijacked};
-ghost use Rattle.sj_names.specs.declared.method_names.MethodName.{MethodName};
-ghost use Rattle.sj_infos.specs.declared.infos.Info.{Info};
+ghost use Rattle.std.specs.Prelude.{Contains, OnOk};
 ghost use Rattle.sj_world.specs.Ancestors.{IsAncestor};
-ghost use Rattle.sj_world.specs.Known.{Name};
 ghost use Rattle.sj_reach.specs.Seen as specs;
 
 use class_lists::Lists;
