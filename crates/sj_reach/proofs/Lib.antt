@@ -1,3 +1,9 @@
-pub mod Grows
-pub mod Derivations
-pub mod Rows
+pub mod SameFacts
+pub mod Adding
+pub mod Drawn
+pub mod Named
+pub mod Arms
+pub mod Sight
+pub mod Turns
+pub mod Worked
+pub mod Once

@@ -1,5 +1,5 @@
-pub mod Rules
-pub mod Refusals
-pub mod Reachable
-pub mod Laws
-pub mod Rows
+pub mod Conclusions
+pub mod Steps
+pub mod Proxies
+pub mod Seen
+pub mod Answers

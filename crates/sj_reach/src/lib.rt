@@ -1,9 +1,20 @@
-//! What is reachable from the entry points of a folder: which facts follow, and which references don't resolve. Definitions and laws; the
-//! code that finds the facts stands on them.
+//! What is reachable from the entry points of a folder, and what is told where a reference doesn't resolve.
 #![tactic(auto)]
 
-mod laws;
+mod asked;
+mod bodies;
+mod calls;
+mod dispatched;
+mod findings;
+mod infos;
+mod members;
+mod needed;
+mod proxies;
+mod reached;
+mod reaching;
+mod reflected;
+mod reports;
+mod seen;
 
-pub use laws::{
-    reachable_facts_are_closed, reachable_facts_are_least, worked_facts, worked_reachability,
-};
+pub use reached::{ReachError, Reached};
+pub use reaching::reach;

@@ -1,0 +1,6 @@
+pub mod Grows
+pub mod Derivations
+pub mod First
+pub mod Lacking
+pub mod Rows
+pub mod Unreached

@@ -1,0 +1,5 @@
+pub mod Rules
+pub mod Refusals
+pub mod Reachable
+pub mod Laws
+pub mod Rows

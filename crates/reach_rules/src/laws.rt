@@ -1,0 +1,28 @@
+// Laws of reachable facts.
+ghost use Rattle.reach_rules.specs.Laws.{ReachableFactsAreClosed, ReachableFactsAreLeast};
+ghost use Rattle.reach_rules.specs.Rows.{WorkedFacts, WorkedReachability, IsUnneeded};
+
+/// What follows by a rule from facts that are reachable is reachable.
+pub fn reachable_facts_are_closed()
+    ensures { ReachableFactsAreClosed }
+{}
+
+/// Whatever holds of all that follows by a rule from facts of which it holds, holds of each reachable fact.
+pub fn reachable_facts_are_least()
+    ensures { ReachableFactsAreLeast }
+{}
+
+/// Small folders, and facts that are reachable in them.
+pub fn worked_facts()
+    ensures { WorkedFacts }
+{}
+
+/// Small folders, each with what is told of it: one for each code.
+pub fn worked_reachability()
+    ensures { WorkedReachability }
+{}
+
+/// A small folder in which a class isn't needed, since only a body that isn't reachable names it.
+pub fn worked_limits()
+    ensures { IsUnneeded }
+{}

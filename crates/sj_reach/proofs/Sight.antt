@@ -1,0 +1,386 @@
+-- What is kept of the facts that were gone through.
+use Rattle.std.proofs.Common.{◌≡◌, ℕ, ◌+◌, ◌≤◌, ◌<◌, Bool, true, false, List, [], ◌∷◌, ◌++◌, Some, Contains, slice_get, refl, sym, ap, ◌∙◌, subst, length, arith, inl, inr, if◌then◌else◌}
+use Rattle.std.specs.Prelude.{◌⊎◌, ◌↔◌}
+use Rattle.std.proofs.lemmas.List.Elements.{Contains-append_left, Contains-push, Contains-push_cases}
+use Rattle.indexmap.specs.IndexSet.{insert_key}
+use Rattle.worklist.proofs.Inserted.{nothing_in, only_one, from-insert_all, into-insert_all, each-insert_all}
+use Rattle.class_lists.specs.Lists.{items_at}
+use Rattle.class_lists.specs.declared.lists.Lists.{Lists}
+use Rattle.sj_names.specs.declared.entry_points.EntryPoint.{EntryPoint}
+use Rattle.sj_names.specs.declared.method_names.Member.{Member}
+use Rattle.sj_names.specs.declared.method_names.MethodName.{MethodName}
+use Rattle.sj_names.specs.contracts.method_names.MethodNamePartialEq.TheImpl as method_eq
+use Rattle.sj_trees.specs.declared.classes.MethodDef.{MethodDef}
+use Rattle.sj_ask.specs.Members.{IsMethodOf}
+use Rattle.sj_ask.proofs.One.{one_method}
+use Rattle.sj_infos.specs.Infos.{asked_by}
+use Rattle.sj_infos.specs.Once.{FirstsOf}
+use Rattle.sj_infos.specs.declared.infos.Info.{Info}
+use Rattle.sj_infos.specs.declared.infos.Info.TheVariants.{Reflective}
+use Rattle.sj_world.specs.Ancestors.{IsAncestor}
+use Rattle.sj_world.specs.Known.{Name, Classes, is_known, is_same}
+use Rattle.sj_world.specs.Tables.{AreAncestors}
+use Rattle.sj_world.specs.declared.linked.Fact.{Fact}
+use Rattle.sj_world.specs.declared.linked.Fact.TheVariants as fact
+use Rattle.sj_world.proofs.Orders.{same_name, is_same_itself}
+use Rattle.sj_world.proofs.Searches.{stands_at, contains_at}
+use Rattle.reach_rules.specs.Rules.{Reads}
+use Rattle.reach_rules.proofs.Grows.{reads-grow}
+use Rattle.sj_reach.specs.Seen.{IsEmpty, PutsBelow, SeesMade, SeesCalled, SeesNames, SeesReflective, SeesInfo, SeesInfos, IsReadIn, SeesBody, SeesFact, IsSeen}
+use Rattle.sj_reach.specs.declared.seen.Seen.{Seen}
+use Rattle.sj_reach.proofs.SameFacts.{method_decides}
+use Rattle.sj_reach.proofs.Arms.{stands_in_all, stands_once}
+
+-- an item is put under a name
+module _ {T : Type 0} (old new : Lists T) (c : Name) (item : T) (puts : (other : Name) → items_at new other ≡ (if is_same c other then items_at old other ++ item ∷ [] else items_at old other)) where
+  put_at : (d : Name) (x : T) (b : Bool) → is_same c d ≡ b → Contains (items_at new d) x ↔ (Contains (items_at old d) x ⊎ ((c ≡ d) × (item ≡ x)))
+  put_at d x true e =
+      let at : items_at new d ≡ items_at old d ++ item ∷ [] = puts d ∙ ap (λ (b : Bool). if b then items_at old d ++ item ∷ [] else items_at old d) e in
+      (λ h. into (Contains-push_cases (items_at old d) item x (subst (λ (l : List T). Contains l x) at h)), λ q. subst (λ (l : List T). Contains l x) (sym at) (from q))
+    where
+      into : Contains (items_at old d) x ⊎ (item ≡ x) → Contains (items_at old d) x ⊎ ((c ≡ d) × (item ≡ x))
+      into (inl h) = inl h
+      into (inr k) = inr (same_name c d e, k)
+
+      from : Contains (items_at old d) x ⊎ ((c ≡ d) × (item ≡ x)) → Contains (items_at old d ++ item ∷ []) x
+      from (inl h) = Contains-append_left (items_at old d) (item ∷ []) x h
+      from (inr q) = subst (λ (z : T). Contains (items_at old d ++ item ∷ []) z) q.1 (Contains-push (items_at old d) item)
+  put_at d x false e =
+      let at : items_at new d ≡ items_at old d = puts d ∙ ap (λ (b : Bool). if b then items_at old d ++ item ∷ [] else items_at old d) e in
+      (λ h. inl (subst (λ (l : List T). Contains l x) at h), λ q. subst (λ (l : List T). Contains l x) (sym at) (from q))
+    where
+      off : {A : Type 0} → true ≡ false → A
+      off k = cc
+
+      from : Contains (items_at old d) x ⊎ ((c ≡ d) × (item ≡ x)) → Contains (items_at old d) x
+      from (inl h) = h
+      from (inr q) = off (sym (is_same_itself c) ∙ ap (is_same c) q.0 ∙ e)
+
+  pub put_exact : (d : Name) (x : T) → Contains (items_at new d) x ↔ (Contains (items_at old d) x ⊎ ((c ≡ d) × (item ≡ x)))
+  put_exact d x = put_at d x (is_same c d) refl
+
+pub sees_called : (old new : Lists MethodName) (c : Name) (item m : MethodName) → item ≡ m → ((other : Name) → items_at new other ≡ (if is_same c other then items_at old other ++ item ∷ [] else items_at old other)) → (d : Name) (x : MethodName) → Contains (items_at new d) x ↔ (Contains (items_at old d) x ⊎ ((c ≡ d) × (m ≡ x)))
+sees_called old new c item m same puts d x = subst (λ (z : MethodName). Contains (items_at new d) x ↔ (Contains (items_at old d) x ⊎ ((c ≡ d) × (z ≡ x)))) same (put_exact old new c item puts d x)
+
+-- one of the first names
+pub record IsOneOfFirst {X : Type 0} (xs : List X) (n : ℕ) (x : X) : Type 0 where
+  pub place : ℕ
+  pub early : place < n
+  pub stands : slice_get xs place ≡ Some x
+
+same_some : {X : Type 0} (x y : X) → Some x ≡ Some y → x ≡ y
+same_some x y e = cc
+
+module _ {X : Type 0} (xs : List X) where
+  first_split : (n : ℕ) (y x : X) → slice_get xs n ≡ Some y → IsOneOfFirst xs (n + 1) x → IsOneOfFirst xs n x ⊎ (y ≡ x)
+  first_split n y x at q = go (split q.place q.early)
+    where
+      split : (i : ℕ) → i < n + 1 → (i < n) ⊎ (i ≡ n)
+      split i l = grind arith
+
+      go : (q.place < n) ⊎ (q.place ≡ n) → IsOneOfFirst xs n x ⊎ (y ≡ x)
+      go (inl l) = inl (record { place = q.place; early = l; stands = q.stands })
+      go (inr e) = inr (same_some y x (sym at ∙ ap (slice_get xs) (sym e) ∙ q.stands))
+
+  first_join : (n : ℕ) (y x : X) → slice_get xs n ≡ Some y → IsOneOfFirst xs n x ⊎ (y ≡ x) → IsOneOfFirst xs (n + 1) x
+  first_join n y x at (inl q) = record { place = q.place; early = (let l : q.place < n = q.early in omega arith); stands = q.stands }
+  first_join n y x at (inr e) = record { place = n; early = omega arith; stands = at ∙ ap Some e }
+
+  no_first : (x : X) → IsOneOfFirst xs 0 x → ⊥
+  no_first x q = let l : q.place < 0 = q.early in omega arith
+
+  all_first : (n : ℕ) (x : X) → length xs ≤ n → Contains xs x → IsOneOfFirst xs n x
+  all_first n x over h = record { place = h.0; early = (let l : h.0 < length xs = h.1 in omega arith); stands = stands_at xs x h }
+
+  first_in : (n : ℕ) (x : X) → IsOneOfFirst xs n x → Contains xs x
+  first_in n x q = contains_at xs q.place x q.stands
+
+-- a class is put under names, one after the other
+pub below_begins : (names : List Name) (c : Name) (below : Lists Name) → PutsBelow (IsOneOfFirst names 0) c below below
+below_begins names c below = record { exact = λ d x. (λ h. inl h, λ q. from d x q) }
+  where
+    from : (d x : Name) → Contains (items_at below d) x ⊎ (IsOneOfFirst names 0 d × (c ≡ x)) → Contains (items_at below d) x
+    from d x (inl h) = h
+    from d x (inr q) = absurd (no_first names d q.0)
+
+pub below_goes_on : (names : List Name) (n : ℕ) (name c item : Name) (a b e : Lists Name) → slice_get names n ≡ Some name → item ≡ c → PutsBelow (IsOneOfFirst names n) c a b → ((other : Name) → items_at e other ≡ (if is_same name other then items_at b other ++ item ∷ [] else items_at b other)) → PutsBelow (IsOneOfFirst names (n + 1)) c a e
+below_goes_on names n name c item a b e at same before puts = record { exact = λ d x. (λ h. into d x ((put_exact b e name item puts d x).0 h), λ q. (put_exact b e name item puts d x).1 (from d x q)) }
+  where
+    older : (d x : Name) → Contains (items_at a d) x ⊎ (IsOneOfFirst names n d × (c ≡ x)) → Contains (items_at a d) x ⊎ (IsOneOfFirst names (n + 1) d × (c ≡ x))
+    older d x (inl h) = inl h
+    older d x (inr q) = inr (first_join names n name d at (inl q.0), q.1)
+
+    into : (d x : Name) → Contains (items_at b d) x ⊎ ((name ≡ d) × (item ≡ x)) → Contains (items_at a d) x ⊎ (IsOneOfFirst names (n + 1) d × (c ≡ x))
+    into d x (inl h) = older d x ((before.exact d x).0 h)
+    into d x (inr q) = inr (first_join names n name d at (inr q.0), sym same ∙ q.1)
+
+    newer : (d x : Name) → c ≡ x → IsOneOfFirst names n d ⊎ (name ≡ d) → Contains (items_at b d) x ⊎ ((name ≡ d) × (item ≡ x))
+    newer d x k (inl q) = inl ((before.exact d x).1 (inr (q, k)))
+    newer d x k (inr s) = inr (s, same ∙ k)
+
+    from : (d x : Name) → Contains (items_at a d) x ⊎ (IsOneOfFirst names (n + 1) d × (c ≡ x)) → Contains (items_at b d) x ⊎ ((name ≡ d) × (item ≡ x))
+    from d x (inl h) = inl ((before.exact d x).1 (inl h))
+    from d x (inr q) = newer d x q.1 (first_split names n name d at q.0)
+
+below_as : (P Q : Name → Type 0) (c : Name) (a b : Lists Name) → ((d : Name) → P d → Q d) → ((d : Name) → Q d → P d) → PutsBelow P c a b → PutsBelow Q c a b
+below_as P Q c a b f g puts = record { exact = λ d x. (λ h. into d x ((puts.exact d x).0 h), λ q. (puts.exact d x).1 (from d x q)) }
+  where
+    into : (d x : Name) → Contains (items_at a d) x ⊎ (P d × (c ≡ x)) → Contains (items_at a d) x ⊎ (Q d × (c ≡ x))
+    into d x (inl h) = inl h
+    into d x (inr q) = inr (f d q.0, q.1)
+
+    from : (d x : Name) → Contains (items_at a d) x ⊎ (Q d × (c ≡ x)) → Contains (items_at a d) x ⊎ (P d × (c ≡ x))
+    from d x (inl h) = inl h
+    from d x (inr q) = inr (g d q.0, q.1)
+
+pub below_ends : (names : List Name) (n : ℕ) (c : Name) (a b : Lists Name) → length names ≤ n → PutsBelow (IsOneOfFirst names n) c a b → PutsBelow (Contains names) c a b
+below_ends names n c a b over f = below_as _ (Contains names) c a b (λ d q. first_in names n d q) (λ d h. all_first names n d over h) f
+
+pub below_ancestors : (w : Classes) (c : Name) (names : List Name) (a b : Lists Name) → AreAncestors w c names → PutsBelow (Contains names) c a b → PutsBelow (IsAncestor w c) c a b
+below_ancestors w c names a b are f = below_as (Contains names) (IsAncestor w c) c a b (λ d h. (are.exact d).0 h) (λ d h. (are.exact d).1 h) f
+
+off : {A : Type 0} → true ≡ false → A
+off k = cc
+
+pub below_unknown : (w : Classes) (c : Name) (a : Lists Name) → is_known w c ≡ false → PutsBelow (IsAncestor w c) c a a
+below_unknown w c a unknown = record { exact = λ d x. (λ h. inl h, λ q. from d x q) }
+  where
+    from : (d x : Name) → Contains (items_at a d) x ⊎ (IsAncestor w c d × (c ≡ x)) → Contains (items_at a d) x
+    from d x (inl h) = h
+    from d x (inr q) = off (sym q.0.known ∙ unknown)
+
+-- reflective calls are seen
+pub sees_name : (old new : List MethodName) (item p : MethodName) → item ≡ p → new ≡ insert_key method_eq.ghosts.eq old item → (q : MethodName) → Contains new q ↔ (Contains old q ⊎ (p ≡ q))
+sees_name old new item p same put q = (λ h. into (from-insert_all method_eq.ghosts.eq old (item ∷ []) q (subst (λ (l : List MethodName). Contains l q) put h)), λ h. subst (λ (l : List MethodName). Contains l q) (sym put) (from h))
+  where
+    into : Contains old q ⊎ Contains (item ∷ []) q → Contains old q ⊎ (p ≡ q)
+    into (inl h) = inl h
+    into (inr h) = inr (sym same ∙ only_one item q h)
+
+    from : Contains old q ⊎ (p ≡ q) → Contains (insert_key method_eq.ghosts.eq old item) q
+    from (inl h) = into-insert_all method_eq.ghosts.eq old (item ∷ []) q h
+    from (inr e) = subst (λ (z : MethodName). Contains (insert_key method_eq.ghosts.eq old item) z) (same ∙ e) (each-insert_all method_eq.ghosts.eq (λ a b k. (method_decides a b).0 k) old (item ∷ []) item (Contains-push [] item))
+
+pub sees_as : (P Q : MethodName → Type 0) (a b : Seen) → ((m : MethodName) → P m → Q m) → ((m : MethodName) → Q m → P m) → SeesNames P a b → SeesNames Q a b
+sees_as P Q a b f g s = record { made = s.made; below = s.below; called = s.called; reflective = λ m. (λ h. into m ((s.reflective m).0 h), λ q. (s.reflective m).1 (from m q)) }
+  where
+    into : (m : MethodName) → Contains a.reflective.keys m ⊎ P m → Contains a.reflective.keys m ⊎ Q m
+    into m (inl h) = inl h
+    into m (inr p) = inr (f m p)
+
+    from : (m : MethodName) → Contains a.reflective.keys m ⊎ Q m → Contains a.reflective.keys m ⊎ P m
+    from m (inl h) = inl h
+    from m (inr q) = inr (g m q)
+
+pub sees_none : (P : MethodName → Type 0) (a : Seen) → ((m : MethodName) → P m → ⊥) → SeesNames P a a
+sees_none P a none = record { made = refl; below = refl; called = refl; reflective = λ m. (λ h. inl h, λ q. from m q) }
+  where
+    from : (m : MethodName) → Contains a.reflective.keys m ⊎ P m → Contains a.reflective.keys m
+    from m (inl h) = h
+    from m (inr p) = absurd (none m p)
+
+same_call : (p q : MethodName) → Reflective p ≡ Reflective q → p ≡ q
+same_call p q e = cc
+
+pub sees_info : (i : Info) (p : MethodName) (a b : Seen) → i ≡ Reflective p → SeesReflective p a b → SeesInfo i a b
+sees_info i p a b is s = sees_as (λ q. p ≡ q) (λ q. i ≡ Reflective q) a b (λ q e. is ∙ ap Reflective e) (λ q e. same_call p q (sym is ∙ e)) s
+
+pub infos_begin : (infos : List Info) (a : Seen) → SeesNames (λ q. IsOneOfFirst infos 0 (Reflective q)) a a
+infos_begin infos a = sees_none _ a (λ m q. no_first infos (Reflective m) q)
+
+pub infos_go_on : (infos : List Info) (n : ℕ) (i : Info) (a b e : Seen) → slice_get infos n ≡ Some i → SeesNames (λ q. IsOneOfFirst infos n (Reflective q)) a b → SeesInfo i b e → SeesNames (λ q. IsOneOfFirst infos (n + 1) (Reflective q)) a e
+infos_go_on infos n i a b e at f g = record { made = g.made ∙ f.made; below = g.below ∙ f.below; called = g.called ∙ f.called; reflective = λ m. (λ h. into m ((g.reflective m).0 h), λ q. (g.reflective m).1 (from m q)) }
+  where
+    older : (m : MethodName) → Contains a.reflective.keys m ⊎ IsOneOfFirst infos n (Reflective m) → Contains a.reflective.keys m ⊎ IsOneOfFirst infos (n + 1) (Reflective m)
+    older m (inl h) = inl h
+    older m (inr q) = inr (first_join infos n i (Reflective m) at (inl q))
+
+    into : (m : MethodName) → Contains b.reflective.keys m ⊎ (i ≡ Reflective m) → Contains a.reflective.keys m ⊎ IsOneOfFirst infos (n + 1) (Reflective m)
+    into m (inl h) = older m ((f.reflective m).0 h)
+    into m (inr k) = inr (first_join infos n i (Reflective m) at (inr k))
+
+    newer : (m : MethodName) → IsOneOfFirst infos n (Reflective m) ⊎ (i ≡ Reflective m) → Contains b.reflective.keys m ⊎ (i ≡ Reflective m)
+    newer m (inl q) = inl ((f.reflective m).1 (inr q))
+    newer m (inr k) = inr k
+
+    from : (m : MethodName) → Contains a.reflective.keys m ⊎ IsOneOfFirst infos (n + 1) (Reflective m) → Contains b.reflective.keys m ⊎ (i ≡ Reflective m)
+    from m (inl h) = inl ((f.reflective m).1 (inl h))
+    from m (inr q) = newer m (first_split infos n i (Reflective m) at q)
+
+pub infos_end : (infos : List Info) (n : ℕ) (a b : Seen) → length infos ≤ n → SeesNames (λ q. IsOneOfFirst infos n (Reflective q)) a b → SeesInfos infos a b
+infos_end infos n a b over f = sees_as _ (λ q. Contains infos (Reflective q)) a b (λ q h. first_in infos n (Reflective q) h) (λ q h. all_first infos n (Reflective q) over h) f
+
+pub sees_asked : (all once infos : List Info) (a b : Seen) → FirstsOf all once → infos ≡ once → SeesInfos infos a b → SeesInfos all a b
+sees_asked all once infos a b firsts same f = sees_as _ (λ q. Contains all (Reflective q)) a b (λ q h. stands_in_all all once (Reflective q) firsts (subst (λ (l : List Info). Contains l (Reflective q)) same h)) (λ q h. subst (λ (l : List Info). Contains l (Reflective q)) (sym same) (stands_once all once (Reflective q) firsts h)) f
+
+pub sees_body : (w : Classes) (k : Member) (d : MethodDef) (a b : Seen) → IsMethodOf w k d → SeesInfos (asked_by d) a b → SeesBody w k a b
+sees_body w k d a b m f = sees_as _ (λ q. IsReadIn w k (Reflective q)) a b (λ q h. record { definition = d; defined = m; asked = h }) (λ q r. subst (λ (e : MethodDef). Contains (asked_by e) (Reflective q)) (one_method w k r.definition d r.defined m) r.asked) f
+
+pub sees_no_body : (w : Classes) (k : Member) (a : Seen) → ((d : MethodDef) → IsMethodOf w k d → ⊥) → SeesBody w k a a
+sees_no_body w k a none = sees_none (λ q. IsReadIn w k (Reflective q)) a (λ q r. none r.definition r.defined)
+
+-- what a fact changes
+record Sees (w : Classes) (f : Fact) (old new : Seen) : Type 0 where
+  made : (c : Name) → Contains new.made.items c ↔ (Contains old.made.items c ⊎ (f ≡ fact.Made c))
+  below : (d c : Name) → Contains (items_at new.below d) c ↔ (Contains (items_at old.below d) c ⊎ ((f ≡ fact.Made c) × IsAncestor w c d))
+  called : (d : Name) (m : MethodName) → Contains (items_at new.called d) m ↔ (Contains (items_at old.called d) m ⊎ (f ≡ fact.Called d m))
+  reflective : (p : MethodName) → Contains new.reflective.keys p ↔ (Contains old.reflective.keys p ⊎ ((k : Member) × (f ≡ fact.Body k) × IsReadIn w k (Reflective p)))
+
+kept : {X : Type 0} (x : X) (old new : List X) (P : Type 0) → new ≡ old → (P → ⊥) → Contains new x ↔ (Contains old x ⊎ P)
+kept {X} x old new P same none = (λ h. inl (subst (λ (l : List X). Contains l x) same h), λ q. subst (λ (l : List X). Contains l x) (sym same) (from q))
+  where
+    from : Contains old x ⊎ P → Contains old x
+    from (inl h) = h
+    from (inr p) = absurd (none p)
+
+sees_nothing : (w : Classes) (f : Fact) (old new : Seen) → new ≡ old → ((c : Name) → f ≡ fact.Made c → ⊥) → ((d : Name) (m : MethodName) → f ≡ fact.Called d m → ⊥) → ((k : Member) → f ≡ fact.Body k → ⊥) → Sees w f old new
+sees_nothing w f old new same made called body = record {
+  made = λ c. kept c old.made.items new.made.items _ (ap (λ (s : Seen). s.made.items) same) (made c);
+  below = λ d c. kept c (items_at old.below d) (items_at new.below d) _ (ap (λ (s : Seen). items_at s.below d) same) (λ q. made c q.0);
+  called = λ d m. kept m (items_at old.called d) (items_at new.called d) _ (ap (λ (s : Seen). items_at s.called d) same) (called d m);
+  reflective = λ p. kept p old.reflective.keys new.reflective.keys _ (ap (λ (s : Seen). s.reflective.keys) same) (λ q. body q.0 q.1);
+}
+
+same_made : (c d : Name) → fact.Made c ≡ fact.Made d → c ≡ d
+same_made c d e = cc
+
+same_called_class : (c d : Name) (m n : MethodName) → fact.Called c m ≡ fact.Called d n → c ≡ d
+same_called_class c d m n e = cc
+
+same_called_method : (c d : Name) (m n : MethodName) → fact.Called c m ≡ fact.Called d n → m ≡ n
+same_called_method c d m n e = cc
+
+same_body : (k l : Member) → fact.Body k ≡ fact.Body l → k ≡ l
+same_body k l e = cc
+
+sees_made : (w : Classes) (c : Name) (old new : Seen) → SeesMade w c old new → Sees w (fact.Made c) old new
+sees_made w c old new s = record {
+  made = λ d. (λ h. into d (Contains-push_cases old.made.items c d (subst (λ (l : List Name). Contains l d) s.made h)), λ q. subst (λ (l : List Name). Contains l d) (sym s.made) (from d q));
+  below = λ d x. (λ h. under d x ((s.below.exact d x).0 h), λ q. (s.below.exact d x).1 (over d x q));
+  called = λ d m. kept m (items_at old.called d) (items_at new.called d) _ (ap (λ (l : Lists MethodName). items_at l d) s.called) (λ e. cc);
+  reflective = λ p. kept p old.reflective.keys new.reflective.keys _ s.reflective (λ q. let e : fact.Made c ≡ fact.Body q.0 = q.1 in cc);
+}
+  where
+    into : (d : Name) → Contains old.made.items d ⊎ (c ≡ d) → Contains old.made.items d ⊎ (fact.Made c ≡ fact.Made d)
+    into d (inl h) = inl h
+    into d (inr e) = inr (ap fact.Made e)
+
+    from : (d : Name) → Contains old.made.items d ⊎ (fact.Made c ≡ fact.Made d) → Contains (old.made.items ++ c ∷ []) d
+    from d (inl h) = Contains-append_left old.made.items (c ∷ []) d h
+    from d (inr e) = subst (λ (x : Name). Contains (old.made.items ++ c ∷ []) x) (same_made c d e) (Contains-push old.made.items c)
+
+    under : (d x : Name) → Contains (items_at old.below d) x ⊎ (IsAncestor w c d × (c ≡ x)) → Contains (items_at old.below d) x ⊎ ((fact.Made c ≡ fact.Made x) × IsAncestor w x d)
+    under d x (inl h) = inl h
+    under d x (inr q) = inr (ap fact.Made q.1, subst (λ (y : Name). IsAncestor w y d) q.1 q.0)
+
+    over : (d x : Name) → Contains (items_at old.below d) x ⊎ ((fact.Made c ≡ fact.Made x) × IsAncestor w x d) → Contains (items_at old.below d) x ⊎ (IsAncestor w c d × (c ≡ x))
+    over d x (inl h) = inl h
+    over d x (inr q) = let e : c ≡ x = same_made c x q.0 in inr (subst (λ (y : Name). IsAncestor w y d) (sym e) q.1, e)
+
+sees_call : (w : Classes) (c : Name) (m : MethodName) (old new : Seen) → SeesCalled c m old new → Sees w (fact.Called c m) old new
+sees_call w c m old new s = record {
+  made = λ d. kept d old.made.items new.made.items _ s.made (λ e. cc);
+  below = λ d x. kept x (items_at old.below d) (items_at new.below d) _ (ap (λ (l : Lists Name). items_at l d) s.below) (λ q. let e : fact.Called c m ≡ fact.Made x = q.0 in cc);
+  called = λ d x. (λ h. into d x ((s.called d x).0 h), λ q. (s.called d x).1 (from d x q));
+  reflective = λ p. kept p old.reflective.keys new.reflective.keys _ s.reflective (λ q. let e : fact.Called c m ≡ fact.Body q.0 = q.1 in cc);
+}
+  where
+    into : (d : Name) (x : MethodName) → Contains (items_at old.called d) x ⊎ ((c ≡ d) × (m ≡ x)) → Contains (items_at old.called d) x ⊎ (fact.Called c m ≡ fact.Called d x)
+    into d x (inl h) = inl h
+    into d x (inr q) = inr (let e : c ≡ d = q.0 in let k : m ≡ x = q.1 in cc)
+
+    from : (d : Name) (x : MethodName) → Contains (items_at old.called d) x ⊎ (fact.Called c m ≡ fact.Called d x) → Contains (items_at old.called d) x ⊎ ((c ≡ d) × (m ≡ x))
+    from d x (inl h) = inl h
+    from d x (inr e) = inr (same_called_class c d m x e, same_called_method c d m x e)
+
+sees_bodies : (w : Classes) (k : Member) (old new : Seen) → SeesBody w k old new → Sees w (fact.Body k) old new
+sees_bodies w k old new s = record {
+  made = λ d. kept d old.made.items new.made.items _ s.made (λ e. cc);
+  below = λ d x. kept x (items_at old.below d) (items_at new.below d) _ (ap (λ (l : Lists Name). items_at l d) s.below) (λ q. let e : fact.Body k ≡ fact.Made x = q.0 in cc);
+  called = λ d x. kept x (items_at old.called d) (items_at new.called d) _ (ap (λ (l : Lists MethodName). items_at l d) s.called) (λ e. cc);
+  reflective = λ p. (λ h. into p ((s.reflective p).0 h), λ q. (s.reflective p).1 (from p q));
+}
+  where
+    into : (p : MethodName) → Contains old.reflective.keys p ⊎ IsReadIn w k (Reflective p) → Contains old.reflective.keys p ⊎ ((l : Member) × (fact.Body k ≡ fact.Body l) × IsReadIn w l (Reflective p))
+    into p (inl h) = inl h
+    into p (inr r) = inr (k, refl, r)
+
+    from : (p : MethodName) → Contains old.reflective.keys p ⊎ ((l : Member) × (fact.Body k ≡ fact.Body l) × IsReadIn w l (Reflective p)) → Contains old.reflective.keys p ⊎ IsReadIn w k (Reflective p)
+    from p (inl h) = inl h
+    from p (inr q) = inr (subst (λ (l : Member). IsReadIn w l (Reflective p)) (sym (same_body k q.0 q.1)) q.2)
+
+sees : (w : Classes) (f : Fact) (old new : Seen) → SeesFact w f old new → Sees w f old new
+sees w (fact.Needed c) old new s = sees_nothing w (fact.Needed c) old new s (λ d e. cc) (λ d m e. cc) (λ k e. cc)
+sees w (fact.Made c) old new s = sees_made w c old new s
+sees w (fact.CellUsed c) old new s = sees_nothing w (fact.CellUsed c) old new s (λ d e. cc) (λ d m e. cc) (λ k e. cc)
+sees w (fact.NeededField c f b) old new s = sees_nothing w (fact.NeededField c f b) old new s (λ d e. cc) (λ d m e. cc) (λ k e. cc)
+sees w (fact.Body k) old new s = sees_bodies w k old new s
+sees w (fact.Called d m) old new s = sees_call w d m old new s
+
+pub seen_begins : (w : Classes) (entries : List EntryPoint) (seen : Seen) → IsEmpty seen → IsSeen w entries (Contains []) seen
+seen_begins w entries seen e = record {
+  made = λ c. (λ h. nothing_in c (subst (λ (l : List Name). Contains l c) e.made h), λ h. nothing_in (fact.Made c) h);
+  below = λ d c. (λ h. nothing_in c (subst (λ (l : List Name). Contains l c) (e.below d) h), λ h. nothing_in (fact.Made c) h.0);
+  called = λ d m. (λ h. nothing_in m (subst (λ (l : List MethodName). Contains l m) (e.called d) h), λ h. nothing_in (fact.Called d m) h);
+  reflective = λ p. (λ h. nothing_in p (subst (λ (l : List MethodName). Contains l p) e.reflective h), λ r. nothing_in (fact.Body r.member) r.needed);
+}
+
+-- what is kept goes on to be that of the facts that were gone through
+module _ (w : Classes) (entries : List EntryPoint) (front : List Fact) (f : Fact) where
+  abbrev Now : Fact → Type 0
+  Now = Contains (front ++ f ∷ [])
+
+  pub grown : (g : Fact) → Contains front g → Now g
+  grown g h = Contains-append_left front (f ∷ []) g h
+
+  pub latest : (g : Fact) → f ≡ g → Now g
+  latest g e = subst Now e (Contains-push front f)
+
+  pub reads_old : (i : Info) → Reads w entries (Contains front) i → Reads w entries Now i
+  reads_old i r = reads-grow w entries (Contains front) Now grown i r
+
+  pub seen_goes_on : (old new : Seen) → IsSeen w entries (Contains front) old → SeesFact w f old new → IsSeen w entries Now new
+  seen_goes_on old new was step = record {
+    made = λ c. (λ h. made_in c ((s.made c).0 h), λ h. (s.made c).1 (made_out c (Contains-push_cases front f (fact.Made c) h)));
+    below = λ d c. (λ h. below_in d c ((s.below d c).0 h), λ q. (s.below d c).1 (below_out d c q.1 (Contains-push_cases front f (fact.Made c) q.0)));
+    called = λ d m. (λ h. called_in d m ((s.called d m).0 h), λ h. (s.called d m).1 (called_out d m (Contains-push_cases front f (fact.Called d m) h)));
+    reflective = λ p. (λ h. read_in p ((s.reflective p).0 h), λ r. (s.reflective p).1 (read_out p r (Contains-push_cases front f (fact.Body r.member) r.needed)));
+  }
+    where
+      s : Sees w f old new
+      s = sees w f old new step
+
+      made_in : (c : Name) → Contains old.made.items c ⊎ (f ≡ fact.Made c) → Now (fact.Made c)
+      made_in c (inl h) = grown (fact.Made c) ((was.made c).0 h)
+      made_in c (inr e) = latest (fact.Made c) e
+
+      made_out : (c : Name) → Contains front (fact.Made c) ⊎ (f ≡ fact.Made c) → Contains old.made.items c ⊎ (f ≡ fact.Made c)
+      made_out c (inl h) = inl ((was.made c).1 h)
+      made_out c (inr e) = inr e
+
+      below_in : (d c : Name) → Contains (items_at old.below d) c ⊎ ((f ≡ fact.Made c) × IsAncestor w c d) → Now (fact.Made c) × IsAncestor w c d
+      below_in d c (inl h) = let q = (was.below d c).0 h in (grown (fact.Made c) q.0, q.1)
+      below_in d c (inr q) = (latest (fact.Made c) q.0, q.1)
+
+      below_out : (d c : Name) → IsAncestor w c d → Contains front (fact.Made c) ⊎ (f ≡ fact.Made c) → Contains (items_at old.below d) c ⊎ ((f ≡ fact.Made c) × IsAncestor w c d)
+      below_out d c a (inl h) = inl ((was.below d c).1 (h, a))
+      below_out d c a (inr e) = inr (e, a)
+
+      called_in : (d : Name) (m : MethodName) → Contains (items_at old.called d) m ⊎ (f ≡ fact.Called d m) → Now (fact.Called d m)
+      called_in d m (inl h) = grown (fact.Called d m) ((was.called d m).0 h)
+      called_in d m (inr e) = latest (fact.Called d m) e
+
+      called_out : (d : Name) (m : MethodName) → Contains front (fact.Called d m) ⊎ (f ≡ fact.Called d m) → Contains (items_at old.called d) m ⊎ (f ≡ fact.Called d m)
+      called_out d m (inl h) = inl ((was.called d m).1 h)
+      called_out d m (inr e) = inr e
+
+      read_in : (p : MethodName) → Contains old.reflective.keys p ⊎ ((k : Member) × (f ≡ fact.Body k) × IsReadIn w k (Reflective p)) → Reads w entries Now (Reflective p)
+      read_in p (inl h) = reads_old (Reflective p) ((was.reflective p).0 h)
+      read_in p (inr q) = record { member = q.0; needed = latest (fact.Body q.0) q.1; definition = q.2.definition; defined = q.2.defined; asked = q.2.asked }
+
+      read_out : (p : MethodName) (r : Reads w entries Now (Reflective p)) → Contains front (fact.Body r.member) ⊎ (f ≡ fact.Body r.member) → Contains old.reflective.keys p ⊎ ((k : Member) × (f ≡ fact.Body k) × IsReadIn w k (Reflective p))
+      read_out p r (inl h) = inl ((was.reflective p).1 (record { member = r.member; needed = h; definition = r.definition; defined = r.defined; asked = r.asked }))
+      read_out p r (inr e) = inr (r.member, e, record { definition = r.definition; defined = r.defined; asked = r.asked })
+
+pub sees_called_step : (old new : Seen) (c : Name) (item m : MethodName) → item ≡ m → ((other : Name) → items_at new.called other ≡ (if is_same c other then items_at old.called other ++ item ∷ [] else items_at old.called other)) → new.made.items ≡ old.made.items → new.below ≡ old.below → new.reflective.keys ≡ old.reflective.keys → SeesCalled c m old new
+sees_called_step old new c item m same puts made below reflective = record { made = made; below = below; called = sees_called old.called new.called c item m same puts; reflective = reflective }

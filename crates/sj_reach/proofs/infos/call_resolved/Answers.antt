@@ -1,0 +1,6 @@
+use Rattle.std.proofs.lemmas.Result.{on_ok_weaker}
+use Rattle.sj_reach.proofs.Adding.{adds_then}
+use Rattle.sj_reach.proofs.infos.call_resolved.Goals as goal
+
+pub returns : goal.returns
+returns c = on_ok_weaker _ (adds_then _ _ _ _ _ c.in_ok-add_needed.ensures) c.resolve_from.ensures

@@ -1,0 +1,7 @@
+use Rattle.std.proofs.lemmas.Result.{on_ok_weaker}
+use Rattle.sj_reach.specs.Steps.{OfAsked}
+use Rattle.sj_reach.proofs.Adding.{adds_then, adds_at}
+use Rattle.sj_reach.proofs.infos.construct.Goals as goal
+
+pub returns : goal.returns
+returns c = on_ok_weaker _ (λ h. adds_then _ _ _ _ _ c.in_ok-make.ensures (adds_at (OfAsked c.args.world.now) _ _ _ _ c.in_ok-constructor.ensures h)) c.ask_for.ensures

@@ -1,5 +1,0 @@
-use Rattle.sj_reach.proofs.Derivations.{closed}
-use Rattle.sj_reach.proofs.laws.reachable_facts_are_closed.Goals as goal
-
-pub returns : goal.returns
-returns c = closed

@@ -1,5 +1,0 @@
-use Rattle.sj_reach.proofs.Derivations.{least}
-use Rattle.sj_reach.proofs.laws.reachable_facts_are_least.Goals as goal
-
-pub returns : goal.returns
-returns c = least
