@@ -20,7 +20,7 @@ CLAIMS = [
     ("check_method", ["sj_typing.Typed"]),
     ("sj_ask", ["sj_ask.Laws"]),
     ("infos_of", ["sj_infos.Infos"]),
-    ("reachability", ["sj_reach.Reachable"]),
+    ("reachability", ["reach_rules.Reachable", "sj_reach.Answers"]),
     ("plan", ["sj_split.Modules", "sj_graph.References"]),
     ("command and those before it", ["sj_words.Earlier"]),
     ("canon", ["sj_canon.Methods"]),
