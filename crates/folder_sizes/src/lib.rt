@@ -8,6 +8,7 @@ ghost use Rattle.folder_sizes.specs.Sizes.{IsOver, IsTooLarge, IsFirstTooLarge, 
 const LARGEST_FILE: u64 = 16_777_216;
 /// 256 MiB.
 const LARGEST_FOLDER: u64 = 268_435_456;
+
 const MOST_FILES: usize = 65_535;
 
 /// The first place at which a folder is too large, of whose files, in the order of their paths, these are the sizes in bytes: a file has more than

@@ -33,7 +33,9 @@ fn sizes_of(alloc: Global, line: &str) -> Result<Vec<u64>> {
 }
 
 fn add_group(group: &str, sizes: &mut Vec<u64>) -> Result<()> {
-    let (count, size) = group.split_once(' ').context("a group has a count and a size")?;
+    let (count, size) = group
+        .split_once(' ')
+        .context("a group has a count and a size")?;
     let count: usize = count.parse()?;
     let size: u64 = size.parse()?;
     for _ in 0..count {
