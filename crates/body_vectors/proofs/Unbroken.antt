@@ -1,7 +1,7 @@
 -- A class breaks none of the local rules, by computation.
 use Rattle.std.proofs.Common.{◌≡◌, ℕ, suc, Bool, true, false, List, [], ◌∷◌, ◌++◌, ◌&&◌, ◌||◌, not, None, map, length, refl, sym, ap, ◌∙◌, subst, ⊎_elim, Contains}
 use Rattle.std.specs.Prelude.{option_map}
-use Rattle.std.specs.List.{list_any}
+use Rattle.std.specs.List.{list_any, list_all}
 use Rattle.std.proofs.lemmas.Bool.{and_parts}
 use Rattle.sj_names.specs.Same.{is_same_text}
 use Rattle.sj_bodies.proofs.Contexts.{equals}
@@ -64,13 +64,9 @@ declaration_itself : (d : Declaration) → same_declaration d d ≡ true
 declaration_itself (declaration.Local x) = equals x
 declaration_itself (declaration.Label x) = equals x
 
--- the trees of a method break no rule
-abbrev pub KeepsTrees : ClassDef → MethodDef → Type 0
-KeepsTrees c m = (are_new same_declaration [] (map (λ (d : Declared). d.declaration) (declared_in m)) ≡ true) × (findings_in c m ≡ no_findings)
-
-abbrev pub AllKeepTrees : ClassDef → List MethodDef → Type 0
-AllKeepTrees c [] = Unit {0}
-AllKeepTrees c (m ∷ ms) = KeepsTrees c m × AllKeepTrees c ms
+-- the declarations of a method are new, each
+abbrev pub declares_once : MethodDef → Bool
+declares_once m = are_new same_declaration [] (map (λ (d : Declared). d.declaration) (declared_in m))
 
 -- what is computed of a class
 pub record Computed (c : ClassDef) : Type 0 where
@@ -84,34 +80,39 @@ pub record Computed (c : ClassDef) : Type 0 where
   pub signature : method_place c rules.Signature ≡ None
   pub missing_body : method_place c rules.MissingBody ≡ None
   pub constructors : constructors_place c ≡ None
-  pub trees : AllKeepTrees c c.methods
+  pub declarations : list_all declares_once c.methods ≡ true
+  pub findings : map (findings_in c) c.methods ≡ map (λ (m : MethodDef). no_findings) c.methods
 
 module _ (c : ClassDef) (h : Computed c) where
-  tree_keeps : (m : MethodDef) → KeepsTrees c m → (r : Rule) → TreeBreaks r c m None
-  tree_keeps m k rules.DeclaredTwice = record { index = None; first = no_repeat same_declaration declaration_itself [] (map (λ (d : Declared). d.declaration) (declared_in m)) k.0; is_tree = refl }
-  tree_keeps m k rules.Definition = sym (ap (λ (f : Findings). f.definition) k.1) ∙ definition-first c m
-  tree_keeps m k rules.Variable = sym (ap (λ (f : Findings). f.variable) k.1) ∙ variable-first c m
-  tree_keeps m k rules.ReturnLabel = sym (ap (λ (f : Findings). f.return_label) k.1) ∙ return_label-first c m
-  tree_keeps m k rules.This = sym (ap (λ (f : Findings). f.this) k.1) ∙ this-first c m
-  tree_keeps m k rules.StoreModule = sym (ap (λ (f : Findings). f.store_module) k.1) ∙ store_module-first c m
-  tree_keeps m k rules.Target = sym (ap (λ (f : Findings). f.target) k.1) ∙ target-first c m
-  tree_keeps m k rules.Keys = sym (ap (λ (f : Findings). f.keys) k.1) ∙ keys-first c m
-  tree_keeps m k rules.Superclass = unbroken_by (breaks rules.Superclass c m.namespace) (λ x. refl) m
-  tree_keeps m k rules.Hijacked = unbroken_by (breaks rules.Hijacked c m.namespace) (λ x. refl) m
-  tree_keeps m k rules.InterfaceTwice = unbroken_by (breaks rules.InterfaceTwice c m.namespace) (λ x. refl) m
-  tree_keeps m k rules.MemberTwice = unbroken_by (breaks rules.MemberTwice c m.namespace) (λ x. refl) m
-  tree_keeps m k rules.Field = unbroken_by (breaks rules.Field c m.namespace) (λ x. refl) m
-  tree_keeps m k rules.MethodName = unbroken_by (breaks rules.MethodName c m.namespace) (λ x. refl) m
-  tree_keeps m k rules.Signature = unbroken_by (breaks rules.Signature c m.namespace) (λ x. refl) m
-  tree_keeps m k rules.MissingBody = unbroken_by (breaks rules.MissingBody c m.namespace) (λ x. refl) m
-  tree_keeps m k rules.Constructors = unbroken_by (breaks rules.Constructors c m.namespace) (λ x. refl) m
+  tree_keeps : (m : MethodDef) → declares_once m ≡ true → findings_in c m ≡ no_findings → (r : Rule) → TreeBreaks r c m None
+  tree_keeps m new none rules.DeclaredTwice = record { index = None; first = no_repeat same_declaration declaration_itself [] (map (λ (d : Declared). d.declaration) (declared_in m)) new; is_tree = refl }
+  tree_keeps m new none rules.Definition = sym (ap (λ (f : Findings). f.definition) none) ∙ definition-first c m
+  tree_keeps m new none rules.Variable = sym (ap (λ (f : Findings). f.variable) none) ∙ variable-first c m
+  tree_keeps m new none rules.ReturnLabel = sym (ap (λ (f : Findings). f.return_label) none) ∙ return_label-first c m
+  tree_keeps m new none rules.This = sym (ap (λ (f : Findings). f.this) none) ∙ this-first c m
+  tree_keeps m new none rules.StoreModule = sym (ap (λ (f : Findings). f.store_module) none) ∙ store_module-first c m
+  tree_keeps m new none rules.Target = sym (ap (λ (f : Findings). f.target) none) ∙ target-first c m
+  tree_keeps m new none rules.Keys = sym (ap (λ (f : Findings). f.keys) none) ∙ keys-first c m
+  tree_keeps m new none rules.Superclass = unbroken_by (breaks rules.Superclass c m.namespace) (λ x. refl) m
+  tree_keeps m new none rules.Hijacked = unbroken_by (breaks rules.Hijacked c m.namespace) (λ x. refl) m
+  tree_keeps m new none rules.InterfaceTwice = unbroken_by (breaks rules.InterfaceTwice c m.namespace) (λ x. refl) m
+  tree_keeps m new none rules.MemberTwice = unbroken_by (breaks rules.MemberTwice c m.namespace) (λ x. refl) m
+  tree_keeps m new none rules.Field = unbroken_by (breaks rules.Field c m.namespace) (λ x. refl) m
+  tree_keeps m new none rules.MethodName = unbroken_by (breaks rules.MethodName c m.namespace) (λ x. refl) m
+  tree_keeps m new none rules.Signature = unbroken_by (breaks rules.Signature c m.namespace) (λ x. refl) m
+  tree_keeps m new none rules.MissingBody = unbroken_by (breaks rules.MissingBody c m.namespace) (λ x. refl) m
+  tree_keeps m new none rules.Constructors = unbroken_by (breaks rules.Constructors c m.namespace) (λ x. refl) m
 
-  no_tree : (r : Rule) (n : ℕ) (ms : List MethodDef) → AllKeepTrees c ms → FirstAnswer (TreeBreaks r c) n ms None
-  no_tree r n [] k = none_left n
-  no_tree r n (m ∷ ms) k = a_later_one n m ms None (tree_keeps m k.0 r) (no_tree r (suc n) ms k.1)
+  no_tree : (r : Rule) (n : ℕ) (ms : List MethodDef) → list_all declares_once ms ≡ true → map (findings_in c) ms ≡ map (λ (m : MethodDef). no_findings) ms → FirstAnswer (TreeBreaks r c) n ms None
+  no_tree r n [] new none = none_left n
+  no_tree r n (m ∷ ms) new none =
+      let k = and_parts (declares_once m) (list_all declares_once ms) new in
+      let its : findings_in c m ≡ no_findings = cc in
+      let others : map (findings_in c) ms ≡ map (λ (m : MethodDef). no_findings) ms = cc in
+      a_later_one n m ms None (tree_keeps m k.0 its r) (no_tree r (suc n) ms k.1 others)
 
   first_tree : (r : Rule) → FirstTree r c None
-  first_tree r = record { found = None; first = no_tree r (length c.fields) c.methods h.trees; is_place = refl }
+  first_tree r = record { found = None; first = no_tree r (length c.fields) c.methods h.declarations h.findings; is_place = refl }
 
   breaks_none : (r : Rule) → Breaks c r None
   breaks_none rules.Superclass = ap unless (sym h.superclass)

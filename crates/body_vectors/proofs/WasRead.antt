@@ -1,5 +1,5 @@
 -- Classes as they were recorded have what the theorem on judged classes asks: one with a call, one with a loop, one with parameters and a label.
-use Rattle.std.proofs.Common.{◌≡◌, ◌<◌, ◌&&◌, ℕ, Bool, true, List, [], ◌∷◌, codes, None, Ok, refl, inl, inr, arith}
+use Rattle.std.proofs.Common.{◌≡◌, ◌<◌, ◌&&◌, ℕ, Bool, true, List, [], ◌∷◌, codes, None, Ok, refl, arith}
 use Rattle.std.specs.Prelude.{nat_lt}
 use Rattle.std.specs.List.{All}
 use Rattle.std.proofs.lemmas.Bool.{and_parts}
@@ -24,9 +24,9 @@ use Rattle.body_vectors.specs.Bounds.{all_emitted, class_within, file_within}
 use Rattle.body_vectors.specs.Files as files
 use Rattle.body_vectors.specs.Judged.{IsJudged}
 use Rattle.body_vectors.specs.Whole as whole
-use Rattle.body_vectors.proofs.Classes.{logs_hi_unbroken, calls_itself_unbroken, one_turn_unbroken, block_value_unbroken}
+use Rattle.body_vectors.proofs.Classes as classes
 use Rattle.body_vectors.proofs.Computing.{reading}
-use Rattle.body_vectors.proofs.Premises.{body_in, each_of, own}
+use Rattle.body_vectors.proofs.Premises.{body_in, each_of, own, recorded_unbroken}
 
 abbrev are_below : List ℕ → Bool
 are_below [] = true
@@ -61,7 +61,7 @@ hi_main = record { body = body_in whole.logs_hi_main; has_body = refl; met = all
 
 pub logs_hi_judged : IsJudged whole.logs_hi_class
 logs_hi_judged = record {
-  class = read_class files.logs_hi whole.logs_hi_class refl hi_read logs_hi_unbroken;
+  class = read_class files.logs_hi whole.logs_hi_class refl hi_read (recorded_unbroken whole.logs_hi_class classes.logs_hi);
   methods = each_of (IsJudgedMethod hi (all_emitted whole.logs_hi_class.methods)) (all_emitted whole.logs_hi_class.methods) (record { found = refl; has_body = refl; typed = hi_main; built = refl }, tt);
   own_members = own (all_emitted whole.logs_hi_class.methods) refl;
   called = refl;
@@ -83,7 +83,7 @@ again_again = record { body = body_in whole.calls_itself_again; has_body = refl;
 
 pub calls_itself_judged : IsJudged whole.calls_itself_class
 calls_itself_judged = record {
-  class = read_class files.calls_itself whole.calls_itself_class refl again_read calls_itself_unbroken;
+  class = read_class files.calls_itself whole.calls_itself_class refl again_read (recorded_unbroken whole.calls_itself_class classes.calls_itself);
   methods = each_of (IsJudgedMethod again (all_emitted whole.calls_itself_class.methods)) (all_emitted whole.calls_itself_class.methods) (record { found = refl; has_body = refl; typed = again_main; built = refl }, (record { found = refl; has_body = refl; typed = again_again; built = refl }, tt));
   own_members = own (all_emitted whole.calls_itself_class.methods) refl;
   called = refl;
@@ -102,7 +102,7 @@ turn_main = record { body = body_in whole.one_turn_main; has_body = refl; met = 
 
 pub one_turn_judged : IsJudged whole.one_turn_class
 one_turn_judged = record {
-  class = read_class files.one_turn whole.one_turn_class refl turn_read one_turn_unbroken;
+  class = read_class files.one_turn whole.one_turn_class refl turn_read (recorded_unbroken whole.one_turn_class classes.one_turn);
   methods = each_of (IsJudgedMethod turn (all_emitted whole.one_turn_class.methods)) (all_emitted whole.one_turn_class.methods) (record { found = refl; has_body = refl; typed = turn_main; built = refl }, tt);
   own_members = own (all_emitted whole.one_turn_class.methods) refl;
   called = refl;
@@ -124,7 +124,7 @@ value_main = record { body = body_in whole.block_value_main; has_body = refl; me
 
 pub block_value_judged : IsJudged whole.block_value_class
 block_value_judged = record {
-  class = read_class files.block_value whole.block_value_class refl value_read block_value_unbroken;
+  class = read_class files.block_value whole.block_value_class refl value_read (recorded_unbroken whole.block_value_class classes.block_value);
   methods = each_of (IsJudgedMethod value (all_emitted whole.block_value_class.methods)) (all_emitted whole.block_value_class.methods) (record { found = refl; has_body = refl; typed = value_first; built = refl }, (record { found = refl; has_body = refl; typed = value_main; built = refl }, tt));
   own_members = own (all_emitted whole.block_value_class.methods) refl;
   called = refl;

@@ -1,6 +1,8 @@
 use Rattle.std.proofs.Common.{refl}
 use Rattle.body_vectors.proofs.Classes as classes
 use Rattle.body_vectors.proofs.Computing.{reading, printing}
+use Rattle.body_vectors.proofs.Premises.{recorded_agrees}
+use Rattle.body_vectors.specs.Whole as whole
 use Rattle.body_vectors.proofs.odd_units.Goals as goal
 
 pub returns-clause-read : goal.returns-clause-read
@@ -12,4 +14,4 @@ unfolding printing
 returns-clause-printed c = refl
 
 pub returns-clause-agree : goal.returns-clause-agree
-returns-clause-agree c = classes.odd_units_agrees
+returns-clause-agree c = recorded_agrees whole.odd_units_class classes.odd_units

@@ -2,6 +2,8 @@ use Rattle.std.proofs.Common.{refl}
 use Rattle.std.specs.Fmt.{digits}
 use Rattle.body_vectors.proofs.Classes as classes
 use Rattle.body_vectors.proofs.Computing.{reading, printing}
+use Rattle.body_vectors.proofs.Premises.{recorded_agrees}
+use Rattle.body_vectors.specs.Whole as whole
 use Rattle.body_vectors.proofs.spilled_matches.Goals as goal
 
 pub returns-clause-read : goal.returns-clause-read
@@ -17,4 +19,4 @@ unfolding printing
 returns-clause-printed c = refl
 
 pub returns-clause-agree : goal.returns-clause-agree
-returns-clause-agree c = classes.spilled_matches_agrees
+returns-clause-agree c = recorded_agrees whole.spilled_matches_class classes.spilled_matches

@@ -2,6 +2,8 @@ use Rattle.std.proofs.Common.{refl}
 use Rattle.std.specs.Fmt.{digits}
 use Rattle.join_vectors.proofs.Classes as classes
 use Rattle.body_vectors.proofs.Computing.{reading, printing}
+use Rattle.body_vectors.proofs.Premises.{recorded_agrees}
+use Rattle.join_vectors.specs.Recorded as recorded
 use Rattle.join_vectors.proofs.joined_values.Goals as goal
 
 pub returns-clause-read : goal.returns-clause-read
@@ -21,4 +23,4 @@ unfolding printing
 returns-clause-printed c = refl
 
 pub returns-clause-agree : goal.returns-clause-agree
-returns-clause-agree c = classes.joined_values_agrees
+returns-clause-agree c = recorded_agrees recorded.joined_values_class classes.joined_values

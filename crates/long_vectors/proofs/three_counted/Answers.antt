@@ -2,6 +2,8 @@ use Rattle.std.proofs.Common.{refl}
 use Rattle.std.specs.Fmt.{digits}
 use Rattle.long_vectors.proofs.Classes as classes
 use Rattle.body_vectors.proofs.Computing.{reading, printing}
+use Rattle.body_vectors.proofs.Premises.{recorded_agrees}
+use Rattle.long_vectors.specs.Recorded as recorded
 use Rattle.long_vectors.proofs.three_counted.Goals as goal
 
 pub returns-clause-read : goal.returns-clause-read
@@ -21,4 +23,4 @@ unfolding printing
 returns-clause-printed c = refl
 
 pub returns-clause-agree : goal.returns-clause-agree
-returns-clause-agree c = classes.three_counted_agrees
+returns-clause-agree c = recorded_agrees recorded.three_counted_class classes.three_counted
