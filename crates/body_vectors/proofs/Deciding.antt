@@ -181,12 +181,12 @@ module _ (w : Classes) (has : Usable) where
   below : (s t : IrType) → is_below s t ≡ true → IsSub w s t
   below s t h =
       ⊎_elim
-        (λ same. equal (type-same s t same))
-        (λ k. ⊎_elim
-          (λ none. from_nothing (nothing_is s none))
-          (λ all. let p = and_parts (is_any t) (not (is_none s)) all in to_any (any_is t p.0) (not_none s p.1))
-          (either (is_nothing s) (is_any t && not (is_none s)) k))
-        (either (is_same_type s t) (is_nothing s || (is_any t && not (is_none s))) h)
+      (λ same. equal (type-same s t same))
+      (λ k. ⊎_elim
+      (λ none. from_nothing (nothing_is s none))
+      (λ all. let p = and_parts (is_any t) (not (is_none s)) all in to_any (any_is t p.0) (not_none s p.1))
+      (either (is_nothing s) (is_any t && not (is_none s)) k))
+      (either (is_same_type s t) (is_nothing s || (is_any t && not (is_none s))) h)
 
   fits_type : (e : Term) (t : IrType) → fits_there e t ≡ true → FitsType (IsSub w) has e t
   fits_type e t h = let p = and_parts (is_below (type_of_term e) t) (not (is_boxed t e)) h in (below (type_of_term e) t p.0, when_not (is_boxed t e) p.1)
@@ -212,9 +212,9 @@ module _ (w : Classes) (has : Usable) where
       let its = is_below (type_of_term e) (left_operand o) && is_below (type_of_term d) (right_operand o) in
       let joins = is_joined (type_of_term e) && is_joined (type_of_term d) in
       ⊎_elim
-        (λ k. let p = and_parts (is_simple o) its k in let q = and_parts (is_below (type_of_term e) (left_operand o)) (is_below (type_of_term d) (right_operand o)) p.1 in its_types p.0 (below (type_of_term e) (left_operand o) q.0) (below (type_of_term d) (right_operand o) q.1))
-        (λ k. let p = and_parts (is_join o) joins k in let q = and_parts (is_joined (type_of_term e)) (is_joined (type_of_term d)) p.1 in texts (join_is o p.0) (joined (type_of_term e) q.0) (joined (type_of_term d) q.1))
-        (either (is_simple o && its) (is_join o && joins) h)
+      (λ k. let p = and_parts (is_simple o) its k in let q = and_parts (is_below (type_of_term e) (left_operand o)) (is_below (type_of_term d) (right_operand o)) p.1 in its_types p.0 (below (type_of_term e) (left_operand o) q.0) (below (type_of_term d) (right_operand o) q.1))
+      (λ k. let p = and_parts (is_join o) joins k in let q = and_parts (is_joined (type_of_term e)) (is_joined (type_of_term d)) p.1 in texts (join_is o p.0) (joined (type_of_term e) q.0) (joined (type_of_term d) q.1))
+      (either (is_simple o && its) (is_join o && joins) h)
 
   int_by : (o : BinaryOp) (d : Term) → is_int_divisor d ≡ true → (o ≡ IntDivide) ⊎ (o ≡ IntRemainder) → DividesBy o d
   int_by o (int_literal p z) h is = let k = and_parts (has_bits (2 ^ 31) z) (not (int_eq z (pos 0))) h in ⊎_elim (λ e. subst (λ (u : BinaryOp). DividesBy u (int_literal p z)) (sym e) (by_int _ a_quotient p z (ints z k.0) (not_zero z k.1))) (λ e. subst (λ (u : BinaryOp). DividesBy u (int_literal p z)) (sym e) (by_int _ a_remainder p z (ints z k.0) (not_zero z k.1))) is
@@ -263,9 +263,9 @@ module _ (w : Classes) (has : Usable) where
     row ls (unary_op p o e) h = let k = and_parts (is_below (type_of_term e) (unary_operand o)) (is_row has ls e) h in (below (type_of_term e) (unary_operand o) k.0, row ls e k.1)
     row ls (binary_op p o e d) h =
         ⊎_elim
-          (λ k. let its = and_parts (takes o e d) (is_row has ls e && is_row has ls d) k in let parts = and_parts (is_row has ls e) (is_row has ls d) its.1 in inl (taken o e d its.0, row ls e parts.0, row ls d parts.1))
-          (λ k. let its = and_parts (divides o d) (is_below (type_of_term e) (left_operand o) && is_row has ls e) k in let parts = and_parts (is_below (type_of_term e) (left_operand o)) (is_row has ls e) its.1 in inr (divided o d its.0, below (type_of_term e) (left_operand o) parts.0, row ls e parts.1))
-          (either (takes o e d && (is_row has ls e && is_row has ls d)) (divides o d && (is_below (type_of_term e) (left_operand o) && is_row has ls e)) h)
+        (λ k. let its = and_parts (takes o e d) (is_row has ls e && is_row has ls d) k in let parts = and_parts (is_row has ls e) (is_row has ls d) its.1 in inl (taken o e d its.0, row ls e parts.0, row ls d parts.1))
+        (λ k. let its = and_parts (divides o d) (is_below (type_of_term e) (left_operand o) && is_row has ls e) k in let parts = and_parts (is_below (type_of_term e) (left_operand o)) (is_row has ls e) its.1 in inr (divided o d its.0, below (type_of_term e) (left_operand o) parts.0, row ls e parts.1))
+        (either (takes o e d && (is_row has ls e && is_row has ls d)) (divides o d && (is_below (type_of_term e) (left_operand o) && is_row has ls e)) h)
     row ls (undefined_literal p) h = tt
     row ls (null_literal p) h = tt
     row ls (boolean_literal p b) h = tt
