@@ -6,7 +6,7 @@ use sj_world::Fact;
 use std::alloc::Global;
 
 /// The lines of an answer, as the input has them.
-pub fn lines_of(alloc: Global, answer: &Result<Reached, ReachError>) -> Result<Vec<String>> {
+pub(crate) fn lines_of(alloc: Global, answer: &Result<Reached, ReachError>) -> Result<Vec<String>> {
     match answer {
         Ok(reached) => lines_of_facts(alloc, reached.facts()),
         Err(ReachError::Refused { code, place }) => {

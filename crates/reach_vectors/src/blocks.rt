@@ -36,7 +36,7 @@ impl Drop for Block {
 }
 
 impl Block {
-    pub fn new(alloc: Global) -> Block {
+    pub(crate) fn new(alloc: Global) -> Block {
         Block {
             classes: Vec::new(alloc),
             entries: Vec::new(alloc),
@@ -47,12 +47,18 @@ impl Block {
     }
 
     /// Whether no line was added.
-    pub fn is_empty(&self) -> bool {
+    pub(crate) fn is_empty(&self) -> bool {
         self.wanted.is_empty() && !self.any_facts
     }
 
     /// Adds a line of the block.
-    pub fn add(&mut self, alloc: Global, kind: &str, fields: &str, line: &str) -> Result<()> {
+    pub(crate) fn add(
+        &mut self,
+        alloc: Global,
+        kind: &str,
+        fields: &str,
+        line: &str,
+    ) -> Result<()> {
         match kind {
             "class" => add_class(alloc, fields, &mut self.classes),
             "entries" => add_entries(alloc, fields, &mut self.entries),
@@ -69,7 +75,7 @@ impl Block {
     }
 
     /// Whether the answer is what is wanted: the same lines, each once, or any facts.
-    pub fn is_met(&mut self, alloc: Global) -> Result<bool> {
+    pub(crate) fn is_met(&mut self, alloc: Global) -> Result<bool> {
         let classes = mem::replace(&mut self.classes, Vec::new(alloc));
         let entries = mem::replace(&mut self.entries, Vec::new(alloc));
         self.answered = answered(alloc, classes, entries)?;
@@ -82,7 +88,7 @@ impl Block {
     }
 
     /// What was wanted and what was answered.
-    pub fn told(&self, alloc: Global) -> Result<String> {
+    pub(crate) fn told(&self, alloc: Global) -> Result<String> {
         let mut text = String::from_str(alloc, "wanted\n")?;
         push_all(&self.wanted, &mut text)?;
         text.push_str("answered\n")?;
