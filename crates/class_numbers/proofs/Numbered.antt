@@ -14,40 +14,11 @@ use Rattle.sj_graph.specs.declared.graphs.Reference.{Reference}
 use Rattle.sj_graph.specs.References.{reference}
 use Rattle.number_graphs.specs.Graphs.{At, Leads, Lists, next_of}
 use Rattle.number_graphs.proofs.Places.{within, one_at, at_left, at_push, contains_at, among}
-use Rattle.number_graphs.proofs.Searched.{same_or_not}
+use Rattle.number_graphs.proofs.Listed.{leads_from, leads_left, leads_old, leads_more, LeadsMore}
 use Rattle.class_numbers.specs.Numbering.{Name, is_same, Keeps, IsListed, AreNumbered, class_of}
 
 pub same_name : (a b : Name) → is_same a b ≡ true → a ≡ b
 same_name a b = (bytes_eq-Decides a b).0
-
--- what leads from a number is in the graph
-pub leads_from : (next : Lists) (i j : ℕ) → Leads next i j → i < length next
-leads_from [] i j h = absurd (let p : h.0 < 0 = h.1 in omega arith)
-leads_from (list ∷ next) zero j h = omega arith
-leads_from (list ∷ next) (suc i) j h = let r = leads_from next i j h in omega (arith, r)
-
-leads_left : (next others : Lists) (i j : ℕ) → Leads next i j → Leads (next ++ others) i j
-leads_left [] others i j h = absurd (let p : h.0 < 0 = h.1 in omega arith)
-leads_left (list ∷ next) others zero j h = h
-leads_left (list ∷ next) others (suc i) j h = leads_left next others i j h
-
-leads_old : (next : Lists) (list : Vec ℕ Global) (i j : ℕ) → list.items ≡ [] → Leads (next ++ list ∷ []) i j → Leads next i j
-leads_old [] list zero j none h = subst (λ (l : List ℕ). Contains l j) none h
-leads_old [] list (suc i) j none h = h
-leads_old (first ∷ next) list zero j none h = h
-leads_old (first ∷ next) list (suc i) j none h = leads_old next list i j none h
-
-next_set : (next : Lists) (place : ℕ) (list : Vec ℕ Global) → place < length next → next_of (set next place list) place ≡ list.items
-next_set [] place list low = absurd (omega arith)
-next_set (first ∷ next) zero list low = refl
-next_set (first ∷ next) (suc place) list low = next_set next place list (omega (arith, low))
-
-next_set_other : (next : Lists) (place : ℕ) (list : Vec ℕ Global) (i : ℕ) → i ≢ place → next_of (set next place list) i ≡ next_of next i
-next_set_other [] place list i ne = refl
-next_set_other (first ∷ next) zero list zero ne = absurd (ne refl)
-next_set_other (first ∷ next) zero list (suc i) ne = refl
-next_set_other (first ∷ next) (suc place) list zero ne = refl
-next_set_other (first ∷ next) (suc place) list (suc i) ne = next_set_other next place list i (λ e. ne (ap suc e))
 
 pub none_numbered : (classes : List Name) (next : Lists) → classes ≡ [] → next ≡ [] → AreNumbered [] classes next
 none_numbered classes next no_class none = record {
@@ -87,30 +58,18 @@ module _ (references : List Reference) (classes : List Name) (next : Lists) (n :
   -- a reference more
   pub reference_more : (from to : ℕ) (one : Reference) (list : Vec ℕ Global) → At classes from one.from → At classes to one.to → list.items ≡ next_of next from ++ to ∷ [] → AreNumbered (references ++ one ∷ []) classes (set next from list)
   reference_more from to one list is_from is_to e = record {
-    whole = length-set next from list ∙ n.whole;
+    whole = more.whole ∙ n.whole;
     once = n.once;
-    graph = λ i j leads. elim (cases i j leads) [ inl old ↦ (let low = n.graph i j old in omega (arith, low, length-set next from list)) | inr new ↦ (let low = within classes to one.to is_to in let f = n.whole in let g = new.1 in omega (arith, low, f, g, length-set next from list)) ];
-    right = λ i j a b at_i at_j leads. elim (cases i j leads) [ inl old ↦ Contains-append_left references (one ∷ []) (reference a b) (n.right i j a b at_i at_j old) | inr new ↦ subst (λ (r : Reference). Contains (references ++ one ∷ []) r) (it i j a b at_i at_j new.0 new.1) (Contains-push references one) ];
-    listed = λ other h. elim (Contains-push_cases references one other h) [ inl old ↦ (let l = n.listed other old in record { from = l.from; to = l.to; is_from = l.is_from; is_to = l.is_to; leads = still l.from l.to l.leads }) | inr new ↦ subst (λ (r : Reference). IsListed classes (set next from list) r) new (record { from = from; to = to; is_from = is_from; is_to = is_to; leads = leads_now }) ];
+    graph = λ i j leads. elim (more.cases i j leads) [ inl old ↦ (let low = n.graph i j old in let f = more.whole in omega (arith, low, f)) | inr new ↦ (let low = within classes to one.to is_to in let f = n.whole in let g = new.1 in let h = more.whole in omega (arith, low, f, g, h)) ];
+    right = λ i j a b at_i at_j leads. elim (more.cases i j leads) [ inl old ↦ Contains-append_left references (one ∷ []) (reference a b) (n.right i j a b at_i at_j old) | inr new ↦ subst (λ (r : Reference). Contains (references ++ one ∷ []) r) (it i j a b at_i at_j new.0 new.1) (Contains-push references one) ];
+    listed = λ other h. elim (Contains-push_cases references one other h) [ inl old ↦ (let l = n.listed other old in record { from = l.from; to = l.to; is_from = l.is_from; is_to = l.is_to; leads = more.kept l.from l.to l.leads }) | inr new ↦ subst (λ (r : Reference). IsListed classes (set next from list) r) new (record { from = from; to = to; is_from = is_from; is_to = is_to; leads = more.leads }) ];
   }
     where
-      low : from < length next
-      low = let inside = within classes from one.from is_from in let f = n.whole in omega (arith, inside, f)
-
-      items : next_of (set next from list) from ≡ next_of next from ++ to ∷ []
-      items = next_set next from list low ∙ e
-
-      leads_now : Leads (set next from list) from to
-      leads_now = subst (λ (l : List ℕ). Contains l to) (sym items) (Contains-push (next_of next from) to)
-
-      cases : (i j : ℕ) → Leads (set next from list) i j → Leads next i j ⊎ ((i ≡ from) × (j ≡ to))
-      cases i j leads = elim (same_or_not i from) [ inl is ↦ elim (Contains-push_cases (next_of next from) to j (subst (λ (l : List ℕ). Contains l j) items (subst (λ (k : ℕ). Leads (set next from list) k j) is leads))) [ inl old ↦ inl (subst (λ (k : ℕ). Leads next k j) (sym is) old) | inr new ↦ inr (is, sym new) ] | inr ne ↦ inl (subst (λ (l : List ℕ). Contains l j) (next_set_other next from list i ne) leads) ]
+      more : LeadsMore from to next (set next from list)
+      more = leads_more next from to list (let inside = within classes from one.from is_from in let f = n.whole in omega (arith, inside, f)) e
 
       it : (i j : ℕ) (a b : Name) → At classes i a → At classes j b → i ≡ from → j ≡ to → one ≡ reference a b
       it i j a b at_i at_j is_i is_j = let p : one.from ≡ a = one_at classes from one.from a is_from (subst (λ (k : ℕ). At classes k a) is_i at_i) in let q : one.to ≡ b = one_at classes to one.to b is_to (subst (λ (k : ℕ). At classes k b) is_j at_j) in ap (λ x. reference x one.to) p ∙ ap (λ y. reference a y) q
-
-      still : (i j : ℕ) → Leads next i j → Leads (set next from list) i j
-      still i j leads = elim (same_or_not i from) [ inl is ↦ subst (λ (k : ℕ). Leads (set next from list) k j) (sym is) (subst (λ (l : List ℕ). Contains l j) (sym items) (Contains-append_left (next_of next from) (to ∷ []) j (subst (λ (k : ℕ). Leads next k j) is leads))) | inr ne ↦ subst (λ (l : List ℕ). Contains l j) (sym (next_set_other next from list i ne)) leads ]
 
 pub still_contains : (old new : List Name) → Keeps old new → (class : Name) → Contains old class → Contains new class
 still_contains old new kept class h = let a = among old class h in contains_at new a.place class (kept a.place class a.at)

@@ -1,6 +1,7 @@
 //! The names of internal modules, which are made of their keys.
 #![tactic(auto)]
 
+mod counts;
 mod laws;
 mod naming;
 

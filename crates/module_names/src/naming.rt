@@ -1,8 +1,8 @@
 // The names of internal modules.
-ghost use Rattle.std.specs.Prelude.{◌≡◌, IfOk, map, count_by, nat_eq};
-ghost use Rattle.std.specs.Cmp.Lexicographic.{pointwise};
+ghost use Rattle.std.specs.Prelude.{◌≡◌, IfOk};
 ghost use Rattle.module_names.specs.Names.{sha1_digest, internal_name, names_of};
 
+use crate::counts::Counts;
 use sha1::Sha1;
 use sj_names::{NoMemory, Text};
 use std::alloc::Global;
@@ -14,24 +14,14 @@ const INTERNAL: &str = "internal-";
 pub fn internal_names(alloc: Global, keys: &[Text]) -> Result<Vec<Text>, NoMemory>
     ensures { IfOk result (λ names. names.items ≡ names_of sha1_digest keys.now) }
 {
-    let digests = digests(alloc, keys)?;
+    let mut counts = Counts::new(alloc);
     let mut names = Vec::new(alloc);
-    for (place, digest) in digests.iter().enumerate() {
-        let earlier = count_same(&digests[..place], digest);
-        names.push(name(alloc, digest, earlier)?)?;
+    for key in keys {
+        let digest = digest(alloc, key)?;
+        let earlier = counts.add(&digest)?;
+        names.push(name(alloc, &digest, earlier)?)?;
     }
     Ok(names)
-}
-
-// The digests of keys.
-fn digests(alloc: Global, keys: &[Text]) -> Result<Vec<Text>, NoMemory>
-    ensures { IfOk result (λ digests. digests.items ≡ map sha1_digest keys.now) }
-{
-    let mut digests = Vec::new(alloc);
-    for key in keys {
-        digests.push(digest(alloc, key)?)?;
-    }
-    Ok(digests)
 }
 
 fn digest(alloc: Global, key: &Text) -> Result<Text, NoMemory>
@@ -40,13 +30,6 @@ fn digest(alloc: Global, key: &Text) -> Result<Text, NoMemory>
     let bytes = Sha1::digest(key.as_str().as_bytes());
     let digits = hex::encode(alloc, bytes.as_slice())?;
     Ok(Text::from_string(digits)?)
-}
-
-// How many of `digests` are this one.
-fn count_same(digests: &[Text], digest: &Text) -> usize
-    ensures { result ≡ count_by (λ other. pointwise nat_eq other digest.now) digests.now }
-{
-    digests.iter().filter(|other| other.is_same(digest)).count()
 }
 
 // The name of a module whose key has this digest, as so many keys before it do.

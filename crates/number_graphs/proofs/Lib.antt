@@ -4,3 +4,5 @@ pub mod Groups
 pub mod Finished
 pub mod Steps
 pub mod Marked
+pub mod Listed
+pub mod Connected

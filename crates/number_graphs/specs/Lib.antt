@@ -1,3 +1,4 @@
 pub mod Graphs
 pub mod Searching
 pub mod Marks
+pub mod Condensed

@@ -23,7 +23,8 @@ use Rattle.sj_world.specs.Tables.{AreAncestors}
 use Rattle.std.proofs.lemmas.List.Elements.{Contains-append_left, Contains-push, Contains-push_cases}
 use Rattle.reach_rules.specs.Refusals.{IsUndefined, LacksField}
 use Rattle.sj_reach.specs.Conclusions.{Conclusion, Adds, Among}
-use Rattle.sj_reach.specs.Steps.{OfMember, OfAncestors, OfDispatch, IsTargetName, OfTargets, OfSeenInfo, OfBody, IfNew, OfProxy, OfReflective}
+use Rattle.proxy_targets.specs.Proxies.{IsTargetName}
+use Rattle.sj_reach.specs.Steps.{OfMember, OfAncestors, OfDispatch, OfTargets, OfSeenInfo, OfBody, IfNew, OfProxy, OfReflective}
 use Rattle.sj_reach.specs.declared.findings.Findings.{Findings}
 use Rattle.sj_reach.specs.declared.seen.Seen.{Seen}
 use Rattle.sj_reach.proofs.Adding.{adds_none, adds_as}

@@ -1,7 +1,6 @@
 pub mod SameFacts
 pub mod Adding
 pub mod Drawn
-pub mod Named
 pub mod Arms
 pub mod Sight
 pub mod Turns

@@ -22,6 +22,7 @@ use Rattle.class_lists.specs.Lists.{items_at}
 use Rattle.class_lists.specs.declared.lists.Lists.{Lists}
 use Rattle.reach_rules.specs.Rules.{entry_member, plain_constructor, message_constructor, public_member, constructor_member}
 use Rattle.reach_rules.specs.Refusals.{missing_class, missing_method, missing_field, wrong_kind, abstract_target, IsOtherKind, IsUndefined, IsAbstract, LacksField, IsPresent}
+use Rattle.proxy_targets.specs.Proxies.{IsTargetName}
 use Rattle.sj_reach.specs.declared.seen.Seen.{Seen}
 use Rattle.sj_reach.specs.Conclusions.{Conclusion, follows, tells, Just, Among}
 
@@ -107,16 +108,9 @@ module _ (w : Classes) where
   abbrev pub OfDispatch : MethodName → Name → Conclusion → Type 0
   OfDispatch m c = Answered c m (at_dispatch c m)
 
-  -- a reflective call reaches a method of this name
-  pub record IsTargetName (c : Name) (p m : MethodName) : Type 0 where
-    pub definition : MethodDef
-    pub owner : Name
-    pub is_target : IsProxyTarget w c p definition owner
-    pub name_is : definition.name ≡ m
-
   pub record OfTargets (Q : MethodName → Conclusion → Type 0) (c : Name) (p : MethodName) (x : Conclusion) : Type 0 where
     pub name : MethodName
-    pub is_target : IsTargetName c p name
+    pub is_target : IsTargetName w c p name
     pub concluded : Q name x
 
   -- a reflective call on instances of a class that is made

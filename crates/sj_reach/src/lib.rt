@@ -9,7 +9,6 @@ mod findings;
 mod infos;
 mod members;
 mod needed;
-mod proxies;
 mod reached;
 mod reaching;
 mod reflected;

@@ -5,7 +5,7 @@ ghost use Rattle.sj_reach.specs.Steps as steps;
 
 use crate::calls::{need_body, tell_no_body};
 use crate::findings::Findings;
-use crate::proxies::names_of_targets;
+use proxy_targets::names_of_targets;
 use sj_names::{ClassName, MethodName, NoMemory};
 use sj_world::{Fact, Resolution, World};
 use std::alloc::Global;

@@ -14,30 +14,33 @@ use Rattle.number_graphs.proofs.Searched.{same_or_not}
 use Rattle.worklist.proofs.Inserted.{nothing_in}
 use Rattle.class_numbers.specs.Numbering.{AreNumbered}
 use Rattle.sj_split.specs.Walks.{Name, References, IsReached}
-use Rattle.sj_split.specs.Steps.{AreNumbersOf, IsMarked, LedTo}
+use Rattle.sj_split.specs.Steps.{AreOf, AreNumbersOf, AreComponentsOf, IsWithin, IsMarked, LedTo}
 use Rattle.sj_split.proofs.Walked.{numbers_of_walk, led_by_numbers, then_both}
 
 -- the number of one class more
-pub numbers_more : (keys classes : List Name) (place : ℕ) (class : Name) (list more : List ℕ) (number : ℕ) → AreNumbersOf keys (take place classes) list → slice_get classes place ≡ Some class → At keys number class → more ≡ list ++ number ∷ [] → AreNumbersOf keys (take (place + 1) classes) more
-numbers_more keys classes place class list more number are at named e = subst (λ (l : List Name). AreNumbersOf keys l more) (sym (taken_more classes place class at)) (subst (λ (l : List ℕ). AreNumbersOf keys (take place classes ++ class ∷ []) l) (sym e) (record {
+pub more_of : (Right : ℕ → Name → Type 0) (classes : List Name) (place : ℕ) (class : Name) (list more : List ℕ) (number : ℕ) → AreOf Right (take place classes) list → slice_get classes place ≡ Some class → Right number class → more ≡ list ++ number ∷ [] → AreOf Right (take (place + 1) classes) more
+more_of Right classes place class list more number are at named e = subst (λ (l : List Name). AreOf Right l more) (sym (taken_more classes place class at)) (subst (λ (l : List ℕ). AreOf Right (take place classes ++ class ∷ []) l) (sym e) (record {
   whole = (let w = are.whole in omega (arith, w, length-append list (number ∷ []), length-append (take place classes) (class ∷ [])));
   right = λ p n c at_p at_c. by p n c (at_push list number p n at_p) (at_push (take place classes) class p c at_c);
 }))
   where
-    by : (p n : ℕ) (c : Name) → At list p n ⊎ ((p ≡ length list) × (n ≡ number)) → At (take place classes) p c ⊎ ((p ≡ length (take place classes)) × (c ≡ class)) → At keys n c
+    by : (p n : ℕ) (c : Name) → At list p n ⊎ ((p ≡ length list) × (n ≡ number)) → At (take place classes) p c ⊎ ((p ≡ length (take place classes)) × (c ≡ class)) → Right n c
     by p n c (inl x) (inl y) = are.right p n c x y
     by p n c (inl x) (inr y) = let inside = within list p n x in let w = are.whole in let f = y.0 in absurd (omega (arith, inside, w, f))
     by p n c (inr x) (inl y) = let inside = within (take place classes) p c y in let w = are.whole in let f = x.0 in absurd (omega (arith, inside, w, f))
-    by p n c (inr x) (inr y) = subst (λ (k : ℕ). At keys k c) (sym x.1) (subst (λ (k : Name). At keys number k) (sym y.1) named)
-
-pub numbers_all : (keys classes : List Name) (place : ℕ) (list : List ℕ) → AreNumbersOf keys (take place classes) list → place ≡ length classes → AreNumbersOf keys classes list
-numbers_all keys classes place list are all = subst (λ (l : List Name). AreNumbersOf keys l list) (ap (λ n. take n classes) all ∙ take-length classes) are
+    by p n c (inr x) (inr y) = subst (λ (k : ℕ). Right k c) (sym x.1) (subst (λ (k : Name). Right number k) (sym y.1) named)
 
 pub numbers_below : (keys classes : List Name) (next : Lists) (list : List ℕ) → length next ≡ length keys → AreNumbersOf keys classes list → AreBelow (length next) list
 numbers_below keys classes next list whole are place number at =
     let t = there classes place (let inside = within list place number at in let w = are.whole in omega (arith, inside, w)) in
     let inside = within keys number t.item (are.right place number t.item at t.at) in
     omega (arith, inside, whole)
+
+pub components_below : (keys classes : List Name) (of list : List ℕ) (count : ℕ) → ((number component : ℕ) → At of number component → component < count) → AreComponentsOf keys of classes list → AreBelow count list
+components_below keys classes of list count counted are place component at =
+    let t = there classes place (let inside = within list place component at in let w = are.whole in omega (arith, inside, w)) in
+    let is = are.right place component t.item at t.at in
+    counted is.number component is.is_component
 
 marked_old : (keys : List Name) (marks : List Bool) (number : ℕ) (class : Name) → IsMarked (take number keys) marks class → IsMarked (take (number + 1) keys) marks class
 marked_old keys marks number class m = let r = at_take number keys m.number class m.at in record { number = m.number; at = into_take (number + 1) keys m.number class r.0 (let low = r.1 in omega (arith, low)); marked = m.marked }

@@ -10,10 +10,11 @@ use Rattle.sj_graph.specs.References.{reference}
 use Rattle.number_graphs.specs.Graphs.{At, Lists, next_of, Leads, Walk as NumberWalk}
 use Rattle.number_graphs.proofs.Places.{within, one_at, there, contains_at, among}
 use Rattle.class_numbers.specs.Numbering.{AreNumbered}
-use Rattle.class_numbers.proofs.Numbered.{leads_from}
+use Rattle.number_graphs.proofs.Listed.{leads_from}
 use Rattle.sj_split.specs.Orders.{is_same}
 use Rattle.sj_split.specs.Walks.{Name, Id, References, Walk, Reaches, IsReached}
-use Rattle.sj_split.specs.Steps.{entry_class, first_classes, AreNumbersOf, LedTo}
+use Rattle.number_graphs.specs.Condensed.{IsCondensed}
+use Rattle.sj_split.specs.Steps.{entry_class, first_classes, AreNumbersOf, AreComponentsOf, IsWithin, LedTo}
 use Rattle.sj_split.proofs.Members.{into_map, Mapped, from_map, into_filter, from_filter}
 
 pub same_name : (a b : Name) → is_same a b ≡ true → a ≡ b
@@ -72,6 +73,26 @@ module _ (references : References) where
             let low : place.place < length numbers = (let inside = within starts place.place l.from place.at in let e = are.whole in omega (arith, inside, e)) in
             let start = there numbers place.place low in
             record { from = start.item; begins = contains_at numbers place.place start.item start.at; path = walk_to_number start.item number l.from class (are.right place.place start.item l.from start.at place.at) at l.walk }
+
+    -- the components to which walks lead from the components of classes are those of the classes to which walks lead from them
+    pub led_by_components : (of firsts : List ℕ) (graph : Lists) → length of ≡ length next → IsCondensed next of firsts graph → (starts : List Name) (components : List ℕ) → AreComponentsOf keys of starts components → (component : ℕ) (class : Name) → IsWithin keys of component class → IsFound (next_of graph) components component ↔ LedTo references starts class
+    led_by_components of firsts graph whole condensed starts components are component class is = (out, back)
+      where
+        out : IsFound (next_of graph) components component → LedTo references starts class
+        out f =
+            let place = among components f.from f.begins in
+            let low : place.place < length starts = (let inside = within components place.place f.from place.at in let e = are.whole in omega (arith, inside, e)) in
+            let start = there starts place.place low in
+            let first = are.right place.place f.from start.item place.at start.at in
+            record { from = start.item; begins = contains_at starts place.place start.item start.at; walk = walk_of_numbers first.number is.number start.item class first.is_class is.is_class ((condensed.walks first.number is.number f.from component first.is_component is.is_component).0 f.path) }
+
+        back : LedTo references starts class → IsFound (next_of graph) components component
+        back l =
+            let place = among starts l.from l.begins in
+            let low : place.place < length components = (let inside = within starts place.place l.from place.at in let e = are.whole in omega (arith, inside, e)) in
+            let start = there components place.place low in
+            let first = are.right place.place start.item l.from start.at place.at in
+            record { from = start.item; begins = contains_at components place.place start.item start.at; path = (condensed.walks first.number is.number start.item component first.is_component is.is_component).1 (walk_to_number first.number is.number l.from class first.is_class is.is_class l.walk) }
 
   module _ (entries : List EntryPoint) where
     listed : (first : List Name) (x : Name) → Contains [] x ⊎ Contains first x → Contains first x

@@ -1,7 +1,9 @@
 -- Classes by numbers, the tags that were found, and the least classes.
-use Rattle.std.specs.Prelude.{◌≡◌, ◌↔◌, ℕ, ◌<◌, Bool, true, false, List, [], ◌∷◌, ◌++◌, Contains, map, filter, length, get_or}
+use Rattle.std.specs.Prelude.{◌≡◌, ◌↔◌, ℕ, ◌<◌, Bool, true, false, List, [], ◌∷◌, ◌++◌, Contains, Option, map, filter, length, get_or}
 use Rattle.sj_names.specs.declared.entry_points.EntryPoint.{EntryPoint}
-use Rattle.number_graphs.specs.Graphs.{At}
+use Rattle.number_graphs.specs.Graphs.{At, Lists, AreComponents}
+use Rattle.number_graphs.specs.Condensed.{IsCondensed}
+use Rattle.number_graphs.specs.declared.finding.Components.{Components}
 use Rattle.class_numbers.specs.Numbering.{IsNumbering}
 use Rattle.class_numbers.specs.declared.numbers.ClassNumbers.{ClassNumbers}
 use Rattle.sj_split.specs.declared.tags.Reach.{Reach}
@@ -11,7 +13,7 @@ use Rattle.sj_split.specs.declared.homes.Home.{Home}
 use Rattle.sj_split.specs.declared.homes.Home.TheVariants.{Public, Internal}
 use Rattle.module_names.specs.Names.{Key}
 use Rattle.sj_split.specs.Walks.{Name, Id, References, Walk, Reaches, IsReached, IsLeastOfComponent}
-use Rattle.sj_split.specs.Homes.{class_of}
+use Rattle.sj_split.specs.Homes.{class_of, home_of_tags}
 
 abbrev pub entry_class : EntryPoint → Name
 entry_class entry = entry.class
@@ -28,10 +30,29 @@ IsNumbered numbers = (references : References) × IsNumbering references numbers
 abbrev pub AreInside : List Name → ClassNumbers → Type 0
 AreInside classes numbers = (class : Name) → Contains classes class → Contains numbers.classes.keys class
 
--- the numbers of classes, in their order
-pub record AreNumbersOf (keys classes : List Name) (numbers : List ℕ) : Type 0 where
+-- a number for each class, in their order, that is right for it
+pub record AreOf (Right : ℕ → Name → Type 0) (classes : List Name) (numbers : List ℕ) : Type 0 where
   pub whole : length numbers ≡ length classes
-  pub right : (place number : ℕ) (class : Name) → At numbers place number → At classes place class → At keys number class
+  pub right : (place number : ℕ) (class : Name) → At numbers place number → At classes place class → Right number class
+
+-- the numbers of classes, in their order
+abbrev pub AreNumbersOf : List Name → List Name → List ℕ → Type 0
+AreNumbersOf keys = AreOf (At keys)
+
+-- the class is in the component
+pub record IsWithin (keys : List Name) (of : List ℕ) (component : ℕ) (class : Name) : Type 0 where
+  pub number : ℕ
+  pub is_class : At keys number class
+  pub is_component : At of number component
+
+-- the components of classes, in their order
+abbrev pub AreComponentsOf : List Name → List ℕ → List Name → List ℕ → Type 0
+AreComponentsOf keys of = AreOf (IsWithin keys of)
+
+-- the components of the classes, and the graph of these
+pub record AreCondensed (numbers : ClassNumbers) (components : Components) (graph : Lists) : Type 0 where
+  pub found : AreComponents numbers.next.items components.of.items components.firsts.items
+  pub condensed : IsCondensed numbers.next.items components.of.items components.firsts.items graph
 
 -- a walk leads to the class from one of these
 pub record LedTo (references : References) (starts : List Name) (class : Name) : Type 0 where
@@ -49,21 +70,26 @@ abbrev pub id_of : Reach → Id
 id_of reach = reach.id
 
 abbrev pub is_marked : ℕ → Reach → Bool
-is_marked number reach = get_or reach.marks.items number false
+is_marked component reach = get_or reach.marks.items component false
 
--- the ids whose modules reach the class with this number
+-- the ids whose modules reach the classes of this component
 abbrev pub tags_in : ℕ → List Reach → List Id
-tags_in number reaches = map id_of (filter (is_marked number) reaches)
+tags_in component reaches = map id_of (filter (is_marked component) reaches)
 
 -- what a module reaches is known
-pub record IsReach (entries : List EntryPoint) (numbers : ClassNumbers) (reach : Reach) : Type 0 where
-  pub whole : length reach.marks.items ≡ length numbers.classes.keys
-  pub right : (references : References) → IsNumbering references numbers → (number : ℕ) (class : Name) → At numbers.classes.keys number class → At reach.marks.items number true ↔ Reaches references entries reach.id class
+pub record IsReach (entries : List EntryPoint) (numbers : ClassNumbers) (components : Components) (reach : Reach) : Type 0 where
+  pub whole : length reach.marks.items ≡ length components.firsts.items
+  pub right : (references : References) → IsNumbering references numbers → (component : ℕ) (class : Name) → IsWithin numbers.classes.keys components.of.items component class → At reach.marks.items component true ↔ Reaches references entries reach.id class
 
 -- what each public module reaches, in the byte order of their ids
-pub record AreReaches (entries : List EntryPoint) (numbers : ClassNumbers) (ids : List Id) (reaches : List Reach) : Type 0 where
+pub record AreReaches (entries : List EntryPoint) (numbers : ClassNumbers) (components : Components) (ids : List Id) (reaches : List Reach) : Type 0 where
   pub ids_are : map id_of reaches ≡ ids
-  pub right : (reach : Reach) → Contains reaches reach → IsReach entries numbers reach
+  pub right : (reach : Reach) → Contains reaches reach → IsReach entries numbers components reach
+
+-- the home of each component, by its tags
+pub record AreHomesByTags (reaches : List Reach) (count : ℕ) (homes : List (Option Home)) : Type 0 where
+  pub whole : length homes ≡ count
+  pub right : (component : ℕ) (home : Option Home) → At homes component home → home ≡ home_of_tags (tags_in component reaches)
 
 -- the classes that some public module reaches, in byte order
 pub record AreReached (references : References) (entries : List EntryPoint) (classes : List Name) : Type 0 where

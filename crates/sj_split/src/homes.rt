@@ -1,5 +1,7 @@
 // Where classes belong.
-use sj_names::{ClassName, Text};
+ghost use Rattle.std.specs.Prelude.{◌≡◌, IfOk};
+
+use sj_names::{ClassName, NoMemory, Text};
 
 /// A module to which classes belong.
 #[derive(Drop)]
@@ -8,6 +10,18 @@ pub enum Home {
     Public(Text),
     /// The internal module with this key.
     Internal(Text),
+}
+
+impl Home {
+    /// The same home, with its name shared.
+    pub fn copied(&self) -> Result<Home, NoMemory>
+        ensures { IfOk result (λ home. home ≡ self.now) }
+    {
+        match self {
+            Home::Public(id) => Ok(Home::Public(id.copied()?)),
+            Home::Internal(key) => Ok(Home::Internal(key.copied()?)),
+        }
+    }
 }
 
 /// A class and its home.

@@ -1,5 +1,6 @@
 // The homes of classes.
-ghost use Rattle.std.specs.Prelude.{IfOk, map};
+ghost use Rattle.std.specs.Prelude.{IfOk, Some, map};
+ghost use Rattle.number_graphs.specs.Graphs.{At};
 ghost use Rattle.class_numbers.specs.Numbering.{IsNumbering};
 ghost use Rattle.sj_split.specs.Homes.{AreHomes};
 ghost use Rattle.sj_split.specs.Modules.{AreIds};
@@ -9,10 +10,10 @@ ghost use Rattle.sj_split.specs.Steps.{entry_class, AreReached, AreSettled, IsLe
 use crate::Style;
 use crate::components::{least_classes, least_of_component};
 use crate::homes::{Home, Settled};
-use crate::tags::{home_of_tags, reaches, tags};
+use crate::tags::{homes_of_components, reaches};
 use crate::walks::reached;
 use class_numbers::ClassNumbers;
-use number_graphs::{Components, find_components};
+use number_graphs::{Components, condensed, find_components};
 use sj_graph::Reference;
 use sj_names::{ClassName, EntryPoint, NoMemory, Text};
 use std::alloc::Global;
@@ -57,15 +58,28 @@ fn homes_by_tags(
     requires reached { (references : References) → IsNumbering references numbers.now → AreReached references entries.now classes.now }
     ensures { IfOk result (λ homes. (references : References) → IsNumbering references numbers.now → AreHomes references entries.now Style.Fewest homes.items) }
 {
-    let reaches = reaches(alloc, numbers, entries, ids)?;
+    let components = find_components(alloc, numbers.next())?;
+    let graph = condensed(alloc, numbers.next(), &components)?;
+    let reaches = reaches(alloc, numbers, &components, &graph, entries, ids)?;
+    let by_component = homes_of_components(alloc, &reaches, components.firsts.len())?;
     let mut homes = Vec::new(alloc);
     for class in classes {
-        let tags = tags(alloc, &reaches, numbers.number_of(class))?;
-        let home = home_of_tags(alloc, &tags)?;
+        let home = home_of(&by_component, components.of[numbers.number_of(class)])?;
         let class = class.copied()?;
         homes.push(Settled { class, home })?;
     }
     Ok(homes)
+}
+
+// The home of a component that has one.
+fn home_of(homes: &[Option<Home>], component: usize) -> Result<Home, NoMemory>
+    requires { (home : Home) × At homes.now component (Some home) }
+    ensures { IfOk result (λ home. At homes.now component (Some home)) }
+{
+    match &homes[component] {
+        Some(home) => home.copied(),
+        None => unreachable!(),
+    }
 }
 
 // The homes of classes by their components.

@@ -1,16 +1,17 @@
 // Homes by tags.
-ghost use Rattle.std.specs.Prelude.{◌≡◌, ◌∷◌, ◌<◌, IfOk, length, map, Contains};
+ghost use Rattle.std.specs.Prelude.{◌≡◌, ◌∷◌, ◌<◌, ℕ, IfOk, length, map, Contains};
 ghost use Rattle.std.specs.List.{join_with_byte};
 ghost use Rattle.sj_split.specs.Homes.{home_of_tags};
-ghost use Rattle.sj_split.specs.Steps.{entry_class, tags_in, AreReaches, AreInside, IsNumbered};
+ghost use Rattle.sj_split.specs.Steps.{entry_class, tags_in, AreReaches, AreHomesByTags, AreInside, AreCondensed, IsNumbered};
 
 use crate::homes::Home;
 use crate::walks::reached_by;
 use class_numbers::ClassNumbers;
+use number_graphs::Components;
 use sj_names::{EntryPoint, NoMemory, Text};
 use std::alloc::Global;
 
-/// A public module, and for each number whether the module reaches its class.
+/// A public module, and for each component whether the module reaches its classes.
 #[derive(Drop)]
 pub struct Reach {
     pub id: Text,
@@ -21,16 +22,19 @@ pub struct Reach {
 pub fn reaches(
     alloc: Global,
     numbers: &ClassNumbers,
+    components: &Components,
+    graph: &[Vec<usize>],
     entries: &[EntryPoint],
     ids: &[Text],
 ) -> Result<Vec<Reach>, NoMemory>
     requires numbered { IsNumbered numbers.now }
     requires inside { AreInside (map entry_class entries.now) numbers.now }
-    ensures { IfOk result (λ reaches. AreReaches entries.now numbers.now ids.now reaches.items) }
+    requires condensed { AreCondensed numbers.now components.now graph.now }
+    ensures { IfOk result (λ reaches. AreReaches entries.now numbers.now components.now ids.now reaches.items) }
 {
     let mut reaches = Vec::new(alloc);
     for id in ids {
-        let marks = reached_by(alloc, numbers, entries, id)?;
+        let marks = reached_by(alloc, numbers, components, graph, entries, id)?;
         reaches.push(Reach {
             id: id.copied()?,
             marks,
@@ -39,29 +43,45 @@ pub fn reaches(
     Ok(reaches)
 }
 
-/// The ids of the modules that reach the class with this number.
-pub fn tags(alloc: Global, reaches: &[Reach], number: usize) -> Result<Vec<Text>, NoMemory>
-    requires { (reach : Reach) → Contains reaches.now reach → number < length reach.marks.items }
-    ensures { IfOk result (λ tags. tags.items ≡ tags_in number reaches.now) }
+/// The homes of so many components, by the ids of the modules that reach their classes; a component that none reaches has none.
+pub fn homes_of_components(
+    alloc: Global,
+    reaches: &[Reach],
+    count: usize,
+) -> Result<Vec<Option<Home>>, NoMemory>
+    requires { (reach : Reach) → Contains reaches.now reach → length reach.marks.items ≡ count }
+    ensures { IfOk result (λ homes. AreHomesByTags reaches.now count homes.items) }
+{
+    let mut homes = Vec::new(alloc);
+    for component in 0..count {
+        let tags = tags(alloc, reaches, component)?;
+        homes.push(home_of_tags(alloc, &tags)?)?;
+    }
+    Ok(homes)
+}
+
+// The ids of the modules that reach the classes of this component.
+fn tags(alloc: Global, reaches: &[Reach], component: usize) -> Result<Vec<Text>, NoMemory>
+    requires { (reach : Reach) → Contains reaches.now reach → component < length reach.marks.items }
+    ensures { IfOk result (λ tags. tags.items ≡ tags_in component reaches.now) }
 {
     let mut tags = Vec::new(alloc);
     for reach in reaches {
-        if reach.marks[number] {
+        if reach.marks[component] {
             tags.push(reach.id.copied()?)?;
         }
     }
     Ok(tags)
 }
 
-/// The module of the classes with these tags.
-pub fn home_of_tags(alloc: Global, tags: &[Text]) -> Result<Home, NoMemory>
-    requires { 0 < length tags.now }
-    ensures { IfOk result (λ home. home_of_tags tags.now ≡ Some home) }
+// The module of the classes with these tags.
+fn home_of_tags(alloc: Global, tags: &[Text]) -> Result<Option<Home>, NoMemory>
+    ensures { IfOk result (λ home. home ≡ home_of_tags tags.now) }
 {
     match tags {
-        [] => unreachable!(),
-        [id] => Ok(Home::Public(id.copied()?)),
-        [id, others @ ..] => Ok(Home::Internal(joined(alloc, id, others)?)),
+        [] => Ok(None),
+        [id] => Ok(Some(Home::Public(id.copied()?))),
+        [id, others @ ..] => Ok(Some(Home::Internal(joined(alloc, id, others)?))),
     }
 }
 

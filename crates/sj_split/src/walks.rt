@@ -5,11 +5,12 @@ ghost use Rattle.number_graphs.specs.Graphs.{At};
 ghost use Rattle.class_numbers.specs.Numbering.{IsNumbering};
 ghost use Rattle.sj_split.specs.Orders.{is_same};
 ghost use Rattle.sj_split.specs.Walks.{Name, References, Reaches};
-ghost use Rattle.sj_split.specs.Steps.{entry_class, first_classes, AreReached, IsNumbered, AreInside, AreNumbersOf, LedTo, IsMarked};
+ghost use Rattle.sj_split.specs.Steps.{entry_class, first_classes, AreReached, IsNumbered, AreInside, AreNumbersOf, AreComponentsOf, AreCondensed, IsWithin, LedTo, IsMarked};
 
 use crate::orders::each_once_in_order;
 use class_numbers::ClassNumbers;
 use indexmap::IndexSet;
+use number_graphs::Components;
 use sj_names::{ClassName, EntryPoint, NoMemory, Text};
 use std::alloc::Global;
 
@@ -40,21 +41,43 @@ fn entry_classes(alloc: Global, entries: &[EntryPoint]) -> Result<IndexSet<Class
     Ok(found)
 }
 
-/// Whether a public module reaches the class of each number.
+/// Whether a public module reaches the classes of each component.
 pub fn reached_by(
     alloc: Global,
     numbers: &ClassNumbers,
+    components: &Components,
+    graph: &[Vec<usize>],
     entries: &[EntryPoint],
     id: &Text,
 ) -> Result<Vec<bool>, NoMemory>
     requires numbered { IsNumbered numbers.now }
     requires inside { AreInside (map entry_class entries.now) numbers.now }
-    ensures count { IfOk result (λ marks. length marks.items ≡ length numbers.now.classes.keys) }
-    ensures reached { IfOk result (λ marks. (references : References) → IsNumbering references numbers.now → (number : ℕ) (class : Name) → At numbers.now.classes.keys number class → At marks.items number true ↔ Reaches references entries.now id.now class) }
+    requires condensed { AreCondensed numbers.now components.now graph.now }
+    ensures count { IfOk result (λ marks. length marks.items ≡ length components.now.firsts.items) }
+    ensures reached { IfOk result (λ marks. (references : References) → IsNumbering references numbers.now → (component : ℕ) (class : Name) → IsWithin numbers.now.classes.keys components.now.of.items component class → At marks.items component true ↔ Reaches references entries.now id.now class) }
 {
     let found = module_classes(alloc, entries, id)?;
-    let marks = led_to(alloc, numbers, &found)?;
+    let starts = components_of(alloc, numbers, &components.of, &found)?;
+    let marks = number_graphs::reached(alloc, graph, &starts)?;
     Ok(marks)
+}
+
+// The components of classes.
+fn components_of(
+    alloc: Global,
+    numbers: &ClassNumbers,
+    of: &[usize],
+    classes: &IndexSet<ClassName>,
+) -> Result<Vec<usize>, NoMemory>
+    requires inside { AreInside classes.now.keys numbers.now }
+    requires whole { length of.now ≡ length numbers.now.classes.keys }
+    ensures { IfOk result (λ list. AreComponentsOf numbers.now.classes.keys of.now classes.now.keys list.items) }
+{
+    let mut list = Vec::new(alloc);
+    for place in 0..classes.len() {
+        list.push(of[numbers.number_of(&classes[place])])?;
+    }
+    Ok(list)
 }
 
 // The classes of the entries of a public module.
