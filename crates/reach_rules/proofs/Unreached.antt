@@ -8,14 +8,14 @@ use Rattle.sj_trees.specs.declared.classes.MethodDef.{MethodDef}
 use Rattle.sj_names.specs.WellKnown.{hijacked, is_same_text}
 use Rattle.sj_names.specs.declared.entry_points.EntryPoint.{EntryPoint}
 use Rattle.sj_names.specs.declared.method_names.Member.{Member}
-use Rattle.sj_ask.specs.Members.{IsMethodOf}
+use Rattle.sj_world.specs.Members.{IsMethodOf}
 use Rattle.sj_ask.proofs.One.{one_method}
 use Rattle.sj_infos.specs.Infos.{asked_by}
 use Rattle.sj_infos.specs.declared.infos.Info.{Info}
 use Rattle.sj_world.specs.Ancestors.{written_above}
 use Rattle.sj_world.specs.Known.{Name, Classes, object}
-use Rattle.sj_world.specs.declared.linked.Fact.{Fact}
-use Rattle.sj_world.specs.declared.linked.Fact.TheVariants as fact
+use Rattle.sj_world.specs.declared.facts.Fact.{Fact}
+use Rattle.sj_world.specs.declared.facts.Fact.TheVariants as fact
 use Rattle.sj_world.proofs.OnCycles.{among}
 use Rattle.worklist.proofs.Inserted.{nothing_in, only_one}
 use Rattle.reach_rules.specs.Rows.{folder, static_method, main_entries, unused, IsUnneeded}

@@ -21,8 +21,8 @@ use Rattle.sj_world.specs.Rows.{empty_class}
 use Rattle.reach_rules.specs.Refusals.{Refusal, place, missing_class, missing_method, missing_field, wrong_kind, abstract_target}
 use Rattle.reach_rules.specs.Reachable.{Reachable, Unresolved}
 use Rattle.reach_rules.specs.Rules.{plain_constructor, message_constructor, public_member}
-use Rattle.sj_world.specs.declared.linked.Fact.{Fact}
-use Rattle.sj_world.specs.declared.linked.Fact.TheVariants as fact
+use Rattle.sj_world.specs.declared.facts.Fact.{Fact}
+use Rattle.sj_world.specs.declared.facts.Fact.TheVariants as fact
 
 abbrev pub plain_name : List ℕ → MethodName
 plain_name simple = record { simple = simple; params = []; result = Some reference.Void }

@@ -8,11 +8,11 @@ use Rattle.sj_trees.specs.declared.classes.FieldDef.{FieldDef}
 use Rattle.sj_trees.specs.declared.classes.MethodDef.{MethodDef}
 use Rattle.sj_world.specs.Known.{Name, Classes, class_of}
 use Rattle.sj_world.specs.Paths.{IsFirst}
-use Rattle.sj_world.specs.declared.linked.Fact.{Fact}
+use Rattle.sj_world.specs.declared.facts.Fact.{Fact}
 use Rattle.sj_world.proofs.Once.{resolves_once}
 use Rattle.tree_sameness.specs.Apart.{field_apart, method_apart}
 use Rattle.sj_ask.specs.Stands.{Stand}
-use Rattle.sj_ask.specs.Members.{IsField, IsFieldOf, HasNoField, IsMethod, IsMethodOf}
+use Rattle.sj_world.specs.Members.{IsField, IsFieldOf, HasNoField, IsMethod, IsMethodOf}
 use Rattle.sj_ask.specs.Answers.{public_member, target_member, IsTarget, IsSmallBody, HasNoSmallBody, IsFieldAnswer, IsSingleAnswer, IsBodyAnswer}
 
 -- the first of a list with a property is one

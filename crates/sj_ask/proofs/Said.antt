@@ -1,7 +1,6 @@
 -- What answers say.
 use Rattle.std.proofs.Common.{◌≡◌, Bool, ap, sym, subst}
 use Rattle.std.specs.Prelude.{◌↔◌, IsTrue}
-use Rattle.sj_names.specs.declared.method_names.Member.{Member}
 use Rattle.sj_ask.specs.declared.questions.Question.{Question}
 use Rattle.sj_ask.specs.declared.questions.Answer.{Answer}
 use Rattle.sj_ask.specs.declared.questions.Answer.TheVariants as answer

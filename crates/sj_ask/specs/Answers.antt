@@ -8,16 +8,17 @@ use Rattle.sj_trees.specs.declared.classes.MethodDef.{MethodDef}
 use Rattle.sj_trees.specs.Term.{Term}
 use Rattle.sj_world.specs.Known.{Name, Classes, is_hijacked}
 use Rattle.sj_world.specs.Ancestors.{IsAncestor}
+use Rattle.sj_world.specs.Facts.{IsMadeBelow}
 use Rattle.sj_world.specs.Subtypes as subtypes
 use Rattle.sj_world.specs.Resolution as resolution
-use Rattle.sj_world.specs.declared.linked.Fact.{Fact}
-use Rattle.sj_world.specs.declared.linked.Fact.TheVariants as fact
+use Rattle.sj_world.specs.declared.facts.Fact.{Fact}
+use Rattle.sj_world.specs.declared.facts.Fact.TheVariants as fact
 use Rattle.sj_ask.specs.declared.questions.Question.{Question}
 use Rattle.sj_ask.specs.declared.questions.Question.TheVariants as question
 use Rattle.sj_ask.specs.declared.questions.Answer.{Answer}
 use Rattle.sj_ask.specs.declared.questions.Answer.TheVariants as answer
 use Rattle.sj_ask.specs.Stands.{Stand}
-use Rattle.sj_ask.specs.Members.{IsFieldOf, HasNoField, IsMethodOf}
+use Rattle.sj_world.specs.Members.{IsFieldOf, HasNoField, IsMethodOf}
 use Rattle.sj_ask.specs.Sizes.{size}
 use Rattle.tree_sameness.specs.Apart.{field_apart, method_apart}
 
@@ -36,25 +37,9 @@ pub record IsTarget (w : Classes) (c : Name) (m : MethodName) (found : Option Me
   pub resolves : resolution.Resolves w c m run
   pub is_member : found ≡ target_member m run
 
--- the fact says that instances of D are made, and D is a subtype of C
-pub record Makes (w : Classes) (c d : Name) (f : Fact) : Type 0 where
-  pub made : f ≡ fact.Made d
-  pub below : IsAncestor w d c
-
-pub record MakesNone (w : Classes) (c : Name) (f : Fact) : Type 0 where
-  pub none : (d : Name) → Makes w c d f → ⊥
-
--- instances of D are made, and D is a subtype of C
-pub record IsMadeBelow (w : Classes) (facts : List Fact) (c d : Name) : Type 0 where
-  pub made : Contains facts (fact.Made d)
-  pub below : IsAncestor w d c
-
-pub record HasNoneMade (w : Classes) (facts : List Fact) (c : Name) : Type 0 where
-  pub none : (d : Name) → IsMadeBelow w facts c d → ⊥
-
--- the subtype of C that the fact makes, if it makes one, resolves to the member
-pub record RunsIfMade (w : Classes) (c : Name) (m : MethodName) (k : Member) (f : Fact) : Type 0 where
-  pub run : (d : Name) → Makes w c d f → IsTarget w d m (Some k)
+-- each of these classes resolves to the member
+pub record EachRuns (w : Classes) (classes : List Name) (m : MethodName) (k : Member) : Type 0 where
+  pub each : (d : Name) → Contains classes d → IsTarget w d m (Some k)
 
 -- all made subtypes of C resolve to the member
 pub record RunAll (w : Classes) (facts : List Fact) (c : Name) (m : MethodName) (k : Member) : Type 0 where

@@ -1,5 +1,4 @@
 pub mod Stands
-pub mod Members
 pub mod Sizes
 pub mod Answers
 pub mod Hijacked

@@ -2,7 +2,7 @@
 use Rattle.std.specs.Prelude.{List}
 use Rattle.sj_names.specs.declared.method_names.Member.{Member}
 use Rattle.sj_world.specs.Known.{Classes}
-use Rattle.sj_world.specs.declared.linked.Fact.{Fact}
+use Rattle.sj_world.specs.declared.facts.Fact.{Fact}
 use Rattle.sj_world.specs.declared.linked.LinkedWorld.{LinkedWorld}
 
 -- a world, with what is known of its classes, and the member that is worked on
@@ -12,4 +12,4 @@ pub record Stand : Type 0 where
   pub member : Member
 
 abbrev pub stand_of : LinkedWorld → Member → Stand
-stand_of w k = record { classes = w.world; facts = w.facts.items; member = k }
+stand_of w k = record { classes = w.world; facts = w.facts; member = k }

@@ -38,13 +38,13 @@ fn is_answer(world: &LinkedWorld, k: &Member, question: &Question, answer: &Answ
     ensures { IsTrue result ↔ IsAnswer (stand_of world.now k.now) question.now answer.now }
 {
     match question {
-        Question::IsSub(sub, above) => says(world.world.is_sub(sub, above), answer),
+        Question::IsSub(sub, above) => says(world.world().is_sub(sub, above), answer),
         Question::Field(class, name, is_static) => {
-            gives_field(&world.world, class, name, *is_static, answer)
+            gives_field(world.world(), class, name, *is_static, answer)
         }
-        Question::Resolve(class, method) => gives_target(&world.world, class, method, answer),
+        Question::Resolve(class, method) => gives_target(world.world(), class, method, answer),
         Question::Single(class, method) => gives_single(world, class, method, answer),
-        Question::HasHijacked(class) => says(has_hijacked(&world.world, class), answer),
+        Question::HasHijacked(class) => says(has_hijacked(world.world(), class), answer),
         Question::Body(member) => gives_body(world, k, member, answer),
     }
 }
@@ -88,7 +88,7 @@ fn gives_single(
     method: &MethodName,
     answer: &Answer,
 ) -> bool
-    ensures { IsTrue result ↔ GivesMember (IsSingleAnswer world.now.world world.now.facts.items class.now method.now) answer.now }
+    ensures { IsTrue result ↔ GivesMember (IsSingleAnswer world.now.world world.now.facts class.now method.now) answer.now }
 {
     match answer {
         Answer::Member(found) => is_single_answer(world, class, method, found),
@@ -144,7 +144,7 @@ fn is_single_answer(
     method: &MethodName,
     found: &Option<Member>,
 ) -> bool
-    ensures { IsTrue result ↔ IsSingleAnswer world.now.world world.now.facts.items class.now method.now found.now }
+    ensures { IsTrue result ↔ IsSingleAnswer world.now.world world.now.facts class.now method.now found.now }
 {
     match only_target_of(world, class, method) {
         Some(owner) => is_public_member(found, owner, method),

@@ -37,7 +37,7 @@ impl<'w> Oracle for WorldOracle<'w> {
     ghost told = { λ _. None };
 
     fn answer(&mut self, _alloc: Global, question: &Question) -> Result<Answer, NoMemory> {
-        let world = &self.world.world;
+        let world = self.world.world();
         match question {
             Question::IsSub(sub, above) => Ok(Answer::Yes(world.is_sub(sub, above))),
             Question::Field(class, name, is_static) => Ok(Answer::Field(field_answer(
@@ -91,7 +91,7 @@ fn single_answer(
     class: &ClassName,
     method: &MethodName,
 ) -> Result<Option<Member>, NoMemory>
-    ensures { IfOk result (IsSingleAnswer world.now.world world.now.facts.items class.now method.now) }
+    ensures { IfOk result (IsSingleAnswer world.now.world world.now.facts class.now method.now) }
 {
     match only_target_of(world, class, method) {
         Some(owner) => Ok(Some(public_member(owner, method)?)),

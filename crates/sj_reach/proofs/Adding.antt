@@ -7,15 +7,15 @@ use Rattle.worklist.proofs.Inserted.{insert_all-grows, from-insert_all, into-ins
 use Rattle.sj_names.specs.declared.method_names.MethodName.{MethodName}
 use Rattle.sj_world.specs.Known.{Name, Classes}
 use Rattle.sj_world.specs.Resolution.{Answer, Resolves}
-use Rattle.sj_world.specs.declared.linked.Fact.{Fact}
-use Rattle.sj_world.specs.contracts.linked.FactPartialEq.TheImpl as fact_eq
+use Rattle.sj_world.specs.declared.facts.Fact.{Fact}
+use Rattle.sj_world.specs.contracts.facts.FactPartialEq.TheImpl as fact_eq
 use Rattle.sj_world.proofs.Once.{resolves_once}
 use Rattle.sj_world.proofs.Searches.{stands_at, contains_at}
 use Rattle.sj_reach.specs.Conclusions.{Conclusion, follows, told, Holds, Just, Adds, Among}
 use Rattle.sj_reach.specs.Steps.{Answered}
 use Rattle.sj_reach.specs.declared.findings.Findings.{Findings}
 use Rattle.sj_reach.specs.declared.findings.Report.{Report}
-use Rattle.sj_reach.proofs.SameFacts.{fact_is}
+use Rattle.sj_world.proofs.SameFacts.{fact_is}
 
 pub adds_none : (Q : Conclusion → Type 0) (s : Findings) → ((x : Conclusion) → Q x → ⊥) → Adds Q s s
 adds_none Q s none = record { more = []; grows = sym (append-nil s.facts.keys); keeps = λ x h. h; sound = λ x h. inl h; complete = λ x q. absurd (none x q) }

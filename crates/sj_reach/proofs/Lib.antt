@@ -1,4 +1,3 @@
-pub mod SameFacts
 pub mod Adding
 pub mod Drawn
 pub mod Arms

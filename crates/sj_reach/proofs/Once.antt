@@ -5,8 +5,8 @@ use Rattle.std.specs.List.{IsDistinct}
 use Rattle.std.proofs.lemmas.Bool.{and_parts, and_from, ltb-true, lt-ltb}
 use Rattle.std.proofs.lemmas.Option.{slice_get_within, get_or_from_slice_get}
 use Rattle.std.proofs.lemmas.Map.Keys.{apart_from_distinct}
-use Rattle.sj_world.specs.declared.linked.Fact.{Fact}
-use Rattle.sj_world.specs.contracts.linked.FactPartialEq.TheImpl as fact_eq
+use Rattle.sj_world.specs.declared.facts.Fact.{Fact}
+use Rattle.sj_world.specs.contracts.facts.FactPartialEq.TheImpl as fact_eq
 use Rattle.sj_world.specs.Known.{Name, is_same}
 use Rattle.sj_world.specs.Refusals.{is_before}
 use Rattle.sj_world.proofs.Orders.{before_trans, same_name, is_same_itself, not_before_itself}
@@ -17,10 +17,10 @@ use Rattle.sj_world.specs.Known.{Classes}
 use Rattle.sj_reach.specs.Conclusions.{report}
 use Rattle.sj_reach.specs.declared.findings.Findings.{Findings}
 use Rattle.sj_reach.specs.declared.findings.Report.{Report}
-use Rattle.sj_reach.specs.declared.reached.ReachError.{ReachError}
-use Rattle.sj_reach.specs.declared.reached.ReachError.TheVariants.{Refused, NoMemory}
+use Rattle.sj_reach.specs.declared.errors.ReachError.{ReachError}
+use Rattle.sj_reach.specs.declared.errors.ReachError.TheVariants.{Refused, NoMemory}
 use Rattle.worklist.proofs.Inserted.{nothing_in}
-use Rattle.sj_reach.proofs.SameFacts.{fact_refl}
+use Rattle.sj_world.proofs.SameFacts.{fact_refl}
 
 not_both : {A : Type 0} → true ≡ false → A
 not_both e = cc

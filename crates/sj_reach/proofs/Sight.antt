@@ -1,5 +1,5 @@
 -- What is kept of the facts that were gone through.
-use Rattle.std.proofs.Common.{◌≡◌, ℕ, ◌+◌, ◌≤◌, ◌<◌, Bool, true, false, List, [], ◌∷◌, ◌++◌, Some, Contains, slice_get, refl, sym, ap, ◌∙◌, subst, length, arith, inl, inr, if◌then◌else◌}
+use Rattle.std.proofs.Common.{◌≡◌, ℕ, ◌+◌, ◌≤◌, List, [], ◌∷◌, ◌++◌, Some, Contains, slice_get, refl, sym, ap, ◌∙◌, subst, length, inl, inr, if◌then◌else◌}
 use Rattle.std.specs.Prelude.{◌⊎◌, ◌↔◌}
 use Rattle.std.proofs.lemmas.List.Elements.{Contains-append_left, Contains-push, Contains-push_cases}
 use Rattle.indexmap.specs.IndexSet.{insert_key}
@@ -11,143 +11,26 @@ use Rattle.sj_names.specs.declared.method_names.Member.{Member}
 use Rattle.sj_names.specs.declared.method_names.MethodName.{MethodName}
 use Rattle.sj_names.specs.contracts.method_names.MethodNamePartialEq.TheImpl as method_eq
 use Rattle.sj_trees.specs.declared.classes.MethodDef.{MethodDef}
-use Rattle.sj_ask.specs.Members.{IsMethodOf}
+use Rattle.sj_world.specs.Members.{IsMethodOf}
 use Rattle.sj_ask.proofs.One.{one_method}
 use Rattle.sj_infos.specs.Infos.{asked_by}
 use Rattle.sj_infos.specs.Once.{FirstsOf}
 use Rattle.sj_infos.specs.declared.infos.Info.{Info}
 use Rattle.sj_infos.specs.declared.infos.Info.TheVariants.{Reflective}
 use Rattle.sj_world.specs.Ancestors.{IsAncestor}
-use Rattle.sj_world.specs.Known.{Name, Classes, is_known, is_same}
-use Rattle.sj_world.specs.Tables.{AreAncestors}
-use Rattle.sj_world.specs.declared.linked.Fact.{Fact}
-use Rattle.sj_world.specs.declared.linked.Fact.TheVariants as fact
-use Rattle.sj_world.proofs.Orders.{same_name, is_same_itself}
-use Rattle.sj_world.proofs.Searches.{stands_at, contains_at}
+use Rattle.sj_world.specs.Known.{Name, Classes, is_same}
+use Rattle.sj_world.specs.declared.facts.Fact.{Fact}
+use Rattle.sj_world.specs.declared.facts.Fact.TheVariants as fact
 use Rattle.reach_rules.specs.Rules.{Reads}
 use Rattle.reach_rules.proofs.Grows.{reads-grow}
-use Rattle.sj_reach.specs.Seen.{IsEmpty, PutsBelow, SeesMade, SeesCalled, SeesNames, SeesReflective, SeesInfo, SeesInfos, IsReadIn, SeesBody, SeesFact, IsSeen}
+use Rattle.sj_reach.specs.Seen.{IsEmpty, SeesMade, SeesCalled, SeesNames, SeesReflective, SeesInfo, SeesInfos, IsReadIn, SeesBody, SeesFact, IsSeen}
 use Rattle.sj_reach.specs.declared.seen.Seen.{Seen}
-use Rattle.sj_reach.proofs.SameFacts.{method_decides}
+use Rattle.sj_world.proofs.Kept.{put_exact, IsOneOfFirst, first_split, first_join, no_first, all_first, first_in}
+use Rattle.sj_world.proofs.SameFacts.{method_decides}
 use Rattle.sj_reach.proofs.Arms.{stands_in_all, stands_once}
-
--- an item is put under a name
-module _ {T : Type 0} (old new : Lists T) (c : Name) (item : T) (puts : (other : Name) → items_at new other ≡ (if is_same c other then items_at old other ++ item ∷ [] else items_at old other)) where
-  put_at : (d : Name) (x : T) (b : Bool) → is_same c d ≡ b → Contains (items_at new d) x ↔ (Contains (items_at old d) x ⊎ ((c ≡ d) × (item ≡ x)))
-  put_at d x true e =
-      let at : items_at new d ≡ items_at old d ++ item ∷ [] = puts d ∙ ap (λ (b : Bool). if b then items_at old d ++ item ∷ [] else items_at old d) e in
-      (λ h. into (Contains-push_cases (items_at old d) item x (subst (λ (l : List T). Contains l x) at h)), λ q. subst (λ (l : List T). Contains l x) (sym at) (from q))
-    where
-      into : Contains (items_at old d) x ⊎ (item ≡ x) → Contains (items_at old d) x ⊎ ((c ≡ d) × (item ≡ x))
-      into (inl h) = inl h
-      into (inr k) = inr (same_name c d e, k)
-
-      from : Contains (items_at old d) x ⊎ ((c ≡ d) × (item ≡ x)) → Contains (items_at old d ++ item ∷ []) x
-      from (inl h) = Contains-append_left (items_at old d) (item ∷ []) x h
-      from (inr q) = subst (λ (z : T). Contains (items_at old d ++ item ∷ []) z) q.1 (Contains-push (items_at old d) item)
-  put_at d x false e =
-      let at : items_at new d ≡ items_at old d = puts d ∙ ap (λ (b : Bool). if b then items_at old d ++ item ∷ [] else items_at old d) e in
-      (λ h. inl (subst (λ (l : List T). Contains l x) at h), λ q. subst (λ (l : List T). Contains l x) (sym at) (from q))
-    where
-      off : {A : Type 0} → true ≡ false → A
-      off k = cc
-
-      from : Contains (items_at old d) x ⊎ ((c ≡ d) × (item ≡ x)) → Contains (items_at old d) x
-      from (inl h) = h
-      from (inr q) = off (sym (is_same_itself c) ∙ ap (is_same c) q.0 ∙ e)
-
-  pub put_exact : (d : Name) (x : T) → Contains (items_at new d) x ↔ (Contains (items_at old d) x ⊎ ((c ≡ d) × (item ≡ x)))
-  put_exact d x = put_at d x (is_same c d) refl
 
 pub sees_called : (old new : Lists MethodName) (c : Name) (item m : MethodName) → item ≡ m → ((other : Name) → items_at new other ≡ (if is_same c other then items_at old other ++ item ∷ [] else items_at old other)) → (d : Name) (x : MethodName) → Contains (items_at new d) x ↔ (Contains (items_at old d) x ⊎ ((c ≡ d) × (m ≡ x)))
 sees_called old new c item m same puts d x = subst (λ (z : MethodName). Contains (items_at new d) x ↔ (Contains (items_at old d) x ⊎ ((c ≡ d) × (z ≡ x)))) same (put_exact old new c item puts d x)
-
--- one of the first names
-pub record IsOneOfFirst {X : Type 0} (xs : List X) (n : ℕ) (x : X) : Type 0 where
-  pub place : ℕ
-  pub early : place < n
-  pub stands : slice_get xs place ≡ Some x
-
-same_some : {X : Type 0} (x y : X) → Some x ≡ Some y → x ≡ y
-same_some x y e = cc
-
-module _ {X : Type 0} (xs : List X) where
-  first_split : (n : ℕ) (y x : X) → slice_get xs n ≡ Some y → IsOneOfFirst xs (n + 1) x → IsOneOfFirst xs n x ⊎ (y ≡ x)
-  first_split n y x at q = go (split q.place q.early)
-    where
-      split : (i : ℕ) → i < n + 1 → (i < n) ⊎ (i ≡ n)
-      split i l = grind arith
-
-      go : (q.place < n) ⊎ (q.place ≡ n) → IsOneOfFirst xs n x ⊎ (y ≡ x)
-      go (inl l) = inl (record { place = q.place; early = l; stands = q.stands })
-      go (inr e) = inr (same_some y x (sym at ∙ ap (slice_get xs) (sym e) ∙ q.stands))
-
-  first_join : (n : ℕ) (y x : X) → slice_get xs n ≡ Some y → IsOneOfFirst xs n x ⊎ (y ≡ x) → IsOneOfFirst xs (n + 1) x
-  first_join n y x at (inl q) = record { place = q.place; early = (let l : q.place < n = q.early in omega arith); stands = q.stands }
-  first_join n y x at (inr e) = record { place = n; early = omega arith; stands = at ∙ ap Some e }
-
-  no_first : (x : X) → IsOneOfFirst xs 0 x → ⊥
-  no_first x q = let l : q.place < 0 = q.early in omega arith
-
-  all_first : (n : ℕ) (x : X) → length xs ≤ n → Contains xs x → IsOneOfFirst xs n x
-  all_first n x over h = record { place = h.0; early = (let l : h.0 < length xs = h.1 in omega arith); stands = stands_at xs x h }
-
-  first_in : (n : ℕ) (x : X) → IsOneOfFirst xs n x → Contains xs x
-  first_in n x q = contains_at xs q.place x q.stands
-
--- a class is put under names, one after the other
-pub below_begins : (names : List Name) (c : Name) (below : Lists Name) → PutsBelow (IsOneOfFirst names 0) c below below
-below_begins names c below = record { exact = λ d x. (λ h. inl h, λ q. from d x q) }
-  where
-    from : (d x : Name) → Contains (items_at below d) x ⊎ (IsOneOfFirst names 0 d × (c ≡ x)) → Contains (items_at below d) x
-    from d x (inl h) = h
-    from d x (inr q) = absurd (no_first names d q.0)
-
-pub below_goes_on : (names : List Name) (n : ℕ) (name c item : Name) (a b e : Lists Name) → slice_get names n ≡ Some name → item ≡ c → PutsBelow (IsOneOfFirst names n) c a b → ((other : Name) → items_at e other ≡ (if is_same name other then items_at b other ++ item ∷ [] else items_at b other)) → PutsBelow (IsOneOfFirst names (n + 1)) c a e
-below_goes_on names n name c item a b e at same before puts = record { exact = λ d x. (λ h. into d x ((put_exact b e name item puts d x).0 h), λ q. (put_exact b e name item puts d x).1 (from d x q)) }
-  where
-    older : (d x : Name) → Contains (items_at a d) x ⊎ (IsOneOfFirst names n d × (c ≡ x)) → Contains (items_at a d) x ⊎ (IsOneOfFirst names (n + 1) d × (c ≡ x))
-    older d x (inl h) = inl h
-    older d x (inr q) = inr (first_join names n name d at (inl q.0), q.1)
-
-    into : (d x : Name) → Contains (items_at b d) x ⊎ ((name ≡ d) × (item ≡ x)) → Contains (items_at a d) x ⊎ (IsOneOfFirst names (n + 1) d × (c ≡ x))
-    into d x (inl h) = older d x ((before.exact d x).0 h)
-    into d x (inr q) = inr (first_join names n name d at (inr q.0), sym same ∙ q.1)
-
-    newer : (d x : Name) → c ≡ x → IsOneOfFirst names n d ⊎ (name ≡ d) → Contains (items_at b d) x ⊎ ((name ≡ d) × (item ≡ x))
-    newer d x k (inl q) = inl ((before.exact d x).1 (inr (q, k)))
-    newer d x k (inr s) = inr (s, same ∙ k)
-
-    from : (d x : Name) → Contains (items_at a d) x ⊎ (IsOneOfFirst names (n + 1) d × (c ≡ x)) → Contains (items_at b d) x ⊎ ((name ≡ d) × (item ≡ x))
-    from d x (inl h) = inl ((before.exact d x).1 (inl h))
-    from d x (inr q) = newer d x q.1 (first_split names n name d at q.0)
-
-below_as : (P Q : Name → Type 0) (c : Name) (a b : Lists Name) → ((d : Name) → P d → Q d) → ((d : Name) → Q d → P d) → PutsBelow P c a b → PutsBelow Q c a b
-below_as P Q c a b f g puts = record { exact = λ d x. (λ h. into d x ((puts.exact d x).0 h), λ q. (puts.exact d x).1 (from d x q)) }
-  where
-    into : (d x : Name) → Contains (items_at a d) x ⊎ (P d × (c ≡ x)) → Contains (items_at a d) x ⊎ (Q d × (c ≡ x))
-    into d x (inl h) = inl h
-    into d x (inr q) = inr (f d q.0, q.1)
-
-    from : (d x : Name) → Contains (items_at a d) x ⊎ (Q d × (c ≡ x)) → Contains (items_at a d) x ⊎ (P d × (c ≡ x))
-    from d x (inl h) = inl h
-    from d x (inr q) = inr (g d q.0, q.1)
-
-pub below_ends : (names : List Name) (n : ℕ) (c : Name) (a b : Lists Name) → length names ≤ n → PutsBelow (IsOneOfFirst names n) c a b → PutsBelow (Contains names) c a b
-below_ends names n c a b over f = below_as _ (Contains names) c a b (λ d q. first_in names n d q) (λ d h. all_first names n d over h) f
-
-pub below_ancestors : (w : Classes) (c : Name) (names : List Name) (a b : Lists Name) → AreAncestors w c names → PutsBelow (Contains names) c a b → PutsBelow (IsAncestor w c) c a b
-below_ancestors w c names a b are f = below_as (Contains names) (IsAncestor w c) c a b (λ d h. (are.exact d).0 h) (λ d h. (are.exact d).1 h) f
-
-off : {A : Type 0} → true ≡ false → A
-off k = cc
-
-pub below_unknown : (w : Classes) (c : Name) (a : Lists Name) → is_known w c ≡ false → PutsBelow (IsAncestor w c) c a a
-below_unknown w c a unknown = record { exact = λ d x. (λ h. inl h, λ q. from d x q) }
-  where
-    from : (d x : Name) → Contains (items_at a d) x ⊎ (IsAncestor w c d × (c ≡ x)) → Contains (items_at a d) x
-    from d x (inl h) = h
-    from d x (inr q) = off (sym q.0.known ∙ unknown)
 
 -- reflective calls are seen
 pub sees_name : (old new : List MethodName) (item p : MethodName) → item ≡ p → new ≡ insert_key method_eq.ghosts.eq old item → (q : MethodName) → Contains new q ↔ (Contains old q ⊎ (p ≡ q))

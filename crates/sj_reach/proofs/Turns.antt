@@ -11,8 +11,8 @@ use Rattle.sj_infos.specs.declared.infos.Info.{Info}
 use Rattle.sj_infos.specs.declared.infos.Info.TheVariants as info
 use Rattle.sj_world.specs.Ancestors.{IsAncestor}
 use Rattle.sj_world.specs.Known.{Name, Classes}
-use Rattle.sj_world.specs.declared.linked.Fact.{Fact}
-use Rattle.sj_world.specs.declared.linked.Fact.TheVariants as fact
+use Rattle.sj_world.specs.declared.facts.Fact.{Fact}
+use Rattle.sj_world.specs.declared.facts.Fact.TheVariants as fact
 use Rattle.reach_rules.specs.Rules.{Reads}
 use Rattle.reach_rules.proofs.Grows.{reads-grow}
 use Rattle.sj_reach.specs.Conclusions.{Conclusion, Among}

@@ -8,8 +8,8 @@ use Rattle.std.proofs.Math.Seq.{take-length}
 use Rattle.worklist.proofs.Inserted.{nothing_in}
 use Rattle.sj_names.specs.declared.entry_points.EntryPoint.{EntryPoint}
 use Rattle.sj_world.specs.Known.{Classes}
-use Rattle.sj_world.specs.declared.linked.Fact.{Fact}
-use Rattle.sj_world.specs.declared.linked.Fact.TheVariants as fact
+use Rattle.sj_world.specs.declared.facts.Fact.{Fact}
+use Rattle.sj_world.specs.declared.facts.Fact.TheVariants as fact
 use Rattle.reach_rules.specs.Reachable.{Reachable}
 use Rattle.reach_rules.specs.Rules.{Rule}
 use Rattle.reach_rules.proofs.Derivations.{closed, derived-all}

@@ -3,13 +3,13 @@ use Rattle.std.specs.Prelude.{◌≡◌, ◌↔◌, ℕ, Bool, false, List, Opti
 use Rattle.sj_names.specs.declared.entry_points.EntryPoint.{EntryPoint}
 use Rattle.sj_world.specs.Known.{Classes, is_same}
 use Rattle.sj_world.specs.Refusals.{is_before}
-use Rattle.sj_world.specs.declared.linked.Fact.{Fact}
+use Rattle.sj_world.specs.declared.facts.Fact.{Fact}
 use Rattle.reach_rules.specs.Reachable.{Reachable, Unresolved}
 use Rattle.reach_rules.specs.Refusals.{Refusal, code, place}
 use Rattle.sj_reach.specs.declared.findings.Report.{Report}
 use Rattle.sj_reach.specs.declared.findings.Findings.{Findings}
-use Rattle.sj_reach.specs.declared.reached.ReachError.{ReachError}
-use Rattle.sj_reach.specs.declared.reached.ReachError.TheVariants.{Refused, NoMemory}
+use Rattle.sj_reach.specs.declared.errors.ReachError.{ReachError}
+use Rattle.sj_reach.specs.declared.errors.ReachError.TheVariants.{Refused, NoMemory}
 use Rattle.sj_reach.specs.Conclusions.{report}
 
 -- one is told before the other: by the bytes of the place, then by the code

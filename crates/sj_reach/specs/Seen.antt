@@ -1,19 +1,19 @@
 -- What is kept of the facts that were gone through.
 use Rattle.std.specs.Prelude.{◌≡◌, ◌↔◌, ◌⊎◌, ◌++◌, ◌∷◌, [], List, Contains}
 use Rattle.class_lists.specs.Lists.{items_at}
-use Rattle.class_lists.specs.declared.lists.Lists.{Lists}
 use Rattle.sj_names.specs.declared.entry_points.EntryPoint.{EntryPoint}
 use Rattle.sj_names.specs.declared.method_names.MethodName.{MethodName}
 use Rattle.sj_infos.specs.Infos.{asked_by}
-use Rattle.sj_ask.specs.Members.{IsMethodOf}
+use Rattle.sj_world.specs.Members.{IsMethodOf}
 use Rattle.sj_names.specs.declared.method_names.Member.{Member}
 use Rattle.sj_trees.specs.declared.classes.MethodDef.{MethodDef}
 use Rattle.sj_infos.specs.declared.infos.Info.{Info}
 use Rattle.sj_infos.specs.declared.infos.Info.TheVariants.{Reflective}
 use Rattle.sj_world.specs.Ancestors.{IsAncestor}
+use Rattle.sj_world.specs.Facts.{PutsBelow}
 use Rattle.sj_world.specs.Known.{Name, Classes}
-use Rattle.sj_world.specs.declared.linked.Fact.{Fact}
-use Rattle.sj_world.specs.declared.linked.Fact.TheVariants as fact
+use Rattle.sj_world.specs.declared.facts.Fact.{Fact}
+use Rattle.sj_world.specs.declared.facts.Fact.TheVariants as fact
 use Rattle.reach_rules.specs.Rules.{Reads}
 use Rattle.sj_reach.specs.declared.seen.Seen.{Seen}
 
@@ -22,10 +22,6 @@ pub record IsEmpty (seen : Seen) : Type 0 where
   pub below : (name : Name) → items_at seen.below name ≡ []
   pub called : (name : Name) → items_at seen.called name ≡ []
   pub reflective : seen.reflective.keys ≡ []
-
--- the class stands under those names besides what stood there
-pub record PutsBelow (Above : Name → Type 0) (c : Name) (old new : Lists Name) : Type 0 where
-  pub exact : (d x : Name) → Contains (items_at new d) x ↔ (Contains (items_at old d) x ⊎ (Above d × (c ≡ x)))
 
 pub record SeesMade (w : Classes) (c : Name) (old new : Seen) : Type 0 where
   pub made : new.made.items ≡ old.made.items ++ c ∷ []

@@ -8,7 +8,7 @@ use Rattle.sj_trees.specs.declared.classes.ClassDef.{ClassDef}
 use Rattle.sj_trees.specs.declared.classes.ClassKind.{ClassKind}
 use Rattle.sj_trees.specs.declared.classes.ClassKind.TheVariants.{Class, ModuleClass, Interface}
 use Rattle.sj_trees.specs.declared.classes.MethodDef.{MethodDef}
-use Rattle.sj_ask.specs.Members.{IsMethodOf}
+use Rattle.sj_world.specs.Members.{IsMethodOf}
 use Rattle.sj_infos.specs.Infos.{asked_by}
 use Rattle.sj_infos.specs.declared.infos.Info.{Info}
 use Rattle.sj_infos.specs.declared.infos.Info.TheVariants as info
@@ -16,8 +16,8 @@ use Rattle.sj_world.specs.Ancestors.{IsAncestor}
 use Rattle.sj_world.specs.Calls.{IsProxyTarget}
 use Rattle.sj_world.specs.Known.{Name, Classes, class_of, is_hijacked, object}
 use Rattle.sj_world.specs.Resolution.{Answer, Resolves, target, abstract, missing}
-use Rattle.sj_world.specs.declared.linked.Fact.{Fact}
-use Rattle.sj_world.specs.declared.linked.Fact.TheVariants as fact
+use Rattle.sj_world.specs.declared.facts.Fact.{Fact}
+use Rattle.sj_world.specs.declared.facts.Fact.TheVariants as fact
 use Rattle.class_lists.specs.Lists.{items_at}
 use Rattle.class_lists.specs.declared.lists.Lists.{Lists}
 use Rattle.reach_rules.specs.Rules.{entry_member, plain_constructor, message_constructor, public_member, constructor_member}

@@ -4,9 +4,8 @@ ghost use Rattle.sj_reach.specs.Conclusions.{Adds};
 ghost use Rattle.sj_reach.specs.Steps as steps;
 
 use crate::findings::Findings;
-use crate::members::method_in;
 use sj_names::{Member, NoMemory};
-use sj_world::World;
+use sj_world::{World, method_in};
 use std::alloc::Global;
 
 /// The member is a body, and is told where its class is there and gives it none.

@@ -8,12 +8,11 @@ ghost use Rattle.sj_reach.specs.Steps as steps;
 
 use crate::findings::Findings;
 use crate::infos::go_through_info;
-use crate::members::method_in;
 use crate::seen::Seen;
 use sj_infos::{Info, infos_of};
 use sj_names::{ClassName, Member, NoMemory};
 use sj_trees::MethodDef;
-use sj_world::World;
+use sj_world::{World, method_in};
 use std::alloc::Global;
 
 /// The body of the member is needed.

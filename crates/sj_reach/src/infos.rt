@@ -8,14 +8,14 @@ ghost use Rattle.sj_reach.specs.Steps as steps;
 use crate::asked::ask_for;
 use crate::calls::{call_on_receiver, resolve_from};
 use crate::findings::Findings;
-use crate::members::{constructor_member, field_in, message_constructor, plain_constructor};
+use crate::members::{constructor_member, message_constructor, plain_constructor};
 use crate::needed::need_of_kind;
 use crate::reflected::{reflect_on_each, reflect_on_hijacked};
 use crate::seen::Seen;
 use sj_infos::Info;
 use sj_names::{ClassName, FieldName, Member, MethodName, NoMemory, OBJECT, Text};
 use sj_trees::ClassKind;
-use sj_world::{Fact, World};
+use sj_world::{Fact, World, field_in};
 use std::alloc::Global;
 
 /// A body asks for this.

@@ -5,15 +5,15 @@ mod asked;
 mod bodies;
 mod calls;
 mod dispatched;
+mod errors;
 mod findings;
 mod infos;
 mod members;
 mod needed;
-mod reached;
 mod reaching;
 mod reflected;
 mod reports;
 mod seen;
 
-pub use reached::{ReachError, Reached};
+pub use errors::ReachError;
 pub use reaching::reach;

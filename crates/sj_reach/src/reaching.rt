@@ -10,15 +10,15 @@ ghost use Rattle.sj_reach.specs.Steps as steps;
 use crate::asked::ask_for;
 use crate::bodies::go_through_body;
 use crate::dispatched::{dispatch_from_above, dispatch_on_each, dispatch_on_each_below};
+use crate::errors::ReachError;
 use crate::findings::{Findings, Report};
 use crate::infos::object_name;
 use crate::members::entry_member;
 use crate::needed::{go_through_needed, need_parents_of_hijacked};
-use crate::reached::{ReachError, Reached};
 use crate::reflected::reflect_each_on;
 use crate::seen::Seen;
 use sj_names::{ClassName, Entries, EntryPoint, MethodName, NoMemory, Text};
-use sj_world::{Fact, World};
+use sj_world::{Fact, Reached, World};
 use std::alloc::Global;
 
 /// The facts that are reachable from the entry points, each once. Where a reference that is reachable doesn't resolve, the folder is
@@ -27,11 +27,11 @@ pub fn reach(alloc: Global, w: &World, e: &Entries) -> Result<Reached, ReachErro
     ensures { MatchResult result (AreReachable w.now e.now) (IsRefused w.now e.now) }
 {
     let found = find_all(alloc, w, e.as_slice())?;
-    answer(found)
+    answer(alloc, found)
 }
 
 // The facts, unless something is told.
-fn answer(found: Findings) -> Result<Reached, ReachError>
+fn answer(alloc: Global, found: Findings) -> Result<Reached, ReachError>
     ensures { MatchResult result (λ facts. (facts ≡ found.facts.keys) × (found.reports.items ≡ [])) (AreLeast found.reports.items) }
 {
     match least(found.reports.as_slice()) {
@@ -39,7 +39,7 @@ fn answer(found: Findings) -> Result<Reached, ReachError>
             code: report.code,
             place: report.place.copied()?,
         }),
-        None => Ok(Reached::of(found.facts)),
+        None => Ok(Reached::of(alloc, found.facts)?),
     }
 }
 
@@ -47,32 +47,17 @@ fn answer(found: Findings) -> Result<Reached, ReachError>
 fn find_all(alloc: Global, world: &World, entries: &[EntryPoint]) -> Result<Findings, NoMemory>
     ensures { IfOk result (AllFound world.now entries.now) }
 {
-    let hijacked = hijacked_names(alloc)?;
+    let hijacked = world.hijacked();
     let mut found = Findings::new(alloc);
-    start(alloc, world, entries, &hijacked, &mut found)?;
+    start(alloc, world, entries, hijacked, &mut found)?;
     let mut seen = Seen::new(alloc);
     let mut next = 0;
     while next < found.facts.len() {
-        let fact = copied(&found.facts[next])?;
-        go_through(alloc, world, &fact, &mut seen, &hijacked, &mut found)?;
+        let fact = found.facts[next].copied()?;
+        go_through(alloc, world, &fact, &mut seen, hijacked, &mut found)?;
         next += 1;
     }
     Ok(found)
-}
-
-fn copied(fact: &Fact) -> Result<Fact, NoMemory>
-    ensures { IfOk result (λ f. f ≡ fact.now) }
-{
-    Ok(match fact {
-        Fact::Needed(class) => Fact::Needed(class.copied()?),
-        Fact::Made(class) => Fact::Made(class.copied()?),
-        Fact::CellUsed(class) => Fact::CellUsed(class.copied()?),
-        Fact::NeededField(class, field, is_static) => {
-            Fact::NeededField(class.copied()?, field.copied()?, *is_static)
-        }
-        Fact::Body(member) => Fact::Body(member.copied()?),
-        Fact::Called(class, method) => Fact::Called(class.copied()?, method.copied()?),
-    })
 }
 
 // What follows from a fact, alone and together with those that were gone through before it.
@@ -189,31 +174,6 @@ fn need_parents_of_all(
     for class in hijacked {
         need_parents_of_hijacked(alloc, world, class, found)?;
     }
-    Ok(())
-}
-
-// The names of the hijacked classes.
-fn hijacked_names(alloc: Global) -> Result<Vec<ClassName>, NoMemory>
-    ensures { IfOk result (λ names. names.items ≡ the_hijacked) }
-{
-    let mut names = Vec::new(alloc);
-    add_name(alloc, "java.lang.Void", &mut names)?;
-    add_name(alloc, "java.lang.Boolean", &mut names)?;
-    add_name(alloc, "java.lang.Character", &mut names)?;
-    add_name(alloc, "java.lang.Byte", &mut names)?;
-    add_name(alloc, "java.lang.Short", &mut names)?;
-    add_name(alloc, "java.lang.Integer", &mut names)?;
-    add_name(alloc, "java.lang.Long", &mut names)?;
-    add_name(alloc, "java.lang.String", &mut names)?;
-    Ok(names)
-}
-
-fn add_name(alloc: Global, text: &str, names: &mut Vec<ClassName>) -> Result<(), NoMemory>
-    requires { IsTrue (is_class_name text.now) }
-    ensures { OnOk result (names.new.items ≡ names.old.items ++ text.now ∷ []) }
-{
-    let text = Text::from_str(alloc, text)?;
-    names.push(ClassName::of_text(text))?;
     Ok(())
 }
 

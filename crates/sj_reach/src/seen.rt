@@ -1,6 +1,5 @@
 // What has been gone through, as far as more follows from it together with a later fact.
-ghost use Rattle.std.specs.Prelude.{Contains, OnOk};
-ghost use Rattle.sj_world.specs.Ancestors.{IsAncestor};
+ghost use Rattle.std.specs.Prelude.{OnOk};
 ghost use Rattle.sj_reach.specs.Seen as specs;
 
 use class_lists::Lists;
@@ -42,7 +41,7 @@ impl Seen {
     ) -> Result<(), NoMemory>
         ensures { OnOk result (specs.SeesMade world.now class.now self.old self.new) }
     {
-        put_below_all(alloc, world, class, &mut self.below)?;
+        world.put_below(alloc, class, &mut self.below)?;
         self.made.push(class.copied()?)?;
         Ok(())
     }
@@ -84,33 +83,4 @@ impl Seen {
         self.reflective.insert(proxy.copied()?)?;
         Ok(())
     }
-}
-
-// Puts a class under each of its ancestors.
-fn put_below_all(
-    alloc: Global,
-    world: &World,
-    class: &ClassName,
-    below: &mut Lists<ClassName>,
-) -> Result<(), NoMemory>
-    ensures { OnOk result (specs.PutsBelow (IsAncestor world.now class.now) class.now below.old below.new) }
-{
-    match world.ancestors(class) {
-        Some(ancestors) => put_below(alloc, ancestors, class, below),
-        None => Ok(()),
-    }
-}
-
-fn put_below(
-    alloc: Global,
-    ancestors: &[ClassName],
-    class: &ClassName,
-    below: &mut Lists<ClassName>,
-) -> Result<(), NoMemory>
-    ensures { OnOk result (specs.PutsBelow (Contains ancestors.now) class.now below.old below.new) }
-{
-    for ancestor in ancestors {
-        below.put(alloc, ancestor, class.copied()?)?;
-    }
-    Ok(())
 }

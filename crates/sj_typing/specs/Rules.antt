@@ -15,7 +15,7 @@ use Rattle.sj_trees.specs.TypeOf.{type_of_term}
 use Rattle.sj_trees.specs.Types.{class_type, element_type, reference_type}
 use Rattle.sj_world.specs.Known.{Name, Classes}
 use Rattle.sj_world.specs.Subtypes.{IsSub}
-use Rattle.sj_ask.specs.Members.{IsFieldOf}
+use Rattle.sj_world.specs.Members.{IsFieldOf}
 use Rattle.sj_typing.specs.declared.labels.Label.{Label}
 use Rattle.sj_typing.specs.Labels.{type_of_label}
 

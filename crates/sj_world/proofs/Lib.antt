@@ -18,3 +18,5 @@ pub mod OneWorld
 pub mod Grows
 pub mod Rows
 pub mod Puts
+pub mod SameFacts
+pub mod Kept

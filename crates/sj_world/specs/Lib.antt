@@ -9,5 +9,7 @@ pub mod Resolution
 pub mod Calls
 pub mod Spellings
 pub mod Laws
+pub mod Members
+pub mod Facts
 pub mod Linked
 pub mod Rows

@@ -4,14 +4,18 @@
 #![tactic(auto)]
 
 mod above;
+mod below;
 mod chains;
 mod cycles;
+mod definitions;
+mod facts;
 mod known;
 mod laws;
 mod lines;
 mod linked;
 mod members;
 mod order;
+mod reached;
 mod receivers;
 mod reflective;
 mod resolving;
@@ -19,12 +23,15 @@ mod spellings;
 mod subtypes;
 mod worlds;
 
+pub use definitions::{field_in, method_in};
+pub use facts::Fact;
 pub use laws::{
     ancestors_grow, ancestors_rise, bodies_are_inherited, calls_resolve_once, subtypes_are_ordered,
     worked_worlds, worlds_are_one,
 };
-pub use linked::{Fact, LinkedWorld, MethodEntry};
+pub use linked::{LinkedWorld, MethodEntry};
 pub use members::Owned;
+pub use reached::Reached;
 pub use receivers::receiver_class;
 pub use resolving::Resolution;
 pub use worlds::{World, WorldError};

@@ -1,29 +1,19 @@
 // A world with what is known of its classes.
-ghost use Rattle.std.specs.Prelude.{◌≡◌, ◌++◌, [], map, IfOk, OnOk, MatchResult};
+ghost use Rattle.std.specs.Prelude.{◌≡◌, ◌↔◌, ◌++◌, map, IfOk, OnOk, IsTrue, MatchResult, Contains};
+ghost use Rattle.sj_world.specs.Facts.{IsMadeBelow};
+ghost use Rattle.sj_world.specs.Known.{Name};
 ghost use Rattle.sj_world.specs.Refusals.{IsRefused};
 ghost use Rattle.sj_world.specs.Linked as linked;
 
-use crate::worlds::{World, WorldError};
-use sj_names::{ClassName, FieldName, Member, MethodName, NoMemory};
+use crate::below::made_below;
+use crate::facts::{bodies_of, has_member};
+use crate::{Fact, Reached, World, WorldError};
+use class_lists::Lists;
+use indexmap::IndexSet;
+use sj_names::{ClassName, Member, MethodName, NoMemory};
 use sj_trees::ClassDef;
 use std::alloc::Global;
-
-/// What is known of the classes of a folder.
-#[derive(Drop, PartialEq, Eq, Hash)]
-pub enum Fact {
-    /// The class is needed.
-    Needed(ClassName),
-    /// Instances of the class are made.
-    Made(ClassName),
-    /// The cell of the module class is used.
-    CellUsed(ClassName),
-    /// The field of the class is needed, a static one where the mark says so.
-    NeededField(ClassName, FieldName, bool),
-    /// The body of the method is needed.
-    Body(Member),
-    /// The method is called on receivers of the class.
-    Called(ClassName, MethodName),
-}
+use std::marker::Model;
 
 /// A name under which instances of a class have a method, and the method that it stands for.
 #[derive(Drop)]
@@ -36,9 +26,25 @@ pub struct MethodEntry {
 /// A world with the facts that are known of it and its method entries.
 #[derive(Drop)]
 pub struct LinkedWorld {
-    pub world: World,
-    pub facts: Vec<Fact>,
-    pub entries: Vec<MethodEntry>,
+    world: World,
+    facts: Vec<Fact>,
+    entries: Vec<MethodEntry>,
+    bodies: IndexSet<Member>,
+    below: Lists<ClassName>,
+}
+
+impl Model for LinkedWorld {
+    ghost use Rattle.sj_world.specs.Linked.{Linked, linked_code};
+
+    ghost Value = { Linked };
+
+    ghost coded = { linked_code };
+
+    ghost use Rattle.sj_world.specs.Facts.{AreKept};
+
+    ghost view = { λ l. record { world = l.world; facts = l.facts.items; entries = l.entries.items } };
+
+    ghost invariant = { λ l. AreKept l.world l.facts.items l.bodies.keys l.below };
 }
 
 impl LinkedWorld {
@@ -54,12 +60,86 @@ impl LinkedWorld {
     {
         let world = World::new(alloc, classes)?;
         let facts = facts_of(alloc, made, bodies)?;
+        Ok(LinkedWorld::of(alloc, world, facts, Vec::new(alloc))?)
+    }
+
+    /// The world `w` with the facts of `r` and these entries. It shares the classes of `w`. `NoMemory` alone is an error.
+    pub fn linked(
+        alloc: Global,
+        w: &World,
+        r: &Reached,
+        entries: Vec<MethodEntry>,
+    ) -> Result<LinkedWorld, NoMemory>
+        ensures { IfOk result (λ l. l ≡ record { world = w.now; facts = r.now; entries = entries.items }) }
+    {
+        let facts = copied_facts(alloc, r.facts())?;
+        let world = w.copied()?;
+        LinkedWorld::of(alloc, world, facts, entries)
+    }
+
+    fn of(
+        alloc: Global,
+        world: World,
+        facts: Vec<Fact>,
+        entries: Vec<MethodEntry>,
+    ) -> Result<LinkedWorld, NoMemory>
+        ensures { IfOk result (λ l. l ≡ record { world = world; facts = facts.items; entries = entries.items }) }
+    {
+        let bodies = bodies_of(alloc, &facts)?;
+        let below = made_below(alloc, &world, &facts)?;
         Ok(LinkedWorld {
             world,
             facts,
-            entries: Vec::new(alloc),
+            entries,
+            bodies,
+            below,
         })
     }
+
+    /// The world.
+    pub fn world(&self) -> &World
+        ensures { result.now ≡ self.now.world }
+    {
+        &self.world
+    }
+
+    /// What is known of the classes.
+    pub fn facts(&self) -> &[Fact]
+        ensures { result.now ≡ self.now.facts }
+    {
+        &self.facts
+    }
+
+    /// The method entries.
+    pub fn entries(&self) -> &[MethodEntry]
+        ensures { result.now ≡ self.now.entries }
+    {
+        &self.entries
+    }
+
+    /// The classes below this one of which instances are made. It takes no memory.
+    pub fn made_below(&self, class: &ClassName) -> &[ClassName]
+        ensures { (d : Name) → Contains result.now d ↔ IsMadeBelow self.now.world self.now.facts class.now d }
+    {
+        self.below.at(class)
+    }
+
+    /// Whether the body of the member is needed. It takes no memory.
+    pub fn has_body(&self, member: &Member) -> bool
+        ensures { IsTrue result ↔ Contains self.now.facts (Fact.Body member.now) }
+    {
+        has_member(&self.bodies, member)
+    }
+}
+
+fn copied_facts(alloc: Global, facts: &[Fact]) -> Result<Vec<Fact>, NoMemory>
+    ensures { IfOk result (λ copies. copies.items ≡ facts.now) }
+{
+    let mut copies = Vec::new(alloc);
+    for fact in facts {
+        copies.push(fact.copied()?)?;
+    }
+    Ok(copies)
 }
 
 fn facts_of(alloc: Global, made: Vec<ClassName>, bodies: Vec<Member>) -> Result<Vec<Fact>, NoMemory>

@@ -1,7 +1,7 @@
 // Worlds.
-ghost use Rattle.std.specs.Prelude.{◌≡◌, true, false, if◌then◌else◌, MatchResult, MatchOption, option_map};
+ghost use Rattle.std.specs.Prelude.{◌≡◌, true, false, if◌then◌else◌, IfOk, MatchResult, MatchOption, option_map};
 ghost use Rattle.std.specs.List.{list_any};
-ghost use Rattle.sj_world.specs.Known.{class_of, is_known, is_hijacked, is_same};
+ghost use Rattle.sj_world.specs.Known.{class_of, is_known, hijacked, is_hijacked, is_same};
 ghost use Rattle.sj_world.specs.Tables.{AreAncestors, AreChain};
 ghost use Rattle.sj_world.specs.Refusals.{IsInOrder, HasNoCycle, IsWorldOf, IsRefused, IsRefusedForCycle};
 
@@ -13,6 +13,7 @@ use sj_names::{ClassName, NoMemory};
 use sj_trees::ClassDef;
 use std::alloc::{AllocError, AllocFailed, Global};
 use std::marker::Model;
+use std::rc::Rc;
 use thiserror::Error;
 
 /// Why classes make no world.
@@ -59,11 +60,17 @@ impl From<NoMemory> for WorldError {
     }
 }
 
-/// Classes of different names, none of which stands above itself.
+// Classes in the order of the bytes of their names, with their tables.
 #[derive(Drop)]
-pub struct World {
+struct Parts {
     classes: Vec<ClassDef>,
     tables: Tables,
+}
+
+/// Classes of different names, none of which stands above itself. A copy shares them.
+#[derive(Drop)]
+pub struct World {
+    parts: Rc<Parts>,
 }
 
 impl Model for World {
@@ -78,9 +85,9 @@ impl Model for World {
 
     ghost coded = { coded_list class.the_row.coded };
 
-    ghost view = { λ w. w.classes.items };
+    ghost view = { λ w. w.parts.value.classes.items };
 
-    ghost invariant = { λ w. IsBuilt w.classes.items w.tables };
+    ghost invariant = { λ w. IsBuilt w.parts.value.classes.items w.parts.value.tables };
 }
 
 impl World {
@@ -92,7 +99,16 @@ impl World {
         let classes = in_order(classes)?;
         no_cycle(alloc, &classes)?;
         let tables = tables_of(alloc, &classes)?;
-        Ok(World { classes, tables })
+        let parts = Rc::new(alloc, Parts { classes, tables })?;
+        Ok(World { parts })
+    }
+
+    /// The same world once more, which shares its classes. `NoMemory` alone is an error.
+    pub fn copied(&self) -> Result<World, NoMemory>
+        ensures { IfOk result (λ w. w ≡ self.now) }
+    {
+        let parts = self.parts.clone()?;
+        Ok(World { parts })
     }
 
     /// The classes, in the order of the bytes of their names.
@@ -101,7 +117,7 @@ impl World {
         ensures in_order { IsInOrder self.now }
         ensures no_cycle { HasNoCycle self.now }
     {
-        &self.classes
+        &self.parts.as_ref().classes
     }
 
     /// The class of this name.
@@ -115,7 +131,7 @@ impl World {
     pub fn class_named(&self, name: &str) -> Option<&ClassDef>
         ensures { option_map (λ c. c.now) result ≡ class_of self.now name.now }
     {
-        class_in(&self.classes, name)
+        class_in(&self.parts.as_ref().classes, name)
     }
 
     /// The ancestors of a class, in the order of the bytes of their names; `None` exactly where it isn't known. Known are the classes
@@ -123,7 +139,7 @@ impl World {
     pub fn ancestors(&self, name: &ClassName) -> Option<&[ClassName]>
         ensures { MatchOption result (is_known self.now name.now ≡ false) (λ names. (is_known self.now name.now ≡ true) × AreAncestors self.now name.now names.now) }
     {
-        match self.tables.lines.get(name) {
+        match self.parts.as_ref().tables.lines.get(name) {
             Some(line) => Some(line.ancestors.as_slice()),
             None => None,
         }
@@ -133,10 +149,17 @@ impl World {
     pub fn chain(&self, name: &ClassName) -> Option<&[ClassName]>
         ensures { MatchOption result (is_known self.now name.now ≡ false) (λ names. (is_known self.now name.now ≡ true) × AreChain self.now name.now names.now) }
     {
-        match self.tables.lines.get(name) {
+        match self.parts.as_ref().tables.lines.get(name) {
             Some(line) => Some(line.chain.as_slice()),
             None => None,
         }
+    }
+
+    /// The names of the eight hijacked classes.
+    pub fn hijacked(&self) -> &[ClassName]
+        ensures { result.now ≡ hijacked }
+    {
+        self.parts.as_ref().tables.hijacked.as_slice()
     }
 
     // The name of one of the eight hijacked classes.
@@ -144,7 +167,7 @@ impl World {
         requires { is_hijacked text.now ≡ true }
         ensures { option_map (λ name. name.now) result ≡ Some text.now }
     {
-        name_in(self.tables.hijacked.as_slice(), text)
+        name_in(self.hijacked(), text)
     }
 }
 

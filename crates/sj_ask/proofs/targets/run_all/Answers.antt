@@ -1,17 +1,18 @@
-use Rattle.std.proofs.Common.{true, false, refl, arith}
+use Rattle.std.proofs.Common.{refl, arith}
 use Rattle.std.proofs.lemmas.Option.{slice_get_read}
+use Rattle.sj_world.proofs.Searches.{all_begins, all_more}
 use Rattle.sj_ask.specs.Answers.{public_member}
-use Rattle.sj_ask.proofs.Searched.{run_begins, run_on, run_whole, run_missed, failed}
+use Rattle.sj_ask.proofs.Searched.{Runs, each_runs, one_misses, failed}
 use Rattle.sj_ask.proofs.targets.run_all.Goals as goal
 
-pub loop-fact-init : goal.loop-fact-init
-loop-fact-init c = run_begins c.args.world.now c.args.facts.now c.args.class.now c.args.method.now (public_member c.args.owner.now c.args.method.now)
+pub loop-class-init : goal.loop-class-init
+loop-class-init c = all_begins (Runs c.args.world.now c.args.method.now (public_member c.args.owner.now c.args.method.now)) c.args.made.now
 
-pub loop-fact-preserved : goal.loop-fact-preserved
-loop-fact-preserved c = run_on c.args.world.now c.args.facts.now c.args.class.now c.args.method.now (public_member c.args.owner.now c.args.method.now) c.loop-fact.fact-index c.fact-item.result c.loop-fact.invariant (slice_get_read c.args.facts.now _ c.loop-fact.fact-index c.fact-item.result refl (omega arith) c.fact-item.is) (c.is_kept_by.ensures.0 c.if-not-is_kept_by.false)
+pub loop-class-preserved : goal.loop-class-preserved
+loop-class-preserved c = all_more (Runs c.args.world.now c.args.method.now (public_member c.args.owner.now c.args.method.now)) c.args.made.now c.loop-class.class-index c.class-item.result c.loop-class.invariant (slice_get_read c.args.made.now _ c.loop-class.class-index c.class-item.result refl (omega arith) c.class-item.is) (c.runs.ensures.0 c.if-not-runs.false)
 
-pub returns-then-not-is_kept_by : goal.returns-then-not-is_kept_by
-returns-then-not-is_kept_by c = (λ t. cc, λ all. absurd (run_missed c.args.world.now c.args.facts.now c.args.class.now c.args.method.now (public_member c.args.owner.now c.args.method.now) c.loop-fact.fact-index c.fact-item.result (slice_get_read c.args.facts.now _ c.loop-fact.fact-index c.fact-item.result refl (omega arith) c.fact-item.is) (failed c.is_kept_by.result c.is_kept_by.ensures c.if-not-is_kept_by.true) all))
+pub returns-then-not-runs : goal.returns-then-not-runs
+returns-then-not-runs c = (λ t. cc, λ all. absurd (one_misses c.args.world.now c.args.made.now c.args.method.now (public_member c.args.owner.now c.args.method.now) c.loop-class.class-index c.class-item.result (slice_get_read c.args.made.now _ c.loop-class.class-index c.class-item.result refl (omega arith) c.class-item.is) (failed c.runs.result c.runs.ensures c.if-not-runs.true) all))
 
 pub returns : goal.returns
-returns c = (λ t. run_whole c.args.world.now c.args.facts.now c.args.class.now c.args.method.now (public_member c.args.owner.now c.args.method.now) c.loop-fact.fact-index c.loop-fact.invariant (omega arith), λ all. refl)
+returns c = (λ t. each_runs c.args.world.now c.args.made.now c.args.method.now (public_member c.args.owner.now c.args.method.now) c.loop-class.class-index c.loop-class.invariant (omega arith), λ all. refl)

@@ -4,28 +4,7 @@ use Rattle.sj_reach.proofs.Worked.{working_begins, working_goes_on, working_ends
 use Rattle.sj_reach.proofs.reaching.find_all.Goals as goal
 
 pub loop-next-init : goal.loop-next-init
-loop-next-init c = record { names = c.in_ok-hijacked.ensures; work = working_begins c.args.world.now c.args.entries.now c.new-seen.result c.new-found.result _ c.new-seen.ensures c.new-found.ensures.facts c.new-found.ensures.reports c.in_ok-start.ensures }
-
-pub loop-next-preserved-in_ok-go_through : goal.loop-next-preserved-in_ok-go_through
-loop-next-preserved-in_ok-go_through c = record { names = c.loop-next.invariant.names; work = working_goes_on c.args.world.now c.args.entries.now c.loop-next.next c.in_ok-fact.fact _ _ _ _ (c.index.ensures ∙ ap Some (sym c.in_ok-fact.ensures)) c.loop-next.invariant.work c.in_ok-go_through.ensures.found c.in_ok-go_through.ensures.seen }
-
-pub loop-next-preserved-in_ok-go_through-2 : goal.loop-next-preserved-in_ok-go_through-2
-loop-next-preserved-in_ok-go_through-2 c = record { names = c.loop-next.invariant.names; work = working_goes_on c.args.world.now c.args.entries.now c.loop-next.next c.in_ok-fact.fact _ _ _ _ (c.index.ensures ∙ ap Some (sym c.in_ok-fact.ensures)) c.loop-next.invariant.work c.in_ok-go_through.ensures.found c.in_ok-go_through.ensures.seen }
-
-pub loop-next-preserved-in_ok-go_through-3 : goal.loop-next-preserved-in_ok-go_through-3
-loop-next-preserved-in_ok-go_through-3 c = record { names = c.loop-next.invariant.names; work = working_goes_on c.args.world.now c.args.entries.now c.loop-next.next c.in_ok-fact.fact _ _ _ _ (c.index.ensures ∙ ap Some (sym c.in_ok-fact.ensures)) c.loop-next.invariant.work c.in_ok-go_through.ensures.found c.in_ok-go_through.ensures.seen }
-
-pub loop-next-preserved-in_ok-go_through-4 : goal.loop-next-preserved-in_ok-go_through-4
-loop-next-preserved-in_ok-go_through-4 c = record { names = c.loop-next.invariant.names; work = working_goes_on c.args.world.now c.args.entries.now c.loop-next.next c.in_ok-fact.fact _ _ _ _ (c.index.ensures ∙ ap Some (sym c.in_ok-fact.ensures)) c.loop-next.invariant.work c.in_ok-go_through.ensures.found c.in_ok-go_through.ensures.seen }
-
-pub loop-next-preserved-in_ok-go_through-5 : goal.loop-next-preserved-in_ok-go_through-5
-loop-next-preserved-in_ok-go_through-5 c = record { names = c.loop-next.invariant.names; work = working_goes_on c.args.world.now c.args.entries.now c.loop-next.next c.in_ok-fact.fact _ _ _ _ (c.index.ensures ∙ ap Some (sym c.in_ok-fact.ensures)) c.loop-next.invariant.work c.in_ok-go_through.ensures.found c.in_ok-go_through.ensures.seen }
-
-pub loop-next-preserved-in_ok-go_through-6 : goal.loop-next-preserved-in_ok-go_through-6
-loop-next-preserved-in_ok-go_through-6 c = record { names = c.loop-next.invariant.names; work = working_goes_on c.args.world.now c.args.entries.now c.loop-next.next c.in_ok-fact.fact _ _ _ _ (c.index.ensures ∙ ap Some (sym c.in_ok-fact.ensures)) c.loop-next.invariant.work c.in_ok-go_through.ensures.found c.in_ok-go_through.ensures.seen }
-
-pub loop-next-preserved-in_ok-go_through-7 : goal.loop-next-preserved-in_ok-go_through-7
-loop-next-preserved-in_ok-go_through-7 c = record { names = c.loop-next.invariant.names; work = working_goes_on c.args.world.now c.args.entries.now c.loop-next.next c.in_ok-fact.fact _ _ _ _ (c.index.ensures ∙ ap Some (sym c.in_ok-fact.ensures)) c.loop-next.invariant.work c.in_ok-go_through.ensures.found c.in_ok-go_through.ensures.seen }
+loop-next-init c = record { names = c.hijacked-hijacked.ensures; work = working_begins c.args.world.now c.args.entries.now c.new-seen.result c.new-found.result _ c.new-seen.ensures c.new-found.ensures.facts c.new-found.ensures.reports c.in_ok-start.ensures }
 
 pub loop-next-preserved : goal.loop-next-preserved
 loop-next-preserved c = record { names = c.loop-next.invariant.names; work = working_goes_on c.args.world.now c.args.entries.now c.loop-next.next c.in_ok-fact.fact _ _ _ _ (c.index.ensures ∙ ap Some (sym c.in_ok-fact.ensures)) c.loop-next.invariant.work c.in_ok-go_through.ensures.found c.in_ok-go_through.ensures.seen }

@@ -5,7 +5,7 @@ use Rattle.sj_reach.proofs.reaching.find_all.Given as goal
 
 abbrev pub invariant-loop-next : goal.invariant-loop-next
 invariant-loop-next l = record {
-  names : l.hijacked.items ≡ hijacked;
+  names : l.hijacked ≡ hijacked;
   work : Working l.world l.entries l.next l.seen l.found;
 }
 

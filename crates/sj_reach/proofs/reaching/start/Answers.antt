@@ -1,7 +1,7 @@
 use Rattle.std.proofs.lemmas.Result.{on_ok_weaker}
 use Rattle.std.proofs.Common.{List}
 use Rattle.sj_world.specs.Known.{Name}
-use Rattle.sj_world.specs.declared.linked.Fact.TheVariants.{Needed}
+use Rattle.sj_world.specs.declared.facts.Fact.TheVariants.{Needed}
 use Rattle.sj_reach.specs.Conclusions.{Among, Just, follows}
 use Rattle.sj_reach.specs.Steps.{OfHijacked}
 use Rattle.sj_reach.proofs.Adding.{adds_then, adds_at}

@@ -1,5 +1,5 @@
 use Rattle.sj_reach.specs.Conclusions.{Just, follows}
-use Rattle.sj_world.specs.declared.linked.Fact.TheVariants.{Called}
+use Rattle.sj_world.specs.declared.facts.Fact.TheVariants.{Called}
 use Rattle.sj_reach.proofs.Adding.{AmongFirst}
 use Rattle.sj_reach.specs.Conclusions.{Adds}
 use Rattle.sj_reach.proofs.reflected.call_each.Given as goal

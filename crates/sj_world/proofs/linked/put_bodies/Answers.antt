@@ -1,6 +1,6 @@
 use Rattle.std.proofs.Common.{◌≡◌, ◌∷◌, length, sym, ap, ◌∙◌, arith}
 use Rattle.std.specs.Vec.Iter.{into_iter_items}
-use Rattle.sj_world.specs.declared.linked.Fact.TheVariants.{Body}
+use Rattle.sj_world.specs.declared.facts.Fact.TheVariants.{Body}
 use Rattle.sj_world.proofs.Puts.{put_more, put_all, nothing_left}
 use Rattle.sj_world.proofs.linked.put_bodies.Goals as goal
 

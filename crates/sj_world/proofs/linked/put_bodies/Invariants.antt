@@ -1,6 +1,6 @@
 use Rattle.std.proofs.Common.{◌≡◌, ◌++◌, length, map}
 use Rattle.std.specs.Vec.Iter.{into_iter_items, into_iter_len}
-use Rattle.sj_world.specs.declared.linked.Fact.TheVariants.{Body}
+use Rattle.sj_world.specs.declared.facts.Fact.TheVariants.{Body}
 use Rattle.sj_world.proofs.linked.put_bodies.Given as goal
 
 abbrev pub invariant-loop-body : goal.invariant-loop-body

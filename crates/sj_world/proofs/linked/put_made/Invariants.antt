@@ -1,6 +1,6 @@
 use Rattle.std.proofs.Common.{◌≡◌, ◌++◌, length, map}
 use Rattle.std.specs.Vec.Iter.{into_iter_items, into_iter_len}
-use Rattle.sj_world.specs.declared.linked.Fact.TheVariants.{Made}
+use Rattle.sj_world.specs.declared.facts.Fact.TheVariants.{Made}
 use Rattle.sj_world.proofs.linked.put_made.Given as goal
 
 abbrev pub invariant-loop-class : goal.invariant-loop-class

@@ -1,6 +1,6 @@
 use Rattle.sj_infos.specs.declared.infos.Info.TheVariants.{Reflective}
 use Rattle.sj_reach.specs.Seen.{SeesNames}
-use Rattle.sj_reach.proofs.Sight.{IsOneOfFirst}
+use Rattle.sj_world.proofs.Kept.{IsOneOfFirst}
 use Rattle.sj_reach.proofs.seen.Seen.see_infos.Given as goal
 
 abbrev pub invariant-loop-info : goal.invariant-loop-info

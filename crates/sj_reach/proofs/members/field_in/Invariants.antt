@@ -1,6 +1,0 @@
-use Rattle.sj_world.proofs.Searches.{NoneYet}
-use Rattle.sj_ask.specs.Members.{IsField}
-use Rattle.sj_reach.proofs.members.field_in.Given as goal
-
-abbrev pub invariant-loop-field : goal.invariant-loop-field
-invariant-loop-field l = NoneYet (IsField l.name l.is_static) l.fields l.field-index

@@ -1,6 +1,0 @@
-use Rattle.sj_world.proofs.Searches.{NoneYet}
-use Rattle.sj_ask.specs.Members.{IsMethod}
-use Rattle.sj_reach.proofs.members.method_in.Given as goal
-
-abbrev pub invariant-loop-method : goal.invariant-loop-method
-invariant-loop-method l = NoneYet (IsMethod l.member) l.methods l.method-index

@@ -1,6 +1,0 @@
-use Rattle.std.proofs.lemmas.Result.{on_ok_weaker}
-use Rattle.sj_reach.proofs.Sight.{below_ancestors}
-use Rattle.sj_reach.proofs.seen.put_below_all.Goals as goal
-
-pub returns-in-Some : goal.returns-in-Some
-returns-in-Some c = on_ok_weaker _ (below_ancestors c.args.world.now c.args.class.now c.in-Some.ancestors.now _ _ c.in-Some.ensures.1) c.put_below.ensures
