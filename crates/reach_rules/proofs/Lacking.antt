@@ -14,22 +14,22 @@ use Rattle.sj_world.proofs.Searches.{contains_at}
 use Rattle.worklist.proofs.Inserted.{nothing_in, only_one}
 use Rattle.reach_rules.specs.Rows.{plain_name, folder, static_method}
 
-abbrev boolean : Name
+abbrev pub boolean : Name
 boolean = codes "java.lang.Boolean"
 
-abbrev interface : Name
+abbrev pub interface : Name
 interface = codes "I"
 
-abbrev m : MethodName
+abbrev pub m : MethodName
 m = plain_name (codes "m")
 
-same_some : {X : Type 0} (x y : X) → Some x ≡ Some y → x ≡ y
+pub same_some : {X : Type 0} (x y : X) → Some x ≡ Some y → x ≡ y
 same_some x y e = cc
 
-not_some : {X A : Type 0} (y : X) → None ≡ Some y → A
+pub not_some : {X A : Type 0} (y : X) → None ≡ Some y → A
 not_some y e = cc
 
-main_is_not_m : (body : Term) (d : MethodDef) → static_method (codes "main") (Some body) ≡ d → d.name ≡ m → ⊥
+pub main_is_not_m : (body : Term) (d : MethodDef) → static_method (codes "main") (Some body) ≡ d → d.name ≡ m → ⊥
 main_is_not_m body d e h = let b : false ≡ true = ap (λ (n : MethodName). is_same_text n.simple (codes "m")) (ap (λ (k : MethodDef). k.name) e ∙ h) in cc
 
 in_object : (body : Term) (class : ClassDef) (d : MethodDef) → class_of (folder body []) object ≡ Some class → Contains class.methods d → d.name ≡ m → ⊥

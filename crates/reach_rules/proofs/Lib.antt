@@ -4,3 +4,4 @@ pub mod First
 pub mod Lacking
 pub mod Rows
 pub mod Unreached
+pub mod Bodiless

@@ -20,11 +20,12 @@ use Rattle.sj_world.specs.Resolution.{IsBody, IsBodyAt, Resolves, by_chain, begi
 use Rattle.sj_world.specs.Subtypes.{IsSub, equal}
 use Rattle.sj_world.specs.declared.facts.Fact.TheVariants as fact
 use Rattle.reach_rules.specs.Reachable.{Reachable}
-use Rattle.reach_rules.specs.Refusals.{no_class, no_member, no_body, no_field, no_class_made, no_module, no_target, no_dispatched_method}
-use Rattle.reach_rules.specs.Rows.{a_method, class_with_m, new_a, made_and, call_m, call_by_proxy, call_as_a, call_as_i, field_of_a, array_of_ints, is_an_i, quotient, proxy, IsReached, WorkedFacts, plain_name, folder, main_entries, static_method, static_call, static_field, WorkedReachability}
+use Rattle.reach_rules.specs.Refusals.{no_class, no_member, no_body, no_field, no_class_made, no_module, no_target, no_target_body, no_dispatched_method, no_reflective_body}
+use Rattle.reach_rules.specs.Rows.{a_method, class_with_m, new_a, made_and, call_m, call_by_proxy, call_as_a, call_as_i, field_of_a, array_of_ints, is_an_i, quotient, proxy, IsReached, WorkedFacts, plain_name, folder, main_entries, static_method, static_call, static_field, WorkedReachability, WorkedAbstractTargets, abstract_m}
 use Rattle.reach_rules.specs.Rules.{Reads, of_entry, of_new, of_load, of_throw, of_call, on_made, on_hijacked, asked_body, static_class, new_made, new_needed, call, dispatched, reflective, load_used, load_made, resolved_body, field_needed, array_made, class_named, throw_made, entry_member}
 use Rattle.reach_rules.proofs.Derivations.{closed}
 use Rattle.reach_rules.proofs.First.{first_of}
+use Rattle.reach_rules.proofs.Bodiless.{boolean_is_abstract, interface_is_abstract, proxy_of_boolean}
 use Rattle.reach_rules.proofs.Lacking.{boolean_has_none, interface_has_none}
 
 -- what `main` asks for is read
@@ -130,4 +131,10 @@ worked = (
   (no_module _ (reads (load_module nowhere object) [] _ (0, lit< tt, refl)) (record { class = _; is_class = refl; other = λ e. cc }), refl),
   (no_dispatched_method _ _ (on_hijacked _ object (closed _ _ _ (call _ _ (reads call_m [] _ (0, lit< tt, refl)) refl)) refl (record { known = refl; way = is_object refl })) (boolean_has_none call_m), refl),
   (no_target _ _ (reads call_as_i [] _ (0, lit< tt, refl)) (record { class = _; is_class = refl }) (interface_has_none call_as_i), refl),
+)
+
+pub abstract_targets : WorkedAbstractTargets
+abstract_targets = (
+  (no_target_body _ _ (reads call_as_i (abstract_m ∷ []) _ (0, lit< tt, refl)) (record { class = _; is_class = refl }) (interface_is_abstract call_as_i), refl),
+  (no_reflective_body _ _ _ _ (reads call_by_proxy (abstract_m ∷ []) _ (0, lit< tt, refl)) refl (proxy_of_boolean call_by_proxy) (boolean_is_abstract call_by_proxy), refl),
 )

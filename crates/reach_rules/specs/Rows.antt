@@ -127,6 +127,15 @@ WorkedReachability = IsTold (static_call (codes "Gone") (codes "go")) [] (missin
     × IsTold call_m [] (abstract_target (public_member (codes "java.lang.Boolean") (plain_name (codes "m")))) (codes "java.lang.Boolean::f:m;V")
     × IsTold call_as_i [] (missing_method (public_member (codes "I") (plain_name (codes "m")))) (codes "I::f:m;V")
 
+-- a public `m` without a body
+abbrev pub abstract_m : MethodDef
+abstract_m = a_method Public (codes "m") None
+
+-- where `java.lang.Object` has it: what is told of a call that resolves to it, and of a reflective call that reaches it in a hijacked class
+abbrev pub WorkedAbstractTargets : Type 0
+WorkedAbstractTargets = IsTold call_as_i (abstract_m ∷ []) (abstract_target (public_member (codes "I") (plain_name (codes "m")))) (codes "I::f:m;V")
+    × IsTold call_by_proxy (abstract_m ∷ []) (abstract_target (public_member (codes "java.lang.Boolean") (plain_name (codes "m")))) (codes "java.lang.Boolean::f:m;V")
+
 -- a method that nothing calls, and which calls a class that isn't there
 abbrev pub unused : MethodDef
 unused = static_method (codes "go") (Some (static_call (codes "Gone") (codes "go")))

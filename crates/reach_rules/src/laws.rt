@@ -1,6 +1,6 @@
 // Laws of reachable facts.
 ghost use Rattle.reach_rules.specs.Laws.{ReachableFactsAreClosed, ReachableFactsAreLeast};
-ghost use Rattle.reach_rules.specs.Rows.{WorkedFacts, WorkedReachability, IsUnneeded};
+ghost use Rattle.reach_rules.specs.Rows.{WorkedFacts, WorkedReachability, WorkedAbstractTargets, IsUnneeded};
 
 /// What follows by a rule from facts that are reachable is reachable.
 pub fn reachable_facts_are_closed()
@@ -20,6 +20,11 @@ pub fn worked_facts()
 /// Small folders, each with what is told of it: one for each code.
 pub fn worked_reachability()
     ensures { WorkedReachability }
+{}
+
+/// Small folders in which a call resolves to a method without a body, and in which a reflective call reaches one.
+pub fn worked_abstract_targets()
+    ensures { WorkedAbstractTargets }
 {}
 
 /// A small folder in which a class isn't needed, since only a body that isn't reachable names it.

@@ -5,6 +5,6 @@
 mod laws;
 
 pub use laws::{
-    reachable_facts_are_closed, reachable_facts_are_least, worked_facts, worked_limits,
-    worked_reachability,
+    reachable_facts_are_closed, reachable_facts_are_least, worked_abstract_targets, worked_facts,
+    worked_limits, worked_reachability,
 };

@@ -1,0 +1,9 @@
+-- A law of verdicts.
+use Rattle.std.specs.Prelude.{◌≡◌, List}
+use Rattle.sj_names.specs.declared.entry_points.EntryPoint.{EntryPoint}
+use Rattle.sj_names.specs.declared.folders.SourceFile.{SourceFile}
+use Rattle.folder_verdicts.specs.Verdicts.{Verdict, IsVerdict}
+
+-- a folder has one verdict at most
+abbrev pub VerdictIsOne : Type 0
+VerdictIsOne = (entries : List EntryPoint) (files : List SourceFile) (v w : Verdict) → IsVerdict entries files v → IsVerdict entries files w → v ≡ w

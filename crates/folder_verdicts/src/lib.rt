@@ -1,0 +1,6 @@
+//! The verdict on a folder: that it is accepted, or why it isn't, with the stages and their order. Definitions and laws; no code that runs.
+#![tactic(auto)]
+
+mod laws;
+
+pub use laws::verdict_is_one;
