@@ -3,6 +3,8 @@
 #![tactic(auto)]
 
 #[cfg(test)]
+mod classes;
+#[cfg(test)]
 mod lanes;
 #[cfg(test)]
 mod outside;
@@ -11,6 +13,6 @@ mod questions;
 #[cfg(test)]
 mod trees;
 #[cfg(test)]
-mod typing;
-#[cfg(test)]
 mod units;
+#[cfg(test)]
+mod worlds;

@@ -1,179 +1,201 @@
 // What no clause says: that the questions of a small world are answered where memory is left, and that the log holds there and not in
 // another world.
+use crate::classes::{NOWHERE, Row, below, class_of};
 use sj_ask::{Answer, Log, Oracle, Question, WorldOracle, still_holds};
-use sj_names::{ClassName, FieldName, Member, MethodName, Namespace, Shared};
+use sj_names::{ClassName, FieldName, Member, MethodName, NameError, Namespace, Shared};
 use sj_recorder::Recorder;
-use sj_trees::{Body, ClassDef, ClassKind, FieldDef, IrType, MethodDef, Position, Tree};
+use sj_trees::{Body, ClassDef, FieldDef, IrType, MethodDef, Tree};
 use sj_world::LinkedWorld;
 use std::alloc::Global;
 use std::test::Fail;
 
-const NOWHERE: Position = Position {
-    file: 0,
-    line: 0,
-    column: 0,
-};
+// The kinds of questions, each with the class that it is on.
+const QUESTIONS: &[(&str, &str); 7] = &[
+    ("subtype", "B"),
+    ("hijacked", "A"),
+    ("resolve", "B"),
+    ("single", "A"),
+    ("field", "A"),
+    ("static field", "A"),
+    ("body", "A"),
+];
 
-fn method(alloc: Global) -> Result<MethodDef, Fail> {
+const ANSWERS: &str = "yes no member member field none body ";
+
+fn fields(alloc: Global) -> Result<Shared<FieldDef>, NameError> {
+    let name = FieldName::parse(alloc, "x")?;
+    let field = FieldDef {
+        pos: NOWHERE,
+        is_static: false,
+        mutable: true,
+        name,
+        tpe: IrType::Int,
+    };
+    Ok(Shared::from_vec(vec![in alloc; field]?)?)
+}
+
+fn methods(alloc: Global) -> Result<Shared<MethodDef>, NameError> {
+    let method = method(alloc)?;
+    Ok(Shared::from_vec(vec![in alloc; method]?)?)
+}
+
+fn method(alloc: Global) -> Result<MethodDef, NameError> {
+    let name = MethodName::parse(alloc, "m;V")?;
+    let params = Shared::from_vec(Vec::new(alloc))?;
+    let body = Body::new(alloc, Tree::Skip(NOWHERE))?;
     Ok(MethodDef {
         pos: NOWHERE,
         namespace: Namespace::Public,
-        name: MethodName::parse(alloc, "m;V")?,
-        params: Shared::from_vec(Vec::new(alloc))?,
+        name,
+        params,
         result: IrType::NoType,
-        body: Some(Body::new(alloc, Tree::Skip(NOWHERE))?),
+        body: Some(body),
         hash: None,
     })
 }
 
-fn methods(alloc: Global, has_method: bool) -> Result<Shared<MethodDef>, Fail> {
-    let mut methods = Vec::new(alloc);
-    if has_method {
-        methods.push(method(alloc)?)?;
-    }
-    Ok(Shared::from_vec(methods)?)
-}
-
-fn fields(alloc: Global) -> Result<Shared<FieldDef>, Fail> {
-    let mut fields = Vec::new(alloc);
-    fields.push(FieldDef {
-        pos: NOWHERE,
-        is_static: false,
-        mutable: true,
-        name: FieldName::parse(alloc, "x")?,
-        tpe: IrType::Int,
-    })?;
-    Ok(Shared::from_vec(fields)?)
-}
-
-fn superclass(alloc: Global, name: &str) -> Result<Option<ClassName>, Fail> {
-    if name.is_empty() {
-        return Ok(None);
-    }
-    Ok(Some(ClassName::parse(alloc, name)?))
-}
-
-fn class(alloc: Global, name: &str, above: &str, has_method: bool) -> Result<ClassDef, Fail> {
-    let methods = methods(alloc, has_method)?;
-    let superclass = superclass(alloc, above)?;
+fn class_with_members(alloc: Global, row: Row) -> Result<ClassDef, NameError> {
     let fields = fields(alloc)?;
-    Ok(ClassDef {
-        pos: NOWHERE,
-        files: Shared::from_vec(Vec::new(alloc))?,
-        name: ClassName::parse(alloc, name)?,
-        kind: ClassKind::Class,
-        superclass,
-        interfaces: Shared::from_vec(Vec::new(alloc))?,
-        fields,
-        methods,
-    })
+    let methods = methods(alloc)?;
+    let mut class = class_of(alloc, row)?;
+    class.fields = fields;
+    class.methods = methods;
+    Ok(class)
 }
 
-fn classes(alloc: Global, is_overridden: bool) -> Result<Vec<ClassDef>, Fail> {
+fn class(alloc: Global, row: Row, has_members: bool) -> Result<ClassDef, NameError> {
+    if has_members {
+        class_with_members(alloc, row)
+    } else {
+        class_of(alloc, row)
+    }
+}
+
+// `A` with a method and `B` below it; where it is asked for, `B` has the method too.
+fn classes(alloc: Global, is_overridden: bool) -> Result<Vec<ClassDef>, NameError> {
+    let rows = [
+        (below("java.lang.Object", ""), false),
+        (below("A", "java.lang.Object"), true),
+        (below("B", "A"), is_overridden),
+    ];
     let mut classes = Vec::new(alloc);
-    classes.push(class(alloc, "java.lang.Object", "", false)?)?;
-    classes.push(class(alloc, "A", "java.lang.Object", true)?)?;
-    classes.push(class(alloc, "B", "A", is_overridden)?)?;
+    for (row, has_members) in rows {
+        classes.push(class(alloc, row, has_members)?)?;
+    }
     Ok(classes)
 }
 
-fn made(alloc: Global) -> Result<Vec<ClassName>, Fail> {
-    let mut made = Vec::new(alloc);
-    made.push(ClassName::parse(alloc, "B")?)?;
-    Ok(made)
-}
-
-fn bodies(alloc: Global) -> Result<Vec<Member>, Fail> {
-    let mut bodies = Vec::new(alloc);
-    bodies.push(member(alloc, "A")?)?;
-    Ok(bodies)
-}
-
-fn member(alloc: Global, class: &str) -> Result<Member, Fail> {
-    Ok(Member {
-        class: ClassName::parse(alloc, class)?,
-        namespace: Namespace::Public,
-        method: MethodName::parse(alloc, "m;V")?,
-    })
-}
-
-// `A` with a method and `B` below it, of which an instance is made; where it is asked for, `B` has the method too.
+// The world of these classes. An instance of `B` is made.
 fn world(alloc: Global, is_overridden: bool) -> Result<LinkedWorld, Fail> {
     let classes = classes(alloc, is_overridden)?;
-    let made = made(alloc)?;
-    let bodies = bodies(alloc)?;
+    let made = vec![in alloc; ClassName::parse(alloc, "B")?]?;
+    let bodies = vec![in alloc; member(alloc, "A")?]?;
     Ok(LinkedWorld::new(alloc, classes, made, bodies)?)
 }
 
-fn subtype(alloc: Global) -> Result<Question, Fail> {
-    let below = IrType::Class(ClassName::parse(alloc, "B")?);
-    Ok(Question::IsSub(below, IrType::Class(ClassName::parse(alloc, "A")?)))
+fn member(alloc: Global, class: &str) -> Result<Member, NameError> {
+    Ok(method_of(
+        ClassName::parse(alloc, class)?,
+        MethodName::parse(alloc, "m;V")?,
+    ))
 }
 
-fn field(alloc: Global, is_static: bool) -> Result<Question, Fail> {
-    let class = ClassName::parse(alloc, "A")?;
+fn method_of(class: ClassName, method: MethodName) -> Member {
+    Member {
+        class,
+        namespace: Namespace::Public,
+        method,
+    }
+}
+
+fn question(alloc: Global, kind: &str, class: ClassName) -> Result<Question, NameError> {
+    match kind {
+        "subtype" => subtype(alloc, class),
+        "hijacked" => Ok(Question::HasHijacked(class)),
+        "field" => field(alloc, class, false),
+        "static field" => field(alloc, class, true),
+        _ => on_method(alloc, kind, class),
+    }
+}
+
+fn subtype(alloc: Global, below: ClassName) -> Result<Question, NameError> {
+    let above = ClassName::parse(alloc, "A")?;
+    Ok(Question::IsSub(IrType::Class(below), IrType::Class(above)))
+}
+
+fn field(alloc: Global, class: ClassName, is_static: bool) -> Result<Question, NameError> {
     Ok(Question::Field(class, FieldName::parse(alloc, "x")?, is_static))
 }
 
-fn target(alloc: Global) -> Result<Question, Fail> {
-    let class = ClassName::parse(alloc, "B")?;
-    Ok(Question::Resolve(class, MethodName::parse(alloc, "m;V")?))
+fn on_method(alloc: Global, kind: &str, class: ClassName) -> Result<Question, NameError> {
+    let method = MethodName::parse(alloc, "m;V")?;
+    match kind {
+        "resolve" => Ok(Question::Resolve(class, method)),
+        "single" => Ok(Question::Single(class, method)),
+        _ => Ok(Question::Body(method_of(class, method))),
+    }
 }
 
-fn single(alloc: Global) -> Result<Question, Fail> {
-    let class = ClassName::parse(alloc, "A")?;
-    Ok(Question::Single(class, MethodName::parse(alloc, "m;V")?))
+fn told(answer: &Answer) -> &'static str {
+    match answer {
+        Answer::Yes(true) => "yes ",
+        Answer::Yes(false) => "no ",
+        Answer::Field(Some(_)) => "field ",
+        Answer::Member(Some(_)) => "member ",
+        Answer::Body(Some(_)) => "body ",
+        _ => "none ",
+    }
 }
 
-fn are_types_known<O: Oracle>(alloc: Global, oracle: &mut O) -> Result<bool, Fail> {
-    let sub = oracle.answer(alloc, &subtype(alloc)?)?;
-    let class = ClassName::parse(alloc, "A")?;
-    let hijacked = oracle.answer(alloc, &Question::HasHijacked(class))?;
-    Ok(matches!(&sub, Answer::Yes(true)) && matches!(&hijacked, Answer::Yes(false)))
+fn answer<O: Oracle>(
+    alloc: Global,
+    oracle: &mut O,
+    kind: &str,
+    class: &str,
+) -> Result<&'static str, NameError> {
+    let class = ClassName::parse(alloc, class)?;
+    let question = question(alloc, kind, class)?;
+    let answer = oracle.answer(alloc, &question)?;
+    Ok(told(&answer))
 }
 
-fn are_targets_found<O: Oracle>(alloc: Global, oracle: &mut O) -> Result<bool, Fail> {
-    let target = oracle.answer(alloc, &target(alloc)?)?;
-    let single = oracle.answer(alloc, &single(alloc)?)?;
-    Ok(matches!(&target, Answer::Member(Some(_))) && matches!(&single, Answer::Member(Some(_))))
+fn answers<O: Oracle>(alloc: Global, oracle: &mut O, text: &mut String) -> Result<(), NameError> {
+    for (kind, class) in QUESTIONS {
+        let answer = answer(alloc, oracle, kind, class)?;
+        text.push_str(answer)?;
+    }
+    Ok(())
 }
 
-fn are_members_found<O: Oracle>(alloc: Global, oracle: &mut O) -> Result<bool, Fail> {
-    let one = oracle.answer(alloc, &field(alloc, false)?)?;
-    let none = oracle.answer(alloc, &field(alloc, true)?)?;
-    let body = oracle.answer(alloc, &Question::Body(member(alloc, "A")?))?;
-    Ok(
-        matches!(&one, Answer::Field(Some(_)))
-            && matches!(&none, Answer::Field(None))
-            && matches!(&body, Answer::Body(Some(_))),
-    )
+// The log of all questions in the world, and what was answered.
+fn log_in(
+    alloc: Global,
+    world: &LinkedWorld,
+    k: &Member,
+    text: &mut String,
+) -> Result<Log, NameError> {
+    let mut recorder = Recorder::new(alloc, k.copied()?, WorldOracle::new(world, k));
+    answers(alloc, &mut recorder, text)?;
+    Ok(recorder.into_log())
 }
 
-// Whether questions of all six kinds have the right answer, and the log of them.
-fn answered(alloc: Global, world: &LinkedWorld) -> Result<(bool, Log), Fail> {
+fn log_of(alloc: Global, text: &mut String) -> Result<Log, Fail> {
+    let world = world(alloc, false)?;
     let k = member(alloc, "B")?;
-    let mut recorder = Recorder::new(alloc, k.copied()?, WorldOracle::new(world, &k));
-    let is_right = are_types_known(alloc, &mut recorder)?
-        && are_targets_found(alloc, &mut recorder)?
-        && are_members_found(alloc, &mut recorder)?;
-    Ok((is_right, recorder.into_log()))
+    Ok(log_in(alloc, &world, &k, text)?)
+}
+
+fn holds(alloc: Global, log: &Log, is_overridden: bool) -> Result<bool, Fail> {
+    let world = world(alloc, is_overridden)?;
+    Ok(still_holds(log, &world))
 }
 
 #[test]
 fn questions_are_answered_and_logged(rt: HostRuntime) -> Result<(), Fail> {
     let alloc = rt.alloc();
-    let world = world(alloc, false)?;
-    let (is_right, log) = answered(alloc, &world)?;
-    assert!(rt; is_right);
-    assert_eq!(rt; log.asked.as_slice().len(), 7);
-    assert!(rt; still_holds(&log, &world));
-    Ok(())
-}
-
-#[test]
-fn a_new_override_changes_an_answer(rt: HostRuntime) -> Result<(), Fail> {
-    let alloc = rt.alloc();
-    let (_, log) = answered(alloc, &world(alloc, false)?)?;
-    assert!(rt; !still_holds(&log, &world(alloc, true)?));
+    let mut text = String::new(alloc);
+    let log = log_of(alloc, &mut text)?;
+    let is_right = holds(alloc, &log, false)? && !holds(alloc, &log, true)?;
+    assert!(rt; is_right && log.asked.as_slice().len() == 7 && text.as_str() == ANSWERS);
     Ok(())
 }

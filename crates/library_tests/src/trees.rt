@@ -1,100 +1,136 @@
 // What no clause says: that the tables are those of the format, and that a call with memory succeeds.
-use sj_names::{ArrayRef, BaseRef, ClassName};
-use sj_trees::{BinaryOp, IrType, Position, Tree, UnaryOp, type_of};
+use crate::classes::NOWHERE;
+use sj_names::{ArrayRef, BaseRef, ClassName, NoMemory};
+use sj_trees::{BinaryOp, IrType, Tree, UnaryOp, type_of};
 use std::alloc::{AllocError, Global};
 use std::test::Fail;
 
-const NOWHERE: Position = Position {
-    file: 0,
-    line: 0,
-    column: 0,
-};
+const UNARY: &[(UnaryOp, u8); 4] = &[
+    (UnaryOp::BooleanNot, 1),
+    (UnaryOp::ShortToInt, 4),
+    (UnaryOp::IntToLong, 5),
+    (UnaryOp::LongToInt, 9),
+];
+
+const BINARY: &[(BinaryOp, u8); 7] = &[
+    (BinaryOp::StrictEqual, 1),
+    (BinaryOp::StringConcatenate, 3),
+    (BinaryOp::IntShiftRightLogical, 17),
+    (BinaryOp::IntShiftRightArithmetic, 18),
+    (BinaryOp::LongShiftRightLogical, 34),
+    (BinaryOp::LongShiftRightArithmetic, 35),
+    (BinaryOp::LongGreaterOrEqual, 41),
+];
+
+fn has_code(op: UnaryOp, code: u8) -> bool {
+    op.code() == code && UnaryOp::from_code(code) == Some(op)
+}
+
+fn has_binary_code(op: BinaryOp, code: u8) -> bool {
+    op.code() == code && BinaryOp::from_code(code) == Some(op)
+}
+
+#[test]
+fn codes_of_operators(rt: HostRuntime) {
+    let unary = UNARY.iter().all(|&(op, code)| has_code(op, code));
+    let binary = BINARY.iter().all(|&(op, code)| has_binary_code(op, code));
+    let none = UnaryOp::from_code(10).is_none()
+        && BinaryOp::from_code(0).is_none()
+        && BinaryOp::from_code(42).is_none();
+    assert!(rt; unary && binary && none);
+}
+
+fn word(tpe: &IrType) -> &'static str {
+    match tpe {
+        IrType::Nothing => "nothing",
+        IrType::NoType => "none",
+        IrType::Long => "long",
+        IrType::Boolean => "boolean",
+        IrType::Char => "char",
+        _ => "another",
+    }
+}
+
+fn int(alloc: Global) -> Result<Box<Tree>, AllocError> {
+    Ok(Box::new(alloc, Tree::IntLiteral(NOWHERE, 1))?)
+}
 
 fn boolean(alloc: Global, value: bool) -> Result<Box<Tree>, AllocError> {
     Ok(Box::new(alloc, Tree::BooleanLiteral(NOWHERE, value))?)
 }
 
-fn int(alloc: Global, value: i32) -> Result<Box<Tree>, AllocError> {
-    Ok(Box::new(alloc, Tree::IntLiteral(NOWHERE, value))?)
+// A loop that never ends, another loop, and two operators.
+fn forever(alloc: Global) -> Result<Tree, AllocError> {
+    Ok(Tree::While(NOWHERE, boolean(alloc, true)?, int(alloc)?))
 }
 
-#[test]
-fn codes_of_operators(rt: HostRuntime) {
-    for (op, code) in [
-        (UnaryOp::BooleanNot, 1),
-        (UnaryOp::ShortToInt, 4),
-        (UnaryOp::IntToLong, 5),
-        (UnaryOp::LongToInt, 9),
-    ] {
-        assert_eq!(rt; op.code(), code);
-        assert_eq!(rt; UnaryOp::from_code(code), Some(op));
+fn never(alloc: Global) -> Result<Tree, AllocError> {
+    Ok(Tree::DoWhile(NOWHERE, int(alloc)?, boolean(alloc, false)?))
+}
+
+fn less(alloc: Global) -> Result<Tree, AllocError> {
+    Ok(Tree::BinaryOp(NOWHERE, BinaryOp::IntLess, int(alloc)?, int(alloc)?))
+}
+
+fn char(alloc: Global) -> Result<Tree, AllocError> {
+    Ok(Tree::UnaryOp(NOWHERE, UnaryOp::IntToChar, int(alloc)?))
+}
+
+fn block(alloc: Global) -> Result<Tree, AllocError> {
+    let trees = vec![in alloc; Tree::Skip(NOWHERE), Tree::LongLiteral(NOWHERE, 5)]?;
+    Ok(Tree::Block(NOWHERE, trees))
+}
+
+// The word for the type of a tree, where there is memory for both.
+fn told(alloc: Global, tree: Result<Tree, AllocError>) -> &'static str {
+    match tree {
+        Ok(tree) => type_word(alloc, &tree),
+        Err(_) => "no memory",
     }
-    for (op, code) in [
-        (BinaryOp::StrictEqual, 1),
-        (BinaryOp::StringConcatenate, 3),
-        (BinaryOp::IntShiftRightLogical, 17),
-        (BinaryOp::IntShiftRightArithmetic, 18),
-        (BinaryOp::LongShiftRightLogical, 34),
-        (BinaryOp::LongShiftRightArithmetic, 35),
-        (BinaryOp::LongGreaterOrEqual, 41),
-    ] {
-        assert_eq!(rt; op.code(), code);
-        assert_eq!(rt; BinaryOp::from_code(code), Some(op));
+}
+
+fn type_word(alloc: Global, tree: &Tree) -> &'static str {
+    match type_of(alloc, tree) {
+        Ok(tpe) => word(&tpe),
+        Err(_) => "no memory",
     }
-    assert_eq!(rt; UnaryOp::from_code(10), None);
-    assert_eq!(rt; BinaryOp::from_code(0), None);
-    assert_eq!(rt; BinaryOp::from_code(42), None);
 }
 
 #[test]
-fn types_of_loops(rt: HostRuntime) -> Result<(), Fail> {
+fn types_of_trees(rt: HostRuntime) {
     let alloc = rt.alloc();
-    let forever = Tree::While(NOWHERE, boolean(alloc, true)?, int(alloc, 1)?);
-    let never = Tree::DoWhile(NOWHERE, int(alloc, 1)?, boolean(alloc, false)?);
-    assert!(rt; type_of(alloc, &forever)?.is_same(&IrType::Nothing));
-    assert!(rt; type_of(alloc, &never)?.is_same(&IrType::NoType));
-    Ok(())
+    assert!(rt; told(alloc, forever(alloc)) == "nothing");
+    assert!(rt; told(alloc, never(alloc)) == "none");
+    assert!(rt; told(alloc, less(alloc)) == "boolean");
+    assert!(rt; told(alloc, char(alloc)) == "char");
+    assert!(rt; told(alloc, Ok(Tree::Block(NOWHERE, Vec::new(alloc)))) == "none");
+    assert!(rt; told(alloc, block(alloc)) == "long");
 }
 
-#[test]
-fn types_of_blocks(rt: HostRuntime) -> Result<(), Fail> {
-    let alloc = rt.alloc();
-    let mut trees = Vec::new(alloc);
-    trees.push(Tree::Skip(NOWHERE))?;
-    trees.push(Tree::LongLiteral(NOWHERE, 5))?;
-    let empty = Tree::Block(NOWHERE, Vec::new(alloc));
-    let block = Tree::Block(NOWHERE, trees);
-    assert!(rt; type_of(alloc, &empty)?.is_same(&IrType::NoType));
-    assert!(rt; type_of(alloc, &block)?.is_same(&IrType::Long));
-    Ok(())
+fn is_of_items(array: &ArrayRef, tpe: &IrType) -> Result<bool, NoMemory> {
+    let found = IrType::of_items(array)?;
+    Ok(found.is_same(tpe))
 }
 
-#[test]
-fn types_of_operators(rt: HostRuntime) -> Result<(), Fail> {
-    let alloc = rt.alloc();
-    let less = Tree::BinaryOp(NOWHERE, BinaryOp::IntLess, int(alloc, 1)?, int(alloc, 2)?);
-    let char = Tree::UnaryOp(NOWHERE, UnaryOp::IntToChar, int(alloc, 65)?);
-    assert!(rt; type_of(alloc, &less)?.is_same(&IrType::Boolean));
-    assert!(rt; type_of(alloc, &char)?.is_same(&IrType::Char));
-    Ok(())
+fn bytes(dimensions: u8) -> ArrayRef {
+    ArrayRef {
+        dimensions,
+        base: BaseRef::Byte,
+    }
 }
 
 #[test]
 fn types_of_items(rt: HostRuntime) -> Result<(), Fail> {
-    let one = ArrayRef {
-        dimensions: 1,
-        base: BaseRef::Byte,
-    };
-    let two = ArrayRef {
-        dimensions: 2,
-        base: BaseRef::Byte,
-    };
-    let objects = ArrayRef {
-        dimensions: 1,
-        base: BaseRef::Class(ClassName::parse(rt.alloc(), "java.lang.Object")?),
-    };
-    assert!(rt; IrType::of_items(&objects)?.is_same(&IrType::Any));
-    assert!(rt; IrType::of_items(&one)?.is_same(&IrType::Byte));
-    assert!(rt; IrType::of_items(&two)?.is_same(&IrType::Array(one)));
+    let base = BaseRef::Class(ClassName::parse(rt.alloc(), "java.lang.Object")?);
+    let is_any = is_of_items(
+        &ArrayRef {
+            dimensions: 1,
+            base,
+        },
+        &IrType::Any,
+    )?;
+    let is_byte = is_of_items(&bytes(1), &IrType::Byte)?;
+    let is_array = is_of_items(&bytes(2), &IrType::Array(bytes(1)))?;
+    assert!(rt; is_any && is_byte && is_array);
     Ok(())
 }
