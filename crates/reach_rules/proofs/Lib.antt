@@ -5,3 +5,4 @@ pub mod Lacking
 pub mod Rows
 pub mod Unreached
 pub mod Bodiless
+pub mod Alone

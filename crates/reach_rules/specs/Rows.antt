@@ -2,6 +2,7 @@
 use Rattle.std.specs.Prelude.{◌≡◌, ℕ, false, List, [], ◌∷◌, Some, None, Option, codes}
 use Rattle.sj_names.specs.WellKnown.{init}
 use Rattle.sj_names.specs.declared.entry_points.EntryPoint.{EntryPoint}
+use Rattle.sj_names.specs.declared.method_names.Member.{Member}
 use Rattle.sj_names.specs.declared.method_names.MethodName.{MethodName}
 use Rattle.sj_names.specs.declared.method_names.Namespace.{Namespace}
 use Rattle.sj_names.specs.declared.method_names.Namespace.TheVariants.{Public, PublicStatic, Constructor}
@@ -143,3 +144,11 @@ unused = static_method (codes "go") (Some (static_call (codes "Gone") (codes "go
 -- what only a body names that isn't reachable isn't needed
 abbrev pub IsUnneeded : Type 0
 IsUnneeded = Reachable (folder (skip nowhere) (unused ∷ [])) main_entries (fact.Needed (codes "Gone")) → ⊥
+
+-- the static `go;V` of the class `Gone`, which isn't there
+abbrev pub gone : Member
+gone = record { class = codes "Gone"; namespace = PublicStatic; method = plain_name (codes "go") }
+
+-- where `main` calls it, it isn't told beside its class
+abbrev pub IsToldByItsClassAlone : Type 0
+IsToldByItsClassAlone = Unresolved (folder (static_call (codes "Gone") (codes "go")) []) main_entries (missing_method gone) → ⊥

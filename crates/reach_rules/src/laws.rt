@@ -1,6 +1,6 @@
 // Laws of reachable facts.
 ghost use Rattle.reach_rules.specs.Laws.{ReachableFactsAreClosed, ReachableFactsAreLeast};
-ghost use Rattle.reach_rules.specs.Rows.{WorkedFacts, WorkedReachability, WorkedAbstractTargets, IsUnneeded};
+ghost use Rattle.reach_rules.specs.Rows.{WorkedFacts, WorkedReachability, WorkedAbstractTargets, IsUnneeded, IsToldByItsClassAlone};
 
 /// What follows by a rule from facts that are reachable is reachable.
 pub fn reachable_facts_are_closed()
@@ -27,7 +27,9 @@ pub fn worked_abstract_targets()
     ensures { WorkedAbstractTargets }
 {}
 
-/// A small folder in which a class isn't needed, since only a body that isn't reachable names it.
+/// A small folder in which a class isn't needed, since only a body that isn't reachable names it; and one in which a member of a class that isn't
+/// there isn't told beside the class.
 pub fn worked_limits()
-    ensures { IsUnneeded }
+    ensures unneeded { IsUnneeded }
+    ensures alone { IsToldByItsClassAlone }
 {}
