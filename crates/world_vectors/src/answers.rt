@@ -1,24 +1,22 @@
 // Whether a query has the answer that stands behind it.
 use crate::types::type_of;
-use anyhow::Result;
-use sj_names::{ClassName, MethodName};
+use sj_names::{ClassName, MethodName, NameError};
 use sj_world::{Owned, Resolution, World, WorldError};
 use std::alloc::Global;
-use std::result;
 
 pub(crate) fn is_met(
     alloc: Global,
-    world: &result::Result<World, WorldError>,
+    world: &Result<World, WorldError>,
     kind: &str,
     query: &str,
-) -> Result<bool> {
+) -> Result<bool, NameError> {
     match world {
         Ok(world) => is_met_in(alloc, world, kind, query),
         Err(error) => Ok(kind == "refused" && is_refusal(error, query)),
     }
 }
 
-fn is_met_in(alloc: Global, world: &World, kind: &str, query: &str) -> Result<bool> {
+fn is_met_in(alloc: Global, world: &World, kind: &str, query: &str) -> Result<bool, NameError> {
     let Some((first, rest)) = query.split_once('\t') else {
         return Ok(false);
     };
@@ -39,7 +37,7 @@ fn is_refusal(error: &WorldError, query: &str) -> bool {
     }
 }
 
-fn is_subtype(alloc: Global, world: &World, sub: &str, rest: &str) -> Result<bool> {
+fn is_subtype(alloc: Global, world: &World, sub: &str, rest: &str) -> Result<bool, NameError> {
     let Some((above, answer)) = rest.split_once('\t') else {
         return Ok(false);
     };
@@ -48,7 +46,12 @@ fn is_subtype(alloc: Global, world: &World, sub: &str, rest: &str) -> Result<boo
     Ok(world.is_sub(&sub, &above) == (answer == "yes"))
 }
 
-fn has_ancestors(alloc: Global, world: &World, name: &str, answer: &str) -> Result<bool> {
+fn has_ancestors(
+    alloc: Global,
+    world: &World,
+    name: &str,
+    answer: &str,
+) -> Result<bool, NameError> {
     let name = ClassName::parse(alloc, name)?;
     match world.ancestors(&name) {
         Some(names) => Ok(are_listed(names, answer)),
@@ -67,20 +70,29 @@ fn are_listed(names: &[ClassName], list: &str) -> bool {
     words.next().is_none()
 }
 
-fn is_resolved(alloc: Global, world: &World, class: &str, rest: &str) -> Result<bool> {
+fn is_resolved(alloc: Global, world: &World, class: &str, rest: &str) -> Result<bool, NameError> {
     let Some((method, answer)) = rest.split_once('\t') else {
         return Ok(false);
     };
     let class = ClassName::parse(alloc, class)?;
     let method = MethodName::parse(alloc, method)?;
-    match world.resolve(&class, &method) {
-        Resolution::Target(_, owner) => Ok(answer.strip_prefix("target\t") == Some(owner.text())),
-        Resolution::Abstract => Ok(answer == "abstract"),
-        Resolution::Missing => Ok(answer == "missing"),
+    Ok(is_resolution(&world.resolve(&class, &method), answer))
+}
+
+fn is_resolution(found: &Resolution<'_>, answer: &str) -> bool {
+    match found {
+        Resolution::Target(_, owner) => answer.strip_prefix("target\t") == Some(owner.text()),
+        Resolution::Abstract => answer == "abstract",
+        Resolution::Missing => answer == "missing",
     }
 }
 
-fn has_proxy_target(alloc: Global, world: &World, class: &str, rest: &str) -> Result<bool> {
+fn has_proxy_target(
+    alloc: Global,
+    world: &World,
+    class: &str,
+    rest: &str,
+) -> Result<bool, NameError> {
     let Some((proxy, answer)) = rest.split_once('\t') else {
         return Ok(false);
     };
@@ -92,7 +104,7 @@ fn has_proxy_target(alloc: Global, world: &World, class: &str, rest: &str) -> Re
     }
 }
 
-fn is_target(alloc: Global, found: &Owned<'_>, answer: &str) -> Result<bool> {
+fn is_target(alloc: Global, found: &Owned<'_>, answer: &str) -> Result<bool, NameError> {
     let Some((owner, target)) = answer.split_once('\t') else {
         return Ok(false);
     };

@@ -8,17 +8,17 @@ mod types;
 
 use answers::is_met;
 use anyhow::Result;
-use sj_names::Meter;
+use sj_names::{Meter, NameError};
 use sj_read::read_class;
 use sj_trees::ClassDef;
 use sj_world::{World, WorldError};
 use std::alloc::Global;
-use std::mem;
+use std::{mem, result};
 
 // The classes of a block, and the world of them once it is asked for.
 struct Block {
     classes: Vec<ClassDef>,
-    world: Option<Result<World, WorldError>>,
+    world: Option<result::Result<World, WorldError>>,
 }
 
 impl Drop for Block {
@@ -30,35 +30,62 @@ impl Drop for Block {
     }
 }
 
+// How many queries are met, and how many aren't.
+#[derive(Drop)]
+struct Tally {
+    agree: u64,
+    differ: u64,
+}
+
 fn main(rt: HostRuntime) -> Result<()> {
     let alloc = rt.alloc();
-    let mut block = Block {
-        classes: Vec::new(alloc),
-        world: None,
+    let mut block = new_block(alloc);
+    let mut tally = Tally {
+        agree: 0,
+        differ: 0,
     };
-    let mut agree: u64 = 0;
-    let mut differ: u64 = 0;
     for line in rt.lines(alloc) {
         let line = line?;
-        let line = line.as_str();
-        match line.split_once('\t') {
-            None => block = Block {
-                classes: Vec::new(alloc),
-                world: None,
-            },
-            Some(("class", file)) => add_class(alloc, file, &mut block.classes)?,
-            Some((kind, query)) => {
-                if is_answered(alloc, kind, query, &mut block)? {
-                    agree = agree.saturating_add(1);
-                } else {
-                    differ = differ.saturating_add(1);
-                    println!(rt; "differs: {line}")?;
-                }
-            }
+        if !is_taken(alloc, line.as_str(), &mut block, &mut tally)? {
+            println!(rt; "differs: {line}")?;
         }
     }
-    println!(rt; "agree {agree}, differ {differ}")?;
+    println!(rt; "agree {}, differ {}", tally.agree, tally.differ)?;
     Ok(())
+}
+
+fn new_block(alloc: Global) -> Block {
+    Block {
+        classes: Vec::new(alloc),
+        world: None,
+    }
+}
+
+// Takes a line, and gives whether it is met, where it is a query.
+fn is_taken(alloc: Global, line: &str, block: &mut Block, tally: &mut Tally) -> Result<bool> {
+    match line.split_once('\t') {
+        None => {
+            *block = new_block(alloc);
+            Ok(true)
+        }
+        Some(("class", file)) => {
+            add_class(alloc, file, &mut block.classes)?;
+            Ok(true)
+        }
+        Some((kind, query)) => Ok(tally.is_met(is_answered(alloc, kind, query, block)?)),
+    }
+}
+
+impl Tally {
+    // Counts whether a query is met.
+    fn is_met(&mut self, is_met: bool) -> bool {
+        if is_met {
+            self.agree = self.agree.saturating_add(1);
+        } else {
+            self.differ = self.differ.saturating_add(1);
+        }
+        is_met
+    }
 }
 
 fn add_class(alloc: Global, file: &str, classes: &mut Vec<ClassDef>) -> Result<()> {
@@ -69,7 +96,12 @@ fn add_class(alloc: Global, file: &str, classes: &mut Vec<ClassDef>) -> Result<(
     Ok(())
 }
 
-fn is_answered(alloc: Global, kind: &str, query: &str, block: &mut Block) -> Result<bool> {
+fn is_answered(
+    alloc: Global,
+    kind: &str,
+    query: &str,
+    block: &mut Block,
+) -> result::Result<bool, NameError> {
     if block.world.is_none() {
         let classes = mem::replace(&mut block.classes, Vec::new(alloc));
         block.world = Some(World::new(alloc, classes));
