@@ -1,8 +1,8 @@
 // The lines of an answer.
 use anyhow::Result;
 use sj_names::{ClassName, Member, MethodName, Namespace};
-use sj_reach::{ReachError, Reached};
-use sj_world::Fact;
+use sj_reach::ReachError;
+use sj_world::{Fact, Reached};
 use std::alloc::Global;
 
 /// The lines of an answer, as the input has them.

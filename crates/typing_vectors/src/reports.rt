@@ -6,7 +6,7 @@ use sj_names::{ClassName, Member, Meter, MethodName, NoMemory};
 use sj_recorder::Recorder;
 use sj_trees::MethodDef;
 use sj_typing::check_method;
-use sj_world::LinkedWorld;
+use sj_world::{LinkedWorld, method_in};
 use std::alloc::Global;
 use std::result;
 
@@ -37,13 +37,8 @@ fn member_of(alloc: Global, spelling: &str) -> Result<Option<Member>> {
 }
 
 fn method_of<'w>(world: &'w LinkedWorld, member: &Member) -> Option<&'w MethodDef> {
-    let class = world.world.class(&member.class)?;
-    for method in class.methods.as_slice() {
-        if method.namespace == member.namespace && method.name.is_same(&member.method) {
-            return Some(method);
-        }
-    }
-    None
+    let class = world.world().class(&member.class)?;
+    method_in(class.methods.as_slice(), member)
 }
 
 fn checked(
