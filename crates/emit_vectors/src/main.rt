@@ -36,50 +36,77 @@ fn main(rt: HostRuntime) -> Result<()> {
 // What is written for the class of a file; nothing where it spells none.
 fn answers_to(alloc: Global, file: &str) -> Result<String> {
     let bytes = hex::decode(alloc, file)?;
-    match read_class(alloc, &bytes, &mut Meter::new()) {
-        Ok(class) => answers(alloc, &class),
+    Ok(lines_of_file(alloc, &bytes)?)
+}
+
+fn lines_of_file(alloc: Global, file: &[u8]) -> result::Result<String, NoMemory> {
+    match read_class(alloc, file, &mut Meter::new()) {
+        Ok(class) => lines(alloc, &class),
         Err(_) => Ok(String::new(alloc)),
     }
 }
 
 // A line for each method of a class.
-fn answers(alloc: Global, class: &ClassDef) -> Result<String> {
-    let mut lines = String::new(alloc);
+fn lines(alloc: Global, class: &ClassDef) -> result::Result<String, NoMemory> {
+    let mut text = String::new(alloc);
     for method in class.methods.as_slice() {
-        let line = answer(alloc, &class.name, method)?;
-        lines.push_str(line.as_str())?;
+        add_line(alloc, &class.name, method, &mut text)?;
     }
-    Ok(lines)
+    Ok(text)
 }
 
-fn answer(alloc: Global, class: &ClassName, method: &MethodDef) -> Result<String> {
-    let member = Member {
+fn add_line(
+    alloc: Global,
+    class: &ClassName,
+    method: &MethodDef,
+    text: &mut String,
+) -> result::Result<(), NoMemory> {
+    let member = member_of(class, method)?;
+    add_name(alloc, &member, text)?;
+    add_piece(alloc, &member, method, text)
+}
+
+fn member_of(class: &ClassName, method: &MethodDef) -> result::Result<Member, NoMemory> {
+    Ok(Member {
         class: class.copied()?,
         namespace: method.namespace,
         method: method.name.copied()?,
-    };
-    line_on(alloc, &member, method)
+    })
 }
 
-fn line_on(alloc: Global, member: &Member, method: &MethodDef) -> Result<String> {
-    let text = text_of(alloc, member, method)?;
+fn add_name(alloc: Global, member: &Member, text: &mut String) -> result::Result<(), NoMemory> {
     let name = function_name(alloc, member)?;
-    Ok(format!(in alloc; "piece\t{}\t{text}\n", name.as_str())?)
+    add(&["piece\t", name.as_str(), "\t"], text)
 }
 
-fn text_of(alloc: Global, member: &Member, method: &MethodDef) -> Result<String> {
+fn add_piece(
+    alloc: Global,
+    member: &Member,
+    method: &MethodDef,
+    text: &mut String,
+) -> result::Result<(), NoMemory> {
     if is_built(method) {
-        printed(alloc, &emitted(alloc, member, method)?)
+        let piece = emitted(alloc, member, method)?;
+        add_printed(alloc, &piece, text)
     } else {
-        Ok(String::from_str(alloc, "not built")?)
+        add(&["not built\n"], text)
     }
 }
 
-fn printed(alloc: Global, piece: &JsPiece) -> Result<String>
+fn add_printed(alloc: Global, piece: &JsPiece, text: &mut String) -> result::Result<(), NoMemory>
     requires { IsPiece (piece_view piece.now) }
 {
-    let text = print_piece(alloc, piece)?;
-    Ok(hex::encode(alloc, text.as_slice())?)
+    let bytes = print_piece(alloc, piece)?;
+    let digits = hex::encode(alloc, bytes.as_slice())?;
+    add(&[digits.as_str(), "\n"], text)
+}
+
+// Adds the words.
+fn add(words: &[&str], text: &mut String) -> result::Result<(), NoMemory> {
+    for word in words {
+        text.push_str(word)?;
+    }
+    Ok(())
 }
 
 // The piece of a static method.

@@ -9,3 +9,5 @@ mod linking;
 mod listing_runs;
 #[cfg(test)]
 mod listing_texts;
+#[cfg(test)]
+mod memory;

@@ -1,7 +1,10 @@
 // The linker over folders, files and lines in memory.
-use sj_outside::{Contents, ContentsError, FoldersInMemory, LinesInMemory, OutputsInMemory};
+use crate::memory::{failing, words};
+use sj_outside::{
+    Contents, ContentsError, FoldersInMemory, LinesInMemory, OutputsInMemory, PutFile,
+};
 use sjslink::{Status, run};
-use std::alloc::{AllocError, Global};
+use std::alloc::Global;
 use std::test::Fail;
 
 // One class, whose method `main` logs `hi`.
@@ -22,6 +25,110 @@ const HI_MODULE: &str =
 const AGAIN_MODULE: &str =
     "function s_java_lang_Object__again$$V() {\n  console.log(\"x\");\n  s_java_lang_Object__again$$V();\n}\nfunction s_java_lang_Object__main$$V() {\n  s_java_lang_Object__again$$V();\n}\ns_java_lang_Object__main$$V();\n";
 
+const USAGE: &[u8] =
+    b"usage: sjslink link [--split fewest|smallest] [--optimize on|off] ENTRIES OUT FOLDER..\n";
+
+const LINK: &[&str; 6] = &["link", "--optimize", "off", "e", "out", "f1"];
+
+const NEVER: [u64; 3] = [0, 0, 0];
+
+// A run over a class, with the numbers of the calls that are to fail, and what it comes to; where the module is empty, no file is put.
+struct Row {
+    words: &'static [&'static str],
+    class: &'static [u8],
+    failing: [u64; 3],
+    status: Status,
+    module: &'static str,
+    lines: &'static [u8],
+}
+
+const LINKED: &[Row; 5] = &[
+    Row {
+        words: LINK,
+        class: HI,
+        failing: NEVER,
+        status: Status::Done,
+        module: HI_MODULE,
+        lines: b"edit 1 ok modules=1 read=1 checked=1 optimised=0 emitted=1\n",
+    },
+    Row {
+        words: LINK,
+        class: AGAIN,
+        failing: NEVER,
+        status: Status::Done,
+        module: AGAIN_MODULE,
+        lines: b"edit 1 ok modules=1 read=1 checked=2 optimised=0 emitted=2\n",
+    },
+    Row {
+        words: LINK,
+        class: UNUSED,
+        failing: NEVER,
+        status: Status::Done,
+        module: HI_MODULE,
+        lines: b"edit 1 ok modules=1 read=1 checked=1 optimised=0 emitted=1\n",
+    },
+    Row {
+        words: LINK,
+        class: b"",
+        failing: NEVER,
+        status: Status::NotBuilt,
+        module: "",
+        lines: b"not built\n",
+    },
+    Row {
+        words: &["link", "e", "out", "f1"],
+        class: HI,
+        failing: NEVER,
+        status: Status::Usage,
+        module: "",
+        lines: USAGE,
+    },
+];
+
+// Runs in which a read, the put or the line fails.
+const FAILED: &[Row; 5] = &[
+    Row {
+        words: LINK,
+        class: AGAIN,
+        failing: [1, 0, 0],
+        status: Status::ReadFault,
+        module: "",
+        lines: b"",
+    },
+    Row {
+        words: LINK,
+        class: AGAIN,
+        failing: [2, 0, 0],
+        status: Status::ReadFault,
+        module: "",
+        lines: b"",
+    },
+    Row {
+        words: LINK,
+        class: AGAIN,
+        failing: [3, 0, 0],
+        status: Status::ReadFault,
+        module: "",
+        lines: b"",
+    },
+    Row {
+        words: LINK,
+        class: AGAIN,
+        failing: [0, 1, 0],
+        status: Status::WriteFault,
+        module: "",
+        lines: b"",
+    },
+    Row {
+        words: LINK,
+        class: AGAIN,
+        failing: [0, 0, 1],
+        status: Status::WriteFault,
+        module: AGAIN_MODULE,
+        lines: b"",
+    },
+];
+
 fn contents(alloc: Global, class: &[u8]) -> Result<Contents, ContentsError> {
     let folder = Contents::new(alloc).with_file(alloc, "a.sjsir", class)?;
     Contents::new(alloc)
@@ -29,112 +136,57 @@ fn contents(alloc: Global, class: &[u8]) -> Result<Contents, ContentsError> {
         .with_folder(alloc, "f1", folder)
 }
 
-fn words(alloc: Global, texts: &[&str]) -> Result<Vec<String>, AllocError> {
-    let mut words = Vec::new(alloc);
-    for text in texts {
-        words.push(String::from_str(alloc, text)?)?;
+fn folders(alloc: Global, row: &Row) -> Result<FoldersInMemory, Fail> {
+    let failing = failing(alloc, row.failing[0])?;
+    Ok(FoldersInMemory::new(contents(alloc, row.class)?, failing))
+}
+
+// Whether the run comes to what is said of it.
+fn is_met(alloc: Global, row: &Row) -> Result<bool, Fail> {
+    let words = words(alloc, row.words)?;
+    let mut outputs = OutputsInMemory::new(alloc, failing(alloc, row.failing[1])?);
+    let mut lines = LinesInMemory::new(alloc, failing(alloc, row.failing[2])?);
+    let mut folders = folders(alloc, row)?;
+    let status = run(alloc, words, &mut folders, &mut outputs, &mut lines);
+    Ok(
+        status == row.status
+            && is_put(&outputs.puts, row.module)
+            && lines.text.as_slice() == row.lines,
+    )
+}
+
+fn is_put(puts: &[PutFile], module: &str) -> bool {
+    match puts {
+        [] => module.is_empty(),
+        [put] => {
+            put.out.as_str() == "out"
+                && put.edit == 1
+                && put.name.as_str() == "main.js"
+                && put.bytes.as_slice() == module.as_bytes()
+        }
+        _ => false,
     }
-    Ok(words)
 }
 
-// What a run over a class comes to, with the numbers of the calls that are to fail.
-#[derive(Drop)]
-struct Ran {
-    status: Status,
-    puts: OutputsInMemory,
-    text: LinesInMemory,
-}
-
-fn run_in_memory(
-    alloc: Global,
-    texts: &[&str],
-    class: &[u8],
-    failing: [u64; 3],
-) -> Result<Ran, Fail> {
-    let mut folders = FoldersInMemory::new(contents(alloc, class)?, vec![in alloc; failing[0]]?);
-    let mut puts = OutputsInMemory::new(alloc, vec![in alloc; failing[1]]?);
-    let mut text = LinesInMemory::new(alloc, vec![in alloc; failing[2]]?);
-    let status = run(
-        alloc,
-        words(alloc, texts)?,
-        &mut folders,
-        &mut puts,
-        &mut text,
-    );
-    Ok(Ran { status, puts, text })
-}
-
-const LINK: &[&str; 6] = &["link", "--optimize", "off", "e", "out", "f1"];
-
-const NEVER: [u64; 3] = [0, 0, 0];
-
-#[test]
-fn one_class_is_linked(rt: HostRuntime) -> Result<(), Fail> {
-    let ran = run_in_memory(rt.alloc(), LINK, HI, NEVER)?;
-    assert_eq!(rt; ran.status, Status::Done);
-    assert_eq!(rt; ran.puts.puts.len(), 1);
-    assert_eq!(rt; ran.puts.puts[0].out.as_str(), "out");
-    assert_eq!(rt; ran.puts.puts[0].edit, 1);
-    assert_eq!(rt; ran.puts.puts[0].name.as_str(), "main.js");
-    assert_eq!(rt; ran.puts.puts[0].bytes.as_slice(), HI_MODULE.as_bytes());
-    assert_eq!(rt;
-        ran.text.text.as_slice(),
-        b"edit 1 ok modules=1 read=1 checked=1 optimised=0 emitted=1\n".as_slice()
-    );
-    Ok(())
+fn are_met(alloc: Global, rows: &[Row]) -> Result<bool, Fail> {
+    for row in rows {
+        if !is_met(alloc, row)? {
+            return Ok(false);
+        }
+    }
+    Ok(true)
 }
 
 #[test]
-fn reached_methods_are_linked_in_order(rt: HostRuntime) -> Result<(), Fail> {
-    let again = run_in_memory(rt.alloc(), LINK, AGAIN, NEVER)?;
-    assert_eq!(rt; again.status, Status::Done);
-    assert_eq!(rt; again.puts.puts.len(), 1);
-    assert_eq!(rt;
-        again.puts.puts[0].bytes.as_slice(),
-        AGAIN_MODULE.as_bytes()
-    );
-    assert_eq!(rt;
-        again.text.text.as_slice(),
-        b"edit 1 ok modules=1 read=1 checked=2 optimised=0 emitted=2\n".as_slice()
-    );
-    let unused = run_in_memory(rt.alloc(), LINK, UNUSED, NEVER)?;
-    assert_eq!(rt; unused.status, Status::Done);
-    assert_eq!(rt; unused.puts.puts.len(), 1);
-    assert_eq!(rt; unused.puts.puts[0].bytes.as_slice(), HI_MODULE.as_bytes());
-    Ok(())
-}
-
-#[test]
-fn what_is_not_built_or_no_command_is_told(rt: HostRuntime) -> Result<(), Fail> {
-    let empty = run_in_memory(rt.alloc(), LINK, b"", NEVER)?;
-    assert_eq!(rt; empty.status, Status::NotBuilt);
-    assert_eq!(rt; empty.puts.puts.len(), 0);
-    assert_eq!(rt; empty.text.text.as_slice(), b"not built\n".as_slice());
-    let usage = run_in_memory(rt.alloc(), &["link", "e", "out", "f1"], HI, NEVER)?;
-    assert_eq!(rt; usage.status, Status::Usage);
-    assert_eq!(rt; usage.puts.puts.len(), 0);
-    assert_eq!(rt;
-        usage.text.text.as_slice(),
-        b"usage: sjslink link [--split fewest|smallest] [--optimize on|off] ENTRIES OUT FOLDER..\n".as_slice()
-    );
+fn classes_are_linked(rt: HostRuntime) -> Result<(), Fail> {
+    let are_met = are_met(rt.alloc(), LINKED)?;
+    assert!(rt; are_met);
     Ok(())
 }
 
 #[test]
 fn each_failing_call_ends_the_run(rt: HostRuntime) -> Result<(), Fail> {
-    for failing in 1..=3 {
-        let read = run_in_memory(rt.alloc(), LINK, AGAIN, [failing, 0, 0])?;
-        assert_eq!(rt; read.status, Status::ReadFault);
-        assert_eq!(rt; read.puts.puts.len(), 0);
-        assert_eq!(rt; read.text.text.len(), 0);
-    }
-    let put = run_in_memory(rt.alloc(), LINK, AGAIN, [0, 1, 0])?;
-    assert_eq!(rt; put.status, Status::WriteFault);
-    assert_eq!(rt; put.puts.puts.len(), 0);
-    assert_eq!(rt; put.text.text.len(), 0);
-    let line = run_in_memory(rt.alloc(), LINK, AGAIN, [0, 0, 1])?;
-    assert_eq!(rt; line.status, Status::WriteFault);
-    assert_eq!(rt; line.puts.puts.len(), 1);
-    assert_eq!(rt; line.text.text.len(), 0);
+    let are_met = are_met(rt.alloc(), FAILED)?;
+    assert!(rt; are_met);
     Ok(())
 }

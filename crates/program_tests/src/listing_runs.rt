@@ -1,7 +1,10 @@
 // The top call over files and lines in memory.
-use sj_outside::{Contents, ContentsError, FoldersInMemory, LinesInMemory, OutputsInMemory};
+use crate::memory::{failing, words};
+use sj_outside::{
+    Contents, ContentsError, FoldersInMemory, LinesInMemory, OutputsInMemory, PutFile,
+};
 use sjsir::{Status, run};
-use std::alloc::{AllocError, Global};
+use std::alloc::Global;
 use std::test::Fail;
 
 // One class, whose method `main` logs `hi`. Its positions are in no named source file.
@@ -19,74 +22,111 @@ fn contents(alloc: Global) -> Result<Contents, ContentsError> {
         .with_file(alloc, "cut", b"(class")
 }
 
-// What a run comes to, with the numbers of the calls that are to fail.
-#[derive(Drop)]
-struct Ran {
-    status: Status,
-    puts: OutputsInMemory,
-    text: LinesInMemory,
-}
-
-fn words(alloc: Global, texts: &[&str]) -> Result<Vec<String>, AllocError> {
-    let mut words = Vec::new(alloc);
-    for text in texts {
-        words.push(String::from_str(alloc, text)?)?;
-    }
-    Ok(words)
-}
-
-fn run_in_memory(alloc: Global, texts: &[&str], failing: [u64; 3]) -> Result<Ran, Fail> {
-    let mut folders = FoldersInMemory::new(contents(alloc)?, vec![in alloc; failing[0]]?);
-    let mut puts = OutputsInMemory::new(alloc, vec![in alloc; failing[1]]?);
-    let mut text = LinesInMemory::new(alloc, vec![in alloc; failing[2]]?);
-    let status = run(
-        alloc,
-        words(alloc, texts)?,
-        &mut folders,
-        &mut puts,
-        &mut text,
-    );
-    Ok(Ran { status, puts, text })
-}
+const CUT_AND_HI_LISTING: &str =
+    "cut.sjsir refused 3 0\n(class \"java.lang.Object\" Class - [] [] [(method PublicStatic \"main;V\" [] none (Log (StringLiteral \"hi\")))])\n";
 
 const NEVER: [u64; 3] = [0, 0, 0];
 
-#[test]
-fn files_are_printed_in_order(rt: HostRuntime) -> Result<(), Fail> {
-    let one = run_in_memory(rt.alloc(), &["print", "hi.sjsir"], NEVER)?;
-    assert_eq!(rt; one.status, Status::Done);
-    assert_eq!(rt; one.text.text.as_slice(), HI_LISTING.as_bytes());
-    let two = run_in_memory(rt.alloc(), &["print", "cut.sjsir", "hi.sjsir"], NEVER)?;
-    assert_eq!(rt; two.status, Status::SomeRefused);
-    let text = format!(in rt.alloc(); "cut.sjsir refused 3 0\n{HI_LISTING}")?;
-    assert_eq!(rt; two.text.text.as_slice(), text.as_bytes());
-    Ok(())
+// A run, with the numbers of the calls that are to fail, and what it comes to; where the file is empty, none is put.
+struct Row {
+    words: &'static [&'static str],
+    failing: [u64; 3],
+    status: Status,
+    file: &'static [u8],
+    lines: &'static str,
+}
+
+const ROWS: &[Row; 7] = &[
+    Row {
+        words: &["print", "hi.sjsir"],
+        failing: NEVER,
+        status: Status::Done,
+        file: b"",
+        lines: HI_LISTING,
+    },
+    Row {
+        words: &["print", "cut.sjsir", "hi.sjsir"],
+        failing: NEVER,
+        status: Status::SomeRefused,
+        file: b"",
+        lines: CUT_AND_HI_LISTING,
+    },
+    Row {
+        words: &["make", "hi", "out.sjsir"],
+        failing: NEVER,
+        status: Status::Done,
+        file: HI,
+        lines: "",
+    },
+    Row {
+        words: &["make", "cut", "out.sjsir"],
+        failing: NEVER,
+        status: Status::SomeRefused,
+        file: b"",
+        lines: "refused 6\n",
+    },
+    Row {
+        words: &["make", "hi"],
+        failing: NEVER,
+        status: Status::Usage,
+        file: b"",
+        lines: "usage: sjsir print FILE.. | make LISTING OUT | --help | --version\n",
+    },
+    Row {
+        words: &["print", "hi.sjsir", "hi.sjsir"],
+        failing: [2, 0, 0],
+        status: Status::ReadFault,
+        file: b"",
+        lines: HI_LISTING,
+    },
+    Row {
+        words: &["make", "hi", "out.sjsir"],
+        failing: [0, 1, 0],
+        status: Status::WriteFault,
+        file: b"",
+        lines: "",
+    },
+];
+
+fn folders(alloc: Global, row: &Row) -> Result<FoldersInMemory, Fail> {
+    let failing = failing(alloc, row.failing[0])?;
+    Ok(FoldersInMemory::new(contents(alloc)?, failing))
+}
+
+// Whether the run comes to what is said of it.
+fn is_met(alloc: Global, row: &Row) -> Result<bool, Fail> {
+    let words = words(alloc, row.words)?;
+    let mut outputs = OutputsInMemory::new(alloc, failing(alloc, row.failing[1])?);
+    let mut lines = LinesInMemory::new(alloc, failing(alloc, row.failing[2])?);
+    let mut folders = folders(alloc, row)?;
+    let status = run(alloc, words, &mut folders, &mut outputs, &mut lines);
+    Ok(
+        status == row.status
+            && is_put(&outputs.puts, row.file)
+            && lines.text.as_slice() == row.lines.as_bytes(),
+    )
+}
+
+fn is_put(puts: &[PutFile], file: &[u8]) -> bool {
+    match puts {
+        [] => file.is_empty(),
+        [put] => put.name.as_str() == "out.sjsir" && put.bytes.as_slice() == file,
+        _ => false,
+    }
+}
+
+fn are_met(alloc: Global, rows: &[Row]) -> Result<bool, Fail> {
+    for row in rows {
+        if !is_met(alloc, row)? {
+            return Ok(false);
+        }
+    }
+    Ok(true)
 }
 
 #[test]
-fn the_file_of_a_listing_is_made(rt: HostRuntime) -> Result<(), Fail> {
-    let made = run_in_memory(rt.alloc(), &["make", "hi", "out.sjsir"], NEVER)?;
-    assert_eq!(rt; made.status, Status::Done);
-    assert_eq!(rt; made.text.text.len(), 0);
-    assert_eq!(rt; made.puts.puts.len(), 1);
-    assert_eq!(rt; made.puts.puts[0].name.as_str(), "out.sjsir");
-    assert_eq!(rt; made.puts.puts[0].bytes.as_slice(), HI.as_slice());
-    let refused = run_in_memory(rt.alloc(), &["make", "cut", "out.sjsir"], NEVER)?;
-    assert_eq!(rt; refused.status, Status::SomeRefused);
-    assert_eq!(rt; refused.puts.puts.len(), 0);
-    assert_eq!(rt; refused.text.text.as_slice(), b"refused 6\n".as_slice());
-    Ok(())
-}
-
-#[test]
-fn a_failing_call_ends_the_run(rt: HostRuntime) -> Result<(), Fail> {
-    let read = run_in_memory(rt.alloc(), &["print", "hi.sjsir", "hi.sjsir"], [2, 0, 0])?;
-    assert_eq!(rt; read.status, Status::ReadFault);
-    assert_eq!(rt; read.text.text.as_slice(), HI_LISTING.as_bytes());
-    let put = run_in_memory(rt.alloc(), &["make", "hi", "out.sjsir"], [0, 1, 0])?;
-    assert_eq!(rt; put.status, Status::WriteFault);
-    assert_eq!(rt; put.puts.puts.len(), 0);
-    let usage = run_in_memory(rt.alloc(), &["make", "hi"], NEVER)?;
-    assert_eq!(rt; usage.status, Status::Usage);
+fn runs_come_to_what_is_said(rt: HostRuntime) -> Result<(), Fail> {
+    let are_met = are_met(rt.alloc(), ROWS)?;
+    assert!(rt; are_met);
     Ok(())
 }

@@ -67,10 +67,7 @@ impl Block {
                 self.any_facts = true;
                 Ok(())
             }
-            _ => {
-                self.wanted.push(String::from_str(alloc, line)?)?;
-                Ok(())
-            }
+            _ => add_wanted(alloc, line, &mut self.wanted),
         }
     }
 
@@ -110,6 +107,12 @@ fn push_all(lines: &[String], text: &mut String) -> Result<()> {
         text.push_str(line.as_str())?;
         text.push('\n')?;
     }
+    Ok(())
+}
+
+fn add_wanted(alloc: Global, line: &str, wanted: &mut Vec<String>) -> Result<()> {
+    let line = String::from_str(alloc, line)?;
+    wanted.push(line)?;
     Ok(())
 }
 
@@ -156,7 +159,7 @@ fn answered(
         return Ok(Vec::new(alloc));
     }
     let world = World::new(alloc, classes)?;
-    lines_of(alloc, &reach(alloc, &world, &Entries::new(entries)))
+    Ok(lines_of(alloc, &reach(alloc, &world, &Entries::new(entries)))?)
 }
 
 // Whether these may be the entries of a link.
