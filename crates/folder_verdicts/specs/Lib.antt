@@ -1,3 +1,4 @@
 pub mod Stages
 pub mod Verdicts
 pub mod Laws
+pub mod Rows

@@ -3,4 +3,4 @@
 
 mod laws;
 
-pub use laws::verdict_is_one;
+pub use laws::{verdict_is_one, worked_verdicts};
