@@ -1,34 +1,29 @@
 // The lines of an answer.
-use sj_names::{ClassName, Member, MethodName, Namespace, NoMemory};
+use anyhow::Result;
+use sj_names::{ClassName, Member, MethodName, Namespace};
 use sj_reach::ReachError;
 use sj_world::{Fact, Reached};
 use std::alloc::Global;
 
 /// The lines of an answer, as the input has them.
-pub(crate) fn lines_of(
-    alloc: Global,
-    answer: &Result<Reached, ReachError>,
-) -> Result<Vec<String>, NoMemory> {
+pub(crate) fn lines_of(alloc: Global, answer: &Result<Reached, ReachError>) -> Result<Vec<String>> {
     match answer {
         Ok(reached) => lines_of_facts(alloc, reached.facts()),
-        Err(error) => {
-            let line = line_of_error(alloc, error)?;
-            Ok(vec![in alloc; line]?)
-        }
-    }
-}
-
-fn line_of_error(alloc: Global, error: &ReachError) -> Result<String, NoMemory> {
-    match error {
-        ReachError::Refused { code, place } => {
+        Err(ReachError::Refused { code, place }) => {
             let place = place.as_str();
-            Ok(format!(in alloc; "refused\t{code}\t{place}")?)
+            one_line(alloc, format!(in alloc; "refused\t{code}\t{place}")?)
         }
-        ReachError::NoMemory => line(alloc, &["no memory"]),
+        Err(ReachError::NoMemory) => one_line(alloc, String::from_str(alloc, "no memory")?),
     }
 }
 
-fn lines_of_facts(alloc: Global, facts: &[Fact]) -> Result<Vec<String>, NoMemory> {
+fn one_line(alloc: Global, line: String) -> Result<Vec<String>> {
+    let mut lines = Vec::new(alloc);
+    lines.push(line)?;
+    Ok(lines)
+}
+
+fn lines_of_facts(alloc: Global, facts: &[Fact]) -> Result<Vec<String>> {
     let mut lines = Vec::new(alloc);
     for fact in facts {
         lines.push(line_of(alloc, fact)?)?;
@@ -36,48 +31,31 @@ fn lines_of_facts(alloc: Global, facts: &[Fact]) -> Result<Vec<String>, NoMemory
     Ok(lines)
 }
 
-fn line_of(alloc: Global, fact: &Fact) -> Result<String, NoMemory> {
+fn line_of(alloc: Global, fact: &Fact) -> Result<String> {
     match fact {
-        Fact::Needed(class) => line(alloc, &["needed\t", class.text()]),
-        Fact::Made(class) => line(alloc, &["made\t", class.text()]),
-        Fact::CellUsed(class) => line(alloc, &["cell\t", class.text()]),
+        Fact::Needed(class) => Ok(format!(in alloc; "needed\t{class}")?),
+        Fact::Made(class) => Ok(format!(in alloc; "made\t{class}")?),
+        Fact::CellUsed(class) => Ok(format!(in alloc; "cell\t{class}")?),
         Fact::NeededField(class, field, is_static) => {
-            let mark = if *is_static { "\t1" } else { "\t0" };
-            line(alloc, &["field\t", class.text(), "\t", field.text(), mark])
+            let mark = u8::from(*is_static);
+            let field = field.text();
+            Ok(format!(in alloc; "field\t{class}\t{field}\t{mark}")?)
         }
         Fact::Body(member) => body_line(alloc, member),
         Fact::Called(class, method) => called_line(alloc, class, method),
     }
 }
 
-fn body_line(alloc: Global, member: &Member) -> Result<String, NoMemory> {
-    let method = member.method.spelled(alloc)?;
+fn body_line(alloc: Global, member: &Member) -> Result<String> {
+    let class = &member.class;
     let word = word_of(member.namespace);
-    line(
-        alloc,
-        &[
-            "body\t",
-            member.class.text(),
-            "::",
-            word,
-            ":",
-            method.as_str(),
-        ],
-    )
+    let method = member.method.spelled(alloc)?;
+    Ok(format!(in alloc; "body\t{class}::{word}:{method}")?)
 }
 
-fn called_line(alloc: Global, class: &ClassName, method: &MethodName) -> Result<String, NoMemory> {
+fn called_line(alloc: Global, class: &ClassName, method: &MethodName) -> Result<String> {
     let method = method.spelled(alloc)?;
-    line(alloc, &["called\t", class.text(), "\t", method.as_str()])
-}
-
-// The line of these words.
-fn line(alloc: Global, words: &[&str]) -> Result<String, NoMemory> {
-    let mut text = String::new(alloc);
-    for word in words {
-        text.push_str(word)?;
-    }
-    Ok(text)
+    Ok(format!(in alloc; "called\t{class}\t{method}")?)
 }
 
 fn word_of(namespace: Namespace) -> &'static str {

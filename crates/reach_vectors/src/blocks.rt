@@ -67,7 +67,10 @@ impl Block {
                 self.any_facts = true;
                 Ok(())
             }
-            _ => add_wanted(alloc, line, &mut self.wanted),
+            _ => {
+                self.wanted.push(String::from_str(alloc, line)?)?;
+                Ok(())
+            }
         }
     }
 
@@ -107,12 +110,6 @@ fn push_all(lines: &[String], text: &mut String) -> Result<()> {
         text.push_str(line.as_str())?;
         text.push('\n')?;
     }
-    Ok(())
-}
-
-fn add_wanted(alloc: Global, line: &str, wanted: &mut Vec<String>) -> Result<()> {
-    let line = String::from_str(alloc, line)?;
-    wanted.push(line)?;
     Ok(())
 }
 
@@ -159,7 +156,7 @@ fn answered(
         return Ok(Vec::new(alloc));
     }
     let world = World::new(alloc, classes)?;
-    Ok(lines_of(alloc, &reach(alloc, &world, &Entries::new(entries)))?)
+    lines_of(alloc, &reach(alloc, &world, &Entries::new(entries)))
 }
 
 // Whether these may be the entries of a link.

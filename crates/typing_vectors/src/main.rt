@@ -7,8 +7,8 @@ mod reports;
 mod spellings;
 
 use anyhow::Result;
-use reports::add_report;
-use sj_names::{Meter, NameError};
+use reports::report;
+use sj_names::Meter;
 use sj_read::read_class;
 use sj_trees::ClassDef;
 use sj_world::{LinkedWorld, WorldError};
@@ -59,15 +59,13 @@ fn add_class(alloc: Global, file: &str, classes: &mut Vec<ClassDef>) -> Result<(
     Ok(())
 }
 
-fn answer(alloc: Global, member: &str, block: &mut Block) -> result::Result<String, NameError> {
+fn answer(alloc: Global, member: &str, block: &mut Block) -> Result<String> {
     if block.world.is_none() {
         let classes = mem::replace(&mut block.classes, Vec::new(alloc));
         block.world = Some(LinkedWorld::new(alloc, classes, Vec::new(alloc), Vec::new(alloc)));
     }
-    let mut text = String::new(alloc);
     match &block.world {
-        Some(Ok(world)) => add_report(alloc, world, member, &mut text)?,
-        _ => text.push_str("no world\n")?,
+        Some(Ok(world)) => report(alloc, world, member),
+        _ => Ok(String::from_str(alloc, "no world\n")?),
     }
-    Ok(text)
 }

@@ -1,41 +1,28 @@
 // What the check of a method found and asked.
-use crate::spellings::{add, add_exchange, namespace_of};
+use crate::spellings::{exchange_text, namespace_of};
+use anyhow::Result;
 use sj_ask::{Log, TypeError, WorldOracle};
-use sj_names::{ClassName, Member, Meter, MethodName, NameError, NoMemory};
+use sj_names::{ClassName, Member, Meter, MethodName, NoMemory};
 use sj_recorder::Recorder;
 use sj_trees::MethodDef;
 use sj_typing::check_method;
 use sj_world::{LinkedWorld, method_in};
 use std::alloc::Global;
+use std::result;
 
-/// Adds the lines on the member of this spelling.
-pub(crate) fn add_report(
-    alloc: Global,
-    world: &LinkedWorld,
-    spelling: &str,
-    text: &mut String,
-) -> Result<(), NameError> {
-    match member_of(alloc, spelling)? {
-        Some(member) => Ok(add_found(alloc, world, spelling, &member, text)?),
-        None => Ok(add(&["no member\n"], text)?),
-    }
-}
-
-fn add_found(
-    alloc: Global,
-    world: &LinkedWorld,
-    spelling: &str,
-    member: &Member,
-    text: &mut String,
-) -> Result<(), NoMemory> {
-    match method_of(world, member) {
-        Some(method) => add_checked(alloc, world, (spelling, member), method, text),
-        None => add(&["no method\n"], text),
+/// The lines on the member of this spelling.
+pub(crate) fn report(alloc: Global, world: &LinkedWorld, spelling: &str) -> Result<String> {
+    let Some(member) = member_of(alloc, spelling)? else {
+        return Ok(String::from_str(alloc, "no member\n")?);
+    };
+    match method_of(world, &member) {
+        Some(method) => checked(alloc, world, spelling, &member, method),
+        None => Ok(String::from_str(alloc, "no method\n")?),
     }
 }
 
 // The member of a spelling: its class, a word for its namespace, and its name.
-fn member_of(alloc: Global, spelling: &str) -> Result<Option<Member>, NameError> {
+fn member_of(alloc: Global, spelling: &str) -> Result<Option<Member>> {
     let Some((class, rest)) = spelling.split_once("::") else {
         return Ok(None);
     };
@@ -54,42 +41,37 @@ fn method_of<'w>(world: &'w LinkedWorld, member: &Member) -> Option<&'w MethodDe
     method_in(class.methods.as_slice(), member)
 }
 
-fn add_checked(
+fn checked(
     alloc: Global,
     world: &LinkedWorld,
-    named: (&str, &Member),
+    spelling: &str,
+    member: &Member,
     method: &MethodDef,
-    text: &mut String,
-) -> Result<(), NoMemory> {
+) -> Result<String> {
     if method.body.is_none() {
-        return add(&["no body\n"], text);
+        return Ok(String::from_str(alloc, "no body\n")?);
     }
-    let (spelling, member) = named;
-    let mut recorder = Recorder::new(alloc, member.copied()?, WorldOracle::new(world, member));
+    let oracle = WorldOracle::new(world, member);
+    let mut recorder = Recorder::new(alloc, member.copied()?, oracle);
     let verdict = check_method(alloc, method, &mut recorder, &mut Meter::new());
-    add_verdict(alloc, spelling, verdict, text)?;
-    add_log(alloc, &recorder.into_log(), text)
+    Ok(lines(alloc, spelling, verdict, &recorder.into_log())?)
 }
 
-fn add_verdict(
+fn lines(
     alloc: Global,
     spelling: &str,
-    verdict: Result<(), TypeError>,
-    text: &mut String,
-) -> Result<(), NoMemory> {
-    match verdict {
-        Ok(()) => add(&["check\t", spelling, "\tok\n"], text),
+    verdict: result::Result<(), TypeError>,
+    log: &Log,
+) -> result::Result<String, NoMemory> {
+    let mut text = match verdict {
+        Ok(()) => format!(in alloc; "check\t{spelling}\tok\n")?,
         Err(TypeError::Refused { rule, place }) => {
-            let line = format!(in alloc; "check\t{spelling}\t{rule}\t{place}\n")?;
-            add(&[line.as_str()], text)
+            format!(in alloc; "check\t{spelling}\t{rule}\t{place}\n")?
         }
-        Err(TypeError::NoMemory) => add(&["no memory\n"], text),
+        Err(TypeError::NoMemory) => String::from_str(alloc, "no memory\n")?,
+    };
+    for asked in log.asked.as_slice() {
+        text.push_str(exchange_text(alloc, &asked.0, &asked.1)?.as_str())?;
     }
-}
-
-fn add_log(alloc: Global, log: &Log, text: &mut String) -> Result<(), NoMemory> {
-    for (question, answer) in log.asked.as_slice() {
-        add_exchange(alloc, question, answer, text)?;
-    }
-    Ok(())
+    Ok(text)
 }

@@ -3,7 +3,7 @@ ghost use Rattle.std.specs.Prelude.{◌≡◌};
 ghost use Rattle.typing_vectors.specs.Namespaces.{namespace_named};
 
 use sj_ask::{Answer, Question};
-use sj_names::{ArrayRef, Namespace, NoMemory, TypeRef};
+use sj_names::{Namespace, NoMemory, TypeRef};
 use sj_trees::{FieldDef, IrType};
 use std::alloc::Global;
 
@@ -20,83 +20,53 @@ pub fn namespace_of(word: &str) -> Namespace
     }
 }
 
-/// Adds the line on a question and its answer.
-pub(crate) fn add_exchange(
+/// The line on a question and its answer.
+pub(crate) fn exchange_text(
     alloc: Global,
     question: &Question,
     answer: &Answer,
-    text: &mut String,
-) -> Result<(), NoMemory> {
+) -> Result<String, NoMemory> {
     match (question, answer) {
         (Question::IsSub(sub, above), Answer::Yes(yes)) => {
-            add_subtype(alloc, (sub, above), *yes, text)
+            let sub = type_text(alloc, sub)?;
+            let above = type_text(alloc, above)?;
+            let yes = if *yes { "yes" } else { "no" };
+            Ok(format!(in alloc; "ask\tsub\t{sub}\t{above}\t{yes}\n")?)
         }
         (Question::Field(class, name, is_static), Answer::Field(found)) => {
-            let words = [
-                "ask\tfield\t",
-                class.text(),
-                "\t",
-                name.text(),
-                "\t",
-                mark(*is_static),
-            ];
-            add(&words, text)?;
-            add_field(alloc, found, text)
+            let found = field_text(alloc, found)?;
+            let mark = mark(*is_static);
+            Ok(format!(in alloc; "ask\tfield\t{class}\t{name}\t{mark}\t{found}\n")?)
         }
-        _ => add(&["another question\n"], text),
+        _ => Ok(String::from_str(alloc, "another question\n")?),
     }
 }
 
-fn add_subtype(
-    alloc: Global,
-    types: (&IrType, &IrType),
-    yes: bool,
-    text: &mut String,
-) -> Result<(), NoMemory> {
-    let (sub, above) = types;
-    add(&["ask\tsub\t"], text)?;
-    add_type(alloc, sub, text)?;
-    add(&["\t"], text)?;
-    add_type(alloc, above, text)?;
-    add(&[if yes { "\tyes\n" } else { "\tno\n" }], text)
+fn mark(is: bool) -> u8 {
+    if is { 1 } else { 0 }
 }
 
-fn mark(is: bool) -> &'static str {
-    if is { "1" } else { "0" }
+fn field_text(alloc: Global, found: &Option<FieldDef>) -> Result<String, NoMemory> {
+    match found {
+        Some(field) => {
+            let tpe = type_text(alloc, &field.tpe)?;
+            let is_static = mark(field.is_static);
+            let mutable = mark(field.mutable);
+            Ok(format!(in alloc; "(field {is_static} {mutable} \"{}\" {tpe})", field.name)?)
+        }
+        None => Ok(String::from_str(alloc, "none")?),
+    }
 }
 
-fn add_field(alloc: Global, found: &Option<FieldDef>, text: &mut String) -> Result<(), NoMemory> {
-    let Some(field) = found else {
-        return add(&["\tnone\n"], text);
-    };
-    add(
-        &["\t(field ", mark(field.is_static), " ", mark(field.mutable)],
-        text,
-    )?;
-    add(&[" \"", field.name.text(), "\" "], text)?;
-    add_type(alloc, &field.tpe, text)?;
-    add(&[")\n"], text)
-}
-
-fn add_type(alloc: Global, tpe: &IrType, text: &mut String) -> Result<(), NoMemory> {
+fn type_text(alloc: Global, tpe: &IrType) -> Result<String, NoMemory> {
     match tpe {
-        IrType::Class(name) => add(&["(L \"", name.text(), "\")"], text),
-        IrType::Array(array) => add_array(alloc, array, text),
-        _ => add(&[word(tpe)], text),
+        IrType::Class(name) => Ok(format!(in alloc; "(L \"{name}\")")?),
+        IrType::Array(array) => {
+            let reference = TypeRef::Array(array.copied()?).spelled(alloc)?;
+            Ok(format!(in alloc; "(A \"{reference}\")")?)
+        }
+        _ => Ok(String::from_str(alloc, word(tpe))?),
     }
-}
-
-fn add_array(alloc: Global, array: &ArrayRef, text: &mut String) -> Result<(), NoMemory> {
-    let reference = TypeRef::Array(array.copied()?).spelled(alloc)?;
-    add(&["(A \"", reference.as_str(), "\")"], text)
-}
-
-/// Adds the words.
-pub(crate) fn add(words: &[&str], text: &mut String) -> Result<(), NoMemory> {
-    for word in words {
-        text.push_str(word)?;
-    }
-    Ok(())
 }
 
 fn word(tpe: &IrType) -> &'static str {
