@@ -5,8 +5,7 @@ ghost use Rattle.std.specs.List.{list_all};
 ghost use Rattle.sj_names.specs.EntryPoints.{AreEntries, is_entry};
 
 use crate::blocks::Block;
-use anyhow::Result;
-use sj_names::{Entries, EntryPoint};
+use sj_names::{ClassName, Entries, EntryPoint, NameError, NoMemory};
 use sj_split::{PlannedModule, Style, plan};
 use std::alloc::Global;
 
@@ -47,19 +46,41 @@ impl Expected {
 }
 
 /// The lines of the plan of a block.
-pub(crate) fn planned_lines(alloc: Global, block: &Block, style: &str) -> Result<Vec<String>> {
-    let style = if style == "fewest" {
-        Style::Fewest
-    } else {
-        Style::Smallest
-    };
+pub(crate) fn planned_lines(
+    alloc: Global,
+    block: &Block,
+    style: &str,
+) -> Result<Vec<String>, NameError> {
     let list = block.entries(alloc)?;
     if !are_entries(&list) {
         return Ok(Vec::new(alloc));
     }
-    let plan = plan(alloc, &block.graph(alloc)?, &Entries::new(list), style)?;
+    let entries = Entries::new(list);
+    Ok(lines_of_plan(alloc, block, &entries, style_of(style))?)
+}
+
+fn style_of(word: &str) -> Style {
+    if word == "fewest" {
+        Style::Fewest
+    } else {
+        Style::Smallest
+    }
+}
+
+fn lines_of_plan(
+    alloc: Global,
+    block: &Block,
+    entries: &Entries,
+    style: Style,
+) -> Result<Vec<String>, NoMemory> {
+    let graph = block.graph(alloc)?;
+    let plan = plan(alloc, &graph, entries, style)?;
+    lines_of(alloc, plan.modules())
+}
+
+fn lines_of(alloc: Global, modules: &[PlannedModule]) -> Result<Vec<String>, NoMemory> {
     let mut lines = Vec::new(alloc);
-    for planned in plan.modules() {
+    for planned in modules {
         lines.push(line_of(alloc, planned)?)?;
     }
     Ok(lines)
@@ -82,34 +103,42 @@ fn are_valid(list: &[EntryPoint]) -> bool
 }
 
 // `NAME CLASSES INITIALIZERS`, with tabs between.
-fn line_of(alloc: Global, planned: &PlannedModule) -> Result<String> {
-    let mut line = String::from_str(alloc, planned.name.as_str())?;
-    let mut separator = "\t";
-    for class in planned.classes.as_slice() {
-        line.push_str(separator)?;
-        line.push_str(class.text())?;
-        separator = ",";
-    }
-    if planned.classes.as_slice().is_empty() {
-        line.push_str("\t")?;
-    }
-    separator = "\t";
-    for entry in planned.initializers.as_slice() {
-        line.push_str(separator)?;
-        add_entry(&mut line, entry)?;
-        separator = ",";
-    }
-    if planned.initializers.as_slice().is_empty() {
-        line.push_str("\t")?;
-    }
+fn line_of(alloc: Global, planned: &PlannedModule) -> Result<String, NoMemory> {
+    let mut line = String::new(alloc);
+    add_module(planned, &mut line)?;
     Ok(line)
 }
 
-fn add_entry(line: &mut String, entry: &EntryPoint) -> Result<()> {
-    line.push_str(entry.module.as_str())?;
-    line.push_str(" ")?;
-    line.push_str(entry.class.text())?;
-    line.push_str(" ")?;
-    line.push_str(entry.method.text())?;
+fn add_module(planned: &PlannedModule, line: &mut String) -> Result<(), NoMemory> {
+    add(&[planned.name.as_str(), "\t"], line)?;
+    add_classes(planned.classes.as_slice(), line)?;
+    add(&["\t"], line)?;
+    add_initializers(planned.initializers.as_slice(), line)
+}
+
+fn add_classes(classes: &[ClassName], line: &mut String) -> Result<(), NoMemory> {
+    let mut separator = "";
+    for class in classes {
+        add(&[separator, class.text()], line)?;
+        separator = ",";
+    }
+    Ok(())
+}
+
+fn add_initializers(entries: &[EntryPoint], line: &mut String) -> Result<(), NoMemory> {
+    let mut separator = "";
+    for entry in entries {
+        add(&[separator, entry.module.as_str(), " "], line)?;
+        add(&[entry.class.text(), " ", entry.method.text()], line)?;
+        separator = ",";
+    }
+    Ok(())
+}
+
+// Adds the words.
+fn add(words: &[&str], line: &mut String) -> Result<(), NoMemory> {
+    for word in words {
+        line.push_str(word)?;
+    }
     Ok(())
 }
