@@ -21,6 +21,7 @@ CLAIMS = [
     ("sj_ask", ["sj_ask.Laws"]),
     ("infos_of", ["sj_infos.Infos"]),
     ("reachability", ["reach_rules.Reachable", "sj_reach.Answers"]),
+    ("a folder's verdict", ["folder_verdicts.Verdicts"]),
     ("plan", ["sj_split.Modules", "sj_graph.References"]),
     ("command and those before it", ["sj_words.Earlier"]),
     ("canon", ["sj_canon.Methods"]),
