@@ -22,6 +22,28 @@ begin() {
     main="$work/crates/$program/src/main.rt"
 }
 
+# Adds to the program the functions that say whether a list may be the entries of a link.
+judge_entries() {
+    cat >> "$main" <<'ENTRIES'
+
+// Whether these may be the entries of a link.
+fn are_entries(list: &[EntryPoint]) -> bool
+    ensures { OnTrue result (AreEntries list.now) }
+{
+    if list.is_empty() || list.len() > 1000 {
+        return false;
+    }
+    are_valid(list)
+}
+
+fn are_valid(list: &[EntryPoint]) -> bool
+    ensures { result ≡ list_all is_entry list.now }
+{
+    list.iter().all(|entry| entry.is_valid())
+}
+ENTRIES
+}
+
 # Proves, builds and runs the program, whose text is in $main by now. What the proof prints is shown where it fails.
 measure() {
     cd "$work/crates/$program"

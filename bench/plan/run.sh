@@ -80,22 +80,6 @@ fn entry(alloc: Global, number: u32) -> Result<EntryPoint> {
     })
 }
 
-// Whether these may be the entries of a link.
-fn are_entries(list: &[EntryPoint]) -> bool
-    ensures { OnTrue result (AreEntries list.now) }
-{
-    if list.is_empty() || list.len() > 1000 {
-        return false;
-    }
-    are_valid(list)
-}
-
-fn are_valid(list: &[EntryPoint]) -> bool
-    ensures { result ≡ list_all is_entry list.now }
-{
-    list.iter().all(|entry| entry.is_valid())
-}
-
 // The milliseconds of a plan, and how many modules it has.
 fn measured(rt: &HostRuntime, ids: u32, graph: &Graph, style: Style) -> Result<(u128, usize)> {
     let alloc = rt.alloc();
@@ -130,6 +114,7 @@ fn main(rt: HostRuntime) -> Result<()> {
     Ok(())
 }
 PROGRAM
+judge_entries
 
 measure
 peak

@@ -4,7 +4,7 @@ set -eu
 
 . "$(dirname "$0")/../program.sh"
 
-begin reach_bench 'anyhow class_lists indexmap reach_rules sj_infos sj_names sj_reach sj_trees sj_world' sj_names sj_units sj_trees tree_parts tree_sameness worklist sj_world sj_ask sj_infos reach_rules class_lists sj_reach
+begin reach_bench 'anyhow class_lists indexmap reach_rules sj_infos sj_names sj_reach sj_trees sj_world' sj_names sj_units sj_trees tree_parts tree_sameness worklist sj_world sj_ask sj_infos reach_rules class_lists proxy_targets sj_reach
 
 cat > "$main" <<'PROGRAM'
 //! The time of reach over two folders: a chain of calls, and classes below one interface on which methods are called.
@@ -262,22 +262,6 @@ fn entries(alloc: Global) -> Result<Vec<EntryPoint>> {
     Ok(vec![in alloc; entry]?)
 }
 
-// Whether these may be the entries of a link.
-fn are_entries(list: &[EntryPoint]) -> bool
-    ensures { OnTrue result (AreEntries list.now) }
-{
-    if list.is_empty() || list.len() > 1000 {
-        return false;
-    }
-    are_valid(list)
-}
-
-fn are_valid(list: &[EntryPoint]) -> bool
-    ensures { result ≡ list_all is_entry list.now }
-{
-    list.iter().all(|entry| entry.is_valid())
-}
-
 fn told(alloc: Global, world: &World, entries: &Entries) -> Result<String> {
     match reach(alloc, world, entries) {
         Ok(reached) => Ok(format!(in alloc; "{} facts", reached.facts().len())?),
@@ -311,6 +295,7 @@ fn main(rt: HostRuntime) -> Result<()> {
     measure_folder(&rt, "below one interface", below(alloc)?)
 }
 PROGRAM
+judge_entries
 
 measure
 peak
