@@ -16,7 +16,7 @@ use std::alloc::Global;
 use std::marker::Model;
 
 /// A name under which instances of a class have a method, and the method that it stands for.
-#[derive(Drop)]
+#[derive(PartialEq, Eq, Hash, Drop)]
 pub struct MethodEntry {
     pub class: ClassName,
     pub name: MethodName,
