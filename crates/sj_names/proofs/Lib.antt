@@ -1,3 +1,4 @@
+pub mod Equal
 pub mod Locals
 pub mod NameGrammar
 pub mod Parts

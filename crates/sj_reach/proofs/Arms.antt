@@ -28,7 +28,7 @@ use Rattle.sj_reach.specs.Steps.{OfMember, OfAncestors, OfDispatch, OfTargets, O
 use Rattle.sj_reach.specs.declared.findings.Findings.{Findings}
 use Rattle.sj_reach.specs.declared.seen.Seen.{Seen}
 use Rattle.sj_reach.proofs.Adding.{adds_none, adds_as}
-use Rattle.sj_world.proofs.SameFacts.{method_decides}
+use Rattle.sj_names.proofs.Equal.{method_decides}
 
 pub adds_given : (P : Type 0) (Q : Conclusion → Type 0) (a b : Findings) → P → Adds Q a b → Adds (λ x. P × Q x) a b
 adds_given P Q a b p f = adds_as Q (λ x. P × Q x) a b (λ x q. (p, q)) (λ x q. q.1) f

@@ -26,7 +26,7 @@ use Rattle.reach_rules.proofs.Grows.{reads-grow}
 use Rattle.sj_reach.specs.Seen.{IsEmpty, SeesMade, SeesCalled, SeesNames, SeesReflective, SeesInfo, SeesInfos, IsReadIn, SeesBody, SeesFact, IsSeen}
 use Rattle.sj_reach.specs.declared.seen.Seen.{Seen}
 use Rattle.sj_world.proofs.Kept.{put_exact, IsOneOfFirst, first_split, first_join, no_first, all_first, first_in}
-use Rattle.sj_world.proofs.SameFacts.{method_decides}
+use Rattle.sj_names.proofs.Equal.{method_decides}
 use Rattle.sj_reach.proofs.Arms.{stands_in_all, stands_once}
 
 pub sees_called : (old new : Lists MethodName) (c : Name) (item m : MethodName) → item ≡ m → ((other : Name) → items_at new other ≡ (if is_same c other then items_at old other ++ item ∷ [] else items_at old other)) → (d : Name) (x : MethodName) → Contains (items_at new d) x ↔ (Contains (items_at old d) x ⊎ ((c ≡ d) × (m ≡ x)))

@@ -17,7 +17,7 @@ use Rattle.sj_world.specs.Tables.{AreAncestors}
 use Rattle.sj_world.specs.declared.facts.Fact.{Fact}
 use Rattle.sj_world.specs.declared.facts.Fact.TheVariants as fact
 use Rattle.sj_world.proofs.Orders.{same_name, is_same_itself}
-use Rattle.sj_world.proofs.SameFacts.{member_decides}
+use Rattle.sj_names.proofs.Equal.{member_decides}
 use Rattle.sj_world.proofs.Searches.{stands_at, contains_at}
 
 -- an item is put under a name
