@@ -7,7 +7,7 @@ use sj_names::{ClassName, FieldName, Member, MethodName, NoMemory, Text};
 use sj_world::Fact;
 use std::alloc::Global;
 
-/// Why a folder is refused: a code of 12 to 16, and what it is about.
+/// What is told of a folder: a number, as that of a code or of a rule, and whom it concerns.
 #[derive(Drop)]
 pub struct Report {
     pub code: u8,

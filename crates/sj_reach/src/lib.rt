@@ -16,4 +16,6 @@ mod reports;
 mod seen;
 
 pub use errors::ReachError;
-pub use reaching::reach;
+pub use findings::Report;
+pub use reaching::{comes_before, reach};
+pub use reports::spelled_member;

@@ -198,8 +198,8 @@ fn lesser<'r>(least: Option<&'r Report>, report: &'r Report) -> &'r Report
     }
 }
 
-// Whether one is told before the other: by the bytes of the place, then by the code.
-fn comes_before(one: &Report, other: &Report) -> bool
+/// Whether one is told before the other: by the bytes of the place, then by the code.
+pub fn comes_before(one: &Report, other: &Report) -> bool
     ensures { result ≡ comes_first one.now other.now }
 {
     one.place < other.place || one.place == other.place && one.code < other.code

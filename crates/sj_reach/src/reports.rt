@@ -54,8 +54,8 @@ impl Findings {
     }
 }
 
-// A member as reports spell it.
-fn spelled_member(alloc: Global, member: &Member) -> Result<Text, NoMemory>
+/// A member as reports spell it, as `Main::s:main;V`. `NoMemory` alone is an error.
+pub fn spelled_member(alloc: Global, member: &Member) -> Result<Text, NoMemory>
     ensures { IfOk result (λ text. text ≡ refusals.spelled_member member.now) }
 {
     let method = member.method.spelled(alloc)?;
