@@ -83,13 +83,13 @@ first_parts a b c (inl p) (inr q) = inl (subst (λ (n : Name). is_before a.place
 first_parts a b c (inr p) (inl q) = inl (subst (λ (n : Name). is_before n c.place ≡ true) (sym (ties a b p).0) q)
 first_parts a b c (inr p) (inr q) = let t = ties a b p in let u = ties b c q in inr (tied a c (t.0 ∙ u.0) (lt_trans t.1 u.1))
 
-first_trans : (a b c : Report) → comes_first a b ≡ true → comes_first b c ≡ true → comes_first a c ≡ true
+pub first_trans : (a b c : Report) → comes_first a b ≡ true → comes_first b c ≡ true → comes_first a c ≡ true
 first_trans a b c p q = joined a c (first_parts a b c (parted a b p) (parted b c q))
 
 less_itself : (n : ℕ) → n < n → ⊥
 less_itself n l = omega arith
 
-first_itself : (a : Report) → comes_first a a ≡ false
+pub first_itself : (a : Report) → comes_first a a ≡ false
 first_itself a = not_true (comes_first a a) (λ e. go (parted a a e))
   where
     go : IsFirst a a → ⊥
