@@ -1,0 +1,9 @@
+mod Counted
+mod Defined
+mod Files
+mod Least
+mod Refused
+mod Ruled
+mod Spelled
+mod Staged
+mod Typed

@@ -1,0 +1,77 @@
+// Folders and their verdicts.
+use crate::entries::{are_entries, entries_of};
+use anyhow::Result;
+use folder_judging::{JudgeError, judge};
+use sj_names::{Bytes, Entries, EntryPoint, Meter, SourceFile, Text};
+use sj_workshop::Workshop;
+use std::alloc::Global;
+use std::mem;
+
+/// The files of a folder, the entries, and the name of the case.
+#[derive(Drop)]
+pub struct Case {
+    name: String,
+    files: Vec<SourceFile>,
+    entries: Vec<EntryPoint>,
+}
+
+impl Case {
+    pub(crate) fn new(alloc: Global) -> Case {
+        Case {
+            name: String::new(alloc),
+            files: Vec::new(alloc),
+            entries: Vec::new(alloc),
+        }
+    }
+
+    pub(crate) fn name(&self) -> &str {
+        self.name.as_str()
+    }
+
+    /// Adds a line of the case.
+    pub(crate) fn add(&mut self, alloc: Global, kind: &str, fields: &str) -> Result<()> {
+        match kind {
+            "case" => {
+                self.name = String::from_str(alloc, fields)?;
+                Ok(())
+            }
+            "entries" => entries_of(alloc, fields, &mut self.entries),
+            "file" => add_file(alloc, fields, &mut self.files),
+            _ => Ok(()),
+        }
+    }
+
+    /// The verdict as it is written: `ok`, or the code and the place.
+    pub(crate) fn verdict(&mut self, alloc: Global) -> Result<String> {
+        let entries = mem::replace(&mut self.entries, Vec::new(alloc));
+        if !are_entries(&entries) {
+            return Ok(String::from_str(alloc, "no entries")?);
+        }
+        verdict_of(alloc, &self.files, &Entries::new(entries))
+    }
+}
+
+fn add_file(alloc: Global, fields: &str, files: &mut Vec<SourceFile>) -> Result<()> {
+    if let Some((path, bytes)) = fields.split_once('\t') {
+        let bytes = hex::decode(alloc, bytes)?;
+        files.push(SourceFile {
+            path: Text::from_str(alloc, path)?,
+            bytes: Bytes::from_vec(bytes),
+        })?;
+    }
+    Ok(())
+}
+
+fn verdict_of(alloc: Global, files: &[SourceFile], entries: &Entries) -> Result<String> {
+    let mut work = Workshop {
+        meter: Meter::new(),
+    };
+    match judge(alloc, files, entries, &mut work) {
+        Ok(_) => Ok(String::from_str(alloc, "ok")?),
+        Err(JudgeError::Refused { code, place }) => {
+            let place = place.as_str();
+            Ok(format!(in alloc; "{code} {place}")?)
+        }
+        Err(JudgeError::NoMemory) => Ok(String::from_str(alloc, "no memory")?),
+    }
+}
