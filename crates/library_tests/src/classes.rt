@@ -37,14 +37,6 @@ pub(crate) fn below(name: &'static str, superclass: &'static str) -> Row {
     }
 }
 
-pub(crate) fn classes_of(alloc: Global, rows: &[Row]) -> Result<Vec<ClassDef>, NameError> {
-    let mut classes = Vec::new(alloc);
-    for &row in rows {
-        classes.push(class_of(alloc, row)?)?;
-    }
-    Ok(classes)
-}
-
 pub(crate) fn class_of(alloc: Global, row: Row) -> Result<ClassDef, NameError> {
     let name = ClassName::parse(alloc, row.name)?;
     let superclass = parsed(alloc, row.superclass)?;

@@ -14,5 +14,3 @@ mod questions;
 mod trees;
 #[cfg(test)]
 mod units;
-#[cfg(test)]
-mod worlds;
