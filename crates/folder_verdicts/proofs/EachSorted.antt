@@ -71,7 +71,7 @@ put c (d ∷ w) sorted lacks = go (is_before c.name d.name) refl (put c w (rest_
 abbrev has_name : Name → ClassDef → Bool
 has_name name c = is_same c.name name
 
-abbrev AreApart : Classes → Type 0
+abbrev pub AreApart : Classes → Type 0
 AreApart classes = (name : Name) → IsTwice classes name → ⊥
 
 rest_apart : (c : ClassDef) (w : Classes) → AreApart (c ∷ w) → AreApart w

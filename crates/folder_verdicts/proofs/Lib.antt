@@ -5,3 +5,4 @@ pub mod Undenied
 pub mod EachTyped
 pub mod EachResolved
 pub mod EachSorted
+mod EachFolder
