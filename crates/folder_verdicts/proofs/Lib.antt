@@ -1,3 +1,8 @@
-mod Firsts
+pub mod Firsts
 mod Verdict
 mod Rows
+pub mod Undenied
+pub mod EachTyped
+pub mod EachResolved
+pub mod EachSorted
+mod EachFolder

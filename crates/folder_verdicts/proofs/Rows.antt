@@ -1,14 +1,12 @@
 -- Small folders with their verdicts, worked out.
-use Rattle.std.proofs.Common.{◌≡◌, ℕ, ◌+◌, ◌≤◌, Bool, true, false, List, [], ◌∷◌, Some, None, Option, Contains, refl, sym, ap, ◌∙◌, subst, arith, lit<, codes, cond, drop}
-use Rattle.std.specs.Prelude.{count_by}
-use Rattle.sj_names.specs.declared.entry_points.EntryPoint.{EntryPoint}
+use Rattle.std.proofs.Common.{◌≡◌, ℕ, ◌+◌, ◌≤◌, Bool, true, false, [], ◌∷◌, Some, None, Option, refl, sym, ap, ◌∙◌, subst, arith, lit<, codes, cond, drop}
 use Rattle.sj_trees.specs.declared.classes.ClassDef.{ClassDef}
 use Rattle.sj_local.specs.declared.rules.Where.{Where}
 use Rattle.sj_local.specs.declared.rules.Rule.TheVariants as rules
 use Rattle.sj_local.specs.Broken.{FirstBroken, no_member, all_rules}
 use Rattle.sj_local.specs.Firsts.{this_one}
 use Rattle.sj_local.proofs.Once.{checks_once}
-use Rattle.sj_world.specs.Known.{Name, Classes, is_same}
+use Rattle.sj_world.specs.Known.{Name, is_same}
 use Rattle.sj_world.specs.Refusals.{is_before, IsTwice}
 use Rattle.sj_world.proofs.Orders.{same_name, not_before_itself}
 use Rattle.worklist.proofs.Inserted.{only_one}

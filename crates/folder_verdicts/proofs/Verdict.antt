@@ -1,29 +1,25 @@
 -- No folder has two verdicts.
-use Rattle.std.proofs.Common.{◌≡◌, ℕ, ◌<◌, false, List, ◌++◌, Some, None, Option, Contains, slice_get, refl, sym, ap, ◌∙◌, subst, length, inl, inr, codes}
+use Rattle.std.proofs.Common.{◌≡◌, ℕ, false, List, ◌++◌, Some, None, slice_get, refl, sym, ap, ◌∙◌, subst, inl, inr, codes}
 use Rattle.std.specs.Prelude.{decimal}
-use Rattle.folder_sizes.specs.Sizes.{IsTooLarge, IsFirstTooLarge}
+use Rattle.folder_sizes.specs.Sizes.{IsFirstTooLarge}
 use Rattle.sj_names.specs.declared.entry_points.EntryPoint.{EntryPoint}
 use Rattle.sj_names.specs.declared.folders.SourceFile.{SourceFile}
-use Rattle.sj_trees.specs.declared.classes.ClassDef.{ClassDef}
 use Rattle.sj_trees.specs.Refusals.{number_of}
-use Rattle.sj_format.specs.Files.{FileIs, Fails, HasOneAnswer}
+use Rattle.sj_format.specs.Files.{Fails}
 use Rattle.sj_format.proofs.ExactFiles.{one_answer}
 use Rattle.sj_local.specs.declared.rules.Where.{Where}
-use Rattle.sj_local.specs.Broken.{FirstBroken}
 use Rattle.sj_local.proofs.Once.{checks_once}
 use Rattle.sj_world.specs.Known.{Name, Classes}
 use Rattle.sj_world.specs.Paths.{IsFirst}
-use Rattle.sj_world.specs.Refusals.{IsTwice, IsLeastTwice, IsCyclic, IsWorldOf}
-use Rattle.sj_world.specs.declared.worlds.WorldError.{WorldError}
+use Rattle.sj_world.specs.Refusals.{IsLeastTwice, IsCyclic, IsWorldOf}
 use Rattle.sj_world.specs.declared.worlds.WorldError.TheVariants.{DuplicateClass, Cycle, NoMemory}
 use Rattle.sj_world.proofs.OneWorld.{one_world, one_refusal, world_or_refusal}
 use Rattle.sj_reach.specs.Answers.{comes_first, IsLeastTold}
-use Rattle.sj_reach.specs.Conclusions.{report}
 use Rattle.sj_reach.specs.declared.findings.Report.{Report}
 use Rattle.sj_verdicts.proofs.OneVerdict.{has_one_verdict}
 use Rattle.folder_verdicts.specs.Laws.{VerdictIsOne}
-use Rattle.folder_verdicts.specs.Stages.{HasFault, AreRead, rule_at, IsBroken, IsLeastBroken, KeepRules, IsLeastUntyped, AreTyped}
-use Rattle.folder_verdicts.specs.Verdicts.{Verdict, accepted, refused, ByTypes, untyped, typed, ByReferences, unresolved, resolved, ByCycles, cyclic, acyclic, ByLocalRules, broken, kept, ByNames, twice, apart, ByFiles, faulty, read, IsVerdict, too_large, small}
+use Rattle.folder_verdicts.specs.Stages.{HasFault, AreRead, rule_at, IsLeastBroken, KeepRules, IsLeastUntyped, AreTyped}
+use Rattle.folder_verdicts.specs.Verdicts.{Verdict, refused, ByTypes, untyped, typed, ByReferences, unresolved, resolved, ByCycles, cyclic, acyclic, ByLocalRules, broken, kept, ByNames, twice, apart, ByFiles, faulty, read, IsVerdict, too_large, small}
 use Rattle.folder_verdicts.proofs.Firsts.{in_order, same_first, standing, same_lists, same_least}
 
 module _ (entries : List EntryPoint) where

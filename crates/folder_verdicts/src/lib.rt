@@ -3,4 +3,4 @@
 
 mod laws;
 
-pub use laws::{verdict_is_one, worked_verdicts};
+pub use laws::{no_folder_is_without_verdict, verdict_is_one, worked_verdicts};

@@ -1,0 +1,4 @@
+pub mod Agree
+pub mod Calls
+pub mod Members
+pub mod Worlds
