@@ -8,11 +8,9 @@ use Rattle.sj_world.specs.Paths.{stay, on}
 use Rattle.sj_world.specs.Tables.{AreChain}
 use Rattle.sj_world.proofs.Bodies.{stands_itself}
 use Rattle.sj_world.proofs.Searches.{stands_at, contains_at}
+use Rattle.reach_rules.proofs.Lacking.{same_some}
 use Rattle.sj_baselink.specs.Steps.{Puts}
 use Rattle.sj_baselink.proofs.Putting.{adds_as}
-
-same_some : {X : Type 0} (x y : X) → Some x ≡ Some y → x ≡ y
-same_some x y e = cc
 
 -- the names of a chain stand on it
 module _ (w : Classes) (c : Name) (names : List Name) (chain : AreChain w c names) where

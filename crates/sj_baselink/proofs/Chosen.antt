@@ -20,7 +20,7 @@ use Rattle.proxy_targets.specs.Proxies.{IsTargetName}
 use Rattle.reach_rules.specs.Rules.{public_member}
 use Rattle.sj_baselink.specs.Entries.{IsTarget, IsInherited, IsMethodEntry, AreEntries, direct, proxy}
 use Rattle.sj_baselink.specs.Steps.{Puts, OfOne, AreCalled, AreMade, AreReflective, IsWantedFrom, IsWantedAbove, IsTargetAbove, entry_for, IsReachedEntry, IsOwn, IsOwnEntry, IsDirectOf, IsDirectEntry, IsProxyOf, IsProxyEntry, AreOnceInOrder}
-use Rattle.sj_baselink.proofs.Gathered.{wanted_here, wanted_there}
+use Rattle.sj_baselink.proofs.Gathered.{same_next, wanted_here, wanted_there}
 use Rattle.sj_baselink.proofs.Putting.{adds_none, adds_then, adds_as, all_put}
 
 -- a class has one target for a name
@@ -54,9 +54,6 @@ off r e t = let f : false ≡ true = sym e ∙ t in absurd (let z : ⊥ = cc in 
 
 pub none_tested : {P : Type 0} (r : Bool) → r ≡ false → (P → ⊥) → IsTrue r ↔ P
 none_tested r e none = (λ t. off r e t, λ p. absurd (none p))
-
-same_next : (o : _) (a b : Name) → o ≡ Some a → o ≡ Some b → a ≡ b
-same_next o a b h k = let s : Some a ≡ Some b = sym h ∙ k in cc
 
 pub above_tested : (w : Classes) (c above : Name) (m : MethodName) (owner : Name) (r : Bool) → Some above ≡ next_on_chain w c → IsTrue r ↔ IsTarget w above m owner → IsTrue r ↔ IsTargetAbove w c m owner
 above_tested w c above m owner r is both = (λ t. record { superclass = above; is_next = sym is; is_target = both.0 t }, λ h. both.1 (subst (λ (d : Name). IsTarget w d m owner) (same_next (next_on_chain w c) h.superclass above h.is_next (sym is)) h.is_target))

@@ -76,7 +76,7 @@ puts_at called name list a b e f = subst (λ (l : List MethodName). Puts (Contai
 pub puts_wanted : (w : Classes) (called : Lists MethodName) (c : Name) (names : List Name) (a b : List MethodName) → AreAncestors w c names → Puts (OfOne names (λ receiver. Contains (items_at called receiver))) a b → Puts (IsWantedFrom w called c) a b
 puts_wanted w called c names a b are f = adds_as Contains _ (IsWantedFrom w called c) a b (λ m q. record { receiver = q.thing; among = q.holds; below = (are.exact q.thing).0 q.among }) (λ m q. record { thing = q.receiver; among = (are.exact q.receiver).1 q.below; holds = q.among }) f
 
-same_next : (o : _) (a b : Name) → o ≡ Some a → o ≡ Some b → a ≡ b
+pub same_next : (o : _) (a b : Name) → o ≡ Some a → o ≡ Some b → a ≡ b
 same_next o a b h k = let s : Some a ≡ Some b = sym h ∙ k in cc
 
 pub puts_at_next : (w : Classes) (called : Lists MethodName) (c above : Name) (a b : List MethodName) → Some above ≡ next_on_chain w c → Puts (IsWantedFrom w called above) a b → Puts (IsWantedAboveFrom w called c) a b
