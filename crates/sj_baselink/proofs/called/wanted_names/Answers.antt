@@ -1,0 +1,5 @@
+use Rattle.sj_baselink.proofs.Putting.{all_put}
+use Rattle.sj_baselink.proofs.called.wanted_names.Goals as goal
+
+pub returns : goal.returns
+returns c = all_put _ _ _ c.new-names.ensures.empty c.in_ok-put_wanted.ensures

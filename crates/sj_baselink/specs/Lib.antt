@@ -1,0 +1,5 @@
+pub mod Entries
+pub mod Laws
+pub mod Rows
+pub mod Spelled
+pub mod Steps
