@@ -1,16 +1,11 @@
 -- What is counted, one after the other.
-use Rattle.std.proofs.Common.{◌≡◌, ℕ, zero, suc, ◌+◌, ◌≤◌, true, List, Option, Some, None, Result, Ok, Err, length, refl, sym, ap, ◌∙◌, subst, arith}
+use Rattle.std.proofs.Common.{◌≡◌, ℕ, zero, suc, ◌+◌, ◌≤◌, true, List, Option, Some, None, Ok, ap, ◌∙◌, arith}
 use Rattle.sj_names.specs.Counting.{raised}
 use Rattle.sj_names.specs.declared.counters.Meter.{Meter}
-use Rattle.sj_names.specs.declared.folders.SourceFile.{SourceFile}
-use Rattle.sj_names.specs.declared.memory.NoMemory.{NoMemory}
-use Rattle.sj_world.specs.Linked.{Linked}
 use Rattle.sj_world.specs.declared.facts.Fact.{Fact}
 use Rattle.sj_reach.specs.declared.findings.Report.{Report}
-use Rattle.folder_judging.specs.declared.errors.JudgeError.{JudgeError}
-use Rattle.folder_judging.specs.declared.errors.JudgeError.TheVariants.{Refused, NoMemory as NoMemoryLeft}
-use Rattle.folder_judging.specs.Counts.{raised_by, with_reads, with_checks, bodies_among, ChecksAtMost, none, bodies, HasChecked, CountsChecks, HasReadSome, HasRead, IsWhole, Counts}
-use Rattle.folder_judging.specs.Types.{ChecksAtMostOne, ChecksOne, ChecksSome, ChecksBodies, is_told_before}
+use Rattle.folder_judging.specs.Counts.{raised_by, with_reads, with_checks, bodies_among}
+use Rattle.folder_judging.specs.Types.{ChecksAtMostOne, ChecksSome, ChecksBodies, is_told_before}
 
 none_more : (k : ℕ) → k ≡ 0 + k
 none_more k = omega arith

@@ -6,8 +6,6 @@ use Rattle.std.proofs.lemmas.List.Elements.{Contains-append_left, Contains-appen
 use Rattle.sj_names.specs.declared.entry_points.EntryPoint.{EntryPoint}
 use Rattle.sj_names.specs.declared.method_names.Member.{Member}
 use Rattle.sj_names.specs.declared.method_names.MethodName.{MethodName}
-use Rattle.sj_names.specs.declared.method_names.Namespace.{Namespace}
-use Rattle.sj_names.specs.declared.method_names.Namespace.TheVariants.{Public}
 use Rattle.sj_names.specs.contracts.method_names.MemberPartialEq.TheImpl as member_eq
 use Rattle.sj_names.proofs.Equal.{member_decides}
 use Rattle.sj_trees.specs.Term.{Term}
@@ -19,16 +17,15 @@ use Rattle.sj_local.specs.declared.rules.Where.{Where}
 use Rattle.sj_local.specs.Firsts.{FirstRepeat, nothing_left, here, later, FirstAnswer, none_left, this_one, a_later_one}
 use Rattle.sj_local.specs.declared.members.MethodKey.{MethodKey}
 use Rattle.sj_local.specs.MemberRules.{method_key}
-use Rattle.sj_local.specs.Broken.{Breaks, MemberRepeats, repeat_place, at_method, all_rules, FirstBroken}
-use Rattle.sj_infos.specs.declared.infos.Info.TheVariants as info
+use Rattle.sj_local.specs.Broken.{Breaks, MemberRepeats, repeat_place, all_rules, FirstBroken}
 use Rattle.sj_world.specs.Known.{Name, Classes, class_of, is_same}
 use Rattle.sj_world.specs.Linked.{Linked}
 use Rattle.sj_world.specs.Members.{IsMethod, IsMethodOf}
 use Rattle.sj_world.specs.Paths.{IsFirst, HasNone}
-use Rattle.sj_world.specs.Resolution.{IsBody, IsBodyAt, IsNearest, Resolves, by_chain, by_ancestors, by_default, target}
+use Rattle.sj_world.specs.Resolution.{IsBody, Resolves, by_chain, by_ancestors, by_default, target}
 use Rattle.sj_world.specs.declared.facts.Fact.{Fact}
 use Rattle.sj_world.specs.declared.facts.Fact.TheVariants as fact
-use Rattle.reach_rules.specs.Rules.{Reads, IsAsked, of_entry, of_new, of_load, of_call, of_throw, IsCalledOn, on_made, on_hijacked, Rule, the_object, entry_class, above, above_hijacked, asked_body, new_needed, new_made, load_needed, load_made, load_used, field_class, field_needed, static_class, resolved_class, resolved_body, call_class, call_hijacked, call, dispatched, reflective, reflective_hijacked, array_made, class_named, throw_needed, throw_made, public_member}
+use Rattle.reach_rules.specs.Rules.{IsAsked, of_entry, of_new, of_load, of_call, of_throw, Rule, entry_class, asked_body, new_needed, load_needed, static_class, resolved_body, call_hijacked, dispatched, reflective_hijacked, throw_needed, public_member}
 use Rattle.reach_rules.specs.Reachable.{Reachable, Unresolved}
 use Rattle.reach_rules.specs.Refusals.{Refusal, missing_class, missing_method, abstract_target, no_class, no_member, no_body}
 use Rattle.reach_rules.proofs.Derivations.{derived-all, closed}

@@ -1,5 +1,5 @@
 -- Files that are read, one after the other.
-use Rattle.std.proofs.Common.{◌≡◌, ℕ, zero, suc, ◌+◌, ◌<◌, ◌≤◌, List, [], ◌∷◌, ◌++◌, Some, Err, slice_get, length, refl, sym, ap, ◌∙◌, subst, inl, inr, arith, length-append}
+use Rattle.std.proofs.Common.{◌≡◌, ℕ, zero, suc, ◌+◌, ◌<◌, List, [], ◌∷◌, ◌++◌, Some, Err, slice_get, length, refl, sym, ap, ◌∙◌, subst, inl, inr, arith, length-append}
 use Rattle.std.specs.Prelude.{◌⊎◌, codes, decimal}
 use Rattle.sj_names.specs.declared.entry_points.EntryPoint.{EntryPoint}
 use Rattle.sj_names.specs.declared.folders.SourceFile.{SourceFile}
@@ -14,7 +14,7 @@ use Rattle.sj_format.proofs.ExactFiles.{one_answer}
 use Rattle.sj_world.specs.Known.{Classes}
 use Rattle.sj_world.specs.Paths.{IsFirst}
 use Rattle.folder_verdicts.specs.Stages.{HasFault, AreRead}
-use Rattle.folder_verdicts.specs.Verdicts.{Verdict, refused, ByFiles, faulty}
+use Rattle.folder_verdicts.specs.Verdicts.{refused, ByFiles, faulty}
 use Rattle.folder_judging.specs.Reading.{IsFaultOf}
 use Rattle.folder_judging.specs.Refusals.{IsRefusal}
 use Rattle.folder_judging.specs.declared.errors.JudgeError.{JudgeError}

@@ -1,5 +1,5 @@
 -- The least of what is told, as more is told.
-use Rattle.std.proofs.Common.{◌≡◌, Bool, true, false, Option, Some, None, refl, sym, ap, ◌∙◌, subst, inl, inr}
+use Rattle.std.proofs.Common.{◌≡◌, Bool, true, false, Some, refl, sym, ◌∙◌, subst, inl, inr}
 use Rattle.std.specs.Prelude.{◌⊎◌, if◌then◌else◌}
 use Rattle.sj_reach.specs.Answers.{comes_first, first_told}
 use Rattle.sj_reach.specs.declared.findings.Report.{Report}

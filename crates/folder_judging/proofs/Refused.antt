@@ -1,10 +1,9 @@
 -- What is refused at a place.
-use Rattle.std.proofs.Common.{◌≡◌, ℕ, List, ◌++◌, ◌≤◌, true, Option, Some, None, Result, Ok, Err, MatchOption, MatchResult, sym, ap, ◌∙◌, subst}
+use Rattle.std.proofs.Common.{◌≡◌, ℕ, List, ◌++◌, ◌≤◌, true, Option, Some, None, Result, Ok, Err, MatchOption, MatchResult, sym, subst}
 use Rattle.std.specs.Prelude.{codes, decimal}
 use Rattle.sj_names.specs.declared.entry_points.EntryPoint.{EntryPoint}
-use Rattle.sj_trees.specs.declared.refusals.Code.{Code}
 use Rattle.sj_world.specs.Known.{Classes, Name, is_same}
-use Rattle.sj_world.specs.Refusals.{IsTwice, IsLeastTwice, IsCyclic, IsSortedFrom, IsWorldOf, IsRefused, is_before}
+use Rattle.sj_world.specs.Refusals.{IsTwice, IsCyclic, IsSortedFrom, IsWorldOf, IsRefused, is_before}
 use Rattle.sj_world.specs.declared.worlds.WorldError.{WorldError}
 use Rattle.sj_world.specs.declared.worlds.WorldError.TheVariants.{DuplicateClass, Cycle}
 use Rattle.sj_world.proofs.Counts.{Two, two_counted}
@@ -15,7 +14,7 @@ use Rattle.sj_reach.specs.declared.findings.Report.{Report}
 use Rattle.sj_reach.specs.declared.errors.ReachError.{ReachError}
 use Rattle.sj_reach.specs.declared.errors.ReachError.TheVariants.{Refused as ReachRefused}
 use Rattle.sj_reach.specs.Answers.{IsRefused as IsReachRefused}
-use Rattle.folder_verdicts.specs.Verdicts.{Verdict, refused, accepted, ByNames, apart, twice, ByLocalRules, broken, kept, ByCycles, cyclic, ByReferences, unresolved}
+use Rattle.folder_verdicts.specs.Verdicts.{Verdict, refused, ByNames, apart, twice, broken, kept, cyclic, ByReferences, unresolved}
 use Rattle.folder_judging.specs.declared.errors.JudgeError.{JudgeError}
 use Rattle.folder_judging.specs.declared.errors.JudgeError.TheVariants.{Refused, NoMemory}
 use Rattle.folder_judging.specs.Judging.{IsKeptWorld}

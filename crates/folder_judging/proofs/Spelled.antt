@@ -1,6 +1,6 @@
 -- The bodies among facts, as facts are added, and in order.
-use Rattle.std.proofs.Common.{◌≡◌, ℕ, ◌+◌, ◌≤◌, Bool, false, Some, take, slice_get, List, [], ◌∷◌, ◌++◌, Contains, length, refl, sym, ap, ◌∙◌, subst, inl, inr, arith, length-append}
-use Rattle.std.specs.Prelude.{◌⊎◌, ◌↔◌}
+use Rattle.std.proofs.Common.{◌≡◌, ℕ, ◌+◌, ◌≤◌, Some, take, slice_get, List, [], ◌∷◌, ◌++◌, Contains, length, refl, sym, ap, ◌∙◌, subst, inl, inr, arith, length-append}
+use Rattle.std.specs.Prelude.{◌⊎◌}
 use Rattle.std.specs.List.Sorted.{IsSortedBy, IsPermutation}
 use Rattle.std.proofs.lemmas.List.Elements.{Contains-append_left, Contains-push, Contains-push_cases}
 use Rattle.std.proofs.lemmas.List.{take_more, take_all}
@@ -11,7 +11,7 @@ use Rattle.sj_names.specs.declared.method_names.Member.{Member}
 use Rattle.sj_world.specs.declared.facts.Fact.{Fact}
 use Rattle.sj_world.specs.declared.facts.Fact.TheVariants as fact
 use Rattle.reach_rules.specs.Refusals.{spelled_member}
-use Rattle.folder_judging.specs.Bodies.{HasBodyOf, AreSpelled, AreBodiesOf, PushesBody, pushed, left, is_spelled_before, AreInOrder}
+use Rattle.folder_judging.specs.Bodies.{HasBodyOf, AreBodiesOf, PushesBody, pushed, left, is_spelled_before, AreInOrder}
 use Rattle.folder_judging.specs.Counts.{members_of, bodies_among}
 use Rattle.folder_judging.specs.declared.bodies.SpelledBody.{SpelledBody}
 

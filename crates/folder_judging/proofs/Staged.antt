@@ -1,17 +1,12 @@
 -- The verdict of a stage from that of the next.
-use Rattle.std.proofs.Common.{◌≡◌, ℕ, ◌<◌, ◌≤◌, false, List, ◌++◌, Option, Some, None, Result, Ok, Err, Contains, slice_get, get_or, length, refl, sym, ap, ◌∙◌, subst, codes, arith}
-use Rattle.std.specs.Prelude.{decimal}
+use Rattle.std.proofs.Common.{◌≡◌, ℕ, ◌<◌, List, Some, None, Result, Ok, Err, Contains, slice_get, get_or, length, refl, sym, ap, subst, arith}
 use Rattle.std.proofs.lemmas.List.{length-map}
 use Rattle.std.proofs.lemmas.Option.{slice_get_within, slice_get-get_or}
 use Rattle.std.proofs.lemmas.List.Sorted.{Contains-permutation, IsPermutation-sym}
 use Rattle.sj_names.specs.declared.counters.Meter.{Meter}
 use Rattle.sj_names.specs.declared.entry_points.EntryPoint.{EntryPoint}
 use Rattle.sj_names.specs.declared.folders.SourceFile.{SourceFile}
-use Rattle.sj_names.specs.declared.method_names.Member.{Member}
-use Rattle.sj_trees.specs.declared.classes.ClassDef.{ClassDef}
-use Rattle.sj_trees.specs.declared.classes.MethodDef.{MethodDef}
 use Rattle.sj_ask.proofs.One.{one_method}
-use Rattle.sj_local.specs.Broken.{FirstBroken}
 use Rattle.sj_typing.specs.Typed.{IsTyped, IsUntyped}
 use Rattle.sj_world.specs.Known.{Classes}
 use Rattle.sj_world.specs.Linked.{Linked}
@@ -19,18 +14,17 @@ use Rattle.sj_world.specs.Members.{IsMethodOf}
 use Rattle.sj_world.specs.Refusals.{IsWorldOf}
 use Rattle.sj_world.specs.declared.facts.Fact.{Fact}
 use Rattle.sj_world.specs.declared.facts.Fact.TheVariants as fact
-use Rattle.reach_rules.specs.Reachable.{Reachable}
-use Rattle.sj_reach.specs.Answers.{comes_first, AreReachable}
+use Rattle.sj_reach.specs.Answers.{AreReachable}
 use Rattle.sj_reach.specs.declared.findings.Report.{Report}
 use Rattle.folder_sizes.specs.Sizes.{IsTooLarge, IsFirstTooLarge}
-use Rattle.folder_verdicts.specs.Stages.{sizes, size_of, rule_at, AreRead, KeepRules, IsUntypedBody, IsLeastUntyped, AreTyped}
-use Rattle.folder_verdicts.specs.Verdicts.{Verdict, accepted, refused, ByTypes, untyped, typed, ByReferences, resolved, ByCycles, acyclic, ByLocalRules, kept, ByNames, apart, ByFiles, read, IsVerdict, too_large, small}
+use Rattle.folder_verdicts.specs.Stages.{sizes, size_of, rule_at, AreRead, KeepRules, IsUntypedBody, AreTyped}
+use Rattle.folder_verdicts.specs.Verdicts.{Verdict, accepted, refused, untyped, typed, ByReferences, resolved, acyclic, kept, ByNames, apart, ByFiles, read, IsVerdict, too_large, small}
 use Rattle.folder_judging.specs.declared.errors.JudgeError.{JudgeError}
 use Rattle.folder_judging.specs.declared.errors.JudgeError.TheVariants.{Refused, NoMemory}
-use Rattle.folder_judging.specs.Counts.{with_reads, with_checks, bodies_among, ChecksAtMost, none, bodies, HasChecked, CountsChecks, HasReadSome, Counts}
+use Rattle.folder_judging.specs.Counts.{with_reads, ChecksAtMost, none, bodies, HasChecked, CountsChecks, HasReadSome, Counts}
 use Rattle.folder_judging.specs.Judging.{Judges, IsLinked, IsLinkedOf, IsLinkedFolder, AreFactsOf, AreFactsIn, IsKeptWorld}
 use Rattle.folder_judging.specs.Refusals.{IsRefusal, IsAt}
-use Rattle.folder_judging.specs.Types.{IsTypedAt, FailsAt, IsFailing, IsLeastUntypedIn, IsToldUntyped, ChecksSome}
+use Rattle.folder_judging.specs.Types.{IsFailing, IsLeastUntypedIn, IsToldUntyped, ChecksSome}
 use Rattle.folder_judging.proofs.Refused.{at_refusal, not_twice}
 
 -- nothing is checked where a stage before the types refuses

@@ -1,10 +1,9 @@
 -- The least body that isn't typed, as bodies are checked in the order of their spellings.
-use Rattle.std.proofs.Common.{◌≡◌, ℕ, ◌+◌, ◌<◌, ◌≤◌, Bool, true, false, List, length, map, Option, Some, None, Contains, slice_get, get_or, refl, sym, ap, ◌∙◌, subst, inl, inr, arith}
-use Rattle.std.specs.Prelude.{◌⊎◌, ◌↔◌, ◌||◌, ◌&&◌, nat_lt}
+use Rattle.std.proofs.Common.{◌≡◌, ℕ, ◌+◌, ◌<◌, ◌≤◌, Bool, true, false, List, length, Option, Some, None, slice_get, get_or, refl, sym, ap, ◌∙◌, subst, inl, inr, arith}
+use Rattle.std.specs.Prelude.{◌⊎◌, ◌||◌, ◌&&◌, nat_lt}
 use Rattle.std.specs.Cmp.Lexicographic.{nat_list_cmp_total}
-use Rattle.std.specs.List.Sorted.{IsSortedBy}
 use Rattle.std.proofs.lemmas.List.Sorted.{sorted_far, ranks_by}
-use Rattle.std.proofs.lemmas.Option.{slice_get_within, get_or_from_slice_get, slice_get-get_or}
+use Rattle.std.proofs.lemmas.Option.{slice_get_within, get_or_from_slice_get}
 use Rattle.sj_names.specs.declared.method_names.Member.{Member}
 use Rattle.sj_trees.specs.declared.classes.MethodDef.{MethodDef}
 use Rattle.sj_ask.proofs.One.{one_method}
@@ -13,7 +12,6 @@ use Rattle.sj_verdicts.proofs.OneVerdict.{has_one_verdict}
 use Rattle.sj_world.specs.Known.{Classes, is_same}
 use Rattle.sj_world.specs.Linked.{Linked}
 use Rattle.sj_world.specs.Refusals.{is_before}
-use Rattle.sj_world.specs.declared.facts.Fact.TheVariants as fact
 use Rattle.sj_world.proofs.Orders.{before_not_after, before_trans, differs_after, same_name, not_before_itself, is_same_itself}
 use Rattle.sj_world.proofs.Searches.{contains_at, stands_at}
 use Rattle.sj_reach.specs.Answers.{comes_first, first_told}
@@ -21,7 +19,7 @@ use Rattle.sj_reach.specs.declared.findings.Report.{Report}
 use Rattle.reach_rules.specs.Refusals.{spelled_member}
 use Rattle.folder_verdicts.specs.Stages.{rule_at}
 use Rattle.folder_judging.specs.Bodies.{is_spelled_before, AreInOrder}
-use Rattle.folder_judging.specs.Types.{FailsFirst, IsTypedAt, FailsAt, IsWithBody, kept, fails, IsFailing, IsLeastFailing, IsLeastAmong, IsNeeded, IsLeastUntypedIn, is_told_before}
+use Rattle.folder_judging.specs.Types.{IsTypedAt, FailsAt, IsWithBody, kept, fails, IsFailing, IsLeastFailing, IsLeastAmong, IsNeeded, IsLeastUntypedIn, is_told_before}
 use Rattle.folder_judging.specs.declared.bodies.SpelledBody.{SpelledBody}
 use Rattle.folder_judging.proofs.Least.{IsLeast, with_first, with_more}
 

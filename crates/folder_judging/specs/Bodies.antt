@@ -1,6 +1,6 @@
 -- The bodies that are needed, in the order in which they are checked.
 use Rattle.std.specs.Prelude.{◌≡◌, ◌↔◌, Bool, List, [], ◌∷◌, ◌++◌, length, Contains}
-use Rattle.std.specs.List.Sorted.{IsSortedBy, IsPermutation}
+use Rattle.std.specs.List.Sorted.{IsSortedBy}
 use Rattle.sj_names.specs.declared.method_names.Member.{Member}
 use Rattle.sj_world.specs.Refusals.{is_before}
 use Rattle.sj_world.specs.declared.facts.Fact.{Fact}

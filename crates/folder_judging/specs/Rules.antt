@@ -1,5 +1,5 @@
 -- What is known while the local rules of classes are checked one after the other.
-use Rattle.std.specs.Prelude.{◌≡◌, ℕ, List, Option, Some, None}
+use Rattle.std.specs.Prelude.{ℕ, Option, Some, None}
 use Rattle.sj_trees.specs.declared.classes.ClassDef.{ClassDef}
 use Rattle.sj_local.specs.declared.rules.Where.{Where}
 use Rattle.sj_local.specs.Broken.{FirstBroken}
