@@ -156,17 +156,17 @@ module _ (w : Classes) (entries : List EntryPoint) (keeps : (c : ClassDef) → C
 
 -- ---- the methods of a world
 
-record Candidate : Type 0 where
-  member : Member
-  definition : MethodDef
+pub record Candidate : Type 0 where
+  pub member : Member
+  pub definition : MethodDef
 
-abbrev candidate_of : ClassDef → MethodDef → Candidate
+abbrev pub candidate_of : ClassDef → MethodDef → Candidate
 candidate_of c d = record { member = record { class = c.name; namespace = d.namespace; method = d.name }; definition = d }
 
-abbrev methods_of : ClassDef → List Candidate
+abbrev pub methods_of : ClassDef → List Candidate
 methods_of c = map (candidate_of c) c.methods
 
-abbrev candidates : Classes → List Candidate
+abbrev pub candidates : Classes → List Candidate
 candidates = flat_map methods_of
 
 candidate_is : (w : Classes) (k : Member) (d : MethodDef) (m : IsMethodOf w k d) → candidate_of m.class d ≡ record { member = k; definition = d }
@@ -176,7 +176,7 @@ candidate_is w k d m =
     let name = m.first.has.name_is in
     λ i. record { member = record { class = class i; namespace = space i; method = name i }; definition = d }
 
-listed : (w : Classes) (k : Member) (d : MethodDef) → IsMethodOf w k d → Contains (candidates w) (record { member = k; definition = d })
+pub listed : (w : Classes) (k : Member) (d : MethodDef) → IsMethodOf w k d → Contains (candidates w) (record { member = k; definition = d })
 listed w k d m = subst (λ (x : Candidate). Contains (candidates w) x) (candidate_is w k d m) (in_all methods_of w m.class (candidate_of m.class d) (found_in w k.class m.class m.is_class) (in_map (candidate_of m.class) m.class.methods d (contains_at m.class.methods m.first.place d m.first.stands)))
 
 -- what is told of a method that isn't typed
