@@ -1,5 +1,5 @@
 -- The bodies of an accepted folder can be listed.
-use Rattle.std.proofs.Common.{◌≡◌, ◌<◌, Bool, true, false, List, [], ◌∷◌, Option, Some, None, refl, sym, ap, subst, ◌∙◌, ⊎_elim, Contains, inl, inr, arith}
+use Rattle.std.proofs.Common.{◌≡◌, Bool, true, false, List, [], ◌∷◌, Option, Some, None, refl, sym, ap, subst, ◌∙◌, ⊎_elim, Contains, inl, inr}
 use Rattle.std.specs.Prelude.{◌⊎◌}
 use Rattle.std.proofs.lemmas.List.Sorted.{Contains-permutation, IsPermutation-sym}
 use Rattle.ir_mean.specs.World as ir
@@ -29,12 +29,10 @@ use Rattle.reach_rules.specs.Refusals.{Refusal, missing_class, missing_method, n
 use Rattle.reach_rules.specs.Rules.{public_member, IsAsked, of_entry, of_new, of_load, of_call, of_throw, Rule, entry_class, new_needed, load_needed, static_class, throw_needed, asked_body, resolved_body, call_hijacked, dispatched, reflective_hijacked}
 use Rattle.folder_verdicts.proofs.EachTyped.{last, has_body, Candidate, candidates, listed}
 use Rattle.folder_verdicts.proofs.Undenied.{Undenied, granted, and_so, decided, first_or_later}
+use Rattle.worklist.proofs.Inserted.{nothing_in}
 use Rattle.accepted_folders.specs.Bodies.{IsFound, AreBodies}
 use Rattle.accepted_folders.specs.Laws.{AcceptedFoldersHaveBodies}
 use Rattle.accepted_folders.proofs.Members.{has_function-from, first-method, none-among, found-member}
-
-nothing-in : {X A : Type 0} (x : X) → Contains [] x → A
-nothing-in x h = let l : h.0 < 0 = h.1 in absurd (omega (arith, l))
 
 module _ (w : Classes) (entries : List EntryPoint) (keeps : (c : ClassDef) → Contains w c → FirstBroken c None) (resolved : (r : Refusal) → Unresolved w entries r → ⊥) where
   abbrev R : Fact → Type 0
@@ -143,7 +141,7 @@ module _ (w : Classes) (entries : List EntryPoint) (keeps : (c : ClassDef) → C
     with-one (inr n) = passed (λ g. absurd (n g))
 
   parts : (xs : List Candidate) → Undenied (Part xs)
-  parts [] = granted (record { fs = []; needed = λ e i. nothing-in e i; found = λ e i. nothing-in e i; own = tt; whole = λ x i g. nothing-in x i })
+  parts [] = granted (record { fs = []; needed = λ e i. nothing_in e i; found = λ e i. nothing_in e i; own = tt; whole = λ x i g. nothing_in x i })
   parts (x ∷ xs) = and_so (parts xs) (λ p. and_so (decided (IsGood x)) (λ d. granted (with-one x xs p d)))
 
   are-bodies : (p : Part (candidates w)) → AreBodies w entries p.fs
