@@ -1,12 +1,11 @@
 -- What the bodies call that are needed is among them.
-use Rattle.std.proofs.Common.{◌≡◌, Bool, true, false, List, [], ◌∷◌, ◌++◌, ◌&&◌, Option, Some, refl, sym, subst, ⊎_elim, Contains, if◌then◌else◌}
+use Rattle.std.proofs.Common.{◌≡◌, Bool, true, false, List, [], ◌∷◌, ◌++◌, ◌&&◌, Option, Some, refl, sym, subst, Contains, if◌then◌else◌}
 use Rattle.std.specs.Prelude.{ℕ, not}
-use Rattle.std.specs.List.{All, flat_map}
+use Rattle.std.specs.List.{All}
 use Rattle.std.proofs.lemmas.Bool.{and_parts, and_from}
-use Rattle.std.proofs.lemmas.List.Elements.{All-nil, All-cons, All-head, All-tail, Contains-append_left, Contains-append_right}
+use Rattle.std.proofs.lemmas.List.Elements.{All-nil, All-cons, All-head, All-tail}
 use Rattle.ir_mean.specs.Shows.{initializers}
 use Rattle.sj_calls.specs.Files.{EmittedMethod, initializer_member}
-use Rattle.sj_calls.proofs.Items.{nothing_in, in_front_or_behind}
 use Rattle.sj_desugar.specs.Desugar.{member}
 use Rattle.sj_infos.specs.Infos.{asks, asked_by_body}
 use Rattle.sj_infos.specs.Sure.{sure_among}
@@ -28,6 +27,7 @@ use Rattle.sj_world.specs.declared.facts.Fact.TheVariants.{Body}
 use Rattle.reach_rules.proofs.Derivations.{closed}
 use Rattle.reach_rules.specs.Reachable.{Reachable}
 use Rattle.reach_rules.specs.Rules.{entry_member, of_call, of_entry, asked_body}
+use Rattle.folder_verdicts.proofs.EachTyped.{in_all}
 use Rattle.accepted_folders.specs.Bodies.{AreBodies, is_built_body}
 use Rattle.accepted_folders.specs.Laws.{CallsAreAmongBodies, InitializersAreAmongBodies}
 use Rattle.accepted_folders.proofs.Members.{has_function-from, defined}
@@ -121,10 +121,6 @@ all-from : {X : Type 0} (P : X → Type 0) (xs : List X) → ((x : X) → Contai
 all-from P [] h = All-nil P
 all-from P (x ∷ xs) h = All-cons P x xs (h x (here x xs)) (all-from P xs (λ y i. h y (there x xs y i)))
 
-in-all : {X Y : Type 0} (f : X → List Y) (xs : List X) (x : X) (y : Y) → Contains xs x → Contains (f x) y → Contains (flat_map f xs) y
-in-all f [] x y h k = nothing_in x h
-in-all {X} {Y} f (a ∷ xs) x y h k = ⊎_elim (λ same. Contains-append_left (f a) (flat_map f xs) y (subst (λ (z : X). Contains (f z) y) (sym same) k)) (λ later. Contains-append_right (f a) (flat_map f xs) y (in-all f xs x y later k)) (in_front_or_behind a xs x h)
-
 module _ (w : Classes) (entries : List EntryPoint) (fs : List EmittedMethod) (bodies : AreBodies w entries fs) where
   -- a method of the bodies is needed as one
   pub needed : (e : EmittedMethod) → Contains fs e → Reachable w entries (Body e.member)
@@ -138,7 +134,7 @@ module _ (w : Classes) (entries : List EntryPoint) (fs : List EmittedMethod) (bo
     called k c = has-body k (closed w entries (Body k) (asked_body k (of_call k (record { member = e.member; needed = needed e i; definition = e.definition; defined = defined w e.member e.definition (bodies.found e i).found; asked = subst (λ (o : Option Term). Contains (asked_by_body o) (Static k)) (sym (bodies.found e i).has_body) c }))))
 
     each : (x : Term) → Contains (trees e.its_body) x → Calls (functions_of fs) x
-    each (apply_static p c n m ts t) among = called (member c n m) (in-all (asks (sure_among [] (trees e.its_body))) (trees e.its_body) (apply_static p c n m ts t) (Static (member c n m)) among (here (Static (member c n m)) []))
+    each (apply_static p c n m ts t) among = called (member c n m) (in_all (asks (sure_among [] (trees e.its_body))) (trees e.its_body) (apply_static p c n m ts t) (Static (member c n m)) among (here (Static (member c n m)) []))
     each x among = tt
 
     among_bodies : is_built_body e.definition e.its_body ≡ true → is_built_method (functions_of fs) e.definition e.its_body ≡ true

@@ -1,4 +1,5 @@
 pub mod Agree
 pub mod Calls
+pub mod Listed
 pub mod Members
 pub mod Worlds

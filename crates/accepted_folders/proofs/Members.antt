@@ -16,6 +16,7 @@ use Rattle.sj_world.specs.Known.{Name, Classes, class_of}
 use Rattle.sj_world.specs.Members.{IsMethod, IsMethodOf}
 use Rattle.sj_world.specs.Paths.{IsFirst}
 use Rattle.sj_calls.specs.Files.{EmittedMethod, HasFunction}
+use Rattle.folder_verdicts.proofs.Firsts.{same_first}
 use Rattle.sj_sound.specs.Linked.{is_same_member, has_function}
 
 reference-refl : (r : TypeRef) → is_same_reference r r ≡ true
@@ -81,7 +82,7 @@ is-tested k x h = and_from (is_same_namespace k.namespace x.namespace) (is_same_
 no-place : {A : Type 0} (i : ℕ) → i < 0 → A
 no-place i l = absurd (omega (arith, l))
 
-first-method : (k : Member) (ds : List MethodDef) (d : MethodDef) → ir.method_among ds k.namespace k.method ≡ Some d → IsFirst (IsMethod k) ds d
+pub first-method : (k : Member) (ds : List MethodDef) (d : MethodDef) → ir.method_among ds k.namespace k.method ≡ Some d → IsFirst (IsMethod k) ds d
 first-method k [] d e = absurd (cc)
 first-method k (x ∷ xs) d e = go (tests k x) refl e (first-method k xs d)
   where
@@ -100,3 +101,23 @@ defined w k d e = go (ir.class_of w k.class) refl e
     go : (o : Option ClassDef) → ir.class_of w k.class ≡ o → ir.method_in o k.namespace k.method ≡ Some d → IsMethodOf w k d
     go None s f = absurd cc
     go (Some c) s f = record { class = c; is_class = sym (same-class w k.class) ∙ s; first = first-method k c.methods d f }
+
+pub none-among : (k : Member) (ds : List MethodDef) → ir.method_among ds k.namespace k.method ≡ None → (i : ℕ) (y : MethodDef) → slice_get ds i ≡ Some y → IsMethod k y → ⊥
+none-among k [] e i y at h = cc
+none-among k (x ∷ xs) e i y at h = go (tests k x) refl e (none-among k xs) i at
+  where
+    go : (b : Bool) → tests k x ≡ b → (if b then Some x else ir.method_among xs k.namespace k.method) ≡ None → (ir.method_among xs k.namespace k.method ≡ None → (j : ℕ) (z : MethodDef) → slice_get xs j ≡ Some z → IsMethod k z → ⊥) → (j : ℕ) → slice_get (x ∷ xs) j ≡ Some y → ⊥
+    go true t f later j at = absurd (cc)
+    go false t f later zero at = let same : x ≡ y = cc in impossible (sym t ∙ is-tested k x (subst (IsMethod k) (sym same) h))
+    go false t f later (suc j) at = later f j y at h
+
+first-found : (k : Member) (ds : List MethodDef) (d : MethodDef) → IsFirst (IsMethod k) ds d → ir.method_among ds k.namespace k.method ≡ Some d
+first-found k ds d f = go (ir.method_among ds k.namespace k.method) refl
+  where
+    go : (o : Option MethodDef) → ir.method_among ds k.namespace k.method ≡ o → ir.method_among ds k.namespace k.method ≡ Some d
+    go None e = absurd (none-among k ds e f.place d f.stands f.has)
+    go (Some b) e = e ∙ ap Some (same_first (IsMethod k) ds b d (first-method k ds b e) f)
+
+-- the definition of a member is what is found for it
+pub found-member : (w : Classes) (k : Member) (d : MethodDef) → IsMethodOf w k d → ir.member_of w k.class k.namespace k.method ≡ Some d
+found-member w k d m = ap (λ (o : Option ClassDef). ir.method_in o k.namespace k.method) (same-class w k.class ∙ m.is_class) ∙ first-found k m.class.methods d m.first

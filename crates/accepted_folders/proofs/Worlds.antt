@@ -1,12 +1,13 @@
 -- What an accepted folder has, and its classes as they are judged.
 use Rattle.std.proofs.Common.{◌≡◌, ℕ, List, Some, refl, sym, ap, ◌∙◌, Contains, slice_get}
 use Rattle.std.proofs.lemmas.List.Sorted.{Contains-permutation, IsPermutation-sym}
-use Rattle.std.proofs.lemmas.Option.{slice_get-get_or, slice_get_within, same_Some}
+use Rattle.std.proofs.lemmas.Option.{slice_get-get_or}
 use Rattle.file_listings.specs.Listed.{AreBytes}
 use Rattle.sj_names.specs.declared.entry_points.EntryPoint.{EntryPoint}
 use Rattle.sj_names.specs.declared.folders.SourceFile.{SourceFile}
 use Rattle.sj_trees.specs.declared.classes.ClassDef.{ClassDef}
 use Rattle.sj_judged.specs.Judged.{IsJudgedClass}
+use Rattle.sj_world.proofs.Searches.{contains_at}
 use Rattle.sj_world.specs.Known.{Classes}
 use Rattle.sj_world.specs.Refusals.{IsWorldOf}
 use Rattle.reach_rules.specs.Reachable.{Unresolved}
@@ -53,13 +54,10 @@ module _ (entries : List EntryPoint) (files : List SourceFile) where
 pub have_worlds : AcceptedFoldersHaveAWorld
 have_worlds entries files = (by_verdict entries files accepted refl, λ h. from_world entries files h.0 h.1)
 
-contains-at : {X : Type 0} (xs : List X) (i : ℕ) (x : X) → slice_get xs i ≡ Some x → Contains xs x
-contains-at xs i x at = let l = slice_get_within xs i x at in (i, l, same_Some _ _ (sym (slice_get-get_or xs i x l) ∙ at))
-
 -- each class of an accepted folder was read from a file, and breaks none of the local rules
 pub judged : (entries : List EntryPoint) (files : List SourceFile) (w : Classes) → ((file : SourceFile) → Contains files file → AreBytes file.bytes) → IsAccepted entries files w → (c : ClassDef) → Contains w c → IsJudgedClass c
 judged entries files w bytes a c h =
     let among : Contains a.classes c = Contains-permutation w a.classes c (IsPermutation-sym a.classes w a.world.sorted.same) h in
     let at : slice_get a.classes among.0 ≡ Some c = slice_get-get_or a.classes among.0 c among.1 ∙ ap Some among.2 in
     let s = standing files a.classes among.0 c (sym a.read.whole) at in
-    record { bytes = s.item.bytes; are_bytes = bytes s.item (contains-at files among.0 s.item s.at); read = a.read.each among.0 s.item c s.at at; unbroken = a.kept c among }
+    record { bytes = s.item.bytes; are_bytes = bytes s.item (contains_at files among.0 s.item s.at); read = a.read.each among.0 s.item c s.at at; unbroken = a.kept c among }

@@ -20,6 +20,10 @@ use Rattle.accepted_folders.specs.Bodies.{AreBodies, is_built_body}
 abbrev pub AcceptedFoldersHaveAWorld : Type 0
 AcceptedFoldersHaveAWorld = (entries : List EntryPoint) (files : List SourceFile) → IsVerdict entries files accepted ↔ ((w : Classes) × IsAccepted entries files w)
 
+-- the bodies of an accepted folder can be listed: it can't be that no methods are those of all bodies that are needed
+abbrev pub AcceptedFoldersHaveBodies : Type 0
+AcceptedFoldersHaveBodies = (entries : List EntryPoint) (files : List SourceFile) (w : Classes) → IsAccepted entries files w → ((fs : List EmittedMethod) → AreBodies w entries fs → ⊥) → ⊥
+
 -- what a body calls that is needed is needed itself: so a body that is built whatever it calls is built where it calls these methods alone
 abbrev pub CallsAreAmongBodies : Type 0
 CallsAreAmongBodies = (w : Classes) (entries : List EntryPoint) (fs : List EmittedMethod) (e : EmittedMethod) → AreBodies w entries fs → Contains fs e → is_built_body e.definition e.its_body ≡ true → is_built_method (functions_of fs) e.definition e.its_body ≡ true

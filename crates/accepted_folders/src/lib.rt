@@ -4,12 +4,17 @@
 //! run, and their clauses are theorems.
 #![tactic(auto)]
 
-ghost use Rattle.accepted_folders.specs.Laws.{AcceptedFoldersHaveAWorld, CallsAreAmongBodies, InitializersAreAmongBodies, AcceptedFilesAgree};
+ghost use Rattle.accepted_folders.specs.Laws.{AcceptedFoldersHaveAWorld, AcceptedFoldersHaveBodies, CallsAreAmongBodies, InitializersAreAmongBodies, AcceptedFilesAgree};
 
 /// A folder is accepted just where its files are read as classes that keep the local rules and make a world in which what is reachable resolves and
 /// is typed.
 pub fn accepted_folders_have_a_world()
     ensures { AcceptedFoldersHaveAWorld }
+{}
+
+/// The bodies that are needed in an accepted folder can be listed: each is the body of a method that is found for its member.
+pub fn accepted_folders_have_bodies()
+    ensures { AcceptedFoldersHaveBodies }
 {}
 
 /// Take the methods of all bodies that are needed. What one of them calls is among them.

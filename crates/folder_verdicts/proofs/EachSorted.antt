@@ -17,7 +17,7 @@ use Rattle.sj_world.proofs.Searches.{contains_at}
 use Rattle.folder_verdicts.specs.Stages.{KeepRules}
 use Rattle.folder_verdicts.specs.Verdicts.{Verdict, ByCycles, cyclic, acyclic}
 use Rattle.folder_verdicts.proofs.EachResolved.{references_are_told}
-use Rattle.folder_verdicts.proofs.Undenied.{Undenied, granted, and_so, FirstPlace, NoneBelow, first_place, first_or_later, here, there}
+use Rattle.folder_verdicts.proofs.Undenied.{Undenied, granted, and_so, FirstPlace, NoneBelow, first_place, first_or_later, here, there, not_so}
 
 cons_in_order : (c : ClassDef) (w : Classes) → IsInOrder w → ((d : ClassDef) → Contains w d → is_before c.name d.name ≡ true) → IsInOrder (c ∷ w)
 cons_in_order c w sorted first = record { rises = go }
@@ -36,10 +36,6 @@ first_before c w sorted d h = sorted.rises 0 (suc h.0) c d (omega arith) refl (s
 -- no class of the list has this name
 abbrev LacksName : Classes → Name → Type 0
 LacksName w name = (d : ClassDef) → Contains w d → is_same d.name name ≡ true → ⊥
-
-not_so : (b : Bool) → (b ≡ true → ⊥) → b ≡ false
-not_so true h = absurd (h refl)
-not_so false h = refl
 
 abbrev Sorted : Classes → Type 0
 Sorted given = (w : Classes) × IsSortedFrom given w

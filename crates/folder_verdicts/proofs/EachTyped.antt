@@ -3,7 +3,7 @@ use Rattle.std.proofs.Common.{◌≡◌, ℕ, zero, suc, ◌<◌, true, false, L
 use Rattle.std.specs.Prelude.{◌⊎◌, option_map, is_some}
 use Rattle.std.specs.List.{All, flat_map}
 use Rattle.std.proofs.lemmas.List.Elements.{Contains-append_left, Contains-append_right}
-use Rattle.std.proofs.lemmas.Option.{slice_get-map}
+use Rattle.std.proofs.lemmas.Option.{slice_get-map, same_Some}
 use Rattle.sj_names.specs.declared.entry_points.EntryPoint.{EntryPoint}
 use Rattle.sj_names.specs.declared.method_names.Member.{Member}
 use Rattle.sj_names.specs.declared.method_names.MethodName.{MethodName}
@@ -39,6 +39,7 @@ use Rattle.sj_reach.specs.declared.findings.Report.{Report}
 use Rattle.worklist.proofs.Inserted.{nothing_in}
 use Rattle.folder_verdicts.specs.Stages.{rule_at, IsUntypedBody}
 use Rattle.folder_verdicts.specs.Verdicts.{Verdict, accepted, ByTypes, untyped, typed}
+use Rattle.folder_verdicts.proofs.Firsts.{in_order}
 use Rattle.folder_verdicts.proofs.Undenied as undenied
 use Rattle.folder_verdicts.proofs.Undenied.{Undenied, granted, and_so, decided, each_undenied, Gathered, gathered, Failing, all_or_failing, Least, NoneAmong, Any, least_or_none, first_or_later}
 use Rattle.sj_reach.proofs.Once.{first_itself, first_trans}
@@ -110,18 +111,12 @@ keys_once c h i j k l at then =
     let members : MemberRepeats c None = none_each (Breaks c) 1 all_rules None h refl rules.MemberTwice (3, omega arith, refl) in
     twice_free [] (map method_key c.methods) members.method (no_method_repeat c members.field members.method members.is_place) members.first_method i j k l at then
 
-in_order : (i j : ℕ) → (i < j) ⊎ ((j < i) ⊎ (i ≡ j))
-in_order i j = grind arith
-
-same_some : {X : Type 0} {x y : X} → Some x ≡ Some y → x ≡ y
-same_some e = cc
-
 -- so the body that a public name has in it is that of the method of this name
 body_is_defined : (c : ClassDef) → FirstBroken c None → (owner : Name) (m : MethodName) (d e : MethodDef) → IsFirst (IsBody m) c.methods d → IsFirst (IsMethod (public_member owner m)) c.methods e → d ≡ e
 body_is_defined c h owner m d e p q = elim (in_order p.place q.place) [
   | inl l ↦ absurd (q.none_before p.place d l p.stands (record { namespace_is = p.has.is_public.namespace_is; name_is = p.has.is_public.name_is }))
   | inr (inl l) ↦ absurd (keys_once c h q.place p.place key l (at q.place e q.stands q.has.namespace_is q.has.name_is) (at p.place d p.stands p.has.is_public.namespace_is p.has.is_public.name_is))
-  | inr (inr s) ↦ same_some (sym p.stands ∙ ap (slice_get c.methods) s ∙ q.stands)
+  | inr (inr s) ↦ same_Some _ _ (sym p.stands ∙ ap (slice_get c.methods) s ∙ q.stands)
 ]
   where
     key : MethodKey
@@ -135,7 +130,7 @@ body_is_defined c h owner m d e p q = elim (in_order p.place q.place) [
 module _ (w : Classes) (entries : List EntryPoint) (keeps : (c : ClassDef) → Contains w c → FirstBroken c None) (resolved : (r : Refusal) → Unresolved w entries r → ⊥) where
   at_class : (owner : Name) (m : MethodName) (d : MethodDef) (c : ClassDef) → class_of w owner ≡ Some c → IsFirst (IsBody m) c.methods d → (e : MethodDef) → IsMethodOf w (public_member owner m) e → e.body ≡ None → ⊥
   at_class owner m d c is first e k none =
-      let class : k.class ≡ c = same_some (sym k.is_class ∙ is) in
+      let class : k.class ≡ c = same_Some _ _ (sym k.is_class ∙ is) in
       let same : d ≡ e = body_is_defined c (keeps c (found_in w owner c is)) owner m d e first (subst (λ (x : ClassDef). IsFirst (IsMethod (public_member owner m)) x.methods e) class k.first) in
       let wrong : false ≡ true = sym (ap is_some (ap (λ (x : MethodDef). x.body) same ∙ none)) ∙ first.has.has_body in
       cc
@@ -156,17 +151,17 @@ module _ (w : Classes) (entries : List EntryPoint) (keeps : (c : ClassDef) → C
 
 -- ---- the methods of a world
 
-record Candidate : Type 0 where
-  member : Member
-  definition : MethodDef
+pub record Candidate : Type 0 where
+  pub member : Member
+  pub definition : MethodDef
 
-abbrev candidate_of : ClassDef → MethodDef → Candidate
+abbrev pub candidate_of : ClassDef → MethodDef → Candidate
 candidate_of c d = record { member = record { class = c.name; namespace = d.namespace; method = d.name }; definition = d }
 
-abbrev methods_of : ClassDef → List Candidate
+abbrev pub methods_of : ClassDef → List Candidate
 methods_of c = map (candidate_of c) c.methods
 
-abbrev candidates : Classes → List Candidate
+abbrev pub candidates : Classes → List Candidate
 candidates = flat_map methods_of
 
 candidate_is : (w : Classes) (k : Member) (d : MethodDef) (m : IsMethodOf w k d) → candidate_of m.class d ≡ record { member = k; definition = d }
@@ -176,7 +171,7 @@ candidate_is w k d m =
     let name = m.first.has.name_is in
     λ i. record { member = record { class = class i; namespace = space i; method = name i }; definition = d }
 
-listed : (w : Classes) (k : Member) (d : MethodDef) → IsMethodOf w k d → Contains (candidates w) (record { member = k; definition = d })
+pub listed : (w : Classes) (k : Member) (d : MethodDef) → IsMethodOf w k d → Contains (candidates w) (record { member = k; definition = d })
 listed w k d m = subst (λ (x : Candidate). Contains (candidates w) x) (candidate_is w k d m) (in_all methods_of w m.class (candidate_of m.class d) (found_in w k.class m.class m.is_class) (in_map (candidate_of m.class) m.class.methods d (contains_at m.class.methods m.first.place d m.first.stands)))
 
 -- what is told of a method that isn't typed

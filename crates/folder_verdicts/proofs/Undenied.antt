@@ -90,6 +90,11 @@ all_or_failing {X} P (x ∷ xs) = and_so (decided (P x)) (λ d. and_so (all_or_f
     joined (inl p) (inl all) = inl (All-cons P x xs p all)
     joined (inl p) (inr f) = inr (record { item = f.item; before = x ∷ f.before; behind = f.behind; parts = ap (λ (l : List X). x ∷ l) f.parts; met = All-cons P x f.before p f.met; fails = f.fails })
 
+-- a test that can't be passed isn't
+pub not_so : (b : Bool) → (b ≡ true → ⊥) → b ≡ false
+not_so true h = absurd (h refl)
+not_so false h = refl
+
 module _ {X : Type 0} (is_before : X → X → Bool) (itself : (x : X) → is_before x x ≡ false) (further : (x y z : X) → is_before x y ≡ true → is_before y z ≡ true → is_before x z ≡ true) (P : X → Type 0) where
   -- the least with the property among some
   pub record Least (Among : X → Type 0) : Type 0 where
@@ -99,10 +104,6 @@ module _ {X : Type 0} (is_before : X → X → Bool) (itself : (x : X) → is_be
 
   abbrev pub NoneAmong : (X → Type 0) → Type 0
   NoneAmong Among = (x : X) → Among x → P x → ⊥
-
-  not_so : (b : Bool) → (b ≡ true → ⊥) → b ≡ false
-  not_so true h = absurd (h refl)
-  not_so false h = refl
 
   no_both : {b : Bool} → b ≡ true → b ≡ false → ⊥
   no_both p q = let wrong : true ≡ false = sym p ∙ q in cc
