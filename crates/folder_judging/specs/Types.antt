@@ -14,19 +14,13 @@ use Rattle.sj_world.specs.declared.facts.Fact.TheVariants as fact
 use Rattle.sj_reach.specs.Answers.{comes_first, first_told}
 use Rattle.sj_reach.specs.declared.findings.Report.{Report}
 use Rattle.reach_rules.specs.Refusals.{spelled_member}
-use Rattle.folder_verdicts.specs.Stages.{rule_at}
+use Rattle.folder_verdicts.specs.Stages.{rule_at, IsDefined}
 use Rattle.folder_verdicts.specs.Verdicts.{Verdict, refused}
 use Rattle.folder_judging.specs.declared.errors.JudgeError.{JudgeError}
 use Rattle.folder_judging.specs.Counts.{with_checks, bodies_among}
 use Rattle.folder_judging.specs.declared.bodies.SpelledBody.{SpelledBody}
 
--- the member is defined, and has a body
-pub record IsDefined (w : Classes) (k : Member) : Type 0 where
-  pub definition : MethodDef
-  pub defined : IsMethodOf w k definition
-  pub has_body : IsSome definition.body
-
--- so is each whose body is needed
+-- each member whose body is needed is defined, and has a body
 pub record AreDefined (l : Linked) : Type 0 where
   pub each : (k : Member) → Contains l.facts (fact.Body k) → IsDefined l.world k
 

@@ -3,7 +3,8 @@ ghost use Rattle.std.specs.Prelude.{◌≡◌, IfOk, IsSome, MatchOption, MatchR
 ghost use Rattle.sj_typing.specs.Typed.{IsTyped};
 ghost use Rattle.sj_world.specs.Members.{IsMethodOf, HasNoMethod};
 ghost use Rattle.folder_judging.specs.Bodies.{AreInOrder};
-ghost use Rattle.folder_judging.specs.Types.{IsDefined, AreDefined, FailsFirst, IsChecked, IsWithBody, IsLeastUntypedIn, is_told_before, IsToldUntyped, ChecksOne, ChecksBodies, ChecksTypes};
+ghost use Rattle.folder_verdicts.specs.Stages.{IsDefined};
+ghost use Rattle.folder_judging.specs.Types.{AreDefined, FailsFirst, IsChecked, IsWithBody, IsLeastUntypedIn, is_told_before, IsToldUntyped, ChecksOne, ChecksBodies, ChecksTypes};
 ghost use Rattle.folder_judging.specs.Refusals.{IsRefusal};
 
 use crate::JudgeError;

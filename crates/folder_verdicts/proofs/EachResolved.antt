@@ -27,7 +27,8 @@ use Rattle.sj_reach.specs.Conclusions.{report}
 use Rattle.sj_reach.proofs.Once.{first_itself, first_trans}
 use Rattle.worklist.proofs.Inserted.{nothing_in}
 use Rattle.folder_verdicts.specs.Verdicts.{Verdict, ByReferences, unresolved, resolved}
-use Rattle.folder_verdicts.proofs.EachTyped.{last, in_all, in_map, found_in, types_are_told}
+use Rattle.folder_verdicts.proofs.Defined.{last, found_in}
+use Rattle.folder_verdicts.proofs.EachTyped.{in_all, in_map, types_are_told}
 use Rattle.folder_verdicts.proofs.Undenied.{Undenied, granted, and_so, Least, NoneAmong, Any, least_or_none, here, there}
 
 -- what may be told of a class, and of a member

@@ -1,28 +1,18 @@
 -- No world that resolves is without a verdict on its types.
-use Rattle.std.proofs.Common.{◌≡◌, ℕ, zero, suc, ◌<◌, true, false, List, [], ◌∷◌, ◌++◌, Option, Some, None, map, slice_get, Contains, refl, sym, ap, ◌∙◌, subst, arith, inl, inr}
-use Rattle.std.specs.Prelude.{◌⊎◌, option_map, is_some}
+use Rattle.std.proofs.Common.{◌≡◌, ℕ, List, [], ◌∷◌, Option, Some, None, map, Contains, refl, sym, ◌∙◌, subst, inl, inr}
+use Rattle.std.specs.Prelude.{◌⊎◌}
 use Rattle.std.specs.List.{All, flat_map}
 use Rattle.std.proofs.lemmas.List.Elements.{Contains-append_left, Contains-append_right}
-use Rattle.std.proofs.lemmas.Option.{slice_get-map, same_Some}
 use Rattle.sj_names.specs.declared.entry_points.EntryPoint.{EntryPoint}
 use Rattle.sj_names.specs.declared.method_names.Member.{Member}
-use Rattle.sj_names.specs.declared.method_names.MethodName.{MethodName}
-use Rattle.sj_names.specs.declared.method_names.Namespace.TheVariants.{Public}
 use Rattle.sj_trees.specs.Term.{Term}
 use Rattle.sj_trees.specs.declared.classes.ClassDef.{ClassDef}
 use Rattle.sj_trees.specs.declared.classes.MethodDef.{MethodDef}
-use Rattle.sj_local.specs.declared.members.MethodKey.{MethodKey}
-use Rattle.sj_local.specs.Broken.{FirstBroken, Breaks, MemberRepeats, repeat_place, all_rules}
-use Rattle.sj_local.specs.Firsts.{FirstRepeat, nothing_left, here, later, FirstAnswer, none_left, this_one, a_later_one}
-use Rattle.sj_local.specs.MemberRules.{method_key}
-use Rattle.sj_local.specs.declared.rules.Rule.TheVariants as rules
-use Rattle.sj_world.specs.Known.{Name, Classes, class_of}
-use Rattle.sj_world.specs.Members.{IsMethod, IsMethodOf}
-use Rattle.sj_world.specs.Paths.{IsFirst}
-use Rattle.sj_world.specs.Resolution.{IsBody, Resolves, by_chain, by_ancestors, by_default, target}
-use Rattle.sj_world.specs.declared.facts.Fact.{Fact}
+use Rattle.sj_local.specs.Broken.{FirstBroken}
+use Rattle.sj_world.specs.Known.{Classes}
+use Rattle.sj_world.specs.Members.{IsMethodOf}
 use Rattle.sj_world.specs.declared.facts.Fact.TheVariants as fact
-use Rattle.sj_world.proofs.ByName.{class_of-stands, name_of_class}
+use Rattle.sj_world.proofs.ByName.{name_of_class}
 use Rattle.sj_world.proofs.Searches.{contains_at}
 use Rattle.sj_typing.specs.Nodes.{nodes}
 use Rattle.sj_typing.specs.Rules.{Yields}
@@ -30,23 +20,16 @@ use Rattle.sj_typing.specs.Typed.{MeetsThere, IsTyped, IsUntyped, a_tree, the_bo
 use Rattle.sj_ask.specs.Sizes.{in_32_bits}
 use Rattle.sj_verdicts.proofs.OneVerdict.{has_one_verdict}
 use Rattle.reach_rules.specs.Reachable.{Reachable, Unresolved}
-use Rattle.reach_rules.specs.Refusals.{Refusal, abstract_target, no_body, spelled_member}
-use Rattle.reach_rules.specs.Rules.{Rule, asked_body, resolved_body, call_hijacked, dispatched, reflective_hijacked, public_member}
-use Rattle.reach_rules.proofs.Derivations.{derived-all, closed}
-use Rattle.reach_rules.proofs.Grows.{rule-grow}
+use Rattle.reach_rules.specs.Refusals.{Refusal, spelled_member}
 use Rattle.sj_reach.specs.Answers.{comes_first}
 use Rattle.sj_reach.specs.declared.findings.Report.{Report}
 use Rattle.worklist.proofs.Inserted.{nothing_in}
 use Rattle.folder_verdicts.specs.Stages.{rule_at, IsUntypedBody}
 use Rattle.folder_verdicts.specs.Verdicts.{Verdict, accepted, ByTypes, untyped, typed}
-use Rattle.folder_verdicts.proofs.Firsts.{in_order}
+use Rattle.folder_verdicts.proofs.Defined.{found_in, has_body}
 use Rattle.folder_verdicts.proofs.Undenied as undenied
 use Rattle.folder_verdicts.proofs.Undenied.{Undenied, granted, and_so, decided, each_undenied, Gathered, gathered, Failing, all_or_failing, Least, NoneAmong, Any, least_or_none, first_or_later}
 use Rattle.sj_reach.proofs.Once.{first_itself, first_trans}
-
--- what a reachable fact follows from is reachable
-pub last : (w : Classes) (entries : List EntryPoint) (f : Fact) → Reachable w entries f → Rule w entries (Reachable w entries) f
-last w entries f r = rule-grow w entries (Contains r.earlier) (Reachable w entries) (derived-all w entries (Reachable w entries) (closed w entries) r.earlier r.derived.1) f r.derived.0
 
 -- a thing of what is made of a thing in a list
 pub in_all : {X Y : Type 0} (f : X → List Y) (xs : List X) (x : X) (y : Y) → Contains xs x → Contains (f x) y → Contains (flat_map f xs) y
@@ -62,92 +45,6 @@ in_map {X} {Y} f (a ∷ xs) x h = elim (first_or_later a xs x h) [
   | inl same ↦ subst (λ (z : X). Contains (map f (a ∷ xs)) (f z)) same (undenied.here (f a) (map f xs))
   | inr after ↦ undenied.there (f a) (map f xs) (f x) (in_map f xs x after)
 ]
-
--- a class that is found stands in the world, under its own name
-pub found_in : (w : Classes) (name : Name) (c : ClassDef) → class_of w name ≡ Some c → Contains w c
-found_in w name c e = let s = class_of-stands w name c e in contains_at w s.place c s.at
-
--- ---- no two methods of a class have one key
-
--- keys without a repeat: a later one isn't among those before it
-no_repeat : {K : Type 0} (earlier keys : List K) (o : Option ℕ) → o ≡ None → FirstRepeat earlier keys o → (j : ℕ) (k : K) → slice_get keys j ≡ Some k → Contains earlier k → ⊥
-no_repeat _ _ _ e (nothing_left earlier) j k at h = cc
-no_repeat _ _ _ e (here earlier key keys again) j k at h = cc
-no_repeat {K} _ _ _ e (later earlier key keys index not_there rest) zero k at h = let same : key ≡ k = cc in not_there (subst (λ (x : K). Contains earlier x) (sym same) h)
-no_repeat _ _ _ e (later earlier key keys index not_there rest) (suc j) k at h = no_repeat (earlier ++ key ∷ []) keys index (none_before index e) rest j k at (Contains-append_left earlier (key ∷ []) k h)
-  where
-    none_before : (o : Option ℕ) → option_map suc o ≡ None → o ≡ None
-    none_before None q = refl
-    none_before (Some n) q = cc
-
-twice_free : {K : Type 0} (earlier keys : List K) (o : Option ℕ) → o ≡ None → FirstRepeat earlier keys o → (i j : ℕ) (k : K) → i < j → slice_get keys i ≡ Some k → slice_get keys j ≡ Some k → ⊥
-twice_free _ _ _ e (nothing_left earlier) i j k l at then = cc
-twice_free _ _ _ e (here earlier key keys again) i j k l at then = cc
-twice_free _ _ _ e (later earlier key keys index not_there rest) i zero k l at then = omega (arith, l)
-twice_free {K} _ _ _ e (later earlier key keys index not_there rest) zero (suc j) k l at then = let same : key ≡ k = cc in no_repeat (earlier ++ key ∷ []) keys index (none_before index e) rest j k then (Contains-append_right earlier (key ∷ []) k (subst (λ (x : K). Contains (key ∷ []) x) same (undenied.here key [])))
-  where
-    none_before : (o : Option ℕ) → option_map suc o ≡ None → o ≡ None
-    none_before None q = refl
-    none_before (Some n) q = cc
-twice_free _ _ _ e (later earlier key keys index not_there rest) (suc i) (suc j) k l at then = twice_free (earlier ++ key ∷ []) keys index (none_before index e) rest i j k (omega (arith, l)) at then
-  where
-    none_before : (o : Option ℕ) → option_map suc o ≡ None → o ≡ None
-    none_before None q = refl
-    none_before (Some n) q = cc
-
-none_each : {A R : Type 0} (Answers : A → Option R → Type 0) (n : ℕ) (xs : List A) (r : Option (ℕ × R)) → FirstAnswer Answers n xs r → r ≡ None → (x : A) → Contains xs x → Answers x None
-none_each Answers _ _ _ (none_left n) e x h = nothing_in x h
-none_each Answers _ _ _ (this_one n y ys r a) e x h = cc
-none_each {A} Answers _ _ _ (a_later_one n y ys found a rest) e x h = elim (first_or_later y ys x h) [ inl same ↦ subst (λ (z : A). Answers z None) same a | inr after ↦ none_each Answers (suc n) ys found rest e x after ]
-
-no_method_repeat : (c : ClassDef) (f m : Option ℕ) → None ≡ repeat_place c f m → m ≡ None
-no_method_repeat c (Some n) m e = cc
-no_method_repeat c None None e = refl
-no_method_repeat c None (Some n) e = cc
-
--- a class that keeps the rules has no two methods of one key
-keys_once : (c : ClassDef) → FirstBroken c None → (i j : ℕ) (k : MethodKey) → i < j → slice_get (map method_key c.methods) i ≡ Some k → slice_get (map method_key c.methods) j ≡ Some k → ⊥
-keys_once c h i j k l at then =
-    let members : MemberRepeats c None = none_each (Breaks c) 1 all_rules None h refl rules.MemberTwice (3, omega arith, refl) in
-    twice_free [] (map method_key c.methods) members.method (no_method_repeat c members.field members.method members.is_place) members.first_method i j k l at then
-
--- so the body that a public name has in it is that of the method of this name
-body_is_defined : (c : ClassDef) → FirstBroken c None → (owner : Name) (m : MethodName) (d e : MethodDef) → IsFirst (IsBody m) c.methods d → IsFirst (IsMethod (public_member owner m)) c.methods e → d ≡ e
-body_is_defined c h owner m d e p q = elim (in_order p.place q.place) [
-  | inl l ↦ absurd (q.none_before p.place d l p.stands (record { namespace_is = p.has.is_public.namespace_is; name_is = p.has.is_public.name_is }))
-  | inr (inl l) ↦ absurd (keys_once c h q.place p.place key l (at q.place e q.stands q.has.namespace_is q.has.name_is) (at p.place d p.stands p.has.is_public.namespace_is p.has.is_public.name_is))
-  | inr (inr s) ↦ same_Some _ _ (sym p.stands ∙ ap (slice_get c.methods) s ∙ q.stands)
-]
-  where
-    key : MethodKey
-    key = record { namespace = Public; name = m }
-
-    at : (i : ℕ) (x : MethodDef) → slice_get c.methods i ≡ Some x → x.namespace ≡ Public → x.name ≡ m → slice_get (map method_key c.methods) i ≡ Some key
-    at i x stands space name = let same : method_key x ≡ key = λ j. record { namespace = space j; name = name j } in slice_get-map method_key c.methods i ∙ ap (option_map method_key) stands ∙ ap Some same
-
--- ---- each body that is needed and defined has a body
-
-module _ (w : Classes) (entries : List EntryPoint) (keeps : (c : ClassDef) → Contains w c → FirstBroken c None) (resolved : (r : Refusal) → Unresolved w entries r → ⊥) where
-  at_class : (owner : Name) (m : MethodName) (d : MethodDef) (c : ClassDef) → class_of w owner ≡ Some c → IsFirst (IsBody m) c.methods d → (e : MethodDef) → IsMethodOf w (public_member owner m) e → e.body ≡ None → ⊥
-  at_class owner m d c is first e k none =
-      let class : k.class ≡ c = same_Some _ _ (sym k.is_class ∙ is) in
-      let same : d ≡ e = body_is_defined c (keeps c (found_in w owner c is)) owner m d e first (subst (λ (x : ClassDef). IsFirst (IsMethod (public_member owner m)) x.methods e) class k.first) in
-      let wrong : false ≡ true = sym (ap is_some (ap (λ (x : MethodDef). x.body) same ∙ none)) ∙ first.has.has_body in
-      cc
-
-  target_has_body : (c : Name) (m : MethodName) (d : MethodDef) (owner : Name) → Resolves w c m (target d owner) → (e : MethodDef) → IsMethodOf w (public_member owner m) e → e.body ≡ None → ⊥
-  target_has_body c m _ _ (by_chain d owner nearest) e k none = at_class owner m d nearest.body.class nearest.body.is_class nearest.body.first e k none
-  target_has_body c m _ _ (by_ancestors _ chain (by_default d owner least)) e k none = at_class owner m d least.candidate.default.class least.candidate.default.is_class least.candidate.default.first e k none
-
-  by_rule : (k : Member) → Rule w entries (Reachable w entries) (fact.Body k) → (e : MethodDef) → IsMethodOf w k e → e.body ≡ None → ⊥
-  by_rule _ (asked_body k a) e m none = resolved (abstract_target k) (no_body k a (record { definition = e; defined = m; has_none = none }))
-  by_rule _ (resolved_body c m d owner r t) e k none = target_has_body c m d owner t e k none
-  by_rule _ (call_hijacked c m d owner r h t) e k none = target_has_body c m d owner t e k none
-  by_rule _ (dispatched c m d owner on t) e k none = target_has_body c m d owner t e k none
-  by_rule _ (reflective_hijacked c p d b owner place r h t q) e k none = target_has_body c d.name b place q e k none
-
-  pub has_body : (k : Member) → Reachable w entries (fact.Body k) → (e : MethodDef) → IsMethodOf w k e → e.body ≡ None → ⊥
-  has_body k r = by_rule k (last w entries (fact.Body k) r)
 
 -- ---- the methods of a world
 

@@ -2,6 +2,7 @@ pub mod Firsts
 mod Verdict
 mod Rows
 pub mod Undenied
+pub mod Defined
 pub mod EachTyped
 pub mod EachResolved
 pub mod EachSorted

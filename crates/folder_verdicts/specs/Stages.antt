@@ -1,5 +1,5 @@
 -- What each stage of judging a folder finds.
-use Rattle.std.specs.Prelude.{◌≡◌, ℕ, false, List, Some, None, map, length, slice_get, Contains}
+use Rattle.std.specs.Prelude.{◌≡◌, ℕ, false, List, Some, None, map, length, slice_get, Contains, IsSome}
 use Rattle.sj_names.specs.declared.entry_points.EntryPoint.{EntryPoint}
 use Rattle.sj_names.specs.declared.folders.SourceFile.{SourceFile}
 use Rattle.sj_names.specs.declared.method_names.Member.{Member}
@@ -54,6 +54,12 @@ pub record IsLeastBroken (classes : Classes) (name : Name) (rule : ℕ) : Type 0
 -- each class keeps the local rules
 abbrev pub KeepRules : Classes → Type 0
 KeepRules classes = (class : ClassDef) → Contains classes class → FirstBroken class None
+
+-- the member is defined, and has a body
+pub record IsDefined (w : Classes) (k : Member) : Type 0 where
+  pub definition : MethodDef
+  pub defined : IsMethodOf w k definition
+  pub has_body : IsSome definition.body
 
 module _ (w : Classes) (entries : List EntryPoint) where
   -- a body that is needed, with this spelling, fails to be typed first at a tree with this tag

@@ -3,4 +3,6 @@
 
 mod laws;
 
-pub use laws::{no_folder_is_without_verdict, verdict_is_one, worked_verdicts};
+pub use laws::{
+    needed_bodies_are_there, no_folder_is_without_verdict, verdict_is_one, worked_verdicts,
+};
