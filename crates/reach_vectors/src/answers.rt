@@ -1,14 +1,22 @@
 // The lines of an answer.
 use anyhow::Result;
-use sj_names::{ClassName, Member, MethodName, Namespace};
-use sj_reach::ReachError;
-use sj_world::{Fact, Reached};
+use sj_baselink::base_link;
+use sj_names::{ClassName, Member, MethodName};
+use sj_reach::{ReachError, spelled_member};
+use sj_world::{Fact, LinkedWorld, MethodEntry, Reached, World};
 use std::alloc::Global;
 
-/// The lines of an answer, as the input has them.
-pub(crate) fn lines_of(alloc: Global, answer: &Result<Reached, ReachError>) -> Result<Vec<String>> {
+/// The lines of an answer, as the input has them: those of the facts and of the method entries.
+pub(crate) fn lines_of(
+    alloc: Global,
+    world: &World,
+    answer: &Result<Reached, ReachError>,
+) -> Result<Vec<String>> {
     match answer {
-        Ok(reached) => lines_of_facts(alloc, reached.facts()),
+        Ok(reached) => match base_link(alloc, world, reached) {
+            Ok(linked) => lines_of_world(alloc, &linked),
+            Err(_) => one_line(alloc, String::from_str(alloc, "no memory")?),
+        },
         Err(ReachError::Refused { code, place }) => {
             let place = place.as_str();
             one_line(alloc, format!(in alloc; "refused\t{code}\t{place}")?)
@@ -23,12 +31,28 @@ fn one_line(alloc: Global, line: String) -> Result<Vec<String>> {
     Ok(lines)
 }
 
-fn lines_of_facts(alloc: Global, facts: &[Fact]) -> Result<Vec<String>> {
+fn lines_of_world(alloc: Global, linked: &LinkedWorld) -> Result<Vec<String>> {
     let mut lines = Vec::new(alloc);
-    for fact in facts {
+    for fact in linked.facts() {
         lines.push(line_of(alloc, fact)?)?;
     }
+    for entry in linked.entries() {
+        lines.push(entry_line(alloc, entry)?)?;
+    }
     Ok(lines)
+}
+
+// A method entry; of a reflective name the line has the name of the target alone.
+fn entry_line(alloc: Global, entry: &MethodEntry) -> Result<String> {
+    let class = &entry.class;
+    let method = entry.name.spelled(alloc)?;
+    if entry.name.result.is_none() {
+        let target = entry.target.method.spelled(alloc)?;
+        return Ok(format!(in alloc; "proxy\t{class}\t{method}\t{target}")?);
+    }
+    let target = spelled_member(alloc, &entry.target)?;
+    let target = target.as_str();
+    Ok(format!(in alloc; "entry\t{class}\t{method}\t{target}")?)
 }
 
 fn line_of(alloc: Global, fact: &Fact) -> Result<String> {
@@ -47,23 +71,12 @@ fn line_of(alloc: Global, fact: &Fact) -> Result<String> {
 }
 
 fn body_line(alloc: Global, member: &Member) -> Result<String> {
-    let class = &member.class;
-    let word = word_of(member.namespace);
-    let method = member.method.spelled(alloc)?;
-    Ok(format!(in alloc; "body\t{class}::{word}:{method}")?)
+    let member = spelled_member(alloc, member)?;
+    let member = member.as_str();
+    Ok(format!(in alloc; "body\t{member}")?)
 }
 
 fn called_line(alloc: Global, class: &ClassName, method: &MethodName) -> Result<String> {
     let method = method.spelled(alloc)?;
     Ok(format!(in alloc; "called\t{class}\t{method}")?)
-}
-
-fn word_of(namespace: Namespace) -> &'static str {
-    match namespace {
-        Namespace::Public => "f",
-        Namespace::PublicStatic => "s",
-        Namespace::Private => "p",
-        Namespace::PrivateStatic => "ps",
-        Namespace::Constructor => "ct",
-    }
 }

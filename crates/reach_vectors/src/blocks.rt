@@ -62,7 +62,6 @@ impl Block {
         match kind {
             "class" => add_class(alloc, fields, &mut self.classes),
             "entries" => add_entries(alloc, fields, &mut self.entries),
-            "entry" | "proxy" => Ok(()),
             "resolves" => {
                 self.any_facts = true;
                 Ok(())
@@ -156,7 +155,7 @@ fn answered(
         return Ok(Vec::new(alloc));
     }
     let world = World::new(alloc, classes)?;
-    lines_of(alloc, &reach(alloc, &world, &Entries::new(entries)))
+    lines_of(alloc, &world, &reach(alloc, &world, &Entries::new(entries)))
 }
 
 // Whether these may be the entries of a link.

@@ -1,6 +1,7 @@
 //! Compares what is reachable with the answers of an independent reference. The input is blocks of lines, with tabs between the fields:
 //! `world`, `class FILE` for each class, `entries BYTES`, and then `refused CODE PLACE`, or the facts: `needed CLASS`, `made CLASS`,
-//! `cell CLASS`, `field CLASS NAME STATIC`, `body MEMBER` and `called CLASS METHOD`; or `resolves all`, where there are to be facts, whichever
+//! `cell CLASS`, `field CLASS NAME STATIC`, `body MEMBER` and `called CLASS METHOD`, and the method entries: `entry CLASS METHOD MEMBER`, and for reflective
+//! names `proxy CLASS METHOD TARGET`; or `resolves all`, where there are to be facts, whichever
 //! they are. The last block is `examples/shop`.
 #![tactic(auto)]
 
