@@ -7,7 +7,7 @@ use Rattle.sj_world.specs.Linked.{Linked}
 use Rattle.sj_world.specs.Refusals.{IsWorldOf}
 use Rattle.sj_world.specs.declared.facts.Fact.{Fact}
 use Rattle.sj_reach.specs.Answers.{AreReachable}
-use Rattle.sj_baselink.specs.Entries.{AreEntries}
+use Rattle.entry_rules.specs.Entries.{AreEntries}
 use Rattle.folder_verdicts.specs.Stages.{AreRead, KeepRules}
 use Rattle.folder_verdicts.specs.Verdicts.{Verdict, accepted}
 use Rattle.folder_judging.specs.declared.errors.JudgeError.{JudgeError}

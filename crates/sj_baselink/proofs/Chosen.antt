@@ -18,17 +18,13 @@ use Rattle.sj_world.specs.declared.linked.MethodEntry.{MethodEntry}
 use Rattle.sj_world.proofs.Once.{resolves_once}
 use Rattle.proxy_targets.specs.Proxies.{IsTargetName}
 use Rattle.reach_rules.specs.Rules.{public_member}
-use Rattle.sj_baselink.specs.Entries.{IsTarget, IsInherited, IsMethodEntry, AreEntries, direct, proxy}
+use Rattle.entry_rules.specs.Entries.{IsTarget, IsInherited, IsMethodEntry, AreEntries, direct, proxy}
+use Rattle.entry_rules.proofs.Owners.{one_owner}
 use Rattle.sj_baselink.specs.Steps.{Puts, OfOne, AreCalled, AreMade, AreReflective, IsWantedFrom, IsWantedAbove, IsTargetAbove, entry_for, IsReachedEntry, IsOwn, IsOwnEntry, IsDirectOf, IsDirectEntry, IsProxyOf, IsProxyEntry, AreOnceInOrder}
 use Rattle.sj_baselink.proofs.Gathered.{same_next, wanted_here, wanted_there}
 use Rattle.sj_baselink.proofs.Putting.{adds_none, adds_then, adds_as, all_put}
 
 -- a class has one target for a name
-target_owner : (d e : MethodDef) (a b : Name) → target d a ≡ target e b → a ≡ b
-target_owner d e a b h = cc
-
-pub one_owner : (w : Classes) (c : Name) (m : MethodName) (a b : Name) → IsTarget w c m a → IsTarget w c m b → a ≡ b
-one_owner w c m a b h k = target_owner h.body k.body a b (resolves_once w c m (target h.body a) (target k.body b) h.resolves k.resolves)
 
 not_abstract : (d : MethodDef) (a : Name) → target d a ≡ abstract → ⊥
 not_abstract d a h = cc

@@ -4,4 +4,3 @@ pub mod Gathered
 pub mod Chained
 pub mod Chosen
 pub mod Sorted
-pub mod Worked

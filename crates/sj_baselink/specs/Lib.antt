@@ -1,5 +1,2 @@
-pub mod Entries
-pub mod Laws
-pub mod Rows
 pub mod Spelled
 pub mod Steps

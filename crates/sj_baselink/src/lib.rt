@@ -1,10 +1,9 @@
-//! The method entries of a linked folder: the names by which instances of a class are called, and the body that each stands for.
+//! The method entries of a linked folder, as `entry_rules` defines them, and the world that has them.
 #![tactic(auto)]
 
 mod called;
 mod direct;
 mod entries;
-mod laws;
 mod linking;
 mod live;
 mod made;
@@ -14,5 +13,4 @@ mod proxies;
 mod reflective;
 mod superclasses;
 
-pub use laws::{one_target, worked_entries};
 pub use linking::base_link;

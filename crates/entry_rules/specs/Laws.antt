@@ -2,7 +2,7 @@
 use Rattle.std.specs.Prelude.{◌≡◌}
 use Rattle.sj_names.specs.declared.method_names.MethodName.{MethodName}
 use Rattle.sj_world.specs.Known.{Name, Classes}
-use Rattle.sj_baselink.specs.Entries.{IsTarget}
+use Rattle.entry_rules.specs.Entries.{IsTarget}
 
 -- a class has one target for a name at most
 abbrev pub OneTarget : Type 0

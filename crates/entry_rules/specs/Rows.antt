@@ -15,7 +15,7 @@ use Rattle.sj_world.specs.declared.facts.Fact.TheVariants.{Made, Body, Called}
 use Rattle.sj_world.specs.declared.linked.MethodEntry.{MethodEntry}
 use Rattle.reach_rules.specs.Rows.{a_method, static_method, plain_name, proxy, call_by_proxy}
 use Rattle.reach_rules.specs.Rules.{public_member}
-use Rattle.sj_baselink.specs.Entries.{IsMethodEntry}
+use Rattle.entry_rules.specs.Entries.{IsMethodEntry}
 
 abbrev pub m : MethodName
 m = plain_name (codes "m")

@@ -28,10 +28,10 @@ use Rattle.reach_rules.specs.Rows.{proxy, call_by_proxy}
 use Rattle.reach_rules.specs.Rules.{public_member}
 use Rattle.reach_rules.proofs.First.{first_of}
 use Rattle.reach_rules.proofs.Lacking.{main_is_not_m, not_some, same_some}
-use Rattle.sj_baselink.specs.Entries.{IsTarget, IsLive, IsWanted, IsInherited, IsDirect, IsReflective, IsMethodEntry, direct}
-use Rattle.sj_baselink.specs.Entries as entries
-use Rattle.sj_baselink.specs.Rows.{m, body_of_m, main_method, main_member, world, entry_for_m, calling, CalledIsThere, UncalledIsNot, SuperclassHasIt, InheritedIsNot, OverridingIsThere, DefaultIsThere, ReflectiveIsThere}
-use Rattle.sj_baselink.proofs.Chosen.{one_owner}
+use Rattle.entry_rules.specs.Entries.{IsTarget, IsLive, IsWanted, IsInherited, IsDirect, IsReflective, IsMethodEntry, direct}
+use Rattle.entry_rules.specs.Entries as entries
+use Rattle.entry_rules.specs.Rows.{m, body_of_m, main_method, main_member, world, entry_for_m, calling, CalledIsThere, UncalledIsNot, SuperclassHasIt, InheritedIsNot, OverridingIsThere, DefaultIsThere, ReflectiveIsThere}
+use Rattle.entry_rules.proofs.Owners.{one_owner}
 
 -- names that differ
 apart : (a b : Name) → is_same_text a b ≡ false → is_same_text a a ≡ true → a ≡ b → ⊥

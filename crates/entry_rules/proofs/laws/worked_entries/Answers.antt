@@ -1,5 +1,5 @@
-use Rattle.sj_baselink.proofs.Worked.{called_is_there, uncalled_is_not, superclass_has_it, inherited_is_not, overriding_is_there, default_is_there, reflective_is_there}
-use Rattle.sj_baselink.proofs.laws.worked_entries.Goals as goal
+use Rattle.entry_rules.proofs.Worked.{called_is_there, uncalled_is_not, superclass_has_it, inherited_is_not, overriding_is_there, default_is_there, reflective_is_there}
+use Rattle.entry_rules.proofs.laws.worked_entries.Goals as goal
 
 pub returns-clause-called : goal.returns-clause-called
 returns-clause-called c = called_is_there

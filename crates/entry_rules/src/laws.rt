@@ -1,6 +1,6 @@
 // Laws of method entries, and worked ones.
-ghost use Rattle.sj_baselink.specs.Laws.{OneTarget};
-ghost use Rattle.sj_baselink.specs.Rows.{CalledIsThere, UncalledIsNot, SuperclassHasIt, InheritedIsNot, OverridingIsThere, DefaultIsThere, ReflectiveIsThere};
+ghost use Rattle.entry_rules.specs.Laws.{OneTarget};
+ghost use Rattle.entry_rules.specs.Rows.{CalledIsThere, UncalledIsNot, SuperclassHasIt, InheritedIsNot, OverridingIsThere, DefaultIsThere, ReflectiveIsThere};
 
 /// A class has one target for a name at most.
 pub fn one_target()
