@@ -1,7 +1,6 @@
 //! The workers of a program: they read by `sj_read`, check by `sj_typing` and emit by `sj_emitter`, and count on one meter.
 #![tactic(auto)]
 
-
 use js_tree::JsMember;
 use sj_ask::{TypeError, WorldOracle};
 use sj_core::CoreMethod;
