@@ -1,0 +1,4 @@
+pub mod Rows
+pub mod Cuts
+pub mod Spelled
+pub mod Steps

@@ -1,0 +1,4 @@
+pub mod Lines
+pub mod EntriesFile
+pub mod Refusals
+pub mod Rows
