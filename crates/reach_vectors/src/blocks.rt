@@ -1,12 +1,8 @@
 // The blocks of the input.
-ghost use Rattle.std.specs.Prelude.{◌≡◌};
-ghost use Rattle.std.specs.Bool.{OnTrue};
-ghost use Rattle.std.specs.List.{list_all};
-ghost use Rattle.sj_names.specs.EntryPoints.{AreEntries, is_entry};
-
 use crate::answers::lines_of;
 use anyhow::Result;
-use sj_names::{ClassName, Entries, EntryPoint, Meter, SimpleName, Text};
+use entries_file::entries_of;
+use sj_names::Meter;
 use sj_reach::reach;
 use sj_read::read_class;
 use sj_trees::ClassDef;
@@ -17,7 +13,7 @@ use std::mem;
 /// The classes and the entries of a block, what is wanted of them, and what was answered.
 pub struct Block {
     classes: Vec<ClassDef>,
-    entries: Vec<EntryPoint>,
+    entries: Vec<u8>,
     wanted: Vec<String>,
     answered: Vec<String>,
     any_facts: bool,
@@ -61,7 +57,10 @@ impl Block {
     ) -> Result<()> {
         match kind {
             "class" => add_class(alloc, fields, &mut self.classes),
-            "entries" => add_entries(alloc, fields, &mut self.entries),
+            "entries" => {
+                self.entries = hex::decode(alloc, fields)?;
+                Ok(())
+            }
             "resolves" => {
                 self.any_facts = true;
                 Ok(())
@@ -76,8 +75,7 @@ impl Block {
     /// Whether the answer is what is wanted: the same lines, each once, or any facts.
     pub(crate) fn is_met(&mut self, alloc: Global) -> Result<bool> {
         let classes = mem::replace(&mut self.classes, Vec::new(alloc));
-        let entries = mem::replace(&mut self.entries, Vec::new(alloc));
-        self.answered = answered(alloc, classes, entries)?;
+        self.answered = answered(alloc, classes, &self.entries)?;
         if self.any_facts {
             return Ok(are_facts(&self.answered));
         }
@@ -120,56 +118,10 @@ fn add_class(alloc: Global, file: &str, classes: &mut Vec<ClassDef>) -> Result<(
     Ok(())
 }
 
-// Adds the entries of a file: lines of the module, the class and the method, with spaces between.
-fn add_entries(alloc: Global, bytes: &str, entries: &mut Vec<EntryPoint>) -> Result<()> {
-    let bytes = hex::decode(alloc, bytes)?;
-    let text = String::from_utf8(bytes)?;
-    for line in text.as_str().lines() {
-        if let Some(entry) = entry_of(alloc, line)? {
-            entries.push(entry)?;
-        }
-    }
-    Ok(())
-}
-
-fn entry_of(alloc: Global, line: &str) -> Result<Option<EntryPoint>> {
-    let Some((module, rest)) = line.split_once(' ') else {
-        return Ok(None);
-    };
-    let Some((class, method)) = rest.split_once(' ') else {
-        return Ok(None);
-    };
-    Ok(Some(EntryPoint {
-        module: Text::from_str(alloc, module)?,
-        class: ClassName::parse(alloc, class)?,
-        method: SimpleName::parse(alloc, method)?,
-    }))
-}
-
-fn answered(
-    alloc: Global,
-    classes: Vec<ClassDef>,
-    entries: Vec<EntryPoint>,
-) -> Result<Vec<String>> {
-    if !are_entries(&entries) {
-        return Ok(Vec::new(alloc));
-    }
+fn answered(alloc: Global, classes: Vec<ClassDef>, entries: &[u8]) -> Result<Vec<String>> {
     let world = World::new(alloc, classes)?;
-    lines_of(alloc, &world, &reach(alloc, &world, &Entries::new(entries)))
-}
-
-// Whether these may be the entries of a link.
-fn are_entries(list: &[EntryPoint]) -> bool
-    ensures { OnTrue result (AreEntries list.now) }
-{
-    if list.is_empty() || list.len() > 1000 {
-        return false;
+    match entries_of(alloc, entries) {
+        Ok(entries) => lines_of(alloc, &world, &reach(alloc, &world, &entries)),
+        Err(_) => Ok(Vec::new(alloc)),
     }
-    are_valid(list)
-}
-
-fn are_valid(list: &[EntryPoint]) -> bool
-    ensures { result ≡ list_all is_entry list.now }
-{
-    list.iter().all(|entry| entry.is_valid())
 }

@@ -1,18 +1,17 @@
 // Folders and their verdicts.
-use crate::entries::{are_entries, entries_of};
 use anyhow::Result;
+use entries_file::entries_of;
 use folder_judging::{JudgeError, judge};
-use sj_names::{Bytes, Entries, EntryPoint, Meter, SourceFile, Text};
+use sj_names::{Bytes, Entries, Meter, SourceFile, Text};
 use sj_workshop::Workshop;
 use std::alloc::Global;
-use std::mem;
 
-/// The files of a folder, the entries, and the name of the case.
+/// The files of a folder, the bytes of the entries file, and the name of the case.
 #[derive(Drop)]
 pub struct Case {
     name: String,
     files: Vec<SourceFile>,
-    entries: Vec<EntryPoint>,
+    entries: Vec<u8>,
 }
 
 impl Case {
@@ -35,19 +34,21 @@ impl Case {
                 self.name = String::from_str(alloc, fields)?;
                 Ok(())
             }
-            "entries" => entries_of(alloc, fields, &mut self.entries),
+            "entries" => {
+                self.entries = hex::decode(alloc, fields)?;
+                Ok(())
+            }
             "file" => add_file(alloc, fields, &mut self.files),
             _ => Ok(()),
         }
     }
 
     /// The verdict as it is written: `ok`, or the code and the place.
-    pub(crate) fn verdict(&mut self, alloc: Global) -> Result<String> {
-        let entries = mem::replace(&mut self.entries, Vec::new(alloc));
-        if !are_entries(&entries) {
-            return Ok(String::from_str(alloc, "no entries")?);
+    pub(crate) fn verdict(&self, alloc: Global) -> Result<String> {
+        match entries_of(alloc, &self.entries) {
+            Ok(entries) => verdict_of(alloc, &self.files, &entries),
+            Err(_) => Ok(String::from_str(alloc, "no entries")?),
         }
-        verdict_of(alloc, &self.files, &Entries::new(entries))
     }
 }
 

@@ -4,7 +4,6 @@
 #![tactic(auto)]
 
 mod cases;
-mod entries;
 
 use anyhow::Result;
 use cases::Case;
@@ -28,7 +27,7 @@ fn main(rt: HostRuntime) -> Result<()> {
         let line = line?;
         match line.as_str().split_once('\t') {
             Some(("expect", wanted)) => {
-                print!(rt; "{}", judged(alloc, &mut case, wanted, &mut tally)?)?;
+                print!(rt; "{}", judged(alloc, &case, wanted, &mut tally)?)?;
                 case = Case::new(alloc);
             }
             Some((kind, fields)) => case.add(alloc, kind, fields)?,
@@ -40,7 +39,7 @@ fn main(rt: HostRuntime) -> Result<()> {
 }
 
 // What is to be told of a case.
-fn judged(alloc: Global, case: &mut Case, wanted: &str, tally: &mut Tally) -> Result<String> {
+fn judged(alloc: Global, case: &Case, wanted: &str, tally: &mut Tally) -> Result<String> {
     let answered = case.verdict(alloc)?;
     if answered.as_str() == wanted {
         tally.agree = tally.agree.saturating_add(1);
