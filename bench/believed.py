@@ -27,6 +27,7 @@ CLAIMS = [
     ("judge", ["folder_judging.Judging", "folder_judging.Counts"]),
     ("plan", ["sj_split.Modules", "sj_graph.References"]),
     ("command and those before it", ["sj_words.Earlier"]),
+    ("entries of a file", ["entries_file.EntriesFile"]),
     ("canon", ["sj_canon.Methods"]),
     ("folder", ["sj_gen.Folder"]),
 ]
