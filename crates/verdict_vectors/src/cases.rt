@@ -4,6 +4,7 @@ use entries_file::entries_of;
 use folder_judging::{JudgeError, judge};
 use sj_names::{Bytes, Entries, Meter, SourceFile, Text};
 use sj_workshop::Workshop;
+use sj_world::LinkedWorld;
 use std::alloc::Global;
 
 /// The files of a folder, the bytes of the entries file, and the name of the case.
@@ -67,12 +68,23 @@ fn verdict_of(alloc: Global, files: &[SourceFile], entries: &Entries) -> Result<
     let mut work = Workshop {
         meter: Meter::new(),
     };
-    match judge(alloc, files, entries, &mut work) {
+    let judged = judge(alloc, files, entries, &mut work);
+    told(alloc, &judged)
+}
+
+fn told(alloc: Global, judged: &Result<LinkedWorld, JudgeError>) -> Result<String> {
+    match judged {
         Ok(_) => Ok(String::from_str(alloc, "ok")?),
-        Err(JudgeError::Refused { code, place }) => {
+        Err(error) => refusal(alloc, error),
+    }
+}
+
+fn refusal(alloc: Global, error: &JudgeError) -> Result<String> {
+    match error {
+        JudgeError::Refused { code, place } => {
             let place = place.as_str();
             Ok(format!(in alloc; "{code} {place}")?)
         }
-        Err(JudgeError::NoMemory) => Ok(String::from_str(alloc, "no memory")?),
+        JudgeError::NoMemory => Ok(String::from_str(alloc, "no memory")?),
     }
 }
