@@ -1,7 +1,7 @@
 -- What some entries files say.
-use Rattle.std.specs.Prelude.{◌≡◌, ℕ, List, [], ◌∷◌, ◌++◌, Ok, Err, codes}
+use Rattle.std.specs.Prelude.{◌≡◌, ℕ, List, [], ◌∷◌, ◌++◌, ◌<◌, length, Ok, Err, codes}
 use Rattle.sj_names.specs.declared.entry_points.EntryPoint.{EntryPoint}
-use Rattle.entries_file.specs.EntriesFile.{said, entries_of}
+use Rattle.entries_file.specs.EntriesFile.{said, most_bytes, entries_of}
 
 abbrev line_feed : List ℕ
 line_feed = 10 ∷ []
@@ -29,3 +29,4 @@ pub record RowsHold : Type 0 where
   pub internal : entries_of (codes "internal-a A main") ≡ Err 1
   pub no_text : entries_of (codes "main A m" ++ 255 ∷ []) ≡ Err 1
   pub no_room_left : (number byte : ℕ) (bytes : List ℕ) (rest : List (List ℕ)) → said number 0 ((byte ∷ bytes) ∷ rest) ≡ Err number
+  pub too_long : (bytes : List ℕ) → most_bytes < length bytes → entries_of bytes ≡ Err 0

@@ -9,7 +9,7 @@ use thiserror::Error;
 #[derive(Clone, Copy, Debug, PartialEq, Eq, Error)]
 pub enum EntriesError {
     /// The line of this number is the first bad one; 0 where no line is at fault.
-    #[error("the entries file has a bad line")]
+    #[error("the entries file is bad")]
     BadLine(u32),
     /// No memory was left.
     #[error("no memory is left")]
