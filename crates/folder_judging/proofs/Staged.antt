@@ -22,7 +22,7 @@ use Rattle.folder_verdicts.specs.Verdicts.{Verdict, accepted, refused, untyped, 
 use Rattle.folder_judging.specs.declared.errors.JudgeError.{JudgeError}
 use Rattle.folder_judging.specs.declared.errors.JudgeError.TheVariants.{Refused, NoMemory}
 use Rattle.folder_judging.specs.Counts.{with_reads, ChecksAtMost, none, bodies, HasChecked, CountsChecks, HasReadSome, Counts}
-use Rattle.folder_judging.specs.Judging.{Judges, IsLinked, IsLinkedOf, IsLinkedFolder, AreFactsOf, AreFactsIn, IsKeptWorld}
+use Rattle.folder_judging.specs.Judging.{Judges, IsLinked, IsLinkedOf, IsLinkedFolder, AreFactsOf, AreFactsRead, AreFactsIn, IsKeptWorld}
 use Rattle.folder_judging.specs.Refusals.{IsRefusal, IsAt}
 use Rattle.folder_judging.specs.Types.{IsFailing, IsLeastUntypedIn, IsToldUntyped, ChecksSome}
 use Rattle.folder_judging.proofs.Refused.{at_refusal, not_twice}
@@ -111,7 +111,7 @@ counts_more P Q into (Ok l) old new h = h
 counts_more P Q into (Err (Refused code place)) old new h = (has_checked P Q into old new h.0, h.1)
 counts_more P Q into (Err NoMemory) old new h = has_checked P Q into old new h
 
-pub counts_in_world : (entries : List EntryPoint) (classes w : Classes) → IsWorldOf classes w → (r : Result Linked JudgeError) (old new : Meter) → CountsChecks (AreReachable w entries) r old new → CountsChecks (AreFactsOf entries classes) r old new
+pub counts_in_world : (entries : List EntryPoint) (classes w : Classes) → IsKeptWorld classes w → (r : Result Linked JudgeError) (old new : Meter) → CountsChecks (AreReachable w entries) r old new → CountsChecks (AreFactsOf entries classes) r old new
 counts_in_world entries classes w is = counts_more (AreReachable w entries) (AreFactsOf entries classes) (λ facts h. record { w = w; world = is; reached = h })
 
 module _ (entries : List EntryPoint) (files : List SourceFile) (classes : Classes) (are : AreRead files classes) where
@@ -120,10 +120,10 @@ module _ (entries : List EntryPoint) (files : List SourceFile) (classes : Classe
   by_files (Err (Refused code place)) h = read classes (refused code place) are h
   by_files (Err NoMemory) h = tt
 
-  counts_facts : (r : Result Linked JudgeError) (old new : Meter) → CountsChecks (AreFactsOf entries classes) r old new → CountsChecks (AreFactsIn entries files) r old new
-  counts_facts = counts_more (AreFactsOf entries classes) (AreFactsIn entries files) (λ facts h. record { classes = classes; read = are; known = h })
+  counts_facts : (r : Result Linked JudgeError) (old new : Meter) → CountsChecks (AreFactsOf entries classes) r old new → CountsChecks (AreFactsRead entries files) r old new
+  counts_facts = counts_more (AreFactsOf entries classes) (AreFactsRead entries files) (λ facts h. record { classes = classes; read = are; known = h })
 
-  pub counts_in_files : (r : Result Linked JudgeError) (old mid new : Meter) → mid ≡ with_reads (length files) old → CountsChecks (AreFactsOf entries classes) r mid new → Counts files (AreFactsIn entries files) r old new
+  pub counts_in_files : (r : Result Linked JudgeError) (old mid new : Meter) → mid ≡ with_reads (length files) old → CountsChecks (AreFactsOf entries classes) r mid new → Counts files (AreFactsRead entries files) r old new
   counts_in_files (Ok l) old mid new e h = record { reads = length files; whole = refl; checked = counts_facts (Ok l) _ new (subst (λ (m : Meter). CountsChecks (AreFactsOf entries classes) (Ok l) m new) e h) }
   counts_in_files (Err f) old mid new e h = record { reads = length files; whole = omega arith; checked = counts_facts (Err f) _ new (subst (λ (m : Meter). CountsChecks (AreFactsOf entries classes) (Err f) m new) e h) }
 
@@ -155,3 +155,6 @@ by_sizes entries files found are fit r h = go r h
     go (Ok l) k = (small accepted fits k.0, k.1)
     go (Err (Refused code path)) k = small (refused code path) fits k
     go (Err NoMemory) k = tt
+
+pub counts_small : (entries : List EntryPoint) (files : List SourceFile) (found : List ℕ) → found ≡ sizes files → ((place : ℕ) → IsTooLarge found place → ⊥) → (r : Result Linked JudgeError) (old new : Meter) → Counts files (AreFactsRead entries files) r old new → Counts files (AreFactsIn entries files) r old new
+counts_small entries files found are fit r old new h = record { reads = h.reads; whole = h.whole; checked = counts_more (AreFactsRead entries files) (AreFactsIn entries files) (λ facts k. record { small = λ place t. fit place (subst (λ (ns : List ℕ). IsTooLarge ns place) (sym are) t); facts_read = k }) r (with_reads h.reads old) new h.checked }

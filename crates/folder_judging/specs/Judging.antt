@@ -1,5 +1,5 @@
 -- What is answered of a folder.
-use Rattle.std.specs.Prelude.{◌≡◌, List, Result, Ok, Err}
+use Rattle.std.specs.Prelude.{◌≡◌, ℕ, List, Result, Ok, Err}
 use Rattle.sj_names.specs.declared.entry_points.EntryPoint.{EntryPoint}
 use Rattle.sj_names.specs.declared.folders.SourceFile.{SourceFile}
 use Rattle.sj_world.specs.Known.{Classes}
@@ -8,7 +8,8 @@ use Rattle.sj_world.specs.Refusals.{IsWorldOf}
 use Rattle.sj_world.specs.declared.facts.Fact.{Fact}
 use Rattle.sj_reach.specs.Answers.{AreReachable}
 use Rattle.entry_rules.specs.Entries.{AreEntries}
-use Rattle.folder_verdicts.specs.Stages.{AreRead, KeepRules}
+use Rattle.folder_sizes.specs.Sizes.{IsTooLarge}
+use Rattle.folder_verdicts.specs.Stages.{sizes, AreRead, KeepRules}
 use Rattle.folder_verdicts.specs.Verdicts.{Verdict, accepted}
 use Rattle.folder_judging.specs.declared.errors.JudgeError.{JudgeError}
 use Rattle.folder_judging.specs.Refusals.{IsRefusal}
@@ -41,14 +42,19 @@ module _ (entries : List EntryPoint) where
     pub read : AreRead files classes
     pub linked : IsLinkedOf classes l
 
-  -- the facts that are reachable in the world of these classes
+  -- the facts that are reachable in the world of these classes, which keep the local rules
   pub record AreFactsOf (classes : Classes) (facts : List Fact) : Type 0 where
     pub w : Classes
-    pub world : IsWorldOf classes w
+    pub world : IsKeptWorld classes w
     pub reached : AreReachable w entries facts
 
-  -- and in that of these files
-  pub record AreFactsIn (files : List SourceFile) (facts : List Fact) : Type 0 where
+  -- and in that of the classes of these files
+  pub record AreFactsRead (files : List SourceFile) (facts : List Fact) : Type 0 where
     pub classes : Classes
     pub read : AreRead files classes
     pub known : AreFactsOf classes facts
+
+  -- and these files aren't too large: so no stage before the types refuses them
+  pub record AreFactsIn (files : List SourceFile) (facts : List Fact) : Type 0 where
+    pub small : (place : ℕ) → IsTooLarge (sizes files) place → ⊥
+    pub facts_read : AreFactsRead files facts

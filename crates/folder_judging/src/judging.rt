@@ -5,7 +5,7 @@ ghost use Rattle.sj_reach.specs.Answers.{AreReachable};
 ghost use Rattle.folder_verdicts.specs.Stages.{KeepRules};
 ghost use Rattle.folder_verdicts.specs.Verdicts.{IsVerdict, ByFiles, ByNames, ByReferences};
 ghost use Rattle.folder_judging.specs.Counts.{Counts, CountsChecks};
-ghost use Rattle.folder_judging.specs.Judging.{Judges, IsLinked, IsLinkedOf, IsLinkedFolder, AreFactsOf, AreFactsIn, IsKeptWorld};
+ghost use Rattle.folder_judging.specs.Judging.{Judges, IsLinked, IsLinkedOf, IsLinkedFolder, AreFactsOf, AreFactsRead, AreFactsIn, IsKeptWorld};
 ghost use Rattle.folder_judging.specs.Rules.{IsLeastIn};
 ghost use Rattle.folder_judging.specs.Refusals.{IsRefusal, IsAt};
 
@@ -53,7 +53,7 @@ fn judge_files<W: Workers>(
     work: &mut W,
 ) -> Result<LinkedWorld, JudgeError>
     ensures verdict { Judges (ByFiles entries.now files.now) (IsLinkedFolder entries.now files.now) result }
-    ensures counted { Counts files.now (AreFactsIn entries.now files.now) result (W.meter work.old) (W.meter work.new) }
+    ensures counted { Counts files.now (AreFactsRead entries.now files.now) result (W.meter work.old) (W.meter work.new) }
 {
     let classes = read_files(alloc, files, work)?;
     judge_classes(alloc, classes, entries, work)

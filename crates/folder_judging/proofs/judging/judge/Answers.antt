@@ -2,7 +2,7 @@ use Rattle.std.proofs.Common.{◌∙◌, sym, subst}
 use Rattle.std.proofs.lemmas.Result.{err_from_is_err_and}
 use Rattle.folder_judging.specs.Counts.{Counts}
 use Rattle.folder_judging.specs.Judging.{AreFactsIn}
-use Rattle.folder_judging.proofs.Staged.{counts_nothing, place_inside, too_large_at, by_sizes}
+use Rattle.folder_judging.proofs.Staged.{counts_nothing, counts_small, place_inside, too_large_at, by_sizes}
 use Rattle.folder_judging.proofs.judging.judge.Goals as goal
 
 pub returns-in_err-sizes-clause-counted : goal.returns-in_err-sizes-clause-counted
@@ -21,3 +21,6 @@ returns-in-Some-clause-counted g c = counts_nothing c.args.files.now (AreFactsIn
 
 pub returns-clause-verdict : goal.returns-clause-verdict
 returns-clause-verdict g c = by_sizes c.args.entries.now c.args.files.now c.deref.result.now (c.deref.ensures.value ∙ c.in_ok-sizes.ensures) c.in-None.ensures c.judge_files.result c.judge_files.ensures.verdict
+
+pub returns-clause-counted : goal.returns-clause-counted
+returns-clause-counted g c = counts_small c.args.entries.now c.args.files.now c.deref.result.now (c.deref.ensures.value ∙ c.in_ok-sizes.ensures) c.in-None.ensures c.judge_files.result _ _ c.judge_files.ensures.counted

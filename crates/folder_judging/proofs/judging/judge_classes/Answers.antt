@@ -22,4 +22,4 @@ pub returns-clause-verdict : goal.returns-clause-verdict
 returns-clause-verdict g c = by_names c.args.entries.now c.args.classes.items c.in_ok-world.world c.in_ok-world.ensures c.judge_world.result c.judge_world.ensures.verdict
 
 pub returns-clause-counted : goal.returns-clause-counted
-returns-clause-counted g c = counts_in_world c.args.entries.now c.args.classes.items c.in_ok-world.world c.in_ok-world.ensures.world c.judge_world.result _ _ c.judge_world.ensures.counted
+returns-clause-counted g c = counts_in_world c.args.entries.now c.args.classes.items c.in_ok-world.world c.in_ok-world.ensures c.judge_world.result _ _ c.judge_world.ensures.counted
