@@ -45,8 +45,7 @@ fn param_of<'a>(alloc: Global, fuel: usize, bytes: &'a [u8]) -> Result<(ParamDef
     let (name, rest) = name_field(alloc, fuel, rest)?;
     let (mutable, rest) = mark_field(rest)?;
     let (tpe, rest) = type_field(alloc, fuel, rest)?;
-    let rest = literal(b")", rest)?;
-    Ok((ParamDef { name, mutable, tpe }, rest))
+    ended(ParamDef { name, mutable, tpe }, rest)
 }
 
 // A parameter.
@@ -79,8 +78,7 @@ fn field_of<'a>(alloc: Global, fuel: usize, bytes: &'a [u8]) -> Result<(FieldDef
     let (mutable, rest) = mark_field(rest)?;
     let (name, rest) = field_field(alloc, fuel, rest)?;
     let (tpe, rest) = type_field(alloc, fuel, rest)?;
-    let rest = literal(b")", rest)?;
-    Ok((
+    ended(
         FieldDef {
             pos: NOWHERE,
             is_static,
@@ -89,7 +87,7 @@ fn field_of<'a>(alloc: Global, fuel: usize, bytes: &'a [u8]) -> Result<(FieldDef
             tpe,
         },
         rest,
-    ))
+    )
 }
 
 // A field.
@@ -180,8 +178,7 @@ fn method_of<'a>(alloc: Global, fuel: usize, bytes: &'a [u8]) -> Result<(MethodD
     let (params, rest) = params_field(alloc, fuel, rest)?;
     let (return_type, rest) = type_field(alloc, fuel, rest)?;
     let (body, rest) = body_field(alloc, fuel, rest)?;
-    let (body, rest) = ended(body, rest)?;
-    Ok((
+    ended(
         MethodDef {
             pos: NOWHERE,
             namespace,
@@ -192,7 +189,7 @@ fn method_of<'a>(alloc: Global, fuel: usize, bytes: &'a [u8]) -> Result<(MethodD
             hash: None,
         },
         rest,
-    ))
+    )
 }
 
 // A method.
@@ -302,11 +299,11 @@ pub fn class_of<'a>(
     let (interfaces, rest) = interfaces_field(alloc, fuel, rest)?;
     let (fields, rest) = fields_field(alloc, fuel, rest)?;
     let (methods, rest) = methods_field(alloc, fuel, rest)?;
-    let rest = literal(b")", rest)?;
-    Ok((
+    let files = no_file(alloc)?;
+    ended(
         ClassDef {
             pos: NOWHERE,
-            files: no_file(alloc)?,
+            files,
             name,
             kind,
             superclass,
@@ -315,5 +312,5 @@ pub fn class_of<'a>(
             methods,
         },
         rest,
-    ))
+    )
 }

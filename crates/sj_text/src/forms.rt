@@ -24,13 +24,20 @@ pub const NOWHERE: Position = Position {
     column: 0,
 };
 
+/// The tree, behind the closing parenthesis.
+pub fn ended_tree<'a>(tree: Tree, bytes: &'a [u8]) -> Read<'a>
+    ensures { Gives (λ x. (view x.0, x.1.now)) result (reading.close_at (view tree) bytes.now) }
+{
+    let rest = literal(b")", bytes)?;
+    Ok((tree, rest))
+}
+
 #[tactic(auto, unfolding(listing_spelling::specs::Reading::leaf_at))]
 fn load_module_of<'a>(alloc: Global, fuel: usize, bytes: &'a [u8]) -> Read<'a>
     ensures { Gives (λ x. (view x.0, x.1.now)) result (reading.leaf_at (reading.tree_at fuel) fuel leaves.LoadModule bytes.now) }
 {
     let (class, rest) = class_field(alloc, fuel, bytes)?;
-    let rest = literal(b")", rest)?;
-    Ok((Tree::LoadModule(NOWHERE, class), rest))
+    ended_tree(Tree::LoadModule(NOWHERE, class), rest)
 }
 
 #[tactic(auto, unfolding(listing_spelling::specs::Reading::leaf_at))]
@@ -40,8 +47,7 @@ fn select_static_of<'a>(alloc: Global, fuel: usize, bytes: &'a [u8]) -> Read<'a>
     let (class, rest) = class_field(alloc, fuel, bytes)?;
     let (field, rest) = field_field(alloc, fuel, rest)?;
     let (tpe, rest) = type_field(alloc, fuel, rest)?;
-    let rest = literal(b")", rest)?;
-    Ok((Tree::SelectStatic(NOWHERE, class, field, tpe), rest))
+    ended_tree(Tree::SelectStatic(NOWHERE, class, field, tpe), rest)
 }
 
 #[tactic(auto, unfolding(listing_spelling::specs::Reading::leaf_at))]
@@ -49,8 +55,7 @@ fn string_literal_of<'a>(alloc: Global, fuel: usize, bytes: &'a [u8]) -> Read<'a
     ensures { Gives (λ x. (view x.0, x.1.now)) result (reading.leaf_at (reading.tree_at fuel) fuel leaves.StringLiteral bytes.now) }
 {
     let (text, rest) = string_field(alloc, fuel, bytes)?;
-    let rest = literal(b")", rest)?;
-    Ok((Tree::StringLiteral(NOWHERE, text), rest))
+    ended_tree(Tree::StringLiteral(NOWHERE, text), rest)
 }
 
 #[tactic(auto, unfolding(listing_spelling::specs::Reading::leaf_at))]
@@ -59,8 +64,7 @@ fn var_ref_of<'a>(alloc: Global, fuel: usize, bytes: &'a [u8]) -> Read<'a>
 {
     let (name, rest) = name_field(alloc, fuel, bytes)?;
     let (tpe, rest) = type_field(alloc, fuel, rest)?;
-    let rest = literal(b")", rest)?;
-    Ok((Tree::VarRef(NOWHERE, name, tpe), rest))
+    ended_tree(Tree::VarRef(NOWHERE, name, tpe), rest)
 }
 
 #[tactic(auto, unfolding(listing_spelling::specs::Reading::leaf_at))]
@@ -68,8 +72,7 @@ fn this_of<'a>(alloc: Global, fuel: usize, bytes: &'a [u8]) -> Read<'a>
     ensures { Gives (λ x. (view x.0, x.1.now)) result (reading.leaf_at (reading.tree_at fuel) fuel leaves.This bytes.now) }
 {
     let (tpe, rest) = type_field(alloc, fuel, bytes)?;
-    let rest = literal(b")", rest)?;
-    Ok((Tree::This(NOWHERE, tpe), rest))
+    ended_tree(Tree::This(NOWHERE, tpe), rest)
 }
 
 /// A form without trees in it, behind its name.
@@ -78,49 +81,34 @@ pub fn leaf_of<'a>(alloc: Global, fuel: usize, form: LeafForm, bytes: &'a [u8]) 
     ensures { Gives (λ x. (view x.0, x.1.now)) result (reading.leaf_at (reading.tree_at fuel) fuel form bytes.now) }
 {
     match form {
-        LeafForm::Skip => {
-            let rest = literal(b")", bytes)?;
-            Ok((Tree::Skip(NOWHERE), rest))
-        }
+        LeafForm::Skip => ended_tree(Tree::Skip(NOWHERE), bytes),
         LeafForm::LoadModule => load_module_of(alloc, fuel, bytes),
         LeafForm::SelectStatic => select_static_of(alloc, fuel, bytes),
-        LeafForm::Undefined => {
-            let rest = literal(b")", bytes)?;
-            Ok((Tree::Undefined(NOWHERE), rest))
-        }
-        LeafForm::Null => {
-            let rest = literal(b")", bytes)?;
-            Ok((Tree::Null(NOWHERE), rest))
-        }
+        LeafForm::Undefined => ended_tree(Tree::Undefined(NOWHERE), bytes),
+        LeafForm::Null => ended_tree(Tree::Null(NOWHERE), bytes),
         LeafForm::BooleanLiteral => {
             let (value, rest) = mark_field(bytes)?;
-            let rest = literal(b")", rest)?;
-            Ok((Tree::BooleanLiteral(NOWHERE, value), rest))
+            ended_tree(Tree::BooleanLiteral(NOWHERE, value), rest)
         }
         LeafForm::CharLiteral => {
             let (value, rest) = char_field(bytes)?;
-            let rest = literal(b")", rest)?;
-            Ok((Tree::CharLiteral(NOWHERE, value), rest))
+            ended_tree(Tree::CharLiteral(NOWHERE, value), rest)
         }
         LeafForm::ByteLiteral => {
             let (value, rest) = byte_field(bytes)?;
-            let rest = literal(b")", rest)?;
-            Ok((Tree::ByteLiteral(NOWHERE, value), rest))
+            ended_tree(Tree::ByteLiteral(NOWHERE, value), rest)
         }
         LeafForm::ShortLiteral => {
             let (value, rest) = short_field(bytes)?;
-            let rest = literal(b")", rest)?;
-            Ok((Tree::ShortLiteral(NOWHERE, value), rest))
+            ended_tree(Tree::ShortLiteral(NOWHERE, value), rest)
         }
         LeafForm::IntLiteral => {
             let (value, rest) = int_field(bytes)?;
-            let rest = literal(b")", rest)?;
-            Ok((Tree::IntLiteral(NOWHERE, value), rest))
+            ended_tree(Tree::IntLiteral(NOWHERE, value), rest)
         }
         LeafForm::LongLiteral => {
             let (value, rest) = long_field(bytes)?;
-            let rest = literal(b")", rest)?;
-            Ok((Tree::LongLiteral(NOWHERE, value), rest))
+            ended_tree(Tree::LongLiteral(NOWHERE, value), rest)
         }
         LeafForm::StringLiteral => string_literal_of(alloc, fuel, bytes),
         LeafForm::VarRef => var_ref_of(alloc, fuel, bytes),

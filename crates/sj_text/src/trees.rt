@@ -9,7 +9,7 @@ ghost use Rattle.sj_trees.specs.declared.forms.BranchForm.TheVariants as branche
 ghost use Rattle.sj_trees.specs.declared.forms.CallForm.TheVariants as calls;
 ghost use Rattle.sj_trees.specs.declared.forms.OperationForm.TheVariants as operations;
 
-use crate::forms::{NOWHERE, Read, leaf_of};
+use crate::forms::{NOWHERE, Read, ended_tree, leaf_of};
 use listing_read::{
     Part, array_field, binary_field, bracketed_of, class_field, field_field, form_of, label_field,
     mark_field, method_field, name_field, namespace_field, type_field, unary_field,
@@ -47,11 +47,18 @@ fn closed<'a, T: Drop>(
 
 /// The value, behind the closing parenthesis.
 pub fn ended<'a, T: Drop>(value: T, bytes: &'a [u8]) -> Result<(T, &'a [u8]), Stop>
-    ensures after { Gives (λ x. (tt, x.1.now)) result (literal_at (codes ")") bytes.now) }
-    ensures same { IfOk result (λ x. x.0 ≡ value) }
+    ensures { Gives (λ x. (x.0, x.1.now)) result (reading.close_at value bytes.now) }
 {
     let rest = literal(b")", bytes)?;
     Ok((value, rest))
+}
+
+/// The case, behind the closing parenthesis.
+fn ended_case<'a>(case: MatchCase, bytes: &'a [u8]) -> Result<(MatchCase, &'a [u8]), Stop>
+    ensures { Gives (λ x. (view_case x.0, x.1.now)) result (reading.close_at (view_case case) bytes.now) }
+{
+    let rest = literal(b")", bytes)?;
+    Ok((case, rest))
 }
 
 /// A tree, read with this much fuel.
@@ -208,14 +215,13 @@ fn case_of<'a>(alloc: Global, fuel: usize, bytes: &'a [u8]) -> Result<(MatchCase
     let rest = literal(b"(", bytes)?;
     let (keys, rest) = bracketed_of(alloc, fuel, &KeyPart, rest)?;
     let (body, rest) = tree_field(alloc, fuel, rest)?;
-    let (body, rest) = ended(body, rest)?;
-    Ok((
+    ended_case(
         MatchCase {
             keys: Items::from_vec(keys),
             body,
         },
         rest,
-    ))
+    )
 }
 
 /// A case behind a space.
@@ -309,8 +315,7 @@ fn var_def_of<'a>(alloc: Global, fuel: usize, bytes: &'a [u8]) -> Read<'a>
     let (tpe, rest) = type_field(alloc, fuel, rest)?;
     let (mutable, rest) = mark_field(rest)?;
     let (value, rest) = boxed_field(alloc, fuel, rest)?;
-    let rest = literal(b")", rest)?;
-    Ok((Tree::VarDef(NOWHERE, name, tpe, mutable, value), rest))
+    ended_tree(Tree::VarDef(NOWHERE, name, tpe, mutable, value), rest)
 }
 
 #[cycle(trees)]
@@ -319,8 +324,7 @@ fn block_of<'a>(alloc: Global, fuel: usize, bytes: &'a [u8]) -> Read<'a>
     ensures { Gives (λ x. (view x.0, x.1.now)) result (reading.statement_at (reading.tree_at fuel) fuel statements.Block bytes.now) }
 {
     let (trees, rest) = trees_field(alloc, fuel, bytes)?;
-    let rest = literal(b")", rest)?;
-    Ok((Tree::Block(NOWHERE, trees), rest))
+    ended_tree(Tree::Block(NOWHERE, trees), rest)
 }
 
 #[cycle(trees)]
@@ -331,8 +335,7 @@ fn labeled_of<'a>(alloc: Global, fuel: usize, bytes: &'a [u8]) -> Read<'a>
     let (label, rest) = label_field(alloc, fuel, bytes)?;
     let (tpe, rest) = type_field(alloc, fuel, rest)?;
     let (body, rest) = boxed_field(alloc, fuel, rest)?;
-    let rest = literal(b")", rest)?;
-    Ok((Tree::Labeled(NOWHERE, label, tpe, body), rest))
+    ended_tree(Tree::Labeled(NOWHERE, label, tpe, body), rest)
 }
 
 #[cycle(trees)]
@@ -342,8 +345,7 @@ fn assign_of<'a>(alloc: Global, fuel: usize, bytes: &'a [u8]) -> Read<'a>
 {
     let (target, rest) = boxed_field(alloc, fuel, bytes)?;
     let (value, rest) = boxed_field(alloc, fuel, rest)?;
-    let rest = literal(b")", rest)?;
-    Ok((Tree::Assign(NOWHERE, target, value), rest))
+    ended_tree(Tree::Assign(NOWHERE, target, value), rest)
 }
 
 #[cycle(trees)]
@@ -353,8 +355,7 @@ fn return_of<'a>(alloc: Global, fuel: usize, bytes: &'a [u8]) -> Read<'a>
 {
     let (value, rest) = boxed_field(alloc, fuel, bytes)?;
     let (label, rest) = label_field(alloc, fuel, rest)?;
-    let rest = literal(b")", rest)?;
-    Ok((Tree::Return(NOWHERE, value, label), rest))
+    ended_tree(Tree::Return(NOWHERE, value, label), rest)
 }
 
 #[cycle(trees)]
@@ -363,8 +364,7 @@ fn throw_of<'a>(alloc: Global, fuel: usize, bytes: &'a [u8]) -> Read<'a>
     ensures { Gives (λ x. (view x.0, x.1.now)) result (reading.statement_at (reading.tree_at fuel) fuel statements.Throw bytes.now) }
 {
     let (value, rest) = boxed_field(alloc, fuel, bytes)?;
-    let rest = literal(b")", rest)?;
-    Ok((Tree::Throw(NOWHERE, value), rest))
+    ended_tree(Tree::Throw(NOWHERE, value), rest)
 }
 
 #[cycle(trees)]
@@ -374,8 +374,7 @@ fn store_module_of<'a>(alloc: Global, fuel: usize, bytes: &'a [u8]) -> Read<'a>
 {
     let (class, rest) = class_field(alloc, fuel, bytes)?;
     let (value, rest) = boxed_field(alloc, fuel, rest)?;
-    let rest = literal(b")", rest)?;
-    Ok((Tree::StoreModule(NOWHERE, class, value), rest))
+    ended_tree(Tree::StoreModule(NOWHERE, class, value), rest)
 }
 
 #[cycle(trees)]
@@ -384,8 +383,7 @@ fn log_of<'a>(alloc: Global, fuel: usize, bytes: &'a [u8]) -> Read<'a>
     ensures { Gives (λ x. (view x.0, x.1.now)) result (reading.statement_at (reading.tree_at fuel) fuel statements.Log bytes.now) }
 {
     let (value, rest) = boxed_field(alloc, fuel, bytes)?;
-    let rest = literal(b")", rest)?;
-    Ok((Tree::Log(NOWHERE, value), rest))
+    ended_tree(Tree::Log(NOWHERE, value), rest)
 }
 
 /// A form that sets, leaves, throws or writes, or holds statements in a row.
@@ -415,11 +413,10 @@ fn if_of<'a>(alloc: Global, fuel: usize, bytes: &'a [u8]) -> Read<'a>
     let (consequent, rest) = boxed_field(alloc, fuel, rest)?;
     let (alternative, rest) = boxed_field(alloc, fuel, rest)?;
     let (tpe, rest) = type_field(alloc, fuel, rest)?;
-    let rest = literal(b")", rest)?;
-    Ok((
+    ended_tree(
         Tree::If(NOWHERE, condition, consequent, alternative, tpe),
         rest,
-    ))
+    )
 }
 
 #[cycle(trees)]
@@ -429,8 +426,7 @@ fn while_of<'a>(alloc: Global, fuel: usize, bytes: &'a [u8]) -> Read<'a>
 {
     let (condition, rest) = boxed_field(alloc, fuel, bytes)?;
     let (body, rest) = boxed_field(alloc, fuel, rest)?;
-    let rest = literal(b")", rest)?;
-    Ok((Tree::While(NOWHERE, condition, body), rest))
+    ended_tree(Tree::While(NOWHERE, condition, body), rest)
 }
 
 #[cycle(trees)]
@@ -440,8 +436,7 @@ fn do_while_of<'a>(alloc: Global, fuel: usize, bytes: &'a [u8]) -> Read<'a>
 {
     let (body, rest) = boxed_field(alloc, fuel, bytes)?;
     let (condition, rest) = boxed_field(alloc, fuel, rest)?;
-    let rest = literal(b")", rest)?;
-    Ok((Tree::DoWhile(NOWHERE, body, condition), rest))
+    ended_tree(Tree::DoWhile(NOWHERE, body, condition), rest)
 }
 
 #[cycle(trees)]
@@ -453,8 +448,7 @@ fn try_catch_of<'a>(alloc: Global, fuel: usize, bytes: &'a [u8]) -> Read<'a>
     let (name, rest) = name_field(alloc, fuel, rest)?;
     let (handler, rest) = boxed_field(alloc, fuel, rest)?;
     let (tpe, rest) = type_field(alloc, fuel, rest)?;
-    let rest = literal(b")", rest)?;
-    Ok((Tree::TryCatch(NOWHERE, block, name, handler, tpe), rest))
+    ended_tree(Tree::TryCatch(NOWHERE, block, name, handler, tpe), rest)
 }
 
 #[cycle(trees)]
@@ -464,8 +458,7 @@ fn try_finally_of<'a>(alloc: Global, fuel: usize, bytes: &'a [u8]) -> Read<'a>
 {
     let (block, rest) = boxed_field(alloc, fuel, bytes)?;
     let (finalizer, rest) = boxed_field(alloc, fuel, rest)?;
-    let rest = literal(b")", rest)?;
-    Ok((Tree::TryFinally(NOWHERE, block, finalizer), rest))
+    ended_tree(Tree::TryFinally(NOWHERE, block, finalizer), rest)
 }
 
 #[cycle(trees)]
@@ -477,8 +470,7 @@ fn match_of<'a>(alloc: Global, fuel: usize, bytes: &'a [u8]) -> Read<'a>
     let (cases, rest) = cases_field(alloc, fuel, rest)?;
     let (default, rest) = boxed_field(alloc, fuel, rest)?;
     let (tpe, rest) = type_field(alloc, fuel, rest)?;
-    let rest = literal(b")", rest)?;
-    Ok((Tree::Match(NOWHERE, selector, cases, default, tpe), rest))
+    ended_tree(Tree::Match(NOWHERE, selector, cases, default, tpe), rest)
 }
 
 /// A form that chooses, repeats or catches.
@@ -505,8 +497,7 @@ fn new_of<'a>(alloc: Global, fuel: usize, bytes: &'a [u8]) -> Read<'a>
     let (class, rest) = class_field(alloc, fuel, bytes)?;
     let (method, rest) = method_field(alloc, fuel, rest)?;
     let (arguments, rest) = trees_field(alloc, fuel, rest)?;
-    let rest = literal(b")", rest)?;
-    Ok((Tree::New(NOWHERE, class, method, arguments), rest))
+    ended_tree(Tree::New(NOWHERE, class, method, arguments), rest)
 }
 
 #[cycle(trees)]
@@ -518,8 +509,7 @@ fn select_of<'a>(alloc: Global, fuel: usize, bytes: &'a [u8]) -> Read<'a>
     let (class, rest) = class_field(alloc, fuel, rest)?;
     let (field, rest) = field_field(alloc, fuel, rest)?;
     let (tpe, rest) = type_field(alloc, fuel, rest)?;
-    let rest = literal(b")", rest)?;
-    Ok((Tree::Select(NOWHERE, qualifier, class, field, tpe), rest))
+    ended_tree(Tree::Select(NOWHERE, qualifier, class, field, tpe), rest)
 }
 
 #[cycle(trees)]
@@ -531,8 +521,7 @@ fn apply_of<'a>(alloc: Global, fuel: usize, bytes: &'a [u8]) -> Read<'a>
     let (method, rest) = method_field(alloc, fuel, rest)?;
     let (arguments, rest) = trees_field(alloc, fuel, rest)?;
     let (tpe, rest) = type_field(alloc, fuel, rest)?;
-    let rest = literal(b")", rest)?;
-    Ok((Tree::Apply(NOWHERE, receiver, method, arguments, tpe), rest))
+    ended_tree(Tree::Apply(NOWHERE, receiver, method, arguments, tpe), rest)
 }
 
 #[cycle(trees)]
@@ -546,11 +535,10 @@ fn apply_statically_of<'a>(alloc: Global, fuel: usize, bytes: &'a [u8]) -> Read<
     let (method, rest) = method_field(alloc, fuel, rest)?;
     let (arguments, rest) = trees_field(alloc, fuel, rest)?;
     let (tpe, rest) = type_field(alloc, fuel, rest)?;
-    let rest = literal(b")", rest)?;
-    Ok((
+    ended_tree(
         Tree::ApplyStatically(NOWHERE, receiver, class, namespace, method, arguments, tpe),
         rest,
-    ))
+    )
 }
 
 #[cycle(trees)]
@@ -563,11 +551,10 @@ fn apply_static_of<'a>(alloc: Global, fuel: usize, bytes: &'a [u8]) -> Read<'a>
     let (method, rest) = method_field(alloc, fuel, rest)?;
     let (arguments, rest) = trees_field(alloc, fuel, rest)?;
     let (tpe, rest) = type_field(alloc, fuel, rest)?;
-    let rest = literal(b")", rest)?;
-    Ok((
+    ended_tree(
         Tree::ApplyStatic(NOWHERE, class, namespace, method, arguments, tpe),
         rest,
-    ))
+    )
 }
 
 /// A form that calls a method or reads a field of an object.
@@ -592,8 +579,7 @@ fn unary_op_of<'a>(alloc: Global, fuel: usize, bytes: &'a [u8]) -> Read<'a>
 {
     let (operator, rest) = unary_field(bytes)?;
     let (operand, rest) = boxed_field(alloc, fuel, rest)?;
-    let rest = literal(b")", rest)?;
-    Ok((Tree::UnaryOp(NOWHERE, operator, operand), rest))
+    ended_tree(Tree::UnaryOp(NOWHERE, operator, operand), rest)
 }
 
 #[cycle(trees)]
@@ -604,8 +590,7 @@ fn binary_op_of<'a>(alloc: Global, fuel: usize, bytes: &'a [u8]) -> Read<'a>
     let (operator, rest) = binary_field(bytes)?;
     let (left, rest) = boxed_field(alloc, fuel, rest)?;
     let (right, rest) = boxed_field(alloc, fuel, rest)?;
-    let rest = literal(b")", rest)?;
-    Ok((Tree::BinaryOp(NOWHERE, operator, left, right), rest))
+    ended_tree(Tree::BinaryOp(NOWHERE, operator, left, right), rest)
 }
 
 #[cycle(trees)]
@@ -615,8 +600,7 @@ fn new_array_of<'a>(alloc: Global, fuel: usize, bytes: &'a [u8]) -> Read<'a>
 {
     let (array, rest) = array_field(alloc, fuel, bytes)?;
     let (length, rest) = boxed_field(alloc, fuel, rest)?;
-    let rest = literal(b")", rest)?;
-    Ok((Tree::NewArray(NOWHERE, array, length), rest))
+    ended_tree(Tree::NewArray(NOWHERE, array, length), rest)
 }
 
 #[cycle(trees)]
@@ -626,8 +610,7 @@ fn array_value_of<'a>(alloc: Global, fuel: usize, bytes: &'a [u8]) -> Read<'a>
 {
     let (array, rest) = array_field(alloc, fuel, bytes)?;
     let (items, rest) = trees_field(alloc, fuel, rest)?;
-    let rest = literal(b")", rest)?;
-    Ok((Tree::ArrayValue(NOWHERE, array, items), rest))
+    ended_tree(Tree::ArrayValue(NOWHERE, array, items), rest)
 }
 
 #[cycle(trees)]
@@ -636,8 +619,7 @@ fn array_length_of<'a>(alloc: Global, fuel: usize, bytes: &'a [u8]) -> Read<'a>
     ensures { Gives (λ x. (view x.0, x.1.now)) result (reading.operation_at (reading.tree_at fuel) fuel operations.ArrayLength bytes.now) }
 {
     let (array, rest) = boxed_field(alloc, fuel, bytes)?;
-    let rest = literal(b")", rest)?;
-    Ok((Tree::ArrayLength(NOWHERE, array), rest))
+    ended_tree(Tree::ArrayLength(NOWHERE, array), rest)
 }
 
 #[cycle(trees)]
@@ -648,8 +630,7 @@ fn array_select_of<'a>(alloc: Global, fuel: usize, bytes: &'a [u8]) -> Read<'a>
     let (array, rest) = boxed_field(alloc, fuel, bytes)?;
     let (index, rest) = boxed_field(alloc, fuel, rest)?;
     let (tpe, rest) = type_field(alloc, fuel, rest)?;
-    let rest = literal(b")", rest)?;
-    Ok((Tree::ArraySelect(NOWHERE, array, index, tpe), rest))
+    ended_tree(Tree::ArraySelect(NOWHERE, array, index, tpe), rest)
 }
 
 #[cycle(trees)]
@@ -659,8 +640,7 @@ fn is_instance_of_of<'a>(alloc: Global, fuel: usize, bytes: &'a [u8]) -> Read<'a
 {
     let (value, rest) = boxed_field(alloc, fuel, bytes)?;
     let (tpe, rest) = type_field(alloc, fuel, rest)?;
-    let rest = literal(b")", rest)?;
-    Ok((Tree::IsInstanceOf(NOWHERE, value, tpe), rest))
+    ended_tree(Tree::IsInstanceOf(NOWHERE, value, tpe), rest)
 }
 
 #[cycle(trees)]
@@ -670,8 +650,7 @@ fn as_instance_of_of<'a>(alloc: Global, fuel: usize, bytes: &'a [u8]) -> Read<'a
 {
     let (value, rest) = boxed_field(alloc, fuel, bytes)?;
     let (tpe, rest) = type_field(alloc, fuel, rest)?;
-    let rest = literal(b")", rest)?;
-    Ok((Tree::AsInstanceOf(NOWHERE, value, tpe), rest))
+    ended_tree(Tree::AsInstanceOf(NOWHERE, value, tpe), rest)
 }
 
 /// An operator, an array's form or a test.
