@@ -112,7 +112,8 @@ module _ (has : Usable) where
 
     cases_built : (cs : Cases) (ls : List Label) (t : IrType) → are_built_cases anything ls t cs ≡ true → Each (cases_below cs) → are_built_cases has ls t cs ≡ true
     cases_built no_cases ls t k h = refl
-    cases_built (more_cases keys e cs) ls t k h =
+    cases_built (more_cases [] e cs) ls t k h = cases_built cs ls t k (back (trees e) (cases_below cs) h)
+    cases_built (more_cases (key ∷ keys) e cs) ls t k h =
         let q = and_parts (not (yields_boxed t e)) (is_built anything ls e && are_built_cases anything ls t cs) k in
         let r = and_parts (is_built anything ls e) (are_built_cases anything ls t cs) q.1 in
         and_from (not (yields_boxed t e)) (is_built has ls e && are_built_cases has ls t cs) q.0 (and_from (is_built has ls e) (are_built_cases has ls t cs) (built e ls r.0 (front (trees e) (cases_below cs) h)) (cases_built cs ls t r.1 (back (trees e) (cases_below cs) h)))
@@ -140,7 +141,7 @@ module _ (w : Classes) (entries : List EntryPoint) (fs : List EmittedMethod) (bo
     among_bodies : is_built_body e.definition e.its_body ≡ true → is_built_method (functions_of fs) e.definition e.its_body ≡ true
     among_bodies k = let q = and_parts (not (yields_boxed e.definition.result e.its_body)) (is_built anything [] e.its_body) k in and_from (not (yields_boxed e.definition.result e.its_body)) (is_built (functions_of fs) [] e.its_body) q.0 (built (functions_of fs) e.its_body [] q.1 (all-from (Calls (functions_of fs)) (trees e.its_body) each))
 
-  entry : (e : EntryPoint) → Contains entries e → has_function fs (initializer_member e) ≡ true
+  pub entry : (e : EntryPoint) → Contains entries e → has_function fs (initializer_member e) ≡ true
   entry e i = has-body (entry_member e) (closed w entries (Body (entry_member e)) (asked_body (entry_member e) (of_entry e i)))
 
   all_called : (id : List ℕ) (es : List EntryPoint) → ((e : EntryPoint) → Contains es e → has_function fs (initializer_member e) ≡ true) → have_functions fs (initializers es id) ≡ true

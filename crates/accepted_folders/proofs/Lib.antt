@@ -3,3 +3,4 @@ pub mod Calls
 pub mod Listed
 pub mod Members
 pub mod Worlds
+pub mod Uses

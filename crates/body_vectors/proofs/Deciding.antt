@@ -133,7 +133,8 @@ module _ (has : Usable) where
 
     pub are_case_rows : List Label → IrType → Cases → Bool
     are_case_rows ls t no_cases = true
-    are_case_rows ls t (more_cases ns e cs) = yields_there e t && (is_row ls e && are_case_rows ls t cs)
+    are_case_rows ls t (more_cases [] e cs) = are_case_rows ls t cs
+    are_case_rows ls t (more_cases (n ∷ ns) e cs) = yields_there e t && (is_row ls e && are_case_rows ls t cs)
 
 -- ---- what the tests tell
 
@@ -285,7 +286,8 @@ module _ (w : Classes) (has : Usable) where
 
     case_rows : (ls : List Label) (t : IrType) (cs : Cases) → are_case_rows has ls t cs ≡ true → CaseRows (IsSub w) has ls t cs
     case_rows ls t no_cases h = tt
-    case_rows ls t (more_cases ns e cs) h =
+    case_rows ls t (more_cases [] e cs) h = case_rows ls t cs h
+    case_rows ls t (more_cases (n ∷ ns) e cs) h =
         let k = and_parts (yields_there e t) (is_row has ls e && are_case_rows has ls t cs) h in
         let parts = and_parts (is_row has ls e) (are_case_rows has ls t cs) k.1 in
         (yields_type e t k.0, row ls e parts.0, case_rows ls t cs parts.1)

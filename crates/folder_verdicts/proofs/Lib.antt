@@ -1,5 +1,5 @@
 pub mod Firsts
-mod Verdict
+pub mod Verdict
 mod Rows
 pub mod Undenied
 pub mod Defined

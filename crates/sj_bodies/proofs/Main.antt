@@ -191,5 +191,5 @@ module _ (z : Setting) (lawful : Lawful z) (low : LowAlike z) where
 
     cases_do : (cs : Cases) → CasesDo cs
     cases_do no_cases = λ c k j sound ahead out wr fine. no_case
-    cases_do (more_cases [] t cs) = λ c k j sound ahead out wr fine. without_keys (ir_meaning.step z.place.classes z.low t) (ir_meaning.branches z.place.classes z.low cs) (cases z.is_mutable c.targets k j cs).cases (cases_do cs c k j sound ahead (outside-part c (OwnCases (more_cases [] t cs)) (OwnCases cs) (λ x o. inr o) out) wr fine.1)
+    cases_do (more_cases [] t cs) = λ c k j sound ahead out wr fine. without_keys (ir_meaning.step z.place.classes z.low t) (ir_meaning.branches z.place.classes z.low cs) (cases z.is_mutable c.targets k j cs).cases (cases_do cs c k j sound ahead (outside-part c (OwnCases (more_cases [] t cs)) (OwnCases cs) (λ x o. inr o) out) wr fine)
     cases_do (more_cases (n ∷ ns) t cs) = case_does n ns t cs (does t) (cases_do cs)

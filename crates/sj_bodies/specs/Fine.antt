@@ -1,6 +1,6 @@
 -- What is asked of a tree where it is written: a tree of the forms that are built, with its locals in scope where they are used, and
 -- operands that spilling can bring to a variable.
-use Rattle.std.specs.Prelude.{◌≡◌, ℕ, ◌^◌, ◌<◌, Bool, true, false, List, ◌∷◌, ◌⊎◌, FitsSigned}
+use Rattle.std.specs.Prelude.{◌≡◌, ℕ, ◌^◌, ◌<◌, Bool, true, false, List, [], ◌∷◌, ◌⊎◌, FitsSigned}
 use Rattle.std.specs.Int.{w32, w64}
 use Rattle.sj_core.specs.Terms as core
 use Rattle.sj_desugar.specs.Desugar.{Targets, target_of, member, types_of, has_no_value}
@@ -75,6 +75,8 @@ module _ (is_mutable : List ℕ → Bool) (has : Usable) where
     FineOperands g ls k no_terms = Unit {0}
     FineOperands g ls k (more_terms t ts) = FineOperand g t (λ y. Fine g ls (to_variable y (type_of_term t)) t) × FineOperands g ls k ts
 
+    -- a case without keys isn't chosen and isn't written
     pub FineCases : Scope → Targets → Destination → Cases → Type 0
     FineCases g ls k no_cases = Unit {0}
-    FineCases g ls k (more_cases ns t cs) = Fine g ls k t × FineCases g ls k cs
+    FineCases g ls k (more_cases [] t cs) = FineCases g ls k cs
+    FineCases g ls k (more_cases (n ∷ ns) t cs) = Fine g ls k t × FineCases g ls k cs

@@ -136,4 +136,5 @@ module _ (sub : IrType → IrType → Type 0) (has : Usable) where
 
     typed_cases : (cs : Cases) (x : Context) (s : Scene) (around : List (List ℕ)) (t : IrType) → SameScope x.scope s.locals → AllKeep (cases_below x cs) → OnceCases around cs → CaseRows sub has s.labels t cs → TypedCases sub has s t cs
     typed_cases no_cases x s a t c h o r = tt
-    typed_cases (more_cases ns e cs) x s a t c h o r = (r.0, typed e x x s a refl c h.0 (keep-front (below x e) (cases_below x cs) h.1) o.0 r.1, typed_cases cs x s a t c (keep-behind (At x e) (cases_below x cs) h) o.1 r.2)
+    typed_cases (more_cases [] e cs) x s a t c h o r = typed_cases cs x s a t c (keep-behind (At x e) (cases_below x cs) h) o.1 r
+    typed_cases (more_cases (n ∷ ns) e cs) x s a t c h o r = (r.0, typed e x x s a refl c h.0 (keep-front (below x e) (cases_below x cs) h.1) o.0 r.1, typed_cases cs x s a t c (keep-behind (At x e) (cases_below x cs) h) o.1 r.2)

@@ -1,5 +1,5 @@
 -- The rows of typing for trees of the forms that are built: what is asked of the types of their parts, and of nothing else.
-use Rattle.std.specs.Prelude.{◌≡◌, ℕ, ◌^◌, ◌<◌, true, List, ◌∷◌, ◌⊎◌, FitsSigned, Some}
+use Rattle.std.specs.Prelude.{◌≡◌, ℕ, ◌^◌, ◌<◌, true, List, [], ◌∷◌, ◌⊎◌, FitsSigned, Some}
 use Rattle.std.specs.Int.{w32, w64}
 use Rattle.sj_desugar.specs.Desugar.{member}
 use Rattle.sj_trees.specs.Term.{Term, Terms, no_terms, more_terms, Cases, no_cases, more_cases, var_def, skip, block_of, labeled, assign, return_to, if_then, while_loop, do_while, match_on, apply_static, unary_op, binary_op, undefined_literal, null_literal, boolean_literal, char_literal, byte_literal, short_literal, int_literal, long_literal, string_literal, var_ref, log_line}
@@ -49,6 +49,8 @@ module _ (sub : IrType → IrType → Type 0) (has : Usable) where
     AllRows ls no_terms = Unit {0}
     AllRows ls (more_terms t ts) = Rows ls t × AllRows ls ts
 
+    -- a case without keys isn't chosen
     pub CaseRows : List Label → IrType → Cases → Type 0
     CaseRows ls t no_cases = Unit {0}
-    CaseRows ls t (more_cases ns e cs) = Yields sub has e t × Rows ls e × CaseRows ls t cs
+    CaseRows ls t (more_cases [] e cs) = CaseRows ls t cs
+    CaseRows ls t (more_cases (n ∷ ns) e cs) = Yields sub has e t × Rows ls e × CaseRows ls t cs

@@ -400,4 +400,5 @@ module _ (sub : IrType → IrType → Type 0) (law : IsSubtyping sub) (is_mutabl
 
     fine_cases : (cs : Cases) (s : Scene) (ls : Targets) (k : Destination) (t : IrType) → HaveValues s.locals → AreMutable is_mutable s.locals → Reach s.labels ls → Mutable (MutatesCases cs) → Asks k t → TypedCases sub has s t cs → FineCases is_mutable has (parameters_of s.locals) ls k cs
     fine_cases no_cases s ls k t v m r mut asks h = tt
-    fine_cases (more_cases ns e cs) s ls k t v m r mut asks h = (fine e s ls k v m r (λ x i. mut x (inl i)) (yields k e t asks h.0) h.1, fine_cases cs s ls k t v m r (λ x i. mut x (inr i)) asks h.2)
+    fine_cases (more_cases [] e cs) s ls k t v m r mut asks h = fine_cases cs s ls k t v m r mut asks h
+    fine_cases (more_cases (n ∷ ns) e cs) s ls k t v m r mut asks h = (fine e s ls k v m r (λ x i. mut x (inl i)) (yields k e t asks h.0) h.1, fine_cases cs s ls k t v m r (λ x i. mut x (inr i)) asks h.2)

@@ -2,7 +2,7 @@
 use Rattle.std.proofs.Common.{◌≡◌, ℕ, Bool, true, false, List, [], ◌∷◌, ◌||◌, ◌⊎◌, inl, inr, refl, sym, ap, ◌∙◌}
 use Rattle.sj_desugar.specs.Desugar.{is_mutable_in}
 use Rattle.sj_desugar.specs.Plain.{is_among, if_mutable, mutable_in, mutable_in_all, mutable_in_cases, mutable_params}
-use Rattle.sj_trees.specs.Term.{Term, Terms, no_terms, more_terms, Cases, no_cases, more_cases, var_def, skip, block_of, labeled, assign, return_to, if_then, while_loop, do_while, match_on, apply_static, unary_op, binary_op, undefined_literal, null_literal, boolean_literal, char_literal, byte_literal, short_literal, int_literal, long_literal, string_literal, var_ref, log_line}
+use Rattle.sj_trees.specs.Term.{Term, Terms, no_terms, more_terms, Cases, no_cases, more_cases, var_def, block_of, labeled, assign, return_to, if_then, while_loop, do_while, try_catch, try_finally, throw, match_on, new_object, store_module, select, apply, apply_statically, apply_static, unary_op, binary_op, new_array, array_value, array_length, array_select, is_instance_of, as_instance_of, var_ref, log_line}
 use Rattle.sj_trees.specs.declared.classes.MethodDef.{MethodDef}
 use Rattle.sj_trees.specs.declared.classes.ParamDef.{ParamDef}
 use Rattle.sj_trees.specs.declared.types.IrType.{IrType}
@@ -38,7 +38,8 @@ abbrev mutual
 
   pub MutatesCases : Cases → List ℕ → Type 0
   MutatesCases no_cases y = ⊥
-  MutatesCases (more_cases ns t cs) y = Mutates t y ⊎ MutatesCases cs y
+  MutatesCases (more_cases [] t cs) y = MutatesCases cs y
+  MutatesCases (more_cases (n ∷ ns) t cs) y = Mutates t y ⊎ MutatesCases cs y
 
 -- the name is among these, also where others stand in front
 abbrev Keeps : (List (List ℕ) → List (List ℕ)) → List ℕ → Type 0
@@ -60,57 +61,52 @@ if-here : (b : Bool) (x y : List ℕ) (xs : List (List ℕ)) → b ≡ true → 
 if-here true x y xs h e = at_front (pointwise nat_eq y x) (is_among xs y) (ap (pointwise nat_eq y) (sym e) ∙ equals y)
 if-here false x y xs h e = impossible h
 
-keeps-divisor : (o : BinaryOp) (d : Term) → DividesBy o d → (y : List ℕ) → Keeps (mutable_in d) y
-keeps-divisor _ _ (by_int o k p n f ne) y xs i = i
-keeps-divisor _ _ (by_long o k p n f ne) y xs i = i
+-- a tree takes no name away
+module _ (y : List ℕ) where
+  mutual
+    keeps : (t : Term) → Keeps (mutable_in t) y
+    keeps (var_def p x t b e) xs i = if-keeps b x y (mutable_in e xs) (keeps e xs i)
+    keeps (block_of p ts) xs i = keeps-all ts xs i
+    keeps (labeled p l t e) xs i = keeps e xs i
+    keeps (assign p e d) xs i = keeps e (mutable_in d xs) (keeps d xs i)
+    keeps (return_to p e l) xs i = keeps e xs i
+    keeps (if_then p c a b t) xs i = keeps c (mutable_in a (mutable_in b xs)) (keeps a (mutable_in b xs) (keeps b xs i))
+    keeps (while_loop p c b) xs i = keeps c (mutable_in b xs) (keeps b xs i)
+    keeps (do_while p b c) xs i = keeps b (mutable_in c xs) (keeps c xs i)
+    keeps (try_catch p e x d t) xs i = keeps e (mutable_in d xs) (keeps d xs i)
+    keeps (try_finally p e d) xs i = keeps e (mutable_in d xs) (keeps d xs i)
+    keeps (throw p e) xs i = keeps e xs i
+    keeps (match_on p e cs d t) xs i = keeps e (mutable_in_cases cs (mutable_in d xs)) (keeps-cases cs (mutable_in d xs) (keeps d xs i))
+    keeps (new_object p c m es) xs i = keeps-all es xs i
+    keeps (store_module p c e) xs i = keeps e xs i
+    keeps (select p e c f t) xs i = keeps e xs i
+    keeps (apply p e m es t) xs i = keeps e (mutable_in_all es xs) (keeps-all es xs i)
+    keeps (apply_statically p e c n m es t) xs i = keeps e (mutable_in_all es xs) (keeps-all es xs i)
+    keeps (apply_static p c n m es t) xs i = keeps-all es xs i
+    keeps (unary_op p o e) xs i = keeps e xs i
+    keeps (binary_op p o e d) xs i = keeps e (mutable_in d xs) (keeps d xs i)
+    keeps (new_array p r e) xs i = keeps e xs i
+    keeps (array_value p r es) xs i = keeps-all es xs i
+    keeps (array_length p e) xs i = keeps e xs i
+    keeps (array_select p e d t) xs i = keeps e (mutable_in d xs) (keeps d xs i)
+    keeps (is_instance_of p e t) xs i = keeps e xs i
+    keeps (as_instance_of p e t) xs i = keeps e xs i
+    keeps (log_line p e) xs i = keeps e xs i
+    keeps _ xs i = i
+
+    keeps-all : (ts : Terms) → Keeps (mutable_in_all ts) y
+    keeps-all no_terms xs i = i
+    keeps-all (more_terms t ts) xs i = keeps t (mutable_in_all ts xs) (keeps-all ts xs i)
+
+    keeps-cases : (cs : Cases) → Keeps (mutable_in_cases cs) y
+    keeps-cases no_cases xs i = i
+    keeps-cases (more_cases ns t cs) xs i = keeps t (mutable_in_cases cs xs) (keeps-cases cs xs i)
 
 no_divisor : (o : BinaryOp) (d : Term) → DividesBy o d → (y : List ℕ) → Mutates d y → ⊥
 no_divisor _ _ (by_int o k p n f ne) y h = h
 no_divisor _ _ (by_long o k p n f ne) y h = h
 
 module _ (sub : IrType → IrType → Type 0) (has : Usable) (y : List ℕ) where
-  mutual
-    pub keeps : (t : Term) (s : Scene) → Typed sub has s t → Keeps (mutable_in t) y
-    keeps (var_def p x t b e) s h xs i = if-keeps b x y (mutable_in e xs) (keeps e s h.3 xs i)
-    keeps (skip p) s h xs i = i
-    keeps (block_of p ts) s h xs i = keeps-block ts s h xs i
-    keeps (labeled p l t e) s h xs i = keeps e (in_label l t s) h.1 xs i
-    keeps (assign p (var_ref q x t) e) s h xs i = keeps e s h.2 xs i
-    keeps (return_to p e l) s h xs i = keeps e s h.1 xs i
-    keeps (if_then p c a b t) s h xs i = keeps c s h.3 (mutable_in a (mutable_in b xs)) (keeps a s h.4 (mutable_in b xs) (keeps b s h.5 xs i))
-    keeps (while_loop p c b) s h xs i = keeps c s h.1 (mutable_in b xs) (keeps b s h.2 xs i)
-    keeps (do_while p b c) s h xs i = keeps b s h.1 (mutable_in c xs) (keeps c s h.2 xs i)
-    keeps (match_on p e cs d t) s h xs i = keeps e s h.2 (mutable_in_cases cs (mutable_in d xs)) (keeps-cases cs s t h.3 (mutable_in d xs) (keeps d s h.4 xs i))
-    keeps (apply_static p c n m ts t) s h xs i = keeps-all ts s h.3 xs i
-    keeps (unary_op p o e) s h xs i = keeps e s h.1 xs i
-    keeps (binary_op p o e d) s (inl h) xs i = keeps e s h.1 (mutable_in d xs) (keeps d s h.2 xs i)
-    keeps (binary_op p o e d) s (inr h) xs i = keeps e s h.2 (mutable_in d xs) (keeps-divisor o d h.0 y xs i)
-    keeps (undefined_literal p) s h xs i = i
-    keeps (null_literal p) s h xs i = i
-    keeps (boolean_literal p b) s h xs i = i
-    keeps (char_literal p n) s h xs i = i
-    keeps (long_literal p n) s h xs i = i
-    keeps (byte_literal p n) s h xs i = i
-    keeps (short_literal p n) s h xs i = i
-    keeps (int_literal p n) s h xs i = i
-    keeps (string_literal p us) s h xs i = i
-    keeps (var_ref p x t) s h xs i = i
-    keeps (log_line p e) s h xs i = keeps e s h.1 xs i
-    keeps _ s h xs i = absurd h
-
-    keeps-block : (ts : Terms) (s : Scene) → TypedBlock sub has s ts → Keeps (mutable_in_all ts) y
-    keeps-block no_terms s h xs i = absurd h
-    keeps-block (more_terms t no_terms) s h xs i = keeps t s h xs i
-    keeps-block (more_terms t (more_terms u us)) s h xs i = keeps t s h.0 (mutable_in_all (more_terms u us) xs) (keeps-block (more_terms u us) (behind t s) h.2 xs i)
-
-    keeps-all : (ts : Terms) (s : Scene) → TypedAll sub has s ts → Keeps (mutable_in_all ts) y
-    keeps-all no_terms s h xs i = i
-    keeps-all (more_terms t ts) s h xs i = keeps t s h.0 (mutable_in_all ts xs) (keeps-all ts s h.1 xs i)
-
-    keeps-cases : (cs : Cases) (s : Scene) (r : IrType) → TypedCases sub has s r cs → Keeps (mutable_in_cases cs) y
-    keeps-cases no_cases s r h xs i = i
-    keeps-cases (more_cases ns t cs) s r h xs i = keeps t s h.1 (mutable_in_cases cs xs) (keeps-cases cs s r h.2 xs i)
-
   mutual
     pub among : (t : Term) (s : Scene) → Typed sub has s t → Mutates t y → (xs : List (List ℕ)) → is_among (mutable_in t xs) y ≡ true
     among (var_def p x t b e) s h (inl m) xs = if-here b x y (mutable_in e xs) m.0 m.1
@@ -121,19 +117,19 @@ module _ (sub : IrType → IrType → Type 0) (has : Usable) (y : List ℕ) wher
     among (assign p d e) s h m xs = absurd h
     among (return_to p e l) s h m xs = among e s h.1 m xs
     among (if_then p c a b t) s h (inl m) xs = among c s h.3 m (mutable_in a (mutable_in b xs))
-    among (if_then p c a b t) s h (inr (inl m)) xs = keeps c s h.3 (mutable_in a (mutable_in b xs)) (among a s h.4 m (mutable_in b xs))
-    among (if_then p c a b t) s h (inr (inr m)) xs = keeps c s h.3 (mutable_in a (mutable_in b xs)) (keeps a s h.4 (mutable_in b xs) (among b s h.5 m xs))
+    among (if_then p c a b t) s h (inr (inl m)) xs = keeps y c (mutable_in a (mutable_in b xs)) (among a s h.4 m (mutable_in b xs))
+    among (if_then p c a b t) s h (inr (inr m)) xs = keeps y c (mutable_in a (mutable_in b xs)) (keeps y a (mutable_in b xs) (among b s h.5 m xs))
     among (while_loop p c b) s h (inl m) xs = among c s h.1 m (mutable_in b xs)
-    among (while_loop p c b) s h (inr m) xs = keeps c s h.1 (mutable_in b xs) (among b s h.2 m xs)
+    among (while_loop p c b) s h (inr m) xs = keeps y c (mutable_in b xs) (among b s h.2 m xs)
     among (do_while p b c) s h (inl m) xs = among b s h.1 m (mutable_in c xs)
-    among (do_while p b c) s h (inr m) xs = keeps b s h.1 (mutable_in c xs) (among c s h.2 m xs)
+    among (do_while p b c) s h (inr m) xs = keeps y b (mutable_in c xs) (among c s h.2 m xs)
     among (match_on p e cs d t) s h (inl m) xs = among e s h.2 m (mutable_in_cases cs (mutable_in d xs))
-    among (match_on p e cs d t) s h (inr (inl m)) xs = keeps e s h.2 (mutable_in_cases cs (mutable_in d xs)) (among-cases cs s t h.3 m (mutable_in d xs))
-    among (match_on p e cs d t) s h (inr (inr m)) xs = keeps e s h.2 (mutable_in_cases cs (mutable_in d xs)) (keeps-cases cs s t h.3 (mutable_in d xs) (among d s h.4 m xs))
+    among (match_on p e cs d t) s h (inr (inl m)) xs = keeps y e (mutable_in_cases cs (mutable_in d xs)) (among-cases cs s t h.3 m (mutable_in d xs))
+    among (match_on p e cs d t) s h (inr (inr m)) xs = keeps y e (mutable_in_cases cs (mutable_in d xs)) (keeps-cases y cs (mutable_in d xs) (among d s h.4 m xs))
     among (apply_static p c n m ts t) s h i xs = among-all ts s h.3 i xs
     among (unary_op p o e) s h m xs = among e s h.1 m xs
     among (binary_op p o e d) s (inl h) (inl m) xs = among e s h.1 m (mutable_in d xs)
-    among (binary_op p o e d) s (inl h) (inr m) xs = keeps e s h.1 (mutable_in d xs) (among d s h.2 m xs)
+    among (binary_op p o e d) s (inl h) (inr m) xs = keeps y e (mutable_in d xs) (among d s h.2 m xs)
     among (binary_op p o e d) s (inr h) (inl m) xs = among e s h.2 m (mutable_in d xs)
     among (binary_op p o e d) s (inr h) (inr m) xs = absurd (no_divisor o d h.0 y m)
     among (log_line p e) s h m xs = among e s h.1 m xs
@@ -144,17 +140,18 @@ module _ (sub : IrType → IrType → Type 0) (has : Usable) (y : List ℕ) wher
     among-block (more_terms t no_terms) s h (inl m) xs = among t s h m xs
     among-block (more_terms t no_terms) s h (inr m) xs = absurd m
     among-block (more_terms t (more_terms u us)) s h (inl m) xs = among t s h.0 m (mutable_in_all (more_terms u us) xs)
-    among-block (more_terms t (more_terms u us)) s h (inr m) xs = keeps t s h.0 (mutable_in_all (more_terms u us) xs) (among-block (more_terms u us) (behind t s) h.2 m xs)
+    among-block (more_terms t (more_terms u us)) s h (inr m) xs = keeps y t (mutable_in_all (more_terms u us) xs) (among-block (more_terms u us) (behind t s) h.2 m xs)
 
     among-all : (ts : Terms) (s : Scene) → TypedAll sub has s ts → MutatesAll ts y → (xs : List (List ℕ)) → is_among (mutable_in_all ts xs) y ≡ true
     among-all no_terms s h m xs = absurd m
     among-all (more_terms t ts) s h (inl m) xs = among t s h.0 m (mutable_in_all ts xs)
-    among-all (more_terms t ts) s h (inr m) xs = keeps t s h.0 (mutable_in_all ts xs) (among-all ts s h.1 m xs)
+    among-all (more_terms t ts) s h (inr m) xs = keeps y t (mutable_in_all ts xs) (among-all ts s h.1 m xs)
 
     among-cases : (cs : Cases) (s : Scene) (r : IrType) → TypedCases sub has s r cs → MutatesCases cs y → (xs : List (List ℕ)) → is_among (mutable_in_cases cs xs) y ≡ true
     among-cases no_cases s r h m xs = absurd m
-    among-cases (more_cases ns t cs) s r h (inl m) xs = among t s h.1 m (mutable_in_cases cs xs)
-    among-cases (more_cases ns t cs) s r h (inr m) xs = keeps t s h.1 (mutable_in_cases cs xs) (among-cases cs s r h.2 m xs)
+    among-cases (more_cases [] t cs) s r h m xs = keeps y t (mutable_in_cases cs xs) (among-cases cs s r h m xs)
+    among-cases (more_cases (n ∷ ns) t cs) s r h (inl m) xs = among t s h.1 m (mutable_in_cases cs xs)
+    among-cases (more_cases (n ∷ ns) t cs) s r h (inr m) xs = keeps y t (mutable_in_cases cs xs) (among-cases cs s r h.2 m xs)
 
 params-keep : (ds : List ParamDef) (y : List ℕ) → Keeps (mutable_params ds) y
 params-keep [] y xs h = h

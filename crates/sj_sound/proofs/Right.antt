@@ -357,7 +357,8 @@ module _ (sub : IrType → IrType → Type 0) (law : IsSubtyping sub) (has : Usa
 
       cases_right : (cs : Cases) (s : Scene) (t : IrType) → HaveValues s.locals → TypedCases sub has s t cs → Fresh s (OwnCases cs) → (d : ir.Run) (n : ℤ) (env : ir.Env) (st : ir.State) → EnvTyped s.locals env → Right s t (d env st) → Right s t (ir_meaning.branch_of (ir_meaning.branches w low cs) d n env st)
       cases_right no_cases s t v h fresh d n env st i k = k
-      cases_right (more_cases ns e cs) s t v h fresh d n env st i k = one_or_later s t (list_any (int_eq n) ns) (step e) (ir_meaning.branch_of (ir_meaning.branches w low cs) d n) env st (yields-right s s.locals e t (step e env st).end h.0 (tree_right e s v h.1 (λ x o. fresh x (inl o)) env st i)) (cases_right cs s t v h.2 (λ x o. fresh x (inr o)) d n env st i k)
+      cases_right (more_cases [] e cs) s t v h fresh d n env st i k = cases_right cs s t v h (λ x o. fresh x (inr o)) d n env st i k
+      cases_right (more_cases (m ∷ ns) e cs) s t v h fresh d n env st i k = one_or_later s t (list_any (int_eq n) (m ∷ ns)) (step e) (ir_meaning.branch_of (ir_meaning.branches w low cs) d n) env st (yields-right s s.locals e t (step e env st).end h.0 (tree_right e s v h.1 (λ x o. fresh x (inl o)) env st i)) (cases_right cs s t v h.2 (λ x o. fresh x (inr o)) d n env st i k)
 
   pub bodies_right : ((m : Member) → has.linked m ≡ true → RightMember sub w has m) → (n : ℕ) → LowRight (ir_meaning.below w n)
   bodies_right members zero t s v h fresh env st i = tt

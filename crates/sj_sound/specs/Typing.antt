@@ -144,6 +144,8 @@ module _ (sub : IrType → IrType → Type 0) (has : Usable) where
     TypedAll s no_terms = Unit {0}
     TypedAll s (more_terms t ts) = Typed s t × TypedAll s ts
 
+    -- a case without keys isn't chosen
     pub TypedCases : Scene → IrType → Cases → Type 0
     TypedCases s t no_cases = Unit {0}
-    TypedCases s t (more_cases ns e cs) = Yields e t × Typed s e × TypedCases s t cs
+    TypedCases s t (more_cases [] e cs) = TypedCases s t cs
+    TypedCases s t (more_cases (n ∷ ns) e cs) = Yields e t × Typed s e × TypedCases s t cs

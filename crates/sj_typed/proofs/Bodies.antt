@@ -16,7 +16,6 @@ use Rattle.sj_trees.specs.declared.operators.BinaryOp.{BinaryOp}
 use Rattle.sj_trees.specs.declared.operators.BinaryOp.TheVariants as binary
 use Rattle.sj_trees.specs.declared.operators.UnaryOp.{UnaryOp}
 use Rattle.sj_trees.specs.declared.operators.UnaryOp.TheVariants as unary
-use Rattle.sj_trees.specs.declared.positions.Position.{Position}
 use Rattle.sj_trees.specs.declared.types.IrType.{IrType}
 use Rattle.sj_trees.specs.declared.types.IrType.TheVariants as type
 use Rattle.sj_trees.specs.Term.{Term, Terms, no_terms, more_terms, Cases, no_cases, more_cases, var_def, skip, block_of, labeled, assign, return_to, if_then, while_loop, do_while, match_on, apply_static, unary_op, binary_op, undefined_literal, null_literal, boolean_literal, char_literal, byte_literal, short_literal, int_literal, long_literal, string_literal, var_ref, log_line}
@@ -227,7 +226,8 @@ module _ (w : Classes) (space : Namespace) (has : Usable) where
 
     case_rows : (cs : Cases) (ls : List Label) (bs : List sound.Label) (t : IrType) (n : ℕ) → SameLabels ls bs → are_built_cases has bs t cs ≡ true → AreListedCases cs → CasesYield w cs t → Met (nodes_of_cases ls n cs) → CaseRows (IsSub w) has bs t cs
     case_rows no_cases ls bs t n around built listed its met = tt
-    case_rows (more_cases keys e cs) ls bs t n around built listed its met = let raw = and_parts (not (yields_boxed t e)) (is_built has bs e && are_built_cases has bs t cs) built in let parts = and_parts (is_built has bs e) (are_built_cases has bs t cs) raw.1 in (yields w has e t raw.0 its.0, rows e ls bs n around parts.0 listed.1 (front (nodes ls n e) (nodes_of_cases ls (n + size e) cs) met), case_rows cs ls bs t (n + size e) around parts.1 listed.2 its.1 (back (nodes ls n e) (nodes_of_cases ls (n + size e) cs) met))
+    case_rows (more_cases [] e cs) ls bs t n around built listed its met = case_rows cs ls bs t (n + size e) around built listed.2 its.1 (back (nodes ls n e) (nodes_of_cases ls (n + size e) cs) met)
+    case_rows (more_cases (key ∷ keys) e cs) ls bs t n around built listed its met = let raw = and_parts (not (yields_boxed t e)) (is_built has bs e && are_built_cases has bs t cs) built in let parts = and_parts (is_built has bs e) (are_built_cases has bs t cs) raw.1 in (yields w has e t raw.0 its.0, rows e ls bs n around parts.0 listed.1 (front (nodes ls n e) (nodes_of_cases ls (n + size e) cs) met), case_rows cs ls bs t (n + size e) around parts.1 listed.2 its.1 (back (nodes ls n e) (nodes_of_cases ls (n + size e) cs) met))
 
 no_labels : SameLabels [] []
 no_labels l = refl

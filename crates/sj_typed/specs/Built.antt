@@ -1,5 +1,5 @@
 -- What is asked of a method beside its typing, so that the theorem on bodies covers it: that it is of the forms that are built, one Boolean.
-use Rattle.std.specs.Prelude.{ℤ, pos, Bool, true, false, ◌&&◌, ◌||◌, not, List, [], ◌∷◌, Option, Some, None}
+use Rattle.std.specs.Prelude.{pos, Bool, true, false, ◌&&◌, ◌||◌, not, List, [], ◌∷◌, Option, Some, None}
 use Rattle.std.specs.Ordering.{int_eq}
 use Rattle.sj_desugar.specs.Coercions.{is_char}
 use Rattle.sj_desugar.specs.Desugar.{member}
@@ -87,9 +87,11 @@ module _ (has : Usable) where
     are_built ls no_terms = true
     are_built ls (more_terms t ts) = is_built ls t && are_built ls ts
 
+    -- a case without keys isn't written
     pub are_built_cases : List Label → IrType → Cases → Bool
     are_built_cases ls t no_cases = true
-    are_built_cases ls t (more_cases ns e cs) = not (yields_boxed t e) && (is_built ls e && are_built_cases ls t cs)
+    are_built_cases ls t (more_cases [] e cs) = are_built_cases ls t cs
+    are_built_cases ls t (more_cases (n ∷ ns) e cs) = not (yields_boxed t e) && (is_built ls e && are_built_cases ls t cs)
 
 -- a method of this body is built: its value is no char where its result is of another type
 abbrev pub is_built_method : Usable → MethodDef → Term → Bool
