@@ -7,7 +7,8 @@ use Rattle.sj_world.specs.Known.{Name, Classes}
 use Rattle.sj_world.specs.Refusals.{IsTwice, IsWorldOf}
 use Rattle.reach_rules.specs.Reachable.{Unresolved}
 use Rattle.reach_rules.specs.Refusals.{Refusal}
-use Rattle.folder_verdicts.specs.Stages.{sizes, AreRead, KeepRules, AreTyped}
+use Rattle.folder_sizes.specs.Files.{sizes}
+use Rattle.folder_verdicts.specs.Stages.{AreRead, KeepRules, AreTyped}
 
 -- the world of a folder that is accepted: its files aren't too large and are those of classes, of which no two have one name and each keeps the
 -- local rules; the world has these classes, in the order of their names; what is reachable in it resolves, and each body that is needed is typed

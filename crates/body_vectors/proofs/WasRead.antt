@@ -13,9 +13,9 @@ use Rattle.sj_local.specs.Broken.{FirstBroken}
 use Rattle.sj_names.specs.declared.method_names.Namespace.{Namespace}
 use Rattle.sj_names.specs.declared.method_names.Namespace.TheVariants.{PublicStatic}
 use Rattle.sj_trees.specs.declared.classes.ClassDef.{ClassDef}
-use Rattle.sj_typing.specs.Nodes.{Node, nodes}
-use Rattle.sj_typing.specs.Rules.{nothing_wanted, fitting}
-use Rattle.sj_typing.specs.Typed.{MeetsThere, IsTyped}
+use Rattle.typing_rules.specs.Nodes.{Node, nodes}
+use Rattle.typing_rules.specs.Rules.{nothing_wanted, fitting}
+use Rattle.typing_rules.specs.Typed.{MeetsThere, IsTyped}
 use Rattle.sj_world.specs.Known.{Classes}
 use Rattle.sj_world.specs.Subtypes.{equal}
 use Rattle.sj_judged.specs.Judged.{IsJudgedClass, IsJudgedMethod}

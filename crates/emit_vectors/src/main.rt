@@ -18,6 +18,7 @@ use js_tree::JsPiece;
 use sj_desugarer::desugar;
 use sj_mangling::function_name;
 use sj_names::{ClassName, Member, Meter, NoMemory};
+use sj_emitter::emit_member;
 use sj_pieces::{desugared_methods_have_keys, member_piece};
 use sj_read::read_class;
 use sj_trees::{ClassDef, MethodDef};
@@ -116,5 +117,6 @@ fn emitted(alloc: Global, member: &Member, method: &MethodDef) -> result::Result
 {
     desugared_methods_have_keys();
     let core = desugar(alloc, method)?;
-    member_piece(alloc, member, &core, &mut Meter::new())
+    let function = emit_member(alloc, &core, &mut Meter::new())?;
+    member_piece(alloc, member, &core, function)
 }

@@ -7,7 +7,7 @@ use Rattle.std.specs.Ordering.{nat_cmp}
 use Rattle.sj_names.specs.declared.folders.SourceFile.{SourceFile}
 use Rattle.sj_outside.specs.Contents.{Parts, no_parts, file_part, folder_part, folder_at}
 use Rattle.folder_sizes.specs.Sizes.{largest_file, IsTooLarge, IsFirstTooLarge}
-use Rattle.folder_verdicts.specs.Stages.{sizes}
+use Rattle.folder_sizes.specs.Files.{sizes}
 
 -- the most folders above a file's name
 abbrev pub deepest : ℕ

@@ -1,15 +1,9 @@
 //! The class files of a folder, and what is read of them.
 #![tactic(auto)]
 
-ghost use Rattle.folder_files.specs.Laws.{VerdictOnWhatIsRead};
 ghost use Rattle.folder_files.specs.Rows.{RowsHold};
 
 /// The class files of the folders that are worked out are as their rows say.
 pub fn rows_hold()
     ensures { RowsHold }
-{}
-
-/// The verdict on what is read of a folder is that on the folder.
-pub fn verdict_on_what_is_read()
-    ensures { VerdictOnWhatIsRead }
 {}

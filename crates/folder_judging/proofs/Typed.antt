@@ -7,7 +7,7 @@ use Rattle.std.proofs.lemmas.Option.{slice_get_within, get_or_from_slice_get}
 use Rattle.sj_names.specs.declared.method_names.Member.{Member}
 use Rattle.sj_trees.specs.declared.classes.MethodDef.{MethodDef}
 use Rattle.sj_ask.proofs.One.{one_method}
-use Rattle.sj_typing.specs.Typed.{IsTyped, IsUntyped}
+use Rattle.typing_rules.specs.Typed.{IsTyped, IsUntyped}
 use Rattle.sj_verdicts.proofs.OneVerdict.{has_one_verdict}
 use Rattle.sj_world.specs.Known.{Classes, is_same}
 use Rattle.sj_world.specs.Linked.{Linked}

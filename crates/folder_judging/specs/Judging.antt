@@ -9,7 +9,8 @@ use Rattle.sj_world.specs.declared.facts.Fact.{Fact}
 use Rattle.sj_reach.specs.Answers.{AreReachable}
 use Rattle.entry_rules.specs.Entries.{AreEntries}
 use Rattle.folder_sizes.specs.Sizes.{IsTooLarge}
-use Rattle.folder_verdicts.specs.Stages.{sizes, AreRead, KeepRules}
+use Rattle.folder_sizes.specs.Files.{sizes}
+use Rattle.folder_verdicts.specs.Stages.{AreRead, KeepRules}
 use Rattle.folder_verdicts.specs.Verdicts.{Verdict, accepted}
 use Rattle.folder_judging.specs.declared.errors.JudgeError.{JudgeError}
 use Rattle.folder_judging.specs.Refusals.{IsRefusal}

@@ -1,6 +1,6 @@
 // The types of bodies.
 ghost use Rattle.std.specs.Prelude.{◌≡◌, IfOk, IsSome, MatchOption, MatchResult, None};
-ghost use Rattle.sj_typing.specs.Typed.{IsTyped};
+ghost use Rattle.typing_rules.specs.Typed.{IsTyped};
 ghost use Rattle.sj_world.specs.Members.{IsMethodOf, HasNoMethod};
 ghost use Rattle.folder_judging.specs.Bodies.{AreInOrder};
 ghost use Rattle.folder_verdicts.specs.Stages.{IsDefined};

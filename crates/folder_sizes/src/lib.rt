@@ -27,8 +27,8 @@ pub fn first_too_large(sizes: &[u64]) -> Option<usize>
     None
 }
 
-// Whether a file of this size is too large at this place, behind files of so many bytes together.
-fn is_over(place: usize, total: u64, size: u64) -> bool
+/// Whether a file of this size is too large at this place, behind files of so many bytes together.
+pub fn is_over(place: usize, total: u64, size: u64) -> bool
     requires { total ≤ largest_folder }
     ensures { IsTrue result ↔ IsOver place total size }
 {

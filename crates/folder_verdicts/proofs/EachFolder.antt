@@ -29,7 +29,8 @@ use Rattle.sj_reach.specs.declared.findings.Report.{Report}
 use Rattle.sj_reach.proofs.Once.{first_itself, first_trans}
 use Rattle.worklist.proofs.Inserted.{nothing_in}
 use Rattle.folder_verdicts.specs.Laws.{NoFolderIsWithout}
-use Rattle.folder_verdicts.specs.Stages.{sizes, HasFault, AreRead, rule_at, IsBroken, KeepRules}
+use Rattle.folder_sizes.specs.Files.{sizes}
+use Rattle.folder_verdicts.specs.Stages.{HasFault, AreRead, rule_at, IsBroken, KeepRules}
 use Rattle.folder_verdicts.specs.Verdicts.{Verdict, ByLocalRules, broken, kept, ByNames, twice, apart, ByFiles, faulty, read, IsVerdict, too_large, small}
 use Rattle.folder_verdicts.proofs.EachSorted.{AreApart, cycles_are_told}
 use Rattle.folder_verdicts.proofs.Firsts.{standing}

@@ -1,5 +1,5 @@
 -- What each stage of judging a folder finds.
-use Rattle.std.specs.Prelude.{◌≡◌, ℕ, false, List, Some, None, map, length, slice_get, Contains, IsSome}
+use Rattle.std.specs.Prelude.{◌≡◌, ℕ, false, List, Some, None, length, slice_get, Contains, IsSome}
 use Rattle.sj_names.specs.declared.entry_points.EntryPoint.{EntryPoint}
 use Rattle.sj_names.specs.declared.folders.SourceFile.{SourceFile}
 use Rattle.sj_names.specs.declared.method_names.Member.{Member}
@@ -16,13 +16,7 @@ use Rattle.reach_rules.specs.Reachable.{Reachable}
 use Rattle.reach_rules.specs.Refusals.{spelled_member}
 use Rattle.sj_reach.specs.Answers.{comes_first}
 use Rattle.sj_reach.specs.declared.findings.Report.{Report}
-use Rattle.sj_typing.specs.Typed.{IsTyped, IsUntyped}
-
-abbrev pub size_of : SourceFile → ℕ
-size_of file = length file.bytes
-
-abbrev pub sizes : List SourceFile → List ℕ
-sizes = map size_of
+use Rattle.typing_rules.specs.Typed.{IsTyped, IsUntyped}
 
 -- a file that isn't the file of a class, and where it fails first
 pub record HasFault (file : SourceFile) : Type 0 where

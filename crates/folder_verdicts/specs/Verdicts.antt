@@ -11,7 +11,8 @@ use Rattle.reach_rules.specs.Reachable.{Unresolved}
 use Rattle.reach_rules.specs.Refusals.{Refusal}
 use Rattle.sj_reach.specs.Answers.{IsLeastTold}
 use Rattle.sj_reach.specs.declared.findings.Report.{Report}
-use Rattle.folder_verdicts.specs.Stages.{sizes, HasFault, AreRead, IsLeastBroken, KeepRules, IsLeastUntyped, AreTyped}
+use Rattle.folder_sizes.specs.Files.{sizes}
+use Rattle.folder_verdicts.specs.Stages.{HasFault, AreRead, IsLeastBroken, KeepRules, IsLeastUntyped, AreTyped}
 
 pub data Verdict : Type 0 where
   accepted : Verdict

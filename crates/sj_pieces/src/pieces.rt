@@ -3,36 +3,36 @@ ghost use Rattle.std.specs.Prelude.{◌≡◌, IfOk};
 ghost use Rattle.js_tree.specs.Rules.{IsPiece};
 ghost use Rattle.js_tree.specs.Views.{body_view, piece_view};
 ghost use Rattle.sj_core.specs.Views.{method_view};
-ghost use Rattle.sj_names.specs.Counting.{raised};
 ghost use Rattle.sj_pieces.specs.Keys.{HasKeys};
 ghost use Rattle.sj_emit_expr.specs.Pieces as pieces;
 ghost use Rattle.sj_emit_expr.specs.Pieces.{piece_of};
+ghost use Rattle.sj_emit_expr.specs.Templates.{parameter_names, body_template};
+ghost use Rattle.sj_emit_expr.specs.Uses.{uses};
 
 use crate::ranges::{member_fits, method_fits};
 use js_tree::{JsItem, JsMember, JsPiece};
 use sj_core::CoreMethod;
-use sj_emitter::emit_member;
 use sj_mangling::function_name;
-use sj_names::{Member, Meter, NoMemory};
+use sj_names::{Member, NoMemory};
 use std::alloc::Global;
 use std::rc::Rc;
 
-/// The piece of a method without a receiver: its function, under the name of the member, which the member's class owns. Where each case of
-/// a switch has a key the piece keeps the rules of printing. It counts one method emitted, whatever comes of it. Want of memory is the only
-/// error.
+/// The piece of a method without a receiver, of which this is the emitted function: the function, under the name of the member, which the member's
+/// class owns. Where each case of a switch has a key the piece keeps the rules of printing. Want of memory is the only error.
 pub fn member_piece(
     alloc: Global,
     member: &Member,
     m: &CoreMethod,
-    meter: &mut Meter,
+    emitted: JsMember,
 ) -> Result<JsPiece, NoMemory>
+    requires params { emitted.params ≡ parameter_names (method_view m.now).params }
+    requires body { body_view emitted.body ≡ body_template (method_view m.now) }
+    requires used { emitted.uses ≡ uses (method_view m.now).body }
     ensures piece { IfOk result (λ p. piece_view p ≡ piece_of member.now (method_view m.now)) }
     ensures rules { HasKeys (method_view m.now) → IfOk result (λ p. IsPiece (piece_view p)) }
-    ensures counted { meter.new ≡ record meter.old { emitted = raised meter.old.emitted } }
 {
     member_fits(member);
     method_fits(m);
-    let emitted = emit_member(alloc, m, meter)?;
     function_piece(alloc, member, emitted)
 }
 

@@ -29,12 +29,12 @@ use Rattle.sj_kept.specs.Rows.{Rows, AllRows, CaseRows}
 use Rattle.sj_world.specs.Known.{Classes}
 use Rattle.sj_world.specs.Subtypes.{IsSub}
 use Rattle.sj_ask.specs.Sizes.{size, size_of_cases}
-use Rattle.sj_typing.specs.declared.labels.Label.{Label}
-use Rattle.sj_typing.specs.Labels as typing_labels
-use Rattle.sj_typing.specs.Nodes.{Node, node, inside, below, nodes, nodes_of_all, nodes_of_cases}
-use Rattle.sj_typing.specs.Rules as rules
-use Rattle.sj_typing.specs.Rules.{Fits, OperandsFit, CasesYield}
-use Rattle.sj_typing.specs.Typed.{MeetsThere, IsTyped}
+use Rattle.typing_rules.specs.declared.labels.Label.{Label}
+use Rattle.typing_rules.specs.Labels as typing_labels
+use Rattle.typing_rules.specs.Nodes.{Node, node, inside, below, nodes, nodes_of_all, nodes_of_cases}
+use Rattle.typing_rules.specs.Rules as rules
+use Rattle.typing_rules.specs.Rules.{Fits, OperandsFit, CasesYield}
+use Rattle.typing_rules.specs.Typed.{MeetsThere, IsTyped}
 use Rattle.sj_typed.specs.Built.{is_boxed, yields_boxed, leaves_boxed, any_is_boxed, is_operation, is_built, are_built, are_built_cases, is_built_method}
 use Rattle.sj_typed.proofs.Values.{parameter_value, result_is, fits, fits_long, int_divisor, long_divisor, no_box, no_box_yielded}
 

@@ -3,33 +3,25 @@ ghost use Rattle.std.specs.Prelude.{◌≡◌, Some, Ok, IfOk, OnOk};
 ghost use Rattle.sj_trees.specs.View.{view, terms_view, cases_view};
 ghost use Rattle.sj_ask.specs.Answers.{IsAnswer};
 ghost use Rattle.sj_ask.specs.Sizes.{next, counted, counted_all, counted_cases};
-ghost use Rattle.sj_typing.specs.Numbers.{counted_parts};
+ghost use Rattle.typing_rules.specs.Numbers.{counted_parts};
 ghost use Rattle.sj_ask.specs.Tasks as tasks;
 ghost use Rattle.sj_ask.specs.Tasks.{asks_sub, asks_field};
 ghost use Rattle.sj_ask.specs.Runs.{Ran};
-ghost use Rattle.sj_typing.specs.Nodes.{inside};
-ghost use Rattle.sj_typing.specs.Checks as checks;
-ghost use Rattle.sj_typing.specs.Answered as answered;
-ghost use Rattle.sj_typing.specs.Answered.{AsRun, seen, agreed, ended};
-ghost use Rattle.sj_typing.specs.Rows as rows;
-ghost use Rattle.sj_typing.specs.Typed as typed;
+ghost use Rattle.typing_rules.specs.Nodes.{inside};
+ghost use Rattle.typing_rules.specs.Checks as checks;
+ghost use Rattle.typing_rules.specs.Answered as answered;
+ghost use Rattle.typing_rules.specs.Answered.{AsRun, seen, agreed, ended};
+ghost use Rattle.typing_rules.specs.Rows as rows;
+ghost use Rattle.typing_rules.specs.Typed as typed;
 ghost use Rattle.sj_ask.specs.declared.errors.TypeError.{TypeError};
 
-use crate::fits::Fit;
-use crate::labels::Label;
-use crate::rows::{FieldUse, Row, row_of};
+use crate::rows::row_of;
 use crate::types::is_type;
 use sj_ask::{Answer, Oracle, Question, TypeError};
 use sj_names::{LabelName, Namespace, NoMemory};
 use sj_trees::{FieldDef, IrType, MatchCase, Tree};
 use std::alloc::Global;
-
-/// What the check of a tree gives: the number of the tree behind it, and whether what it names may be assigned to.
-#[derive(Clone, Copy)]
-pub struct Checked {
-    pub next: u32,
-    pub settable: bool,
-}
+use typing_rules::{Checked, FieldUse, Fit, Label, Row};
 
 #[tactic(auto, unfolding(sj_ask::specs::Sizes::next))]
 fn next(place: u32) -> u32

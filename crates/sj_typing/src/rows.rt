@@ -5,13 +5,13 @@ ghost use Rattle.sj_trees.specs.View.{view, terms_view, cases_view};
 ghost use Rattle.sj_trees.specs.TypeOf.{type_of_term};
 ghost use Rattle.sj_trees.specs.Types.{class_type, element_type};
 ghost use Rattle.sj_trees.specs.declared.types.IrType.TheVariants as types;
-ghost use Rattle.sj_typing.specs.Labels as around;
+ghost use Rattle.typing_rules.specs.Labels as around;
 ghost use Rattle.sj_trees.specs.SameTypes.{is_same_type};
-ghost use Rattle.sj_typing.specs.Rows as rows;
-ghost use Rattle.sj_typing.specs.Rules as rules;
+ghost use Rattle.typing_rules.specs.Rows as rows;
+ghost use Rattle.typing_rules.specs.Rules as rules;
 
-use crate::fits::{Fit, add_all, add_arguments, add_cases, add_fit, add_yield, are_as_many};
-use crate::labels::{Label, type_of_label};
+use crate::fits::{add_all, add_arguments, add_cases, add_fit, add_yield, are_as_many};
+use crate::labels::type_of_label;
 use crate::types::{
     call_type, has_items, has_receiver, is_array, is_cast_type, is_init, is_own, is_receiver,
     is_static, is_test_type, is_text, is_type, left_operand, right_operand, unary_operand,
@@ -19,25 +19,7 @@ use crate::types::{
 use sj_names::{ArrayRef, ClassName, FieldName, Items, LabelName, MethodName, Namespace, NoMemory};
 use sj_trees::{BinaryOp, IrType, MatchCase, Tree, type_of};
 use std::alloc::Global;
-
-/// A field that a tree names: its class, its name and static mark, the type that is written, and whether it is the object's own in a
-/// constructor of the class.
-#[derive(Drop)]
-pub struct FieldUse {
-    pub class: ClassName,
-    pub name: FieldName,
-    pub is_static: bool,
-    pub tpe: IrType,
-    pub is_own: bool,
-}
-
-/// The conditions of a tree: whether those hold that need no question, and the subtypes and the field that it asks for.
-#[derive(Drop)]
-pub struct Row {
-    pub holds: bool,
-    pub fits: Items<Fit>,
-    pub field: Option<FieldUse>,
-}
+use typing_rules::{FieldUse, Fit, Label, Row};
 
 fn no_row(alloc: Global) -> Row
     ensures { result ≡ rows.no_row }

@@ -11,12 +11,12 @@ use Rattle.sj_ask.specs.Answers.{IsAnswer}
 use Rattle.sj_ask.specs.Apart.{Exchange}
 use Rattle.sj_ask.specs.Runs.{Comes}
 use Rattle.sj_ask.specs.Sizes.{in_32_bits}
-use Rattle.sj_typing.specs.Checks.{check_task}
-use Rattle.sj_typing.specs.Nodes.{Node, nodes}
-use Rattle.sj_typing.specs.Rules.{Yields}
-use Rattle.sj_typing.specs.Typed.{tag, MeetsThere, IsTyped, IsUntyped, FailsAt, FirstUntyped, a_tree, the_body}
-use Rattle.sj_typing.specs.Answered.{as_ran, agreed, IsVerdict}
-use Rattle.sj_typing.proofs.Verdicts.{verdict}
+use Rattle.typing_rules.specs.Checks.{check_task}
+use Rattle.typing_rules.specs.Nodes.{Node, nodes}
+use Rattle.typing_rules.specs.Rules.{Yields}
+use Rattle.typing_rules.specs.Typed.{tag, MeetsThere, IsTyped, IsUntyped, FailsAt, FirstUntyped, a_tree, the_body}
+use Rattle.typing_rules.specs.Answered.{as_ran, agreed, IsVerdict}
+use Rattle.typing_rules.proofs.Verdicts.{verdict}
 use Rattle.sj_verdicts.specs.Laws.{HasOneVerdict}
 
 pub is_verdict : (s : Stand) (d : MethodDef) (body : Term) (r : Result (Unit {0}) TypeError) (log : List Exchange) → d.body ≡ Some body → Comes (IsAnswer s) (check_task d d.body) (agreed r) log → IsVerdict s.classes d r

@@ -8,9 +8,9 @@ use Rattle.sj_ask.specs.Stands.{Stand}
 use Rattle.sj_ask.specs.Answers.{IsAnswer}
 use Rattle.sj_ask.specs.Apart.{Exchange}
 use Rattle.sj_ask.specs.Runs.{Comes}
-use Rattle.sj_typing.specs.Checks.{check_task}
-use Rattle.sj_typing.specs.Typed.{IsTyped, IsUntyped}
-use Rattle.sj_typing.specs.Answered.{agreed, IsVerdict}
+use Rattle.typing_rules.specs.Checks.{check_task}
+use Rattle.typing_rules.specs.Typed.{IsTyped, IsUntyped}
+use Rattle.typing_rules.specs.Answered.{agreed, IsVerdict}
 
 -- the end of a check in a world is the verdict on the method there
 abbrev pub ChecksAreVerdicts : Type 0

@@ -10,13 +10,13 @@ use Rattle.sj_pieces.proofs.pieces.member_piece.Goals as goal
 pub returns-clause-piece : goal.returns-clause-piece
 returns-clause-piece c =
     let m = c.args.member.now in
-    let e = c.in_ok-emitted in
-    let same : function_piece m e.emitted.params (body_view e.emitted.body) e.emitted.uses ≡ piece_of m (method_view c.args.m.now) = λ i. function_piece m (e.ensures.params i) (e.ensures.body i) (e.ensures.used i) in
+    let r = c.requires in
+    let same : function_piece m c.args.emitted.params (body_view c.args.emitted.body) c.args.emitted.uses ≡ piece_of m (method_view c.args.m.now) = λ i. function_piece m (r.params i) (r.body i) (r.used i) in
     IfOk-weaker c.function_piece.result _ _ (λ p h. h ∙ same) c.function_piece.ensures
 
 pub returns-clause-rules : goal.returns-clause-rules
 returns-clause-rules c keys =
     let m = c.args.member.now in
-    let e = c.in_ok-emitted in
-    let same : function_piece m e.emitted.params (body_view e.emitted.body) e.emitted.uses ≡ piece_of m (method_view c.args.m.now) = λ i. function_piece m (e.ensures.params i) (e.ensures.body i) (e.ensures.used i) in
+    let r = c.requires in
+    let same : function_piece m c.args.emitted.params (body_view c.args.emitted.body) c.args.emitted.uses ≡ piece_of m (method_view c.args.m.now) = λ i. function_piece m (r.params i) (r.body i) (r.used i) in
     IfOk-weaker c.function_piece.result _ _ (λ p h. subst IsPiece (sym (h ∙ same)) (piece-kept m (method_view c.args.m.now) c.member_fits.ensures c.method_fits.ensures keys)) c.function_piece.ensures
