@@ -1,2 +1,4 @@
+pub mod Planned
 pub mod Links
 pub mod One
+pub mod Edits

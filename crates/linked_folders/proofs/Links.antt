@@ -1,10 +1,16 @@
 -- Written bodies are closed under what their text calls, so their file agrees with the classes.
-use Rattle.std.proofs.Common.{◌≡◌, ℕ, Bool, true, false, List, [], ◌∷◌, ◌||◌, ◌⊎◌, inl, inr, refl, sym, subst, map, Contains, if◌then◌else◌}
+use Rattle.std.proofs.Common.{◌≡◌, ℕ, Bool, true, false, List, [], ◌∷◌, ◌||◌, ◌&&◌, ◌⊎◌, inl, inr, Option, Some, refl, sym, subst, map, Contains, if◌then◌else◌}
 use Rattle.std.specs.Prelude.{not}
 use Rattle.std.specs.List.{All, list_any}
 use Rattle.std.proofs.lemmas.Bool.{and_parts, and_from}
 use Rattle.std.proofs.lemmas.List.Elements.{All-nil, All-cons, Contains-append_left}
+use Rattle.file_listings.specs.Listed.{AreBytes}
 use Rattle.ir_mean.specs.Shows.{initializers}
+use Rattle.js_mean.specs.Shows.{File, file_of}
+use Rattle.sj_agree.specs.Agrees.{Agrees}
+use Rattle.sj_names.specs.declared.folders.SourceFile.{SourceFile}
+use Rattle.sj_trees.specs.Term.{Term}
+use Rattle.sj_trees.specs.declared.classes.MethodDef.{MethodDef}
 use Rattle.js_tree.specs.declared.items.Binding.{Binding}
 use Rattle.sj_calls.specs.Files.{EmittedMethod, HasFunction, piece_of_method, initializer_member}
 use Rattle.sj_core.specs.Terms as core
@@ -20,18 +26,21 @@ use Rattle.sj_names.specs.declared.method_names.Member.{Member}
 use Rattle.sj_sound.proofs.Same.{has_function-is}
 use Rattle.sj_sound.specs.Linked.{has_function, have_functions, functions_of}
 use Rattle.sj_split.specs.Walks.{Refers, IsReached}
-use Rattle.sj_typed.specs.Built.{yields_boxed, is_built, is_built_method}
+use Rattle.built_forms.specs.Built.{yields_boxed, is_built, is_built_method, is_built_body, is_static, has_built_body, not_built}
 use Rattle.sj_world.specs.Known.{Classes}
 use Rattle.worklist.proofs.Inserted.{nothing_in}
 use Rattle.worklist.specs.Paths.{stay, on}
 use Rattle.folder_verdicts.proofs.EachTyped.{in_map}
 use Rattle.folder_verdicts.proofs.Undenied.{first_or_later}
-use Rattle.accepted_folders.specs.Bodies.{AreBodies, is_built_body}
+use Rattle.accepted_folders.specs.Accepted.{IsAccepted}
+use Rattle.accepted_folders.specs.Bodies.{AreBodies}
 use Rattle.accepted_folders.proofs.Calls.{needed, calls_among, entry}
 use Rattle.accepted_folders.proofs.Members.{has_function-from, defined}
 use Rattle.accepted_folders.proofs.Uses.{tree}
 use Rattle.accepted_folders.proofs.Worlds.{judged}
-use Rattle.linked_folders.specs.Link.{AreWritten}
+use Rattle.linked_folders.specs.Link.{AreWritten, IsOneModule}
+use Rattle.linked_folders.specs.Edits.{AreBuilt}
+use Rattle.linked_folders.proofs.Planned.{one_file}
 use Rattle.linked_folders.specs.Laws.{WrittenBodiesAreClosed, InitializersAreWritten, LinkedFilesAgree}
 
 same_binding : (a b : Binding) → is_same_binding a b ≡ true → a ≡ b
@@ -113,10 +122,25 @@ bodies_closed w entries all fs e bodies written i k = closed w entries all fs bo
 pub initializers_written : InitializersAreWritten
 initializers_written w entries all fs id bodies written = starts w entries all fs bodies written id
 
-pub agree : LinkedFilesAgree
-agree entries files w id bytes are_bytes a built link = files_agree w entries id link.fs bytes (judged entries files w are_bytes a) (λ e i. let j : Contains link.all e = ((link.written.exact e).0 i).0 in record {
+not_false : (b : Bool) → not b ≡ false → b ≡ true
+not_false true e = refl
+not_false false e = sym e
+
+-- the definition of a needed body is of the forms that are built, and so is its body
+body_built : (d : MethodDef) (t : Term) → d.body ≡ Some t → not_built d ≡ false → is_built_body d t ≡ true
+body_built d t has h =
+    let q = and_parts (is_static d.namespace) (has_built_body d d.body) (not_false (is_static d.namespace && has_built_body d d.body) h) in
+    subst (λ (o : Option Term). has_built_body d o ≡ true) has q.1
+
+module_agrees : (entries : List EntryPoint) (files : List SourceFile) (w : Classes) (id bytes : List ℕ) → ((file : SourceFile) → Contains files file → AreBytes file.bytes) → IsAccepted entries files w → AreBuilt w entries → IsOneModule w entries id bytes → Agrees w entries (record { name = file_of id; bytes = bytes } ∷ []) id
+module_agrees entries files w id bytes are_bytes a built link = files_agree w entries id link.fs bytes (judged entries files w are_bytes a) (λ e i. let j : Contains link.all e = ((link.written.exact e).0 i).0 in let has = defined w e.member e.definition (link.bodies.found e j).found in record {
   found = (link.bodies.found e j).found;
   has_body = (link.bodies.found e j).has_body;
-  typed = a.typed e.member e.definition (needed w entries link.all link.bodies e j) (defined w e.member e.definition (link.bodies.found e j).found);
-  built = bodies_closed w entries link.all link.fs e link.bodies link.written i (built link.all e link.bodies j);
+  typed = a.typed e.member e.definition (needed w entries link.all link.bodies e j) has;
+  built = bodies_closed w entries link.all link.fs e link.bodies link.written i (body_built e.definition e.its_body (link.bodies.found e j).has_body (built e.member e.definition (needed w entries link.all link.bodies e j) has));
 }) link.written.once (initializers_written w entries link.all link.fs id link.bodies link.written) link.spelled
+
+pub agree : LinkedFilesAgree
+agree entries files w id links are_bytes a one built link =
+    let f = one_file w entries id links one link in
+    subst (λ (fs : List File). Agrees w entries fs id) (sym f.1.0) (module_agrees entries files w id f.0 are_bytes a built f.1.1)

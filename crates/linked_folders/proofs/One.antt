@@ -4,6 +4,7 @@ use Rattle.std.specs.Cmp.Lexicographic.{nat_list_eq_equiv}
 use Rattle.std.proofs.lemmas.Map.Made.{length-le_from_is_member}
 use Rattle.ir_mean.specs.World.{member_of}
 use Rattle.ir_mean.specs.Shows.{initializers}
+use Rattle.js_mean.specs.Shows.{file_of}
 use Rattle.js_tree.specs.Rules.{IsModule}
 use Rattle.js_tree.specs.Spelling.{Spells}
 use Rattle.js_tree.specs.Terms.{Module}
@@ -27,7 +28,9 @@ use Rattle.worklist.specs.Paths.{stay, on}
 use Rattle.folder_verdicts.proofs.EachTyped.{in_map}
 use Rattle.folder_verdicts.proofs.Undenied.{first_or_later}
 use Rattle.accepted_folders.specs.Bodies.{IsFound, AreBodies}
-use Rattle.linked_folders.specs.Link.{AreWritten, StandsBefore, by_ancestors, by_class, by_name, AreInOrder}
+use Rattle.linked_folders.specs.Link.{AreWritten, StandsBefore, by_ancestors, by_class, by_name, AreInOrder, IsOneModule}
+use Rattle.linked_folders.specs.Edits.{HaveOneModule}
+use Rattle.linked_folders.proofs.Planned.{one_file}
 use Rattle.linked_folders.specs.Laws.{LinkIsOne}
 
 -- what is found for a member is one
@@ -40,7 +43,7 @@ one_method w e f same one other =
     (λ i. record { member = same i; definition = definition i; its_body = its_body i })
 
 module _ (w : Classes) (entries : List EntryPoint) where
-  same_bodies : (all more : List EmittedMethod) → AreBodies w entries all → AreBodies w entries more → (e : EmittedMethod) → Contains all e → Contains more e
+  pub same_bodies : (all more : List EmittedMethod) → AreBodies w entries all → AreBodies w entries more → (e : EmittedMethod) → Contains all e → Contains more e
   same_bodies all more one other e i =
       let f : HasFunction more e.member = (other.exact e.member).1 ((one.exact e.member).0 (record { method = e; listed = i; is = refl })) in
       subst (Contains more) (one_method w f.method e f.is (other.found f.method f.listed) (one.found e i)) f.listed
@@ -119,9 +122,15 @@ module _ (w : Classes) where
 spelled_once : (m : Module) (one other : List ℕ) → Spells m one → Spells m other → one ≡ other
 spelled_once m one other s t = let kept : IsModule m = module_kept m one s in (module_spelled m kept one).0 s ∙ sym ((module_spelled m kept other).0 t)
 
-pub one_link : LinkIsOne
-one_link w entries id one other l k =
+one_text : (w : Classes) (entries : List EntryPoint) (id one other : List ℕ) → IsOneModule w entries id one → IsOneModule w entries id other → one ≡ other
+one_text w entries id one other l k =
     let to = same_written w entries l.all k.all l.fs k.fs l.bodies k.bodies l.written k.written in
     let back = same_written w entries k.all l.all k.fs l.fs k.bodies l.bodies k.written l.written in
     let same : l.fs ≡ k.fs = one_order w l.fs k.fs l.in_order k.in_order to back in
     spelled_once (module_with k.fs (initializers entries id)) one other (subst (λ (fs : List EmittedMethod). Spells (module_with fs (initializers entries id)) one) same l.spelled) k.spelled
+
+pub one_link : LinkIsOne
+one_link w entries one other has l k =
+    let f = one_file w entries has.0 one has.1 l in
+    let g = one_file w entries has.0 other has.1 k in
+    f.1.0 ∙ ap (λ (bytes : List ℕ). record { name = file_of has.0; bytes = bytes } ∷ []) (one_text w entries has.0 f.0 g.0 f.1.1 g.1.1) ∙ sym g.1.0

@@ -1,0 +1,145 @@
+-- An edit has one verdict, one list of files and one amount of work.
+use Rattle.std.proofs.Common.{◌≡◌, ◌≤◌, ◌+◌, ℕ, suc, Bool, true, false, List, [], ◌∷◌, ◌⊎◌, inl, inr, Some, refl, sym, ap, subst, ◌∙◌, Contains, length, slice_get, arith, codes}
+use Rattle.js_mean.specs.Shows.{File}
+use Rattle.sj_calls.specs.Files.{EmittedMethod}
+use Rattle.sj_format.proofs.ExactFiles.{one_answer}
+use Rattle.sj_names.specs.declared.counters.Meter.{Meter}
+use Rattle.sj_names.specs.declared.entry_points.EntryPoint.{EntryPoint}
+use Rattle.sj_names.specs.declared.folders.SourceFile.{SourceFile}
+use Rattle.sj_names.specs.declared.method_names.Member.{Member}
+use Rattle.sj_proper.specs.Program.{HaveOwnMembers}
+use Rattle.sj_split.proofs.Members.{at_first, further, cons_cases}
+use Rattle.sj_world.proofs.OneWorld.{one_world}
+use Rattle.sj_world.proofs.Orders.{same_name, differs_after}
+use Rattle.sj_world.specs.Known.{Name, Classes, is_same}
+use Rattle.sj_world.specs.Refusals.{is_before, IsWorldOf}
+use Rattle.worklist.proofs.Inserted.{nothing_in}
+use Rattle.folder_verdicts.proofs.Firsts.{standing, same_lists}
+use Rattle.folder_verdicts.proofs.Verdict.{one_verdict}
+use Rattle.folder_verdicts.specs.Stages.{AreRead}
+use Rattle.folder_verdicts.specs.Verdicts.{Verdict, accepted, refused, IsVerdict}
+use Rattle.accepted_folders.proofs.Worlds.{have_worlds}
+use Rattle.accepted_folders.specs.Accepted.{IsAccepted}
+use Rattle.accepted_folders.specs.Bodies.{AreBodies}
+use Rattle.linked_folders.proofs.One.{same_bodies, one_link}
+use Rattle.linked_folders.specs.Link.{IsLink}
+use Rattle.linked_folders.specs.Edits.{IsUnbuilt, IsLeastUnbuilt, AreBuilt, HaveOneModule, IsEditVerdict, by_folder, several, unbuilt, built, not_built_code, IsLinkOf, IsWork}
+use Rattle.linked_folders.specs.Laws.{EditVerdictIsOne, FolderLinkIsOne, WorkIsOne}
+
+-- two least names are one
+least_one : (a b : Name) → is_before b a ≡ false → is_before a b ≡ false → a ≡ b
+least_one a b low high = go (is_same a b) refl
+  where
+    go : (t : Bool) → is_same a b ≡ t → a ≡ b
+    go true e = same_name a b e
+    go false e = let r = differs_after a b low e in cc
+
+module _ (entries : List EntryPoint) (files : List SourceFile) where
+  same_classes : (classes others : Classes) → AreRead files classes → AreRead files others → classes ≡ others
+  same_classes classes others are too = same_lists classes others (are.whole ∙ sym too.whole) (λ i class other at at_too. (let s = standing files classes i class (sym are.whole) at in (one_answer s.item.bytes).one_class class other (are.each i s.item class s.at at) (too.each i s.item other s.at at_too)))
+
+  -- an accepted folder has one world
+  pub same_world : (w u : Classes) → IsAccepted entries files w → IsAccepted entries files u → w ≡ u
+  same_world w u a b = one_world a.classes w u a.world (subst (λ (c : Classes). IsWorldOf c u) (same_classes b.classes a.classes b.read a.read) b.world)
+
+  not_accepted : (code : ℕ) (place : List ℕ) → IsVerdict entries files (refused code place) → IsVerdict entries files accepted → ⊥
+  not_accepted code place h k = let e : refused code place ≡ accepted = one_verdict entries files (refused code place) accepted h k in cc
+
+  accepted_by : (w : Classes) → IsAccepted entries files w → IsVerdict entries files accepted
+  accepted_by w a = (have_worlds entries files).1 (w, a)
+
+  same_unbuilt : (w u : Classes) (spelled other : List ℕ) → w ≡ u → IsLeastUnbuilt w entries spelled → IsLeastUnbuilt u entries other → spelled ≡ other
+  same_unbuilt w u spelled other same h k =
+      let moved : IsLeastUnbuilt w entries other = subst (λ (z : Classes). IsLeastUnbuilt z entries other) (sym same) k in
+      least_one spelled other (h.least other moved.one) (moved.least spelled h.one)
+
+  never_both : (w u : Classes) (spelled : List ℕ) → w ≡ u → IsLeastUnbuilt w entries spelled → AreBuilt u entries → ⊥
+  never_both w u spelled same h all =
+      let every : AreBuilt w entries = subst (λ (z : Classes). AreBuilt z entries) (sym same) all in
+      let e = every h.one.member h.one.definition h.one.needed h.one.defined in
+      let u = h.one.unbuilt in
+      impossible _ u e
+    where
+      impossible : (b : Bool) → b ≡ true → b ≡ false → ⊥
+      impossible b p q = cc
+
+  by_edits : (v u : Verdict) → IsEditVerdict entries files v → IsEditVerdict entries files u → v ≡ u
+  by_edits _ _ (by_folder code place h) (by_folder other at k) = one_verdict entries files (refused code place) (refused other at) h k
+  by_edits _ _ (by_folder code place h) (several k none) = absurd (not_accepted code place h k)
+  by_edits _ _ (by_folder code place h) (unbuilt w spelled a one least) = absurd (not_accepted code place h (accepted_by w a))
+  by_edits _ _ (by_folder code place h) (built w a one all) = absurd (not_accepted code place h (accepted_by w a))
+  by_edits _ _ (several k none) (by_folder code place h) = absurd (not_accepted code place h k)
+  by_edits _ _ (several h none) (several k none_too) = refl
+  by_edits _ _ (several h none) (unbuilt w spelled a one least) = absurd (none one)
+  by_edits _ _ (several h none) (built w a one all) = absurd (none one)
+  by_edits _ _ (unbuilt w spelled a one least) (by_folder code place h) = absurd (not_accepted code place h (accepted_by w a))
+  by_edits _ _ (unbuilt w spelled a one least) (several h none) = absurd (none one)
+  by_edits _ _ (unbuilt w spelled a one least) (unbuilt u other b one_too least_too) = ap (refused not_built_code) (same_unbuilt w u spelled other (same_world w u a b) least least_too)
+  by_edits _ _ (unbuilt w spelled a one least) (built u b one_too all) = absurd (never_both w u spelled (same_world w u a b) least all)
+  by_edits _ _ (built w a one all) (by_folder code place h) = absurd (not_accepted code place h (accepted_by w a))
+  by_edits _ _ (built w a one all) (several h none) = absurd (none one)
+  by_edits _ _ (built w a one all) (unbuilt u spelled b one_too least) = absurd (never_both u w spelled (same_world u w b a) least all)
+  by_edits _ _ (built w a one all) (built u b one_too all_too) = refl
+
+pub one_edit : EditVerdictIsOne
+one_edit entries files v u h k = by_edits entries files v u h k
+
+pub one_folder_link : FolderLinkIsOne
+one_folder_link entries files one other has h k =
+    one_link h.world entries one other has h.link (subst (λ (w : Classes). IsLink w entries other) (same_world entries files k.world h.world k.is_accepted h.is_accepted) k.link)
+
+-- a list without one of its things
+data Without {X : Type 0} (x : X) : List X → List X → Type 0 where
+  without_first : (xs : List X) → Without x (x ∷ xs) xs
+  without_later : (y : X) (xs ys : List X) → Without x xs ys → Without x (y ∷ xs) (y ∷ ys)
+
+record Rest {X : Type 0} (x : X) (xs : List X) : Type 0 where
+  rest : List X
+  is : Without x xs rest
+
+rest_of : {X : Type 0} (x : X) (xs : List X) → Contains xs x → Rest x xs
+rest_of x [] h = nothing_in x h
+rest_of {X} x (y ∷ xs) h = go (cons_cases y x xs h) (rest_of x xs)
+  where
+    go : (y ≡ x) ⊎ Contains xs x → (Contains xs x → Rest x xs) → Rest x (y ∷ xs)
+    go (inl e) f = subst (λ (z : X). Rest x (z ∷ xs)) (sym e) (record { rest = xs; is = without_first xs })
+    go (inr later) f = let r = f later in record { rest = y ∷ r.rest; is = without_later y xs r.rest r.is }
+
+one_fewer : {X : Type 0} (x : X) (xs ys : List X) → Without x xs ys → length xs ≡ suc (length ys)
+one_fewer x _ _ (without_first xs) = refl
+one_fewer x _ _ (without_later y xs ys w) = ap suc (one_fewer x xs ys w)
+
+still_there : {X : Type 0} (x y : X) (xs ys : List X) → Without x xs ys → Contains xs y → (x ≡ y) ⊎ Contains ys y
+still_there x y _ _ (without_first xs) h = cons_cases x y xs h
+still_there {X} x y _ _ (without_later z xs ys w) h = go (cons_cases z y xs h) (still_there x y xs ys w)
+  where
+    go : (z ≡ y) ⊎ Contains xs y → (Contains xs y → (x ≡ y) ⊎ Contains ys y) → (x ≡ y) ⊎ Contains (z ∷ ys) y
+    go (inl e) f = inr (subst (λ (a : X). Contains (a ∷ ys) y) (sym e) (at_first y ys))
+    go (inr later) f = after (f later)
+      where
+        after : (x ≡ y) ⊎ Contains ys y → (x ≡ y) ⊎ Contains (z ∷ ys) y
+        after (inl e) = inl e
+        after (inr l) = inr (further z y ys l)
+
+-- methods of different members are no more than those that they are all among
+no_more : (fs gs : List EmittedMethod) → HaveOwnMembers fs → ((e : EmittedMethod) → Contains fs e → Contains gs e) → length fs ≤ length gs
+no_more [] gs own each = omega arith
+no_more (e ∷ es) gs own each =
+    let r = rest_of e gs (each e (at_first e es)) in
+    let l = no_more es r.rest own.1 (λ o h. other o h (still_there e o gs r.rest r.is (each o (further e o es h)))) in
+    omega (arith, l, one_fewer e gs r.rest r.is)
+  where
+    other : (o : EmittedMethod) → Contains es o → {rest : List EmittedMethod} → (e ≡ o) ⊎ Contains rest o → Contains rest o
+    other o h (inl same) = absurd (own.0 o h (ap (λ (x : EmittedMethod). x.member) same))
+    other o h (inr later) = later
+
+as_many : (w : Classes) (entries : List EntryPoint) (all more : List EmittedMethod) → AreBodies w entries all → AreBodies w entries more → length all ≡ length more
+as_many w entries all more one other =
+    let to = no_more all more one.own (same_bodies w entries all more one other) in
+    let back = no_more more all other.own (same_bodies w entries more all other one) in
+    omega (arith, to, back)
+
+pub one_work : WorkIsOne
+one_work entries files one other h k =
+    let moved : AreBodies h.world entries k.all = subst (λ (w : Classes). AreBodies w entries k.all) (same_world entries files k.world h.world k.is_accepted h.is_accepted) k.bodies in
+    h.is ∙ ap (λ (n : ℕ). record { read = length files; checked = n; optimised = 0; emitted = n }) (as_many h.world entries h.all k.all h.bodies moved) ∙ sym k.is
