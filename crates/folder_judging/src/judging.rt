@@ -1,11 +1,12 @@
 // The verdict on a folder, stage by stage.
-ghost use Rattle.std.specs.Prelude.{◌≡◌, ◌++◌, List, Ok, MatchOption, MatchResult, codes, decimal};
+ghost use Rattle.std.specs.Prelude.{◌≡◌, ◌++◌, List, IfOk, Ok, MatchOption, MatchResult, codes, decimal};
 ghost use Rattle.sj_names.specs.declared.entry_points.EntryPoint.{EntryPoint};
 ghost use Rattle.sj_reach.specs.Answers.{AreReachable};
 ghost use Rattle.folder_verdicts.specs.Stages.{KeepRules};
 ghost use Rattle.folder_verdicts.specs.Verdicts.{IsVerdict, ByFiles, ByNames, ByReferences};
 ghost use Rattle.folder_judging.specs.Counts.{Counts, CountsChecks};
 ghost use Rattle.folder_judging.specs.Judging.{Judges, IsLinked, IsLinkedOf, IsLinkedFolder, AreFactsOf, AreFactsRead, AreFactsIn, IsKeptWorld};
+ghost use Rattle.folder_judging.specs.Reading.{HaveBytes};
 ghost use Rattle.folder_judging.specs.Rules.{IsLeastIn};
 ghost use Rattle.folder_judging.specs.Refusals.{IsRefusal, IsAt};
 
@@ -28,8 +29,8 @@ use std::alloc::Global;
 /// its world, all that is reachable in it, and its method entries; `Refused` with the code and the place of the verdict where it is refused. The
 /// stages come in the order sizes, files, names, local rules, cycles, references, types, and the first that finds something refuses.
 ///
-/// Files are read and bodies checked by `work` alone: of a folder that is accepted each file and each body that is reachable once, of any other
-/// at most so many, and no body where it is refused before the types.
+/// As many files are counted as read as there are and as many bodies as checked as are reachable in a folder that is accepted; of any other no more, and
+/// no body where it is refused before the types.
 pub fn judge<W: Workers>(
     alloc: Global,
     files: &[SourceFile],
@@ -37,6 +38,7 @@ pub fn judge<W: Workers>(
     work: &mut W,
 ) -> Result<LinkedWorld, JudgeError>
     ensures verdict { Judges (IsVerdict entries.now files.now) (IsLinkedFolder entries.now files.now) result }
+    ensures bytes { IfOk result (λ _. HaveBytes files.now) }
     ensures counted { Counts files.now (AreFactsIn entries.now files.now) result (W.meter work.old) (W.meter work.new) }
 {
     let sizes = sizes_of(alloc, files)?;
@@ -53,6 +55,7 @@ fn judge_files<W: Workers>(
     work: &mut W,
 ) -> Result<LinkedWorld, JudgeError>
     ensures verdict { Judges (ByFiles entries.now files.now) (IsLinkedFolder entries.now files.now) result }
+    ensures bytes { IfOk result (λ _. HaveBytes files.now) }
     ensures counted { Counts files.now (AreFactsRead entries.now files.now) result (W.meter work.old) (W.meter work.new) }
 {
     let classes = read_files(alloc, files, work)?;

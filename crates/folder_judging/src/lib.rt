@@ -14,3 +14,4 @@ mod types;
 
 pub use errors::JudgeError;
 pub use judging::judge;
+pub use types::definition_of;

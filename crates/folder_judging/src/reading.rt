@@ -1,12 +1,13 @@
 // Files that are read.
-ghost use Rattle.std.specs.Prelude.{◌≡◌, List, IfOk, MatchResult, length};
+ghost use Rattle.std.specs.Prelude.{◌≡◌, ◌<◌, List, IfOk, MatchResult};
+ghost use Rattle.std.specs.List.{All};
 ghost use Rattle.sj_format.specs.Files.{FileIs};
 ghost use Rattle.sj_names.specs.declared.entry_points.EntryPoint.{EntryPoint};
 ghost use Rattle.folder_verdicts.specs.Stages.{AreRead};
 ghost use Rattle.folder_verdicts.specs.Verdicts.{ByFiles};
 ghost use Rattle.folder_judging.specs.Counts.{with_reads, HasRead};
 ghost use Rattle.folder_judging.specs.Refusals.{IsRefusal};
-ghost use Rattle.folder_judging.specs.Reading.{IsFaultOf};
+ghost use Rattle.folder_judging.specs.Reading.{HaveBytes, IsFaultOf};
 
 use crate::JudgeError;
 use crate::refusals::refusal_in_file;
@@ -22,11 +23,12 @@ pub fn read_files<W: Workers>(
     work: &mut W,
 ) -> Result<Vec<ClassDef>, JudgeError>
     ensures read { MatchResult result (λ classes. AreRead files.now classes.items) (IsRefusal (λ v. (entries : List EntryPoint) → ByFiles entries files.now v)) }
+    ensures bytes { IfOk result (λ _. HaveBytes files.now) }
     ensures counted { HasRead files.now result (W.meter work.old) (W.meter work.new) }
 {
     let mut classes = Vec::new(alloc);
     for file in files {
-        let class = read_file(alloc, file, work)?;
+        let class = read_file(alloc, file.path.as_str(), file.bytes.as_slice(), work)?;
         classes.push(class)?;
     }
     Ok(classes)
@@ -34,16 +36,18 @@ pub fn read_files<W: Workers>(
 
 fn read_file<W: Workers>(
     alloc: Global,
-    file: &SourceFile,
+    path: &str,
+    bytes: &[u8],
     work: &mut W,
 ) -> Result<ClassDef, JudgeError>
-    ensures read { MatchResult result (FileIs file.now.bytes) (IsRefusal (IsFaultOf file.now)) }
+    ensures read { MatchResult result (FileIs bytes.now) (IsRefusal (IsFaultOf (record { path = path.now; bytes = bytes.now }))) }
+    ensures bytes { All (λ b. b < 256) bytes.now }
     ensures counted { W.meter work.new ≡ with_reads 1 (W.meter work.old) }
 {
-    match work.read_class(alloc, file.bytes.as_slice()) {
+    match work.read_class(alloc, bytes) {
         Ok(class) => Ok(class),
         Err(ReadRefusal::Bad { code, place }) => {
-            Err(refusal_in_file(alloc, code.number(), file.path.as_str(), place))
+            Err(refusal_in_file(alloc, code.number(), path, place))
         }
         Err(ReadRefusal::NoMemory) => Err(JudgeError::NoMemory),
     }

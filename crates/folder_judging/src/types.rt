@@ -139,8 +139,8 @@ fn check_definition<W: Workers>(
     }
 }
 
-// The definition of the member.
-fn definition_of<'w>(world: &'w World, member: &Member) -> Option<&'w MethodDef>
+/// The definition of the member, if it has one. It takes no memory.
+pub fn definition_of<'w>(world: &'w World, member: &Member) -> Option<&'w MethodDef>
     ensures { MatchOption result (HasNoMethod world.now member.now) (λ d. IsMethodOf world.now member.now d.now) }
 {
     match world.class(&member.class) {
