@@ -8,7 +8,7 @@ use sj_outside::{Folders, Lines, Outputs, OutsideError};
 use sj_session::{EditRefusal, Session};
 use sj_words::Link;
 use sj_workshop::Workshop;
-use std::alloc::Global;
+use std::alloc::{AllocError, Global};
 
 /// How a run ends before its time.
 pub enum Fault {
@@ -18,6 +18,17 @@ pub enum Fault {
     Write,
     /// No memory was left.
     NoMemory,
+}
+
+impl From<AllocError> for Fault {
+    ghost use Rattle.std.specs.Prelude.{◌≡◌};
+    ghost use Rattle.sjslink.specs.declared.editing.Fault.TheVariants.{NoMemory};
+
+    ghost from_gives = { λ _ e. e ≡ NoMemory };
+
+    fn from(_error: AllocError) -> Fault {
+        Fault::NoMemory
+    }
 }
 
 /// Edits the session by each folder of the command, and writes what each edit comes to.

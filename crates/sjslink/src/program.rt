@@ -13,6 +13,7 @@ use crate::editing::{Fault, edit_folders};
 use crate::entries::{NoEntries, read_entries};
 use crate::reports::entries_line;
 use crate::writing::finish;
+use sj_names::Entries;
 use sj_outside::{Folders, Lines, Outputs};
 use sj_session::{Options, Session};
 use sj_split::Style;
