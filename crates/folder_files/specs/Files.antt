@@ -21,7 +21,7 @@ source_file path bytes = record { path = path; bytes = bytes }
 
 -- a file in the folder of this name
 abbrev pub inside : List ℕ → SourceFile → SourceFile
-inside name file = source_file (name ++ codes "/" ++ file.path) file.bytes
+inside name file = source_file (name ++ (codes "/" ++ file.path)) file.bytes
 
 -- the class files among these parts, with paths below them, where so many more folders may stand above a name
 abbrev pub files_below : ℕ → Parts → List SourceFile
@@ -48,3 +48,9 @@ front file = source_file file.path (take (largest_file + 1) file.bytes)
 pub data IsReadOf (files : List SourceFile) : List SourceFile → Type 0 where
   all : ((place : ℕ) → IsTooLarge (sizes (map front files)) place → ⊥) → IsReadOf files (map front files)
   up_to : (place : ℕ) → IsFirstTooLarge (sizes (map front files)) place → IsReadOf files (take (place + 1) (map front files))
+
+-- what is read of the class files of the folder at the path
+pub record HasRead (contents : Parts) (path : List ℕ) (read : List SourceFile) : Type 0 where
+  pub files : List SourceFile
+  pub are_files : AreFilesOf contents path files
+  pub is_read : IsReadOf files read

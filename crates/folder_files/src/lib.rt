@@ -1,9 +1,9 @@
 //! The class files of a folder, and what is read of them.
 #![tactic(auto)]
 
-ghost use Rattle.folder_files.specs.Rows.{RowsHold};
+mod laws;
+mod reading;
+mod walking;
 
-/// The class files of the folders that are worked out are as their rows say.
-pub fn rows_hold()
-    ensures { RowsHold }
-{}
+pub use laws::rows_hold;
+pub use reading::read_folder;
