@@ -1,18 +1,15 @@
 -- The files that were read so far.
-use Rattle.std.proofs.Common.{◌≡◌, ◌⊎◌, inl, inr, ℕ, zero, suc, ◌+◌, ◌<◌, ◌≤◌, Bool, true, false, List, [], ◌∷◌, ◌++◌, refl, sym, ap, ◌∙◌, subst, length, get_or, take, drop, map, Some, slice_get, length-append, arith}
-use Rattle.std.specs.Prelude.{◌↔◌, Option, IsTrue, option_map, not, is_some}
-use Rattle.std.specs.List.{All}
+use Rattle.std.proofs.Common.{◌≡◌, ◌⊎◌, inl, inr, ℕ, ◌+◌, ◌<◌, ◌≤◌, List, [], ◌∷◌, ◌++◌, refl, sym, ap, ◌∙◌, subst, length, get_or, take, drop, map, Some, length-append, arith}
 use Rattle.std.proofs.Math.ListN.{get_or-map}
 use Rattle.std.proofs.Math.Seq.{take-append_seam, get_or-append_seam}
 use Rattle.std.proofs.lemmas.List.{take_more, take_all, take-append-le, take-append-drop, take-map, map-append, length-map, length-take, get_or_append_left, get_or_default}
 use Rattle.std.proofs.lemmas.Option.{slice_get_within, slice_get-get_or, get_or_from_slice_get}
 use Rattle.sj_names.specs.declared.folders.SourceFile.{SourceFile}
-use Rattle.sj_outside.specs.Contents.{Parts, file_at}
-use Rattle.sj_outside.specs.Reading.{Reads, lacks_file}
-use Rattle.folder_sizes.specs.Sizes.{largest_file, largest_folder, sum, IsOver, IsTooLarge, IsFirstTooLarge}
+use Rattle.sj_outside.specs.Contents.{Parts}
+use Rattle.folder_sizes.specs.Sizes.{largest_folder, sum, IsOver, IsTooLarge, IsFirstTooLarge}
 use Rattle.folder_sizes.specs.Files.{size_of, sizes}
 use Rattle.folder_files.specs.Files.{front, source_file, path_of, IsReadOf, all, up_to}
-use Rattle.folder_files.specs.Walking.{part_path, IsHeld, ArePathsOf}
+use Rattle.folder_files.specs.Walking.{IsHeld, ArePathsOf}
 
 -- Sizes, none of which is too large
 
