@@ -113,6 +113,7 @@ fn gather_folder<F: Folders>(
     gather(alloc, &inner, folders, paths)
 }
 
+/// Appends the path of the file `name`, if it is a class file.
 fn gather_file(
     alloc: Global,
     prefix: &str,
