@@ -1,14 +1,13 @@
 -- What is listed in a folder is held under the folder's path and its name.
-use Rattle.std.proofs.Common.{◌≡◌, ℕ, Bool, true, false, List, [], ◌∷◌, ◌++◌, length, refl, ap, ◌∙◌, cond, arith}
-use Rattle.std.specs.Prelude.{◌&&◌, ◌||◌, ◌==◌, not, map, Option, Some, None, option_and_then, option_map, is_some, nat_lt, IsTrue}
+use Rattle.std.proofs.Common.{◌≡◌, ℕ, Bool, true, false, List, length, refl, ap, ◌∙◌, cond, arith}
+use Rattle.std.specs.Prelude.{◌&&◌, ◌||◌, ◌==◌, not, map, Option, Some, None, option_and_then, nat_lt}
 use Rattle.std.specs.List.{list_any, list_all}
 use Rattle.std.specs.Cmp.Lexicographic.{nat_list_eq_equiv}
 use Rattle.std.proofs.lemmas.Bool.{and_parts}
 use Rattle.std.proofs.lemmas.Bool.Decides.{nat_tests}
-use Rattle.sj_outside.specs.declared.answers.Entry.{Entry}
-use Rattle.sj_outside.specs.Contents.{Parts, no_parts, file_part, folder_part, Held, file_held, folder_held, part_named, held_under, held_at, folder_of, folder_at, entries_of, entry_name, are_names, is_name, is_same_text}
+use Rattle.sj_outside.specs.Contents.{Parts, no_parts, file_part, folder_part, Held, file_held, folder_held, part_named, held_at, folder_of, folder_at, entries_of, entry_name, are_names, is_name, is_same_text}
 use Rattle.sj_outside.proofs.Listed.{held_at-joined}
-use Rattle.folder_files.specs.Walking.{part_path}
+use Rattle.folder_files.specs.Walking.{path_in}
 
 -- each part is what is found by its name
 abbrev pub AreFound : (List ℕ → Option Held) → Parts → Type 0
@@ -48,21 +47,23 @@ found_still name find other same (folder_part n inner others) none found =
 
 parts_named : (parts : Parts) → are_names (names_of parts) ≡ true → AreFound (λ n. part_named n parts) parts
 parts_named no_parts names = tt
-parts_named (file_part n bytes others) names =
-    (ap (λ (b : Bool). cond b (Some (file_held bytes)) (part_named n others)) (nat_list_eq_equiv.refl n),
-    found_still n (λ m. part_named m others) (λ m. part_named m (file_part n bytes others)) (λ m differs. ap (λ (b : Bool). cond b (Some (file_held bytes)) (part_named m others)) differs) others (first_is_new n others names) (parts_named others (others_are_names n others names)))
-parts_named (folder_part n inner others) names =
-    (ap (λ (b : Bool). cond b (Some (folder_held inner)) (part_named n others)) (nat_list_eq_equiv.refl n),
-    found_still n (λ m. part_named m others) (λ m. part_named m (folder_part n inner others)) (λ m differs. ap (λ (b : Bool). cond b (Some (folder_held inner)) (part_named m others)) differs) others (first_is_new n others names) (parts_named others (others_are_names n others names)))
+parts_named (file_part n bytes others) names = (
+  ap (λ (b : Bool). cond b (Some (file_held bytes)) (part_named n others)) (nat_list_eq_equiv.refl n),
+  found_still n (λ m. part_named m others) (λ m. part_named m (file_part n bytes others)) (λ m differs. ap (λ (b : Bool). cond b (Some (file_held bytes)) (part_named m others)) differs) others (first_is_new n others names) (parts_named others (others_are_names n others names)),
+)
+parts_named (folder_part n inner others) names = (
+  ap (λ (b : Bool). cond b (Some (folder_held inner)) (part_named n others)) (nat_list_eq_equiv.refl n),
+  found_still n (λ m. part_named m others) (λ m. part_named m (folder_part n inner others)) (λ m differs. ap (λ (b : Bool). cond b (Some (folder_held inner)) (part_named m others)) differs) others (first_is_new n others names) (parts_named others (others_are_names n others names)),
+)
 
 not_empty : (name : List ℕ) → is_name name ≡ true → length name == 0 ≡ false
 not_empty name good = let some = (and_parts (nat_lt 0 (length name)) (list_all (λ b. not (b == 47)) name) good).0 in grind (arith, nat_tests)
 
 -- what a name leads to from the path of a folder is the folder's part of the name
-held_in : (contents : Parts) (folder name : List ℕ) (parts : Parts) → held_at contents folder ≡ Some (folder_held parts) → is_name name ≡ true → held_at contents (part_path folder name) ≡ part_named name parts
+held_in : (contents : Parts) (folder name : List ℕ) (parts : Parts) → held_at contents folder ≡ Some (folder_held parts) → is_name name ≡ true → held_at contents (path_in folder name) ≡ part_named name parts
 held_in contents folder name parts held good = held_at-joined contents folder name parts good held ∙ ap (λ (empty : Bool). cond empty (Some (folder_held parts)) (part_named name parts)) (not_empty name good)
 
-found_in : (contents : Parts) (folder : List ℕ) (whole : Parts) → held_at contents folder ≡ Some (folder_held whole) → (parts : Parts) → are_names (names_of parts) ≡ true → AreFound (λ n. part_named n whole) parts → AreFound (λ n. held_at contents (part_path folder n)) parts
+found_in : (contents : Parts) (folder : List ℕ) (whole : Parts) → held_at contents folder ≡ Some (folder_held whole) → (parts : Parts) → are_names (names_of parts) ≡ true → AreFound (λ n. part_named n whole) parts → AreFound (λ n. held_at contents (path_in folder n)) parts
 found_in contents folder whole held no_parts names found = tt
 found_in contents folder whole held (file_part n bytes others) names found = (held_in contents folder n whole held (first_is_name n others names) ∙ found.0, found_in contents folder whole held others (others_are_names n others names) found.1)
 found_in contents folder whole held (folder_part n inner others) names found = (held_in contents folder n whole held (first_is_name n others names) ∙ found.0, found_in contents folder whole held others (others_are_names n others names) found.1)
@@ -73,5 +74,5 @@ folder_held_there (Some (file_held bytes)) parts e = cc
 folder_held_there (Some (folder_held ps)) parts e = let same : ps ≡ parts = cc in ap (λ (p : Parts). Some (folder_held p)) same
 
 -- each part of a folder is held there
-pub parts_held : (contents : Parts) (folder : List ℕ) (parts : Parts) → folder_at contents folder ≡ Some parts → are_names (map entry_name (entries_of parts)) ≡ true → AreFound (λ n. held_at contents (part_path folder n)) parts
+pub parts_held : (contents : Parts) (folder : List ℕ) (parts : Parts) → folder_at contents folder ≡ Some parts → are_names (map entry_name (entries_of parts)) ≡ true → AreFound (λ n. held_at contents (path_in folder n)) parts
 parts_held contents folder parts is names = found_in contents folder parts (folder_held_there (held_at contents folder) parts is) parts names (parts_named parts names)

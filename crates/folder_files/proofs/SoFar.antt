@@ -1,18 +1,15 @@
 -- The files that were read so far.
-use Rattle.std.proofs.Common.{◌≡◌, ◌⊎◌, inl, inr, ℕ, zero, suc, ◌+◌, ◌<◌, ◌≤◌, Bool, true, false, List, [], ◌∷◌, ◌++◌, refl, sym, ap, ◌∙◌, subst, length, get_or, take, drop, map, Some, slice_get, length-append, arith}
-use Rattle.std.specs.Prelude.{◌↔◌, Option, IsTrue, option_map, not, is_some}
-use Rattle.std.specs.List.{All}
+use Rattle.std.proofs.Common.{◌≡◌, ◌⊎◌, inl, inr, ℕ, ◌+◌, ◌<◌, ◌≤◌, List, [], ◌∷◌, ◌++◌, refl, sym, ap, ◌∙◌, subst, length, get_or, take, drop, map, Some, length-append, arith}
 use Rattle.std.proofs.Math.ListN.{get_or-map}
 use Rattle.std.proofs.Math.Seq.{take-append_seam, get_or-append_seam}
-use Rattle.std.proofs.lemmas.List.{take_more, take_all, take-append-le, take-append-drop, take-map, map-append, length-map, length-take, get_or_append_left}
+use Rattle.std.proofs.lemmas.List.{take_more, take_all, take-append-le, take-append-drop, take-map, map-append, length-map, length-take, get_or_append_left, get_or_default}
 use Rattle.std.proofs.lemmas.Option.{slice_get_within, slice_get-get_or, get_or_from_slice_get}
 use Rattle.sj_names.specs.declared.folders.SourceFile.{SourceFile}
-use Rattle.sj_outside.specs.Contents.{Parts, file_at}
-use Rattle.sj_outside.specs.Reading.{Reads, lacks_file}
-use Rattle.folder_sizes.specs.Sizes.{largest_file, largest_folder, sum, IsOver, IsTooLarge, IsFirstTooLarge}
+use Rattle.sj_outside.specs.Contents.{Parts}
+use Rattle.folder_sizes.specs.Sizes.{largest_folder, sum, IsOver, IsTooLarge, IsFirstTooLarge}
 use Rattle.folder_sizes.specs.Files.{size_of, sizes}
 use Rattle.folder_files.specs.Files.{front, source_file, path_of, IsReadOf, all, up_to}
-use Rattle.folder_files.specs.Walking.{part_path, IsHeld, ArePathsOf}
+use Rattle.folder_files.specs.Walking.{IsHeld, ArePathsOf}
 
 -- Sizes, none of which is too large
 
@@ -81,61 +78,73 @@ first_over ns total n fits over = record { too_large = last_over ns n total fits
 
 -- Files
 
--- the file at this path
-abbrev file_of : List SourceFile → ℕ → List ℕ → SourceFile
-file_of files k path = get_or files k (source_file path [])
+-- the file that is read next
+pub record Next (contents : Parts) (folder : List ℕ) (files : List SourceFile) (k : ℕ) (path : List ℕ) : Type 0 where
+  pub file : SourceFile
+  pub below : k < length files
+  pub at : file ≡ get_or files k file
+  pub path_is : file.path ≡ path
+  pub held : IsHeld contents folder file
 
-module _ (contents : Parts) (folder : List ℕ) (paths : List (List ℕ)) (are : ArePathsOf contents folder paths) (k : ℕ) (path : List ℕ) (below : k < length paths) (is : path ≡ get_or paths k path) where
-  pub within_files : k < length are.files
-  within_files = omega (arith, length-map are.files path_of, ap length are.are_paths)
+pub next : (contents : Parts) (folder : List ℕ) (paths : List (List ℕ)) (are : ArePathsOf contents folder paths) (k : ℕ) (path : List ℕ) → k < length paths → path ≡ get_or paths k path → Next contents folder are.files k path
+next contents folder paths are k path below is = record { file = file; below = within_files; at = get_or_default are.files k default file within_files; path_is = path_is; held = are.held k default within_files }
+  where
+    default : SourceFile
+    default = source_file path []
 
-  pub path_is : (file_of are.files k path).path ≡ path
-  path_is = sym (is ∙ ap (λ (ps : List (List ℕ)). get_or ps k path) (sym are.are_paths) ∙ get_or-map path_of are.files k (source_file path []))
+    file : SourceFile
+    file = get_or are.files k default
 
-  pub held_there : IsHeld contents folder (file_of are.files k path)
-  held_there = are.held k (source_file path []) within_files
+    within_files : k < length are.files
+    within_files = omega (arith, below, length-map are.files path_of, ap length are.are_paths)
+
+    path_is : file.path ≡ path
+    path_is = sym (is ∙ ap (λ (ps : List (List ℕ)). get_or ps k path) (sym are.are_paths) ∙ get_or-map path_of are.files k default)
 
 -- one more file is read
-pub read_on : (files : List SourceFile) (k : ℕ) (path : List ℕ) (read new : List SourceFile) (file : SourceFile) → k < length files → read ≡ take k (map front files) → file ≡ front (file_of files k path) → new ≡ read ++ file ∷ [] → new ≡ take (k + 1) (map front files)
-read_on files k path read new file below so_far is added =
-    let last : get_or (map front files) k (front (source_file path [])) ≡ file = get_or-map front files k (source_file path []) ∙ sym is in
+pub read_on : (files : List SourceFile) (k : ℕ) (read new : List SourceFile) (whole file : SourceFile) → k < length files → whole ≡ get_or files k whole → read ≡ take k (map front files) → file ≡ front whole → new ≡ read ++ file ∷ [] → new ≡ take (k + 1) (map front files)
+read_on files k read new whole file below at so_far is added =
+    let last : get_or (map front files) k (front whole) ≡ file = get_or-map front files k whole ∙ ap front (sym at) ∙ sym is in
     added
     ∙ (λ i. so_far i ++ sym last i ∷ [])
-    ∙ sym (take_more (map front files) k (front (source_file path [])) (omega (arith, below, length-map files front)))
+    ∙ sym (take_more (map front files) k (front whole) (omega (arith, below, length-map files front)))
 
 sizes-push : (read : List SourceFile) (file : SourceFile) → sizes (read ++ file ∷ []) ≡ sizes read ++ size_of file ∷ []
 sizes-push read file = map-append size_of read (file ∷ [])
 
-pub fits_on : (read new : List SourceFile) (file : SourceFile) (total : ℕ) → Fits (sizes read) total → (IsOver (length read) total (size_of file) → ⊥) → new ≡ read ++ file ∷ [] → Fits (sizes new) (total + size_of file)
-fits_on read new file total fits not_over added =
-    subst (λ (ns : List ℕ). Fits ns (total + size_of file)) (sym (ap sizes added ∙ sizes-push read file))
-    (one_fits (sizes read) total (size_of file) fits (λ over. not_over (subst (λ (k : ℕ). IsOver k total (size_of file)) (length-map read size_of) over)))
+-- a place and a size that were counted
+same_over : (read : List SourceFile) (file : SourceFile) (place total size : ℕ) → place ≡ length read → size ≡ size_of file → IsOver place total size ≡ IsOver (length (sizes read)) total (size_of file)
+same_over read file place total size place_is size_is = λ i. IsOver ((place_is ∙ sym (length-map read size_of)) i) total (size_is i)
+
+pub fits_on : (read new : List SourceFile) (file : SourceFile) (place total size : ℕ) → place ≡ length read → size ≡ size_of file → Fits (sizes read) total → (IsOver place total size → ⊥) → new ≡ read ++ file ∷ [] → Fits (sizes new) (total + size)
+fits_on read new file place total size place_is size_is fits not_over added =
+    let not_last : IsOver (length (sizes read)) total (size_of file) → ⊥ = subst (λ (A : Type 0). A → ⊥) (same_over read file place total size place_is size_is) not_over in
+    subst (λ (n : ℕ). Fits (sizes new) (total + n)) (sym size_is)
+    (subst (λ (ns : List ℕ). Fits ns (total + size_of file)) (sym (ap sizes added ∙ sizes-push read file))
+    (one_fits (sizes read) total (size_of file) fits not_last))
 
 -- the last file that is read
-pub reads_to : (files : List SourceFile) (k : ℕ) (path : List ℕ) (read new : List SourceFile) (file : SourceFile) (total : ℕ) → k < length files → read ≡ take k (map front files) → file ≡ front (file_of files k path) → new ≡ read ++ file ∷ [] → Fits (sizes read) total → IsOver (length read) total (size_of file) → IsReadOf files new
-reads_to files k path read new file total below so_far is added fits over =
-    subst (IsReadOf files) (sym all_is) (up_to k first_whole)
+pub reads_to : (files : List SourceFile) (k : ℕ) (read new : List SourceFile) (file : SourceFile) (place total size : ℕ) → k < length files → read ≡ take k (map front files) → new ≡ take (k + 1) (map front files) → new ≡ read ++ file ∷ [] → place ≡ length read → size ≡ size_of file → Fits (sizes read) total → IsOver place total size → IsReadOf files new
+reads_to files k read new file place total size below so_far new_is added place_is size_is fits over =
+    subst (IsReadOf files) (sym new_is) (up_to k first_whole)
   where
-    all_is : new ≡ take (k + 1) (map front files)
-    all_is = read_on files k path read new file below so_far is added
+    whole : List ℕ
+    whole = sizes (map front files)
 
-    length_is : length read ≡ k
-    length_is = ap length so_far ∙ length-take k (map front files) ∙ (let h = length-map files front in omega (arith, below))
+    length_is : length (sizes read) ≡ k
+    length_is = length-map read size_of ∙ ap length so_far ∙ length-take k (map front files) ∙ (let h = length-map files front in omega (arith, below))
 
-    first : IsFirstTooLarge (sizes read ++ size_of file ∷ []) (length read)
-    first = subst (IsFirstTooLarge (sizes read ++ size_of file ∷ [])) (length-map read size_of) (first_over (sizes read) total (size_of file) fits (subst (λ (j : ℕ). IsOver j total (size_of file)) (sym (length-map read size_of)) over))
+    first : IsFirstTooLarge (sizes read ++ size_of file ∷ []) k
+    first = subst (IsFirstTooLarge (sizes read ++ size_of file ∷ [])) length_is (first_over (sizes read) total (size_of file) fits (subst (λ (A : Type 0). A) (same_over read file place total size place_is size_is) over))
 
-    front_is : sizes read ++ size_of file ∷ [] ≡ take (k + 1) (sizes (map front files))
-    front_is = sym (ap sizes added ∙ sizes-push read file) ∙ ap sizes all_is ∙ sym (take-map size_of (k + 1) (map front files))
+    front_is : sizes read ++ size_of file ∷ [] ≡ take (k + 1) whole
+    front_is = sym (ap sizes added ∙ sizes-push read file) ∙ ap sizes new_is ∙ sym (take-map size_of (k + 1) (map front files))
 
-    whole_is : (sizes read ++ size_of file ∷ []) ++ drop (k + 1) (sizes (map front files)) ≡ sizes (map front files)
-    whole_is = ap (λ (ns : List ℕ). ns ++ drop (k + 1) (sizes (map front files))) front_is ∙ take-append-drop (k + 1) (sizes (map front files))
-
-    first_whole : IsFirstTooLarge (sizes (map front files)) k
-    first_whole = subst (λ (ns : List ℕ). IsFirstTooLarge ns k) whole_is (subst (IsFirstTooLarge _) length_is (first_beyond _ (drop (k + 1) (sizes (map front files))) (length read) first))
+    first_whole : IsFirstTooLarge whole k
+    first_whole = subst (λ (ns : List ℕ). IsFirstTooLarge ns k) (take-append-drop (k + 1) whole) (first_beyond (take (k + 1) whole) (drop (k + 1) whole) k (subst (λ (ns : List ℕ). IsFirstTooLarge ns k) front_is first))
 
 -- all files are read
-pub reads_all : (files read : List SourceFile) (k total : ℕ) → length files ≤ k → read ≡ take k (map front files) → Fits (sizes read) total → IsReadOf files read
-reads_all files read k total ended so_far fits =
-    let whole : read ≡ map front files = so_far ∙ take_all k (map front files) (omega (arith, ended, length-map files front)) in
-    subst (IsReadOf files) (sym whole) (all (subst (λ (fs : List SourceFile). (place : ℕ) → IsTooLarge (sizes fs) place → ⊥) whole fits.none))
+pub reads_all : (contents : Parts) (folder : List ℕ) (paths : List (List ℕ)) (are : ArePathsOf contents folder paths) (read : List SourceFile) (k total : ℕ) → length paths ≤ k → read ≡ take k (map front are.files) → Fits (sizes read) total → IsReadOf are.files read
+reads_all contents folder paths are read k total ended so_far fits =
+    let whole : read ≡ map front are.files = so_far ∙ take_all k (map front are.files) (omega (arith, ended, length-map are.files front, length-map are.files path_of, ap length are.are_paths)) in
+    subst (IsReadOf are.files) (sym whole) (all (subst (λ (fs : List SourceFile). (place : ℕ) → IsTooLarge (sizes fs) place → ⊥) whole fits.none))

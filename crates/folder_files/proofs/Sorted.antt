@@ -1,8 +1,8 @@
 -- The paths in byte order are those of the files in byte order of their paths.
-use Rattle.std.proofs.Common.{◌≡◌, ℕ, ◌+◌, ◌<◌, false, List, [], ◌∷◌, refl, sym, ap, ◌∙◌, subst, length, get_or, arith}
+use Rattle.std.proofs.Common.{◌≡◌, ℕ, ◌+◌, ◌<◌, false, List, [], ◌∷◌, refl, sym, ap, ◌∙◌, subst, get_or}
 use Rattle.std.specs.Prelude.{map}
 use Rattle.std.specs.Cmp.Lexicographic.{slice_cmp}
-use Rattle.std.specs.List.{All, swap}
+use Rattle.std.specs.List.{swap}
 use Rattle.std.specs.List.Sorted.{IsPermutation, IsSorted, IsSortedByKey, apply_swaps, SwapsInRange}
 use Rattle.std.specs.Ordering.{nat_cmp, is_lt}
 use Rattle.std.proofs.Math.ListN.{set, get_or-map}
@@ -11,7 +11,7 @@ use Rattle.std.proofs.lemmas.List.{length-map}
 use Rattle.std.proofs.lemmas.List.Sorted.{All-permutation}
 use Rattle.sj_names.specs.declared.folders.SourceFile.{SourceFile}
 use Rattle.sj_outside.specs.Contents.{Parts}
-use Rattle.folder_files.specs.Files.{deepest, files_below, path_of, AreFilesOf}
+use Rattle.folder_files.specs.Files.{deepest, files_below, path_of}
 use Rattle.folder_files.specs.Walking.{Gathers, ArePathsOf, IsHeld}
 
 module _ {X Y : Type 0} (f : X → Y) where

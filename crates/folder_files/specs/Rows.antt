@@ -1,7 +1,7 @@
 -- The class files of some folders.
-use Rattle.std.specs.Prelude.{◌≡◌, ℕ, zero, suc, [], ◌∷◌, codes}
+use Rattle.std.specs.Prelude.{◌≡◌, ℕ, zero, suc, [], ◌∷◌, codes, length}
 use Rattle.sj_outside.specs.Contents.{Parts, no_parts, file_part, folder_part}
-use Rattle.folder_files.specs.Files.{files_below, source_file}
+use Rattle.folder_files.specs.Files.{deepest, files_below, source_file}
 
 -- a file below so many folders `d`
 abbrev pub nested : ℕ → Parts
@@ -19,3 +19,5 @@ pub record RowsHold : Type 0 where
   pub two_above : files_below 2 (nested 2) ≡ source_file (codes "d/d/A.sjsir") (1 ∷ []) ∷ []
   pub three_above : files_below 2 (nested 3) ≡ []
   pub bare_suffix : files_below 0 (file_part (codes ".sjsir") [] no_parts) ≡ source_file (codes ".sjsir") [] ∷ []
+  pub deepest_of_all : length (files_below deepest (nested 32)) ≡ 1
+  pub below_the_deepest : files_below deepest (nested 33) ≡ []

@@ -16,10 +16,10 @@ use std::alloc::Global;
 /// One byte more than a file may have.
 const MOST_READ: usize = 16_777_217;
 
-/// The class files of the folder at `path`, in byte order of their own paths, as far as they are read: each whole or one byte more than a file may
-/// have, and none behind the first at which they are too large.
+/// The class files of the folder at `path`, in byte order of their own paths, as far as they are read: each whole or one byte more
+/// than a file may have, and none behind the first at which they are too large. A class file has at most 32 folders above its name.
 ///
-/// `Failed` only where a folder or a file could not be read.
+/// `Failed` only where a folder could not be listed or a file could not be read, so that `faults` rose in this call.
 pub fn read_folder<F: Folders>(
     alloc: Global,
     path: &str,

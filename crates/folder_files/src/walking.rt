@@ -3,7 +3,7 @@ ghost use Rattle.std.specs.Prelude.{◌≡◌, ◌≤◌, ◌++◌, ℕ, true, S
 ghost use Rattle.sj_outside.specs.Contents.{Parts, folder_at};
 ghost use Rattle.sj_outside.specs.Faults.{HasCause};
 ghost use Rattle.folder_files.specs.Files.{is_class_file};
-ghost use Rattle.folder_files.specs.Walking.{ArePathsOf, Gathers, GathersEntry, GathersFolder, gathered_file, longer, part_path};
+ghost use Rattle.folder_files.specs.Walking.{ArePathsOf, Gathers, GathersEntry, GathersFolder, gathered_file, path_in, prefix_in};
 
 use sj_names::{NoMemory, Text};
 use sj_outside::{Entry, Folders, OutsideError};
@@ -44,7 +44,7 @@ pub fn paths_in_order<F: Folders>(
     Ok(paths)
 }
 
-/// Appends the paths of the class files of a folder.
+/// Appends the paths of the class files of a folder, in the order in which they are listed.
 #[cycle(walk)]
 fn gather<F: Folders>(
     alloc: Global,
@@ -64,6 +64,7 @@ fn gather<F: Folders>(
     Ok(())
 }
 
+/// Appends the path of a class file, or those of the class files of a folder.
 #[cycle(walk)]
 fn gather_entry<F: Folders>(
     alloc: Global,
@@ -75,7 +76,7 @@ fn gather_entry<F: Folders>(
     ensures same { F.holds folders.new ≡ F.holds folders.old }
     ensures told { (c : Parts) → F.holds folders.old ≡ Some c → OnOk result (GathersEntry c here.now.path.now here.now.prefix.now here.now.left entry.now paths.old.items paths.new.items) }
     ensures cause { HasCause (F.faults folders.old) (F.faults folders.new) result }
-    ensures missing { (c : Parts) → F.holds folders.old ≡ Some c → (entry.now.is_folder ≡ true → IsTrue (is_some (folder_at c (part_path here.now.path.now entry.now.name)))) → F.missing folders.new ≡ F.missing folders.old }
+    ensures missing { (c : Parts) → F.holds folders.old ≡ Some c → (entry.now.is_folder ≡ true → IsTrue (is_some (folder_at c (path_in here.now.path.now entry.now.name)))) → F.missing folders.new ≡ F.missing folders.old }
 {
     if entry.is_folder {
         gather_folder(alloc, here, entry.name.as_str(), folders, paths)
@@ -85,7 +86,7 @@ fn gather_entry<F: Folders>(
     }
 }
 
-/// Goes into the folder `name`, unless too many stand above what is there.
+/// Appends the paths of the class files of the folder `name`, unless too many folders stand above them.
 #[cycle(walk)]
 fn gather_folder<F: Folders>(
     alloc: Global,
@@ -97,7 +98,7 @@ fn gather_folder<F: Folders>(
     ensures same { F.holds folders.new ≡ F.holds folders.old }
     ensures told { (c : Parts) → F.holds folders.old ≡ Some c → OnOk result (GathersFolder c here.now.path.now here.now.prefix.now here.now.left name.now paths.old.items paths.new.items) }
     ensures cause { HasCause (F.faults folders.old) (F.faults folders.new) result }
-    ensures missing { (c : Parts) → F.holds folders.old ≡ Some c → IsTrue (is_some (folder_at c (part_path here.now.path.now name.now))) → F.missing folders.new ≡ F.missing folders.old }
+    ensures missing { (c : Parts) → F.holds folders.old ≡ Some c → IsTrue (is_some (folder_at c (path_in here.now.path.now name.now))) → F.missing folders.new ≡ F.missing folders.old }
 {
     if here.left == 0 {
         return Ok(());
@@ -112,6 +113,7 @@ fn gather_folder<F: Folders>(
     gather(alloc, &inner, folders, paths)
 }
 
+/// Appends the path of the file `name`, if it is a class file.
 fn gather_file(
     alloc: Global,
     prefix: &str,
@@ -135,13 +137,13 @@ fn is_class_file(name: &str) -> bool
 
 /// The path of what has this name in the folder.
 pub fn path_in(alloc: Global, folder: &str, name: &str) -> Result<String, AllocError>
-    ensures { IfOk result (λ text. string_bytes text ≡ part_path folder.now name.now) }
+    ensures { IfOk result (λ text. string_bytes text ≡ path_in folder.now name.now) }
 {
     format!(in alloc; "{folder}/{name}")
 }
 
 fn prefix_in(alloc: Global, prefix: &str, name: &str) -> Result<String, AllocError>
-    ensures { IfOk result (λ text. string_bytes text ≡ longer prefix.now name.now) }
+    ensures { IfOk result (λ text. string_bytes text ≡ prefix_in prefix.now name.now) }
 {
     format!(in alloc; "{prefix}{name}/")
 }

@@ -25,11 +25,11 @@ gather-loop-entry-preserved g t c =
       told = λ contents tells last all. c.loop-entry.invariant.told contents tells last (one_more contents c.args.here.now.path.now c.args.here.now.prefix.now c.args.here.now.left c.deref-entry-items.result.now c.loop-entry.entry-index c.entry-item.result _ _ last c.loop-entry-test.true c.entry-item.is (c.in_ok-gather_entry.ensures.told contents (c.loop-entry.invariant.same ∙ tells)) all);
       faults = omega (arith, c.in_ok-gather_entry.ensures.cause.never_falls, c.loop-entry.invariant.faults);
       missing = λ contents tells.
-      let old = sym c.in_ok-entries.ensures.same ∙ tells in
-      let lists = subst (λ (es : List Entry). Lists (g.F.Folders.holds c.args.folders.now) c.args.here.now.path.now es) (sym same) c.in_ok-entries.ensures.entries in
-      let names = subst (λ (es : List Entry). IsTrue (are_names (map entry_name es))) (sym same) c.in_ok-entries.ensures.names in
-      c.in_ok-gather_entry.ensures.missing contents (c.loop-entry.invariant.same ∙ tells) (folder_is_there _ contents c.args.here.now.path.now c.deref-entry-items.result.now c.loop-entry.entry-index c.entry-item.result old lists names c.loop-entry-test.true c.entry-item.is)
-      ∙ c.loop-entry.invariant.missing contents tells;
+          let old = sym c.in_ok-entries.ensures.same ∙ tells in
+          let lists = subst (λ (es : List Entry). Lists (g.F.Folders.holds c.args.folders.now) c.args.here.now.path.now es) (sym same) c.in_ok-entries.ensures.entries in
+          let names = subst (λ (es : List Entry). IsTrue (are_names (map entry_name es))) (sym same) c.in_ok-entries.ensures.names in
+          c.in_ok-gather_entry.ensures.missing contents (c.loop-entry.invariant.same ∙ tells) (folder_is_there _ contents c.args.here.now.path.now c.deref-entry-items.result.now c.loop-entry.entry-index c.entry-item.result old lists names c.loop-entry-test.true c.entry-item.is)
+          ∙ c.loop-entry.invariant.missing contents tells;
     }
 
 pub gather-returns-clause-told : goal.gather-returns-clause-told

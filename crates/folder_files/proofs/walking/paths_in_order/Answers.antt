@@ -1,6 +1,6 @@
 use Rattle.folder_files.specs.Walking.{Gathers}
 use Rattle.folder_files.specs.Files.{deepest}
-use Rattle.std.proofs.Common.{◌≡◌, [], subst, List, ℕ}
+use Rattle.std.proofs.Common.{[], subst, List, ℕ}
 use Rattle.folder_files.proofs.Sorted.{paths_in_order}
 use Rattle.folder_files.proofs.walking.paths_in_order.Goals as goal
 
