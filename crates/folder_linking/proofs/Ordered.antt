@@ -10,18 +10,24 @@ use Rattle.std.specs.declared.cmp.Ordering.TheVariants.{Less, Equal, Greater}
 use Rattle.std.proofs.lemmas.Cmp.{nat_cmp_total, then_total, on_total}
 use Rattle.std.proofs.lemmas.List.MinMax.{ranks_by}
 use Rattle.std.proofs.lemmas.List.Sorted.{sorted_far}
+use Rattle.std.proofs.lemmas.List.Elements.{All-nil, All-cons}
+use Rattle.std.specs.List.{All}
+use Rattle.js_tree.specs.Rules.{IsPiece}
 use Rattle.js_tree.specs.Views.{piece_view}
 use Rattle.sj_calls.specs.Files.{EmittedMethod, piece_of_method}
 use Rattle.sj_emit_expr.specs.Templates.{member_name}
 use Rattle.sj_names.specs.declared.method_names.Member.{Member}
-use Rattle.sj_split.proofs.Members.{at_first, further}
+use Rattle.sj_proper.specs.Program.{HaveOwnMembers}
+use Rattle.sj_split.proofs.Members.{at_first, further, cons_cases}
 use Rattle.sj_world.proofs.Orders.{same_name, same_compared}
 use Rattle.sj_world.specs.Known.{Name, Classes}
 use Rattle.sj_world.specs.Tables.{AreAncestors}
+use Rattle.worklist.proofs.Inserted.{nothing_in}
+use Rattle.accepted_folders.specs.Bodies.{IsFound}
 use Rattle.folder_verdicts.proofs.Firsts.{in_order}
 use Rattle.linked_folders.specs.Link.{StandsBefore, by_ancestors, by_class, by_name, AreInOrder}
 use Rattle.folder_linking.specs.declared.functions.Function.{Function}
-use Rattle.folder_linking.specs.Functions.{HasAncestors, IsFunction, order, is_before}
+use Rattle.folder_linking.specs.Functions.{HasAncestors, IsFunction, member_of, order, is_before}
 
 abbrev text_cmp : Name → Name → Ordering
 text_cmp = slice_cmp nat_cmp
@@ -121,3 +127,44 @@ module _ (w : Classes) where
     pub among : Contains fs function
     pub is : IsFunction w function
     pub method_is : is.method ≡ e
+
+  in_methods : (fs : List Function) (each : (f : Function) → Contains fs f → IsFunction w f) (e : EmittedMethod) → Contains (methods fs each) e → Made fs e
+  in_methods [] each e h = nothing_in e h
+  in_methods (f ∷ fs) each e h = go (cons_cases (each f (at_first f fs)).method e (methods fs (λ g i. each g (further f g fs i))) h) (in_methods fs (λ g i. each g (further f g fs i)) e)
+    where
+      go : ((each f (at_first f fs)).method ≡ e) ⊎ Contains (methods fs (λ g i. each g (further f g fs i))) e → (Contains (methods fs (λ g i. each g (further f g fs i))) e → Made fs e) → Made (f ∷ fs) e
+      go (inl same) rest = record { function = f; among = at_first f fs; is = each f (at_first f fs); method_is = same }
+      go (inr later) rest = let m = rest later in record { function = m.function; among = further f m.function fs m.among; is = m.is; method_is = m.method_is }
+
+  -- their names tell the members apart
+  abbrev pub NamesTell : List EmittedMethod → Type 0
+  NamesTell es = (a b : EmittedMethod) → Contains es a → Contains es b → member_name a.member ≡ member_name b.member → a.member ≡ b.member
+
+  pub methods_in_order : (fs : List Function) (each : (f : Function) → Contains fs f → IsFunction w f) → IsSortedBy is_before fs → HaveOwnMembers (methods fs each) → NamesTell (methods fs each) → AreInOrder w (methods fs each)
+  methods_in_order [] each sorted own tell = tt
+  methods_in_order (f ∷ fs) each sorted own tell =
+      let rest = λ (g : Function) (i : Contains fs g). each g (further f g fs i) in
+      let first = each f (at_first f fs) in
+      (λ o h. (let m = in_methods fs rest o h in subst (StandsBefore w first.method) m.method_is (stands f m.function first m.is (λ e. own.0 o h (tell first.method o (at_first first.method (methods fs rest)) (further first.method o (methods fs rest) h) (e ∙ ap (λ (x : EmittedMethod). member_name x.member) m.method_is))) (first_low f fs sorted m.function m.among))), methods_in_order fs rest (rest_sorted f fs sorted) own.1 (λ a b i j. tell a b (further first.method a (methods fs rest) i) (further first.method b (methods fs rest) j)))
+
+  -- the members and the pieces of the methods are those of the functions
+  pub members_are : (fs : List Function) (each : (f : Function) → Contains fs f → IsFunction w f) → map (λ (e : EmittedMethod). e.member) (methods fs each) ≡ map member_of fs
+  members_are [] each = refl
+  members_are (f ∷ fs) each =
+      let first : (each f (at_first f fs)).method.member ≡ member_of f = (each f (at_first f fs)).member_is in
+      let rest = members_are fs (λ g i. each g (further f g fs i)) in
+      (λ i. first i ∷ rest i)
+
+  pub pieces_are : (fs : List Function) (each : (f : Function) → Contains fs f → IsFunction w f) → map piece_of_method (methods fs each) ≡ map (λ (f : Function). piece_view f.piece) fs
+  pieces_are [] each = refl
+  pieces_are (f ∷ fs) each =
+      let first : piece_of_method (each f (at_first f fs)).method ≡ piece_view f.piece = sym (each f (at_first f fs)).piece_is in
+      let rest = pieces_are fs (λ g i. each g (further f g fs i)) in
+      (λ i. first i ∷ rest i)
+
+  pub methods_found : (fs : List Function) (each : (f : Function) → Contains fs f → IsFunction w f) (e : EmittedMethod) → Contains (methods fs each) e → IsFound w e
+  methods_found fs each e h = let m = in_methods fs each e h in subst (IsFound w) m.method_is m.is.found
+
+  pub pieces_keep : (fs : List Function) → ((f : Function) → Contains fs f → IsFunction w f) → All IsPiece (map (λ (f : Function). piece_view f.piece) fs)
+  pieces_keep [] each = All-nil IsPiece
+  pieces_keep (f ∷ fs) each = All-cons IsPiece (piece_view f.piece) (map (λ (g : Function). piece_view g.piece) fs) (each f (at_first f fs)).rules (pieces_keep fs (λ g i. each g (further f g fs i)))

@@ -127,7 +127,7 @@ not_false true e = refl
 not_false false e = sym e
 
 -- the definition of a needed body is of the forms that are built, and so is its body
-body_built : (d : MethodDef) (t : Term) → d.body ≡ Some t → not_built d ≡ false → is_built_body d t ≡ true
+pub body_built : (d : MethodDef) (t : Term) → d.body ≡ Some t → not_built d ≡ false → is_built_body d t ≡ true
 body_built d t has h =
     let q = and_parts (is_static d.namespace) (has_built_body d d.body) (not_false (is_static d.namespace && has_built_body d d.body) h) in
     subst (λ (o : Option Term). has_built_body d o ≡ true) has q.1
