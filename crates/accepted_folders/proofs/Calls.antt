@@ -21,20 +21,16 @@ use Rattle.sj_sound.specs.Linked.{has_function, have_functions, functions_of}
 use Rattle.sj_sound.specs.Typing.{Label, type_of_label}
 use Rattle.sj_trees.specs.Term.{Term, Terms, no_terms, more_terms, Cases, no_cases, more_cases, var_def, skip, block_of, labeled, assign, return_to, if_then, while_loop, do_while, match_on, apply_static, unary_op, binary_op, undefined_literal, null_literal, boolean_literal, char_literal, byte_literal, short_literal, int_literal, long_literal, string_literal, var_ref, log_line}
 use Rattle.sj_trees.specs.declared.types.IrType.{IrType}
-use Rattle.sj_typed.specs.Built.{is_boxed, yields_boxed, leaves_boxed, any_is_boxed, is_operation, is_built, are_built, are_built_cases, is_built_method}
+use Rattle.built_forms.specs.Built.{is_boxed, yields_boxed, leaves_boxed, any_is_boxed, is_operation, is_built, are_built, are_built_cases, is_built_method, anything, is_built_body}
 use Rattle.sj_world.specs.Known.{Classes}
 use Rattle.sj_world.specs.declared.facts.Fact.TheVariants.{Body}
 use Rattle.reach_rules.proofs.Derivations.{closed}
 use Rattle.reach_rules.specs.Reachable.{Reachable}
 use Rattle.reach_rules.specs.Rules.{entry_member, of_call, of_entry, asked_body}
 use Rattle.folder_verdicts.proofs.EachTyped.{in_all}
-use Rattle.accepted_folders.specs.Bodies.{AreBodies, is_built_body}
+use Rattle.accepted_folders.specs.Bodies.{AreBodies}
 use Rattle.accepted_folders.specs.Laws.{CallsAreAmongBodies, InitializersAreAmongBodies}
 use Rattle.accepted_folders.proofs.Members.{has_function-from, defined}
-
--- whatever is called
-abbrev anything : Usable
-anything = record { linked = λ m. true }
 
 module _ (has : Usable) where
   -- a call is of a linked member

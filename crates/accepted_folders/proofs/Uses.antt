@@ -28,7 +28,7 @@ use Rattle.sj_trees.specs.declared.operators.BinaryOp.TheVariants.{StringConcate
 use Rattle.sj_trees.specs.declared.positions.Position.{Position}
 use Rattle.sj_trees.specs.declared.types.IrType.{IrType}
 use Rattle.sj_trees.specs.declared.types.IrType.TheVariants.{Char, String}
-use Rattle.sj_typed.specs.Built.{is_boxed, yields_boxed, leaves_boxed, any_is_boxed, is_operation, is_built, are_built, are_built_cases}
+use Rattle.built_forms.specs.Built.{is_boxed, yields_boxed, leaves_boxed, any_is_boxed, is_operation, is_built, are_built, are_built_cases}
 
 operand_same : (o : BinaryOp) (t : IrType) (e : Expression) → uses_in (operand_of o t e) ≡ uses_in e
 operand_same StringConcatenate String e = refl

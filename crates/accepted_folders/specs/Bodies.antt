@@ -1,17 +1,14 @@
--- The methods of the bodies that are reachable, and when such a body is of the forms that are built.
-use Rattle.std.specs.Prelude.{◌≡◌, ◌↔◌, Bool, true, List, Some}
+-- The methods of the bodies that are reachable.
+use Rattle.std.specs.Prelude.{◌≡◌, ◌↔◌, List, Some}
 use Rattle.std.specs.List.{Contains}
 use Rattle.ir_mean.specs.World.{member_of}
 use Rattle.sj_names.specs.declared.entry_points.EntryPoint.{EntryPoint}
 use Rattle.sj_names.specs.declared.method_names.Member.{Member}
-use Rattle.sj_trees.specs.Term.{Term}
-use Rattle.sj_trees.specs.declared.classes.MethodDef.{MethodDef}
 use Rattle.sj_world.specs.Known.{Classes}
 use Rattle.sj_world.specs.declared.facts.Fact.TheVariants.{Body}
 use Rattle.reach_rules.specs.Reachable.{Reachable}
 use Rattle.sj_calls.specs.Files.{EmittedMethod, HasFunction}
 use Rattle.sj_proper.specs.Program.{HaveOwnMembers}
-use Rattle.sj_typed.specs.Built.{is_built_method}
 
 -- the definition is that of its member in the classes, and the body is its body
 pub record IsFound (w : Classes) (e : EmittedMethod) : Type 0 where
@@ -23,7 +20,3 @@ pub record AreBodies (w : Classes) (entries : List EntryPoint) (fs : List Emitte
   pub exact : (k : Member) → HasFunction fs k ↔ Reachable w entries (Body k)
   pub found : (e : EmittedMethod) → Contains fs e → IsFound w e
   pub own : HaveOwnMembers fs
-
--- the body is of the forms that are built, whatever it calls
-abbrev pub is_built_body : MethodDef → Term → Bool
-is_built_body = is_built_method (record { linked = λ m. true })

@@ -20,7 +20,7 @@ use Rattle.sj_trees.specs.declared.types.IrType.TheVariants.{Any, Nothing, Boole
 use Rattle.sj_plain.specs.Conditions.{is_simple, unary_operand, left_operand, right_operand, DividesBy, by_int, by_long, a_quotient, a_remainder, a_long_quotient, a_long_remainder, Usable}
 use Rattle.sj_plain.specs.Standing.{call_type}
 use Rattle.sj_sound.specs.Typing.{Label, type_of_label, IsResult, IsJoined, FitsType, Yields, Takes, its_types, texts, ArgumentsFit}
-use Rattle.sj_typed.specs.Built.{is_boxed}
+use Rattle.built_forms.specs.Built.{is_boxed}
 use Rattle.sj_kept.specs.Rows.{Rows, AllRows, CaseRows, Returns}
 use Rattle.sj_world.specs.Known.{Classes}
 use Rattle.sj_world.specs.Subtypes.{IsSub, equal, from_nothing, to_any}

@@ -20,13 +20,13 @@ use Rattle.sj_names.specs.declared.method_names.Member.{Member}
 use Rattle.sj_sound.proofs.Same.{has_function-is}
 use Rattle.sj_sound.specs.Linked.{has_function, have_functions, functions_of}
 use Rattle.sj_split.specs.Walks.{Refers, IsReached}
-use Rattle.sj_typed.specs.Built.{yields_boxed, is_built, is_built_method}
+use Rattle.built_forms.specs.Built.{yields_boxed, is_built, is_built_method, is_built_body}
 use Rattle.sj_world.specs.Known.{Classes}
 use Rattle.worklist.proofs.Inserted.{nothing_in}
 use Rattle.worklist.specs.Paths.{stay, on}
 use Rattle.folder_verdicts.proofs.EachTyped.{in_map}
 use Rattle.folder_verdicts.proofs.Undenied.{first_or_later}
-use Rattle.accepted_folders.specs.Bodies.{AreBodies, is_built_body}
+use Rattle.accepted_folders.specs.Bodies.{AreBodies}
 use Rattle.accepted_folders.proofs.Calls.{needed, calls_among, entry}
 use Rattle.accepted_folders.proofs.Members.{has_function-from, defined}
 use Rattle.accepted_folders.proofs.Uses.{tree}

@@ -9,10 +9,10 @@ use Rattle.sj_calls.specs.Files.{EmittedMethod}
 use Rattle.sj_names.specs.declared.entry_points.EntryPoint.{EntryPoint}
 use Rattle.sj_names.specs.declared.folders.SourceFile.{SourceFile}
 use Rattle.sj_sound.specs.Linked.{functions_of, have_functions}
-use Rattle.sj_typed.specs.Built.{is_built_method}
+use Rattle.built_forms.specs.Built.{is_built_method, is_built_body}
 use Rattle.sj_world.specs.Known.{Classes}
 use Rattle.accepted_folders.specs.Accepted.{IsAccepted}
-use Rattle.accepted_folders.specs.Bodies.{AreBodies, is_built_body}
+use Rattle.accepted_folders.specs.Bodies.{AreBodies}
 use Rattle.linked_folders.specs.Link.{AreWritten, IsLink}
 
 -- what a written body calls is written, but for calls in a case without keys, which isn't written itself

@@ -8,7 +8,7 @@ use Rattle.sj_trees.specs.declared.classes.ClassDef.{ClassDef}
 use Rattle.sj_calls.specs.Files.{EmittedMethod}
 use Rattle.sj_sound.specs.Linked.{functions_of}
 use Rattle.typing_rules.specs.Typed.{IsTyped}
-use Rattle.sj_typed.specs.Built.{is_built_method}
+use Rattle.built_forms.specs.Built.{is_built_method}
 
 -- the class was read from a file, and breaks none of the local rules
 pub record IsJudgedClass (c : ClassDef) : Type 0 where

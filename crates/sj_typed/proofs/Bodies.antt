@@ -35,7 +35,7 @@ use Rattle.typing_rules.specs.Nodes.{Node, node, inside, below, nodes, nodes_of_
 use Rattle.typing_rules.specs.Rules as rules
 use Rattle.typing_rules.specs.Rules.{Fits, OperandsFit, CasesYield}
 use Rattle.typing_rules.specs.Typed.{MeetsThere, IsTyped}
-use Rattle.sj_typed.specs.Built.{is_boxed, yields_boxed, leaves_boxed, any_is_boxed, is_operation, is_built, are_built, are_built_cases, is_built_method}
+use Rattle.built_forms.specs.Built.{is_boxed, yields_boxed, leaves_boxed, any_is_boxed, is_operation, is_built, are_built, are_built_cases, is_built_method}
 use Rattle.sj_typed.proofs.Values.{parameter_value, result_is, fits, fits_long, int_divisor, long_divisor, no_box, no_box_yielded}
 
 yields : (w : Classes) (has : Usable) (e : Term) (t : IrType) → not (yields_boxed t e) ≡ true → rules.Yields w e t → sound.Yields (IsSub w) has e t

@@ -22,7 +22,7 @@ use Rattle.sj_trees.specs.Types.{class_type, reference_type}
 use Rattle.sj_trees.specs.declared.classes.ParamDef.{ParamDef}
 use Rattle.sj_trees.specs.declared.types.IrType.{IrType}
 use Rattle.sj_trees.specs.declared.types.IrType.TheVariants.{NoType}
-use Rattle.sj_typed.specs.Built.{is_boxed, yields_boxed, is_nonzero_int, is_nonzero_long}
+use Rattle.built_forms.specs.Built.{is_boxed, yields_boxed, is_nonzero_int, is_nonzero_long}
 
 class_has_value : (c : List ℕ) → has_no_value (class_type c) ≡ false
 class_has_value c = go (pointwise nat_eq c (codes "java.lang.Object"))

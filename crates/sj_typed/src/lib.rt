@@ -10,7 +10,7 @@ ghost use Rattle.sj_kept.specs.Rows.{Rows};
 ghost use Rattle.sj_sound.specs.Typing.{Yields};
 ghost use Rattle.sj_trees.specs.Term.{Term};
 ghost use Rattle.sj_trees.specs.declared.classes.MethodDef.{MethodDef};
-ghost use Rattle.sj_typed.specs.Built.{is_built_method};
+ghost use Rattle.built_forms.specs.Built.{is_built_method};
 ghost use Rattle.typing_rules.specs.Typed.{IsTyped};
 ghost use Rattle.sj_world.specs.Known.{Classes};
 ghost use Rattle.sj_world.specs.Subtypes.{IsSub};

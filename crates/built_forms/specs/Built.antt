@@ -1,8 +1,10 @@
--- What is asked of a method beside its typing, so that the theorem on bodies covers it: that it is of the forms that are built, one Boolean.
+-- The forms of bodies that are built: what is asked of a method beside its typing, so that the theorem on bodies covers it, one Boolean.
 use Rattle.std.specs.Prelude.{pos, Bool, true, false, ◌&&◌, ◌||◌, not, List, [], ◌∷◌, Option, Some, None}
 use Rattle.std.specs.Ordering.{int_eq}
 use Rattle.sj_desugar.specs.Coercions.{is_char}
 use Rattle.sj_desugar.specs.Desugar.{member}
+use Rattle.sj_names.specs.declared.method_names.Namespace.{Namespace}
+use Rattle.sj_names.specs.declared.method_names.Namespace.TheVariants.{PublicStatic, PrivateStatic}
 use Rattle.sj_names.specs.declared.references.TypeRef.{TypeRef}
 use Rattle.sj_plain.specs.Conditions.{Usable}
 use Rattle.sj_sound.specs.Typing.{Label, type_of_label}
@@ -96,3 +98,25 @@ module _ (has : Usable) where
 -- a method of this body is built: its value is no char where its result is of another type
 abbrev pub is_built_method : Usable → MethodDef → Term → Bool
 is_built_method has d e = not (yields_boxed d.result e) && is_built has [] e
+
+-- whatever is called
+abbrev pub anything : Usable
+anything = record { linked = λ m. true }
+
+-- the body is of the forms that are built, whatever it calls
+abbrev pub is_built_body : MethodDef → Term → Bool
+is_built_body = is_built_method anything
+
+abbrev pub is_static : Namespace → Bool
+is_static PublicStatic = true
+is_static PrivateStatic = true
+is_static _ = false
+
+-- there is no body, or it is of the forms that are built
+abbrev pub has_built_body : MethodDef → Option Term → Bool
+has_built_body d None = true
+has_built_body d (Some e) = is_built_body d e
+
+-- the linker doesn't build the method yet: it isn't static, or its body isn't of the forms that are built
+abbrev pub not_built : MethodDef → Bool
+not_built d = not (is_static d.namespace && has_built_body d d.body)

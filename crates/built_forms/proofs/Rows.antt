@@ -1,0 +1,36 @@
+-- The rows are computed.
+use Rattle.std.proofs.Common.{refl}
+use Rattle.built_forms.specs.Rows.{WorkedForms}
+
+pub worked : WorkedForms
+worked = record {
+  empty_method = refl;
+  private_method = refl;
+  method_without_a_body = refl;
+  constructor = refl;
+  method_on_objects = refl;
+  abstract_method = refl;
+  makes_an_object = refl;
+  makes_an_object_within = refl;
+  sets_a_field = refl;
+  identity = refl;
+  by_two = refl;
+  by_zero = refl;
+  by_a_local = refl;
+  long_by_two = refl;
+  long_by_an_int = refl;
+  char_as_a_char = refl;
+  char_given_up = refl;
+  char_as_a_value = refl;
+  last_is_a_char = refl;
+  branch_is_a_char = refl;
+  argument_is_a_char = refl;
+  argument_for_a_char = refl;
+  leaves_as_a_char = refl;
+  leaves_as_a_value = refl;
+  leaves_the_inner_block = refl;
+  leaves_the_inner_block_alone = refl;
+  leaves_no_block = refl;
+  case_with_a_key = refl;
+  case_without_keys = refl;
+}

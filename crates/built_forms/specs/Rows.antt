@@ -1,0 +1,88 @@
+-- Small methods: which are built.
+use Rattle.std.specs.Prelude.{◌≡◌, ℕ, pos, Bool, true, false, List, [], ◌∷◌, Option, Some, None, codes}
+use Rattle.sj_names.specs.declared.method_names.MethodName.{MethodName}
+use Rattle.sj_names.specs.declared.method_names.Namespace.{Namespace}
+use Rattle.sj_names.specs.declared.method_names.Namespace.TheVariants.{Public, PublicStatic, PrivateStatic, Constructor}
+use Rattle.sj_names.specs.declared.references.TypeRef.{TypeRef}
+use Rattle.sj_trees.specs.Erase.{nowhere}
+use Rattle.sj_trees.specs.Term.{Term, no_terms, more_terms, no_cases, more_cases, skip, block_of, labeled, assign, return_to, if_then, match_on, new_object, select, apply_static, binary_op, char_literal, int_literal, long_literal, var_ref, this_ref}
+use Rattle.sj_trees.specs.declared.classes.MethodDef.{MethodDef}
+use Rattle.sj_trees.specs.declared.operators.BinaryOp.{BinaryOp}
+use Rattle.sj_trees.specs.declared.operators.BinaryOp.TheVariants.{StrictEqual, IntDivide, LongRemainder}
+use Rattle.sj_trees.specs.declared.types.IrType.{IrType}
+use Rattle.sj_trees.specs.declared.types.IrType.TheVariants.{Any, Boolean, Char, Int, Long, Class, NoType}
+use Rattle.built_forms.specs.Built.{not_built}
+
+abbrev pub method_name : TypeRef → MethodName
+method_name param = record { simple = codes "m"; params = param ∷ []; result = Some TypeRef.Void }
+
+abbrev pub method : Namespace → IrType → Option Term → MethodDef
+method namespace result body = record { pos = nowhere; namespace = namespace; name = method_name TypeRef.Int; params = []; result = result; body = body; hash = None }
+
+-- a static method with this body, whose value is given up
+abbrev pub static : Term → MethodDef
+static body = method PublicStatic NoType (Some body)
+
+abbrev pub giving : IrType → Term → MethodDef
+giving result body = method PublicStatic result (Some body)
+
+abbrev pub nothing : Term
+nothing = skip nowhere
+
+abbrev pub letter : Term
+letter = char_literal nowhere 97
+
+abbrev pub number : ℕ → Term
+number n = int_literal nowhere (pos n)
+
+abbrev pub object : Term
+object = new_object nowhere (codes "A") (method_name TypeRef.Int) no_terms
+
+-- an operator between a local and this divisor
+abbrev pub operation : BinaryOp → IrType → Term → Term
+operation op t d = binary_op nowhere op (var_ref nowhere (codes "x") t) d
+
+abbrev pub leave : Term → Term
+leave value = return_to nowhere value (codes "l")
+
+abbrev pub inside : IrType → Term → Term
+inside t body = labeled nowhere (codes "l") t body
+
+abbrev pub call : TypeRef → Term → Term
+call param argument = apply_static nowhere (codes "A") PublicStatic (method_name param) (more_terms argument no_terms) NoType
+
+-- a choice that has one case with these keys and this body
+abbrev pub case : List ℕ → Term → Term
+case [] body = match_on nowhere (number 1) (more_cases [] body no_cases) nothing NoType
+case (k ∷ ks) body = match_on nowhere (number 1) (more_cases (pos k ∷ []) body no_cases) nothing NoType
+
+pub record WorkedForms : Type 0 where
+  pub empty_method : not_built (static nothing) ≡ false
+  pub private_method : not_built (method PrivateStatic NoType (Some nothing)) ≡ false
+  pub method_without_a_body : not_built (method PublicStatic NoType None) ≡ false
+  pub constructor : not_built (method Constructor NoType (Some nothing)) ≡ true
+  pub method_on_objects : not_built (method Public NoType (Some nothing)) ≡ true
+  pub abstract_method : not_built (method Public NoType None) ≡ true
+  pub makes_an_object : not_built (static object) ≡ true
+  pub makes_an_object_within : not_built (static (block_of nowhere (more_terms nothing (more_terms object no_terms)))) ≡ true
+  pub sets_a_field : not_built (static (assign nowhere (select nowhere object (codes "A") (codes "f") Int) (number 1))) ≡ true
+  pub identity : not_built (static (operation StrictEqual Any (number 1))) ≡ true
+  pub by_two : not_built (static (operation IntDivide Int (number 2))) ≡ false
+  pub by_zero : not_built (static (operation IntDivide Int (number 0))) ≡ true
+  pub by_a_local : not_built (static (operation IntDivide Int (var_ref nowhere (codes "y") Int))) ≡ true
+  pub long_by_two : not_built (static (operation LongRemainder Long (long_literal nowhere (pos 2)))) ≡ false
+  pub long_by_an_int : not_built (static (operation LongRemainder Long (number 2))) ≡ true
+  pub char_as_a_char : not_built (giving Char letter) ≡ false
+  pub char_given_up : not_built (static letter) ≡ false
+  pub char_as_a_value : not_built (giving Any letter) ≡ true
+  pub last_is_a_char : not_built (giving Any (block_of nowhere (more_terms nothing (more_terms letter no_terms)))) ≡ true
+  pub branch_is_a_char : not_built (giving Any (if_then nowhere (var_ref nowhere (codes "b") Boolean) letter (number 1) Any)) ≡ true
+  pub argument_is_a_char : not_built (static (call TypeRef.Int letter)) ≡ true
+  pub argument_for_a_char : not_built (static (call TypeRef.Char letter)) ≡ false
+  pub leaves_as_a_char : not_built (static (inside Char (leave letter))) ≡ false
+  pub leaves_as_a_value : not_built (static (inside Any (leave letter))) ≡ true
+  pub leaves_the_inner_block : not_built (static (inside Any (inside Char (leave letter)))) ≡ true
+  pub leaves_the_inner_block_alone : not_built (static (inside Int (block_of nowhere (more_terms (inside Char (leave letter)) (more_terms (number 1) no_terms))))) ≡ false
+  pub leaves_no_block : not_built (static (leave letter)) ≡ false
+  pub case_with_a_key : not_built (static (case (1 ∷ []) object)) ≡ true
+  pub case_without_keys : not_built (static (case [] object)) ≡ false

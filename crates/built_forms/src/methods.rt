@@ -1,0 +1,46 @@
+// Methods.
+ghost use Rattle.std.specs.Prelude.{◌≡◌};
+ghost use Rattle.built_forms.specs.Built as built;
+ghost use Rattle.sj_trees.specs.View.{view};
+
+use crate::chars::yields_boxed;
+use crate::forms::is_built;
+use crate::labels::Labels;
+use sj_names::Namespace;
+use sj_trees::{MethodDef, Tree};
+
+/// Whether the linker doesn't build the method yet: it isn't static, or its body isn't of the forms that are built. A static method without a body
+/// is built. It takes no memory.
+///
+/// These forms are built: locals that are defined, read and assigned, blocks with and without labels, `Return`, `If`, both loops, `Match`, calls of static
+/// methods, operators, literals, and `Log`. Of these, no operator of identity is built and no division but by a literal other than zero; nor is a char
+/// where a value of another type is wanted. What a case without keys has isn't asked for.
+pub fn not_built(m: &MethodDef) -> bool
+    ensures { result ≡ built.not_built m.now }
+{
+    !(is_static(m.namespace) && has_built_body(m))
+}
+
+fn is_static(namespace: Namespace) -> bool
+    ensures { result ≡ built.is_static namespace }
+{
+    matches!(
+        namespace,
+        Namespace::PublicStatic | Namespace::PrivateStatic
+    )
+}
+
+fn has_built_body(m: &MethodDef) -> bool
+    ensures { result ≡ built.has_built_body m.now m.now.body }
+{
+    match &m.body {
+        Some(body) => is_built_body(m, body.tree()),
+        None => true,
+    }
+}
+
+fn is_built_body(m: &MethodDef, body: &Tree) -> bool
+    ensures { result ≡ built.is_built_body m.now (view body.now) }
+{
+    !yields_boxed(&m.result, body) && is_built(body, &Labels::Outside)
+}
