@@ -3,7 +3,7 @@ use Rattle.std.proofs.Common.{◌≡◌, ◌↔◌, ◌≤◌, ◌<◌, ℕ, zer
 use Rattle.std.specs.Prelude.{filter}
 use Rattle.std.specs.List.{All, AllByRecursion, IsDistinct}
 use Rattle.std.specs.List.Sorted.{IsPermutation}
-use Rattle.std.proofs.lemmas.Bool.{and_parts}
+use Rattle.std.proofs.lemmas.List.{length-map}
 use Rattle.std.proofs.lemmas.List.Sorted.{Contains-permutation, IsPermutation-map, IsPermutation-sym}
 use Rattle.std.proofs.lemmas.Map.Keys.{IsDistinct-IsPermutation, IsDistinct-cons}
 use Rattle.std.proofs.lemmas.Option.{slice_get-get_or}
@@ -26,7 +26,8 @@ use Rattle.sj_world.specs.declared.facts.Fact.{Fact}
 use Rattle.sj_world.specs.declared.facts.Fact.TheVariants as fact
 use Rattle.worklist.proofs.Inserted.{nothing_in}
 use Rattle.accepted_folders.specs.Bodies.{AreBodies}
-use Rattle.folder_judging.specs.Counts.{members_of}
+use Rattle.folder_judging.specs.Counts.{members_of, bodies_among}
+use Rattle.linked_folders.proofs.Edits.{Differ, no_more}
 use Rattle.linked_folders.proofs.Names.{names_tell}
 use Rattle.folder_linking.specs.declared.functions.Function.{Function}
 use Rattle.folder_linking.specs.Functions.{IsFunction, AreFunctions, AreInOrder, member_of, piece}
@@ -138,11 +139,26 @@ own_members : (es : List EmittedMethod) → IsDistinct is_one (map member_in es)
 own_members [] d = tt
 own_members (e ∷ es) d = (λ o h same. not_among e.member (map member_in es) (distinct_head e.member (map member_in es) d) (subst (Contains (map member_in es)) (sym same) (into_map member_in es o h)), own_members es (distinct_tail e.member (map member_in es) d))
 
+-- how many bodies are needed
+distinct_differ : (ks : List Member) → IsDistinct is_one ks → Differ ks
+distinct_differ [] d = tt
+distinct_differ (k ∷ ks) d = (λ j h same. not_among k ks (distinct_head k ks d) (subst (Contains ks) (sym same) h), distinct_differ ks (distinct_tail k ks d))
+
+own_differ : (es : List EmittedMethod) → HaveOwnMembers es → Differ (map member_in es)
+own_differ [] own = tt
+own_differ (e ∷ es) own = (λ k h same. (let m = from_map member_in es k h in own.0 m.item m.among (same ∙ sym m.is)), own_differ es own.1)
+
+pub bodies_many : (w : Classes) (entries : List EntryPoint) (facts : List Fact) (all : List EmittedMethod) → AreReachable w entries facts → AreBodies w entries all → length all ≡ bodies_among facts
+bodies_many w entries facts all reached bodies =
+    let to = no_more (map member_in all) (members_of facts) (own_differ all bodies.own) (λ k h. (let m = from_map member_in all k h in to_members facts k ((reached.exact (fact.Body k)).1 ((bodies.exact k).0 (record { method = m.item; listed = m.among; is = m.is }))))) in
+    let back = no_more (members_of facts) (map member_in all) (distinct_differ (members_of facts) (members_distinct facts reached.once)) (λ k h. (let f = (bodies.exact k).1 ((reached.exact (fact.Body k)).0 (from_members facts k h)) in subst (Contains (map member_in all)) f.is (into_map member_in all f.method f.listed))) in
+    omega (arith, to, back, length-map all member_in)
+
 module _ (entries : List EntryPoint) (l : Linked) (can : IsLinkable entries l) (fs : List Function) (are : AreInOrder l.world (members_of l.facts) fs) where
   each : (f : Function) → Contains fs f → IsFunction l.world f
   each f h = are.functions.each f (Contains-permutation fs are.unsorted f (IsPermutation-sym are.unsorted fs are.same) h)
 
-  all : List EmittedMethod
+  abbrev all : List EmittedMethod
   all = methods l.world fs each
 
   moved : IsPermutation (members_of l.facts) (map member_of fs)

@@ -113,7 +113,7 @@ items_of_methods classes (e ∷ es) = go (is_of classes e) (items_of_methods cla
     go false rest = rest
 
 module _ (w : Classes) (entries : List EntryPoint) (pieces : List Piece) (are : ArePieces w entries pieces) where
-  all : List EmittedMethod
+  abbrev all : List EmittedMethod
   all = are.all
 
   file_is : (planned : PlannedModule) (f : ModuleFile) → IsPrinted pieces planned f → IsFileOf w all planned (as_file f)

@@ -1,12 +1,9 @@
 -- An edit has one verdict, one list of files and one amount of work.
-use Rattle.std.proofs.Common.{◌≡◌, ◌≤◌, ◌+◌, ℕ, suc, Bool, true, false, List, [], ◌∷◌, ◌⊎◌, inl, inr, Some, refl, sym, ap, subst, ◌∙◌, Contains, length, slice_get, arith, codes}
-use Rattle.js_mean.specs.Shows.{File}
+use Rattle.std.proofs.Common.{◌≡◌, ◌≤◌, ℕ, suc, Bool, true, false, List, [], ◌∷◌, ◌⊎◌, inl, inr, refl, sym, ap, subst, ◌∙◌, Contains, length, arith}
 use Rattle.sj_calls.specs.Files.{EmittedMethod}
 use Rattle.sj_format.proofs.ExactFiles.{one_answer}
-use Rattle.sj_names.specs.declared.counters.Meter.{Meter}
 use Rattle.sj_names.specs.declared.entry_points.EntryPoint.{EntryPoint}
 use Rattle.sj_names.specs.declared.folders.SourceFile.{SourceFile}
-use Rattle.sj_names.specs.declared.method_names.Member.{Member}
 use Rattle.sj_proper.specs.Program.{HaveOwnMembers}
 use Rattle.sj_split.proofs.Members.{at_first, further, cons_cases}
 use Rattle.sj_world.proofs.OneWorld.{one_world}
@@ -23,7 +20,7 @@ use Rattle.accepted_folders.specs.Accepted.{IsAccepted}
 use Rattle.accepted_folders.specs.Bodies.{AreBodies}
 use Rattle.linked_folders.proofs.One.{same_bodies, one_link}
 use Rattle.linked_folders.specs.Link.{IsLink}
-use Rattle.linked_folders.specs.Edits.{IsUnbuilt, IsLeastUnbuilt, AreBuilt, HaveOneModule, IsEditVerdict, by_folder, several, unbuilt, built, not_built_code, IsLinkOf, IsWork}
+use Rattle.linked_folders.specs.Edits.{IsLeastUnbuilt, AreBuilt, IsEditVerdict, by_folder, several, unbuilt, built, not_built_code}
 use Rattle.linked_folders.specs.Laws.{EditVerdictIsOne, FolderLinkIsOne, WorkIsOne}
 
 -- two least names are one
@@ -42,10 +39,14 @@ module _ (entries : List EntryPoint) (files : List SourceFile) where
   pub same_world : (w u : Classes) → IsAccepted entries files w → IsAccepted entries files u → w ≡ u
   same_world w u a b = one_world a.classes w u a.world (subst (λ (c : Classes). IsWorldOf c u) (same_classes b.classes a.classes b.read a.read) b.world)
 
+  -- the world of the classes that are read
+  pub world_is : (classes w u : Classes) → IsAccepted entries files w → AreRead files classes → IsWorldOf classes u → w ≡ u
+  world_is classes w u a are world = one_world a.classes w u a.world (subst (λ (c : Classes). IsWorldOf c u) (same_classes classes a.classes are a.read) world)
+
   not_accepted : (code : ℕ) (place : List ℕ) → IsVerdict entries files (refused code place) → IsVerdict entries files accepted → ⊥
   not_accepted code place h k = let e : refused code place ≡ accepted = one_verdict entries files (refused code place) accepted h k in cc
 
-  accepted_by : (w : Classes) → IsAccepted entries files w → IsVerdict entries files accepted
+  pub accepted_by : (w : Classes) → IsAccepted entries files w → IsVerdict entries files accepted
   accepted_by w a = (have_worlds entries files).1 (w, a)
 
   same_unbuilt : (w u : Classes) (spelled other : List ℕ) → w ≡ u → IsLeastUnbuilt w entries spelled → IsLeastUnbuilt u entries other → spelled ≡ other
@@ -121,22 +122,31 @@ still_there {X} x y _ _ (without_later z xs ys w) h = go (cons_cases z y xs h) (
         after (inl e) = inl e
         after (inr l) = inr (further z y ys l)
 
--- methods of different members are no more than those that they are all among
-no_more : (fs gs : List EmittedMethod) → HaveOwnMembers fs → ((e : EmittedMethod) → Contains fs e → Contains gs e) → length fs ≤ length gs
-no_more [] gs own each = omega arith
-no_more (e ∷ es) gs own each =
-    let r = rest_of e gs (each e (at_first e es)) in
-    let l = no_more es r.rest own.1 (λ o h. other o h (still_there e o gs r.rest r.is (each o (further e o es h)))) in
-    omega (arith, l, one_fewer e gs r.rest r.is)
+-- each thing differs from those behind it
+abbrev pub Differ : {X : Type 0} → List X → Type 0
+Differ [] = Unit {0}
+Differ {X} (x ∷ xs) = ((y : X) → Contains xs y → x ≡ y → ⊥) × Differ xs
+
+-- things that differ are no more than those that they are all among
+pub no_more : {X : Type 0} (xs ys : List X) → Differ xs → ((x : X) → Contains xs x → Contains ys x) → length xs ≤ length ys
+no_more [] ys differ each = omega arith
+no_more {X} (x ∷ xs) ys differ each =
+    let r = rest_of x ys (each x (at_first x xs)) in
+    let l = no_more xs r.rest differ.1 (λ y h. other r.rest y h (still_there x y ys r.rest r.is (each y (further x y xs h)))) in
+    omega (arith, l, one_fewer x ys r.rest r.is)
   where
-    other : (o : EmittedMethod) → Contains es o → {rest : List EmittedMethod} → (e ≡ o) ⊎ Contains rest o → Contains rest o
-    other o h (inl same) = absurd (own.0 o h (ap (λ (x : EmittedMethod). x.member) same))
-    other o h (inr later) = later
+    other : (rest : List X) (y : X) → Contains xs y → (x ≡ y) ⊎ Contains rest y → Contains rest y
+    other rest y h (inl same) = absurd (differ.0 y h same)
+    other rest y h (inr later) = later
+
+own_differ : (es : List EmittedMethod) → HaveOwnMembers es → Differ es
+own_differ [] own = tt
+own_differ (e ∷ es) own = (λ o h same. own.0 o h (ap (λ (x : EmittedMethod). x.member) same), own_differ es own.1)
 
 as_many : (w : Classes) (entries : List EntryPoint) (all more : List EmittedMethod) → AreBodies w entries all → AreBodies w entries more → length all ≡ length more
 as_many w entries all more one other =
-    let to = no_more all more one.own (same_bodies w entries all more one other) in
-    let back = no_more more all other.own (same_bodies w entries more all other one) in
+    let to = no_more all more (own_differ all one.own) (same_bodies w entries all more one other) in
+    let back = no_more more all (own_differ more other.own) (same_bodies w entries more all other one) in
     omega (arith, to, back)
 
 pub one_work : WorkIsOne

@@ -143,4 +143,4 @@ module_agrees entries files w id bytes are_bytes a built link = files_agree w en
 pub agree : LinkedFilesAgree
 agree entries files w id links are_bytes a one built link =
     let f = one_file w entries id links one link in
-    subst (λ (fs : List File). Agrees w entries fs id) (sym f.1.0) (module_agrees entries files w id f.0 are_bytes a built f.1.1)
+    subst (λ (fs : List File). Agrees w entries fs id) (sym f.1) (module_agrees entries files w id f.0 are_bytes a built f.2)

@@ -29,7 +29,6 @@ use Rattle.folder_verdicts.proofs.EachTyped.{in_map}
 use Rattle.folder_verdicts.proofs.Undenied.{first_or_later}
 use Rattle.accepted_folders.specs.Bodies.{IsFound, AreBodies}
 use Rattle.linked_folders.specs.Link.{AreWritten, StandsBefore, by_ancestors, by_class, by_name, AreInOrder, IsOneModule}
-use Rattle.linked_folders.specs.Edits.{HaveOneModule}
 use Rattle.linked_folders.proofs.Planned.{one_file}
 use Rattle.linked_folders.specs.Laws.{LinkIsOne}
 
@@ -133,4 +132,4 @@ pub one_link : LinkIsOne
 one_link w entries one other has l k =
     let f = one_file w entries has.0 one has.1 l in
     let g = one_file w entries has.0 other has.1 k in
-    f.1.0 ∙ ap (λ (bytes : List ℕ). record { name = file_of has.0; bytes = bytes } ∷ []) (one_text w entries has.0 f.0 g.0 f.1.1 g.1.1) ∙ sym g.1.0
+    f.1 ∙ ap (λ (bytes : List ℕ). record { name = file_of has.0; bytes = bytes } ∷ []) (one_text w entries has.0 f.0 g.0 f.2 g.2) ∙ sym g.1

@@ -1,21 +1,21 @@
 -- Where all entries are of one public module, the plan has this module alone, with all classes that are reached.
-use Rattle.std.proofs.Common.{◌≡◌, ◌↔◌, ℕ, true, List, [], ◌∷◌, ◌++◌, ◌⊎◌, inl, inr, Option, Some, None, refl, sym, ap, subst, ◌∙◌, map, Contains, length, cond, arith, Bool, false, if◌then◌else◌}
-use Rattle.std.specs.Prelude.{filter, codes}
-use Rattle.std.specs.List.Sorted.{IsPermutation}
+use Rattle.std.proofs.Common.{◌≡◌, ◌↔◌, ℕ, true, List, [], ◌∷◌, ◌++◌, inl, inr, Some, None, refl, sym, ap, subst, ◌∙◌, map, Contains, length, cond, arith, Bool, if◌then◌else◌}
+use Rattle.std.specs.Prelude.{filter}
+use Rattle.std.specs.List.Sorted.{IsPermutation, IsStrictlySortedBy}
 use Rattle.std.proofs.lemmas.List.Sorted.{length_permutation, Contains-permutation}
 use Rattle.ir_mean.specs.Shows.{initializers}
 use Rattle.js_mean.specs.Shows.{File, file_of}
 use Rattle.js_tree.specs.Spelling.{Spells}
 use Rattle.module_names.specs.Names.{names_of, sha1_digest}
-use Rattle.sj_calls.specs.Files.{EmittedMethod, module_with}
+use Rattle.sj_calls.specs.Files.{module_with}
 use Rattle.sj_names.proofs.Same.{text-refl}
 use Rattle.sj_names.specs.Same.{is_same_text}
 use Rattle.sj_names.specs.declared.entry_points.EntryPoint.{EntryPoint}
 use Rattle.sj_split.proofs.Least.{not_before_itself}
 use Rattle.sj_split.proofs.Members.{at_first, further, cons_cases, into_map, from_map, into_filter}
 use Rattle.sj_split.proofs.OnePlace.{placed}
-use Rattle.sj_split.specs.Homes.{AreHomes, IsHomeByTags, home_of_tags, class_of}
-use Rattle.sj_split.specs.Modules.{IsPlan, AreIds, AreKeys, file, is_public, classes_at, public_module, internal_modules, initializers_of, home_of, module_of}
+use Rattle.sj_split.specs.Homes.{AreHomes, home_of_tags, class_of}
+use Rattle.sj_split.specs.Modules.{AreIds, AreKeys, is_public, classes_at, public_module, internal_modules, initializers_of, home_of, module_of}
 use Rattle.sj_split.specs.Orders.{AreIncreasing, IsBefore, is_same}
 use Rattle.sj_split.specs.Walks.{Name, Id, References, IsReached, AreTags}
 use Rattle.sj_split.specs.declared.homes.Home.{Home}
@@ -32,11 +32,15 @@ use Rattle.linked_folders.specs.Laws.{LinksAreOneFile}
 not_twice : (id a b : Id) → a ≡ id → b ≡ id → IsBefore a b → ⊥
 not_twice id a b p q h = not_before_itself id (subst (IsBefore id) q (subst (λ (x : Id). IsBefore x b) p h))
 
+first_before : (a b : Id) (ids : List Id) → AreIncreasing (a ∷ b ∷ ids) → IsBefore a b
+unfolding IsStrictlySortedBy
+first_before a b ids inc = inc.0.0
+
 -- increasing texts that are all one are that one
 one_text : (id : Id) (ids : List Id) → AreIncreasing ids → ((x : Id) → Contains ids x → x ≡ id) → Contains ids id → ids ≡ id ∷ []
 one_text id [] inc each h = nothing_in id h
 one_text id (a ∷ []) inc each h = ap (λ (x : Id). x ∷ []) (each a (at_first a []))
-one_text id (a ∷ b ∷ ids) inc each h = absurd (not_twice id a b (each a (at_first a (b ∷ ids))) (each b (further a b (b ∷ ids) (at_first b ids))) inc.0.0)
+one_text id (a ∷ b ∷ ids) inc each h = absurd (not_twice id a b (each a (at_first a (b ∷ ids))) (each b (further a b (b ∷ ids) (at_first b ids))) (first_before a b ids inc))
 
 no_home : (home : Home) → None ≡ Some home → ⊥
 no_home home e = cc
@@ -47,7 +51,7 @@ public_of id a home p e = let same : Public a ≡ home = cc in sym same ∙ ap P
 home_is : (id : Id) (tags : List Id) (home : Home) → AreIncreasing tags → ((x : Id) → Contains tags x → x ≡ id) → home_of_tags tags ≡ Some home → home ≡ Public id
 home_is id [] home inc each e = absurd (no_home home e)
 home_is id (a ∷ []) home inc each e = public_of id a home (each a (at_first a [])) e
-home_is id (a ∷ b ∷ tags) home inc each e = absurd (not_twice id a b (each a (at_first a (b ∷ tags))) (each b (further a b (b ∷ tags) (at_first b tags))) inc.0.0)
+home_is id (a ∷ b ∷ tags) home inc each e = absurd (not_twice id a b (each a (at_first a (b ∷ tags))) (each b (further a b (b ∷ tags) (at_first b tags))) (first_before a b tags inc))
 
 not_internal : (id key : Id) (home : Home) → home ≡ Public id → home ≡ Internal key → ⊥
 not_internal id key home p q = cc
@@ -98,13 +102,13 @@ module _ (references : References) (entries : List EntryPoint) (id : Id) (one : 
             subst (λ (n : Name). Contains (classes_at (is_public id) homes) n) m.is (into_map class_of _ m.item (into_filter (λ (s : Settled). is_public id s.home) homes m.item m.among passes))
 
 module _ (w : Classes) (entries : List EntryPoint) (id : Id) (files : List File) (one : AreOfOne entries id) (link : IsLink w entries files) where
-  references : References
+  abbrev references : References
   references = link.graph.references
 
-  homes : List Settled
+  abbrev homes : List Settled
   homes = link.is_plan.homes
 
-  planned : PlannedModule
+  abbrev planned : PlannedModule
   planned = public_module entries homes id
 
   abbrev listed : List Id → List Id → List PlannedModule
@@ -142,8 +146,8 @@ module _ (w : Classes) (entries : List EntryPoint) (id : Id) (files : List File)
   with_name f e = (λ i. record { name = e i; bytes = f.bytes })
 
   files_of_one : (fs : List File) → AreFilesOf w link.all (planned ∷ []) fs → (bytes : List ℕ) × (fs ≡ record { name = file_of id; bytes = bytes } ∷ []) × IsOneModule w entries id bytes
-  files_of_one [] ()
-  files_of_one (f ∷ []) are = (f.bytes, (ap (λ (x : File). x ∷ []) (with_name f are.0.named), the_module f are.0))
+  files_of_one [] are = absurd are
+  files_of_one (f ∷ []) are = (f.bytes, ap (λ (x : File). x ∷ []) (with_name f are.0.named), the_module f are.0)
   files_of_one (f ∷ g ∷ fs) are = absurd are.1
 
 pub one_file : LinksAreOneFile

@@ -11,7 +11,7 @@ use Rattle.sj_world.specs.declared.facts.Fact.{Fact}
 use Rattle.folder_verdicts.specs.Verdicts.{Verdict, accepted, refused}
 use Rattle.accepted_folders.specs.Accepted.{IsAccepted}
 use Rattle.linked_folders.specs.Link.{AreOfOne}
-use Rattle.linked_folders.specs.Edits.{IsEditVerdict, IsLinkOf, IsWork, IsLeastUnbuilt, AreBuilt, HaveOneModule, not_built_code}
+use Rattle.linked_folders.specs.Edits.{IsEditVerdict, IsLinkOf, IsWork, IsLeastUnbuilt, HaveOneModule, not_built_code}
 use Rattle.folder_linking.specs.Modules.{as_file}
 use Rattle.sj_session.specs.Sessions.{work_told}
 use Rattle.sj_session.specs.declared.editing.Edit.{Edit}
@@ -24,11 +24,6 @@ module _ (entries : List EntryPoint) (files : List SourceFile) where
     pub modules : edit.report.modules ≡ length edit.files.items
     pub work : IsWork entries files (work_told edit.report)
     pub agrees : (w : Classes) (id : List ℕ) → IsAccepted entries files w → AreOfOne entries id → Agrees w entries (map as_file edit.files.items) id
-
--- the least needed body that isn't built, if one isn't
-abbrev pub IsLeast : Classes → List EntryPoint → Option (List ℕ) → Type 0
-IsLeast w entries None = AreBuilt w entries
-IsLeast w entries (Some spelled) = IsLeastUnbuilt w entries spelled
 
 -- code 21: the entries name several public modules, or a needed body isn't built
 pub data IsRefusedUnbuilt (w : Classes) (entries : List EntryPoint) : Verdict → Type 0 where

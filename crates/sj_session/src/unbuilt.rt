@@ -1,9 +1,11 @@
 // The bodies that aren't built yet.
-ghost use Rattle.std.specs.Prelude.{◌≡◌, ◌↔◌, IfOk, IsTrue};
+ghost use Rattle.std.specs.Prelude.{◌≡◌, ◌↔◌, IfOk, IsTrue, nat_eq};
+ghost use Rattle.std.specs.Cmp.Lexicographic.{pointwise};
+ghost use Rattle.std.specs.List.{list_all};
 ghost use Rattle.linked_folders.specs.Edits.{HaveOneModule};
 ghost use Rattle.sj_reach.specs.Answers.{AreReachable};
-ghost use Rattle.sj_session.specs.Editing.{IsLeast};
-ghost use Rattle.sj_session.specs.Unbuilt.{IsUnbuiltMember, IsWithFact, IsLesser};
+ghost use Rattle.sj_session.specs.Unbuilt as spec;
+ghost use Rattle.sj_session.specs.Unbuilt.{IsLeast, IsUnbuiltMember, IsWithFact, IsWithMember};
 
 use built_forms::not_built;
 use folder_judging::definition_of;
@@ -21,7 +23,7 @@ pub fn have_one_module(entries: &Entries) -> bool
 }
 
 fn are_of_module(entries: &[EntryPoint], module: &Text) -> bool
-    ensures { IsTrue result ↔ ((e : EntryPoint) → Contains entries.now e → e.module ≡ module.now) }
+    ensures { result ≡ list_all (λ e. pointwise nat_eq e.module module.now) entries.now }
 {
     entries.iter().all(|entry| entry.module == *module)
 }
@@ -52,12 +54,24 @@ fn with_fact(
     ensures { IfOk result (IsWithFact world.now least fact.now) }
 {
     match fact {
-        Fact::Body(member) if is_unbuilt(world, member) => {
-            let spelled = spelled_member(alloc, member)?;
-            Ok(Some(lesser(least, spelled)))
-        }
+        Fact::Body(member) => with_member(alloc, world, least, member),
         _ => Ok(least),
     }
+}
+
+fn with_member(
+    alloc: Global,
+    world: &World,
+    least: Option<Text>,
+    member: &Member,
+) -> Result<Option<Text>, NoMemory>
+    ensures { IfOk result (IsWithMember world.now least member.now) }
+{
+    if !is_unbuilt(world, member) {
+        return Ok(least);
+    }
+    let spelled = spelled_member(alloc, member)?;
+    Ok(Some(lesser(least, spelled)))
 }
 
 // Whether the member has a definition that isn't built.
@@ -71,10 +85,16 @@ fn is_unbuilt(world: &World, member: &Member) -> bool
 }
 
 fn lesser(least: Option<Text>, spelled: Text) -> Text
-    ensures { IsLesser least spelled result }
+    ensures { result ≡ spec.lesser least spelled }
 {
     match least {
-        Some(least) if least <= spelled => least,
-        _ => spelled,
+        Some(least) => first_of(least, spelled),
+        None => spelled,
     }
+}
+
+fn first_of(least: Text, spelled: Text) -> Text
+    ensures { result ≡ spec.first_of least spelled }
+{
+    if spelled < least { spelled } else { least }
 }
