@@ -12,7 +12,7 @@ loop-file-init g c = record { read = subst (AreFirstRead c.args.files.now 0) (sy
 pub returns-in_err-class-clause-read : goal.returns-in_err-class-clause-read
 returns-in_err-class-clause-read g c =
     let p = err_from_is_err_and c.from_residual.result c.from_residual.ensures.1 in
-    rw (p.1, p.2) (fault_told c.args.files.now c.loop-file.file-index c.loop-file.classes.items c.file-item.result c.in_err-class.field-0.0 c.loop-file.invariant.read (slice_get_read c.args.files.now _ c.loop-file.file-index c.file-item.result refl (omega arith) c.file-item.is) (rw (c.as_str.ensures, c.as_slice.ensures) c.in_err-class.ensures.read))
+    rw (p.1, p.2) (fault_told c.args.files.now c.loop-file.file-index c.loop-file.classes.items c.file-item.result c.in_err-class.field-0.0 c.loop-file.invariant.read (slice_get_read c.args.files.now _ c.loop-file.file-index c.file-item.result refl (omega arith) c.file-item.is) (rw (c.as_str.ensures, c.as_slice.ensures) at c.in_err-class.ensures.read))
 
 pub returns-in_err-class-clause-counted : goal.returns-in_err-class-clause-counted
 returns-in_err-class-clause-counted g c =
