@@ -1,5 +1,7 @@
+pub mod Command
+pub mod EntryLine
 pub mod ExitCode
-pub mod Input
-pub mod Output
 pub mod Headline
-pub mod Editing
+pub mod Input
+pub mod Loading
+pub mod Output

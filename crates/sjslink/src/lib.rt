@@ -2,13 +2,13 @@
 #![tactic(auto)]
 
 mod answers;
-mod editing;
-mod entries;
+mod entry_line;
 mod laws;
+mod loading;
 mod program;
-mod reports;
+mod words;
 mod writing;
 
 pub use answers::Status;
-pub use laws::{output_is_one, programs_are_read_once};
+pub use laws::{each_program_is_one, output_is_one};
 pub use program::run;

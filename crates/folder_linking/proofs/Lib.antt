@@ -1,5 +1,0 @@
-mod Bodies
-mod Counted
-pub mod Ordered
-pub mod Linked
-mod Modules

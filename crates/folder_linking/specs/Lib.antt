@@ -1,4 +1,0 @@
-pub mod Functions
-pub mod Modules
-pub mod Counts
-pub mod Linking

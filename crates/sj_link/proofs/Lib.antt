@@ -1,0 +1,4 @@
+pub mod Increasing
+pub mod Printable
+pub mod TermLists
+pub mod Words

@@ -1,2 +1,0 @@
-mod Least
-mod Edited

@@ -1,4 +1,0 @@
-pub mod Sessions
-pub mod Counts
-pub mod Editing
-pub mod Unbuilt
