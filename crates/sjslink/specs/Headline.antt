@@ -1,35 +1,65 @@
--- The file that is put shows what the class shows.
-use Rattle.std.specs.Prelude.{◌≡◌, ℕ, List, [], ◌∷◌, Option, Some}
-use Rattle.js_mean.specs.Shows.{File}
-use Rattle.js_mean.specs.States as js
-use Rattle.js_mean.specs.Shows as js_reading
+-- The files that are put show what the classes of their folders show.
+use Rattle.std.specs.Prelude.{◌≡◌, ℕ, List, [], ◌++◌, Option, Ok, map}
+use Rattle.std.specs.List.{Contains, flat_map}
+use Rattle.js_mean.specs.Shows.{File, IsRead}
+use Rattle.js_mean.specs.States.{Program}
 use Rattle.sj_agree.specs.Agrees.{Agrees}
-use Rattle.sj_agree.specs.First.{only_entry, only_file}
+use Rattle.sj_names.specs.declared.entry_points.EntryPoint.{EntryPoint}
+use Rattle.sj_names.specs.declared.folders.SourceFile.{SourceFile}
 use Rattle.sj_outside.specs.Contents.{Parts}
 use Rattle.sj_outside.specs.Writing.{Appends}
 use Rattle.sj_outside.specs.declared.answers.PutFile.{PutFile}
-use Rattle.sjslink.specs.Command.{LinkWords, command}
-use Rattle.sjslink.specs.Input.{Program, IsProgram}
-use Rattle.sjslink.specs.Output.{Output, IsOutput, file_put}
+use Rattle.sj_words.specs.declared.commands.Link.{Link}
+use Rattle.sj_world.specs.Known.{Classes}
+use Rattle.folder_files.specs.Files.{AreFilesOf}
+use Rattle.accepted_folders.specs.Accepted.{IsAccepted}
+use Rattle.linked_folders.specs.Link.{AreOfOne}
+use Rattle.sjslink.specs.Input.{IsLinkCommand, HasEntries}
+use Rattle.sjslink.specs.Output.{Output, IsOutput, put_of}
 
--- The words name a program, the entry and the class; one file was put and no other; and this file, as it is read, shows of the
--- public module of the entry what the class shows.
+-- an edit that is accepted: its number, the path of its folder, and its files
+pub record AcceptedEdit : Type 0 where
+  pub number : ℕ
+  pub path : List ℕ
+  pub links : List File
+
+-- the folder is accepted, and its files show of the public module what its classes show
+pub record Shows (contents : Parts) (entries : List EntryPoint) (edit : AcceptedEdit) : Type 0 where
+  pub files : List SourceFile
+  pub is_folder : AreFilesOf contents edit.path files
+  pub world : Classes
+  pub is_accepted : IsAccepted entries files world
+  pub id : List ℕ
+  pub one : AreOfOne entries id
+  pub agrees : Agrees world entries edit.links id
+
+abbrev pub files_put : List ℕ → AcceptedEdit → List PutFile
+files_put out edit = map (put_of out edit.number) edit.links
+
+-- edits of the command that were accepted, each of which shows the same as its folder
+pub record HasShown (words : List (List ℕ)) (contents : Parts) (out : List ℕ) (edits : List AcceptedEdit) : Type 0 where
+  pub link : Link
+  pub is_command : IsLinkCommand words link
+  pub out_is : link.out ≡ out
+  pub entries : List EntryPoint
+  pub has_entries : HasEntries contents link.entries (Ok entries)
+  pub shown : (edit : AcceptedEdit) → Contains edits edit → Shows contents entries edit × Contains link.folders edit.path
+
+-- what was put are the files of such edits, in their order
 pub record ShowsTheSame (words : List (List ℕ)) (contents : Parts) (puts_old puts_new : Option (List PutFile)) : Type 0 where
-  pub named : LinkWords
-  pub is_named : command words ≡ Some named
-  pub program : Program
-  pub is_program : IsProgram contents named program
-  pub bytes : List ℕ
-  pub put : Appends puts_old puts_new (file_put named program.line.module_id bytes ∷ [])
-  pub agrees : Agrees (program.class ∷ []) (only_entry program.line.module_id program.line.method) (only_file program.line.module_id bytes) program.line.module_id
+  pub out : List ℕ
+  pub edits : List AcceptedEdit
+  pub shown : HasShown words contents out edits
+  pub put : Appends puts_old puts_new (flat_map (files_put out) edits)
 
--- the words name one program at most
-abbrev pub NamesOneProgram : Type 0
-NamesOneProgram = (contents : Parts) (words : LinkWords) (one other : Program) → IsProgram contents words one → IsProgram contents words other → one ≡ other
+-- what was put is nothing, or a front of the files of such edits
+pub data ShowsFront (words : List (List ℕ)) (contents : Parts) (puts_old puts_new : Option (List PutFile)) : Type 0 where
+  nothing : Appends puts_old puts_new [] → ShowsFront words contents puts_old puts_new
+  front_of : (out : List ℕ) (edits : List AcceptedEdit) (front rest : List PutFile) → HasShown words contents out edits → front ++ rest ≡ flat_map (files_put out) edits → Appends puts_old puts_new front → ShowsFront words contents puts_old puts_new
 
 -- files are read as one program at most
 abbrev pub ReadsOneProgram : Type 0
-ReadsOneProgram = (files : List File) (one other : js.Program) → js_reading.IsRead files one → js_reading.IsRead files other → one ≡ other
+ReadsOneProgram = (files : List File) (one other : Program) → IsRead files one → IsRead files other → one ≡ other
 
 -- there is one output at most
 abbrev pub HasOneOutput : Type 0

@@ -1,7 +1,5 @@
-pub mod Command
-pub mod EntryLine
 pub mod ExitCode
-pub mod Headline
 pub mod Input
-pub mod Loading
 pub mod Output
+pub mod Headline
+pub mod Editing

@@ -1,15 +1,21 @@
 -- What the program writes.
-use Rattle.std.specs.Prelude.{◌≡◌, ℕ, List, [], ◌∷◌, ◌++◌, Option, Some, None, codes, decimal, ⊤}
-use Rattle.js_tree.specs.Terms.{Module}
-use Rattle.js_tree.specs.Spelling.{Spells}
+use Rattle.std.specs.Prelude.{◌≡◌, ℕ, ◌+◌, Bool, true, false, List, [], ◌∷◌, ◌++◌, Option, Some, None, Ok, Err, codes, decimal, length, map, slice_get, if◌then◌else◌, ⊤}
+use Rattle.std.specs.List.{flat_map, list_all}
+use Rattle.js_mean.specs.Shows.{File}
+use Rattle.sj_names.specs.declared.counters.Meter.{Meter}
+use Rattle.sj_names.specs.declared.entry_points.EntryPoint.{EntryPoint}
+use Rattle.sj_names.specs.declared.folders.SourceFile.{SourceFile}
 use Rattle.sj_outside.specs.Contents.{Parts}
 use Rattle.sj_outside.specs.Writing.{Event, put, line, Writes, WritesFront}
 use Rattle.sj_outside.specs.declared.answers.PutFile.{PutFile}
-use Rattle.sj_link.specs.Link.{IsLink}
-use Rattle.sjslink.specs.Command.{LinkWords, command}
-use Rattle.sjslink.specs.Input.{Program, IsProgram}
+use Rattle.sj_words.specs.Earlier.{first_command}
+use Rattle.sj_words.specs.declared.commands.Link.{Link}
+use Rattle.folder_files.specs.Files.{AreFilesOf}
+use Rattle.folder_verdicts.specs.Verdicts.{accepted, refused}
+use Rattle.linked_folders.specs.Edits.{IsEditVerdict, IsLinkOf, IsWork}
+use Rattle.sjslink.specs.Input.{IsLinkCommand, HasEntries}
 use Rattle.sjslink.specs.declared.answers.Status.{Status}
-use Rattle.sjslink.specs.declared.answers.Status.TheVariants.{Done, SomeRefused, Usage, ReadFault, WriteFault, NoMemory, BadEntries, NotBuilt}
+use Rattle.sjslink.specs.declared.answers.Status.TheVariants.{Done, SomeRefused, Usage, ReadFault, WriteFault, NoMemory, BadEntries}
 
 pub record Output : Type 0 where
   pub status : Status
@@ -18,31 +24,59 @@ pub record Output : Type 0 where
 abbrev pub usage_line : List ℕ
 usage_line = codes "usage: sjslink link [--split fewest|smallest] [--optimize on|off] ENTRIES OUT FOLDER..\n"
 
-abbrev pub not_built_line : List ℕ
-not_built_line = codes "not built\n"
+abbrev pub entries_line : ℕ → List ℕ
+entries_line number = codes "entries line " ++ (decimal number ++ codes "\n")
 
--- the line of the first edit, with the number of methods that are checked and emitted
-abbrev pub report_line : ℕ → List ℕ
-report_line methods = codes "edit 1 ok modules=1 read=1 checked=" ++ (decimal methods ++ (codes " optimised=0 emitted=" ++ (decimal methods ++ codes "\n")))
+-- the line of an edit that is accepted: its number, how many files are put, and the work
+abbrev pub accepted_line : ℕ → ℕ → Meter → List ℕ
+accepted_line number modules work = codes "edit " ++ (decimal number ++ (codes " ok modules=" ++ (decimal modules ++ (codes " read=" ++ (decimal work.read ++ (codes " checked=" ++ (decimal work.checked ++ (codes " optimised=" ++ (decimal work.optimised ++ (codes " emitted=" ++ (decimal work.emitted ++ codes "\n")))))))))))
 
--- the file of a public module
-abbrev pub module_file : List ℕ → List ℕ
-module_file module_id = module_id ++ codes ".js"
+-- the line of an edit that is refused: its number, the code and the place
+abbrev pub refused_line : ℕ → ℕ → List ℕ → List ℕ
+refused_line number code place = codes "edit " ++ (decimal number ++ (codes " refused " ++ (decimal code ++ (codes " " ++ (place ++ codes "\n")))))
 
-abbrev pub file_put : LinkWords → List ℕ → List ℕ → PutFile
-file_put words module_id bytes = record { out = words.out; edit = 1; name = module_file module_id; bytes = bytes }
+-- a file of an edit, as it is put
+abbrev pub put_of : List ℕ → ℕ → File → PutFile
+put_of out number one = record { out = out; edit = number; name = one.name; bytes = one.bytes }
 
--- a program's module and its text
-pub record IsLinked (program : Program) (bytes : List ℕ) (methods : ℕ) : Type 0 where
-  pub module_tree : Module
-  pub is_link : IsLink program.class program.line.method module_tree methods
-  pub is_spelled : Spells module_tree bytes
+abbrev pub puts_of : List ℕ → ℕ → List File → List Event
+puts_of out number files = map (λ f. put (put_of out number f)) files
+
+-- what is written for an edit, and whether it is accepted
+pub record Edited : Type 0 where
+  pub is_accepted : Bool
+  pub events : List Event
+
+-- what is written for the edit of this number, of a folder of these files: the files that it is linked to and a line, or a line alone
+pub data IsEditOutput (out : List ℕ) (entries : List EntryPoint) (number : ℕ) (files : List SourceFile) : Edited → Type 0 where
+  linked : (links : List File) (work : Meter) → IsEditVerdict entries files accepted → IsLinkOf entries files links → IsWork entries files work → IsEditOutput out entries number files (record { is_accepted = true; events = puts_of out number links ++ line (accepted_line number (length links) work) ∷ [] })
+  refuses : (code : ℕ) (place : List ℕ) → IsEditVerdict entries files (refused code place) → IsEditOutput out entries number files (record { is_accepted = false; events = line (refused_line number code place) ∷ [] })
+
+-- the same of the folder at a path
+pub record IsEdited (contents : Parts) (out : List ℕ) (entries : List EntryPoint) (number : ℕ) (path : List ℕ) (edited : Edited) : Type 0 where
+  pub files : List SourceFile
+  pub is_folder : AreFilesOf contents path files
+  pub is_output : IsEditOutput out entries number files edited
+
+-- one edit for each folder, numbered from 1
+pub record AreEdited (contents : Parts) (out : List ℕ) (entries : List EntryPoint) (paths : List (List ℕ)) (edits : List Edited) : Type 0 where
+  pub whole : length edits ≡ length paths
+  pub each : (i : ℕ) (path : List ℕ) (edited : Edited) → slice_get paths i ≡ Some path → slice_get edits i ≡ Some edited → IsEdited contents out entries (i + 1) path edited
+
+abbrev pub events_of : Edited → List Event
+events_of e = e.events
+
+abbrev pub was_accepted : Edited → Bool
+was_accepted e = e.is_accepted
+
+abbrev pub status_of : List Edited → Status
+status_of edits = if list_all was_accepted edits then Done else SomeRefused
 
 -- what the words ask for, over what the folders hold
 pub data IsOutput (words : List (List ℕ)) (contents : Parts) : Output → Type 0 where
-  no_command : command words ≡ None → IsOutput words contents (record { status = Usage; events = line usage_line ∷ [] })
-  not_built : (named : LinkWords) → command words ≡ Some named → ((program : Program) → IsProgram contents named program → ⊥) → IsOutput words contents (record { status = NotBuilt; events = line not_built_line ∷ [] })
-  linked : (named : LinkWords) (program : Program) (bytes : List ℕ) (methods : ℕ) → command words ≡ Some named → IsProgram contents named program → IsLinked program bytes methods → IsOutput words contents (record { status = Done; events = put (file_put named program.line.module_id bytes) ∷ line (report_line methods) ∷ [] })
+  no_command : first_command words ≡ None → IsOutput words contents (record { status = Usage; events = line usage_line ∷ [] })
+  bad_entries : (link : Link) (number : ℕ) → IsLinkCommand words link → HasEntries contents link.entries (Err number) → IsOutput words contents (record { status = BadEntries number; events = line (entries_line number) ∷ [] })
+  edited : (link : Link) (entries : List EntryPoint) (edits : List Edited) → IsLinkCommand words link → HasEntries contents link.entries (Ok entries) → AreEdited contents link.out entries link.folders edits → IsOutput words contents (record { status = status_of edits; events = flat_map events_of edits })
 
 -- the fact, unless the call ended early: by a fault or for want of memory
 abbrev pub AtEnd : Status → Type 0 → Type 0
@@ -53,7 +87,6 @@ AtEnd Done P = P
 AtEnd SomeRefused P = P
 AtEnd Usage P = P
 AtEnd (BadEntries n) P = P
-AtEnd NotBuilt P = P
 
 -- How a call ended that writes something: with this status where all was written, or early, by a fault with a cause or for
 -- want of memory.
@@ -71,7 +104,6 @@ IsUsageAnswer Done = ⊥
 IsUsageAnswer SomeRefused = ⊥
 IsUsageAnswer ReadFault = ⊥
 IsUsageAnswer (BadEntries n) = ⊥
-IsUsageAnswer NotBuilt = ⊥
 
 -- the whole output was written, and this is the status of it
 pub record IsWhole (words : List (List ℕ)) (contents : Parts) (puts_old puts_new : Option (List PutFile)) (text_old text_new : Option (List ℕ)) (status : Status) : Type 0 where

@@ -19,8 +19,6 @@ pub enum Status {
     NoMemory,
     /// The entries file is bad at this line, counted from 1, or as a whole at 0.
     BadEntries(u32),
-    /// The words are a command, but what they name is of a form that isn't built yet.
-    NotBuilt,
 }
 
 impl Status {
@@ -36,7 +34,6 @@ impl Status {
             Status::WriteFault => 4,
             Status::NoMemory => 5,
             Status::BadEntries(_) => 6,
-            Status::NotBuilt => 7,
         }
     }
 }

@@ -2,13 +2,13 @@
 #![tactic(auto)]
 
 mod answers;
-mod entry_line;
+mod editing;
+mod entries;
 mod laws;
-mod loading;
 mod program;
-mod words;
+mod reports;
 mod writing;
 
 pub use answers::Status;
-pub use laws::{each_program_is_one, output_is_one};
+pub use laws::{output_is_one, programs_are_read_once};
 pub use program::run;

@@ -1,27 +1,30 @@
 // The top call.
-ghost use Rattle.std.specs.Prelude.{◌≡◌, ◌⊎◌, ℕ, Some, None, [], ◌∷◌, map, string_bytes};
+ghost use Rattle.std.specs.Prelude.{◌≡◌, ◌⊎◌, ◌<◌, ◌^◌, Some, None, length, map, string_bytes};
 ghost use Rattle.sj_outside.specs.Contents.{Parts};
 ghost use Rattle.sj_outside.specs.Faults.{Rose};
 ghost use Rattle.sj_outside.specs.Writing.{Appends};
-ghost use Rattle.sjslink.specs.Command.{command};
-ghost use Rattle.sjslink.specs.Headline.{ShowsTheSame};
-ghost use Rattle.sjslink.specs.Loading.{HasNamed};
+ghost use Rattle.sj_words.specs.Earlier.{first_command as command};
+ghost use Rattle.sjslink.specs.Headline.{ShowsTheSame, ShowsFront};
+ghost use Rattle.sjslink.specs.Input.{HoldWhatIsNamed};
 ghost use Rattle.sjslink.specs.Output as output;
 
-use crate::answers::Status;
-use crate::loading::{LoadError, linked};
-use crate::words::link_words;
-use crate::writing::{finish, put_linked};
+use crate::Status;
+use crate::editing::{Fault, edit_folders};
+use crate::entries::{NoEntries, read_entries};
+use crate::reports::entries_line;
+use crate::writing::finish;
+use sj_names::Entries;
 use sj_outside::{Folders, Lines, Outputs};
+use sj_session::{Options, Session};
+use sj_split::Style;
+use sj_words::{Command, Link, first_command};
 use std::alloc::Global;
 
 const USAGE: &str =
     "usage: sjslink link [--split fewest|smallest] [--optimize on|off] ENTRIES OUT FOLDER..\n";
 
-const NOT_BUILT: &str = "not built\n";
-
-/// Does what the command line `words`, without the program's name, asks for: reads the entries file and the folder, puts the file
-/// of the module that the class is linked to, and prints the line of its edit.
+/// Does what the command line `words`, without the program's name, asks for: reads the entries file, edits a session by each folder, puts the files of
+/// each edit that is accepted, and prints a line for each. The condition is that there are fewer than 2^32 words.
 ///
 /// What is written, and the status, is one function of the words and of what the folders hold, as far as they tell that. A fault or
 /// want of memory ends the run at once; what was written then is a front of it.
@@ -32,40 +35,79 @@ pub fn run<F: Folders, O: Outputs, L: Lines>(
     outputs: &mut O,
     lines: &mut L,
 ) -> Status
+    requires { length words.items < 2 ^ 32 }
+
     // Where the run ends by itself, it has written the whole output, and its status is that of the output.
     ensures whole { (c : Parts) → F.holds folders.old ≡ Some c → output.AtEnd result (output.IsWhole (map string_bytes words.items) c (O.puts outputs.old) (O.puts outputs.new) (L.printed lines.old) (L.printed lines.new) result) }
 
     // In every case what was written is nothing, or a front of the output.
     ensures front { (c : Parts) → F.holds folders.old ≡ Some c → output.IsFront (map string_bytes words.items) c (O.puts outputs.old) (O.puts outputs.new) (L.printed lines.old) (L.printed lines.new) }
 
-    // The file that a run that is done has put shows what the class shows that the words name.
-    ensures agrees { (c : Parts) → F.holds folders.old ≡ Some c → result ≡ Status.Done → ShowsTheSame (map string_bytes words.items) c (O.puts outputs.old) (O.puts outputs.new) }
+    // The files that a run has put that edited all its folders show, for each folder that was accepted, what its classes show.
+    ensures agrees { (c : Parts) → F.holds folders.old ≡ Some c → (result ≡ Status.Done) ⊎ (result ≡ Status.SomeRefused) → ShowsTheSame (map string_bytes words.items) c (O.puts outputs.old) (O.puts outputs.new) }
 
-    // In every case what was put is nothing, or such a file.
-    ensures shown { (c : Parts) → F.holds folders.old ≡ Some c → Appends (O.puts outputs.old) (O.puts outputs.new) [] ⊎ ShowsTheSame (map string_bytes words.items) c (O.puts outputs.old) (O.puts outputs.new) }
+    // In every case what was put is a front of such files.
+    ensures shown { (c : Parts) → F.holds folders.old ≡ Some c → ShowsFront (map string_bytes words.items) c (O.puts outputs.old) (O.puts outputs.new) }
 
     // Nothing is asked for that the folders lack, but for what the words name.
-    ensures missing { (c : Parts) → F.holds folders.old ≡ Some c → HasNamed c (command (map string_bytes words.items)) → F.missing folders.new ≡ F.missing folders.old }
+    ensures missing { (c : Parts) → F.holds folders.old ≡ Some c → HoldWhatIsNamed c (map string_bytes words.items) → F.missing folders.new ≡ F.missing folders.old }
 
     // Words that are no command are answered so, also where the folders tell nothing.
     ensures no_command { command (map string_bytes words.items) ≡ None → output.IsUsageAnswer result }
     ensures usage { result ≡ Status.Usage → command (map string_bytes words.items) ≡ None }
     ensures usage_line { result ≡ Status.Usage → Appends (O.puts outputs.old) (O.puts outputs.new) [] × Appends (L.printed lines.old) (L.printed lines.new) output.usage_line }
 
-    // As long as one folder is taken, no edit is refused and no entries are judged.
-    ensures unused { (result ≡ Status.SomeRefused → ⊥) × ((n : ℕ) → result ≡ Status.BadEntries n → ⊥) }
-
     // Each fault has its cause.
     ensures read_fault { result ≡ Status.ReadFault → Rose (F.faults folders.old) (F.faults folders.new) }
     ensures write_fault { result ≡ Status.WriteFault → Rose (O.faults outputs.old) (O.faults outputs.new) ⊎ Rose (L.faults lines.old) (L.faults lines.new) }
 {
-    let Some(named) = link_words(words.as_slice()) else {
-        return finish(alloc, Status::Usage, USAGE, lines);
+    match first_command(alloc, words.as_slice()) {
+        Ok(Some(Command::Link(link))) => run_link(alloc, &link, folders, outputs, lines),
+        Ok(_) => finish(alloc, Status::Usage, USAGE, lines),
+        Err(_) => Status::NoMemory,
+    }
+}
+
+fn run_link<F: Folders, O: Outputs, L: Lines>(
+    alloc: Global,
+    link: &Link,
+    folders: &mut F,
+    outputs: &mut O,
+    lines: &mut L,
+) -> Status {
+    match read_entries(alloc, link.entries.as_str(), folders) {
+        Ok(entries) => edit_all(alloc, link, entries, folders, outputs, lines),
+        Err(NoEntries::BadLine(number)) => tell_bad_line(alloc, number, lines),
+        Err(NoEntries::ReadFault) => Status::ReadFault,
+        Err(NoEntries::NoMemory) => Status::NoMemory,
+    }
+}
+
+fn edit_all<F: Folders, O: Outputs, L: Lines>(
+    alloc: Global,
+    link: &Link,
+    entries: Entries,
+    folders: &mut F,
+    outputs: &mut O,
+    lines: &mut L,
+) -> Status {
+    let options = Options {
+        style: Style::Fewest,
+        optimize: false,
     };
-    match linked(alloc, &named, folders) {
-        Ok(file) => put_linked(alloc, named.out, &file, outputs, lines),
-        Err(LoadError::NotBuilt) => finish(alloc, Status::NotBuilt, NOT_BUILT, lines),
-        Err(LoadError::ReadFault) => Status::ReadFault,
-        Err(LoadError::NoMemory) => Status::NoMemory,
+    let mut session = Session::new(alloc, entries, options);
+    match edit_folders(alloc, link, &mut session, folders, outputs, lines) {
+        Ok(true) => Status::Done,
+        Ok(false) => Status::SomeRefused,
+        Err(Fault::Read) => Status::ReadFault,
+        Err(Fault::Write) => Status::WriteFault,
+        Err(Fault::NoMemory) => Status::NoMemory,
+    }
+}
+
+fn tell_bad_line<L: Lines>(alloc: Global, number: u32, lines: &mut L) -> Status {
+    match entries_line(alloc, number) {
+        Ok(text) => finish(alloc, Status::BadEntries(number), text.as_str(), lines),
+        Err(_) => Status::NoMemory,
     }
 }

@@ -1,0 +1,98 @@
+-- The members whose bodies are needed, and their functions.
+use Rattle.std.proofs.Common.{◌≡◌, ◌<◌, ◌+◌, ◌≤◌, ℕ, Bool, true, List, [], ◌∷◌, ◌++◌, ◌||◌, ◌⊎◌, inl, inr, Option, Some, None, refl, sym, ap, subst, ◌∙◌, map, take, length, slice_get, Contains, arith}
+use Rattle.std.specs.Prelude.{IsSome, is_some}
+use Rattle.std.specs.List.{IsDistinct}
+use Rattle.std.proofs.lemmas.List.{take_more, take_all}
+use Rattle.std.proofs.lemmas.Option.{slice_get_within, get_or_from_slice_get}
+use Rattle.std.proofs.lemmas.List.Elements.{Contains-push_cases}
+use Rattle.ir_mean.specs.World as ir
+use Rattle.js_tree.specs.Rules.{IsPiece}
+use Rattle.js_tree.specs.Views.{piece_view}
+use Rattle.js_tree.specs.declared.items.JsPiece.{JsPiece}
+use Rattle.sj_calls.specs.Files.{EmittedMethod, piece_of_method}
+use Rattle.sj_desugar.specs.Desugar.{desugared}
+use Rattle.sj_desugarer.specs.Methods.{method_desugared, desugared_with}
+use Rattle.sj_emit_expr.specs.Pieces.{piece_of}
+use Rattle.sj_names.specs.declared.method_names.Member.{Member}
+use Rattle.sj_trees.specs.Term.{Term}
+use Rattle.sj_trees.specs.declared.classes.MethodDef.{MethodDef}
+use Rattle.sj_world.specs.Known.{Name, Classes, class_of, is_known, is_hijacked}
+use Rattle.sj_world.specs.Members.{IsMethodOf}
+use Rattle.sj_world.specs.declared.facts.Fact.{Fact}
+use Rattle.sj_world.specs.declared.facts.Fact.TheVariants as fact
+use Rattle.worklist.proofs.Inserted.{nothing_in}
+use Rattle.accepted_folders.proofs.Members.{found-member}
+use Rattle.accepted_folders.specs.Bodies.{IsFound}
+use Rattle.folder_judging.specs.Counts.{members_of}
+use Rattle.folder_verdicts.specs.Stages.{IsDefined}
+use Rattle.folder_linking.specs.declared.functions.Function.{Function}
+use Rattle.folder_linking.specs.Functions.{HasAncestors, IsFunction, AreFunctions, member_of}
+
+-- the members of more facts
+members_append : (facts : List Fact) (f : Fact) → members_of (facts ++ f ∷ []) ≡ members_of facts ++ members_of (f ∷ [])
+members_append [] f = refl
+members_append (fact.Needed c ∷ facts) f = members_append facts f
+members_append (fact.Made c ∷ facts) f = members_append facts f
+members_append (fact.CellUsed c ∷ facts) f = members_append facts f
+members_append (fact.NeededField c g s ∷ facts) f = members_append facts f
+members_append (fact.Body k ∷ facts) f = ap (λ (ks : List Member). k ∷ ks) (members_append facts f)
+members_append (fact.Called c m ∷ facts) f = members_append facts f
+
+pub no_member : (f : Fact) → ((k : Member) → f ≡ fact.Body k → ⊥) → members_of (f ∷ []) ≡ []
+no_member (fact.Needed c) other = refl
+no_member (fact.Made c) other = refl
+no_member (fact.CellUsed c) other = refl
+no_member (fact.NeededField c f s) other = refl
+no_member (fact.Body k) other = absurd (other k refl)
+no_member (fact.Called c m) other = refl
+
+-- the first things of a list, and one more
+pub more_taken : {X : Type 0} (xs : List X) (n : ℕ) (x : X) → slice_get xs n ≡ Some x → take (n + 1) xs ≡ take n xs ++ x ∷ []
+more_taken xs n x at = take_more xs n x (slice_get_within xs n x at) ∙ ap (λ y. take n xs ++ y ∷ []) (get_or_from_slice_get xs n x x at)
+
+pub members_more : (facts : List Fact) (n : ℕ) (f : Fact) → slice_get facts n ≡ Some f → members_of (take (n + 1) facts) ≡ members_of (take n facts) ++ members_of (f ∷ [])
+members_more facts n f at = ap members_of (more_taken facts n f at) ∙ members_append (take n facts) f
+
+some_of : (o : Option Term) → IsSome o → (t : Term) × (o ≡ Some t)
+some_of None h = absurd h
+some_of (Some t) h = (t, refl)
+
+same_definition : (w : Classes) (k : Member) (d e : MethodDef) → IsMethodOf w k d → IsMethodOf w k e → d ≡ e
+same_definition w k d e h g = let s : Some d ≡ Some e = sym (found-member w k d h) ∙ found-member w k e g in cc
+
+pub class_known : (w : Classes) (k : Member) (d : MethodDef) → IsMethodOf w k d → is_known w k.class ≡ true
+class_known w k d h = ap (λ o. is_some o || is_hijacked k.class) h.is_class
+
+-- the function of a member that has this definition
+pub function_is : (w : Classes) (k : Member) (d : MethodDef) (f : Function) → IsDefined w k → IsMethodOf w k d → f.member.now ≡ k → piece_view f.piece ≡ piece_of k (method_desugared d) → IsPiece (piece_view f.piece) → HasAncestors w k.class f.ancestors → IsFunction w f
+function_is w k d f has is member piece rules above = go (some_of d.body (subst (λ (e : MethodDef). IsSome e.body) (same_definition w k has.definition d has.defined is) has.has_body))
+  where
+    go : (t : Term) × (d.body ≡ Some t) → IsFunction w f
+    go b = record {
+      method = record { member = k; definition = d; its_body = b.0 };
+      member_is = sym member;
+      found = record { found = found-member w k d is; has_body = b.1 };
+      piece_is = piece ∙ ap (λ o. piece_of k (desugared_with d o)) b.1;
+      rules = rules;
+      ancestors = above;
+    }
+
+pub no_functions : (w : Classes) → AreFunctions w [] []
+no_functions w = record { members_are = refl; each = λ f h. absurd (nothing_in f h) }
+
+map_push : {X Y : Type 0} (f : X → Y) (xs : List X) (x : X) → map f (xs ++ x ∷ []) ≡ map f xs ++ f x ∷ []
+map_push f [] x = refl
+map_push f (y ∷ ys) x = ap (λ zs. f y ∷ zs) (map_push f ys x)
+
+pub more_functions : (w : Classes) (ms : List Member) (n : ℕ) (k : Member) (f : Function) (old new : List Function) → slice_get ms n ≡ Some k → f.member.now ≡ k → IsFunction w f → new ≡ old ++ f ∷ [] → AreFunctions w (take n ms) old → AreFunctions w (take (n + 1) ms) new
+more_functions w ms n k f old new at member is made h = record {
+  members_are = ap (map member_of) made ∙ map_push member_of old f ∙ ap (λ (ks : List Member). ks ++ f.member.now ∷ []) h.members_are ∙ ap (λ (j : Member). take n ms ++ j ∷ []) member ∙ sym (more_taken ms n k at);
+  each = λ g i. each g (Contains-push_cases old f g (subst (λ (l : List Function). Contains l g) made i));
+}
+  where
+    each : (g : Function) → Contains old g ⊎ (f ≡ g) → IsFunction w g
+    each g (inl there) = h.each g there
+    each g (inr same) = subst (IsFunction w) same is
+
+pub all_functions : (w : Classes) (ms : List Member) (n : ℕ) (fs : List Function) → length ms ≤ n → AreFunctions w (take n ms) fs → AreFunctions w ms fs
+all_functions w ms n fs over h = subst (λ (l : List Member). AreFunctions w l fs) (take_all n ms over) h

@@ -1,0 +1,5 @@
+mod Bodies
+mod Counted
+pub mod Ordered
+pub mod Linked
+mod Modules

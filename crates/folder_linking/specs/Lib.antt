@@ -1,0 +1,4 @@
+pub mod Functions
+pub mod Modules
+pub mod Counts
+pub mod Linking

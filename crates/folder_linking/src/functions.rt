@@ -1,0 +1,158 @@
+// The functions of the bodies that are needed.
+ghost use Rattle.std.specs.Prelude.{◌≡◌, IfOk, length, map, true};
+ghost use Rattle.std.specs.List.{Contains};
+ghost use Rattle.js_tree.specs.Views.{body_view, piece_view};
+ghost use Rattle.sj_core.specs.Views.{method_view};
+ghost use Rattle.sj_desugarer.specs.Methods.{method_desugared};
+ghost use Rattle.sj_emit_expr.specs.Pieces.{piece_of};
+ghost use Rattle.sj_emit_expr.specs.Templates.{parameter_names, body_template};
+ghost use Rattle.sj_emit_expr.specs.Uses.{uses};
+ghost use Rattle.js_tree.specs.Rules.{IsPiece};
+ghost use Rattle.sj_names.specs.declared.method_names.Member.{Member};
+ghost use Rattle.sj_world.specs.Known.{is_known};
+ghost use Rattle.sj_world.specs.Members.{IsMethodOf};
+ghost use Rattle.folder_verdicts.specs.Stages.{IsDefined};
+ghost use Rattle.folder_judging.specs.Counts.{members_of, bodies_among};
+ghost use Rattle.folder_linking.specs.Counts.{Emits};
+ghost use Rattle.folder_linking.specs.Functions as functions;
+ghost use Rattle.folder_linking.specs.Functions.{AreFunctions, AreInOrder, IsFunction, HasAncestors};
+
+use crate::members::needed_members;
+use folder_judging::definition_of;
+use js_tree::{JsMember, JsPiece};
+use sj_ask::WorldOracle;
+use sj_core::CoreMethod;
+use sj_desugarer::desugar;
+use sj_names::{ClassName, Member, NoMemory};
+use sj_pieces::{desugared_methods_have_keys, member_piece};
+use sj_recorder::Recorder;
+use sj_trees::MethodDef;
+use sj_workers::Workers;
+use sj_world::{LinkedWorld, World};
+use std::alloc::Global;
+use std::cmp::Ordering;
+
+/// The function of a needed body, and how many ancestors the class of its member has.
+#[derive(Drop)]
+pub struct Function<'w> {
+    pub member: &'w Member,
+    pub ancestors: usize,
+    pub piece: JsPiece,
+}
+
+/// The functions of the bodies that are needed, in the order in which a module has them. Each body is emitted once.
+pub fn functions_in_order<'w, W: Workers>(
+    alloc: Global,
+    linked: &'w LinkedWorld,
+    work: &mut W,
+) -> Result<Vec<Function<'w>>, NoMemory>
+    requires { (k : Member) → Contains (members_of linked.now.facts) k → IsDefined linked.now.world k }
+    ensures functions { IfOk result (λ fs. AreInOrder linked.now.world (members_of linked.now.facts) fs.items) }
+    ensures counted { Emits (bodies_among linked.now.facts) result (W.meter work.old) (W.meter work.new) }
+{
+    let members = needed_members(alloc, linked.facts())?;
+    let mut functions = functions_of(alloc, linked, &members, work)?;
+    functions.sort_by(|one, other| order(one, other))?;
+    Ok(functions)
+}
+
+fn order(one: &Function<'_>, other: &Function<'_>) -> Ordering
+    ensures { result ≡ functions.order one.now other.now }
+{
+    one.ancestors
+        .cmp(&other.ancestors)
+        .then(one.piece.owner.cmp(&other.piece.owner))
+        .then(one.piece.name.cmp(&other.piece.name))
+}
+
+fn functions_of<'w, W: Workers>(
+    alloc: Global,
+    linked: &LinkedWorld,
+    members: &[&'w Member],
+    work: &mut W,
+) -> Result<Vec<Function<'w>>, NoMemory>
+    requires { (k : Member) → Contains (map (λ m. m.now) members.now) k → IsDefined linked.now.world k }
+    ensures functions { IfOk result (λ fs. AreFunctions linked.now.world (map (λ m. m.now) members.now) fs.items) }
+    ensures counted { Emits (length members.now) result (W.meter work.old) (W.meter work.new) }
+{
+    let mut functions = Vec::new(alloc);
+    for member in members {
+        let function = function_of(alloc, linked, member, work)?;
+        functions.push(function)?;
+    }
+    Ok(functions)
+}
+
+fn function_of<'w, W: Workers>(
+    alloc: Global,
+    linked: &LinkedWorld,
+    member: &'w Member,
+    work: &mut W,
+) -> Result<Function<'w>, NoMemory>
+    requires { IsDefined linked.now.world member.now }
+    ensures function { IfOk result (λ f. (f.member.now ≡ member.now) × IsFunction linked.now.world f) }
+    ensures counted { Emits 1 result (W.meter work.old) (W.meter work.new) }
+{
+    let definition = known_definition(linked.world(), member);
+    let piece = emitted_piece(alloc, linked, member, definition, work)?;
+    Ok(Function {
+        member,
+        ancestors: ancestors_of(linked.world(), &member.class),
+        piece,
+    })
+}
+
+// The piece of the member, which has this definition.
+fn emitted_piece<W: Workers>(
+    alloc: Global,
+    linked: &LinkedWorld,
+    member: &Member,
+    definition: &MethodDef,
+    work: &mut W,
+) -> Result<JsPiece, NoMemory>
+    ensures piece { IfOk result (λ p. piece_view p ≡ piece_of member.now (method_desugared definition.now)) }
+    ensures rules { IfOk result (λ p. IsPiece (piece_view p)) }
+    ensures counted { Emits 1 result (W.meter work.old) (W.meter work.new) }
+{
+    desugared_methods_have_keys();
+    let core = desugar(alloc, definition)?;
+    let emitted = emit(alloc, linked, member, &core, work)?;
+    member_piece(alloc, member, &core, emitted)
+}
+
+fn emit<W: Workers>(
+    alloc: Global,
+    linked: &LinkedWorld,
+    member: &Member,
+    core: &CoreMethod,
+    work: &mut W,
+) -> Result<JsMember, NoMemory>
+    ensures params { IfOk result (λ e. e.params ≡ parameter_names (method_view core.now).params) }
+    ensures body { IfOk result (λ e. body_view e.body ≡ body_template (method_view core.now)) }
+    ensures used { IfOk result (λ e. e.uses ≡ uses (method_view core.now).body) }
+    ensures counted { Emits 1 result (W.meter work.old) (W.meter work.new) }
+{
+    let mut recorder = Recorder::new(alloc, member.copied()?, WorldOracle::new(linked, member));
+    work.emit_member(alloc, core, &mut recorder)
+}
+
+// The definition of the member, which has one.
+fn known_definition<'w>(world: &'w World, member: &Member) -> &'w MethodDef
+    requires { IsDefined world.now member.now }
+    ensures { IsMethodOf world.now member.now result.now }
+{
+    match definition_of(world, member) {
+        Some(definition) => definition,
+        None => unreachable!(),
+    }
+}
+
+fn ancestors_of(world: &World, class: &ClassName) -> usize
+    requires { is_known world.now class.now ≡ true }
+    ensures { HasAncestors world.now class.now result }
+{
+    match world.ancestors(class) {
+        Some(names) => names.len(),
+        None => unreachable!(),
+    }
+}

@@ -1,0 +1,76 @@
+// A folder that is linked.
+ghost use Rattle.std.specs.Prelude.{◌≡◌, IfOk, map};
+ghost use Rattle.js_tree.specs.Views.{piece_view};
+ghost use Rattle.folder_judging.specs.Counts.{bodies_among};
+ghost use Rattle.linked_folders.specs.Link.{IsLink};
+ghost use Rattle.folder_linking.specs.Counts.{Emits};
+ghost use Rattle.folder_linking.specs.Functions.{piece};
+ghost use Rattle.folder_linking.specs.Linking.{IsLinkable, ArePieces};
+ghost use Rattle.folder_linking.specs.Modules.{as_file};
+
+use crate::ModuleFile;
+use crate::functions::{Function, functions_in_order};
+use crate::modules::printed_files;
+use js_tree::JsPiece;
+use sj_graph::graph;
+use sj_names::{Entries, NoMemory};
+use sj_split::{Style, plan};
+use sj_workers::Workers;
+use sj_world::LinkedWorld;
+use std::alloc::Global;
+
+/// The files of a folder that is accepted and whose needed bodies are of the forms that are built: those of the modules that are planned for the
+/// functions of its needed bodies, in the order of their names. Each function is emitted once, by `work`. Want of memory is the only error.
+pub fn link<W: Workers>(
+    alloc: Global,
+    linked: &LinkedWorld,
+    entries: &Entries,
+    work: &mut W,
+) -> Result<Vec<ModuleFile>, NoMemory>
+    requires { IsLinkable entries.now linked.now }
+    ensures link { IfOk result (λ files. IsLink linked.now.world entries.now (map as_file files.items)) }
+    ensures counted { Emits (bodies_among linked.now.facts) result (W.meter work.old) (W.meter work.new) }
+{
+    let pieces = pieces_in_order(alloc, linked, entries, work)?;
+    link_pieces(alloc, &pieces, linked, entries)
+}
+
+fn link_pieces(
+    alloc: Global,
+    pieces: &[JsPiece],
+    linked: &LinkedWorld,
+    entries: &Entries,
+) -> Result<Vec<ModuleFile>, NoMemory>
+    requires { ArePieces linked.now.world entries.now (map piece_view pieces.now) }
+    ensures { IfOk result (λ files. IsLink linked.now.world entries.now (map as_file files.items)) }
+{
+    let graph = graph(alloc, pieces)?;
+    let plan = plan(alloc, &graph, entries, Style::Fewest)?;
+    printed_files(alloc, plan.modules(), pieces)
+}
+
+// The pieces of the needed bodies, in the order of a module.
+fn pieces_in_order<W: Workers>(
+    alloc: Global,
+    linked: &LinkedWorld,
+    entries: &Entries,
+    work: &mut W,
+) -> Result<Vec<JsPiece>, NoMemory>
+    requires { IsLinkable entries.now linked.now }
+    ensures pieces { IfOk result (λ ps. ArePieces linked.now.world entries.now (map piece_view ps.items)) }
+    ensures counted { Emits (bodies_among linked.now.facts) result (W.meter work.old) (W.meter work.new) }
+{
+    let functions = functions_in_order(alloc, linked, work)?;
+    pieces_of(alloc, functions)
+}
+
+fn pieces_of(alloc: Global, functions: Vec<Function<'_>>) -> Result<Vec<JsPiece>, NoMemory>
+    ensures { IfOk result (λ ps. ps.items ≡ map piece functions.items) }
+{
+    let mut pieces = Vec::new(alloc);
+    for function in functions {
+        let Function { piece, .. } = function;
+        pieces.push(piece)?;
+    }
+    Ok(pieces)
+}

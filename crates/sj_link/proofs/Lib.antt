@@ -1,4 +1,0 @@
-pub mod Increasing
-pub mod Printable
-pub mod TermLists
-pub mod Words

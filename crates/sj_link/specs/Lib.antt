@@ -1,3 +1,0 @@
-pub mod FirstForm
-pub mod Link
-pub mod Reached

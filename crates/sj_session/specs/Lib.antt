@@ -1,0 +1,4 @@
+pub mod Sessions
+pub mod Counts
+pub mod Editing
+pub mod Unbuilt

@@ -1,0 +1,59 @@
+-- Sessions, and what an edit makes of one.
+use Rattle.std.specs.Prelude.{◌≡◌, ℕ, false, List, [], Option, Some, None, Result, Ok, Err, length, map, ⊤}
+use Rattle.sj_agree.specs.Agrees.{Agrees}
+use Rattle.sj_names.specs.declared.counters.Meter.{Meter}
+use Rattle.sj_names.specs.declared.entry_points.EntryPoint.{EntryPoint}
+use Rattle.sj_names.specs.declared.folders.Folder.{Folder}
+use Rattle.sj_names.specs.declared.folders.SourceFile.{SourceFile}
+use Rattle.sj_split.specs.declared.plans.Style.TheVariants.{Fewest}
+use Rattle.sj_world.specs.Known.{Classes}
+use Rattle.folder_verdicts.specs.Verdicts.{accepted, refused}
+use Rattle.accepted_folders.specs.Accepted.{IsAccepted}
+use Rattle.linked_folders.specs.Link.{AreOfOne}
+use Rattle.linked_folders.specs.Edits.{IsEditVerdict, IsLinkOf, IsWork}
+use Rattle.folder_linking.specs.Modules.{as_file}
+use Rattle.folder_linking.specs.declared.files.ModuleFile.{ModuleFile}
+use Rattle.sj_session.specs.declared.options.Options.{Options}
+use Rattle.sj_session.specs.declared.answers.Report.{Report}
+use Rattle.folder_judging.specs.declared.errors.JudgeError.{JudgeError}
+use Rattle.folder_judging.specs.declared.errors.JudgeError.TheVariants.{Refused, NoMemory}
+
+-- what a session stands on, the folder that was accepted last, if one was, and its files
+pub record Standing : Type 0 where
+  pub entries : List EntryPoint
+  pub options : Options
+  pub present : Option Folder
+  pub files : List ModuleFile
+
+-- the options that are built
+pub record IsBuiltOption (options : Options) : Type 0 where
+  pub style : options.style ≡ Fewest
+  pub plain : options.optimize ≡ false
+
+-- the files are those that the present folder is linked to
+abbrev pub AreFilesOf : List EntryPoint → Option Folder → List ModuleFile → Type 0
+AreFilesOf entries None files = files ≡ []
+AreFilesOf entries (Some folder) files = IsLinkOf entries folder.files (map as_file files)
+
+-- the work that a report tells
+abbrev pub work_told : Report → Meter
+work_told r = record { read = r.read; checked = r.checked; optimised = r.optimised; emitted = r.emitted }
+
+-- the session takes the folder, which is accepted, and its files
+pub record IsTaken (old : Standing) (folder : Folder) (report : Report) (new : Standing) : Type 0 where
+  pub verdict : IsEditVerdict old.entries folder.files accepted
+  pub links : List ModuleFile
+  pub linked : IsLinkOf old.entries folder.files (map as_file links)
+  pub taken : new ≡ record old { present = Some folder; files = links }
+  pub modules : report.modules ≡ length links
+  pub work : IsWork old.entries folder.files (work_told report)
+
+-- what an edit answers and makes: it takes a folder that is accepted, and leaves the session as it was in any other case
+abbrev pub Edits : Standing → Folder → Result Report JudgeError → Standing → Type 0
+Edits old folder (Ok report) new = IsTaken old folder report new
+Edits old folder (Err (Refused code place)) new = IsEditVerdict old.entries folder.files (refused code place) × (new ≡ old)
+Edits old folder (Err NoMemory) new = new ≡ old
+
+-- the files show of the public module what the folder's classes show
+abbrev pub ShowTheSame : List EntryPoint → Folder → List ModuleFile → Type 0
+ShowTheSame entries folder files = (w : Classes) (id : List ℕ) → IsAccepted entries folder.files w → AreOfOne entries id → Agrees w entries (map as_file files) id

@@ -1,0 +1,42 @@
+// The lines of a run.
+ghost use Rattle.std.specs.Prelude.{◌≡◌, IfOk, string_bytes};
+ghost use Rattle.sj_session.specs.Sessions.{work_told};
+ghost use Rattle.sjslink.specs.Output as output;
+
+use sj_session::Report;
+use std::alloc::{AllocError, Global};
+
+/// The line of an edit that is accepted.
+pub fn accepted_line(alloc: Global, number: u32, report: &Report) -> Result<String, AllocError>
+    ensures { IfOk result (λ text. string_bytes text ≡ output.accepted_line number report.now.modules (work_told report.now)) }
+{
+    let Report {
+        modules,
+        read,
+        checked,
+        optimised,
+        emitted,
+    } = *report;
+    format!(in alloc;
+        "edit {number} ok modules={modules} read={read} checked={checked} optimised={optimised} emitted={emitted}\n"
+    )
+}
+
+/// The line of an edit that is refused.
+pub fn refused_line(
+    alloc: Global,
+    number: u32,
+    code: u8,
+    place: &str,
+) -> Result<String, AllocError>
+    ensures { IfOk result (λ text. string_bytes text ≡ output.refused_line number code place.now) }
+{
+    format!(in alloc; "edit {number} refused {code} {place}\n")
+}
+
+/// The line of an entries file that is bad.
+pub fn entries_line(alloc: Global, number: u32) -> Result<String, AllocError>
+    ensures { IfOk result (λ text. string_bytes text ≡ output.entries_line number) }
+{
+    format!(in alloc; "entries line {number}\n")
+}
