@@ -1,10 +1,8 @@
-//! Tests of the two programs over folders, files and lines in memory, and of the texts of listings.
+//! Tests of `sjsir` over folders, files and lines in memory, and of the texts of listings.
 //!
 //! They stand apart, since the tests of a crate are proved together with all of it once more.
 #![tactic(auto)]
 
-#[cfg(test)]
-mod linking;
 #[cfg(test)]
 mod listing_runs;
 #[cfg(test)]

@@ -1,0 +1,36 @@
+#!/usr/bin/env bash
+# Links three folders in one run: a program of four classes; the same with one class edited; and then with a class that isn't typed, which is
+# refused. Runs what the first two are linked to under node, or prints it where there is no node.
+set -euo pipefail
+cd "$(dirname "${BASH_SOURCE[0]}")"
+
+out="$(mktemp -d)"
+trap 'rm -rf "$out"' EXIT
+
+# make FROM INTO: makes the class files of the listings of a folder.
+make() {
+  mkdir -p "$2"
+  for listing in "$1"/*.listing; do
+    ../../sjsir.sh make "$listing" "$2/$(basename "$listing" .listing).sjsir"
+  done
+}
+
+make first "$out/classes-1"
+cp -R "$out/classes-1" "$out/classes-2"
+make second "$out/classes-2"
+cp -R "$out/classes-2" "$out/classes-3"
+make third "$out/classes-3"
+
+# The last folder is refused, so the run ends with status 1.
+status=0
+../../sjslink.sh link --optimize off entries "$out" "$out/classes-1" "$out/classes-2" "$out/classes-3" || status=$?
+[ "$status" = 1 ]
+
+for edit in 1 2; do
+  if command -v node > /dev/null; then
+    cp "$out/$edit/main.js" "$out/main-$edit.mjs"
+    node "$out/main-$edit.mjs"
+  else
+    cat "$out/$edit/main.js"
+  fi
+done
