@@ -1,5 +1,5 @@
 -- The members whose bodies are needed, and their functions.
-use Rattle.std.proofs.Common.{◌≡◌, ◌<◌, ◌+◌, ◌≤◌, ℕ, Bool, true, List, [], ◌∷◌, ◌++◌, ◌||◌, ◌⊎◌, inl, inr, Option, Some, None, refl, sym, ap, subst, ◌∙◌, map, take, length, slice_get, Contains, arith}
+use Rattle.std.proofs.Common.{◌≡◌, ◌<◌, ◌+◌, ◌≤◌, ℕ, Bool, true, false, List, [], ◌∷◌, ◌++◌, ◌||◌, ◌⊎◌, inl, inr, Option, Some, None, refl, sym, ap, subst, ◌∙◌, map, take, length, slice_get, Contains, arith}
 use Rattle.std.specs.Prelude.{IsSome, is_some}
 use Rattle.std.specs.List.{IsDistinct}
 use Rattle.std.proofs.lemmas.List.{take_more, take_all}
@@ -54,7 +54,7 @@ pub members_more : (facts : List Fact) (n : ℕ) (f : Fact) → slice_get facts 
 members_more facts n f at = ap members_of (more_taken facts n f at) ∙ members_append (take n facts) f
 
 some_of : (o : Option Term) → IsSome o → (t : Term) × (o ≡ Some t)
-some_of None h = absurd h
+some_of None h = let wrong : false ≡ true = h in cc
 some_of (Some t) h = (t, refl)
 
 same_definition : (w : Classes) (k : Member) (d e : MethodDef) → IsMethodOf w k d → IsMethodOf w k e → d ≡ e

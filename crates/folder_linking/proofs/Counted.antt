@@ -7,8 +7,14 @@ use Rattle.folder_judging.specs.Counts.{raised_by}
 use Rattle.folder_linking.specs.Counts.{with_emits, EmitsAtMost, Emits}
 
 raised_twice : (a b n : ℕ) → raised_by a (raised_by b n) ≡ raised_by (a + b) n
-raised_twice zero b n = refl
-raised_twice (suc a) b n = ap raised (raised_twice a b n)
+raised_twice zero b n = ap (λ (k : ℕ). raised_by k n) (same b)
+  where
+    same : (b : ℕ) → b ≡ 0 + b
+    same b = omega arith
+raised_twice (suc a) b n = ap raised (raised_twice a b n) ∙ ap (λ (k : ℕ). raised_by k n) (next a b)
+  where
+    next : (a b : ℕ) → suc (a + b) ≡ suc a + b
+    next a b = omega arith
 
 emits_twice : (a b : ℕ) (m : Meter) → with_emits a (with_emits b m) ≡ with_emits (a + b) m
 emits_twice a b m = ap (λ (n : ℕ). record m { emitted = n }) (raised_twice a b m.emitted)
@@ -33,3 +39,8 @@ emits_none most m = record { emits = 0; few = omega arith; counted = refl }
 -- so many are no more than more
 pub emits_weaker : (n most : ℕ) (old new : Meter) → n ≤ most → EmitsAtMost n old new → EmitsAtMost most old new
 emits_weaker n most old new l h = record { emits = h.emits; few = omega (arith, l, h.few); counted = h.counted }
+
+-- a call that emits one, whatever it answers
+pub emits_one : {A : Type 0} (r : Result A NoMemory) (old new : Meter) → new ≡ with_emits 1 old → Emits 1 r old new
+emits_one (Ok a) old new h = h
+emits_one (Err e) old new h = record { emits = 1; few = omega arith; counted = h }

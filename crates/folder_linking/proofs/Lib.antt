@@ -2,4 +2,4 @@ mod Bodies
 mod Counted
 pub mod Ordered
 pub mod Linked
-mod Modules
+mod Printed

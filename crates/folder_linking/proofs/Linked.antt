@@ -24,6 +24,8 @@ use Rattle.sj_world.specs.Known.{Classes}
 use Rattle.sj_world.specs.Linked.{Linked}
 use Rattle.sj_world.specs.declared.facts.Fact.{Fact}
 use Rattle.sj_world.specs.declared.facts.Fact.TheVariants as fact
+use Rattle.folder_verdicts.proofs.Defined.{needed_bodies}
+use Rattle.folder_verdicts.specs.Stages.{IsDefined, KeepRules}
 use Rattle.worklist.proofs.Inserted.{nothing_in}
 use Rattle.accepted_folders.specs.Bodies.{AreBodies}
 use Rattle.folder_judging.specs.Counts.{members_of, bodies_among}
@@ -153,6 +155,13 @@ bodies_many w entries facts all reached bodies =
     let to = no_more (map member_in all) (members_of facts) (own_differ all bodies.own) (λ k h. (let m = from_map member_in all k h in to_members facts k ((reached.exact (fact.Body k)).1 ((bodies.exact k).0 (record { method = m.item; listed = m.among; is = m.is }))))) in
     let back = no_more (members_of facts) (map member_in all) (distinct_differ (members_of facts) (members_distinct facts reached.once)) (λ k h. (let f = (bodies.exact k).1 ((reached.exact (fact.Body k)).0 (from_members facts k h)) in subst (Contains (map member_in all)) f.is (into_map member_in all f.method f.listed))) in
     omega (arith, to, back, length-map all member_in)
+
+-- each needed body is defined
+pub all_defined : (entries : List EntryPoint) (l : Linked) → IsLinkable entries l → (k : Member) → Contains (members_of l.facts) k → IsDefined l.world k
+all_defined entries l can k h = needed_bodies l.world entries keeps can.is_accepted.resolved k ((can.reached.exact (fact.Body k)).0 (from_members l.facts k h))
+  where
+    keeps : KeepRules l.world
+    keeps c among = can.is_accepted.kept c (Contains-permutation l.world can.is_accepted.classes c (IsPermutation-sym can.is_accepted.classes l.world can.is_accepted.world.sorted.same) among)
 
 module _ (entries : List EntryPoint) (l : Linked) (can : IsLinkable entries l) (fs : List Function) (are : AreInOrder l.world (members_of l.facts) fs) where
   each : (f : Function) → Contains fs f → IsFunction l.world f

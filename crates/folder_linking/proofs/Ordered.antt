@@ -115,7 +115,9 @@ module _ (w : Classes) where
   first_low x xs sorted y h = subst (λ (f : Function). is_before f x ≡ false) h.2 (sorted_far is_before ranks (x ∷ xs) sorted 0 (suc h.0) y (omega arith) (omega (arith, h.1)))
 
   rest_sorted : (x : Function) (xs : List Function) → IsSortedBy is_before (x ∷ xs) → IsSortedBy is_before xs
-  rest_sorted x xs sorted k d l = sorted (suc k) d (omega (arith, l))
+  rest_sorted x xs sorted k d low l =
+      let next : suc k + 1 ≡ suc (k + 1) = omega arith in
+      subst (λ (n : ℕ). is_before (get_or (x ∷ xs) n d) (get_or xs k d) ≡ false) next (sorted (suc k) d (omega arith) (omega (arith, l)))
 
   -- the methods of functions
   pub methods : (fs : List Function) → ((f : Function) → Contains fs f → IsFunction w f) → List EmittedMethod
@@ -129,6 +131,7 @@ module _ (w : Classes) where
     pub method_is : is.method ≡ e
 
   in_methods : (fs : List Function) (each : (f : Function) → Contains fs f → IsFunction w f) (e : EmittedMethod) → Contains (methods fs each) e → Made fs e
+  unfolding methods
   in_methods [] each e h = nothing_in e h
   in_methods (f ∷ fs) each e h = go (cons_cases (each f (at_first f fs)).method e (methods fs (λ g i. each g (further f g fs i))) h) (in_methods fs (λ g i. each g (further f g fs i)) e)
     where
@@ -141,6 +144,7 @@ module _ (w : Classes) where
   NamesTell es = (a b : EmittedMethod) → Contains es a → Contains es b → member_name a.member ≡ member_name b.member → a.member ≡ b.member
 
   pub methods_in_order : (fs : List Function) (each : (f : Function) → Contains fs f → IsFunction w f) → IsSortedBy is_before fs → HaveOwnMembers (methods fs each) → NamesTell (methods fs each) → AreInOrder w (methods fs each)
+  unfolding methods
   methods_in_order [] each sorted own tell = tt
   methods_in_order (f ∷ fs) each sorted own tell =
       let rest = λ (g : Function) (i : Contains fs g). each g (further f g fs i) in
@@ -149,6 +153,7 @@ module _ (w : Classes) where
 
   -- the members and the pieces of the methods are those of the functions
   pub members_are : (fs : List Function) (each : (f : Function) → Contains fs f → IsFunction w f) → map (λ (e : EmittedMethod). e.member) (methods fs each) ≡ map member_of fs
+  unfolding methods
   members_are [] each = refl
   members_are (f ∷ fs) each =
       let first : (each f (at_first f fs)).method.member ≡ member_of f = (each f (at_first f fs)).member_is in
@@ -156,6 +161,7 @@ module _ (w : Classes) where
       (λ i. first i ∷ rest i)
 
   pub pieces_are : (fs : List Function) (each : (f : Function) → Contains fs f → IsFunction w f) → map piece_of_method (methods fs each) ≡ map (λ (f : Function). piece_view f.piece) fs
+  unfolding methods
   pieces_are [] each = refl
   pieces_are (f ∷ fs) each =
       let first : piece_of_method (each f (at_first f fs)).method ≡ piece_view f.piece = sym (each f (at_first f fs)).piece_is in

@@ -65,7 +65,7 @@ fn pieces_in_order<W: Workers>(
 }
 
 fn pieces_of(alloc: Global, functions: Vec<Function<'_>>) -> Result<Vec<JsPiece>, NoMemory>
-    ensures { IfOk result (λ ps. ps.items ≡ map piece functions.items) }
+    ensures { IfOk result (λ ps. ps.items ≡ map piece functions.entry.items) }
 {
     let mut pieces = Vec::new(alloc);
     for function in functions {

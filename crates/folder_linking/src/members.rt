@@ -1,5 +1,5 @@
 // The members whose bodies are needed.
-ghost use Rattle.std.specs.Prelude.{◌≡◌, ◌++◌, IfOk, OnOk, map};
+ghost use Rattle.std.specs.Prelude.{◌≡◌, ◌++◌, ◌∷◌, [], IfOk, OnOk, map};
 ghost use Rattle.folder_judging.specs.Counts.{members_of};
 
 use sj_names::{Member, NoMemory};

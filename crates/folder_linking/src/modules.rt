@@ -62,10 +62,10 @@ fn module_text(alloc: Global, planned: &PlannedModule, pieces: &[JsPiece]) -> Re
     Ok(Bytes::from_vec(bytes))
 }
 
-fn file_name(alloc: Global, module: &str) -> Result<Text, NoMemory>
-    ensures { IfOk result (λ t. t ≡ module.now ++ codes ".js") }
+fn file_name(alloc: Global, name: &str) -> Result<Text, NoMemory>
+    ensures { IfOk result (λ t. t ≡ name.now ++ codes ".js") }
 {
-    let text = format!(in alloc; "{module}.js")?;
+    let text = format!(in alloc; "{name}.js")?;
     Ok(Text::from_string(text)?)
 }
 

@@ -1,6 +1,7 @@
 -- The modules of a plan, made of pieces.
-use Rattle.std.proofs.Common.{◌≡◌, ◌↔◌, ◌+◌, ◌≤◌, ℕ, Bool, true, false, List, [], ◌∷◌, ◌++◌, ◌⊎◌, inl, inr, Some, refl, sym, ap, subst, ◌∙◌, map, take, length, slice_get, Contains, cond, if◌then◌else◌}
+use Rattle.std.proofs.Common.{◌≡◌, ◌↔◌, ◌+◌, ◌≤◌, ℕ, Bool, true, false, List, [], ◌∷◌, ◌++◌, ◌⊎◌, inl, inr, Some, refl, sym, ap, subst, ◌∙◌, map, take, drop, length, slice_get, Contains, cond, if◌then◌else◌, Global}
 use Rattle.std.specs.Prelude.{filter}
+use Rattle.std.proofs.Math.ListN.{drop_of_length-le}
 use Rattle.std.specs.List.{All, list_any, list_all}
 use Rattle.std.specs.List.Sorted.{IsPermutation}
 use Rattle.std.proofs.lemmas.Bool.{and_from}
@@ -12,6 +13,9 @@ use Rattle.js_mean.specs.Shows.{File}
 use Rattle.js_tree.specs.Rules.{IsName, IsImport, IsItem, IsPiece, IsModule}
 use Rattle.js_tree.specs.Terms.{Item, Piece, Module}
 use Rattle.js_tree.specs.Spelling.{Spells}
+use Rattle.js_tree.specs.Views.{item_view}
+use Rattle.js_tree.specs.declared.items.JsItem.{JsItem}
+use Rattle.std.specs.declared.rc.Rc.{Rc}
 use Rattle.module_names.specs.Names.{Key, sha1_digest, names_of}
 use Rattle.sj_calls.specs.Files.{EmittedMethod, piece_of_method, function_item_of, call_item_of, initializer_member, module_with}
 use Rattle.sj_graph.specs.References.{IsGraph}
@@ -58,6 +62,10 @@ set_has keys names made name = same_test (list_any (is_same name) keys) (list_an
     back : list_any (is_same name) names ≡ true → list_any (is_same name) keys ≡ true
     back h = (among keys name).1 (subst (λ (l : List Name). Contains l name) (sym made) (each-insert_all is_same text-same [] names name ((among names name).0 h)))
 
+-- where all names were put
+pub all_put : (keys names : List Name) (n : ℕ) → length names ≤ n → insert_all is_same keys (drop n names) ≡ insert_all is_same [] names → keys ≡ insert_all is_same [] names
+all_put keys names n over h = sym (ap (insert_all is_same keys) (drop_of_length-le names over)) ∙ h
+
 -- the items of the owned pieces among more
 abbrev owned_items : List Name → List Piece → List Item
 owned_items classes ps = map item_of (filter (is_owned classes) ps)
@@ -75,12 +83,29 @@ pub append_nil : {X : Type 0} (xs : List X) → xs ++ [] ≡ xs
 append_nil [] = refl
 append_nil (x ∷ xs) = ap (λ ys. x ∷ ys) (append_nil xs)
 
+pub with_owned : {X : Type 0} (view : X → Piece) (classes : List Name) (ps : List X) (n : ℕ) (p : X) (old new : List Item) → slice_get ps n ≡ Some p → is_owned classes (view p) ≡ true → old ≡ owned_items classes (map view (take n ps)) → new ≡ old ++ (view p).item ∷ [] → new ≡ owned_items classes (map view (take (n + 1) ps))
+with_owned view classes ps n p old new at is h made = made ∙ ap (λ (l : List Item). l ++ (view p).item ∷ []) h ∙ sym (ap (λ (l : List Item). owned_items classes (map view (take n ps)) ++ l) (owned_one classes (view p) is)) ∙ sym (more_items view classes ps n p at)
+
+pub without_owned : {X : Type 0} (view : X → Piece) (classes : List Name) (ps : List X) (n : ℕ) (p : X) (old : List Item) → slice_get ps n ≡ Some p → is_owned classes (view p) ≡ false → old ≡ owned_items classes (map view (take n ps)) → old ≡ owned_items classes (map view (take (n + 1) ps))
+without_owned view classes ps n p old at is h = h ∙ sym (append_nil (owned_items classes (map view (take n ps)))) ∙ sym (ap (λ (l : List Item). owned_items classes (map view (take n ps)) ++ l) (owned_none classes (view p) is)) ∙ sym (more_items view classes ps n p at)
+
+-- the items that code holds, as terms
+abbrev pub views : List (Rc JsItem Global) → List Item
+views items = map (λ i. item_view i.value) items
+
+pub views_push : (items : List (Rc JsItem Global)) (item : Rc JsItem Global) → views (items ++ item ∷ []) ≡ views items ++ item_view item.value ∷ []
+views_push items item = map-append (λ i. item_view i.value) items (item ∷ [])
+
 -- one module and its file behind others
 pub printed_more : (ps : List Piece) (ms : List PlannedModule) (fs : List ModuleFile) (m : PlannedModule) (f : ModuleFile) → ArePrinted ps ms fs → IsPrinted ps m f → ArePrinted ps (ms ++ m ∷ []) (fs ++ f ∷ [])
 printed_more ps [] [] m f are is = (is, tt)
 printed_more ps [] (g ∷ fs) m f are is = absurd are
 printed_more ps (n ∷ ms) [] m f are is = absurd are
 printed_more ps (n ∷ ms) (g ∷ fs) m f are is = (are.0, printed_more ps ms fs m f are.1 is)
+
+-- the same of the first modules and their files
+pub first_printed : (ps : List Piece) (ms : List PlannedModule) (n : ℕ) (m : PlannedModule) (old new : List ModuleFile) (f : ModuleFile) → slice_get ms n ≡ Some m → new ≡ old ++ f ∷ [] → ArePrinted ps (take n ms) old → IsPrinted ps m f → ArePrinted ps (take (n + 1) ms) new
+first_printed ps ms n m old new f at made are is = subst (λ (fs : List ModuleFile). ArePrinted ps (take (n + 1) ms) fs) (sym made) (subst (λ (l : List PlannedModule). ArePrinted ps l (old ++ f ∷ [])) (sym (more_taken ms n m at)) (printed_more ps (take n ms) old m f are is))
 
 -- what is chosen of a list
 module _ (test : EmittedMethod → Bool) where
@@ -183,7 +208,7 @@ module _ (w : Classes) (entries : List EntryPoint) (pieces : List Piece) (are : 
 
 -- a module of owned pieces and calls keeps the rules
 pub module_keeps : (planned : PlannedModule) (pieces : List Piece) → All IsPiece pieces → All IsItem (map call_item_of planned.initializers) → IsModule (module_of planned pieces)
-module_keeps planned pieces rules calls = (All-nil IsImport, (All-append IsItem (owned_items planned.classes pieces) (map call_item_of planned.initializers) (items pieces rules) calls, All-nil IsName))
+module_keeps planned pieces rules calls = (All-nil IsImport, All-append IsItem (owned_items planned.classes pieces) (map call_item_of planned.initializers) (items pieces rules) calls, All-nil IsName)
   where
     items : (ps : List Piece) → All IsPiece ps → All IsItem (owned_items planned.classes ps)
     items [] h = All-nil IsItem
