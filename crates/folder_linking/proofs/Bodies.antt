@@ -1,28 +1,22 @@
 -- The members whose bodies are needed, and their functions.
-use Rattle.std.proofs.Common.{◌≡◌, ◌<◌, ◌+◌, ◌≤◌, ℕ, Bool, true, false, List, [], ◌∷◌, ◌++◌, ◌||◌, ◌⊎◌, inl, inr, Option, Some, None, refl, sym, ap, subst, ◌∙◌, map, take, length, slice_get, Contains, arith}
+use Rattle.std.proofs.Common.{◌≡◌, ◌+◌, ◌≤◌, ℕ, true, false, List, [], ◌∷◌, ◌++◌, ◌||◌, ◌⊎◌, inl, inr, Option, Some, None, refl, sym, ap, subst, ◌∙◌, map, take, length, slice_get, Contains}
 use Rattle.std.specs.Prelude.{IsSome, is_some}
-use Rattle.std.specs.List.{IsDistinct}
 use Rattle.std.proofs.lemmas.List.{take_more, take_all}
 use Rattle.std.proofs.lemmas.Option.{slice_get_within, get_or_from_slice_get}
 use Rattle.std.proofs.lemmas.List.Elements.{Contains-push_cases}
-use Rattle.ir_mean.specs.World as ir
 use Rattle.js_tree.specs.Rules.{IsPiece}
 use Rattle.js_tree.specs.Views.{piece_view}
-use Rattle.js_tree.specs.declared.items.JsPiece.{JsPiece}
-use Rattle.sj_calls.specs.Files.{EmittedMethod, piece_of_method}
-use Rattle.sj_desugar.specs.Desugar.{desugared}
 use Rattle.sj_desugarer.specs.Methods.{method_desugared, desugared_with}
 use Rattle.sj_emit_expr.specs.Pieces.{piece_of}
 use Rattle.sj_names.specs.declared.method_names.Member.{Member}
 use Rattle.sj_trees.specs.Term.{Term}
 use Rattle.sj_trees.specs.declared.classes.MethodDef.{MethodDef}
-use Rattle.sj_world.specs.Known.{Name, Classes, class_of, is_known, is_hijacked}
+use Rattle.sj_world.specs.Known.{Classes, is_known, is_hijacked}
 use Rattle.sj_world.specs.Members.{IsMethodOf}
 use Rattle.sj_world.specs.declared.facts.Fact.{Fact}
 use Rattle.sj_world.specs.declared.facts.Fact.TheVariants as fact
 use Rattle.worklist.proofs.Inserted.{nothing_in}
 use Rattle.accepted_folders.proofs.Members.{found-member}
-use Rattle.accepted_folders.specs.Bodies.{IsFound}
 use Rattle.folder_judging.specs.Counts.{members_of}
 use Rattle.folder_verdicts.specs.Stages.{IsDefined}
 use Rattle.folder_linking.specs.declared.functions.Function.{Function}

@@ -1,5 +1,5 @@
 -- What is counted while functions are emitted, one after the other.
-use Rattle.std.proofs.Common.{◌≡◌, ◌≤◌, ◌<◌, ◌+◌, ℕ, suc, zero, Result, Ok, Err, refl, sym, ap, subst, ◌∙◌, arith}
+use Rattle.std.proofs.Common.{◌≡◌, ◌≤◌, ◌<◌, ◌+◌, ℕ, suc, zero, Result, Ok, Err, refl, ap, ◌∙◌, arith}
 use Rattle.sj_names.specs.Counting.{raised}
 use Rattle.sj_names.specs.declared.counters.Meter.{Meter}
 use Rattle.sj_names.specs.declared.memory.NoMemory.{NoMemory}

@@ -1,6 +1,5 @@
 -- A folder is linked: its pieces are those of all needed bodies, and its files those of the plan.
-use Rattle.std.proofs.Common.{◌≡◌, ◌↔◌, ◌≤◌, ◌<◌, ℕ, zero, suc, Bool, true, false, List, [], ◌∷◌, ◌++◌, ◌⊎◌, inl, inr, Some, refl, sym, ap, subst, ◌∙◌, map, length, Contains, slice_get, arith}
-use Rattle.std.specs.Prelude.{filter}
+use Rattle.std.proofs.Common.{◌≡◌, ◌↔◌, ℕ, suc, Bool, true, false, List, [], ◌∷◌, ◌⊎◌, inl, inr, Some, refl, sym, ap, subst, ◌∙◌, map, length, Contains, arith}
 use Rattle.std.specs.List.{All, AllByRecursion, IsDistinct}
 use Rattle.std.specs.List.Sorted.{IsPermutation}
 use Rattle.std.proofs.lemmas.List.{length-map}
@@ -11,7 +10,7 @@ use Rattle.js_tree.specs.Rules.{IsPiece}
 use Rattle.js_tree.specs.Terms.{Piece}
 use Rattle.js_tree.specs.Views.{piece_view}
 use Rattle.js_tree.specs.declared.items.JsPiece.{JsPiece}
-use Rattle.sj_calls.specs.Files.{EmittedMethod, HasFunction, piece_of_method}
+use Rattle.sj_calls.specs.Files.{EmittedMethod, HasFunction}
 use Rattle.sj_names.proofs.Equal.{member_decides}
 use Rattle.sj_names.specs.contracts.method_names.MemberPartialEq.TheImpl as member_eq
 use Rattle.sj_names.specs.declared.entry_points.EntryPoint.{EntryPoint}
@@ -32,7 +31,7 @@ use Rattle.folder_judging.specs.Counts.{members_of, bodies_among}
 use Rattle.linked_folders.proofs.Edits.{Differ, no_more}
 use Rattle.linked_folders.proofs.Names.{names_tell}
 use Rattle.folder_linking.specs.declared.functions.Function.{Function}
-use Rattle.folder_linking.specs.Functions.{IsFunction, AreFunctions, AreInOrder, member_of, piece}
+use Rattle.folder_linking.specs.Functions.{IsFunction, AreInOrder, member_of, piece}
 use Rattle.folder_linking.specs.Linking.{IsLinkable, ArePieces}
 use Rattle.folder_linking.proofs.Ordered.{methods, methods_in_order, members_are, pieces_are, methods_found, pieces_keep}
 

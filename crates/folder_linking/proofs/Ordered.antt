@@ -1,5 +1,5 @@
 -- Functions that are sorted stand in the order of a module.
-use Rattle.std.proofs.Common.{◌≡◌, ◌<◌, ◌≤◌, ◌+◌, ℕ, zero, suc, Bool, true, false, List, [], ◌∷◌, ◌⊎◌, inl, inr, Some, refl, sym, ap, subst, ◌∙◌, map, length, Contains, slice_get, arith}
+use Rattle.std.proofs.Common.{◌≡◌, ◌<◌, ◌+◌, ℕ, suc, false, List, [], ◌∷◌, ◌⊎◌, inl, inr, refl, sym, ap, subst, ◌∙◌, map, Contains, arith}
 use Rattle.std.specs.Cmp.{IsTotalOrder, IsStrictWeakOrder, nat_cmp_is}
 use Rattle.std.specs.Cmp.Lexicographic.{slice_cmp, nat_list_cmp_total}
 use Rattle.std.specs.List.Sorted.{IsSortedBy}
@@ -16,18 +16,16 @@ use Rattle.js_tree.specs.Rules.{IsPiece}
 use Rattle.js_tree.specs.Views.{piece_view}
 use Rattle.sj_calls.specs.Files.{EmittedMethod, piece_of_method}
 use Rattle.sj_emit_expr.specs.Templates.{member_name}
-use Rattle.sj_names.specs.declared.method_names.Member.{Member}
 use Rattle.sj_proper.specs.Program.{HaveOwnMembers}
 use Rattle.sj_split.proofs.Members.{at_first, further, cons_cases}
 use Rattle.sj_world.proofs.Orders.{same_name, same_compared}
 use Rattle.sj_world.specs.Known.{Name, Classes}
-use Rattle.sj_world.specs.Tables.{AreAncestors}
 use Rattle.worklist.proofs.Inserted.{nothing_in}
 use Rattle.accepted_folders.specs.Bodies.{IsFound}
 use Rattle.folder_verdicts.proofs.Firsts.{in_order}
 use Rattle.linked_folders.specs.Link.{StandsBefore, by_ancestors, by_class, by_name, AreInOrder}
 use Rattle.folder_linking.specs.declared.functions.Function.{Function}
-use Rattle.folder_linking.specs.Functions.{HasAncestors, IsFunction, member_of, order, is_before}
+use Rattle.folder_linking.specs.Functions.{IsFunction, member_of, order, is_before}
 
 abbrev text_cmp : Name → Name → Ordering
 text_cmp = slice_cmp nat_cmp

@@ -1,15 +1,13 @@
 -- The modules of a plan, made of pieces.
-use Rattle.std.proofs.Common.{◌≡◌, ◌↔◌, ◌+◌, ◌≤◌, ℕ, Bool, true, false, List, [], ◌∷◌, ◌++◌, ◌⊎◌, inl, inr, Some, refl, sym, ap, subst, ◌∙◌, map, take, drop, length, slice_get, Contains, cond, if◌then◌else◌, Global}
+use Rattle.std.proofs.Common.{◌≡◌, ◌+◌, ◌≤◌, ℕ, Bool, true, false, List, [], ◌∷◌, ◌++◌, ◌⊎◌, inl, inr, Some, refl, sym, ap, subst, ◌∙◌, map, take, drop, length, slice_get, Contains, cond, if◌then◌else◌, Global}
 use Rattle.std.specs.Prelude.{filter}
 use Rattle.std.proofs.Math.ListN.{drop_of_length-le}
-use Rattle.std.specs.List.{All, list_any, list_all}
-use Rattle.std.specs.List.Sorted.{IsPermutation}
+use Rattle.std.specs.List.{All, list_any}
 use Rattle.std.proofs.lemmas.Bool.{and_from}
-use Rattle.std.proofs.lemmas.List.{map-append, take_all}
-use Rattle.std.proofs.lemmas.List.Elements.{All-nil, All-cons, All-head, All-tail, All-append, All-contains, Contains-append_left, Contains-append_right, Contains-append_cases, filter-append}
+use Rattle.std.proofs.lemmas.List.{map-append}
+use Rattle.std.proofs.lemmas.List.Elements.{All-nil, All-cons, All-head, All-tail, All-append, All-contains, Contains-append_right, Contains-append_cases, filter-append}
 use Rattle.std.proofs.lemmas.List.Sorted.{Contains-permutation, IsPermutation-sym}
 use Rattle.indexmap.specs.IndexSet.{insert_all}
-use Rattle.js_mean.specs.Shows.{File}
 use Rattle.js_tree.specs.Rules.{IsName, IsImport, IsItem, IsPiece, IsModule}
 use Rattle.js_tree.specs.Terms.{Item, Piece, Module}
 use Rattle.js_tree.specs.Spelling.{Spells}
@@ -24,8 +22,8 @@ use Rattle.sj_judged.proofs.Written.{modules_keep}
 use Rattle.sj_names.specs.declared.entry_points.EntryPoint.{EntryPoint}
 use Rattle.sj_proper.specs.Program.{HaveOwnMembers}
 use Rattle.sj_sound.specs.Linked.{has_function, have_functions}
-use Rattle.sj_split.proofs.Members.{at_first, further, cons_cases, into_map, from_map, Mapped, into_filter, from_filter}
-use Rattle.sj_split.specs.Modules.{IsPlan, public_module, with_piece, has_piece, internal_modules, initializers_of, file, is_among, classes_at, is_internal}
+use Rattle.sj_split.proofs.Members.{at_first, further, cons_cases, from_map, Mapped, into_filter, from_filter}
+use Rattle.sj_split.specs.Modules.{IsPlan, public_module, with_piece, has_piece, internal_modules, is_among, classes_at, is_internal}
 use Rattle.sj_split.specs.Orders.{Bytes, is_same}
 use Rattle.sj_split.specs.declared.homes.Settled.{Settled}
 use Rattle.sj_split.specs.declared.plans.PlannedModule.{PlannedModule}
@@ -35,8 +33,7 @@ use Rattle.sj_world.specs.Known.{Name, Classes}
 use Rattle.worklist.proofs.Inserted.{nothing_in, from-insert_all, each-insert_all}
 use Rattle.sj_names.proofs.Same.{text-same}
 use Rattle.accepted_folders.proofs.Calls.{entry}
-use Rattle.accepted_folders.specs.Bodies.{AreBodies}
-use Rattle.linked_folders.specs.Link.{AreInOrder, AreFunctionsOf, IsFileOf, AreFilesOf, IsLink}
+use Rattle.linked_folders.specs.Link.{AreInOrder, IsFileOf, AreFilesOf, IsLink}
 use Rattle.folder_linking.specs.declared.files.ModuleFile.{ModuleFile}
 use Rattle.folder_linking.specs.Linking.{ArePieces}
 use Rattle.folder_linking.specs.Modules.{item_of, is_owned, module_of, IsPrinted, ArePrinted, KeepRules, as_file}

@@ -16,7 +16,10 @@ use indexmap::IndexSet;
 use js_print::print_module;
 use js_tree::{JsExpr, JsItem, JsModule, JsPiece};
 use sj_mangling::function_name;
-use sj_names::{Bytes, ClassName, EntryPoint, Items, Member, MethodName, Namespace, NoMemory, Shared, Text, TypeRef};
+use sj_names::{
+    Bytes, ClassName, EntryPoint, Items, Member, MethodName, Namespace, NoMemory, Shared, Text,
+    TypeRef,
+};
 use sj_split::PlannedModule;
 use std::alloc::Global;
 use std::rc::Rc;
@@ -52,7 +55,11 @@ fn printed_file(
     Ok(ModuleFile { name, bytes })
 }
 
-fn module_text(alloc: Global, planned: &PlannedModule, pieces: &[JsPiece]) -> Result<Bytes, NoMemory>
+fn module_text(
+    alloc: Global,
+    planned: &PlannedModule,
+    pieces: &[JsPiece],
+) -> Result<Bytes, NoMemory>
     requires pieces { All IsPiece (map piece_view pieces.now) }
     requires calls { All IsItem (map call_item_of planned.now.initializers) }
     ensures { IfOk result (λ b. Spells (modules.module_of planned.now (map piece_view pieces.now)) b) }

@@ -1,4 +1,4 @@
-use Rattle.std.proofs.Common.{◌+◌, ◌∙◌, Some, ap, arith, length, map, refl, sym, subst}
+use Rattle.std.proofs.Common.{◌+◌, ◌∙◌, ap, arith, length, map, refl, sym, subst}
 use Rattle.std.specs.Prelude.{option_map}
 use Rattle.std.proofs.lemmas.Option.{slice_get-map, slice_get_read}
 use Rattle.std.proofs.lemmas.Result.{err_from_is_err_and}

@@ -1,4 +1,4 @@
-use Rattle.std.proofs.Common.{◌+◌, arith, map, refl, take}
+use Rattle.std.proofs.Common.{arith, map, refl}
 use Rattle.std.proofs.lemmas.Option.{slice_get_read}
 use Rattle.js_tree.specs.Views.{piece_view}
 use Rattle.folder_linking.proofs.Printed.{first_printed}
