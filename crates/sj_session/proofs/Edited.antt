@@ -1,14 +1,11 @@
 -- What is made of a folder that is judged.
-use Rattle.std.proofs.Common.{◌≡◌, ◌≤◌, ◌+◌, ℕ, List, [], ◌∷◌, Result, Ok, Err, refl, sym, ap, subst, ◌∙◌, map, length, Contains, arith}
-use Rattle.std.specs.Prelude.{codes}
-use Rattle.std.specs.List.{All}
+use Rattle.std.proofs.Common.{◌≡◌, ℕ, Bool, true, false, List, Ok, Err, refl, sym, ap, subst, ◌∙◌, map, length, arith}
+use Rattle.std.specs.Prelude.{IsTrue, ◌↔◌, codes}
 use Rattle.std.proofs.lemmas.List.{length-map}
-use Rattle.js_mean.specs.Shows.{File}
 use Rattle.sj_agree.specs.Agrees.{Agrees}
 use Rattle.sj_names.specs.declared.counters.Meter.{Meter}
 use Rattle.sj_names.specs.declared.entry_points.EntryPoint.{EntryPoint}
 use Rattle.sj_names.specs.declared.folders.SourceFile.{SourceFile}
-use Rattle.sj_names.specs.declared.memory.NoMemory.{NoMemory}
 use Rattle.sj_reach.specs.Answers.{AreReachable}
 use Rattle.sj_world.specs.Known.{Classes}
 use Rattle.sj_world.specs.Linked.{Linked}
@@ -17,7 +14,7 @@ use Rattle.accepted_folders.specs.Accepted.{IsAccepted}
 use Rattle.folder_verdicts.specs.Verdicts.{Verdict, accepted, refused, IsVerdict}
 use Rattle.folder_judging.specs.Counts.{Counts, bodies_among, with_reads, with_checks, ChecksAtMost}
 use Rattle.folder_judging.specs.Counts as judging
-use Rattle.folder_judging.specs.Judging.{Judges, IsLinkedFolder, AreFactsIn}
+use Rattle.folder_judging.specs.Judging.{IsLinkedFolder, AreFactsIn}
 use Rattle.folder_judging.specs.Reading.{HaveBytes}
 use Rattle.folder_judging.specs.Refusals.{IsRefusal}
 use Rattle.folder_judging.specs.declared.errors.JudgeError.{JudgeError}
@@ -25,10 +22,10 @@ use Rattle.folder_judging.specs.declared.errors.JudgeError.TheVariants as judged
 use Rattle.linked_folders.proofs.Edits.{same_world, world_is}
 use Rattle.linked_folders.proofs.Links.{agree}
 use Rattle.linked_folders.proofs.Planned.{one_file}
-use Rattle.linked_folders.specs.Edits.{AreBuilt, HaveOneModule, IsEditVerdict, by_folder, several, unbuilt, built, IsLinkOf, IsWork}
-use Rattle.linked_folders.specs.Link.{IsLink, AreOfOne}
+use Rattle.linked_folders.specs.Edits.{AreBuilt, HaveOneModule, IsEditVerdict, by_folder, several, unbuilt, built}
+use Rattle.linked_folders.specs.Link.{IsLink}
 use Rattle.folder_linking.proofs.Linked.{bodies_many}
-use Rattle.folder_linking.specs.Counts.{with_emits, EmitsAtMost, Emits}
+use Rattle.folder_linking.specs.Counts.{with_emits, EmitsAtMost}
 use Rattle.folder_linking.specs.Linking.{IsLinkable}
 use Rattle.folder_linking.specs.Modules.{as_file}
 use Rattle.folder_linking.specs.declared.files.ModuleFile.{ModuleFile}
@@ -44,14 +41,24 @@ pub by_judge : (entries : List EntryPoint) (files : List SourceFile) (e : JudgeE
 by_judge entries files (judged.Refused code place) h = by_folder code place h
 by_judge entries files judged.NoMemory h = tt
 
+-- entries of several public modules are refused
+pub several_modules : (w : Classes) (entries : List EntryPoint) (b : Bool) (place : List ℕ) → IsTrue b ↔ HaveOneModule entries → b ≡ false → place ≡ codes "entries" → IsRefusedUnbuilt w entries (refused 21 place)
+several_modules w entries b place is e told = subst (λ (p : List ℕ). IsRefusedUnbuilt w entries (refused 21 p)) (sym told) (editing.several (λ has. wrong (is.1 has) e))
+  where
+    wrong : b ≡ true → b ≡ false → ⊥
+    wrong t f = cc
+
 -- what was counted by the judge where it refused
 pub counts_refused : (entries : List EntryPoint) (files : List SourceFile) (e : JudgeError) (old new : Meter) → Counts files (AreFactsIn entries files) (Err e) old new → counts.CountsEdit entries files (Err e) old new
 counts_refused entries files (judged.Refused code place) old new h = let c = h.checked.0 in record { reads = h.reads; checks = c.checks; few_reads = h.whole; few_checks = c.most; counted = c.counted ∙ ap (with_checks c.checks) refl }
 counts_refused entries files judged.NoMemory old new h = let c = h.checked in record { reads = h.reads; checks = c.checks; emits = 0; few_reads = h.whole; few_checks = c.most; few_emits = counts.none; counted = c.counted }
 
-module _ (entries : List EntryPoint) (files : List SourceFile) (l : Linked) (verdict : IsVerdict entries files accepted) (known : IsLinkedFolder entries files l) (bytes : HaveBytes files) where
+module _ (entries : List EntryPoint) (files : List SourceFile) (l : Linked) (judge : IsVerdict entries files accepted × IsLinkedFolder entries files l) (bytes : HaveBytes files) where
+  known : IsLinkedFolder entries files l
+  known = judge.1
+
   pub world_accepted : IsAccepted entries files l.world
-  world_accepted = let h = (have_worlds entries files).0 verdict in subst (IsAccepted entries files) (world_is entries files known.classes h.0 l.world h.1 known.read known.linked.world) h.1
+  world_accepted = let h = (have_worlds entries files).0 judge.0 in subst (IsAccepted entries files) (world_is entries files known.classes h.0 l.world h.1 known.read known.linked.world) h.1
 
   pub reached : AreReachable l.world entries l.facts
   reached = known.linked.linked.reached
@@ -71,12 +78,12 @@ module _ (entries : List EntryPoint) (files : List SourceFile) (l : Linked) (ver
   by_built (judged.Refused code place) h = go (refused code place) h
     where
       go : (v : Verdict) → IsRefusedUnbuilt l.world entries v → IsEditVerdict entries files v
-      go _ (editing.several none) = several verdict none
+      go _ (editing.several none) = several judge.0 none
       go _ (editing.unbuilt spelled one least) = unbuilt l.world spelled world_accepted one least
   by_built judged.NoMemory h = tt
 
-  pub linkable : AreBuilt l.world entries → IsLinkable entries l
-  linkable all = record { files = files; are_bytes = bytes; is_accepted = world_accepted; reached = reached; built = all }
+  pub linkable : HaveOneModule entries × AreBuilt l.world entries → IsLinkable entries l
+  linkable forms = record { files = files; are_bytes = bytes; is_accepted = world_accepted; reached = reached; built = forms.1 }
 
   all_checked : ChecksAtMost (AreFactsIn entries files) (bodies_among l.facts)
   all_checked = judging.bodies l.facts (bodies_among l.facts) facts_in (omega arith)
@@ -89,9 +96,9 @@ module _ (entries : List EntryPoint) (files : List SourceFile) (l : Linked) (ver
   judged_all : (old new : Meter) → Counts files (AreFactsIn entries files) (Ok l) old new → new ≡ with_checks (bodies_among l.facts) (with_reads (length files) old)
   judged_all old new h = h.checked ∙ ap (λ (n : ℕ). with_checks (bodies_among l.facts) (with_reads n old)) h.whole
 
-  module _ (has : HaveOneModule entries) (all : AreBuilt l.world entries) where
+  module _ (forms : HaveOneModule entries × AreBuilt l.world entries) where
     is_built : IsEditVerdict entries files accepted
-    is_built = built l.world world_accepted has all
+    is_built = built l.world world_accepted forms.0 forms.1
 
     -- and where no memory was left while its functions were emitted
     pub counts_unlinked : (old middle new : Meter) → Counts files (AreFactsIn entries files) (Ok l) old middle → EmitsAtMost (bodies_among l.facts) middle new → counts.CountsSome entries files old new
@@ -107,7 +114,7 @@ module _ (entries : List EntryPoint) (files : List SourceFile) (l : Linked) (ver
 
     module _ (links : List ModuleFile) (link : IsLink l.world entries (map as_file links)) where
       pub one_link : length links ≡ 1
-      one_link = let f = one_file l.world entries has.0 (map as_file links) has.1 link in sym (length-map links as_file) ∙ ap length f.1
+      one_link = let f = one_file l.world entries forms.0.0 (map as_file links) forms.0.1 link in sym (length-map links as_file) ∙ ap length f.1
 
       pub edited : (edit : Edit) → edit.files.items ≡ links → edit.report ≡ record { modules = length links; read = length files; checked = bodies_among l.facts; optimised = 0; emitted = bodies_among l.facts } → IsEdit entries files edit
       edited edit made told = record {
@@ -121,7 +128,7 @@ module _ (entries : List EntryPoint) (files : List SourceFile) (l : Linked) (ver
           bodies = link.bodies;
           is = ap work_told told ∙ ap (λ (n : ℕ). record { read = length files; checked = n; optimised = 0; emitted = n }) (sym (bodies_many l.world entries l.facts link.all reached link.bodies));
         };
-        agrees = λ w id a one. subst (λ (u : Classes). Agrees u entries (map as_file edit.files.items) id) (same_world entries files l.world w world_accepted a) (agree entries files l.world id (map as_file edit.files.items) bytes world_accepted one all moved);
+        agrees = λ w id a one. subst (λ (u : Classes). Agrees u entries (map as_file edit.files.items) id) (same_world entries files l.world w world_accepted a) (agree entries files l.world id (map as_file edit.files.items) bytes world_accepted one forms.1 moved);
       }
         where
           moved : IsLink l.world entries (map as_file edit.files.items)

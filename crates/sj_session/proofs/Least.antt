@@ -1,14 +1,15 @@
 -- The least body that isn't built.
-use Rattle.std.proofs.Common.{◌≡◌, ◌≤◌, ◌+◌, ℕ, Bool, true, false, List, [], ◌∷◌, ◌++◌, ◌⊎◌, inl, inr, Option, Some, None, refl, sym, ap, subst, ◌∙◌, take, length, slice_get, Contains, if◌then◌else◌}
-use Rattle.std.specs.Prelude.{IsTrue, nat_eq, ◌&&◌, not, ◌↔◌}
+use Rattle.std.proofs.Common.{◌≡◌, ◌≤◌, ◌<◌, ◌+◌, ℕ, Bool, true, false, List, [], ◌∷◌, ◌++◌, ◌⊎◌, inl, inr, Option, Some, None, Result, Ok, Err, refl, sym, ap, subst, ◌∙◌, take, length, slice_get, get_or, Contains, if◌then◌else◌, arith}
+use Rattle.std.specs.Prelude.{IfOk, IsTrue, nat_eq, not, ◌↔◌}
 use Rattle.std.specs.Cmp.Lexicographic.{pointwise}
 use Rattle.std.specs.List.{list_all}
 use Rattle.std.proofs.lemmas.Bool.{and_from}
 use Rattle.std.proofs.lemmas.List.{take_more, take_all}
 use Rattle.std.proofs.lemmas.List.Elements.{Contains-append_left, Contains-push, Contains-push_cases}
-use Rattle.std.proofs.lemmas.Option.{slice_get_within, get_or_from_slice_get}
+use Rattle.std.proofs.lemmas.Option.{slice_get_within, slice_get_read, get_or_from_slice_get}
 use Rattle.sj_names.proofs.Same.{text-same, text-refl}
 use Rattle.sj_names.specs.declared.entry_points.EntryPoint.{EntryPoint}
+use Rattle.sj_names.specs.declared.memory.NoMemory.{NoMemory}
 use Rattle.sj_names.specs.declared.method_names.Member.{Member}
 use Rattle.sj_trees.specs.declared.classes.MethodDef.{MethodDef}
 use Rattle.sj_reach.specs.Answers.{AreReachable}
@@ -16,17 +17,17 @@ use Rattle.reach_rules.specs.Reachable.{Reachable}
 use Rattle.reach_rules.specs.Refusals.{spelled_member}
 use Rattle.sj_split.proofs.Ids.{each_passes}
 use Rattle.sj_split.proofs.Members.{at_first, further}
-use Rattle.sj_world.proofs.Orders.{before_not_after, before_trans, same_name, differs_after}
-use Rattle.sj_world.specs.Known.{Classes, is_same}
-use Rattle.sj_world.specs.Members.{IsMethodOf}
+use Rattle.sj_world.proofs.Searches.{contains_at}
+use Rattle.sj_world.proofs.Orders.{not_before_itself, before_trans}
+use Rattle.sj_world.specs.Known.{Classes}
+use Rattle.sj_world.specs.Members.{IsMethodOf, HasNoMethod}
 use Rattle.sj_world.specs.Refusals.{is_before}
 use Rattle.sj_world.specs.declared.facts.Fact.{Fact}
 use Rattle.sj_world.specs.declared.facts.Fact.TheVariants.{Body}
 use Rattle.worklist.proofs.Inserted.{nothing_in}
 use Rattle.accepted_folders.proofs.Members.{found-member}
 use Rattle.built_forms.specs.Built.{not_built}
-use Rattle.linked_folders.specs.Link.{AreOfOne}
-use Rattle.linked_folders.specs.Edits.{AreBuilt, HaveOneModule, IsUnbuilt, IsLeastUnbuilt}
+use Rattle.linked_folders.specs.Edits.{HaveOneModule, IsUnbuilt}
 use Rattle.sj_session.specs.Unbuilt.{IsLeast, IsUnbuiltMember, first_of, lesser, IsWithMember, built, unbuilt, IsWithFact, body, other}
 
 -- all entries are of one module
@@ -34,7 +35,7 @@ of_module : (m : List ℕ) (es : List EntryPoint) → ((e : EntryPoint) → Cont
 of_module m [] each = refl
 of_module m (e ∷ es) each = and_from (pointwise nat_eq e.module m) (list_all (λ (d : EntryPoint). pointwise nat_eq d.module m) es) (subst (λ (n : List ℕ). pointwise nat_eq n m ≡ true) (sym (each e (at_first e es))) (text-refl m)) (of_module m es (λ d h. each d (further e d es h)))
 
-pub one_module : (es : List EntryPoint) (first : EntryPoint) → Contains es first → (b : Bool) → b ≡ list_all (λ (e : EntryPoint). pointwise nat_eq e.module first.module) es → IsTrue b ↔ HaveOneModule es
+one_module : (es : List EntryPoint) (first : EntryPoint) → Contains es first → (b : Bool) → b ≡ list_all (λ (e : EntryPoint). pointwise nat_eq e.module first.module) es → IsTrue b ↔ HaveOneModule es
 one_module es first among b is = (to, back)
   where
     to : IsTrue b → HaveOneModule es
@@ -43,13 +44,20 @@ one_module es first among b is = (to, back)
     back : HaveOneModule es → IsTrue b
     back has = is ∙ of_module first.module es (λ e i. has.1.each e i ∙ sym (has.1.each first among))
 
+-- the first entry is one of them
+first_among : (es xs : List EntryPoint) (first : EntryPoint) → xs ≡ es → 1 ≤ length es → first ≡ get_or xs 0 first → Contains es first
+first_among es xs first same some is = subst (λ (l : List EntryPoint). Contains l first) same (contains_at xs 0 first (slice_get_read xs _ 0 first refl (omega (arith, some, ap length same)) is))
+
+pub module_of_first : (es xs : List EntryPoint) (first : EntryPoint) → xs ≡ es → 1 ≤ length es → first ≡ get_or xs 0 first → (b : Bool) → b ≡ list_all (λ (e : EntryPoint). pointwise nat_eq e.module (get_or xs 0 first).module) xs → IsTrue b ↔ HaveOneModule es
+module_of_first es xs first same some at b is = one_module es first (first_among es xs first same some at) b (is ∙ ap (λ (f : EntryPoint). list_all (λ (e : EntryPoint). pointwise nat_eq e.module f.module) xs) (sym at) ∙ ap (list_all (λ (e : EntryPoint). pointwise nat_eq e.module first.module)) same)
+
 -- the least among facts
-record IsLeastOf (w : Classes) (facts : List Fact) (spelled : List ℕ) : Type 0 where
-  member : Member
-  among : Contains facts (Body member)
-  is : IsUnbuiltMember w member
-  spelled_is : spelled_member member ≡ spelled
-  least : (k : Member) → Contains facts (Body k) → IsUnbuiltMember w k → is_before (spelled_member k) spelled ≡ false
+pub record IsLeastOf (w : Classes) (facts : List Fact) (spelled : List ℕ) : Type 0 where
+  pub member : Member
+  pub among : Contains facts (Body member)
+  pub is : IsUnbuiltMember w member
+  pub spelled_is : spelled_member member ≡ spelled
+  pub least : (k : Member) → Contains facts (Body k) → IsUnbuiltMember w k → is_before (spelled_member k) spelled ≡ false
 
 abbrev pub LeastOf : Classes → List Fact → Option (List ℕ) → Type 0
 LeastOf w facts None = (k : Member) → Contains facts (Body k) → IsUnbuiltMember w k → ⊥
@@ -57,13 +65,6 @@ LeastOf w facts (Some spelled) = IsLeastOf w facts spelled
 
 pub none_least : (w : Classes) → LeastOf w [] None
 none_least w k h is = nothing_in (Body k) h
-
-not_before_itself : (a : List ℕ) → is_before a a ≡ false
-not_before_itself a = go (is_before a a) refl
-  where
-    go : (b : Bool) → is_before a a ≡ b → is_before a a ≡ false
-    go true e = before_not_after a a e
-    go false e = e
 
 same_body : (j k : Member) → Body j ≡ Body k → j ≡ k
 same_body j k e = cc
@@ -123,8 +124,12 @@ module _ (w : Classes) (facts : List Fact) where
   with_fact f least new h (body k e with) = with_member f k least new e h with
   with_fact f least new h (other not same) = subst (LeastOf w (facts ++ f ∷ [])) (sym same) (keeps f least (λ k e is. not k e) h)
 
-pub more_least : (w : Classes) (facts : List Fact) (n : ℕ) (f : Fact) (least new : Option (List ℕ)) → slice_get facts n ≡ Some f → LeastOf w (take n facts) least → IsWithFact w least f new → LeastOf w (take (n + 1) facts) new
-more_least w facts n f least new at h with = subst (λ (l : List Fact). LeastOf w l new) (sym (take_more facts n f (slice_get_within facts n f at) ∙ ap (λ (x : Fact). take n facts ++ x ∷ []) (get_or_from_slice_get facts n f f at))) (with_fact w (take n facts) f least new h with)
+-- what is gone over is the facts, and one more of them is looked at
+pub more_least : (w x : Classes) (facts seen : List Fact) (n : ℕ) (f : Fact) (least new : Option (List ℕ)) → seen ≡ facts → x ≡ w → n < length seen → f ≡ get_or seen n f → LeastOf w (take n facts) least → IsWithFact x least f new → LeastOf w (take (n + 1) facts) new
+more_least w x facts seen n f least new same world less is h with = subst (λ (l : List Fact). LeastOf w l new) (sym (take_more facts n f (slice_get_within facts n f at) ∙ ap (λ (y : Fact). take n facts ++ y ∷ []) (get_or_from_slice_get facts n f f at))) (with_fact w (take n facts) f least new h (subst (λ (v : Classes). IsWithFact v least f new) world with))
+  where
+    at : slice_get facts n ≡ Some f
+    at = subst (λ (l : List Fact). slice_get l n ≡ Some f) same (slice_get_read seen _ n f refl less is)
 
 module _ (w : Classes) (entries : List EntryPoint) (facts : List Fact) (reached : AreReachable w entries facts) where
   member_of_unbuilt : (spelled : List ℕ) (u : IsUnbuilt w entries spelled) → Contains facts (Body u.member) × IsUnbuiltMember w u.member
@@ -141,8 +146,8 @@ module _ (w : Classes) (entries : List EntryPoint) (facts : List Fact) (reached 
     least = λ other u. (let p = member_of_unbuilt other u in subst (λ (t : List ℕ). is_before t s ≡ false) u.spelled_is (h.least u.member p.0 p.1));
   }
 
-pub all_least : (w : Classes) (entries : List EntryPoint) (facts : List Fact) (n : ℕ) (least : Option (List ℕ)) → AreReachable w entries facts → length facts ≤ n → LeastOf w (take n facts) least → IsLeast w entries least
-all_least w entries facts n least reached over h = is_least w entries facts reached least (subst (λ (l : List Fact). LeastOf w l least) (take_all n facts over) h)
+pub all_least : (w : Classes) (entries : List EntryPoint) (facts seen : List Fact) (n : ℕ) (least : Option (List ℕ)) → seen ≡ facts → AreReachable w entries facts → length seen ≤ n → LeastOf w (take n facts) least → IsLeast w entries least
+all_least w entries facts seen n least same reached over h = is_least w entries facts reached least (subst (λ (l : List Fact). LeastOf w l least) (take_all n facts (omega (arith, over, ap length same))) h)
 
 -- a member whose one definition is built isn't unbuilt
 pub member_built : (w : Classes) (k : Member) (d : MethodDef) (b : Bool) → IsMethodOf w k d → b ≡ not_built d → IsTrue b ↔ IsUnbuiltMember w k
@@ -150,3 +155,22 @@ member_built w k d b is same = (λ t. record { definition = d; defined = is; unb
   where
     one : (e : MethodDef) → IsMethodOf w k e → e ≡ d
     one e h = let s : Some e ≡ Some d = sym (found-member w k e h) ∙ found-member w k d is in cc
+
+-- a member without a definition isn't unbuilt either
+pub none_unbuilt : (w : Classes) (k : Member) → HasNoMethod w k → IsTrue false ↔ IsUnbuiltMember w k
+none_unbuilt w k none = (λ t. absurd (cc), λ u. absurd (none.none u.definition u.defined))
+
+-- a built member changes nothing, and an unbuilt one is the new least if it is less
+pub goes_on : (w : Classes) (least : Option (List ℕ)) (k : Member) (b : Bool) → IsTrue b ↔ IsUnbuiltMember w k → b ≡ false → IsWithMember w least k least
+goes_on w least k b is e = built (λ u. wrong (is.1 u) e)
+  where
+    wrong : b ≡ true → b ≡ false → ⊥
+    wrong t f = cc
+
+pub with_spelled : (w : Classes) (least : Option (List ℕ)) (k : Member) (b : Bool) (spelled new : List ℕ) → IsTrue b ↔ IsUnbuiltMember w k → b ≡ true → spelled ≡ spelled_member k → new ≡ lesser least spelled → IsWithMember w least k (Some new)
+with_spelled w least k b spelled new is t e f = subst (λ (s : List ℕ). IsWithMember w least k (Some s)) (sym (f ∙ ap (lesser least) e)) (unbuilt (is.0 t))
+
+-- the same with the fact of a body
+pub by_member : (w : Classes) (least : Option (List ℕ)) (f : Fact) (k : Member) (r : Result (Option (List ℕ)) NoMemory) → f ≡ Body k → IfOk r (IsWithMember w least k) → IfOk r (IsWithFact w least f)
+by_member w least f k (Ok new) e h = body k e h
+by_member w least f k (Err m) e h = tt

@@ -1,2 +1,3 @@
 mod Least
 mod Edited
+mod Counted

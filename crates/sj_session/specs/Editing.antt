@@ -1,13 +1,9 @@
 -- What is made of a folder, before a session takes it.
-use Rattle.std.specs.Prelude.{◌≡◌, ℕ, List, Option, Some, None, Result, Ok, Err, length, map, codes}
+use Rattle.std.specs.Prelude.{◌≡◌, ℕ, List, length, map, codes}
 use Rattle.sj_agree.specs.Agrees.{Agrees}
 use Rattle.sj_names.specs.declared.entry_points.EntryPoint.{EntryPoint}
 use Rattle.sj_names.specs.declared.folders.SourceFile.{SourceFile}
-use Rattle.sj_names.specs.declared.method_names.Member.{Member}
-use Rattle.sj_trees.specs.declared.classes.MethodDef.{MethodDef}
 use Rattle.sj_world.specs.Known.{Classes}
-use Rattle.sj_world.specs.Linked.{Linked}
-use Rattle.sj_world.specs.declared.facts.Fact.{Fact}
 use Rattle.folder_verdicts.specs.Verdicts.{Verdict, accepted, refused}
 use Rattle.accepted_folders.specs.Accepted.{IsAccepted}
 use Rattle.linked_folders.specs.Link.{AreOfOne}

@@ -1,10 +1,9 @@
 -- Sessions, and what an edit makes of one.
-use Rattle.std.specs.Prelude.{◌≡◌, ℕ, false, List, [], Option, Some, None, Result, Ok, Err, length, map, ⊤}
+use Rattle.std.specs.Prelude.{◌≡◌, ℕ, false, List, [], Option, Some, None, Result, Ok, Err, length, map}
 use Rattle.sj_agree.specs.Agrees.{Agrees}
 use Rattle.sj_names.specs.declared.counters.Meter.{Meter}
 use Rattle.sj_names.specs.declared.entry_points.EntryPoint.{EntryPoint}
 use Rattle.sj_names.specs.declared.folders.Folder.{Folder}
-use Rattle.sj_names.specs.declared.folders.SourceFile.{SourceFile}
 use Rattle.sj_split.specs.declared.plans.Style.TheVariants.{Fewest}
 use Rattle.sj_world.specs.Known.{Classes}
 use Rattle.folder_verdicts.specs.Verdicts.{accepted, refused}

@@ -60,8 +60,12 @@ impl Session {
         ensures counted { CountsEdit self.old.entries folder.files result (W.meter work.old) (W.meter work.new) }
         ensures agrees { IfOk result (λ _. ShowTheSame self.old.entries folder self.new.files) }
     {
-        let Edit { files, report } =
-            linked_edit(alloc, folder.files.as_slice(), &self.entries, work)?;
+        let Edit { files, report } = linked_edit(
+            alloc,
+            folder.files.as_slice(),
+            &self.entries,
+            work,
+        )?;
         self.files = files;
         self.present = Some(folder);
         Ok(report)

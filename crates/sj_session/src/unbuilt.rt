@@ -9,7 +9,7 @@ ghost use Rattle.sj_session.specs.Unbuilt.{IsLeast, IsUnbuiltMember, IsWithFact,
 
 use built_forms::not_built;
 use folder_judging::definition_of;
-use sj_names::{EntryPoint, Entries, Member, NoMemory, Text};
+use sj_names::{Entries, EntryPoint, Member, NoMemory, Text};
 use sj_reach::spelled_member;
 use sj_world::{Fact, LinkedWorld, World};
 use std::alloc::Global;
@@ -22,10 +22,10 @@ pub fn have_one_module(entries: &Entries) -> bool
     are_of_module(entries, &entries[0].module)
 }
 
-fn are_of_module(entries: &[EntryPoint], module: &Text) -> bool
-    ensures { result ≡ list_all (λ e. pointwise nat_eq e.module module.now) entries.now }
+fn are_of_module(entries: &[EntryPoint], id: &Text) -> bool
+    ensures { result ≡ list_all (λ e. pointwise nat_eq e.module id.now) entries.now }
 {
-    entries.iter().all(|entry| entry.module == *module)
+    entries.iter().all(|entry| entry.module == *id)
 }
 
 /// The least spelling of a needed body that isn't of the forms that are built, if one isn't.
