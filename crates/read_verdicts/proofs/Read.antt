@@ -5,12 +5,12 @@ use Rattle.std.proofs.lemmas.List.{length-take-le, take-map}
 use Rattle.std.proofs.lemmas.Option.{slice_get-map}
 use Rattle.sj_names.specs.declared.entry_points.EntryPoint.{EntryPoint}
 use Rattle.sj_names.specs.declared.folders.SourceFile.{SourceFile}
-use Rattle.folder_sizes.specs.Sizes.{largest_file, sum, IsOver, IsFirstTooLarge}
+use Rattle.folder_sizes.specs.Sizes.{largest_file, sum, IsOver, IsTooLarge, IsFirstTooLarge}
 use Rattle.folder_sizes.specs.Files.{size_of, sizes}
 use Rattle.folder_verdicts.specs.Verdicts.{Verdict, refused, IsVerdict, too_large}
 use Rattle.folder_verdicts.proofs.Firsts.{in_order}
 use Rattle.folder_verdicts.proofs.Verdict.{one_verdict}
-use Rattle.folder_files.specs.Files.{front, all, up_to}
+use Rattle.folder_files.specs.Files.{front, IsReadOf, all, up_to}
 use Rattle.read_verdicts.specs.Laws.{VerdictOnWhatIsRead}
 
 abbrev most : ℕ
@@ -94,6 +94,13 @@ file_at [] place n e = absurd cc
 file_at (f ∷ fs) zero n e = let same : size_of (front f) ≡ n = cc in record { file = f; at = refl; is = same }
 file_at (f ∷ fs) (suc place) n e = let r = file_at fs place n e in record { file = r.file; at = r.at; is = r.is }
 
+-- what is read is too large at the place behind which nothing is read
+read_too_large : (files : List SourceFile) (place : ℕ) → IsFirstTooLarge (sizes (map front files)) place → IsFirstTooLarge (sizes (take (place + 1) (map front files))) place
+read_too_large files place first =
+    let ns : List ℕ = sizes (map front files) in
+    let cut : IsFirstTooLarge (take (place + 1) ns) place = moved place ns (take (place + 1) ns) first.too_large.size first (sym (take_take place (place + 1) ns (omega arith))) (get_take (place + 1) place ns (omega arith) ∙ first.too_large.at) (λ a total e h. subst (IsOver place total) (inner a first.too_large.size (sym e ∙ first.too_large.at)) h) in
+    subst (λ (t : List ℕ). IsFirstTooLarge t place) (take-map size_of (place + 1) (map front files)) cut
+
 module _ (entries : List EntryPoint) (files : List SourceFile) where
   one : (read : List SourceFile) (r : Verdict) → IsVerdict entries read r → IsVerdict entries files r → (v : Verdict) → IsVerdict entries read v ↔ IsVerdict entries files v
   one read r p q v = (λ h. subst (IsVerdict entries files) (one_verdict entries read r v p h) q, λ h. subst (IsVerdict entries read) (one_verdict entries files r v q h) p)
@@ -138,7 +145,7 @@ module _ (entries : List EntryPoint) (files : List SourceFile) where
       first_whole = moved place ns (sizes files) (size_of f) first same_before at_files over_whole
 
       first_read : IsFirstTooLarge (sizes read) place
-      first_read = subst (λ (t : List ℕ). IsFirstTooLarge t place) sizes_read (moved place ns (take (place + 1) ns) first.too_large.size first (sym (take_take place (place + 1) ns (omega arith))) (get_take (place + 1) place ns (omega arith) ∙ first.too_large.at) (λ a total e h. subst (IsOver place total) (inner a first.too_large.size (sym e ∙ first.too_large.at)) h))
+      first_read = read_too_large files place first
 
 all_whole : (fs : List SourceFile) → ((place : ℕ) (n : ℕ) → slice_get (sizes (map front fs)) place ≡ Some n → largest_file < n → ⊥) → map front fs ≡ fs
 all_whole [] small = refl
@@ -146,6 +153,11 @@ all_whole (f ∷ fs) small =
     let first : front f ≡ f = read_whole f (λ h. small 0 (size_of (front f)) refl h) in
     let rest : map front fs ≡ fs = all_whole fs (λ i n e h. small (suc i) n e h) in
     (λ i. first i ∷ rest i)
+
+-- where nothing that is read is too large, all files are read whole
+pub whole_read : (files read : List SourceFile) → IsReadOf files read → ((place : ℕ) → IsTooLarge (sizes read) place → ⊥) → read ≡ files
+whole_read files _ (all none) small = all_whole files (λ i n e h. none i (record { size = n; at = e; over = inl h }))
+whole_read files _ (up_to place first) small = absurd (small place (read_too_large files place first).too_large)
 
 pub same_verdict : VerdictOnWhatIsRead
 same_verdict entries files _ v (all none) =

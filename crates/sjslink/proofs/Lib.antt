@@ -1,5 +1,8 @@
-pub mod Endings
-pub mod Lines
-pub mod Loads
+pub mod Puts
+pub mod Read
+pub mod Edits
+pub mod SaidEntries
+pub mod OneEdit
+pub mod Ends
+pub mod OneFolder
 pub mod OneOutput
-pub mod Showing

@@ -1,5 +1,5 @@
 -- What a link command reads.
-use Rattle.std.specs.Prelude.{◌≡◌, ℕ, List, Option, Some, None, Result, IsTrue, is_some, ⊤}
+use Rattle.std.specs.Prelude.{◌≡◌, ℕ, List, Some, Result, IsTrue, is_some}
 use Rattle.std.specs.List.{Contains}
 use Rattle.entries_file.specs.EntriesFile.{entries_of}
 use Rattle.sj_names.specs.declared.entry_points.EntryPoint.{EntryPoint}

@@ -1,5 +1,5 @@
 -- What the program writes.
-use Rattle.std.specs.Prelude.{◌≡◌, ℕ, ◌+◌, Bool, true, false, List, [], ◌∷◌, ◌++◌, Option, Some, None, Ok, Err, codes, decimal, length, map, slice_get, if◌then◌else◌, ⊤}
+use Rattle.std.specs.Prelude.{◌≡◌, ℕ, ◌+◌, Bool, true, false, List, [], ◌∷◌, ◌++◌, Option, Some, None, Ok, Err, codes, decimal, length, map, slice_get, take, if◌then◌else◌, ⊤}
 use Rattle.std.specs.List.{flat_map, list_all}
 use Rattle.js_mean.specs.Shows.{File}
 use Rattle.sj_names.specs.declared.counters.Meter.{Meter}
@@ -27,9 +27,13 @@ usage_line = codes "usage: sjslink link [--split fewest|smallest] [--optimize on
 abbrev pub entries_line : ℕ → List ℕ
 entries_line number = codes "entries line " ++ (decimal number ++ codes "\n")
 
+-- how much work an edit took
+abbrev pub work_words : Meter → List ℕ
+work_words work = codes "read=" ++ (decimal work.read ++ (codes " checked=" ++ (decimal work.checked ++ (codes " optimised=" ++ (decimal work.optimised ++ (codes " emitted=" ++ decimal work.emitted))))))
+
 -- the line of an edit that is accepted: its number, how many files are put, and the work
 abbrev pub accepted_line : ℕ → ℕ → Meter → List ℕ
-accepted_line number modules work = codes "edit " ++ (decimal number ++ (codes " ok modules=" ++ (decimal modules ++ (codes " read=" ++ (decimal work.read ++ (codes " checked=" ++ (decimal work.checked ++ (codes " optimised=" ++ (decimal work.optimised ++ (codes " emitted=" ++ (decimal work.emitted ++ codes "\n")))))))))))
+accepted_line number modules work = codes "edit " ++ (decimal number ++ (codes " ok modules=" ++ (decimal modules ++ (codes " " ++ (work_words work ++ codes "\n")))))
 
 -- the line of an edit that is refused: its number, the code and the place
 abbrev pub refused_line : ℕ → ℕ → List ℕ → List ℕ
@@ -112,7 +116,8 @@ pub record IsWhole (words : List (List ℕ)) (contents : Parts) (puts_old puts_n
   pub is_status : status ≡ output.status
   pub written : Writes puts_old puts_new text_old text_new output.events
 
--- what was written is nothing, or a front of the output
+-- what was written is nothing, or a front of the output, or of what is written for the first folders of the command
 pub data IsFront (words : List (List ℕ)) (contents : Parts) (puts_old puts_new : Option (List PutFile)) (text_old text_new : Option (List ℕ)) : Type 0 where
   nothing : Writes puts_old puts_new text_old text_new [] → IsFront words contents puts_old puts_new text_old text_new
   front_of : (output : Output) → IsOutput words contents output → WritesFront puts_old puts_new text_old text_new output.events → IsFront words contents puts_old puts_new text_old text_new
+  of_first : (link : Link) (entries : List EntryPoint) (n : ℕ) (edits : List Edited) → IsLinkCommand words link → HasEntries contents link.entries (Ok entries) → AreEdited contents link.out entries (take n link.folders) edits → WritesFront puts_old puts_new text_old text_new (flat_map events_of edits) → IsFront words contents puts_old puts_new text_old text_new

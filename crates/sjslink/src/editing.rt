@@ -1,5 +1,10 @@
 // Folders are edited one after the other.
-use crate::Status;
+ghost use Rattle.std.specs.Prelude.{◌≡◌, ◌⊎◌, ◌≤◌, ◌<◌, ◌^◌, Some, Err, IfOk, IsTrue, is_some, length};
+ghost use Rattle.sj_outside.specs.Contents.{Parts, folder_at};
+ghost use Rattle.sj_outside.specs.Faults.{Rose};
+ghost use Rattle.folder_files.specs.Files.{HasRead};
+ghost use Rattle.sjslink.specs.Editing as editing;
+
 use crate::reports::{accepted_line, refused_line};
 use crate::writing::{print_line, put_edit};
 use folder_files::read_folder;
@@ -31,7 +36,7 @@ impl From<AllocError> for Fault {
     }
 }
 
-/// Edits the session by each folder of the command, and writes what each edit comes to.
+/// Edits the session by each folder of the command, and writes what each edit comes to; says whether all were accepted.
 pub fn edit_folders<F: Folders, O: Outputs, L: Lines>(
     alloc: Global,
     link: &Link,
@@ -40,14 +45,30 @@ pub fn edit_folders<F: Folders, O: Outputs, L: Lines>(
     outputs: &mut O,
     lines: &mut L,
 ) -> Result<bool, Fault>
+    requires { length link.now.folders < 2 ^ 32 }
+    ensures ends { (c : Parts) → F.holds folders.old ≡ Some c → editing.EditsEnd c link.now.out session.old.entries link.now.folders (O.puts outputs.old) (O.puts outputs.new) (L.printed lines.old) (L.printed lines.new) result }
+    ensures missing { (c : Parts) → F.holds folders.old ≡ Some c → editing.AreHeld c link.now.folders → F.missing folders.new ≡ F.missing folders.old }
+    ensures read_fault { result ≡ Err Fault.Read → Rose (F.faults folders.old) (F.faults folders.new) }
+    ensures write_fault { result ≡ Err Fault.Write → Rose (O.faults outputs.old) (O.faults outputs.new) ⊎ Rose (L.faults lines.old) (L.faults lines.new) }
 {
-    let mut work = Workshop { meter: Meter::new() };
+    let mut work = Workshop {
+        meter: Meter::new(),
+    };
     let mut all_accepted = true;
     let paths = link.folders.as_slice();
     for place in 0..paths.len() {
         let number = (place + 1) as u32;
         let files = read_files(alloc, paths[place].as_str(), folders)?;
-        let is_accepted = edit_folder(alloc, link.out.as_str(), number, files, session, &mut work, outputs, lines)?;
+        let is_accepted = edit_folder(
+            alloc,
+            link.out.as_str(),
+            number,
+            files,
+            session,
+            &mut work,
+            outputs,
+            lines,
+        )?;
         all_accepted = all_accepted && is_accepted;
     }
     Ok(all_accepted)
@@ -57,7 +78,14 @@ fn read_files<F: Folders>(
     alloc: Global,
     path: &str,
     folders: &mut F,
-) -> Result<Vec<SourceFile>, Fault> {
+) -> Result<Vec<SourceFile>, Fault>
+    ensures same { F.holds folders.new ≡ F.holds folders.old }
+    ensures told { (c : Parts) → F.holds folders.old ≡ Some c → IfOk result (λ files. HasRead c path.now files.items) }
+    ensures faults { F.faults folders.old ≤ F.faults folders.new }
+    ensures read_fault { result ≡ Err Fault.Read → Rose (F.faults folders.old) (F.faults folders.new) }
+    ensures no_write_fault { result ≡ Err Fault.Write → ⊥ }
+    ensures missing { (c : Parts) → F.holds folders.old ≡ Some c → IsTrue (is_some (folder_at c path.now)) → F.missing folders.new ≡ F.missing folders.old }
+{
     match read_folder(alloc, path, folders) {
         Ok(files) => Ok(files),
         Err(OutsideError::Failed) => Err(Fault::Read),
@@ -75,12 +103,28 @@ fn edit_folder<O: Outputs, L: Lines>(
     work: &mut Workshop,
     outputs: &mut O,
     lines: &mut L,
-) -> Result<bool, Fault> {
-    let folder = Folder { files: Items::from_vec(files) };
+) -> Result<bool, Fault>
+    ensures same { session.new.entries ≡ session.old.entries }
+    ensures ends { editing.EditEnds out.now session.old.entries number files.items (O.puts outputs.old) (O.puts outputs.new) (L.printed lines.old) (L.printed lines.new) result }
+    ensures output_faults { O.faults outputs.old ≤ O.faults outputs.new }
+    ensures line_faults { L.faults lines.old ≤ L.faults lines.new }
+    ensures write_fault { result ≡ Err Fault.Write → Rose (O.faults outputs.old) (O.faults outputs.new) ⊎ Rose (L.faults lines.old) (L.faults lines.new) }
+{
+    let folder = Folder {
+        files: Items::from_vec(files),
+    };
     match session.edit(alloc, folder, work) {
         Ok(report) => {
             let text = accepted_line(alloc, number, &report)?;
-            put_edit(alloc, out, number, session.files(), text.as_str(), outputs, lines)?;
+            put_edit(
+                alloc,
+                out,
+                number,
+                session.files(),
+                text.as_str(),
+                outputs,
+                lines,
+            )?;
             Ok(true)
         }
         Err(EditRefusal::Refused { code, place }) => {

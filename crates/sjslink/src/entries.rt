@@ -1,7 +1,7 @@
 // The entries file is read.
-ghost use Rattle.std.specs.Prelude.{◌≡◌, Some, Ok, Err, IsTrue, is_some};
+ghost use Rattle.std.specs.Prelude.{◌≡◌, Some, Err, IsTrue, is_some};
 ghost use Rattle.sj_outside.specs.Contents.{Parts, file_at};
-ghost use Rattle.sj_outside.specs.Faults.{HasCause};
+ghost use Rattle.entries_file.specs.EntriesFile as spec;
 ghost use Rattle.sjslink.specs.Input.{HasEntries};
 ghost use Rattle.sjslink.specs.Editing.{Says, HasReadCause};
 
@@ -42,7 +42,8 @@ pub fn read_entries<F: Folders>(
 }
 
 fn said_by(alloc: Global, bytes: &[u8]) -> Result<Entries, NoEntries>
-    ensures { Says (λ said. entries_file.entries_of bytes.now ≡ said) result }
+    ensures says { Says (λ said. spec.entries_of bytes.now ≡ said) result }
+    ensures no_fault { result ≡ Err NoEntries.ReadFault → ⊥ }
 {
     match entries_of(alloc, bytes) {
         Ok(entries) => Ok(entries),

@@ -1,11 +1,12 @@
 // The top call.
-ghost use Rattle.std.specs.Prelude.{◌≡◌, ◌⊎◌, ◌<◌, ◌^◌, Some, None, length, map, string_bytes};
+ghost use Rattle.std.specs.Prelude.{◌≡◌, ◌⊎◌, ◌<◌, ◌^◌, ℕ, List, [], Some, None, Ok, length, map, string_bytes};
 ghost use Rattle.sj_outside.specs.Contents.{Parts};
 ghost use Rattle.sj_outside.specs.Faults.{Rose};
 ghost use Rattle.sj_outside.specs.Writing.{Appends};
 ghost use Rattle.sj_words.specs.Earlier.{first_command as command};
+ghost use Rattle.sjslink.specs.Editing.{AreHeld, RunEnds};
 ghost use Rattle.sjslink.specs.Headline.{ShowsTheSame, ShowsFront};
-ghost use Rattle.sjslink.specs.Input.{HoldWhatIsNamed};
+ghost use Rattle.sjslink.specs.Input.{HasEntries, HasNamed, HoldWhatIsNamed, IsLinkCommand};
 ghost use Rattle.sjslink.specs.Output as output;
 
 use crate::Status;
@@ -74,7 +75,14 @@ fn run_link<F: Folders, O: Outputs, L: Lines>(
     folders: &mut F,
     outputs: &mut O,
     lines: &mut L,
-) -> Status {
+) -> Status
+    requires { length link.now.folders < 2 ^ 32 }
+    ensures ends { (words : List (List ℕ)) (c : Parts) → IsLinkCommand words link.now → F.holds folders.old ≡ Some c → RunEnds words c (O.puts outputs.old) (O.puts outputs.new) (L.printed lines.old) (L.printed lines.new) result }
+    ensures missing { (c : Parts) → F.holds folders.old ≡ Some c → HasNamed c link.now → F.missing folders.new ≡ F.missing folders.old }
+    ensures no_usage { result ≡ Status.Usage → ⊥ }
+    ensures read_fault { result ≡ Status.ReadFault → Rose (F.faults folders.old) (F.faults folders.new) }
+    ensures write_fault { result ≡ Status.WriteFault → Rose (O.faults outputs.old) (O.faults outputs.new) ⊎ Rose (L.faults lines.old) (L.faults lines.new) }
+{
     match read_entries(alloc, link.entries.as_str(), folders) {
         Ok(entries) => edit_all(alloc, link, entries, folders, outputs, lines),
         Err(NoEntries::BadLine(number)) => tell_bad_line(alloc, number, lines),
@@ -90,7 +98,14 @@ fn edit_all<F: Folders, O: Outputs, L: Lines>(
     folders: &mut F,
     outputs: &mut O,
     lines: &mut L,
-) -> Status {
+) -> Status
+    requires { length link.now.folders < 2 ^ 32 }
+    ensures ends { (words : List (List ℕ)) (c : Parts) → IsLinkCommand words link.now → F.holds folders.old ≡ Some c → HasEntries c link.now.entries (Ok entries) → RunEnds words c (O.puts outputs.old) (O.puts outputs.new) (L.printed lines.old) (L.printed lines.new) result }
+    ensures missing { (c : Parts) → F.holds folders.old ≡ Some c → AreHeld c link.now.folders → F.missing folders.new ≡ F.missing folders.old }
+    ensures no_usage { result ≡ Status.Usage → ⊥ }
+    ensures read_fault { result ≡ Status.ReadFault → Rose (F.faults folders.old) (F.faults folders.new) }
+    ensures write_fault { result ≡ Status.WriteFault → Rose (O.faults outputs.old) (O.faults outputs.new) ⊎ Rose (L.faults lines.old) (L.faults lines.new) }
+{
     let options = Options {
         style: Style::Fewest,
         optimize: false,
@@ -105,7 +120,9 @@ fn edit_all<F: Folders, O: Outputs, L: Lines>(
     }
 }
 
-fn tell_bad_line<L: Lines>(alloc: Global, number: u32, lines: &mut L) -> Status {
+fn tell_bad_line<L: Lines>(alloc: Global, number: u32, lines: &mut L) -> Status
+    ensures { output.Ends (Status.BadEntries number) (Appends (L.printed lines.old) (L.printed lines.new) (output.entries_line number)) (Appends (L.printed lines.old) (L.printed lines.new) []) (Rose (L.faults lines.old) (L.faults lines.new)) result }
+{
     match entries_line(alloc, number) {
         Ok(text) => finish(alloc, Status::BadEntries(number), text.as_str(), lines),
         Err(_) => Status::NoMemory,

@@ -10,25 +10,27 @@ use std::alloc::{AllocError, Global};
 pub fn accepted_line(alloc: Global, number: u32, report: &Report) -> Result<String, AllocError>
     ensures { IfOk result (λ text. string_bytes text ≡ output.accepted_line number report.now.modules (work_told report.now)) }
 {
+    let modules = report.modules;
+    let work = work_words(alloc, report)?;
+    format!(in alloc; "edit {number} ok modules={modules} {work}\n")
+}
+
+// How much work an edit took.
+fn work_words(alloc: Global, report: &Report) -> Result<String, AllocError>
+    ensures { IfOk result (λ text. string_bytes text ≡ output.work_words (work_told report.now)) }
+{
     let Report {
-        modules,
         read,
         checked,
         optimised,
         emitted,
+        ..
     } = *report;
-    format!(in alloc;
-        "edit {number} ok modules={modules} read={read} checked={checked} optimised={optimised} emitted={emitted}\n"
-    )
+    format!(in alloc; "read={read} checked={checked} optimised={optimised} emitted={emitted}")
 }
 
 /// The line of an edit that is refused.
-pub fn refused_line(
-    alloc: Global,
-    number: u32,
-    code: u8,
-    place: &str,
-) -> Result<String, AllocError>
+pub fn refused_line(alloc: Global, number: u32, code: u8, place: &str) -> Result<String, AllocError>
     ensures { IfOk result (λ text. string_bytes text ≡ output.refused_line number code place.now) }
 {
     format!(in alloc; "edit {number} refused {code} {place}\n")

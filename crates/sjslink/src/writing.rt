@@ -1,5 +1,5 @@
 // What is written.
-ghost use Rattle.std.specs.Prelude.{◌≡◌, ◌⊎◌, [], ◌∷◌, ◌++◌, IfOk, map};
+ghost use Rattle.std.specs.Prelude.{◌⊎◌, ◌≤◌, [], ◌∷◌, ◌++◌, map};
 ghost use Rattle.sj_outside.specs.Faults.{Rose};
 ghost use Rattle.sj_outside.specs.Writing.{Appends, Writes, WritesFront};
 ghost use Rattle.sj_outside.specs.Writing as events;
@@ -34,8 +34,10 @@ pub fn put_edit<O: Outputs, L: Lines>(
     outputs: &mut O,
     lines: &mut L,
 ) -> Result<(), Fault>
-    ensures { let written = output.puts_of out.now number (map as_file files.now) ++ events.line text.now ∷ [] in
+    ensures written { let written = output.puts_of out.now number (map as_file files.now) ++ events.line text.now ∷ [] in
         editing.Written (Writes (O.puts outputs.old) (O.puts outputs.new) (L.printed lines.old) (L.printed lines.new) written) (WritesFront (O.puts outputs.old) (O.puts outputs.new) (L.printed lines.old) (L.printed lines.new) written) (Rose (O.faults outputs.old) (O.faults outputs.new) ⊎ Rose (L.faults lines.old) (L.faults lines.new)) result }
+    ensures output_faults { O.faults outputs.old ≤ O.faults outputs.new }
+    ensures line_faults { L.faults lines.old ≤ L.faults lines.new }
 {
     for file in files {
         put_file(alloc, out, number, file, outputs)?;
@@ -50,9 +52,16 @@ fn put_file<O: Outputs>(
     file: &ModuleFile,
     outputs: &mut O,
 ) -> Result<(), Fault>
-    ensures { editing.Written (Appends (O.puts outputs.old) (O.puts outputs.new) (output.put_of out.now number (as_file file.now) ∷ [])) (Appends (O.puts outputs.old) (O.puts outputs.new) []) (Rose (O.faults outputs.old) (O.faults outputs.new)) result }
+    ensures written { editing.Written (Appends (O.puts outputs.old) (O.puts outputs.new) (output.put_of out.now number (as_file file.now) ∷ [])) (Appends (O.puts outputs.old) (O.puts outputs.new) []) (Rose (O.faults outputs.old) (O.faults outputs.new)) result }
+    ensures faults { O.faults outputs.old ≤ O.faults outputs.new }
 {
-    match outputs.put(alloc, out, number, file.name.as_str(), file.bytes.as_slice()) {
+    match outputs.put(
+        alloc,
+        out,
+        number,
+        file.name.as_str(),
+        file.bytes.as_slice(),
+    ) {
         Ok(()) => Ok(()),
         Err(OutsideError::Failed) => Err(Fault::Write),
         Err(OutsideError::NoMemory) => Err(Fault::NoMemory),
@@ -61,7 +70,8 @@ fn put_file<O: Outputs>(
 
 /// Prints a line.
 pub fn print_line<L: Lines>(alloc: Global, text: &str, lines: &mut L) -> Result<(), Fault>
-    ensures { editing.Written (Appends (L.printed lines.old) (L.printed lines.new) text.now) (Appends (L.printed lines.old) (L.printed lines.new) []) (Rose (L.faults lines.old) (L.faults lines.new)) result }
+    ensures written { editing.Written (Appends (L.printed lines.old) (L.printed lines.new) text.now) (Appends (L.printed lines.old) (L.printed lines.new) []) (Rose (L.faults lines.old) (L.faults lines.new)) result }
+    ensures faults { L.faults lines.old ≤ L.faults lines.new }
 {
     match lines.line(alloc, text.as_bytes()) {
         Ok(()) => Ok(()),
