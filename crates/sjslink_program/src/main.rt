@@ -3,16 +3,20 @@
 
 use sj_outside::{RealFolders, RealLines, RealOutputs, real_words};
 use sjslink::{Status, run};
-use std::alloc::AllocError;
 use std::process::ExitCode;
+
+// More words than this aren't held: each edit has a number of 32 bits. Systems hand over far fewer.
+const MOST_WORDS: usize = 4_294_967_295;
 
 fn main(rt: HostRuntime) -> ExitCode {
     let mut folders = RealFolders::new(&rt);
     let mut outputs = RealOutputs::new(&rt);
     let mut lines = RealLines::new(&rt);
     let status = match real_words(&rt) {
-        Ok(words) => run(rt.alloc(), words, &mut folders, &mut outputs, &mut lines),
-        Err(AllocError) => Status::NoMemory,
+        Ok(words) if words.len() <= MOST_WORDS => {
+            run(rt.alloc(), words, &mut folders, &mut outputs, &mut lines)
+        }
+        _ => Status::NoMemory,
     };
     ExitCode::from(status.exit_code())
 }
