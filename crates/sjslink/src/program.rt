@@ -28,7 +28,7 @@ const USAGE: &str =
 /// each edit that is accepted, and prints a line for each. The condition is that there are fewer than 2^32 words.
 ///
 /// What is written, and the status, is one function of the words and of what the folders hold, as far as they tell that. A fault or
-/// want of memory ends the run at once; what was written then is a front of it.
+/// want of memory ends the run at once; what was written then is a front of it, or of what is written for the first folders.
 pub fn run<F: Folders, O: Outputs, L: Lines>(
     alloc: Global,
     words: Vec<String>,
@@ -41,7 +41,7 @@ pub fn run<F: Folders, O: Outputs, L: Lines>(
     // Where the run ends by itself, it has written the whole output, and its status is that of the output.
     ensures whole { (c : Parts) → F.holds folders.old ≡ Some c → output.AtEnd result (output.IsWhole (map string_bytes words.items) c (O.puts outputs.old) (O.puts outputs.new) (L.printed lines.old) (L.printed lines.new) result) }
 
-    // In every case what was written is nothing, or a front of the output.
+    // In every case what was written is nothing, or a front of the output, or of what is written for the first folders.
     ensures front { (c : Parts) → F.holds folders.old ≡ Some c → output.IsFront (map string_bytes words.items) c (O.puts outputs.old) (O.puts outputs.new) (L.printed lines.old) (L.printed lines.new) }
 
     // The files that a run has put that edited all its folders show, for each folder that was accepted, what its classes show.
