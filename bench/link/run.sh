@@ -27,5 +27,5 @@ for count in (200, 2000, 20000):
         took.append(time.monotonic() - start)
         if status:
             sys.exit(f"{count} classes: status {status}: {line}")
-    print(f"{count} classes: {min(took):.2f} s (first {took[0]:.2f}), {used.ru_maxrss // 1024} MB: {line}")
+    print(f"{count} classes: {min(took) * 1000:.0f} ms (first {took[0] * 1000:.0f}), {used.ru_maxrss // 1024} MB: {line}")
 MEASURE
