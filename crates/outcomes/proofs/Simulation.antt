@@ -1,7 +1,8 @@
 -- Laws of `Sim`, and the agreement that follows from both of its directions.
 use Rattle.std.proofs.Common.{◌≡◌, ℕ, refl, sym, ap, subst, ◌∙◌, [], ◌∷◌, ◌++◌, append_assoc, append-nil, arith}
 use Rattle.outcomes.specs.Outcome.{Lines, Line, End, Done, Going, Wrong, Out, done, going, wrong, behind, after, then_do}
-use Rattle.outcomes.specs.Agreement.{IsPrefix, IsNotWrong, FollowsBy, Agree, Direction, forward, backward, Within, Related, Sim}
+use Rattle.std.specs.Prelude.{◌+◌, ◌*◌}
+use Rattle.outcomes.specs.Agreement.{IsPrefix, IsNotWrong, FollowsBy, Agree, Direction, forward, backward, Room, Enough, Related, Sim}
 
 pub prefix-refl : (l : Lines) → IsPrefix l l
 prefix-refl l = record { rest = []; parts = sym (append-nil l) }
@@ -133,10 +134,10 @@ right_too l Going m Going r h = tt
 right_too l Going m Wrong r h = r
 right_too l Wrong m k r h = absurd h
 
--- meanings that are alike in both directions at one and the same bound, of which the first is never wrong, agree
-pub agree-from_sim : {A : Type 0} (one other : ℕ → Out A) → ((d : Direction) (n m : ℕ) → Within d n m → Sim d ◌≡◌ (one n) (other m)) → ((n : ℕ) → IsNotWrong (one n).end) → Agree one other
-agree-from_sim one other sim right = record {
-  there = λ n. (n, follows_forward (one n).lines (one n).end (other n).lines (other n).end (sim forward n n (omega arith)).by (right n));
+-- meanings that are alike in both directions where the other has enough units, and of which the first is never wrong, agree
+pub agree-from_sim : {A : Type 0} (room : Room) (one other : ℕ → Out A) → ((d : Direction) (n m : ℕ) → Enough room 0 d n m → Sim d ◌≡◌ (one n) (other m)) → ((n : ℕ) → IsNotWrong (one n).end) → Agree one other
+agree-from_sim room one other sim right = record {
+  there = λ n. (n + room.each * n + room.beyond, follows_forward (one n).lines (one n).end (other (n + room.each * n + room.beyond)).lines (other (n + room.each * n + room.beyond)).end (sim forward n (n + room.each * n + room.beyond) (omega arith)).by (right n));
   back = λ m. (m, follows_backward (one m).lines (one m).end (other m).lines (other m).end (sim backward m m (omega arith)).by (right m));
   one_never_wrong = right;
   other_never_wrong = λ m. right_too (one m).lines (one m).end (other m).lines (other m).end (sim backward m m (omega arith)).by (right m);

@@ -1,5 +1,5 @@
 -- When two meanings with bounds agree.
-use Rattle.std.specs.Prelude.{◌≡◌, ℕ, ◌≤◌, ◌++◌}
+use Rattle.std.specs.Prelude.{◌≡◌, ℕ, ◌≤◌, ◌+◌, ◌*◌, ◌++◌}
 use Rattle.outcomes.specs.Outcome.{Lines, End, Done, Going, Wrong, Out}
 
 pub record IsPrefix (front whole : Lines) : Type 0 where
@@ -32,10 +32,19 @@ pub data Direction : Type 0 where
   forward : Direction
   backward : Direction
 
--- how the bounds of the two sides stand to each other: the side that is to show as much has no less
-abbrev pub Within : Direction → ℕ → ℕ → Type 0
-Within forward n m = n ≤ m
-Within backward n m = m ≤ n
+-- the units that the second side may take beyond those of the first: so many for each unit of the first, and so many more in all
+pub record Room : Type 0 where
+  pub each : ℕ
+  pub beyond : ℕ
+
+-- the second side takes no more units than the first
+abbrev pub no_room : Room
+no_room = record { each = 0; beyond = 0 }
+
+-- how the bounds of the two sides stand to each other: the side that is to show as much has enough units, and this many more
+abbrev pub Enough : Room → ℕ → Direction → ℕ → ℕ → Type 0
+Enough r more forward n m = n + r.each * n + r.beyond + more ≤ m
+Enough r more backward n m = m ≤ n
 
 -- two ends with their lines are alike: a wrong first side promises nothing; sides that are done have equal lines and alike results;
 -- and where a side is going, its lines are the first of the other's

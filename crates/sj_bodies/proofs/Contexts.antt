@@ -6,6 +6,7 @@ use Rattle.std.proofs.lemmas.Slice.Eq.{bytes_eq-Decides}
 use Rattle.ir_mean.specs.States as ir
 use Rattle.js_mean.specs.Meaning as js_meaning
 use Rattle.js_mean.specs.States as js
+use Rattle.js_tree.specs.Terms.{Name}
 use Rattle.sj_core.specs.Terms as core
 use Rattle.sj_desugar.specs.Desugar.{Targets, target_of}
 use Rattle.sj_desugar.specs.Spill.{Destination, discard, to_variable, to_result}
@@ -47,11 +48,11 @@ pub record IsOpen (cell : js.Cell) : Type 0 where
   pub value : js.Value
   pub is : cell ≡ js.holds false value
 
-pub record Ready (p : Place) (scope : Scope) (writable : core.Variable → Type 0) (w : World) (env : ir.Env) (sc : js.Scope) : Type 0 where
-  pub sees : Sees p scope w env sc
+pub record Ready (p : Place) (here : Name) (scope : Scope) (writable : core.Variable → Type 0) (w : World) (env : ir.Env) (sc : js.Scope) : Type 0 where
+  pub sees : Sees p here scope w env sc
   pub «open» : (y : core.Variable) → writable y → IsOpen (sc.bindings (p.name y))
 
-pub ready-lift : (z : Setting) (scope : Scope) (q : core.Variable → Type 0) (u w : World) (env : ir.Env) (sc : js.Scope) → Grows u w → Ready z.place scope q u env sc → Ready z.place scope q w env sc
+pub ready-lift : (z : Setting) (scope : Scope) (q : core.Variable → Type 0) (u w : World) (env : ir.Env) (sc : js.Scope) → Grows u w → Ready z.place z.file scope q u env sc → Ready z.place z.file scope q w env sc
 ready-lift z scope q u w env sc g r = record { sees = sees-lift z scope u w env sc g r.sees; «open» = r.«open» }
 
 pub record Keeps (p : Place) (kept : core.Variable → Type 0) (before behind : js.Scope) : Type 0 where
@@ -92,11 +93,11 @@ pub data Arrives (p : Place) (w : World) (v : ir.Value) (sc : js.Scope) (usual :
   returned : (t : IrType) (j : js.Value) → SameValue w t v j → Arrives p w v sc usual (to_result t) (js.returns j)
 
 -- how a tree and its statements came to their end; inside a loop's turn, its condition may not hold any more
-pub data Came (p : Place) (c : Context) (scope : Scope) (k : Destination) (from : World) (before : js.Scope) : ir.Ended → js.StatementEnd → Type 0 where
-  gave : (w : World) (v : ir.Value) (env : ir.Env) (s : ir.State) (sc : js.Scope) (u : js.State) (e : js.Completion) → Grows from w → Arrives p w v sc js.normally k e → Ready p scope c.writable w env sc → Keeps p (Less c.kept k) before sc → SameState p w s u → Came p c scope k from before (ir.ends (ir.gives v) env s) (js.ends e sc u)
-  left : (w : World) (l : List ℕ) (v : ir.Value) (env : ir.Env) (s : ir.State) (sc : js.Scope) (u : js.State) (e : js.Completion) → Grows from w → Arrives p w v sc (js.breaks (p.label l)) (target_of c.targets l) e → Ready p c.scope c.writable w env sc → Keeps p (Less c.kept (target_of c.targets l)) before sc → SameState p w s u → Came p c scope k from before (ir.ends (ir.leaves l v) env s) (js.ends e sc u)
-  threw : (w : World) (v : ir.Value) (x : js.Value) (env : ir.Env) (s : ir.State) (sc : js.Scope) (u : js.State) → Grows from w → SameValue w Any v x → Ready p c.scope c.writable w env sc → Keeps p c.kept before sc → SameState p w s u → Came p c scope k from before (ir.ends (ir.throws v) env s) (js.ends (js.thrown_with x) sc u)
-  stopped : (w : World) (env : ir.Env) (s : ir.State) (sc : js.Scope) (u : js.State) → c.turning → Grows from w → Ready p c.scope c.writable w env sc → Keeps p c.kept before sc → SameState p w s u → Came p c scope k from before (ir.ends ir.stops env s) (js.ends js.breaks_nearest sc u)
+pub data Came (p : Place) (here : Name) (c : Context) (scope : Scope) (k : Destination) (from : World) (before : js.Scope) : ir.Ended → js.StatementEnd → Type 0 where
+  gave : (w : World) (v : ir.Value) (env : ir.Env) (s : ir.State) (sc : js.Scope) (u : js.State) (e : js.Completion) → Grows from w → Arrives p w v sc js.normally k e → Ready p here scope c.writable w env sc → Keeps p (Less c.kept k) before sc → SameState p w s u → Came p here c scope k from before (ir.ends (ir.gives v) env s) (js.ends e sc u)
+  left : (w : World) (l : List ℕ) (v : ir.Value) (env : ir.Env) (s : ir.State) (sc : js.Scope) (u : js.State) (e : js.Completion) → Grows from w → Arrives p w v sc (js.breaks (p.label l)) (target_of c.targets l) e → Ready p here c.scope c.writable w env sc → Keeps p (Less c.kept (target_of c.targets l)) before sc → SameState p w s u → Came p here c scope k from before (ir.ends (ir.leaves l v) env s) (js.ends e sc u)
+  threw : (w : World) (v : ir.Value) (x : js.Value) (env : ir.Env) (s : ir.State) (sc : js.Scope) (u : js.State) → Grows from w → SameValue w Any v x → Ready p here c.scope c.writable w env sc → Keeps p c.kept before sc → SameState p w s u → Came p here c scope k from before (ir.ends (ir.throws v) env s) (js.ends (js.thrown_with x) sc u)
+  stopped : (w : World) (env : ir.Env) (s : ir.State) (sc : js.Scope) (u : js.State) → c.turning → Grows from w → Ready p here c.scope c.writable w env sc → Keeps p c.kept before sc → SameState p w s u → Came p here c scope k from before (ir.ends ir.stops env s) (js.ends js.breaks_nearest sc u)
 
 -- texts that aren't equal
 pub differs : (a b : List ℕ) → (a ≡ b → ⊥) → pointwise nat_eq a b ≡ false
@@ -118,13 +119,13 @@ module _ (z : Setting) (lawful : Lawful z) where
   started-here const y v sc = ap (λ (t : Bool). if t then js.holds const v else sc.bindings (z.place.name y)) (equals (z.place.name y))
 
   pub started-other : (const : Bool) (y x : core.Variable) (v : js.Value) (sc : js.Scope) → (x ≡ y → ⊥) → (js_meaning.start const (z.place.name y) v sc).bindings (z.place.name x) ≡ sc.bindings (z.place.name x)
-  started-other const y x v sc h = ap (λ (t : Bool). if t then js.holds const v else sc.bindings (z.place.name x)) (differs (z.place.name x) (z.place.name y) (λ e. h (lawful.names.variables x y e)))
+  started-other const y x v sc h = ap (λ (t : Bool). if t then js.holds const v else sc.bindings (z.place.name x)) (differs (z.place.name x) (z.place.name y) (λ e. h (lawful.base.names.variables x y e)))
 
-  pub started-inside : (const : Bool) (y : core.Variable) (v : js.Value) (sc : js.Scope) → Inside z.place sc → Inside z.place (js_meaning.start const (z.place.name y) v sc)
+  pub started-inside : (const : Bool) (y : core.Variable) (v : js.Value) (sc : js.Scope) → Inside z.place z.file sc → Inside z.place z.file (js_meaning.start const (z.place.name y) v sc)
   started-inside const y v sc i = record { file = i.file; free = λ x none. ap (λ (t : Bool). if t then js.holds const v else sc.bindings x) (differs x (z.place.name y) (λ e. none y (sym e))) ∙ i.free x none }
 
   -- a binding that is no local in scope and may not be written otherwise
-  pub started-ready : (scope : Scope) (q : core.Variable → Type 0) (const : Bool) (y : core.Variable) (v : js.Value) (w : World) (env : ir.Env) (sc : js.Scope) → ((x : List ℕ) (t : IrType) → scope x t → core.named x ≡ y → ⊥) → ((x : core.Variable) → q x → x ≡ y → ⊥) → Ready z.place scope q w env sc → Ready z.place scope q w env (js_meaning.start const (z.place.name y) v sc)
+  pub started-ready : (scope : Scope) (q : core.Variable → Type 0) (const : Bool) (y : core.Variable) (v : js.Value) (w : World) (env : ir.Env) (sc : js.Scope) → ((x : List ℕ) (t : IrType) → scope x t → core.named x ≡ y → ⊥) → ((x : core.Variable) → q x → x ≡ y → ⊥) → Ready z.place z.file scope q w env sc → Ready z.place z.file scope q w env (js_meaning.start const (z.place.name y) v sc)
   started-ready scope q const y v w env sc out unwritten r = record {
     sees = record { inside = started-inside const y v sc r.sees.inside; locals = λ x t i. subst (Holding w t (env.locals x)) (sym (started-other const y (core.named x) v sc (out x t i))) (r.sees.locals x t i) };
     «open» = λ x i. record { value = (r.«open» x i).value; is = started-other const y x v sc (unwritten x i) ∙ (r.«open» x i).is };

@@ -21,7 +21,7 @@ use Rattle.sj_trees.specs.declared.types.IrType.{IrType}
 use Rattle.sj_plain.specs.Conditions.{left_operand, Operates, DividesBy, Scope}
 use Rattle.sj_plain.specs.Standing.{Fits}
 use Rattle.sj_desugar.specs.Texts.{operand_of}
-use Rattle.sj_plain.specs.Settings.{Setting, run, SameState, Lawful}
+use Rattle.sj_plain.specs.Settings.{Setting, run, SameState, Lawful, usable}
 use Rattle.sj_bodies.proofs.Blocks.{Outside, undeclared}
 use Rattle.sj_bodies.proofs.Contexts.{Context, Writes, Sound, Ahead, Ready, Keeps, keeps-refl, Came}
 use Rattle.sj_bodies.proofs.Declared.{Own, OwnAll, OwnCases, new}
@@ -40,11 +40,11 @@ use Rattle.sj_plain.proofs.Worlds.{World, Grows, grows-refl}
 
 module _ (z : Setting) (lawful : Lawful z) (low : LowAlike z) where
   abbrev BlockDoes : Terms → Type 1
-  BlockDoes ts = (c : Context) (k : Destination) (j : ℕ) → Sound z.is_mutable c → Ahead c j → Outside c (OwnAll ts) → Writes c.writable k → FineBlock z.is_mutable z.place.has c.scope c.targets k ts → (w : World) (env : ir.Env) (s : ir.State) (sc : js.Scope) (u : js.State) → Ready z.place c.scope c.writable w env sc → SameState z.place w s u → Ends z lawful c c.scope k w sc (ir_meaning.block z.place.classes z.low ts env s) (block z.is_mutable c.targets k j ts).statements sc u
+  BlockDoes ts = (c : Context) (k : Destination) (j : ℕ) → Sound z.is_mutable c → Ahead c j → Outside c (OwnAll ts) → Writes c.writable k → FineBlock z.is_mutable (usable z) c.scope c.targets k ts → (w : World) (env : ir.Env) (s : ir.State) (sc : js.Scope) (u : js.State) → Ready z.place z.file c.scope c.writable w env sc → SameState z.place w s u → Ends z lawful c c.scope k w sc (ir_meaning.block z.place.classes z.low ts env s) (block z.is_mutable c.targets k j ts).statements sc u
 
   -- a tree of a block, and those behind it
-  one_and_rest : (t : Term) (rest : Terms) (d : Terms) → (c : Context) (k : Destination) (j : ℕ) (first : Scope) → (w : World) (env : ir.Env) (s : ir.State) (sc : js.Scope) (u : js.State) → Sim z.direction (Came z.place c first discard w sc) (ir_meaning.step z.place.classes z.low t env s) (run z (into z.is_mutable c.targets discard j t).statements sc u) → ((y : World) (v : ir.Value) (env : ir.Env) (s : ir.State) (sc' : js.Scope) (u : js.State) → Grows w y → Ready z.place first c.writable y env sc' → Keeps z.place c.kept sc sc' → SameState z.place y s u → Sim z.direction (Came z.place c c.scope k w sc) (ir_meaning.rest z.place.classes z.low rest v env s) (run z (block z.is_mutable c.targets k (into z.is_mutable c.targets discard j t).next rest).statements sc' u)) → Sim z.direction (Came z.place c c.scope k w sc) (ir.go_on (ir_meaning.step z.place.classes z.low t env s) (ir_meaning.rest z.place.classes z.low rest)) (run z (core.followed (into z.is_mutable c.targets discard j t).statements (block z.is_mutable c.targets k (into z.is_mutable c.targets discard j t).next rest).statements) sc u)
-  one_and_rest t rest d c k j first w env s sc u one others = subst (λ o. Sim z.direction (Came z.place c c.scope k w sc) (ir.go_on (ir_meaning.step z.place.classes z.low t env s) (ir_meaning.rest z.place.classes z.low rest)) o) (sym (run-followed z (into z.is_mutable c.targets discard j t).statements (block z.is_mutable c.targets k (into z.is_mutable c.targets discard j t).next rest).statements sc u)) (sim_then z.direction (Came z.place c first discard w sc) (Came z.place c c.scope k w sc) (ir_meaning.step z.place.classes z.low t env s) (run z (into z.is_mutable c.targets discard j t).statements sc u) (ir.onward (ir_meaning.rest z.place.classes z.low rest)) (js.next_statement (run z (block z.is_mutable c.targets k (into z.is_mutable c.targets discard j t).next rest).statements)) one (came_then z lawful c first c.scope k w sc (ir_meaning.rest z.place.classes z.low rest) (run z (block z.is_mutable c.targets k (into z.is_mutable c.targets discard j t).next rest).statements) others))
+  one_and_rest : (t : Term) (rest : Terms) (d : Terms) → (c : Context) (k : Destination) (j : ℕ) (first : Scope) → (w : World) (env : ir.Env) (s : ir.State) (sc : js.Scope) (u : js.State) → Sim z.direction (Came z.place z.file c first discard w sc) (ir_meaning.step z.place.classes z.low t env s) (run z (into z.is_mutable c.targets discard j t).statements sc u) → ((y : World) (v : ir.Value) (env : ir.Env) (s : ir.State) (sc' : js.Scope) (u : js.State) → Grows w y → Ready z.place z.file first c.writable y env sc' → Keeps z.place c.kept sc sc' → SameState z.place y s u → Sim z.direction (Came z.place z.file c c.scope k w sc) (ir_meaning.rest z.place.classes z.low rest v env s) (run z (block z.is_mutable c.targets k (into z.is_mutable c.targets discard j t).next rest).statements sc' u)) → Sim z.direction (Came z.place z.file c c.scope k w sc) (ir.go_on (ir_meaning.step z.place.classes z.low t env s) (ir_meaning.rest z.place.classes z.low rest)) (run z (core.followed (into z.is_mutable c.targets discard j t).statements (block z.is_mutable c.targets k (into z.is_mutable c.targets discard j t).next rest).statements) sc u)
+  one_and_rest t rest d c k j first w env s sc u one others = subst (λ o. Sim z.direction (Came z.place z.file c c.scope k w sc) (ir.go_on (ir_meaning.step z.place.classes z.low t env s) (ir_meaning.rest z.place.classes z.low rest)) o) (sym (run-followed z (into z.is_mutable c.targets discard j t).statements (block z.is_mutable c.targets k (into z.is_mutable c.targets discard j t).next rest).statements sc u)) (sim_then z.direction (Came z.place z.file c first discard w sc) (Came z.place z.file c c.scope k w sc) (ir_meaning.step z.place.classes z.low t env s) (run z (into z.is_mutable c.targets discard j t).statements sc u) (ir.onward (ir_meaning.rest z.place.classes z.low rest)) (js.next_statement (run z (block z.is_mutable c.targets k (into z.is_mutable c.targets discard j t).next rest).statements)) one (came_then z lawful c first c.scope k w sc (ir_meaning.rest z.place.classes z.low rest) (run z (block z.is_mutable c.targets k (into z.is_mutable c.targets discard j t).next rest).statements) others))
 
   one_type : (c : Context) (x : List ℕ) (t : IrType) → Sound z.is_mutable c → (y : List ℕ) (i j : IrType) → with_local x t c.scope y i → with_local x t c.scope y j → i ≡ j
   one_type c x t sound y i j (inl g) (inl h) = g.1 ∙ sym h.1
@@ -75,11 +75,11 @@ module _ (z : Setting) (lawful : Lawful z) (low : LowAlike z) where
   none_hidden : (c : Context) (x : List ℕ) (t : IrType) → ((i : IrType) → c.scope x i → ⊥) → (y : List ℕ) (i : IrType) → c.scope y i → with_local x t c.scope y i
   none_hidden c x t unseen y i h = inr ((λ e. unseen i (subst (λ n. c.scope n i) e h)), h)
 
-  skip_by : (p : Position) (c : Context) (k : Destination) → IsDiscard k → (w : World) (env : ir.Env) (s : ir.State) (sc : js.Scope) (u : js.State) → Ready z.place c.scope c.writable w env sc → SameState z.place w s u → Ends z lawful c c.scope k w sc (done (ir.ends (ir.gives ir.undefined) env s)) core.no_statements sc u
+  skip_by : (p : Position) (c : Context) (k : Destination) → IsDiscard k → (w : World) (env : ir.Env) (s : ir.State) (sc : js.Scope) (u : js.State) → Ready z.place z.file c.scope c.writable w env sc → SameState z.place w s u → Ends z lawful c c.scope k w sc (done (ir.ends (ir.gives ir.undefined) env s)) core.no_statements sc u
   skip_by p c _ is_discard w env s sc u r same = silent z lawful c w ir.undefined env s sc u r same
 
   var_by : (p : Position) (x : List ℕ) (t : IrType) (b : Bool) (e : Term) → TreeDoes z lawful low e → (c : Context) (k : Destination) (j : ℕ) → Sound z.is_mutable c → Ahead c j → Outside c (Own (var_def p x t b e)) → FineHere z lawful low c k (var_def p x t b e) → IsDiscard k → Does z lawful c k j (var_def p x t b e)
-  var_by p x t b e does c _ j sound ahead out fine is_discard w env s sc u r same = sim_weaken z.direction (Came z.place c (with_local x t c.scope) discard w sc) (Came z.place c c.scope discard w sc) (ir_meaning.step z.place.classes z.low (var_def p x t b e) env s) (run z (into z.is_mutable c.targets discard j (var_def p x t b e)).statements sc u) (came-narrow z lawful c c (with_local x t c.scope) c.scope discard w w sc sc refl refl (λ h. h) (λ y i h. h) (none_hidden c x t (λ i. out.scope x i (inl refl))) (λ y h. h) (grows-refl w) (keeps-refl z c.kept sc)) (define_does z lawful low p x t b e does c j sound ahead out fine w env s sc u r same)
+  var_by p x t b e does c _ j sound ahead out fine is_discard w env s sc u r same = sim_weaken z.direction (Came z.place z.file c (with_local x t c.scope) discard w sc) (Came z.place z.file c c.scope discard w sc) (ir_meaning.step z.place.classes z.low (var_def p x t b e) env s) (run z (into z.is_mutable c.targets discard j (var_def p x t b e)).statements sc u) (came-narrow z lawful c c (with_local x t c.scope) c.scope discard w w sc sc refl refl (λ h. h) (λ y i h. h) (none_hidden c x t (λ i. out.scope x i (inl refl))) (λ y h. h) (grows-refl w) (keeps-refl z c.kept sc)) (define_does z lawful low p x t b e does c j sound ahead out fine w env s sc u r same)
 
   assign_by : (p q : Position) (x : List ℕ) (t : IrType) (e : Term) → TreeDoes z lawful low e → (c : Context) (k : Destination) (j : ℕ) → Sound z.is_mutable c → Ahead c j → Outside c (Own e) → FineHere z lawful low c k (assign p (var_ref q x t) e) → IsDiscard k → Does z lawful c k j (assign p (var_ref q x t) e)
   assign_by p q x t e does c _ j sound ahead out fine is_discard = of_operands z lawful c discard (piece z lawful low c.targets e ∷ []) j (ir_meaning.define x) (λ es. one (core.assign_to (Some p) (core.named x) (coerced t (type_of_term e) (first_of es)))) sound ahead (operand_does z lawful low c j e does out fine.4, tt) (one_final z lawful c discard j (type_of_term e) (ir_meaning.define x) (λ es. one (core.assign_to (Some p) (core.named x) (coerced t (type_of_term e) (first_of es)))) (assign_final z lawful c p x t (type_of_term e) j sound fine.1 fine.2 fine.3))
@@ -111,21 +111,21 @@ module _ (z : Setting) (lawful : Lawful z) (low : LowAlike z) where
       out_d : Outside c (Own d)
       out_d = outside-part c (Own (binary_op p o e d)) (Own d) (λ x i. inr i) out
 
-      by : (Operates o (type_of_term e) (type_of_term d) × FineOperand z.is_mutable z.place.has c.scope e (λ y. FineHere z lawful low c (to_variable y (type_of_term e)) e) × FineOperand z.is_mutable z.place.has c.scope d (λ y. FineHere z lawful low c (to_variable y (type_of_term d)) d)) ⊎ (DividesBy o d × Fits (left_operand o) (type_of_term e) × FineOperand z.is_mutable z.place.has c.scope e (λ y. FineHere z lawful low c (to_variable y (type_of_term e)) e)) → Does z lawful c k j (binary_op p o e d)
+      by : (Operates o (type_of_term e) (type_of_term d) × FineOperand z.is_mutable (usable z) c.scope e (λ y. FineHere z lawful low c (to_variable y (type_of_term e)) e) × FineOperand z.is_mutable (usable z) c.scope d (λ y. FineHere z lawful low c (to_variable y (type_of_term d)) d)) ⊎ (DividesBy o d × Fits (left_operand o) (type_of_term e) × FineOperand z.is_mutable (usable z) c.scope e (λ y. FineHere z lawful low c (to_variable y (type_of_term e)) e)) → Does z lawful c k j (binary_op p o e d)
       by (inl h) = of_operands z lawful c k (piece z lawful low c.targets e ∷ piece z lawful low c.targets d ∷ []) j (ir_meaning.binary z.place.classes z.low o) (λ es. finish k p (binary_result o) false (core.binary_of o (operand_of o (type_of_term e) (first_of es)) (operand_of o (type_of_term d) (second_of es)))) sound ahead (operand_does z lawful low c j e does_e out_e h.1, (operand_does z lawful low c j d does_d out_d h.2, tt)) (two_final z lawful c k j (type_of_term e) (type_of_term d) (ir_meaning.binary z.place.classes z.low o) (λ es. finish k p (binary_result o) false (core.binary_of o (operand_of o (type_of_term e) (first_of es)) (operand_of o (type_of_term d) (second_of es)))) (binary_final p o (type_of_term e) (type_of_term d) c k j h.0 sound wr fine.0))
       by (inr h) = division_does z lawful low p c k j o e d h.0 h.1 sound ahead wr fine.0 (operand_does z lawful low c j e does_e out_e h.2)
 
   abbrev OperandsFine : Terms → Type 1
-  OperandsFine ts = (c : Context) (k : Destination) (j : ℕ) → Outside c (OwnAll ts) → FineOperands z.is_mutable z.place.has c.scope c.targets k ts → OperandsDo z lawful c j (list_of z lawful low c.targets ts)
+  OperandsFine ts = (c : Context) (k : Destination) (j : ℕ) → Outside c (OwnAll ts) → FineOperands z.is_mutable (usable z) c.scope c.targets k ts → OperandsDo z lawful c j (list_of z lawful low c.targets ts)
 
   last_does : (t : Term) → TreeDoes z lawful low t → BlockDoes (more_terms t no_terms)
   last_does t does c k j sound ahead out wr fine w env s sc u r same = subst (λ o. Ends z lawful c c.scope k w sc o (into z.is_mutable c.targets k j t).statements sc u) (sym (ap (ir.go_on (ir_meaning.step z.place.classes z.low t env s)) (fun_ext (λ v. refl)) ∙ go_on-given (ir_meaning.step z.place.classes z.low t env s))) (does c k j sound ahead (outside-part c (OwnAll (more_terms t no_terms)) (Own t) (λ x o. inl o) out) wr fine w env s sc u r same)
 
-  next_does : (t u : Term) (us : Terms) → TreeDoes z lawful low t → BlockDoes (more_terms u us) → (c : Context) (k : Destination) (j : ℕ) → Sound z.is_mutable c → Ahead c j → Outside c (OwnAll (more_terms t (more_terms u us))) → Writes c.writable k → FineHere z lawful low c discard t → FineBlock z.is_mutable z.place.has c.scope c.targets k (more_terms u us) → (w : World) (env : ir.Env) (s : ir.State) (sc : js.Scope) (q : js.State) → Ready z.place c.scope c.writable w env sc → SameState z.place w s q → Ends z lawful c c.scope k w sc (ir_meaning.block z.place.classes z.low (more_terms t (more_terms u us)) env s) (block z.is_mutable c.targets k j (more_terms t (more_terms u us))).statements sc q
+  next_does : (t u : Term) (us : Terms) → TreeDoes z lawful low t → BlockDoes (more_terms u us) → (c : Context) (k : Destination) (j : ℕ) → Sound z.is_mutable c → Ahead c j → Outside c (OwnAll (more_terms t (more_terms u us))) → Writes c.writable k → FineHere z lawful low c discard t → FineBlock z.is_mutable (usable z) c.scope c.targets k (more_terms u us) → (w : World) (env : ir.Env) (s : ir.State) (sc : js.Scope) (q : js.State) → Ready z.place z.file c.scope c.writable w env sc → SameState z.place w s q → Ends z lawful c c.scope k w sc (ir_meaning.block z.place.classes z.low (more_terms t (more_terms u us)) env s) (block z.is_mutable c.targets k j (more_terms t (more_terms u us))).statements sc q
   next_does t u us does others c k j sound ahead out wr fine fines w env s sc q r same = one_and_rest t (more_terms u us) us c k j c.scope w env s sc q (does c discard j sound ahead (outside-part c (OwnAll (more_terms t (more_terms u us))) (Own t) (λ x o. inl o) out) tt fine w env s sc q r same) (λ y v env s sc' q g ready ks same. rebased z lawful c c.scope k w y sc sc' (ir_meaning.block z.place.classes z.low (more_terms u us) env s) (run z (block z.is_mutable c.targets k (into z.is_mutable c.targets discard j t).next (more_terms u us)).statements sc' q) g ks (others c k (into z.is_mutable c.targets discard j t).next sound (ahead-later z lawful c j (into z.is_mutable c.targets discard j t).next (onward z.is_mutable c.targets t discard j) ahead) (outside-part c (OwnAll (more_terms t (more_terms u us))) (OwnAll (more_terms u us)) (λ x o. inr o) out) wr fines y env s sc' q ready same))
 
   defined_does : (p : Position) (x : List ℕ) (t : IrType) (b : Bool) (e u : Term) (us : Terms) → TreeDoes z lawful low e → BlockDoes (more_terms u us) → BlockDoes (more_terms (var_def p x t b e) (more_terms u us))
-  defined_does p x t b e u us does others c k j sound ahead out wr fine w env s sc q r same = one_and_rest (var_def p x t b e) (more_terms u us) us c k j (with_local x t c.scope) w env s sc q (define_does z lawful low p x t b e does c j sound ahead out_first fine.0 w env s sc q r same) (λ y v env s sc' q g ready ks same. sim_weaken z.direction (Came z.place (behind z c x t) (behind z c x t).scope k y sc') (Came z.place c c.scope k w sc) (ir_meaning.block z.place.classes z.low (more_terms u us) env s) (run z (block z.is_mutable c.targets k next (more_terms u us)).statements sc' q) (came-narrow z lawful c (behind z c x t) (behind z c x t).scope c.scope k w y sc sc' refl refl (λ h. h) (none_hidden c x t (λ i. out.scope x i (inl (inl refl)))) (none_hidden c x t (λ i. out.scope x i (inl (inl refl)))) (λ y h. inr h) g ks) (others (behind z c x t) k next (sound-behind c x t sound (out.writable x (inl (inl refl))) (out.kept x (inl (inl refl)))) (ahead-behind c x t next (ahead-later z lawful c j next (onward z.is_mutable c.targets (var_def p x t b e) discard j) ahead)) (outside-behind c x t (more_terms u us) (outside-part c (OwnAll (more_terms (var_def p x t b e) (more_terms u us))) (OwnAll (more_terms u us)) (λ x o. inr o) out) fine.1) wr fine.2 y env s sc' q ready same))
+  defined_does p x t b e u us does others c k j sound ahead out wr fine w env s sc q r same = one_and_rest (var_def p x t b e) (more_terms u us) us c k j (with_local x t c.scope) w env s sc q (define_does z lawful low p x t b e does c j sound ahead out_first fine.0 w env s sc q r same) (λ y v env s sc' q g ready ks same. sim_weaken z.direction (Came z.place z.file (behind z c x t) (behind z c x t).scope k y sc') (Came z.place z.file c c.scope k w sc) (ir_meaning.block z.place.classes z.low (more_terms u us) env s) (run z (block z.is_mutable c.targets k next (more_terms u us)).statements sc' q) (came-narrow z lawful c (behind z c x t) (behind z c x t).scope c.scope k w y sc sc' refl refl (λ h. h) (none_hidden c x t (λ i. out.scope x i (inl (inl refl)))) (none_hidden c x t (λ i. out.scope x i (inl (inl refl)))) (λ y h. inr h) g ks) (others (behind z c x t) k next (sound-behind c x t sound (out.writable x (inl (inl refl))) (out.kept x (inl (inl refl)))) (ahead-behind c x t next (ahead-later z lawful c j next (onward z.is_mutable c.targets (var_def p x t b e) discard j) ahead)) (outside-behind c x t (more_terms u us) (outside-part c (OwnAll (more_terms (var_def p x t b e) (more_terms u us))) (OwnAll (more_terms u us)) (λ x o. inr o) out) fine.1) wr fine.2 y env s sc' q ready same))
     where
       next : ℕ
       next = (into z.is_mutable c.targets discard j (var_def p x t b e)).next
@@ -134,7 +134,7 @@ module _ (z : Setting) (lawful : Lawful z) (low : LowAlike z) where
       out_first = outside-part c (OwnAll (more_terms (var_def p x t b e) (more_terms u us))) (Own (var_def p x t b e)) (λ x o. inl o) out
 
   abbrev CasesDo : Cases → Type 1
-  CasesDo cs = (c : Context) (k : Destination) (j : ℕ) → Sound z.is_mutable c → Ahead c j → Outside c (OwnCases cs) → Writes c.writable k → FineCases z.is_mutable z.place.has c.scope c.targets k cs → CasesAlike z lawful c k (ir_meaning.branches z.place.classes z.low cs) (cases z.is_mutable c.targets k j cs).cases
+  CasesDo cs = (c : Context) (k : Destination) (j : ℕ) → Sound z.is_mutable c → Ahead c j → Outside c (OwnCases cs) → Writes c.writable k → FineCases z.is_mutable (usable z) c.scope c.targets k cs → CasesAlike z lawful c k (ir_meaning.branches z.place.classes z.low cs) (cases z.is_mutable c.targets k j cs).cases
 
   case_does : (n : ℤ) (ns : List ℤ) (t : Term) (cs : Cases) → TreeDoes z lawful low t → CasesDo cs → CasesDo (more_cases (n ∷ ns) t cs)
   case_does n ns t cs does others c k j sound ahead out wr fine = with_keys (n ∷ ns) (ir_meaning.step z.place.classes z.low t) code.statements (ir_meaning.branches z.place.classes z.low cs) (cases z.is_mutable c.targets k code.next cs).cases (undeclared-case c code.statements (undeclared c (Own t) j code.statements out_case ahead (new z.is_mutable c.targets t k j))) (does (settled c) k j (sound-settled z c sound) (ahead-settled c j ahead) (outside-settled c (Own t) out_case) wr fine.0) (others c k code.next sound (ahead-later z lawful c j code.next (onward z.is_mutable c.targets t k j) ahead) (outside-part c (OwnCases (more_cases (n ∷ ns) t cs)) (OwnCases cs) (λ x o. inr o) out) wr fine.1)
@@ -180,7 +180,7 @@ module _ (z : Setting) (lawful : Lawful z) (low : LowAlike z) where
     does _ = λ c k j sound ahead out wr fine. absurd fine
 
     pub block_does : (ts : Terms) → BlockDoes ts
-    block_does no_terms = λ c k j sound ahead out wr fine w env s sc u r same. sim_wrong z.direction (Came z.place c c.scope k w sc) (done (js.ends js.normally sc u))
+    block_does no_terms = λ c k j sound ahead out wr fine w env s sc u r same. sim_wrong z.direction (Came z.place z.file c c.scope k w sc) (done (js.ends js.normally sc u))
     block_does (more_terms t no_terms) = last_does t (does t)
     block_does (more_terms (var_def p x t b e) (more_terms u us)) = defined_does p x t b e u us (does e) (block_does (more_terms u us))
     block_does (more_terms t (more_terms u us)) = λ c k j sound ahead out wr fine. next_does t u us (does t) (block_does (more_terms u us)) c k j sound ahead out wr fine.0 fine.1

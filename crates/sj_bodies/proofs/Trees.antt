@@ -26,7 +26,7 @@ use Rattle.sj_trees.specs.declared.types.IrType.{IrType}
 use Rattle.sj_plain.specs.Conditions.{left_operand, DividesBy, by_int, by_long, Plain}
 use Rattle.sj_plain.specs.Standing.{Fits, FitAll, types_referred, call_type}
 use Rattle.sj_desugar.specs.Texts.{operand_of}
-use Rattle.sj_plain.specs.Settings.{Setting, shown, SameState, Valued, Lawful, Holding, holding}
+use Rattle.sj_plain.specs.Settings.{Setting, shown, SameState, Valued, Lawful, Holding, holding, usable}
 use Rattle.sj_bodies.proofs.Blocks.{Outside}
 use Rattle.sj_plain.proofs.Standing.{arguments-same}
 use Rattle.sj_plain.proofs.Divisions.{divisor_of, division_act, division_alike, dividend_alone}
@@ -43,7 +43,7 @@ use Rattle.sj_plain.proofs.Worlds.{World}
 
 -- the level below: each tree of the forms that are built, and its statements, with one unit less
 abbrev pub LowAlike : Setting → Type 1
-LowAlike z = (c : Context) (k : Destination) (j : ℕ) (t : Term) → Sound z.is_mutable c → Ahead c j → Outside c (Own t) → Writes c.writable k → Fine z.is_mutable z.place.has c.scope c.targets k t → (w : World) (env : ir.Env) (s : ir.State) (sc : js.Scope) (u : js.State) → Ready z.place c.scope c.writable w env sc → SameState z.place w s u → Sim z.direction (Came z.place c c.scope k w sc) (z.low t env s) (z.js_low (statement_templates z.place.name z.place.label (into z.is_mutable c.targets k j t).statements) sc u)
+LowAlike z = (c : Context) (k : Destination) (j : ℕ) (t : Term) → Sound z.is_mutable c → Ahead c j → Outside c (Own t) → Writes c.writable k → Fine z.is_mutable (usable z) c.scope c.targets k t → (w : World) (env : ir.Env) (s : ir.State) (sc : js.Scope) (u : js.State) → Ready z.place z.file c.scope c.writable w env sc → SameState z.place w s u → Sim z.direction (Came z.place z.file c c.scope k w sc) (z.low t env s) (z.js_low (statement_templates z.place.name z.place.label (into z.is_mutable c.targets k j t).statements) sc u)
 
 pub outside-part : (c : Context) (own part : List ℕ → Type 0) → ((x : List ℕ) → part x → own x) → Outside c own → Outside c part
 outside-part c own part h out = record { scope = λ x t i. out.scope x t (h x i); writable = λ x i. out.writable x (h x i); kept = λ x i. out.kept x (h x i) }
@@ -63,7 +63,7 @@ go_on-given o = ap (then_do o) (fun_ext onward-given) ∙ then_do-right o
 
 module _ (z : Setting) (lawful : Lawful z) (low : LowAlike z) where
   abbrev pub FineHere : Context → Destination → Term → Type 0
-  FineHere c k t = Fine z.is_mutable z.place.has c.scope c.targets k t
+  FineHere c k t = Fine z.is_mutable (usable z) c.scope c.targets k t
 
   -- the theorem on one tree
   abbrev pub TreeDoes : Term → Type 1
@@ -73,15 +73,15 @@ module _ (z : Setting) (lawful : Lawful z) (low : LowAlike z) where
   abbrev pub piece : Targets → Term → Piece
   piece ls t = record { run = ir_meaning.step z.place.classes z.low t; here = operand z.is_mutable t (λ k j. into z.is_mutable ls k j t) }
 
-  pub operand_does : (c : Context) (j : ℕ) (t : Term) → TreeDoes t → Outside c (Own t) → FineOperand z.is_mutable z.place.has c.scope t (λ y. FineHere c (to_variable y (type_of_term t)) t) → OperandDoes z lawful c j (piece c.targets t)
+  pub operand_does : (c : Context) (j : ℕ) (t : Term) → TreeDoes t → Outside c (Own t) → FineOperand z.is_mutable (usable z) c.scope t (λ y. FineHere c (to_variable y (type_of_term t)) t) → OperandDoes z lawful c j (piece c.targets t)
   operand_does c j t does out (inl h) = inl (h.0, record { alike = λ w env sc sees. as_operand z lawful c.scope t (plain_alike z lawful c.scope t h.1) w env sc sees; told = plain_tells z lawful c.scope t h.1; fixes = λ e p sound w env sc sees. fixed_run z lawful c p t sound e h.1 w env sc sees })
   operand_does c j t does out (inr h) = inr (h.0, h.1, (λ k i. onward z.is_mutable c.targets t k i), λ p i l ext sound ahead. does (writing (keeping c p) (core.numbered i)) (to_variable (core.numbered i) (type_of_term t)) (suc i) (sound-writing z lawful (keeping c p) i sound ahead) (ahead-writing z lawful (keeping c p) i ahead) (outside-writing z lawful c p i (Own t) ext out) (inl refl) (h.2 (core.numbered i)))
 
   -- a definition by what is known of its right side
-  pub define_does : (p : Position) (x : List ℕ) (t : IrType) (b : Bool) (e : Term) → TreeDoes e → (c : Context) (j : ℕ) → Sound z.is_mutable c → Ahead c j → Outside c (Own (var_def p x t b e)) → FineHere c discard (var_def p x t b e) → (w : World) (env : ir.Env) (s : ir.State) (sc : js.Scope) (u : js.State) → Ready z.place c.scope c.writable w env sc → SameState z.place w s u → Ends z lawful c (with_local x t c.scope) discard w sc (ir_meaning.step z.place.classes z.low (var_def p x t b e) env s) (into z.is_mutable c.targets discard j (var_def p x t b e)).statements sc u
+  pub define_does : (p : Position) (x : List ℕ) (t : IrType) (b : Bool) (e : Term) → TreeDoes e → (c : Context) (j : ℕ) → Sound z.is_mutable c → Ahead c j → Outside c (Own (var_def p x t b e)) → FineHere c discard (var_def p x t b e) → (w : World) (env : ir.Env) (s : ir.State) (sc : js.Scope) (u : js.State) → Ready z.place z.file c.scope c.writable w env sc → SameState z.place w s u → Ends z lawful c (with_local x t c.scope) discard w sc (ir_meaning.step z.place.classes z.low (var_def p x t b e) env s) (into z.is_mutable c.targets discard j (var_def p x t b e)).statements sc u
   define_does p x t b e does c j sound ahead out fine = define_alike z lawful c p x t (type_of_term e) (ir_meaning.step z.place.classes z.low e) (expression_of e) (into z.is_mutable c.targets (to_variable (core.named x) t) j e) j (is_plain e) sound (λ i. out.scope x i (inl refl)) (out.writable x (inl refl)) (out.kept x (inl refl)) (⊎_elim (λ h. inl (h.0, h.2, λ w env sc sees. as_operand z lawful c.scope e (plain_alike z lawful c.scope e h.1) w env sc sees)) (λ h. inr (h.0, does (defining z lawful c x) (to_variable (core.named x) t) j (sound-defining z lawful c x sound (λ i. out.scope x i (inl refl)) (out.kept x (inl refl))) (ahead-defining z lawful c x j ahead) (record { scope = λ y i o. out.scope y i (inr o); writable = λ y o wr. ⊎_elim (λ i. fine.1 (subst (Own e) (cc) o)) (out.writable y (inr o)) wr; kept = λ y o. out.kept y (inr o) }) (inl refl) h.1)) fine.2)
 
-  pub quiet : (t : Term) (c : Context) (k : Destination) (p : Position) (e : core.Expression) (j : ℕ) (v : ir.Env → ir.Value) → Sound z.is_mutable c → Writes c.writable k → FitsIn k (type_of_term t) → Plain z.place.has c.scope t → expression_of t ≡ e → ((w : World) (env : ir.Env) (s : ir.State) (sc : js.Scope) → Ready z.place c.scope c.writable w env sc → ir_meaning.step z.place.classes z.low t env s ≡ done (ir.ends (ir.gives (v env)) env s)) → (w : World) (env : ir.Env) (s : ir.State) (sc : js.Scope) (u : js.State) → Ready z.place c.scope c.writable w env sc → SameState z.place w s u → Ends z lawful c c.scope k w sc (ir_meaning.step z.place.classes z.low t env s) (finish k p (type_of_term t) true e j).statements sc u
+  pub quiet : (t : Term) (c : Context) (k : Destination) (p : Position) (e : core.Expression) (j : ℕ) (v : ir.Env → ir.Value) → Sound z.is_mutable c → Writes c.writable k → FitsIn k (type_of_term t) → Plain (usable z) c.scope t → expression_of t ≡ e → ((w : World) (env : ir.Env) (s : ir.State) (sc : js.Scope) → Ready z.place z.file c.scope c.writable w env sc → ir_meaning.step z.place.classes z.low t env s ≡ done (ir.ends (ir.gives (v env)) env s)) → (w : World) (env : ir.Env) (s : ir.State) (sc : js.Scope) (u : js.State) → Ready z.place z.file c.scope c.writable w env sc → SameState z.place w s u → Ends z lawful c c.scope k w sc (ir_meaning.step z.place.classes z.low t env s) (finish k p (type_of_term t) true e j).statements sc u
   quiet t c k p e j v sound wr fits plain is at w env s sc u r same = quiet_alike z lawful c k p (type_of_term t) e j sound wr fits w env s sc u (ir_meaning.step z.place.classes z.low t env s) (v env) (at w env s sc r) r same (subst (λ d. Sim z.direction (Valued z.place w env (type_of_term t)) (ir_meaning.step z.place.classes z.low t env s) (shown z d sc u)) is (plain_alike z lawful c.scope t plain w env s sc u r.sees same))
 
   abbrev pub value_of : Option ir.Value → ir.Value
@@ -130,7 +130,7 @@ module _ (z : Setting) (lawful : Lawful z) (low : LowAlike z) where
   types-list ls (more_terms t ts) = ap (λ is. type_of_term t ∷ is) (types-list ls ts)
 
   -- a call, by what is known of its arguments
-  pub call_does : (p : Position) (c : Context) (k : Destination) (j : ℕ) (m : MethodName) (cn : List ℕ) (n : Namespace) (ts : Terms) (t : IrType) → Sound z.is_mutable c → Ahead c j → Writes c.writable k → FitsIn k t → z.place.has.linked (member cn n m) ≡ true → t ≡ call_type m.result → FitAll (types_referred m.params) (types_of ts) → OperandsDo z lawful c j (list_of c.targets ts) → Does z lawful c k j (apply_static p cn n m ts t)
+  pub call_does : (p : Position) (c : Context) (k : Destination) (j : ℕ) (m : MethodName) (cn : List ℕ) (n : Namespace) (ts : Terms) (t : IrType) → Sound z.is_mutable c → Ahead c j → Writes c.writable k → FitsIn k t → (usable z).linked (member cn n m) ≡ true → t ≡ call_type m.result → FitAll (types_referred m.params) (types_of ts) → OperandsDo z lawful c j (list_of c.targets ts) → Does z lawful c k j (apply_static p cn n m ts t)
   call_does p c k j m cn n ts t sound ahead wr fits linked is fit ds w env s sc u r same = subst (λ os. Ends z lawful c c.scope k w sc (ir_meaning.in_order (ir_meaning.operands z.place.classes z.low ts) act env s) (then_use (spill os j) made).statements sc u) (sym (operands-list c.targets ts)) (subst (λ rs. Ends z lawful c c.scope k w sc (ir_meaning.in_order rs act env s) (then_use (spill (operands_in z lawful (list_of c.targets ts)) j) made).statements sc u) (sym (runs-list c.targets ts)) (of_operands z lawful c k (list_of c.targets ts) j act made sound ahead ds final w env s sc u r same))
     where
       act : List ir.Value → ir.Run

@@ -17,13 +17,13 @@ use Rattle.sj_core.specs.Terms as core
 use Rattle.sj_desugar.specs.Desugar.{is_mutable_in, result_destination, names_of, desugared}
 use Rattle.sj_desugar.specs.Plain.{is_no_type}
 use Rattle.sj_desugar.specs.Spill.{Destination, discard, to_result}
-use Rattle.sj_emit_expr.specs.Templates.{member_name, statement_templates}
+use Rattle.sj_emit_expr.specs.Templates.{statement_templates}
 use Rattle.sj_names.specs.declared.method_names.Member.{Member}
 use Rattle.sj_trees.specs.declared.classes.ParamDef.{ParamDef}
 use Rattle.sj_trees.specs.declared.types.IrType.{IrType}
 use Rattle.sj_trees.specs.declared.types.IrType.TheVariants.{NoType}
 use Rattle.sj_bodies.specs.Locals.{Own}
-use Rattle.sj_plain.specs.Settings.{Place, Setting, SameState, Valued, valued, thrown, NamesDiffer, OfNoVariable, Holding, holding}
+use Rattle.sj_plain.specs.Settings.{Place, Setting, SameState, Valued, valued, thrown, NamesDiffer, OfNoVariable, Holding, holding, a_function, function_call}
 use Rattle.sj_bodies.proofs.Blocks.{Outside, bind-undeclared}
 use Rattle.sj_bodies.proofs.Contexts.{Context, Writes, Sound, Ahead, Ready, let_go, returned, Came, gave, left, threw, stopped, differs, equals, is-equal}
 use Rattle.sj_bodies.proofs.Declared.{declared-named}
@@ -89,12 +89,12 @@ result-same NoType v h = impossible (sym h)
 result-same t v h = refl
 
 -- the end of a body is the end of its call
-pub comes_back : (d : Direction) (p : Place) (t : IrType) (k : Destination) → Way t k → (c : Context) (scope : Scope) (w : World) (before : js.Scope) (env : ir.Env) (a : ir.Ended) (b : js.StatementEnd) → Came p c scope k w before a b → Sim d (Valued p w env t) (ir_meaning.returned t env a) (js_meaning.returned b)
-comes_back d p _ _ gives_up c scope w before env _ _ (gave y v inner s sc u _ g let_go r ks same) = sim_done d (Valued p w env NoType) (ir.ends (ir.gives ir.undefined) env s) (js.gives js.undefined u) (valued y ir.undefined js.undefined s u g (record { stands = same_undefined; suits = refl }) same)
-comes_back d p _ _ (hands_on t h) c scope w before env _ _ (gave y v inner s sc u _ g (returned _ j a) r ks same) = subst (λ x. Sim d (Valued p w env t) (ir.given x env s) (done (js.gives j u))) (sym (result-same t v h)) (sim_done d (Valued p w env t) (ir.ends (ir.gives v) env s) (js.gives j u) (valued y v j s u g a same))
-comes_back d p t k i c scope w before env _ _ (left y l v inner s sc u e g a r ks same) = sim_wrong d (Valued p w env t) (js_meaning.returned (js.ends e sc u))
-comes_back d p t k i c scope w before env _ _ (threw y v x inner s sc u g a r ks same) = sim_done d (Valued p w env t) (ir.ends (ir.throws v) env s) (js.throws x u) (thrown y v x s u g a same)
-comes_back d p t k i c scope w before env _ _ (stopped y inner s sc u q g r ks same) = sim_wrong d (Valued p w env t) (js_meaning.returned (js.ends js.breaks_nearest sc u))
+pub comes_back : (d : Direction) (p : Place) (file : Name) (t : IrType) (k : Destination) → Way t k → (c : Context) (scope : Scope) (w : World) (before : js.Scope) (env : ir.Env) (a : ir.Ended) (b : js.StatementEnd) → Came p file c scope k w before a b → Sim d (Valued p w env t) (ir_meaning.returned t env a) (js_meaning.returned b)
+comes_back d p file _ _ gives_up c scope w before env _ _ (gave y v inner s sc u _ g let_go r ks same) = sim_done d (Valued p w env NoType) (ir.ends (ir.gives ir.undefined) env s) (js.gives js.undefined u) (valued y ir.undefined js.undefined s u g (record { stands = same_undefined; suits = refl }) same)
+comes_back d p file _ _ (hands_on t h) c scope w before env _ _ (gave y v inner s sc u _ g (returned _ j a) r ks same) = subst (λ x. Sim d (Valued p w env t) (ir.given x env s) (done (js.gives j u))) (sym (result-same t v h)) (sim_done d (Valued p w env t) (ir.ends (ir.gives v) env s) (js.gives j u) (valued y v j s u g a same))
+comes_back d p file t k i c scope w before env _ _ (left y l v inner s sc u e g a r ks same) = sim_wrong d (Valued p w env t) (js_meaning.returned (js.ends e sc u))
+comes_back d p file t k i c scope w before env _ _ (threw y v x inner s sc u g a r ks same) = sim_done d (Valued p w env t) (ir.ends (ir.throws v) env s) (js.throws x u) (thrown y v x s u g a same)
+comes_back d p file t k i c scope w before env _ _ (stopped y inner s sc u q g r ks same) = sim_wrong d (Valued p w env t) (js_meaning.returned (js.ends js.breaks_nearest sc u))
 
 -- the parameters hold their arguments on both sides
 pub record Bound (p : Place) (w : World) (ds : List ParamDef) (vs : List ir.Value) (xs : List js.Value) (b : Name → js.Cell) : Type 0 where
@@ -146,14 +146,14 @@ module _ (p : Place) (names : NamesDiffer p) where
       go true e = let n = declared-named z ss y (subst (λ q. is_among (declared (statement_templates q.name q.label ss)) y ≡ true) (sym is) e) in absurd (none n.variable (subst (λ q. q.name n.variable ≡ y) is n.name))
 
   -- calls of a member and of its function are alike where the levels below are
-  pub call_alike : (d : Direction) (low : ir_meaning.Low) (js_low : js_meaning.Low) (m : Member) (l : Linked p m) → LowAlike (record { place = p; direction = d; is_mutable = is_mutable_in l.definition l.its_body; low = low; js_low = js_low }) → (w : World) (vs : List ir.Value) (xs : List js.Value) (env : ir.Env) (s : ir.State) (u : js.State) → SameValues w (types_referred m.method.params) vs xs → SameState p w s u → Sim d (Valued p w env (call_type m.method.result)) (ir_meaning.call low (member_of p.classes m.class m.namespace m.method) None vs env s) (js_meaning.code_call js_low p.file (js_meaning.code_of p.program p.file (member_name m)) xs u)
-  call_alike d low js_low m l below w vs xs env s u values same = subst (λ t. Sim d (Valued p w env t) (ir_meaning.call low (member_of p.classes m.class m.namespace m.method) None vs env s) (js_meaning.code_call js_low p.file (js_meaning.code_of p.program p.file (member_name m)) xs u)) l.result_is (subst (λ o. Sim d (Valued p w env l.definition.result) o (js_meaning.code_call js_low p.file (js_meaning.code_of p.program p.file (member_name m)) xs u)) (sym ir_is) (subst (λ o. Sim d (Valued p w env l.definition.result) (ir_meaning.body_call low l.definition.result (Some l.its_body) None (ir_meaning.parameters l.definition.params vs) env s) o) (sym js_is) (locals (bound w l.definition.params m.method.params vs xs names_declared l.parameters values))))
+  pub call_alike : (d : Direction) (low : ir_meaning.Low) (js_low : js_meaning.Low) (m : Member) (l : Linked p m) → LowAlike (record { place = p; file = p.home (a_function m); direction = d; is_mutable = is_mutable_in l.definition l.its_body; low = low; js_low = js_low }) → (w : World) (vs : List ir.Value) (xs : List js.Value) (env : ir.Env) (s : ir.State) (u : js.State) → SameValues w (types_referred m.method.params) vs xs → SameState p w s u → Sim d (Valued p w env (call_type m.method.result)) (ir_meaning.call low (member_of p.classes m.class m.namespace m.method) None vs env s) (function_call p js_low m xs u)
+  call_alike d low js_low m l below w vs xs env s u values same = subst (λ t. Sim d (Valued p w env t) (ir_meaning.call low (member_of p.classes m.class m.namespace m.method) None vs env s) (function_call p js_low m xs u)) l.result_is (subst (λ o. Sim d (Valued p w env l.definition.result) o (function_call p js_low m xs u)) (sym ir_is) (subst (λ o. Sim d (Valued p w env l.definition.result) (ir_meaning.body_call low l.definition.result (Some l.its_body) None (ir_meaning.parameters l.definition.params vs) env s) o) (sym js_is) (locals (bound w l.definition.params m.method.params vs xs names_declared l.parameters values))))
     where
       is_mutable : List ℕ → Bool
       is_mutable = is_mutable_in l.definition l.its_body
 
       z : Setting
-      z = record { place = p; direction = d; is_mutable = is_mutable; low = low; js_low = js_low }
+      z = record { place = p; file = p.home (a_function m); direction = d; is_mutable = is_mutable; low = low; js_low = js_low }
 
       scope : Scope
       scope = parameters_of l.definition.params
@@ -168,7 +168,7 @@ module _ (p : Place) (names : NamesDiffer p) where
       names_declared = js_meaning.bind_declared code.body (λ x. js.absent)
 
       sc : js.Scope
-      sc = js_meaning.function_scope p.file code xs
+      sc = js_meaning.function_scope (p.home (a_function m)) code xs
 
       js_body : Out js.ExpressionEnd
       js_body = then_do (js_low code.body sc u) js_meaning.returned
@@ -176,14 +176,14 @@ module _ (p : Place) (names : NamesDiffer p) where
       ir_is : ir_meaning.call low (member_of p.classes m.class m.namespace m.method) None vs env s ≡ ir_meaning.body_call low l.definition.result (Some l.its_body) None (ir_meaning.parameters l.definition.params vs) env s
       ir_is = ap (λ o. ir_meaning.call low o None vs env s) l.found ∙ ap (λ o. ir_meaning.body_call low l.definition.result o None (ir_meaning.parameters l.definition.params vs) env s) l.has_body
 
-      js_is : js_meaning.code_call js_low p.file (js_meaning.code_of p.program p.file (member_name m)) xs u ≡ js_body
-      js_is = ap (λ o. js_meaning.code_call js_low p.file o xs u) l.emitted
+      js_is : function_call p js_low m xs u ≡ js_body
+      js_is = ap (λ o. js_meaning.code_call js_low (p.home (a_function m)) o xs u) l.emitted
 
       locals : Bound p w l.definition.params vs xs names_declared → Sim d (Valued p w env l.definition.result) (ir_meaning.body_call low l.definition.result (Some l.its_body) None (ir_meaning.parameters l.definition.params vs) env s) js_body
-      locals h = subst (λ o. Sim d (Valued p w env l.definition.result) (ir_meaning.body_call low l.definition.result (Some l.its_body) None o env s) js_body) (sym h.are) (sim_then d (Came p (start is_mutable l.definition.params) scope k w sc) (Valued p w env l.definition.result) (low l.its_body inner s) (js_low code.body sc u) (ir_meaning.returned l.definition.result env) js_meaning.returned (below (start is_mutable l.definition.params) k 1 l.its_body (sound-start is_mutable l.definition.params) (ahead-start is_mutable l.definition.params) (outside-start is_mutable l.definition.params (Own l.its_body) l.fine.fresh) (writes-nothing (λ y. ⊥) l.definition.result k (way l.definition.result)) l.fine.fine w inner s sc u ready same) (comes_back d p l.definition.result k (way l.definition.result) (start is_mutable l.definition.params) scope w sc env))
+      locals h = subst (λ o. Sim d (Valued p w env l.definition.result) (ir_meaning.body_call low l.definition.result (Some l.its_body) None o env s) js_body) (sym h.are) (sim_then d (Came p (p.home (a_function m)) (start is_mutable l.definition.params) scope k w sc) (Valued p w env l.definition.result) (low l.its_body inner s) (js_low code.body sc u) (ir_meaning.returned l.definition.result env) js_meaning.returned (below (start is_mutable l.definition.params) k 1 l.its_body (sound-start is_mutable l.definition.params) (ahead-start is_mutable l.definition.params) (outside-start is_mutable l.definition.params (Own l.its_body) l.fine.fresh) (writes-nothing (λ y. ⊥) l.definition.result k (way l.definition.result)) l.fine.fine w inner s sc u ready same) (comes_back d p (p.home (a_function m)) l.definition.result k (way l.definition.result) (start is_mutable l.definition.params) scope w sc env))
         where
           inner : ir.Env
           inner = record { this_value = None; locals = h.locals; sure = sure_locals l.its_body }
 
-          ready : Ready p scope (λ y. ⊥) w inner sc
+          ready : Ready p (p.home (a_function m)) scope (λ y. ⊥) w inner sc
           ready = record { sees = record { inside = record { file = refl; free = λ y none. parameters-free (names_of l.definition.params) xs names_declared y none (body-free z refl (desugared l.definition l.its_body).body y none) }; locals = h.hold }; «open» = λ y wr. absurd wr }

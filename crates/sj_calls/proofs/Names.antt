@@ -1,13 +1,14 @@
 -- The names of the emitted code differ.
-use Rattle.std.proofs.Common.{◌≡◌, ◌≤◌, ℕ, true, List, [], ◌∷◌, Some, ap, sym, arith}
+use Rattle.std.proofs.Common.{◌≡◌, ◌≤◌, ℕ, List, [], ◌∷◌, ap, sym, arith}
+use Rattle.outcomes.specs.Agreement.{Room}
 use Rattle.ir_mean.specs.World as ir_world
-use Rattle.js_mean.specs.Files.{owner}
 use Rattle.js_mean.specs.States as js
 use Rattle.js_tree.specs.Terms.{Name}
 use Rattle.sj_core.specs.Terms.{Variable, named, numbered}
 use Rattle.sj_emit_expr.specs.Names.{variable_name, label_name}
 use Rattle.sj_emit_expr.specs.Templates.{member_name}
-use Rattle.sj_mangling.specs.Bindings.{function_name}
+use Rattle.sj_mangling.specs.Bindings.{function_name, class_binding}
+use Rattle.sj_mangling.specs.declared.bindings.ClassBinding.TheVariants.{Class}
 use Rattle.sj_mangling.specs.Mangling.{mangled}
 use Rattle.sj_mangling.specs.Numerals.{number_text}
 use Rattle.sj_mangling.proofs.Injective.{mangled_texts_differ}
@@ -16,7 +17,7 @@ use Rattle.sj_names.specs.declared.method_names.Member.{Member}
 use Rattle.sj_names.specs.declared.method_names.MethodName.{MethodName}
 use Rattle.sj_names.specs.declared.method_names.Namespace.{Namespace}
 use Rattle.sj_names.specs.declared.method_names.Namespace.TheVariants.{Public, PublicStatic, Private, PrivateStatic, Constructor}
-use Rattle.sj_plain.specs.Settings.{NamesDiffer}
+use Rattle.sj_plain.specs.Settings.{Top, a_function, a_class, top_name, NamesDiffer}
 use Rattle.sj_calls.specs.Names.{emitted_in}
 use Rattle.sj_plain.specs.Conditions.{Usable}
 
@@ -58,5 +59,14 @@ no_function : (m : Member) (x : Variable) → variable_name x ≡ member_name m 
 no_function m (named x) e = let h = begins m.namespace m.class m.method 118 (95 ∷ mangled x) e in let k : 118 ≤ 115 = h.1 in omega arith
 no_function m (numbered n) e = let h = begins m.namespace m.class m.method 36 (number_text n) e in let k : 99 ≤ 36 = h.0 in omega arith
 
-pub emitted_names_differ : (classes : ir_world.World) (program : js.Program) (file : Name) (has : Usable) → ((m : Member) → has.linked m ≡ true → owner program file (member_name m) ≡ Some file) → NamesDiffer (emitted_in classes program file has)
-emitted_names_differ classes program file has own = record { variables = variables-differ; labels = labels-differ; functions = no_function; own = own }
+-- the name of a class begins with `c`
+no_class : (c : List ℕ) (x : Variable) → variable_name x ≡ class_binding Class c → ⊥
+no_class c (named x) e = let h : ◌≡◌ {A = ℕ} 118 99 = ap first e in absurd (omega arith)
+no_class c (numbered n) e = let h : ◌≡◌ {A = ℕ} 36 99 = ap first e in absurd (omega arith)
+
+no_top : (t : Top) (x : Variable) → variable_name x ≡ top_name t → ⊥
+no_top (a_function m) = no_function m
+no_top (a_class c) = no_class c
+
+pub emitted_names_differ : (classes : ir_world.World) (program : js.Program) (home : Top → Name) (has : Name → Usable) (room : Room) → NamesDiffer (emitted_in classes program home has room)
+emitted_names_differ classes program home has room = record { variables = variables-differ; labels = labels-differ; tops = no_top }

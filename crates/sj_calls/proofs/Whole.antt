@@ -8,7 +8,7 @@ use Rattle.std.proofs.lemmas.List.Elements.{Contains-append_left, Contains-appen
 use Rattle.outcomes.specs.Outcome.{Out, done, wrong, then_do}
 use Rattle.outcomes.specs.Shown as shown
 use Rattle.outcomes.specs.Shown.{normal, uncaught, Shown}
-use Rattle.outcomes.specs.Agreement.{Direction, forward, backward, Within, Sim, IsNotWrong, Agree}
+use Rattle.outcomes.specs.Agreement.{Direction, forward, backward, Enough, no_room, Sim, IsNotWrong, Agree}
 use Rattle.outcomes.proofs.Sequence.{then_do-associative}
 use Rattle.outcomes.proofs.Simulation.{sim_done, sim_then, agree-from_sim}
 use Rattle.ir_mean.specs.Shows as ir_showing
@@ -25,8 +25,8 @@ use Rattle.sj_desugar.specs.Desugar.{desugared}
 use Rattle.sj_emit_expr.specs.Templates.{member_name, parameter_names}
 use Rattle.sj_names.specs.declared.entry_points.EntryPoint.{EntryPoint}
 use Rattle.sj_names.specs.declared.method_names.Member.{Member}
-use Rattle.sj_plain.specs.Settings.{Place, SameState, Valued, valued, thrown, NamesDiffer}
-use Rattle.sj_plain.specs.Worlds.{World, Stands, same_undefined, same_null, same_boolean, same_char, same_number, same_long, same_text, no_values}
+use Rattle.sj_plain.specs.Settings.{Place, Top, a_function, a_class, top_name, is_usable, TopHolds, SameHeap, SameState, Valued, valued, thrown, NamesDiffer}
+use Rattle.sj_plain.specs.Worlds.{World, nothing_made, Stands, same_undefined, same_null, same_boolean, same_char, same_number, same_long, same_text, no_values}
 use Rattle.sj_plain.specs.Standing.{suits}
 use Rattle.sj_names.proofs.Same.{impossible}
 use Rattle.sj_trees.specs.declared.types.IrType.TheVariants.{Any, NoType}
@@ -81,6 +81,21 @@ past_functions : (p : js.Program) (k : ℕ) (f : Name) (fs : List EmittedMethod)
 past_functions p k f [] is u = refl
 past_functions p k f (g ∷ gs) is u = past_functions p k f gs is u
 
+-- nothing is made yet
+nothing_there : {A : Type 0} (o : A) → None ≡ Some o → ⊥
+nothing_there o e = cc
+
+no_heaps : (p : Place) → SameHeap p nothing_made [] []
+no_heaps p = record {
+  objects = λ i a e. absurd (nothing_there a e);
+  differ = λ i j a e g. absurd (nothing_there a e);
+  owned = λ a o e. absurd (nothing_there o e);
+  pending = λ a o e. absurd (nothing_there o e);
+  apart = λ i a o e g. nothing_there a e;
+  unborn = λ i a o e g. nothing_there a e;
+  separate = λ a o b e g. nothing_there o e;
+}
+
 module _ (w : ir_world.World) (id : List ℕ) (fs : List EmittedMethod) (es : List EntryPoint) (has : Usable) where
   abbrev file : Name
   file = js_showing.file_of id
@@ -89,7 +104,7 @@ module _ (w : ir_world.World) (id : List ℕ) (fs : List EmittedMethod) (es : Li
   program = program_with id fs es
 
   abbrev place : Place
-  place = emitted_in w program file has
+  place = emitted_in w program (λ t. file) (λ f. has) no_room
 
   parameters-are : (xs : List (List ℕ)) → parameter_names xs ≡ parameters_in place xs
   parameters-are [] = refl
@@ -108,6 +123,7 @@ module _ (w : ir_world.World) (id : List ℕ) (fs : List EmittedMethod) (es : Li
     result_is = h.result_is;
     emitted = ap (λ o. js_meaning.code_in o (member_name e.member)) (module_there file (module_with fs es)) ∙ code_found fs (map call_item_of es) e listed distinct ∙ ap Some (code-is e);
     fine = h.fine;
+    reaches = λ t u. own_name file (module_with fs es) (top_name t) refl;
   }
     where
       names : Bool
@@ -120,24 +136,22 @@ module _ (w : ir_world.World) (id : List ℕ) (fs : List EmittedMethod) (es : Li
     linked : (m : Member) → has.linked m ≡ true → Linked place m
     linked m l = let h = functions m l in subst (Linked place) h.is (linked_by proper h.method h.listed (emitted h.method h.listed))
 
-    opening_same : SameState place [] (ir_world.opening w) (js_meaning.opening program)
-    opening_same = record {
-      addresses = refl;
-      functions = λ m l. let h = functions m l in ap (λ o. js_meaning.module_cell file o (member_name m)) (module_there file (module_with fs es)) ∙ subst (λ x. js_meaning.items_cell file (map function_item_of fs ++ map call_item_of es) (member_name x) ≡ js.holds false (js.function file (member_name x))) h.is (cell_found file fs (map call_item_of es) h.method h.listed);
-    }
-
-    own : (m : Member) → has.linked m ≡ true → files.owner program file (member_name m) ≡ Some file
-    own m l = own_name file (module_with fs es) (member_name m) refl
+    opening_same : SameState place nothing_made (ir_world.opening w) (js_meaning.opening program)
+    opening_same = record { heaps = no_heaps place; tops = λ f t h. top_there t h }
+      where
+        top_there : (t : Top) → is_usable has t ≡ true → TopHolds place t ((js_meaning.opening program).tops file (top_name t))
+        top_there (a_function m) l = let h = functions m l in ap (λ o. js_meaning.module_cell file o (member_name m)) (module_there file (module_with fs es)) ∙ subst (λ x. js_meaning.items_cell file (map function_item_of fs ++ map call_item_of es) (member_name x) ≡ js.holds false (js.function file (member_name x))) h.is (cell_found file fs (map call_item_of es) h.method h.listed)
+        top_there (a_class c) l = impossible l
 
     names : NamesDiffer place
-    names = emitted_names_differ w program file has own
+    names = emitted_names_differ w program (λ t. file) (λ f. has) no_room
 
     -- an initializer, and the item that calls it
     abbrev item_run : EntryPoint → ℕ → js.State → Out js.ExpressionEnd
     item_run e k u = js_meaning.evaluate program (js_meaning.below program k) (call_of (member_name (initializer_member e)) no_expressions) (js_meaning.top_scope program file) u
 
     item_is : (e : EntryPoint) (k : ℕ) (y : World) (s : ir.State) (u : js.State) → has.linked (initializer_member e) ≡ true → SameState place y s u → item_run e k u ≡ js_call place (initializer_member e) [] u k
-    item_is e k y s u l same = ap (λ o. called (js_meaning.top_cell o name u)) (own (initializer_member e) l) ∙ ap called (same.functions (initializer_member e) l)
+    item_is e k y s u l same = ap (λ o. called (js_meaning.top_cell o name u)) (own_name file (module_with fs es) name refl) ∙ ap called (same.tops file (a_function (initializer_member e)) l)
       where
         name : Name
         name = member_name (initializer_member e)
@@ -145,9 +159,9 @@ module _ (w : ir_world.World) (id : List ℕ) (fs : List EmittedMethod) (es : Li
         called : js.Cell → Out js.ExpressionEnd
         called cell = then_do (js_meaning.cell_value cell u) (js.with_value (λ g. js_meaning.in_order [] (js_meaning.call program (js_meaning.below program k) g) (js_meaning.top_scope program file)))
 
-    item_alike : (d : Direction) (n k : ℕ) → Within d n k → (e : EntryPoint) → has.linked (initializer_member e) ≡ true → (y : World) (s : ir.State) (u : js.State) → SameState place y s u → Sim d (Valued place y ir_showing.outside NoType) (ir_call place (initializer_member e) [] ir_showing.outside s n) (item_run e k u)
-    item_alike forward n k h e l y s u same = subst (λ o. Sim forward (Valued place y ir_showing.outside NoType) (ir_call place (initializer_member e) [] ir_showing.outside s n) o) (sym (item_is e k y s u l same)) ((calls_agree place names linked (initializer_member e) l y [] [] ir_showing.outside s u no_values same).there n k h)
-    item_alike backward n k h e l y s u same = subst (λ o. Sim backward (Valued place y ir_showing.outside NoType) (ir_call place (initializer_member e) [] ir_showing.outside s n) o) (sym (item_is e k y s u l same)) ((calls_agree place names linked (initializer_member e) l y [] [] ir_showing.outside s u no_values same).back n k h)
+    item_alike : (d : Direction) (n k : ℕ) → Enough place.room 0 d n k → (e : EntryPoint) → has.linked (initializer_member e) ≡ true → (y : World) (s : ir.State) (u : js.State) → SameState place y s u → Sim d (Valued place y ir_showing.outside NoType) (ir_call place (initializer_member e) [] ir_showing.outside s n) (item_run e k u)
+    item_alike forward n k h e l y s u same = subst (λ o. Sim forward (Valued place y ir_showing.outside NoType) (ir_call place (initializer_member e) [] ir_showing.outside s n) o) (sym (item_is e k y s u l same)) ((calls_agree place names (λ f m l. linked m l) file (initializer_member e) l y [] [] ir_showing.outside s u no_values same).there n k h)
+    item_alike backward n k h e l y s u same = subst (λ o. Sim backward (Valued place y ir_showing.outside NoType) (ir_call place (initializer_member e) [] ir_showing.outside s n) o) (sym (item_is e k y s u l same)) ((calls_agree place names (λ f m l. linked m l) file (initializer_member e) l y [] [] ir_showing.outside s u no_values same).back n k h)
 
     -- the end of the file
     abbrev ended : ℕ → Out js.ExpressionEnd → Shown
@@ -156,7 +170,7 @@ module _ (w : ir_world.World) (id : List ℕ) (fs : List EmittedMethod) (es : Li
     abbrev calls : List EntryPoint → ℕ → js.State → Out js.ExpressionEnd
     calls is k u = js_meaning.run_items program k file (map call_item_of is) u
 
-    calls_alike : (d : Direction) (n k : ℕ) → Within d n k → (is : List EntryPoint) → ((e : EntryPoint) → Contains is e → has.linked (initializer_member e) ≡ true) → (y : World) (s : ir.State) (u : js.State) → SameState place y s u → Sim d ◌≡◌ (ir_showing.all_show w n is s) (ended k (calls is k u))
+    calls_alike : (d : Direction) (n k : ℕ) → Enough place.room 0 d n k → (is : List EntryPoint) → ((e : EntryPoint) → Contains is e → has.linked (initializer_member e) ≡ true) → (y : World) (s : ir.State) (u : js.State) → SameState place y s u → Sim d ◌≡◌ (ir_showing.all_show w n is s) (ended k (calls is k u))
     calls_alike d n k h [] all y s u same = sim_done d ◌≡◌ normal normal refl
     calls_alike d n k h (e ∷ is) all y s u same = subst (λ o. Sim d ◌≡◌ (ir_showing.all_show w n (e ∷ is) s) o) (sym regrouped) (sim_then d (Valued place y ir_showing.outside NoType) ◌≡◌ (ir_call place (initializer_member e) [] ir_showing.outside s n) (item_run e k u) (ir_showing.next_or_end (ir_showing.all_show w n is)) behind (item_alike d n k h e (all e (Contains-append_left (e ∷ []) is e (Contains-push [] e))) y s u same) (next d n k is y (λ z v s u same. calls_alike d n k h is (λ x i. all x (Contains-append_right (e ∷ []) is x i)) z s u same)))
       where
@@ -186,8 +200,8 @@ module _ (w : ir_world.World) (id : List ℕ) (fs : List EmittedMethod) (es : Li
     js_is : (k : ℕ) → js_showing.js_shows program id k ≡ ended k (calls es k (js_meaning.opening program))
     js_is k = ap (order_shows k) (order_is file (module_with fs es) refl) ∙ ap (content_shows k) (module_there file (module_with fs es)) ∙ (λ i. if (proper i && true && true) then ended k (past_functions program k file fs (map call_item_of es) (js_meaning.opening program) i) else wrong)
 
-    pub shows_alike : ((e : EntryPoint) → Contains es e → has.linked (initializer_member e) ≡ true) → (d : Direction) (n k : ℕ) → Within d n k → Sim d ◌≡◌ (ir_showing.all_show w n es (ir_world.opening w)) (js_showing.js_shows program id k)
-    shows_alike all d n k h = subst (λ o. Sim d ◌≡◌ (ir_showing.all_show w n es (ir_world.opening w)) o) (sym (js_is k)) (calls_alike d n k h es all [] (ir_world.opening w) (js_meaning.opening program) opening_same)
+    pub shows_alike : ((e : EntryPoint) → Contains es e → has.linked (initializer_member e) ≡ true) → (d : Direction) (n k : ℕ) → Enough place.room 0 d n k → Sim d ◌≡◌ (ir_showing.all_show w n es (ir_world.opening w)) (js_showing.js_shows program id k)
+    shows_alike all d n k h = subst (λ o. Sim d ◌≡◌ (ir_showing.all_show w n es (ir_world.opening w)) o) (sym (js_is k)) (calls_alike d n k h es all nothing_made (ir_world.opening w) (js_meaning.opening program) opening_same)
 
 pub file_agrees : (w : ir_world.World) (entries : List EntryPoint) (id : List ℕ) (fs : List EmittedMethod) (has : Usable) → is_proper_module (module_with fs (ir_showing.initializers entries id)) ≡ true → ((e : EmittedMethod) → Contains fs e → IsEmitted w has e) → ((m : Member) → has.linked m ≡ true → HasFunction fs m) → ((e : EntryPoint) → Contains (ir_showing.initializers entries id) e → has.linked (initializer_member e) ≡ true) → ((n : ℕ) → IsNotWrong (ir_showing.ir_shows w entries id n).end) → Agree (ir_showing.ir_shows w entries id) (js_showing.js_shows (program_with id fs (ir_showing.initializers entries id)) id)
-file_agrees w entries id fs has proper emitted functions all right = agree-from_sim (ir_showing.ir_shows w entries id) (js_showing.js_shows (program_with id fs (ir_showing.initializers entries id)) id) (shows_alike w id fs (ir_showing.initializers entries id) has proper emitted functions all) right
+file_agrees w entries id fs has proper emitted functions all right = agree-from_sim no_room (ir_showing.ir_shows w entries id) (js_showing.js_shows (program_with id fs (ir_showing.initializers entries id)) id) (shows_alike w id fs (ir_showing.initializers entries id) has proper emitted functions all) right

@@ -1,8 +1,8 @@
 -- Methods that are linked, what is asked of each, and when the calls of one and of its function are alike.
-use Rattle.std.specs.Prelude.{◌≡◌, ◌≤◌, ℕ, List, [], ◌∷◌, ◌⊎◌, Some, None}
+use Rattle.std.specs.Prelude.{◌≡◌, ℕ, List, [], ◌∷◌, ◌⊎◌, Some, None}
 use Rattle.js_tree.specs.Terms.{Name}
 use Rattle.outcomes.specs.Outcome.{Out}
-use Rattle.outcomes.specs.Agreement.{forward, backward, Sim}
+use Rattle.outcomes.specs.Agreement.{forward, backward, Enough, Sim}
 use Rattle.ir_mean.specs.Meaning as ir_meaning
 use Rattle.ir_mean.specs.States as ir
 use Rattle.ir_mean.specs.World.{member_of}
@@ -17,7 +17,7 @@ use Rattle.sj_trees.specs.declared.classes.MethodDef.{MethodDef}
 use Rattle.sj_trees.specs.declared.classes.ParamDef.{ParamDef}
 use Rattle.sj_bodies.specs.Fine.{Fine, with_local}
 use Rattle.sj_bodies.specs.Locals.{Own}
-use Rattle.sj_plain.specs.Settings.{Place, Valued}
+use Rattle.sj_plain.specs.Settings.{Place, a_function, function_call, Reaches, Valued}
 use Rattle.sj_plain.specs.Worlds.{World}
 use Rattle.sj_plain.specs.Conditions.{Usable, Scope}
 use Rattle.sj_plain.specs.Standing.{call_type}
@@ -53,7 +53,8 @@ pub record FineMethod (has : Usable) (d : MethodDef) (e : Term) : Type 0 where
   pub fine : Fine (is_mutable_in d e) has (parameters_of d.params) [] (result_destination d.result) e
   pub fresh : (x : List ℕ) → Own e x → IsParameter d.params x → ⊥
 
--- a member of the classes with the types that its name tells and a body that is fine, whose function stands in the file
+-- a member of the classes with the types that its name tells and a body that is fine by what the code of its file can use, whose function stands in that
+-- file; and what can be used there is reached there
 pub record Linked (p : Place) (m : Member) : Type 0 where
   pub definition : MethodDef
   pub its_body : Term
@@ -61,19 +62,20 @@ pub record Linked (p : Place) (m : Member) : Type 0 where
   pub has_body : definition.body ≡ Some its_body
   pub parameters : HaveTypes definition.params m.method.params
   pub result_is : definition.result ≡ call_type m.method.result
-  pub emitted : js_meaning.code_of p.program p.file (member_name m) ≡ Some (function_of p definition its_body)
-  pub fine : FineMethod p.has definition its_body
+  pub emitted : js_meaning.code_of p.program (p.home (a_function m)) (member_name m) ≡ Some (function_of p definition its_body)
+  pub fine : FineMethod (p.has (p.home (a_function m))) definition its_body
+  pub reaches : Reaches p (p.home (a_function m))
 
 -- a call of a member by the IR, and a call of its function, with a bound on what its body does
 abbrev pub ir_call : Place → Member → List ir.Value → ir.Env → ir.State → ℕ → Out ir.Ended
 ir_call p m vs env s n = ir_meaning.call (ir_meaning.below p.classes n) (member_of p.classes m.class m.namespace m.method) None vs env s
 
 abbrev pub js_call : Place → Member → List js.Value → js.State → ℕ → Out js.ExpressionEnd
-js_call p m xs u n = js_meaning.code_call (js_meaning.below p.program n) p.file (js_meaning.code_of p.program p.file (member_name m)) xs u
+js_call p m xs u n = function_call p (js_meaning.below p.program n) m xs u
 
--- what the call shows within a bound the call of the function shows within each bound that isn't less, and the other way round: where the one
--- is done, the other is too, with the same lines and with a value and a state that stand for the one's; where it is going, its lines are the
--- first of the other's. A call that is wrong by the IR promises nothing.
+-- what the call shows within a bound the call of the function shows within each bound that is enough for it, by the room of the place; and what the
+-- function shows the call shows within each bound that isn't less. Where the one is done, the other is too, with the same lines and with a value and
+-- a state that stand for the one's; where it is going, its lines are the first of the other's. A call that is wrong by the IR promises nothing.
 pub record CallsAgree (p : Place) (m : Member) (w : World) (vs : List ir.Value) (xs : List js.Value) (env : ir.Env) (s : ir.State) (u : js.State) : Type 0 where
-  pub there : (n k : ℕ) → n ≤ k → Sim forward (Valued p w env (call_type m.method.result)) (ir_call p m vs env s n) (js_call p m xs u k)
-  pub back : (n k : ℕ) → k ≤ n → Sim backward (Valued p w env (call_type m.method.result)) (ir_call p m vs env s n) (js_call p m xs u k)
+  pub there : (n k : ℕ) → Enough p.room 0 forward n k → Sim forward (Valued p w env (call_type m.method.result)) (ir_call p m vs env s n) (js_call p m xs u k)
+  pub back : (n k : ℕ) → Enough p.room 0 backward n k → Sim backward (Valued p w env (call_type m.method.result)) (ir_call p m vs env s n) (js_call p m xs u k)

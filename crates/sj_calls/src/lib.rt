@@ -7,37 +7,36 @@
 
 ghost use Rattle.std.specs.Prelude.{◌≡◌, ℕ, true, List, Some};
 ghost use Rattle.std.specs.List.{Contains};
-ghost use Rattle.outcomes.specs.Agreement.{IsNotWrong, Agree};
+ghost use Rattle.outcomes.specs.Agreement.{IsNotWrong, Agree, Room};
 ghost use Rattle.ir_mean.specs.Shows.{initializers, ir_shows};
 ghost use Rattle.ir_mean.specs.States as ir;
 ghost use Rattle.ir_mean.specs.World as ir_world;
-ghost use Rattle.js_mean.specs.Files.{owner};
 ghost use Rattle.js_mean.specs.Proper.{is_proper_module};
 ghost use Rattle.js_mean.specs.Shows.{js_shows};
 ghost use Rattle.js_mean.specs.States as js;
 ghost use Rattle.js_tree.specs.Terms.{Name};
-ghost use Rattle.sj_emit_expr.specs.Templates.{member_name};
 ghost use Rattle.sj_names.specs.declared.entry_points.EntryPoint.{EntryPoint};
 ghost use Rattle.sj_names.specs.declared.method_names.Member.{Member};
 ghost use Rattle.sj_plain.specs.Standing.{types_referred};
-ghost use Rattle.sj_plain.specs.Settings.{Place, SameState, NamesDiffer};
+ghost use Rattle.sj_plain.specs.Settings.{Place, Top, SameState, NamesDiffer};
 ghost use Rattle.sj_plain.specs.Worlds.{World, SameValues};
 ghost use Rattle.sj_calls.specs.Files.{EmittedMethod, initializer_member, module_with, program_with, IsEmitted, HasFunction};
 ghost use Rattle.sj_calls.specs.Methods.{Linked, CallsAgree};
 ghost use Rattle.sj_calls.specs.Names.{emitted_in};
 ghost use Rattle.sj_plain.specs.Conditions.{Usable};
 
-/// The theorem on calls, for any names of variables and labels that differ: let each linked member be a method of the classes with the types that
-/// its name tells, whose body is fine and whose emitted function stands in the file. Then a call of a linked member by the IR and a call of its function agree where the
-/// arguments, of the types that the name tells, and the states stand for each other: what the one shows within a bound, the other shows within each bound that isn't less.
+/// The theorem on calls, for any names of variables and labels that differ and any files of functions: let each member that the code of a file can use
+/// be a method of the classes with the types that its name tells, whose body is fine by what the code of its own file can use and reaches by name there, and whose emitted function
+/// stands in that file. Then a call of such a member by the IR and a call of its function agree where the arguments, of the types that the name tells, and the states stand for each
+/// other: what the one shows within a bound, the other shows within each bound that is enough for it by the room of the place, and with no room within each that isn't less.
 pub fn calls_agree()
-    ensures { (p : Place) → NamesDiffer p → ((m : Member) → p.has.linked m ≡ true → Linked p m) → (m : Member) → p.has.linked m ≡ true → (w : World) (vs : List ir.Value) (xs : List js.Value) (env : ir.Env) (s : ir.State) (u : js.State) → SameValues w (types_referred m.method.params) vs xs → SameState p w s u → CallsAgree p m w vs xs env s u }
+    ensures { (p : Place) → NamesDiffer p → ((f : Name) (m : Member) → (p.has f).linked m ≡ true → Linked p m) → (f : Name) (m : Member) → (p.has f).linked m ≡ true → (w : World) (vs : List ir.Value) (xs : List js.Value) (env : ir.Env) (s : ir.State) (u : js.State) → SameValues w (types_referred m.method.params) vs xs → SameState p w s u → CallsAgree p m w vs xs env s u }
 {}
 
 /// The names of the emitted code differ: no two variables have one name, whatever numbers a name is made of, no two labels, and no variable has
-/// the name of a function; let the name of each linked member's function be one that its own file declares.
+/// the name of a function or of a class.
 pub fn emitted_names_differ()
-    ensures { (classes : ir_world.World) (program : js.Program) (file : Name) (has : Usable) → ((m : Member) → has.linked m ≡ true → owner program file (member_name m) ≡ Some file) → NamesDiffer (emitted_in classes program file has) }
+    ensures { (classes : ir_world.World) (program : js.Program) (home : Top → Name) (has : Name → Usable) (room : Room) → NamesDiffer (emitted_in classes program home has room) }
 {}
 
 /// The theorem on files: take a module that has the functions of these methods in this order and then calls the initializers of a public module,

@@ -31,7 +31,7 @@ use Rattle.sj_trees.specs.declared.positions.Position.{Position}
 use Rattle.sj_trees.specs.declared.types.IrType.{IrType}
 use Rattle.sj_trees.specs.declared.types.IrType.TheVariants.{Undefined, Null, Boolean, Char, Byte, Short, Int, Long, String}
 use Rattle.sj_plain.specs.Conditions.{is_simple, left_operand, right_operand, unary_operand, Operates, of_its_types, joins, a_quotient, a_remainder, a_long_quotient, a_long_remainder, DividesBy, by_int, by_long, Plain, AllPlain, Scope}
-use Rattle.sj_plain.specs.Settings.{Setting, shown, SameState, Inside, Valued, valued, Lawful, Holding, holding, Sees}
+use Rattle.sj_plain.specs.Settings.{Setting, shown, SameState, Inside, Valued, valued, Lawful, Holding, holding, Sees, usable, a_function, function_of_member, function_call}
 use Rattle.sj_plain.specs.Standing.{suits, Fits, FitAll, types_referred, call_type}
 use Rattle.sj_plain.proofs.Divisions.{division_alike, dividend_alone}
 use Rattle.sj_plain.proofs.Operators.{template_value, is_direct}
@@ -45,7 +45,7 @@ use Rattle.sj_plain.proofs.Worlds.{World, Grows, grows-refl, SameValue, Stands, 
 pub holding-lift : (u w : World) (t : IrType) (o : Option ir.Value) (cell : js.Cell) → Grows u w → Holding u t o cell → Holding w t o cell
 holding-lift u w t _ _ g (holding v x a) = holding v x (value-lift u w t v x g a)
 
-pub sees-lift : (z : Setting) (scope : Scope) (u w : World) (env : ir.Env) (sc : js.Scope) → Grows u w → Sees z.place scope u env sc → Sees z.place scope w env sc
+pub sees-lift : (z : Setting) (scope : Scope) (u w : World) (env : ir.Env) (sc : js.Scope) → Grows u w → Sees z.place z.file scope u env sc → Sees z.place z.file scope w env sc
 sees-lift z scope u w env sc g h = record { inside = h.inside; locals = λ x t i. holding-lift u w t (env.locals x) (sc.bindings (z.place.name (core.named x))) g (h.locals x t i) }
 
 module _ (z : Setting) (lawful : Lawful z) (scope : Scope) where
@@ -65,8 +65,8 @@ module _ (z : Setting) (lawful : Lawful z) (scope : Scope) where
   local_alike w env t s u _ _ outer (holding v x a) same = gives_alike w env t s u v x a same
 
   -- a call: the name stands for the function, the arguments are evaluated, and the bodies are alike
-  name_shown : (m : Member) (w : World) (s : ir.State) (sc : js.Scope) (u : js.State) → z.place.has.linked m ≡ true → Inside z.place sc → SameState z.place w s u → js_meaning.name_value z.place.program (member_name m) sc u ≡ done (js.gives (js.function z.place.file (member_name m)) u)
-  name_shown m w s sc u linked inside same = (λ i. js_meaning.cell_value (js_meaning.or_outer (inside.free (member_name m) (lawful.names.functions m) i) (js_meaning.top_cell (owner z.place.program (inside.file i) (member_name m)) (member_name m) u)) u) ∙ (λ i. js_meaning.cell_value (js_meaning.top_cell (lawful.names.own m linked i) (member_name m) u) u) ∙ (λ i. js_meaning.cell_value (same.functions m linked i) u)
+  name_shown : (m : Member) (w : World) (s : ir.State) (sc : js.Scope) (u : js.State) → (usable z).linked m ≡ true → Inside z.place z.file sc → SameState z.place w s u → js_meaning.name_value z.place.program (member_name m) sc u ≡ done (js.gives (function_of_member z.place m) u)
+  name_shown m w s sc u linked inside same = (λ i. js_meaning.cell_value (js_meaning.or_outer (inside.free (member_name m) (lawful.base.names.tops (a_function m)) i) (js_meaning.top_cell (owner z.place.program (inside.file i) (member_name m)) (member_name m) u)) u) ∙ (λ i. js_meaning.cell_value (js_meaning.top_cell (lawful.base.reaches (a_function m) linked i) (member_name m) u) u) ∙ (λ i. js_meaning.cell_value (same.tops z.file (a_function m) linked i) u)
 
   weaker : (v w : World) (env : ir.Env) (t : IrType) (o : Out ir.Ended) (q : Out js.ExpressionEnd) → Grows v w → Sim z.direction (Valued z.place w env t) o q → Sim z.direction (Valued z.place v env t) o q
   weaker v w env t o q g h = sim_weaken z.direction (Valued z.place w env t) (Valued z.place v env t) o q (λ a b. valued-weaken z v w env t a b g) h
@@ -74,8 +74,8 @@ module _ (z : Setting) (lawful : Lawful z) (scope : Scope) where
   pub fitting : (w : World) (env : ir.Env) (expected own : IrType) (o : Out ir.Ended) (q : Out js.ExpressionEnd) → Fits expected own → Sim z.direction (Valued z.place w env own) o q → Sim z.direction (Valued z.place w env expected) o q
   fitting w env expected own o q f h = sim_weaken z.direction (Valued z.place w env own) (Valued z.place w env expected) o q (λ a b. valued-fits z w env expected own a b f) h
 
-  call_acts : (m : Member) (ts : List IrType) (w : World) (env : ir.Env) (sc : js.Scope) → z.place.has.linked m ≡ true → FitAll (types_referred m.method.params) ts → ActsAlike z w w env ts (call_type m.method.result) (ir_meaning.call z.low (ir_world.member_of z.place.classes m.class m.namespace m.method) None) (js_meaning.call z.place.program z.js_low (js.function z.place.file (member_name m))) sc
-  call_acts m ts w env sc linked fit y vs xs s u g alike same = weaker w y env (call_type m.method.result) (ir_meaning.call z.low (ir_world.member_of z.place.classes m.class m.namespace m.method) None vs env s) (js_meaning.code_call z.js_low z.place.file (js_meaning.code_of z.place.program z.place.file (member_name m)) xs u) g (lawful.calls m linked y vs xs env s u (values-fit y (types_referred m.method.params) ts vs xs fit alike) same)
+  call_acts : (m : Member) (ts : List IrType) (w : World) (env : ir.Env) (sc : js.Scope) → (usable z).linked m ≡ true → FitAll (types_referred m.method.params) ts → ActsAlike z w w env ts (call_type m.method.result) (ir_meaning.call z.low (ir_world.member_of z.place.classes m.class m.namespace m.method) None) (js_meaning.call z.place.program z.js_low (function_of_member z.place m)) sc
+  call_acts m ts w env sc linked fit y vs xs s u g alike same = weaker w y env (call_type m.method.result) (ir_meaning.call z.low (ir_world.member_of z.place.classes m.class m.namespace m.method) None vs env s) (function_call z.place z.js_low m xs u) g (lawful.base.calls m linked y vs xs env s u (values-fit y (types_referred m.method.params) ts vs xs fit alike) same)
 
   branch_acts : (w : World) (env : ir.Env) (sc : js.Scope) (own t : IrType) (first second : ir.Run) (one other : js.Evaluation) → OperandAlike z w env sc t first one → OperandAlike z w env sc t second other → ActsAlike z w w env (own ∷ []) t (ir_meaning.branch first second) (js_meaning.chosen one other) sc
   branch_acts w env sc own t first second one other f g y _ _ s u h (one_more _ v x _ _ _ a no_values) same = by v x a.stands
@@ -94,19 +94,19 @@ module _ (z : Setting) (lawful : Lawful z) (scope : Scope) where
   by_equal w env t o o' q q' e g h = subst (λ x. Sim z.direction (Valued z.place w env t) x q) (sym e) (subst (λ x. Sim z.direction (Valued z.place w env t) o' x) (sym g) h)
 
   abbrev pub PlainAlike : Term → Type 0
-  PlainAlike t = (w : World) (env : ir.Env) (s : ir.State) (sc : js.Scope) (u : js.State) → Sees z.place scope w env sc → SameState z.place w s u → Sim z.direction (Valued z.place w env (type_of_term t)) (ir_meaning.step z.place.classes z.low t env s) (shown z (expression_of t) sc u)
+  PlainAlike t = (w : World) (env : ir.Env) (s : ir.State) (sc : js.Scope) (u : js.State) → Sees z.place z.file scope w env sc → SameState z.place w s u → Sim z.direction (Valued z.place w env (type_of_term t)) (ir_meaning.step z.place.classes z.low t env s) (shown z (expression_of t) sc u)
 
-  pub as_operand : (t : Term) → PlainAlike t → (w : World) (env : ir.Env) (sc : js.Scope) → Sees z.place scope w env sc → OperandAlike z w env sc (type_of_term t) (ir_meaning.step z.place.classes z.low t) (shown z (expression_of t))
+  pub as_operand : (t : Term) → PlainAlike t → (w : World) (env : ir.Env) (sc : js.Scope) → Sees z.place z.file scope w env sc → OperandAlike z w env sc (type_of_term t) (ir_meaning.step z.place.classes z.low t) (shown z (expression_of t))
   as_operand t h w env sc sees y s u g same = h y env s sc u (sees-lift z scope w y env sc g sees) same
 
-  fitting_operand : (t : Term) (expected : IrType) → Fits expected (type_of_term t) → PlainAlike t → (w : World) (env : ir.Env) (sc : js.Scope) → Sees z.place scope w env sc → OperandAlike z w env sc expected (ir_meaning.step z.place.classes z.low t) (shown z (expression_of t))
+  fitting_operand : (t : Term) (expected : IrType) → Fits expected (type_of_term t) → PlainAlike t → (w : World) (env : ir.Env) (sc : js.Scope) → Sees z.place z.file scope w env sc → OperandAlike z w env sc expected (ir_meaning.step z.place.classes z.low t) (shown z (expression_of t))
   fitting_operand t expected f h w env sc sees y s u g same = fitting y env expected (type_of_term t) (ir_meaning.step z.place.classes z.low t env s) (shown z (expression_of t) sc u) f (as_operand t h w env sc sees y s u g same)
 
-  if_alike : (c a b : Term) (t : IrType) (e f : core.Expression) → PlainAlike c → PlainAlike a → PlainAlike b → Fits t (type_of_term a) → Fits t (type_of_term b) → e ≡ expression_of a → f ≡ expression_of b → tells (type_of_term c) (expression_template z.place.name z.place.label (expression_of c)) ≡ true → (w : World) (env : ir.Env) (s : ir.State) (sc : js.Scope) (u : js.State) → Sees z.place scope w env sc → SameState z.place w s u → Sim z.direction (Valued z.place w env t) (ir_meaning.in_order (ir_meaning.step z.place.classes z.low c ∷ []) (ir_meaning.branch (ir_meaning.step z.place.classes z.low a) (ir_meaning.step z.place.classes z.low b)) env s) (shown z (core.choice_of (expression_of c) e f) sc u)
+  if_alike : (c a b : Term) (t : IrType) (e f : core.Expression) → PlainAlike c → PlainAlike a → PlainAlike b → Fits t (type_of_term a) → Fits t (type_of_term b) → e ≡ expression_of a → f ≡ expression_of b → tells (type_of_term c) (expression_template z.place.name z.place.label (expression_of c)) ≡ true → (w : World) (env : ir.Env) (s : ir.State) (sc : js.Scope) (u : js.State) → Sees z.place z.file scope w env sc → SameState z.place w s u → Sim z.direction (Valued z.place w env t) (ir_meaning.in_order (ir_meaning.step z.place.classes z.low c ∷ []) (ir_meaning.branch (ir_meaning.step z.place.classes z.low a) (ir_meaning.step z.place.classes z.low b)) env s) (shown z (core.choice_of (expression_of c) e f) sc u)
   if_alike c a b t e f hc ha hb fa fb ea eb told w env s sc u sees same = by_equal w env t _ _ _ _ refl (λ i. shown z (core.choice_of (expression_of c) (ea i) (eb i)) sc u) (in_order_alike z w w env sc w (type_of_term c ∷ []) t (ir_meaning.step z.place.classes z.low c ∷ []) (expression_of c ∷ []) (ir_meaning.branch (ir_meaning.step z.place.classes z.low a) (ir_meaning.step z.place.classes z.low b)) (js_meaning.chosen (shown z (expression_of a)) (shown z (expression_of b))) (more_operands _ _ _ _ _ _ told (as_operand c hc w env sc sees) no_operands) (branch_acts w env sc (type_of_term c) t (ir_meaning.step z.place.classes z.low a) (ir_meaning.step z.place.classes z.low b) (shown z (expression_of a)) (shown z (expression_of b)) (fitting_operand a t fa ha w env sc sees) (fitting_operand b t fb hb w env sc sees)) w s u (grows-refl w) (grows-refl w) (grows-refl w) same)
 
-  pub call_alike : (m : Member) (ts : List IrType) (rs : List ir.Run) (es es' : List core.Expression) → es ≡ es' → z.place.has.linked m ≡ true → FitAll (types_referred m.method.params) ts → (w : World) (env : ir.Env) (s : ir.State) (sc : js.Scope) (u : js.State) → Inside z.place sc → OperandsAlike z w env sc ts rs es' → SameState z.place w s u → Sim z.direction (Valued z.place w env (call_type m.method.result)) (ir_meaning.in_order rs (ir_meaning.call z.low (ir_world.member_of z.place.classes m.class m.namespace m.method) None) env s) (shown z (core.static_call m (expressions_of es)) sc u)
-  call_alike m ts rs es es' e linked fit w env s sc u inside operands same = by_equal w env (call_type m.method.result) _ _ _ _ refl (ap (λ o. then_do o (js.with_value (λ f. js_meaning.in_order (js_meaning.arguments z.place.program z.js_low (expression_templates z.place.name z.place.label (expressions_of es))) (js_meaning.call z.place.program z.js_low f) sc))) (name_shown m w s sc u linked inside same) ∙ ap (λ args. js_meaning.in_order args (js_meaning.call z.place.program z.js_low (js.function z.place.file (member_name m))) sc u) (arguments_shown es ∙ ap (all_shown z) e)) (in_order_alike z w w env sc w ts (call_type m.method.result) rs es' (ir_meaning.call z.low (ir_world.member_of z.place.classes m.class m.namespace m.method) None) (js_meaning.call z.place.program z.js_low (js.function z.place.file (member_name m))) operands (call_acts m ts w env sc linked fit) w s u (grows-refl w) (grows-refl w) (grows-refl w) same)
+  pub call_alike : (m : Member) (ts : List IrType) (rs : List ir.Run) (es es' : List core.Expression) → es ≡ es' → (usable z).linked m ≡ true → FitAll (types_referred m.method.params) ts → (w : World) (env : ir.Env) (s : ir.State) (sc : js.Scope) (u : js.State) → Inside z.place z.file sc → OperandsAlike z w env sc ts rs es' → SameState z.place w s u → Sim z.direction (Valued z.place w env (call_type m.method.result)) (ir_meaning.in_order rs (ir_meaning.call z.low (ir_world.member_of z.place.classes m.class m.namespace m.method) None) env s) (shown z (core.static_call m (expressions_of es)) sc u)
+  call_alike m ts rs es es' e linked fit w env s sc u inside operands same = by_equal w env (call_type m.method.result) _ _ _ _ refl (ap (λ o. then_do o (js.with_value (λ f. js_meaning.in_order (js_meaning.arguments z.place.program z.js_low (expression_templates z.place.name z.place.label (expressions_of es))) (js_meaning.call z.place.program z.js_low f) sc))) (name_shown m w s sc u linked inside same) ∙ ap (λ args. js_meaning.in_order args (js_meaning.call z.place.program z.js_low (function_of_member z.place m)) sc u) (arguments_shown es ∙ ap (all_shown z) e)) (in_order_alike z w w env sc w ts (call_type m.method.result) rs es' (ir_meaning.call z.low (ir_world.member_of z.place.classes m.class m.namespace m.method) None) (js_meaning.call z.place.program z.js_low (function_of_member z.place m)) operands (call_acts m ts w env sc linked fit) w s u (grows-refl w) (grows-refl w) (grows-refl w) same)
 
   pub unary_alike : (o : UnaryOp) (own : IrType) (r : ir.Run) (e : core.Expression) → (w : World) (env : ir.Env) (s : ir.State) (sc : js.Scope) (u : js.State) → OperandsAlike z w env sc (own ∷ []) (r ∷ []) (e ∷ []) → SameState z.place w s u → Sim z.direction (Valued z.place w env (unary_result o)) (ir_meaning.in_order (r ∷ []) (ir_meaning.unary z.place.classes z.low o) env s) (shown z (core.unary_of o e) sc u)
   unary_alike o own r e w env s sc u operand same = by_equal w env (unary_result o) _ _ _ _ refl (unary_shown z.place.program z.js_low (expression_template z.place.name z.place.label e) sc u o) (in_order_alike z w w env sc w (own ∷ []) (unary_result o) (r ∷ []) (e ∷ []) (ir_meaning.unary z.place.classes z.low o) (by_one_value (one_template_value o)) operand (unary_acts z w env sc o own) w s u (grows-refl w) (grows-refl w) (grows-refl w) same)
@@ -187,7 +187,7 @@ module _ (z : Setting) (lawful : Lawful z) (scope : Scope) where
   pub division_same : (o : BinaryOp) (d : Term) → DividesBy o d → (s t : IrType) (e g : core.Expression) → core.binary_of o (operand_of o s e) (operand_of o t g) ≡ core.binary_of o e g
   division_same o d by s t e g = λ i. core.binary_of o (operand_same o d by s e i) (operand_same o d by t g i)
 
-  pub plain_tells : (t : Term) → Plain z.place.has scope t → tells (type_of_term t) (text_of_tree t) ≡ true
+  pub plain_tells : (t : Term) → Plain (usable z) scope t → tells (type_of_term t) (text_of_tree t) ≡ true
   plain_tells (if_then p c a b t) h = refl
   plain_tells (apply_static p c n m ts t) h = refl
   plain_tells (unary_op p o e) h = unary_tells o (type_of_term e) (text_of_tree e) h.0 (plain_tells e h.1)
@@ -206,18 +206,18 @@ module _ (z : Setting) (lawful : Lawful z) (scope : Scope) where
   plain_tells _ h = absurd h
 
   -- a plain tree as the one operand, or the first of several
-  with_tree : (t : Term) → Plain z.place.has scope t → PlainAlike t → (w : World) (env : ir.Env) (sc : js.Scope) → Sees z.place scope w env sc → (ts : List IrType) (rs : List ir.Run) (es : List core.Expression) → OperandsAlike z w env sc ts rs es → OperandsAlike z w env sc (type_of_term t ∷ ts) (ir_meaning.step z.place.classes z.low t ∷ rs) (expression_of t ∷ es)
+  with_tree : (t : Term) → Plain (usable z) scope t → PlainAlike t → (w : World) (env : ir.Env) (sc : js.Scope) → Sees z.place z.file scope w env sc → (ts : List IrType) (rs : List ir.Run) (es : List core.Expression) → OperandsAlike z w env sc ts rs es → OperandsAlike z w env sc (type_of_term t ∷ ts) (ir_meaning.step z.place.classes z.low t ∷ rs) (expression_of t ∷ es)
   with_tree t h alike w env sc sees ts rs es others = more_operands (type_of_term t) (ir_meaning.step z.place.classes z.low t) (expression_of t) ts rs es (plain_tells t h) (as_operand t alike w env sc sees) others
 
-  division_plain : (q : Position) (o : BinaryOp) (e d : Term) → Plain z.place.has scope e → PlainAlike e → DividesBy o d → Fits (left_operand o) (type_of_term e) → PlainAlike (binary_op q o e d)
+  division_plain : (q : Position) (o : BinaryOp) (e d : Term) → Plain (usable z) scope e → PlainAlike e → DividesBy o d → Fits (left_operand o) (type_of_term e) → PlainAlike (binary_op q o e d)
   division_plain q o e d h alike by f w env s sc u sees same = by_equal w env (binary_result o) _ _ _ _ (dividend_alone z o d by (ir_meaning.step z.place.classes z.low e) env s) (λ i. shown z (division_same o d by (type_of_term e) (type_of_term d) (expression_of e) (expression_of d) i) sc u) (division_alike z o d by (type_of_term e) f (ir_meaning.step z.place.classes z.low e) (expression_of e) w env s sc u (with_tree e h alike w env sc sees [] [] [] no_operands) same)
 
-  call_plain : (p : Position) (m : Member) (ts : Terms) (t : IrType) → t ≡ call_type m.method.result → z.place.has.linked m ≡ true → FitAll (types_referred m.method.params) (types_of ts) → (w : World) (env : ir.Env) (s : ir.State) (sc : js.Scope) (u : js.State) → Sees z.place scope w env sc → OperandsAlike z w env sc (types_of ts) (ir_meaning.operands z.place.classes z.low ts) (all_expressions ts) → SameState z.place w s u → Sim z.direction (Valued z.place w env t) (ir_meaning.in_order (ir_meaning.operands z.place.classes z.low ts) (ir_meaning.call z.low (ir_world.member_of z.place.classes m.class m.namespace m.method) None) env s) (shown z (core.static_call m (expressions_of (coerced_arguments m.method.params (types_of ts) (all_expressions ts)))) sc u)
+  call_plain : (p : Position) (m : Member) (ts : Terms) (t : IrType) → t ≡ call_type m.method.result → (usable z).linked m ≡ true → FitAll (types_referred m.method.params) (types_of ts) → (w : World) (env : ir.Env) (s : ir.State) (sc : js.Scope) (u : js.State) → Sees z.place z.file scope w env sc → OperandsAlike z w env sc (types_of ts) (ir_meaning.operands z.place.classes z.low ts) (all_expressions ts) → SameState z.place w s u → Sim z.direction (Valued z.place w env t) (ir_meaning.in_order (ir_meaning.operands z.place.classes z.low ts) (ir_meaning.call z.low (ir_world.member_of z.place.classes m.class m.namespace m.method) None) env s) (shown z (core.static_call m (expressions_of (coerced_arguments m.method.params (types_of ts) (all_expressions ts)))) sc u)
   call_plain p m ts t is linked fit w env s sc u sees operands same = subst (λ i. Sim z.direction (Valued z.place w env i) (ir_meaning.in_order (ir_meaning.operands z.place.classes z.low ts) (ir_meaning.call z.low (ir_world.member_of z.place.classes m.class m.namespace m.method) None) env s) (shown z (core.static_call m (expressions_of (coerced_arguments m.method.params (types_of ts) (all_expressions ts)))) sc u)) (sym is) (call_alike m (types_of ts) (ir_meaning.operands z.place.classes z.low ts) (coerced_arguments m.method.params (types_of ts) (all_expressions ts)) (all_expressions ts) (arguments-same m.method.params (types_of ts) (all_expressions ts) fit) linked fit w env s sc u sees.inside operands same)
 
   mutual
     -- both directions at once: what a plain tree comes to, its expression comes to
-    pub plain_alike : (t : Term) → Plain z.place.has scope t → PlainAlike t
+    pub plain_alike : (t : Term) → Plain (usable z) scope t → PlainAlike t
     plain_alike (if_then p c a b t) h w env s sc u sees same = if_alike c a b t (coerced t (type_of_term a) (expression_of a)) (coerced t (type_of_term b) (expression_of b)) (plain_alike c h.0) (plain_alike a h.1) (plain_alike b h.2) h.3 h.4 (coerced-same t (type_of_term a) (expression_of a) h.3) (coerced-same t (type_of_term b) (expression_of b) h.4) (plain_tells c h.0) w env s sc u sees same
     plain_alike (apply_static p c n m ts t) h w env s sc u sees same = call_plain p (member c n m) ts t h.1 h.0 h.2 w env s sc u sees (all_alike ts h.3 w env sc sees) same
     plain_alike (unary_op p o e) h w env s sc u sees same = unary_alike o (type_of_term e) (ir_meaning.step z.place.classes z.low e) (expression_of e) w env s sc u (with_tree e h.1 (plain_alike e h.1) w env sc sees [] [] [] no_operands) same
@@ -235,6 +235,6 @@ module _ (z : Setting) (lawful : Lawful z) (scope : Scope) where
     plain_alike (var_ref p x t) h w env s sc u sees same = local_alike w env t s u (env.locals x) (sc.bindings (z.place.name (core.named x))) (js_meaning.top_cell (owner z.place.program sc.file (z.place.name (core.named x))) (z.place.name (core.named x)) u) (sees.locals x t h) same
     plain_alike _ h w env s sc u sees same = absurd h
 
-    pub all_alike : (ts : Terms) → AllPlain z.place.has scope ts → (w : World) (env : ir.Env) (sc : js.Scope) → Sees z.place scope w env sc → OperandsAlike z w env sc (types_of ts) (ir_meaning.operands z.place.classes z.low ts) (all_expressions ts)
+    pub all_alike : (ts : Terms) → AllPlain (usable z) scope ts → (w : World) (env : ir.Env) (sc : js.Scope) → Sees z.place z.file scope w env sc → OperandsAlike z w env sc (types_of ts) (ir_meaning.operands z.place.classes z.low ts) (all_expressions ts)
     all_alike no_terms h w env sc sees = no_operands
     all_alike (more_terms t ts) h w env sc sees = with_tree t h.0 (plain_alike t h.0) w env sc sees _ _ _ (all_alike ts h.1 w env sc sees)

@@ -1,17 +1,17 @@
 -- Worlds grow, and what stands for each other goes on to do so.
-use Rattle.std.proofs.Common.{List, [], ◌∷◌, ◌++◌, sym, ap, ◌∙◌, append_assoc, append-nil}
+use Rattle.std.proofs.Common.{List, [], ◌∷◌}
 use Rattle.ir_mean.specs.States as ir
 use Rattle.js_mean.specs.States as js
-pub use Rattle.sj_plain.specs.Worlds.{World, Grows, Stands, same_undefined, same_null, same_boolean, same_char, same_number, same_long, same_text, SameValue, SameValues, no_values, one_more}
+pub use Rattle.sj_plain.specs.Worlds.{World, nothing_made, Grows, Stands, same_undefined, same_null, same_boolean, same_char, same_number, same_long, same_text, SameValue, SameValues, no_values, one_more}
 use Rattle.sj_plain.specs.Standing.{Fits, FitAll}
 use Rattle.sj_plain.proofs.Standing.{fits-suits}
 use Rattle.sj_trees.specs.declared.types.IrType.{IrType}
 
 pub grows-refl : (w : World) → Grows w w
-grows-refl w = record { more = []; parts = sym (append-nil w) }
+grows-refl w = record { places = λ i a e. e; owns = λ a o e. e; pends = λ a o e. e }
 
 pub grows-trans : (u v w : World) → Grows u v → Grows v w → Grows u w
-grows-trans u v w g h = record { more = g.more ++ h.more; parts = h.parts ∙ ap (λ (x : World). x ++ h.more) g.parts ∙ append_assoc u g.more h.more }
+grows-trans u v w g h = record { places = λ i a e. h.places i a (g.places i a e); owns = λ a o e. h.owns a o (g.owns a o e); pends = λ a o e. h.pends a o (g.pends a o e) }
 
 pub stands-lift : (u w : World) (v : ir.Value) (x : js.Value) → Grows u w → Stands u v x → Stands w v x
 stands-lift u w _ _ g same_undefined = same_undefined

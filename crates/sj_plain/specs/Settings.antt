@@ -1,7 +1,10 @@
 -- What a body is compared in: the two programs, how things are named, and what the levels below give.
-use Rattle.std.specs.Prelude.{◌≡◌, ℕ, Bool, true, false, List, length, Option, Some, None}
+use Rattle.std.specs.Prelude.{◌≡◌, ℕ, Bool, true, false, List, [], map, slice_get, codes, Option, Some, None}
+use Rattle.std.specs.List.{Contains}
 use Rattle.js_tree.specs.Terms.{Name}
-use Rattle.outcomes.specs.Agreement.{Direction, Sim}
+use Rattle.outcomes.specs.Agreement.{Direction, Room, Sim}
+use Rattle.outcomes.specs.Outcome.{Out}
+use Rattle.ir_mean.specs.Dispatch.{chain_of}
 use Rattle.ir_mean.specs.Meaning as ir_meaning
 use Rattle.ir_mean.specs.States as ir
 use Rattle.ir_mean.specs.World as ir_world
@@ -10,29 +13,63 @@ use Rattle.js_mean.specs.Meaning as js_meaning
 use Rattle.js_mean.specs.States as js
 use Rattle.sj_core.specs.Terms as core
 use Rattle.sj_emit_expr.specs.Templates.{member_name, expression_template, statement_templates}
+use Rattle.sj_mangling.specs.Bindings.{class_binding, field_binding}
+use Rattle.sj_mangling.specs.declared.bindings.ClassBinding.TheVariants.{Class, Marker}
+use Rattle.sj_mangling.specs.declared.bindings.FieldBinding.TheVariants.{Property}
 use Rattle.sj_names.specs.declared.method_names.Member.{Member}
 use Rattle.sj_plain.specs.Worlds.{World, Grows, SameValue, SameValues}
 use Rattle.sj_plain.specs.Conditions.{Usable, Scope}
 use Rattle.sj_plain.specs.Standing.{types_referred, call_type}
+use Rattle.sj_trees.specs.declared.classes.ClassDef.{ClassDef}
+use Rattle.sj_trees.specs.declared.classes.FieldDef.{FieldDef}
 use Rattle.sj_trees.specs.declared.types.IrType.{IrType}
 use Rattle.sj_trees.specs.declared.types.IrType.TheVariants.{Any}
 
--- what is fixed: the two programs, the names that stand for variables, labels and members, and the members that are linked
+-- a binding at the top of a file of the emitted code: the function of a member, or a class
+pub data Top : Type 0 where
+  a_function : Member → Top
+  a_class : List ℕ → Top
+
+abbrev pub top_name : Top → Name
+top_name (a_function m) = member_name m
+top_name (a_class c) = class_binding Class c
+
+-- the code that can use this can use the binding; so far none uses a class
+abbrev pub is_usable : Usable → Top → Bool
+is_usable has (a_function m) = has.linked m
+is_usable has (a_class c) = false
+
+-- what is fixed: the two programs, the names that stand for variables and labels, the file of each binding, what the code of each file can use, and the
+-- units that the emitted code may take beyond those of the IR
 pub record Place : Type 0 where
   pub classes : ir_world.World
   pub program : js.Program
-  pub file : Name
   pub name : core.Variable → Name
   pub label : List ℕ → Name
-  pub has : Usable
+  pub home : Top → Name
+  pub has : Name → Usable
+  pub room : Room
 
--- a place, the half of the agreement that is spoken of, the mutable locals of the body, and what the levels below give
+-- the function of a member
+abbrev pub function_of_member : Place → Member → js.Value
+function_of_member p m = js.function (p.home (a_function m)) (member_name m)
+
+-- a call of it with these values
+abbrev pub function_call : Place → js_meaning.Low → Member → List js.Value → js.State → Out js.ExpressionEnd
+function_call p low m = js_meaning.code_call low (p.home (a_function m)) (js_meaning.code_of p.program (p.home (a_function m)) (member_name m))
+
+-- a place, the file of the code at hand, the half of the agreement that is spoken of, the mutable locals of the body, and what the levels below give
 pub record Setting : Type 0 where
   pub place : Place
+  pub file : Name
   pub direction : Direction
   pub is_mutable : List ℕ → Bool
   pub low : ir_meaning.Low
   pub js_low : js_meaning.Low
+
+-- what the code at hand can use
+abbrev pub usable : Setting → Usable
+usable z = z.place.has z.file
 
 -- the statements and expressions of this setting
 abbrev pub shown : Setting → core.Expression → js.Evaluation
@@ -41,19 +78,66 @@ shown z e = js_meaning.evaluate z.place.program z.js_low (expression_template z.
 abbrev pub run : Setting → core.Statements → js.Execution
 run z ss = js_meaning.execute_all z.place.program z.js_low (statement_templates z.place.name z.place.label ss)
 
--- the states stand for each other: each address of the heap has its address in the world, and the functions of the program stand at the top
--- of the file
+-- the class has an instance field of this name and type
+pub record IsField (classes : ir_world.World) (c f : List ℕ) (t : IrType) : Type 0 where
+  pub definition : ClassDef
+  pub field : FieldDef
+  pub found : ir_world.class_of classes c ≡ Some definition
+  pub among : Contains definition.fields field
+  pub of_objects : field.is_static ≡ false
+  pub named : field.name ≡ f
+  pub typed : field.tpe ≡ t
+
+-- what a field of the type holds, and the property that stands for it; where there is no such field the IR is wrong
+pub data SameField (w : World) (t : IrType) : Option ir.Value → Option js.Value → Type 0 where
+  same_field : (v : ir.Value) (x : js.Value) → SameValue w t v x → SameField w t (Some v) (Some x)
+  no_field : (x : Option js.Value) → SameField w t None x
+
+-- the properties lead to the constants of the class, which the emitted code has for itself and which tell its marker
+pub record TellsClass (w : World) (c : List ℕ) (properties : Name → Option js.Value) : Type 0 where
+  pub address : ℕ
+  pub constants : Name → Option js.Value
+  pub held : properties (codes "k") ≡ Some (js.object address)
+  pub owned : w.owned address ≡ Some (js.plain [] constants)
+  pub marked : constants (codes "s") ≡ Some (js.text (class_binding Marker c))
+
+-- where a class of the emitted code is declared
+abbrev pub link_of : Place → List ℕ → js.ClassLink
+link_of p c = record { file = p.home (a_class c); name = top_name (a_class c) }
+
+-- what stands at an address of the IR, and what stands at the address that it has in the world: an object of a class, made by the class that stands for
+-- it and by those that this one extends, with a property for each field
+pub data SameStored (p : Place) (w : World) : Option ir.Stored → Option js.Stored → Type 0 where
+  same_object : (c : List ℕ) (fields : ir.Fields) (properties : Name → Option js.Value) → TellsClass w c properties → ((d f : List ℕ) (t : IrType) → IsField p.classes d f t → SameField w t (fields d f) (properties (field_binding Property d f))) → SameStored p w (Some (ir.object c fields)) (Some (js.plain (map (link_of p) (chain_of p.classes c)) properties))
+
+-- the heaps stand for each other: what has an address in the world stands on both; two addresses of the IR have two; and what the emitted code has for
+-- itself, or has made before the IR, stands where it stood, at no address of the world
+pub record SameHeap (p : Place) (w : World) (s : List ir.Stored) (u : List js.Stored) : Type 0 where
+  pub objects : (i a : ℕ) → w.place i ≡ Some a → SameStored p w (slice_get s i) (slice_get u a)
+  pub differ : (i j a : ℕ) → w.place i ≡ Some a → w.place j ≡ Some a → i ≡ j
+  pub owned : (a : ℕ) (o : js.Stored) → w.owned a ≡ Some o → slice_get u a ≡ Some o
+  pub pending : (a : ℕ) (o : js.Stored) → w.pending a ≡ Some o → slice_get u a ≡ Some o
+  pub apart : (i a : ℕ) (o : js.Stored) → w.place i ≡ Some a → w.owned a ≡ Some o → ⊥
+  pub unborn : (i a : ℕ) (o : js.Stored) → w.place i ≡ Some a → w.pending a ≡ Some o → ⊥
+  pub separate : (a : ℕ) (o b : js.Stored) → w.owned a ≡ Some o → w.pending a ≡ Some b → ⊥
+
+-- what a binding at the top holds once its file has run
+abbrev pub TopHolds : Place → Top → js.Cell → Type 0
+TopHolds p (a_function m) cell = cell ≡ js.holds false (function_of_member p m)
+TopHolds p (a_class c) cell = cell ≡ js.holds false (js.class (map (link_of p) (chain_of p.classes c)))
+
+-- the states stand for each other: the heaps do, and what the code of some file can use holds what it is to hold
 pub record SameState (p : Place) (w : World) (s : ir.State) (u : js.State) : Type 0 where
-  pub addresses : length w ≡ length s.heap
-  pub functions : (m : Member) → p.has.linked m ≡ true → u.tops p.file (member_name m) ≡ js.holds false (js.function p.file (member_name m))
+  pub heaps : SameHeap p w s.heap u.heap
+  pub tops : (f : Name) (t : Top) → is_usable (p.has f) t ≡ true → TopHolds p t (u.tops (p.home t) (top_name t))
 
 -- a name that no variable has: those of functions, and of whatever else stands at the top of a file
 abbrev pub OfNoVariable : Place → Name → Type 0
 OfNoVariable p x = (y : core.Variable) → p.name y ≡ x → ⊥
 
--- the scope belongs to the function of a method: nothing but variables is bound in it
-pub record Inside (p : Place) (sc : js.Scope) : Type 0 where
-  pub file : sc.file ≡ p.file
+-- the scope belongs to the function of a method in this file: nothing but variables is bound in it
+pub record Inside (p : Place) (here : Name) (sc : js.Scope) : Type 0 where
+  pub file : sc.file ≡ here
   pub free : (x : Name) → OfNoVariable p x → sc.bindings x ≡ js.absent
 
 -- an expression of this type of the IR that gave a value or threw one and changed no local, and the expression that is emitted for it
@@ -64,24 +148,33 @@ pub data Valued (p : Place) (from : World) (env : ir.Env) (t : IrType) : ir.Ende
 -- a member of the IR's program, and its function: what a call of the one and of the other come to, where the arguments are of the types that
 -- the member's name tells
 abbrev pub CallsAlike : Setting → Member → Type 0
-CallsAlike z m = (w : World) (vs : List ir.Value) (xs : List js.Value) (env : ir.Env) (s : ir.State) (u : js.State) → SameValues w (types_referred m.method.params) vs xs → SameState z.place w s u → Sim z.direction (Valued z.place w env (call_type m.method.result)) (ir_meaning.call z.low (ir_world.member_of z.place.classes m.class m.namespace m.method) None vs env s) (js_meaning.code_call z.js_low z.place.file (js_meaning.code_of z.place.program z.place.file (member_name m)) xs u)
+CallsAlike z m = (w : World) (vs : List ir.Value) (xs : List js.Value) (env : ir.Env) (s : ir.State) (u : js.State) → SameValues w (types_referred m.method.params) vs xs → SameState z.place w s u → Sim z.direction (Valued z.place w env (call_type m.method.result)) (ir_meaning.call z.low (ir_world.member_of z.place.classes m.class m.namespace m.method) None vs env s) (function_call z.place z.js_low m xs u)
 
--- two variables have two names, and two labels; no variable has the name of a function; and a linked member's function is one of the file
+-- two variables have two names, and two labels; and no variable has the name of a binding at the top
 pub record NamesDiffer (p : Place) : Type 0 where
   pub variables : (x y : core.Variable) → p.name x ≡ p.name y → x ≡ y
   pub labels : (l m : List ℕ) → p.label l ≡ p.label m → l ≡ m
-  pub functions : (m : Member) → OfNoVariable p (member_name m)
-  pub own : (m : Member) → p.has.linked m ≡ true → owner p.program p.file (member_name m) ≡ Some p.file
+  pub tops : (t : Top) → OfNoVariable p (top_name t)
 
-pub record Lawful (z : Setting) : Type 0 where
+-- what the code of this file can use it reaches by its name, in the file that has it
+abbrev pub Reaches : Place → Name → Type 0
+Reaches p f = (t : Top) → is_usable (p.has f) t ≡ true → owner p.program f (top_name t) ≡ Some (p.home t)
+
+-- what the levels below give of what is called
+pub record Based (z : Setting) : Type 0 where
   pub names : NamesDiffer z.place
-  pub calls : (m : Member) → z.place.has.linked m ≡ true → CallsAlike z m
+  pub reaches : Reaches z.place z.file
+  pub calls : (m : Member) → (usable z).linked m ≡ true → CallsAlike z m
+
+-- what the levels below give to trees
+pub record Lawful (z : Setting) : Type 0 where
+  pub base : Based z
 
 -- what a local of this type holds, and the binding that stands for it
 pub data Holding (w : World) (t : IrType) : Option ir.Value → js.Cell → Type 0 where
   holding : (v : ir.Value) (x : js.Value) → SameValue w t v x → Holding w t (Some v) (js.holds false x)
 
 -- the locals in scope stand for each other
-pub record Sees (p : Place) (scope : Scope) (w : World) (env : ir.Env) (sc : js.Scope) : Type 0 where
-  pub inside : Inside p sc
+pub record Sees (p : Place) (here : Name) (scope : Scope) (w : World) (env : ir.Env) (sc : js.Scope) : Type 0 where
+  pub inside : Inside p here sc
   pub locals : (x : List ℕ) (t : IrType) → scope x t → Holding w t (env.locals x) (sc.bindings (p.name (core.named x)))

@@ -1,18 +1,26 @@
 -- When a value of the IR and one of the emitted code stand for each other.
-use Rattle.std.specs.Prelude.{◌≡◌, ℕ, ◌^◌, ◌<◌, Bool, true, List, [], ◌∷◌, ◌++◌, ℤ, pos, FitsSigned}
+use Rattle.std.specs.Prelude.{◌≡◌, ℕ, ◌^◌, ◌<◌, Bool, true, List, [], ◌∷◌, Option, Some, None, ℤ, pos, FitsSigned}
 use Rattle.std.specs.Int.{w32, w64}
 use Rattle.ir_mean.specs.States as ir
 use Rattle.js_mean.specs.States as js
 use Rattle.sj_plain.specs.Standing.{suits}
 use Rattle.sj_trees.specs.declared.types.IrType.{IrType}
 
--- the address that the emitted code has for each address of the IR; so far no form makes an object
-abbrev pub World : Type 0
-World = List ℕ
+-- the address that the emitted code has for each address of the IR; what it has for itself at other addresses, which stays as it is; and the objects
+-- that it has already made and the IR hasn't yet, as they stand. So far no form makes an object.
+pub record World : Type 0 where
+  pub place : ℕ → Option ℕ
+  pub owned : ℕ → Option js.Stored
+  pub pending : ℕ → Option js.Stored
+
+-- the world of a program that begins
+abbrev pub nothing_made : World
+nothing_made = record { place = λ i. None; owned = λ a. None; pending = λ a. None }
 
 pub record Grows (old new : World) : Type 0 where
-  pub more : World
-  pub parts : new ≡ old ++ more
+  pub places : (i a : ℕ) → old.place i ≡ Some a → new.place i ≡ Some a
+  pub owns : (a : ℕ) (o : js.Stored) → old.owned a ≡ Some o → new.owned a ≡ Some o
+  pub pends : (a : ℕ) (o : js.Stored) → old.pending a ≡ Some o → new.pending a ≡ Some o
 
 -- a value, and the value of the emitted code that stands for it, a char being a Number; so far no form makes a reference
 pub data Stands (w : World) : ir.Value → js.Value → Type 0 where

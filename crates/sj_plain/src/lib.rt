@@ -15,7 +15,7 @@ ghost use Rattle.sj_trees.specs.Term.{Term};
 ghost use Rattle.sj_trees.specs.TypeOf.{type_of_term};
 ghost use Rattle.sj_trees.specs.declared.types.IrType.{IrType};
 ghost use Rattle.sj_plain.specs.Conditions.{Plain};
-ghost use Rattle.sj_plain.specs.Settings.{Setting, Lawful, Sees, SameState, Valued, shown};
+ghost use Rattle.sj_plain.specs.Settings.{Setting, Lawful, Sees, SameState, Valued, shown, usable};
 ghost use Rattle.sj_plain.specs.Worlds.{World};
 
 /// The theorem on plain trees, in both directions: let a tree be plain, of the forms that are built, with its locals in scope and its calls
@@ -23,5 +23,5 @@ ghost use Rattle.sj_plain.specs.Worlds.{World};
 /// That is, where both are done they have shown the same lines, and the values and states that they come to stand for each other; where a
 /// side is going, what it has shown begins what the other shows. A tree that is wrong promises nothing.
 pub fn plain_trees_agree()
-    ensures { (z : Setting) → Lawful z → (scope : List ℕ → IrType → Bool) (t : Term) → Plain z.place.has (λ x i. scope x i ≡ true) t → (w : World) (env : ir.Env) (s : ir.State) (sc : js.Scope) (u : js.State) → Sees z.place (λ x i. scope x i ≡ true) w env sc → SameState z.place w s u → Sim z.direction (Valued z.place w env (type_of_term t)) (ir_meaning.step z.place.classes z.low t env s) (shown z (expression_of t) sc u) }
+    ensures { (z : Setting) → Lawful z → (scope : List ℕ → IrType → Bool) (t : Term) → Plain (usable z) (λ x i. scope x i ≡ true) t → (w : World) (env : ir.Env) (s : ir.State) (sc : js.Scope) (u : js.State) → Sees z.place z.file (λ x i. scope x i ≡ true) w env sc → SameState z.place w s u → Sim z.direction (Valued z.place w env (type_of_term t)) (ir_meaning.step z.place.classes z.low t env s) (shown z (expression_of t) sc u) }
 {}

@@ -4,7 +4,7 @@ use Rattle.std.specs.Prelude.{nat_eq}
 use Rattle.std.specs.Cmp.Lexicographic.{pointwise}
 use Rattle.std.specs.List.{list_all}
 use Rattle.std.proofs.lemmas.List.Elements.{Contains-append_left, Contains-append_right, Contains-push}
-use Rattle.outcomes.specs.Agreement.{forward, Agree}
+use Rattle.outcomes.specs.Agreement.{forward, no_room, Agree}
 use Rattle.ir_mean.specs.Meaning as ir_meaning
 use Rattle.ir_mean.specs.Shows.{initializers, ir_shows}
 use Rattle.ir_mean.specs.World as ir_world
@@ -63,11 +63,11 @@ named-same x y e = cc
 
 module _ (w : ir_world.World) (id : List ℕ) (fs : List EmittedMethod) (es : List EntryPoint) (has : Usable) where
   abbrev place : Place
-  place = emitted_in w (program_with id fs es) (file_of id) has
+  place = emitted_in w (program_with id fs es) (λ t. file_of id) (λ f. has) no_room
 
   -- a setting with these names
   abbrev z : Setting
-  z = record { place = place; direction = forward; is_mutable = λ x. false; low = ir_meaning.below [] 0; js_low = js_meaning.below [] 0 }
+  z = record { place = place; file = file_of id; direction = forward; is_mutable = λ x. false; low = ir_meaning.below [] 0; js_low = js_meaning.below [] 0 }
 
   abbrev declares_names : core.Statements → List Name
   declares_names ss = declared (statement_templates variable_name label_name ss)
