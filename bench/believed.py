@@ -18,7 +18,7 @@ CLAIMS = [
     ("parse_listing", ["listing_spelling.Spelling"]),
     ("check_class", ["sj_local.Broken"]),
     ("World", ["sj_world.Subtypes", "sj_world.Resolution"]),
-    ("check_method", ["sj_typing.Typed"]),
+    ("check_method", ["typing_rules.Typed"]),
     ("sj_ask", ["sj_ask.Laws"]),
     ("infos_of", ["sj_infos.Infos"]),
     ("reachability", ["reach_rules.Reachable", "sj_reach.Answers"]),
