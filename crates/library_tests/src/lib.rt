@@ -10,7 +10,3 @@ mod lanes;
 mod outside;
 #[cfg(test)]
 mod questions;
-#[cfg(test)]
-mod trees;
-#[cfg(test)]
-mod units;
