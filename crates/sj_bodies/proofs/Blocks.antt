@@ -109,7 +109,7 @@ module _ (z : Setting) (lawful : Lawful z) (c : Context) (ss : core.Statements) 
 
   leaving_alike : (k : Destination) (w : World) (sc : js.Scope) → Sound z.is_mutable c → Writes c.writable k → (a : ir.Ended) (b : js.StatementEnd) → Came z.place z.file c c.scope k w (js_meaning.enter shown_statements sc) a b → Sim z.direction (Came z.place z.file c c.scope k w sc) (done a) (js_meaning.leaving shown_statements sc b)
   leaving_alike k w sc sound wr _ _ (gave y v env s sc' u e g a r ks same) = sim_done z.direction (Came z.place z.file c c.scope k w sc) (ir.ends (ir.gives v) env s) (js.ends e (js_meaning.leave shown_statements sc sc') u) (gave y v env s (js_meaning.leave shown_statements sc sc') u e g (leave-arrives y v sc sc' js.normally k e wr a) (leave-ready y env sc sc' r) (leave-keeps (Less c.kept k) sc sc' (λ y h. h.0) ks) same)
-  leaving_alike k w sc sound wr _ _ (left y l v env s sc' u e g a r ks same) = sim_done z.direction (Came z.place z.file c c.scope k w sc) (ir.ends (ir.leaves l v) env s) (js.ends e (js_meaning.leave shown_statements sc sc') u) (left y l v env s (js_meaning.leave shown_statements sc sc') u e g (leave-arrives y v sc sc' (js.breaks (z.place.label l)) (target_of c.targets l) e (sound.reached l) a) (leave-ready y env sc sc' r) (leave-keeps (Less c.kept (target_of c.targets l)) sc sc' (λ y h. h.0) ks) same)
+  leaving_alike k w sc sound wr _ _ (left y l v env s sc' u e reach g a r ks same) = sim_done z.direction (Came z.place z.file c c.scope k w sc) (ir.ends (ir.leaves l v) env s) (js.ends e (js_meaning.leave shown_statements sc sc') u) (left y l v env s (js_meaning.leave shown_statements sc sc') u e reach g (leave-arrives y v sc sc' (js.breaks (z.place.label l)) (target_of c.targets l) e (sound.reached l reach) a) (leave-ready y env sc sc' r) (leave-keeps (Less c.kept (target_of c.targets l)) sc sc' (λ y h. h.0) ks) same)
   leaving_alike k w sc sound wr _ _ (threw y v x env s sc' u g a r ks same) = sim_done z.direction (Came z.place z.file c c.scope k w sc) (ir.ends (ir.throws v) env s) (js.ends (js.thrown_with x) (js_meaning.leave shown_statements sc sc') u) (threw y v x env s (js_meaning.leave shown_statements sc sc') u g a (leave-ready y env sc sc' r) (leave-keeps c.kept sc sc' (λ y h. h) ks) same)
   leaving_alike k w sc sound wr _ _ (stopped y env s sc' u t g r ks same) = sim_done z.direction (Came z.place z.file c c.scope k w sc) (ir.ends ir.stops env s) (js.ends js.breaks_nearest (js_meaning.leave shown_statements sc sc') u) (stopped y env s (js_meaning.leave shown_statements sc sc') u t g (leave-ready y env sc sc' r) (leave-keeps c.kept sc sc' (λ y h. h) ks) same)
 

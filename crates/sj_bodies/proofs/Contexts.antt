@@ -7,6 +7,7 @@ use Rattle.ir_mean.specs.States as ir
 use Rattle.js_mean.specs.Meaning as js_meaning
 use Rattle.js_mean.specs.States as js
 use Rattle.js_tree.specs.Terms.{Name}
+use Rattle.sj_bodies.specs.Fine.{Around}
 use Rattle.sj_core.specs.Terms as core
 use Rattle.sj_desugar.specs.Desugar.{Targets, target_of}
 use Rattle.sj_desugar.specs.Spill.{Destination, discard, to_variable, to_result}
@@ -22,7 +23,12 @@ pub record Context : Type 1 where
   pub writable : core.Variable → Type 0
   pub kept : core.Variable → Type 0
   pub targets : Targets
+  pub reaches : List ℕ → Type 0
   pub turning : Type 0
+
+-- the labels around it
+abbrev pub around : Context → Around
+around c = record { targets = c.targets; reaches = c.reaches }
 
 abbrev pub Writes : (core.Variable → Type 0) → Destination → Type 0
 Writes q discard = Unit {0}
@@ -36,7 +42,7 @@ pub record Sound (is_mutable : List ℕ → Bool) (c : Context) : Type 0 where
   pub constant : (x : List ℕ) (t : IrType) → c.scope x t → is_mutable x ≡ false → c.kept (core.named x)
   pub changing : (x : List ℕ) (t : IrType) → c.scope x t → c.kept (core.named x) → is_mutable x ≡ true → ⊥
   pub alone : (x : List ℕ) (s t : IrType) → c.scope x s → c.scope x t → s ≡ t
-  pub reached : (l : List ℕ) → Writes c.writable (target_of c.targets l)
+  pub reached : (l : List ℕ) → c.reaches l → Writes c.writable (target_of c.targets l)
 
 -- no variable for an operand from this number on is in use
 pub record Ahead (c : Context) (j : ℕ) : Type 0 where
@@ -95,7 +101,7 @@ pub data Arrives (p : Place) (w : World) (v : ir.Value) (sc : js.Scope) (usual :
 -- how a tree and its statements came to their end; inside a loop's turn, its condition may not hold any more
 pub data Came (p : Place) (here : Name) (c : Context) (scope : Scope) (k : Destination) (from : World) (before : js.Scope) : ir.Ended → js.StatementEnd → Type 0 where
   gave : (w : World) (v : ir.Value) (env : ir.Env) (s : ir.State) (sc : js.Scope) (u : js.State) (e : js.Completion) → Grows from w → Arrives p w v sc js.normally k e → Ready p here scope c.writable w env sc → Keeps p (Less c.kept k) before sc → SameState p w s u → Came p here c scope k from before (ir.ends (ir.gives v) env s) (js.ends e sc u)
-  left : (w : World) (l : List ℕ) (v : ir.Value) (env : ir.Env) (s : ir.State) (sc : js.Scope) (u : js.State) (e : js.Completion) → Grows from w → Arrives p w v sc (js.breaks (p.label l)) (target_of c.targets l) e → Ready p here c.scope c.writable w env sc → Keeps p (Less c.kept (target_of c.targets l)) before sc → SameState p w s u → Came p here c scope k from before (ir.ends (ir.leaves l v) env s) (js.ends e sc u)
+  left : (w : World) (l : List ℕ) (v : ir.Value) (env : ir.Env) (s : ir.State) (sc : js.Scope) (u : js.State) (e : js.Completion) → c.reaches l → Grows from w → Arrives p w v sc (js.breaks (p.label l)) (target_of c.targets l) e → Ready p here c.scope c.writable w env sc → Keeps p (Less c.kept (target_of c.targets l)) before sc → SameState p w s u → Came p here c scope k from before (ir.ends (ir.leaves l v) env s) (js.ends e sc u)
   threw : (w : World) (v : ir.Value) (x : js.Value) (env : ir.Env) (s : ir.State) (sc : js.Scope) (u : js.State) → Grows from w → SameValue w Any v x → Ready p here c.scope c.writable w env sc → Keeps p c.kept before sc → SameState p w s u → Came p here c scope k from before (ir.ends (ir.throws v) env s) (js.ends (js.thrown_with x) sc u)
   stopped : (w : World) (env : ir.Env) (s : ir.State) (sc : js.Scope) (u : js.State) → c.turning → Grows from w → Ready p here c.scope c.writable w env sc → Keeps p c.kept before sc → SameState p w s u → Came p here c scope k from before (ir.ends ir.stops env s) (js.ends js.breaks_nearest sc u)
 

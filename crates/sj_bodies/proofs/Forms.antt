@@ -44,7 +44,7 @@ module _ (z : Setting) (lawful : Lawful z) where
     constant = sound.constant;
     changing = sound.changing;
     alone = sound.alone;
-    reached = λ l. writes-more c.writable (λ y. (y ≡ core.numbered i) ⊎ c.writable y) (target_of c.targets l) (λ y h. inr h) (sound.reached l);
+    reached = λ l r. writes-more c.writable (λ y. (y ≡ core.numbered i) ⊎ c.writable y) (target_of c.targets l) (λ y h. inr h) (sound.reached l r);
   }
 
   pub ahead-writing : (c : Context) (i : ℕ) → Ahead c i → Ahead (writing c (core.numbered i)) (suc i)
@@ -166,7 +166,7 @@ module _ (z : Setting) (lawful : Lawful z) where
   -- the same, seen from an earlier world and scope
   pub came-rebase : (c : Context) (scope : Scope) (k : Destination) (from y : World) (before sc : js.Scope) → Grows from y → Keeps z.place c.kept before sc → (a : ir.Ended) (b : js.StatementEnd) → Came z.place z.file c scope k y sc a b → Came z.place z.file c scope k from before a b
   came-rebase c scope k from y before sc g ks _ _ (gave w v env s sc' u e h a r kp same) = gave w v env s sc' u e (grows-trans from y w g h) a r (less-trans z c.kept k before sc sc' ks kp) same
-  came-rebase c scope k from y before sc g ks _ _ (left w l v env s sc' u e h a r kp same) = left w l v env s sc' u e (grows-trans from y w g h) a r (less-trans z c.kept (target_of c.targets l) before sc sc' ks kp) same
+  came-rebase c scope k from y before sc g ks _ _ (left w l v env s sc' u e reach h a r kp same) = left w l v env s sc' u e reach (grows-trans from y w g h) a r (less-trans z c.kept (target_of c.targets l) before sc sc' ks kp) same
   came-rebase c scope k from y before sc g ks _ _ (threw w v x env s sc' u h a r kp same) = threw w v x env s sc' u (grows-trans from y w g h) a r (keeps-trans z c.kept before sc sc' ks kp) same
   came-rebase c scope k from y before sc g ks _ _ (stopped w env s sc' u t h r kp same) = stopped w env s sc' u t (grows-trans from y w g h) r (keeps-trans z c.kept before sc sc' ks kp) same
 
@@ -174,11 +174,11 @@ module _ (z : Setting) (lawful : Lawful z) where
   rebased c scope k from y before sc o q g ks h = sim_weaken z.direction (Came z.place z.file c scope k y sc) (Came z.place z.file c scope k from before) o q (came-rebase c scope k from y before sc g ks) h
 
   -- the same in a context that keeps more and has more locals in scope
-  pub came-narrow : (c d : Context) (inner scope : Scope) (k : Destination) (from y : World) (before sc : js.Scope) → d.writable ≡ c.writable → d.targets ≡ c.targets → (d.turning → c.turning) → ((x : List ℕ) (i : IrType) → c.scope x i → d.scope x i) → ((x : List ℕ) (i : IrType) → scope x i → inner x i) → ((x : core.Variable) → c.kept x → d.kept x) → Grows from y → Keeps z.place c.kept before sc → (a : ir.Ended) (b : js.StatementEnd) → Came z.place z.file d inner k y sc a b → Came z.place z.file c scope k from before a b
-  came-narrow c d inner scope k from y before sc q t turn out sub more g ks _ _ (gave w v env s sc' u e h a r kp same) = gave w v env s sc' u e (grows-trans from y w g h) a (subst (λ x. Ready z.place z.file scope x w env sc') q (narrower inner scope d.writable w env sc' sub r)) (less-trans z c.kept k before sc sc' ks (keeps-fewer z (Less d.kept k) (Less c.kept k) sc sc' (λ y i. (more y i.0, i.1)) kp)) same
-  came-narrow c d inner scope k from y before sc q t turn out sub more g ks _ _ (left w l v env s sc' u e h a r kp same) = left w l v env s sc' u e (grows-trans from y w g h) (subst (λ x. Arrives z.place w v sc' (js.breaks (z.place.label l)) (target_of x l) e) t a) (subst (λ x. Ready z.place z.file c.scope x w env sc') q (narrower d.scope c.scope d.writable w env sc' out r)) (less-trans z c.kept (target_of c.targets l) before sc sc' ks (keeps-fewer z (Less d.kept (target_of d.targets l)) (Less c.kept (target_of c.targets l)) sc sc' (λ y i. (more y i.0, subst (λ x. Goes (target_of x l) y → ⊥) (sym t) i.1)) kp)) same
-  came-narrow c d inner scope k from y before sc q t turn out sub more g ks _ _ (threw w v x env s sc' u h a r kp same) = threw w v x env s sc' u (grows-trans from y w g h) a (subst (λ x. Ready z.place z.file c.scope x w env sc') q (narrower d.scope c.scope d.writable w env sc' out r)) (keeps-trans z c.kept before sc sc' ks (keeps-fewer z d.kept c.kept sc sc' more kp)) same
-  came-narrow c d inner scope k from y before sc q t turn out sub more g ks _ _ (stopped w env s sc' u h0 h r kp same) = stopped w env s sc' u (turn h0) (grows-trans from y w g h) (subst (λ x. Ready z.place z.file c.scope x w env sc') q (narrower d.scope c.scope d.writable w env sc' out r)) (keeps-trans z c.kept before sc sc' ks (keeps-fewer z d.kept c.kept sc sc' more kp)) same
+  pub came-narrow : (c d : Context) (inner scope : Scope) (k : Destination) (from y : World) (before sc : js.Scope) → d.writable ≡ c.writable → d.targets ≡ c.targets → ((l : List ℕ) → d.reaches l → c.reaches l) → (d.turning → c.turning) → ((x : List ℕ) (i : IrType) → c.scope x i → d.scope x i) → ((x : List ℕ) (i : IrType) → scope x i → inner x i) → ((x : core.Variable) → c.kept x → d.kept x) → Grows from y → Keeps z.place c.kept before sc → (a : ir.Ended) (b : js.StatementEnd) → Came z.place z.file d inner k y sc a b → Came z.place z.file c scope k from before a b
+  came-narrow c d inner scope k from y before sc q t within turn out sub more g ks _ _ (gave w v env s sc' u e h a r kp same) = gave w v env s sc' u e (grows-trans from y w g h) a (subst (λ x. Ready z.place z.file scope x w env sc') q (narrower inner scope d.writable w env sc' sub r)) (less-trans z c.kept k before sc sc' ks (keeps-fewer z (Less d.kept k) (Less c.kept k) sc sc' (λ y i. (more y i.0, i.1)) kp)) same
+  came-narrow c d inner scope k from y before sc q t within turn out sub more g ks _ _ (left w l v env s sc' u e reach h a r kp same) = left w l v env s sc' u e (within l reach) (grows-trans from y w g h) (subst (λ x. Arrives z.place w v sc' (js.breaks (z.place.label l)) (target_of x l) e) t a) (subst (λ x. Ready z.place z.file c.scope x w env sc') q (narrower d.scope c.scope d.writable w env sc' out r)) (less-trans z c.kept (target_of c.targets l) before sc sc' ks (keeps-fewer z (Less d.kept (target_of d.targets l)) (Less c.kept (target_of c.targets l)) sc sc' (λ y i. (more y i.0, subst (λ x. Goes (target_of x l) y → ⊥) (sym t) i.1)) kp)) same
+  came-narrow c d inner scope k from y before sc q t within turn out sub more g ks _ _ (threw w v x env s sc' u h a r kp same) = threw w v x env s sc' u (grows-trans from y w g h) a (subst (λ x. Ready z.place z.file c.scope x w env sc') q (narrower d.scope c.scope d.writable w env sc' out r)) (keeps-trans z c.kept before sc sc' ks (keeps-fewer z d.kept c.kept sc sc' more kp)) same
+  came-narrow c d inner scope k from y before sc q t within turn out sub more g ks _ _ (stopped w env s sc' u h0 h r kp same) = stopped w env s sc' u (turn h0) (grows-trans from y w g h) (subst (λ x. Ready z.place z.file c.scope x w env sc') q (narrower d.scope c.scope d.writable w env sc' out r)) (keeps-trans z c.kept before sc sc' ks (keeps-fewer z d.kept c.kept sc sc' more kp)) same
 
   -- a branch by a condition: both branches stand in blocks of their own
   choice_shown : (e : core.Expression) (a b : core.Statements) (sc : js.Scope) (u : js.State) (p : Position) → act_of z (core.if_of (Some p) e a b) sc u ≡ then_do (shown z e sc u) (js.in_statement sc (λ v. js_meaning.taken (js_meaning.in_block (statement_templates z.place.name z.place.label a) (run z a)) (js_meaning.in_block (statement_templates z.place.name z.place.label b) (run z b)) v sc))
@@ -205,7 +205,7 @@ module _ (z : Setting) (lawful : Lawful z) where
 
   -- the context in which a local is being defined
   abbrev pub defining : Context → List ℕ → Context
-  defining c x = record { scope = c.scope; writable = λ y. (y ≡ core.named x) ⊎ c.writable y; kept = c.kept; targets = c.targets; turning = c.turning }
+  defining c x = record { scope = c.scope; writable = λ y. (y ≡ core.named x) ⊎ c.writable y; kept = c.kept; targets = c.targets; reaches = c.reaches; turning = c.turning }
 
   define_code : (c : Context) (p : Position) (x : List ℕ) (t : IrType) (r : ir.Run) (code : core.Statements) → ((i : IrType) → c.scope x i → ⊥) → (c.writable (core.named x) → ⊥) → (c.kept (core.named x) → ⊥) → ((w : World) (env : ir.Env) (s : ir.State) (sc : js.Scope) (u : js.State) → Ready z.place z.file c.scope (defining c x).writable w env sc → SameState z.place w s u → Sim z.direction (Came z.place z.file (defining c x) c.scope (to_variable (core.named x) t) w sc) (r env s) (run z code sc u)) → (w : World) (env : ir.Env) (s : ir.State) (sc : js.Scope) (u : js.State) → Ready z.place z.file c.scope c.writable w env sc → SameState z.place w s u → Ends z lawful c (with_local x t c.scope) discard w sc (ir_meaning.in_order (r ∷ []) (ir_meaning.define x) env s) (core.statement (core.declare_of (Some p) (core.named x)) code) sc u
   define_code c p x t r code unseen unwritten fresh does w env s sc u ready same = subst (λ o. Sim z.direction (Came z.place z.file c (with_local x t c.scope) discard w sc) (ir_meaning.in_order (r ∷ []) (ir_meaning.define x) env s) o) (then_do-right (run z code started u)) (sim_then z.direction (Came z.place z.file (defining c x) c.scope (to_variable (core.named x) t) w started) (Came z.place z.file c (with_local x t c.scope) discard w sc) (r env s) (run z code started u) (ir.onward (λ v. ir_meaning.in_order [] (λ vs. ir_meaning.define x (v ∷ vs)))) done (does w env s started u (record { sees = r1.sees; «open» = open1 }) same) each)
@@ -222,7 +222,7 @@ module _ (z : Setting) (lawful : Lawful z) where
 
       each : (a : ir.Ended) (b : js.StatementEnd) → Came z.place z.file (defining c x) c.scope (to_variable (core.named x) t) w started a b → Sim z.direction (Came z.place z.file c (with_local x t c.scope) discard w sc) (ir.onward (λ v. ir_meaning.in_order [] (λ vs. ir_meaning.define x (v ∷ vs))) a) (done b)
       each _ _ (gave y v env' s' sc2 u' _ h (stored _ _ q a e) r2 k2 states) = sim_done z.direction (Came z.place z.file c (with_local x t c.scope) discard w sc) (ir.ends (ir.gives ir.undefined) (ir_meaning.set_local x v env') s') (js.ends js.normally sc2 u') (gave y ir.undefined (ir_meaning.set_local x v env') s' sc2 u' js.normally h let_go (record { sees = record { inside = r2.sees.inside; locals = set-locals c.scope x t y v q env' sc2 a (λ b i d g. r2.sees.locals b i g) e }; «open» = λ b i. r2.«open» b (inr i) }) (keeps-less z c.kept discard sc sc2 (keeps-trans z c.kept sc started sc2 (started-keeps z lawful c.kept false (core.named x) js.undefined sc fresh) (keeps-fewer z (Less c.kept (to_variable (core.named x) t)) c.kept started sc2 (λ b i. (i, λ e. fresh (subst c.kept (sym e) i))) k2))) states)
-      each _ _ (left y l v env' s' sc2 u' e h a r2 k2 states) = sim_done z.direction (Came z.place z.file c (with_local x t c.scope) discard w sc) (ir.ends (ir.leaves l v) env' s') (js.ends e sc2 u') (left y l v env' s' sc2 u' e h a (record { sees = r2.sees; «open» = λ b i. r2.«open» b (inr i) }) (less-trans z c.kept (target_of c.targets l) sc started sc2 (started-keeps z lawful c.kept false (core.named x) js.undefined sc fresh) k2) states)
+      each _ _ (left y l v env' s' sc2 u' e reach h a r2 k2 states) = sim_done z.direction (Came z.place z.file c (with_local x t c.scope) discard w sc) (ir.ends (ir.leaves l v) env' s') (js.ends e sc2 u') (left y l v env' s' sc2 u' e reach h a (record { sees = r2.sees; «open» = λ b i. r2.«open» b (inr i) }) (less-trans z c.kept (target_of c.targets l) sc started sc2 (started-keeps z lawful c.kept false (core.named x) js.undefined sc fresh) k2) states)
       each _ _ (threw y v q env' s' sc2 u' h a r2 k2 states) = sim_done z.direction (Came z.place z.file c (with_local x t c.scope) discard w sc) (ir.ends (ir.throws v) env' s') (js.ends (js.thrown_with q) sc2 u') (threw y v q env' s' sc2 u' h a (record { sees = r2.sees; «open» = λ b i. r2.«open» b (inr i) }) (keeps-trans z c.kept sc started sc2 (started-keeps z lawful c.kept false (core.named x) js.undefined sc fresh) k2) states)
       each _ _ (stopped y env' s' sc2 u' turn h r2 k2 states) = sim_done z.direction (Came z.place z.file c (with_local x t c.scope) discard w sc) (ir.ends ir.stops env' s') (js.ends js.breaks_nearest sc2 u') (stopped y env' s' sc2 u' turn h (record { sees = r2.sees; «open» = λ b i. r2.«open» b (inr i) }) (keeps-trans z c.kept sc started sc2 (started-keeps z lawful c.kept false (core.named x) js.undefined sc fresh) k2) states)
 
@@ -232,7 +232,7 @@ module _ (z : Setting) (lawful : Lawful z) where
     constant = sound.constant;
     changing = sound.changing;
     alone = sound.alone;
-    reached = λ l. writes-more c.writable (λ y. (y ≡ core.named x) ⊎ c.writable y) (target_of c.targets l) (λ y h. inr h) (sound.reached l);
+    reached = λ l r. writes-more c.writable (λ y. (y ≡ core.named x) ⊎ c.writable y) (target_of c.targets l) (λ y h. inr h) (sound.reached l r);
   }
 
   pub ahead-defining : (c : Context) (x : List ℕ) (j : ℕ) → Ahead c j → Ahead (defining c x) j

@@ -25,7 +25,7 @@ use Rattle.sj_plain.proofs.Worlds.{World, Grows, grows-refl, grows-trans, Stands
 
 -- the context of a loop's turn: its condition may not hold any more where the loop's value is given up
 abbrev pub in_turn : Context → Destination → Context
-in_turn c k = record { scope = c.scope; writable = c.writable; kept = c.kept; targets = c.targets; turning = IsDiscard k }
+in_turn c k = record { scope = c.scope; writable = c.writable; kept = c.kept; targets = c.targets; reaches = c.reaches; turning = IsDiscard k }
 
 -- a condition that doesn't hold ends a loop
 abbrev pub stop : ir.Run
@@ -36,10 +36,10 @@ module _ (z : Setting) (lawful : Lawful z) where
   abbrev pub Alike : Context → Destination → ir.Run → js.Execution → Type 0
   Alike c k r x = (w : World) (env : ir.Env) (s : ir.State) (sc : js.Scope) (u : js.State) → Ready z.place z.file c.scope c.writable w env sc → SameState z.place w s u → Sim z.direction (Came z.place z.file c c.scope k w sc) (r env s) (x sc u)
 
-  passes : (c : Context) (k : Destination) (w : World) (sc : js.Scope) (next : js.Execution) (y : World) (l : List ℕ) (v : ir.Value) (env : ir.Env) (s : ir.State) (sc' : js.Scope) (u : js.State) (e : js.Completion) (d : Destination) → target_of c.targets l ≡ d → Grows w y → Arrives z.place y v sc' (js.breaks (z.place.label l)) d e → Ready z.place z.file c.scope c.writable y env sc' → Keeps z.place (Less c.kept (target_of c.targets l)) sc sc' → SameState z.place y s u → Sim z.direction (Came z.place z.file c c.scope k w sc) (done (ir.ends (ir.leaves l v) env s)) (js_meaning.next_turn next (js.ends e sc' u))
-  passes c k w sc next y l v env s sc' u _ _ t g let_go r ks same = sim_done z.direction (Came z.place z.file c c.scope k w sc) (ir.ends (ir.leaves l v) env s) (js.ends (js.breaks (z.place.label l)) sc' u) (left y l v env s sc' u (js.breaks (z.place.label l)) g (subst (λ d. Arrives z.place y v sc' (js.breaks (z.place.label l)) d (js.breaks (z.place.label l))) (sym t) let_go) r ks same)
-  passes c k w sc next y l v env s sc' u _ _ t g (stored x i j q h) r ks same = sim_done z.direction (Came z.place z.file c c.scope k w sc) (ir.ends (ir.leaves l v) env s) (js.ends (js.breaks (z.place.label l)) sc' u) (left y l v env s sc' u (js.breaks (z.place.label l)) g (subst (λ d. Arrives z.place y v sc' (js.breaks (z.place.label l)) d (js.breaks (z.place.label l))) (sym t) (stored x i j q h)) r ks same)
-  passes c k w sc next y l v env s sc' u _ _ t g (returned i j q) r ks same = sim_done z.direction (Came z.place z.file c c.scope k w sc) (ir.ends (ir.leaves l v) env s) (js.ends (js.returns j) sc' u) (left y l v env s sc' u (js.returns j) g (subst (λ d. Arrives z.place y v sc' (js.breaks (z.place.label l)) d (js.returns j)) (sym t) (returned i j q)) r ks same)
+  passes : (c : Context) (k : Destination) (w : World) (sc : js.Scope) (next : js.Execution) (y : World) (l : List ℕ) (v : ir.Value) (env : ir.Env) (s : ir.State) (sc' : js.Scope) (u : js.State) (e : js.Completion) (d : Destination) → target_of c.targets l ≡ d → c.reaches l → Grows w y → Arrives z.place y v sc' (js.breaks (z.place.label l)) d e → Ready z.place z.file c.scope c.writable y env sc' → Keeps z.place (Less c.kept (target_of c.targets l)) sc sc' → SameState z.place y s u → Sim z.direction (Came z.place z.file c c.scope k w sc) (done (ir.ends (ir.leaves l v) env s)) (js_meaning.next_turn next (js.ends e sc' u))
+  passes c k w sc next y l v env s sc' u _ _ t reach g let_go r ks same = sim_done z.direction (Came z.place z.file c c.scope k w sc) (ir.ends (ir.leaves l v) env s) (js.ends (js.breaks (z.place.label l)) sc' u) (left y l v env s sc' u (js.breaks (z.place.label l)) reach g (subst (λ d. Arrives z.place y v sc' (js.breaks (z.place.label l)) d (js.breaks (z.place.label l))) (sym t) let_go) r ks same)
+  passes c k w sc next y l v env s sc' u _ _ t reach g (stored x i j q h) r ks same = sim_done z.direction (Came z.place z.file c c.scope k w sc) (ir.ends (ir.leaves l v) env s) (js.ends (js.breaks (z.place.label l)) sc' u) (left y l v env s sc' u (js.breaks (z.place.label l)) reach g (subst (λ d. Arrives z.place y v sc' (js.breaks (z.place.label l)) d (js.breaks (z.place.label l))) (sym t) (stored x i j q h)) r ks same)
+  passes c k w sc next y l v env s sc' u _ _ t reach g (returned i j q) r ks same = sim_done z.direction (Came z.place z.file c c.scope k w sc) (ir.ends (ir.leaves l v) env s) (js.ends (js.returns j) sc' u) (left y l v env s sc' u (js.returns j) reach g (subst (λ d. Arrives z.place y v sc' (js.breaks (z.place.label l)) d (js.returns j)) (sym t) (returned i j q)) r ks same)
 
   stops_here : (c : Context) (k : Destination) → IsDiscard k → (w y : World) (env : ir.Env) (s : ir.State) (sc sc' : js.Scope) (u : js.State) → Grows w y → Ready z.place z.file c.scope c.writable y env sc' → Keeps z.place c.kept sc sc' → SameState z.place y s u → Sim z.direction (Came z.place z.file c c.scope k w sc) (ir.given ir.undefined env s) (done (js.ends js.normally sc' u))
   stops_here c _ is_discard w y env s sc sc' u g r ks same = sim_done z.direction (Came z.place z.file c c.scope discard w sc) (ir.ends (ir.gives ir.undefined) env s) (js.ends js.normally sc' u) (gave y ir.undefined env s sc' u js.normally g let_go r (keeps-less z c.kept discard sc sc' ks) same)
@@ -47,7 +47,7 @@ module _ (z : Setting) (lawful : Lawful z) where
   -- behind a turn comes the next, unless the condition doesn't hold any more
   turns : (c : Context) (k : Destination) (next : ir.Run) (js_next : js.Execution) → Alike c k next js_next → (w : World) (sc : js.Scope) (a : ir.Ended) (b : js.StatementEnd) → Came z.place z.file (in_turn c k) c.scope discard w sc a b → Sim z.direction (Came z.place z.file c c.scope k w sc) (ir_meaning.after_turn next a) (js_meaning.next_turn js_next b)
   turns c k next js_next low w sc _ _ (gave y v env s sc' u _ g let_go r ks same) = rebased z lawful c c.scope k w y sc sc' (next env s) (js_next sc' u) g (keeps-all z c.kept sc sc' ks) (low y env s sc' u r same)
-  turns c k next js_next low w sc _ _ (left y l v env s sc' u e g a r ks same) = passes c k w sc js_next y l v env s sc' u e (target_of c.targets l) refl g a r ks same
+  turns c k next js_next low w sc _ _ (left y l v env s sc' u e reach g a r ks same) = passes c k w sc js_next y l v env s sc' u e (target_of c.targets l) refl reach g a r ks same
   turns c k next js_next low w sc _ _ (threw y v x env s sc' u g a r ks same) = sim_done z.direction (Came z.place z.file c c.scope k w sc) (ir.ends (ir.throws v) env s) (js.ends (js.thrown_with x) sc' u) (threw y v x env s sc' u g a r ks same)
   turns c k next js_next low w sc _ _ (stopped y env s sc' u t g r ks same) = stops_here c k t w y env s sc sc' u g r ks same
 

@@ -23,7 +23,7 @@ use Rattle.sj_plain.specs.Standing.{Fits}
 use Rattle.sj_desugar.specs.Texts.{operand_of}
 use Rattle.sj_plain.specs.Settings.{Setting, run, SameState, Lawful, usable}
 use Rattle.sj_bodies.proofs.Blocks.{Outside, undeclared}
-use Rattle.sj_bodies.proofs.Contexts.{Context, Writes, Sound, Ahead, Ready, Keeps, keeps-refl, Came}
+use Rattle.sj_bodies.proofs.Contexts.{around, Context, Writes, Sound, Ahead, Ready, Keeps, keeps-refl, Came}
 use Rattle.sj_bodies.proofs.Declared.{Own, OwnAll, OwnCases, new}
 use Rattle.sj_bodies.specs.Fine.{IsDiscard, is_discard, FitsIn, FineOperand, FineBlock, FineOperands, FineCases, with_local}
 use Rattle.sj_bodies.proofs.Forms.{of_operands, one_final, two_final, silent, assign_final, log_final, if_final, came-narrow, rebased, ahead-later, TwoFinal}
@@ -40,7 +40,7 @@ use Rattle.sj_plain.proofs.Worlds.{World, Grows, grows-refl}
 
 module _ (z : Setting) (lawful : Lawful z) (low : LowAlike z) where
   abbrev BlockDoes : Terms → Type 1
-  BlockDoes ts = (c : Context) (k : Destination) (j : ℕ) → Sound z.is_mutable c → Ahead c j → Outside c (OwnAll ts) → Writes c.writable k → FineBlock z.is_mutable (usable z) c.scope c.targets k ts → (w : World) (env : ir.Env) (s : ir.State) (sc : js.Scope) (u : js.State) → Ready z.place z.file c.scope c.writable w env sc → SameState z.place w s u → Ends z lawful c c.scope k w sc (ir_meaning.block z.place.classes z.low ts env s) (block z.is_mutable c.targets k j ts).statements sc u
+  BlockDoes ts = (c : Context) (k : Destination) (j : ℕ) → Sound z.is_mutable c → Ahead c j → Outside c (OwnAll ts) → Writes c.writable k → FineBlock z.is_mutable (usable z) c.scope (around c) k ts → (w : World) (env : ir.Env) (s : ir.State) (sc : js.Scope) (u : js.State) → Ready z.place z.file c.scope c.writable w env sc → SameState z.place w s u → Ends z lawful c c.scope k w sc (ir_meaning.block z.place.classes z.low ts env s) (block z.is_mutable c.targets k j ts).statements sc u
 
   -- a tree of a block, and those behind it
   one_and_rest : (t : Term) (rest : Terms) (d : Terms) → (c : Context) (k : Destination) (j : ℕ) (first : Scope) → (w : World) (env : ir.Env) (s : ir.State) (sc : js.Scope) (u : js.State) → Sim z.direction (Came z.place z.file c first discard w sc) (ir_meaning.step z.place.classes z.low t env s) (run z (into z.is_mutable c.targets discard j t).statements sc u) → ((y : World) (v : ir.Value) (env : ir.Env) (s : ir.State) (sc' : js.Scope) (u : js.State) → Grows w y → Ready z.place z.file first c.writable y env sc' → Keeps z.place c.kept sc sc' → SameState z.place y s u → Sim z.direction (Came z.place z.file c c.scope k w sc) (ir_meaning.rest z.place.classes z.low rest v env s) (run z (block z.is_mutable c.targets k (into z.is_mutable c.targets discard j t).next rest).statements sc' u)) → Sim z.direction (Came z.place z.file c c.scope k w sc) (ir.go_on (ir_meaning.step z.place.classes z.low t env s) (ir_meaning.rest z.place.classes z.low rest)) (run z (core.followed (into z.is_mutable c.targets discard j t).statements (block z.is_mutable c.targets k (into z.is_mutable c.targets discard j t).next rest).statements) sc u)
@@ -79,7 +79,7 @@ module _ (z : Setting) (lawful : Lawful z) (low : LowAlike z) where
   skip_by p c _ is_discard w env s sc u r same = silent z lawful c w ir.undefined env s sc u r same
 
   var_by : (p : Position) (x : List ℕ) (t : IrType) (b : Bool) (e : Term) → TreeDoes z lawful low e → (c : Context) (k : Destination) (j : ℕ) → Sound z.is_mutable c → Ahead c j → Outside c (Own (var_def p x t b e)) → FineHere z lawful low c k (var_def p x t b e) → IsDiscard k → Does z lawful c k j (var_def p x t b e)
-  var_by p x t b e does c _ j sound ahead out fine is_discard w env s sc u r same = sim_weaken z.direction (Came z.place z.file c (with_local x t c.scope) discard w sc) (Came z.place z.file c c.scope discard w sc) (ir_meaning.step z.place.classes z.low (var_def p x t b e) env s) (run z (into z.is_mutable c.targets discard j (var_def p x t b e)).statements sc u) (came-narrow z lawful c c (with_local x t c.scope) c.scope discard w w sc sc refl refl (λ h. h) (λ y i h. h) (none_hidden c x t (λ i. out.scope x i (inl refl))) (λ y h. h) (grows-refl w) (keeps-refl z c.kept sc)) (define_does z lawful low p x t b e does c j sound ahead out fine w env s sc u r same)
+  var_by p x t b e does c _ j sound ahead out fine is_discard w env s sc u r same = sim_weaken z.direction (Came z.place z.file c (with_local x t c.scope) discard w sc) (Came z.place z.file c c.scope discard w sc) (ir_meaning.step z.place.classes z.low (var_def p x t b e) env s) (run z (into z.is_mutable c.targets discard j (var_def p x t b e)).statements sc u) (came-narrow z lawful c c (with_local x t c.scope) c.scope discard w w sc sc refl refl (λ l h. h) (λ h. h) (λ y i h. h) (none_hidden c x t (λ i. out.scope x i (inl refl))) (λ y h. h) (grows-refl w) (keeps-refl z c.kept sc)) (define_does z lawful low p x t b e does c j sound ahead out fine w env s sc u r same)
 
   assign_by : (p q : Position) (x : List ℕ) (t : IrType) (e : Term) → TreeDoes z lawful low e → (c : Context) (k : Destination) (j : ℕ) → Sound z.is_mutable c → Ahead c j → Outside c (Own e) → FineHere z lawful low c k (assign p (var_ref q x t) e) → IsDiscard k → Does z lawful c k j (assign p (var_ref q x t) e)
   assign_by p q x t e does c _ j sound ahead out fine is_discard = of_operands z lawful c discard (piece z lawful low c.targets e ∷ []) j (ir_meaning.define x) (λ es. one (core.assign_to (Some p) (core.named x) (coerced t (type_of_term e) (first_of es)))) sound ahead (operand_does z lawful low c j e does out fine.4, tt) (one_final z lawful c discard j (type_of_term e) (ir_meaning.define x) (λ es. one (core.assign_to (Some p) (core.named x) (coerced t (type_of_term e) (first_of es)))) (assign_final z lawful c p x t (type_of_term e) j sound fine.1 fine.2 fine.3))
@@ -91,7 +91,7 @@ module _ (z : Setting) (lawful : Lawful z) (low : LowAlike z) where
   labeled_does p l t e does c k j sound ahead out wr fine = labeled_alike z lawful c l k p (ir_meaning.step z.place.classes z.low e) (into z.is_mutable (record { label = l; goes_to = k } ∷ c.targets) k j e) (sound-labelling z lawful c l k sound wr) wr (undeclared (labelling z lawful c l k) (Own e) j (into z.is_mutable (record { label = l; goes_to = k } ∷ c.targets) k j e).statements (record { scope = out.scope; writable = out.writable; kept = out.kept }) (record { writable = ahead.writable; kept = ahead.kept }) (new z.is_mutable (record { label = l; goes_to = k } ∷ c.targets) e k j)) (does (labelling z lawful c l k) k j (sound-labelling z lawful c l k sound wr) (record { writable = ahead.writable; kept = ahead.kept }) (record { scope = out.scope; writable = out.writable; kept = out.kept }) wr fine)
 
   return_does : (p : Position) (e : Term) (l : List ℕ) → TreeDoes z lawful low e → TreeDoes z lawful low (return_to p e l)
-  return_does p e l does c k j sound ahead out wr fine w env s sc u r same = return_alike z lawful c k (target_of c.targets l) p l (ir_meaning.step z.place.classes z.low e) (into z.is_mutable c.targets (target_of c.targets l) j e) refl w env s sc u (does c (target_of c.targets l) j sound ahead out (sound.reached l) fine w env s sc u r same)
+  return_does p e l does c k j sound ahead out wr fine w env s sc u r same = return_alike z lawful c k (target_of c.targets l) p l (ir_meaning.step z.place.classes z.low e) (into z.is_mutable c.targets (target_of c.targets l) j e) refl fine.0 w env s sc u (does c (target_of c.targets l) j sound ahead out (sound.reached l fine.0) fine.1 w env s sc u r same)
 
   if_does : (p : Position) (a b d : Term) (t : IrType) → TreeDoes z lawful low a → TreeDoes z lawful low b → TreeDoes z lawful low d → TreeDoes z lawful low (if_then p a b d t)
   if_does p a b d t does_a does_b does_d c k j sound ahead out wr fine = of_operands z lawful c k (piece z lawful low c.targets a ∷ []) j (ir_meaning.branch (ir_meaning.step z.place.classes z.low b) (ir_meaning.step z.place.classes z.low d)) (λ es i. branches p (first_of es) (into z.is_mutable c.targets k i b) (λ i. into z.is_mutable c.targets k i d)) sound ahead (operand_does z lawful low c j a does_a (outside-part c (Own (if_then p a b d t)) (Own a) (λ x o. inl o) out) fine.0, tt) (one_final z lawful c k j (type_of_term a) (ir_meaning.branch (ir_meaning.step z.place.classes z.low b) (ir_meaning.step z.place.classes z.low d)) (λ es i. branches p (first_of es) (into z.is_mutable c.targets k i b) (λ i. into z.is_mutable c.targets k i d)) (if_final z lawful c k p (λ i. into z.is_mutable c.targets k i b) (λ i. into z.is_mutable c.targets k i d) (ir_meaning.step z.place.classes z.low b) (ir_meaning.step z.place.classes z.low d) j sound wr (λ i l. onward z.is_mutable c.targets b k i) (λ i l ah. undeclared c (Own b) i (into z.is_mutable c.targets k i b).statements (outside-part c (Own (if_then p a b d t)) (Own b) (λ x o. inr (inl o)) out) ah (new z.is_mutable c.targets b k i)) (λ i l ah. undeclared c (Own d) i (into z.is_mutable c.targets k i d).statements (outside-part c (Own (if_then p a b d t)) (Own d) (λ x o. inr (inr o)) out) ah (new z.is_mutable c.targets d k i)) (λ i l ah. does_b c k i sound ah (outside-part c (Own (if_then p a b d t)) (Own b) (λ x o. inr (inl o)) out) wr fine.1) (λ i l ah. does_d c k i sound ah (outside-part c (Own (if_then p a b d t)) (Own d) (λ x o. inr (inr o)) out) wr fine.2) (type_of_term a)))
@@ -116,16 +116,16 @@ module _ (z : Setting) (lawful : Lawful z) (low : LowAlike z) where
       by (inr h) = division_does z lawful low p c k j o e d h.0 h.1 sound ahead wr fine.0 (operand_does z lawful low c j e does_e out_e h.2)
 
   abbrev OperandsFine : Terms → Type 1
-  OperandsFine ts = (c : Context) (k : Destination) (j : ℕ) → Outside c (OwnAll ts) → FineOperands z.is_mutable (usable z) c.scope c.targets k ts → OperandsDo z lawful c j (list_of z lawful low c.targets ts)
+  OperandsFine ts = (c : Context) (k : Destination) (j : ℕ) → Outside c (OwnAll ts) → FineOperands z.is_mutable (usable z) c.scope (around c) k ts → OperandsDo z lawful c j (list_of z lawful low c.targets ts)
 
   last_does : (t : Term) → TreeDoes z lawful low t → BlockDoes (more_terms t no_terms)
   last_does t does c k j sound ahead out wr fine w env s sc u r same = subst (λ o. Ends z lawful c c.scope k w sc o (into z.is_mutable c.targets k j t).statements sc u) (sym (ap (ir.go_on (ir_meaning.step z.place.classes z.low t env s)) (fun_ext (λ v. refl)) ∙ go_on-given (ir_meaning.step z.place.classes z.low t env s))) (does c k j sound ahead (outside-part c (OwnAll (more_terms t no_terms)) (Own t) (λ x o. inl o) out) wr fine w env s sc u r same)
 
-  next_does : (t u : Term) (us : Terms) → TreeDoes z lawful low t → BlockDoes (more_terms u us) → (c : Context) (k : Destination) (j : ℕ) → Sound z.is_mutable c → Ahead c j → Outside c (OwnAll (more_terms t (more_terms u us))) → Writes c.writable k → FineHere z lawful low c discard t → FineBlock z.is_mutable (usable z) c.scope c.targets k (more_terms u us) → (w : World) (env : ir.Env) (s : ir.State) (sc : js.Scope) (q : js.State) → Ready z.place z.file c.scope c.writable w env sc → SameState z.place w s q → Ends z lawful c c.scope k w sc (ir_meaning.block z.place.classes z.low (more_terms t (more_terms u us)) env s) (block z.is_mutable c.targets k j (more_terms t (more_terms u us))).statements sc q
+  next_does : (t u : Term) (us : Terms) → TreeDoes z lawful low t → BlockDoes (more_terms u us) → (c : Context) (k : Destination) (j : ℕ) → Sound z.is_mutable c → Ahead c j → Outside c (OwnAll (more_terms t (more_terms u us))) → Writes c.writable k → FineHere z lawful low c discard t → FineBlock z.is_mutable (usable z) c.scope (around c) k (more_terms u us) → (w : World) (env : ir.Env) (s : ir.State) (sc : js.Scope) (q : js.State) → Ready z.place z.file c.scope c.writable w env sc → SameState z.place w s q → Ends z lawful c c.scope k w sc (ir_meaning.block z.place.classes z.low (more_terms t (more_terms u us)) env s) (block z.is_mutable c.targets k j (more_terms t (more_terms u us))).statements sc q
   next_does t u us does others c k j sound ahead out wr fine fines w env s sc q r same = one_and_rest t (more_terms u us) us c k j c.scope w env s sc q (does c discard j sound ahead (outside-part c (OwnAll (more_terms t (more_terms u us))) (Own t) (λ x o. inl o) out) tt fine w env s sc q r same) (λ y v env s sc' q g ready ks same. rebased z lawful c c.scope k w y sc sc' (ir_meaning.block z.place.classes z.low (more_terms u us) env s) (run z (block z.is_mutable c.targets k (into z.is_mutable c.targets discard j t).next (more_terms u us)).statements sc' q) g ks (others c k (into z.is_mutable c.targets discard j t).next sound (ahead-later z lawful c j (into z.is_mutable c.targets discard j t).next (onward z.is_mutable c.targets t discard j) ahead) (outside-part c (OwnAll (more_terms t (more_terms u us))) (OwnAll (more_terms u us)) (λ x o. inr o) out) wr fines y env s sc' q ready same))
 
   defined_does : (p : Position) (x : List ℕ) (t : IrType) (b : Bool) (e u : Term) (us : Terms) → TreeDoes z lawful low e → BlockDoes (more_terms u us) → BlockDoes (more_terms (var_def p x t b e) (more_terms u us))
-  defined_does p x t b e u us does others c k j sound ahead out wr fine w env s sc q r same = one_and_rest (var_def p x t b e) (more_terms u us) us c k j (with_local x t c.scope) w env s sc q (define_does z lawful low p x t b e does c j sound ahead out_first fine.0 w env s sc q r same) (λ y v env s sc' q g ready ks same. sim_weaken z.direction (Came z.place z.file (behind z c x t) (behind z c x t).scope k y sc') (Came z.place z.file c c.scope k w sc) (ir_meaning.block z.place.classes z.low (more_terms u us) env s) (run z (block z.is_mutable c.targets k next (more_terms u us)).statements sc' q) (came-narrow z lawful c (behind z c x t) (behind z c x t).scope c.scope k w y sc sc' refl refl (λ h. h) (none_hidden c x t (λ i. out.scope x i (inl (inl refl)))) (none_hidden c x t (λ i. out.scope x i (inl (inl refl)))) (λ y h. inr h) g ks) (others (behind z c x t) k next (sound-behind c x t sound (out.writable x (inl (inl refl))) (out.kept x (inl (inl refl)))) (ahead-behind c x t next (ahead-later z lawful c j next (onward z.is_mutable c.targets (var_def p x t b e) discard j) ahead)) (outside-behind c x t (more_terms u us) (outside-part c (OwnAll (more_terms (var_def p x t b e) (more_terms u us))) (OwnAll (more_terms u us)) (λ x o. inr o) out) fine.1) wr fine.2 y env s sc' q ready same))
+  defined_does p x t b e u us does others c k j sound ahead out wr fine w env s sc q r same = one_and_rest (var_def p x t b e) (more_terms u us) us c k j (with_local x t c.scope) w env s sc q (define_does z lawful low p x t b e does c j sound ahead out_first fine.0 w env s sc q r same) (λ y v env s sc' q g ready ks same. sim_weaken z.direction (Came z.place z.file (behind z c x t) (behind z c x t).scope k y sc') (Came z.place z.file c c.scope k w sc) (ir_meaning.block z.place.classes z.low (more_terms u us) env s) (run z (block z.is_mutable c.targets k next (more_terms u us)).statements sc' q) (came-narrow z lawful c (behind z c x t) (behind z c x t).scope c.scope k w y sc sc' refl refl (λ l h. h) (λ h. h) (none_hidden c x t (λ i. out.scope x i (inl (inl refl)))) (none_hidden c x t (λ i. out.scope x i (inl (inl refl)))) (λ y h. inr h) g ks) (others (behind z c x t) k next (sound-behind c x t sound (out.writable x (inl (inl refl))) (out.kept x (inl (inl refl)))) (ahead-behind c x t next (ahead-later z lawful c j next (onward z.is_mutable c.targets (var_def p x t b e) discard j) ahead)) (outside-behind c x t (more_terms u us) (outside-part c (OwnAll (more_terms (var_def p x t b e) (more_terms u us))) (OwnAll (more_terms u us)) (λ x o. inr o) out) fine.1) wr fine.2 y env s sc' q ready same))
     where
       next : ℕ
       next = (into z.is_mutable c.targets discard j (var_def p x t b e)).next
@@ -134,7 +134,7 @@ module _ (z : Setting) (lawful : Lawful z) (low : LowAlike z) where
       out_first = outside-part c (OwnAll (more_terms (var_def p x t b e) (more_terms u us))) (Own (var_def p x t b e)) (λ x o. inl o) out
 
   abbrev CasesDo : Cases → Type 1
-  CasesDo cs = (c : Context) (k : Destination) (j : ℕ) → Sound z.is_mutable c → Ahead c j → Outside c (OwnCases cs) → Writes c.writable k → FineCases z.is_mutable (usable z) c.scope c.targets k cs → CasesAlike z lawful c k (ir_meaning.branches z.place.classes z.low cs) (cases z.is_mutable c.targets k j cs).cases
+  CasesDo cs = (c : Context) (k : Destination) (j : ℕ) → Sound z.is_mutable c → Ahead c j → Outside c (OwnCases cs) → Writes c.writable k → FineCases z.is_mutable (usable z) c.scope (around c) k cs → CasesAlike z lawful c k (ir_meaning.branches z.place.classes z.low cs) (cases z.is_mutable c.targets k j cs).cases
 
   case_does : (n : ℤ) (ns : List ℤ) (t : Term) (cs : Cases) → TreeDoes z lawful low t → CasesDo cs → CasesDo (more_cases (n ∷ ns) t cs)
   case_does n ns t cs does others c k j sound ahead out wr fine = with_keys (n ∷ ns) (ir_meaning.step z.place.classes z.low t) code.statements (ir_meaning.branches z.place.classes z.low cs) (cases z.is_mutable c.targets k code.next cs).cases (undeclared-case c code.statements (undeclared c (Own t) j code.statements out_case ahead (new z.is_mutable c.targets t k j))) (does (settled c) k j (sound-settled z c sound) (ahead-settled c j ahead) (outside-settled c (Own t) out_case) wr fine.0) (others c k code.next sound (ahead-later z lawful c j code.next (onward z.is_mutable c.targets t k j) ahead) (outside-part c (OwnCases (more_cases (n ∷ ns) t cs)) (OwnCases cs) (λ x o. inr o) out) wr fine.1)

@@ -31,7 +31,7 @@ use Rattle.sj_trees.specs.declared.types.IrType.{IrType}
 
 -- the context of a case: it is no turn of a loop, since a break in it ends the switch
 abbrev pub settled : Context → Context
-settled c = record { scope = c.scope; writable = c.writable; kept = c.kept; targets = c.targets; turning = ⊥ }
+settled c = record { scope = c.scope; writable = c.writable; kept = c.kept; targets = c.targets; reaches = c.reaches; turning = ⊥ }
 
 pub ahead-settled : (c : Context) (j : ℕ) → Ahead c j → Ahead (settled c) j
 ahead-settled c j h = record { writable = h.writable; kept = h.kept }
@@ -86,16 +86,16 @@ module _ (z : Setting) (lawful : Lawful z) where
       leaves = js_meaning.leaving names sc
 
   -- what leaves to a label passes by the end of the switch
-  left_settles : (c : Context) (k : Destination) (from : World) (before : js.Scope) (y : World) (l : List ℕ) (v : ir.Value) (env : ir.Env) (s : ir.State) (sc : js.Scope) (u : js.State) (e : js.Completion) (d : Destination) → target_of c.targets l ≡ d → Grows from y → Arrives z.place y v sc (js.breaks (z.place.label l)) d e → Ready z.place z.file c.scope c.writable y env sc → Keeps z.place (Less c.kept (target_of c.targets l)) before sc → SameState z.place y s u → Sim z.direction (Came z.place z.file c c.scope k from before) (done (ir.ends (ir.leaves l v) env s)) (js_meaning.behind_switch (js.ends e sc u))
-  left_settles c k from before y l v env s sc u _ _ t g let_go r ks same = sim_done z.direction (Came z.place z.file c c.scope k from before) (ir.ends (ir.leaves l v) env s) (js.ends (js.breaks (z.place.label l)) sc u) (left y l v env s sc u (js.breaks (z.place.label l)) g (subst (λ d. Arrives z.place y v sc (js.breaks (z.place.label l)) d (js.breaks (z.place.label l))) (sym t) let_go) r ks same)
-  left_settles c k from before y l v env s sc u _ _ t g (stored x i j q h) r ks same = sim_done z.direction (Came z.place z.file c c.scope k from before) (ir.ends (ir.leaves l v) env s) (js.ends (js.breaks (z.place.label l)) sc u) (left y l v env s sc u (js.breaks (z.place.label l)) g (subst (λ d. Arrives z.place y v sc (js.breaks (z.place.label l)) d (js.breaks (z.place.label l))) (sym t) (stored x i j q h)) r ks same)
-  left_settles c k from before y l v env s sc u _ _ t g (returned i j q) r ks same = sim_done z.direction (Came z.place z.file c c.scope k from before) (ir.ends (ir.leaves l v) env s) (js.ends (js.returns j) sc u) (left y l v env s sc u (js.returns j) g (subst (λ d. Arrives z.place y v sc (js.breaks (z.place.label l)) d (js.returns j)) (sym t) (returned i j q)) r ks same)
+  left_settles : (c : Context) (k : Destination) (from : World) (before : js.Scope) (y : World) (l : List ℕ) (v : ir.Value) (env : ir.Env) (s : ir.State) (sc : js.Scope) (u : js.State) (e : js.Completion) (d : Destination) → target_of c.targets l ≡ d → c.reaches l → Grows from y → Arrives z.place y v sc (js.breaks (z.place.label l)) d e → Ready z.place z.file c.scope c.writable y env sc → Keeps z.place (Less c.kept (target_of c.targets l)) before sc → SameState z.place y s u → Sim z.direction (Came z.place z.file c c.scope k from before) (done (ir.ends (ir.leaves l v) env s)) (js_meaning.behind_switch (js.ends e sc u))
+  left_settles c k from before y l v env s sc u _ _ t reach g let_go r ks same = sim_done z.direction (Came z.place z.file c c.scope k from before) (ir.ends (ir.leaves l v) env s) (js.ends (js.breaks (z.place.label l)) sc u) (left y l v env s sc u (js.breaks (z.place.label l)) reach g (subst (λ d. Arrives z.place y v sc (js.breaks (z.place.label l)) d (js.breaks (z.place.label l))) (sym t) let_go) r ks same)
+  left_settles c k from before y l v env s sc u _ _ t reach g (stored x i j q h) r ks same = sim_done z.direction (Came z.place z.file c c.scope k from before) (ir.ends (ir.leaves l v) env s) (js.ends (js.breaks (z.place.label l)) sc u) (left y l v env s sc u (js.breaks (z.place.label l)) reach g (subst (λ d. Arrives z.place y v sc (js.breaks (z.place.label l)) d (js.breaks (z.place.label l))) (sym t) (stored x i j q h)) r ks same)
+  left_settles c k from before y l v env s sc u _ _ t reach g (returned i j q) r ks same = sim_done z.direction (Came z.place z.file c c.scope k from before) (ir.ends (ir.leaves l v) env s) (js.ends (js.returns j) sc u) (left y l v env s sc u (js.returns j) reach g (subst (λ d. Arrives z.place y v sc (js.breaks (z.place.label l)) d (js.returns j)) (sym t) (returned i j q)) r ks same)
 
   settles : (c : Context) (k : Destination) (from : World) (before : js.Scope) (a : ir.Ended) (b : js.StatementEnd) → Came z.place z.file (settled c) c.scope k from before a b → Sim z.direction (Came z.place z.file c c.scope k from before) (done a) (js_meaning.behind_switch b)
   settles c _ from before _ _ (gave y v env s sc u _ g let_go r ks same) = sim_done z.direction (Came z.place z.file c c.scope discard from before) (ir.ends (ir.gives v) env s) (js.ends js.normally sc u) (gave y v env s sc u js.normally g let_go r ks same)
   settles c _ from before _ _ (gave y v env s sc u _ g (stored x t j a h) r ks same) = sim_done z.direction (Came z.place z.file c c.scope (to_variable x t) from before) (ir.ends (ir.gives v) env s) (js.ends js.normally sc u) (gave y v env s sc u js.normally g (stored x t j a h) r ks same)
   settles c _ from before _ _ (gave y v env s sc u _ g (returned t j a) r ks same) = sim_done z.direction (Came z.place z.file c c.scope (to_result t) from before) (ir.ends (ir.gives v) env s) (js.ends (js.returns j) sc u) (gave y v env s sc u (js.returns j) g (returned t j a) r ks same)
-  settles c k from before _ _ (left y l v env s sc u e g a r ks same) = left_settles c k from before y l v env s sc u e (target_of c.targets l) refl g a r ks same
+  settles c k from before _ _ (left y l v env s sc u e reach g a r ks same) = left_settles c k from before y l v env s sc u e (target_of c.targets l) refl reach g a r ks same
   settles c k from before _ _ (threw y v x env s sc u g a r ks same) = sim_done z.direction (Came z.place z.file c c.scope k from before) (ir.ends (ir.throws v) env s) (js.ends (js.thrown_with x) sc u) (threw y v x env s sc u g a r ks same)
   settles c k from before _ _ (stopped y env s sc u t g r ks same) = absurd t
 

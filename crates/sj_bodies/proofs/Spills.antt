@@ -34,10 +34,10 @@ use Rattle.sj_plain.proofs.Worlds.{World, Grows, grows-refl, grows-trans, SameVa
 
 -- a context in which further variables keep what they hold, and one in which one more may be written
 abbrev pub keeping : Context → (core.Variable → Type 0) → Context
-keeping c p = record { scope = c.scope; writable = c.writable; kept = p; targets = c.targets; turning = c.turning }
+keeping c p = record { scope = c.scope; writable = c.writable; kept = p; targets = c.targets; reaches = c.reaches; turning = c.turning }
 
 abbrev pub writing : Context → core.Variable → Context
-writing c x = record { scope = c.scope; writable = λ y. (y ≡ x) ⊎ c.writable y; kept = c.kept; targets = c.targets; turning = c.turning }
+writing c x = record { scope = c.scope; writable = λ y. (y ≡ x) ⊎ c.writable y; kept = c.kept; targets = c.targets; reaches = c.reaches; turning = c.turning }
 
 -- more is kept, but no more locals
 pub record Extends (c : Context) (p : core.Variable → Type 0) : Type 0 where
@@ -263,7 +263,7 @@ module _ (z : Setting) (lawful : Lawful z) where
 
       each : (a : ir.Ended) (b : js.StatementEnd) → Came z.place z.file (writing (keeping c p) x) c.scope (to_variable x (t.here.tpe)) w started a b → Sim z.direction (Came z.place z.file c c.scope k from before) (ir.onward f a) (js.next_statement (run z rest) b)
       each _ _ (gave y v env' s' sc2 u' _ h (stored _ _ q a e) r2 k2 states) = others (λ b. (b ≡ x) ⊎ p b) code.next (λ vs. act (v ∷ vs)) (λ es. made (core.variable_use x ∷ es)) y env' s' sc2 u' (operands-later c j code.next ts (omega (arith, onward (to_variable x (t.here.tpe)) (suc j))) ds) (extends-more c p j sub) (sound-kept c p j sound ahead) (ahead-kept c p j code.next (onward (to_variable x (t.here.tpe)) (suc j)) ahead) (saved_final c k from before p j code.next t.here.tpe (types ts) w y sc sc2 act made v q false (onward (to_variable x (t.here.tpe)) (suc j)) final h (keeps-trans z p sc started sc2 (started-keeps z lawful p false x js.undefined sc kept_here) (all_kept sc2 k2)) a e) (grows-trans from w y g h) (record { sees = r2.sees; «open» = λ a b. r2.«open» a (inr b) }) (keeps-trans z c.kept before sc sc2 ks (keeps-trans z c.kept sc started sc2 (started-keeps z lawful c.kept false x js.undefined sc (λ b. kept_here (sub.more x b))) (keeps-fewer z p c.kept started sc2 sub.more (all_kept sc2 k2)))) states
-      each _ _ (left y l v env' s' sc2 u' e h a r2 k2 states) = leaves_on z lawful c c.scope k from before (run z rest) y l v env' s' sc2 u' e (target_of c.targets l) refl (grows-trans from w y g h) a (record { sees = r2.sees; «open» = λ a b. r2.«open» a (inr b) }) (less-trans z c.kept (target_of c.targets l) before sc sc2 ks (less-trans z c.kept (target_of c.targets l) sc started sc2 (started-keeps z lawful c.kept false x js.undefined sc (λ b. kept_here (sub.more x b))) (keeps-fewer z (Less p (target_of c.targets l)) (Less c.kept (target_of c.targets l)) started sc2 (λ y i. (sub.more y i.0, i.1)) k2))) states
+      each _ _ (left y l v env' s' sc2 u' e reach h a r2 k2 states) = leaves_on z lawful c c.scope k from before (run z rest) y l v env' s' sc2 u' e (target_of c.targets l) refl reach (grows-trans from w y g h) a (record { sees = r2.sees; «open» = λ a b. r2.«open» a (inr b) }) (less-trans z c.kept (target_of c.targets l) before sc sc2 ks (less-trans z c.kept (target_of c.targets l) sc started sc2 (started-keeps z lawful c.kept false x js.undefined sc (λ b. kept_here (sub.more x b))) (keeps-fewer z (Less p (target_of c.targets l)) (Less c.kept (target_of c.targets l)) started sc2 (λ y i. (sub.more y i.0, i.1)) k2))) states
       each _ _ (threw y v q env' s' sc2 u' h a r2 k2 states) = sim_done z.direction (Came z.place z.file c c.scope k from before) (ir.ends (ir.throws v) env' s') (js.ends (js.thrown_with q) sc2 u') (threw y v q env' s' sc2 u' (grows-trans from w y g h) a (record { sees = r2.sees; «open» = λ a b. r2.«open» a (inr b) }) (keeps-trans z c.kept before sc sc2 ks (keeps-trans z c.kept sc started sc2 (started-keeps z lawful c.kept false x js.undefined sc (λ b. kept_here (sub.more x b))) (keeps-fewer z p c.kept started sc2 sub.more k2))) states)
       each _ _ (stopped y env' s' sc2 u' t h r2 k2 states) = sim_done z.direction (Came z.place z.file c c.scope k from before) (ir.ends ir.stops env' s') (js.ends js.breaks_nearest sc2 u') (stopped y env' s' sc2 u' t (grows-trans from w y g h) (record { sees = r2.sees; «open» = λ a b. r2.«open» a (inr b) }) (keeps-trans z c.kept before sc sc2 ks (keeps-trans z c.kept sc started sc2 (started-keeps z lawful c.kept false x js.undefined sc (λ b. kept_here (sub.more x b))) (keeps-fewer z p c.kept started sc2 sub.more k2))) states)
 

@@ -60,15 +60,15 @@ module _ (z : Setting) (lawful : Lawful z) where
   throws-on c scope k from w before env sc g ks r y v x s u h a same = threw y v x env s sc u (grows-trans from w y g h) a (ready-lift z c.scope c.writable w y env sc h r) ks same
 
   -- what leaves to a label passes by what comes behind
-  pub leaves_on : (c : Context) (scope : Scope) (k : Destination) (from : World) (before : js.Scope) (second : js.Execution) (y : World) (l : List ℕ) (v : ir.Value) (env : ir.Env) (s : ir.State) (sc : js.Scope) (u : js.State) (e : js.Completion) (d : Destination) → target_of c.targets l ≡ d → Grows from y → Arrives z.place y v sc (js.breaks (z.place.label l)) d e → Ready z.place z.file c.scope c.writable y env sc → Keeps z.place (Less c.kept (target_of c.targets l)) before sc → SameState z.place y s u → Sim z.direction (Came z.place z.file c scope k from before) (done (ir.ends (ir.leaves l v) env s)) (js.next_statement second (js.ends e sc u))
-  leaves_on c scope k from before second y l v env s sc u _ _ t g let_go r ks same = sim_done z.direction (Came z.place z.file c scope k from before) (ir.ends (ir.leaves l v) env s) (js.ends (js.breaks (z.place.label l)) sc u) (left y l v env s sc u (js.breaks (z.place.label l)) g (subst (λ d. Arrives z.place y v sc (js.breaks (z.place.label l)) d (js.breaks (z.place.label l))) (sym t) let_go) r ks same)
-  leaves_on c scope k from before second y l v env s sc u _ _ t g (stored x i j q h) r ks same = sim_done z.direction (Came z.place z.file c scope k from before) (ir.ends (ir.leaves l v) env s) (js.ends (js.breaks (z.place.label l)) sc u) (left y l v env s sc u (js.breaks (z.place.label l)) g (subst (λ d. Arrives z.place y v sc (js.breaks (z.place.label l)) d (js.breaks (z.place.label l))) (sym t) (stored x i j q h)) r ks same)
-  leaves_on c scope k from before second y l v env s sc u _ _ t g (returned i j q) r ks same = sim_done z.direction (Came z.place z.file c scope k from before) (ir.ends (ir.leaves l v) env s) (js.ends (js.returns j) sc u) (left y l v env s sc u (js.returns j) g (subst (λ d. Arrives z.place y v sc (js.breaks (z.place.label l)) d (js.returns j)) (sym t) (returned i j q)) r ks same)
+  pub leaves_on : (c : Context) (scope : Scope) (k : Destination) (from : World) (before : js.Scope) (second : js.Execution) (y : World) (l : List ℕ) (v : ir.Value) (env : ir.Env) (s : ir.State) (sc : js.Scope) (u : js.State) (e : js.Completion) (d : Destination) → target_of c.targets l ≡ d → c.reaches l → Grows from y → Arrives z.place y v sc (js.breaks (z.place.label l)) d e → Ready z.place z.file c.scope c.writable y env sc → Keeps z.place (Less c.kept (target_of c.targets l)) before sc → SameState z.place y s u → Sim z.direction (Came z.place z.file c scope k from before) (done (ir.ends (ir.leaves l v) env s)) (js.next_statement second (js.ends e sc u))
+  leaves_on c scope k from before second y l v env s sc u _ _ t reach g let_go r ks same = sim_done z.direction (Came z.place z.file c scope k from before) (ir.ends (ir.leaves l v) env s) (js.ends (js.breaks (z.place.label l)) sc u) (left y l v env s sc u (js.breaks (z.place.label l)) reach g (subst (λ d. Arrives z.place y v sc (js.breaks (z.place.label l)) d (js.breaks (z.place.label l))) (sym t) let_go) r ks same)
+  leaves_on c scope k from before second y l v env s sc u _ _ t reach g (stored x i j q h) r ks same = sim_done z.direction (Came z.place z.file c scope k from before) (ir.ends (ir.leaves l v) env s) (js.ends (js.breaks (z.place.label l)) sc u) (left y l v env s sc u (js.breaks (z.place.label l)) reach g (subst (λ d. Arrives z.place y v sc (js.breaks (z.place.label l)) d (js.breaks (z.place.label l))) (sym t) (stored x i j q h)) r ks same)
+  leaves_on c scope k from before second y l v env s sc u _ _ t reach g (returned i j q) r ks same = sim_done z.direction (Came z.place z.file c scope k from before) (ir.ends (ir.leaves l v) env s) (js.ends (js.returns j) sc u) (left y l v env s sc u (js.returns j) reach g (subst (λ d. Arrives z.place y v sc (js.breaks (z.place.label l)) d (js.returns j)) (sym t) (returned i j q)) r ks same)
 
   -- a first tree whose value is given up, and what comes behind it
   pub came_then : (c : Context) (first scope : Scope) (k : Destination) (w : World) (sc : js.Scope) (f : ir.Value → ir.Run) (second : js.Execution) → ((y : World) (v : ir.Value) (env : ir.Env) (s : ir.State) (sc' : js.Scope) (u : js.State) → Grows w y → Ready z.place z.file first c.writable y env sc' → Keeps z.place c.kept sc sc' → SameState z.place y s u → Sim z.direction (Came z.place z.file c scope k w sc) (f v env s) (second sc' u)) → (a : ir.Ended) (b : js.StatementEnd) → Came z.place z.file c first discard w sc a b → Sim z.direction (Came z.place z.file c scope k w sc) (ir.onward f a) (js.next_statement second b)
   came_then c first scope k w sc f second goes _ _ (gave y v env s sc' u _ g let_go r ks same) = goes y v env s sc' u g r (keeps-all z c.kept sc sc' ks) same
-  came_then c first scope k w sc f second goes _ _ (left y l v env s sc' u e g a r ks same) = leaves_on c scope k w sc second y l v env s sc' u e (target_of c.targets l) refl g a r ks same
+  came_then c first scope k w sc f second goes _ _ (left y l v env s sc' u e reach g a r ks same) = leaves_on c scope k w sc second y l v env s sc' u e (target_of c.targets l) refl reach g a r ks same
   came_then c first scope k w sc f second goes _ _ (threw y v x env s sc' u g a r ks same) = sim_done z.direction (Came z.place z.file c scope k w sc) (ir.ends (ir.throws v) env s) (js.ends (js.thrown_with x) sc' u) (threw y v x env s sc' u g a r ks same)
   came_then c first scope k w sc f second goes _ _ (stopped y env s sc' u t g r ks same) = sim_done z.direction (Came z.place z.file c scope k w sc) (ir.ends ir.stops env s) (js.ends js.breaks_nearest sc' u) (stopped y env s sc' u t g r ks same)
 

@@ -30,7 +30,7 @@ use Rattle.sj_plain.specs.Settings.{Setting, shown, SameState, Valued, Lawful, H
 use Rattle.sj_bodies.proofs.Blocks.{Outside}
 use Rattle.sj_plain.proofs.Standing.{arguments-same}
 use Rattle.sj_plain.proofs.Divisions.{divisor_of, division_act, division_alike, dividend_alone}
-use Rattle.sj_bodies.proofs.Contexts.{Context, Writes, Sound, Ahead, Ready, Came}
+use Rattle.sj_bodies.proofs.Contexts.{around, Context, Writes, Sound, Ahead, Ready, Came}
 use Rattle.sj_bodies.proofs.Declared.{Own}
 use Rattle.sj_bodies.specs.Fine.{FitsIn, FineOperand, Fine, with_local}
 use Rattle.sj_bodies.proofs.Forms.{sound-writing, ahead-writing, outside-writing, of_operands, one_final, quiet_alike, defining, sound-defining, ahead-defining, define_alike, OneFinal}
@@ -43,14 +43,14 @@ use Rattle.sj_plain.proofs.Worlds.{World}
 
 -- the level below: each tree of the forms that are built, and its statements, with one unit less
 abbrev pub LowAlike : Setting → Type 1
-LowAlike z = (c : Context) (k : Destination) (j : ℕ) (t : Term) → Sound z.is_mutable c → Ahead c j → Outside c (Own t) → Writes c.writable k → Fine z.is_mutable (usable z) c.scope c.targets k t → (w : World) (env : ir.Env) (s : ir.State) (sc : js.Scope) (u : js.State) → Ready z.place z.file c.scope c.writable w env sc → SameState z.place w s u → Sim z.direction (Came z.place z.file c c.scope k w sc) (z.low t env s) (z.js_low (statement_templates z.place.name z.place.label (into z.is_mutable c.targets k j t).statements) sc u)
+LowAlike z = (c : Context) (k : Destination) (j : ℕ) (t : Term) → Sound z.is_mutable c → Ahead c j → Outside c (Own t) → Writes c.writable k → Fine z.is_mutable (usable z) c.scope (around c) k t → (w : World) (env : ir.Env) (s : ir.State) (sc : js.Scope) (u : js.State) → Ready z.place z.file c.scope c.writable w env sc → SameState z.place w s u → Sim z.direction (Came z.place z.file c c.scope k w sc) (z.low t env s) (z.js_low (statement_templates z.place.name z.place.label (into z.is_mutable c.targets k j t).statements) sc u)
 
 pub outside-part : (c : Context) (own part : List ℕ → Type 0) → ((x : List ℕ) → part x → own x) → Outside c own → Outside c part
 outside-part c own part h out = record { scope = λ x t i. out.scope x t (h x i); writable = λ x i. out.writable x (h x i); kept = λ x i. out.kept x (h x i) }
 
 -- the context behind the definition of a local
 abbrev pub behind : Setting → Context → List ℕ → IrType → Context
-behind z c x t = record { scope = with_local x t c.scope; writable = c.writable; kept = λ y. ((y ≡ core.named x) × (z.is_mutable x ≡ false)) ⊎ c.kept y; targets = c.targets; turning = c.turning }
+behind z c x t = record { scope = with_local x t c.scope; writable = c.writable; kept = λ y. ((y ≡ core.named x) × (z.is_mutable x ≡ false)) ⊎ c.kept y; targets = c.targets; reaches = c.reaches; turning = c.turning }
 
 onward-given : (e : ir.Ended) → ir.onward ir.given e ≡ done e
 onward-given (ir.ends (ir.gives v) env s) = refl
@@ -63,7 +63,7 @@ go_on-given o = ap (then_do o) (fun_ext onward-given) ∙ then_do-right o
 
 module _ (z : Setting) (lawful : Lawful z) (low : LowAlike z) where
   abbrev pub FineHere : Context → Destination → Term → Type 0
-  FineHere c k t = Fine z.is_mutable (usable z) c.scope c.targets k t
+  FineHere c k t = Fine z.is_mutable (usable z) c.scope (around c) k t
 
   -- the theorem on one tree
   abbrev pub TreeDoes : Term → Type 1

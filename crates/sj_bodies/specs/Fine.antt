@@ -31,19 +31,32 @@ FitsIn (to_result expected) t = (has_no_value t ≡ false) × Fits expected t
 abbrev pub with_local : List ℕ → IrType → Scope → Scope
 with_local x t scope y i = ((y ≡ x) × (i ≡ t)) ⊎ ((y ≡ x → ⊥) × scope y i)
 
+-- the labels around a tree: where what leaves to each goes, and those to which the tree may leave
+pub record Around : Type 1 where
+  pub targets : Targets
+  pub reaches : List ℕ → Type 0
+
+-- these, and one more
+abbrev pub with_label : List ℕ → Destination → Around → Around
+with_label l k ls = record { targets = record { label = l; goes_to = k } ∷ ls.targets; reaches = λ m. (m ≡ l) ⊎ ls.reaches m }
+
+-- no labels: a body leaves to its own alone
+abbrev pub no_labels : Around
+no_labels = record { targets = []; reaches = λ l. Unit {0} }
+
 module _ (is_mutable : List ℕ → Bool) (has : Usable) where
   -- an operand is plain, or it may be brought to any variable of its type
   abbrev pub FineOperand : Scope → Term → (core.Variable → Type 0) → Type 0
   FineOperand scope t fine = ((is_plain t ≡ true) × Plain has scope t) ⊎ ((is_plain t ≡ false) × (is_fixed is_mutable t ≡ false) × ((y : core.Variable) → fine y))
 
   abbrev mutual
-    pub Fine : Scope → Targets → Destination → Term → Type 0
+    pub Fine : Scope → Around → Destination → Term → Type 0
     Fine g ls k (var_def p x t b e) = IsDiscard k × (Own e x → ⊥) × (((is_plain e ≡ true) × Plain has g e × Fits t (type_of_term e)) ⊎ ((is_plain e ≡ false) × Fine g ls (to_variable (core.named x) t) e))
     Fine g ls k (skip p) = IsDiscard k
     Fine g ls k (block_of p ts) = FineBlock g ls k ts
-    Fine g ls k (labeled p l t e) = Fine g (record { label = l; goes_to = k } ∷ ls) k e
+    Fine g ls k (labeled p l t e) = Fine g (with_label l k ls) k e
     Fine g ls k (assign p (var_ref q x t) e) = IsDiscard k × g x t × (is_mutable x ≡ true) × Fits t (type_of_term e) × FineOperand g e (λ y. Fine g ls (to_variable y (type_of_term e)) e)
-    Fine g ls k (return_to p e l) = Fine g ls (target_of ls l) e
+    Fine g ls k (return_to p e l) = ls.reaches l × Fine g ls (target_of ls.targets l) e
     Fine g ls k (if_then p c a b t) = FineOperand g c (λ y. Fine g ls (to_variable y (type_of_term c)) c) × Fine g ls k a × Fine g ls k b
     Fine g ls k (while_loop p c b) = ((IsDiscard k × FineOperand g c (λ y. Fine g ls (to_variable y (type_of_term c)) c)) ⊎ IsTrueLiteral c) × Fine g ls discard b
     Fine g ls k (do_while p b c) = ((IsDiscard k × FineOperand g c (λ y. Fine g ls (to_variable y (type_of_term c)) c)) ⊎ IsTrueLiteral c) × Fine g ls discard b
@@ -65,18 +78,18 @@ module _ (is_mutable : List ℕ → Bool) (has : Usable) where
     Fine g ls k _ = ⊥
 
     -- a local is in scope in the rest of its block
-    pub FineBlock : Scope → Targets → Destination → Terms → Type 0
+    pub FineBlock : Scope → Around → Destination → Terms → Type 0
     FineBlock g ls k no_terms = Unit {0}
     FineBlock g ls k (more_terms t no_terms) = Fine g ls k t
     FineBlock g ls k (more_terms (var_def p x t b e) (more_terms u us)) = Fine g ls discard (var_def p x t b e) × (OwnAll (more_terms u us) x → ⊥) × FineBlock (with_local x t g) ls k (more_terms u us)
     FineBlock g ls k (more_terms t (more_terms u us)) = Fine g ls discard t × FineBlock g ls k (more_terms u us)
 
-    pub FineOperands : Scope → Targets → Destination → Terms → Type 0
+    pub FineOperands : Scope → Around → Destination → Terms → Type 0
     FineOperands g ls k no_terms = Unit {0}
     FineOperands g ls k (more_terms t ts) = FineOperand g t (λ y. Fine g ls (to_variable y (type_of_term t)) t) × FineOperands g ls k ts
 
     -- a case without keys isn't chosen and isn't written
-    pub FineCases : Scope → Targets → Destination → Cases → Type 0
+    pub FineCases : Scope → Around → Destination → Cases → Type 0
     FineCases g ls k no_cases = Unit {0}
     FineCases g ls k (more_cases [] t cs) = FineCases g ls k cs
     FineCases g ls k (more_cases (n ∷ ns) t cs) = Fine g ls k t × FineCases g ls k cs

@@ -15,7 +15,7 @@ use Rattle.sj_names.specs.declared.method_names.Member.{Member}
 use Rattle.sj_trees.specs.Term.{Term}
 use Rattle.sj_trees.specs.declared.classes.MethodDef.{MethodDef}
 use Rattle.sj_trees.specs.declared.classes.ParamDef.{ParamDef}
-use Rattle.sj_bodies.specs.Fine.{Fine, with_local}
+use Rattle.sj_bodies.specs.Fine.{Fine, no_labels, with_local}
 use Rattle.sj_bodies.specs.Locals.{Own}
 use Rattle.sj_plain.specs.Settings.{Place, a_function, function_call, Reaches, Valued}
 use Rattle.sj_plain.specs.Worlds.{World}
@@ -50,7 +50,7 @@ HaveTypes _ _ = ⊥
 
 -- the body is fine where it brings its value out of the method, with the parameters in scope, and it defines no parameter again
 pub record FineMethod (has : Usable) (d : MethodDef) (e : Term) : Type 0 where
-  pub fine : Fine (is_mutable_in d e) has (parameters_of d.params) [] (result_destination d.result) e
+  pub fine : Fine (is_mutable_in d e) has (parameters_of d.params) no_labels (result_destination d.result) e
   pub fresh : (x : List ℕ) → Own e x → IsParameter d.params x → ⊥
 
 -- a member of the classes with the types that its name tells and a body that is fine by what the code of its file can use, whose function stands in that

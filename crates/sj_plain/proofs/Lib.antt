@@ -1,5 +1,6 @@
 pub mod Standing
 pub mod Worlds
+pub mod Heaps
 pub mod Operators
 pub mod Told
 pub mod Orders

@@ -1,5 +1,5 @@
 -- Worlds grow, and what stands for each other goes on to do so.
-use Rattle.std.proofs.Common.{List, [], ◌∷◌}
+use Rattle.std.proofs.Common.{◌≡◌, ℕ, List, [], ◌∷◌, Some}
 use Rattle.ir_mean.specs.States as ir
 use Rattle.js_mean.specs.States as js
 pub use Rattle.sj_plain.specs.Worlds.{World, nothing_made, Grows, Stands, same_undefined, same_null, same_boolean, same_char, same_number, same_long, same_text, SameValue, SameValues, no_values, one_more}
@@ -13,17 +13,21 @@ grows-refl w = record { places = λ i a e. e; owns = λ a o e. e; pends = λ a o
 pub grows-trans : (u v w : World) → Grows u v → Grows v w → Grows u w
 grows-trans u v w g h = record { places = λ i a e. h.places i a (g.places i a e); owns = λ a o e. h.owns a o (g.owns a o e); pends = λ a o e. h.pends a o (g.pends a o e) }
 
-pub stands-lift : (u w : World) (v : ir.Value) (x : js.Value) → Grows u w → Stands u v x → Stands w v x
-stands-lift u w _ _ g same_undefined = same_undefined
-stands-lift u w _ _ g same_null = same_null
-stands-lift u w _ _ g (same_boolean b) = same_boolean b
-stands-lift u w _ _ g (same_char c f) = same_char c f
-stands-lift u w _ _ g (same_number z f) = same_number z f
-stands-lift u w _ _ g (same_long z f) = same_long z f
-stands-lift u w _ _ g (same_text us) = same_text us
+-- a value stands for another wherever each address has its address
+pub stands-carry : (u w : World) (v : ir.Value) (x : js.Value) → ((i a : ℕ) → u.place i ≡ Some a → w.place i ≡ Some a) → Stands u v x → Stands w v x
+stands-carry u w _ _ g same_undefined = same_undefined
+stands-carry u w _ _ g same_null = same_null
+stands-carry u w _ _ g (same_boolean b) = same_boolean b
+stands-carry u w _ _ g (same_char c f) = same_char c f
+stands-carry u w _ _ g (same_number z f) = same_number z f
+stands-carry u w _ _ g (same_long z f) = same_long z f
+stands-carry u w _ _ g (same_text us) = same_text us
+
+pub value-carry : (u w : World) (t : IrType) (v : ir.Value) (x : js.Value) → ((i a : ℕ) → u.place i ≡ Some a → w.place i ≡ Some a) → SameValue u t v x → SameValue w t v x
+value-carry u w t v x g a = record { stands = stands-carry u w v x g a.stands; suits = a.suits }
 
 pub value-lift : (u w : World) (t : IrType) (v : ir.Value) (x : js.Value) → Grows u w → SameValue u t v x → SameValue w t v x
-value-lift u w t v x g a = record { stands = stands-lift u w v x g a.stands; suits = a.suits }
+value-lift u w t v x g a = value-carry u w t v x g.places a
 
 pub values-lift : (u w : World) (ts : List IrType) (vs : List ir.Value) (xs : List js.Value) → Grows u w → SameValues u ts vs xs → SameValues w ts vs xs
 values-lift u w _ _ _ g no_values = no_values

@@ -1,5 +1,5 @@
 -- When a value of the IR and one of the emitted code stand for each other.
-use Rattle.std.specs.Prelude.{◌≡◌, ℕ, ◌^◌, ◌<◌, Bool, true, List, [], ◌∷◌, Option, Some, None, ℤ, pos, FitsSigned}
+use Rattle.std.specs.Prelude.{◌≡◌, ℕ, ◌^◌, ◌<◌, Bool, true, List, [], ◌∷◌, Option, Some, None, ◌==◌, if◌then◌else◌, ℤ, pos, FitsSigned}
 use Rattle.std.specs.Int.{w32, w64}
 use Rattle.ir_mean.specs.States as ir
 use Rattle.js_mean.specs.States as js
@@ -16,6 +16,14 @@ pub record World : Type 0 where
 -- the world of a program that begins
 abbrev pub nothing_made : World
 nothing_made = record { place = λ i. None; owned = λ a. None; pending = λ a. None }
+
+-- the world in which the emitted code has made this object at this address, and the IR hasn't yet
+abbrev pub with_pending : ℕ → js.Stored → World → World
+with_pending a o w = record { place = w.place; owned = w.owned; pending = λ b. if b == a then Some o else w.pending b }
+
+-- the world in which the IR has made its own, at this address, for the one that was pending there
+abbrev pub with_born : ℕ → ℕ → World → World
+with_born i a w = record { place = λ j. if j == i then Some a else w.place j; owned = w.owned; pending = λ b. if b == a then None else w.pending b }
 
 pub record Grows (old new : World) : Type 0 where
   pub places : (i a : ℕ) → old.place i ≡ Some a → new.place i ≡ Some a

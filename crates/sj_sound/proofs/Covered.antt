@@ -23,7 +23,7 @@ use Rattle.sj_trees.specs.declared.types.IrType.TheVariants.{Any, Nothing, Undef
 use Rattle.sj_plain.specs.Conditions.{is_simple, unary_operand, left_operand, right_operand, a_quotient, a_remainder, a_long_quotient, a_long_remainder, DividesBy, by_int, by_long, Operates, of_its_types, joins, Plain, AllPlain, Usable}
 use Rattle.sj_plain.specs.Standing.{Fits, FitAll, types_referred}
 use Rattle.sj_plain.proofs.Standing.{fits-same}
-use Rattle.sj_bodies.specs.Fine.{IsDiscard, is_discard, IsTrueLiteral, true_literal, FitsIn, FineOperand, Fine, FineBlock, FineOperands, FineCases, with_local}
+use Rattle.sj_bodies.specs.Fine.{Around, with_label, IsDiscard, is_discard, IsTrueLiteral, true_literal, FitsIn, FineOperand, Fine, FineBlock, FineOperands, FineCases, with_local}
 use Rattle.sj_bodies.proofs.Contexts.{equals, is-equal}
 use Rattle.sj_names.proofs.Same.{impossible}
 use Rattle.sj_calls.specs.Methods.{IsParameter, parameters_of}
@@ -334,21 +334,26 @@ module _ (sub : IrType → IrType → Type 0) (law : IsSubtyping sub) (is_mutabl
     all_plain no_terms s v h k = tt
     all_plain (more_terms t ts) s v h k = let x = and_parts (is_plain t) (are_plain ts) k in (plain t s v h.0 x.0, all_plain ts s v h.1 x.1)
 
-  abbrev FineAt : Scene → Targets → Destination → Term → Type 0
+  -- the values that leave to each label are of its type, and a tree may leave to each
+  pub record Reached (bs : List Label) (ls : Around) : Type 0 where
+    pub targets : Reach bs ls.targets
+    pub all : (l : List ℕ) → ls.reaches l
+
+  abbrev FineAt : Scene → Around → Destination → Term → Type 0
   FineAt s ls k t = Fine is_mutable has (parameters_of s.locals) ls k t
 
-  abbrev FineOperandAt : Scene → Targets → Term → Type 0
+  abbrev FineOperandAt : Scene → Around → Term → Type 0
   FineOperandAt s ls e = FineOperand is_mutable has (parameters_of s.locals) e (λ y. FineAt s ls (to_variable y (type_of_term e)) e)
 
   -- an operand, by whether it is plain
-  operand_by : (s : Scene) (ls : Targets) (e : Term) → HaveValues s.locals → Typed sub has s e → ((y : core.Variable) → FineAt s ls (to_variable y (type_of_term e)) e) → FineOperandAt s ls e
+  operand_by : (s : Scene) (ls : Around) (e : Term) → HaveValues s.locals → Typed sub has s e → ((y : core.Variable) → FineAt s ls (to_variable y (type_of_term e)) e) → FineOperandAt s ls e
   operand_by s ls e v h code = go (is_plain e) refl
     where
       go : (b : Bool) → is_plain e ≡ b → FineOperandAt s ls e
       go true i = inl (i, plain e s v h i)
       go false i = inr (i, not_fixed is_mutable e i, code)
 
-  definition_by : (s : Scene) (ls : Targets) (k : Destination) (p : Position) (x : List ℕ) (t : IrType) (b : Bool) (e : Term) → HaveValues s.locals → IsDiscard k → Typed sub has s (var_def p x t b e) → FineAt s ls (to_variable (core.named x) t) e → FineAt s ls k (var_def p x t b e)
+  definition_by : (s : Scene) (ls : Around) (k : Destination) (p : Position) (x : List ℕ) (t : IrType) (b : Bool) (e : Term) → HaveValues s.locals → IsDiscard k → Typed sub has s (var_def p x t b e) → FineAt s ls (to_variable (core.named x) t) e → FineAt s ls k (var_def p x t b e)
   definition_by s ls k p x t b e v g h code = (g, h.2, go (is_plain e) refl)
     where
       go : (b : Bool) → is_plain e ≡ b → ((is_plain e ≡ true) × Plain has (parameters_of s.locals) e × Fits t (type_of_term e)) ⊎ ((is_plain e ≡ false) × FineAt s ls (to_variable (core.named x) t) e)
@@ -359,13 +364,13 @@ module _ (sub : IrType → IrType → Type 0) (law : IsSubtyping sub) (is_mutabl
   Mutable mutates = (x : List ℕ) → mutates x → is_mutable x ≡ true
 
   mutual
-    pub fine : (t : Term) (s : Scene) (ls : Targets) (k : Destination) → HaveValues s.locals → AreMutable is_mutable s.locals → Reach s.labels ls → Mutable (Mutates t) → Asks k (type_of_term t) → Typed sub has s t → FineAt s ls k t
+    pub fine : (t : Term) (s : Scene) (ls : Around) (k : Destination) → HaveValues s.locals → AreMutable is_mutable s.locals → Reached s.labels ls → Mutable (Mutates t) → Asks k (type_of_term t) → Typed sub has s t → FineAt s ls k t
     fine (var_def p x t b e) s ls k v m r mut asks h = definition_by s ls k p x t b e v (given_up k asks) h (fine e s ls (to_variable (core.named x) t) v m r (λ y i. mut y (inr i)) (h.0, value-not t h.1) h.3)
     fine (skip p) s ls k v m r mut asks h = given_up k asks
     fine (block_of p ts) s ls k v m r mut asks h = fine_block ts s ls k v m r mut NoType asks h
-    fine (labeled p l t e) s ls k v m r mut asks h = fine e (in_label l t s) (record { label = l; goes_to = k } ∷ ls) k v m (refl, asks, r) mut (yields k e t asks h.0) h.1
+    fine (labeled p l t e) s ls k v m r mut asks h = fine e (in_label l t s) (with_label l k ls) k v m (record { targets = (refl, asks, r.targets); all = λ m. inr (r.all m) }) mut (yields k e t asks h.0) h.1
     fine (assign p (var_ref q x t) e) s ls k v m r mut asks h = (given_up k asks, subst (parameters_of s.locals x) h.0.type_is (typed-there s.locals x h.0.local h.0.is), m x h.0.local h.0.is h.0.«mutable», fits-sub t (type_of_term e) h.1.0 h.1.1, operand_by s ls e v h.2 (λ y. fine e s ls (to_variable y (type_of_term e)) v m r mut (asks-own y (type_of_term e) t h.1.0 (value-not t (subst HasValue h.0.type_is (v x h.0.local h.0.is)))) h.2))
-    fine (return_to p e l) s ls k v m r mut asks h = fine e s ls (target_of ls l) v m r mut (yields (target_of ls l) e h.0.tpe (reach-asks s.labels ls l h.0.tpe r h.0.is) h.0.yields) h.1
+    fine (return_to p e l) s ls k v m r mut asks h = (r.all l, fine e s ls (target_of ls.targets l) v m r mut (yields (target_of ls.targets l) e h.0.tpe (reach-asks s.labels ls.targets l h.0.tpe r.targets h.0.is) h.0.yields) h.1)
     fine (if_then p c a b t) s ls k v m r mut asks h = (operand_by s ls c v h.3 (λ y. fine c s ls (to_variable y (type_of_term c)) v m r (λ x i. mut x (inl i)) (asks-own y (type_of_term c) Boolean h.0 (value-not Boolean refl)) h.3), fine a s ls k v m r (λ x i. mut x (inr (inl i))) (yields k a t asks h.1) h.4, fine b s ls k v m r (λ x i. mut x (inr (inr i))) (yields k b t asks h.2) h.5)
     fine (while_loop p c b) s ls k v m r mut asks h = (⊎_elim (λ e. inl (given_up k (subst (Asks k) e asks), operand_by s ls c v h.1 (λ y. fine c s ls (to_variable y (type_of_term c)) v m r (λ x i. mut x (inl i)) (asks-own y (type_of_term c) Boolean h.0 (value-not Boolean refl)) h.1))) (λ i. inr i) (true-or-none c), fine b s ls discard v m r (λ x i. mut x (inr i)) tt h.2)
     fine (do_while p b c) s ls k v m r mut asks h = (⊎_elim (λ e. inl (given_up k (subst (Asks k) e asks), operand_by s ls c v h.2 (λ y. fine c s ls (to_variable y (type_of_term c)) v m r (λ x i. mut x (inr i)) (asks-own y (type_of_term c) Boolean h.0 (value-not Boolean refl)) h.2))) (λ i. inr i) (true-or-none c), fine b s ls discard v m r (λ x i. mut x (inl i)) tt h.1)
@@ -387,18 +392,18 @@ module _ (sub : IrType → IrType → Type 0) (law : IsSubtyping sub) (is_mutabl
     fine (log_line p e) s ls k v m r mut asks h = (given_up k asks, operand_by s ls e v h.1 (λ y. fine e s ls (to_variable y (type_of_term e)) v m r mut (asks-own y (type_of_term e) String h.0 (value-not String refl)) h.1))
     fine _ s ls k v m r mut asks h = absurd h
 
-    fine_block : (ts : Terms) (s : Scene) (ls : Targets) (k : Destination) → HaveValues s.locals → AreMutable is_mutable s.locals → Reach s.labels ls → Mutable (MutatesAll ts) → (i : IrType) → Asks k (type_of_last i ts) → TypedBlock sub has s ts → FineBlock is_mutable has (parameters_of s.locals) ls k ts
+    fine_block : (ts : Terms) (s : Scene) (ls : Around) (k : Destination) → HaveValues s.locals → AreMutable is_mutable s.locals → Reached s.labels ls → Mutable (MutatesAll ts) → (i : IrType) → Asks k (type_of_last i ts) → TypedBlock sub has s ts → FineBlock is_mutable has (parameters_of s.locals) ls k ts
     fine_block no_terms s ls k v m r mut i asks h = absurd h
     fine_block (more_terms t no_terms) s ls k v m r mut i asks h = fine t s ls k v m r (λ x i. mut x (inl i)) asks h
     fine_block (more_terms (var_def p x t b e) (more_terms u us)) s ls k v m r mut i asks h = (definition_by s ls discard p x t b e v is_discard h.0 (fine e s ls (to_variable (core.named x) t) v m r (λ y i. mut y (inl (inr i))) (h.0.0, value-not t h.0.1) h.0.3), h.1 x refl, fine_block (more_terms u us) (behind (var_def p x t b e) s) ls k (values-behind s.locals (record { name = x; «mutable» = b; tpe = t }) v h.0.1) (mutable-behind is_mutable s.locals (record { name = x; «mutable» = b; tpe = t }) m (λ i. mut x (inl (inl (i, refl))))) r (λ y i. mut y (inr i)) NoType asks h.2)
     fine_block (more_terms t (more_terms u us)) s ls k v m r mut i asks h = (fine t s ls discard v m r (λ x i. mut x (inl i)) tt h.0, fine_block (more_terms u us) s ls k v m r (λ x i. mut x (inr i)) (type_of_term t) asks h.2)
 
-    fine_operands : (ts : Terms) (rs : List TypeRef) (s : Scene) (ls : Targets) (k : Destination) → HaveValues s.locals → AreMutable is_mutable s.locals → Reach s.labels ls → Mutable (MutatesAll ts) → ArgumentsFit sub has ts rs → TypedAll sub has s ts → FineOperands is_mutable has (parameters_of s.locals) ls k ts
+    fine_operands : (ts : Terms) (rs : List TypeRef) (s : Scene) (ls : Around) (k : Destination) → HaveValues s.locals → AreMutable is_mutable s.locals → Reached s.labels ls → Mutable (MutatesAll ts) → ArgumentsFit sub has ts rs → TypedAll sub has s ts → FineOperands is_mutable has (parameters_of s.locals) ls k ts
     fine_operands no_terms rs s ls k v m r mut f h = tt
     fine_operands (more_terms t ts) [] s ls k v m r mut f h = absurd f
     fine_operands (more_terms t ts) (q ∷ rs) s ls k v m r mut f h = (operand_by s ls t v h.0 (λ y. fine t s ls (to_variable y (type_of_term t)) v m r (λ x i. mut x (inl i)) (asks-own y (type_of_term t) (reference_type q) f.0.0 (value-not (reference_type q) f.1)) h.0), fine_operands ts rs s ls k v m r (λ x i. mut x (inr i)) f.2 h.1)
 
-    fine_cases : (cs : Cases) (s : Scene) (ls : Targets) (k : Destination) (t : IrType) → HaveValues s.locals → AreMutable is_mutable s.locals → Reach s.labels ls → Mutable (MutatesCases cs) → Asks k t → TypedCases sub has s t cs → FineCases is_mutable has (parameters_of s.locals) ls k cs
+    fine_cases : (cs : Cases) (s : Scene) (ls : Around) (k : Destination) (t : IrType) → HaveValues s.locals → AreMutable is_mutable s.locals → Reached s.labels ls → Mutable (MutatesCases cs) → Asks k t → TypedCases sub has s t cs → FineCases is_mutable has (parameters_of s.locals) ls k cs
     fine_cases no_cases s ls k t v m r mut asks h = tt
     fine_cases (more_cases [] e cs) s ls k t v m r mut asks h = fine_cases cs s ls k t v m r mut asks h
     fine_cases (more_cases (n ∷ ns) e cs) s ls k t v m r mut asks h = (fine e s ls k v m r (λ x i. mut x (inl i)) (yields k e t asks h.0) h.1, fine_cases cs s ls k t v m r (λ x i. mut x (inr i)) asks h.2)

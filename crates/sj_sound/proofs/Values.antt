@@ -1,5 +1,5 @@
 -- Values of types, and what operators give on them.
-use Rattle.std.proofs.Common.{◌≡◌, ℕ, zero, suc, ◌++◌, Bool, true, false, List, Some, refl, sym, ap, ◌∙◌, subst, ◌⊎◌, inl, inr}
+use Rattle.std.proofs.Common.{◌≡◌, ℕ, zero, suc, ◌++◌, Bool, true, false, List, Option, Some, refl, sym, ap, ◌∙◌, subst, ◌⊎◌, inl, inr}
 use Rattle.std.specs.Prelude.{ℤ, pos, negsuc, ◌≢◌}
 use Rattle.ir_mean.specs.Operators.{Answer, answers, unary_value, binary_value, boolean_value, number_value, long_value, shift_value, any_value, text_of, joined}
 use Rattle.ir_mean.specs.States as ir
@@ -9,23 +9,26 @@ use Rattle.sj_trees.specs.declared.operators.BinaryOp.TheVariants.{StrictEqual, 
 use Rattle.sj_trees.specs.declared.operators.UnaryOp.{UnaryOp}
 use Rattle.sj_trees.specs.declared.operators.UnaryOp.TheVariants.{BooleanNot, CharToInt, ByteToInt, ShortToInt, IntToLong, IntToChar, IntToByte, IntToShort, LongToInt}
 use Rattle.sj_trees.specs.declared.types.IrType.{IrType}
-use Rattle.sj_trees.specs.declared.types.IrType.TheVariants.{Undefined, Null, Boolean, Char, Byte, Short, Int, Long, String, Nothing}
+use Rattle.sj_trees.specs.declared.types.IrType.TheVariants.{Undefined, Null, Boolean, Char, Byte, Short, Int, Long, String, Class, Nothing}
 use Rattle.sj_plain.specs.Conditions.{is_simple, unary_operand, left_operand, right_operand, IsDivision, a_quotient, a_remainder, IsLongDivision, a_long_quotient, a_long_remainder}
 use Rattle.sj_plain.proofs.Shifts.{join_is}
 use Rattle.sj_names.proofs.Same.{impossible}
 use Rattle.sj_sound.specs.Subtyping.{IsSubtyping}
+use Rattle.sj_sound.specs.Typing.{IsJoined}
 
--- the types that a value is of by itself
-pub data IsOf : ir.Value → IrType → Type 0 where
-  of_undefined : IsOf ir.undefined Undefined
-  of_null : IsOf ir.null Null
-  of_boolean : (b : Bool) → IsOf (ir.boolean b) Boolean
-  of_char : (u : ℕ) → IsOf (ir.char u) Char
-  of_long : (z : ℤ) → IsOf (ir.long z) Long
-  of_byte : (z : ℤ) → IsOf (ir.number z) Byte
-  of_short : (z : ℤ) → IsOf (ir.number z) Short
-  of_int : (z : ℤ) → IsOf (ir.number z) Int
-  of_text : (us : List ℕ) → IsOf (ir.text us) String
+-- the class of the object at each address
+abbrev pub Classes : Type 0
+Classes = ℕ → Option (List ℕ)
+
+-- an address that has a class keeps it
+pub record Adds (old new : Classes) : Type 0 where
+  pub keeps : (i : ℕ) (c : List ℕ) → old i ≡ Some c → new i ≡ Some c
+
+pub adds-refl : (h : Classes) → Adds h h
+adds-refl h = record { keeps = λ i c e. e }
+
+pub adds-trans : (g h k : Classes) → Adds g h → Adds h k → Adds g k
+adds-trans g h k a b = record { keeps = λ i c e. b.keeps i c (a.keeps i c e) }
 
 pub data IsBoolean : ir.Value → Type 0 where
   a_boolean : (b : Bool) → IsBoolean (ir.boolean b)
@@ -64,7 +67,20 @@ abbrev is_text_type : IrType → Bool
 is_text_type String = true
 is_text_type _ = false
 
-module _ (sub : IrType → IrType → Type 0) (law : IsSubtyping sub) where
+module _ (sub : IrType → IrType → Type 0) (law : IsSubtyping sub) (at : Classes) where
+  -- the types that a value is of by itself; an object is of the class that its address has, which is below no type that joins to a text
+  pub data IsOf : ir.Value → IrType → Type 0 where
+    of_undefined : IsOf ir.undefined Undefined
+    of_null : IsOf ir.null Null
+    of_boolean : (b : Bool) → IsOf (ir.boolean b) Boolean
+    of_char : (u : ℕ) → IsOf (ir.char u) Char
+    of_long : (z : ℤ) → IsOf (ir.long z) Long
+    of_byte : (z : ℤ) → IsOf (ir.number z) Byte
+    of_short : (z : ℤ) → IsOf (ir.number z) Short
+    of_int : (z : ℤ) → IsOf (ir.number z) Int
+    of_text : (us : List ℕ) → IsOf (ir.text us) String
+    of_object : (i : ℕ) (c : List ℕ) → at i ≡ Some c → ((t : IrType) → IsJoined t → sub (Class c) t → ⊥) → IsOf (ir.reference i) (Class c)
+
   pub data HasType (v : ir.Value) (t : IrType) : Type 0 where
     has_type : (o : IrType) → IsOf v o → sub o t → HasType v t
 
@@ -86,6 +102,7 @@ module _ (sub : IrType → IrType → Type 0) (law : IsSubtyping sub) where
   as_boolean _ (has_type _ (of_char u) f) = other_kind is_boolean_type Char Boolean refl refl refl (λ e. cc) (law.lowest Char Boolean refl f)
   as_boolean _ (has_type _ (of_long z) f) = other_kind is_boolean_type Long Boolean refl refl refl (λ e. cc) (law.lowest Long Boolean refl f)
   as_boolean _ (has_type _ (of_text us) f) = other_kind is_boolean_type String Boolean refl refl refl (λ e. cc) (law.lowest String Boolean refl f)
+  as_boolean _ (has_type _ (of_object i c e n) f) = other_kind is_boolean_type (Class c) Boolean refl refl refl (λ e. cc) (law.lowest (Class c) Boolean refl f)
 
   as_number_of : (v : ir.Value) (t : IrType) → is_number_type t ≡ true → ((s : IrType) → sub s t → (s ≡ t) ⊎ (s ≡ Nothing)) → HasType v t → IsNumber v
   as_number_of _ t k low (has_type _ (of_byte z) f) = a_number z
@@ -97,6 +114,7 @@ module _ (sub : IrType → IrType → Type 0) (law : IsSubtyping sub) where
   as_number_of _ t k low (has_type _ (of_char u) f) = other_kind is_number_type Char t refl k refl (λ e. cc) (low Char f)
   as_number_of _ t k low (has_type _ (of_long z) f) = other_kind is_number_type Long t refl k refl (λ e. cc) (low Long f)
   as_number_of _ t k low (has_type _ (of_text us) f) = other_kind is_number_type String t refl k refl (λ e. cc) (low String f)
+  as_number_of _ t k low (has_type _ (of_object i c e n) f) = other_kind is_number_type (Class c) t refl k refl (λ e. cc) (low (Class c) f)
 
   pub as_int : (v : ir.Value) → HasType v Int → IsNumber v
   as_int v = as_number_of v Int refl (λ s. law.lowest s Int refl)
@@ -111,6 +129,7 @@ module _ (sub : IrType → IrType → Type 0) (law : IsSubtyping sub) where
   as_char _ (has_type _ (of_int z) f) = other_kind is_char_type Int Char refl refl refl (λ e. cc) (law.lowest Int Char refl f)
   as_char _ (has_type _ (of_long z) f) = other_kind is_char_type Long Char refl refl refl (λ e. cc) (law.lowest Long Char refl f)
   as_char _ (has_type _ (of_text us) f) = other_kind is_char_type String Char refl refl refl (λ e. cc) (law.lowest String Char refl f)
+  as_char _ (has_type _ (of_object i c e n) f) = other_kind is_char_type (Class c) Char refl refl refl (λ e. cc) (law.lowest (Class c) Char refl f)
 
   pub as_long : (v : ir.Value) → HasType v Long → IsLong v
   as_long _ (has_type _ (of_long z) f) = a_long z
@@ -122,6 +141,7 @@ module _ (sub : IrType → IrType → Type 0) (law : IsSubtyping sub) where
   as_long _ (has_type _ (of_short z) f) = other_kind is_long_type Short Long refl refl refl (λ e. cc) (law.lowest Short Long refl f)
   as_long _ (has_type _ (of_int z) f) = other_kind is_long_type Int Long refl refl refl (λ e. cc) (law.lowest Int Long refl f)
   as_long _ (has_type _ (of_text us) f) = other_kind is_long_type String Long refl refl refl (λ e. cc) (law.lowest String Long refl f)
+  as_long _ (has_type _ (of_object i c e n) f) = other_kind is_long_type (Class c) Long refl refl refl (λ e. cc) (law.lowest (Class c) Long refl f)
 
   pub as_text : (v : ir.Value) → HasType v String → IsText v
   as_text _ (has_type _ (of_text us) f) = a_text us
@@ -133,6 +153,7 @@ module _ (sub : IrType → IrType → Type 0) (law : IsSubtyping sub) where
   as_text _ (has_type _ (of_char u) f) = other_kind is_text_type Char String refl refl refl (λ e. cc) (law.lowest Char String refl f)
   as_text _ (has_type _ (of_long z) f) = other_kind is_text_type Long String refl refl refl (λ e. cc) (law.lowest Long String refl f)
   as_text _ (has_type _ (of_int z) f) = other_kind is_text_type Int String refl refl refl (λ e. cc) (law.lowest Int String refl f)
+  as_text _ (has_type _ (of_object i c e n) f) = other_kind is_text_type (Class c) String refl refl refl (λ e. cc) (law.lowest (Class c) String refl f)
 
   -- a value of the type is there
   pub data Gives (t : IrType) : Answer → Type 0 where
@@ -225,27 +246,28 @@ module _ (sub : IrType → IrType → Type 0) (law : IsSubtyping sub) where
   binary_gives LongGreater h v w i j = on_longs LongGreater (λ a b. yes_or_no _) v w (as_long v i) (as_long w j)
   binary_gives LongGreaterOrEqual h v w i j = on_longs LongGreaterOrEqual (λ a b. yes_or_no _) v w (as_long v i) (as_long w j)
 
-  -- each value has a text but a reference, of which no type is known here
+  -- each value of a type that joins to a text has one
   data HasText : ir.Value → Type 0 where
     a_text_of : (v : ir.Value) (us : List ℕ) → text_of v ≡ Some us → HasText v
 
-  text_there : (v : ir.Value) (o : IrType) → IsOf v o → HasText v
-  text_there _ _ of_undefined = a_text_of ir.undefined _ refl
-  text_there _ _ of_null = a_text_of ir.null _ refl
-  text_there _ _ (of_boolean true) = a_text_of (ir.boolean true) _ refl
-  text_there _ _ (of_boolean false) = a_text_of (ir.boolean false) _ refl
-  text_there _ _ (of_char u) = a_text_of (ir.char u) _ refl
-  text_there _ _ (of_byte z) = a_text_of (ir.number z) _ refl
-  text_there _ _ (of_short z) = a_text_of (ir.number z) _ refl
-  text_there _ _ (of_int z) = a_text_of (ir.number z) _ refl
-  text_there _ _ (of_long z) = a_text_of (ir.long z) _ refl
-  text_there _ _ (of_text us) = a_text_of (ir.text us) us refl
+  text_there : (v : ir.Value) (o s : IrType) → IsJoined s → sub o s → IsOf v o → HasText v
+  text_there _ _ s h f of_undefined = a_text_of ir.undefined _ refl
+  text_there _ _ s h f of_null = a_text_of ir.null _ refl
+  text_there _ _ s h f (of_boolean true) = a_text_of (ir.boolean true) _ refl
+  text_there _ _ s h f (of_boolean false) = a_text_of (ir.boolean false) _ refl
+  text_there _ _ s h f (of_char u) = a_text_of (ir.char u) _ refl
+  text_there _ _ s h f (of_byte z) = a_text_of (ir.number z) _ refl
+  text_there _ _ s h f (of_short z) = a_text_of (ir.number z) _ refl
+  text_there _ _ s h f (of_int z) = a_text_of (ir.number z) _ refl
+  text_there _ _ s h f (of_long z) = a_text_of (ir.long z) _ refl
+  text_there _ _ s h f (of_text us) = a_text_of (ir.text us) us refl
+  text_there _ _ s h f (of_object i c e n) = absurd (n s h f)
 
   joined_gives : (v w : ir.Value) → HasText v → HasText w → Gives String (any_value StringConcatenate v w)
   joined_gives _ _ (a_text_of v us e) (a_text_of w vs f) = subst (Gives String) (λ i. joined (sym e i) (sym f i)) (some_of (ir.text (us ++ vs)) (has_type String (of_text (us ++ vs)) (law.same String)))
 
-  pub join_gives : (v w : ir.Value) (s t : IrType) → HasType v s → HasType w t → Gives String (binary_value StringConcatenate v w)
-  join_gives v w s t (has_type o i f) (has_type q j g) = subst (Gives String) (sym (join_is v w)) (joined_gives v w (text_there v o i) (text_there w q j))
+  pub join_gives : (v w : ir.Value) (s t : IrType) → IsJoined s → IsJoined t → HasType v s → HasType w t → Gives String (binary_value StringConcatenate v w)
+  join_gives v w s t h k (has_type o i f) (has_type q j g) = subst (Gives String) (sym (join_is v w)) (joined_gives v w (text_there v o s h f i) (text_there w q t k g j))
 
   pub division_gives : (o : BinaryOp) → IsDivision o → (v : ir.Value) → IsNumber v → (n : ℤ) → n ≢ pos 0 → Gives (binary_result o) (binary_value o v (ir.number n))
   division_gives _ a_quotient _ (a_number a) (pos zero) ne = absurd (ne refl)
@@ -262,3 +284,20 @@ module _ (sub : IrType → IrType → Type 0) (law : IsSubtyping sub) where
   long_division_gives _ a_long_remainder _ (a_long a) (pos zero) ne = absurd (ne refl)
   long_division_gives _ a_long_remainder _ (a_long a) (pos (suc n)) ne = long _
   long_division_gives _ a_long_remainder _ (a_long a) (negsuc n) ne = long _
+
+module _ (sub : IrType → IrType → Type 0) (law : IsSubtyping sub) (h k : Classes) (adds : Adds h k) where
+  of-lift : (v : ir.Value) (t : IrType) → IsOf sub law h v t → IsOf sub law k v t
+  of-lift _ _ of_undefined = of_undefined
+  of-lift _ _ of_null = of_null
+  of-lift _ _ (of_boolean b) = of_boolean b
+  of-lift _ _ (of_char u) = of_char u
+  of-lift _ _ (of_long z) = of_long z
+  of-lift _ _ (of_byte z) = of_byte z
+  of-lift _ _ (of_short z) = of_short z
+  of-lift _ _ (of_int z) = of_int z
+  of-lift _ _ (of_text us) = of_text us
+  of-lift _ _ (of_object i c e n) = of_object i c (adds.keeps i c e) n
+
+  -- what has a type goes on to have it
+  pub type-lift : (v : ir.Value) (t : IrType) → HasType sub law h v t → HasType sub law k v t
+  type-lift v t (has_type o i f) = has_type o (of-lift v o i) f

@@ -1,5 +1,5 @@
 -- A program of methods that keep the rules, and its file.
-use Rattle.std.proofs.Common.{◌≡◌, ℕ, Bool, true, List, [], ◌∷◌, refl, sym, ap, ◌∙◌, subst, ◌⊎◌, inl, inr, ⊎_elim, Contains}
+use Rattle.std.proofs.Common.{◌≡◌, ℕ, Bool, true, List, [], ◌∷◌, Option, Some, None, slice_get, refl, sym, ap, ◌∙◌, subst, ◌⊎◌, inl, inr, ⊎_elim, Contains}
 use Rattle.std.proofs.lemmas.Bool.{and_parts}
 use Rattle.outcomes.specs.Outcome.{End, Done, Going, Wrong}
 use Rattle.outcomes.specs.Agreement.{IsNotWrong, Agree}
@@ -18,9 +18,10 @@ use Rattle.sj_trees.specs.Term.{Term}
 use Rattle.sj_trees.specs.TypeOf.{type_of_term}
 use Rattle.sj_trees.specs.declared.classes.MethodDef.{MethodDef}
 use Rattle.sj_trees.specs.declared.types.IrType.{IrType}
-use Rattle.sj_trees.specs.declared.types.IrType.TheVariants.{NoType}
+use Rattle.sj_trees.specs.declared.types.IrType.TheVariants.{Any, NoType}
 use Rattle.sj_names.proofs.Same.{impossible}
 use Rattle.sj_calls.specs.Files.{EmittedMethod, initializer_member, module_with, program_with, IsEmitted}
+use Rattle.sj_bodies.specs.Fine.{no_labels}
 use Rattle.sj_calls.specs.Methods.{FineMethod}
 use Rattle.sj_calls.proofs.Calls.{Way, gives_up, hands_on, way}
 use Rattle.sj_calls.proofs.Items.{nothing_in, in_front_or_behind}
@@ -34,7 +35,8 @@ use Rattle.sj_world.specs.Subtypes.{IsSub}
 use Rattle.sj_sound.proofs.Covered.{Asks, fine}
 use Rattle.sj_sound.proofs.InWorld.{in_world}
 use Rattle.sj_sound.proofs.Mutable.{mutable-known, parameter-known}
-use Rattle.sj_sound.proofs.Right.{Comes, comes_then, CameRight, gave, left, EnvTyped, none_left, call_right, bodies_right, no_label, nothing_there}
+use Rattle.sj_sound.proofs.Right.{Comes, comes_then, CameRight, gave, left, threw, EnvTyped, ObjectTyped, typed_object, HeapTyped, none_left, call_right, bodies_right, no_label, nothing_there}
+use Rattle.sj_sound.proofs.Values.{Classes, HasType, has_type, of_undefined, of_null, of_boolean, of_char, of_long, of_byte, of_short, of_int, of_text, of_object}
 use Rattle.sj_sound.proofs.Same.{has_function-is}
 use Rattle.sj_plain.specs.Conditions.{Usable}
 
@@ -47,7 +49,7 @@ module _ (sub : IrType → IrType → Type 0) (law : IsSubtyping sub) (has : Usa
   -- a method that keeps the rules is fine
   pub method-fine : (d : MethodDef) (e : Term) → KeepsRules sub has d e → FineMethod has d e
   method-fine d e r = record {
-    fine = fine sub law (is_mutable_in d e) has e (record { locals = d.params; labels = [] }) [] (result_destination d.result) r.values (λ x p i m. parameter-known d e x p i m) tt (λ x m. mutable-known sub has d e (record { locals = d.params; labels = [] }) r.typed x m) (asks-result (is_mutable_in d e) e d.result (result_destination d.result) (way d.result) r.yields) r.typed;
+    fine = fine sub law (is_mutable_in d e) has e (record { locals = d.params; labels = [] }) no_labels (result_destination d.result) r.values (λ x p i m. parameter-known d e x p i m) (record { targets = tt; all = λ l. tt }) (λ x m. mutable-known sub has d e (record { locals = d.params; labels = [] }) r.typed x m) (asks-result (is_mutable_in d e) e d.result (result_destination d.result) (way d.result) r.yields) r.typed;
     fresh = r.fresh;
   }
 
@@ -69,24 +71,54 @@ module _ (w : ir_world.World) (topped : IsTopped w) (fs : List EmittedMethod) (r
   abbrev nowhere : Scene
   nowhere = record { locals = []; labels = [] }
 
-  nothing_held : EnvTyped (IsSub w) (in_world w topped) (functions_of fs) w [] ir_showing.outside
-  nothing_held = record { holds = nothing_there (IsSub w) (in_world w topped) (functions_of fs) w }
+  abbrev typed_by : Classes → ir.State → Type 0
+  typed_by = HeapTyped (IsSub w) (in_world w topped) (functions_of fs) w
+
+  nothing_held : (at : Classes) → EnvTyped (IsSub w) (in_world w topped) (functions_of fs) w at [] ir_showing.outside
+  nothing_held at = record { holds = nothing_there (IsSub w) (in_world w topped) (functions_of fs) w at }
+
+  -- no address has a class yet
+  abbrev no_classes : Classes
+  no_classes i = None
+
+  no_class : (c : List ℕ) → ◌≡◌ {A = Option (List ℕ)} None (Some c) → ⊥
+  no_class c e = cc
+
+  nothing_typed : (st : ir.State) → typed_by no_classes st
+  nothing_typed st = record { objects = λ i c e. absurd (no_class c e) }
+
+  -- a value that is thrown and nothing catches is shown
+  stored_right : (at : Classes) (c : List ℕ) (o : Option ir.Stored) → ObjectTyped (IsSub w) (in_world w topped) (functions_of fs) w at c o → Comes (λ a. Unit {0}) (ir_showing.uncaught_or_wrong (ir_showing.thrown_stored o)).end
+  stored_right at c _ (typed_object fields h) = tt
+
+  uncaught_right : (at : Classes) (v : ir.Value) (st : ir.State) → HasType (IsSub w) (in_world w topped) at v Any → typed_by at st → Comes (λ a. Unit {0}) (ir_showing.uncaught_or_wrong (ir_showing.thrown st v)).end
+  uncaught_right at _ st (has_type _ of_undefined f) h = tt
+  uncaught_right at _ st (has_type _ of_null f) h = tt
+  uncaught_right at _ st (has_type _ (of_boolean b) f) h = tt
+  uncaught_right at _ st (has_type _ (of_char u) f) h = tt
+  uncaught_right at _ st (has_type _ (of_long z) f) h = tt
+  uncaught_right at _ st (has_type _ (of_byte z) f) h = tt
+  uncaught_right at _ st (has_type _ (of_short z) f) h = tt
+  uncaught_right at _ st (has_type _ (of_int z) f) h = tt
+  uncaught_right at _ st (has_type _ (of_text us) f) h = tt
+  uncaught_right at _ st (has_type _ (of_object i c e n) f) h = stored_right at c (slice_get st.heap i) (h.objects i c e)
 
   -- the initializers are wrong at no bound
-  all_right : (n : ℕ) (es : List EntryPoint) → have_functions fs es ≡ true → (st : ir.State) → Comes (λ a. Unit {0}) (ir_showing.all_show w n es st).end
-  all_right n [] h st = tt
-  all_right n (e ∷ es) h st = comes_then (CameRight (IsSub w) (in_world w topped) (functions_of fs) w nowhere [] NoType) (λ a. Unit {0}) (ir_meaning.meaning w n (ir_showing.initializer_call e) ir_showing.outside st) (ir_showing.next_or_end (ir_showing.all_show w n es)) (call_right (IsSub w) (in_world w topped) (functions_of fs) w (ir_meaning.below w n) (bodies_right (IsSub w) (in_world w topped) (functions_of fs) w members n) (initializer_member e) (members (initializer_member e) k.0) nowhere NoType refl [] none_left ir_showing.outside st nothing_held) (next n es (all_right n es k.1))
+  all_right : (n : ℕ) (es : List EntryPoint) → have_functions fs es ≡ true → (at : Classes) (st : ir.State) → typed_by at st → Comes (λ a. Unit {0}) (ir_showing.all_show w n es st).end
+  all_right n [] h at st typed = tt
+  all_right n (e ∷ es) h at st typed = comes_then (CameRight (IsSub w) (in_world w topped) (functions_of fs) w at nowhere [] NoType) (λ a. Unit {0}) (ir_meaning.meaning w n (ir_showing.initializer_call e) ir_showing.outside st) (ir_showing.next_or_end (ir_showing.all_show w n es)) (call_right (IsSub w) (in_world w topped) (functions_of fs) w (ir_meaning.below w n) (bodies_right (IsSub w) (in_world w topped) (functions_of fs) w members n) (initializer_member e) (members (initializer_member e) k.0) nowhere NoType refl at [] none_left ir_showing.outside st (record { locals = nothing_held at; heap = typed })) (next at n es (all_right n es k.1))
     where
       k : (has_function fs (initializer_member e) ≡ true) × (have_functions fs es ≡ true)
       k = and_parts (has_function fs (initializer_member e)) (have_functions fs es) h
 
-      next : (n : ℕ) (es : List EntryPoint) → ((st : ir.State) → Comes (λ a. Unit {0}) (ir_showing.all_show w n es st).end) → (a : ir.Ended) → CameRight (IsSub w) (in_world w topped) (functions_of fs) w nowhere [] NoType a → Comes (λ a. Unit {0}) (ir_showing.next_or_end (ir_showing.all_show w n es) a).end
-      next n es others _ (gave v env st g i) = others st
-      next n es others _ (left l v env st r i g k) = no_label (IsSub w) (in_world w topped) (functions_of fs) w l r i
+      next : (at : Classes) (n : ℕ) (es : List EntryPoint) → ((at : Classes) (st : ir.State) → typed_by at st → Comes (λ a. Unit {0}) (ir_showing.all_show w n es st).end) → (a : ir.Ended) → CameRight (IsSub w) (in_world w topped) (functions_of fs) w at nowhere [] NoType a → Comes (λ a. Unit {0}) (ir_showing.next_or_end (ir_showing.all_show w n es) a).end
+      next at n es others _ (gave k v env st a g i) = others k st i.heap
+      next at n es others _ (left k l v env st r a i g j) = no_label (IsSub w) (in_world w topped) (functions_of fs) w l r i
+      next at n es others _ (threw k v env st a i j) = uncaught_right k v st i j.heap
 
 pub called : (fs : List EmittedMethod) (es : List EntryPoint) → have_functions fs es ≡ true → (e : EntryPoint) → Contains es e → has_function fs (initializer_member e) ≡ true
 called fs [] h e i = nothing_in e i
 called fs (c ∷ cs) h e i = let k = and_parts (has_function fs (initializer_member c)) (have_functions fs cs) h in ⊎_elim (λ same. subst (λ x. has_function fs (initializer_member x) ≡ true) same k.0) (λ later. called fs cs k.1 e later) (in_front_or_behind c cs e i)
 
 pub program_agrees : (w : ir_world.World) → IsTopped w → (entries : List EntryPoint) (id : List ℕ) (fs : List EmittedMethod) → is_proper_module (module_with fs (ir_showing.initializers entries id)) ≡ true → ((e : EmittedMethod) → Contains fs e → IsRight w fs e) → have_functions fs (ir_showing.initializers entries id) ≡ true → Agree (ir_showing.ir_shows w entries id) (js_showing.js_shows (program_with id fs (ir_showing.initializers entries id)) id)
-program_agrees w topped entries id fs proper right all = calls.file_agrees w entries id fs (functions_of fs) proper (emitted w topped fs right) (has_function-is fs) (called fs (ir_showing.initializers entries id) all) (λ n. comes-not_wrong (ir_showing.ir_shows w entries id n).end (all_right w topped fs right n (ir_showing.initializers entries id) all (ir_world.opening w)))
+program_agrees w topped entries id fs proper right all = calls.file_agrees w entries id fs (functions_of fs) proper (emitted w topped fs right) (has_function-is fs) (called fs (ir_showing.initializers entries id) all) (λ n. comes-not_wrong (ir_showing.ir_shows w entries id n).end (all_right w topped fs right n (ir_showing.initializers entries id) all (no_classes w topped fs right) (ir_world.opening w) (nothing_typed w topped fs right (ir_world.opening w))))

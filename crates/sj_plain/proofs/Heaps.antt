@@ -1,0 +1,175 @@
+-- Heaps that stand for each other: the emitted code makes an object, the IR makes its own for it, and a field of both is written.
+use Rattle.std.proofs.Common.{◌≡◌, ℕ, zero, suc, Bool, true, false, List, [], ◌∷◌, ◌++◌, length, map, set, slice_get, arith, Option, Some, None, refl, sym, ap, ◌∙◌, subst, if◌then◌else◌}
+use Rattle.std.specs.Prelude.{◌==◌}
+use Rattle.ir_mean.specs.Dispatch.{chain_of}
+use Rattle.ir_mean.specs.States as ir
+use Rattle.js_mean.specs.States as js
+use Rattle.js_tree.specs.Terms.{Name}
+use Rattle.sj_mangling.specs.Bindings.{field_binding}
+use Rattle.sj_mangling.specs.declared.bindings.FieldBinding.TheVariants.{Property}
+use Rattle.sj_trees.specs.declared.types.IrType.{IrType}
+use Rattle.sj_plain.specs.Settings.{Place, link_of, TellsClass, SameField, same_field, no_field, SameStored, same_object, SameHeap}
+use Rattle.sj_plain.specs.Worlds.{with_pending, with_born}
+use Rattle.sj_plain.proofs.Worlds.{World, value-carry}
+
+pub get-end : {A : Type 0} (xs : List A) (x : A) → slice_get (xs ++ x ∷ []) (length xs) ≡ Some x
+get-end [] x = refl
+get-end (y ∷ xs) x = get-end xs x
+
+pub get-front : {A : Type 0} (xs ys : List A) (i : ℕ) (x : A) → slice_get xs i ≡ Some x → slice_get (xs ++ ys) i ≡ Some x
+get-front [] ys i x e = absurd (cc)
+get-front (y ∷ xs) ys zero x e = e
+get-front (y ∷ xs) ys (suc i) x e = get-front xs ys i x e
+
+pub set-end : {A : Type 0} (xs : List A) (x y : A) → set (xs ++ x ∷ []) (length xs) y ≡ xs ++ y ∷ []
+set-end [] x y = refl
+set-end (z ∷ xs) x y = λ i. z ∷ set-end xs x y i
+
+pub get-set : {A : Type 0} (xs : List A) (i : ℕ) (x y : A) → slice_get xs i ≡ Some x → slice_get (set xs i y) i ≡ Some y
+get-set [] i x y e = absurd (cc)
+get-set (z ∷ xs) zero x y e = refl
+get-set (z ∷ xs) (suc i) x y e = get-set xs i x y e
+
+pub get-set_other : {A : Type 0} (xs : List A) (i j : ℕ) (y : A) → (i ≡ j → ⊥) → slice_get (set xs j y) i ≡ slice_get xs i
+get-set_other [] i j y h = refl
+get-set_other (z ∷ xs) zero zero y h = absurd (h refl)
+get-set_other (z ∷ xs) zero (suc j) y h = refl
+get-set_other (z ∷ xs) (suc i) zero y h = refl
+get-set_other (z ∷ xs) (suc i) (suc j) y h = get-set_other xs i j y (λ e. h (ap suc e))
+
+pub not-past : {A : Type 0} (xs : List A) (x : A) → slice_get xs (length xs) ≡ Some x → ⊥
+not-past [] x e = absurd (cc)
+not-past (y ∷ xs) x e = not-past xs x e
+
+pub numbers-same : (a b : ℕ) → (a == b) ≡ true → a ≡ b
+numbers-same a b e = grind arith
+
+pub numbers-apart : (a b : ℕ) → (a == b) ≡ false → a ≡ b → ⊥
+numbers-apart a b f e = grind arith
+
+-- what stands for a field, an object or its class in a world does so in one that has what that one has
+pub field-carry : (w y : World) (t : IrType) → ((i a : ℕ) → w.place i ≡ Some a → y.place i ≡ Some a) → (o : Option ir.Value) (q : Option js.Value) → SameField w t o q → SameField y t o q
+field-carry w y t g _ _ (same_field v x a) = same_field v x (value-carry w y t v x g a)
+field-carry w y t g _ _ (no_field x) = no_field x
+
+tells-carry : (w y : World) (c : List ℕ) (properties : Name → Option js.Value) → ((a : ℕ) (o : js.Stored) → w.owned a ≡ Some o → y.owned a ≡ Some o) → TellsClass w c properties → TellsClass y c properties
+tells-carry w y c properties g h = record { address = h.address; constants = h.constants; held = h.held; owned = g h.address (js.plain [] h.constants) h.owned; marked = h.marked }
+
+pub stored-carry : (p : Place) (w y : World) → ((i a : ℕ) → w.place i ≡ Some a → y.place i ≡ Some a) → ((a : ℕ) (o : js.Stored) → w.owned a ≡ Some o → y.owned a ≡ Some o) → (o : Option ir.Stored) (q : Option js.Stored) → SameStored p w o q → SameStored p y o q
+stored-carry p w y g h _ _ (same_object c fields properties k f) = same_object c fields properties (tells-carry w y c properties h k) (λ d n t i. field-carry w y t g (fields d n) (properties (field_binding Property d n)) (f d n t i))
+
+pub record There {A : Type 0} (o : Option A) : Type 0 where
+  pub what : A
+  pub is : o ≡ Some what
+
+pub stored-there : (p : Place) (w : World) (o : Option ir.Stored) (q : Option js.Stored) → SameStored p w o q → There o × There q
+stored-there p w _ _ (same_object c fields properties k f) = (record { what = ir.object c fields; is = refl }, record { what = js.plain (map (link_of p) (chain_of p.classes c)) properties; is = refl })
+
+module _ (p : Place) (w : World) (s : List ir.Stored) (u : List js.Stored) (h : SameHeap p w s u) where
+  -- what stands at an address of the world, when the emitted code has made more
+  front-there : (i a : ℕ) (o : js.Stored) → w.place i ≡ Some a → slice_get (u ++ o ∷ []) a ≡ slice_get u a
+  front-there i a o e = let q = (stored-there p w (slice_get s i) (slice_get u a) (h.objects i a e)).1 in get-front u (o ∷ []) a q.what q.is ∙ sym q.is
+
+  address-there : (i a : ℕ) → w.place i ≡ Some a → a ≡ length u → ⊥
+  address-there i a e same = let q = (stored-there p w (slice_get s i) (slice_get u a) (h.objects i a e)).1 in not-past u q.what (subst (λ b. slice_get u b ≡ Some q.what) same q.is)
+
+  pub place-there : (i a : ℕ) → w.place i ≡ Some a → i ≡ length s → ⊥
+  place-there i a e same = let q = (stored-there p w (slice_get s i) (slice_get u a) (h.objects i a e)).0 in not-past s q.what (subst (λ b. slice_get s b ≡ Some q.what) same q.is)
+
+  -- an object of the emitted code that the IR hasn't made yet
+  pub pends : (o : js.Stored) → SameHeap p (with_pending (length u) o w) s (u ++ o ∷ [])
+  pends o = record {
+    objects = λ i a e. subst (λ q. SameStored p (with_pending (length u) o w) (slice_get s i) q) (sym (front-there i a o e)) (stored-carry p w (with_pending (length u) o w) (λ i a e. e) (λ a o e. e) (slice_get s i) (slice_get u a) (h.objects i a e));
+    differ = h.differ;
+    owned = λ a b e. get-front u (o ∷ []) a b (h.owned a b e);
+    pending = λ a b e. here a b (a == length u) refl e;
+    apart = h.apart;
+    unborn = λ i a b e k. born i a b e (a == length u) refl k;
+    separate = λ a b d e k. owns a b d e (a == length u) refl k;
+  }
+    where
+      here : (a : ℕ) (b : js.Stored) (t : Bool) → (a == length u) ≡ t → (if t then Some o else w.pending a) ≡ Some b → slice_get (u ++ o ∷ []) a ≡ Some b
+      here a b true e k = subst (λ x. slice_get (u ++ o ∷ []) x ≡ Some b) (sym (numbers-same a (length u) e)) (get-end u o ∙ k)
+      here a b false e k = get-front u (o ∷ []) a b (h.pending a b k)
+
+      born : (i a : ℕ) (b : js.Stored) → w.place i ≡ Some a → (t : Bool) → (a == length u) ≡ t → (if t then Some o else w.pending a) ≡ Some b → ⊥
+      born i a b e true q k = address-there i a e (numbers-same a (length u) q)
+      born i a b e false q k = h.unborn i a b e k
+
+      owns : (a : ℕ) (b d : js.Stored) → w.owned a ≡ Some b → (t : Bool) → (a == length u) ≡ t → (if t then Some o else w.pending a) ≡ Some d → ⊥
+      owns a b d e true q k = not-past u b (subst (λ x. slice_get u x ≡ Some b) (numbers-same a (length u) q) (h.owned a b e))
+      owns a b d e false q k = h.separate a b d e k
+
+  pub unpending : (b : js.Stored) → w.pending (length u) ≡ Some b → ⊥
+  unpending b e = not-past u b (h.pending (length u) b e)
+
+  -- the IR makes its object for one that is pending
+  pub births : (a : ℕ) (o : js.Stored) (q : ir.Stored) → w.pending a ≡ Some o → SameStored p w (Some q) (Some o) → SameHeap p (with_born (length s) a w) (s ++ q ∷ []) u
+  births a o q there alike = record {
+    objects = λ i b e. object i b (i == length s) refl e;
+    differ = λ i j b e k. two i j b (i == length s) (j == length s) refl refl e k;
+    owned = h.owned;
+    pending = λ b d e. other b d (b == a) refl e;
+    apart = λ i b d e k. owns i b d (i == length s) refl e k;
+    unborn = λ i b d e k. still i b d (i == length s) refl e (b == a) refl k;
+    separate = λ b d f e k. sep b d f e (b == a) refl k;
+  }
+    where
+      y : World
+      y = with_born (length s) a w
+
+      placed : (i b : ℕ) → w.place i ≡ Some b → y.place i ≡ Some b
+      placed i b e = go (i == length s) refl
+        where
+          go : (t : Bool) → (i == length s) ≡ t → (if (i == length s) then Some a else w.place i) ≡ Some b
+          go true k = absurd (place-there i b e (numbers-same i (length s) k))
+          go false k = ap (λ (t : Bool). if t then Some a else w.place i) k ∙ e
+
+      some-same : (c d : ℕ) → ◌≡◌ {A = Option ℕ} (Some c) (Some d) → c ≡ d
+      some-same c d e = cc
+
+      object : (i b : ℕ) (t : Bool) → (i == length s) ≡ t → (if t then Some a else w.place i) ≡ Some b → SameStored p y (slice_get (s ++ q ∷ []) i) (slice_get u b)
+      object i b true k e = subst (λ x. SameStored p y (slice_get (s ++ q ∷ []) x) (slice_get u b)) (sym (numbers-same i (length s) k)) (subst (λ x. SameStored p y x (slice_get u b)) (sym (get-end s q)) (subst (λ x. SameStored p y (Some q) (slice_get u x)) (some-same a b e) (subst (λ x. SameStored p y (Some q) x) (sym (h.pending a o there)) (stored-carry p w y placed (λ a o e. e) (Some q) (Some o) alike))))
+      object i b false k e = let r = (stored-there p w (slice_get s i) (slice_get u b) (h.objects i b e)).0 in subst (λ x. SameStored p y x (slice_get u b)) (r.is ∙ sym (get-front s (q ∷ []) i r.what r.is)) (stored-carry p w y placed (λ a o e. e) (slice_get s i) (slice_get u b) (h.objects i b e))
+
+      two : (i j b : ℕ) (t v : Bool) → (i == length s) ≡ t → (j == length s) ≡ v → (if t then Some a else w.place i) ≡ Some b → (if v then Some a else w.place j) ≡ Some b → i ≡ j
+      two i j b true true k l e f = numbers-same i (length s) k ∙ sym (numbers-same j (length s) l)
+      two i j b true false k l e f = absurd (h.unborn j a o (subst (λ x. w.place j ≡ Some x) (sym (some-same a b e)) f) there)
+      two i j b false true k l e f = absurd (h.unborn i a o (subst (λ x. w.place i ≡ Some x) (sym (some-same a b f)) e) there)
+      two i j b false false k l e f = h.differ i j b e f
+
+      other : (b : ℕ) (d : js.Stored) (t : Bool) → (b == a) ≡ t → (if t then None else w.pending b) ≡ Some d → slice_get u b ≡ Some d
+      other b d true k e = absurd (cc)
+      other b d false k e = h.pending b d e
+
+      owns : (i b : ℕ) (d : js.Stored) (t : Bool) → (i == length s) ≡ t → (if t then Some a else w.place i) ≡ Some b → w.owned b ≡ Some d → ⊥
+      owns i b d true k e f = h.separate a d o (subst (λ x. w.owned x ≡ Some d) (sym (some-same a b e)) f) there
+      owns i b d false k e f = h.apart i b d e f
+
+      still : (i b : ℕ) (d : js.Stored) (t : Bool) → (i == length s) ≡ t → (if t then Some a else w.place i) ≡ Some b → (v : Bool) → (b == a) ≡ v → (if v then None else w.pending b) ≡ Some d → ⊥
+      still i b d t k e true l f = cc
+      still i b d true k e false l f = numbers-apart b a l (sym (some-same a b e))
+      still i b d false k e false l f = h.unborn i b d e f
+
+      sep : (b : ℕ) (d f : js.Stored) → w.owned b ≡ Some d → (t : Bool) → (b == a) ≡ t → (if t then None else w.pending b) ≡ Some f → ⊥
+      sep b d f e true k l = cc
+      sep b d f e false k l = h.separate b d f e l
+
+  -- something else stands at an address of both
+  pub writes : (i a : ℕ) (q : ir.Stored) (o : js.Stored) → w.place i ≡ Some a → SameStored p w (Some q) (Some o) → SameHeap p w (set s i q) (set u a o)
+  writes i a q o there alike = record {
+    objects = λ j b e. object j b (j == i) refl e;
+    differ = h.differ;
+    owned = λ b d e. get-set_other u b a o (λ k. h.apart i a d there (subst (λ x. w.owned x ≡ Some d) k e)) ∙ h.owned b d e;
+    pending = λ b d e. get-set_other u b a o (λ k. h.unborn i a d there (subst (λ x. w.pending x ≡ Some d) k e)) ∙ h.pending b d e;
+    apart = h.apart;
+    unborn = h.unborn;
+    separate = h.separate;
+  }
+    where
+      some-same : (c d : ℕ) → ◌≡◌ {A = Option ℕ} (Some c) (Some d) → c ≡ d
+      some-same c d e = cc
+
+      object : (j b : ℕ) (t : Bool) → (j == i) ≡ t → w.place j ≡ Some b → SameStored p w (slice_get (set s i q) j) (slice_get (set u a o) b)
+      object j b true k e = let same : j ≡ i = numbers-same j i k in let to : a ≡ b = some-same a b (sym there ∙ ap w.place (sym same) ∙ e) in let r = stored-there p w (slice_get s i) (slice_get u a) (h.objects i a there) in subst (λ x. SameStored p w (slice_get (set s i q) x) (slice_get (set u a o) b)) (sym same) (subst (λ x. SameStored p w (slice_get (set s i q) i) (slice_get (set u a o) x)) to (subst (λ x. SameStored p w x (slice_get (set u a o) a)) (sym (get-set s i r.0.what q r.0.is)) (subst (λ x. SameStored p w (Some q) x) (sym (get-set u a r.1.what o r.1.is)) alike)))
+      object j b false k e = subst (λ x. SameStored p w x (slice_get (set u a o) b)) (sym (get-set_other s j i q (numbers-apart j i k))) (subst (λ x. SameStored p w (slice_get s j) x) (sym (get-set_other u b a o (λ l. numbers-apart j i k (h.differ j i b e (subst (λ x. w.place i ≡ Some x) (sym l) there))))) (h.objects j b e))
