@@ -1,0 +1,2 @@
+//! Small makers of expressions, statements and items of the emitted subset.
+#![tactic(auto)]

@@ -1,0 +1,199 @@
+-- The helpers with a fixed text: what each is, and which bindings it uses.
+use Rattle.std.specs.Prelude.{ℕ, false, List, [], ◌∷◌, ◌++◌, Option, Some, None, pos, codes}
+use Rattle.js_tree.specs.Terms.{Name, Expression, null_literal, undefined_literal, number_literal, big_literal, text_literal, boolean_literal, name_use, this_use, property_of, index_of, call_of, method_call_of, new_of, new_array_of, binary_of, unary_of, conditional_of, host_call_of_two, Statement, Statements, no_statements, statement, expression_statement, assign_property, assign_index, super_call, throw_of, return_of, if_only, Member, constructor_of, Item, function_item, class_item, subclass_item, object_item, Piece}
+use Rattle.js_tree.specs.Views.{expressions_of, statements_of}
+use Rattle.js_tree.specs.declared.operators.BinaryOperator.TheVariants.{Add, Subtract, Divide, Remainder, BitOr, StrictEqual, StrictNotEqual, Less, Greater, GreaterOrEqual, And, Or, In, InstanceOf}
+use Rattle.js_tree.specs.declared.operators.UnaryOperator.TheVariants.{Not}
+use Rattle.js_tree.specs.declared.operators.HostOperation.TheVariants.{BigIntAsIntN}
+use Rattle.js_tree.specs.declared.items.Binding.{Binding}
+use Rattle.sj_mangling.specs.Bindings.{function_name}
+use Rattle.sj_names.specs.declared.method_names.MethodName.{MethodName}
+use Rattle.sj_names.specs.declared.method_names.Namespace.TheVariants.{Constructor}
+use Rattle.sj_names.specs.declared.references.TypeRef.TheVariants as References
+use Rattle.piece_rules.specs.Words.{kind_class, letter, is_name, as_name, worded_kinds, object_class, class_name, marker, x, call1, only_return, is_null, not_null, has_word, both, either, bound, helper}
+use Rattle.piece_rules.specs.Pieces.{constants}
+use Rattle.piece_rules.specs.Dispatch.{kind_item, kind_condition}
+use Rattle.piece_rules.specs.declared.kinds.Kind.{Kind}
+use Rattle.piece_rules.specs.declared.kinds.Kind.TheVariants as kinds
+use Rattle.piece_rules.specs.declared.kinds.Helper.{Helper}
+use Rattle.piece_rules.specs.declared.kinds.Helper.TheVariants as helpers
+use Rattle.piece_rules.specs.declared.kinds.Failure.TheVariants as failures
+
+abbrev pub helper_name : Helper → Name
+helper_name (helpers.TestOf k) = is_name k
+helper_name (helpers.CastTo k) = as_name k
+helper_name (helpers.ConstantsOf k) = codes "$k" ++ letter k
+helper_name helpers.NotNull = codes "$nn"
+helper_name helpers.IntQuotient = codes "$id"
+helper_name helpers.IntRemainder = codes "$im"
+helper_name helpers.LongQuotient = codes "$ld"
+helper_name helpers.LongRemainder = codes "$lm"
+helper_name helpers.BoxedChar = codes "$C"
+helper_name helpers.Equal = codes "$eq"
+helper_name helpers.ArrayClass = codes "$A"
+helper_name helpers.MakeArray = codes "$mk"
+helper_name helpers.CheckIndex = codes "$ix"
+helper_name helpers.Get = codes "$get"
+helper_name helpers.Set = codes "$set"
+helper_name helpers.Put = codes "$put"
+helper_name helpers.Covers = codes "$cov"
+helper_name helpers.Fits = codes "$fits"
+helper_name helpers.ClassOf = codes "$kof"
+helper_name helpers.TestOfArray = codes "$isA"
+helper_name helpers.CastToArray = codes "$asA"
+helper_name (helpers.Throws failures.NullReceiver) = codes "$npe"
+helper_name (helpers.Throws failures.Division) = codes "$ae"
+helper_name (helpers.Throws failures.Cast) = codes "$cce"
+helper_name (helpers.Throws failures.Index) = codes "$ioe"
+helper_name (helpers.Throws failures.Store) = codes "$ase"
+helper_name (helpers.Throws failures.Size) = codes "$nse"
+helper_name (helpers.Throws failures.Method) = codes "$nme"
+
+abbrev var : List ℕ → Expression
+var y = name_use y
+
+abbrev num : ℕ → Expression
+num n = number_literal (pos n)
+
+abbrev word : List ℕ → Expression
+word = text_literal
+
+abbrev calls : Helper → List Expression → Expression
+calls h es = call_of (helper_name h) (expressions_of es)
+
+abbrev does : Expression → Statement
+does = expression_statement
+
+abbrev when : Expression → List Statement → Statement
+when c ss = if_only c (statements_of ss)
+
+abbrev function : Helper → List Name → List Statement → Item
+function h xs ss = function_item (helper_name h) xs (statements_of ss)
+
+-- the helpers that a division uses: by zero it throws
+abbrev divides : Helper → Expression → Expression → Item
+divides h zero result = function h (codes "a" ∷ codes "b" ∷ []) (when (binary_of (var (codes "b")) StrictEqual zero) (does (calls (helpers.Throws failures.Division) []) ∷ []) ∷ return_of result ∷ [])
+
+abbrev quotient : Expression
+quotient = binary_of (var (codes "a")) Divide (var (codes "b"))
+
+abbrev remainder : Expression
+remainder = binary_of (var (codes "a")) Remainder (var (codes "b"))
+
+-- `throw ct_E__<init>(new c_E(), MESSAGE);`
+abbrev pub message_init : MethodName
+message_init = record { simple = codes "<init>"; params = References.Class (codes "java.lang.String") ∷ []; result = Some References.Void }
+
+abbrev throws : Helper → List Name → Name → Expression → Item
+throws h xs e message = function h xs (throw_of (call_of (function_name Constructor e message_init) (expressions_of (new_of (class_name e) (expressions_of []) ∷ message ∷ []))) ∷ [])
+
+abbrev decimal_of : List ℕ → Expression
+decimal_of y = binary_of (word []) Add (var y)
+
+-- the value that a cast of null gives, and the name that a failed cast of a kind shows
+abbrev pub kind_zero : Kind → Expression
+kind_zero kinds.Undefined = undefined_literal
+kind_zero kinds.Boolean = boolean_literal false
+kind_zero kinds.Long = big_literal (pos 0)
+kind_zero kinds.Text = text_literal []
+kind_zero _ = number_literal (pos 0)
+
+abbrev pub kind_word : Kind → List ℕ
+kind_word kinds.Undefined = codes "undef"
+kind_word kinds.Boolean = codes "boolean"
+kind_word kinds.Char = codes "char"
+kind_word kinds.Byte = codes "byte"
+kind_word kinds.Short = codes "short"
+kind_word kinds.Int = codes "int"
+kind_word kinds.Long = codes "long"
+kind_word kinds.Text = codes "string"
+
+abbrev unboxed : Kind → Expression
+unboxed kinds.Char = property_of x (codes "c")
+unboxed _ = x
+
+abbrev v_returns : List Kind → List Statement
+v_returns [] = return_of (property_of (var (codes "v")) (codes "k")) ∷ []
+v_returns (k ∷ ks) = when (call1 (is_name k) (var (codes "v"))) (return_of (name_use (helper_name (helpers.ConstantsOf k))) ∷ []) ∷ v_returns ks
+
+abbrev at : Expression → Name → Expression
+at e y = property_of e y
+
+-- the text of each, where the constants of a kind have these ancestors
+abbrev pub helper_item : (Kind → List Name) → Helper → Item
+helper_item above (helpers.TestOf k) = kind_item k
+helper_item above (helpers.CastTo k) = function (helpers.CastTo k) (codes "x" ∷ []) (return_of (conditional_of (is_null x) (kind_zero k) (conditional_of (call1 (is_name k) x) (unboxed k) (calls (helpers.Throws failures.Cast) (word (kind_word k) ∷ [])))) ∷ [])
+helper_item above (helpers.ConstantsOf k) = object_item (helper_name (helpers.ConstantsOf k)) (constants (kind_class k) (above k))
+helper_item above helpers.NotNull = function helpers.NotNull (codes "x" ∷ []) (when (is_null x) (does (calls (helpers.Throws failures.NullReceiver) []) ∷ []) ∷ return_of x ∷ [])
+helper_item above helpers.IntQuotient = divides helpers.IntQuotient (num 0) (binary_of quotient BitOr (num 0))
+helper_item above helpers.IntRemainder = divides helpers.IntRemainder (num 0) (binary_of remainder BitOr (num 0))
+helper_item above helpers.LongQuotient = divides helpers.LongQuotient (big_literal (pos 0)) (host_call_of_two BigIntAsIntN (num 64) quotient)
+helper_item above helpers.LongRemainder = divides helpers.LongRemainder (big_literal (pos 0)) remainder
+helper_item above helpers.BoxedChar = class_item (codes "$C") (constructor_of (codes "c" ∷ []) (statements_of (assign_property this_use (codes "k") (name_use (codes "$kC")) ∷ assign_property this_use (codes "c") (var (codes "c")) ∷ [])) ∷ [])
+helper_item above helpers.Equal = function helpers.Equal (codes "x" ∷ codes "y" ∷ []) (return_of (conditional_of (both (binary_of x InstanceOf (name_use (codes "$C"))) (binary_of (var (codes "y")) InstanceOf (name_use (codes "$C")))) (binary_of (at x (codes "c")) StrictEqual (at (var (codes "y")) (codes "c"))) (binary_of x StrictEqual (var (codes "y")))) ∷ [])
+helper_item above helpers.ArrayClass = subclass_item (codes "$A") (class_name object_class) (constructor_of (codes "n" ∷ codes "e" ∷ codes "a" ∷ []) (statements_of (super_call ∷ assign_property this_use (codes "n") (var (codes "n")) ∷ assign_property this_use (codes "e") (var (codes "e")) ∷ assign_property this_use (codes "a") (var (codes "a")) ∷ [])) ∷ [])
+helper_item above helpers.MakeArray = function helpers.MakeArray (codes "n" ∷ codes "e" ∷ codes "l" ∷ codes "z" ∷ []) (when (binary_of (var (codes "l")) Less (num 0)) (does (calls (helpers.Throws failures.Size) (var (codes "l") ∷ [])) ∷ []) ∷ return_of (new_of (codes "$A") (expressions_of (var (codes "n") ∷ var (codes "e") ∷ method_call_of (new_array_of (var (codes "l"))) (codes "fill") (expressions_of (var (codes "z") ∷ [])) ∷ []))) ∷ [])
+helper_item above helpers.CheckIndex = function helpers.CheckIndex (codes "x" ∷ codes "i" ∷ []) (when (either (binary_of (var (codes "i")) Less (num 0)) (binary_of (var (codes "i")) GreaterOrEqual (at (at x (codes "a")) (codes "length")))) (does (calls (helpers.Throws failures.Index) (var (codes "i") ∷ [])) ∷ []) ∷ [])
+helper_item above helpers.Get = function helpers.Get (codes "x" ∷ codes "i" ∷ []) (does (calls helpers.CheckIndex (x ∷ var (codes "i") ∷ [])) ∷ return_of (index_of (at x (codes "a")) (var (codes "i"))) ∷ [])
+helper_item above helpers.Set = function helpers.Set (codes "x" ∷ codes "i" ∷ codes "v" ∷ []) (does (calls helpers.CheckIndex (x ∷ var (codes "i") ∷ [])) ∷ assign_index (at x (codes "a")) (var (codes "i")) (var (codes "v")) ∷ [])
+helper_item above helpers.Put = function helpers.Put (codes "x" ∷ codes "i" ∷ codes "v" ∷ []) (does (calls helpers.CheckIndex (x ∷ var (codes "i") ∷ [])) ∷ when (both (not_null (var (codes "v"))) (unary_of Not (calls helpers.Fits (var (codes "v") ∷ at x (codes "n") ∷ at x (codes "e") ∷ [])))) (does (calls (helpers.Throws failures.Store) []) ∷ []) ∷ assign_index (at x (codes "a")) (var (codes "i")) (var (codes "v")) ∷ [])
+helper_item above helpers.Covers = function helpers.Covers (codes "n" ∷ codes "e" ∷ codes "m" ∷ codes "d" ∷ []) (when (binary_of (var (codes "n")) StrictEqual (var (codes "m"))) (return_of (conditional_of (has_word (codes "string") (var (codes "d"))) (binary_of (var (codes "e")) StrictEqual (var (codes "d"))) (both (has_word (codes "object") (var (codes "e"))) (binary_of (at (var (codes "d")) (codes "s")) In (var (codes "e"))))) ∷ []) ∷ return_of (both (both (binary_of (var (codes "n")) Greater (var (codes "m"))) (has_word (codes "object") (var (codes "d")))) (binary_of (at (var (codes "d")) (codes "s")) StrictEqual (word (marker object_class)))) ∷ [])
+helper_item above helpers.Fits = function helpers.Fits (codes "v" ∷ codes "n" ∷ codes "e" ∷ []) (when (binary_of (var (codes "n")) Greater (num 1)) (return_of (both (binary_of (var (codes "v")) InstanceOf (name_use (codes "$A"))) (calls helpers.Covers (at (var (codes "v")) (codes "n") ∷ at (var (codes "v")) (codes "e") ∷ binary_of (binary_of (var (codes "n")) Subtract (num 1)) BitOr (num 0) ∷ var (codes "e") ∷ []))) ∷ [])
+  ∷ when (binary_of (at (var (codes "e")) (codes "s")) StrictEqual (word (marker (kind_class kinds.Byte)))) (return_of (calls (helpers.TestOf kinds.Byte) (var (codes "v") ∷ [])) ∷ [])
+  ∷ when (binary_of (at (var (codes "e")) (codes "s")) StrictEqual (word (marker (kind_class kinds.Short)))) (return_of (calls (helpers.TestOf kinds.Short) (var (codes "v") ∷ [])) ∷ [])
+  ∷ return_of (binary_of (at (var (codes "e")) (codes "s")) In (calls helpers.ClassOf (var (codes "v") ∷ []))) ∷ [])
+helper_item above helpers.ClassOf = function helpers.ClassOf (codes "v" ∷ []) (v_returns worded_kinds)
+helper_item above helpers.TestOfArray = function helpers.TestOfArray (codes "x" ∷ codes "n" ∷ codes "e" ∷ []) (return_of (both (binary_of x InstanceOf (name_use (codes "$A"))) (calls helpers.Covers (at x (codes "n") ∷ at x (codes "e") ∷ var (codes "n") ∷ var (codes "e") ∷ []))) ∷ [])
+helper_item above helpers.CastToArray = function helpers.CastToArray (codes "x" ∷ codes "n" ∷ codes "e" ∷ codes "t" ∷ []) (return_of (conditional_of (either (is_null x) (calls helpers.TestOfArray (x ∷ var (codes "n") ∷ var (codes "e") ∷ []))) x (calls (helpers.Throws failures.Cast) (var (codes "t") ∷ []))) ∷ [])
+helper_item above (helpers.Throws failures.NullReceiver) = throws (helpers.Throws failures.NullReceiver) [] (codes "java.lang.NullPointerException") (word (codes "null"))
+helper_item above (helpers.Throws failures.Division) = throws (helpers.Throws failures.Division) [] (codes "java.lang.ArithmeticException") (word (codes "/ by zero"))
+helper_item above (helpers.Throws failures.Cast) = throws (helpers.Throws failures.Cast) (codes "t" ∷ []) (codes "java.lang.ClassCastException") (var (codes "t"))
+helper_item above (helpers.Throws failures.Index) = throws (helpers.Throws failures.Index) (codes "i" ∷ []) (codes "java.lang.ArrayIndexOutOfBoundsException") (decimal_of (codes "i"))
+helper_item above (helpers.Throws failures.Store) = throws (helpers.Throws failures.Store) [] (codes "java.lang.ArrayStoreException") (word (codes "bad element"))
+helper_item above (helpers.Throws failures.Size) = throws (helpers.Throws failures.Size) (codes "n" ∷ []) (codes "java.lang.NegativeArraySizeException") (decimal_of (codes "n"))
+helper_item above (helpers.Throws failures.Method) = throws (helpers.Throws failures.Method) (codes "t" ∷ []) (codes "java.lang.NoSuchMethodException") (var (codes "t"))
+
+abbrev raises : List ℕ → List Binding
+raises e = bound e (function_name Constructor e message_init) ∷ bound e (class_name e) ∷ []
+
+abbrev of : Helper → Binding
+of h = helper (helper_name h)
+
+abbrev pairs : List Kind → List Binding
+pairs [] = []
+pairs (k ∷ ks) = of (helpers.TestOf k) ∷ of (helpers.ConstantsOf k) ∷ pairs ks
+
+-- the bindings that it uses, once each, in order of first use
+abbrev pub helper_uses : Helper → List Binding
+helper_uses (helpers.TestOf kinds.Char) = of helpers.BoxedChar ∷ []
+helper_uses (helpers.TestOf k) = []
+helper_uses (helpers.CastTo k) = of (helpers.TestOf k) ∷ of (helpers.Throws failures.Cast) ∷ []
+helper_uses (helpers.ConstantsOf k) = []
+helper_uses helpers.NotNull = of (helpers.Throws failures.NullReceiver) ∷ []
+helper_uses helpers.IntQuotient = of (helpers.Throws failures.Division) ∷ []
+helper_uses helpers.IntRemainder = of (helpers.Throws failures.Division) ∷ []
+helper_uses helpers.LongQuotient = of (helpers.Throws failures.Division) ∷ []
+helper_uses helpers.LongRemainder = of (helpers.Throws failures.Division) ∷ []
+helper_uses helpers.BoxedChar = of (helpers.ConstantsOf kinds.Char) ∷ []
+helper_uses helpers.Equal = of helpers.BoxedChar ∷ []
+helper_uses helpers.ArrayClass = bound object_class (class_name object_class) ∷ []
+helper_uses helpers.MakeArray = of (helpers.Throws failures.Size) ∷ of helpers.ArrayClass ∷ []
+helper_uses helpers.CheckIndex = of (helpers.Throws failures.Index) ∷ []
+helper_uses helpers.Get = of helpers.CheckIndex ∷ []
+helper_uses helpers.Set = of helpers.CheckIndex ∷ []
+helper_uses helpers.Put = of helpers.CheckIndex ∷ of helpers.Fits ∷ of (helpers.Throws failures.Store) ∷ []
+helper_uses helpers.Covers = []
+helper_uses helpers.Fits = of helpers.ArrayClass ∷ of helpers.Covers ∷ of (helpers.TestOf kinds.Byte) ∷ of (helpers.TestOf kinds.Short) ∷ of helpers.ClassOf ∷ []
+helper_uses helpers.ClassOf = pairs worded_kinds
+helper_uses helpers.TestOfArray = of helpers.ArrayClass ∷ of helpers.Covers ∷ []
+helper_uses helpers.CastToArray = of helpers.TestOfArray ∷ of (helpers.Throws failures.Cast) ∷ []
+helper_uses (helpers.Throws failures.NullReceiver) = raises (codes "java.lang.NullPointerException")
+helper_uses (helpers.Throws failures.Division) = raises (codes "java.lang.ArithmeticException")
+helper_uses (helpers.Throws failures.Cast) = raises (codes "java.lang.ClassCastException")
+helper_uses (helpers.Throws failures.Index) = raises (codes "java.lang.ArrayIndexOutOfBoundsException")
+helper_uses (helpers.Throws failures.Store) = raises (codes "java.lang.ArrayStoreException")
+helper_uses (helpers.Throws failures.Size) = raises (codes "java.lang.NegativeArraySizeException")
+helper_uses (helpers.Throws failures.Method) = raises (codes "java.lang.NoSuchMethodException")
+
+abbrev pub helper_piece : (Kind → List Name) → Helper → Piece
+helper_piece above h = record { owner = object_class; name = helper_name h; uses = helper_uses h; item = helper_item above h }

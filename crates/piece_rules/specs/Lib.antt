@@ -1,0 +1,5 @@
+pub mod Classes
+pub mod Dispatch
+pub mod Helpers
+pub mod Pieces
+pub mod Words

@@ -1,0 +1,169 @@
+-- The pieces of a class, but for the functions of its methods.
+use Rattle.std.specs.Prelude.{◌≡◌, ◌↔◌, ℕ, Bool, true, false, ◌||◌, List, [], ◌∷◌, ◌++◌, Option, Some, None, map, Contains, IsTrue, pos, codes, if◌then◌else◌}
+use Rattle.js_tree.specs.Terms.{Name, Expression, Expressions, no_expressions, expression, null_literal, number_literal, text_literal, name_use, this_use, property_of, call_of, method_call_of, new_of, binary_of, conditional_of, Statement, Statements, no_statements, statement, const_of, assign_name, assign_property, super_call, return_of, if_only, Property, Member, constructor_of, method_of, Item, object_item, let_item, function_item, class_item, subclass_item, Piece}
+use Rattle.js_tree.specs.Views.{statements_of}
+use Rattle.js_tree.specs.declared.operators.BinaryOperator.TheVariants.{StrictEqual, In}
+use Rattle.js_tree.specs.declared.items.Binding.{Binding}
+use Rattle.sj_mangling.specs.Bindings.{class_binding, field_binding, function_name}
+use Rattle.sj_mangling.specs.declared.bindings.ClassBinding.TheVariants.{IsInstance, AsInstance, Instance, LoadModule, StoreModule}
+use Rattle.sj_mangling.specs.declared.bindings.FieldBinding.TheVariants.{Property as FieldProperty, Variable, Setter}
+use Rattle.sj_names.specs.declared.method_names.MethodName.{MethodName}
+use Rattle.sj_names.specs.declared.method_names.Namespace.TheVariants.{Constructor}
+use Rattle.sj_names.specs.declared.references.TypeRef.TheVariants as References
+use Rattle.sj_trees.specs.declared.classes.ClassDef.{ClassDef}
+use Rattle.sj_trees.specs.declared.classes.FieldDef.{FieldDef}
+use Rattle.sj_world.specs.declared.linked.MethodEntry.{MethodEntry}
+use Rattle.sj_world.specs.Known.{is_same}
+use Rattle.sj_emit_expr.specs.Uses.{once_each}
+use Rattle.piece_rules.specs.Words.{kind_class, is_name, all_kinds, units_of, object_class, constants_name, class_name, marker, entry_name, public_function, parameters_of, uses, x, call1, only_return, not_null, is_null, has_word, both, either, zero_of, bound, helper}
+use Rattle.piece_rules.specs.declared.kinds.Kind.{Kind}
+use Rattle.piece_rules.specs.declared.kinds.Kind.TheVariants as kinds
+
+-- what the pieces of a class are made of: the class; the classes above it, itself among them, in order of bytes; its method entries, its own
+-- fields of instances, and its static fields that are reached, each in order; which kinds of primitive values, told by a word, are instances
+-- of it; and what there is of it
+pub record Parts : Type 0 where
+  pub class : ClassDef
+  pub ancestors : List Name
+  pub entries : List MethodEntry
+  pub fields : List FieldDef
+  pub statics : List FieldDef
+  pub instances : List Kind
+  pub is_live : Bool
+  pub is_base : Bool
+  pub is_loaded : Bool
+  pub is_stored : Bool
+  pub is_tested : Bool
+  pub is_cast : Bool
+
+-- `{s: "i_C", i_A: 1, ..}`
+abbrev pub marker_property : Name → Property
+marker_property a = record { name = marker a; value = number_literal (pos 1) }
+
+abbrev pub constants : Name → List Name → List Property
+constants c ancestors = record { name = codes "s"; value = text_literal (marker c) } ∷ map marker_property ancestors
+
+abbrev pub constants_piece : Name → List Name → Piece
+constants_piece c ancestors = record { owner = c; name = constants_name c; uses = []; item = object_item (constants_name c) (constants c ancestors) }
+
+-- a direct entry hands its call on to a function, one of a reflective name to another entry, whose char it boxes
+abbrev pub direct_call : MethodEntry → Expression
+direct_call e = call_of (public_function e.target.class e.name) (expression this_use (uses (parameters_of e.name)))
+
+abbrev pub boxed : Expression → Expression
+boxed e = new_of (codes "$C") (expression e no_expressions)
+
+abbrev pub boxed_result : MethodName → Expression → Expression
+boxed_result m e = elim m.result [ None ↦ e | Some References.Char ↦ boxed e | Some _ ↦ e ]
+
+abbrev pub proxy_call : MethodEntry → Expression
+proxy_call e = boxed_result e.target.method (method_call_of this_use (entry_name e.target.method) (uses (parameters_of e.name)))
+
+abbrev pub is_proxy : MethodEntry → Bool
+is_proxy e = elim e.name.result [ None ↦ true | Some t ↦ false ]
+
+abbrev pub entry_member : MethodEntry → Member
+entry_member e = method_of (entry_name e.name) (parameters_of e.name) (only_return (if is_proxy e then proxy_call e else direct_call e))
+
+abbrev pub box_uses : MethodName → List Binding
+box_uses m = elim m.result [ None ↦ [] | Some References.Char ↦ helper (codes "$C") ∷ [] | Some _ ↦ [] ]
+
+abbrev pub entry_uses : MethodEntry → List Binding
+entry_uses e = if is_proxy e then box_uses e.target.method else bound e.target.class (public_function e.target.class e.name) ∷ []
+
+abbrev pub uses_of_entries : List MethodEntry → List Binding
+uses_of_entries [] = []
+uses_of_entries (e ∷ es) = entry_uses e ++ uses_of_entries es
+
+abbrev pub field_start : Name → FieldDef → Statement
+field_start c f = assign_property this_use (field_binding FieldProperty c f.name) (zero_of f.tpe)
+
+abbrev pub constructor_body : Name → Option Name → List FieldDef → List Statement
+constructor_body c superclass fields = (elim superclass [ None ↦ [] | Some s ↦ super_call ∷ [] ]) ++ assign_property this_use (codes "k") (name_use (constants_name c)) ∷ map (field_start c) fields
+
+abbrev pub members : Parts → List Member
+members p = constructor_of [] (statements_of (constructor_body p.class.name p.class.superclass p.fields)) ∷ map entry_member p.entries
+
+abbrev pub class_item_of : Name → Option Name → List Member → Item
+class_item_of c None ms = class_item (class_name c) ms
+class_item_of c (Some s) ms = subclass_item (class_name c) (class_name s) ms
+
+abbrev pub parent_uses : Option Name → List Binding
+parent_uses None = []
+parent_uses (Some s) = bound s (class_name s) ∷ []
+
+-- with each binding once, where it comes first
+abbrev pub class_piece : Parts → Piece
+class_piece p = record { owner = p.class.name; name = class_name p.class.name; uses = once_each [] (parent_uses p.class.superclass ++ bound p.class.name (constants_name p.class.name) ∷ uses_of_entries p.entries); item = class_item_of p.class.name p.class.superclass (members p) }
+
+abbrev pub setter : Name → Name → Item
+setter function variable = function_item function (codes "x" ∷ []) (statement (assign_name variable x) no_statements)
+
+abbrev pub static_pieces : Name → FieldDef → List Piece
+static_pieces c f = record { owner = c; name = field_binding Variable c f.name; uses = []; item = let_item (field_binding Variable c f.name) (zero_of f.tpe) }
+    ∷ record { owner = c; name = field_binding Setter c f.name; uses = bound c (field_binding Variable c f.name) ∷ []; item = setter (field_binding Setter c f.name) (field_binding Variable c f.name) } ∷ []
+
+abbrev pub init : MethodName
+init = record { simple = codes "<init>"; params = []; result = Some References.Void }
+
+-- `if ((n_C === null)) { const x = ct_C__<init>;V(new c_C()); n_C = x; } return n_C;`
+abbrev pub load_body : Name → List Statement
+load_body c = if_only (is_null (name_use (class_binding Instance c))) (statements_of (const_of (codes "x") (call1 (function_name Constructor c init) (new_of (class_name c) no_expressions)) ∷ assign_name (class_binding Instance c) x ∷ [])) ∷ return_of (name_use (class_binding Instance c)) ∷ []
+
+abbrev pub when : {A : Type 0} → Bool → List A → List A
+when b xs = if b then xs else []
+
+abbrev pub cell_pieces : Name → Bool → List Piece
+cell_pieces c loaded =
+    record { owner = c; name = class_binding Instance c; uses = []; item = let_item (class_binding Instance c) null_literal }
+    ∷ when loaded (record { owner = c; name = class_binding LoadModule c; uses = bound c (class_binding Instance c) ∷ bound c (function_name Constructor c init) ∷ bound c (class_name c) ∷ []; item = function_item (class_binding LoadModule c) [] (statements_of (load_body c)) } ∷ [])
+    ++ record { owner = c; name = class_binding StoreModule c; uses = bound c (class_binding Instance c) ∷ []; item = setter (class_binding StoreModule c) (class_binding Instance c) } ∷ []
+
+-- `$isX(x)` for each kind, joined from the left, and the marker of the class on an object
+abbrev pub has_marker : Name → Expression
+has_marker c = both (has_word (codes "object") x) (binary_of (text_literal (marker c)) In (property_of x (codes "k")))
+
+abbrev pub joined : Expression → List Expression → Expression
+joined e [] = e
+joined e (g ∷ gs) = joined (either e g) gs
+
+abbrev pub any_of : List Expression → Expression → Expression
+any_of [] e = e
+any_of (g ∷ gs) e = joined g (gs ++ e ∷ [])
+
+abbrev pub kind_test : Kind → Expression
+kind_test k = call1 (is_name k) x
+
+-- the kind of a hijacked class
+abbrev pub kind_of_class : Name → List Kind → Option Kind
+kind_of_class c [] = None
+kind_of_class c (k ∷ ks) = if is_same c (kind_class k) then Some k else kind_of_class c ks
+
+abbrev pub instance_test : Name → List Kind → Option Kind → Expression
+instance_test c kinds (Some k) = kind_test k
+instance_test c kinds None = both (not_null x) (any_of (map kind_test kinds) (has_marker c))
+
+abbrev pub test_uses : List Kind → Option Kind → List Binding
+test_uses kinds (Some k) = helper (is_name k) ∷ []
+test_uses kinds None = map (λ k. helper (is_name k)) kinds
+
+abbrev pub test_piece : Name → List Kind → Option Kind → Piece
+test_piece c kinds kind = record { owner = c; name = class_binding IsInstance c; uses = test_uses kinds kind; item = function_item (class_binding IsInstance c) (codes "x" ∷ []) (only_return (instance_test c kinds kind)) }
+
+-- `(((x === null) || is_C(x)) ? x : $cce("C"))`
+abbrev pub cast_piece : Name → Piece
+cast_piece c = record { owner = c; name = class_binding AsInstance c; uses = bound c (class_binding IsInstance c) ∷ helper (codes "$cce") ∷ []; item = function_item (class_binding AsInstance c) (codes "x" ∷ []) (only_return (conditional_of (either (is_null x) (call1 (class_binding IsInstance c) x)) x (call1 (codes "$cce") (text_literal (units_of c))))) }
+
+abbrev pub all_statics : Name → List FieldDef → List Piece
+all_statics c [] = []
+all_statics c (f ∷ fs) = static_pieces c f ++ all_statics c fs
+
+-- the pieces of a class in order
+abbrev pub pieces : Parts → List Piece
+pieces p = let c = p.class.name in
+    when (p.is_live || p.is_base) (constants_piece c p.ancestors ∷ [])
+    ++ when p.is_live (class_piece p ∷ [])
+    ++ all_statics c p.statics
+    ++ when (p.is_loaded || p.is_stored) (cell_pieces c p.is_loaded)
+    ++ when (p.is_tested || p.is_cast) (test_piece c p.instances (kind_of_class c all_kinds) ∷ [])
+    ++ when p.is_cast (cast_piece c ∷ [])
