@@ -3,5 +3,7 @@
 #![tactic(auto)]
 
 mod kinds;
+mod laws;
 
 pub use kinds::{Failure, Helper, Kind};
+pub use laws::worked_helpers;
