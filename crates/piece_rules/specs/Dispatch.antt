@@ -1,6 +1,6 @@
 -- The functions that tell primitive receivers apart, and the tests of kinds.
-use Rattle.std.specs.Prelude.{◌≡◌, ℕ, Bool, List, [], ◌∷◌, ◌++◌, Option, Some, None, map, Contains, pos, codes}
-use Rattle.js_tree.specs.Terms.{Name, Expression, Expressions, no_expressions, expression, null_literal, undefined_literal, number_literal, text_literal, name_use, this_use, property_of, call_of, method_call_of, new_of, binary_of, unary_of, conditional_of, Statement, Statements, no_statements, statement, assign_property, expression_statement, return_of, throw_of, if_only, Member, constructor_of, Item, function_item, class_item, Piece}
+use Rattle.std.specs.Prelude.{◌≡◌, ℕ, List, [], ◌∷◌, ◌++◌, Contains, pos, codes}
+use Rattle.js_tree.specs.Terms.{Name, Expression, expression, undefined_literal, number_literal, text_literal, name_use, call_of, method_call_of, binary_of, Statement, Statements, statement, expression_statement, if_only, Item, function_item, Piece}
 use Rattle.js_tree.specs.Views.{statements_of}
 use Rattle.js_tree.specs.declared.operators.BinaryOperator.TheVariants.{StrictEqual, In, InstanceOf, ShiftLeft, ShiftRight}
 use Rattle.js_tree.specs.declared.items.Binding.{Binding}
@@ -78,11 +78,15 @@ pub data AreTold (w : Classes) (known : List Fact) (m : MethodName) : List Kind 
   told : (k : Kind) (ks : List Kind) (owner : Name) (ts : List Told) → IsReachedTarget w known (kind_class k) m owner → AreTold w known m ks ts → AreTold w known m (k ∷ ks) (record { kind = k; owner = owner } ∷ ts)
   untold : (k : Kind) (ks : List Kind) (ts : List Told) → ((owner : Name) → IsReachedTarget w known (kind_class k) m owner → ⊥) → AreTold w known m ks ts → AreTold w known m (k ∷ ks) ts
 
+-- the function with its cases
+abbrev pub dispatch_piece : MethodName → List Told → Piece
+dispatch_piece m ts = record { owner = object_class; name = dispatch_name m; uses = once_each [] (uses_of_told m ts); item = dispatch_item m ts }
+
 -- the piece of `d_m`
 pub record IsDispatchPiece (w : Classes) (known : List Fact) (m : MethodName) (piece : Piece) : Type 0 where
   pub cases : List Told
   pub are_told : AreTold w known m told_kinds cases
-  pub piece_is : piece ≡ record { owner = object_class; name = dispatch_name m; uses = once_each [] (uses_of_told m cases); item = dispatch_item m cases }
+  pub piece_is : piece ≡ dispatch_piece m cases
 
 -- a kind, the class whose body a reflective call runs for it, and the name of the method that it reaches
 pub record Reflected : Type 0 where
@@ -125,8 +129,12 @@ pub data AreReflected (w : Classes) (known : List Fact) (p : MethodName) : List 
   reflected : (k : Kind) (ks : List Kind) (t : MethodName) (owner : Name) (ts : List Reflected) → IsReflectedTarget w known (kind_class k) p t owner → AreReflected w known p ks ts → AreReflected w known p (k ∷ ks) (record { kind = k; owner = owner; method = t } ∷ ts)
   unreflected : (k : Kind) (ks : List Kind) (ts : List Reflected) → ((t : MethodName) (owner : Name) → IsReflectedTarget w known (kind_class k) p t owner → ⊥) → AreReflected w known p ks ts → AreReflected w known p (k ∷ ks) ts
 
+-- the function with its cases
+abbrev pub reflective_piece : MethodName → List Reflected → Piece
+reflective_piece p ts = record { owner = object_class; name = reflective_name p; uses = once_each [] (uses_of_reflected ts ++ helper (codes "$nme") ∷ []); item = reflective_item p (units_of (spelled_method p)) ts }
+
 -- the piece of `r_p`
 pub record IsReflectivePiece (w : Classes) (known : List Fact) (p : MethodName) (piece : Piece) : Type 0 where
   pub cases : List Reflected
   pub are_reflected : AreReflected w known p told_kinds cases
-  pub piece_is : piece ≡ record { owner = object_class; name = reflective_name p; uses = once_each [] (uses_of_reflected cases ++ helper (codes "$nme") ∷ []); item = reflective_item p (units_of (spelled_method p)) cases }
+  pub piece_is : piece ≡ reflective_piece p cases

@@ -1,8 +1,8 @@
 -- The helpers with a fixed text: what each is, and which bindings it uses.
-use Rattle.std.specs.Prelude.{ℕ, false, List, [], ◌∷◌, ◌++◌, Option, Some, None, pos, codes}
-use Rattle.js_tree.specs.Terms.{Name, Expression, null_literal, undefined_literal, number_literal, big_literal, text_literal, boolean_literal, name_use, this_use, property_of, index_of, call_of, method_call_of, new_of, new_array_of, binary_of, unary_of, conditional_of, host_call_of_two, Statement, Statements, no_statements, statement, expression_statement, assign_property, assign_index, super_call, throw_of, return_of, if_only, Member, constructor_of, Item, function_item, class_item, subclass_item, object_item, Piece}
+use Rattle.std.specs.Prelude.{ℕ, false, List, [], ◌∷◌, ◌++◌, Some, pos, codes}
+use Rattle.js_tree.specs.Terms.{Name, Expression, undefined_literal, number_literal, big_literal, text_literal, boolean_literal, name_use, this_use, property_of, index_of, call_of, method_call_of, new_of, new_array_of, binary_of, unary_of, conditional_of, host_call_of_two, Statement, expression_statement, assign_property, assign_index, super_call, throw_of, return_of, if_only, constructor_of, Item, function_item, class_item, subclass_item, object_item, Piece}
 use Rattle.js_tree.specs.Views.{expressions_of, statements_of}
-use Rattle.js_tree.specs.declared.operators.BinaryOperator.TheVariants.{Add, Subtract, Divide, Remainder, BitOr, StrictEqual, StrictNotEqual, Less, Greater, GreaterOrEqual, And, Or, In, InstanceOf}
+use Rattle.js_tree.specs.declared.operators.BinaryOperator.TheVariants.{Add, Subtract, Divide, Remainder, BitOr, StrictEqual, Less, Greater, GreaterOrEqual, In, InstanceOf}
 use Rattle.js_tree.specs.declared.operators.UnaryOperator.TheVariants.{Not}
 use Rattle.js_tree.specs.declared.operators.HostOperation.TheVariants.{BigIntAsIntN}
 use Rattle.js_tree.specs.declared.items.Binding.{Binding}
@@ -10,9 +10,9 @@ use Rattle.sj_mangling.specs.Bindings.{function_name}
 use Rattle.sj_names.specs.declared.method_names.MethodName.{MethodName}
 use Rattle.sj_names.specs.declared.method_names.Namespace.TheVariants.{Constructor}
 use Rattle.sj_names.specs.declared.references.TypeRef.TheVariants as References
-use Rattle.piece_rules.specs.Words.{kind_class, letter, is_name, as_name, worded_kinds, object_class, class_name, marker, x, call1, only_return, is_null, not_null, has_word, both, either, bound, helper}
+use Rattle.piece_rules.specs.Words.{kind_class, letter, is_name, as_name, worded_kinds, object_class, class_name, marker, x, call1, is_null, not_null, has_word, both, either, bound, helper}
 use Rattle.piece_rules.specs.Pieces.{constants}
-use Rattle.piece_rules.specs.Dispatch.{kind_item, kind_condition}
+use Rattle.piece_rules.specs.Dispatch.{kind_item}
 use Rattle.piece_rules.specs.declared.kinds.Kind.{Kind}
 use Rattle.piece_rules.specs.declared.kinds.Kind.TheVariants as kinds
 use Rattle.piece_rules.specs.declared.kinds.Helper.{Helper}
@@ -139,9 +139,9 @@ helper_item above helpers.Set = function helpers.Set (codes "x" ∷ codes "i" �
 helper_item above helpers.Put = function helpers.Put (codes "x" ∷ codes "i" ∷ codes "v" ∷ []) (does (calls helpers.CheckIndex (x ∷ var (codes "i") ∷ [])) ∷ when (both (not_null (var (codes "v"))) (unary_of Not (calls helpers.Fits (var (codes "v") ∷ at x (codes "n") ∷ at x (codes "e") ∷ [])))) (does (calls (helpers.Throws failures.Store) []) ∷ []) ∷ assign_index (at x (codes "a")) (var (codes "i")) (var (codes "v")) ∷ [])
 helper_item above helpers.Covers = function helpers.Covers (codes "n" ∷ codes "e" ∷ codes "m" ∷ codes "d" ∷ []) (when (binary_of (var (codes "n")) StrictEqual (var (codes "m"))) (return_of (conditional_of (has_word (codes "string") (var (codes "d"))) (binary_of (var (codes "e")) StrictEqual (var (codes "d"))) (both (has_word (codes "object") (var (codes "e"))) (binary_of (at (var (codes "d")) (codes "s")) In (var (codes "e"))))) ∷ []) ∷ return_of (both (both (binary_of (var (codes "n")) Greater (var (codes "m"))) (has_word (codes "object") (var (codes "d")))) (binary_of (at (var (codes "d")) (codes "s")) StrictEqual (word (marker object_class)))) ∷ [])
 helper_item above helpers.Fits = function helpers.Fits (codes "v" ∷ codes "n" ∷ codes "e" ∷ []) (when (binary_of (var (codes "n")) Greater (num 1)) (return_of (both (binary_of (var (codes "v")) InstanceOf (name_use (codes "$A"))) (calls helpers.Covers (at (var (codes "v")) (codes "n") ∷ at (var (codes "v")) (codes "e") ∷ binary_of (binary_of (var (codes "n")) Subtract (num 1)) BitOr (num 0) ∷ var (codes "e") ∷ []))) ∷ [])
-  ∷ when (binary_of (at (var (codes "e")) (codes "s")) StrictEqual (word (marker (kind_class kinds.Byte)))) (return_of (calls (helpers.TestOf kinds.Byte) (var (codes "v") ∷ [])) ∷ [])
-  ∷ when (binary_of (at (var (codes "e")) (codes "s")) StrictEqual (word (marker (kind_class kinds.Short)))) (return_of (calls (helpers.TestOf kinds.Short) (var (codes "v") ∷ [])) ∷ [])
-  ∷ return_of (binary_of (at (var (codes "e")) (codes "s")) In (calls helpers.ClassOf (var (codes "v") ∷ []))) ∷ [])
+    ∷ when (binary_of (at (var (codes "e")) (codes "s")) StrictEqual (word (marker (kind_class kinds.Byte)))) (return_of (calls (helpers.TestOf kinds.Byte) (var (codes "v") ∷ [])) ∷ [])
+    ∷ when (binary_of (at (var (codes "e")) (codes "s")) StrictEqual (word (marker (kind_class kinds.Short)))) (return_of (calls (helpers.TestOf kinds.Short) (var (codes "v") ∷ [])) ∷ [])
+    ∷ return_of (binary_of (at (var (codes "e")) (codes "s")) In (calls helpers.ClassOf (var (codes "v") ∷ []))) ∷ [])
 helper_item above helpers.ClassOf = function helpers.ClassOf (codes "v" ∷ []) (v_returns worded_kinds)
 helper_item above helpers.TestOfArray = function helpers.TestOfArray (codes "x" ∷ codes "n" ∷ codes "e" ∷ []) (return_of (both (binary_of x InstanceOf (name_use (codes "$A"))) (calls helpers.Covers (at x (codes "n") ∷ at x (codes "e") ∷ var (codes "n") ∷ var (codes "e") ∷ []))) ∷ [])
 helper_item above helpers.CastToArray = function helpers.CastToArray (codes "x" ∷ codes "n" ∷ codes "e" ∷ codes "t" ∷ []) (return_of (conditional_of (either (is_null x) (calls helpers.TestOfArray (x ∷ var (codes "n") ∷ var (codes "e") ∷ []))) x (calls (helpers.Throws failures.Cast) (var (codes "t") ∷ []))) ∷ [])

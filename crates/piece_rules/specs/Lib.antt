@@ -1,3 +1,4 @@
+pub mod ClassRows
 pub mod Classes
 pub mod Dispatch
 pub mod HelperRows

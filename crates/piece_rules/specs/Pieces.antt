@@ -1,8 +1,8 @@
 -- The pieces of a class, but for the functions of its methods.
-use Rattle.std.specs.Prelude.{◌≡◌, ◌↔◌, ℕ, Bool, true, false, ◌||◌, List, [], ◌∷◌, ◌++◌, Option, Some, None, map, Contains, IsTrue, pos, codes, if◌then◌else◌}
-use Rattle.js_tree.specs.Terms.{Name, Expression, Expressions, no_expressions, expression, null_literal, number_literal, text_literal, name_use, this_use, property_of, call_of, method_call_of, new_of, binary_of, conditional_of, Statement, Statements, no_statements, statement, const_of, assign_name, assign_property, super_call, return_of, if_only, Property, Member, constructor_of, method_of, Item, object_item, let_item, function_item, class_item, subclass_item, Piece}
+use Rattle.std.specs.Prelude.{Bool, true, false, ◌||◌, List, [], ◌∷◌, ◌++◌, Option, Some, None, map, pos, codes, if◌then◌else◌}
+use Rattle.js_tree.specs.Terms.{Name, Expression, no_expressions, expression, null_literal, number_literal, text_literal, name_use, this_use, property_of, call_of, method_call_of, new_of, binary_of, conditional_of, Statement, no_statements, statement, const_of, assign_name, assign_property, super_call, return_of, if_only, Property, Member, constructor_of, method_of, Item, object_item, let_item, function_item, class_item, subclass_item, Piece}
 use Rattle.js_tree.specs.Views.{statements_of}
-use Rattle.js_tree.specs.declared.operators.BinaryOperator.TheVariants.{StrictEqual, In}
+use Rattle.js_tree.specs.declared.operators.BinaryOperator.TheVariants.{In}
 use Rattle.js_tree.specs.declared.items.Binding.{Binding}
 use Rattle.sj_mangling.specs.Bindings.{class_binding, field_binding, function_name}
 use Rattle.sj_mangling.specs.declared.bindings.ClassBinding.TheVariants.{IsInstance, AsInstance, Instance, LoadModule, StoreModule}
@@ -15,9 +15,8 @@ use Rattle.sj_trees.specs.declared.classes.FieldDef.{FieldDef}
 use Rattle.sj_world.specs.declared.linked.MethodEntry.{MethodEntry}
 use Rattle.sj_world.specs.Known.{is_same}
 use Rattle.sj_emit_expr.specs.Uses.{once_each}
-use Rattle.piece_rules.specs.Words.{kind_class, is_name, all_kinds, units_of, object_class, constants_name, class_name, marker, entry_name, public_function, parameters_of, uses, x, call1, only_return, not_null, is_null, has_word, both, either, zero_of, bound, helper}
+use Rattle.piece_rules.specs.Words.{kind_class, is_name, all_kinds, units_of, constants_name, class_name, marker, entry_name, public_function, parameters_of, uses, x, call1, only_return, not_null, is_null, has_word, both, either, zero_of, bound, helper}
 use Rattle.piece_rules.specs.declared.kinds.Kind.{Kind}
-use Rattle.piece_rules.specs.declared.kinds.Kind.TheVariants as kinds
 
 -- what the pieces of a class are made of: the class; the classes above it, itself among them, in order of bytes; its method entries, its own
 -- fields of instances, and its static fields that are reached, each in order; which kinds of primitive values, told by a word, are instances

@@ -1,15 +1,15 @@
 -- Names and small expressions that class pieces and helpers are made of.
-use Rattle.std.specs.Prelude.{ℕ, false, suc, ◌+◌, List, [], ◌∷◌, ◌++◌, pos, codes, decimal}
+use Rattle.std.specs.Prelude.{ℕ, false, ◌+◌, List, [], ◌∷◌, ◌++◌, pos, codes, decimal}
 use Rattle.std.specs.Char.Escape.{encode_utf16}
 use Rattle.std.specs.List.{flat_map}
 use Rattle.std.specs.Str.{chars}
-use Rattle.js_tree.specs.Terms.{Name, Expression, Expressions, no_expressions, expression, null_literal, boolean_literal, undefined_literal, number_literal, big_literal, text_literal, name_use, this_use, property_of, call_of, method_call_of, new_of, binary_of, unary_of, conditional_of, Statement, Statements, no_statements, statement, expression_statement, return_of, if_only}
+use Rattle.js_tree.specs.Terms.{Name, Expression, Expressions, no_expressions, expression, null_literal, boolean_literal, undefined_literal, number_literal, big_literal, text_literal, name_use, call_of, binary_of, unary_of, Statement, Statements, no_statements, statement, return_of}
 use Rattle.js_tree.specs.Views.{expressions_of, statements_of}
-use Rattle.js_tree.specs.declared.operators.BinaryOperator.TheVariants.{StrictEqual, StrictNotEqual, And, Or, In, InstanceOf, BitOr, ShiftLeft, ShiftRight}
-use Rattle.js_tree.specs.declared.operators.UnaryOperator.TheVariants.{Not, TypeOf}
+use Rattle.js_tree.specs.declared.operators.BinaryOperator.TheVariants.{StrictEqual, StrictNotEqual, And, Or}
+use Rattle.js_tree.specs.declared.operators.UnaryOperator.TheVariants.{TypeOf}
 use Rattle.js_tree.specs.declared.items.Binding.{Binding}
-use Rattle.sj_mangling.specs.Bindings.{class_binding, field_binding, method_binding, function_name}
-use Rattle.sj_mangling.specs.declared.bindings.ClassBinding.TheVariants.{Constants, Class, Marker, IsInstance, AsInstance, Instance, LoadModule, StoreModule}
+use Rattle.sj_mangling.specs.Bindings.{class_binding, method_binding, function_name}
+use Rattle.sj_mangling.specs.declared.bindings.ClassBinding.TheVariants.{Constants, Class, Marker}
 use Rattle.sj_mangling.specs.declared.bindings.MethodBinding.TheVariants.{Entry}
 use Rattle.sj_names.specs.declared.method_names.MethodName.{MethodName}
 use Rattle.sj_names.specs.declared.method_names.Namespace.TheVariants.{Public}

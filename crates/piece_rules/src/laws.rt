@@ -1,4 +1,5 @@
 // Worked texts.
+ghost use Rattle.piece_rules.specs.ClassRows.{row_entries, row_default, row_top, row_field, row_constants, row_cast, row_hijacked, row_dispatch, row_reflective, row_no_case, row_object, row_plain, row_module, row_stored, row_statics};
 ghost use Rattle.piece_rules.specs.HelperRows.{row_A, row_C, row_ae, row_asA, row_asB, row_asC, row_asI, row_asJ, row_asS, row_asT, row_asV, row_asZ, row_ase, row_cce, row_cov, row_eq, row_fits, row_get, row_id, row_im, row_ioe, row_isA, row_isB, row_isC, row_isI, row_isJ, row_isS, row_isT, row_isV, row_isZ, row_ix, row_kC, row_kI, row_kJ, row_kT, row_kV, row_kZ, row_kof, row_ld, row_lm, row_mk, row_nme, row_nn, row_npe, row_nse, row_put, row_set};
 
 /// Each helper with a fixed text, and the bindings that it uses.
@@ -50,4 +51,24 @@ pub fn worked_helpers()
     ensures w_nse { row_nse }
     ensures w_put { row_put }
     ensures w_set { row_set }
+{}
+
+/// Classes with their constructors and entries, constants, static fields, cells of modules, tests and casts; and functions that tell
+/// primitive receivers apart.
+pub fn worked_classes()
+    ensures w_entries { row_entries }
+    ensures w_default { row_default }
+    ensures w_top { row_top }
+    ensures w_field { row_field }
+    ensures w_constants { row_constants }
+    ensures w_cast { row_cast }
+    ensures w_hijacked { row_hijacked }
+    ensures w_dispatch { row_dispatch }
+    ensures w_reflective { row_reflective }
+    ensures w_no_case { row_no_case }
+    ensures w_object { row_object }
+    ensures w_plain { row_plain }
+    ensures w_module { row_module }
+    ensures w_stored { row_stored }
+    ensures w_statics { row_statics }
 {}

@@ -6,4 +6,4 @@ mod kinds;
 mod laws;
 
 pub use kinds::{Failure, Helper, Kind};
-pub use laws::worked_helpers;
+pub use laws::{worked_classes, worked_helpers};
