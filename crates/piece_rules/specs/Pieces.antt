@@ -1,5 +1,6 @@
 -- The pieces of a class, but for the functions of its methods.
-use Rattle.std.specs.Prelude.{Bool, true, false, ◌||◌, List, [], ◌∷◌, ◌++◌, Option, Some, None, map, pos, codes, if◌then◌else◌}
+use Rattle.std.specs.Prelude.{Bool, ◌||◌, List, [], ◌∷◌, true, false, ◌++◌, Option, Some, None, map, pos, codes, if◌then◌else◌, is_none}
+use Rattle.std.specs.List.{flat_map}
 use Rattle.js_tree.specs.Terms.{Name, Expression, no_expressions, expression, null_literal, number_literal, text_literal, name_use, this_use, property_of, call_of, method_call_of, new_of, binary_of, conditional_of, Statement, no_statements, statement, const_of, assign_name, assign_property, super_call, return_of, if_only, Property, Member, constructor_of, method_of, Item, object_item, let_item, function_item, class_item, subclass_item, Piece}
 use Rattle.js_tree.specs.Views.{statements_of}
 use Rattle.js_tree.specs.declared.operators.BinaryOperator.TheVariants.{In}
@@ -9,13 +10,15 @@ use Rattle.sj_mangling.specs.declared.bindings.ClassBinding.TheVariants.{IsInsta
 use Rattle.sj_mangling.specs.declared.bindings.FieldBinding.TheVariants.{Property as FieldProperty, Variable, Setter}
 use Rattle.sj_names.specs.declared.method_names.MethodName.{MethodName}
 use Rattle.sj_names.specs.declared.method_names.Namespace.TheVariants.{Constructor}
+use Rattle.sj_names.specs.declared.references.TypeRef.{TypeRef}
 use Rattle.sj_names.specs.declared.references.TypeRef.TheVariants as References
 use Rattle.sj_trees.specs.declared.classes.ClassDef.{ClassDef}
 use Rattle.sj_trees.specs.declared.classes.FieldDef.{FieldDef}
 use Rattle.sj_world.specs.declared.linked.MethodEntry.{MethodEntry}
 use Rattle.sj_world.specs.Known.{is_same}
+use Rattle.sj_emit_expr.specs.Templates.{member_name}
 use Rattle.sj_emit_expr.specs.Uses.{once_each}
-use Rattle.piece_rules.specs.Words.{kind_class, is_name, all_kinds, units_of, constants_name, class_name, marker, entry_name, public_function, parameters_of, uses, x, call1, only_return, not_null, is_null, has_word, both, either, zero_of, bound, helper}
+use Rattle.piece_rules.specs.Words.{kind_class, is_name, all_kinds, units_of, constants_name, class_name, marker, entry_name, parameters_of, uses, x, call1, only_return, not_null, is_null, has_word, both, either, zero_of, bound, helper}
 use Rattle.piece_rules.specs.declared.kinds.Kind.{Kind}
 
 -- what the pieces of a class are made of: the class; the classes above it, itself among them, in order of bytes; its method entries, its own
@@ -39,46 +42,56 @@ pub record Parts : Type 0 where
 abbrev pub marker_property : Name → Property
 marker_property a = record { name = marker a; value = number_literal (pos 1) }
 
+abbrev pub own_marker : Name → Property
+own_marker c = record { name = codes "s"; value = text_literal (marker c) }
+
 abbrev pub constants : Name → List Name → List Property
-constants c ancestors = record { name = codes "s"; value = text_literal (marker c) } ∷ map marker_property ancestors
+constants c ancestors = own_marker c ∷ map marker_property ancestors
 
 abbrev pub constants_piece : Name → List Name → Piece
 constants_piece c ancestors = record { owner = c; name = constants_name c; uses = []; item = object_item (constants_name c) (constants c ancestors) }
 
 -- a direct entry hands its call on to a function, one of a reflective name to another entry, whose char it boxes
 abbrev pub direct_call : MethodEntry → Expression
-direct_call e = call_of (public_function e.target.class e.name) (expression this_use (uses (parameters_of e.name)))
+direct_call e = call_of (member_name e.target) (expression this_use (uses (parameters_of e.name)))
 
 abbrev pub boxed : Expression → Expression
 boxed e = new_of (codes "$C") (expression e no_expressions)
 
+abbrev pub is_char : Option TypeRef → Bool
+is_char (Some References.Char) = true
+is_char _ = false
+
 abbrev pub boxed_result : MethodName → Expression → Expression
-boxed_result m e = elim m.result [ None ↦ e | Some References.Char ↦ boxed e | Some _ ↦ e ]
+boxed_result m e = if is_char m.result then boxed e else e
 
 abbrev pub proxy_call : MethodEntry → Expression
 proxy_call e = boxed_result e.target.method (method_call_of this_use (entry_name e.target.method) (uses (parameters_of e.name)))
 
 abbrev pub is_proxy : MethodEntry → Bool
-is_proxy e = elim e.name.result [ None ↦ true | Some t ↦ false ]
+is_proxy e = is_none e.name.result
 
 abbrev pub entry_member : MethodEntry → Member
 entry_member e = method_of (entry_name e.name) (parameters_of e.name) (only_return (if is_proxy e then proxy_call e else direct_call e))
 
 abbrev pub box_uses : MethodName → List Binding
-box_uses m = elim m.result [ None ↦ [] | Some References.Char ↦ helper (codes "$C") ∷ [] | Some _ ↦ [] ]
+box_uses m = if is_char m.result then helper (codes "$C") ∷ [] else []
 
 abbrev pub entry_uses : MethodEntry → List Binding
-entry_uses e = if is_proxy e then box_uses e.target.method else bound e.target.class (public_function e.target.class e.name) ∷ []
+entry_uses e = if is_proxy e then box_uses e.target.method else bound e.target.class (member_name e.target) ∷ []
 
 abbrev pub uses_of_entries : List MethodEntry → List Binding
-uses_of_entries [] = []
-uses_of_entries (e ∷ es) = entry_uses e ++ uses_of_entries es
+uses_of_entries = flat_map entry_uses
 
 abbrev pub field_start : Name → FieldDef → Statement
 field_start c f = assign_property this_use (field_binding FieldProperty c f.name) (zero_of f.tpe)
 
+abbrev pub start_of_super : Option Name → List Statement
+start_of_super None = []
+start_of_super (Some s) = super_call ∷ []
+
 abbrev pub constructor_body : Name → Option Name → List FieldDef → List Statement
-constructor_body c superclass fields = (elim superclass [ None ↦ [] | Some s ↦ super_call ∷ [] ]) ++ assign_property this_use (codes "k") (name_use (constants_name c)) ∷ map (field_start c) fields
+constructor_body c superclass fields = start_of_super superclass ++ assign_property this_use (codes "k") (name_use (constants_name c)) ∷ map (field_start c) fields
 
 abbrev pub members : Parts → List Member
 members p = constructor_of [] (statements_of (constructor_body p.class.name p.class.superclass p.fields)) ∷ map entry_member p.entries

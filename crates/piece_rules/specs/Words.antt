@@ -1,9 +1,9 @@
 -- Names and small expressions that class pieces and helpers are made of.
-use Rattle.std.specs.Prelude.{ℕ, false, ◌+◌, List, [], ◌∷◌, ◌++◌, pos, codes, decimal}
+use Rattle.std.specs.Prelude.{ℕ, false, List, [], ◌∷◌, ◌++◌, pos, codes, decimal, map, zero, suc, length}
 use Rattle.std.specs.Char.Escape.{encode_utf16}
 use Rattle.std.specs.List.{flat_map}
 use Rattle.std.specs.Str.{chars}
-use Rattle.js_tree.specs.Terms.{Name, Expression, Expressions, no_expressions, expression, null_literal, boolean_literal, undefined_literal, number_literal, big_literal, text_literal, name_use, call_of, binary_of, unary_of, Statement, Statements, no_statements, statement, return_of}
+use Rattle.js_tree.specs.Terms.{Name, Expression, Expressions, null_literal, boolean_literal, undefined_literal, number_literal, big_literal, text_literal, name_use, call_of, binary_of, unary_of, Statement, Statements, no_statements, statement, return_of}
 use Rattle.js_tree.specs.Views.{expressions_of, statements_of}
 use Rattle.js_tree.specs.declared.operators.BinaryOperator.TheVariants.{StrictEqual, StrictNotEqual, And, Or}
 use Rattle.js_tree.specs.declared.operators.UnaryOperator.TheVariants.{TypeOf}
@@ -13,7 +13,6 @@ use Rattle.sj_mangling.specs.declared.bindings.ClassBinding.TheVariants.{Constan
 use Rattle.sj_mangling.specs.declared.bindings.MethodBinding.TheVariants.{Entry}
 use Rattle.sj_names.specs.declared.method_names.MethodName.{MethodName}
 use Rattle.sj_names.specs.declared.method_names.Namespace.TheVariants.{Public}
-use Rattle.sj_names.specs.declared.references.TypeRef.{TypeRef}
 use Rattle.sj_trees.specs.declared.types.IrType.{IrType}
 use Rattle.sj_trees.specs.declared.types.IrType.TheVariants as Types
 use Rattle.piece_rules.specs.declared.kinds.Kind.{Kind}
@@ -79,16 +78,15 @@ public_function = function_name Public
 abbrev pub parameter : ℕ → Name
 parameter n = codes "a" ++ decimal n
 
-abbrev pub parameters_from : ℕ → List TypeRef → List Name
-parameters_from n [] = []
-parameters_from n (t ∷ ts) = parameter n ∷ parameters_from (n + 1) ts
+abbrev pub first_parameters : ℕ → List Name
+first_parameters zero = []
+first_parameters (suc n) = first_parameters n ++ parameter n ∷ []
 
 abbrev pub parameters_of : MethodName → List Name
-parameters_of m = parameters_from 0 m.params
+parameters_of m = first_parameters (length m.params)
 
 abbrev pub uses : List Name → Expressions
-uses [] = no_expressions
-uses (x ∷ xs) = expression (name_use x) (uses xs)
+uses xs = expressions_of (map name_use xs)
 
 abbrev pub x : Expression
 x = name_use (codes "x")
