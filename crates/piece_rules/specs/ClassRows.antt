@@ -8,14 +8,13 @@ use Rattle.sj_names.specs.declared.method_names.MethodName.{MethodName}
 use Rattle.sj_names.specs.declared.references.TypeRef.{TypeRef}
 use Rattle.sj_names.specs.declared.references.TypeRef.TheVariants as References
 use Rattle.sj_trees.specs.Erase.{nowhere}
-use Rattle.sj_trees.specs.declared.classes.ClassKind.TheVariants.{Class}
 use Rattle.sj_trees.specs.declared.classes.FieldDef.{FieldDef}
 use Rattle.sj_trees.specs.declared.types.IrType.{IrType}
 use Rattle.sj_trees.specs.declared.types.IrType.TheVariants as Types
 use Rattle.sj_world.specs.declared.linked.MethodEntry.{MethodEntry}
 use Rattle.reach_rules.specs.Rules.{public_member}
 use Rattle.piece_rules.specs.Dispatch.{dispatch_piece, reflective_piece}
-use Rattle.piece_rules.specs.Pieces.{Parts, all_statics, cast_piece, cell_pieces, class_piece, constants_piece, kind_of_class, test_piece}
+use Rattle.piece_rules.specs.Pieces.{all_statics, cast_piece, cell_pieces, class_piece, constants_piece, kind_of_class, test_piece}
 use Rattle.piece_rules.specs.Words.{all_kinds, bound, object_class}
 use Rattle.piece_rules.specs.declared.kinds.Kind.TheVariants as kinds
 
@@ -63,9 +62,6 @@ proxy_entry c p n = record { class = c; name = p; target = public_member c n }
 abbrev pub a_field : Name → IrType → FieldDef
 a_field n t = record { pos = nowhere; is_static = false; «mutable» = true; name = n; tpe = t }
 
-abbrev pub parts : Name → Option Name → List MethodEntry → List FieldDef → Parts
-parts c superclass entries fields = record { class = record { pos = nowhere; files = [] ∷ []; name = c; kind = Class; superclass = superclass; interfaces = []; fields = fields; methods = [] }; ancestors = []; entries = entries; fields = fields; statics = []; instances = []; is_live = true; is_base = false; is_loaded = false; is_stored = false; is_tested = false; is_cast = false }
-
 -- a piece is written as this text and uses these bindings
 abbrev pub IsWritten : Piece → List ℕ → List Binding → Type 0
 IsWritten p text used = (piece_text p ≡ text) × (p.uses ≡ used)
@@ -78,16 +74,16 @@ abbrev pub AreWritten : List Piece → List ℕ → List (List Binding) → Type
 AreWritten ps text used = (flat_map piece_text ps ≡ text) × (map uses_of ps ≡ used)
 
 abbrev pub row_entries : Type 0
-row_entries = IsWritten (class_piece (parts (codes "A") (Some object_class) (bridge (codes "A") key ∷ proxy_entry (codes "A") key_proxy key ∷ bridge (codes "A") name ∷ proxy_entry (codes "A") name_proxy name ∷ []) [])) (codes "class c_A extends c_java_lang_Object {\n  constructor() {\n    super();\n    this.k = k_A;\n  }\n  m_key$$I$$C(a0) {\n    return f_A__key$$I$$C(this, a0);\n  }\n  m_key$$I$$R(a0) {\n    return new $C(this.m_key$$I$$C(a0));\n  }\n  m_name$$Ljava_lang_String() {\n    return f_A__name$$Ljava_lang_String(this);\n  }\n  m_name$$R() {\n    return this.m_name$$Ljava_lang_String();\n  }\n}\n") (bound (codes "java.lang.Object") (codes "c_java_lang_Object") ∷ bound (codes "A") (codes "k_A") ∷ bound (codes "A") (codes "f_A__key$$I$$C") ∷ bound (codes "java.lang.Object") (codes "$C") ∷ bound (codes "A") (codes "f_A__name$$Ljava_lang_String") ∷ [])
+row_entries = IsWritten (class_piece (codes "A") (Some object_class) (bridge (codes "A") key ∷ proxy_entry (codes "A") key_proxy key ∷ bridge (codes "A") name ∷ proxy_entry (codes "A") name_proxy name ∷ []) []) (codes "class c_A extends c_java_lang_Object {\n  constructor() {\n    super();\n    this.k = k_A;\n  }\n  m_key$$I$$C(a0) {\n    return f_A__key$$I$$C(this, a0);\n  }\n  m_key$$I$$R(a0) {\n    return new $C(this.m_key$$I$$C(a0));\n  }\n  m_name$$Ljava_lang_String() {\n    return f_A__name$$Ljava_lang_String(this);\n  }\n  m_name$$R() {\n    return this.m_name$$Ljava_lang_String();\n  }\n}\n") (bound (codes "java.lang.Object") (codes "c_java_lang_Object") ∷ bound (codes "A") (codes "k_A") ∷ bound (codes "A") (codes "f_A__key$$I$$C") ∷ bound (codes "java.lang.Object") (codes "$C") ∷ bound (codes "A") (codes "f_A__name$$Ljava_lang_String") ∷ [])
 
 abbrev pub row_default : Type 0
-row_default = IsWritten (class_piece (parts (codes "D") (Some (codes "B")) (bridge_to (codes "D") (codes "J") m ∷ []) [])) (codes "class c_D extends c_B {\n  constructor() {\n    super();\n    this.k = k_D;\n  }\n  m_m$$V() {\n    return f_J__m$$V(this);\n  }\n}\n") (bound (codes "B") (codes "c_B") ∷ bound (codes "D") (codes "k_D") ∷ bound (codes "J") (codes "f_J__m$$V") ∷ [])
+row_default = IsWritten (class_piece (codes "D") (Some (codes "B")) (bridge_to (codes "D") (codes "J") m ∷ []) []) (codes "class c_D extends c_B {\n  constructor() {\n    super();\n    this.k = k_D;\n  }\n  m_m$$V() {\n    return f_J__m$$V(this);\n  }\n}\n") (bound (codes "B") (codes "c_B") ∷ bound (codes "D") (codes "k_D") ∷ bound (codes "J") (codes "f_J__m$$V") ∷ [])
 
 abbrev pub row_top : Type 0
-row_top = IsWritten (class_piece (parts object_class None [] [])) (codes "class c_java_lang_Object {\n  constructor() {\n    this.k = k_java_lang_Object;\n  }\n}\n") (bound (codes "java.lang.Object") (codes "k_java_lang_Object") ∷ [])
+row_top = IsWritten (class_piece object_class None [] []) (codes "class c_java_lang_Object {\n  constructor() {\n    this.k = k_java_lang_Object;\n  }\n}\n") (bound (codes "java.lang.Object") (codes "k_java_lang_Object") ∷ [])
 
 abbrev pub row_field : Type 0
-row_field = IsWritten (class_piece (parts (codes "java.lang.Throwable") (Some object_class) [] (a_field (codes "message") (Types.Class (codes "java.lang.String")) ∷ []))) (codes "class c_java_lang_Throwable extends c_java_lang_Object {\n  constructor() {\n    super();\n    this.k = k_java_lang_Throwable;\n    this.f_java_lang_Throwable__message = null;\n  }\n}\n") (bound (codes "java.lang.Object") (codes "c_java_lang_Object") ∷ bound (codes "java.lang.Throwable") (codes "k_java_lang_Throwable") ∷ [])
+row_field = IsWritten (class_piece (codes "java.lang.Throwable") (Some object_class) [] (a_field (codes "message") (Types.Class (codes "java.lang.String")) ∷ [])) (codes "class c_java_lang_Throwable extends c_java_lang_Object {\n  constructor() {\n    super();\n    this.k = k_java_lang_Throwable;\n    this.f_java_lang_Throwable__message = null;\n  }\n}\n") (bound (codes "java.lang.Object") (codes "c_java_lang_Object") ∷ bound (codes "java.lang.Throwable") (codes "k_java_lang_Throwable") ∷ [])
 
 abbrev pub row_constants : Type 0
 row_constants = IsWritten (constants_piece (codes "java.lang.ClassCastException") (codes "java.lang.ClassCastException" ∷ object_class ∷ codes "java.lang.Throwable" ∷ [])) (codes "const k_java_lang_ClassCastException = {s: \"i_java_lang_ClassCastException\", i_java_lang_ClassCastException: 1, i_java_lang_Object: 1, i_java_lang_Throwable: 1};\n") ([])

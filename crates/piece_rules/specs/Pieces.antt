@@ -93,8 +93,8 @@ start_of_super (Some s) = super_call ∷ []
 abbrev pub constructor_body : Name → Option Name → List FieldDef → List Statement
 constructor_body c superclass fields = start_of_super superclass ++ assign_property this_use (codes "k") (name_use (constants_name c)) ∷ map (field_start c) fields
 
-abbrev pub members : Parts → List Member
-members p = constructor_of [] (statements_of (constructor_body p.class.name p.class.superclass p.fields)) ∷ map entry_member p.entries
+abbrev pub members : Name → Option Name → List MethodEntry → List FieldDef → List Member
+members c superclass entries fields = constructor_of [] (statements_of (constructor_body c superclass fields)) ∷ map entry_member entries
 
 abbrev pub class_item_of : Name → Option Name → List Member → Item
 class_item_of c None ms = class_item (class_name c) ms
@@ -104,16 +104,21 @@ abbrev pub parent_uses : Option Name → List Binding
 parent_uses None = []
 parent_uses (Some s) = bound s (class_name s) ∷ []
 
+abbrev pub class_uses : Name → Option Name → List MethodEntry → List Binding
+class_uses c superclass entries = parent_uses superclass ++ bound c (constants_name c) ∷ uses_of_entries entries
+
 -- with each binding once, where it comes first
-abbrev pub class_piece : Parts → Piece
-class_piece p = record { owner = p.class.name; name = class_name p.class.name; uses = once_each [] (parent_uses p.class.superclass ++ bound p.class.name (constants_name p.class.name) ∷ uses_of_entries p.entries); item = class_item_of p.class.name p.class.superclass (members p) }
+abbrev pub class_piece : Name → Option Name → List MethodEntry → List FieldDef → Piece
+class_piece c superclass entries fields = record { owner = c; name = class_name c; uses = once_each [] (class_uses c superclass entries); item = class_item_of c superclass (members c superclass entries fields) }
 
 abbrev pub setter : Name → Name → Item
 setter function variable = function_item function (codes "x" ∷ []) (statement (assign_name variable x) no_statements)
 
-abbrev pub static_pieces : Name → FieldDef → List Piece
-static_pieces c f = record { owner = c; name = field_binding Variable c f.name; uses = []; item = let_item (field_binding Variable c f.name) (zero_of f.tpe) }
-    ∷ record { owner = c; name = field_binding Setter c f.name; uses = bound c (field_binding Variable c f.name) ∷ []; item = setter (field_binding Setter c f.name) (field_binding Variable c f.name) } ∷ []
+abbrev pub variable_piece : Name → FieldDef → Piece
+variable_piece c f = record { owner = c; name = field_binding Variable c f.name; uses = []; item = let_item (field_binding Variable c f.name) (zero_of f.tpe) }
+
+abbrev pub setter_piece : Name → FieldDef → Piece
+setter_piece c f = record { owner = c; name = field_binding Setter c f.name; uses = bound c (field_binding Variable c f.name) ∷ []; item = setter (field_binding Setter c f.name) (field_binding Variable c f.name) }
 
 abbrev pub init : MethodName
 init = record { simple = codes "<init>"; params = []; result = Some References.Void }
@@ -125,26 +130,32 @@ load_body c = if_only (is_null (name_use (class_binding Instance c))) (statement
 abbrev pub when : {A : Type 0} → Bool → List A → List A
 when b xs = if b then xs else []
 
+abbrev pub cell_piece : Name → Piece
+cell_piece c = record { owner = c; name = class_binding Instance c; uses = []; item = let_item (class_binding Instance c) null_literal }
+
+abbrev pub load_piece : Name → Piece
+load_piece c = record { owner = c; name = class_binding LoadModule c; uses = bound c (class_binding Instance c) ∷ bound c (function_name Constructor c init) ∷ bound c (class_name c) ∷ []; item = function_item (class_binding LoadModule c) [] (statements_of (load_body c)) }
+
+abbrev pub store_piece : Name → Piece
+store_piece c = record { owner = c; name = class_binding StoreModule c; uses = bound c (class_binding Instance c) ∷ []; item = setter (class_binding StoreModule c) (class_binding Instance c) }
+
 abbrev pub cell_pieces : Name → Bool → List Piece
-cell_pieces c loaded =
-    record { owner = c; name = class_binding Instance c; uses = []; item = let_item (class_binding Instance c) null_literal }
-    ∷ when loaded (record { owner = c; name = class_binding LoadModule c; uses = bound c (class_binding Instance c) ∷ bound c (function_name Constructor c init) ∷ bound c (class_name c) ∷ []; item = function_item (class_binding LoadModule c) [] (statements_of (load_body c)) } ∷ [])
-    ++ record { owner = c; name = class_binding StoreModule c; uses = bound c (class_binding Instance c) ∷ []; item = setter (class_binding StoreModule c) (class_binding Instance c) } ∷ []
+cell_pieces c loaded = cell_piece c ∷ when loaded (load_piece c ∷ []) ++ store_piece c ∷ []
 
 -- `$isX(x)` for each kind, joined from the left, and the marker of the class on an object
 abbrev pub has_marker : Name → Expression
 has_marker c = both (has_word (codes "object") x) (binary_of (text_literal (marker c)) In (property_of x (codes "k")))
 
-abbrev pub joined : Expression → List Expression → Expression
-joined e [] = e
-joined e (g ∷ gs) = joined (either e g) gs
-
-abbrev pub any_of : List Expression → Expression → Expression
-any_of [] e = e
-any_of (g ∷ gs) e = joined g (gs ++ e ∷ [])
-
 abbrev pub kind_test : Kind → Expression
 kind_test k = call1 (is_name k) x
+
+abbrev pub joined : Expression → List Kind → Expression
+joined e [] = e
+joined e (k ∷ ks) = joined (either e (kind_test k)) ks
+
+abbrev pub any_of : List Kind → Expression → Expression
+any_of [] e = e
+any_of (k ∷ ks) e = either (joined (kind_test k) ks) e
 
 -- the kind of a hijacked class
 abbrev pub kind_of_class : Name → List Kind → Option Kind
@@ -153,11 +164,14 @@ kind_of_class c (k ∷ ks) = if is_same c (kind_class k) then Some k else kind_o
 
 abbrev pub instance_test : Name → List Kind → Option Kind → Expression
 instance_test c kinds (Some k) = kind_test k
-instance_test c kinds None = both (not_null x) (any_of (map kind_test kinds) (has_marker c))
+instance_test c kinds None = both (not_null x) (any_of kinds (has_marker c))
+
+abbrev pub test_binding : Kind → Binding
+test_binding k = helper (is_name k)
 
 abbrev pub test_uses : List Kind → Option Kind → List Binding
 test_uses kinds (Some k) = helper (is_name k) ∷ []
-test_uses kinds None = map (λ k. helper (is_name k)) kinds
+test_uses kinds None = map test_binding kinds
 
 abbrev pub test_piece : Name → List Kind → Option Kind → Piece
 test_piece c kinds kind = record { owner = c; name = class_binding IsInstance c; uses = test_uses kinds kind; item = function_item (class_binding IsInstance c) (codes "x" ∷ []) (only_return (instance_test c kinds kind)) }
@@ -168,14 +182,14 @@ cast_piece c = record { owner = c; name = class_binding AsInstance c; uses = bou
 
 abbrev pub all_statics : Name → List FieldDef → List Piece
 all_statics c [] = []
-all_statics c (f ∷ fs) = static_pieces c f ++ all_statics c fs
+all_statics c (f ∷ fs) = variable_piece c f ∷ setter_piece c f ∷ all_statics c fs
 
 -- the pieces of a class in order
 abbrev pub pieces : Parts → List Piece
-pieces p = let c = p.class.name in
-    when (p.is_live || p.is_base) (constants_piece c p.ancestors ∷ [])
-    ++ when p.is_live (class_piece p ∷ [])
-    ++ all_statics c p.statics
-    ++ when (p.is_loaded || p.is_stored) (cell_pieces c p.is_loaded)
-    ++ when (p.is_tested || p.is_cast) (test_piece c p.instances (kind_of_class c all_kinds) ∷ [])
-    ++ when p.is_cast (cast_piece c ∷ [])
+pieces p =
+    when (p.is_live || p.is_base) (constants_piece p.class.name p.ancestors ∷ [])
+    ++ when p.is_live (class_piece p.class.name p.class.superclass p.entries p.fields ∷ [])
+    ++ all_statics p.class.name p.statics
+    ++ when (p.is_loaded || p.is_stored) (cell_pieces p.class.name p.is_loaded)
+    ++ when (p.is_tested || p.is_cast) (test_piece p.class.name p.instances (kind_of_class p.class.name all_kinds) ∷ [])
+    ++ when p.is_cast (cast_piece p.class.name ∷ [])
