@@ -1,7 +1,7 @@
 -- The pieces of a class, but for the functions of its methods.
 use Rattle.std.specs.Prelude.{Bool, ◌||◌, List, [], ◌∷◌, true, false, ◌++◌, Option, Some, None, map, pos, codes, if◌then◌else◌, is_none}
 use Rattle.std.specs.List.{flat_map}
-use Rattle.js_tree.specs.Terms.{Name, Expression, no_expressions, expression, null_literal, number_literal, text_literal, name_use, this_use, property_of, call_of, method_call_of, new_of, binary_of, conditional_of, Statement, no_statements, statement, const_of, assign_name, assign_property, super_call, return_of, if_only, Property, Member, constructor_of, method_of, Item, object_item, let_item, function_item, class_item, subclass_item, Piece}
+use Rattle.js_tree.specs.Terms.{Name, Expression, no_expressions, expression, null_literal, number_literal, text_literal, name_use, this_use, property_of, call_of, method_call_of, new_of, binary_of, conditional_of, Statement, Statements, no_statements, statement, const_of, assign_name, assign_property, super_call, return_of, if_only, Property, Member, constructor_of, method_of, Item, object_item, let_item, function_item, class_item, subclass_item, Piece}
 use Rattle.js_tree.specs.Views.{statements_of}
 use Rattle.js_tree.specs.declared.operators.BinaryOperator.TheVariants.{In}
 use Rattle.js_tree.specs.declared.items.Binding.{Binding}
@@ -71,8 +71,11 @@ proxy_call e = boxed_result e.target.method (method_call_of this_use (entry_name
 abbrev pub is_proxy : MethodEntry → Bool
 is_proxy e = is_none e.name.result
 
+abbrev pub entry_call : MethodEntry → Expression
+entry_call e = if is_proxy e then proxy_call e else direct_call e
+
 abbrev pub entry_member : MethodEntry → Member
-entry_member e = method_of (entry_name e.name) (parameters_of e.name) (only_return (if is_proxy e then proxy_call e else direct_call e))
+entry_member e = method_of (entry_name e.name) (parameters_of e.name) (only_return (entry_call e))
 
 abbrev pub box_uses : MethodName → List Binding
 box_uses m = if is_char m.result then helper (codes "$C") ∷ [] else []
@@ -90,8 +93,11 @@ abbrev pub start_of_super : Option Name → List Statement
 start_of_super None = []
 start_of_super (Some s) = super_call ∷ []
 
+abbrev pub set_constants : Name → Statement
+set_constants c = assign_property this_use (codes "k") (name_use (constants_name c))
+
 abbrev pub constructor_body : Name → Option Name → List FieldDef → List Statement
-constructor_body c superclass fields = start_of_super superclass ++ assign_property this_use (codes "k") (name_use (constants_name c)) ∷ map (field_start c) fields
+constructor_body c superclass fields = start_of_super superclass ++ set_constants c ∷ map (field_start c) fields
 
 abbrev pub members : Name → Option Name → List MethodEntry → List FieldDef → List Member
 members c superclass entries fields = constructor_of [] (statements_of (constructor_body c superclass fields)) ∷ map entry_member entries
@@ -104,8 +110,11 @@ abbrev pub parent_uses : Option Name → List Binding
 parent_uses None = []
 parent_uses (Some s) = bound s (class_name s) ∷ []
 
+abbrev pub own_constants : Name → Binding
+own_constants c = bound c (constants_name c)
+
 abbrev pub class_uses : Name → Option Name → List MethodEntry → List Binding
-class_uses c superclass entries = parent_uses superclass ++ bound c (constants_name c) ∷ uses_of_entries entries
+class_uses c superclass entries = parent_uses superclass ++ own_constants c ∷ uses_of_entries entries
 
 -- with each binding once, where it comes first
 abbrev pub class_piece : Name → Option Name → List MethodEntry → List FieldDef → Piece
@@ -114,18 +123,38 @@ class_piece c superclass entries fields = record { owner = c; name = class_name 
 abbrev pub setter : Name → Name → Item
 setter function variable = function_item function (codes "x" ∷ []) (statement (assign_name variable x) no_statements)
 
+abbrev pub set_piece : Name → Name → Name → Piece
+set_piece c function variable = record { owner = c; name = function; uses = bound c variable ∷ []; item = setter function variable }
+
 abbrev pub variable_piece : Name → FieldDef → Piece
 variable_piece c f = record { owner = c; name = field_binding Variable c f.name; uses = []; item = let_item (field_binding Variable c f.name) (zero_of f.tpe) }
 
 abbrev pub setter_piece : Name → FieldDef → Piece
-setter_piece c f = record { owner = c; name = field_binding Setter c f.name; uses = bound c (field_binding Variable c f.name) ∷ []; item = setter (field_binding Setter c f.name) (field_binding Variable c f.name) }
+setter_piece c f = set_piece c (field_binding Setter c f.name) (field_binding Variable c f.name)
 
 abbrev pub init : MethodName
 init = record { simple = codes "<init>"; params = []; result = Some References.Void }
 
--- `if ((n_C === null)) { const x = ct_C__<init>;V(new c_C()); n_C = x; } return n_C;`
+abbrev pub init_name : Name → Name
+init_name c = function_name Constructor c init
+
+-- `ct_C__<init>;V(new c_C())`
+abbrev pub made_instance : Name → Expression
+made_instance c = call1 (init_name c) (new_of (class_name c) no_expressions)
+
+-- `const x = ..; n_C = x;`
+abbrev pub new_instance : Name → Name → Statements
+new_instance c cell = statements_of (const_of (codes "x") (made_instance c) ∷ assign_name cell x ∷ [])
+
+-- `if ((n_C === null)) { .. }`
+abbrev pub fill_cell : Name → Name → Statement
+fill_cell c cell = if_only (is_null (name_use cell)) (new_instance c cell)
+
 abbrev pub load_body : Name → List Statement
-load_body c = if_only (is_null (name_use (class_binding Instance c))) (statements_of (const_of (codes "x") (call1 (function_name Constructor c init) (new_of (class_name c) no_expressions)) ∷ assign_name (class_binding Instance c) x ∷ [])) ∷ return_of (name_use (class_binding Instance c)) ∷ []
+load_body c = fill_cell c (class_binding Instance c) ∷ return_of (name_use (class_binding Instance c)) ∷ []
+
+abbrev pub load_uses : Name → List Binding
+load_uses c = bound c (class_binding Instance c) ∷ bound c (init_name c) ∷ bound c (class_name c) ∷ []
 
 abbrev pub when : {A : Type 0} → Bool → List A → List A
 when b xs = if b then xs else []
@@ -134,17 +163,20 @@ abbrev pub cell_piece : Name → Piece
 cell_piece c = record { owner = c; name = class_binding Instance c; uses = []; item = let_item (class_binding Instance c) null_literal }
 
 abbrev pub load_piece : Name → Piece
-load_piece c = record { owner = c; name = class_binding LoadModule c; uses = bound c (class_binding Instance c) ∷ bound c (function_name Constructor c init) ∷ bound c (class_name c) ∷ []; item = function_item (class_binding LoadModule c) [] (statements_of (load_body c)) }
+load_piece c = record { owner = c; name = class_binding LoadModule c; uses = load_uses c; item = function_item (class_binding LoadModule c) [] (statements_of (load_body c)) }
 
 abbrev pub store_piece : Name → Piece
-store_piece c = record { owner = c; name = class_binding StoreModule c; uses = bound c (class_binding Instance c) ∷ []; item = setter (class_binding StoreModule c) (class_binding Instance c) }
+store_piece c = set_piece c (class_binding StoreModule c) (class_binding Instance c)
 
 abbrev pub cell_pieces : Name → Bool → List Piece
 cell_pieces c loaded = cell_piece c ∷ when loaded (load_piece c ∷ []) ++ store_piece c ∷ []
 
+abbrev pub is_marked : Name → Expression
+is_marked c = binary_of (text_literal (marker c)) In (property_of x (codes "k"))
+
 -- `$isX(x)` for each kind, joined from the left, and the marker of the class on an object
 abbrev pub has_marker : Name → Expression
-has_marker c = both (has_word (codes "object") x) (binary_of (text_literal (marker c)) In (property_of x (codes "k")))
+has_marker c = both (has_word (codes "object") x) (is_marked c)
 
 abbrev pub kind_test : Kind → Expression
 kind_test k = call1 (is_name k) x
@@ -173,12 +205,27 @@ abbrev pub test_uses : List Kind → Option Kind → List Binding
 test_uses kinds (Some k) = helper (is_name k) ∷ []
 test_uses kinds None = map test_binding kinds
 
+abbrev pub tested : Name → Expression → List Binding → Piece
+tested c test used = record { owner = c; name = class_binding IsInstance c; uses = used; item = function_item (class_binding IsInstance c) (codes "x" ∷ []) (only_return test) }
+
 abbrev pub test_piece : Name → List Kind → Option Kind → Piece
-test_piece c kinds kind = record { owner = c; name = class_binding IsInstance c; uses = test_uses kinds kind; item = function_item (class_binding IsInstance c) (codes "x" ∷ []) (only_return (instance_test c kinds kind)) }
+test_piece c kinds kind = tested c (instance_test c kinds kind) (test_uses kinds kind)
+
+abbrev pub is_instance : Name → Expression
+is_instance c = call1 (class_binding IsInstance c) x
+
+abbrev pub null_or_instance : Name → Expression
+null_or_instance c = either (is_null x) (is_instance c)
 
 -- `(((x === null) || is_C(x)) ? x : $cce("C"))`
+abbrev pub cast_value : Name → Expression
+cast_value c = conditional_of (null_or_instance c) x (call1 (codes "$cce") (text_literal (units_of c)))
+
+abbrev pub cast_item : Name → Item
+cast_item c = function_item (class_binding AsInstance c) (codes "x" ∷ []) (only_return (cast_value c))
+
 abbrev pub cast_piece : Name → Piece
-cast_piece c = record { owner = c; name = class_binding AsInstance c; uses = bound c (class_binding IsInstance c) ∷ helper (codes "$cce") ∷ []; item = function_item (class_binding AsInstance c) (codes "x" ∷ []) (only_return (conditional_of (either (is_null x) (call1 (class_binding IsInstance c) x)) x (call1 (codes "$cce") (text_literal (units_of c))))) }
+cast_piece c = record { owner = c; name = class_binding AsInstance c; uses = bound c (class_binding IsInstance c) ∷ helper (codes "$cce") ∷ []; item = cast_item c }
 
 abbrev pub all_statics : Name → List FieldDef → List Piece
 all_statics c [] = []
