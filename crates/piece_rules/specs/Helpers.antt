@@ -17,6 +17,7 @@ use Rattle.piece_rules.specs.declared.kinds.Kind.{Kind}
 use Rattle.piece_rules.specs.declared.kinds.Kind.TheVariants as kinds
 use Rattle.piece_rules.specs.declared.kinds.Helper.{Helper}
 use Rattle.piece_rules.specs.declared.kinds.Helper.TheVariants as helpers
+use Rattle.piece_rules.specs.declared.kinds.Failure.{Failure}
 use Rattle.piece_rules.specs.declared.kinds.Failure.TheVariants as failures
 
 abbrev pub helper_name : Helper → Name
@@ -49,46 +50,75 @@ helper_name (helpers.Throws failures.Store) = codes "$ase"
 helper_name (helpers.Throws failures.Size) = codes "$nse"
 helper_name (helpers.Throws failures.Method) = codes "$nme"
 
-abbrev var : List ℕ → Expression
+abbrev pub var : List ℕ → Expression
 var y = name_use y
 
-abbrev num : ℕ → Expression
+abbrev pub num : ℕ → Expression
 num n = number_literal (pos n)
 
-abbrev word : List ℕ → Expression
+abbrev pub word : List ℕ → Expression
 word = text_literal
 
-abbrev calls : Helper → List Expression → Expression
+abbrev pub calls : Helper → List Expression → Expression
 calls h es = call_of (helper_name h) (expressions_of es)
 
-abbrev does : Expression → Statement
+abbrev pub does : Expression → Statement
 does = expression_statement
 
-abbrev when : Expression → List Statement → Statement
+abbrev pub when : Expression → List Statement → Statement
 when c ss = if_only c (statements_of ss)
 
-abbrev function : Helper → List Name → List Statement → Item
+abbrev pub function : Helper → List Name → List Statement → Item
 function h xs ss = function_item (helper_name h) xs (statements_of ss)
 
 -- the helpers that a division uses: by zero it throws
-abbrev divides : Helper → Expression → Expression → Item
+abbrev pub divides : Helper → Expression → Expression → Item
 divides h zero result = function h (codes "a" ∷ codes "b" ∷ []) (when (binary_of (var (codes "b")) StrictEqual zero) (does (calls (helpers.Throws failures.Division) []) ∷ []) ∷ return_of result ∷ [])
 
-abbrev quotient : Expression
+abbrev pub quotient : Expression
 quotient = binary_of (var (codes "a")) Divide (var (codes "b"))
 
-abbrev remainder : Expression
+abbrev pub remainder : Expression
 remainder = binary_of (var (codes "a")) Remainder (var (codes "b"))
 
--- `throw ct_E__<init>(new c_E(), MESSAGE);`
 abbrev pub message_init : MethodName
 message_init = record { simple = codes "<init>"; params = References.Class (codes "java.lang.String") ∷ []; result = Some References.Void }
 
-abbrev throws : Helper → List Name → Name → Expression → Item
-throws h xs e message = function h xs (throw_of (call_of (function_name Constructor e message_init) (expressions_of (new_of (class_name e) (expressions_of []) ∷ message ∷ []))) ∷ [])
+abbrev pub raise : Name → Expression → Expression
+raise e message = call_of (function_name Constructor e message_init) (expressions_of (new_of (class_name e) (expressions_of []) ∷ message ∷ []))
 
-abbrev decimal_of : List ℕ → Expression
+abbrev pub decimal_of : List ℕ → Expression
 decimal_of y = binary_of (word []) Add (var y)
+
+-- the class of what is thrown, the parameters of the helper, and the message
+abbrev pub failure_class : Failure → Name
+failure_class failures.NullReceiver = codes "java.lang.NullPointerException"
+failure_class failures.Division = codes "java.lang.ArithmeticException"
+failure_class failures.Cast = codes "java.lang.ClassCastException"
+failure_class failures.Index = codes "java.lang.ArrayIndexOutOfBoundsException"
+failure_class failures.Store = codes "java.lang.ArrayStoreException"
+failure_class failures.Size = codes "java.lang.NegativeArraySizeException"
+failure_class failures.Method = codes "java.lang.NoSuchMethodException"
+
+abbrev pub failure_parameters : Failure → List Name
+failure_parameters failures.Cast = codes "t" ∷ []
+failure_parameters failures.Index = codes "i" ∷ []
+failure_parameters failures.Size = codes "n" ∷ []
+failure_parameters failures.Method = codes "t" ∷ []
+failure_parameters _ = []
+
+abbrev pub failure_message : Failure → Expression
+failure_message failures.NullReceiver = word (codes "null")
+failure_message failures.Division = word (codes "/ by zero")
+failure_message failures.Cast = var (codes "t")
+failure_message failures.Index = decimal_of (codes "i")
+failure_message failures.Store = word (codes "bad element")
+failure_message failures.Size = decimal_of (codes "n")
+failure_message failures.Method = var (codes "t")
+
+-- `throw ct_E__<init>(new c_E(), MESSAGE);`
+abbrev pub throws : Failure → Item
+throws f = function (helpers.Throws f) (failure_parameters f) (throw_of (raise (failure_class f) (failure_message f)) ∷ [])
 
 -- the value that a cast of null gives, and the name that a failed cast of a kind shows
 abbrev pub kind_zero : Kind → Expression
@@ -108,29 +138,45 @@ kind_word kinds.Int = codes "int"
 kind_word kinds.Long = codes "long"
 kind_word kinds.Text = codes "string"
 
-abbrev unboxed : Kind → Expression
+abbrev pub unboxed : Kind → Expression
 unboxed kinds.Char = property_of x (codes "c")
 unboxed _ = x
 
-abbrev v_returns : List Kind → List Statement
+abbrev pub unboxed_or_throw : Kind → Expression
+unboxed_or_throw k = conditional_of (call1 (is_name k) x) (unboxed k) (calls (helpers.Throws failures.Cast) (word (kind_word k) ∷ []))
+
+abbrev pub cast_of : Kind → Expression
+cast_of k = conditional_of (is_null x) (kind_zero k) (unboxed_or_throw k)
+
+abbrev pub v_returns : List Kind → List Statement
 v_returns [] = return_of (property_of (var (codes "v")) (codes "k")) ∷ []
 v_returns (k ∷ ks) = when (call1 (is_name k) (var (codes "v"))) (return_of (name_use (helper_name (helpers.ConstantsOf k))) ∷ []) ∷ v_returns ks
 
-abbrev at : Expression → Name → Expression
+abbrev pub at : Expression → Name → Expression
 at e y = property_of e y
+
+abbrev pub is_boxed : Name → Expression
+is_boxed y = binary_of (var y) InstanceOf (name_use (codes "$C"))
+
+-- `(((x instanceof $C) && (y instanceof $C)) ? (x.c === y.c) : (x === y))`
+abbrev pub equality : Expression
+equality = conditional_of (both (is_boxed (codes "x")) (is_boxed (codes "y"))) (binary_of (at (var (codes "x")) (codes "c")) StrictEqual (at (var (codes "y")) (codes "c"))) (binary_of (var (codes "x")) StrictEqual (var (codes "y")))
+
+abbrev pub set_from : Name → Name → Statement
+set_from p y = assign_property this_use p (var y)
 
 -- the text of each, where the constants of a kind have these ancestors
 abbrev pub helper_item : (Kind → List Name) → Helper → Item
 helper_item above (helpers.TestOf k) = kind_item k
-helper_item above (helpers.CastTo k) = function (helpers.CastTo k) (codes "x" ∷ []) (return_of (conditional_of (is_null x) (kind_zero k) (conditional_of (call1 (is_name k) x) (unboxed k) (calls (helpers.Throws failures.Cast) (word (kind_word k) ∷ [])))) ∷ [])
+helper_item above (helpers.CastTo k) = function (helpers.CastTo k) (codes "x" ∷ []) (return_of (cast_of k) ∷ [])
 helper_item above (helpers.ConstantsOf k) = object_item (helper_name (helpers.ConstantsOf k)) (constants (kind_class k) (above k))
 helper_item above helpers.NotNull = function helpers.NotNull (codes "x" ∷ []) (when (is_null x) (does (calls (helpers.Throws failures.NullReceiver) []) ∷ []) ∷ return_of x ∷ [])
 helper_item above helpers.IntQuotient = divides helpers.IntQuotient (num 0) (binary_of quotient BitOr (num 0))
 helper_item above helpers.IntRemainder = divides helpers.IntRemainder (num 0) (binary_of remainder BitOr (num 0))
 helper_item above helpers.LongQuotient = divides helpers.LongQuotient (big_literal (pos 0)) (host_call_of_two BigIntAsIntN (num 64) quotient)
 helper_item above helpers.LongRemainder = divides helpers.LongRemainder (big_literal (pos 0)) remainder
-helper_item above helpers.BoxedChar = class_item (codes "$C") (constructor_of (codes "c" ∷ []) (statements_of (assign_property this_use (codes "k") (name_use (codes "$kC")) ∷ assign_property this_use (codes "c") (var (codes "c")) ∷ [])) ∷ [])
-helper_item above helpers.Equal = function helpers.Equal (codes "x" ∷ codes "y" ∷ []) (return_of (conditional_of (both (binary_of x InstanceOf (name_use (codes "$C"))) (binary_of (var (codes "y")) InstanceOf (name_use (codes "$C")))) (binary_of (at x (codes "c")) StrictEqual (at (var (codes "y")) (codes "c"))) (binary_of x StrictEqual (var (codes "y")))) ∷ [])
+helper_item above helpers.BoxedChar = class_item (codes "$C") (constructor_of (codes "c" ∷ []) (statements_of (set_from (codes "k") (codes "$kC") ∷ set_from (codes "c") (codes "c") ∷ [])) ∷ [])
+helper_item above helpers.Equal = function helpers.Equal (codes "x" ∷ codes "y" ∷ []) (return_of equality ∷ [])
 helper_item above helpers.ArrayClass = subclass_item (codes "$A") (class_name object_class) (constructor_of (codes "n" ∷ codes "e" ∷ codes "a" ∷ []) (statements_of (super_call ∷ assign_property this_use (codes "n") (var (codes "n")) ∷ assign_property this_use (codes "e") (var (codes "e")) ∷ assign_property this_use (codes "a") (var (codes "a")) ∷ [])) ∷ [])
 helper_item above helpers.MakeArray = function helpers.MakeArray (codes "n" ∷ codes "e" ∷ codes "l" ∷ codes "z" ∷ []) (when (binary_of (var (codes "l")) Less (num 0)) (does (calls (helpers.Throws failures.Size) (var (codes "l") ∷ [])) ∷ []) ∷ return_of (new_of (codes "$A") (expressions_of (var (codes "n") ∷ var (codes "e") ∷ method_call_of (new_array_of (var (codes "l"))) (codes "fill") (expressions_of (var (codes "z") ∷ [])) ∷ []))) ∷ [])
 helper_item above helpers.CheckIndex = function helpers.CheckIndex (codes "x" ∷ codes "i" ∷ []) (when (either (binary_of (var (codes "i")) Less (num 0)) (binary_of (var (codes "i")) GreaterOrEqual (at (at x (codes "a")) (codes "length")))) (does (calls (helpers.Throws failures.Index) (var (codes "i") ∷ [])) ∷ []) ∷ [])
@@ -145,21 +191,15 @@ helper_item above helpers.Fits = function helpers.Fits (codes "v" ∷ codes "n" 
 helper_item above helpers.ClassOf = function helpers.ClassOf (codes "v" ∷ []) (v_returns worded_kinds)
 helper_item above helpers.TestOfArray = function helpers.TestOfArray (codes "x" ∷ codes "n" ∷ codes "e" ∷ []) (return_of (both (binary_of x InstanceOf (name_use (codes "$A"))) (calls helpers.Covers (at x (codes "n") ∷ at x (codes "e") ∷ var (codes "n") ∷ var (codes "e") ∷ []))) ∷ [])
 helper_item above helpers.CastToArray = function helpers.CastToArray (codes "x" ∷ codes "n" ∷ codes "e" ∷ codes "t" ∷ []) (return_of (conditional_of (either (is_null x) (calls helpers.TestOfArray (x ∷ var (codes "n") ∷ var (codes "e") ∷ []))) x (calls (helpers.Throws failures.Cast) (var (codes "t") ∷ []))) ∷ [])
-helper_item above (helpers.Throws failures.NullReceiver) = throws (helpers.Throws failures.NullReceiver) [] (codes "java.lang.NullPointerException") (word (codes "null"))
-helper_item above (helpers.Throws failures.Division) = throws (helpers.Throws failures.Division) [] (codes "java.lang.ArithmeticException") (word (codes "/ by zero"))
-helper_item above (helpers.Throws failures.Cast) = throws (helpers.Throws failures.Cast) (codes "t" ∷ []) (codes "java.lang.ClassCastException") (var (codes "t"))
-helper_item above (helpers.Throws failures.Index) = throws (helpers.Throws failures.Index) (codes "i" ∷ []) (codes "java.lang.ArrayIndexOutOfBoundsException") (decimal_of (codes "i"))
-helper_item above (helpers.Throws failures.Store) = throws (helpers.Throws failures.Store) [] (codes "java.lang.ArrayStoreException") (word (codes "bad element"))
-helper_item above (helpers.Throws failures.Size) = throws (helpers.Throws failures.Size) (codes "n" ∷ []) (codes "java.lang.NegativeArraySizeException") (decimal_of (codes "n"))
-helper_item above (helpers.Throws failures.Method) = throws (helpers.Throws failures.Method) (codes "t" ∷ []) (codes "java.lang.NoSuchMethodException") (var (codes "t"))
+helper_item above (helpers.Throws f) = throws f
 
-abbrev raises : List ℕ → List Binding
+abbrev pub raises : List ℕ → List Binding
 raises e = bound e (function_name Constructor e message_init) ∷ bound e (class_name e) ∷ []
 
-abbrev of : Helper → Binding
+abbrev pub of : Helper → Binding
 of h = helper (helper_name h)
 
-abbrev pairs : List Kind → List Binding
+abbrev pub pairs : List Kind → List Binding
 pairs [] = []
 pairs (k ∷ ks) = of (helpers.TestOf k) ∷ of (helpers.ConstantsOf k) ∷ pairs ks
 
@@ -187,13 +227,7 @@ helper_uses helpers.Fits = of helpers.ArrayClass ∷ of helpers.Covers ∷ of (h
 helper_uses helpers.ClassOf = pairs worded_kinds
 helper_uses helpers.TestOfArray = of helpers.ArrayClass ∷ of helpers.Covers ∷ []
 helper_uses helpers.CastToArray = of helpers.TestOfArray ∷ of (helpers.Throws failures.Cast) ∷ []
-helper_uses (helpers.Throws failures.NullReceiver) = raises (codes "java.lang.NullPointerException")
-helper_uses (helpers.Throws failures.Division) = raises (codes "java.lang.ArithmeticException")
-helper_uses (helpers.Throws failures.Cast) = raises (codes "java.lang.ClassCastException")
-helper_uses (helpers.Throws failures.Index) = raises (codes "java.lang.ArrayIndexOutOfBoundsException")
-helper_uses (helpers.Throws failures.Store) = raises (codes "java.lang.ArrayStoreException")
-helper_uses (helpers.Throws failures.Size) = raises (codes "java.lang.NegativeArraySizeException")
-helper_uses (helpers.Throws failures.Method) = raises (codes "java.lang.NoSuchMethodException")
+helper_uses (helpers.Throws f) = raises (failure_class f)
 
 abbrev pub helper_piece : (Kind → List Name) → Helper → Piece
 helper_piece above h = record { owner = object_class; name = helper_name h; uses = helper_uses h; item = helper_item above h }

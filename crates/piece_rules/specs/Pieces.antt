@@ -231,12 +231,20 @@ abbrev pub all_statics : Name → List FieldDef → List Piece
 all_statics c [] = []
 all_statics c (f ∷ fs) = variable_piece c f ∷ setter_piece c f ∷ all_statics c fs
 
+abbrev pub constants_of : Parts → List Piece
+constants_of p = when (p.is_live || p.is_base) (constants_piece p.class.name p.ancestors ∷ [])
+
+abbrev pub class_of : Parts → List Piece
+class_of p = when p.is_live (class_piece p.class.name p.class.superclass p.entries p.fields ∷ [])
+
+abbrev pub module_of : Parts → List Piece
+module_of p = when (p.is_loaded || p.is_stored) (cell_pieces p.class.name p.is_loaded)
+
+abbrev pub tests_of : Parts → List Piece
+tests_of p =
+    when (p.is_tested || p.is_cast) (test_piece p.class.name p.instances (kind_of_class p.class.name all_kinds) ∷ [])
+    ++ when p.is_cast (cast_piece p.class.name ∷ [])
+
 -- the pieces of a class in order
 abbrev pub pieces : Parts → List Piece
-pieces p =
-    when (p.is_live || p.is_base) (constants_piece p.class.name p.ancestors ∷ [])
-    ++ when p.is_live (class_piece p.class.name p.class.superclass p.entries p.fields ∷ [])
-    ++ all_statics p.class.name p.statics
-    ++ when (p.is_loaded || p.is_stored) (cell_pieces p.class.name p.is_loaded)
-    ++ when (p.is_tested || p.is_cast) (test_piece p.class.name p.instances (kind_of_class p.class.name all_kinds) ∷ [])
-    ++ when p.is_cast (cast_piece p.class.name ∷ [])
+pieces p = constants_of p ++ class_of p ++ all_statics p.class.name p.statics ++ module_of p ++ tests_of p
