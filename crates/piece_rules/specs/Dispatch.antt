@@ -1,5 +1,5 @@
 -- The functions that tell primitive receivers apart, and the tests of kinds.
-use Rattle.std.specs.Prelude.{◌≡◌, ℕ, List, [], ◌∷◌, ◌++◌, Contains, pos, codes}
+use Rattle.std.specs.Prelude.{◌≡◌, ℕ, List, [], ◌∷◌, ◌++◌, Contains, pos, codes, ℤ}
 use Rattle.js_tree.specs.Terms.{Name, Expression, expression, undefined_literal, number_literal, text_literal, name_use, call_of, method_call_of, binary_of, Statement, Statements, statement, expression_statement, if_only, Item, function_item, Piece}
 use Rattle.js_tree.specs.Views.{statements_of}
 use Rattle.js_tree.specs.declared.operators.BinaryOperator.TheVariants.{StrictEqual, In, InstanceOf, ShiftLeft, ShiftRight}
@@ -22,16 +22,25 @@ use Rattle.piece_rules.specs.declared.kinds.Kind.{Kind}
 use Rattle.piece_rules.specs.declared.kinds.Kind.TheVariants as kinds
 
 -- `(((x << n) >> n) === x)`
-abbrev pub is_cut : ℕ → Expression
-is_cut n = binary_of (binary_of (binary_of x ShiftLeft (number_literal (pos n))) ShiftRight (number_literal (pos n))) StrictEqual x
+abbrev pub is_cut : ℤ → Expression
+is_cut n = binary_of (binary_of (binary_of x ShiftLeft (number_literal n)) ShiftRight (number_literal n)) StrictEqual x
+
+abbrev pub is_small : ℤ → Expression
+is_small n = both (has_word (codes "number") x) (is_cut n)
+
+abbrev pub is_undefined : Expression
+is_undefined = binary_of x StrictEqual undefined_literal
+
+abbrev pub is_box : Expression
+is_box = binary_of x InstanceOf (name_use (codes "$C"))
 
 -- the test of each kind on `x`
 abbrev pub kind_condition : Kind → Expression
-kind_condition kinds.Undefined = binary_of x StrictEqual undefined_literal
+kind_condition kinds.Undefined = is_undefined
 kind_condition kinds.Boolean = has_word (codes "boolean") x
-kind_condition kinds.Char = binary_of x InstanceOf (name_use (codes "$C"))
-kind_condition kinds.Byte = both (has_word (codes "number") x) (is_cut 24)
-kind_condition kinds.Short = both (has_word (codes "number") x) (is_cut 16)
+kind_condition kinds.Char = is_box
+kind_condition kinds.Byte = is_small (pos 24)
+kind_condition kinds.Short = is_small (pos 16)
 kind_condition kinds.Int = has_word (codes "number") x
 kind_condition kinds.Long = has_word (codes "bigint") x
 kind_condition kinds.Text = has_word (codes "string") x

@@ -1,7 +1,8 @@
 -- The helpers with a fixed text: what each is, and which bindings it uses.
 use Rattle.std.specs.Prelude.{ℕ, false, List, [], ◌∷◌, ◌++◌, Some, pos, codes}
-use Rattle.js_tree.specs.Terms.{Name, Expression, undefined_literal, number_literal, big_literal, text_literal, boolean_literal, name_use, this_use, property_of, index_of, call_of, method_call_of, new_of, new_array_of, binary_of, unary_of, conditional_of, host_call_of_two, Statement, expression_statement, assign_property, assign_index, super_call, throw_of, return_of, if_only, constructor_of, Item, function_item, class_item, subclass_item, object_item, Piece}
+use Rattle.js_tree.specs.Terms.{Name, Expression, undefined_literal, number_literal, big_literal, text_literal, boolean_literal, name_use, this_use, property_of, index_of, call_of, method_call_of, new_of, new_array_of, binary_of, unary_of, conditional_of, host_call_of_two, Statement, Member, expression_statement, assign_property, assign_index, super_call, throw_of, return_of, if_only, constructor_of, Item, function_item, class_item, subclass_item, object_item, Piece}
 use Rattle.js_tree.specs.Views.{expressions_of, statements_of}
+use Rattle.js_tree.specs.declared.operators.BinaryOperator.{BinaryOperator}
 use Rattle.js_tree.specs.declared.operators.BinaryOperator.TheVariants.{Add, Subtract, Divide, Remainder, BitOr, StrictEqual, Less, Greater, GreaterOrEqual, In, InstanceOf}
 use Rattle.js_tree.specs.declared.operators.UnaryOperator.TheVariants.{Not}
 use Rattle.js_tree.specs.declared.operators.HostOperation.TheVariants.{BigIntAsIntN}
@@ -71,21 +72,43 @@ when c ss = if_only c (statements_of ss)
 abbrev pub function : Helper → List Name → List Statement → Item
 function h xs ss = function_item (helper_name h) xs (statements_of ss)
 
--- the helpers that a division uses: by zero it throws
-abbrev pub divides : Helper → Expression → Expression → Item
-divides h zero result = function h (codes "a" ∷ codes "b" ∷ []) (when (binary_of (var (codes "b")) StrictEqual zero) (does (calls (helpers.Throws failures.Division) []) ∷ []) ∷ return_of result ∷ [])
+abbrev pub owned : Name → List Binding → Item → Piece
+owned name used item = record { owner = object_class; name = name; uses = used; item = item }
 
-abbrev pub quotient : Expression
-quotient = binary_of (var (codes "a")) Divide (var (codes "b"))
+-- `if (test) { helper(); }`
+abbrev pub if_throw : Expression → Name → Statement
+if_throw test helper = when test (does (call_of helper (expressions_of [])) ∷ [])
 
-abbrev pub remainder : Expression
-remainder = binary_of (var (codes "a")) Remainder (var (codes "b"))
+-- a division by zero throws
+abbrev pub zero_check : Expression → Statement
+zero_check zero = if_throw (binary_of (var (codes "b")) StrictEqual zero) (codes "$ae")
+
+abbrev pub division : Name → Expression → Expression → Item
+division name zero result = function_item name (codes "a" ∷ codes "b" ∷ []) (statements_of (zero_check zero ∷ return_of result ∷ []))
+
+abbrev pub divides : Name → Expression → Expression → Piece
+divides name zero result = owned name (helper (codes "$ae") ∷ []) (division name zero result)
+
+abbrev pub operation : BinaryOperator → Expression
+operation o = binary_of (var (codes "a")) o (var (codes "b"))
+
+abbrev pub or_zero : Expression → Expression
+or_zero e = binary_of e BitOr (num 0)
+
+abbrev pub wrapped : Expression → Expression
+wrapped e = host_call_of_two BigIntAsIntN (num 64) e
 
 abbrev pub message_init : MethodName
 message_init = record { simple = codes "<init>"; params = References.Class (codes "java.lang.String") ∷ []; result = Some References.Void }
 
+abbrev pub init_name : Name → Name
+init_name e = function_name Constructor e message_init
+
+abbrev pub new_instance : Name → Expression
+new_instance e = new_of (class_name e) (expressions_of [])
+
 abbrev pub raise : Name → Expression → Expression
-raise e message = call_of (function_name Constructor e message_init) (expressions_of (new_of (class_name e) (expressions_of []) ∷ message ∷ []))
+raise e message = call_of (init_name e) (expressions_of (new_instance e ∷ message ∷ []))
 
 abbrev pub decimal_of : List ℕ → Expression
 decimal_of y = binary_of (word []) Add (var y)
@@ -142,8 +165,11 @@ abbrev pub unboxed : Kind → Expression
 unboxed kinds.Char = property_of x (codes "c")
 unboxed _ = x
 
+abbrev pub cast_failure : Kind → Expression
+cast_failure k = call1 (codes "$cce") (word (kind_word k))
+
 abbrev pub unboxed_or_throw : Kind → Expression
-unboxed_or_throw k = conditional_of (call1 (is_name k) x) (unboxed k) (calls (helpers.Throws failures.Cast) (word (kind_word k) ∷ []))
+unboxed_or_throw k = conditional_of (call1 (is_name k) x) (unboxed k) (cast_failure k)
 
 abbrev pub cast_of : Kind → Expression
 cast_of k = conditional_of (is_null x) (kind_zero k) (unboxed_or_throw k)
@@ -158,25 +184,50 @@ at e y = property_of e y
 abbrev pub is_boxed : Name → Expression
 is_boxed y = binary_of (var y) InstanceOf (name_use (codes "$C"))
 
+abbrev pub both_boxed : Expression
+both_boxed = both (is_boxed (codes "x")) (is_boxed (codes "y"))
+
+abbrev pub same_units : Expression
+same_units = binary_of (property_of (var (codes "x")) (codes "c")) StrictEqual (property_of (var (codes "y")) (codes "c"))
+
+abbrev pub same_values : Expression
+same_values = binary_of (var (codes "x")) StrictEqual (var (codes "y"))
+
 -- `(((x instanceof $C) && (y instanceof $C)) ? (x.c === y.c) : (x === y))`
 abbrev pub equality : Expression
-equality = conditional_of (both (is_boxed (codes "x")) (is_boxed (codes "y"))) (binary_of (at (var (codes "x")) (codes "c")) StrictEqual (at (var (codes "y")) (codes "c"))) (binary_of (var (codes "x")) StrictEqual (var (codes "y")))
+equality = conditional_of both_boxed same_units same_values
 
 abbrev pub set_from : Name → Name → Statement
 set_from p y = assign_property this_use p (var y)
 
+abbrev pub box_constructor : Member
+box_constructor = constructor_of (codes "c" ∷ []) (statements_of (set_from (codes "k") (codes "$kC") ∷ set_from (codes "c") (codes "c") ∷ []))
+
+abbrev pub equality_item : Item
+equality_item = function helpers.Equal (codes "x" ∷ codes "y" ∷ []) (return_of equality ∷ [])
+
+abbrev pub cast_item : Kind → Item
+cast_item k = function (helpers.CastTo k) (codes "x" ∷ []) (return_of (cast_of k) ∷ [])
+
+abbrev pub null_check : Item
+null_check = function helpers.NotNull (codes "x" ∷ []) (when (is_null x) (does (calls (helpers.Throws failures.NullReceiver) []) ∷ []) ∷ return_of x ∷ [])
+
+-- the classes above the class of each kind
+abbrev pub Above : Type 0
+Above = Kind → List Name
+
 -- the text of each, where the constants of a kind have these ancestors
-abbrev pub helper_item : (Kind → List Name) → Helper → Item
+abbrev pub helper_item : Above → Helper → Item
 helper_item above (helpers.TestOf k) = kind_item k
-helper_item above (helpers.CastTo k) = function (helpers.CastTo k) (codes "x" ∷ []) (return_of (cast_of k) ∷ [])
+helper_item above (helpers.CastTo k) = cast_item k
 helper_item above (helpers.ConstantsOf k) = object_item (helper_name (helpers.ConstantsOf k)) (constants (kind_class k) (above k))
-helper_item above helpers.NotNull = function helpers.NotNull (codes "x" ∷ []) (when (is_null x) (does (calls (helpers.Throws failures.NullReceiver) []) ∷ []) ∷ return_of x ∷ [])
-helper_item above helpers.IntQuotient = divides helpers.IntQuotient (num 0) (binary_of quotient BitOr (num 0))
-helper_item above helpers.IntRemainder = divides helpers.IntRemainder (num 0) (binary_of remainder BitOr (num 0))
-helper_item above helpers.LongQuotient = divides helpers.LongQuotient (big_literal (pos 0)) (host_call_of_two BigIntAsIntN (num 64) quotient)
-helper_item above helpers.LongRemainder = divides helpers.LongRemainder (big_literal (pos 0)) remainder
-helper_item above helpers.BoxedChar = class_item (codes "$C") (constructor_of (codes "c" ∷ []) (statements_of (set_from (codes "k") (codes "$kC") ∷ set_from (codes "c") (codes "c") ∷ [])) ∷ [])
-helper_item above helpers.Equal = function helpers.Equal (codes "x" ∷ codes "y" ∷ []) (return_of equality ∷ [])
+helper_item above helpers.NotNull = null_check
+helper_item above helpers.IntQuotient = division (codes "$id") (num 0) (or_zero (operation Divide))
+helper_item above helpers.IntRemainder = division (codes "$im") (num 0) (or_zero (operation Remainder))
+helper_item above helpers.LongQuotient = division (codes "$ld") (big_literal (pos 0)) (wrapped (operation Divide))
+helper_item above helpers.LongRemainder = division (codes "$lm") (big_literal (pos 0)) (operation Remainder)
+helper_item above helpers.BoxedChar = class_item (codes "$C") (box_constructor ∷ [])
+helper_item above helpers.Equal = equality_item
 helper_item above helpers.ArrayClass = subclass_item (codes "$A") (class_name object_class) (constructor_of (codes "n" ∷ codes "e" ∷ codes "a" ∷ []) (statements_of (super_call ∷ assign_property this_use (codes "n") (var (codes "n")) ∷ assign_property this_use (codes "e") (var (codes "e")) ∷ assign_property this_use (codes "a") (var (codes "a")) ∷ [])) ∷ [])
 helper_item above helpers.MakeArray = function helpers.MakeArray (codes "n" ∷ codes "e" ∷ codes "l" ∷ codes "z" ∷ []) (when (binary_of (var (codes "l")) Less (num 0)) (does (calls (helpers.Throws failures.Size) (var (codes "l") ∷ [])) ∷ []) ∷ return_of (new_of (codes "$A") (expressions_of (var (codes "n") ∷ var (codes "e") ∷ method_call_of (new_array_of (var (codes "l"))) (codes "fill") (expressions_of (var (codes "z") ∷ [])) ∷ []))) ∷ [])
 helper_item above helpers.CheckIndex = function helpers.CheckIndex (codes "x" ∷ codes "i" ∷ []) (when (either (binary_of (var (codes "i")) Less (num 0)) (binary_of (var (codes "i")) GreaterOrEqual (at (at x (codes "a")) (codes "length")))) (does (calls (helpers.Throws failures.Index) (var (codes "i") ∷ [])) ∷ []) ∷ [])
@@ -194,7 +245,7 @@ helper_item above helpers.CastToArray = function helpers.CastToArray (codes "x" 
 helper_item above (helpers.Throws f) = throws f
 
 abbrev pub raises : List ℕ → List Binding
-raises e = bound e (function_name Constructor e message_init) ∷ bound e (class_name e) ∷ []
+raises e = bound e (init_name e) ∷ bound e (class_name e) ∷ []
 
 abbrev pub of : Helper → Binding
 of h = helper (helper_name h)
@@ -229,5 +280,5 @@ helper_uses helpers.TestOfArray = of helpers.ArrayClass ∷ of helpers.Covers �
 helper_uses helpers.CastToArray = of helpers.TestOfArray ∷ of (helpers.Throws failures.Cast) ∷ []
 helper_uses (helpers.Throws f) = raises (failure_class f)
 
-abbrev pub helper_piece : (Kind → List Name) → Helper → Piece
+abbrev pub helper_piece : Above → Helper → Piece
 helper_piece above h = record { owner = object_class; name = helper_name h; uses = helper_uses h; item = helper_item above h }
