@@ -10,7 +10,9 @@ use js_making::{call_of_one, function, is_null, name, new_of, piece};
 use js_tree::{Binding, JsExpr, JsItem, JsPiece, JsStmt};
 use piece_making::bound;
 use sj_mangling::{ClassBinding, class_binding, function_name};
-use sj_names::{ClassName, INIT, Member, MethodName, Namespace, NoMemory, Shared, SimpleName, Text, TypeRef};
+use sj_names::{
+    ClassName, INIT, Member, MethodName, Namespace, NoMemory, Shared, SimpleName, Text, TypeRef,
+};
 use std::alloc::Global;
 
 /// Puts the cell of the class, the function that loads it, where it is loaded, and the one that stores it, behind other pieces.

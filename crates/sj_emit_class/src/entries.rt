@@ -80,11 +80,7 @@ pub fn put_uses(
     }
 }
 
-fn put_box(
-    alloc: Global,
-    entry: &MethodEntry,
-    bindings: &mut Vec<Binding>,
-) -> Result<(), NoMemory>
+fn put_box(alloc: Global, entry: &MethodEntry, bindings: &mut Vec<Binding>) -> Result<(), NoMemory>
     ensures { OnOk result (bindings.new.items ≡ bindings.old.items ++ pieces.box_uses entry.now.target.method) }
 {
     if gives_char(&entry.target.method) {

@@ -60,11 +60,7 @@ fn put_constants(
     Ok(())
 }
 
-fn put_class(
-    alloc: Global,
-    parts: &ClassParts<'_>,
-    all: &mut Vec<JsPiece>,
-) -> Result<(), NoMemory>
+fn put_class(alloc: Global, parts: &ClassParts<'_>, all: &mut Vec<JsPiece>) -> Result<(), NoMemory>
     ensures { OnOk result (map piece_view all.new.items ≡ map piece_view all.old.items ++ pieces.class_of (parts_view parts.now)) }
 {
     if parts.is_live {
@@ -81,11 +77,7 @@ fn put_class(
     Ok(())
 }
 
-fn put_module(
-    alloc: Global,
-    parts: &ClassParts<'_>,
-    all: &mut Vec<JsPiece>,
-) -> Result<(), NoMemory>
+fn put_module(alloc: Global, parts: &ClassParts<'_>, all: &mut Vec<JsPiece>) -> Result<(), NoMemory>
     ensures { OnOk result (map piece_view all.new.items ≡ map piece_view all.old.items ++ pieces.module_of (parts_view parts.now)) }
 {
     if parts.is_loaded || parts.is_stored {
@@ -95,11 +87,7 @@ fn put_module(
     }
 }
 
-fn put_tests(
-    alloc: Global,
-    parts: &ClassParts<'_>,
-    all: &mut Vec<JsPiece>,
-) -> Result<(), NoMemory>
+fn put_tests(alloc: Global, parts: &ClassParts<'_>, all: &mut Vec<JsPiece>) -> Result<(), NoMemory>
     ensures { OnOk result (map piece_view all.new.items ≡ map piece_view all.old.items ++ pieces.tests_of (parts_view parts.now)) }
 {
     if parts.is_tested || parts.is_cast {

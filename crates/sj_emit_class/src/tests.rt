@@ -163,7 +163,10 @@ pub fn cast_piece(alloc: Global, class: &ClassName) -> Result<JsPiece, NoMemory>
     ensures { IfOk result (λ p. piece_view p ≡ pieces.cast_piece class.now) }
 {
     let item = cast_item(alloc, class)?;
-    let test = bound(class, class_binding(alloc, ClassBinding::IsInstance, class)?)?;
+    let test = bound(
+        class,
+        class_binding(alloc, ClassBinding::IsInstance, class)?,
+    )?;
     let fails = object_binding(alloc, "$cce")?;
     let uses = vec![in alloc; test, fails]?;
     let name = class_binding(alloc, ClassBinding::AsInstance, class)?;

@@ -5,7 +5,7 @@ ghost use Rattle.js_tree.specs.Views.{expression_view, item_view, member_view, p
 ghost use Rattle.piece_rules.specs.Helpers as rules;
 ghost use Rattle.piece_rules.specs.declared.kinds.Helper.TheVariants as helpers;
 
-use crate::owned::owned;
+use crate::owning::owned;
 use js_making::{
     binary, class_of_constructor, conditional, constructor, function, name, only_return, property,
     set_property,

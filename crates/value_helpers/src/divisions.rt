@@ -5,7 +5,7 @@ ghost use Rattle.js_tree.specs.Views.{expression_view, item_view, piece_view, st
 ghost use Rattle.piece_rules.specs.Helpers as rules;
 ghost use Rattle.piece_rules.specs.declared.kinds.Helper.TheVariants as helpers;
 
-use crate::owned::owned;
+use crate::owning::owned;
 use js_making::{binary, call, function, name, one_statement};
 use js_tree::{BinaryOperator, HostOperation, JsExpr, JsItem, JsPiece, JsStmt};
 use piece_making::object_binding;
@@ -77,12 +77,7 @@ fn wrapped(alloc: Global, value: JsExpr) -> Result<JsExpr, NoMemory>
 }
 
 // `function NAME(a, b) { if ((b === zero)) { $ae(); } return value; }`, which uses `$ae`
-fn divides(
-    alloc: Global,
-    helper: &str,
-    zero: JsExpr,
-    value: JsExpr,
-) -> Result<JsPiece, NoMemory>
+fn divides(alloc: Global, helper: &str, zero: JsExpr, value: JsExpr) -> Result<JsPiece, NoMemory>
     ensures { IfOk result (λ p. piece_view p ≡ rules.divides helper.now (expression_view zero) (expression_view value)) }
 {
     let item = division(alloc, helper, zero, value)?;
@@ -90,12 +85,7 @@ fn divides(
     owned(alloc, helper, uses, item)
 }
 
-fn division(
-    alloc: Global,
-    helper: &str,
-    zero: JsExpr,
-    value: JsExpr,
-) -> Result<JsItem, NoMemory>
+fn division(alloc: Global, helper: &str, zero: JsExpr, value: JsExpr) -> Result<JsItem, NoMemory>
     ensures { IfOk result (λ i. item_view i ≡ rules.division helper.now (expression_view zero) (expression_view value)) }
 {
     let check = zero_check(alloc, zero)?;

@@ -6,7 +6,7 @@ ghost use Rattle.js_tree.specs.Views.{expression_view, item_view, piece_view, st
 ghost use Rattle.piece_rules.specs.Helpers as rules;
 ghost use Rattle.piece_rules.specs.declared.kinds.Helper.TheVariants as helpers;
 
-use crate::owned::owned;
+use crate::owning::owned;
 use js_making::{ascii_text, binary, call, function, name, new_of, one_statement};
 use js_tree::{BinaryOperator, Binding, JsExpr, JsItem, JsPiece, JsStmt};
 use piece_making::bound;
@@ -45,12 +45,21 @@ fn failure_class(alloc: Global, failure: Failure) -> Result<ClassName, NoMemory>
     ensures { IfOk result (λ c. c ≡ rules.failure_class failure) }
 {
     match failure {
-        Failure::NullReceiver => class_named(Text::from_str(alloc, "java.lang.NullPointerException")?),
+        Failure::NullReceiver => class_named(Text::from_str(
+            alloc,
+            "java.lang.NullPointerException",
+        )?),
         Failure::Division => class_named(Text::from_str(alloc, "java.lang.ArithmeticException")?),
         Failure::Cast => class_named(Text::from_str(alloc, "java.lang.ClassCastException")?),
-        Failure::Index => class_named(Text::from_str(alloc, "java.lang.ArrayIndexOutOfBoundsException")?),
+        Failure::Index => class_named(Text::from_str(
+            alloc,
+            "java.lang.ArrayIndexOutOfBoundsException",
+        )?),
         Failure::Store => class_named(Text::from_str(alloc, "java.lang.ArrayStoreException")?),
-        Failure::Size => class_named(Text::from_str(alloc, "java.lang.NegativeArraySizeException")?),
+        Failure::Size => class_named(Text::from_str(
+            alloc,
+            "java.lang.NegativeArraySizeException",
+        )?),
         Failure::Method => class_named(Text::from_str(alloc, "java.lang.NoSuchMethodException")?),
     }
 }

@@ -6,7 +6,7 @@ ghost use Rattle.piece_rules.specs.Helpers as rules;
 ghost use Rattle.piece_rules.specs.Words as words;
 ghost use Rattle.piece_rules.specs.declared.kinds.Helper.TheVariants as helpers;
 
-use crate::owned::owned;
+use crate::owning::owned;
 use js_making::{
     ascii_text, binary, call_of_one, conditional, function, has_word, is_null, name, only_return,
     property,
@@ -94,8 +94,18 @@ fn is_same_cut(alloc: Global, left: i32) -> Result<JsExpr, NoMemory>
     ensures { IfOk result (λ e. expression_view e ≡ dispatch.is_cut left) }
 {
     let value = name(alloc, "x")?;
-    let shifted = binary(alloc, value, BinaryOperator::ShiftLeft, JsExpr::Number(left))?;
-    let cut = binary(alloc, shifted, BinaryOperator::ShiftRight, JsExpr::Number(left))?;
+    let shifted = binary(
+        alloc,
+        value,
+        BinaryOperator::ShiftLeft,
+        JsExpr::Number(left),
+    )?;
+    let cut = binary(
+        alloc,
+        shifted,
+        BinaryOperator::ShiftRight,
+        JsExpr::Number(left),
+    )?;
     let value = name(alloc, "x")?;
     binary(alloc, cut, BinaryOperator::StrictEqual, value)
 }

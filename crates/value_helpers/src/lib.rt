@@ -6,10 +6,11 @@ mod divisions;
 mod failures;
 mod kinds;
 mod nulls;
-mod owned;
+mod owning;
 
 pub use boxes::{boxed_char, equal};
-pub use divisions::{int_quotient, int_remainder, long_quotient, long_remainder};
+pub use divisions::{if_throw, int_quotient, int_remainder, long_quotient, long_remainder};
 pub use failures::throwing;
 pub use kinds::{cast_to, constants_of, test_of};
 pub use nulls::not_null_or_throw;
+pub use owning::owned;

@@ -5,7 +5,7 @@ ghost use Rattle.piece_rules.specs.Helpers as rules;
 ghost use Rattle.piece_rules.specs.declared.kinds.Helper.TheVariants as helpers;
 
 use crate::divisions::if_throw;
-use crate::owned::owned;
+use crate::owning::owned;
 use js_making::{function, is_null, name};
 use js_tree::{JsItem, JsPiece, JsStmt};
 use piece_making::object_binding;

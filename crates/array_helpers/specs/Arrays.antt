@@ -1,0 +1,63 @@
+-- The parts of the helpers of arrays.
+use Rattle.std.specs.Prelude.{ℕ, List, [], ◌∷◌, codes}
+use Rattle.js_tree.specs.Terms.{Name, Expression, name_use, call_of, new_of, new_array_of, method_call_of, property_of, index_of, binary_of, unary_of, conditional_of, Statement, assign_index, return_of}
+use Rattle.js_tree.specs.Views.{expressions_of}
+use Rattle.js_tree.specs.declared.operators.BinaryOperator.TheVariants.{Subtract, BitOr, StrictEqual, Less, Greater, GreaterOrEqual, In, InstanceOf}
+use Rattle.js_tree.specs.declared.operators.UnaryOperator.TheVariants.{Not}
+use Rattle.piece_rules.specs.Helpers.{Above, var, num, word, does, when}
+use Rattle.piece_rules.specs.Words.{either, both, has_word, is_null, not_null}
+
+-- where the classes above others don't matter
+abbrev pub none_above : Above
+none_above _ = []
+
+abbrev pub items_of : Name → Expression
+items_of y = property_of (var y) (codes "a")
+
+-- `((i < 0) || (i >= x.a.length))`
+abbrev pub is_outside : Expression
+is_outside = either (binary_of (var (codes "i")) Less (num 0)) (binary_of (var (codes "i")) GreaterOrEqual (property_of (items_of (codes "x")) (codes "length")))
+
+-- `helper(x);`, `if (test) { helper(x); }`
+abbrev pub call_with : Name → Name → Expression
+call_with helper y = call_of helper (expressions_of (var y ∷ []))
+
+abbrev pub if_throw_with : Expression → Name → Name → Statement
+if_throw_with test helper y = when test (does (call_with helper y) ∷ [])
+
+-- `$ix(x, i);`
+abbrev pub check : Statement
+check = does (call_of (codes "$ix") (expressions_of (var (codes "x") ∷ var (codes "i") ∷ [])))
+
+-- `x.a[i] = v;`
+abbrev pub put_item : Statement
+put_item = assign_index (items_of (codes "x")) (var (codes "i")) (var (codes "v"))
+
+-- `new Array(l).fill(z)`
+abbrev pub filled : Expression
+filled = method_call_of (new_array_of (var (codes "l"))) (codes "fill") (expressions_of (var (codes "z") ∷ []))
+
+abbrev pub new_items : Expression
+new_items = new_of (codes "$A") (expressions_of (var (codes "n") ∷ var (codes "e") ∷ filled ∷ []))
+
+-- `((v !== null) && (!$fits(v, x.n, x.e)))`
+abbrev pub fits_not : Expression
+fits_not = unary_of Not (call_of (codes "$fits") (expressions_of (var (codes "v") ∷ property_of (var (codes "x")) (codes "n") ∷ property_of (var (codes "x")) (codes "e") ∷ [])))
+
+abbrev pub is_wrong : Expression
+is_wrong = both (not_null (var (codes "v"))) fits_not
+
+-- `(x instanceof $A)`
+abbrev pub is_array : Expression
+is_array = binary_of (var (codes "x")) InstanceOf (name_use (codes "$A"))
+
+-- `$cov(x.n, x.e, n, e)`
+abbrev pub covers_type : Expression
+covers_type = call_of (codes "$cov") (expressions_of (property_of (var (codes "x")) (codes "n") ∷ property_of (var (codes "x")) (codes "e") ∷ var (codes "n") ∷ var (codes "e") ∷ []))
+
+-- `$isA(x, n, e)`
+abbrev pub is_of_type : Expression
+is_of_type = call_of (codes "$isA") (expressions_of (var (codes "x") ∷ var (codes "n") ∷ var (codes "e") ∷ []))
+
+abbrev pub null_or_array : Expression
+null_or_array = either (is_null (var (codes "x"))) is_of_type
