@@ -1,5 +1,5 @@
 -- The parts of the helpers of arrays.
-use Rattle.std.specs.Prelude.{ℕ, List, [], ◌∷◌, codes}
+use Rattle.std.specs.Prelude.{ℕ, List, [], ◌∷◌, ◌++◌, codes}
 use Rattle.js_tree.specs.Terms.{Name, Expression, name_use, call_of, new_of, new_array_of, method_call_of, property_of, index_of, binary_of, unary_of, conditional_of, Statement, assign_index, return_of}
 use Rattle.js_tree.specs.Views.{expressions_of}
 use Rattle.js_tree.specs.declared.operators.BinaryOperator.TheVariants.{Subtract, BitOr, StrictEqual, Less, Greater, GreaterOrEqual, In, InstanceOf}
@@ -61,3 +61,35 @@ is_of_type = call_of (codes "$isA") (expressions_of (var (codes "x") ∷ var (co
 
 abbrev pub null_or_array : Expression
 null_or_array = either (is_null (var (codes "x"))) is_of_type
+
+-- `if (test) { return e; }`
+abbrev pub if_return : Expression → Expression → Statement
+if_return test e = when test (return_of e ∷ [])
+
+-- `if ($isX(v)) { return $kX; }`
+abbrev pub class_case : Name → Name → Statement
+class_case test constants = if_return (call_with test (codes "v")) (var constants)
+
+-- `y.s`
+abbrev pub own_marker : Name → Expression
+own_marker y = property_of (var y) (codes "s")
+
+-- `((typeof e) === "object") && (d.s in e)`
+abbrev pub has_element : Expression
+has_element = both (has_word (codes "object") (var (codes "e"))) (binary_of (own_marker (codes "d")) In (var (codes "e")))
+
+abbrev pub same_element : Expression
+same_element = conditional_of (has_word (codes "string") (var (codes "d"))) (binary_of (var (codes "e")) StrictEqual (var (codes "d"))) has_element
+
+abbrev pub is_deeper : Expression
+is_deeper = both (binary_of (var (codes "n")) Greater (var (codes "m"))) (has_word (codes "object") (var (codes "d")))
+
+abbrev pub above_deeper : Expression
+above_deeper = both is_deeper (binary_of (own_marker (codes "d")) StrictEqual (word (codes "i_java_lang_Object")))
+
+abbrev pub same : Name → Name → Expression
+same one other = binary_of (var one) StrictEqual (var other)
+
+-- with the cases of the kinds that are told by a word behind
+abbrev pub with_cases : List Statement → List Statement
+with_cases ss = ((((ss ++ class_case (codes "$isV") (codes "$kV") ∷ []) ++ class_case (codes "$isZ") (codes "$kZ") ∷ []) ++ class_case (codes "$isI") (codes "$kI") ∷ []) ++ class_case (codes "$isJ") (codes "$kJ") ∷ []) ++ class_case (codes "$isT") (codes "$kT") ∷ []
