@@ -1,10 +1,10 @@
 -- The parts of the helpers of arrays.
 use Rattle.std.specs.Prelude.{ℕ, List, [], ◌∷◌, ◌++◌, codes}
-use Rattle.js_tree.specs.Terms.{Name, Expression, name_use, call_of, new_of, new_array_of, method_call_of, property_of, index_of, binary_of, unary_of, conditional_of, Statement, assign_index, return_of}
-use Rattle.js_tree.specs.Views.{expressions_of}
+use Rattle.js_tree.specs.Terms.{Name, Expression, name_use, call_of, new_of, new_array_of, method_call_of, property_of, index_of, binary_of, unary_of, conditional_of, Member, constructor_of, super_call, Statement, assign_index, return_of}
+use Rattle.js_tree.specs.Views.{expressions_of, statements_of}
 use Rattle.js_tree.specs.declared.operators.BinaryOperator.TheVariants.{Subtract, BitOr, StrictEqual, Less, Greater, GreaterOrEqual, In, InstanceOf}
 use Rattle.js_tree.specs.declared.operators.UnaryOperator.TheVariants.{Not}
-use Rattle.piece_rules.specs.Helpers.{Above, var, num, word, does, when}
+use Rattle.piece_rules.specs.Helpers.{Above, set_from, var, num, word, does, when}
 use Rattle.piece_rules.specs.Words.{either, both, has_word, is_null, not_null}
 
 -- where the classes above others don't matter
@@ -93,3 +93,6 @@ same one other = binary_of (var one) StrictEqual (var other)
 -- with the cases of the kinds that are told by a word behind
 abbrev pub with_cases : List Statement → List Statement
 with_cases ss = ((((ss ++ class_case (codes "$isV") (codes "$kV") ∷ []) ++ class_case (codes "$isZ") (codes "$kZ") ∷ []) ++ class_case (codes "$isI") (codes "$kI") ∷ []) ++ class_case (codes "$isJ") (codes "$kJ") ∷ []) ++ class_case (codes "$isT") (codes "$kT") ∷ []
+
+abbrev pub array_constructor : Member
+array_constructor = constructor_of (codes "n" ∷ codes "e" ∷ codes "a" ∷ []) (statements_of (super_call ∷ set_from (codes "n") (codes "n") ∷ set_from (codes "e") (codes "e") ∷ set_from (codes "a") (codes "a") ∷ []))

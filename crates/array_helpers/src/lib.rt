@@ -2,12 +2,14 @@
 //! an array type and the cast to one.
 #![tactic(auto)]
 
+mod arrays;
 mod classes;
 mod elements;
 mod fitting;
 mod parts;
 mod types;
 
+pub use arrays::array_class;
 pub use classes::{class_of_value, covers};
 pub use elements::{check_index, get, make_array, put, set};
 pub use fitting::fits;
