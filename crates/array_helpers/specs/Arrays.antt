@@ -1,8 +1,8 @@
 -- The parts of the helpers of arrays.
-use Rattle.std.specs.Prelude.{ℕ, List, [], ◌∷◌, ◌++◌, codes}
-use Rattle.js_tree.specs.Terms.{Name, Expression, name_use, call_of, new_of, new_array_of, method_call_of, property_of, index_of, binary_of, unary_of, conditional_of, Member, constructor_of, super_call, Statement, assign_index, return_of}
+use Rattle.std.specs.Prelude.{List, [], ◌∷◌, ◌++◌, codes}
+use Rattle.js_tree.specs.Terms.{Name, Expression, name_use, call_of, new_of, new_array_of, method_call_of, property_of, binary_of, unary_of, conditional_of, Member, constructor_of, super_call, Statement, assign_index, return_of}
 use Rattle.js_tree.specs.Views.{expressions_of, statements_of}
-use Rattle.js_tree.specs.declared.operators.BinaryOperator.TheVariants.{Subtract, BitOr, StrictEqual, Less, Greater, GreaterOrEqual, In, InstanceOf}
+use Rattle.js_tree.specs.declared.operators.BinaryOperator.TheVariants.{StrictEqual, Less, Greater, GreaterOrEqual, In, InstanceOf}
 use Rattle.js_tree.specs.declared.operators.UnaryOperator.TheVariants.{Not}
 use Rattle.piece_rules.specs.Helpers.{Above, set_from, var, num, word, does, when}
 use Rattle.piece_rules.specs.Words.{either, both, has_word, is_null, not_null}

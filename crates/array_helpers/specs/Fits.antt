@@ -1,5 +1,5 @@
 -- The parts of the helper that tells whether a value may be an element.
-use Rattle.std.specs.Prelude.{[], ◌∷◌, codes, pos}
+use Rattle.std.specs.Prelude.{[], ◌∷◌, codes}
 pub use Rattle.array_helpers.specs.Arrays.{none_above}
 use Rattle.js_tree.specs.Terms.{Name, Expression, name_use, call_of, property_of, binary_of, Statement}
 use Rattle.js_tree.specs.Views.{expressions_of}
