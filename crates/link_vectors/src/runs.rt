@@ -74,7 +74,11 @@ fn has_status(status: u8, wanted: &str) -> bool {
 }
 
 fn are_same(puts: &[PutFile], wanted: &[PutFile]) -> bool {
-    puts.len() == wanted.len() && puts.iter().zip(wanted).all(|(one, other)| is_same(one, other))
+    puts.len() == wanted.len()
+        && puts
+            .iter()
+            .zip(wanted)
+            .all(|(one, other)| is_same(one, other))
 }
 
 fn is_same(one: &PutFile, other: &PutFile) -> bool {
