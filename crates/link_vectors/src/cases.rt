@@ -107,7 +107,7 @@ impl Case {
                 let bytes = hex::decode(alloc, bytes)?;
                 self.puts.push(PutFile {
                     out: Text::from_str(alloc, "out")?,
-                    edit: number_of(edit) as u32,
+                    edit: edit_of(edit),
                     name: Text::from_str(alloc, name)?,
                     bytes: Bytes::from_vec(bytes),
                 })?;
@@ -120,6 +120,14 @@ impl Case {
 // The number that decimal digits spell, or 0.
 fn number_of(digits: &str) -> u64 {
     match digits.parse::<u64>() {
+        Ok(number) => number,
+        Err(_) => 0,
+    }
+}
+
+// The number of an edit.
+fn edit_of(digits: &str) -> u32 {
+    match digits.parse::<u32>() {
         Ok(number) => number,
         Err(_) => 0,
     }
