@@ -41,7 +41,7 @@ module _ (entries : List EntryPoint) (files : List SourceFile) where
     pub few_emits : EmitsAtMost emits
     pub counted : new ≡ with_work reads checks emits old
 
-  -- what the report tells is counted; where the folder is refused nothing is emitted, and before its types nothing is checked
+  -- what the report tells is counted; where the folder is refused, no more than it asks for, and nothing is emitted; where no memory was left, no more
   abbrev pub CountsEdit : Result Report JudgeError → Meter → Meter → Type 0
   CountsEdit (Ok report) old new = new ≡ with_work report.read report.checked report.emitted old
   CountsEdit (Err (Refused code place)) old new = CountsRefused old new

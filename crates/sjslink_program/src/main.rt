@@ -3,9 +3,10 @@
 
 use sj_outside::{RealFolders, RealLines, RealOutputs, real_words};
 use sjslink::{Status, run};
+use std::alloc::AllocError;
 use std::process::ExitCode;
 
-// More words than this aren't held: each edit has a number of 32 bits. Systems hand over far fewer.
+// The most words: each edit has a number of 32 bits. More are no command, and nothing is printed.
 const MOST_WORDS: usize = 4_294_967_295;
 
 fn main(rt: HostRuntime) -> ExitCode {
@@ -16,7 +17,8 @@ fn main(rt: HostRuntime) -> ExitCode {
         Ok(words) if words.len() <= MOST_WORDS => {
             run(rt.alloc(), words, &mut folders, &mut outputs, &mut lines)
         }
-        _ => Status::NoMemory,
+        Ok(_) => Status::Usage,
+        Err(AllocError) => Status::NoMemory,
     };
     ExitCode::from(status.exit_code())
 }
