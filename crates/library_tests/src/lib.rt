@@ -3,10 +3,6 @@
 #![tactic(auto)]
 
 #[cfg(test)]
-mod classes;
-#[cfg(test)]
 mod lanes;
 #[cfg(test)]
 mod outside;
-#[cfg(test)]
-mod questions;

@@ -1,1 +1,3 @@
 pub mod Characters
+mod TreeFields
+mod Items

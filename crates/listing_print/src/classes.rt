@@ -5,11 +5,10 @@ ghost use Rattle.listing_spelling.specs.Spelling.{Lists};
 ghost use Rattle.listing_spelling.specs.Rules.{HasListing, bare};
 ghost use Rattle.listing_spelling.specs.Texts.{put_bracketed, put_list, put_name, put_param, put_field, put_body, put_method, put_superclass, put_class, listing_text};
 
-use crate::forms::open;
 use crate::literals::append_name;
 use crate::parts::{kind_part, mark_part, method_part, name_part, namespace_part, type_part};
 use crate::trees::append_tree;
-use crate::writing::append;
+use crate::writing::{append, open};
 use listing_spelling::each_has_one_listing;
 use sj_names::{ClassName, NoMemory};
 use sj_trees::{Body, ClassDef, FieldDef, MethodDef, ParamDef};

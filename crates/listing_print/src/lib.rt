@@ -2,10 +2,10 @@
 #![tactic(auto)]
 
 mod classes;
-mod forms;
 mod literals;
 mod parts;
 mod trees;
+mod words;
 mod writing;
 
 pub use classes::print_listing;

@@ -1,6 +1,6 @@
 // What puts words and numbers behind the bytes that are there.
-ghost use Rattle.std.specs.Prelude.{◌≡◌, OnOk, decimal};
-ghost use Rattle.js_tree.specs.Written.{put};
+ghost use Rattle.std.specs.Prelude.{◌≡◌, OnOk, codes, decimal};
+ghost use Rattle.js_tree.specs.Written.{put, ◌▸◌};
 ghost use Rattle.listing_spelling.specs.Texts.{put_natural, put_integer, put_mark};
 
 use itoa::Buffer;
@@ -38,4 +38,12 @@ pub(crate) fn append_mark(out: &mut Vec<u8>, mark: bool) -> Result<(), NoMemory>
     ensures { OnOk result (out.new.items ≡ put_mark mark out.old.items) }
 {
     append(out, if mark { "1" } else { "0" })
+}
+
+/// Appends `(` and a word.
+pub(crate) fn open(out: &mut Vec<u8>, word: &str) -> Result<(), NoMemory>
+    ensures { OnOk result (out.new.items ≡ (put (codes "(") ▸ put word.now) out.old.items) }
+{
+    append(out, "(")?;
+    append(out, word)
 }

@@ -1,7 +1,7 @@
 // What the check of a method found and asked.
 use crate::spellings::{exchange_text, namespace_of};
 use anyhow::Result;
-use sj_ask::{Log, TypeError, WorldOracle};
+use sj_ask::{Log, TypeError, WorldOracle, still_holds};
 use sj_names::{ClassName, Member, Meter, MethodName, NoMemory};
 use sj_recorder::Recorder;
 use sj_trees::MethodDef;
@@ -54,7 +54,12 @@ fn checked(
     let oracle = WorldOracle::new(world, member);
     let mut recorder = Recorder::new(alloc, member.copied()?, oracle);
     let verdict = check_method(alloc, method, &mut recorder, &mut Meter::new());
-    Ok(lines(alloc, spelling, verdict, &recorder.into_log())?)
+    let log = recorder.into_log();
+    let mut text = lines(alloc, spelling, verdict, &log)?;
+    if !still_holds(&log, world) {
+        text.push_str("the log does not hold\n")?;
+    }
+    Ok(text)
 }
 
 fn lines(

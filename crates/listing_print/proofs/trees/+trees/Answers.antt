@@ -1,66 +1,34 @@
-use Rattle.std.proofs.Common.{◌≡◌, ◌∙◌, ap, sym, arith}
-use Rattle.sj_trees.proofs.trees.Tree.TheLaws.{the_size}
-use Rattle.sj_trees.specs.declared.trees.Tree.TheViews.{sized-Match, sized-Apply, sized-ApplyStatically}
-use Rattle.sj_trees.specs.Term.{Term, store_module, select_static, apply_statically, apply_static, array_length, array_select, is_instance_of, as_instance_of}
-use Rattle.sj_trees.specs.View.{view, terms_view, view_step, case_step, Case}
-use Rattle.sj_trees.specs.declared.trees.Tree.TheOpen.{Tree-F}
-use Rattle.sj_trees.specs.declared.trees.Tree.TheFolds.{fold-roll-Tree}
-use Rattle.sj_trees.specs.declared.trees.Tree.TheVariants.{rolls-StoreModule, rolls-SelectStatic, rolls-ApplyStatically, rolls-ApplyStatic, rolls-ArrayLength, rolls-ArraySelect, rolls-IsInstanceOf, rolls-AsInstanceOf}
+use Rattle.std.proofs.Common.{◌≡◌, ◌∙◌, ◌-◌, ◌+◌, ◌<◌, ap, sym, subst, arith, List, [], ◌∷◌, ℕ, length, drop}
+use Rattle.std.proofs.Math.ListN.{take}
+use Rattle.std.proofs.lemmas.List.{take_rest, drop_all}
+use Rattle.sj_trees.specs.Term.{Cases}
+use Rattle.sj_trees.specs.View.{cases_view}
+use Rattle.sj_trees.specs.declared.trees.MatchCase.{MatchCase}
+use Rattle.tree_fields.proofs.Items.{size_of_one}
+use Rattle.listing_spelling.specs.Texts.{put_cases, put_more_cases}
+use Rattle.listing_print.proofs.Items.{size_of_other_tree, size_of_other_case, case_put}
 use Rattle.listing_print.proofs.trees.+trees.Goals as goal
 
-pub append_tree-cases_part-requires : goal.append_tree-cases_part-requires
-append_tree-cases_part-requires t c = (rw c.deref-in-Match-2.ensures.value (omega (arith, ap the_size c.in-Match.is ∙ sized-Match c.in-Match.field-0 c.in-Match.selector c.in-Match.cases c.in-Match.default c.in-Match.tpe)), tt)
+pub append_cases-append_case-requires-in-loop-each : goal.append_cases-append_case-requires-in-loop-each
+append_cases-append_case-requires-in-loop-each t c = (omega (arith, c.decreases, size_of_other_case c.args.cases.now c.loop-each.each-index c.each-item.result c.loop-each-test.true c.each-item.is), tt)
 
-pub append_tree-last_call-requires : goal.append_tree-last_call-requires
-append_tree-last_call-requires t c = (rw c.deref-in-Apply-2.ensures.value (omega (arith, ap the_size c.in-Apply.is ∙ sized-Apply c.in-Apply.field-0 c.in-Apply.receiver c.in-Apply.method c.in-Apply.arguments c.in-Apply.tpe)), tt)
+pub append_fields-append_field-requires : goal.append_fields-append_field-requires
+append_fields-append_field-requires t c = (omega (arith, c.decreases, size_of_one c.args.fields.now c.loop-field.field-index c.field-item.result c.loop-field-test.true c.field-item.is), tt)
 
-pub append_tree-last_static_call-requires : goal.append_tree-last_static_call-requires
-append_tree-last_static_call-requires t c = (rw c.deref-in-ApplyStatically-2.ensures.value (omega (arith, ap the_size c.in-ApplyStatically.is ∙ sized-ApplyStatically c.in-ApplyStatically.field-0 c.in-ApplyStatically.receiver c.in-ApplyStatically.class c.in-ApplyStatically.namespace c.in-ApplyStatically.method c.in-ApplyStatically.arguments c.in-ApplyStatically.tpe)), tt)
+pub append_trees-tree_part-requires : goal.append_trees-tree_part-requires
+append_trees-tree_part-requires t c = (omega (arith, c.decreases, size_of_other_tree c.args.trees.now c.loop-each.each-index c.each-item.result c.loop-each-test.true c.each-item.is), tt)
 
-pub append_tree-returns-in-StoreModule : goal.append_tree-returns-in-StoreModule
-append_tree-returns-in-StoreModule t c =
-    let n = c.in-StoreModule in
-    let v : view c.args.tree.now ≡ store_module n.field-0 n.class (view n.value.value) = ap view (n.is ∙ sym (rolls-StoreModule n.field-0 n.class n.value)) ∙ fold-roll-Tree Term Case view_step case_step (Tree-F.StoreModule n.field-0 n.class n.value) in
-    rw (v, ← c.deref-in-StoreModule.ensures) c.append_class_and_tree.ensures
+pub append_cases-loop-each-preserved : goal.append_cases-loop-each-preserved
+append_cases-loop-each-preserved t c =
+    let others = take (length c.args.cases.now - 1) (drop 1 c.args.cases.now) in
+    let one = case_put (λ (cs : Cases). put_more_cases cs c.loop-each.out.items) others c.loop-each.each-index c.each-item.result c.loop-each-test.true c.each-item.is in
+    rw (c.in_ok-append_case-in-len1-up-2.ensures, c.in_ok-append-in-len1-up.ensures) (one ∙ c.loop-each.invariant)
 
-pub append_tree-returns-in-SelectStatic : goal.append_tree-returns-in-SelectStatic
-append_tree-returns-in-SelectStatic t c =
-    let n = c.in-SelectStatic in
-    let v : view c.args.tree.now ≡ select_static n.field-0 n.class n.field n.tpe = ap view (n.is ∙ sym (rolls-SelectStatic n.field-0 n.class n.field n.tpe)) ∙ fold-roll-Tree Term Case view_step case_step (Tree-F.SelectStatic n.field-0 n.class n.field n.tpe) in
-    rw v c.append_static_field.ensures
-
-pub append_tree-returns-in_ok-first_tree-in-ApplyStatically : goal.append_tree-returns-in_ok-first_tree-in-ApplyStatically
-append_tree-returns-in_ok-first_tree-in-ApplyStatically t c =
-    let n = c.in-ApplyStatically in
-    let v : view c.args.tree.now ≡ apply_statically n.field-0 (view n.receiver.value) n.class n.namespace n.method (terms_view n.arguments.items) n.tpe = ap view (n.is ∙ sym (rolls-ApplyStatically n.field-0 n.receiver n.class n.namespace n.method n.arguments n.tpe)) ∙ fold-roll-Tree Term Case view_step case_step (Tree-F.ApplyStatically n.field-0 n.receiver n.class n.namespace n.method n.arguments n.tpe) in
-    rw (v, ← c.deref-in-ApplyStatically.ensures, ← c.deref-in-ApplyStatically-2.ensures.value) (rw c.in_ok-first_tree-in-ApplyStatically.ensures at c.last_static_call.ensures)
-
-pub append_tree-returns-in-ApplyStatic : goal.append_tree-returns-in-ApplyStatic
-append_tree-returns-in-ApplyStatic t c =
-    let n = c.in-ApplyStatic in
-    let v : view c.args.tree.now ≡ apply_static n.field-0 n.class n.namespace n.method (terms_view n.arguments.items) n.tpe = ap view (n.is ∙ sym (rolls-ApplyStatic n.field-0 n.class n.namespace n.method n.arguments n.tpe)) ∙ fold-roll-Tree Term Case view_step case_step (Tree-F.ApplyStatic n.field-0 n.class n.namespace n.method n.arguments n.tpe) in
-    rw (v, ← c.deref-in-ApplyStatic.ensures.value) c.append_static_call.ensures
-
-pub append_tree-returns-in-ArrayLength : goal.append_tree-returns-in-ArrayLength
-append_tree-returns-in-ArrayLength t c =
-    let n = c.in-ArrayLength in
-    let v : view c.args.tree.now ≡ array_length n.field-0 (view n.array.value) = ap view (n.is ∙ sym (rolls-ArrayLength n.field-0 n.array)) ∙ fold-roll-Tree Term Case view_step case_step (Tree-F.ArrayLength n.field-0 n.array) in
-    rw (v, ← c.deref-in-ArrayLength.ensures) c.append_single-in-ArrayLength.ensures
-
-pub append_tree-returns-in_ok-first_tree-in-ArraySelect : goal.append_tree-returns-in_ok-first_tree-in-ArraySelect
-append_tree-returns-in_ok-first_tree-in-ArraySelect t c =
-    let n = c.in-ArraySelect in
-    let v : view c.args.tree.now ≡ array_select n.field-0 (view n.array.value) (view n.index.value) n.tpe = ap view (n.is ∙ sym (rolls-ArraySelect n.field-0 n.array n.index n.tpe)) ∙ fold-roll-Tree Term Case view_step case_step (Tree-F.ArraySelect n.field-0 n.array n.index n.tpe) in
-    rw (v, ← c.deref-in-ArraySelect.ensures, ← c.deref-in-ArraySelect-2.ensures) (rw c.in_ok-first_tree-in-ArraySelect.ensures at c.last_tree_and_type-in-ArraySelect.ensures)
-
-pub append_tree-returns-in-IsInstanceOf : goal.append_tree-returns-in-IsInstanceOf
-append_tree-returns-in-IsInstanceOf t c =
-    let n = c.in-IsInstanceOf in
-    let v : view c.args.tree.now ≡ is_instance_of n.field-0 (view n.value.value) n.tpe = ap view (n.is ∙ sym (rolls-IsInstanceOf n.field-0 n.value n.tpe)) ∙ fold-roll-Tree Term Case view_step case_step (Tree-F.IsInstanceOf n.field-0 n.value n.tpe) in
-    rw (v, ← c.deref-in-IsInstanceOf.ensures) c.append_typed.ensures
-
-pub append_tree-returns-in-AsInstanceOf : goal.append_tree-returns-in-AsInstanceOf
-append_tree-returns-in-AsInstanceOf t c =
-    let n = c.in-AsInstanceOf in
-    let v : view c.args.tree.now ≡ as_instance_of n.field-0 (view n.value.value) n.tpe = ap view (n.is ∙ sym (rolls-AsInstanceOf n.field-0 n.value n.tpe)) ∙ fold-roll-Tree Term Case view_step case_step (Tree-F.AsInstanceOf n.field-0 n.value n.tpe) in
-    rw (v, ← c.deref-in-AsInstanceOf.ensures) c.append_typed-in-AsInstanceOf.ensures
+pub append_cases-returns-after-loop-each : goal.append_cases-returns-after-loop-each
+append_cases-returns-after-loop-each t c =
+    let cs = c.args.cases.now in
+    let one = case_put (λ (ds : Cases). put_cases ds c.args.out.now.items) cs 0 c.first-item.result (omega (arith, c.in-len1-up.len_at_least)) c.first-item.is in
+    let done : drop c.loop-each.each-index (take (length cs - 1) (drop 1 cs)) ≡ [] = drop_all c.loop-each.each-index (take (length cs - 1) (drop 1 cs)) (omega (arith, c.loop-each-test.false)) in
+    let all = ap (λ (ds : List MatchCase). put_more_cases (cases_view ds) c.loop-each.out.items) (sym done) ∙ c.loop-each.invariant in
+    let behind = ap (λ (ds : List MatchCase). put_more_cases (cases_view ds) c.append_case.new.out.items) (take_rest cs 1) in
+    all ∙ behind ∙ ap (put_more_cases (cases_view (drop 1 cs))) c.in_ok-append_case-in-len1-up.ensures ∙ one
