@@ -1,8 +1,7 @@
 -- The members whose bodies are needed, and their functions.
 use Rattle.std.proofs.Common.{◌≡◌, ◌+◌, ◌≤◌, ℕ, true, false, List, [], ◌∷◌, ◌++◌, ◌||◌, ◌⊎◌, inl, inr, Option, Some, None, refl, sym, ap, subst, ◌∙◌, map, take, length, slice_get, Contains}
 use Rattle.std.specs.Prelude.{IsSome, is_some}
-use Rattle.std.proofs.lemmas.List.{take_more, take_all}
-use Rattle.std.proofs.lemmas.Option.{slice_get_within, get_or_from_slice_get}
+use Rattle.std.proofs.lemmas.List.{take_all, map-append}
 use Rattle.std.proofs.lemmas.List.Elements.{Contains-push_cases}
 use Rattle.js_tree.specs.Rules.{IsPiece}
 use Rattle.js_tree.specs.Views.{piece_view}
@@ -19,6 +18,7 @@ use Rattle.worklist.proofs.Inserted.{nothing_in}
 use Rattle.accepted_folders.proofs.Members.{found-member}
 use Rattle.folder_judging.specs.Counts.{members_of}
 use Rattle.folder_verdicts.specs.Stages.{IsDefined}
+use Rattle.folder_linking.proofs.Taken.{more_taken}
 use Rattle.folder_linking.specs.declared.functions.Function.{Function}
 use Rattle.folder_linking.specs.Functions.{HasAncestors, IsFunction, AreFunctions, member_of}
 
@@ -39,10 +39,6 @@ no_member (fact.CellUsed c) other = refl
 no_member (fact.NeededField c f s) other = refl
 no_member (fact.Body k) other = absurd (other k refl)
 no_member (fact.Called c m) other = refl
-
--- the first things of a list, and one more
-pub more_taken : {X : Type 0} (xs : List X) (n : ℕ) (x : X) → slice_get xs n ≡ Some x → take (n + 1) xs ≡ take n xs ++ x ∷ []
-more_taken xs n x at = take_more xs n x (slice_get_within xs n x at) ∙ ap (λ y. take n xs ++ y ∷ []) (get_or_from_slice_get xs n x x at)
 
 pub members_more : (facts : List Fact) (n : ℕ) (f : Fact) → slice_get facts n ≡ Some f → members_of (take (n + 1) facts) ≡ members_of (take n facts) ++ members_of (f ∷ [])
 members_more facts n f at = ap members_of (more_taken facts n f at) ∙ members_append (take n facts) f
@@ -74,13 +70,9 @@ function_is w k d f has is member piece rules above = go (some_of d.body (subst 
 pub no_functions : (w : Classes) → AreFunctions w [] []
 no_functions w = record { members_are = refl; each = λ f h. absurd (nothing_in f h) }
 
-map_push : {X Y : Type 0} (f : X → Y) (xs : List X) (x : X) → map f (xs ++ x ∷ []) ≡ map f xs ++ f x ∷ []
-map_push f [] x = refl
-map_push f (y ∷ ys) x = ap (λ zs. f y ∷ zs) (map_push f ys x)
-
 pub more_functions : (w : Classes) (ms : List Member) (n : ℕ) (k : Member) (f : Function) (old new : List Function) → slice_get ms n ≡ Some k → f.member.now ≡ k → IsFunction w f → new ≡ old ++ f ∷ [] → AreFunctions w (take n ms) old → AreFunctions w (take (n + 1) ms) new
 more_functions w ms n k f old new at member is made h = record {
-  members_are = ap (map member_of) made ∙ map_push member_of old f ∙ ap (λ (ks : List Member). ks ++ f.member.now ∷ []) h.members_are ∙ ap (λ (j : Member). take n ms ++ j ∷ []) member ∙ sym (more_taken ms n k at);
+  members_are = ap (map member_of) made ∙ map-append member_of old (f ∷ []) ∙ ap (λ (ks : List Member). ks ++ f.member.now ∷ []) h.members_are ∙ ap (λ (j : Member). take n ms ++ j ∷ []) member ∙ sym (more_taken ms n k at);
   each = λ g i. each g (Contains-push_cases old f g (subst (λ (l : List Function). Contains l g) made i));
 }
   where

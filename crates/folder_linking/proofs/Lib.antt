@@ -1,3 +1,4 @@
+pub mod Taken
 mod Bodies
 mod Counted
 pub mod Ordered

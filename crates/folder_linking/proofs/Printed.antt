@@ -4,7 +4,7 @@ use Rattle.std.specs.Prelude.{filter}
 use Rattle.std.proofs.Math.ListN.{drop_of_length-le}
 use Rattle.std.specs.List.{All, list_any}
 use Rattle.std.proofs.lemmas.Bool.{and_from}
-use Rattle.std.proofs.lemmas.List.{map-append}
+use Rattle.std.proofs.lemmas.List.{map-append, append-nil}
 use Rattle.std.proofs.lemmas.List.Elements.{All-nil, All-cons, All-head, All-tail, All-append, All-contains, Contains-append_right, Contains-append_cases, filter-append}
 use Rattle.std.proofs.lemmas.List.Sorted.{Contains-permutation, IsPermutation-sym}
 use Rattle.indexmap.specs.IndexSet.{insert_all}
@@ -37,7 +37,7 @@ use Rattle.linked_folders.specs.Link.{AreInOrder, IsFileOf, AreFilesOf, IsLink}
 use Rattle.folder_linking.specs.declared.files.ModuleFile.{ModuleFile}
 use Rattle.folder_linking.specs.Linking.{ArePieces}
 use Rattle.folder_linking.specs.Modules.{item_of, is_owned, module_of, IsPrinted, ArePrinted, KeepRules, as_file}
-use Rattle.folder_linking.proofs.Bodies.{more_taken}
+use Rattle.folder_linking.proofs.Taken.{more_taken}
 
 -- two tests that pass for the same reasons are one
 same_test : (a b : Bool) → (a ≡ true → b ≡ true) → (b ≡ true → a ≡ true) → a ≡ b
@@ -76,15 +76,11 @@ owned_one classes p h = ap (λ b. map item_of (cond b (p ∷ []) [])) h
 pub owned_none : (classes : List Name) (p : Piece) → is_owned classes p ≡ false → owned_items classes (p ∷ []) ≡ []
 owned_none classes p h = ap (λ b. map item_of (cond b (p ∷ []) [])) h
 
-pub append_nil : {X : Type 0} (xs : List X) → xs ++ [] ≡ xs
-append_nil [] = refl
-append_nil (x ∷ xs) = ap (λ ys. x ∷ ys) (append_nil xs)
-
 pub with_owned : {X : Type 0} (view : X → Piece) (classes : List Name) (ps : List X) (n : ℕ) (p : X) (old new : List Item) → slice_get ps n ≡ Some p → is_owned classes (view p) ≡ true → old ≡ owned_items classes (map view (take n ps)) → new ≡ old ++ (view p).item ∷ [] → new ≡ owned_items classes (map view (take (n + 1) ps))
 with_owned view classes ps n p old new at is h made = made ∙ ap (λ (l : List Item). l ++ (view p).item ∷ []) h ∙ sym (ap (λ (l : List Item). owned_items classes (map view (take n ps)) ++ l) (owned_one classes (view p) is)) ∙ sym (more_items view classes ps n p at)
 
 pub without_owned : {X : Type 0} (view : X → Piece) (classes : List Name) (ps : List X) (n : ℕ) (p : X) (old : List Item) → slice_get ps n ≡ Some p → is_owned classes (view p) ≡ false → old ≡ owned_items classes (map view (take n ps)) → old ≡ owned_items classes (map view (take (n + 1) ps))
-without_owned view classes ps n p old at is h = h ∙ sym (append_nil (owned_items classes (map view (take n ps)))) ∙ sym (ap (λ (l : List Item). owned_items classes (map view (take n ps)) ++ l) (owned_none classes (view p) is)) ∙ sym (more_items view classes ps n p at)
+without_owned view classes ps n p old at is h = h ∙ sym (append-nil (owned_items classes (map view (take n ps)))) ∙ sym (ap (λ (l : List Item). owned_items classes (map view (take n ps)) ++ l) (owned_none classes (view p) is)) ∙ sym (more_items view classes ps n p at)
 
 -- the items that code holds, as terms
 abbrev pub views : List (Rc JsItem Global) → List Item

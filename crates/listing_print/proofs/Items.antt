@@ -1,14 +1,12 @@
 -- Items of lists of trees and cases: what the loops over them need.
-use Rattle.std.proofs.Common.{◌≡◌, ◌∙◌, ℤ, ℕ, ◌+◌, ◌-◌, ◌≤◌, ◌<◌, List, [], ◌∷◌, length, drop, get_or, ap, arith, subst, sym}
+use Rattle.std.proofs.Common.{◌≡◌, ℕ, ◌+◌, ◌-◌, ◌≤◌, ◌<◌, List, [], ◌∷◌, length, drop, get_or, arith, subst}
 use Rattle.std.proofs.Math.ListN.{take}
 use Rattle.std.proofs.lemmas.List.{take_rest}
-use Rattle.sj_trees.specs.Term.{Term, Cases, more_cases}
-use Rattle.sj_trees.specs.View.{view, view_case, terms_view, cases_view, view_step, case_step, Case}
+use Rattle.sj_trees.specs.View.{view, terms_view, cases_view}
 use Rattle.sj_trees.specs.declared.trees.Tree.{Tree}
 use Rattle.sj_trees.specs.declared.trees.MatchCase.{MatchCase}
-use Rattle.sj_trees.specs.declared.trees.Tree.TheFolds.{fold_out-MatchCase}
 use Rattle.tree_parts.specs.Sizes.{size, size_of_all, size_of_cases}
-use Rattle.tree_parts.proofs.Items.{size_of_item, size_of_case, case_taken}
+use Rattle.tree_parts.proofs.Items.{size_of_item, size_of_case}
 
 -- what is behind the first
 behind_tree : (ts : List Tree) (n : ℕ) (t : Tree) → n < length (drop 1 ts) → t ≡ get_or (drop 1 ts) n t → size (view t) ≤ size_of_all (terms_view ts)
@@ -24,10 +22,3 @@ size_of_other_tree ts n t l e = behind_tree ts n t (subst (λ (us : List Tree). 
 
 pub size_of_other_case : (cs : List MatchCase) (n : ℕ) (c : MatchCase) → n < length (take (length cs - 1) (drop 1 cs)) → c ≡ get_or (take (length cs - 1) (drop 1 cs)) n c → size (view c.body) ≤ size_of_cases (cases_view cs)
 size_of_other_case cs n c l e = behind_case cs n c (subst (λ (ds : List MatchCase). n < length ds) (take_rest cs 1) l) (subst (λ (ds : List MatchCase). c ≡ get_or ds n c) (take_rest cs 1) e)
-
-keys_of_case : (c : MatchCase) → (view_case c).0 ≡ c.keys
-keys_of_case c = ap (λ (x : Case). x.0) (fold_out-MatchCase Term Case view_step case_step c)
-
--- one step through a list of cases
-pub case_put : {X : Type 0} → (f : Cases → X) (cs : List MatchCase) (n : ℕ) (c : MatchCase) → n < length cs → c ≡ get_or cs n c → f (more_cases c.keys (view c.body) (cases_view (drop (n + 1) cs))) ≡ f (cases_view (drop n cs))
-case_put f cs n c l e = ap (λ (ks : List ℤ). f (more_cases ks (view c.body) (cases_view (drop (n + 1) cs)))) (sym (keys_of_case c)) ∙ case_taken f cs n c l e

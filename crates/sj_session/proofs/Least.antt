@@ -4,9 +4,9 @@ use Rattle.std.specs.Prelude.{IfOk, IsTrue, nat_eq, not, ◌↔◌}
 use Rattle.std.specs.Cmp.Lexicographic.{pointwise}
 use Rattle.std.specs.List.{list_all}
 use Rattle.std.proofs.lemmas.Bool.{and_from}
-use Rattle.std.proofs.lemmas.List.{take_more, take_all}
+use Rattle.std.proofs.lemmas.List.{take_all}
 use Rattle.std.proofs.lemmas.List.Elements.{Contains-append_left, Contains-push, Contains-push_cases}
-use Rattle.std.proofs.lemmas.Option.{slice_get_within, slice_get_read, get_or_from_slice_get}
+use Rattle.std.proofs.lemmas.Option.{slice_get_read}
 use Rattle.sj_names.proofs.Same.{text-same, text-refl}
 use Rattle.sj_names.specs.declared.entry_points.EntryPoint.{EntryPoint}
 use Rattle.sj_names.specs.declared.memory.NoMemory.{NoMemory}
@@ -27,6 +27,7 @@ use Rattle.sj_world.specs.declared.facts.Fact.TheVariants.{Body}
 use Rattle.worklist.proofs.Inserted.{nothing_in}
 use Rattle.accepted_folders.proofs.Members.{found-member}
 use Rattle.built_forms.specs.Built.{not_built}
+use Rattle.folder_linking.proofs.Taken.{more_taken}
 use Rattle.linked_folders.specs.Edits.{HaveOneModule, IsUnbuilt}
 use Rattle.sj_session.specs.Unbuilt.{IsLeast, IsUnbuiltMember, first_of, lesser, IsWithMember, built, unbuilt, IsWithFact, body, other}
 
@@ -126,7 +127,7 @@ module _ (w : Classes) (facts : List Fact) where
 
 -- what is gone over is the facts, and one more of them is looked at
 pub more_least : (w x : Classes) (facts seen : List Fact) (n : ℕ) (f : Fact) (least new : Option (List ℕ)) → seen ≡ facts → x ≡ w → n < length seen → f ≡ get_or seen n f → LeastOf w (take n facts) least → IsWithFact x least f new → LeastOf w (take (n + 1) facts) new
-more_least w x facts seen n f least new same world less is h with = subst (λ (l : List Fact). LeastOf w l new) (sym (take_more facts n f (slice_get_within facts n f at) ∙ ap (λ (y : Fact). take n facts ++ y ∷ []) (get_or_from_slice_get facts n f f at))) (with_fact w (take n facts) f least new h (subst (λ (v : Classes). IsWithFact v least f new) world with))
+more_least w x facts seen n f least new same world less is h with = subst (λ (l : List Fact). LeastOf w l new) (sym (more_taken facts n f at)) (with_fact w (take n facts) f least new h (subst (λ (v : Classes). IsWithFact v least f new) world with))
   where
     at : slice_get facts n ≡ Some f
     at = subst (λ (l : List Fact). slice_get l n ≡ Some f) same (slice_get_read seen _ n f refl less is)

@@ -48,7 +48,7 @@ impl ClassWriter {
 
     #[cycle(tree)]
     fn field_of_tree(&mut self, files: &[Text], field: Field<'_>) -> Result<(), NoMemory>
-        requires { HasFiles (field_written files.now (field_seen field.entry)) }
+        requires { HasFiles (field_written files.now (field_seen field)) }
         ensures { OnOk result (self.new ≡ put (field_written files.now (field_seen field.entry)) self.old) }
     {
         match field {

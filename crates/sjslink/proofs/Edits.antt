@@ -3,10 +3,11 @@ use Rattle.std.proofs.Common.{◌≡◌, ◌<◌, ◌⊎◌, inl, inr, ℕ, zero
 use Rattle.std.specs.Prelude.{slice_get, ◌&&◌, Err}
 use Rattle.std.specs.List.{flat_map, list_all}
 use Rattle.std.proofs.lemmas.Grind.{flat_map-append}
-use Rattle.std.proofs.lemmas.List.{length-append, length-take-le, take_more}
+use Rattle.std.proofs.lemmas.List.{length-append, length-take-le}
 use Rattle.std.proofs.lemmas.List.Elements.{Contains-append_cases}
 use Rattle.std.proofs.lemmas.List.Folds.{list_all-append}
 use Rattle.std.proofs.lemmas.Option.{slice_get_within, slice_get_read, get_or_from_slice_get}
+use Rattle.folder_linking.proofs.Taken.{more_taken}
 use Rattle.sj_names.specs.declared.entry_points.EntryPoint.{EntryPoint}
 use Rattle.sj_names.specs.declared.folders.SourceFile.{SourceFile}
 use Rattle.sj_outside.specs.Contents.{Parts}
@@ -37,10 +38,6 @@ module _ {X : Type 0} where
       go : (slice_get xs i ≡ Some y) ⊎ ((i ≡ length xs) × (x ≡ y)) → (slice_get xs i ≡ Some y) ⊎ ((suc i ≡ suc (length xs)) × (x ≡ y))
       go (inl f) = inl f
       go (inr p) = inr (ap suc p.0, p.1)
-
-  -- the first ones and one more
-  first_and_more : (xs : List X) (k : ℕ) (x : X) → slice_get xs k ≡ Some x → take (k + 1) xs ≡ take k xs ++ x ∷ []
-  first_and_more xs k x at = take_more xs k x (slice_get_within xs k x at) ∙ ap (λ y. take k xs ++ y ∷ []) (get_or_from_slice_get xs k x x at)
 
 module _ (contents : Parts) (out : List ℕ) (entries : List EntryPoint) where
   edited_more : (paths : List (List ℕ)) (edits : List Edited) (path : List ℕ) (e : Edited) → AreEdited contents out entries paths edits → IsEdited contents out entries (length paths + 1) path e → AreEdited contents out entries (paths ++ path ∷ []) (edits ++ e ∷ [])
@@ -78,7 +75,7 @@ module _ (contents : Parts) (out : List ℕ) (entries : List EntryPoint) where
     abbrev more : FirstEdits contents out entries folders k → (e : Edited) → IsShownEdit out entries (k + 1) files e → FirstEdits contents out entries folders (k + 1)
     more first e s = record {
       edits = first.edits ++ e ∷ [];
-      are_edited = subst (λ (ps : List (List ℕ)). AreEdited contents out entries ps (first.edits ++ e ∷ [])) (sym (first_and_more folders k path at)) (edited_more (take k folders) first.edits path e first.are_edited one);
+      are_edited = subst (λ (ps : List (List ℕ)). AreEdited contents out entries ps (first.edits ++ e ∷ [])) (sym (more_taken folders k path at)) (edited_more (take k folders) first.edits path e first.are_edited one);
       accepted = first.accepted ++ accepted_of s.shown;
       shown = λ edit has. either edit (Contains-append_cases first.accepted (accepted_of s.shown) edit has);
       put = ap (flat_map put_in) (events_more first.edits e) ∙ flat_map-append put_in (flat_map events_of first.edits) e.events ∙ ap (λ ps. ps ++ flat_map put_in e.events) first.put ∙ ap (λ ps. flat_map (files_put out) first.accepted ++ ps) (puts_are _ s.shown) ∙ sym (flat_map-append (files_put out) first.accepted (accepted_of s.shown));

@@ -4,9 +4,9 @@ use Rattle.std.proofs.lemmas.List.{take_rest, drop_all}
 use Rattle.sj_trees.specs.Term.{Cases}
 use Rattle.sj_trees.specs.View.{cases_view}
 use Rattle.sj_trees.specs.declared.trees.MatchCase.{MatchCase}
-use Rattle.tree_fields.proofs.Items.{size_of_one}
+use Rattle.tree_fields.proofs.Items.{size_of_one, case_put}
 use Rattle.listing_spelling.specs.Texts.{put_cases, put_more_cases}
-use Rattle.listing_print.proofs.Items.{size_of_other_tree, size_of_other_case, case_put}
+use Rattle.listing_print.proofs.Items.{size_of_other_tree, size_of_other_case}
 use Rattle.listing_print.proofs.trees.+trees.Goals as goal
 
 pub append_cases-append_case-requires-in-loop-each : goal.append_cases-append_case-requires-in-loop-each
