@@ -1,5 +1,5 @@
 -- A tree is written as its code and its fields.
-use Rattle.std.proofs.Common.{◌≡◌, ◌<◌, ℕ, ◌+◌, List, [], ◌∷◌, length, map, drop, get_or, refl, sym, ap, subst, ◌∙◌}
+use Rattle.std.proofs.Common.{◌≡◌, ◌<◌, ℕ, ◌+◌, List, ◌∷◌, length, map, drop, get_or, refl, sym, ap, subst, ◌∙◌}
 use Rattle.std.proofs.lemmas.List.{drop_more}
 use Rattle.sj_trees.specs.Forms.{form_of, form_code}
 use Rattle.sj_trees.specs.Term.{Term, var_def, skip, block_of, labeled, assign, return_to, if_then, while_loop, do_while, try_catch, try_finally, throw, match_on, new_object, load_module, store_module, select, select_static, apply, apply_statically, apply_static, unary_op, binary_op, new_array, array_value, array_length, array_select, is_instance_of, as_instance_of, undefined_literal, null_literal, boolean_literal, char_literal, byte_literal, short_literal, int_literal, long_literal, string_literal, var_ref, this_ref, log_line}
@@ -10,7 +10,7 @@ use Rattle.sj_write.specs.Writing.{Writing, put}
 use Rattle.tree_fields.specs.Fields.{fields_of, field_seen}
 use Rattle.tree_fields.specs.declared.fields.Field.{Field}
 use Rattle.tree_fields.proofs.Items.{body_of_case}
-use Rattle.sj_trees.specs.View.{view, view_case, terms_view, cases_view}
+use Rattle.sj_trees.specs.View.{view, terms_view, cases_view}
 use Rattle.sj_trees.specs.declared.trees.Tree.{Tree}
 use Rattle.sj_trees.specs.declared.trees.MatchCase.{MatchCase}
 

@@ -1,4 +1,4 @@
-use Rattle.std.proofs.Common.{◌≡◌, ◌∙◌, ◌+◌, ◌<◌, ℕ, ℤ, List, OnOk, drop, ap, subst, arith}
+use Rattle.std.proofs.Common.{◌≡◌, ◌∙◌, ◌+◌, ℕ, ℤ, List, OnOk, drop, ap, subst, arith}
 use Rattle.sj_trees.specs.Forms.{form_code}
 use Rattle.sj_trees.specs.Term.{Cases}
 use Rattle.sj_trees.specs.View.{view, cases_view}
