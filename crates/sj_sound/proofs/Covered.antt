@@ -392,12 +392,13 @@ module _ (w : Classes) (law : IsSubtyping (IsSub w)) (is_mutable : List ℕ → 
         let own = arguments_there w (has.linked (member c n q)) ts q.params h.0.built h.0.finds h.0.meets.2 in
         (fits k t asks (result_is q.result t h.0.meets.1), is_linked w (has.linked (member c n q)) ts q.params h.0.built, h.0.meets.1, fit-all ts q.params own, fine_operands ts q.params s ls k v m r mut own h.1)
     fine (unary_op p o e) s ls k v m r mut asks h = (fits-value k (unary_result o) asks (unary-value o), fits-unary o (type_of_term e) h.0.meets, operand_by s ls e v h.1 (λ y. fine e s ls (to_variable y (type_of_term e)) v m r mut (asks-own y (type_of_term e) (unary_operand o) h.0.meets (value-not (unary_operand o) (unary-operand-value o))) h.1))
-    fine (binary_op p o e d) s ls k v m r mut asks h =
-        (fits-value k (binary_result o) asks (binary-value o),
-        ⊎_elim
-        (λ takes. inl (operates o e d takes, operand_by s ls e v h.1 (λ y. fine e s ls (to_variable y (type_of_term e)) v m r (one_mutable e d mut) (asks-left y o e d takes) h.1), operand_by s ls d v h.2 (λ y. fine d s ls (to_variable y (type_of_term d)) v m r (other_mutable e d mut) (asks-right y o e d takes) h.2)))
-        (λ divides. inr (divides.0, fits-dividend o d (type_of_term e) divides.0 divides.1, operand_by s ls e v h.1 (λ y. fine e s ls (to_variable y (type_of_term e)) v m r (one_mutable e d mut) (asks-own y (type_of_term e) (left_operand o) divides.1 (value-not (left_operand o) (left-operand-value o))) h.1)))
-        (operation w has s o e d h.0.built h.2 h.0.meets))
+    fine (binary_op p o e d) s ls k v m r mut asks h = (
+      fits-value k (binary_result o) asks (binary-value o),
+      ⊎_elim
+          (λ takes. inl (operates o e d takes, operand_by s ls e v h.1 (λ y. fine e s ls (to_variable y (type_of_term e)) v m r (one_mutable e d mut) (asks-left y o e d takes) h.1), operand_by s ls d v h.2 (λ y. fine d s ls (to_variable y (type_of_term d)) v m r (other_mutable e d mut) (asks-right y o e d takes) h.2)))
+          (λ divides. inr (divides.0, fits-dividend o d (type_of_term e) divides.0 divides.1, operand_by s ls e v h.1 (λ y. fine e s ls (to_variable y (type_of_term e)) v m r (one_mutable e d mut) (asks-own y (type_of_term e) (left_operand o) divides.1 (value-not (left_operand o) (left-operand-value o))) h.1)))
+          (operation w has s o e d h.0.built h.2 h.0.meets),
+    )
     fine (undefined_literal p) s ls k v m r mut asks h = fits-value k Undefined asks refl
     fine (null_literal p) s ls k v m r mut asks h = fits-value k Null asks refl
     fine (boolean_literal p b) s ls k v m r mut asks h = fits-value k Boolean asks refl
