@@ -18,7 +18,9 @@ use Rattle.sj_names.specs.declared.entry_points.EntryPoint.{EntryPoint}
 use Rattle.sj_names.specs.declared.method_names.Member.{Member}
 use Rattle.sj_plain.specs.Conditions.{Usable}
 use Rattle.sj_sound.specs.Linked.{has_function, have_functions, functions_of}
-use Rattle.sj_sound.specs.Typing.{Label, type_of_label}
+use Rattle.typing_rules.specs.declared.labels.Label.{Label}
+use Rattle.typing_rules.specs.Labels.{type_of_label}
+use Rattle.typing_rules.specs.Nodes.{inside as inside_label}
 use Rattle.sj_trees.specs.Term.{Term, Terms, no_terms, more_terms, Cases, no_cases, more_cases, var_def, skip, block_of, labeled, assign, return_to, if_then, while_loop, do_while, match_on, apply_static, unary_op, binary_op, undefined_literal, null_literal, boolean_literal, char_literal, byte_literal, short_literal, int_literal, long_literal, string_literal, var_ref, log_line}
 use Rattle.sj_trees.specs.declared.types.IrType.{IrType}
 use Rattle.built_forms.specs.Built.{is_boxed, yields_boxed, leaves_boxed, any_is_boxed, is_operation, is_built, are_built, are_built_cases, is_built_method, anything, is_built_body}
@@ -60,7 +62,7 @@ module _ (has : Usable) where
     built (var_def p x t b e) ls k h = let q = and_parts (not (is_boxed t e)) (is_built anything ls e) k in and_from (not (is_boxed t e)) (is_built has ls e) q.0 (built e ls q.1 (inner (var_def p x t b e) h))
     built (skip p) ls k h = refl
     built (block_of p ts) ls k h = all_built ts ls k (inner (block_of p ts) h)
-    built (labeled p l t e) ls k h = let q = and_parts (not (yields_boxed t e)) (is_built anything (record { name = l; tpe = t } ∷ ls) e) k in and_from (not (yields_boxed t e)) (is_built has (record { name = l; tpe = t } ∷ ls) e) q.0 (built e (record { name = l; tpe = t } ∷ ls) q.1 (inner (labeled p l t e) h))
+    built (labeled p l t e) ls k h = let q = and_parts (not (yields_boxed t e)) (is_built anything (inside_label l t ls) e) k in and_from (not (yields_boxed t e)) (is_built has (inside_label l t ls) e) q.0 (built e (inside_label l t ls) q.1 (inner (labeled p l t e) h))
     built (assign p (var_ref q x t) e) ls k h = let r = and_parts (not (is_boxed t e)) (is_built anything ls e) k in and_from (not (is_boxed t e)) (is_built has ls e) r.0 (built e ls r.1 (two (var_ref q x t) e (inner (assign p (var_ref q x t) e) h)).1)
     built (return_to p e l) ls k h = let q = and_parts (not (leaves_boxed (type_of_label ls l) e)) (is_built anything ls e) k in and_from (not (leaves_boxed (type_of_label ls l) e)) (is_built has ls e) q.0 (built e ls q.1 (inner (return_to p e l) h))
     built (if_then p c a b t) ls k h =

@@ -19,7 +19,9 @@ use Rattle.sj_names.proofs.Same.{impossible}
 use Rattle.sj_names.specs.declared.method_names.Member.{Member}
 use Rattle.sj_names.specs.declared.references.TypeRef.{TypeRef}
 use Rattle.sj_plain.specs.Conditions.{Usable}
-use Rattle.sj_sound.specs.Typing.{Label, type_of_label}
+use Rattle.typing_rules.specs.declared.labels.Label.{Label}
+use Rattle.typing_rules.specs.Labels.{type_of_label}
+use Rattle.typing_rules.specs.Nodes.{inside as inside_label}
 use Rattle.sj_trees.specs.Term.{Term, Terms, no_terms, more_terms, Cases, no_cases, more_cases, var_def, skip, block_of, labeled, assign, return_to, if_then, while_loop, do_while, match_on, apply_static, unary_op, binary_op, undefined_literal, null_literal, boolean_literal, char_literal, byte_literal, short_literal, int_literal, long_literal, string_literal, var_ref, this_ref, log_line}
 use Rattle.sj_trees.specs.TypeOf.{type_of_term, unary_result, binary_result}
 use Rattle.sj_trees.specs.Types.{reference_type}
@@ -272,8 +274,8 @@ module _ (U : Binding → Type 0) where
         tree (block_of p es) ts k j ls q h = block_built es ts k j ls q h
         tree (labeled p l t e) ts k j ls q h =
             let inner : Targets = record { label = l; goes_to = k } ∷ ts in
-            let r = and_parts (not (yields_boxed t e)) (is_built from (record { name = l; tpe = t } ∷ ls) e) q in
-            and_from (not (yields_boxed t e)) (is_built has (record { name = l; tpe = t } ∷ ls) e) r.0 (tree e inner k j (record { name = l; tpe = t } ∷ ls) r.1 (labeled_in k p l (into is_mutable inner k j e) h))
+            let r = and_parts (not (yields_boxed t e)) (is_built from (inside_label l t ls) e) q in
+            and_from (not (yields_boxed t e)) (is_built has (inside_label l t ls) e) r.0 (tree e inner k j (inside_label l t ls) r.1 (labeled_in k p l (into is_mutable inner k j e) h))
         tree (assign p (var_ref g x t) e) ts k j ls q h =
             let r = and_parts (not (is_boxed t e)) (is_built from ls e) q in
             let s : Spilled = spill (one_of ts e) j in

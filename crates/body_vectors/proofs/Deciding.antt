@@ -1,29 +1,33 @@
--- Rows of typing by computing: where the test of a tree is true, it has its row.
+-- The rules of bodies by computing: where the test of a tree is true, it keeps them.
 use Rattle.std.proofs.Common.{◌≡◌, ◌⊎◌, ◌<◌, ◌^◌, ℕ, Bool, true, false, ◌&&◌, ◌||◌, not, List, [], ◌∷◌, Option, Some, None, codes, refl, sym, subst, inl, inr, ⊎_elim, arith}
-use Rattle.std.specs.Prelude.{◌≢◌, ℤ, pos, negsuc, nat_lt, FitsSigned}
+use Rattle.std.specs.Prelude.{ℤ, pos, negsuc, nat_lt, FitsSigned}
 use Rattle.std.specs.Int.{w32, w64}
-use Rattle.std.specs.Ordering.{int_eq}
 use Rattle.std.proofs.lemmas.Bool.{and_parts}
-use Rattle.sj_desugar.specs.Desugar.{member, has_no_value}
+use Rattle.built_forms.specs.Built.{Usable, yields_boxed, stands}
+use Rattle.sj_desugar.specs.Desugar.{has_no_value}
 use Rattle.sj_names.proofs.Same.{impossible, text-same}
 use Rattle.sj_names.specs.Same.{is_same_text}
+use Rattle.sj_names.specs.declared.method_names.Namespace.{Namespace}
+use Rattle.sj_names.specs.declared.method_names.Namespace.TheVariants.{PublicStatic, PrivateStatic}
 use Rattle.sj_names.specs.declared.references.TypeRef.{TypeRef}
+use Rattle.sj_bodies.specs.Locals.{Own}
+use Rattle.sj_sound.specs.Typing.{Scene, local_of, IsResult, AllHaveValues, IsLocal, IsVariable, Defines, behind, in_label, Finds, Here, Typed, TypedBlock, TypedAll, TypedCases}
+use Rattle.sj_proper.specs.Once.{Once, OnceAll, OnceCases}
 use Rattle.sj_trees.proofs.SameTypes.{type-same}
 use Rattle.sj_trees.specs.SameTypes.{is_same_type}
 use Rattle.sj_trees.specs.Term.{Term, Terms, no_terms, more_terms, Cases, no_cases, more_cases, var_def, skip, block_of, labeled, assign, return_to, if_then, while_loop, do_while, match_on, apply_static, unary_op, binary_op, undefined_literal, null_literal, boolean_literal, char_literal, byte_literal, short_literal, int_literal, long_literal, string_literal, var_ref, log_line}
 use Rattle.sj_trees.specs.TypeOf.{type_of_term}
 use Rattle.sj_trees.specs.Types.{reference_type}
+use Rattle.sj_trees.specs.declared.classes.ParamDef.{ParamDef}
 use Rattle.sj_trees.specs.declared.operators.BinaryOp.{BinaryOp}
-use Rattle.sj_trees.specs.declared.operators.BinaryOp.TheVariants.{StringConcatenate, IntDivide, IntRemainder, LongDivide, LongRemainder}
+use Rattle.sj_trees.specs.declared.operators.BinaryOp.TheVariants.{StringConcatenate}
 use Rattle.sj_trees.specs.declared.types.IrType.{IrType}
 use Rattle.sj_trees.specs.declared.types.IrType.TheVariants.{Any, Nothing, Boolean, Int, String, Class, Array, NoType}
-use Rattle.sj_plain.specs.Conditions.{is_simple, unary_operand, left_operand, right_operand, DividesBy, by_int, by_long, a_quotient, a_remainder, a_long_quotient, a_long_remainder, Usable}
-use Rattle.sj_plain.specs.Standing.{call_type}
-use Rattle.sj_sound.specs.Typing.{Label, type_of_label, IsResult, IsJoined, FitsType, Yields, Takes, its_types, texts, ArgumentsFit}
-use Rattle.built_forms.specs.Built.{is_boxed}
-use Rattle.sj_kept.specs.Rows.{Rows, AllRows, CaseRows, Returns}
 use Rattle.sj_world.specs.Known.{Classes}
 use Rattle.sj_world.specs.Subtypes.{IsSub, equal, from_nothing, to_any}
+use Rattle.typing_rules.specs.declared.labels.Label.{Label}
+use Rattle.typing_rules.specs.Labels.{type_of_label}
+use Rattle.typing_rules.specs.Rules.{call_type, unary_operand, left_operand, right_operand, IsText, IsStatic, ArgumentsFit, OperandsFit, CasesYield, ReturnsTo, Yields, nothing_wanted, fitting, Meets}
 
 either : (a b : Bool) → (a || b) ≡ true → (a ≡ true) ⊎ (b ≡ true)
 either true b h = inl refl
@@ -49,12 +53,8 @@ is_any _ = false
 abbrev is_below : IrType → IrType → Bool
 is_below s t = is_same_type s t || (is_nothing s || (is_any t && not (is_none s)))
 
--- the tree stands where the type is expected
-abbrev fits_there : Term → IrType → Bool
-fits_there e t = is_below (type_of_term e) t && not (is_boxed t e)
-
 abbrev pub yields_there : Term → IrType → Bool
-yields_there e t = is_none t || fits_there e t
+yields_there e t = is_none t || is_below (type_of_term e) t
 
 abbrev leaves_there : Option IrType → Term → Bool
 leaves_there None e = false
@@ -62,79 +62,119 @@ leaves_there (Some t) e = yields_there e t
 
 abbrev arguments_fit : Terms → List TypeRef → Bool
 arguments_fit no_terms [] = true
-arguments_fit (more_terms e es) (r ∷ rs) = fits_there e (reference_type r) && (not (has_no_value (reference_type r)) && arguments_fit es rs)
+arguments_fit (more_terms e es) (r ∷ rs) = is_below (type_of_term e) (reference_type r) && arguments_fit es rs
 arguments_fit _ _ = false
 
-abbrev is_joined : IrType → Bool
-is_joined Any = false
-is_joined NoType = false
-is_joined (Array r) = false
-is_joined (Class c) = is_same_text c (codes "java.lang.String")
-is_joined _ = true
+abbrev cases_yield : Cases → IrType → Bool
+cases_yield no_cases t = true
+cases_yield (more_cases ks e cs) t = yields_there e t && cases_yield cs t
 
-abbrev is_join : BinaryOp → Bool
-is_join StringConcatenate = true
-is_join _ = false
+abbrev is_text : IrType → Bool
+is_text Any = false
+is_text NoType = false
+is_text (Array r) = false
+is_text (Class c) = is_same_text c (codes "java.lang.String")
+is_text _ = true
 
-abbrev takes : BinaryOp → Term → Term → Bool
-takes o e d = (is_simple o && (is_below (type_of_term e) (left_operand o) && is_below (type_of_term d) (right_operand o))) || (is_join o && (is_joined (type_of_term e) && is_joined (type_of_term d)))
+abbrev operands_fit : BinaryOp → Term → Term → Bool
+operands_fit StringConcatenate a b = is_text (type_of_term a) && is_text (type_of_term b)
+operands_fit o a b = is_below (type_of_term a) (left_operand o) && is_below (type_of_term b) (right_operand o)
+
+abbrev is_static : Namespace → Bool
+is_static PublicStatic = true
+is_static PrivateStatic = true
+is_static _ = false
+
+-- the rule of the form, for the forms that are built
+abbrev is_met : List Label → Term → Bool
+is_met ls (var_def p x t b e) = is_below (type_of_term e) t
+is_met ls (skip p) = true
+is_met ls (labeled p l t e) = yields_there e t
+is_met ls (assign p (var_ref q x t) e) = is_below (type_of_term e) t
+is_met ls (return_to p e l) = leaves_there (type_of_label ls l) e
+is_met ls (if_then p c a b t) = is_below (type_of_term c) Boolean && (yields_there a t && yields_there b t)
+is_met ls (while_loop p c b) = is_below (type_of_term c) Boolean
+is_met ls (do_while p b c) = is_below (type_of_term c) Boolean
+is_met ls (match_on p e cs d t) = is_below (type_of_term e) Int && (cases_yield cs t && yields_there d t)
+is_met ls (apply_static p c n m ts t) = is_static n && (is_same_type t (call_type m.result) && arguments_fit ts m.params)
+is_met ls (unary_op p o e) = is_below (type_of_term e) (unary_operand o)
+is_met ls (binary_op p o a b) = operands_fit o a b
+is_met ls (undefined_literal p) = true
+is_met ls (null_literal p) = true
+is_met ls (boolean_literal p b) = true
+is_met ls (char_literal p u) = true
+is_met ls (byte_literal p z) = true
+is_met ls (short_literal p z) = true
+is_met ls (int_literal p z) = true
+is_met ls (long_literal p z) = true
+is_met ls (string_literal p us) = true
+is_met ls (var_ref p x t) = true
+is_met ls (log_line p e) = is_below (type_of_term e) String
+is_met ls _ = false
 
 abbrev has_bits : ℕ → ℤ → Bool
 has_bits limit (pos n) = nat_lt n limit
 has_bits limit (negsuc n) = nat_lt n limit
 
-abbrev is_int_divisor : Term → Bool
-is_int_divisor (int_literal p z) = has_bits (2 ^ 31) z && not (int_eq z (pos 0))
-is_int_divisor _ = false
+abbrev all_have_values : List TypeRef → Bool
+all_have_values [] = true
+all_have_values (r ∷ rs) = not (has_no_value (reference_type r)) && all_have_values rs
 
-abbrev is_long_divisor : Term → Bool
-is_long_divisor (long_literal p z) = has_bits (2 ^ 63) z && not (int_eq z (pos 0))
-is_long_divisor _ = false
+abbrev is_local : Option ParamDef → IrType → Bool
+is_local None t = false
+is_local (Some d) t = is_same_type d.tpe t
 
-abbrev divides : BinaryOp → Term → Bool
-divides IntDivide d = is_int_divisor d
-divides IntRemainder d = is_int_divisor d
-divides LongDivide d = is_long_divisor d
-divides LongRemainder d = is_long_divisor d
-divides _ d = false
+abbrev is_variable : Option ParamDef → IrType → Bool
+is_variable None t = false
+is_variable (Some d) t = is_same_type d.tpe t && d.«mutable»
+
+-- what a tree asks of its surroundings, but that it defines no local twice
+abbrev is_found : Scene → Term → Bool
+is_found s (var_def p x t b e) = not (has_no_value t)
+is_found s (assign p (var_ref q x t) e) = is_variable (local_of s.locals x) t
+is_found s (apply_static p c n m ts t) = all_have_values m.params
+is_found s (char_literal p u) = nat_lt u (2 ^ 16)
+is_found s (byte_literal p z) = has_bits (2 ^ 31) z
+is_found s (short_literal p z) = has_bits (2 ^ 31) z
+is_found s (int_literal p z) = has_bits (2 ^ 31) z
+is_found s (long_literal p z) = has_bits (2 ^ 63) z
+is_found s (var_ref p x t) = is_local (local_of s.locals x) t
+is_found s _ = true
 
 module _ (has : Usable) where
+  abbrev is_here : Scene → Term → Bool
+  is_here s t = is_met s.labels t && (stands has s.labels t && is_found s t)
+
   abbrev mutual
-    pub is_row : List Label → Term → Bool
-    is_row ls (var_def p x t b e) = fits_there e t && is_row ls e
-    is_row ls (skip p) = true
-    is_row ls (block_of p ts) = are_rows ls ts
-    is_row ls (labeled p l t e) = yields_there e t && is_row (record { name = l; tpe = t } ∷ ls) e
-    is_row ls (assign p (var_ref q x t) e) = fits_there e t && is_row ls e
-    is_row ls (return_to p e l) = leaves_there (type_of_label ls l) e && is_row ls e
-    is_row ls (if_then p c a b t) = is_below (type_of_term c) Boolean && (yields_there a t && (yields_there b t && (is_row ls c && (is_row ls a && is_row ls b))))
-    is_row ls (while_loop p c b) = is_below (type_of_term c) Boolean && (is_row ls c && is_row ls b)
-    is_row ls (do_while p b c) = is_below (type_of_term c) Boolean && (is_row ls b && is_row ls c)
-    is_row ls (match_on p e cs d t) = is_below (type_of_term e) Int && (yields_there d t && (is_row ls e && (are_case_rows ls t cs && is_row ls d)))
-    is_row ls (apply_static p c n m ts t) = has.linked (member c n m) && ((is_none t || not (has_no_value t)) && (arguments_fit ts m.params && (are_rows ls ts && is_same_type t (call_type m.result))))
-    is_row ls (unary_op p o e) = is_below (type_of_term e) (unary_operand o) && is_row ls e
-    is_row ls (binary_op p o e d) = (takes o e d && (is_row ls e && is_row ls d)) || (divides o d && (is_below (type_of_term e) (left_operand o) && is_row ls e))
-    is_row ls (undefined_literal p) = true
-    is_row ls (null_literal p) = true
-    is_row ls (boolean_literal p b) = true
-    is_row ls (char_literal p u) = nat_lt u (2 ^ 16)
-    is_row ls (byte_literal p z) = has_bits (2 ^ 31) z
-    is_row ls (short_literal p z) = has_bits (2 ^ 31) z
-    is_row ls (int_literal p z) = has_bits (2 ^ 31) z
-    is_row ls (long_literal p z) = has_bits (2 ^ 63) z
-    is_row ls (string_literal p us) = true
-    is_row ls (var_ref p x t) = true
-    is_row ls (log_line p e) = is_below (type_of_term e) String && is_row ls e
-    is_row ls _ = false
+    pub is_typed : Scene → Term → Bool
+    is_typed s (var_def p x t b e) = is_here s (var_def p x t b e) && is_typed s e
+    is_typed s (block_of p ts) = is_typed_block s ts
+    is_typed s (labeled p l t e) = is_here s (labeled p l t e) && is_typed (in_label l t s) e
+    is_typed s (assign p (var_ref q x t) e) = is_here s (assign p (var_ref q x t) e) && is_typed s e
+    is_typed s (return_to p e l) = is_here s (return_to p e l) && is_typed s e
+    is_typed s (if_then p c a b t) = is_here s (if_then p c a b t) && (is_typed s c && (is_typed s a && is_typed s b))
+    is_typed s (while_loop p c b) = is_here s (while_loop p c b) && (is_typed s c && is_typed s b)
+    is_typed s (do_while p b c) = is_here s (do_while p b c) && (is_typed s b && is_typed s c)
+    is_typed s (match_on p e cs d t) = is_here s (match_on p e cs d t) && (is_typed s e && (are_typed_cases s t cs && is_typed s d))
+    is_typed s (apply_static p c n m ts t) = is_here s (apply_static p c n m ts t) && are_typed s ts
+    is_typed s (unary_op p o e) = is_here s (unary_op p o e) && is_typed s e
+    is_typed s (binary_op p o e d) = is_here s (binary_op p o e d) && (is_typed s e && is_typed s d)
+    is_typed s (log_line p e) = is_here s (log_line p e) && is_typed s e
+    is_typed s t = is_here s t
 
-    pub are_rows : List Label → Terms → Bool
-    are_rows ls no_terms = true
-    are_rows ls (more_terms t ts) = is_row ls t && are_rows ls ts
+    pub is_typed_block : Scene → Terms → Bool
+    is_typed_block s no_terms = false
+    is_typed_block s (more_terms t no_terms) = is_typed s t
+    is_typed_block s (more_terms t (more_terms u us)) = is_typed s t && is_typed_block (behind t s) (more_terms u us)
 
-    pub are_case_rows : List Label → IrType → Cases → Bool
-    are_case_rows ls t no_cases = true
-    are_case_rows ls t (more_cases [] e cs) = are_case_rows ls t cs
-    are_case_rows ls t (more_cases (n ∷ ns) e cs) = yields_there e t && (is_row ls e && are_case_rows ls t cs)
+    pub are_typed : Scene → Terms → Bool
+    are_typed s no_terms = true
+    are_typed s (more_terms t ts) = is_typed s t && are_typed s ts
+
+    pub are_typed_cases : Scene → IrType → Cases → Bool
+    are_typed_cases s t no_cases = true
+    are_typed_cases s t (more_cases [] e cs) = are_typed_cases s t cs
+    are_typed_cases s t (more_cases (n ∷ ns) e cs) = (yields_there e t && not (yields_boxed t e)) && (is_typed s e && are_typed_cases s t cs)
 
 -- ---- what the tests tell
 
@@ -153,16 +193,17 @@ any_is t h = impossible h
 not_none : (t : IrType) → not (is_none t) ≡ true → t ≡ NoType → ⊥
 not_none t h e = let none : not (is_none NoType) ≡ true = subst (λ (u : IrType). not (is_none u) ≡ true) e h in impossible none
 
-joined : (t : IrType) → is_joined t ≡ true → IsJoined t
-joined Any h = impossible h
-joined NoType h = impossible h
-joined (Array r) h = impossible h
-joined (Class c) h = text-same c (codes "java.lang.String") h
-joined t h = tt
+text_is : (t : IrType) → is_text t ≡ true → IsText t
+text_is Any h = impossible h
+text_is NoType h = impossible h
+text_is (Array r) h = impossible h
+text_is (Class c) h = text-same c (codes "java.lang.String") h
+text_is t h = tt
 
-join_is : (o : BinaryOp) → is_join o ≡ true → o ≡ StringConcatenate
-join_is StringConcatenate h = refl
-join_is o h = impossible h
+static_is : (n : Namespace) → is_static n ≡ true → IsStatic n
+static_is PublicStatic h = tt
+static_is PrivateStatic h = tt
+static_is n h = impossible h
 
 ints : (z : ℤ) → has_bits (2 ^ 31) z ≡ true → FitsSigned w32 z
 ints (pos n) h = let small : nat_lt n (2 ^ 31) ≡ true = h in let below : n < 2 ^ 31 = grind arith in record { sfits = below }
@@ -172,11 +213,40 @@ longs : (z : ℤ) → has_bits (2 ^ 63) z ≡ true → FitsSigned w64 z
 longs (pos n) h = let small : nat_lt n (2 ^ 63) ≡ true = h in let below : n < 2 ^ 63 = grind arith in record { sfits = below }
 longs (negsuc n) h = let small : nat_lt n (2 ^ 63) ≡ true = h in let below : n < 2 ^ 63 = grind arith in record { sfits = below }
 
-not_zero : (z : ℤ) → not (int_eq z (pos 0)) ≡ true → z ≢ pos 0
-not_zero z h e = let none : not (int_eq (pos 0) (pos 0)) ≡ true = subst (λ (y : ℤ). not (int_eq y (pos 0)) ≡ true) e h in impossible none
+units : (u : ℕ) → nat_lt u (2 ^ 16) ≡ true → u < 2 ^ 16
+units u h = grind arith
 
 pub result_is : (t : IrType) → (is_none t || not (has_no_value t)) ≡ true → IsResult t
 result_is t h = ⊎_elim (λ k. inl (none_is t k)) (λ k. inr (when_not (has_no_value t) k)) (either (is_none t) (not (has_no_value t)) h)
+
+values_are : (rs : List TypeRef) → all_have_values rs ≡ true → AllHaveValues rs
+values_are [] h = tt
+values_are (r ∷ rs) h = let k = and_parts (not (has_no_value (reference_type r))) (all_have_values rs) h in (when_not (has_no_value (reference_type r)) k.0, values_are rs k.1)
+
+local_is : (s : Scene) (x : List ℕ) (t : IrType) (o : Option ParamDef) → local_of s.locals x ≡ o → is_local o t ≡ true → IsLocal s x t
+local_is s x t None e h = impossible h
+local_is s x t (Some d) e h = record { local = d; is = e; type_is = type-same d.tpe t h }
+
+variable_is : (s : Scene) (x : List ℕ) (t : IrType) (o : Option ParamDef) → local_of s.locals x ≡ o → is_variable o t ≡ true → IsVariable s x t
+variable_is s x t None e h = impossible h
+variable_is s x t (Some d) e h = let k = and_parts (is_same_type d.tpe t) d.«mutable» h in record { local = d; is = e; type_is = type-same d.tpe t k.0; «mutable» = k.1 }
+
+found : (around : List (List ℕ)) (s : Scene) (t : Term) → Once around t → is_found s t ≡ true → Finds s t
+found around s (var_def p x t b e) o h = (when_not (has_no_value t) h, o.0)
+found around s (assign p (var_ref q x t) e) o h = variable_is s x t (local_of s.locals x) refl h
+found around s (apply_static p c n m ts t) o h = values_are m.params h
+found around s (char_literal p u) o h = units u h
+found around s (byte_literal p z) o h = ints z h
+found around s (short_literal p z) o h = ints z h
+found around s (int_literal p z) o h = ints z h
+found around s (long_literal p z) o h = longs z h
+found around s (var_ref p x t) o h = local_is s x t (local_of s.locals x) refl h
+found around s _ o h = tt
+
+-- what a statement of a block defines it declares
+defined : (t : Term) (x : List ℕ) → Defines t x → Own t x
+defined (var_def p y t b e) x d = inl d
+defined _ x d = absurd d
 
 module _ (w : Classes) (has : Usable) where
   below : (s t : IrType) → is_below s t ≡ true → IsSub w s t
@@ -189,105 +259,99 @@ module _ (w : Classes) (has : Usable) where
       (either (is_nothing s) (is_any t && not (is_none s)) k))
       (either (is_same_type s t) (is_nothing s || (is_any t && not (is_none s))) h)
 
-  fits_type : (e : Term) (t : IrType) → fits_there e t ≡ true → FitsType (IsSub w) has e t
-  fits_type e t h = let p = and_parts (is_below (type_of_term e) t) (not (is_boxed t e)) h in (below (type_of_term e) t p.0, when_not (is_boxed t e) p.1)
+  pub yields_type : (e : Term) (t : IrType) → yields_there e t ≡ true → Yields w e t
+  yields_type e t h = ⊎_elim (λ k. nothing_wanted (none_is t k)) (λ k. fitting (below (type_of_term e) t k)) (either (is_none t) (is_below (type_of_term e) t) h)
 
-  pub yields_type : (e : Term) (t : IrType) → yields_there e t ≡ true → Yields (IsSub w) has e t
-  yields_type e t h = ⊎_elim (λ k. inl (none_is t k)) (λ k. inr (fits_type e t k)) (either (is_none t) (fits_there e t) h)
-
-  returns : (ls : List Label) (l : List ℕ) (e : Term) (found : Option IrType) → found ≡ type_of_label ls l → leaves_there found e ≡ true → Returns (IsSub w) has ls l e
+  returns : (ls : List Label) (l : List ℕ) (e : Term) (o : Option IrType) → o ≡ type_of_label ls l → leaves_there o e ≡ true → ReturnsTo w ls l e
   returns ls l e None is h = impossible h
-  returns ls l e (Some t) is h = record { tpe = t; is = sym is; yields = yields_type e t h }
+  returns ls l e (Some t) is h = record { tpe = t; is_type = sym is; yields = yields_type e t h }
 
-  arguments : (es : Terms) (rs : List TypeRef) → arguments_fit es rs ≡ true → ArgumentsFit (IsSub w) has es rs
+  arguments : (es : Terms) (rs : List TypeRef) → arguments_fit es rs ≡ true → ArgumentsFit w es rs
   arguments no_terms [] h = tt
   arguments no_terms (r ∷ rs) h = impossible h
   arguments (more_terms e es) [] h = impossible h
-  arguments (more_terms e es) (r ∷ rs) h =
-      let p = and_parts (fits_there e (reference_type r)) (not (has_no_value (reference_type r)) && arguments_fit es rs) h in
-      let q = and_parts (not (has_no_value (reference_type r))) (arguments_fit es rs) p.1 in
-      (fits_type e (reference_type r) p.0, when_not (has_no_value (reference_type r)) q.0, arguments es rs q.1)
+  arguments (more_terms e es) (r ∷ rs) h = let p = and_parts (is_below (type_of_term e) (reference_type r)) (arguments_fit es rs) h in (below (type_of_term e) (reference_type r) p.0, arguments es rs p.1)
 
-  taken : (o : BinaryOp) (e d : Term) → takes o e d ≡ true → Takes (IsSub w) has o e d
-  taken o e d h =
-      let its = is_below (type_of_term e) (left_operand o) && is_below (type_of_term d) (right_operand o) in
-      let joins = is_joined (type_of_term e) && is_joined (type_of_term d) in
-      ⊎_elim
-      (λ k. let p = and_parts (is_simple o) its k in let q = and_parts (is_below (type_of_term e) (left_operand o)) (is_below (type_of_term d) (right_operand o)) p.1 in its_types p.0 (below (type_of_term e) (left_operand o) q.0) (below (type_of_term d) (right_operand o) q.1))
-      (λ k. let p = and_parts (is_join o) joins k in let q = and_parts (is_joined (type_of_term e)) (is_joined (type_of_term d)) p.1 in texts (join_is o p.0) (joined (type_of_term e) q.0) (joined (type_of_term d) q.1))
-      (either (is_simple o && its) (is_join o && joins) h)
+  all_yield : (cs : Cases) (t : IrType) → cases_yield cs t ≡ true → CasesYield w cs t
+  all_yield no_cases t h = tt
+  all_yield (more_cases ks e cs) t h = let p = and_parts (yields_there e t) (cases_yield cs t) h in (yields_type e t p.0, all_yield cs t p.1)
 
-  int_by : (o : BinaryOp) (d : Term) → is_int_divisor d ≡ true → (o ≡ IntDivide) ⊎ (o ≡ IntRemainder) → DividesBy o d
-  int_by o (int_literal p z) h is = let k = and_parts (has_bits (2 ^ 31) z) (not (int_eq z (pos 0))) h in ⊎_elim (λ e. subst (λ (u : BinaryOp). DividesBy u (int_literal p z)) (sym e) (by_int _ a_quotient p z (ints z k.0) (not_zero z k.1))) (λ e. subst (λ (u : BinaryOp). DividesBy u (int_literal p z)) (sym e) (by_int _ a_remainder p z (ints z k.0) (not_zero z k.1))) is
-  int_by o d h is = impossible h
+  operands : (o : BinaryOp) (a b : Term) → operands_fit o a b ≡ true → OperandsFit w o a b
+  operands StringConcatenate a b h = let p = and_parts (is_text (type_of_term a)) (is_text (type_of_term b)) h in (text_is (type_of_term a) p.0, text_is (type_of_term b) p.1)
+  operands o a b h = let p = and_parts (is_below (type_of_term a) (left_operand o)) (is_below (type_of_term b) (right_operand o)) h in (below (type_of_term a) (left_operand o) p.0, below (type_of_term b) (right_operand o) p.1)
 
-  long_by : (o : BinaryOp) (d : Term) → is_long_divisor d ≡ true → (o ≡ LongDivide) ⊎ (o ≡ LongRemainder) → DividesBy o d
-  long_by o (long_literal p z) h is = let k = and_parts (has_bits (2 ^ 63) z) (not (int_eq z (pos 0))) h in ⊎_elim (λ e. subst (λ (u : BinaryOp). DividesBy u (long_literal p z)) (sym e) (by_long _ a_long_quotient p z (longs z k.0) (not_zero z k.1))) (λ e. subst (λ (u : BinaryOp). DividesBy u (long_literal p z)) (sym e) (by_long _ a_long_remainder p z (longs z k.0) (not_zero z k.1))) is
-  long_by o d h is = impossible h
+  met : (space : Namespace) (ls : List Label) (t : Term) → is_met ls t ≡ true → Meets w space ls t
+  met space ls (var_def p x t b e) h = below (type_of_term e) t h
+  met space ls (skip p) h = tt
+  met space ls (labeled p l t e) h = yields_type e t h
+  met space ls (assign p (var_ref q x t) e) h = (tt, below (type_of_term e) t h)
+  met space ls (return_to p e l) h = returns ls l e (type_of_label ls l) refl h
+  met space ls (if_then p c a b t) h = let k = and_parts (is_below (type_of_term c) Boolean) (yields_there a t && yields_there b t) h in let both = and_parts (yields_there a t) (yields_there b t) k.1 in (below (type_of_term c) Boolean k.0, yields_type a t both.0, yields_type b t both.1)
+  met space ls (while_loop p c b) h = below (type_of_term c) Boolean h
+  met space ls (do_while p b c) h = below (type_of_term c) Boolean h
+  met space ls (match_on p e cs d t) h = let k = and_parts (is_below (type_of_term e) Int) (cases_yield cs t && yields_there d t) h in let branches = and_parts (cases_yield cs t) (yields_there d t) k.1 in (below (type_of_term e) Int k.0, all_yield cs t branches.0, yields_type d t branches.1)
+  met space ls (apply_static p c n m ts t) h = let k = and_parts (is_static n) (is_same_type t (call_type m.result) && arguments_fit ts m.params) h in let handed = and_parts (is_same_type t (call_type m.result)) (arguments_fit ts m.params) k.1 in (static_is n k.0, type-same t (call_type m.result) handed.0, arguments ts m.params handed.1)
+  met space ls (unary_op p o e) h = below (type_of_term e) (unary_operand o) h
+  met space ls (binary_op p o a b) h = operands o a b h
+  met space ls (undefined_literal p) h = tt
+  met space ls (null_literal p) h = tt
+  met space ls (boolean_literal p b) h = tt
+  met space ls (char_literal p u) h = tt
+  met space ls (byte_literal p z) h = tt
+  met space ls (short_literal p z) h = tt
+  met space ls (int_literal p z) h = tt
+  met space ls (long_literal p z) h = tt
+  met space ls (string_literal p us) h = tt
+  met space ls (var_ref p x t) h = tt
+  met space ls (log_line p e) h = below (type_of_term e) String h
+  met space ls _ h = impossible h
 
-  divided : (o : BinaryOp) (d : Term) → divides o d ≡ true → DividesBy o d
-  divided IntDivide d h = int_by IntDivide d h (inl refl)
-  divided IntRemainder d h = int_by IntRemainder d h (inr refl)
-  divided LongDivide d h = long_by LongDivide d h (inl refl)
-  divided LongRemainder d h = long_by LongRemainder d h (inr refl)
-  divided o d h = impossible h
+  here : (around : List (List ℕ)) (s : Scene) (t : Term) → Once around t → is_here has s t ≡ true → Here w has s t
+  here around s t o h = let k = and_parts (is_met s.labels t) (stands has s.labels t && is_found s t) h in let rest = and_parts (stands has s.labels t) (is_found s t) k.1 in record { meets = met s.space s.labels t k.0; built = rest.0; finds = found around s t o rest.1 }
+
+  -- a tree with one tree in it
+  with_one : (around inner : List (List ℕ)) (s r : Scene) (t e : Term) → Once around t → (Once inner e → is_typed has r e ≡ true → Typed w has r e) → Once inner e → (is_here has s t && is_typed has r e) ≡ true → Here w has s t × Typed w has r e
+  with_one around inner s r t e o typed i h = let k = and_parts (is_here has s t) (is_typed has r e) h in (here around s t o k.0, typed i k.1)
 
   mutual
-    pub row : (ls : List Label) (t : Term) → is_row has ls t ≡ true → Rows (IsSub w) has ls t
-    row ls (var_def p x t b e) h = let k = and_parts (fits_there e t) (is_row has ls e) h in (fits_type e t k.0, row ls e k.1)
-    row ls (skip p) h = tt
-    row ls (block_of p ts) h = all_rows ls ts h
-    row ls (labeled p l t e) h = let k = and_parts (yields_there e t) (is_row has (record { name = l; tpe = t } ∷ ls) e) h in (yields_type e t k.0, row (record { name = l; tpe = t } ∷ ls) e k.1)
-    row ls (assign p (var_ref q x t) e) h = let k = and_parts (fits_there e t) (is_row has ls e) h in (fits_type e t k.0, row ls e k.1)
-    row ls (return_to p e l) h = let k = and_parts (leaves_there (type_of_label ls l) e) (is_row has ls e) h in (returns ls l e (type_of_label ls l) refl k.0, row ls e k.1)
-    row ls (if_then p c a b t) h =
-        let k = and_parts (is_below (type_of_term c) Boolean) (yields_there a t && (yields_there b t && (is_row has ls c && (is_row has ls a && is_row has ls b)))) h in
-        let one = and_parts (yields_there a t) (yields_there b t && (is_row has ls c && (is_row has ls a && is_row has ls b))) k.1 in
-        let other = and_parts (yields_there b t) (is_row has ls c && (is_row has ls a && is_row has ls b)) one.1 in
-        let condition = and_parts (is_row has ls c) (is_row has ls a && is_row has ls b) other.1 in
-        let branches = and_parts (is_row has ls a) (is_row has ls b) condition.1 in
-        (below (type_of_term c) Boolean k.0, yields_type a t one.0, yields_type b t other.0, row ls c condition.0, row ls a branches.0, row ls b branches.1)
-    row ls (while_loop p c b) h = let k = and_parts (is_below (type_of_term c) Boolean) (is_row has ls c && is_row has ls b) h in let parts = and_parts (is_row has ls c) (is_row has ls b) k.1 in (below (type_of_term c) Boolean k.0, row ls c parts.0, row ls b parts.1)
-    row ls (do_while p b c) h = let k = and_parts (is_below (type_of_term c) Boolean) (is_row has ls b && is_row has ls c) h in let parts = and_parts (is_row has ls b) (is_row has ls c) k.1 in (below (type_of_term c) Boolean k.0, row ls b parts.0, row ls c parts.1)
-    row ls (match_on p e cs d t) h =
-        let k = and_parts (is_below (type_of_term e) Int) (yields_there d t && (is_row has ls e && (are_case_rows has ls t cs && is_row has ls d))) h in
-        let otherwise = and_parts (yields_there d t) (is_row has ls e && (are_case_rows has ls t cs && is_row has ls d)) k.1 in
-        let selector = and_parts (is_row has ls e) (are_case_rows has ls t cs && is_row has ls d) otherwise.1 in
-        let branches = and_parts (are_case_rows has ls t cs) (is_row has ls d) selector.1 in
-        (below (type_of_term e) Int k.0, yields_type d t otherwise.0, row ls e selector.0, case_rows ls t cs branches.0, row ls d branches.1)
-    row ls (apply_static p c n m ts t) h =
-        let k = and_parts (has.linked (member c n m)) ((is_none t || not (has_no_value t)) && (arguments_fit ts m.params && (are_rows has ls ts && is_same_type t (call_type m.result)))) h in
-        let result = and_parts (is_none t || not (has_no_value t)) (arguments_fit ts m.params && (are_rows has ls ts && is_same_type t (call_type m.result))) k.1 in
-        let handed = and_parts (arguments_fit ts m.params) (are_rows has ls ts && is_same_type t (call_type m.result)) result.1 in
-        let parts = and_parts (are_rows has ls ts) (is_same_type t (call_type m.result)) handed.1 in
-        (k.0, result_is t result.0, arguments ts m.params handed.0, all_rows ls ts parts.0, type-same t (call_type m.result) parts.1)
-    row ls (unary_op p o e) h = let k = and_parts (is_below (type_of_term e) (unary_operand o)) (is_row has ls e) h in (below (type_of_term e) (unary_operand o) k.0, row ls e k.1)
-    row ls (binary_op p o e d) h =
-        ⊎_elim
-        (λ k. let its = and_parts (takes o e d) (is_row has ls e && is_row has ls d) k in let parts = and_parts (is_row has ls e) (is_row has ls d) its.1 in inl (taken o e d its.0, row ls e parts.0, row ls d parts.1))
-        (λ k. let its = and_parts (divides o d) (is_below (type_of_term e) (left_operand o) && is_row has ls e) k in let parts = and_parts (is_below (type_of_term e) (left_operand o)) (is_row has ls e) its.1 in inr (divided o d its.0, below (type_of_term e) (left_operand o) parts.0, row ls e parts.1))
-        (either (takes o e d && (is_row has ls e && is_row has ls d)) (divides o d && (is_below (type_of_term e) (left_operand o) && is_row has ls e)) h)
-    row ls (undefined_literal p) h = tt
-    row ls (null_literal p) h = tt
-    row ls (boolean_literal p b) h = tt
-    row ls (char_literal p u) h = let small : nat_lt u (2 ^ 16) ≡ true = h in grind arith
-    row ls (byte_literal p z) h = ints z h
-    row ls (short_literal p z) h = ints z h
-    row ls (int_literal p z) h = ints z h
-    row ls (long_literal p z) h = longs z h
-    row ls (string_literal p us) h = tt
-    row ls (var_ref p x t) h = tt
-    row ls (log_line p e) h = let k = and_parts (is_below (type_of_term e) String) (is_row has ls e) h in (below (type_of_term e) String k.0, row ls e k.1)
-    row ls t h = impossible h
+    pub typed : (around : List (List ℕ)) (s : Scene) (t : Term) → Once around t → is_typed has s t ≡ true → Typed w has s t
+    typed ar s (var_def p x t b e) o h = with_one ar ar s s (var_def p x t b e) e o (typed ar s e) o.1 h
+    typed ar s (block_of p ts) o h = typed_block ar s ts o h
+    typed ar s (labeled p l t e) o h = with_one ar (l ∷ ar) s (in_label l t s) (labeled p l t e) e o (typed (l ∷ ar) (in_label l t s) e) o.1 h
+    typed ar s (assign p (var_ref q x t) e) o h = with_one ar ar s s (assign p (var_ref q x t) e) e o (typed ar s e) o h
+    typed ar s (return_to p e l) o h = with_one ar ar s s (return_to p e l) e o (typed ar s e) o.1 h
+    typed ar s (if_then p c a b t) o h =
+        let k = and_parts (is_here has s (if_then p c a b t)) (is_typed has s c && (is_typed has s a && is_typed has s b)) h in
+        let condition = and_parts (is_typed has s c) (is_typed has s a && is_typed has s b) k.1 in
+        let branches = and_parts (is_typed has s a) (is_typed has s b) condition.1 in
+        (here ar s (if_then p c a b t) o k.0, typed ar s c o.0 condition.0, typed ar s a o.1 branches.0, typed ar s b o.2 branches.1)
+    typed ar s (while_loop p c b) o h = let k = and_parts (is_here has s (while_loop p c b)) (is_typed has s c && is_typed has s b) h in let parts = and_parts (is_typed has s c) (is_typed has s b) k.1 in (here ar s (while_loop p c b) o k.0, typed ar s c o.0 parts.0, typed ar s b o.1 parts.1)
+    typed ar s (do_while p b c) o h = let k = and_parts (is_here has s (do_while p b c)) (is_typed has s b && is_typed has s c) h in let parts = and_parts (is_typed has s b) (is_typed has s c) k.1 in (here ar s (do_while p b c) o k.0, typed ar s b o.0 parts.0, typed ar s c o.1 parts.1)
+    typed ar s (match_on p e cs d t) o h =
+        let k = and_parts (is_here has s (match_on p e cs d t)) (is_typed has s e && (are_typed_cases has s t cs && is_typed has s d)) h in
+        let selector = and_parts (is_typed has s e) (are_typed_cases has s t cs && is_typed has s d) k.1 in
+        let branches = and_parts (are_typed_cases has s t cs) (is_typed has s d) selector.1 in
+        (here ar s (match_on p e cs d t) o k.0, typed ar s e o.0 selector.0, typed_cases ar s t cs o.1 branches.0, typed ar s d o.2 branches.1)
+    typed ar s (apply_static p c n m ts t) o h = let k = and_parts (is_here has s (apply_static p c n m ts t)) (are_typed has s ts) h in (here ar s (apply_static p c n m ts t) o k.0, typed_all ar s ts o k.1)
+    typed ar s (unary_op p q e) o h = with_one ar ar s s (unary_op p q e) e o (typed ar s e) o h
+    typed ar s (binary_op p q e d) o h = let k = and_parts (is_here has s (binary_op p q e d)) (is_typed has s e && is_typed has s d) h in let parts = and_parts (is_typed has s e) (is_typed has s d) k.1 in (here ar s (binary_op p q e d) o k.0, typed ar s e o.0 parts.0, typed ar s d o.1 parts.1)
+    typed ar s (log_line p e) o h = with_one ar ar s s (log_line p e) e o (typed ar s e) o h
+    typed ar s t o h = here ar s t o h
 
-    all_rows : (ls : List Label) (ts : Terms) → are_rows has ls ts ≡ true → AllRows (IsSub w) has ls ts
-    all_rows ls no_terms h = tt
-    all_rows ls (more_terms t ts) h = let k = and_parts (is_row has ls t) (are_rows has ls ts) h in (row ls t k.0, all_rows ls ts k.1)
+    typed_block : (around : List (List ℕ)) (s : Scene) (ts : Terms) → OnceAll around ts → is_typed_block has s ts ≡ true → TypedBlock w has s ts
+    typed_block ar s no_terms o h = impossible h
+    typed_block ar s (more_terms t no_terms) o h = typed ar s t o.0 h
+    typed_block ar s (more_terms t (more_terms u us)) o h = let k = and_parts (is_typed has s t) (is_typed_block has (behind t s) (more_terms u us)) h in (typed ar s t o.0 k.0, (λ x d i. o.2 x (defined t x d) i), typed_block ar (behind t s) (more_terms u us) o.1 k.1)
 
-    case_rows : (ls : List Label) (t : IrType) (cs : Cases) → are_case_rows has ls t cs ≡ true → CaseRows (IsSub w) has ls t cs
-    case_rows ls t no_cases h = tt
-    case_rows ls t (more_cases [] e cs) h = case_rows ls t cs h
-    case_rows ls t (more_cases (n ∷ ns) e cs) h =
-        let k = and_parts (yields_there e t) (is_row has ls e && are_case_rows has ls t cs) h in
-        let parts = and_parts (is_row has ls e) (are_case_rows has ls t cs) k.1 in
-        (yields_type e t k.0, row ls e parts.0, case_rows ls t cs parts.1)
+    typed_all : (around : List (List ℕ)) (s : Scene) (ts : Terms) → OnceAll around ts → are_typed has s ts ≡ true → TypedAll w has s ts
+    typed_all ar s no_terms o h = tt
+    typed_all ar s (more_terms t ts) o h = let k = and_parts (is_typed has s t) (are_typed has s ts) h in (typed ar s t o.0 k.0, typed_all ar s ts o.1 k.1)
+
+    typed_cases : (around : List (List ℕ)) (s : Scene) (t : IrType) (cs : Cases) → OnceCases around cs → are_typed_cases has s t cs ≡ true → TypedCases w has s t cs
+    typed_cases ar s t no_cases o h = tt
+    typed_cases ar s t (more_cases [] e cs) o h = typed_cases ar s t cs o.1 h
+    typed_cases ar s t (more_cases (n ∷ ns) e cs) o h =
+        let k = and_parts (yields_there e t && not (yields_boxed t e)) (is_typed has s e && are_typed_cases has s t cs) h in
+        let own = and_parts (yields_there e t) (not (yields_boxed t e)) k.0 in
+        let parts = and_parts (is_typed has s e) (are_typed_cases has s t cs) k.1 in
+        ((yields_type e t own.0, own.1), typed ar s e o.0 parts.0, typed_cases ar s t cs o.1 parts.1)

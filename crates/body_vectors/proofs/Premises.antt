@@ -36,13 +36,17 @@ use Rattle.sj_sound.proofs.Topped.{topped}
 use Rattle.sj_world.specs.Ancestors.{directly_above}
 use Rattle.sj_world.specs.Known.{object}
 use Rattle.sj_plain.specs.Conditions.{Usable}
+use Rattle.built_forms.specs.Built.{yields_boxed}
 use Rattle.sj_sound.specs.Typing.{local_of, HasValue}
+use Rattle.sj_sound.specs.Rules.{scene_of}
 use Rattle.sj_sound.specs.Worked.{emitted}
 use Rattle.sj_proper.specs.Program.{HaveOwnMembers}
 use Rattle.sj_kept.specs.Programs.{IsAccepted}
+use Rattle.sj_kept.proofs.Classes.{class-keeps}
+use Rattle.sj_kept.proofs.Methods.{body_keeps}
 use Rattle.sj_kept.proofs.Programs.{classes_agree}
 use Rattle.body_vectors.specs.Bounds.{emitted_of, all_emitted, class_within, file_within}
-use Rattle.body_vectors.proofs.Deciding.{when_not, is_none, yields_there, is_row, row, yields_type, result_is}
+use Rattle.body_vectors.proofs.Deciding.{when_not, is_none, yields_there, is_typed, typed, yields_type, result_is}
 use Rattle.body_vectors.proofs.Unbroken.{opposite, are_new, like_named, declares_once, Computed, unbroken}
 
 abbrev pub body_or_skip : Option Term → Term
@@ -155,7 +159,7 @@ well_named m h =
     record { simple = k.0; params = parameters m.params rest.0; result = result_named m.result rest.1 }
 
 abbrev is_accepted : Usable → MethodDef → Bool
-is_accepted has d = is_row has [] (body_in d) && (yields_there (body_in d) d.result && ((is_none d.result || not (has_no_value d.result)) && (are_values d.params && is_well_named d.name)))
+is_accepted has d = is_typed has (scene_of d) (body_in d) && (yields_there (body_in d) d.result && (not (yields_boxed d.result (body_in d)) && ((is_none d.result || not (has_no_value d.result)) && (are_values d.params && is_well_named d.name))))
 
 -- a method of `java.lang.Object` that the class gives for its member
 record IsFound (c : ClassDef) (d : MethodDef) : Type 0 where
@@ -165,10 +169,12 @@ record IsFound (c : ClassDef) (d : MethodDef) : Type 0 where
 
 accepted : (c : ClassDef) (fs : List EmittedMethod) (d : MethodDef) → FirstBroken c None → IsFound c d → is_accepted (functions_of fs) d ≡ true → IsAccepted (c ∷ []) fs (emitted d (body_in d))
 accepted c fs d unbroken there h =
-    let row-is = and_parts (is_row (functions_of fs) [] (body_in d)) (yields_there (body_in d) d.result && ((is_none d.result || not (has_no_value d.result)) && (are_values d.params && is_well_named d.name))) h in
-    let value = and_parts (yields_there (body_in d) d.result) ((is_none d.result || not (has_no_value d.result)) && (are_values d.params && is_well_named d.name)) row-is.1 in
-    let result = and_parts (is_none d.result || not (has_no_value d.result)) (are_values d.params && is_well_named d.name) value.1 in
+    let body = and_parts (is_typed (functions_of fs) (scene_of d) (body_in d)) (yields_there (body_in d) d.result && (not (yields_boxed d.result (body_in d)) && ((is_none d.result || not (has_no_value d.result)) && (are_values d.params && is_well_named d.name)))) h in
+    let value = and_parts (yields_there (body_in d) d.result) (not (yields_boxed d.result (body_in d)) && ((is_none d.result || not (has_no_value d.result)) && (are_values d.params && is_well_named d.name))) body.1 in
+    let raw = and_parts (not (yields_boxed d.result (body_in d))) ((is_none d.result || not (has_no_value d.result)) && (are_values d.params && is_well_named d.name)) value.1 in
+    let result = and_parts (is_none d.result || not (has_no_value d.result)) (are_values d.params && is_well_named d.name) raw.1 in
     let names = and_parts (are_values d.params) (is_well_named d.name) result.1 in
+    let once = body_keeps c d (body_in d) there.has_body (class-keeps c unbroken d there.listed) in
     record {
       owner = c;
       unbroken = unbroken;
@@ -176,10 +182,14 @@ accepted c fs d unbroken there h =
       named = refl;
       found = there.found;
       has_body = there.has_body;
-      rows = row (c ∷ []) (functions_of fs) [] (body_in d) row-is.0;
-      yields = yields_type (c ∷ []) (functions_of fs) (body_in d) d.result value.0;
-      result = result_is d.result result.0;
-      values = have_values d.params names.0;
+      rules = record {
+        typed = typed (c ∷ []) (functions_of fs) [] (scene_of d) (body_in d) once.once body.0;
+        yields = yields_type (c ∷ []) (functions_of fs) (body_in d) d.result value.0;
+        unboxed = raw.0;
+        result = result_is d.result result.0;
+        values = have_values d.params names.0;
+        fresh = once.fresh;
+      };
       class_name = refl;
       method_name = well_named d.name names.1;
     }

@@ -2,7 +2,7 @@
 use Rattle.std.proofs.Common.{◌≡◌, ◌∙◌, ◌<◌, ◌+◌, ℕ, suc, Bool, true, false, ◌&&◌, List, [], ◌∷◌, refl, sym, ap, length, get_or, drop, add-one}
 use Rattle.std.specs.Prelude.{ℤ, not}
 use Rattle.std.proofs.Math.Seq.{drop-cons}
-use Rattle.sj_sound.specs.Typing.{Label}
+use Rattle.typing_rules.specs.declared.labels.Label.{Label}
 use Rattle.sj_trees.specs.Term.{Term, Cases, no_cases, more_cases}
 use Rattle.sj_trees.specs.View.{view_case, cases_view}
 use Rattle.sj_trees.specs.declared.trees.MatchCase.{MatchCase}

@@ -1,3 +1,4 @@
 pub mod Arguments
 pub mod Cases
+pub mod Around
 pub mod Rows

@@ -6,8 +6,10 @@ use Rattle.sj_desugar.specs.Desugar.{member}
 use Rattle.sj_names.specs.declared.method_names.Namespace.{Namespace}
 use Rattle.sj_names.specs.declared.method_names.Namespace.TheVariants.{PublicStatic, PrivateStatic}
 use Rattle.sj_names.specs.declared.references.TypeRef.{TypeRef}
-use Rattle.sj_plain.specs.Conditions.{Usable}
-use Rattle.sj_sound.specs.Typing.{Label, type_of_label}
+use Rattle.sj_names.specs.declared.method_names.Member.{Member}
+use Rattle.typing_rules.specs.declared.labels.Label.{Label}
+use Rattle.typing_rules.specs.Labels.{type_of_label}
+use Rattle.typing_rules.specs.Nodes.{inside}
 use Rattle.sj_trees.specs.Term.{Term, Terms, no_terms, more_terms, Cases, no_cases, more_cases, var_def, skip, block_of, labeled, assign, return_to, if_then, while_loop, do_while, match_on, apply_static, unary_op, binary_op, undefined_literal, null_literal, boolean_literal, char_literal, byte_literal, short_literal, int_literal, long_literal, string_literal, var_ref, log_line}
 use Rattle.sj_trees.specs.TypeOf.{type_of_term}
 use Rattle.sj_trees.specs.Types.{reference_type}
@@ -54,36 +56,57 @@ is_operation LongDivide d = is_nonzero_long d
 is_operation LongRemainder d = is_nonzero_long d
 is_operation _ d = true
 
+-- what a body can use: the members that are linked. Forms that make objects, read fields or load modules add what there is of these.
+pub record Usable : Type 0 where
+  pub linked : Member → Bool
+
 module _ (has : Usable) where
+  -- the tree is of the forms that are built, whatever the trees in it are: its call is of a linked member, its divisor is a literal, and no char stands where
+  -- another type is expected
+  abbrev pub stands : List Label → Term → Bool
+  stands ls (var_def p x t b e) = not (is_boxed t e)
+  stands ls (skip p) = true
+  stands ls (block_of p ts) = true
+  stands ls (labeled p l t e) = not (yields_boxed t e)
+  stands ls (assign p (var_ref q x t) e) = not (is_boxed t e)
+  stands ls (return_to p e l) = not (leaves_boxed (type_of_label ls l) e)
+  stands ls (if_then p c a b t) = not (yields_boxed t a) && not (yields_boxed t b)
+  stands ls (while_loop p c b) = true
+  stands ls (do_while p b c) = true
+  stands ls (match_on p e cs d t) = not (yields_boxed t d)
+  stands ls (apply_static p c n m ts t) = has.linked (member c n m) && not (any_is_boxed m.params ts)
+  stands ls (unary_op p o e) = true
+  stands ls (binary_op p o e d) = is_operation o d
+  stands ls (undefined_literal p) = true
+  stands ls (null_literal p) = true
+  stands ls (boolean_literal p b) = true
+  stands ls (char_literal p u) = true
+  stands ls (byte_literal p z) = true
+  stands ls (short_literal p z) = true
+  stands ls (int_literal p z) = true
+  stands ls (long_literal p z) = true
+  stands ls (string_literal p us) = true
+  stands ls (var_ref p x t) = true
+  stands ls (log_line p e) = true
+  stands ls _ = false
+
   abbrev mutual
-    -- a tree of the forms that are built, with these labels around it, the innermost first: calls are of linked members, divisors are literals,
-    -- and no char stands where another type is expected
+    -- a tree of the forms that are built, with these labels around it, the innermost last
     pub is_built : List Label → Term → Bool
-    is_built ls (var_def p x t b e) = not (is_boxed t e) && is_built ls e
-    is_built ls (skip p) = true
+    is_built ls (var_def p x t b e) = stands ls (var_def p x t b e) && is_built ls e
     is_built ls (block_of p ts) = are_built ls ts
-    is_built ls (labeled p l t e) = not (yields_boxed t e) && is_built (record { name = l; tpe = t } ∷ ls) e
-    is_built ls (assign p (var_ref q x t) e) = not (is_boxed t e) && is_built ls e
-    is_built ls (return_to p e l) = not (leaves_boxed (type_of_label ls l) e) && is_built ls e
-    is_built ls (if_then p c a b t) = (not (yields_boxed t a) && not (yields_boxed t b)) && (is_built ls c && (is_built ls a && is_built ls b))
+    is_built ls (labeled p l t e) = stands ls (labeled p l t e) && is_built (inside l t ls) e
+    is_built ls (assign p (var_ref q x t) e) = stands ls (assign p (var_ref q x t) e) && is_built ls e
+    is_built ls (return_to p e l) = stands ls (return_to p e l) && is_built ls e
+    is_built ls (if_then p c a b t) = stands ls (if_then p c a b t) && (is_built ls c && (is_built ls a && is_built ls b))
     is_built ls (while_loop p c b) = is_built ls c && is_built ls b
     is_built ls (do_while p b c) = is_built ls b && is_built ls c
-    is_built ls (match_on p e cs d t) = not (yields_boxed t d) && (is_built ls e && (are_built_cases ls t cs && is_built ls d))
+    is_built ls (match_on p e cs d t) = stands ls (match_on p e cs d t) && (is_built ls e && (are_built_cases ls t cs && is_built ls d))
     is_built ls (apply_static p c n m ts t) = has.linked (member c n m) && (not (any_is_boxed m.params ts) && are_built ls ts)
     is_built ls (unary_op p o e) = is_built ls e
-    is_built ls (binary_op p o e d) = is_operation o d && (is_built ls e && is_built ls d)
-    is_built ls (undefined_literal p) = true
-    is_built ls (null_literal p) = true
-    is_built ls (boolean_literal p b) = true
-    is_built ls (char_literal p u) = true
-    is_built ls (byte_literal p z) = true
-    is_built ls (short_literal p z) = true
-    is_built ls (int_literal p z) = true
-    is_built ls (long_literal p z) = true
-    is_built ls (string_literal p us) = true
-    is_built ls (var_ref p x t) = true
+    is_built ls (binary_op p o e d) = stands ls (binary_op p o e d) && (is_built ls e && is_built ls d)
     is_built ls (log_line p e) = is_built ls e
-    is_built ls _ = false
+    is_built ls t = stands ls t
 
     pub are_built : List Label → Terms → Bool
     are_built ls no_terms = true

@@ -1,7 +1,7 @@
 // The labels around a tree.
 ghost use Rattle.std.specs.Prelude.{◌≡◌, option_map};
 ghost use Rattle.built_forms.specs.Labels.{labels_view};
-ghost use Rattle.sj_sound.specs.Typing as around;
+ghost use Rattle.typing_rules.specs.Labels as around;
 
 use sj_names::LabelName;
 use sj_trees::IrType;

@@ -17,7 +17,7 @@ use Rattle.sj_calls.specs.Files.{EmittedMethod, program_with}
 use Rattle.sj_sound.specs.Linked.{have_functions, functions_of}
 use Rattle.sj_proper.specs.Program.{HaveOwnMembers}
 use Rattle.sj_kept.specs.Programs.{IsAccepted}
-use Rattle.sj_kept.proofs.Classes.{keeps-superclass, signature-keeps}
+use Rattle.sj_kept.proofs.Classes.{class-keeps, keeps-superclass, signature-keeps}
 use Rattle.sj_kept.proofs.Programs.{classes_agree}
 use Rattle.sj_local.specs.Broken.{FirstBroken}
 use Rattle.sj_local.specs.ClassRules.{is_class, is_interface, is_empty, keeps_superclass}
@@ -31,8 +31,9 @@ use Rattle.sj_trees.specs.Term.{Term}
 use Rattle.sj_world.specs.Ancestors.{listed, written, above_in}
 use Rattle.sj_world.specs.Known.{class_of, object}
 use Rattle.sj_world.specs.Laws.{IsTopped}
-use Rattle.sj_typed.proofs.Bodies.{has_rows, yields_result}
-use Rattle.sj_typed.proofs.Values.{result_is, parameters_have_values}
+use Rattle.sj_sound.proofs.RulesGive.{result_is}
+use Rattle.sj_typed.proofs.Bodies.{rules_kept}
+use Rattle.sj_typed.proofs.Values.{parameters_have_values}
 use Rattle.sj_judged.specs.Judged.{IsJudgedClass, IsJudgedMethod}
 use Rattle.sj_judged.proofs.Found.{OwnerOf, owner_of, here, there}
 
@@ -63,10 +64,7 @@ module _ (w : World) (fs : List EmittedMethod) (classes : (c : ClassDef) → Con
     named = sym its.named;
     found = h.found;
     has_body = h.has_body;
-    rows = has_rows w (functions_of fs) e.definition e.its_body h.has_body h.typed h.built body;
-    yields = yields_result w (functions_of fs) e.definition e.its_body h.has_body h.typed h.built;
-    result = result_is e.definition.name.result e.definition.result types.1;
-    values = parameters_have_values e.definition.params e.definition.name.params types.0 method.0.0.params;
+    rules = rules_kept w (functions_of fs) its.owner e.definition e.its_body h.has_body (class-keeps its.owner judged.unbroken e.definition its.listed) h.typed h.built body (result_is e.definition.name.result e.definition.result types.1) (parameters_have_values e.definition.params e.definition.name.params types.0 method.0.0.params);
     class_name = subst (λ (n : List ℕ). IsTrue (is_class_name n)) (sym its.class_is) listing.name.0;
     method_name = subst IsMethodName (sym its.named) method.0.0;
   }

@@ -19,19 +19,15 @@ use Rattle.sj_trees.specs.Term.{Term}
 use Rattle.sj_trees.specs.declared.classes.ClassDef.{ClassDef}
 use Rattle.sj_trees.specs.declared.classes.MethodDef.{MethodDef}
 use Rattle.sj_trees.specs.declared.classes.ParamDef.{ParamDef}
-use Rattle.sj_trees.specs.declared.types.IrType.{IrType}
 use Rattle.sj_bodies.proofs.Contexts.{is-equal}
 use Rattle.sj_names.proofs.Same.{impossible}
 use Rattle.sj_calls.specs.Methods.{IsParameter}
 use Rattle.sj_proper.specs.Once.{IsAmong, Once}
 use Rattle.sj_proper.specs.Program.{AreDistinct}
-use Rattle.sj_sound.specs.Rules.{KeepsRules}
-use Rattle.sj_sound.specs.Typing.{local_of, HasValue, IsResult, Yields}
+use Rattle.sj_sound.specs.Typing.{local_of}
 use Rattle.sj_kept.specs.Kept.{KeepsTreeRules, DefinesOnce}
-use Rattle.sj_kept.specs.Rows.{Rows}
 use Rattle.sj_kept.proofs.Distinct.{Has, NoRepeat, declares, own-declares, repeat-parts, once}
-use Rattle.sj_kept.proofs.Kept.{AllKeep, SameLocal, neither, both_have, typed}
-use Rattle.sj_plain.specs.Conditions.{Usable}
+use Rattle.sj_kept.proofs.Kept.{AllKeep, SameLocal, neither, both_have}
 
 suc-none : (o : Option ℕ) → option_map suc o ≡ None → o ≡ None
 suc-none None h = refl
@@ -131,7 +127,7 @@ same-none _ _ (both_have d) e = impossible (cc)
 abbrev locals_of : List ParamDef → List Local
 locals_of ps = map rules.local_of ps
 
-params-same : (ps : List ParamDef) → AreDistinct (names_of ps) → (y : List ℕ) → SameLocal (innermost (locals_of ps) y) (local_of ps y)
+pub params-same : (ps : List ParamDef) → AreDistinct (names_of ps) → (y : List ℕ) → SameLocal (innermost (locals_of ps) y) (local_of ps y)
 params-same [] h y = neither
 params-same (p ∷ ps) h y = go (pointwise nat_eq y p.name) refl (params-same ps h.1 y)
   where
@@ -139,33 +135,24 @@ params-same (p ∷ ps) h y = go (pointwise nat_eq y p.name) refl (params-same ps
     go true e k = subst (λ o. SameLocal (last_some (Some (rules.local_of p)) o) (Some p)) (sym (same-none (innermost (locals_of ps) y) (local_of ps y) k (none-there ps y (λ i. h.0 (subst (IsAmong (names_of ps)) (is-equal y p.name e) i))))) (both_have p)
     go false e k = subst (λ o. SameLocal o (local_of ps y)) (sym (last-none (innermost (locals_of ps) y))) k
 
-module _ (sub : IrType → IrType → Type 0) (has : Usable) (c : ClassDef) (d : MethodDef) (e : Term) (body : d.body ≡ Some e) (kept : KeepsTreeRules c d) where
+module _ (c : ClassDef) (d : MethodDef) (e : Term) (body : d.body ≡ Some e) (kept : KeepsTreeRules c d) where
   twice : DeclaresTwice d None
   twice = kept.declared
 
   nodes-are : method_nodes d ≡ node (outermost d) e ∷ below (outermost d) e
   nodes-are = ap (body_nodes d) body
 
-  keep : AllKeep (node (outermost d) e ∷ below (outermost d) e)
+  pub keep : AllKeep (node (outermost d) e ∷ below (outermost d) e)
   keep = subst AllKeep nodes-are (all-keep c d.namespace (method_nodes d) kept.definition kept.variable kept.jump)
 
   apart : NoRepeat (param_declarations d.params) × NoRepeat (declares (node (outermost d) e ∷ below (outermost d) e)) × ((q : Declaration) → Has (param_declarations d.params) q → Has (declares (node (outermost d) e ∷ below (outermost d) e)) q → ⊥)
   apart = repeat-parts (param_declarations d.params) (declares (node (outermost d) e ∷ below (outermost d) e)) (subst (λ xs. NoRepeat (param_declarations d.params ++ declares xs)) nodes-are (method-distinct d twice))
 
-  distinct : AreDistinct (names_of d.params)
+  pub distinct : AreDistinct (names_of d.params)
   distinct = params-distinct d.params apart.0
 
-  body_once : Once [] e
+  pub body_once : Once [] e
   body_once = once e (outermost d) (outermost d) [] refl (record { known = λ l h. impossible h }) keep.0 keep.1 apart.1 (λ l i k. i)
 
   pub body_keeps : DefinesOnce d e
   body_keeps = record { once = body_once; parameters = distinct; fresh = λ x o i. apart.2 (declaration.Local x) (param-among d.params x (param-is d.params x i)) (own-declares e (outermost d) x o) }
-
-  pub rules_kept : Rows sub has [] e → Yields sub has e d.result → IsResult d.result → ((x : List ℕ) (p : ParamDef) → local_of d.params x ≡ Some p → HasValue p.tpe) → KeepsRules sub has d e
-  rules_kept rows yields result values = record {
-    typed = typed sub has e (outermost d) (outermost d) (record { locals = d.params; labels = [] }) [] refl (record { same = params-same d.params distinct }) keep.0 keep.1 body_once rows;
-    yields = yields;
-    result = result;
-    values = values;
-    fresh = body_keeps.fresh;
-  }

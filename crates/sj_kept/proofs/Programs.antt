@@ -7,24 +7,23 @@ use Rattle.js_mean.specs.Shows.{js_shows}
 use Rattle.sj_names.specs.declared.entry_points.EntryPoint.{EntryPoint}
 use Rattle.sj_names.specs.declared.method_names.MethodName.{MethodName}
 use Rattle.sj_calls.specs.Files.{EmittedMethod, program_with}
-use Rattle.sj_sound.specs.Linked.{have_functions, IsRight, functions_of}
+use Rattle.sj_sound.specs.Linked.{have_functions, IsRight}
 use Rattle.sj_calls.specs.Methods.{HaveTypes}
 use Rattle.sj_world.specs.Laws.{IsTopped}
-use Rattle.sj_world.specs.Subtypes.{IsSub}
 use Rattle.sj_plain.specs.Standing.{call_type}
 use Rattle.sj_proper.specs.Program.{HaveOwnMembers, IsWhole}
 use Rattle.sj_proper.proofs.Modules.{linked_agrees}
 use Rattle.sj_kept.specs.Kept.{KeepsTreeRules, DefinesOnce}
 use Rattle.sj_kept.specs.Programs.{IsAccepted}
 use Rattle.sj_kept.proofs.Classes.{class-keeps, signature-keeps}
-use Rattle.sj_kept.proofs.Methods.{body_keeps, rules_kept}
+use Rattle.sj_kept.proofs.Methods.{body_keeps}
 
 module _ (w : World) (fs : List EmittedMethod) (e : EmittedMethod) (h : IsAccepted w fs e) where
   kept : KeepsTreeRules h.owner e.definition
   kept = class-keeps h.owner h.unbroken e.definition h.listed
 
   defined : DefinesOnce e.definition e.its_body
-  defined = body_keeps (IsSub w) (functions_of fs) h.owner e.definition e.its_body h.has_body kept
+  defined = body_keeps h.owner e.definition e.its_body h.has_body kept
 
   types : HaveTypes e.definition.params e.definition.name.params × (e.definition.result ≡ call_type e.definition.name.result)
   types = signature-keeps h.owner h.unbroken e.definition h.listed
@@ -35,7 +34,7 @@ module _ (w : World) (fs : List EmittedMethod) (e : EmittedMethod) (h : IsAccept
     has_body = h.has_body;
     parameters = subst (λ (n : MethodName). HaveTypes e.definition.params n.params) h.named types.0;
     result_is = types.1 ∙ ap (λ (n : MethodName). call_type n.result) h.named;
-    rules = rules_kept (IsSub w) (functions_of fs) h.owner e.definition e.its_body h.has_body kept h.rows h.yields h.result h.values;
+    rules = h.rules;
   }
 
   pub whole : IsWhole w fs e

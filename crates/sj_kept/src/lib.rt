@@ -1,10 +1,10 @@
-//! What the local rules of a class and the rows of typing give for bodies: that they keep the rules over trees.
+//! What the local rules of a class give for bodies, and the theorem on classes that break none.
 //!
-//! `specs/` has the rows of typing for the forms that are built. The functions here are laws: they do nothing when they run, and their
+//! `specs/` has what the methods of such classes have. The functions here are laws: they do nothing when they run, and their
 //! clauses are theorems.
 #![tactic(auto)]
 
-ghost use Rattle.std.specs.Prelude.{◌≡◌, ℕ, true, List, [], Some, None};
+ghost use Rattle.std.specs.Prelude.{◌≡◌, ℕ, true, List, Some, None};
 ghost use Rattle.std.specs.List.{Contains};
 ghost use Rattle.outcomes.specs.Agreement.{Agree};
 ghost use Rattle.ir_mean.specs.Shows.{initializers, ir_shows};
@@ -15,20 +15,14 @@ ghost use Rattle.sj_names.specs.declared.entry_points.EntryPoint.{EntryPoint};
 ghost use Rattle.sj_trees.specs.Term.{Term};
 ghost use Rattle.sj_trees.specs.declared.classes.ClassDef.{ClassDef};
 ghost use Rattle.sj_trees.specs.declared.classes.MethodDef.{MethodDef};
-ghost use Rattle.sj_trees.specs.declared.classes.ParamDef.{ParamDef};
 ghost use Rattle.sj_calls.specs.Files.{EmittedMethod, program_with};
 ghost use Rattle.sj_sound.specs.Linked.{have_functions};
 ghost use Rattle.sj_calls.specs.Methods.{HaveTypes};
 ghost use Rattle.sj_plain.specs.Standing.{call_type};
-ghost use Rattle.sj_sound.specs.Rules.{KeepsRules};
 ghost use Rattle.sj_world.specs.Laws.{IsTopped};
-ghost use Rattle.sj_world.specs.Subtypes.{IsSub};
-ghost use Rattle.sj_sound.specs.Typing.{local_of, HasValue, IsResult, Yields};
 ghost use Rattle.sj_kept.specs.Kept.{KeepsTreeRules, DefinesOnce};
 ghost use Rattle.sj_kept.specs.Programs.{IsAccepted};
-ghost use Rattle.sj_kept.specs.Rows.{Rows};
 ghost use Rattle.sj_proper.specs.Program.{HaveOwnMembers};
-ghost use Rattle.sj_plain.specs.Conditions.{Usable};
 
 /// Each method of a class that breaks none of the local rules keeps those on declarations, definitions, variables and jumps.
 pub fn classes_keep_tree_rules()
@@ -45,14 +39,8 @@ pub fn locals_are_defined_once()
     ensures { (c : ClassDef) (d : MethodDef) (e : Term) → d.body ≡ Some e → KeepsTreeRules c d → DefinesOnce d e }
 {}
 
-/// A method that keeps the rules on trees, and whose body has the rows of typing and yields the result, keeps the rules over trees, so it is covered by
-/// the theorem on programs; where its parameters and its result have types with values that are built.
-pub fn bodies_keep_the_rules()
-    ensures { (w : World) (has : Usable) (c : ClassDef) (d : MethodDef) (e : Term) → d.body ≡ Some e → KeepsTreeRules c d → Rows (IsSub w) has [] e → Yields (IsSub w) has e d.result → IsResult d.result → ((x : List ℕ) (p : ParamDef) → local_of d.params x ≡ Some p → HasValue p.tpe) → KeepsRules (IsSub w) has d e }
-{}
-
-/// The theorem on classes: take methods, no two of one member, each of a class that breaks none of the local rules, with the rows
-/// of typing; let the initializers of a public module be among them, and let nothing stand above `java.lang.Object`. Then the
+/// The theorem on classes: take methods, no two of one member, each of a class that breaks none of the local rules, with a body that keeps
+/// the rules; let the initializers of a public module be among them, and let nothing stand above `java.lang.Object`. Then the
 /// file that has their functions in this order and behind them the calls of the initializers shows of the public module what the classes
 /// show: what the one shows within any bound the other shows within some bound, and the other way round, and neither is wrong at any bound.
 pub fn typed_classes_agree()

@@ -1,11 +1,12 @@
 -- Which values stand where a type is expected, and which types. A char is a Number where its type is char, so the types that tell chars and
 -- texts from other values are told apart; no form makes an object that holds a char yet, so elsewhere no char stands.
-use Rattle.std.specs.Prelude.{◌≡◌, Bool, true, false, List, [], ◌∷◌, Option, Some, None}
+pub use Rattle.typing_rules.specs.Rules.{call_type}
+use Rattle.std.specs.Prelude.{◌≡◌, Bool, true, false, List, [], ◌∷◌}
 use Rattle.ir_mean.specs.States as ir
 use Rattle.sj_names.specs.declared.references.TypeRef.{TypeRef}
 use Rattle.sj_trees.specs.Types.{reference_type}
 use Rattle.sj_trees.specs.declared.types.IrType.{IrType}
-use Rattle.sj_trees.specs.declared.types.IrType.TheVariants.{Any, Nothing, Undefined, Boolean, Char, Byte, Short, Int, Long, String}
+use Rattle.sj_trees.specs.declared.types.IrType.TheVariants.{Nothing, Undefined, Boolean, Char, Byte, Short, Int, Long, String}
 
 -- the value is of the kind of the type
 abbrev pub suits : IrType → ir.Value → Bool
@@ -65,8 +66,3 @@ FitAll _ _ = ⊥
 abbrev pub types_referred : List TypeRef → List IrType
 types_referred [] = []
 types_referred (r ∷ rs) = reference_type r ∷ types_referred rs
-
--- the type of a call: that of its result, and any for a reflective call
-abbrev pub call_type : Option TypeRef → IrType
-call_type None = Any
-call_type (Some r) = reference_type r

@@ -2,6 +2,7 @@ pub mod Covered
 pub mod InWorld
 pub mod Mutable
 pub mod Right
+pub mod RulesGive
 pub mod Same
 pub mod Topped
 pub mod Values

@@ -14,7 +14,7 @@ use Rattle.sj_plain.specs.Conditions.{is_simple, unary_operand, left_operand, ri
 use Rattle.sj_plain.proofs.Shifts.{join_is}
 use Rattle.sj_names.proofs.Same.{impossible}
 use Rattle.sj_sound.specs.Subtyping.{IsSubtyping}
-use Rattle.sj_sound.specs.Typing.{IsJoined}
+use Rattle.typing_rules.specs.Rules.{IsText as IsJoined}
 
 -- the class of the object at each address
 abbrev pub Classes : Type 0

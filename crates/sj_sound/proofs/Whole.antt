@@ -27,9 +27,11 @@ use Rattle.sj_calls.proofs.Calls.{Way, gives_up, hands_on, way}
 use Rattle.sj_calls.proofs.Items.{nothing_in, in_front_or_behind}
 use Rattle.sj_calls.proofs.Whole as calls
 use Rattle.sj_sound.specs.Linked.{has_function, have_functions, IsRight, functions_of}
-use Rattle.sj_sound.specs.Rules.{KeepsRules, RightMember}
+use Rattle.sj_sound.specs.Rules.{scene_of, KeepsRules, RightMember}
 use Rattle.sj_sound.specs.Subtyping.{IsSubtyping}
-use Rattle.sj_sound.specs.Typing.{NoBox, Scene}
+use Rattle.sj_names.specs.declared.method_names.Namespace.TheVariants.{PublicStatic}
+use Rattle.sj_sound.specs.Typing.{Scene}
+use Rattle.sj_sound.proofs.RulesGive.{NoBox, yields_there}
 use Rattle.sj_world.specs.Laws.{IsTopped}
 use Rattle.sj_world.specs.Subtypes.{IsSub}
 use Rattle.sj_sound.proofs.Covered.{Asks, fine}
@@ -40,16 +42,19 @@ use Rattle.sj_sound.proofs.Values.{Classes, HasType, has_type, of_undefined, of_
 use Rattle.sj_sound.proofs.Same.{has_function-is}
 use Rattle.sj_plain.specs.Conditions.{Usable}
 
-module _ (sub : IrType → IrType → Type 0) (law : IsSubtyping sub) (has : Usable) where
-  asks-result : (is_mutable : List ℕ → Bool) (e : Term) (t : IrType) (k : Destination) → Way t k → (t ≡ NoType) ⊎ (sub (type_of_term e) t × NoBox t (type_of_term e)) → Asks sub law is_mutable has k (type_of_term e)
+module _ (w : ir_world.World) (law : IsSubtyping (IsSub w)) (has : Usable) where
+  asks-result : (is_mutable : List ℕ → Bool) (e : Term) (t : IrType) (k : Destination) → Way t k → (t ≡ NoType) ⊎ (IsSub w (type_of_term e) t × NoBox t (type_of_term e)) → Asks w law is_mutable has k (type_of_term e)
   asks-result is_mutable e _ _ gives_up y = tt
   asks-result is_mutable e _ _ (hands_on t h) (inl none) = impossible (sym h ∙ ap is_no_type none)
   asks-result is_mutable e _ _ (hands_on t h) (inr f) = (f, λ none. impossible (sym h ∙ ap is_no_type none))
 
+  no_type : {A : Type 0} {t : IrType} → ◌≡◌ {A = Option IrType} None (Some t) → A
+  no_type e = impossible (cc)
+
   -- a method that keeps the rules is fine
-  pub method-fine : (d : MethodDef) (e : Term) → KeepsRules sub has d e → FineMethod has d e
+  pub method-fine : (d : MethodDef) (e : Term) → KeepsRules w has d e → FineMethod has d e
   method-fine d e r = record {
-    fine = fine sub law (is_mutable_in d e) has e (record { locals = d.params; labels = [] }) no_labels (result_destination d.result) r.values (λ x p i m. parameter-known d e x p i m) (record { targets = tt; all = λ l. tt }) (λ x m. mutable-known sub has d e (record { locals = d.params; labels = [] }) r.typed x m) (asks-result (is_mutable_in d e) e d.result (result_destination d.result) (way d.result) r.yields) r.typed;
+    fine = fine w law (is_mutable_in d e) has e (scene_of d) no_labels (result_destination d.result) r.values (λ x p i m. parameter-known d e x p i m) (record { targets = λ l t e. no_type e; all = λ l. tt }) (mutable-known d e) (asks-result (is_mutable_in d e) e d.result (result_destination d.result) (way d.result) (yields_there w e d.result r.unboxed r.yields)) r.typed;
     fresh = r.fresh;
   }
 
@@ -60,22 +65,22 @@ comes-not_wrong Wrong h = h
 
 module _ (w : ir_world.World) (topped : IsTopped w) (fs : List EmittedMethod) (right : (e : EmittedMethod) → Contains fs e → IsRight w fs e) where
   emitted : (e : EmittedMethod) → Contains fs e → IsEmitted w (functions_of fs) e
-  emitted e i = let r = right e i in record { found = r.found; has_body = r.has_body; parameters = r.parameters; result_is = r.result_is; fine = method-fine (IsSub w) (in_world w topped) (functions_of fs) e.definition e.its_body r.rules }
+  emitted e i = let r = right e i in record { found = r.found; has_body = r.has_body; parameters = r.parameters; result_is = r.result_is; fine = method-fine w (in_world w topped) (functions_of fs) e.definition e.its_body r.rules }
 
-  member-of : (e : EmittedMethod) → IsRight w fs e → RightMember (IsSub w) w (functions_of fs) e.member
+  member-of : (e : EmittedMethod) → IsRight w fs e → RightMember w (functions_of fs) e.member
   member-of e r = record { definition = e.definition; its_body = e.its_body; found = r.found; has_body = r.has_body; rules = r.rules; parameters = r.parameters; result_is = r.result_is }
 
-  members : (m : Member) → has_function fs m ≡ true → RightMember (IsSub w) w (functions_of fs) m
-  members m l = let h = has_function-is fs m l in subst (RightMember (IsSub w) w (functions_of fs)) h.is (member-of h.method (right h.method h.listed))
+  members : (m : Member) → has_function fs m ≡ true → RightMember w (functions_of fs) m
+  members m l = let h = has_function-is fs m l in subst (RightMember w (functions_of fs)) h.is (member-of h.method (right h.method h.listed))
 
   abbrev nowhere : Scene
-  nowhere = record { locals = []; labels = [] }
+  nowhere = record { space = PublicStatic; locals = []; labels = [] }
 
   abbrev typed_by : Classes → ir.State → Type 0
-  typed_by = HeapTyped (IsSub w) (in_world w topped) (functions_of fs) w
+  typed_by = HeapTyped w (in_world w topped) (functions_of fs)
 
-  nothing_held : (at : Classes) → EnvTyped (IsSub w) (in_world w topped) (functions_of fs) w at [] ir_showing.outside
-  nothing_held at = record { holds = nothing_there (IsSub w) (in_world w topped) (functions_of fs) w at }
+  nothing_held : (at : Classes) → EnvTyped w (in_world w topped) (functions_of fs) at [] ir_showing.outside
+  nothing_held at = record { holds = nothing_there w (in_world w topped) (functions_of fs) at }
 
   -- no address has a class yet
   abbrev no_classes : Classes
@@ -88,7 +93,7 @@ module _ (w : ir_world.World) (topped : IsTopped w) (fs : List EmittedMethod) (r
   nothing_typed st = record { objects = λ i c e. absurd (no_class c e) }
 
   -- a value that is thrown and nothing catches is shown
-  stored_right : (at : Classes) (c : List ℕ) (o : Option ir.Stored) → ObjectTyped (IsSub w) (in_world w topped) (functions_of fs) w at c o → Comes (λ a. Unit {0}) (ir_showing.uncaught_or_wrong (ir_showing.thrown_stored o)).end
+  stored_right : (at : Classes) (c : List ℕ) (o : Option ir.Stored) → ObjectTyped w (in_world w topped) (functions_of fs) at c o → Comes (λ a. Unit {0}) (ir_showing.uncaught_or_wrong (ir_showing.thrown_stored o)).end
   stored_right at c _ (typed_object fields h) = tt
 
   uncaught_right : (at : Classes) (v : ir.Value) (st : ir.State) → HasType (IsSub w) (in_world w topped) at v Any → typed_by at st → Comes (λ a. Unit {0}) (ir_showing.uncaught_or_wrong (ir_showing.thrown st v)).end
@@ -106,14 +111,14 @@ module _ (w : ir_world.World) (topped : IsTopped w) (fs : List EmittedMethod) (r
   -- the initializers are wrong at no bound
   all_right : (n : ℕ) (es : List EntryPoint) → have_functions fs es ≡ true → (at : Classes) (st : ir.State) → typed_by at st → Comes (λ a. Unit {0}) (ir_showing.all_show w n es st).end
   all_right n [] h at st typed = tt
-  all_right n (e ∷ es) h at st typed = comes_then (CameRight (IsSub w) (in_world w topped) (functions_of fs) w at nowhere [] NoType) (λ a. Unit {0}) (ir_meaning.meaning w n (ir_showing.initializer_call e) ir_showing.outside st) (ir_showing.next_or_end (ir_showing.all_show w n es)) (call_right (IsSub w) (in_world w topped) (functions_of fs) w (ir_meaning.below w n) (bodies_right (IsSub w) (in_world w topped) (functions_of fs) w members n) (initializer_member e) (members (initializer_member e) k.0) nowhere NoType refl at [] none_left ir_showing.outside st (record { locals = nothing_held at; heap = typed })) (next at n es (all_right n es k.1))
+  all_right n (e ∷ es) h at st typed = comes_then (CameRight w (in_world w topped) (functions_of fs) at nowhere [] NoType) (λ a. Unit {0}) (ir_meaning.meaning w n (ir_showing.initializer_call e) ir_showing.outside st) (ir_showing.next_or_end (ir_showing.all_show w n es)) (call_right w (in_world w topped) (functions_of fs) (ir_meaning.below w n) (bodies_right w (in_world w topped) (functions_of fs) members n) (initializer_member e) (members (initializer_member e) k.0) nowhere NoType refl at [] none_left ir_showing.outside st (record { locals = nothing_held at; heap = typed })) (next at n es (all_right n es k.1))
     where
       k : (has_function fs (initializer_member e) ≡ true) × (have_functions fs es ≡ true)
       k = and_parts (has_function fs (initializer_member e)) (have_functions fs es) h
 
-      next : (at : Classes) (n : ℕ) (es : List EntryPoint) → ((at : Classes) (st : ir.State) → typed_by at st → Comes (λ a. Unit {0}) (ir_showing.all_show w n es st).end) → (a : ir.Ended) → CameRight (IsSub w) (in_world w topped) (functions_of fs) w at nowhere [] NoType a → Comes (λ a. Unit {0}) (ir_showing.next_or_end (ir_showing.all_show w n es) a).end
+      next : (at : Classes) (n : ℕ) (es : List EntryPoint) → ((at : Classes) (st : ir.State) → typed_by at st → Comes (λ a. Unit {0}) (ir_showing.all_show w n es st).end) → (a : ir.Ended) → CameRight w (in_world w topped) (functions_of fs) at nowhere [] NoType a → Comes (λ a. Unit {0}) (ir_showing.next_or_end (ir_showing.all_show w n es) a).end
       next at n es others _ (gave k v env st a g i) = others k st i.heap
-      next at n es others _ (left k l v env st r a i g j) = no_label (IsSub w) (in_world w topped) (functions_of fs) w l r i
+      next at n es others _ (left k l v env st r a i g j) = no_label w (in_world w topped) (functions_of fs) l r i
       next at n es others _ (threw k v env st a i j) = uncaught_right k v st i j.heap
 
 pub called : (fs : List EmittedMethod) (es : List EntryPoint) → have_functions fs es ≡ true → (e : EntryPoint) → Contains es e → has_function fs (initializer_member e) ≡ true

@@ -4,7 +4,7 @@ use Rattle.std.specs.Prelude.{pos, nat_eq, FitsSigned}
 use Rattle.std.specs.Cmp.Lexicographic.{pointwise}
 use Rattle.std.specs.Int.{w32}
 use Rattle.outcomes.specs.Agreement.{Agree}
-use Rattle.ir_mean.specs.Rows.{once, triples}
+use Rattle.ir_mean.specs.Rows.{nowhere, once, triples}
 use Rattle.ir_mean.specs.Shows.{ir_shows}
 use Rattle.js_mean.specs.Shows.{js_shows}
 use Rattle.sj_trees.specs.declared.classes.ParamDef.{ParamDef}
@@ -14,11 +14,13 @@ use Rattle.sj_names.proofs.Same.{impossible}
 use Rattle.sj_calls.specs.Files.{EmittedMethod, program_with}
 use Rattle.sj_calls.proofs.Items.{nothing_in, in_front_or_behind}
 use Rattle.sj_sound.specs.Linked.{IsRight, functions_of}
-use Rattle.sj_sound.specs.Rules.{KeepsRules}
+use Rattle.sj_sound.specs.Rules.{scene_of, KeepsRules}
 use Rattle.sj_world.specs.Laws.{IsTopped}
-use Rattle.sj_world.specs.Subtypes.{IsSub, equal}
+use Rattle.sj_world.specs.Subtypes.{equal}
 use Rattle.sj_sound.proofs.Topped.{topped}
-use Rattle.sj_sound.specs.Typing.{Scene, local_of, HasValue, IsLocal, IsVariable, its_types}
+use Rattle.sj_sound.specs.Typing.{Scene, local_of, HasValue, IsLocal, IsVariable, Here}
+use Rattle.typing_rules.specs.Rules.{nothing_wanted, fitting}
+use Rattle.sj_trees.specs.Term.{int_literal, var_ref}
 use Rattle.sj_sound.specs.Worked.{tests_it, main_method, tripling_method, worked_world, emitted, worked_methods}
 use Rattle.sj_sound.proofs.Whole.{program_agrees}
 use Rattle.sj_plain.specs.Conditions.{Usable}
@@ -29,26 +31,27 @@ fits n h = record { sfits = h }
 abbrev linked : Usable
 linked = functions_of worked_methods
 
-main_rules : KeepsRules (IsSub worked_world) linked main_method tests_it
+number_here : (s : Scene) (n : ℕ) → n < 2 ^ 31 → Here worked_world linked s (int_literal nowhere (pos n))
+number_here s n h = record { meets = tt; built = refl; finds = fits n h }
+
+main_rules : KeepsRules worked_world linked main_method tests_it
 main_rules = record {
-  typed = (equal refl, inl refl, inl refl, inl (its_types refl (equal refl) (equal refl), (refl, inr refl, ((equal refl, refl), refl, tt), (fits 1 (omega arith), tt), refl), fits 27 (omega arith)), (equal refl, tt), (equal refl, tt));
-  yields = inl refl;
+  typed = (record { meets = (equal refl, nothing_wanted refl, nothing_wanted refl); built = refl; finds = tt }, (record { meets = (equal refl, equal refl); built = refl; finds = tt }, (record { meets = (tt, refl, (equal refl, tt)); built = refl; finds = (refl, tt) }, (number_here (scene_of main_method) 1 (omega arith), tt)), number_here (scene_of main_method) 27 (omega arith)), (record { meets = equal refl; built = refl; finds = tt }, record { meets = tt; built = refl; finds = tt }), (record { meets = equal refl; built = refl; finds = tt }, record { meets = tt; built = refl; finds = tt }));
+  yields = nothing_wanted refl;
+  unboxed = refl;
   result = inl refl;
   values = λ x p e. impossible (cc);
   fresh = λ x o i. i;
 }
 
-parameter : ParamDef
-parameter = record { name = codes "p"; «mutable» = true; tpe = Int }
-
-scene : Scene
-scene = record { locals = tripling_method.params; labels = [] }
-
-p_local : IsLocal (record { locals = tripling_method.params; labels = [] }) (codes "p") Int
+p_local : IsLocal (scene_of tripling_method) (codes "p") Int
 p_local = record { local = record { name = codes "p"; «mutable» = true; tpe = Int }; is = refl; type_is = refl }
 
-p_variable : IsVariable (record { locals = tripling_method.params; labels = [] }) (codes "p") Int
+p_variable : IsVariable (scene_of tripling_method) (codes "p") Int
 p_variable = record { local = record { name = codes "p"; «mutable» = true; tpe = Int }; is = refl; type_is = refl; «mutable» = refl }
+
+p_here : Here worked_world linked (scene_of tripling_method) (var_ref nowhere (codes "p") Int)
+p_here = record { meets = tt; built = refl; finds = p_local }
 
 only_parameter : (x : List ℕ) (p : ParamDef) → local_of tripling_method.params x ≡ Some p → HasValue p.tpe
 only_parameter x p e = go (pointwise nat_eq x (codes "p")) e
@@ -60,10 +63,11 @@ only_parameter x p e = go (pointwise nat_eq x (codes "p")) e
 no_local : (x : List ℕ) → Own triples x → ⊥
 no_local x o = ⊎_elim (λ i. ⊎_elim (λ j. ⊎_elim (λ k. k) (λ k. k) j) (λ j. ⊎_elim (λ k. k) (λ k. k) j) i) (λ i. ⊎_elim (λ k. k) (λ k. k) i) o
 
-tripling_rules : KeepsRules (IsSub worked_world) linked tripling_method triples
+tripling_rules : KeepsRules worked_world linked tripling_method triples
 tripling_rules = record {
-  typed = ((equal refl, inl (its_types refl (equal refl) (equal refl), p_local, fits 10 (omega arith)), (p_variable, (equal refl, refl), inl (its_types refl (equal refl) (equal refl), p_local, fits 3 (omega arith)))), (λ x d o. d), p_local);
-  yields = inr (equal refl, refl);
+  typed = ((record { meets = equal refl; built = refl; finds = tt }, (record { meets = (equal refl, equal refl); built = refl; finds = tt }, p_here, number_here (scene_of tripling_method) 10 (omega arith)), (record { meets = (tt, equal refl); built = refl; finds = p_variable }, (record { meets = (equal refl, equal refl); built = refl; finds = tt }, p_here, number_here (scene_of tripling_method) 3 (omega arith)))), (λ x d o. d), p_here);
+  yields = fitting (equal refl);
+  unboxed = refl;
   result = inr refl;
   values = only_parameter;
   fresh = λ x o i. no_local x o;

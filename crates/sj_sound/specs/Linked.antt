@@ -8,7 +8,6 @@ use Rattle.sj_names.specs.declared.method_names.Member.{Member}
 use Rattle.sj_calls.specs.Files.{EmittedMethod, initializer_member}
 use Rattle.sj_sound.specs.Rules.{KeepsRules}
 use Rattle.sj_calls.specs.Methods.{HaveTypes}
-use Rattle.sj_world.specs.Subtypes.{IsSub}
 use Rattle.sj_plain.specs.Standing.{call_type}
 use Rattle.sj_plain.specs.Conditions.{Usable}
 
@@ -34,4 +33,4 @@ pub record IsRight (w : World) (fs : List EmittedMethod) (e : EmittedMethod) : T
   pub has_body : e.definition.body ≡ Some e.its_body
   pub parameters : HaveTypes e.definition.params e.member.method.params
   pub result_is : e.definition.result ≡ call_type e.member.method.result
-  pub rules : KeepsRules (IsSub w) (functions_of fs) e.definition e.its_body
+  pub rules : KeepsRules w (functions_of fs) e.definition e.its_body
