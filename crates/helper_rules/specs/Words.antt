@@ -1,9 +1,9 @@
--- Names and small expressions that class pieces and helpers are made of.
-use Rattle.std.specs.Prelude.{ℕ, false, List, [], ◌∷◌, ◌++◌, pos, codes, decimal, map, zero, suc, length}
+-- Names and small expressions that helpers and the pieces of classes are made of.
+use Rattle.std.specs.Prelude.{ℕ, List, [], ◌∷◌, ◌++◌, codes, decimal, map, zero, suc, length}
 use Rattle.std.specs.Char.Escape.{encode_utf16}
 use Rattle.std.specs.List.{flat_map}
 use Rattle.std.specs.Str.{chars}
-use Rattle.js_tree.specs.Terms.{Name, Expression, Expressions, null_literal, boolean_literal, undefined_literal, number_literal, big_literal, text_literal, name_use, call_of, binary_of, unary_of, Statement, Statements, no_statements, statement, return_of}
+use Rattle.js_tree.specs.Terms.{Name, Expression, Expressions, null_literal, text_literal, name_use, call_of, binary_of, unary_of, Statement, Statements, no_statements, statement, return_of}
 use Rattle.js_tree.specs.Views.{expressions_of, statements_of}
 use Rattle.js_tree.specs.declared.operators.BinaryOperator.TheVariants.{StrictEqual, StrictNotEqual, And, Or}
 use Rattle.js_tree.specs.declared.operators.UnaryOperator.TheVariants.{TypeOf}
@@ -13,10 +13,8 @@ use Rattle.sj_mangling.specs.declared.bindings.ClassBinding.TheVariants.{Constan
 use Rattle.sj_mangling.specs.declared.bindings.MethodBinding.TheVariants.{Entry}
 use Rattle.sj_names.specs.declared.method_names.MethodName.{MethodName}
 use Rattle.sj_names.specs.declared.method_names.Namespace.TheVariants.{Public}
-use Rattle.sj_trees.specs.declared.types.IrType.{IrType}
-use Rattle.sj_trees.specs.declared.types.IrType.TheVariants as Types
-use Rattle.piece_rules.specs.declared.kinds.Kind.{Kind}
-use Rattle.piece_rules.specs.declared.kinds.Kind.TheVariants as kinds
+use Rattle.helper_rules.specs.declared.kinds.Kind.{Kind}
+use Rattle.helper_rules.specs.declared.kinds.Kind.TheVariants as kinds
 
 -- the class of each kind of primitive values
 abbrev pub kind_class : Kind → Name
@@ -115,18 +113,6 @@ both e g = binary_of e And g
 
 abbrev pub either : Expression → Expression → Expression
 either e g = binary_of e Or g
-
--- the value that a field or a variable of a type begins with
-abbrev pub zero_of : IrType → Expression
-zero_of Types.Boolean = boolean_literal false
-zero_of Types.Char = number_literal (pos 0)
-zero_of Types.Byte = number_literal (pos 0)
-zero_of Types.Short = number_literal (pos 0)
-zero_of Types.Int = number_literal (pos 0)
-zero_of Types.Long = big_literal (pos 0)
-zero_of Types.String = text_literal []
-zero_of Types.Undefined = undefined_literal
-zero_of _ = null_literal
 
 abbrev pub bound : Name → Name → Binding
 bound owner name = record { owner = owner; name = name }

@@ -1,9 +1,9 @@
 -- The helpers with a fixed text: what each is, and which bindings it uses.
-use Rattle.std.specs.Prelude.{ℕ, false, List, [], ◌∷◌, ◌++◌, Some, pos, codes}
-use Rattle.js_tree.specs.Terms.{Name, Expression, undefined_literal, number_literal, big_literal, text_literal, boolean_literal, name_use, this_use, property_of, index_of, call_of, method_call_of, new_of, new_array_of, binary_of, unary_of, conditional_of, host_call_of_two, Statement, Member, expression_statement, assign_property, assign_index, super_call, throw_of, return_of, if_only, constructor_of, Item, function_item, class_item, subclass_item, object_item, Piece}
+use Rattle.std.specs.Prelude.{ℕ, false, List, [], ◌∷◌, ◌++◌, Some, pos, codes, map, ℤ}
+use Rattle.js_tree.specs.Terms.{Name, Expression, undefined_literal, number_literal, big_literal, text_literal, boolean_literal, name_use, this_use, property_of, index_of, call_of, method_call_of, new_of, new_array_of, binary_of, unary_of, conditional_of, host_call_of_two, Statement, Member, expression_statement, assign_property, assign_index, super_call, throw_of, return_of, if_only, constructor_of, Item, function_item, class_item, subclass_item, object_item, Property, Piece}
 use Rattle.js_tree.specs.Views.{expressions_of, statements_of}
 use Rattle.js_tree.specs.declared.operators.BinaryOperator.{BinaryOperator}
-use Rattle.js_tree.specs.declared.operators.BinaryOperator.TheVariants.{Add, Subtract, Divide, Remainder, BitOr, StrictEqual, Less, Greater, GreaterOrEqual, In, InstanceOf}
+use Rattle.js_tree.specs.declared.operators.BinaryOperator.TheVariants.{Add, Subtract, Divide, Remainder, BitOr, StrictEqual, Less, Greater, GreaterOrEqual, In, InstanceOf, ShiftLeft, ShiftRight}
 use Rattle.js_tree.specs.declared.operators.UnaryOperator.TheVariants.{Not}
 use Rattle.js_tree.specs.declared.operators.HostOperation.TheVariants.{BigIntAsIntN}
 use Rattle.js_tree.specs.declared.items.Binding.{Binding}
@@ -11,16 +11,15 @@ use Rattle.sj_mangling.specs.Bindings.{function_name}
 use Rattle.sj_names.specs.declared.method_names.MethodName.{MethodName}
 use Rattle.sj_names.specs.declared.method_names.Namespace.TheVariants.{Constructor}
 use Rattle.sj_names.specs.declared.references.TypeRef.TheVariants as References
-use Rattle.piece_rules.specs.Words.{kind_class, letter, is_name, as_name, worded_kinds, object_class, class_name, marker, x, call1, is_null, not_null, has_word, both, either, bound, helper}
-use Rattle.piece_rules.specs.Pieces.{constants}
-use Rattle.piece_rules.specs.Dispatch.{kind_item}
-use Rattle.piece_rules.specs.declared.kinds.Kind.{Kind}
-use Rattle.piece_rules.specs.declared.kinds.Kind.TheVariants as kinds
-use Rattle.piece_rules.specs.declared.kinds.Helper.{Helper}
-use Rattle.piece_rules.specs.declared.kinds.Helper.TheVariants as helpers
-use Rattle.piece_rules.specs.declared.kinds.Failure.{Failure}
-use Rattle.piece_rules.specs.declared.kinds.Failure.TheVariants as failures
+use Rattle.helper_rules.specs.Words.{kind_class, letter, is_name, as_name, worded_kinds, object_class, class_name, marker, x, call1, only_return, is_null, not_null, has_word, both, either, bound, helper}
+use Rattle.helper_rules.specs.declared.kinds.Kind.{Kind}
+use Rattle.helper_rules.specs.declared.kinds.Kind.TheVariants as kinds
+use Rattle.helper_rules.specs.declared.kinds.Helper.{Helper}
+use Rattle.helper_rules.specs.declared.kinds.Helper.TheVariants as helpers
+use Rattle.helper_rules.specs.declared.kinds.Failure.{Failure}
+use Rattle.helper_rules.specs.declared.kinds.Failure.TheVariants as failures
 
+-- the name of each
 abbrev pub helper_name : Helper → Name
 helper_name (helpers.TestOf k) = is_name k
 helper_name (helpers.CastTo k) = as_name k
@@ -74,6 +73,44 @@ function h xs ss = function_item (helper_name h) xs (statements_of ss)
 
 abbrev pub owned : Name → List Binding → Item → Piece
 owned name used item = record { owner = object_class; name = name; uses = used; item = item }
+
+-- `{s: "i_C", i_A: 1, ..}`
+abbrev pub marker_property : Name → Property
+marker_property a = record { name = marker a; value = number_literal (pos 1) }
+
+abbrev pub own_marker : Name → Property
+own_marker c = record { name = codes "s"; value = text_literal (marker c) }
+
+abbrev pub constants : Name → List Name → List Property
+constants c ancestors = own_marker c ∷ map marker_property ancestors
+
+-- `(((x << n) >> n) === x)`
+abbrev pub is_cut : ℤ → Expression
+is_cut n = binary_of (binary_of (binary_of x ShiftLeft (number_literal n)) ShiftRight (number_literal n)) StrictEqual x
+
+abbrev pub is_small : ℤ → Expression
+is_small n = both (has_word (codes "number") x) (is_cut n)
+
+abbrev pub is_undefined : Expression
+is_undefined = binary_of x StrictEqual undefined_literal
+
+abbrev pub is_box : Expression
+is_box = binary_of x InstanceOf (name_use (codes "$C"))
+
+-- the test of each kind on `x`
+abbrev pub kind_condition : Kind → Expression
+kind_condition kinds.Undefined = is_undefined
+kind_condition kinds.Boolean = has_word (codes "boolean") x
+kind_condition kinds.Char = is_box
+kind_condition kinds.Byte = is_small (pos 24)
+kind_condition kinds.Short = is_small (pos 16)
+kind_condition kinds.Int = has_word (codes "number") x
+kind_condition kinds.Long = has_word (codes "bigint") x
+kind_condition kinds.Text = has_word (codes "string") x
+
+-- `function $isX(x) { return TEST; }`
+abbrev pub kind_item : Kind → Item
+kind_item k = function_item (is_name k) (codes "x" ∷ []) (only_return (kind_condition k))
 
 -- `if (test) { helper(); }`
 abbrev pub if_throw : Expression → Name → Statement
@@ -250,35 +287,44 @@ raises e = bound e (init_name e) ∷ bound e (class_name e) ∷ []
 abbrev pub of : Helper → Binding
 of h = helper (helper_name h)
 
-abbrev pub pairs : List Kind → List Binding
-pairs [] = []
-pairs (k ∷ ks) = of (helpers.TestOf k) ∷ of (helpers.ConstantsOf k) ∷ pairs ks
+abbrev pub tests_and_constants : List Kind → List Helper
+tests_and_constants [] = []
+tests_and_constants (k ∷ ks) = helpers.TestOf k ∷ helpers.ConstantsOf k ∷ tests_and_constants ks
 
--- the bindings that it uses, once each, in order of first use
+-- the helpers that it uses, once each, in order of first use
+abbrev pub used_helpers : Helper → List Helper
+used_helpers (helpers.TestOf kinds.Char) = helpers.BoxedChar ∷ []
+used_helpers (helpers.TestOf k) = []
+used_helpers (helpers.CastTo k) = helpers.TestOf k ∷ helpers.Throws failures.Cast ∷ []
+used_helpers (helpers.ConstantsOf k) = []
+used_helpers helpers.NotNull = helpers.Throws failures.NullReceiver ∷ []
+used_helpers helpers.IntQuotient = helpers.Throws failures.Division ∷ []
+used_helpers helpers.IntRemainder = helpers.Throws failures.Division ∷ []
+used_helpers helpers.LongQuotient = helpers.Throws failures.Division ∷ []
+used_helpers helpers.LongRemainder = helpers.Throws failures.Division ∷ []
+used_helpers helpers.BoxedChar = helpers.ConstantsOf kinds.Char ∷ []
+used_helpers helpers.Equal = helpers.BoxedChar ∷ []
+used_helpers helpers.ArrayClass = []
+used_helpers helpers.MakeArray = helpers.Throws failures.Size ∷ helpers.ArrayClass ∷ []
+used_helpers helpers.CheckIndex = helpers.Throws failures.Index ∷ []
+used_helpers helpers.Get = helpers.CheckIndex ∷ []
+used_helpers helpers.Set = helpers.CheckIndex ∷ []
+used_helpers helpers.Put = helpers.CheckIndex ∷ helpers.Fits ∷ helpers.Throws failures.Store ∷ []
+used_helpers helpers.Covers = []
+used_helpers helpers.Fits = helpers.ArrayClass ∷ helpers.Covers ∷ helpers.TestOf kinds.Byte ∷ helpers.TestOf kinds.Short ∷ helpers.ClassOf ∷ []
+used_helpers helpers.ClassOf = tests_and_constants worded_kinds
+used_helpers helpers.TestOfArray = helpers.ArrayClass ∷ helpers.Covers ∷ []
+used_helpers helpers.CastToArray = helpers.TestOfArray ∷ helpers.Throws failures.Cast ∷ []
+used_helpers (helpers.Throws f) = []
+
+-- and what it uses of classes: one has a class above it, and those that throw make an exception
+abbrev pub used_of_classes : Helper → List Binding
+used_of_classes helpers.ArrayClass = bound object_class (class_name object_class) ∷ []
+used_of_classes (helpers.Throws f) = raises (failure_class f)
+used_of_classes _ = []
+
 abbrev pub helper_uses : Helper → List Binding
-helper_uses (helpers.TestOf kinds.Char) = of helpers.BoxedChar ∷ []
-helper_uses (helpers.TestOf k) = []
-helper_uses (helpers.CastTo k) = of (helpers.TestOf k) ∷ of (helpers.Throws failures.Cast) ∷ []
-helper_uses (helpers.ConstantsOf k) = []
-helper_uses helpers.NotNull = of (helpers.Throws failures.NullReceiver) ∷ []
-helper_uses helpers.IntQuotient = of (helpers.Throws failures.Division) ∷ []
-helper_uses helpers.IntRemainder = of (helpers.Throws failures.Division) ∷ []
-helper_uses helpers.LongQuotient = of (helpers.Throws failures.Division) ∷ []
-helper_uses helpers.LongRemainder = of (helpers.Throws failures.Division) ∷ []
-helper_uses helpers.BoxedChar = of (helpers.ConstantsOf kinds.Char) ∷ []
-helper_uses helpers.Equal = of helpers.BoxedChar ∷ []
-helper_uses helpers.ArrayClass = bound object_class (class_name object_class) ∷ []
-helper_uses helpers.MakeArray = of (helpers.Throws failures.Size) ∷ of helpers.ArrayClass ∷ []
-helper_uses helpers.CheckIndex = of (helpers.Throws failures.Index) ∷ []
-helper_uses helpers.Get = of helpers.CheckIndex ∷ []
-helper_uses helpers.Set = of helpers.CheckIndex ∷ []
-helper_uses helpers.Put = of helpers.CheckIndex ∷ of helpers.Fits ∷ of (helpers.Throws failures.Store) ∷ []
-helper_uses helpers.Covers = []
-helper_uses helpers.Fits = of helpers.ArrayClass ∷ of helpers.Covers ∷ of (helpers.TestOf kinds.Byte) ∷ of (helpers.TestOf kinds.Short) ∷ of helpers.ClassOf ∷ []
-helper_uses helpers.ClassOf = pairs worded_kinds
-helper_uses helpers.TestOfArray = of helpers.ArrayClass ∷ of helpers.Covers ∷ []
-helper_uses helpers.CastToArray = of helpers.TestOfArray ∷ of (helpers.Throws failures.Cast) ∷ []
-helper_uses (helpers.Throws f) = raises (failure_class f)
+helper_uses h = used_of_classes h ++ map of (used_helpers h)
 
 abbrev pub helper_piece : Above → Helper → Piece
 helper_piece above h = record { owner = object_class; name = helper_name h; uses = helper_uses h; item = helper_item above h }
