@@ -49,11 +49,7 @@ fn helper_item(
 }
 
 // `const $kX = {s: "i_C", i_A: 1, ..};`
-fn constants_of(
-    alloc: Global,
-    kind: Kind,
-    ancestors: &[ClassName],
-) -> Result<Rc<JsItem>, NoMemory>
+fn constants_of(alloc: Global, kind: Kind, ancestors: &[ClassName]) -> Result<Rc<JsItem>, NoMemory>
     ensures { IfOk result (λ i. item_view i.value ≡ rules.helper_item (λ _. ancestors.now) (ConstantsOf kind)) }
 {
     let class = ClassName::of_text(Text::from_str(alloc, class_of_kind(kind))?);

@@ -44,12 +44,8 @@ pub fn helper_text(helper: Helper) -> &'static str
         Helper::CheckIndex => {
             "function $ix(x, i) {\n  if (((i < 0) || (i >= x.a.length))) {\n    $ioe(i);\n  }\n}\n"
         }
-        Helper::Get => {
-            "function $get(x, i) {\n  $ix(x, i);\n  return x.a[i];\n}\n"
-        }
-        Helper::Set => {
-            "function $set(x, i, v) {\n  $ix(x, i);\n  x.a[i] = v;\n}\n"
-        }
+        Helper::Get => { "function $get(x, i) {\n  $ix(x, i);\n  return x.a[i];\n}\n" }
+        Helper::Set => { "function $set(x, i, v) {\n  $ix(x, i);\n  x.a[i] = v;\n}\n" }
         Helper::Put => {
             "function $put(x, i, v) {\n  $ix(x, i);\n  if (((v !== null) && (!$fits(v, x.n, x.e)))) {\n    $ase();\n  }\n  x.a[i] = v;\n}\n"
         }
@@ -75,30 +71,18 @@ fn test_text(kind: Kind) -> &'static str
     ensures { result.now ≡ texts.helper_text (TestOf kind) }
 {
     match kind {
-        Kind::Undefined => {
-            "function $isV(x) {\n  return (x === (void 0));\n}\n"
-        }
-        Kind::Boolean => {
-            "function $isZ(x) {\n  return ((typeof x) === \"boolean\");\n}\n"
-        }
-        Kind::Char => {
-            "function $isC(x) {\n  return (x instanceof $C);\n}\n"
-        }
+        Kind::Undefined => { "function $isV(x) {\n  return (x === (void 0));\n}\n" }
+        Kind::Boolean => { "function $isZ(x) {\n  return ((typeof x) === \"boolean\");\n}\n" }
+        Kind::Char => { "function $isC(x) {\n  return (x instanceof $C);\n}\n" }
         Kind::Byte => {
             "function $isB(x) {\n  return (((typeof x) === \"number\") && (((x << 24) >> 24) === x));\n}\n"
         }
         Kind::Short => {
             "function $isS(x) {\n  return (((typeof x) === \"number\") && (((x << 16) >> 16) === x));\n}\n"
         }
-        Kind::Int => {
-            "function $isI(x) {\n  return ((typeof x) === \"number\");\n}\n"
-        }
-        Kind::Long => {
-            "function $isJ(x) {\n  return ((typeof x) === \"bigint\");\n}\n"
-        }
-        Kind::Text => {
-            "function $isT(x) {\n  return ((typeof x) === \"string\");\n}\n"
-        }
+        Kind::Int => { "function $isI(x) {\n  return ((typeof x) === \"number\");\n}\n" }
+        Kind::Long => { "function $isJ(x) {\n  return ((typeof x) === \"bigint\");\n}\n" }
+        Kind::Text => { "function $isT(x) {\n  return ((typeof x) === \"string\");\n}\n" }
     }
 }
 

@@ -97,9 +97,9 @@ fn used_of_classes(alloc: Global, helper: Helper) -> Result<Vec<Binding>, NoMemo
     ensures { IfOk result (λ bs. bs.items ≡ rules.used_of_classes helper) }
 {
     match helper {
-        Helper::ArrayClass => Ok(
-            vec![in alloc; binding(alloc, "java.lang.Object", "c_java_lang_Object")?]?,
-        ),
+        Helper::ArrayClass => Ok(vec![in alloc;
+            binding(alloc, "java.lang.Object", "c_java_lang_Object")?,
+        ]?),
         Helper::Throws(failure) => raises(alloc, failure),
         _ => Ok(Vec::new(alloc)),
     }
