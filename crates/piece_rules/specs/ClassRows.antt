@@ -15,8 +15,8 @@ use Rattle.sj_world.specs.declared.linked.MethodEntry.{MethodEntry}
 use Rattle.reach_rules.specs.Rules.{public_member}
 use Rattle.piece_rules.specs.Dispatch.{dispatch_piece, reflective_piece}
 use Rattle.piece_rules.specs.Pieces.{all_statics, cast_piece, cell_pieces, class_piece, constants_piece, kind_of_class, test_piece}
-use Rattle.piece_rules.specs.Words.{all_kinds, bound, object_class}
-use Rattle.piece_rules.specs.declared.kinds.Kind.TheVariants as kinds
+use Rattle.helper_rules.specs.Words.{all_kinds, bound, object_class}
+use Rattle.helper_rules.specs.declared.kinds.Kind.TheVariants as kinds
 
 abbrev pub named : List ℕ → List TypeRef → Option TypeRef → MethodName
 named simple params result = record { simple = simple; params = params; result = result }

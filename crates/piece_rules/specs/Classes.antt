@@ -20,9 +20,9 @@ use Rattle.sj_world.specs.Tables.{AreAncestors}
 use Rattle.sj_world.specs.declared.facts.Fact.{Fact}
 use Rattle.sj_world.specs.declared.facts.Fact.TheVariants as facts
 use Rattle.entry_rules.specs.Entries.{IsLive}
-use Rattle.piece_rules.specs.Words.{kind_class, worded_kinds}
+use Rattle.helper_rules.specs.Words.{kind_class, worded_kinds}
 use Rattle.piece_rules.specs.Pieces.{Parts, pieces}
-use Rattle.piece_rules.specs.declared.kinds.Kind.{Kind}
+use Rattle.helper_rules.specs.declared.kinds.Kind.{Kind}
 
 -- a body that is needed has this form
 pub record HasForm (w : Classes) (known : List Fact) (form : BodyForm) : Type 0 where
