@@ -1,3 +1,4 @@
+pub mod HelperRows
 pub mod Helpers
 pub mod Texts
 pub mod Words

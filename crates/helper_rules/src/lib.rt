@@ -6,4 +6,4 @@ mod kinds;
 mod laws;
 
 pub use kinds::{Failure, Helper, Kind};
-pub use laws::texts_spell_helpers;
+pub use laws::{texts_spell_helpers, worked_helpers};
