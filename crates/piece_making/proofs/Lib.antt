@@ -1,2 +1,0 @@
-mod Characters
-mod Counted
