@@ -5,7 +5,7 @@ use Rattle.std.specs.List.{All}
 use Rattle.std.proofs.lemmas.Bool.{and_parts, and_from}
 use Rattle.std.proofs.lemmas.List.Elements.{All-nil, All-cons, All-head, All-tail}
 use Rattle.ir_mean.specs.Shows.{initializers}
-use Rattle.sj_calls.specs.Files.{EmittedMethod, initializer_member}
+use Rattle.sj_proper.specs.Emitted.{EmittedMethod, initializer_member}
 use Rattle.sj_desugar.specs.Desugar.{member}
 use Rattle.sj_infos.specs.Infos.{asks, asked_by_body}
 use Rattle.sj_infos.specs.Sure.{sure_among}
@@ -16,7 +16,7 @@ use Rattle.sj_names.proofs.Same.{impossible}
 use Rattle.sj_names.specs.Same.{is_same_text}
 use Rattle.sj_names.specs.declared.entry_points.EntryPoint.{EntryPoint}
 use Rattle.sj_names.specs.declared.method_names.Member.{Member}
-use Rattle.sj_plain.specs.Conditions.{Usable}
+use Rattle.built_forms.specs.Built.{Usable}
 use Rattle.sj_sound.specs.Linked.{has_function, have_functions, functions_of}
 use Rattle.typing_rules.specs.declared.labels.Label.{Label}
 use Rattle.typing_rules.specs.Labels.{type_of_label}

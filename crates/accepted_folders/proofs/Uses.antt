@@ -18,7 +18,7 @@ use Rattle.sj_emit_expr.specs.Uses.{function_binding, helper_of, uses_in, uses_i
 use Rattle.sj_names.proofs.Same.{impossible}
 use Rattle.sj_names.specs.declared.method_names.Member.{Member}
 use Rattle.sj_names.specs.declared.references.TypeRef.{TypeRef}
-use Rattle.sj_plain.specs.Conditions.{Usable}
+use Rattle.built_forms.specs.Built.{Usable}
 use Rattle.typing_rules.specs.declared.labels.Label.{Label}
 use Rattle.typing_rules.specs.Labels.{type_of_label}
 use Rattle.typing_rules.specs.Nodes.{inside as inside_label}

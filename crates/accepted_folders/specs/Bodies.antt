@@ -7,8 +7,9 @@ use Rattle.sj_names.specs.declared.method_names.Member.{Member}
 use Rattle.sj_world.specs.Known.{Classes}
 use Rattle.sj_world.specs.declared.facts.Fact.TheVariants.{Body}
 use Rattle.reach_rules.specs.Reachable.{Reachable}
-use Rattle.sj_calls.specs.Files.{EmittedMethod, HasFunction}
-use Rattle.sj_proper.specs.Program.{HaveOwnMembers}
+use Rattle.sj_proper.specs.Emitted.{EmittedMethod}
+use Rattle.sj_calls.specs.Files.{HasFunction}
+use Rattle.sj_proper.specs.Emitted.{HaveOwnMembers}
 
 -- the definition is that of its member in the classes, and the body is its body
 pub record IsFound (w : Classes) (e : EmittedMethod) : Type 0 where

@@ -10,8 +10,9 @@ use Rattle.sj_names.specs.Same.{is_same_text}
 use Rattle.sj_names.specs.declared.method_names.Namespace.{Namespace}
 use Rattle.sj_names.specs.declared.method_names.Namespace.TheVariants.{PublicStatic, PrivateStatic}
 use Rattle.sj_names.specs.declared.references.TypeRef.{TypeRef}
-use Rattle.sj_bodies.specs.Locals.{Own}
-use Rattle.sj_sound.specs.Typing.{Scene, local_of, IsResult, AllHaveValues, IsLocal, IsVariable, Defines, behind, in_label, Finds, Here, Typed, TypedBlock, TypedAll, TypedCases}
+use Rattle.body_rules.specs.Locals.{Own}
+use Rattle.body_rules.specs.Typing.{Scene, IsResult, AllHaveValues, IsLocal, IsVariable, Defines, behind, in_label, Finds, Here, Typed, TypedBlock, TypedAll, TypedCases}
+use Rattle.body_rules.specs.Locals.{local_of}
 use Rattle.sj_proper.specs.Once.{Once, OnceAll, OnceCases}
 use Rattle.sj_trees.proofs.SameTypes.{type-same}
 use Rattle.sj_trees.specs.SameTypes.{is_same_type}

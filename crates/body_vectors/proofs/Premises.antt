@@ -27,24 +27,24 @@ use Rattle.sj_trees.specs.Term.{Term, skip}
 use Rattle.sj_trees.specs.declared.classes.ClassDef.{ClassDef}
 use Rattle.sj_trees.specs.declared.classes.MethodDef.{MethodDef}
 use Rattle.sj_trees.specs.declared.classes.ParamDef.{ParamDef}
-use Rattle.sj_bodies.proofs.Contexts.{equals}
-use Rattle.sj_calls.specs.Files.{EmittedMethod}
-use Rattle.sj_calls.proofs.Items.{nothing_in, in_front_or_behind}
+use Rattle.body_rules.proofs.Equal.{equals}
+use Rattle.sj_proper.specs.Emitted.{EmittedMethod}
+use Rattle.body_rules.proofs.Lists.{nothing_in, in_front_or_behind}
 use Rattle.sj_names.proofs.Same.{impossible}
 use Rattle.sj_sound.specs.Linked.{have_functions, functions_of}
-use Rattle.sj_sound.proofs.Topped.{topped}
+use Rattle.body_rules.proofs.Topped.{topped}
 use Rattle.sj_world.specs.Ancestors.{directly_above}
 use Rattle.sj_world.specs.Known.{object}
-use Rattle.sj_plain.specs.Conditions.{Usable}
+use Rattle.built_forms.specs.Built.{Usable}
 use Rattle.built_forms.specs.Built.{yields_boxed}
-use Rattle.sj_sound.specs.Typing.{local_of, HasValue}
-use Rattle.sj_sound.specs.Rules.{scene_of}
+use Rattle.body_rules.specs.Locals.{local_of, HasValue}
+use Rattle.sj_proper.specs.Methods.{scene_of}
 use Rattle.sj_sound.specs.Worked.{emitted}
-use Rattle.sj_proper.specs.Program.{HaveOwnMembers}
-use Rattle.sj_kept.specs.Programs.{IsAccepted}
+use Rattle.sj_proper.specs.Emitted.{HaveOwnMembers}
+use Rattle.sj_judged.specs.Programs.{IsAccepted}
 use Rattle.sj_kept.proofs.Classes.{class-keeps}
 use Rattle.sj_kept.proofs.Methods.{body_keeps}
-use Rattle.sj_kept.proofs.Programs.{classes_agree}
+use Rattle.sj_judged.proofs.Programs.{classes_agree}
 use Rattle.body_vectors.specs.Bounds.{emitted_of, all_emitted, class_within, file_within}
 use Rattle.body_vectors.proofs.Deciding.{when_not, is_none, yields_there, is_typed, typed, yields_type, result_is}
 use Rattle.body_vectors.proofs.Unbroken.{opposite, are_new, like_named, declares_once, Computed, unbroken}
@@ -188,7 +188,7 @@ accepted c fs d unbroken there h =
         unboxed = raw.0;
         result = result_is d.result result.0;
         values = have_values d.params names.0;
-        fresh = once.fresh;
+        once = once;
       };
       class_name = refl;
       method_name = well_named d.name names.1;

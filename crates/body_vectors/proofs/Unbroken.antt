@@ -4,8 +4,8 @@ use Rattle.std.specs.Prelude.{option_map}
 use Rattle.std.specs.List.{list_any, list_all}
 use Rattle.std.proofs.lemmas.Bool.{and_parts}
 use Rattle.sj_names.specs.Same.{is_same_text}
-use Rattle.sj_bodies.proofs.Contexts.{equals}
-use Rattle.sj_calls.proofs.Items.{nothing_in, in_front_or_behind}
+use Rattle.body_rules.proofs.Equal.{equals}
+use Rattle.body_rules.proofs.Lists.{nothing_in, in_front_or_behind}
 use Rattle.sj_names.proofs.Same.{impossible}
 use Rattle.sj_local.specs.Broken.{at_member, unless, method_place, constructors_place, TreeBreaks, FirstTree, Breaks, FirstBroken, all_rules}
 use Rattle.sj_local.specs.ClassRules.{keeps_superclass, keeps_hijacked}

@@ -14,9 +14,9 @@ use Rattle.std.proofs.lemmas.List.Elements.{All-nil, All-cons}
 use Rattle.std.specs.List.{All}
 use Rattle.js_tree.specs.Rules.{IsPiece}
 use Rattle.js_tree.specs.Views.{piece_view}
-use Rattle.sj_calls.specs.Files.{EmittedMethod, piece_of_method}
+use Rattle.sj_proper.specs.Emitted.{EmittedMethod, piece_of_method}
 use Rattle.sj_emit_expr.specs.Templates.{member_name}
-use Rattle.sj_proper.specs.Program.{HaveOwnMembers}
+use Rattle.sj_proper.specs.Emitted.{HaveOwnMembers}
 use Rattle.sj_split.proofs.Members.{at_first, further, cons_cases}
 use Rattle.sj_world.proofs.Orders.{same_name, same_compared}
 use Rattle.sj_world.specs.Known.{Name, Classes}

@@ -15,12 +15,12 @@ use Rattle.js_tree.specs.Views.{item_view}
 use Rattle.js_tree.specs.declared.items.JsItem.{JsItem}
 use Rattle.std.specs.declared.rc.Rc.{Rc}
 use Rattle.module_names.specs.Names.{Key, sha1_digest, names_of}
-use Rattle.sj_calls.specs.Files.{EmittedMethod, piece_of_method, function_item_of, call_item_of, initializer_member, module_with}
+use Rattle.sj_proper.specs.Emitted.{EmittedMethod, piece_of_method, function_item_of, call_item_of, initializer_member, module_with}
 use Rattle.sj_graph.specs.References.{IsGraph}
 use Rattle.sj_graph.specs.declared.graphs.Graph.{Graph}
 use Rattle.sj_judged.proofs.Written.{modules_keep}
 use Rattle.sj_names.specs.declared.entry_points.EntryPoint.{EntryPoint}
-use Rattle.sj_proper.specs.Program.{HaveOwnMembers}
+use Rattle.sj_proper.specs.Emitted.{HaveOwnMembers}
 use Rattle.sj_sound.specs.Linked.{has_function, have_functions}
 use Rattle.sj_split.proofs.Members.{at_first, further, cons_cases, from_map, Mapped, into_filter, from_filter}
 use Rattle.sj_split.specs.Modules.{IsPlan, public_module, with_piece, has_piece, internal_modules, is_among, classes_at, is_internal}

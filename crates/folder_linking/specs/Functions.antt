@@ -8,7 +8,7 @@ use Rattle.std.specs.declared.cmp.Ordering.{Ordering}
 use Rattle.js_tree.specs.declared.items.JsPiece.{JsPiece}
 use Rattle.js_tree.specs.Rules.{IsPiece}
 use Rattle.js_tree.specs.Views.{piece_view}
-use Rattle.sj_calls.specs.Files.{EmittedMethod, piece_of_method}
+use Rattle.sj_proper.specs.Emitted.{EmittedMethod, piece_of_method}
 use Rattle.sj_names.specs.declared.method_names.Member.{Member}
 use Rattle.sj_world.specs.Known.{Name, Classes}
 use Rattle.sj_world.specs.Tables.{AreAncestors}

@@ -3,7 +3,7 @@ use Rattle.std.specs.Prelude.{◌≡◌, List, map}
 use Rattle.std.specs.List.{All, Contains}
 use Rattle.js_tree.specs.Rules.{IsPiece}
 use Rattle.js_tree.specs.Terms.{Piece}
-use Rattle.sj_calls.specs.Files.{EmittedMethod, piece_of_method}
+use Rattle.sj_proper.specs.Emitted.{EmittedMethod, piece_of_method}
 use Rattle.file_listings.specs.Listed.{AreBytes}
 use Rattle.sj_names.specs.declared.entry_points.EntryPoint.{EntryPoint}
 use Rattle.sj_names.specs.declared.folders.SourceFile.{SourceFile}

@@ -5,7 +5,7 @@ use Rattle.js_mean.specs.Shows.{File}
 use Rattle.js_tree.specs.Rules.{IsItem, IsPiece}
 use Rattle.js_tree.specs.Spelling.{Spells}
 use Rattle.js_tree.specs.Terms.{Item, Piece, Module}
-use Rattle.sj_calls.specs.Files.{call_item_of}
+use Rattle.sj_proper.specs.Emitted.{call_item_of}
 use Rattle.sj_split.specs.Modules.{file, is_among}
 use Rattle.sj_split.specs.declared.plans.PlannedModule.{PlannedModule}
 use Rattle.sj_world.specs.Known.{Name}

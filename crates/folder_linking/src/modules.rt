@@ -5,7 +5,7 @@ ghost use Rattle.js_tree.specs.Rules.{IsItem, IsPiece};
 ghost use Rattle.js_tree.specs.Spelling.{Spells};
 ghost use Rattle.js_tree.specs.Views.{item_view, module_view, piece_view};
 ghost use Rattle.sj_calls.specs.Files as files;
-ghost use Rattle.sj_calls.specs.Files.{call_item_of};
+ghost use Rattle.sj_proper.specs.Emitted.{call_item_of};
 ghost use Rattle.sj_split.specs.Modules.{is_among};
 ghost use Rattle.sj_split.specs.Orders.{is_same};
 ghost use Rattle.folder_linking.specs.Modules as modules;

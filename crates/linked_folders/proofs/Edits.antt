@@ -1,10 +1,10 @@
 -- An edit has one verdict, one list of files and one amount of work.
 use Rattle.std.proofs.Common.{◌≡◌, ◌≤◌, ℕ, suc, Bool, true, false, List, [], ◌∷◌, ◌⊎◌, inl, inr, refl, sym, ap, subst, ◌∙◌, Contains, length, arith}
-use Rattle.sj_calls.specs.Files.{EmittedMethod}
+use Rattle.sj_proper.specs.Emitted.{EmittedMethod}
 use Rattle.sj_format.proofs.ExactFiles.{one_answer}
 use Rattle.sj_names.specs.declared.entry_points.EntryPoint.{EntryPoint}
 use Rattle.sj_names.specs.declared.folders.SourceFile.{SourceFile}
-use Rattle.sj_proper.specs.Program.{HaveOwnMembers}
+use Rattle.sj_proper.specs.Emitted.{HaveOwnMembers}
 use Rattle.sj_split.proofs.Members.{at_first, further, cons_cases}
 use Rattle.sj_world.proofs.OneWorld.{one_world}
 use Rattle.sj_world.proofs.Orders.{same_name, differs_after}

@@ -12,7 +12,8 @@ use Rattle.sj_names.specs.declared.folders.SourceFile.{SourceFile}
 use Rattle.sj_trees.specs.Term.{Term}
 use Rattle.sj_trees.specs.declared.classes.MethodDef.{MethodDef}
 use Rattle.js_tree.specs.declared.items.Binding.{Binding}
-use Rattle.sj_calls.specs.Files.{EmittedMethod, HasFunction, piece_of_method, initializer_member}
+use Rattle.sj_proper.specs.Emitted.{EmittedMethod, piece_of_method, initializer_member}
+use Rattle.sj_calls.specs.Files.{HasFunction}
 use Rattle.sj_core.specs.Terms as core
 use Rattle.sj_desugar.specs.Desugar.{desugared, is_mutable_in, result_destination}
 use Rattle.sj_emit_expr.specs.Uses.{function_binding, uses_of_all, is_same_binding, once_each, uses}

@@ -1,11 +1,11 @@
 -- The functions of needed bodies have names of their own.
 use Rattle.std.proofs.Common.{◌≡◌, List, Contains}
 use Rattle.file_listings.specs.Listed.{AreBytes}
-use Rattle.sj_calls.specs.Files.{EmittedMethod}
+use Rattle.sj_proper.specs.Emitted.{EmittedMethod}
 use Rattle.sj_emit_expr.specs.Templates.{member_name}
 use Rattle.sj_judged.proofs.Judged.{accepted}
 use Rattle.sj_judged.specs.Judged.{IsJudgedMethod}
-use Rattle.sj_kept.specs.Programs as kept
+use Rattle.sj_judged.specs.Programs as kept
 use Rattle.sj_mangling.proofs.FunctionNames.{function_names_differ}
 use Rattle.sj_names.specs.declared.entry_points.EntryPoint.{EntryPoint}
 use Rattle.sj_names.specs.declared.folders.SourceFile.{SourceFile}

@@ -10,7 +10,8 @@ use Rattle.js_tree.specs.Spelling.{Spells}
 use Rattle.js_tree.specs.Terms.{Module}
 use Rattle.js_tree.proofs.Kept.{module_kept}
 use Rattle.js_tree.proofs.TextLaws.{module_spelled}
-use Rattle.sj_calls.specs.Files.{EmittedMethod, HasFunction, piece_of_method, module_with}
+use Rattle.sj_proper.specs.Emitted.{EmittedMethod, piece_of_method, module_with}
+use Rattle.sj_calls.specs.Files.{HasFunction}
 use Rattle.sj_emit_expr.specs.Templates.{member_name}
 use Rattle.sj_graph.specs.References.{IsReference}
 use Rattle.sj_graph.specs.declared.graphs.Reference.{Reference}

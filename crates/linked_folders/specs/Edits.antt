@@ -6,7 +6,7 @@ use Rattle.sj_names.specs.declared.entry_points.EntryPoint.{EntryPoint}
 use Rattle.sj_names.specs.declared.folders.SourceFile.{SourceFile}
 use Rattle.sj_names.specs.declared.method_names.Member.{Member}
 use Rattle.sj_trees.specs.declared.classes.MethodDef.{MethodDef}
-use Rattle.sj_calls.specs.Files.{EmittedMethod}
+use Rattle.sj_proper.specs.Emitted.{EmittedMethod}
 use Rattle.sj_world.specs.Known.{Classes}
 use Rattle.sj_world.specs.Members.{IsMethodOf}
 use Rattle.sj_world.specs.Refusals.{is_before}

@@ -5,7 +5,7 @@ use Rattle.file_listings.specs.Listed.{AreBytes}
 use Rattle.ir_mean.specs.Shows.{initializers}
 use Rattle.js_mean.specs.Shows.{File, file_of}
 use Rattle.sj_agree.specs.Agrees.{Agrees}
-use Rattle.sj_calls.specs.Files.{EmittedMethod}
+use Rattle.sj_proper.specs.Emitted.{EmittedMethod}
 use Rattle.sj_names.specs.declared.counters.Meter.{Meter}
 use Rattle.sj_names.specs.declared.entry_points.EntryPoint.{EntryPoint}
 use Rattle.sj_names.specs.declared.folders.SourceFile.{SourceFile}

@@ -5,12 +5,12 @@ use Rattle.ir_mean.specs.Shows.{initializers}
 use Rattle.js_mean.specs.Shows.{File}
 use Rattle.js_tree.specs.Spelling.{Spells}
 use Rattle.module_names.specs.Names.{sha1_digest}
-use Rattle.sj_calls.specs.Files.{EmittedMethod, piece_of_method, module_with}
+use Rattle.sj_proper.specs.Emitted.{EmittedMethod, piece_of_method, module_with}
 use Rattle.sj_emit_expr.specs.Templates.{member_name}
 use Rattle.sj_graph.specs.References.{IsGraph}
 use Rattle.sj_graph.specs.declared.graphs.Graph.{Graph}
 use Rattle.sj_names.specs.declared.entry_points.EntryPoint.{EntryPoint}
-use Rattle.sj_proper.specs.Program.{HaveOwnMembers}
+use Rattle.sj_proper.specs.Emitted.{HaveOwnMembers}
 use Rattle.sj_split.specs.Modules.{IsPlan, file}
 use Rattle.sj_split.specs.Orders.{IsBefore}
 use Rattle.sj_split.specs.Walks.{IsReached}

@@ -14,12 +14,13 @@ use Rattle.js_tree.specs.Terms as tree
 use Rattle.js_tree.specs.Terms.{Name}
 use Rattle.sj_core.specs.Terms as core
 use Rattle.sj_desugar.specs.Desugar.{target_of}
-use Rattle.sj_desugar.specs.Spill.{Destination}
+use Rattle.sj_desugar.specs.Spill.{Destination, Code}
 use Rattle.sj_emit_expr.specs.Templates.{statement_templates}
 use Rattle.sj_plain.specs.Settings.{Setting, run, Lawful, Holding, OfNoVariable}
 use Rattle.sj_trees.specs.declared.types.IrType.{IrType}
 use Rattle.sj_bodies.proofs.Contexts.{Context, Writes, Sound, Ahead, Ready, Keeps, Less, Arrives, let_go, stored, returned, Came, gave, left, threw, stopped}
-use Rattle.sj_bodies.proofs.Declared.{Declares, declared-named, IsNew}
+use Rattle.sj_proper.proofs.Declared.{Declares, declared-named}
+use Rattle.sj_proper.proofs.Good.{IsIn, Good}
 use Rattle.sj_names.proofs.Same.{impossible}
 use Rattle.sj_plain.proofs.Worlds.{World}
 
@@ -47,19 +48,19 @@ pub record Undeclared (c : Context) (ss : core.Statements) : Type 0 where
   pub writable : (y : core.Variable) → c.writable y → Declares ss y → ⊥
   pub kept : (y : core.Variable) → c.kept y → Declares ss y → ⊥
 
-outside-writable : (c : Context) (own : List ℕ → Type 0) (j : ℕ) → Outside c own → Ahead c j → (y : core.Variable) → IsNew own j y → c.writable y → ⊥
-outside-writable c own j out ahead (core.named x) n h = out.writable x n h
-outside-writable c own j out ahead (core.numbered k) n h = ahead.writable k n h
+outside-writable : (c : Context) (own : List ℕ → Type 0) (j : ℕ) → Outside c own → Ahead c j → (n : ℕ) (y : core.Variable) → IsIn own j n y → c.writable y → ⊥
+outside-writable c own j out ahead n (core.named x) i h = out.writable x i h
+outside-writable c own j out ahead n (core.numbered k) i h = ahead.writable k i.0 h
 
-outside-kept : (c : Context) (own : List ℕ → Type 0) (j : ℕ) → Outside c own → Ahead c j → (y : core.Variable) → IsNew own j y → c.kept y → ⊥
-outside-kept c own j out ahead (core.named x) n h = out.kept x n h
-outside-kept c own j out ahead (core.numbered k) n h = ahead.kept k n h
+outside-kept : (c : Context) (own : List ℕ → Type 0) (j : ℕ) → Outside c own → Ahead c j → (n : ℕ) (y : core.Variable) → IsIn own j n y → c.kept y → ⊥
+outside-kept c own j out ahead n (core.named x) i h = out.kept x i h
+outside-kept c own j out ahead n (core.numbered k) i h = ahead.kept k i.0 h
 
-pub undeclared : (c : Context) (own : List ℕ → Type 0) (j : ℕ) (ss : core.Statements) → Outside c own → Ahead c j → ((y : core.Variable) → Declares ss y → IsNew own j y) → Undeclared c ss
-undeclared c own j ss out ahead h = record {
-  scope = λ x t i d. out.scope x t (h (core.named x) d) i;
-  writable = λ y i d. outside-writable c own j out ahead y (h y d) i;
-  kept = λ y i d. outside-kept c own j out ahead y (h y d) i;
+pub undeclared : (c : Context) (own : List ℕ → Type 0) (j : ℕ) (code : Code) {labels : List (List ℕ)} {inside : Bool} → Outside c own → Ahead c j → Good own labels inside j code → Undeclared c code.statements
+undeclared c own j code out ahead g = record {
+  scope = λ x t i d. out.scope x t (g.fresh (core.named x) d) i;
+  writable = λ y i d. outside-writable c own j out ahead code.next y (g.fresh y d) i;
+  kept = λ y i d. outside-kept c own j out ahead code.next y (g.fresh y d) i;
 }
 
 module _ (z : Setting) (lawful : Lawful z) (c : Context) (ss : core.Statements) (free : Undeclared c ss) where
@@ -72,14 +73,14 @@ module _ (z : Setting) (lawful : Lawful z) (c : Context) (ss : core.Statements) 
     where
       go : (b : Bool) → is_among (declared shown_statements) (z.place.name y) ≡ b → is_among (declared shown_statements) (z.place.name y) ≡ false
       go false e = e
-      go true e = let n = declared-named z ss (z.place.name y) e in absurd (h (subst (Declares ss) (lawful.base.names.variables n.variable y n.name) n.declares))
+      go true e = let n = declared-named z.place.name z.place.label ss (z.place.name y) e in absurd (h (subst (Declares ss) (lawful.base.names.variables n.variable y n.name) n.declares))
 
   not_among : (x : Name) → OfNoVariable z.place x → is_among (declared shown_statements) x ≡ false
   not_among x none = go (is_among (declared shown_statements) x) refl
     where
       go : (b : Bool) → is_among (declared shown_statements) x ≡ b → is_among (declared shown_statements) x ≡ false
       go false e = e
-      go true e = let n = declared-named z ss x e in absurd (none n.variable n.name)
+      go true e = let n = declared-named z.place.name z.place.label ss x e in absurd (none n.variable n.name)
 
   entered : (sc : js.Scope) (n : Name) → is_among (declared shown_statements) n ≡ false → (js_meaning.enter shown_statements sc).bindings n ≡ sc.bindings n
   entered sc n h = bind-undeclared shown_statements sc.bindings n h

@@ -1,19 +1,17 @@
 -- What a tree is written in: the locals in scope, the variables that may be written, those that keep what they hold, and the labels.
 use Rattle.std.proofs.Common.{◌≡◌, ℕ, ◌≤◌, Bool, true, false, List, refl, sym, ap, ◌∙◌, subst, if◌then◌else◌}
-use Rattle.std.specs.Prelude.{nat_eq}
-use Rattle.std.specs.Cmp.Lexicographic.{pointwise}
-use Rattle.std.proofs.lemmas.Slice.Eq.{bytes_eq-Decides}
 use Rattle.ir_mean.specs.States as ir
 use Rattle.js_mean.specs.Meaning as js_meaning
 use Rattle.js_mean.specs.States as js
 use Rattle.js_tree.specs.Terms.{Name}
 use Rattle.sj_bodies.specs.Fine.{Around}
+use Rattle.body_rules.proofs.Equal.{differs, equals}
 use Rattle.sj_core.specs.Terms as core
 use Rattle.sj_desugar.specs.Desugar.{Targets, target_of}
 use Rattle.sj_desugar.specs.Spill.{Destination, discard, to_variable, to_result}
 use Rattle.sj_trees.specs.declared.types.IrType.{IrType}
 use Rattle.sj_trees.specs.declared.types.IrType.TheVariants.{Any}
-use Rattle.sj_plain.specs.Conditions.{Scope}
+use Rattle.body_rules.specs.Locals.{Scope}
 use Rattle.sj_plain.specs.Settings.{Place, Setting, SameState, Inside, Lawful, Holding, Sees}
 use Rattle.sj_plain.proofs.Plain.{sees-lift}
 use Rattle.sj_plain.proofs.Worlds.{World, Grows, SameValue}
@@ -106,19 +104,6 @@ pub data Came (p : Place) (here : Name) (c : Context) (scope : Scope) (k : Desti
   stopped : (w : World) (env : ir.Env) (s : ir.State) (sc : js.Scope) (u : js.State) → c.turning → Grows from w → Ready p here c.scope c.writable w env sc → Keeps p c.kept before sc → SameState p w s u → Came p here c scope k from before (ir.ends ir.stops env s) (js.ends js.breaks_nearest sc u)
 
 -- texts that aren't equal
-pub differs : (a b : List ℕ) → (a ≡ b → ⊥) → pointwise nat_eq a b ≡ false
-differs a b h = go (pointwise nat_eq a b) refl
-  where
-    go : (t : Bool) → pointwise nat_eq a b ≡ t → pointwise nat_eq a b ≡ false
-    go true e = absurd (h ((bytes_eq-Decides a b).0 e))
-    go false e = e
-
-pub equals : (a : List ℕ) → pointwise nat_eq a a ≡ true
-equals a = (bytes_eq-Decides a a).1 refl
-
-pub is-equal : (a b : List ℕ) → pointwise nat_eq a b ≡ true → a ≡ b
-is-equal a b = (bytes_eq-Decides a b).0
-
 module _ (z : Setting) (lawful : Lawful z) where
   -- a binding that is started
   pub started-here : (const : Bool) (y : core.Variable) (v : js.Value) (sc : js.Scope) → (js_meaning.start const (z.place.name y) v sc).bindings (z.place.name y) ≡ js.holds const v

@@ -1,12 +1,11 @@
 pub mod Blocks
 pub mod Contexts
-pub mod Declared
 pub mod Forms
 pub mod Jumps
 pub mod Loops
 pub mod Main
 pub mod Matches
-pub mod Numbers
+pub mod Parts
 pub mod Spills
 pub mod Statements
 pub mod Trees

@@ -22,7 +22,7 @@ use Rattle.sj_trees.specs.declared.positions.Position.{Position}
 use Rattle.sj_plain.specs.Settings.{Setting, shown, run, SameState, Lawful}
 use Rattle.sj_bodies.proofs.Blocks.{Outside, Undeclared, scoped_alike}
 use Rattle.sj_bodies.proofs.Contexts.{Context, Writes, Sound, Ahead, Ready, ready-lift, Keeps, Less, Arrives, let_go, stored, returned, Came, gave, left, threw, stopped}
-use Rattle.sj_bodies.proofs.Declared.{Declares, declares-followed}
+use Rattle.sj_proper.proofs.Declared.{Declares, declares-followed}
 use Rattle.sj_bodies.proofs.Forms.{OneFinal, rebased, act_alike, ahead-later}
 use Rattle.sj_bodies.proofs.Loops.{Alike}
 use Rattle.sj_bodies.proofs.Statements.{run-followed, act_of, ends-one, throws-on}

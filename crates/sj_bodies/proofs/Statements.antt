@@ -18,11 +18,11 @@ use Rattle.sj_desugar.specs.Spill.{Destination, discard, to_variable, to_result,
 use Rattle.sj_emit_expr.specs.Templates.{statement_template}
 use Rattle.sj_trees.specs.declared.positions.Position.{Position}
 use Rattle.sj_trees.specs.declared.types.IrType.{IrType}
-use Rattle.sj_plain.specs.Conditions.{Scope}
+use Rattle.body_rules.specs.Locals.{Scope}
 use Rattle.sj_bodies.specs.Fine.{FitsIn}
 use Rattle.sj_trees.specs.declared.types.IrType.TheVariants.{Any}
 use Rattle.sj_plain.specs.Settings.{Setting, shown, run, SameState, Valued, valued, thrown, Lawful, Holding, Sees}
-use Rattle.sj_plain.proofs.Standing.{coerced-same}
+use Rattle.body_rules.proofs.Standing.{coerced-same}
 use Rattle.sj_bodies.proofs.Contexts.{Context, Writes, Sound, IsOpen, Ready, ready-lift, Keeps, Less, keeps-less, keeps-all, less-trans, Arrives, let_go, stored, returned, Came, gave, left, threw, stopped, started-here, started-other, started-inside, started-less}
 use Rattle.sj_plain.proofs.Worlds.{World, Grows, grows-trans, SameValue, value-fits}
 

@@ -1,5 +1,5 @@
 -- A call: its parameters are bound, and behind its body the locals of the caller are there again.
-use Rattle.std.proofs.Common.{◌≡◌, ℕ, Bool, true, false, List, [], ◌∷◌, Some, None, refl, sym, ap, ◌∙◌, subst, inl, inr, if◌then◌else◌}
+use Rattle.std.proofs.Common.{◌≡◌, ℕ, Bool, true, false, List, [], ◌∷◌, Some, None, refl, sym, ap, ◌∙◌, subst, inl, inr, if◌then◌else◌, Option}
 use Rattle.std.specs.Prelude.{nat_eq}
 use Rattle.std.specs.Cmp.Lexicographic.{pointwise}
 use Rattle.outcomes.specs.Outcome.{Out, done, then_do}
@@ -22,19 +22,27 @@ use Rattle.sj_names.specs.declared.method_names.Member.{Member}
 use Rattle.sj_trees.specs.declared.classes.ParamDef.{ParamDef}
 use Rattle.sj_trees.specs.declared.types.IrType.{IrType}
 use Rattle.sj_trees.specs.declared.types.IrType.TheVariants.{NoType}
-use Rattle.sj_bodies.specs.Locals.{Own}
+use Rattle.body_rules.specs.Locals.{Own, IsParameter, parameters_of, with_local, Scope}
 use Rattle.sj_plain.specs.Settings.{Place, Setting, SameState, Valued, valued, thrown, NamesDiffer, OfNoVariable, Holding, holding, a_function, function_call}
 use Rattle.sj_bodies.proofs.Blocks.{Outside, bind-undeclared}
-use Rattle.sj_bodies.proofs.Contexts.{Context, Writes, Sound, Ahead, Ready, let_go, returned, Came, gave, left, threw, stopped, differs, equals, is-equal}
-use Rattle.sj_bodies.proofs.Declared.{declared-named}
+use Rattle.sj_bodies.proofs.Contexts.{Context, Writes, Sound, Ahead, Ready, let_go, returned, Came, gave, left, threw, stopped}
+use Rattle.body_rules.proofs.Equal.{differs, equals, is-equal}
+use Rattle.sj_proper.proofs.Declared.{declared-named}
 use Rattle.sj_names.proofs.Same.{impossible}
 use Rattle.sj_bodies.proofs.Trees.{LowAlike}
 use Rattle.sj_plain.proofs.Worlds.{World, SameValue, same_undefined, SameValues, no_values, one_more}
-use Rattle.sj_calls.specs.Methods.{parameters_in, function_of, IsParameter, parameters_of, HaveTypes, Linked}
+use Rattle.sj_calls.specs.Methods.{parameters_in, function_of, Linked}
+use Rattle.sj_proper.specs.Methods.{HaveTypes, scene_of, KeepsRules}
 use Rattle.sj_names.specs.declared.references.TypeRef.{TypeRef}
-use Rattle.sj_bodies.specs.Fine.{with_local}
-use Rattle.sj_plain.specs.Conditions.{Scope}
-use Rattle.sj_plain.specs.Standing.{types_referred, call_type}
+use Rattle.body_rules.specs.Standing.{types_referred, call_type}
+use Rattle.body_rules.proofs.Mutable.{mutable-known, parameter-known}
+use Rattle.body_rules.proofs.RulesGive.{Yields, yields_there}
+use Rattle.built_forms.specs.Built.{Usable}
+use Rattle.sj_bodies.specs.Fine.{Fine, Asks, no_labels}
+use Rattle.sj_trees.specs.Term.{Term}
+use Rattle.sj_trees.specs.declared.classes.MethodDef.{MethodDef}
+use Rattle.sj_trees.specs.TypeOf.{type_of_term}
+use Rattle.sj_world.specs.Known.{Classes}
 
 pub named_parameter : (ds : List ParamDef) (x : List ℕ) (t : IrType) → parameters_of ds x t → IsParameter ds x
 named_parameter [] x t h = h
@@ -88,6 +96,26 @@ pub result-same : (t : IrType) (v : ir.Value) → is_no_type t ≡ false → ir_
 result-same NoType v h = impossible (sym h)
 result-same t v h = refl
 
+-- what the body of a method comes to may be brought out of it, as its result
+asks-result : (w : Classes) (e : Term) (t : IrType) (k : Destination) → Way t k → Yields w e t → Asks w k (type_of_term e)
+asks-result w e _ _ gives_up y = tt
+asks-result w e _ _ (hands_on t h) (inl none) = impossible (sym h ∙ ap is_no_type none)
+asks-result w e _ _ (hands_on t h) (inr f) = (f, λ none. impossible (sym h ∙ ap is_no_type none))
+
+no_type : {A : Type 0} {t : IrType} → ◌≡◌ {A = Option IrType} None (Some t) → A
+no_type e = impossible (cc)
+
+body-fine : (w : Classes) (has : Usable) (d : MethodDef) (e : Term) → KeepsRules w has d e → Fine w (is_mutable_in d e) has (parameters_of d.params) no_labels (result_destination d.result) e
+body-fine w has d e r = record {
+  scene = scene_of d;
+  around = [];
+  once = r.once.once;
+  amid = record { seen = λ x t h. h; values = r.values; changing = λ x p i m. parameter-known d e x p i m; targets = λ l t e. no_type e; reaches = λ l. tt };
+  written = mutable-known d e;
+  asks = asks-result w e d.result (result_destination d.result) (way d.result) (yields_there w e d.result r.unboxed r.yields);
+  typed = r.typed;
+}
+
 -- the end of a body is the end of its call
 pub comes_back : (d : Direction) (p : Place) (file : Name) (t : IrType) (k : Destination) → Way t k → (c : Context) (scope : Scope) (w : World) (before : js.Scope) (env : ir.Env) (a : ir.Ended) (b : js.StatementEnd) → Came p file c scope k w before a b → Sim d (Valued p w env t) (ir_meaning.returned t env a) (js_meaning.returned b)
 comes_back d p file _ _ gives_up c scope w before env _ _ (gave y v inner s sc u _ g let_go r ks same) = sim_done d (Valued p w env NoType) (ir.ends (ir.gives ir.undefined) env s) (js.gives js.undefined u) (valued y ir.undefined js.undefined s u g (record { stands = same_undefined; suits = refl }) same)
@@ -138,12 +166,12 @@ module _ (p : Place) (names : NamesDiffer p) where
   parameters-free (n ∷ ns) (x ∷ xs) b y none h = ap (λ (t : Bool). if t then js.holds false x else js_meaning.bind_parameters (parameters_in p ns) xs b y) (differs y (p.name (core.named n)) (λ e. none (core.named n) (sym e))) ∙ parameters-free ns xs b y none h
 
   -- neither does a body declare one
-  pub body-free : (z : Setting) → z.place ≡ p → (ss : core.Statements) (y : Name) → OfNoVariable p y → js_meaning.bind_declared (statement_templates p.name p.label ss) (λ x. js.absent) y ≡ js.absent
-  body-free z is ss y none = bind-undeclared (statement_templates p.name p.label ss) (λ x. js.absent) y (go (is_among (declared (statement_templates p.name p.label ss)) y) refl)
+  pub body-free : (ss : core.Statements) (y : Name) → OfNoVariable p y → js_meaning.bind_declared (statement_templates p.name p.label ss) (λ x. js.absent) y ≡ js.absent
+  body-free ss y none = bind-undeclared (statement_templates p.name p.label ss) (λ x. js.absent) y (go (is_among (declared (statement_templates p.name p.label ss)) y) refl)
     where
       go : (b : Bool) → is_among (declared (statement_templates p.name p.label ss)) y ≡ b → is_among (declared (statement_templates p.name p.label ss)) y ≡ false
       go false e = e
-      go true e = let n = declared-named z ss y (subst (λ q. is_among (declared (statement_templates q.name q.label ss)) y ≡ true) (sym is) e) in absurd (none n.variable (subst (λ q. q.name n.variable ≡ y) is n.name))
+      go true e = let n = declared-named p.name p.label ss y e in absurd (none n.variable n.name)
 
   -- calls of a member and of its function are alike where the levels below are
   pub call_alike : (d : Direction) (low : ir_meaning.Low) (js_low : js_meaning.Low) (m : Member) (l : Linked p m) → LowAlike (record { place = p; file = p.home (a_function m); direction = d; is_mutable = is_mutable_in l.definition l.its_body; low = low; js_low = js_low }) → (w : World) (vs : List ir.Value) (xs : List js.Value) (env : ir.Env) (s : ir.State) (u : js.State) → SameValues w (types_referred m.method.params) vs xs → SameState p w s u → Sim d (Valued p w env (call_type m.method.result)) (ir_meaning.call low (member_of p.classes m.class m.namespace m.method) None vs env s) (function_call p js_low m xs u)
@@ -180,10 +208,10 @@ module _ (p : Place) (names : NamesDiffer p) where
       js_is = ap (λ o. js_meaning.code_call js_low (p.home (a_function m)) o xs u) l.emitted
 
       locals : Bound p w l.definition.params vs xs names_declared → Sim d (Valued p w env l.definition.result) (ir_meaning.body_call low l.definition.result (Some l.its_body) None (ir_meaning.parameters l.definition.params vs) env s) js_body
-      locals h = subst (λ o. Sim d (Valued p w env l.definition.result) (ir_meaning.body_call low l.definition.result (Some l.its_body) None o env s) js_body) (sym h.are) (sim_then d (Came p (p.home (a_function m)) (start is_mutable l.definition.params) scope k w sc) (Valued p w env l.definition.result) (low l.its_body inner s) (js_low code.body sc u) (ir_meaning.returned l.definition.result env) js_meaning.returned (below (start is_mutable l.definition.params) k 1 l.its_body (sound-start is_mutable l.definition.params) (ahead-start is_mutable l.definition.params) (outside-start is_mutable l.definition.params (Own l.its_body) l.fine.fresh) (writes-nothing (λ y. ⊥) l.definition.result k (way l.definition.result)) l.fine.fine w inner s sc u ready same) (comes_back d p (p.home (a_function m)) l.definition.result k (way l.definition.result) (start is_mutable l.definition.params) scope w sc env))
+      locals h = subst (λ o. Sim d (Valued p w env l.definition.result) (ir_meaning.body_call low l.definition.result (Some l.its_body) None o env s) js_body) (sym h.are) (sim_then d (Came p (p.home (a_function m)) (start is_mutable l.definition.params) scope k w sc) (Valued p w env l.definition.result) (low l.its_body inner s) (js_low code.body sc u) (ir_meaning.returned l.definition.result env) js_meaning.returned (below (start is_mutable l.definition.params) k 1 l.its_body (sound-start is_mutable l.definition.params) (ahead-start is_mutable l.definition.params) (outside-start is_mutable l.definition.params (Own l.its_body) l.rules.once.fresh) (writes-nothing (λ y. ⊥) l.definition.result k (way l.definition.result)) (body-fine p.classes (p.has (p.home (a_function m))) l.definition l.its_body l.rules) w inner s sc u ready same) (comes_back d p (p.home (a_function m)) l.definition.result k (way l.definition.result) (start is_mutable l.definition.params) scope w sc env))
         where
           inner : ir.Env
           inner = record { this_value = None; locals = h.locals; sure = sure_locals l.its_body }
 
           ready : Ready p (p.home (a_function m)) scope (λ y. ⊥) w inner sc
-          ready = record { sees = record { inside = record { file = refl; free = λ y none. parameters-free (names_of l.definition.params) xs names_declared y none (body-free z refl (desugared l.definition l.its_body).body y none) }; locals = h.hold }; «open» = λ y wr. absurd wr }
+          ready = record { sees = record { inside = record { file = refl; free = λ y none. parameters-free (names_of l.definition.params) xs names_declared y none (body-free (desugared l.definition l.its_body).body y none) }; locals = h.hold }; «open» = λ y wr. absurd wr }

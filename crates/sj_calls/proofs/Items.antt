@@ -1,7 +1,6 @@
 -- The functions of a module are found by their names.
-use Rattle.std.proofs.Common.{◌≡◌, ◌<◌, Bool, true, false, List, [], ◌∷◌, ◌++◌, ◌||◌, not, map, refl, sym, ap, ◌∙◌, subst, Contains, Some, ◌⊎◌, inl, inr, ⊎_elim, if◌then◌else◌, arith}
+use Rattle.std.proofs.Common.{◌≡◌, Bool, true, false, List, [], ◌∷◌, ◌++◌, ◌||◌, not, map, refl, sym, ap, ◌∙◌, subst, Contains, Some, ◌⊎◌, inl, inr, ⊎_elim, if◌then◌else◌}
 use Rattle.std.proofs.lemmas.Bool.{and_parts}
-use Rattle.std.proofs.lemmas.List.Elements.{Contains-push_cases, Contains-append_cases}
 use Rattle.js_mean.specs.Meaning.{Code, code_among, items_cell, or_outer}
 use Rattle.js_mean.specs.Proper.{is_among, are_distinct, item_names}
 use Rattle.js_mean.specs.States.{Cell, absent, holds, function}
@@ -9,19 +8,10 @@ use Rattle.js_tree.specs.Names.{is_same_text}
 use Rattle.js_tree.specs.Terms.{Name, Item}
 use Rattle.sj_desugar.specs.Desugar.{desugared}
 use Rattle.sj_emit_expr.specs.Templates.{member_name, parameter_names, body_template}
-use Rattle.sj_bodies.proofs.Contexts.{equals, is-equal}
+use Rattle.body_rules.proofs.Lists.{nothing_in, in_front_or_behind}
+use Rattle.body_rules.proofs.Equal.{equals, is-equal}
 use Rattle.sj_names.proofs.Same.{impossible}
-use Rattle.sj_calls.specs.Files.{EmittedMethod, function_item_of}
-
-pub nothing_in : {A : Type 0} {X : Type 0} (x : X) → Contains [] x → A
-nothing_in x h = let p : h.0 < 0 = h.1 in absurd (omega arith)
-
-pub in_front_or_behind : {X : Type 0} (n : X) (ns : List X) (x : X) → Contains (n ∷ ns) x → (n ≡ x) ⊎ Contains ns x
-in_front_or_behind {X} n ns x h = elim (Contains-append_cases (n ∷ []) ns x h) [ inl front ↦ at_front (Contains-push_cases [] n x front) | inr later ↦ inr later ]
-  where
-    at_front : Contains [] x ⊎ (n ≡ x) → (n ≡ x) ⊎ Contains ns x
-    at_front (inl none) = nothing_in x none
-    at_front (inr e) = inl e
+use Rattle.sj_proper.specs.Emitted.{EmittedMethod, function_item_of}
 
 abbrev name_of : EmittedMethod → Name
 name_of e = member_name e.member

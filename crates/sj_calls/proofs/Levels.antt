@@ -17,11 +17,13 @@ use Rattle.sj_bodies.proofs.Contexts.{Came}
 use Rattle.sj_bodies.proofs.Main.{does}
 use Rattle.sj_bodies.proofs.Trees.{LowAlike}
 use Rattle.sj_plain.proofs.Worlds.{World, SameValues}
-use Rattle.sj_plain.specs.Standing.{types_referred, call_type}
+use Rattle.body_rules.specs.Standing.{types_referred, call_type}
 use Rattle.sj_calls.specs.Methods.{Linked, CallsAgree, ir_call, js_call}
 use Rattle.sj_calls.proofs.Calls.{call_alike}
+use Rattle.body_rules.specs.Subtyping.{IsSubtyping}
+use Rattle.sj_world.specs.Subtypes.{IsSub}
 
-module _ (p : Place) (names : NamesDiffer p) (linked : (f : Name) (m : Member) → (p.has f).linked m ≡ true → Linked p m) where
+module _ (p : Place) (ordered : IsSubtyping (IsSub p.classes)) (names : NamesDiffer p) (linked : (f : Name) (m : Member) → (p.has f).linked m ≡ true → Linked p m) where
   -- a body in a file of the place, with what the levels of these bounds give
   abbrev within : Name → Direction → (List ℕ → Bool) → ℕ → ℕ → Setting
   within f d is_mutable n k = record { place = p; file = f; direction = d; is_mutable = is_mutable; low = ir_meaning.below p.classes n; js_low = js_meaning.below p.program k }
@@ -50,7 +52,7 @@ module _ (p : Place) (names : NamesDiffer p) (linked : (f : Name) (m : Member) �
   member_alike d n k level m l = call_alike p names d (ir_meaning.below p.classes n) (js_meaning.below p.program k) m l (level (p.home (a_function m)) l.reaches (is_mutable_in l.definition l.its_body))
 
   based : (d : Direction) (n k : ℕ) → Levels d n → Enough p.room 0 d n k → (f : Name) → Reaches p f → (is_mutable : List ℕ → Bool) → Based (within f d is_mutable n k)
-  based d n k levels h f reaches is_mutable = record { names = names; reaches = reaches; calls = λ m l. member_alike d n k (levels k h) m (linked f m l) }
+  based d n k levels h f reaches is_mutable = record { ordered = ordered; names = names; reaches = reaches; calls = λ m l. member_alike d n k (levels k h) m (linked f m l) }
 
   lawful : (d : Direction) (n k : ℕ) → Levels d n → Enough p.room p.room.each d n k → (f : Name) → Reaches p f → (is_mutable : List ℕ → Bool) → Lawful (within f d is_mutable n k)
   lawful d n k levels h f reaches is_mutable = record { base = based d n k levels (fewer d p.room.each n k h) f reaches is_mutable }

@@ -8,7 +8,7 @@ use Rattle.sj_names.specs.declared.method_names.MethodName.{MethodName}
 use Rattle.sj_names.specs.declared.method_names.Namespace.{Namespace}
 use Rattle.sj_trees.specs.declared.classes.ClassDef.{ClassDef}
 use Rattle.sj_trees.specs.declared.classes.MethodDef.{MethodDef}
-use Rattle.sj_bodies.proofs.Contexts.{is-equal}
+use Rattle.body_rules.proofs.Equal.{is-equal}
 use Rattle.sj_sound.proofs.Same.{member-same}
 
 pub record OwnerOf (w : World) (m : Member) (d : MethodDef) : Type 0 where

@@ -13,25 +13,25 @@ use Rattle.sj_names.specs.declared.entry_points.EntryPoint.{EntryPoint}
 use Rattle.sj_trees.specs.declared.classes.ClassDef.{ClassDef}
 use Rattle.listing_spelling.specs.Rules.{HasListing, IsListedMethod, IsListedTree}
 use Rattle.file_listings.proofs.ListedClasses.{file_is_listed}
-use Rattle.sj_calls.specs.Files.{EmittedMethod, program_with}
+use Rattle.sj_proper.specs.Emitted.{EmittedMethod, HaveOwnMembers}
+use Rattle.sj_calls.specs.Files.{program_with}
 use Rattle.sj_sound.specs.Linked.{have_functions, functions_of}
-use Rattle.sj_proper.specs.Program.{HaveOwnMembers}
-use Rattle.sj_kept.specs.Programs.{IsAccepted}
+use Rattle.sj_judged.specs.Programs.{IsAccepted}
 use Rattle.sj_kept.proofs.Classes.{class-keeps, keeps-superclass, signature-keeps}
-use Rattle.sj_kept.proofs.Programs.{classes_agree}
+use Rattle.sj_judged.proofs.Programs.{classes_agree}
 use Rattle.sj_local.specs.Broken.{FirstBroken}
 use Rattle.sj_local.specs.ClassRules.{is_class, is_interface, is_empty, keeps_superclass}
 use Rattle.sj_local.specs.Names.{is_object}
 use Rattle.sj_names.proofs.Same.{impossible, text-same}
 use Rattle.sj_names.specs.Same.{is_same_text}
-use Rattle.sj_sound.proofs.Topped.{topped}
-use Rattle.sj_calls.specs.Methods.{HaveTypes}
-use Rattle.sj_plain.specs.Standing.{call_type}
+use Rattle.body_rules.proofs.Topped.{topped}
+use Rattle.sj_proper.specs.Methods.{HaveTypes}
+use Rattle.body_rules.specs.Standing.{call_type}
 use Rattle.sj_trees.specs.Term.{Term}
 use Rattle.sj_world.specs.Ancestors.{listed, written, above_in}
 use Rattle.sj_world.specs.Known.{class_of, object}
 use Rattle.sj_world.specs.Laws.{IsTopped}
-use Rattle.sj_sound.proofs.RulesGive.{result_is}
+use Rattle.body_rules.proofs.RulesGive.{result_is}
 use Rattle.sj_typed.proofs.Bodies.{rules_kept}
 use Rattle.sj_typed.proofs.Values.{parameters_have_values}
 use Rattle.sj_judged.specs.Judged.{IsJudgedClass, IsJudgedMethod}

@@ -1,3 +1,4 @@
 pub mod Found
 pub mod Judged
+pub mod Programs
 pub mod Written

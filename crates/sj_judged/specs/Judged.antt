@@ -5,7 +5,7 @@ use Rattle.file_listings.specs.Listed.{AreBytes}
 use Rattle.sj_format.specs.Files.{FileIs}
 use Rattle.sj_local.specs.Broken.{FirstBroken}
 use Rattle.sj_trees.specs.declared.classes.ClassDef.{ClassDef}
-use Rattle.sj_calls.specs.Files.{EmittedMethod}
+use Rattle.sj_proper.specs.Emitted.{EmittedMethod}
 use Rattle.sj_sound.specs.Linked.{functions_of}
 use Rattle.typing_rules.specs.Typed.{IsTyped}
 use Rattle.built_forms.specs.Built.{is_built_method}

@@ -10,17 +10,27 @@ ghost use Rattle.std.specs.List.{All, Contains};
 ghost use Rattle.outcomes.specs.Agreement.{Agree};
 ghost use Rattle.ir_mean.specs.Shows.{initializers, ir_shows};
 ghost use Rattle.ir_mean.specs.World.{World};
-ghost use Rattle.js_mean.specs.Shows.{File, file_of, js_shows};
+ghost use Rattle.js_mean.specs.Shows.{file_of, js_shows};
 ghost use Rattle.js_tree.specs.Rules.{IsPiece, IsModule};
 ghost use Rattle.js_tree.specs.Spelling.{Spells};
 ghost use Rattle.sj_agree.specs.Agrees.{Agrees};
 ghost use Rattle.sj_names.specs.declared.entry_points.EntryPoint.{EntryPoint};
 ghost use Rattle.sj_trees.specs.declared.classes.ClassDef.{ClassDef};
-ghost use Rattle.sj_calls.specs.Files.{EmittedMethod, piece_of_method, module_with, program_with};
+ghost use Rattle.sj_proper.specs.Emitted.{EmittedMethod, piece_of_method, module_with, HaveOwnMembers};
+ghost use Rattle.sj_calls.specs.Files.{program_with};
 ghost use Rattle.sj_sound.specs.Linked.{have_functions};
-ghost use Rattle.sj_proper.specs.Program.{HaveOwnMembers};
+ghost use Rattle.sj_judged.specs.Programs.{IsAccepted};
+ghost use Rattle.sj_world.specs.Laws.{IsTopped};
 ghost use Rattle.sj_judged.specs.Judged.{IsJudgedClass, IsJudgedMethod};
 ghost use Rattle.sj_judged.specs.Written.{items_with};
+
+/// The theorem on classes with bodies that keep the rules: take methods, no two of one member, each of a class that breaks none of the local rules, with a body that keeps
+/// the rules; let the initializers of a public module be among them, and let nothing stand above `java.lang.Object`. Then the
+/// file that has their functions in this order and behind them the calls of the initializers shows of the public module what the classes
+/// show: what the one shows within any bound the other shows within some bound, and the other way round, and neither is wrong at any bound.
+pub fn typed_classes_agree()
+    ensures { (w : World) → IsTopped w → (entries : List EntryPoint) (id : List ℕ) (fs : List EmittedMethod) → ((e : EmittedMethod) → Contains fs e → IsAccepted w fs e) → HaveOwnMembers fs → have_functions fs (initializers entries id) ≡ true → Agree (ir_shows w entries id) (js_shows (program_with id fs (initializers entries id)) id) }
+{}
 
 /// Take classes that were read from files and break none of the local rules, and methods of theirs, no two of one member and the initializers of a
 /// public module among them, that are typed among the classes and are of the forms that are built, with calls of these methods alone. Then the

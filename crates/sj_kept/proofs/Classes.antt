@@ -7,9 +7,8 @@ use Rattle.sj_local.specs.MemberRules.{breaks_method, has_result, is_void}
 use Rattle.sj_local.specs.TreeRules.{is_constructor}
 use Rattle.sj_local.specs.ClassRules.{keeps_superclass}
 use Rattle.sj_local.specs.Names.{is_init, is_same_type}
-use Rattle.sj_local.specs.Firsts.{in_32_bits, first_where}
+use Rattle.sj_local.specs.Firsts.{in_32_bits, first_where, FirstAnswer, none_left, this_one, a_later_one}
 use Rattle.sj_local.specs.Broken.{at_method, unless, Breaks, TreeBreaks, FirstTree, FirstBroken, all_rules, tree_place}
-use Rattle.sj_local.specs.Firsts.{FirstAnswer, none_left, this_one, a_later_one}
 use Rattle.sj_local.specs.declared.rules.Rule.{Rule}
 use Rattle.sj_local.specs.declared.rules.Rule.TheVariants as rule
 use Rattle.sj_trees.specs.declared.classes.ClassDef.{ClassDef}
@@ -18,12 +17,12 @@ use Rattle.sj_names.specs.declared.references.TypeRef.{TypeRef}
 use Rattle.sj_trees.specs.Types.{reference_type}
 use Rattle.sj_trees.specs.declared.classes.ParamDef.{ParamDef}
 use Rattle.sj_trees.specs.declared.types.IrType.{IrType}
-use Rattle.sj_calls.specs.Methods.{HaveTypes}
-use Rattle.sj_plain.specs.Standing.{call_type}
+use Rattle.sj_proper.specs.Methods.{HaveTypes}
+use Rattle.body_rules.specs.Standing.{call_type}
 use Rattle.sj_kept.specs.Kept.{KeepsTreeRules}
 use Rattle.sj_trees.proofs.SameTypes.{type-same}
 use Rattle.sj_names.proofs.Same.{impossible}
-use Rattle.sj_calls.proofs.Items.{nothing_in, in_front_or_behind}
+use Rattle.body_rules.proofs.Lists.{nothing_in, in_front_or_behind}
 
 -- where nothing is answered, each answers nothing
 none-each : {A R : Type 0} (Answers : A → Option R → Type 0) (n : ℕ) (xs : List A) (r : Option (ℕ × R)) → FirstAnswer Answers n xs r → r ≡ None → (x : A) → Contains xs x → Answers x None

@@ -8,8 +8,8 @@ use Rattle.sj_local.specs.declared.walks.Declaration.TheVariants as declaration
 use Rattle.sj_local.specs.Nodes.{Context, Node, node, inside, in_a_block, with_label, behind, below, statements_below, all_below, cases_below}
 use Rattle.sj_local.specs.TreeRules.{declarations}
 use Rattle.sj_trees.specs.Term.{Term, Terms, no_terms, more_terms, Cases, no_cases, more_cases, var_def, skip, block_of, labeled, assign, return_to, if_then, while_loop, do_while, match_on, apply_static, unary_op, binary_op, log_line}
-use Rattle.sj_bodies.specs.Locals.{Own, OwnAll, OwnCases}
-use Rattle.sj_bodies.proofs.Contexts.{is-equal}
+use Rattle.body_rules.specs.Locals.{Own, OwnAll, OwnCases}
+use Rattle.body_rules.proofs.Equal.{is-equal}
 use Rattle.sj_names.proofs.Same.{impossible}
 use Rattle.sj_proper.specs.Once.{IsAmong, Apart, Once, OnceAll, OnceCases}
 use Rattle.sj_kept.proofs.Kept.{Keeps, AllKeep, keep-front, keep-behind}

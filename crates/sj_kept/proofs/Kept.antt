@@ -8,7 +8,8 @@ use Rattle.sj_local.specs.TreeRules.{last_some, named, innermost, has_type, is_m
 use Rattle.sj_trees.specs.declared.classes.ParamDef.{ParamDef}
 use Rattle.sj_trees.specs.declared.types.IrType.{IrType}
 use Rattle.sj_names.proofs.Same.{impossible}
-use Rattle.sj_sound.specs.Typing.{Scene, local_of, IsLocal, IsVariable}
+use Rattle.body_rules.specs.Typing.{Scene, IsLocal, IsVariable}
+use Rattle.body_rules.specs.Locals.{local_of}
 use Rattle.sj_trees.proofs.SameTypes.{type-same}
 
 -- no tree of these breaks the rules on definitions, variables and jumps

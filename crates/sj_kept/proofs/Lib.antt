@@ -2,5 +2,4 @@ pub mod Classes
 pub mod Distinct
 pub mod Kept
 pub mod Methods
-pub mod Programs
 pub mod Types

@@ -19,13 +19,11 @@ use Rattle.sj_trees.specs.Term.{Term}
 use Rattle.sj_trees.specs.declared.classes.ClassDef.{ClassDef}
 use Rattle.sj_trees.specs.declared.classes.MethodDef.{MethodDef}
 use Rattle.sj_trees.specs.declared.classes.ParamDef.{ParamDef}
-use Rattle.sj_bodies.proofs.Contexts.{is-equal}
+use Rattle.body_rules.proofs.Equal.{is-equal}
 use Rattle.sj_names.proofs.Same.{impossible}
-use Rattle.sj_calls.specs.Methods.{IsParameter}
-use Rattle.sj_proper.specs.Once.{IsAmong, Once}
-use Rattle.sj_proper.specs.Program.{AreDistinct}
-use Rattle.sj_sound.specs.Typing.{local_of}
-use Rattle.sj_kept.specs.Kept.{KeepsTreeRules, DefinesOnce}
+use Rattle.body_rules.specs.Locals.{IsParameter, local_of}
+use Rattle.sj_proper.specs.Once.{IsAmong, Once, AreDistinct, DefinesOnce}
+use Rattle.sj_kept.specs.Kept.{KeepsTreeRules}
 use Rattle.sj_kept.proofs.Distinct.{Has, NoRepeat, declares, own-declares, repeat-parts, once}
 use Rattle.sj_kept.proofs.Kept.{AllKeep, SameLocal, neither, both_have}
 

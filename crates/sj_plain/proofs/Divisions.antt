@@ -29,9 +29,10 @@ use Rattle.sj_trees.specs.declared.operators.BinaryOp.{BinaryOp}
 use Rattle.sj_trees.specs.declared.operators.BinaryOp.TheVariants.{IntDivide, LongDivide}
 use Rattle.sj_trees.specs.declared.types.IrType.{IrType}
 use Rattle.sj_trees.specs.declared.types.IrType.TheVariants.{Int, Long}
-use Rattle.sj_plain.specs.Conditions.{left_operand, IsDivision, a_quotient, a_remainder, IsLongDivision, a_long_quotient, a_long_remainder, DividesBy, by_int, by_long}
+use Rattle.typing_rules.specs.Rules.{left_operand}
+use Rattle.body_rules.specs.Operators.{IsDivision, a_quotient, a_remainder, IsLongDivision, a_long_quotient, a_long_remainder, DividesBy, by_int, by_long}
 use Rattle.sj_plain.specs.Settings.{Setting, shown, SameState, Valued}
-use Rattle.sj_plain.specs.Standing.{Fits}
+use Rattle.body_rules.specs.Standing.{Fits}
 use Rattle.sj_plain.proofs.Operators.{wrapped_value, number_given, long_given, GivenIf}
 use Rattle.sj_plain.proofs.Orders.{ActsAlike, OperandsAlike, in_order_alike, in_order-then}
 use Rattle.sj_plain.proofs.Shifts.{IsLong, a_long, IsInt, an_int, as_long, as_int}

@@ -10,7 +10,7 @@ use Rattle.ir_mean.specs.States as ir
 use Rattle.js_mean.specs.Meaning as js_meaning
 use Rattle.js_mean.specs.States as js
 use Rattle.sj_plain.proofs.Worlds.{World, Grows, grows-refl, grows-trans, SameValue, value-lift, value-fits, SameValues, no_values, one_more}
-use Rattle.sj_plain.specs.Standing.{Fits}
+use Rattle.body_rules.specs.Standing.{Fits}
 use Rattle.sj_plain.proofs.Told.{tells}
 use Rattle.sj_core.specs.Terms as core
 use Rattle.js_tree.specs.Terms as tree

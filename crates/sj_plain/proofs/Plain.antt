@@ -1,6 +1,16 @@
 -- A plain tree and its expression are alike.
-use Rattle.std.proofs.Common.{◌≡◌, zero, suc, Bool, true, false, List, [], ◌∷◌, None, Option, refl, sym, ap, ◌∙◌, subst, inl, inr, if◌then◌else◌}
-use Rattle.std.specs.Prelude.{ℤ, pos, negsuc, FitsSigned}
+use Rattle.std.proofs.Common.{◌≡◌, zero, suc, Bool, true, false, List, [], ◌∷◌, None, Option, refl, sym, ap, ◌∙◌, subst, if◌then◌else◌, ⊎_elim}
+use Rattle.std.specs.Prelude.{ℤ, pos, negsuc, FitsSigned, ℕ, ◌&&◌, not}
+use Rattle.std.proofs.lemmas.Bool.{and_parts}
+use Rattle.body_rules.proofs.Fitting.{yield-fits, fit-all, fits-unary, fits-dividend, operates}
+use Rattle.body_rules.proofs.Locals.{there}
+use Rattle.body_rules.proofs.RulesGive.{when_not, one_yields, other_yields, arguments_there, is_linked, operation}
+use Rattle.body_rules.specs.Subtyping.{IsSubtyping}
+use Rattle.body_rules.specs.Typing.{Scene, Typed, TypedAll}
+use Rattle.sj_desugar.specs.Plain.{is_plain, are_plain, is_no_type}
+use Rattle.sj_names.specs.declared.method_names.Namespace.{Namespace}
+use Rattle.sj_names.specs.declared.method_names.MethodName.{MethodName}
+use Rattle.sj_world.specs.Subtypes.{IsSub}
 use Rattle.std.specs.Int.{w32, w64}
 use Rattle.int_arithmetic.proofs.Longs.{in_range-fits}
 use Rattle.outcomes.specs.Outcome.{Out, done, wrong, then_do}
@@ -21,7 +31,7 @@ use Rattle.sj_desugar.specs.Texts.{operand_of}
 use Rattle.sj_emit_expr.specs.Templates.{member_name, expression_template, expression_templates, binary_template, unary_template, is_nonzero_literal}
 use Rattle.sj_names.proofs.Same.{impossible}
 use Rattle.sj_names.specs.declared.method_names.Member.{Member}
-use Rattle.sj_trees.specs.Term.{Term, Terms, no_terms, more_terms, if_then, apply_static, unary_op, binary_op, undefined_literal, null_literal, boolean_literal, char_literal, byte_literal, short_literal, int_literal, long_literal, string_literal, var_ref}
+use Rattle.sj_trees.specs.Term.{Term, Terms, no_terms, more_terms, var_def, skip, block_of, labeled, assign, return_to, if_then, while_loop, do_while, match_on, apply_static, unary_op, binary_op, log_line, undefined_literal, null_literal, boolean_literal, char_literal, byte_literal, short_literal, int_literal, long_literal, string_literal, var_ref}
 use Rattle.sj_trees.specs.TypeOf.{type_of_term, unary_result, binary_result}
 use Rattle.sj_trees.specs.declared.operators.BinaryOp.{BinaryOp}
 use Rattle.sj_trees.specs.declared.operators.BinaryOp.TheVariants.{StrictEqual, StrictNotEqual, StringConcatenate, IntDivide, IntRemainder, LongDivide, LongRemainder, LongShiftLeft, LongShiftRightLogical, LongShiftRightArithmetic}
@@ -30,14 +40,18 @@ use Rattle.sj_trees.specs.declared.operators.UnaryOp.TheVariants.{CharToInt, Byt
 use Rattle.sj_trees.specs.declared.positions.Position.{Position}
 use Rattle.sj_trees.specs.declared.types.IrType.{IrType}
 use Rattle.sj_trees.specs.declared.types.IrType.TheVariants.{Undefined, Null, Boolean, Char, Byte, Short, Int, Long, String}
-use Rattle.sj_plain.specs.Conditions.{is_simple, left_operand, right_operand, unary_operand, Operates, of_its_types, joins, a_quotient, a_remainder, a_long_quotient, a_long_remainder, DividesBy, by_int, by_long, Plain, AllPlain, Scope}
+use Rattle.body_rules.specs.Operators.{is_simple, Operates, of_its_types, joins, a_quotient, a_remainder, a_long_quotient, a_long_remainder, DividesBy, by_int, by_long}
+use Rattle.typing_rules.specs.Rules.{left_operand, right_operand, unary_operand}
+use Rattle.sj_plain.specs.Conditions.{InScope, Plain}
+use Rattle.body_rules.specs.Locals.{Scope}
 use Rattle.sj_plain.specs.Settings.{Setting, shown, SameState, Inside, Valued, valued, Lawful, Holding, holding, Sees, usable, a_function, function_of_member, function_call}
-use Rattle.sj_plain.specs.Standing.{suits, Fits, FitAll, types_referred, call_type}
+use Rattle.sj_plain.specs.Standing.{suits}
+use Rattle.body_rules.specs.Standing.{Fits, FitAll, types_referred, call_type}
 use Rattle.sj_plain.proofs.Divisions.{division_alike, dividend_alone}
 use Rattle.sj_plain.proofs.Operators.{template_value, is_direct}
 use Rattle.sj_plain.proofs.Orders.{ActsAlike, OperandAlike, OperandsAlike, no_operands, more_operands, all_shown, valued-weaken, valued-fits, in_order_alike}
 use Rattle.sj_plain.proofs.Shifts.{left_shift_alike, right_shift_alike, zero_shift_alike, joined_alike}
-use Rattle.sj_plain.proofs.Standing.{coerced-same, arguments-same}
+use Rattle.body_rules.proofs.Standing.{coerced-same, arguments-same}
 use Rattle.sj_plain.proofs.Templates.{fits-exact, unit_is_int, by_value, by_one_value, one_template_value, binary_shown, binary_acts, unary_shown, unary_acts}
 use Rattle.sj_plain.proofs.Told.{is_long, is_narrow, tells, tells-narrow, no_ratio}
 use Rattle.sj_plain.proofs.Worlds.{World, Grows, grows-refl, SameValue, Stands, same_undefined, same_null, same_boolean, same_char, same_number, same_long, same_text, value-lift, values-fit, no_values, one_more}
@@ -187,54 +201,100 @@ module _ (z : Setting) (lawful : Lawful z) (scope : Scope) where
   pub division_same : (o : BinaryOp) (d : Term) → DividesBy o d → (s t : IrType) (e g : core.Expression) → core.binary_of o (operand_of o s e) (operand_of o t g) ≡ core.binary_of o e g
   division_same o d by s t e g = λ i. core.binary_of o (operand_same o d by s e i) (operand_same o d by t g i)
 
-  pub plain_tells : (t : Term) → Plain (usable z) scope t → tells (type_of_term t) (text_of_tree t) ≡ true
-  plain_tells (if_then p c a b t) h = refl
-  plain_tells (apply_static p c n m ts t) h = refl
-  plain_tells (unary_op p o e) h = unary_tells o (type_of_term e) (text_of_tree e) h.0 (plain_tells e h.1)
-  plain_tells (binary_op p o e d) (inl h) = binary_tells o (type_of_term e) (type_of_term d) h.0 _ _ _
-  plain_tells (binary_op p o e d) (inr h) = subst (λ x. tells (binary_result o) (expression_template z.place.name z.place.label x) ≡ true) (sym (division_same o d h.0 (type_of_term e) (type_of_term d) (expression_of e) (expression_of d))) (division_tells o d h.0 (text_of_tree e))
-  plain_tells (undefined_literal p) h = refl
-  plain_tells (null_literal p) h = refl
-  plain_tells (boolean_literal p b) h = refl
-  plain_tells (char_literal p u) h = refl
-  plain_tells (byte_literal p n) h = refl
-  plain_tells (short_literal p n) h = refl
-  plain_tells (int_literal p n) h = refl
-  plain_tells (long_literal p n) h = refl
-  plain_tells (string_literal p us) h = refl
-  plain_tells (var_ref p x t) h = refl
-  plain_tells _ h = absurd h
+  -- a plain tree and its expression: they are alike, and the text tells of its type
+  pub record TreeAlike (t : Term) : Type 0 where
+    pub alike : PlainAlike t
+    pub told : tells (type_of_term t) (text_of_tree t) ≡ true
 
-  -- a plain tree as the one operand, or the first of several
-  with_tree : (t : Term) → Plain (usable z) scope t → PlainAlike t → (w : World) (env : ir.Env) (sc : js.Scope) → Sees z.place z.file scope w env sc → (ts : List IrType) (rs : List ir.Run) (es : List core.Expression) → OperandsAlike z w env sc ts rs es → OperandsAlike z w env sc (type_of_term t ∷ ts) (ir_meaning.step z.place.classes z.low t ∷ rs) (expression_of t ∷ es)
-  with_tree t h alike w env sc sees ts rs es others = more_operands (type_of_term t) (ir_meaning.step z.place.classes z.low t) (expression_of t) ts rs es (plain_tells t h) (as_operand t alike w env sc sees) others
+  -- it as the one operand, or the first of several
+  with_tree : (t : Term) → TreeAlike t → (w : World) (env : ir.Env) (sc : js.Scope) → Sees z.place z.file scope w env sc → (ts : List IrType) (rs : List ir.Run) (es : List core.Expression) → OperandsAlike z w env sc ts rs es → OperandsAlike z w env sc (type_of_term t ∷ ts) (ir_meaning.step z.place.classes z.low t ∷ rs) (expression_of t ∷ es)
+  with_tree t h w env sc sees ts rs es others = more_operands (type_of_term t) (ir_meaning.step z.place.classes z.low t) (expression_of t) ts rs es h.told (as_operand t h.alike w env sc sees) others
 
-  division_plain : (q : Position) (o : BinaryOp) (e d : Term) → Plain (usable z) scope e → PlainAlike e → DividesBy o d → Fits (left_operand o) (type_of_term e) → PlainAlike (binary_op q o e d)
-  division_plain q o e d h alike by f w env s sc u sees same = by_equal w env (binary_result o) _ _ _ _ (dividend_alone z o d by (ir_meaning.step z.place.classes z.low e) env s) (λ i. shown z (division_same o d by (type_of_term e) (type_of_term d) (expression_of e) (expression_of d) i) sc u) (division_alike z o d by (type_of_term e) f (ir_meaning.step z.place.classes z.low e) (expression_of e) w env s sc u (with_tree e h alike w env sc sees [] [] [] no_operands) same)
+  unary_tree : (p : Position) (o : UnaryOp) (e : Term) → Fits (unary_operand o) (type_of_term e) → TreeAlike e → TreeAlike (unary_op p o e)
+  unary_tree p o e fit h = record {
+    alike = λ w env s sc u sees same. unary_alike o (type_of_term e) (ir_meaning.step z.place.classes z.low e) (expression_of e) w env s sc u (with_tree e h w env sc sees [] [] [] no_operands) same;
+    told = unary_tells o (type_of_term e) (text_of_tree e) fit h.told;
+  }
+
+  binary_tree : (p : Position) (o : BinaryOp) (e d : Term) → Operates o (type_of_term e) (type_of_term d) → TreeAlike e → TreeAlike d → TreeAlike (binary_op p o e d)
+  binary_tree p o e d operates h k = record {
+    alike = λ w env s sc u sees same. binary_alike o (type_of_term e) (type_of_term d) (ir_meaning.step z.place.classes z.low e) (ir_meaning.step z.place.classes z.low d) (expression_of e) (expression_of d) operates w env s sc u (with_tree e h w env sc sees _ _ _ (with_tree d k w env sc sees [] [] [] no_operands)) same;
+    told = binary_tells o (type_of_term e) (type_of_term d) operates _ _ _;
+  }
+
+  division_tree : (p : Position) (o : BinaryOp) (e d : Term) → DividesBy o d → Fits (left_operand o) (type_of_term e) → TreeAlike e → TreeAlike (binary_op p o e d)
+  division_tree p o e d by fit h = record {
+    alike = λ w env s sc u sees same. by_equal w env (binary_result o) _ _ _ _ (dividend_alone z o d by (ir_meaning.step z.place.classes z.low e) env s) (λ i. shown z (division_same o d by (type_of_term e) (type_of_term d) (expression_of e) (expression_of d) i) sc u) (division_alike z o d by (type_of_term e) fit (ir_meaning.step z.place.classes z.low e) (expression_of e) w env s sc u (with_tree e h w env sc sees [] [] [] no_operands) same);
+    told = subst (λ x. tells (binary_result o) (expression_template z.place.name z.place.label x) ≡ true) (sym (division_same o d by (type_of_term e) (type_of_term d) (expression_of e) (expression_of d))) (division_tells o d by (text_of_tree e));
+  }
 
   call_plain : (p : Position) (m : Member) (ts : Terms) (t : IrType) → t ≡ call_type m.method.result → (usable z).linked m ≡ true → FitAll (types_referred m.method.params) (types_of ts) → (w : World) (env : ir.Env) (s : ir.State) (sc : js.Scope) (u : js.State) → Sees z.place z.file scope w env sc → OperandsAlike z w env sc (types_of ts) (ir_meaning.operands z.place.classes z.low ts) (all_expressions ts) → SameState z.place w s u → Sim z.direction (Valued z.place w env t) (ir_meaning.in_order (ir_meaning.operands z.place.classes z.low ts) (ir_meaning.call z.low (ir_world.member_of z.place.classes m.class m.namespace m.method) None) env s) (shown z (core.static_call m (expressions_of (coerced_arguments m.method.params (types_of ts) (all_expressions ts)))) sc u)
   call_plain p m ts t is linked fit w env s sc u sees operands same = subst (λ i. Sim z.direction (Valued z.place w env i) (ir_meaning.in_order (ir_meaning.operands z.place.classes z.low ts) (ir_meaning.call z.low (ir_world.member_of z.place.classes m.class m.namespace m.method) None) env s) (shown z (core.static_call m (expressions_of (coerced_arguments m.method.params (types_of ts) (all_expressions ts)))) sc u)) (sym is) (call_alike m (types_of ts) (ir_meaning.operands z.place.classes z.low ts) (coerced_arguments m.method.params (types_of ts) (all_expressions ts)) (all_expressions ts) (arguments-same m.method.params (types_of ts) (all_expressions ts) fit) linked fit w env s sc u sees.inside operands same)
 
-  mutual
-    -- both directions at once: what a plain tree comes to, its expression comes to
-    pub plain_alike : (t : Term) → Plain (usable z) scope t → PlainAlike t
-    plain_alike (if_then p c a b t) h w env s sc u sees same = if_alike c a b t (coerced t (type_of_term a) (expression_of a)) (coerced t (type_of_term b) (expression_of b)) (plain_alike c h.0) (plain_alike a h.1) (plain_alike b h.2) h.3 h.4 (coerced-same t (type_of_term a) (expression_of a) h.3) (coerced-same t (type_of_term b) (expression_of b) h.4) (plain_tells c h.0) w env s sc u sees same
-    plain_alike (apply_static p c n m ts t) h w env s sc u sees same = call_plain p (member c n m) ts t h.1 h.0 h.2 w env s sc u sees (all_alike ts h.3 w env sc sees) same
-    plain_alike (unary_op p o e) h w env s sc u sees same = unary_alike o (type_of_term e) (ir_meaning.step z.place.classes z.low e) (expression_of e) w env s sc u (with_tree e h.1 (plain_alike e h.1) w env sc sees [] [] [] no_operands) same
-    plain_alike (binary_op p o e d) (inl h) w env s sc u sees same = binary_alike o (type_of_term e) (type_of_term d) (ir_meaning.step z.place.classes z.low e) (ir_meaning.step z.place.classes z.low d) (expression_of e) (expression_of d) h.0 w env s sc u (with_tree e h.1 (plain_alike e h.1) w env sc sees _ _ _ (with_tree d h.2 (plain_alike d h.2) w env sc sees [] [] [] no_operands)) same
-    plain_alike (binary_op p o e d) (inr h) w env s sc u sees same = division_plain p o e d h.2 (plain_alike e h.2) h.0 h.1 w env s sc u sees same
-    plain_alike (undefined_literal p) h w env s sc u sees same = literal_alike w env Undefined s u ir.undefined js.undefined same_undefined refl same
-    plain_alike (null_literal p) h w env s sc u sees same = literal_alike w env Null s u ir.null js.null same_null refl same
-    plain_alike (boolean_literal p b) h w env s sc u sees same = literal_alike w env Boolean s u (ir.boolean b) (js.boolean b) (same_boolean b) refl same
-    plain_alike (char_literal p n) h w env s sc u sees same = number_alike w env Char s sc u (ir.char n) (pos n) (unit_is_int n h) (same_char n h) refl same
-    plain_alike (byte_literal p n) h w env s sc u sees same = number_alike w env Byte s sc u (ir.number n) n h (same_number n h) refl same
-    plain_alike (short_literal p n) h w env s sc u sees same = number_alike w env Short s sc u (ir.number n) n h (same_number n h) refl same
-    plain_alike (int_literal p n) h w env s sc u sees same = number_alike w env Int s sc u (ir.number n) n h (same_number n h) refl same
-    plain_alike (long_literal p n) h w env s sc u sees same = long_alike w env s sc u n h same
-    plain_alike (string_literal p us) h w env s sc u sees same = literal_alike w env String s u (ir.text us) (js.text us) (same_text us) refl same
-    plain_alike (var_ref p x t) h w env s sc u sees same = local_alike w env t s u (env.locals x) (sc.bindings (z.place.name (core.named x))) (js_meaning.top_cell (owner z.place.program sc.file (z.place.name (core.named x))) (z.place.name (core.named x)) u) (sees.locals x t h) same
-    plain_alike _ h w env s sc u sees same = absurd h
+  module _ (scene : Scene) (seen : InScope scene scope) where
+    abbrev law : IsSubtyping (IsSub z.place.classes)
+    law = lawful.base.ordered
 
-    pub all_alike : (ts : Terms) → AllPlain (usable z) scope ts → (w : World) (env : ir.Env) (sc : js.Scope) → Sees z.place z.file scope w env sc → OperandsAlike z w env sc (types_of ts) (ir_meaning.operands z.place.classes z.low ts) (all_expressions ts)
-    all_alike no_terms h w env sc sees = no_operands
-    all_alike (more_terms t ts) h w env sc sees = with_tree t h.0 (plain_alike t h.0) w env sc sees _ _ _ (all_alike ts h.1 w env sc sees)
+    abbrev Kept : Term → Type 0
+    Kept t = Typed z.place.classes (usable z) scene t
+
+    if_tree : (p : Position) (c a b : Term) (t : IrType) → Kept (if_then p c a b t) → is_no_type t ≡ false → TreeAlike c → TreeAlike a → TreeAlike b → TreeAlike (if_then p c a b t)
+    if_tree p c a b t h value hc ha hb = record {
+      alike = λ w env s sc u sees same. if_alike c a b t (coerced t (type_of_term a) (expression_of a)) (coerced t (type_of_term b) (expression_of b)) hc.alike ha.alike hb.alike fit fit_other (coerced-same t (type_of_term a) (expression_of a) fit) (coerced-same t (type_of_term b) (expression_of b) fit_other) hc.told w env s sc u sees same;
+      told = refl;
+    }
+      where
+        fit : Fits t (type_of_term a)
+        fit = yield-fits z.place.classes law t a value (one_yields z.place.classes a b t h.0.built h.0.meets.1)
+
+        fit_other : Fits t (type_of_term b)
+        fit_other = yield-fits z.place.classes law t b value (other_yields z.place.classes a b t h.0.built h.0.meets.2)
+
+    call_tree : (p : Position) (c : List ℕ) (n : Namespace) (m : MethodName) (ts : Terms) (t : IrType) → Kept (apply_static p c n m ts t) → ((w : World) (env : ir.Env) (sc : js.Scope) → Sees z.place z.file scope w env sc → OperandsAlike z w env sc (types_of ts) (ir_meaning.operands z.place.classes z.low ts) (all_expressions ts)) → TreeAlike (apply_static p c n m ts t)
+    call_tree p c n m ts t h operands = record {
+      alike = λ w env s sc u sees same. call_plain p (member c n m) ts t h.0.meets.1 (is_linked z.place.classes ((usable z).linked (member c n m)) ts m.params h.0.built) (fit-all z.place.classes law ts m.params (arguments_there z.place.classes ((usable z).linked (member c n m)) ts m.params h.0.built h.0.finds h.0.meets.2)) w env s sc u sees (operands w env sc sees) same;
+      told = refl;
+    }
+
+    operation_tree : (p : Position) (o : BinaryOp) (e d : Term) → Kept (binary_op p o e d) → TreeAlike e → TreeAlike d → TreeAlike (binary_op p o e d)
+    operation_tree p o e d h one other = ⊎_elim (λ takes. binary_tree p o e d (operates z.place.classes law o e d takes) one other) (λ divides. division_tree p o e d divides.0 (fits-dividend z.place.classes law o d (type_of_term e) divides.0 divides.1) one) (operation z.place.classes (usable z) scene o e d h.0.built h.2 h.0.meets)
+
+    mutual
+      -- both directions at once: what a plain tree comes to, its expression comes to
+      tree_alike : (t : Term) → Kept t → is_plain t ≡ true → TreeAlike t
+      tree_alike (if_then p c a b t) h k =
+          let x = and_parts (not (is_no_type t) && is_plain c && is_plain a) (is_plain b) k in
+          let y = and_parts (not (is_no_type t) && is_plain c) (is_plain a) x.0 in
+          let v = and_parts (not (is_no_type t)) (is_plain c) y.0 in
+          if_tree p c a b t h (when_not (is_no_type t) v.0) (tree_alike c h.1 v.1) (tree_alike a h.2 y.1) (tree_alike b h.3 x.1)
+      tree_alike (apply_static p c n m ts t) h k = call_tree p c n m ts t h (trees_alike ts h.1 k)
+      tree_alike (unary_op p o e) h k = unary_tree p o e (fits-unary z.place.classes law o (type_of_term e) h.0.meets) (tree_alike e h.1 k)
+      tree_alike (binary_op p o e d) h k = let x = and_parts (is_plain e) (is_plain d) k in operation_tree p o e d h (tree_alike e h.1 x.0) (tree_alike d h.2 x.1)
+      tree_alike (undefined_literal p) h k = record { alike = λ w env s sc u sees same. literal_alike w env Undefined s u ir.undefined js.undefined same_undefined refl same; told = refl }
+      tree_alike (null_literal p) h k = record { alike = λ w env s sc u sees same. literal_alike w env Null s u ir.null js.null same_null refl same; told = refl }
+      tree_alike (boolean_literal p b) h k = record { alike = λ w env s sc u sees same. literal_alike w env Boolean s u (ir.boolean b) (js.boolean b) (same_boolean b) refl same; told = refl }
+      tree_alike (char_literal p n) h k = record { alike = λ w env s sc u sees same. number_alike w env Char s sc u (ir.char n) (pos n) (unit_is_int n h.finds) (same_char n h.finds) refl same; told = refl }
+      tree_alike (byte_literal p n) h k = record { alike = λ w env s sc u sees same. number_alike w env Byte s sc u (ir.number n) n h.finds (same_number n h.finds) refl same; told = refl }
+      tree_alike (short_literal p n) h k = record { alike = λ w env s sc u sees same. number_alike w env Short s sc u (ir.number n) n h.finds (same_number n h.finds) refl same; told = refl }
+      tree_alike (int_literal p n) h k = record { alike = λ w env s sc u sees same. number_alike w env Int s sc u (ir.number n) n h.finds (same_number n h.finds) refl same; told = refl }
+      tree_alike (long_literal p n) h k = record { alike = λ w env s sc u sees same. long_alike w env s sc u n h.finds same; told = refl }
+      tree_alike (string_literal p us) h k = record { alike = λ w env s sc u sees same. literal_alike w env String s u (ir.text us) (js.text us) (same_text us) refl same; told = refl }
+      tree_alike (var_ref p x t) h k = record { alike = λ w env s sc u sees same. local_alike w env t s u (env.locals x) (sc.bindings (z.place.name (core.named x))) (js_meaning.top_cell (owner z.place.program sc.file (z.place.name (core.named x))) (z.place.name (core.named x)) u) (sees.locals x t (seen x t (there scene x t h.finds))) same; told = refl }
+      tree_alike (var_def p x t b e) h k = impossible k
+      tree_alike (skip p) h k = impossible k
+      tree_alike (block_of p ts) h k = impossible k
+      tree_alike (labeled p l t e) h k = impossible k
+      tree_alike (assign p e d) h k = impossible k
+      tree_alike (return_to p e l) h k = impossible k
+      tree_alike (while_loop p c b) h k = impossible k
+      tree_alike (do_while p b c) h k = impossible k
+      tree_alike (match_on p e cs d t) h k = impossible k
+      tree_alike (log_line p e) h k = impossible k
+      tree_alike _ h k = impossible h.built
+
+      trees_alike : (ts : Terms) → TypedAll z.place.classes (usable z) scene ts → are_plain ts ≡ true → (w : World) (env : ir.Env) (sc : js.Scope) → Sees z.place z.file scope w env sc → OperandsAlike z w env sc (types_of ts) (ir_meaning.operands z.place.classes z.low ts) (all_expressions ts)
+      trees_alike no_terms h k w env sc sees = no_operands
+      trees_alike (more_terms t ts) h k w env sc sees = let x = and_parts (is_plain t) (are_plain ts) k in with_tree t (tree_alike t h.0 x.0) w env sc sees _ _ _ (trees_alike ts h.1 x.1 w env sc sees)
+
+  pub plain_alike : (t : Term) → Plain z.place.classes (usable z) scope t → TreeAlike t
+  plain_alike t p = tree_alike p.scene p.seen t p.typed p.plain

@@ -17,9 +17,12 @@ use Rattle.sj_mangling.specs.Bindings.{class_binding, field_binding}
 use Rattle.sj_mangling.specs.declared.bindings.ClassBinding.TheVariants.{Class, Marker}
 use Rattle.sj_mangling.specs.declared.bindings.FieldBinding.TheVariants.{Property}
 use Rattle.sj_names.specs.declared.method_names.Member.{Member}
+use Rattle.body_rules.specs.Subtyping.{IsSubtyping}
 use Rattle.sj_plain.specs.Worlds.{World, Grows, SameValue, SameValues}
-use Rattle.sj_plain.specs.Conditions.{Usable, Scope}
-use Rattle.sj_plain.specs.Standing.{types_referred, call_type}
+use Rattle.sj_world.specs.Subtypes.{IsSub}
+use Rattle.built_forms.specs.Built.{Usable}
+use Rattle.body_rules.specs.Locals.{Scope}
+use Rattle.body_rules.specs.Standing.{types_referred, call_type}
 use Rattle.sj_trees.specs.declared.classes.ClassDef.{ClassDef}
 use Rattle.sj_trees.specs.declared.classes.FieldDef.{FieldDef}
 use Rattle.sj_trees.specs.declared.types.IrType.{IrType}
@@ -160,8 +163,9 @@ pub record NamesDiffer (p : Place) : Type 0 where
 abbrev pub Reaches : Place → Name → Type 0
 Reaches p f = (t : Top) → is_usable (p.has f) t ≡ true → owner p.program f (top_name t) ≡ Some (p.home t)
 
--- what the levels below give of what is called
+-- subtyping is ordered, and what the levels below give of what is called
 pub record Based (z : Setting) : Type 0 where
+  pub ordered : IsSubtyping (IsSub z.place.classes)
   pub names : NamesDiffer z.place
   pub reaches : Reaches z.place z.file
   pub calls : (m : Member) → (usable z).linked m ≡ true → CallsAlike z m

@@ -4,12 +4,12 @@ use Rattle.std.specs.Prelude.{nat_eq}
 use Rattle.std.specs.Cmp.Lexicographic.{pointwise}
 use Rattle.js_mean.specs.Proper.{Place, is_among, are_distinct, declared, is_proper, are_proper, are_proper_cases}
 use Rattle.js_tree.specs.Terms as tree
+use Rattle.js_tree.specs.Terms.{Name}
 use Rattle.sj_core.specs.Terms as core
 use Rattle.sj_core.specs.Terms.{followed}
 use Rattle.sj_emit_expr.specs.Templates.{statement_template, statement_templates, case_templates}
-use Rattle.sj_plain.specs.Settings.{Setting}
-use Rattle.sj_bodies.proofs.Contexts.{equals, is-equal}
-use Rattle.sj_bodies.proofs.Declared.{DeclaresOne, Declares, declares-followed, declared-named}
+use Rattle.body_rules.proofs.Equal.{equals, is-equal}
+use Rattle.sj_proper.proofs.Declared.{DeclaresOne, Declares, declares-followed, declared-named}
 use Rattle.sj_names.proofs.Same.{impossible}
 use Rattle.sj_proper.specs.Once.{IsAmong}
 
@@ -54,19 +54,19 @@ not_is : (b : Bool) → b ≡ false → not b ≡ true
 not_is true h = impossible (sym h)
 not_is false h = refl
 
-module _ (z : Setting) (variables : (x y : core.Variable) → z.place.name x ≡ z.place.name y → x ≡ y) (labels : (l m : List ℕ) → z.place.label l ≡ z.place.label m → l ≡ m) where
+module _ (name_of : core.Variable → Name) (label_of : List ℕ → Name) (variables : (x y : core.Variable) → name_of x ≡ name_of y → x ≡ y) (labels : (l m : List ℕ) → label_of l ≡ label_of m → l ≡ m) where
   abbrev templates : core.Statements → tree.Statements
-  templates = statement_templates z.place.name z.place.label
+  templates = statement_templates name_of label_of
 
-  pub not_again : (x : core.Variable) (ss : core.Statements) → (Declares ss x → ⊥) → is_among (declared (templates ss)) (z.place.name x) ≡ false
-  not_again x ss h = go (is_among (declared (templates ss)) (z.place.name x)) refl
+  pub not_again : (x : core.Variable) (ss : core.Statements) → (Declares ss x → ⊥) → is_among (declared (templates ss)) (name_of x) ≡ false
+  not_again x ss h = go (is_among (declared (templates ss)) (name_of x)) refl
     where
-      go : (b : Bool) → is_among (declared (templates ss)) (z.place.name x) ≡ b → is_among (declared (templates ss)) (z.place.name x) ≡ false
+      go : (b : Bool) → is_among (declared (templates ss)) (name_of x) ≡ b → is_among (declared (templates ss)) (name_of x) ≡ false
       go false e = e
-      go true e = let n = declared-named z ss (z.place.name x) e in absurd (h (subst (Declares ss) (variables n.variable x n.name) n.declares))
+      go true e = let n = declared-named name_of label_of ss (name_of x) e in absurd (h (subst (Declares ss) (variables n.variable x n.name) n.declares))
 
-  declaring : (x : core.Variable) (ss : core.Statements) → (Declares ss x → ⊥) → are_distinct (declared (templates ss)) ≡ true → (not (is_among (declared (templates ss)) (z.place.name x)) && are_distinct (declared (templates ss))) ≡ true
-  declaring x ss h k = both (not (is_among (declared (templates ss)) (z.place.name x))) (are_distinct (declared (templates ss))) (not_is (is_among (declared (templates ss)) (z.place.name x)) (not_again x ss h)) k
+  declaring : (x : core.Variable) (ss : core.Statements) → (Declares ss x → ⊥) → are_distinct (declared (templates ss)) ≡ true → (not (is_among (declared (templates ss)) (name_of x)) && are_distinct (declared (templates ss))) ≡ true
+  declaring x ss h k = both (not (is_among (declared (templates ss)) (name_of x))) (are_distinct (declared (templates ss))) (not_is (is_among (declared (templates ss)) (name_of x)) (not_again x ss h)) k
 
   pub distinct-templates : (ss : core.Statements) → Distinct ss → are_distinct (declared (templates ss)) ≡ true
   distinct-templates core.no_statements h = refl
@@ -79,45 +79,45 @@ module _ (z : Setting) (variables : (x y : core.Variable) → z.place.name x ≡
 
   -- where statements stand
   abbrev pub at : List (List ℕ) → Bool → Place
-  at ls b = record { labels = map z.place.label ls; breakable = b; super_allowed = false }
+  at ls b = record { labels = map label_of ls; breakable = b; super_allowed = false }
 
-  label_among : (ls : List (List ℕ)) (l : List ℕ) → IsAmong ls l → is_among (map z.place.label ls) (z.place.label l) ≡ true
+  label_among : (ls : List (List ℕ)) (l : List ℕ) → IsAmong ls l → is_among (map label_of ls) (label_of l) ≡ true
   label_among [] l h = absurd h
-  label_among (m ∷ ms) l (inl e) = front (pointwise nat_eq (z.place.label l) (z.place.label m)) (is_among (map z.place.label ms) (z.place.label l)) (ap (λ x. pointwise nat_eq (z.place.label l) (z.place.label x)) (sym e) ∙ equals (z.place.label l))
+  label_among (m ∷ ms) l (inl e) = front (pointwise nat_eq (label_of l) (label_of m)) (is_among (map label_of ms) (label_of l)) (ap (λ x. pointwise nat_eq (label_of l) (label_of x)) (sym e) ∙ equals (label_of l))
     where
       front : (a b : Bool) → a ≡ true → (a || b) ≡ true
       front true b h = refl
       front false b h = impossible h
-  label_among (m ∷ ms) l (inr h) = later (pointwise nat_eq (z.place.label l) (z.place.label m)) (is_among (map z.place.label ms) (z.place.label l)) (label_among ms l h)
+  label_among (m ∷ ms) l (inr h) = later (pointwise nat_eq (label_of l) (label_of m)) (is_among (map label_of ms) (label_of l)) (label_among ms l h)
     where
       later : (a b : Bool) → b ≡ true → (a || b) ≡ true
       later true b h = refl
       later false b h = h
 
-  label_new : (ls : List (List ℕ)) (l : List ℕ) → (IsAmong ls l → ⊥) → is_among (map z.place.label ls) (z.place.label l) ≡ false
+  label_new : (ls : List (List ℕ)) (l : List ℕ) → (IsAmong ls l → ⊥) → is_among (map label_of ls) (label_of l) ≡ false
   label_new [] l h = refl
-  label_new (m ∷ ms) l h = go (pointwise nat_eq (z.place.label l) (z.place.label m)) refl (label_new ms l (λ i. h (inr i)))
+  label_new (m ∷ ms) l h = go (pointwise nat_eq (label_of l) (label_of m)) refl (label_new ms l (λ i. h (inr i)))
     where
-      go : (b : Bool) → pointwise nat_eq (z.place.label l) (z.place.label m) ≡ b → is_among (map z.place.label ms) (z.place.label l) ≡ false → (b || is_among (map z.place.label ms) (z.place.label l)) ≡ false
-      go true e k = absurd (h (inl (labels l m (is-equal (z.place.label l) (z.place.label m) e))))
+      go : (b : Bool) → pointwise nat_eq (label_of l) (label_of m) ≡ b → is_among (map label_of ms) (label_of l) ≡ false → (b || is_among (map label_of ms) (label_of l)) ≡ false
+      go true e k = absurd (h (inl (labels l m (is-equal (label_of l) (label_of m) e))))
       go false e k = k
 
   mutual
-    proper-template : (ls : List (List ℕ)) (b : Bool) (s : core.Statement) → ProperOne ls b s → is_proper (at ls b) (statement_template z.place.name z.place.label s) ≡ true
+    proper-template : (ls : List (List ℕ)) (b : Bool) (s : core.Statement) → ProperOne ls b s → is_proper (at ls b) (statement_template name_of label_of s) ≡ true
     proper-template ls b (core.leave_label p l) h = label_among ls l h
     proper-template ls b (core.break_nearest p) h = h
     proper-template ls b (core.if_of p c ss core.no_statements) h = both (are_distinct (declared (templates ss))) (are_proper (at ls b) (templates ss)) (distinct-templates ss h.0) (proper-templates ls b ss h.1)
     proper-template ls b (core.if_of p c ss (core.statement t ts)) h = both (are_distinct (declared (templates ss)) && are_proper (at ls b) (templates ss) && are_distinct (declared (templates (core.statement t ts)))) (are_proper (at ls b) (templates (core.statement t ts))) (both (are_distinct (declared (templates ss)) && are_proper (at ls b) (templates ss)) (are_distinct (declared (templates (core.statement t ts)))) (both (are_distinct (declared (templates ss))) (are_proper (at ls b) (templates ss)) (distinct-templates ss h.0) (proper-templates ls b ss h.1)) (distinct-templates (core.statement t ts) h.2)) (proper-templates ls b (core.statement t ts) h.3)
     proper-template ls b (core.while_of p c ss) h = both (are_distinct (declared (templates ss))) (are_proper (at ls true) (templates ss)) (distinct-templates ss h.0) (proper-templates ls true ss h.1)
     proper-template ls b (core.loop_of p ss) h = both (are_distinct (declared (templates ss))) (are_proper (at ls true) (templates ss)) (distinct-templates ss h.0) (proper-templates ls true ss h.1)
-    proper-template ls b (core.labeled_of p l ss) h = both (not (is_among (map z.place.label ls) (z.place.label l)) && are_distinct (declared (templates ss))) (are_proper (at (l ∷ ls) b) (templates ss)) (both (not (is_among (map z.place.label ls) (z.place.label l))) (are_distinct (declared (templates ss))) (not_is (is_among (map z.place.label ls) (z.place.label l)) (label_new ls l h.0)) (distinct-templates ss h.1)) (proper-templates (l ∷ ls) b ss h.2)
-    proper-template ls b (core.switch_of p e cs ss) h = both (are_proper_cases (at ls true) (case_templates z.place.name z.place.label cs) && are_distinct (declared (templates ss))) (are_proper (at ls true) (templates ss)) (both (are_proper_cases (at ls true) (case_templates z.place.name z.place.label cs)) (are_distinct (declared (templates ss))) (proper-cases ls cs h.0) (distinct-templates ss h.1)) (proper-templates ls true ss h.2)
+    proper-template ls b (core.labeled_of p l ss) h = both (not (is_among (map label_of ls) (label_of l)) && are_distinct (declared (templates ss))) (are_proper (at (l ∷ ls) b) (templates ss)) (both (not (is_among (map label_of ls) (label_of l))) (are_distinct (declared (templates ss))) (not_is (is_among (map label_of ls) (label_of l)) (label_new ls l h.0)) (distinct-templates ss h.1)) (proper-templates (l ∷ ls) b ss h.2)
+    proper-template ls b (core.switch_of p e cs ss) h = both (are_proper_cases (at ls true) (case_templates name_of label_of cs) && are_distinct (declared (templates ss))) (are_proper (at ls true) (templates ss)) (both (are_proper_cases (at ls true) (case_templates name_of label_of cs)) (are_distinct (declared (templates ss))) (proper-cases ls cs h.0) (distinct-templates ss h.1)) (proper-templates ls true ss h.2)
     proper-template ls b _ h = refl
 
     pub proper-templates : (ls : List (List ℕ)) (b : Bool) (ss : core.Statements) → Proper ls b ss → are_proper (at ls b) (templates ss) ≡ true
     proper-templates ls b core.no_statements h = refl
-    proper-templates ls b (core.statement s ss) h = both (is_proper (at ls b) (statement_template z.place.name z.place.label s)) (are_proper (at ls b) (templates ss)) (proper-template ls b s h.0) (proper-templates ls b ss h.1)
+    proper-templates ls b (core.statement s ss) h = both (is_proper (at ls b) (statement_template name_of label_of s)) (are_proper (at ls b) (templates ss)) (proper-template ls b s h.0) (proper-templates ls b ss h.1)
 
-    proper-cases : (ls : List (List ℕ)) (cs : core.Cases) → ProperCases ls cs → are_proper_cases (at ls true) (case_templates z.place.name z.place.label cs) ≡ true
+    proper-cases : (ls : List (List ℕ)) (cs : core.Cases) → ProperCases ls cs → are_proper_cases (at ls true) (case_templates name_of label_of cs) ≡ true
     proper-cases ls core.no_cases h = refl
-    proper-cases ls (core.switch_case ks ss cs) h = both (are_distinct (declared (templates ss)) && are_proper (at ls true) (templates ss)) (are_proper_cases (at ls true) (case_templates z.place.name z.place.label cs)) (both (are_distinct (declared (templates ss))) (are_proper (at ls true) (templates ss)) (distinct-templates ss h.0) (proper-templates ls true ss h.1)) (proper-cases ls cs h.2)
+    proper-cases ls (core.switch_case ks ss cs) h = both (are_distinct (declared (templates ss)) && are_proper (at ls true) (templates ss)) (are_proper_cases (at ls true) (case_templates name_of label_of cs)) (both (are_distinct (declared (templates ss))) (are_proper (at ls true) (templates ss)) (distinct-templates ss h.0) (proper-templates ls true ss h.1)) (proper-cases ls cs h.2)

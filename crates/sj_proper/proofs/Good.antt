@@ -8,7 +8,7 @@ use Rattle.sj_desugar.specs.Desugar.{finish, has_no_value, branches, break_unles
 use Rattle.sj_desugar.specs.Spill.{Destination, discard, to_variable, to_result, Code, no_code, one, put_first, joined, Operand, all_plain, Spilled, spill, spill_case, then_use}
 use Rattle.sj_trees.specs.declared.positions.Position.{Position}
 use Rattle.sj_trees.specs.declared.types.IrType.{IrType}
-use Rattle.sj_bodies.proofs.Declared.{DeclaresOne, Declares, declares-followed}
+use Rattle.sj_proper.proofs.Declared.{DeclaresOne, Declares, declares-followed}
 use Rattle.sj_proper.specs.Once.{Apart}
 use Rattle.sj_proper.proofs.Core.{Distinct, distinct-followed, ProperOne, Proper, ProperCases, proper-followed}
 

@@ -1,5 +1,6 @@
 pub mod Core
+pub mod Declared
 pub mod Good
 pub mod Modules
+pub mod Names
 pub mod Trees
-pub mod Worked

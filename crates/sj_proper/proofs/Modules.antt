@@ -1,45 +1,28 @@
 -- A module of the functions of methods has no early error.
-use Rattle.std.proofs.Common.{◌≡◌, ℕ, Bool, true, false, ◌&&◌, ◌||◌, not, List, [], ◌∷◌, ◌++◌, map, refl, sym, ap, ◌∙◌, subst, inl, inr, Contains}
+use Rattle.std.proofs.Common.{◌≡◌, ℕ, Bool, true, false, ◌&&◌, ◌||◌, not, List, [], ◌∷◌, ◌++◌, map, refl, sym, ap, ◌∙◌, inl, inr, Contains}
 use Rattle.std.specs.Prelude.{nat_eq}
 use Rattle.std.specs.Cmp.Lexicographic.{pointwise}
 use Rattle.std.specs.List.{list_all}
 use Rattle.std.proofs.lemmas.List.Elements.{Contains-append_left, Contains-append_right, Contains-push}
-use Rattle.outcomes.specs.Agreement.{forward, no_room, Agree}
-use Rattle.ir_mean.specs.Meaning as ir_meaning
-use Rattle.ir_mean.specs.Shows.{initializers, ir_shows}
-use Rattle.ir_mean.specs.World as ir_world
-use Rattle.js_mean.specs.Meaning as js_meaning
-use Rattle.js_mean.specs.Proper.{is_among, are_distinct, declared, are_proper, is_proper_function, is_proper_item, item_names, is_proper_module}
-use Rattle.js_mean.specs.Shows.{js_shows, file_of}
+use Rattle.js_mean.specs.Proper.{is_among, are_distinct, declared, are_proper, is_proper_item, item_names, is_proper_module}
 use Rattle.js_tree.specs.Terms.{Name}
 use Rattle.sj_core.specs.Terms as core
 use Rattle.sj_desugar.specs.Desugar.{desugared, names_of, is_mutable_in, into, result_destination}
 use Rattle.sj_emit_expr.specs.Names.{variable_name, label_name}
-use Rattle.sj_emit_expr.specs.Templates.{member_name, statement_templates}
+use Rattle.sj_emit_expr.specs.Templates.{member_name, statement_templates, parameter_names}
+use Rattle.sj_proper.specs.Once.{DefinesOnce, IsAmong, AreDistinct}
+use Rattle.sj_proper.proofs.Names.{variables-differ, labels-differ}
 use Rattle.sj_mangling.proofs.FunctionNames.{function_names_differ}
 use Rattle.sj_names.specs.declared.entry_points.EntryPoint.{EntryPoint}
-use Rattle.sj_trees.specs.Term.{Term}
-use Rattle.sj_trees.specs.declared.classes.MethodDef.{MethodDef}
 use Rattle.sj_trees.specs.declared.classes.ParamDef.{ParamDef}
-use Rattle.sj_bodies.specs.Locals.{Own}
-use Rattle.sj_plain.specs.Settings.{Place, Setting}
-use Rattle.sj_bodies.proofs.Contexts.{differs}
-use Rattle.sj_bodies.proofs.Declared.{Declares}
+use Rattle.body_rules.specs.Locals.{Own, IsParameter}
+use Rattle.body_rules.proofs.Equal.{differs}
+use Rattle.sj_proper.proofs.Declared.{Declares}
 use Rattle.sj_names.proofs.Same.{impossible}
-use Rattle.sj_calls.specs.Files.{EmittedMethod, function_item_of, call_item_of, module_with, program_with}
-use Rattle.sj_calls.specs.Methods.{parameters_in, function_of, IsParameter}
-use Rattle.sj_calls.specs.Names.{emitted_in}
-use Rattle.sj_calls.proofs.Names.{variables-differ, labels-differ}
-use Rattle.sj_calls.proofs.Whole.{code-is}
-use Rattle.sj_sound.specs.Linked.{have_functions}
-use Rattle.sj_world.specs.Laws.{IsTopped}
-use Rattle.sj_sound.proofs.Whole.{program_agrees}
-use Rattle.sj_proper.specs.Once.{IsAmong, Once}
-use Rattle.sj_proper.specs.Program.{AreDistinct, HaveOwnMembers, IsWhole}
+use Rattle.sj_proper.specs.Emitted.{EmittedMethod, function_item_of, call_item_of, module_with, HaveOwnMembers, IsNamed}
 use Rattle.sj_proper.proofs.Core.{Distinct, distinct-templates, proper-templates, not_again}
 use Rattle.sj_proper.proofs.Good.{Good}
 use Rattle.sj_proper.proofs.Trees.{good}
-use Rattle.sj_plain.specs.Conditions.{Usable}
 
 both : (a b : Bool) → a ≡ true → b ≡ true → (a && b) ≡ true
 both true b h k = k
@@ -61,34 +44,26 @@ parameter-among (d ∷ ds) x (inr h) = inr (parameter-among ds x h)
 named-same : (x y : List ℕ) → core.named x ≡ core.named y → x ≡ y
 named-same x y e = cc
 
-module _ (w : ir_world.World) (id : List ℕ) (fs : List EmittedMethod) (es : List EntryPoint) (has : Usable) where
-  abbrev place : Place
-  place = emitted_in w (program_with id fs es) (λ t. file_of id) (λ f. has) no_room
+abbrev declares_names : core.Statements → List Name
+declares_names ss = declared (statement_templates variable_name label_name ss)
 
-  -- a setting with these names
-  abbrev z : Setting
-  z = record { place = place; file = file_of id; direction = forward; is_mutable = λ x. false; low = ir_meaning.below [] 0; js_low = js_meaning.below [] 0 }
+no_parameter : (x : List ℕ) (ns : List (List ℕ)) (ss : core.Statements) → (IsAmong ns x → ⊥) → (Declares ss (core.named x) → ⊥) → is_among (parameter_names ns ++ declares_names ss) (variable_name (core.named x)) ≡ false
+no_parameter x [] ss h k = not_again variable_name label_name variables-differ labels-differ (core.named x) ss k
+no_parameter x (n ∷ ns) ss h k = neither (pointwise nat_eq (variable_name (core.named x)) (variable_name (core.named n))) (is_among (parameter_names ns ++ declares_names ss) (variable_name (core.named x))) (differs (variable_name (core.named x)) (variable_name (core.named n)) (λ e. h (inl (named-same x n (variables-differ (core.named x) (core.named n) e))))) (no_parameter x ns ss (λ i. h (inr i)) k)
 
-  abbrev declares_names : core.Statements → List Name
-  declares_names ss = declared (statement_templates variable_name label_name ss)
+distinct_names : (ns : List (List ℕ)) (ss : core.Statements) → AreDistinct ns → ((x : List ℕ) → IsAmong ns x → Declares ss (core.named x) → ⊥) → Distinct ss → are_distinct (parameter_names ns ++ declares_names ss) ≡ true
+distinct_names [] ss h k d = distinct-templates variable_name label_name variables-differ labels-differ ss d
+distinct_names (n ∷ ns) ss h k d = both (not (is_among (parameter_names ns ++ declares_names ss) (variable_name (core.named n)))) (are_distinct (parameter_names ns ++ declares_names ss)) (not_is (is_among (parameter_names ns ++ declares_names ss) (variable_name (core.named n))) (no_parameter n ns ss h.0 (k n (inl refl)))) (distinct_names ns ss h.1 (λ x i. k x (inr i)) d)
 
-  no_parameter : (x : List ℕ) (ns : List (List ℕ)) (ss : core.Statements) → (IsAmong ns x → ⊥) → (Declares ss (core.named x) → ⊥) → is_among (parameters_in place ns ++ declares_names ss) (variable_name (core.named x)) ≡ false
-  no_parameter x [] ss h k = not_again z variables-differ labels-differ (core.named x) ss k
-  no_parameter x (n ∷ ns) ss h k = neither (pointwise nat_eq (variable_name (core.named x)) (variable_name (core.named n))) (is_among (parameters_in place ns ++ declares_names ss) (variable_name (core.named x))) (differs (variable_name (core.named x)) (variable_name (core.named n)) (λ e. h (inl (named-same x n (variables-differ (core.named x) (core.named n) e))))) (no_parameter x ns ss (λ i. h (inr i)) k)
+-- the function of a method
+pub item_proper : (e : EmittedMethod) → DefinesOnce e.definition e.its_body → is_proper_item (function_item_of e) ≡ true
+item_proper e h = both (are_distinct (parameter_names (names_of e.definition.params) ++ declares_names body)) (are_proper (record { labels = []; breakable = false; super_allowed = false }) (statement_templates variable_name label_name body)) (distinct_names (names_of e.definition.params) body h.parameters (λ x i k. h.fresh x (g.fresh (core.named x) k) (parameter-among e.definition.params x i)) g.distinct) (proper-templates variable_name label_name variables-differ labels-differ [] false body g.proper)
+  where
+    body : core.Statements
+    body = (desugared e.definition e.its_body).body
 
-  distinct_names : (ns : List (List ℕ)) (ss : core.Statements) → AreDistinct ns → ((x : List ℕ) → IsAmong ns x → Declares ss (core.named x) → ⊥) → Distinct ss → are_distinct (parameters_in place ns ++ declares_names ss) ≡ true
-  distinct_names [] ss h k d = distinct-templates z variables-differ labels-differ ss d
-  distinct_names (n ∷ ns) ss h k d = both (not (is_among (parameters_in place ns ++ declares_names ss) (variable_name (core.named n)))) (are_distinct (parameters_in place ns ++ declares_names ss)) (not_is (is_among (parameters_in place ns ++ declares_names ss) (variable_name (core.named n))) (no_parameter n ns ss h.0 (k n (inl refl)))) (distinct_names ns ss h.1 (λ x i. k x (inr i)) d)
-
-  -- the function of a method
-  function_proper : (d : MethodDef) (e : Term) → Once [] e → AreDistinct (names_of d.params) → ((x : List ℕ) → Own e x → IsParameter d.params x → ⊥) → is_proper_function false (function_of place d e).parameters (function_of place d e).body ≡ true
-  function_proper d e once distinct fresh = both (are_distinct ((function_of place d e).parameters ++ declares_names (desugared d e).body)) (are_proper (record { labels = []; breakable = false; super_allowed = false }) (function_of place d e).body) (distinct_names (names_of d.params) (desugared d e).body distinct (λ x i k. fresh x (g.fresh (core.named x) k) (parameter-among d.params x i)) g.distinct) (proper-templates z variables-differ labels-differ [] false (desugared d e).body g.proper)
-    where
-      g : Good (Own e) [] false 1 (into (is_mutable_in d e) [] (result_destination d.result) 1 e)
-      g = good (is_mutable_in d e) e [] [] [] false (result_destination d.result) 1 once (record { has = λ l i k. absurd i; outer = λ l i. i })
-
-  pub item_proper : (e : EmittedMethod) → Once [] e.its_body → AreDistinct (names_of e.definition.params) → ((x : List ℕ) → Own e.its_body x → IsParameter e.definition.params x → ⊥) → is_proper_item (function_item_of e) ≡ true
-  item_proper e once distinct fresh = subst (λ (c : js_meaning.Code). is_proper_function false c.parameters c.body ≡ true) (sym (code-is w id fs es has e)) (function_proper e.definition e.its_body once distinct fresh)
+    g : Good (Own e.its_body) [] false 1 (into (is_mutable_in e.definition e.its_body) [] (result_destination e.definition.result) 1 e.its_body)
+    g = good (is_mutable_in e.definition e.its_body) e.its_body [] [] [] false (result_destination e.definition.result) 1 h.once (record { has = λ l i k. absurd i; outer = λ l i. i })
 
 -- items, and the names that they declare
 calls_proper : (is : List EntryPoint) → list_all is_proper_item (map call_item_of is) ≡ true
@@ -110,26 +85,22 @@ items_named : (gs : List EmittedMethod) (is : List EntryPoint) → item_names (m
 items_named [] is = calls_named is
 items_named (g ∷ gs) is = ap (λ (ns : List Name). name_of g ∷ ns) (items_named gs is)
 
-module _ (w : ir_world.World) (fs : List EmittedMethod) where
-  member-is : (a b : EmittedMethod) → IsWhole w fs a → IsWhole w fs b → name_of a ≡ name_of b → a.member ≡ b.member
-  member-is a b h k e = let same = function_names_differ a.member.namespace b.member.namespace a.member.class b.member.class a.member.method b.member.method h.class_name k.class_name h.method_name k.method_name e in λ i. record { class = same.1 i; namespace = same.0 i; method = same.2 i }
+member-is : (a b : EmittedMethod) → IsNamed a → IsNamed b → name_of a ≡ name_of b → a.member ≡ b.member
+member-is a b h k e = let same = function_names_differ a.member.namespace b.member.namespace a.member.class b.member.class a.member.method b.member.method h.class_name k.class_name h.method_name k.method_name e in λ i. record { class = same.1 i; namespace = same.0 i; method = same.2 i }
 
-  new_name : (g : EmittedMethod) (gs : List EmittedMethod) → IsWhole w fs g → ((e : EmittedMethod) → Contains gs e → IsWhole w fs e) → ((o : EmittedMethod) → Contains gs o → g.member ≡ o.member → ⊥) → is_among (map name_of gs) (name_of g) ≡ false
-  new_name g [] h all own = refl
-  new_name g (c ∷ cs) h all own = neither (pointwise nat_eq (name_of g) (name_of c)) (is_among (map name_of cs) (name_of g)) (differs (name_of g) (name_of c) (λ e. own c first (member-is g c h (all c first) e))) (new_name g cs h (λ e i. all e (Contains-append_right (c ∷ []) cs e i)) (λ o i. own o (Contains-append_right (c ∷ []) cs o i)))
-    where
-      first : Contains (c ∷ cs) c
-      first = Contains-append_left (c ∷ []) cs c (Contains-push [] c)
+new_name : (g : EmittedMethod) (gs : List EmittedMethod) → IsNamed g → ((e : EmittedMethod) → Contains gs e → IsNamed e) → ((o : EmittedMethod) → Contains gs o → g.member ≡ o.member → ⊥) → is_among (map name_of gs) (name_of g) ≡ false
+new_name g [] h all own = refl
+new_name g (c ∷ cs) h all own = neither (pointwise nat_eq (name_of g) (name_of c)) (is_among (map name_of cs) (name_of g)) (differs (name_of g) (name_of c) (λ e. own c first (member-is g c h (all c first) e))) (new_name g cs h (λ e i. all e (Contains-append_right (c ∷ []) cs e i)) (λ o i. own o (Contains-append_right (c ∷ []) cs o i)))
+  where
+    first : Contains (c ∷ cs) c
+    first = Contains-append_left (c ∷ []) cs c (Contains-push [] c)
 
-  names_differ : (gs : List EmittedMethod) → ((e : EmittedMethod) → Contains gs e → IsWhole w fs e) → HaveOwnMembers gs → are_distinct (map name_of gs) ≡ true
-  names_differ [] all own = refl
-  names_differ (g ∷ gs) all own = both (not (is_among (map name_of gs) (name_of g))) (are_distinct (map name_of gs)) (not_is (is_among (map name_of gs) (name_of g)) (new_name g gs (all g (Contains-append_left (g ∷ []) gs g (Contains-push [] g))) (λ e i. all e (Contains-append_right (g ∷ []) gs e i)) own.0)) (names_differ gs (λ e i. all e (Contains-append_right (g ∷ []) gs e i)) own.1)
+names_differ : (gs : List EmittedMethod) → ((e : EmittedMethod) → Contains gs e → IsNamed e) → HaveOwnMembers gs → are_distinct (map name_of gs) ≡ true
+names_differ [] all own = refl
+names_differ (g ∷ gs) all own = both (not (is_among (map name_of gs) (name_of g))) (are_distinct (map name_of gs)) (not_is (is_among (map name_of gs) (name_of g)) (new_name g gs (all g (Contains-append_left (g ∷ []) gs g (Contains-push [] g))) (λ e i. all e (Contains-append_right (g ∷ []) gs e i)) own.0)) (names_differ gs (λ e i. all e (Contains-append_right (g ∷ []) gs e i)) own.1)
 
-  pub module_proper : (id : List ℕ) (es : List EntryPoint) → ((e : EmittedMethod) → Contains fs e → IsWhole w fs e) → HaveOwnMembers fs → is_proper_module (module_with fs es) ≡ true
-  module_proper id es all own = both (names && true && true) (list_all is_proper_item (map function_item_of fs ++ map call_item_of es)) (ap (λ b. b && true && true) (ap are_distinct (items_named fs es) ∙ names_differ fs all own)) (items_proper fs es (λ e i. let h = all e i in item_proper w id fs es (record { linked = λ m. true }) e h.once h.parameters h.right.rules.fresh))
-    where
-      names : Bool
-      names = are_distinct (item_names (map function_item_of fs ++ map call_item_of es))
-
-pub linked_agrees : (w : ir_world.World) → IsTopped w → (entries : List EntryPoint) (id : List ℕ) (fs : List EmittedMethod) → ((e : EmittedMethod) → Contains fs e → IsWhole w fs e) → HaveOwnMembers fs → have_functions fs (initializers entries id) ≡ true → Agree (ir_shows w entries id) (js_shows (program_with id fs (initializers entries id)) id)
-linked_agrees w topped entries id fs all own called = program_agrees w topped entries id fs (module_proper w fs id (initializers entries id) all own) (λ e i. (all e i).right) called
+pub module_proper : (fs : List EmittedMethod) (es : List EntryPoint) → ((e : EmittedMethod) → Contains fs e → IsNamed e) → HaveOwnMembers fs → is_proper_module (module_with fs es) ≡ true
+module_proper fs es all own = both (names && true && true) (list_all is_proper_item (map function_item_of fs ++ map call_item_of es)) (ap (λ b. b && true && true) (ap are_distinct (items_named fs es) ∙ names_differ fs all own)) (items_proper fs es (λ e i. item_proper e (all e i).once))
+  where
+    names : Bool
+    names = are_distinct (item_names (map function_item_of fs ++ map call_item_of es))

@@ -14,8 +14,8 @@ use Rattle.sj_trees.specs.TypeOf.{type_of_term, unary_result, binary_result}
 use Rattle.sj_trees.specs.declared.positions.Position.{Position}
 use Rattle.sj_trees.specs.declared.types.IrType.{IrType}
 use Rattle.sj_trees.specs.declared.types.IrType.TheVariants.{Undefined, Null, Boolean, Char, Byte, Short, Int, Long, String}
-use Rattle.sj_bodies.specs.Locals.{Own, OwnAll}
-use Rattle.sj_bodies.proofs.Contexts.{equals, is-equal}
+use Rattle.body_rules.specs.Locals.{Own, OwnAll}
+use Rattle.body_rules.proofs.Equal.{equals, is-equal}
 use Rattle.sj_names.proofs.Same.{impossible}
 use Rattle.sj_proper.specs.Once.{IsAmong, Apart, Once, OnceAll, OnceCases}
 use Rattle.sj_proper.proofs.Good.{Good, Part, no_name, good-widen, good-none, good-one, good-joined, good-named, spilled, operand-good, good-use, finish-good, branches-good, break-good, GoodCases, case-good-in, switch-good}
@@ -29,6 +29,10 @@ IsLeft (to_variable x t) = Unit {0}
 pub record Emitted (around : List (List ℕ)) (ts : Targets) (ls : List (List ℕ)) : Type 0 where
   pub has : (l : List ℕ) → IsAmong around l → IsLeft (target_of ts l) → IsAmong ls l
   pub outer : (l : List ℕ) → IsAmong ls l → IsAmong around l
+
+-- where each label around is taken to have one
+pub emitted_alike : (around : List (List ℕ)) (ts : Targets) → Emitted around ts around
+emitted_alike around ts = record { has = λ l i left. i; outer = λ l i. i }
 
 -- the labels that have a statement inside this one
 abbrev inside : Destination → List ℕ → List (List ℕ) → List (List ℕ)
@@ -84,7 +88,7 @@ either-good own ls b true j c d g h = g
 either-good own ls b false j c d g h = h
 
 module _ (is_mutable : List ℕ → Bool) where
-  abbrev TreeGood : Term → Type 0
+  abbrev pub TreeGood : Term → Type 0
   TreeGood t = (around : List (List ℕ)) (ts : Targets) (ls : List (List ℕ)) (b : Bool) (k : Destination) (j : ℕ) → Once around t → Emitted around ts ls → Good (Own t) ls b j (into is_mutable ts k j t)
 
   -- one operand
@@ -95,11 +99,18 @@ module _ (is_mutable : List ℕ → Bool) where
   act_good : (e : Term) → TreeGood e → (own : List ℕ → Type 0) → Part (Own e) own → (around : List (List ℕ)) (ts : Targets) (ls : List (List ℕ)) (b : Bool) (j : ℕ) (made : List core.Expression → ℕ → Code) → Once around e → Emitted around ts ls → ((es : List core.Expression) (i : ℕ) → Good no_name ls b i (made es i)) → Good own ls b j (then_use (spill (operand is_mutable e (λ k j. into is_mutable ts k j e) ∷ []) j) made)
   act_good e good own part around ts ls b j made h em made_good = good-use (Own e) no_name own ls b (operand is_mutable e (λ k j. into is_mutable ts k j e) ∷ []) made j (each_one e good around ts ls b h em j) made_good (nothing_apart (Own e)) part (no_part own)
 
-  abbrev while_code : Term → Term → Targets → ℕ → Code
+  abbrev pub while_code : Term → Term → Targets → ℕ → Code
   while_code c d ts j = then_use (spill (operand is_mutable c (λ k j. into is_mutable ts k j c) ∷ []) j) (λ es j. put_first (break_unless (first_of es)) (into is_mutable ts discard j d))
 
-  abbrev do_code : Term → Term → Targets → ℕ → Code
+  abbrev pub do_code : Term → Term → Targets → ℕ → Code
   do_code d c ts j = then_code (into is_mutable ts discard j d) (λ j. then_use (spill (operand is_mutable c (λ k j. into is_mutable ts k j c) ∷ []) j) (λ es. one (break_unless (first_of es))))
+
+  -- the body of a loop, its condition included
+  pub while_good : (p : Position) (c d : Term) → TreeGood c → TreeGood d → (around : List (List ℕ)) (ts : Targets) (ls : List (List ℕ)) (j : ℕ) → Once around (while_loop p c d) → Emitted around ts ls → Good (Own (while_loop p c d)) ls true j (while_code c d ts j)
+  while_good p c d good_c good_d around ts ls j h em = good-use (Own c) (Own d) (Own (while_loop p c d)) ls true (operand is_mutable c (λ k j. into is_mutable ts k j c) ∷ []) (λ es j. put_first (break_unless (first_of es)) (into is_mutable ts discard j d)) j (each_one c good_c around ts ls true h.0 em j) (λ es i. break-good (Own d) ls i (first_of es) (into is_mutable ts discard i d) (good_d around ts ls true discard i h.1 em)) h.2 (λ x o. inl o) (λ x o. inr o)
+
+  pub do_good : (p : Position) (d c : Term) → TreeGood d → TreeGood c → (around : List (List ℕ)) (ts : Targets) (ls : List (List ℕ)) (j : ℕ) → Once around (do_while p d c) → Emitted around ts ls → Good (Own (do_while p d c)) ls true j (do_code d c ts j)
+  do_good p d c good_d good_c around ts ls j h em = good-joined (Own d) (Own c) (Own (do_while p d c)) ls true j (into is_mutable ts discard j d) (then_use (spill (operand is_mutable c (λ k j. into is_mutable ts k j c) ∷ []) (into is_mutable ts discard j d).next) (λ es. one (break_unless (first_of es)))) (good_d around ts ls true discard j h.0 em) (act_good c good_c (Own c) (all_part (Own c)) around ts ls true (into is_mutable ts discard j d).next (λ es. one (break_unless (first_of es))) h.1 em (λ es i. break-good no_name ls i (first_of es) (no_code i) (good-none no_name ls true i))) h.2 (λ x o. inl o) (λ x o. inr o)
 
   mutual
     pub good : (t : Term) → TreeGood t
@@ -109,8 +120,8 @@ module _ (is_mutable : List ℕ → Bool) where
     good (assign p (var_ref q x t) e) = λ around ts ls b k j h em. act_good e (good e) (Own e) (all_part (Own e)) around ts ls b j (λ es. one (core.assign_to (Some p) (core.named x) (coerced t (type_of_term e) (first_of es)))) h em (λ es i. good-one no_name ls b i i (core.assign_to (Some p) (core.named x) (coerced t (type_of_term e) (first_of es))) (omega arith) (λ y d. d) tt)
     good (return_to p e l) = λ around ts ls b k j h em. leaving-good (Own e) ls b j (target_of ts l) p l (into is_mutable ts (target_of ts l) j e) (λ i. em.has l h.0 i) (good e around ts ls b (target_of ts l) j h.1 em)
     good (if_then p c a d t) = λ around ts ls b k j h em. act_good c (good c) (Own (if_then p c a d t)) (λ x o. inl o) around ts ls b j (λ es j. branches p (first_of es) (into is_mutable ts k j a) (λ j. into is_mutable ts k j d)) h.0 em (λ es i. branches-good (Own a) (Own d) no_name ls b p (first_of es) (into is_mutable ts k i a) (λ j. into is_mutable ts k j d) i (good a around ts ls b k i h.1 em) (good d around ts ls b k (into is_mutable ts k i a).next h.2 em))
-    good (while_loop p c d) = λ around ts ls b k j h em. either-good (Own (while_loop p c d)) ls b (is_plain c) j (wrapped (core.while_of (Some p) (expression_of c)) (into is_mutable ts discard j d)) (wrapped (core.while_of (Some p) (core.boolean_value true)) (while_code c d ts j)) (let g = good d around ts ls true discard j h.1 em in good-one (Own (while_loop p c d)) ls b j (into is_mutable ts discard j d).next (core.while_of (Some p) (expression_of c) (into is_mutable ts discard j d).statements) g.onward (λ y i. i) (g.distinct, g.proper)) (let g = good-use (Own c) (Own d) (Own (while_loop p c d)) ls true (operand is_mutable c (λ k j. into is_mutable ts k j c) ∷ []) (λ es j. put_first (break_unless (first_of es)) (into is_mutable ts discard j d)) j (each_one c (good c) around ts ls true h.0 em j) (λ es i. break-good (Own d) ls i (first_of es) (into is_mutable ts discard i d) (good d around ts ls true discard i h.1 em)) h.2 (λ x o. inl o) (λ x o. inr o) in good-one (Own (while_loop p c d)) ls b j (while_code c d ts j).next (core.while_of (Some p) (core.boolean_value true) (while_code c d ts j).statements) g.onward (λ y i. i) (g.distinct, g.proper))
-    good (do_while p d c) = λ around ts ls b k j h em. let g = good-joined (Own d) (Own c) (Own (do_while p d c)) ls true j (into is_mutable ts discard j d) (then_use (spill (operand is_mutable c (λ k j. into is_mutable ts k j c) ∷ []) (into is_mutable ts discard j d).next) (λ es. one (break_unless (first_of es)))) (good d around ts ls true discard j h.0 em) (act_good c (good c) (Own c) (all_part (Own c)) around ts ls true (into is_mutable ts discard j d).next (λ es. one (break_unless (first_of es))) h.1 em (λ es i. break-good no_name ls i (first_of es) (no_code i) (good-none no_name ls true i))) h.2 (λ x o. inl o) (λ x o. inr o) in good-one (Own (do_while p d c)) ls b j (do_code d c ts j).next (core.loop_of (Some p) (do_code d c ts j).statements) g.onward (λ y i. i) (g.distinct, g.proper)
+    good (while_loop p c d) = λ around ts ls b k j h em. either-good (Own (while_loop p c d)) ls b (is_plain c) j (wrapped (core.while_of (Some p) (expression_of c)) (into is_mutable ts discard j d)) (wrapped (core.while_of (Some p) (core.boolean_value true)) (while_code c d ts j)) (let g = good d around ts ls true discard j h.1 em in good-one (Own (while_loop p c d)) ls b j (into is_mutable ts discard j d).next (core.while_of (Some p) (expression_of c) (into is_mutable ts discard j d).statements) g.onward (λ y i. i) (g.distinct, g.proper)) (let g = while_good p c d (good c) (good d) around ts ls j h em in good-one (Own (while_loop p c d)) ls b j (while_code c d ts j).next (core.while_of (Some p) (core.boolean_value true) (while_code c d ts j).statements) g.onward (λ y i. i) (g.distinct, g.proper))
+    good (do_while p d c) = λ around ts ls b k j h em. let g = do_good p d c (good d) (good c) around ts ls j h em in good-one (Own (do_while p d c)) ls b j (do_code d c ts j).next (core.loop_of (Some p) (do_code d c ts j).statements) g.onward (λ y i. i) (g.distinct, g.proper)
     good (match_on p e cs d t) = λ around ts ls b k j h em. act_good e (good e) (Own (match_on p e cs d t)) (λ x o. inl o) around ts ls b j (λ es j. switch_code p (first_of es) (cases is_mutable ts k j cs) (λ j. into is_mutable ts k j d)) h.0 em (λ es i. switch-good no_name (Own d) ls b p (first_of es) (cases is_mutable ts k i cs) (λ j. into is_mutable ts k j d) i (good_cases cs around ts ls k i h.1 em) (good d around ts ls true k (cases is_mutable ts k i cs).next h.2 em))
     good (apply_static p c n m es t) = λ around ts ls b k j h em. good-use (OwnAll es) no_name (OwnAll es) ls b (operands is_mutable ts es) (λ xs. finish k p t false (core.static_call (member c n m) (expressions_of (coerced_arguments m.params (types_of es) xs)))) j (good_operands es around ts ls b h em j) (λ xs i. finish-good no_name ls b k p t false (core.static_call (member c n m) (expressions_of (coerced_arguments m.params (types_of es) xs))) i) (nothing_apart (OwnAll es)) (all_part (OwnAll es)) (no_part (OwnAll es))
     good (unary_op p o e) = λ around ts ls b k j h em. act_good e (good e) (Own e) (all_part (Own e)) around ts ls b j (λ es. finish k p (unary_result o) false (core.unary_of o (first_of es))) h em (λ es i. finish-good no_name ls b k p (unary_result o) false (core.unary_of o (first_of es)) i)
@@ -137,7 +148,7 @@ module _ (is_mutable : List ℕ → Bool) where
     good_operands no_terms around ts ls b h em = λ j. good-none (OwnAll no_terms) ls b j
     good_operands (more_terms t es) around ts ls b h em = operand-good (Own t) (OwnAll es) (OwnAll (more_terms t es)) ls b (operand is_mutable t (λ k j. into is_mutable ts k j t)) (operands is_mutable ts es) (λ k j. good t around ts ls b k j h.0 em) (good_operands es around ts ls b h.1 em) h.2 (λ x o. inl o) (λ x o. inr o)
 
-    good_cases : (cs : Cases) (around : List (List ℕ)) (ts : Targets) (ls : List (List ℕ)) (k : Destination) (j : ℕ) → OnceCases around cs → Emitted around ts ls → GoodCases ls j (cases is_mutable ts k j cs)
+    pub good_cases : (cs : Cases) (around : List (List ℕ)) (ts : Targets) (ls : List (List ℕ)) (k : Destination) (j : ℕ) → OnceCases around cs → Emitted around ts ls → GoodCases ls j (cases is_mutable ts k j cs)
     good_cases no_cases around ts ls k j h em = record { onward = omega arith; proper = tt }
     good_cases (more_cases [] t cs) around ts ls k j h em = good_cases cs around ts ls k j h.1 em
     good_cases (more_cases (n ∷ ns) t cs) around ts ls k j h em = case-good-in (Own t) ls j (n ∷ ns) (into is_mutable ts k j t) (λ j. cases is_mutable ts k j cs) (good t around ts ls true k j h.0 em) (good_cases cs around ts ls k (into is_mutable ts k j t).next h.1 em)

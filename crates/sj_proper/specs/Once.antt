@@ -1,7 +1,9 @@
 -- No two definitions of a tree have one name, no label stands inside itself, and each jump is to a label around it.
 use Rattle.std.specs.Prelude.{◌≡◌, ℕ, List, [], ◌∷◌, ◌⊎◌}
+use Rattle.sj_desugar.specs.Desugar.{names_of}
+use Rattle.sj_trees.specs.declared.classes.MethodDef.{MethodDef}
 use Rattle.sj_trees.specs.Term.{Term, Terms, no_terms, more_terms, Cases, no_cases, more_cases, var_def, block_of, labeled, assign, return_to, if_then, while_loop, do_while, match_on, apply_static, unary_op, binary_op, log_line}
-use Rattle.sj_bodies.specs.Locals.{Own, OwnAll, OwnCases}
+use Rattle.body_rules.specs.Locals.{Own, OwnAll, OwnCases, IsParameter}
 
 abbrev pub IsAmong : List (List ℕ) → List ℕ → Type 0
 IsAmong [] x = ⊥
@@ -36,3 +38,13 @@ abbrev mutual
   pub OnceCases : List (List ℕ) → Cases → Type 0
   OnceCases ls no_cases = Unit {0}
   OnceCases ls (more_cases ns t cs) = Once ls t × OnceCases ls cs × Apart (Own t) (OwnCases cs)
+
+abbrev pub AreDistinct : List (List ℕ) → Type 0
+AreDistinct [] = Unit {0}
+AreDistinct (x ∷ xs) = (IsAmong xs x → ⊥) × AreDistinct xs
+
+-- each local is defined once, and no parameter again
+pub record DefinesOnce (d : MethodDef) (e : Term) : Type 0 where
+  pub once : Once [] e
+  pub parameters : AreDistinct (names_of d.params)
+  pub fresh : (x : List ℕ) → Own e x → IsParameter d.params x → ⊥

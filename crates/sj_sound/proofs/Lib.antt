@@ -1,10 +1,6 @@
-pub mod Covered
-pub mod InWorld
-pub mod Mutable
 pub mod Right
-pub mod RulesGive
 pub mod Same
-pub mod Topped
 pub mod Values
 pub mod Whole
 pub mod Worked
+pub mod WorkedWhole

@@ -25,26 +25,25 @@ use Rattle.sj_trees.specs.declared.operators.BinaryOp.{BinaryOp}
 use Rattle.sj_trees.specs.declared.positions.Position.{Position}
 use Rattle.sj_trees.specs.declared.types.IrType.{IrType}
 use Rattle.sj_trees.specs.declared.types.IrType.TheVariants.{Any, Undefined, Null, Boolean, Byte, Short, Int, String, NoType, Nothing, Char, Long}
-use Rattle.sj_plain.specs.Conditions.{unary_operand, left_operand, right_operand, IsDivision, a_quotient, a_remainder, IsLongDivision, a_long_quotient, a_long_remainder, DividesBy, by_int, by_long, Usable}
+use Rattle.typing_rules.specs.Rules.{unary_operand, left_operand, right_operand, IsText as IsJoined}
+use Rattle.body_rules.specs.Operators.{IsDivision, a_quotient, a_remainder, IsLongDivision, a_long_quotient, a_long_remainder, DividesBy, by_int, by_long}
+use Rattle.built_forms.specs.Built.{Usable}
 use Rattle.sj_plain.specs.Settings.{IsField}
-use Rattle.sj_plain.specs.Standing.{call_type}
-use Rattle.sj_bodies.specs.Fine.{IsTrueLiteral, true_literal}
-use Rattle.sj_bodies.specs.Locals.{Own, OwnAll, OwnCases}
-use Rattle.sj_bodies.proofs.Contexts.{is-equal}
+use Rattle.body_rules.specs.Standing.{call_type}
+use Rattle.body_rules.specs.Typing.{IsTrueLiteral, true_literal, Scene, behind, in_label, Typed, TypedBlock, TypedAll, TypedCases}
+use Rattle.body_rules.specs.Locals.{Own, OwnAll, OwnCases, IsParameter, local_of, HasValue, HaveValues}
+use Rattle.body_rules.proofs.Equal.{is-equal}
 use Rattle.sj_names.proofs.Same.{impossible}
-use Rattle.sj_calls.specs.Methods.{IsParameter}
 use Rattle.sj_calls.proofs.Calls.{result-same}
 use Rattle.sj_sound.specs.Rules.{RightMember}
-use Rattle.sj_calls.specs.Methods.{HaveTypes}
-use Rattle.sj_sound.specs.Subtyping.{IsSubtyping}
-use Rattle.sj_sound.specs.Rules.{scene_of}
-use Rattle.sj_sound.specs.Typing.{Scene, local_of, HasValue, behind, in_label, Typed, TypedBlock, TypedAll, TypedCases}
-use Rattle.sj_sound.proofs.RulesGive.{Yields, ArgumentsFit, Takes, its_types, texts, yields_there, one_yields, other_yields, leaves_there, arguments_there, is_linked, operation}
+use Rattle.sj_proper.specs.Methods.{HaveTypes, scene_of}
+use Rattle.body_rules.specs.Subtyping.{IsSubtyping}
+use Rattle.body_rules.proofs.RulesGive.{Yields, ArgumentsFit, Takes, its_types, texts, yields_there, one_yields, other_yields, leaves_there, arguments_there, is_linked, operation}
 use Rattle.built_forms.proofs.Around.{type_inside}
 use Rattle.sj_world.specs.Subtypes.{IsSub}
 use Rattle.typing_rules.specs.Labels.{type_of_label}
-use Rattle.typing_rules.specs.Rules.{IsText as IsJoined}
-use Rattle.sj_sound.proofs.Covered.{local-there, HaveValues, values-behind, value-not, true-or-none, unary-operand-value, left-operand-value, right-operand-value, not_no_type}
+use Rattle.body_rules.proofs.Locals.{local-there, values-behind}
+use Rattle.body_rules.proofs.Fitting.{value-not, true-or-none, unary-operand-value, left-operand-value, right-operand-value, not_no_type}
 use Rattle.sj_sound.proofs.Values.{Classes, Adds, adds-refl, adds-trans, type-lift, HasType, has_type, of_undefined, of_null, of_boolean, of_byte, of_short, of_int, of_text, IsBoolean, a_boolean, IsNumber, a_number, IsText, a_text, wider, as_boolean, as_int, as_text, Gives, some_of, unary_gives, binary_gives, division_gives, of_char, of_long, as_long, join_gives, long_division_gives}
 
 -- not wrong, and where it is done, with what P says
@@ -317,7 +316,7 @@ module _ (w : World) (law : IsSubtyping (IsSub w)) (has : Usable) where
   no_label l r e = impossible (cc)
 
   pub call_right : (low : ir_meaning.Low) → LowRight low → (m : Member) → RightMember w has m → (s : Scene) (t : IrType) → t ≡ call_type m.method.result → (at : Classes) (vs : List ir.Value) → ValuesFit at vs m.method.params → (env : ir.Env) (st : ir.State) → Ready at s.locals env st → Right at s t (ir_meaning.call low (member_of w m.class m.namespace m.method) None vs env st)
-  call_right low right m l s t is at vs fit env st e = subst (λ o. Right at s t o) (sym called) (comes_then (CameRight at scene l.definition.params l.definition.result) (CameRight at s s.locals t) (low l.its_body inner st) (ir_meaning.returned l.definition.result env) (yields-right at scene l.definition.params l.its_body l.definition.result (low l.its_body inner st).end yielded (right l.its_body scene l.rules.values l.rules.typed l.rules.fresh at inner st (record { locals = record { holds = b.hold }; heap = e.heap }))) back)
+  call_right low right m l s t is at vs fit env st e = subst (λ o. Right at s t o) (sym called) (comes_then (CameRight at scene l.definition.params l.definition.result) (CameRight at s s.locals t) (low l.its_body inner st) (ir_meaning.returned l.definition.result env) (yields-right at scene l.definition.params l.its_body l.definition.result (low l.its_body inner st).end yielded (right l.its_body scene l.rules.values l.rules.typed l.rules.once.fresh at inner st (record { locals = record { holds = b.hold }; heap = e.heap }))) back)
     where
       scene : Scene
       scene = scene_of l.definition

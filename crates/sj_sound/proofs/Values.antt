@@ -10,11 +10,11 @@ use Rattle.sj_trees.specs.declared.operators.UnaryOp.{UnaryOp}
 use Rattle.sj_trees.specs.declared.operators.UnaryOp.TheVariants.{BooleanNot, CharToInt, ByteToInt, ShortToInt, IntToLong, IntToChar, IntToByte, IntToShort, LongToInt}
 use Rattle.sj_trees.specs.declared.types.IrType.{IrType}
 use Rattle.sj_trees.specs.declared.types.IrType.TheVariants.{Undefined, Null, Boolean, Char, Byte, Short, Int, Long, String, Class, Nothing}
-use Rattle.sj_plain.specs.Conditions.{is_simple, unary_operand, left_operand, right_operand, IsDivision, a_quotient, a_remainder, IsLongDivision, a_long_quotient, a_long_remainder}
+use Rattle.body_rules.specs.Operators.{is_simple, IsDivision, a_quotient, a_remainder, IsLongDivision, a_long_quotient, a_long_remainder}
+use Rattle.typing_rules.specs.Rules.{unary_operand, left_operand, right_operand, IsText as IsJoined}
 use Rattle.sj_plain.proofs.Shifts.{join_is}
 use Rattle.sj_names.proofs.Same.{impossible}
-use Rattle.sj_sound.specs.Subtyping.{IsSubtyping}
-use Rattle.typing_rules.specs.Rules.{IsText as IsJoined}
+use Rattle.body_rules.specs.Subtyping.{IsSubtyping}
 
 -- the class of the object at each address
 abbrev pub Classes : Type 0

@@ -1,5 +1,5 @@
 -- A program of methods that keep the rules, and its file.
-use Rattle.std.proofs.Common.{◌≡◌, ℕ, Bool, true, List, [], ◌∷◌, Option, Some, None, slice_get, refl, sym, ap, ◌∙◌, subst, ◌⊎◌, inl, inr, ⊎_elim, Contains}
+use Rattle.std.proofs.Common.{◌≡◌, ℕ, true, List, [], ◌∷◌, Option, Some, None, slice_get, refl, subst, ⊎_elim, Contains}
 use Rattle.std.proofs.lemmas.Bool.{and_parts}
 use Rattle.outcomes.specs.Outcome.{End, Done, Going, Wrong}
 use Rattle.outcomes.specs.Agreement.{IsNotWrong, Agree}
@@ -9,54 +9,24 @@ use Rattle.ir_mean.specs.States as ir
 use Rattle.ir_mean.specs.World as ir_world
 use Rattle.js_mean.specs.Proper.{is_proper_module}
 use Rattle.js_mean.specs.Shows as js_showing
-use Rattle.sj_desugar.specs.Desugar.{result_destination, is_mutable_in}
-use Rattle.sj_desugar.specs.Plain.{is_no_type}
-use Rattle.sj_desugar.specs.Spill.{Destination}
 use Rattle.sj_names.specs.declared.entry_points.EntryPoint.{EntryPoint}
 use Rattle.sj_names.specs.declared.method_names.Member.{Member}
-use Rattle.sj_trees.specs.Term.{Term}
-use Rattle.sj_trees.specs.TypeOf.{type_of_term}
-use Rattle.sj_trees.specs.declared.classes.MethodDef.{MethodDef}
-use Rattle.sj_trees.specs.declared.types.IrType.{IrType}
 use Rattle.sj_trees.specs.declared.types.IrType.TheVariants.{Any, NoType}
-use Rattle.sj_names.proofs.Same.{impossible}
-use Rattle.sj_calls.specs.Files.{EmittedMethod, initializer_member, module_with, program_with, IsEmitted}
-use Rattle.sj_bodies.specs.Fine.{no_labels}
-use Rattle.sj_calls.specs.Methods.{FineMethod}
-use Rattle.sj_calls.proofs.Calls.{Way, gives_up, hands_on, way}
-use Rattle.sj_calls.proofs.Items.{nothing_in, in_front_or_behind}
+use Rattle.sj_proper.specs.Emitted.{EmittedMethod, initializer_member, module_with, HaveOwnMembers, IsNamed}
+use Rattle.sj_calls.specs.Files.{program_with}
+use Rattle.body_rules.proofs.Lists.{nothing_in, in_front_or_behind}
 use Rattle.sj_calls.proofs.Whole as calls
-use Rattle.sj_sound.specs.Linked.{has_function, have_functions, IsRight, functions_of}
-use Rattle.sj_sound.specs.Rules.{scene_of, KeepsRules, RightMember}
-use Rattle.sj_sound.specs.Subtyping.{IsSubtyping}
+use Rattle.sj_proper.proofs.Modules.{module_proper}
+use Rattle.sj_sound.specs.Linked.{IsWhole, has_function, have_functions, IsRight, functions_of}
+use Rattle.sj_sound.specs.Rules.{RightMember}
 use Rattle.sj_names.specs.declared.method_names.Namespace.TheVariants.{PublicStatic}
-use Rattle.sj_sound.specs.Typing.{Scene}
-use Rattle.sj_sound.proofs.RulesGive.{NoBox, yields_there}
+use Rattle.body_rules.specs.Typing.{Scene}
 use Rattle.sj_world.specs.Laws.{IsTopped}
 use Rattle.sj_world.specs.Subtypes.{IsSub}
-use Rattle.sj_sound.proofs.Covered.{Asks, fine}
-use Rattle.sj_sound.proofs.InWorld.{in_world}
-use Rattle.sj_sound.proofs.Mutable.{mutable-known, parameter-known}
+use Rattle.body_rules.proofs.InWorld.{in_world}
 use Rattle.sj_sound.proofs.Right.{Comes, comes_then, CameRight, gave, left, threw, EnvTyped, ObjectTyped, typed_object, HeapTyped, none_left, call_right, bodies_right, no_label, nothing_there}
 use Rattle.sj_sound.proofs.Values.{Classes, HasType, has_type, of_undefined, of_null, of_boolean, of_char, of_long, of_byte, of_short, of_int, of_text, of_object}
 use Rattle.sj_sound.proofs.Same.{has_function-is}
-use Rattle.sj_plain.specs.Conditions.{Usable}
-
-module _ (w : ir_world.World) (law : IsSubtyping (IsSub w)) (has : Usable) where
-  asks-result : (is_mutable : List ℕ → Bool) (e : Term) (t : IrType) (k : Destination) → Way t k → (t ≡ NoType) ⊎ (IsSub w (type_of_term e) t × NoBox t (type_of_term e)) → Asks w law is_mutable has k (type_of_term e)
-  asks-result is_mutable e _ _ gives_up y = tt
-  asks-result is_mutable e _ _ (hands_on t h) (inl none) = impossible (sym h ∙ ap is_no_type none)
-  asks-result is_mutable e _ _ (hands_on t h) (inr f) = (f, λ none. impossible (sym h ∙ ap is_no_type none))
-
-  no_type : {A : Type 0} {t : IrType} → ◌≡◌ {A = Option IrType} None (Some t) → A
-  no_type e = impossible (cc)
-
-  -- a method that keeps the rules is fine
-  pub method-fine : (d : MethodDef) (e : Term) → KeepsRules w has d e → FineMethod has d e
-  method-fine d e r = record {
-    fine = fine w law (is_mutable_in d e) has e (scene_of d) no_labels (result_destination d.result) r.values (λ x p i m. parameter-known d e x p i m) (record { targets = λ l t e. no_type e; all = λ l. tt }) (mutable-known d e) (asks-result (is_mutable_in d e) e d.result (result_destination d.result) (way d.result) (yields_there w e d.result r.unboxed r.yields)) r.typed;
-    fresh = r.fresh;
-  }
 
 comes-not_wrong : {A : Type 0} (e : End A) → Comes (λ a. Unit {0}) e → IsNotWrong e
 comes-not_wrong (Done a) h = tt
@@ -64,9 +34,6 @@ comes-not_wrong Going h = tt
 comes-not_wrong Wrong h = h
 
 module _ (w : ir_world.World) (topped : IsTopped w) (fs : List EmittedMethod) (right : (e : EmittedMethod) → Contains fs e → IsRight w fs e) where
-  emitted : (e : EmittedMethod) → Contains fs e → IsEmitted w (functions_of fs) e
-  emitted e i = let r = right e i in record { found = r.found; has_body = r.has_body; parameters = r.parameters; result_is = r.result_is; fine = method-fine w (in_world w topped) (functions_of fs) e.definition e.its_body r.rules }
-
   member-of : (e : EmittedMethod) → IsRight w fs e → RightMember w (functions_of fs) e.member
   member-of e r = record { definition = e.definition; its_body = e.its_body; found = r.found; has_body = r.has_body; rules = r.rules; parameters = r.parameters; result_is = r.result_is }
 
@@ -126,4 +93,10 @@ called fs [] h e i = nothing_in e i
 called fs (c ∷ cs) h e i = let k = and_parts (has_function fs (initializer_member c)) (have_functions fs cs) h in ⊎_elim (λ same. subst (λ x. has_function fs (initializer_member x) ≡ true) same k.0) (λ later. called fs cs k.1 e later) (in_front_or_behind c cs e i)
 
 pub program_agrees : (w : ir_world.World) → IsTopped w → (entries : List EntryPoint) (id : List ℕ) (fs : List EmittedMethod) → is_proper_module (module_with fs (ir_showing.initializers entries id)) ≡ true → ((e : EmittedMethod) → Contains fs e → IsRight w fs e) → have_functions fs (ir_showing.initializers entries id) ≡ true → Agree (ir_showing.ir_shows w entries id) (js_showing.js_shows (program_with id fs (ir_showing.initializers entries id)) id)
-program_agrees w topped entries id fs proper right all = calls.file_agrees w entries id fs (functions_of fs) proper (emitted w topped fs right) (has_function-is fs) (called fs (ir_showing.initializers entries id) all) (λ n. comes-not_wrong (ir_showing.ir_shows w entries id n).end (all_right w topped fs right n (ir_showing.initializers entries id) all (no_classes w topped fs right) (ir_world.opening w) (nothing_typed w topped fs right (ir_world.opening w))))
+program_agrees w topped entries id fs proper right all = calls.file_agrees w topped entries id fs (functions_of fs) proper right (has_function-is fs) (called fs (ir_showing.initializers entries id) all) (λ n. comes-not_wrong (ir_showing.ir_shows w entries id n).end (all_right w topped fs right n (ir_showing.initializers entries id) all (no_classes w topped fs right) (ir_world.opening w) (nothing_typed w topped fs right (ir_world.opening w))))
+
+named : (w : ir_world.World) (fs : List EmittedMethod) (e : EmittedMethod) → IsWhole w fs e → IsNamed e
+named w fs e h = record { once = h.right.rules.once; class_name = h.class_name; method_name = h.method_name }
+
+pub linked_agrees : (w : ir_world.World) → IsTopped w → (entries : List EntryPoint) (id : List ℕ) (fs : List EmittedMethod) → ((e : EmittedMethod) → Contains fs e → IsWhole w fs e) → HaveOwnMembers fs → have_functions fs (ir_showing.initializers entries id) ≡ true → Agree (ir_showing.ir_shows w entries id) (js_showing.js_shows (program_with id fs (ir_showing.initializers entries id)) id)
+linked_agrees w topped entries id fs all own called = program_agrees w topped entries id fs (module_proper fs (ir_showing.initializers entries id) (λ e i. named w fs e (all e i)) own) (λ e i. (all e i).right) called

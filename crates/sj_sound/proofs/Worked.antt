@@ -9,21 +9,22 @@ use Rattle.ir_mean.specs.Shows.{ir_shows}
 use Rattle.js_mean.specs.Shows.{js_shows}
 use Rattle.sj_trees.specs.declared.classes.ParamDef.{ParamDef}
 use Rattle.sj_trees.specs.declared.types.IrType.TheVariants.{Int}
-use Rattle.sj_bodies.specs.Locals.{Own}
+use Rattle.body_rules.specs.Locals.{Own, local_of, HasValue}
 use Rattle.sj_names.proofs.Same.{impossible}
-use Rattle.sj_calls.specs.Files.{EmittedMethod, program_with}
-use Rattle.sj_calls.proofs.Items.{nothing_in, in_front_or_behind}
+use Rattle.sj_proper.specs.Emitted.{EmittedMethod}
+use Rattle.sj_calls.specs.Files.{program_with}
+use Rattle.body_rules.proofs.Lists.{nothing_in, in_front_or_behind}
 use Rattle.sj_sound.specs.Linked.{IsRight, functions_of}
-use Rattle.sj_sound.specs.Rules.{scene_of, KeepsRules}
+use Rattle.sj_proper.specs.Methods.{scene_of, KeepsRules}
 use Rattle.sj_world.specs.Laws.{IsTopped}
 use Rattle.sj_world.specs.Subtypes.{equal}
-use Rattle.sj_sound.proofs.Topped.{topped}
-use Rattle.sj_sound.specs.Typing.{Scene, local_of, HasValue, IsLocal, IsVariable, Here}
+use Rattle.body_rules.proofs.Topped.{topped}
+use Rattle.body_rules.specs.Typing.{Scene, IsLocal, IsVariable, Here}
 use Rattle.typing_rules.specs.Rules.{nothing_wanted, fitting}
 use Rattle.sj_trees.specs.Term.{int_literal, var_ref}
 use Rattle.sj_sound.specs.Worked.{tests_it, main_method, tripling_method, worked_world, emitted, worked_methods}
 use Rattle.sj_sound.proofs.Whole.{program_agrees}
-use Rattle.sj_plain.specs.Conditions.{Usable}
+use Rattle.built_forms.specs.Built.{Usable}
 
 fits : (n : ℕ) → n < 2 ^ 31 → FitsSigned w32 (pos n)
 fits n h = record { sfits = h }
@@ -41,7 +42,7 @@ main_rules = record {
   unboxed = refl;
   result = inl refl;
   values = λ x p e. impossible (cc);
-  fresh = λ x o i. i;
+  once = record { once = (((tt, tt, λ x o k. k), tt, λ x o k. k), tt, tt, (λ x o k. k), (λ x o k. k), (λ x o k. k)); parameters = tt; fresh = λ x o i. i };
 }
 
 p_local : IsLocal (scene_of tripling_method) (codes "p") Int
@@ -70,7 +71,7 @@ tripling_rules = record {
   unboxed = refl;
   result = inr refl;
   values = only_parameter;
-  fresh = λ x o i. no_local x o;
+  once = record { once = (((tt, tt, λ x o k. k), ((tt, tt, λ x o k. k)), λ x o k. ⊎_elim (λ i. i) (λ i. i) k), (tt, tt, λ x o k. k), λ x o k. ⊎_elim (λ i. i) (λ i. i) k); parameters = ((λ i. i), tt); fresh = λ x o i. no_local x o };
 }
 
 pub main_right : IsRight worked_world worked_methods (emitted main_method tests_it)

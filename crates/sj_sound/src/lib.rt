@@ -1,6 +1,6 @@
-//! Bodies that keep the rules of their forms: they are covered by the agreement of the two meanings, and they are never wrong.
+//! Bodies that keep the rules are never wrong, so the agreement of the two meanings holds of programs of them without a condition on their ends.
 //!
-//! `specs/` has the rules as one definition over trees. The functions here are laws: they do nothing when they run, and their clauses are
+//! `specs/` has what is asked of the methods of a program. The functions here are laws: they do nothing when they run, and their clauses are
 //! theorems.
 #![tactic(auto)]
 
@@ -15,30 +15,13 @@ ghost use Rattle.ir_mean.specs.World.{World};
 ghost use Rattle.js_mean.specs.Proper.{is_proper_module};
 ghost use Rattle.js_mean.specs.Shows.{js_shows};
 ghost use Rattle.sj_names.specs.declared.entry_points.EntryPoint.{EntryPoint};
-ghost use Rattle.sj_trees.specs.Term.{Term};
-ghost use Rattle.sj_trees.specs.declared.classes.MethodDef.{MethodDef};
-ghost use Rattle.sj_calls.specs.Files.{EmittedMethod, module_with, program_with};
-ghost use Rattle.sj_calls.specs.Methods.{FineMethod};
-ghost use Rattle.sj_sound.specs.Linked.{have_functions, IsRight};
-ghost use Rattle.sj_sound.specs.Rules.{KeepsRules};
-ghost use Rattle.sj_sound.specs.Subtyping.{IsSubtyping};
-ghost use Rattle.sj_world.specs.Known.{Classes};
+ghost use Rattle.sj_proper.specs.Emitted.{EmittedMethod, module_with, HaveOwnMembers};
+ghost use Rattle.sj_calls.specs.Files.{program_with};
+ghost use Rattle.sj_sound.specs.Linked.{have_functions, IsRight, IsWhole};
 ghost use Rattle.sj_world.specs.Laws.{IsTopped};
-ghost use Rattle.sj_world.specs.Subtypes.{IsSub};
 ghost use Rattle.sj_sound.specs.Worked.{worked_world, worked_methods};
-ghost use Rattle.sj_plain.specs.Conditions.{Usable};
 
-/// Subtyping in a world where nothing stands above `java.lang.Object` has the properties that are asked of subtyping.
-pub fn subtypes_of_worlds_are_ordered()
-    ensures { (w : Classes) → IsTopped w → IsSubtyping (IsSub w) }
-{}
-
-/// A method whose body keeps the rules is covered by the theorem on calls.
-pub fn bodies_are_covered()
-    ensures { (w : World) → IsTopped w → (has : Usable) (d : MethodDef) (e : Term) → KeepsRules w has d e → FineMethod has d e }
-{}
-
-/// The theorem on programs of such methods: take a module that has the functions of these methods in this order and then calls the initializers
+/// The theorem on programs of methods whose bodies keep the rules: take a module that has the functions of these methods in this order and then calls the initializers
 /// of a public module, and that has no early error, and let nothing stand above `java.lang.Object`. Let each method be that of its member in the classes, with the types that its name
 /// tells, with a body that keeps the rules and calls these methods alone; and let the initializers be among them. Then
 /// the file shows of the public module what the classes show: what the one shows within any bound the other shows within some bound, and the
@@ -55,4 +38,18 @@ pub fn worked_program_agrees()
     ensures file_within_4 { js_shows (program_with (codes "main") worked_methods once) (codes "main") 4 ≡ record { lines = []; end = Going } }
     ensures class_within_5 { ir_shows worked_world once (codes "main") 5 ≡ record { lines = codes "yes" ∷ []; end = Done normal } }
     ensures file_within_5 { js_shows (program_with (codes "main") worked_methods once) (codes "main") 5 ≡ record { lines = codes "yes" ∷ []; end = Done normal } }
+{}
+
+/// The theorem on programs without a premise on the file: take methods, no two of one member, each of which is that of its member in the classes, with the
+/// types that its name tells, with a body that keeps the rules and calls these methods alone; and let the
+/// initializers of a public module be among them; and let nothing stand above `java.lang.Object`. Then the file that has their functions in this order and behind them the calls of the
+/// initializers shows of the public module what the classes show: what the one shows within any bound the other shows within some bound, and
+/// the other way round, and neither is wrong at any bound.
+pub fn linked_bodies_agree()
+    ensures { (w : World) → IsTopped w → (entries : List EntryPoint) (id : List ℕ) (fs : List EmittedMethod) → ((e : EmittedMethod) → Contains fs e → IsWhole w fs e) → HaveOwnMembers fs → have_functions fs (initializers entries id) ≡ true → Agree (ir_shows w entries id) (js_shows (program_with id fs (initializers entries id)) id) }
+{}
+
+/// Its premises can be met: by the two methods of the worked program.
+pub fn worked_bodies_agree()
+    ensures { Agree (ir_shows worked_world once (codes "main")) (js_shows (program_with (codes "main") worked_methods once) (codes "main")) }
 {}

@@ -17,10 +17,11 @@ use Rattle.sj_local.specs.Nodes as local
 use Rattle.sj_local.specs.TreeRules.{innermost, has_type, is_mutable, has_no_terms, outermost}
 use Rattle.sj_names.proofs.Same.{impossible}
 use Rattle.sj_names.specs.declared.method_names.Namespace.{Namespace}
-use Rattle.sj_sound.specs.Typing.{Scene, local_of, HasValue, IsResult, in_label, Typed, TypedBlock, TypedAll, TypedCases}
-use Rattle.sj_sound.specs.Typing as scenes
+use Rattle.body_rules.specs.Typing.{Scene, IsResult, in_label, Typed, TypedBlock, TypedAll, TypedCases}
+use Rattle.body_rules.specs.Locals.{local_of, HasValue}
+use Rattle.body_rules.specs.Typing as scenes
 use Rattle.sj_proper.specs.Once.{Once, OnceAll, OnceCases}
-use Rattle.sj_sound.specs.Rules.{scene_of, KeepsRules}
+use Rattle.sj_proper.specs.Methods.{scene_of, KeepsRules}
 use Rattle.sj_trees.specs.Term.{Term, Terms, no_terms, more_terms, Cases, no_cases, more_cases, var_def, skip, block_of, labeled, assign, return_to, if_then, while_loop, do_while, match_on, apply_static, unary_op, binary_op, undefined_literal, null_literal, boolean_literal, char_literal, byte_literal, short_literal, int_literal, long_literal, string_literal, var_ref, log_line}
 use Rattle.sj_trees.specs.declared.classes.ClassDef.{ClassDef}
 use Rattle.sj_trees.specs.declared.classes.MethodDef.{MethodDef}
@@ -180,5 +181,5 @@ rules_kept w has c d e is kept judged built listed result values =
       unboxed = q.0;
       result = result;
       values = values;
-      fresh = (body_keeps c d e is kept).fresh;
+      once = body_keeps c d e is kept;
     }

@@ -9,9 +9,10 @@ use Rattle.sj_desugar.specs.Desugar.{has_no_value}
 use Rattle.sj_names.proofs.Same.{impossible}
 use Rattle.sj_names.specs.MethodNames.{IsParameter}
 use Rattle.sj_names.specs.declared.references.TypeRef.{TypeRef}
-use Rattle.sj_calls.specs.Methods.{HaveTypes}
-use Rattle.sj_sound.proofs.RulesGive.{class_has_value}
-use Rattle.sj_sound.specs.Typing.{local_of, HasValue, AllHaveValues}
+use Rattle.sj_proper.specs.Methods.{HaveTypes}
+use Rattle.body_rules.proofs.RulesGive.{class_has_value}
+use Rattle.body_rules.specs.Locals.{local_of, HasValue}
+use Rattle.body_rules.specs.Typing.{AllHaveValues}
 use Rattle.sj_trees.specs.Types.{reference_type}
 use Rattle.sj_trees.specs.declared.classes.ParamDef.{ParamDef}
 

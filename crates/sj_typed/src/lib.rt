@@ -7,8 +7,9 @@
 ghost use Rattle.std.specs.Prelude.{◌≡◌, ℕ, true, List, Some};
 ghost use Rattle.listing_spelling.specs.Rules.{IsListedTree};
 ghost use Rattle.sj_kept.specs.Kept.{KeepsTreeRules};
-ghost use Rattle.sj_sound.specs.Typing.{local_of, HasValue, IsResult};
-ghost use Rattle.sj_sound.specs.Rules.{KeepsRules};
+ghost use Rattle.body_rules.specs.Locals.{local_of, HasValue};
+ghost use Rattle.body_rules.specs.Typing.{IsResult};
+ghost use Rattle.sj_proper.specs.Methods.{KeepsRules};
 ghost use Rattle.sj_trees.specs.Term.{Term};
 ghost use Rattle.sj_trees.specs.declared.classes.ClassDef.{ClassDef};
 ghost use Rattle.sj_trees.specs.declared.classes.MethodDef.{MethodDef};

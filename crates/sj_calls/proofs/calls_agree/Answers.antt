@@ -1,5 +1,6 @@
+use Rattle.body_rules.proofs.InWorld.{in_world}
 use Rattle.sj_calls.proofs.Levels as levels
 use Rattle.sj_calls.proofs.calls_agree.Goals as goal
 
 pub returns : goal.returns
-returns c = levels.calls_agree
+returns c p topped = levels.calls_agree p (in_world p.classes topped)

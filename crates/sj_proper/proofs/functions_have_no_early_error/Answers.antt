@@ -1,6 +1,5 @@
-use Rattle.std.proofs.Common.{[], true}
 use Rattle.sj_proper.proofs.Modules as modules
 use Rattle.sj_proper.proofs.functions_have_no_early_error.Goals as goal
 
 pub returns : goal.returns
-returns c = modules.item_proper [] [] [] [] (record { linked = λ m. true })
+returns c = modules.item_proper

@@ -1,0 +1,167 @@
+-- A tree of the one type stands where the other is expected: what the rules say of types, as far as the kinds of values tell.
+use Rattle.std.proofs.Common.{◌≡◌, Bool, true, false, ◌&&◌, List, [], ◌∷◌, refl, sym, ap, ◌∙◌, subst, ◌⊎◌, inl, inr, ⊎_elim}
+use Rattle.std.specs.Prelude.{not}
+use Rattle.sj_desugar.specs.Coercions.{is_char}
+use Rattle.sj_desugar.specs.Desugar.{types_of, has_no_value}
+use Rattle.sj_desugar.specs.Plain.{is_no_type}
+use Rattle.sj_names.specs.declared.references.TypeRef.{TypeRef}
+use Rattle.sj_trees.specs.Term.{Term, Terms, no_terms, more_terms, boolean_literal}
+use Rattle.sj_trees.specs.TypeOf.{type_of_term, loop_type, unary_result, binary_result}
+use Rattle.sj_trees.specs.Types.{reference_type}
+use Rattle.sj_trees.specs.declared.operators.BinaryOp.{BinaryOp}
+use Rattle.sj_trees.specs.declared.operators.BinaryOp.TheVariants.{StrictEqual, StrictNotEqual, StringConcatenate, IntAdd}
+use Rattle.sj_trees.specs.declared.operators.UnaryOp.{UnaryOp}
+use Rattle.sj_trees.specs.declared.operators.UnaryOp.TheVariants.{BooleanNot}
+use Rattle.sj_trees.specs.declared.types.IrType.{IrType}
+use Rattle.sj_trees.specs.declared.types.IrType.TheVariants.{Any, Nothing, Undefined, Boolean, Char, Byte, Short, Int, Long, String, Class, Null, Array, NoType}
+use Rattle.body_rules.specs.Operators.{is_simple, a_quotient, a_remainder, a_long_quotient, a_long_remainder, DividesBy, by_int, by_long, Operates, of_its_types, joins}
+use Rattle.typing_rules.specs.Rules.{unary_operand, left_operand, right_operand, IsText}
+use Rattle.body_rules.specs.Standing.{Fits, FitAll, types_referred, NoBox}
+use Rattle.body_rules.proofs.Standing.{fits-same}
+use Rattle.body_rules.specs.Typing.{IsTrueLiteral, true_literal}
+use Rattle.sj_names.proofs.Same.{impossible}
+use Rattle.body_rules.specs.Subtyping.{is_lowest, IsSubtyping}
+use Rattle.body_rules.specs.Locals.{HasValue}
+use Rattle.body_rules.proofs.RulesGive.{Takes, its_types, texts, Yields, ArgumentsFit}
+use Rattle.sj_world.specs.Known.{Classes}
+use Rattle.sj_world.specs.Subtypes.{IsSub}
+
+pub value-not : (t : IrType) → HasValue t → t ≡ NoType → ⊥
+value-not t h e = impossible (sym h ∙ ap has_no_value e)
+
+pub unary-operand-value : (o : UnaryOp) → HasValue (unary_operand o)
+unary-operand-value o = unary_go o
+  where
+    unary_go : (o : UnaryOp) → HasValue (unary_operand o)
+    unary_go BooleanNot = refl
+    unary_go _ = refl
+
+pub unary-value : (o : UnaryOp) → HasValue (unary_result o)
+unary-value BooleanNot = refl
+unary-value _ = refl
+
+pub binary-value : (o : BinaryOp) → HasValue (binary_result o)
+binary-value IntAdd = refl
+binary-value _ = refl
+
+pub left-operand-value : (o : BinaryOp) → HasValue (left_operand o)
+left-operand-value IntAdd = refl
+left-operand-value _ = refl
+
+pub right-operand-value : (o : BinaryOp) → HasValue (right_operand o)
+right-operand-value IntAdd = refl
+right-operand-value _ = refl
+
+pub not_no_type : (t : IrType) → IsText t → t ≡ NoType → ⊥
+not_no_type t h e = subst IsText e h
+
+-- chars that aren't boxed on one way and on the next aren't on both
+pub box-further : (a b c : Bool) → (a && not b) ≡ false → (b && not c) ≡ false → (a && not c) ≡ false
+box-further false b c h k = refl
+box-further true false c h k = impossible (sym h)
+box-further true true c h k = k
+
+pub box-same : (a : Bool) → (a && not a) ≡ false
+box-same true = refl
+box-same false = refl
+
+nothing-fits : (t : IrType) → Fits t Nothing
+nothing-fits Any = refl
+nothing-fits Nothing = refl
+nothing-fits Undefined = refl
+nothing-fits Boolean = refl
+nothing-fits Char = refl
+nothing-fits Byte = refl
+nothing-fits Short = refl
+nothing-fits Int = refl
+nothing-fits Long = refl
+nothing-fits String = refl
+nothing-fits (Class c) = refl
+nothing-fits Null = refl
+nothing-fits (Array r) = refl
+nothing-fits NoType = refl
+
+-- a type of which more than itself and nothing are subtypes
+open_fits : (t own : IrType) → is_lowest t ≡ false → NoBox t own → Fits t own
+open_fits Nothing own h n = impossible (sym h)
+open_fits Undefined own h n = impossible (sym h)
+open_fits Boolean own h n = impossible (sym h)
+open_fits Char own h n = impossible (sym h)
+open_fits Byte own h n = impossible (sym h)
+open_fits Short own h n = impossible (sym h)
+open_fits Int own h n = impossible (sym h)
+open_fits Long own h n = impossible (sym h)
+open_fits String own h n = impossible (sym h)
+open_fits NoType own h n = impossible (sym h)
+open_fits Any Char h n = impossible (sym n)
+open_fits Any own h n = refl
+open_fits (Class c) Char h n = impossible (sym n)
+open_fits (Class c) own h n = refl
+open_fits Null Char h n = impossible (sym n)
+open_fits Null own h n = refl
+open_fits (Array r) Char h n = impossible (sym n)
+open_fits (Array r) own h n = refl
+
+not-false : (b : Bool) → not b ≡ true → b ≡ false
+not-false true h = impossible h
+not-false false h = refl
+
+pub true-or-none : (c : Term) → (loop_type c ≡ NoType) ⊎ IsTrueLiteral c
+true-or-none (boolean_literal p true) = inr (true_literal p)
+true-or-none (boolean_literal p false) = inl refl
+true-or-none _ = inl refl
+
+module _ (w : Classes) (law : IsSubtyping (IsSub w)) where
+  -- a tree of the one type stands where the other is expected
+  pub fits-sub : (t own : IrType) → IsSub w own t → NoBox t own → Fits t own
+  fits-sub t own f n = go (is_lowest t) refl
+    where
+      go : (b : Bool) → is_lowest t ≡ b → Fits t own
+      go true e = ⊎_elim (λ i. subst (Fits t) (sym i) (fits-same t)) (λ i. subst (Fits t) (sym i) (nothing-fits t)) (law.lowest own t e f)
+      go false e = open_fits t own e n
+
+  -- of the types that are lowest no char is one but char
+  lowest-box : (t own : IrType) → is_lowest t ≡ true → IsSub w own t → NoBox t own
+  lowest-box t own h f = ⊎_elim (λ i. subst (NoBox t) (sym i) (box-same (is_char t))) (λ i. subst (NoBox t) (sym i) refl) (law.lowest own t h f)
+
+  unary_lowest : (o : UnaryOp) → is_lowest (unary_operand o) ≡ true
+  unary_lowest BooleanNot = refl
+  unary_lowest _ = refl
+
+  pub fits-unary : (o : UnaryOp) (own : IrType) → IsSub w own (unary_operand o) → Fits (unary_operand o) own
+  fits-unary o own f = fits-sub (unary_operand o) own f (lowest-box (unary_operand o) own (unary_lowest o) f)
+
+  left_lowest : (o : BinaryOp) → is_simple o ≡ true → is_lowest (left_operand o) ≡ true
+  left_lowest StrictEqual h = impossible h
+  left_lowest StrictNotEqual h = impossible h
+  left_lowest StringConcatenate h = impossible h
+  left_lowest _ h = refl
+
+  right_lowest : (o : BinaryOp) → is_simple o ≡ true → is_lowest (right_operand o) ≡ true
+  right_lowest StrictEqual h = impossible h
+  right_lowest StrictNotEqual h = impossible h
+  right_lowest StringConcatenate h = impossible h
+  right_lowest _ h = refl
+
+  division_lowest : (o : BinaryOp) (d : Term) → DividesBy o d → is_lowest (left_operand o) ≡ true
+  division_lowest _ _ (by_int _ a_quotient p n f ne) = refl
+  division_lowest _ _ (by_int _ a_remainder p n f ne) = refl
+  division_lowest _ _ (by_long _ a_long_quotient p n f ne) = refl
+  division_lowest _ _ (by_long _ a_long_remainder p n f ne) = refl
+
+  pub fits-dividend : (o : BinaryOp) (d : Term) (own : IrType) → DividesBy o d → IsSub w own (left_operand o) → Fits (left_operand o) own
+  fits-dividend o d own by f = fits-sub (left_operand o) own f (lowest-box (left_operand o) own (division_lowest o d by) f)
+
+  pub operates : (o : BinaryOp) (e d : Term) → Takes w o e d → Operates o (type_of_term e) (type_of_term d)
+  operates o e d (its_types h f g) = of_its_types o (type_of_term e) (type_of_term d) h (fits-sub (left_operand o) (type_of_term e) f (lowest-box (left_operand o) (type_of_term e) (left_lowest o h) f)) (fits-sub (right_operand o) (type_of_term d) g (lowest-box (right_operand o) (type_of_term d) (right_lowest o h) g))
+  operates o e d (texts is f g) = subst (λ p. Operates p (type_of_term e) (type_of_term d)) (sym is) (joins (type_of_term e) (type_of_term d))
+
+  pub fit-all : (ts : Terms) (rs : List TypeRef) → ArgumentsFit w ts rs → FitAll (types_referred rs) (types_of ts)
+  fit-all no_terms [] h = tt
+  fit-all no_terms (r ∷ rs) h = absurd h
+  fit-all (more_terms t ts) [] h = absurd h
+  fit-all (more_terms t ts) (r ∷ rs) h = (fits-sub (reference_type r) (type_of_term t) h.0.0 h.0.1, fit-all ts rs h.2)
+
+  pub yield-fits : (t : IrType) (e : Term) → is_no_type t ≡ false → Yields w e t → Fits t (type_of_term e)
+  yield-fits t e n (inl i) = impossible (sym n ∙ ap is_no_type i)
+  yield-fits t e n (inr h) = fits-sub t (type_of_term e) h.0 h.1

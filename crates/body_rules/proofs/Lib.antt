@@ -1,0 +1,9 @@
+pub mod Equal
+pub mod Fitting
+pub mod InWorld
+pub mod Lists
+pub mod Locals
+pub mod Mutable
+pub mod RulesGive
+pub mod Standing
+pub mod Topped

@@ -1,0 +1,42 @@
+-- What stands for its type isn't coerced.
+use Rattle.std.proofs.Common.{◌≡◌, Bool, List, [], ◌∷◌, refl, ap}
+use Rattle.std.specs.Prelude.{if◌then◌else◌}
+use Rattle.body_rules.specs.Standing.{Fits, FitAll, types_referred, NoBox}
+use Rattle.sj_core.specs.Terms as core
+use Rattle.sj_desugar.specs.Coercions.{coerced, coerced_arguments}
+use Rattle.sj_names.proofs.Same.{impossible}
+use Rattle.sj_names.specs.declared.references.TypeRef.{TypeRef}
+use Rattle.sj_trees.specs.Types.{reference_type}
+use Rattle.sj_trees.specs.declared.types.IrType.{IrType}
+use Rattle.sj_trees.specs.declared.types.IrType.TheVariants.{Any, Nothing, Undefined, Boolean, Char, Byte, Short, Int, Long, String, Class, Null, Array, NoType}
+
+no_box : (expected own : IrType) → Fits expected own → NoBox expected own
+no_box Char Char f = refl
+no_box expected Char f = impossible f
+no_box expected own f = refl
+
+-- what stands for its type isn't coerced
+pub coerced-same : (expected own : IrType) (e : core.Expression) → Fits expected own → coerced expected own e ≡ e
+coerced-same expected own e f = ap (λ (b : Bool). if b then core.boxed_char e else e) (no_box expected own f)
+
+pub arguments-same : (rs : List TypeRef) (ts : List IrType) (es : List core.Expression) → FitAll (types_referred rs) ts → coerced_arguments rs ts es ≡ es
+arguments-same [] ts es f = refl
+arguments-same (r ∷ rs) [] es f = refl
+arguments-same (r ∷ rs) (t ∷ ts) [] f = refl
+arguments-same (r ∷ rs) (t ∷ ts) (e ∷ es) f = λ i. coerced-same (reference_type r) t e f.0 i ∷ arguments-same rs ts es f.1 i
+
+pub fits-same : (t : IrType) → Fits t t
+fits-same Any = refl
+fits-same Nothing = refl
+fits-same Undefined = refl
+fits-same Boolean = refl
+fits-same Char = refl
+fits-same Byte = refl
+fits-same Short = refl
+fits-same Int = refl
+fits-same Long = refl
+fits-same String = refl
+fits-same (Class c) = refl
+fits-same Null = refl
+fits-same (Array r) = refl
+fits-same NoType = refl

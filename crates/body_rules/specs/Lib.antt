@@ -1,0 +1,5 @@
+pub mod Locals
+pub mod Operators
+pub mod Standing
+pub mod Subtyping
+pub mod Typing

@@ -1,0 +1,39 @@
+-- The operators that are built, and the operands that they take.
+pub use Rattle.typing_rules.specs.Rules.{unary_operand, left_operand, right_operand}
+use Rattle.std.specs.Prelude.{◌≡◌, Bool, true, false, ℤ, pos, ◌≢◌, FitsSigned}
+use Rattle.std.specs.Int.{w32, w64}
+use Rattle.body_rules.specs.Standing.{Fits}
+use Rattle.sj_trees.specs.Term.{Term, int_literal, long_literal}
+use Rattle.sj_trees.specs.declared.operators.BinaryOp.{BinaryOp}
+use Rattle.sj_trees.specs.declared.operators.BinaryOp.TheVariants.{StrictEqual, StrictNotEqual, StringConcatenate, IntDivide, IntRemainder, LongDivide, LongRemainder}
+use Rattle.sj_trees.specs.declared.positions.Position.{Position}
+use Rattle.sj_trees.specs.declared.types.IrType.{IrType}
+
+-- the operators that are built and take two operands of types of their own, but for division
+abbrev pub is_simple : BinaryOp → Bool
+is_simple StrictEqual = false
+is_simple StrictNotEqual = false
+is_simple StringConcatenate = false
+is_simple IntDivide = false
+is_simple IntRemainder = false
+is_simple LongDivide = false
+is_simple LongRemainder = false
+is_simple _ = true
+
+pub data IsDivision : BinaryOp → Type 0 where
+  a_quotient : IsDivision IntDivide
+  a_remainder : IsDivision IntRemainder
+
+pub data IsLongDivision : BinaryOp → Type 0 where
+  a_long_quotient : IsLongDivision LongDivide
+  a_long_remainder : IsLongDivision LongRemainder
+
+-- an operator that takes operands of these types: one of its own types, or texts that are joined
+pub data Operates : BinaryOp → IrType → IrType → Type 0 where
+  of_its_types : (o : BinaryOp) (s t : IrType) → is_simple o ≡ true → Fits (left_operand o) s → Fits (right_operand o) t → Operates o s t
+  joins : (s t : IrType) → Operates StringConcatenate s t
+
+-- a division by a literal other than zero
+pub data DividesBy : BinaryOp → Term → Type 0 where
+  by_int : (o : BinaryOp) → IsDivision o → (p : Position) (z : ℤ) → FitsSigned w32 z → z ≢ pos 0 → DividesBy o (int_literal p z)
+  by_long : (o : BinaryOp) → IsLongDivision o → (p : Position) (z : ℤ) → FitsSigned w64 z → z ≢ pos 0 → DividesBy o (long_literal p z)

@@ -1,0 +1,50 @@
+-- Which types stand where another is expected, as far as the kind of a value tells: the types that tell chars and texts from other values are told apart.
+-- No form makes an object that holds a char yet, so where another type is expected no char stands.
+pub use Rattle.typing_rules.specs.Rules.{call_type}
+use Rattle.std.specs.Prelude.{◌≡◌, Bool, true, false, ◌&&◌, not, List, [], ◌∷◌}
+use Rattle.sj_desugar.specs.Coercions.{is_char}
+use Rattle.sj_names.specs.declared.references.TypeRef.{TypeRef}
+use Rattle.sj_trees.specs.Types.{reference_type}
+use Rattle.sj_trees.specs.declared.types.IrType.{IrType}
+use Rattle.sj_trees.specs.declared.types.IrType.TheVariants.{Nothing, Undefined, Boolean, Char, Byte, Short, Int, Long, String}
+
+-- a tree of the second type may stand where the first is expected, as far as its value's kind tells
+abbrev pub fits : IrType → IrType → Bool
+fits expected Nothing = true
+fits Nothing own = false
+fits Undefined Undefined = true
+fits Undefined own = false
+fits Boolean Boolean = true
+fits Boolean own = false
+fits Char Char = true
+fits Char own = false
+fits Byte Byte = true
+fits Byte own = false
+fits Short Short = true
+fits Short own = false
+fits Int Int = true
+fits Int own = false
+fits Long Long = true
+fits Long own = false
+fits String String = true
+fits String own = false
+fits expected Char = false
+fits expected own = true
+
+abbrev pub Fits : IrType → IrType → Type 0
+Fits expected own = fits expected own ≡ true
+
+-- arguments are as many as the parameters, and stand for them
+abbrev pub FitAll : List IrType → List IrType → Type 0
+FitAll [] [] = Unit {0}
+FitAll (t ∷ ts) (own ∷ owns) = Fits t own × FitAll ts owns
+FitAll _ _ = ⊥
+
+-- the types of these references
+abbrev pub types_referred : List TypeRef → List IrType
+types_referred [] = []
+types_referred (r ∷ rs) = reference_type r ∷ types_referred rs
+
+-- no char stands where another type is expected
+abbrev pub NoBox : IrType → IrType → Type 0
+NoBox expected own = (is_char own && not (is_char expected)) ≡ false

@@ -1,0 +1,33 @@
+-- What is asked of a method whose body is of the forms that are built.
+use Rattle.std.specs.Prelude.{◌≡◌, true, List, [], ◌∷◌, not}
+use Rattle.body_rules.specs.Locals.{HaveValues}
+use Rattle.sj_proper.specs.Once.{DefinesOnce}
+use Rattle.body_rules.specs.Typing.{Scene, IsResult, Typed}
+use Rattle.built_forms.specs.Built.{Usable, yields_boxed}
+use Rattle.sj_names.specs.declared.references.TypeRef.{TypeRef}
+use Rattle.sj_trees.specs.Term.{Term}
+use Rattle.sj_trees.specs.Types.{reference_type}
+use Rattle.sj_trees.specs.declared.classes.MethodDef.{MethodDef}
+use Rattle.sj_trees.specs.declared.classes.ParamDef.{ParamDef}
+use Rattle.sj_world.specs.Known.{Classes}
+use Rattle.typing_rules.specs.Rules.{Yields}
+
+-- the types of parameters are those of the references in the name
+abbrev pub HaveTypes : List ParamDef → List TypeRef → Type 0
+HaveTypes [] [] = Unit {0}
+HaveTypes (d ∷ ds) (r ∷ rs) = (d.tpe ≡ reference_type r) × HaveTypes ds rs
+HaveTypes _ _ = ⊥
+
+-- what the body of a method stands in
+abbrev pub scene_of : MethodDef → Scene
+scene_of d = record { space = d.namespace; locals = d.params; labels = [] }
+
+-- the body keeps the rules with the parameters in scope and yields the result as what it is; each local is defined once; there are values of each
+-- parameter's type, and of the result's unless it is none
+pub record KeepsRules (w : Classes) (has : Usable) (d : MethodDef) (e : Term) : Type 0 where
+  pub typed : Typed w has (scene_of d) e
+  pub yields : Yields w e d.result
+  pub unboxed : not (yields_boxed d.result e) ≡ true
+  pub result : IsResult d.result
+  pub values : HaveValues d.params
+  pub once : DefinesOnce d e
