@@ -1,0 +1,4 @@
+pub mod Tops
+pub mod Laws
+pub mod Bridges
+pub mod Kept
