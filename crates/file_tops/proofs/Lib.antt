@@ -1,3 +1,2 @@
 pub mod Run
-pub mod Bridge
 pub mod Standing

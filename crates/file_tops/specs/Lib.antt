@@ -1,4 +1,3 @@
 pub mod Tops
 pub mod Laws
-pub mod Bridges
 pub mod Kept

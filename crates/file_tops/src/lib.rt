@@ -4,7 +4,6 @@
 ghost use Rattle.std.specs.Prelude.{Bool};
 ghost use Rattle.js_tree.specs.Terms.{Name};
 ghost use Rattle.file_tops.specs.Kept.{StandsOn, OwnersFound};
-ghost use Rattle.file_tops.specs.Bridges.{BridgesHandOn, LookupSearches};
 ghost use Rattle.file_tops.specs.Laws.{DeclarationsRun, FilesDeclare, OthersStay, ClassesExtend};
 
 /// Declarations come to one state, at every bound and without a line.
@@ -25,16 +24,6 @@ pub fn others_stay()
 /// A class that extends another holds itself and, behind it, what the other's name holds.
 pub fn classes_extend()
     ensures { ClassesExtend }
-{}
-
-/// A bridge costs one unit and hands its call on.
-pub fn bridges_hand_on()
-    ensures { BridgesHandOn }
-{}
-
-/// Property lookup along classes is a search.
-pub fn lookup_searches()
-    ensures { LookupSearches }
 {}
 
 /// The environment of the tops stands on through what emitted code does to a state.

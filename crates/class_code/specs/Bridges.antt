@@ -1,19 +1,14 @@
 -- A method of a class that hands its call on to a function at the top.
 use Rattle.std.specs.Prelude.{◌≡◌, ℕ, suc, Bool, true, false, List, [], ◌∷◌, length, Option, Some, None, is_some, map, if◌then◌else◌}
 use Rattle.js_tree.specs.Names.{is_same_text}
-use Rattle.js_tree.specs.Terms.{Name, Expression, Expressions, no_expressions, expression, name_use, this_use, call_of, Statements, no_statements, statement, return_of}
-use Rattle.outcomes.specs.Outcome.{Out}
+use Rattle.js_tree.specs.Terms.{Name, expression, this_use, call_of, no_statements, statement, return_of}
 use Rattle.js_mean.specs.Classes.{method_code}
 use Rattle.js_mean.specs.Objects.{method_on}
+use Rattle.helper_rules.specs.Words.{uses}
 use Rattle.js_mean.specs.Proper.{is_among, are_distinct}
 use Rattle.js_mean.specs.Files.{owner}
-use Rattle.js_mean.specs.States.{Value, function, method, ClassLink, Cell, holds, State, Program}
+use Rattle.js_mean.specs.States.{Value, function, method, ClassLink, holds, State, Program}
 use Rattle.js_mean.specs.Meaning.{Code, below, top_cell, code_of, code_call, method_call}
-
--- the names as arguments
-abbrev pub uses : List Name → Expressions
-uses [] = no_expressions
-uses (x ∷ xs) = expression (name_use x) (uses xs)
 
 -- `return f(this, x, ..);`
 abbrev pub bridge : Name → List Name → Code

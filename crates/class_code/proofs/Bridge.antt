@@ -1,19 +1,19 @@
 -- Bridges hand calls on, and property lookup is a search.
-use Rattle.std.proofs.Common.{◌≡◌, ℕ, zero, suc, Bool, true, false, List, [], ◌∷◌, ◌++◌, length, map, Option, Some, None, refl, sym, ap, ◌∙◌, subst, cond, ◌||◌, ◌&&◌, append-nil, arith}
+use Rattle.std.proofs.Common.{◌≡◌, ℕ, suc, Bool, true, false, List, [], ◌∷◌, ◌++◌, length, map, Some, refl, sym, ap, ◌∙◌, cond, ◌||◌, ◌&&◌, append-nil, arith}
 use Rattle.std.specs.Prelude.{is_some, not}
-use Rattle.std.specs.List.{list_any}
 use Rattle.std.proofs.lemmas.Slice.Eq.{bytes_eq-Decides}
 use Rattle.js_tree.specs.Names.{is_same_text}
-use Rattle.js_tree.specs.Terms.{Name, Expression, Expressions, no_expressions, expression, name_use, this_use, call_of, Statements, no_statements, statement, return_of}
-use Rattle.outcomes.specs.Outcome.{Lines, End, Done, Going, Wrong, Out, done, wrong, after, then_do}
+use Rattle.js_tree.specs.Terms.{Name, Expression, Expressions, expression, this_use, call_of, Statements, no_statements, statement, return_of}
+use Rattle.outcomes.specs.Outcome.{Lines, End, Done, Going, Wrong, Out, done, after, then_do}
 use Rattle.outcomes.proofs.Sequence.{then_do-associative}
 use Rattle.js_mean.specs.Classes.{method_code}
 use Rattle.js_mean.specs.Objects.{method_on}
 use Rattle.js_mean.specs.Proper.{is_among, are_distinct}
 use Rattle.js_mean.specs.Files.{owner}
-use Rattle.js_mean.specs.States.{Value, undefined, function, method, class, ClassLink, This, this_is, Cell, absent, unset, holds, Scope, State, Program, Evaluation, ExpressionEnd, gives, throws, StatementEnd, ends, normally, returns, thrown_with, with_value, in_statement, next_statement}
-use Rattle.js_mean.specs.Meaning.{Low, Code, below, binding, bind_parameters, class_bindings, member_scope, or_outer, cell_value, top_cell, cell_of, name_value, in_order, arguments, call, evaluate, execute, execute_all, code_of, code_call, method_call, returned}
-use Rattle.file_tops.specs.Bridges.{uses, bridge, IsTopFunction, BridgesHandOn, first_with, IsMethodOf, LookupSearches}
+use Rattle.js_mean.specs.States.{Value, undefined, function, method, class, ClassLink, this_is, Cell, absent, holds, Scope, State, Program, Evaluation, ExpressionEnd, gives, throws, StatementEnd, ends, returns, with_value, in_statement, next_statement}
+use Rattle.js_mean.specs.Meaning.{Low, below, binding, bind_parameters, class_bindings, member_scope, or_outer, cell_value, top_cell, name_value, in_order, arguments, call, evaluate, execute_all, code_of, code_call, method_call, returned}
+use Rattle.helper_rules.specs.Words.{uses}
+use Rattle.class_code.specs.Bridges.{bridge, IsTopFunction, BridgesHandOn, first_with, IsMethodOf, LookupSearches}
 
 same_is : (a b : Name) → is_same_text a b ≡ true → a ≡ b
 same_is a b = (bytes_eq-Decides a b).0
