@@ -4,7 +4,7 @@ ghost use Rattle.std.specs.List.{All, list_any};
 ghost use Rattle.js_tree.specs.Rules.{IsItem, IsPiece};
 ghost use Rattle.js_tree.specs.Spelling.{Spells};
 ghost use Rattle.js_tree.specs.Views.{item_view, module_view, piece_view};
-ghost use Rattle.sj_calls.specs.Files as files;
+ghost use Rattle.sj_proper.specs.Emitted as emitted;
 ghost use Rattle.sj_proper.specs.Emitted.{call_item_of};
 ghost use Rattle.sj_split.specs.Modules.{is_among};
 ghost use Rattle.sj_split.specs.Orders.{is_same};
@@ -149,7 +149,7 @@ fn call_item(alloc: Global, entry: &EntryPoint) -> Result<Rc<JsItem>, NoMemory>
 
 // The member that an initializer calls.
 fn initializer_member(alloc: Global, entry: &EntryPoint) -> Result<Member, NoMemory>
-    ensures { IfOk result (λ m. m ≡ files.initializer_member entry.now) }
+    ensures { IfOk result (λ m. m ≡ emitted.initializer_member entry.now) }
 {
     let params = Shared::from_vec(Vec::new(alloc))?;
     Ok(Member {
