@@ -334,7 +334,7 @@ kind_is s boxes (method ls y) Text e = cc
 pub one_kind : (s : State) (boxes : List ClassLink) (v : Value) (j k : Kind) → is_of s boxes j v ≡ true → is_of s boxes k v ≡ true → j ≡ k
 one_kind s boxes v j k e f = let t : Some j ≡ Some k = sym (kind_is s boxes v j e) ∙ kind_is s boxes v k f in cc
 
-nothing_in : {A : Type 0} {X : Type 0} {x : X} → Contains [] x → A
+pub nothing_in : {A : Type 0} {X : Type 0} {x : X} → Contains [] x → A
 nothing_in h = let p : h.0 < 0 = h.1 in absurd (omega arith)
 
 told_index : (k : Kind) → is_told k ≡ true → (i : ℕ) × (slice_get told_kinds i ≡ Some k)

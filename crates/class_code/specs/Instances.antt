@@ -1,21 +1,15 @@
 -- The test of a class gives what the world says of instances.
-use Rattle.std.specs.Prelude.{◌≡◌, ◌↔◌, ℕ, ℤ, Bool, true, false, List, [], ◌∷◌, Option}
+use Rattle.std.specs.Prelude.{◌≡◌, ◌↔◌, ℕ, ℤ, Bool, true, false, List, Option}
 use Rattle.js_tree.specs.Terms.{Name}
 use Rattle.sj_world.specs.Known.{Classes, is_hijacked}
-use Rattle.sj_world.specs.Ancestors.{IsAncestor}
 use Rattle.sj_world.specs.Calls.{IsInstance}
 use Rattle.js_mean.specs.States.{Value, ClassLink, State}
 use Rattle.helper_rules.specs.declared.kinds.Kind.{Kind}
 use Rattle.helper_rules.specs.declared.kinds.Kind.TheVariants.{Char, Byte, Short}
 use Rattle.helper_rules.specs.Words.{kind_class, worded_kinds}
+use Rattle.piece_rules.specs.Classes.{AreInstances}
 use Rattle.class_code.specs.Kinds.{is_of}
 use Rattle.class_code.specs.Tests.{class_told}
-
--- of these kinds, those whose values are instances of the class
-pub data AreInstances (w : Classes) (c : Name) : List Kind → List Kind → Type 0 where
-  none_left : AreInstances w c [] []
-  instances : (k : Kind) (ks ts : List Kind) → IsAncestor w (kind_class k) c → AreInstances w c ks ts → AreInstances w c (k ∷ ks) (k ∷ ts)
-  others : (k : Kind) (ks ts : List Kind) → (IsAncestor w (kind_class k) c → ⊥) → AreInstances w c ks ts → AreInstances w c (k ∷ ks) ts
 
 abbrev pub is_worded : Kind → Bool
 is_worded Char = false
