@@ -161,8 +161,8 @@ module _ (w : Classes) (facts : List Fact) (es : List MethodEntry) (are : AreEnt
 pub lookup_finds_bridge : LookupFindsBridge
 lookup_finds_bridge w facts es p link_of c chain m owner placed call =
     runs w facts es placed.are placed.spelled p link_of m call.spelled call.direct owner chain placed.stand
-      (λ d a. target_of_entry w facts es placed.are placed.spelled p link_of m call.spelled call.direct owner d)
-      (search_finds_target w facts es placed.are placed.spelled c chain placed.is_chain m owner call.spelled call.direct call.live call.wanted call.target)
+    (λ d a. target_of_entry w facts es placed.are placed.spelled p link_of m call.spelled call.direct owner d)
+    (search_finds_target w facts es placed.are placed.spelled c chain placed.is_chain m owner call.spelled call.direct call.live call.wanted call.target)
 
 function_is_no_parameter : (owner : Name) (m : MethodName) (k : ℕ) → is_same_text (public_function owner m) (parameter k) ≡ false
 function_is_no_parameter owner m k = refl

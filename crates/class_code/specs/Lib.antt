@@ -6,3 +6,4 @@ pub mod Objects
 pub mod Shorts
 pub mod Small
 pub mod Tests
+pub mod Worked

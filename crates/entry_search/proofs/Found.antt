@@ -139,9 +139,9 @@ module _ (w : Classes) (facts : List Fact) (es : List MethodEntry) (are : AreEnt
     search : (c : Name) (chain : List Name) → IsChainTo w c chain → IsLive w facts c → IsWanted w facts c m → IsReachedTarget w facts c m owner → found es chain m ≡ Some (public_member owner m)
     search c chain (ends _ none) live wanted t = step c [] live wanted t (λ h. let s : None ≡ Some h.superclass = sym none ∙ h.is_next in cc)
     search c chain (goes _ d ds next rest) live wanted t = step c ds live wanted t (λ h.
-            let s : Some h.superclass ≡ Some d = sym h.is_next ∙ next in
-            let e : h.superclass ≡ d = cc in
-            search d ds rest (record { made = live.made; is_made = live.is_made; on_chain = on c d live.on_chain next }) (subst (λ (x : Name). IsWanted w facts x m) e h.wanted) (record { is_target = subst (λ (x : Name). IsTarget w x m owner) e h.is_target; reached = t.reached }))
+        let s : Some h.superclass ≡ Some d = sym h.is_next ∙ next in
+        let e : h.superclass ≡ d = cc in
+        search d ds rest (record { made = live.made; is_made = live.is_made; on_chain = on c d live.on_chain next }) (subst (λ (x : Name). IsWanted w facts x m) e h.wanted) (record { is_target = subst (λ (x : Name). IsTarget w x m owner) e h.is_target; reached = t.reached }))
 
 pub search_finds_target : SearchFindsTarget
 search_finds_target w facts es are spelled c chain is_chain m owner m_is m_direct live wanted t = search w facts es are spelled m m_is m_direct owner c chain is_chain live wanted t

@@ -1,5 +1,5 @@
 -- A name by which a body calls reflectively has no result.
-use Rattle.std.proofs.Common.{◌≡◌, ◌<◌, arith, List, [], ◌∷◌, Contains, Option, Some, None, refl, subst, ◌⊎◌, ⊎_elim, if◌then◌else◌}
+use Rattle.std.proofs.Common.{◌≡◌, ◌<◌, arith, List, [], ◌∷◌, Contains, Option, Some, None, refl, subst, ⊎_elim, if◌then◌else◌}
 use Rattle.std.specs.Prelude.{is_none}
 use Rattle.std.proofs.lemmas.List.Elements.{Contains-append_cases, Contains-push_cases}
 use Rattle.entry_rules.specs.Entries.{IsReflective}

@@ -1,16 +1,15 @@
 -- Declarations run to one state.
-use Rattle.std.proofs.Common.{◌≡◌, ℕ, Bool, true, false, List, [], ◌∷◌, ◌++◌, Option, Some, None, ℤ, refl, sym, ap, ◌∙◌, subst, cond, ◌||◌, ◌&&◌}
+use Rattle.std.proofs.Common.{◌≡◌, ℕ, Bool, true, false, List, [], ◌∷◌, ◌++◌, Option, Some, None, ℤ, refl, sym, ap, ◌∙◌, cond, ◌||◌}
 use Rattle.std.proofs.lemmas.Slice.Eq.{bytes_eq-Decides}
 use Rattle.int_arithmetic.specs.BigInts.{is_in_range}
 use Rattle.int_arithmetic.specs.Numbers.{is_exact}
 use Rattle.js_tree.specs.Names.{is_same_text}
-use Rattle.js_tree.specs.Terms.{Name, Member, Expression, Expressions, expression, no_expressions, null_literal, boolean_literal, undefined_literal, number_literal, big_literal, text_literal, name_use, this_use, property_of, index_of, call_of, method_call_of, new_of, new_array_of, list_of, binary_of, unary_of, conditional_of, host_call, host_call_of_two, Property, Item, const_item, object_item, let_item, expression_item, function_item, class_item, subclass_item}
+use Rattle.js_tree.specs.Terms.{Name, Member, Expression, null_literal, boolean_literal, undefined_literal, number_literal, big_literal, text_literal, name_use, this_use, property_of, index_of, call_of, method_call_of, new_of, new_array_of, list_of, binary_of, unary_of, conditional_of, host_call, host_call_of_two, Property, Item, const_item, object_item, let_item, expression_item, function_item, class_item, subclass_item}
 use Rattle.outcomes.specs.Outcome.{Out, done, wrong, then_do}
-use Rattle.outcomes.proofs.Sequence.{then_do-associative}
 use Rattle.js_mean.specs.Objects.{with_property, no_properties, allocated, next_address}
 use Rattle.js_mean.specs.States.{Value, undefined, object, class, function, method, number, big_int, big_int, text, boolean, null, ClassLink, Cell, absent, unset, holds, Scope, State, Program, ExpressionEnd, gives, with_value}
 use Rattle.js_mean.specs.Files.{module_among, items_in, owner}
-use Rattle.js_mean.specs.Meaning.{Low, below, binding, cell_of, cell_value, name_value, top_cell, top_scope, evaluate, properties, object_made, extends, starts, run_item, run_items, run_files, literal, literal_of_big}
+use Rattle.js_mean.specs.Meaning.{Low, below, binding, cell_of, cell_value, top_cell, top_scope, evaluate, properties, object_made, extends, starts, run_item, run_items, run_files, literal, literal_of_big}
 use Rattle.file_tops.specs.Tops.{literal_value, literal_properties, with_each, started, link, classes_in, after_item, after_items, after_files, declares_name, start_name}
 use Rattle.file_tops.specs.Laws.{DeclarationsRun, FilesDeclare, OthersStay, Extends, IsSettled, ClassesExtend}
 

@@ -1,18 +1,14 @@
 -- The environment stands on.
-use Rattle.std.proofs.Common.{◌≡◌, ℕ, zero, suc, ◌+◌, ◌<◌, ◌≤◌, Bool, true, false, List, [], ◌∷◌, ◌++◌, length, slice_get, Option, Some, None, refl, sym, ap, ◌∙◌, subst, cond, arith}
+use Rattle.std.proofs.Common.{◌≡◌, ℕ, zero, suc, ◌<◌, Bool, true, false, List, [], ◌∷◌, ◌++◌, length, slice_get, Option, Some, None, refl, ap, ◌∙◌, cond, arith}
 use Rattle.std.proofs.lemmas.Slice.Eq.{bytes_eq-Decides}
 use Rattle.std.proofs.lemmas.Option.{slice_get_within}
 use Rattle.std.specs.Prelude.{set}
 use Rattle.js_tree.specs.Names.{is_same_text}
 use Rattle.js_tree.specs.Terms.{Name, Module}
-use Rattle.js_tree.specs.declared.items.JsImport.{JsImport}
-use Rattle.js_mean.specs.Objects.{allocated}
-use Rattle.js_mean.specs.Files.{module_among, imports_in, exports_in, imported_from, origin, owner}
+use Rattle.js_mean.specs.Files.{module_among, imports_in, exports_in, imported_from, origin}
 use Rattle.js_mean.specs.Proper.{is_among}
-use Rattle.js_mean.specs.States.{Value, ClassLink, Stored, plain, Cell, holds, State, Program}
-use Rattle.js_mean.specs.Meaning.{binding}
-use Rattle.file_tops.specs.Tops.{started}
-use Rattle.file_tops.specs.Kept.{Stands, StandsOn, OwnersFound}
+use Rattle.js_mean.specs.States.{Stored, plain, Program}
+use Rattle.file_tops.specs.Kept.{StandsOn, OwnersFound}
 use Rattle.file_tops.proofs.Run.{start_elsewhere}
 
 same_is : (a b : Name) → is_same_text a b ≡ true → a ≡ b

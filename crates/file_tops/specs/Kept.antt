@@ -1,12 +1,10 @@
 -- What stays of the environment that the tops of files come to, and where names stand across files.
-use Rattle.std.specs.Prelude.{◌≡◌, ℕ, ◌≤◌, Bool, true, false, List, [], ◌∷◌, length, slice_get, Option, Some, None}
-use Rattle.js_tree.specs.Names.{is_same_text}
-use Rattle.js_tree.specs.Terms.{Name, Item, let_item, Module}
+use Rattle.std.specs.Prelude.{◌≡◌, ℕ, ◌≤◌, Bool, true, false, List, length, slice_get, Option, Some, None}
+use Rattle.js_tree.specs.Terms.{Name, Module}
 use Rattle.js_mean.specs.Objects.{allocated, at_address}
-use Rattle.js_mean.specs.Files.{module_among, imports_in, exports_in, items_in, imported_from, owner}
+use Rattle.js_mean.specs.Files.{module_among, imports_in, exports_in, imported_from, owner}
 use Rattle.js_mean.specs.Proper.{is_among}
-use Rattle.js_mean.specs.States.{Value, ClassLink, Stored, plain, Cell, holds, State, Program}
-use Rattle.js_mean.specs.Meaning.{binding}
+use Rattle.js_mean.specs.States.{Value, ClassLink, Stored, State, Program}
 use Rattle.file_tops.specs.Tops.{started}
 
 -- the environment still stands: of the names at the tops only variables have changed, and what was on the heap stands there as it was.

@@ -1,13 +1,11 @@
 -- Laws of the tops of files.
-use Rattle.std.specs.Prelude.{◌≡◌, ℕ, Bool, true, false, List, [], ◌∷◌, ◌++◌, Option, Some, None}
+use Rattle.std.specs.Prelude.{◌≡◌, ℕ, true, false, List, ◌∷◌, ◌++◌, Some}
 use Rattle.js_tree.specs.Names.{is_same_text}
 use Rattle.js_tree.specs.Terms.{Name, Item, Member, subclass_item}
-use Rattle.outcomes.specs.Outcome.{Out, done, then_do}
-use Rattle.js_mean.specs.Objects.{no_properties, next_address}
-use Rattle.js_mean.specs.States.{Value, undefined, object, class, ClassLink, Cell, holds, State, Program, ExpressionEnd, gives, with_value}
+use Rattle.js_mean.specs.States.{class, ClassLink, holds, State, Program}
 use Rattle.js_mean.specs.Files.{owner}
 use Rattle.js_mean.specs.Meaning.{cell_of, top_scope, run_items, run_files}
-use Rattle.file_tops.specs.Tops.{after_item, after_items, after_files, declares_name, start_name, start_among, classes_in, link}
+use Rattle.file_tops.specs.Tops.{after_items, after_files, start_name, classes_in, link}
 
 -- declarations come to one state, at every bound and without a line, and what stands behind them runs in it
 abbrev pub DeclarationsRun : Type 0

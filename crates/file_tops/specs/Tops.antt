@@ -1,14 +1,13 @@
 -- What the declarations at the tops of files come to, before anything is called.
-use Rattle.std.specs.Prelude.{◌≡◌, ℕ, Bool, true, false, ◌||◌, ◌&&◌, List, [], ◌∷◌, ◌++◌, Option, Some, None, if◌then◌else◌}
+use Rattle.std.specs.Prelude.{Bool, true, false, ◌||◌, ◌&&◌, List, [], ◌∷◌, Option, Some, None, if◌then◌else◌}
 use Rattle.int_arithmetic.specs.BigInts.{is_in_range}
 use Rattle.int_arithmetic.specs.Numbers.{is_exact}
 use Rattle.js_tree.specs.Names.{is_same_text}
 use Rattle.js_tree.specs.Terms.{Name, Expression, null_literal, boolean_literal, undefined_literal, number_literal, big_literal, text_literal, Property, Item, const_item, object_item, let_item, expression_item, function_item, class_item, subclass_item}
-use Rattle.outcomes.specs.Outcome.{done}
 use Rattle.js_mean.specs.Objects.{with_property, no_properties, allocated, next_address}
-use Rattle.js_mean.specs.States.{Value, undefined, null, boolean, number, big_int, text, object, class, ClassLink, Cell, absent, unset, holds, State, Program, gives}
+use Rattle.js_mean.specs.States.{Value, undefined, null, boolean, number, big_int, text, object, class, ClassLink, Cell, holds, State, Program}
 use Rattle.js_mean.specs.Files.{module_among, items_in}
-use Rattle.js_mean.specs.Meaning.{binding, cell_of, top_scope, run_item, run_items, run_files}
+use Rattle.js_mean.specs.Meaning.{binding, cell_of, top_scope}
 
 -- the value of a literal
 abbrev pub literal_value : Expression → Option Value
