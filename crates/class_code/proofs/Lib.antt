@@ -1,9 +1,4 @@
 pub mod Bridge
-pub mod Instanced
 pub mod Making
-pub mod Marked
 pub mod Objects
 pub mod Parameters
-pub mod Shortly
-pub mod Smallest
-pub mod Telling

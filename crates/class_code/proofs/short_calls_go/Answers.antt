@@ -1,5 +1,0 @@
-use Rattle.class_code.proofs.Shortly as laws
-use Rattle.class_code.proofs.short_calls_go.Goals as goal
-
-pub returns : goal.returns
-returns c = laws.short_calls_go

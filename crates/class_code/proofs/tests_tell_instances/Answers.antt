@@ -1,5 +1,0 @@
-use Rattle.class_code.proofs.Instanced as laws
-use Rattle.class_code.proofs.tests_tell_instances.Goals as goal
-
-pub returns : goal.returns
-returns c = laws.tests_tell_instances

@@ -1,0 +1,5 @@
+pub mod Instanced
+pub mod Marked
+pub mod Shortly
+pub mod Smallest
+pub mod Telling
