@@ -8,7 +8,7 @@ CRATES = Path(__file__).resolve().parent.parent / "crates"
 CLAIMS = [
     ("sjslink::run, agrees", ["sjslink.Headline"]),
     ("sjslink::run, whole and front", ["sjslink.Output"]),
-    ("judged_files_agree", ["sj_judged.Judged", "sj_agree.Agrees", "sj_calls.Files", "sj_sound.Linked", "sj_proper.Program", "outcomes.Agreement", "ir_mean.Shows", "js_mean.Shows"]),
+    ("judged_files_agree", ["sj_judged.Judged", "sj_agree.Agrees", "sj_calls.Files", "sj_sound.Linked", "sj_judged.Programs", "outcomes.Agreement", "ir_mean.Shows", "js_mean.Shows"]),
     ("accepted_files_agree", ["accepted_folders.Laws"]),
     ("sjsir::run", ["sjsir.Output"]),
     ("read_class", ["sj_format.Answers"]),
