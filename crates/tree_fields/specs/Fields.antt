@@ -36,7 +36,7 @@ pub data FieldTerm : Type 0 where
   cases_field : Cases → FieldTerm
 
 -- seven fields, of which the first is the position
-abbrev seven : (p : Position) (a b c d e f : FieldTerm) → List FieldTerm
+abbrev pub seven : (p : Position) (a b c d e f : FieldTerm) → List FieldTerm
 seven p a b c d e f = position_field p ∷ a ∷ b ∷ c ∷ d ∷ e ∷ f ∷ []
 
 -- the fields of each form, with no field where there are fewer than seven

@@ -2,7 +2,7 @@
 ghost use Rattle.std.specs.Prelude.{◌≡◌, ◌<◌, map};
 ghost use Rattle.sj_trees.specs.View.{view};
 ghost use Rattle.tree_parts.specs.Sizes.{size};
-ghost use Rattle.tree_fields.specs.Fields.{fields_of, field_seen, size_of_fields};
+ghost use Rattle.tree_fields.specs.Fields.{fields_of, field_seen, no_field, seven, size_of_fields};
 
 use sj_names::{ArrayRef, MethodName, Namespace};
 use sj_trees::{BinaryOp, IrType, MatchCase, Position, Tree, UnaryOp};
@@ -42,374 +42,295 @@ pub fn fields_in(tree: &Tree) -> [Field<'_>; 7]
     ensures smaller { size_of_fields (map field_seen result) < size (view tree.now) }
 {
     match tree {
-        Tree::VarDef(position, name, tpe, mark, value) => [
-            Field::Position(*position),
+        Tree::VarDef(position, name, tpe, mark, value) => four(
+            *position,
             Field::Name(name.text()),
             Field::Type(tpe),
             Field::Mark(*mark),
             Field::Tree(value),
-            Field::None,
-            Field::None,
-        ],
-        Tree::Skip(position) => [
-            Field::Position(*position),
-            Field::None,
-            Field::None,
-            Field::None,
-            Field::None,
-            Field::None,
-            Field::None,
-        ],
-        Tree::Block(position, trees) => [
-            Field::Position(*position),
-            Field::Trees(trees),
-            Field::None,
-            Field::None,
-            Field::None,
-            Field::None,
-            Field::None,
-        ],
-        Tree::Labeled(position, label, tpe, body) => [
-            Field::Position(*position),
+        ),
+        Tree::Skip(position) => alone(*position),
+        Tree::Block(position, trees) => one(*position, Field::Trees(trees)),
+        Tree::Labeled(position, label, tpe, body) => three(
+            *position,
             Field::Name(label.text()),
             Field::Type(tpe),
             Field::Tree(body),
-            Field::None,
-            Field::None,
-            Field::None,
-        ],
-        Tree::Assign(position, target, value) => [
-            Field::Position(*position),
+        ),
+        Tree::Assign(position, target, value) => two(
+            *position,
             Field::Tree(target),
             Field::Tree(value),
-            Field::None,
-            Field::None,
-            Field::None,
-            Field::None,
-        ],
-        Tree::Return(position, value, label) => [
-            Field::Position(*position),
+        ),
+        Tree::Return(position, value, label) => two(
+            *position,
             Field::Tree(value),
             Field::Name(label.text()),
-            Field::None,
-            Field::None,
-            Field::None,
-            Field::None,
-        ],
-        Tree::If(position, condition, consequent, alternative, tpe) => [
-            Field::Position(*position),
+        ),
+        Tree::If(position, condition, consequent, alternative, tpe) => four(
+            *position,
             Field::Tree(condition),
             Field::Tree(consequent),
             Field::Tree(alternative),
             Field::Type(tpe),
-            Field::None,
-            Field::None,
-        ],
-        Tree::While(position, condition, body) => [
-            Field::Position(*position),
+        ),
+        Tree::While(position, condition, body) => two(
+            *position,
             Field::Tree(condition),
             Field::Tree(body),
-            Field::None,
-            Field::None,
-            Field::None,
-            Field::None,
-        ],
-        Tree::DoWhile(position, body, condition) => [
-            Field::Position(*position),
+        ),
+        Tree::DoWhile(position, body, condition) => two(
+            *position,
             Field::Tree(body),
             Field::Tree(condition),
-            Field::None,
-            Field::None,
-            Field::None,
-            Field::None,
-        ],
-        Tree::TryCatch(position, block, name, handler, tpe) => [
-            Field::Position(*position),
+        ),
+        Tree::TryCatch(position, block, name, handler, tpe) => four(
+            *position,
             Field::Tree(block),
             Field::Name(name.text()),
             Field::Tree(handler),
             Field::Type(tpe),
-            Field::None,
-            Field::None,
-        ],
-        Tree::TryFinally(position, block, finalizer) => [
-            Field::Position(*position),
+        ),
+        Tree::TryFinally(position, block, finalizer) => two(
+            *position,
             Field::Tree(block),
             Field::Tree(finalizer),
-            Field::None,
-            Field::None,
-            Field::None,
-            Field::None,
-        ],
-        Tree::Throw(position, value) => [
-            Field::Position(*position),
-            Field::Tree(value),
-            Field::None,
-            Field::None,
-            Field::None,
-            Field::None,
-            Field::None,
-        ],
-        Tree::Match(position, selector, cases, default, tpe) => [
-            Field::Position(*position),
+        ),
+        Tree::Throw(position, value) => one(*position, Field::Tree(value)),
+        Tree::Match(position, selector, cases, default, tpe) => four(
+            *position,
             Field::Tree(selector),
             Field::Cases(cases),
             Field::Tree(default),
             Field::Type(tpe),
-            Field::None,
-            Field::None,
-        ],
-        Tree::New(position, class, method, arguments) => [
-            Field::Position(*position),
+        ),
+        Tree::New(position, class, method, arguments) => three(
+            *position,
             Field::Name(class.text()),
             Field::Method(method),
             Field::Trees(arguments),
-            Field::None,
-            Field::None,
-            Field::None,
-        ],
-        Tree::LoadModule(position, class) => [
-            Field::Position(*position),
-            Field::Name(class.text()),
-            Field::None,
-            Field::None,
-            Field::None,
-            Field::None,
-            Field::None,
-        ],
-        Tree::StoreModule(position, class, value) => [
-            Field::Position(*position),
+        ),
+        Tree::LoadModule(position, class) => one(*position, Field::Name(class.text())),
+        Tree::StoreModule(position, class, value) => two(
+            *position,
             Field::Name(class.text()),
             Field::Tree(value),
-            Field::None,
-            Field::None,
-            Field::None,
-            Field::None,
-        ],
-        Tree::Select(position, qualifier, class, field, tpe) => [
-            Field::Position(*position),
+        ),
+        Tree::Select(position, qualifier, class, field, tpe) => four(
+            *position,
             Field::Tree(qualifier),
             Field::Name(class.text()),
             Field::Name(field.text()),
             Field::Type(tpe),
-            Field::None,
-            Field::None,
-        ],
-        Tree::SelectStatic(position, class, field, tpe) => [
-            Field::Position(*position),
+        ),
+        Tree::SelectStatic(position, class, field, tpe) => three(
+            *position,
             Field::Name(class.text()),
             Field::Name(field.text()),
             Field::Type(tpe),
-            Field::None,
-            Field::None,
-            Field::None,
-        ],
-        Tree::Apply(position, receiver, method, arguments, tpe) => [
-            Field::Position(*position),
+        ),
+        Tree::Apply(position, receiver, method, arguments, tpe) => four(
+            *position,
             Field::Tree(receiver),
             Field::Method(method),
             Field::Trees(arguments),
             Field::Type(tpe),
-            Field::None,
-            Field::None,
-        ],
-        Tree::ApplyStatically(position, receiver, class, namespace, method, arguments, tpe) => [
-            Field::Position(*position),
+        ),
+        Tree::ApplyStatically(position, receiver, class, namespace, method, arguments, tpe) => six(
+            *position,
             Field::Tree(receiver),
             Field::Name(class.text()),
             Field::Namespace(*namespace),
             Field::Method(method),
             Field::Trees(arguments),
             Field::Type(tpe),
-        ],
-        Tree::ApplyStatic(position, class, namespace, method, arguments, tpe) => [
-            Field::Position(*position),
+        ),
+        Tree::ApplyStatic(position, class, namespace, method, arguments, tpe) => five(
+            *position,
             Field::Name(class.text()),
             Field::Namespace(*namespace),
             Field::Method(method),
             Field::Trees(arguments),
             Field::Type(tpe),
-            Field::None,
-        ],
-        Tree::UnaryOp(position, operator, operand) => [
-            Field::Position(*position),
+        ),
+        Tree::UnaryOp(position, operator, operand) => two(
+            *position,
             Field::Unary(*operator),
             Field::Tree(operand),
-            Field::None,
-            Field::None,
-            Field::None,
-            Field::None,
-        ],
-        Tree::BinaryOp(position, operator, left, right) => [
-            Field::Position(*position),
+        ),
+        Tree::BinaryOp(position, operator, left, right) => three(
+            *position,
             Field::Binary(*operator),
             Field::Tree(left),
             Field::Tree(right),
-            Field::None,
-            Field::None,
-            Field::None,
-        ],
-        Tree::NewArray(position, array, length) => [
-            Field::Position(*position),
+        ),
+        Tree::NewArray(position, array, length) => two(
+            *position,
             Field::Array(array),
             Field::Tree(length),
-            Field::None,
-            Field::None,
-            Field::None,
-            Field::None,
-        ],
-        Tree::ArrayValue(position, array, items) => [
-            Field::Position(*position),
+        ),
+        Tree::ArrayValue(position, array, items) => two(
+            *position,
             Field::Array(array),
             Field::Trees(items),
-            Field::None,
-            Field::None,
-            Field::None,
-            Field::None,
-        ],
-        Tree::ArrayLength(position, array) => [
-            Field::Position(*position),
-            Field::Tree(array),
-            Field::None,
-            Field::None,
-            Field::None,
-            Field::None,
-            Field::None,
-        ],
-        Tree::ArraySelect(position, array, index, tpe) => [
-            Field::Position(*position),
+        ),
+        Tree::ArrayLength(position, array) => one(*position, Field::Tree(array)),
+        Tree::ArraySelect(position, array, index, tpe) => three(
+            *position,
             Field::Tree(array),
             Field::Tree(index),
             Field::Type(tpe),
-            Field::None,
-            Field::None,
-            Field::None,
-        ],
-        Tree::IsInstanceOf(position, value, tpe) => [
-            Field::Position(*position),
+        ),
+        Tree::IsInstanceOf(position, value, tpe) => two(
+            *position,
             Field::Tree(value),
             Field::Type(tpe),
-            Field::None,
-            Field::None,
-            Field::None,
-            Field::None,
-        ],
-        Tree::AsInstanceOf(position, value, tpe) => [
-            Field::Position(*position),
+        ),
+        Tree::AsInstanceOf(position, value, tpe) => two(
+            *position,
             Field::Tree(value),
             Field::Type(tpe),
-            Field::None,
-            Field::None,
-            Field::None,
-            Field::None,
-        ],
-        Tree::Undefined(position) => [
-            Field::Position(*position),
-            Field::None,
-            Field::None,
-            Field::None,
-            Field::None,
-            Field::None,
-            Field::None,
-        ],
-        Tree::Null(position) => [
-            Field::Position(*position),
-            Field::None,
-            Field::None,
-            Field::None,
-            Field::None,
-            Field::None,
-            Field::None,
-        ],
-        Tree::BooleanLiteral(position, value) => [
-            Field::Position(*position),
-            Field::Mark(*value),
-            Field::None,
-            Field::None,
-            Field::None,
-            Field::None,
-            Field::None,
-        ],
-        Tree::CharLiteral(position, value) => [
-            Field::Position(*position),
-            Field::Unit(*value),
-            Field::None,
-            Field::None,
-            Field::None,
-            Field::None,
-            Field::None,
-        ],
-        Tree::ByteLiteral(position, value) => [
-            Field::Position(*position),
-            Field::Byte(*value),
-            Field::None,
-            Field::None,
-            Field::None,
-            Field::None,
-            Field::None,
-        ],
-        Tree::ShortLiteral(position, value) => [
-            Field::Position(*position),
-            Field::Short(*value),
-            Field::None,
-            Field::None,
-            Field::None,
-            Field::None,
-            Field::None,
-        ],
-        Tree::IntLiteral(position, value) => [
-            Field::Position(*position),
-            Field::Int(*value),
-            Field::None,
-            Field::None,
-            Field::None,
-            Field::None,
-            Field::None,
-        ],
-        Tree::LongLiteral(position, value) => [
-            Field::Position(*position),
-            Field::Long(*value),
-            Field::None,
-            Field::None,
-            Field::None,
-            Field::None,
-            Field::None,
-        ],
-        Tree::StringLiteral(position, value) => [
-            Field::Position(*position),
-            Field::Text(value),
-            Field::None,
-            Field::None,
-            Field::None,
-            Field::None,
-            Field::None,
-        ],
-        Tree::VarRef(position, name, tpe) => [
-            Field::Position(*position),
+        ),
+        Tree::Undefined(position) => alone(*position),
+        Tree::Null(position) => alone(*position),
+        Tree::BooleanLiteral(position, value) => one(*position, Field::Mark(*value)),
+        Tree::CharLiteral(position, value) => one(*position, Field::Unit(*value)),
+        Tree::ByteLiteral(position, value) => one(*position, Field::Byte(*value)),
+        Tree::ShortLiteral(position, value) => one(*position, Field::Short(*value)),
+        Tree::IntLiteral(position, value) => one(*position, Field::Int(*value)),
+        Tree::LongLiteral(position, value) => one(*position, Field::Long(*value)),
+        Tree::StringLiteral(position, value) => one(*position, Field::Text(value)),
+        Tree::VarRef(position, name, tpe) => two(
+            *position,
             Field::Name(name.text()),
             Field::Type(tpe),
-            Field::None,
-            Field::None,
-            Field::None,
-            Field::None,
-        ],
-        Tree::This(position, tpe) => [
-            Field::Position(*position),
-            Field::Type(tpe),
-            Field::None,
-            Field::None,
-            Field::None,
-            Field::None,
-            Field::None,
-        ],
-        Tree::Log(position, value) => [
-            Field::Position(*position),
-            Field::Tree(value),
-            Field::None,
-            Field::None,
-            Field::None,
-            Field::None,
-            Field::None,
-        ],
+        ),
+        Tree::This(position, tpe) => one(*position, Field::Type(tpe)),
+        Tree::Log(position, value) => one(*position, Field::Tree(value)),
     }
+}
+
+// A position with as many fields behind it.
+fn alone<'t>(position: Position) -> [Field<'t>; 7]
+    ensures { map field_seen result ≡ seven position no_field no_field no_field no_field no_field no_field }
+{
+    [
+        Field::Position(position),
+        Field::None,
+        Field::None,
+        Field::None,
+        Field::None,
+        Field::None,
+        Field::None,
+    ]
+}
+
+fn one<'t>(position: Position, first: Field<'t>) -> [Field<'t>; 7]
+    ensures { map field_seen result ≡ seven position (field_seen first.entry) no_field no_field no_field no_field no_field }
+{
+    [
+        Field::Position(position),
+        first,
+        Field::None,
+        Field::None,
+        Field::None,
+        Field::None,
+        Field::None,
+    ]
+}
+
+fn two<'t>(position: Position, first: Field<'t>, second: Field<'t>) -> [Field<'t>; 7]
+    ensures { map field_seen result ≡ seven position (field_seen first.entry) (field_seen second.entry) no_field no_field no_field no_field }
+{
+    [
+        Field::Position(position),
+        first,
+        second,
+        Field::None,
+        Field::None,
+        Field::None,
+        Field::None,
+    ]
+}
+
+fn three<'t>(
+    position: Position,
+    first: Field<'t>,
+    second: Field<'t>,
+    third: Field<'t>,
+) -> [Field<'t>; 7]
+    ensures { map field_seen result ≡ seven position (field_seen first.entry) (field_seen second.entry) (field_seen third.entry) no_field no_field no_field }
+{
+    [
+        Field::Position(position),
+        first,
+        second,
+        third,
+        Field::None,
+        Field::None,
+        Field::None,
+    ]
+}
+
+fn four<'t>(
+    position: Position,
+    first: Field<'t>,
+    second: Field<'t>,
+    third: Field<'t>,
+    fourth: Field<'t>,
+) -> [Field<'t>; 7]
+    ensures { map field_seen result ≡ seven position (field_seen first.entry) (field_seen second.entry) (field_seen third.entry) (field_seen fourth.entry) no_field no_field }
+{
+    [
+        Field::Position(position),
+        first,
+        second,
+        third,
+        fourth,
+        Field::None,
+        Field::None,
+    ]
+}
+
+fn five<'t>(
+    position: Position,
+    first: Field<'t>,
+    second: Field<'t>,
+    third: Field<'t>,
+    fourth: Field<'t>,
+    fifth: Field<'t>,
+) -> [Field<'t>; 7]
+    ensures { map field_seen result ≡ seven position (field_seen first.entry) (field_seen second.entry) (field_seen third.entry) (field_seen fourth.entry) (field_seen fifth.entry) no_field }
+{
+    [
+        Field::Position(position),
+        first,
+        second,
+        third,
+        fourth,
+        fifth,
+        Field::None,
+    ]
+}
+
+fn six<'t>(
+    position: Position,
+    first: Field<'t>,
+    second: Field<'t>,
+    third: Field<'t>,
+    fourth: Field<'t>,
+    fifth: Field<'t>,
+    sixth: Field<'t>,
+) -> [Field<'t>; 7]
+    ensures { map field_seen result ≡ seven position (field_seen first.entry) (field_seen second.entry) (field_seen third.entry) (field_seen fourth.entry) (field_seen fifth.entry) (field_seen sixth.entry) }
+{
+    [
+        Field::Position(position),
+        first,
+        second,
+        third,
+        fourth,
+        fifth,
+        sixth,
+    ]
 }
