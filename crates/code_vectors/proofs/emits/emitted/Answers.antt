@@ -9,7 +9,7 @@ use Rattle.sj_pieces.specs.Keys.{HasKeys}
 use Rattle.sj_emit_expr.specs.Pieces.{piece_of}
 use Rattle.sj_trees.specs.Term.{Term}
 use Rattle.sj_trees.specs.declared.classes.MethodDef.{MethodDef}
-use Rattle.emit_vectors.proofs.emitted.Goals as goal
+use Rattle.code_vectors.proofs.emits.emitted.Goals as goal
 
 with-keys : ((d : MethodDef) (e : Term) → HasKeys (desugared d e)) → (d : MethodDef) (body : Option Term) → HasKeys (desugared_with d body)
 with-keys h d None = tt
