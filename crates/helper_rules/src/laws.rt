@@ -11,7 +11,7 @@ pub fn texts_spell_helpers()
     ensures { (above : Above) (h : Helper) → IsTrue (is_fixed h) → Spells (only_item (helper_item above h)) (helper_text h) }
 {}
 
-/// Each helper with a fixed text, and the bindings that it uses.
+/// The bindings that each helper with a fixed text uses, and the texts of those that know of the class of a kind.
 pub fn worked_helpers()
     ensures w_A { row_A }
     ensures w_C { row_C }

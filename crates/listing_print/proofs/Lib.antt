@@ -1,3 +1,2 @@
 pub mod Characters
-mod TreeFields
 mod Items

@@ -1,4 +1,4 @@
--- The fields of a term as parts of its listing.
+-- The fields of a term as parts of its listing. Clauses of private functions alone cite these words: nothing here is to be believed.
 use Rattle.std.specs.Prelude.{List, [], ◌∷◌, ℕ, codes}
 use Rattle.js_tree.specs.Texts.{put_text}
 use Rattle.js_tree.specs.Written.{Putting, put, nothing, ◌▸◌}

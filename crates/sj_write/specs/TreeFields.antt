@@ -1,4 +1,4 @@
--- The fields of a term as fields of a file.
+-- The fields of a term as fields of a file. Clauses of private functions alone cite these words: nothing here is to be believed.
 use Rattle.std.specs.Prelude.{ℕ, List}
 use Rattle.std.specs.Int.{w8, w16, w32, w64}
 use Rattle.sj_trees.specs.Operators.{unary_code, binary_code}

@@ -1,0 +1,91 @@
+// The functions of methods.
+ghost use Rattle.std.specs.Prelude.{◌≡◌, IfOk};
+ghost use Rattle.js_tree.specs.Rules.{IsPiece};
+ghost use Rattle.js_tree.specs.Views.{piece_view};
+ghost use Rattle.sj_desugarer.specs.Methods.{method_desugared};
+ghost use Rattle.sj_emit_expr.specs.Pieces.{piece_of};
+
+use crate::forms::is_built;
+use crate::texts::{add, add_digits, class_of};
+use js_print::print_piece;
+use js_tree::JsPiece;
+use sj_desugarer::desugar;
+use sj_emitter::emit_member;
+use sj_mangling::function_name;
+use sj_names::{ClassName, Member, Meter, NameError, NoMemory};
+use sj_pieces::{desugared_methods_have_keys, member_piece};
+use sj_trees::{ClassDef, MethodDef};
+use std::alloc::Global;
+
+/// Adds for each method of the class of a file `piece`, the name of its function, and the bytes of the printed function in hexadecimal digits. In place of the
+/// bytes it has `not built` where the method isn't static or a form of its body isn't built.
+pub(crate) fn add_answer(alloc: Global, file: &str, text: &mut String) -> Result<(), NameError> {
+    match class_of(alloc, file) {
+        Some(class) => add_methods(alloc, &class, text),
+        None => Ok(()),
+    }
+}
+
+// A line for each method of a class.
+fn add_methods(alloc: Global, class: &ClassDef, text: &mut String) -> Result<(), NameError> {
+    for method in class.methods.as_slice() {
+        add_line(alloc, &class.name, method, text)?;
+    }
+    Ok(())
+}
+
+fn add_line(
+    alloc: Global,
+    class: &ClassName,
+    method: &MethodDef,
+    text: &mut String,
+) -> Result<(), NameError> {
+    let member = member_of(class, method)?;
+    add_name(alloc, &member, text)?;
+    add_piece(alloc, &member, method, text)
+}
+
+fn member_of(class: &ClassName, method: &MethodDef) -> Result<Member, NoMemory> {
+    Ok(Member {
+        class: class.copied()?,
+        namespace: method.namespace,
+        method: method.name.copied()?,
+    })
+}
+
+fn add_name(alloc: Global, member: &Member, text: &mut String) -> Result<(), NameError> {
+    let name = function_name(alloc, member)?;
+    add(&["piece\t", name.as_str(), "\t"], text)
+}
+
+fn add_piece(
+    alloc: Global,
+    member: &Member,
+    method: &MethodDef,
+    text: &mut String,
+) -> Result<(), NameError> {
+    if is_built(method) {
+        let piece = emitted(alloc, member, method)?;
+        add_printed(alloc, &piece, text)
+    } else {
+        add(&["not built\n"], text)
+    }
+}
+
+fn add_printed(alloc: Global, piece: &JsPiece, text: &mut String) -> Result<(), NameError>
+    requires { IsPiece (piece_view piece.now) }
+{
+    let bytes = print_piece(alloc, piece)?;
+    add_digits(alloc, bytes.as_slice(), text)
+}
+
+// The piece of a static method.
+fn emitted(alloc: Global, member: &Member, method: &MethodDef) -> Result<JsPiece, NoMemory>
+    ensures piece { IfOk result (λ p. piece_view p ≡ piece_of member.now (method_desugared method.now)) }
+    ensures rules { IfOk result (λ p. IsPiece (piece_view p)) }
+{
+    desugared_methods_have_keys();
+    let core = desugar(alloc, method)?;
+    let function = emit_member(alloc, &core, &mut Meter::new())?;
+    member_piece(alloc, member, &core, function)
+}
