@@ -75,15 +75,16 @@ fn push_told(kind: Kind, owner: ClassName, cases: &mut Vec<Told>) -> Result<(), 
     Ok(())
 }
 
-fn class_name(alloc: Global, kind: Kind) -> Result<ClassName, NoMemory>
+/// The name of the class of a kind.
+pub fn class_name(alloc: Global, kind: Kind) -> Result<ClassName, NoMemory>
     ensures { IfOk result (λ c. c ≡ kind_class kind) }
 {
     let text = Text::from_str(alloc, class_of_kind(kind))?;
     Ok(ClassName::of_text(text))
 }
 
-// The class whose body a call of the method on a value of the class runs, where it is reached.
-fn reached_target(
+/// The class whose body a call of the method on a value of the class runs, where it is reached.
+pub fn reached_target(
     w: &LinkedWorld,
     class: &ClassName,
     method: &MethodName,
