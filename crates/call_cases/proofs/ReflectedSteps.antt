@@ -30,16 +30,16 @@ module _ (w : Classes) (known : List Fact) (c : Name) where
   among_reached names n m copy owner at is reached = subst (λ (z : MethodName). IsReachedAmong w known c names z owner) (sym is) (record { among = contains_at names n m at; reached = reached })
 
   module _ (p : MethodName) where
-    pub None_reflected : Type 0
+    abbrev pub None_reflected : Type 0
     None_reflected = (t : MethodName) (owner : Name) → IsReflectedTarget w known c p t owner → ⊥
 
     reflected_at : (names : List MethodName) (found : Option Target) → ((m : MethodName) → Contains names m ↔ IsTargetName w c p m) → MatchOption found (HasNoneReached w known c names) (λ f. IsReachedAmong w known c names f.method f.owner) → MatchOption found None_reflected (λ f. IsReflectedTarget w known c p f.method f.owner)
     reflected_at names None exact h = λ t owner q. h.none t owner (record { among = (exact t).1 (record { definition = q.definition; owner = q.declared_by; is_target = q.proxy; name_is = sym q.method_is }); reached = q.target })
     reflected_at names (Some f) exact h = let q = (exact f.method).0 h.among in record { definition = q.definition; declared_by = q.owner; proxy = q.is_target; method_is = sym q.name_is; target = h.reached }
 
-    -- in the same world
-    pub reflected_of : (v : Classes) (names : List MethodName) (found : Option Target) → v ≡ w → ((m : MethodName) → Contains names m ↔ IsTargetName v c p m) → MatchOption found (HasNoneReached w known c names) (λ f. IsReachedAmong w known c names f.method f.owner) → MatchOption found None_reflected (λ f. IsReflectedTarget w known c p f.method f.owner)
-    reflected_of v names found same exact h = reflected_at names found (subst (λ (x : Classes). (m : MethodName) → Contains names m ↔ IsTargetName x c p m) same exact) h
+    -- in the same world, and of the same names
+    pub reflected_of : (v : Classes) (names listed : List MethodName) (found : Option Target) → v ≡ w → listed ≡ names → ((m : MethodName) → Contains names m ↔ IsTargetName v c p m) → MatchOption found (HasNoneReached w known c listed) (λ f. IsReachedAmong w known c listed f.method f.owner) → MatchOption found None_reflected (λ f. IsReflectedTarget w known c p f.method f.owner)
+    reflected_of v names listed found same is exact h = reflected_at listed found (subst (λ (ns : List MethodName). (m : MethodName) → Contains ns m ↔ IsTargetName w c p m) (sym is) (subst (λ (x : Classes). (m : MethodName) → Contains names m ↔ IsTargetName x c p m) same exact)) h
 
     pub target_is : (found : Option Target) (t : Target) → found ≡ Some t → MatchOption found None_reflected (λ f. IsReflectedTarget w known c p f.method f.owner) → IsReflectedTarget w known c p t.method t.owner
     target_is found t is = subst (λ (o : Option Target). MatchOption o None_reflected (λ f. IsReflectedTarget w known c p f.method f.owner)) is
