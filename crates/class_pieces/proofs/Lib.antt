@@ -1,2 +1,3 @@
 pub mod Parts
+pub mod Units
 pub mod Wanted

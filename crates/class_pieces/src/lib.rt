@@ -7,6 +7,7 @@ mod instances;
 mod marks;
 mod needed;
 mod pieces;
+mod ranges;
 mod statics;
 
 pub use pieces::class_pieces;

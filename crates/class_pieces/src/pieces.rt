@@ -1,5 +1,6 @@
 // The pieces of a class.
-ghost use Rattle.std.specs.Prelude.{◌≡◌, map, IfOk, Some};
+ghost use Rattle.std.specs.Prelude.{◌≡◌, map, All, IfOk, Some};
+ghost use Rattle.js_tree.specs.Rules.{IsPiece};
 ghost use Rattle.js_tree.specs.Views.{piece_view};
 ghost use Rattle.class_needs.specs.Needs.{AreNeeds};
 ghost use Rattle.piece_rules.specs.Classes.{AreClassPieces, AreParts};
@@ -11,8 +12,10 @@ use crate::entries::entries_of;
 use crate::fields::own_fields;
 use crate::instances::instances_of;
 use crate::marks::marks_of;
+use crate::ranges::parts_fit;
 use crate::statics::statics_of;
 use class_needs::ClassNeed;
+use class_printing::pieces_of_classes_are_pieces;
 use indexmap::IndexSet;
 use js_tree::JsPiece;
 use sj_emit_class::{ClassParts, pieces_of};
@@ -22,7 +25,7 @@ use sj_world::LinkedWorld;
 use std::alloc::Global;
 
 /// The pieces of a class of a linked world, in order, but for the functions of its methods; none, where the world hasn't the class. `needs`
-/// is what the classes of the world need. Want of memory is the only error.
+/// is what the classes of the world need. Each keeps the rules of printing. Want of memory is the only error.
 pub fn class_pieces(
     alloc: Global,
     w: &LinkedWorld,
@@ -30,7 +33,8 @@ pub fn class_pieces(
     name: &ClassName,
 ) -> Result<Vec<JsPiece>, NoMemory>
     requires { AreNeeds w.now.world w.now.facts needs.now.keys }
-    ensures { IfOk result (λ ps. AreClassPieces w.now name.now (map piece_view ps.items)) }
+    ensures pieces { IfOk result (λ ps. AreClassPieces w.now name.now (map piece_view ps.items)) }
+    ensures rules { IfOk result (λ ps. All IsPiece (map piece_view ps.items)) }
 {
     match w.world().class(name) {
         Some(class) => pieces_with(alloc, w, needs, name, class),
@@ -47,7 +51,8 @@ fn pieces_with(
 ) -> Result<Vec<JsPiece>, NoMemory>
     requires needs { AreNeeds w.now.world w.now.facts needs.now.keys }
     requires class { class_of w.now.world name.now ≡ Some class.now }
-    ensures { IfOk result (λ ps. AreClassPieces w.now name.now (map piece_view ps.items)) }
+    ensures pieces { IfOk result (λ ps. AreClassPieces w.now name.now (map piece_view ps.items)) }
+    ensures rules { IfOk result (λ ps. All IsPiece (map piece_view ps.items)) }
 {
     match w.world().ancestors(name) {
         Some(ancestors) => pieces_below(alloc, w, needs, name, class, ancestors),
@@ -66,9 +71,12 @@ fn pieces_below(
     requires needs { AreNeeds w.now.world w.now.facts needs.now.keys }
     requires class { class_of w.now.world name.now ≡ Some class.now }
     requires ancestors { AreAncestors w.now.world name.now ancestors.now }
-    ensures { IfOk result (λ ps. AreClassPieces w.now name.now (map piece_view ps.items)) }
+    ensures pieces { IfOk result (λ ps. AreClassPieces w.now name.now (map piece_view ps.items)) }
+    ensures rules { IfOk result (λ ps. All IsPiece (map piece_view ps.items)) }
 {
     let parts = parts_of(alloc, w, needs, name, class, ancestors)?;
+    parts_fit(&parts);
+    pieces_of_classes_are_pieces();
     pieces_of(alloc, &parts)
 }
 
