@@ -10,3 +10,4 @@ mod ranges;
 
 pub use laws::desugared_methods_have_keys;
 pub use pieces::member_piece;
+pub use ranges::{member_fits, method_name_fits};

@@ -45,7 +45,8 @@ fn result_fits(reference: &Option<TypeRef>)
     }
 }
 
-fn method_name_fits(method: &MethodName)
+/// The parts of the name of a method are texts of bytes.
+pub fn method_name_fits(method: &MethodName)
     ensures { FitsMethodName method.now }
 {
     text_fits(method.simple.text());

@@ -1,0 +1,7 @@
+use Rattle.std.proofs.Common.{take, map}
+use Rattle.piece_rules.specs.Dispatch.{AreReflected}
+use Rattle.sj_emit_class.specs.Cases.{reflected_view}
+use Rattle.call_cases.proofs.reflected.reflected_among.Given as goal
+
+abbrev pub invariant-loop-kind : goal.invariant-loop-kind
+invariant-loop-kind l = AreReflected l.w.world l.w.facts l.proxy (take l.kind-index l.kinds) (map reflected_view l.cases.items)

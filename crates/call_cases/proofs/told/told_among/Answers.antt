@@ -1,0 +1,8 @@
+use Rattle.std.proofs.Common.{List, [], map, sym, subst}
+use Rattle.piece_rules.specs.Dispatch.{AreTold, told_none}
+use Rattle.sj_emit_class.specs.Cases.{told_view}
+use Rattle.sj_emit_class.specs.declared.dispatch.Told.{Told}
+use Rattle.call_cases.proofs.told.told_among.Goals as goal
+
+pub loop-kind-init : goal.loop-kind-init
+loop-kind-init c = subst (λ (ts : List Told). AreTold c.args.w.now.world c.args.w.now.facts c.args.method.now [] (map told_view ts)) (sym c.new-cases.ensures.items) told_none

@@ -1,0 +1,75 @@
+// The lines that are answered.
+use crate::helpers::helper_named;
+use crate::texts::line_of;
+use anyhow::Result;
+use class_needs::needs_of;
+use class_pieces::class_pieces;
+use entries_file::entries_of;
+use sj_baselink::base_link;
+use sj_reach::reach;
+use sj_trees::ClassDef;
+use sj_world::{LinkedWorld, World};
+use std::alloc::Global;
+
+/// For each class the lines of its pieces, and for each helper that is wanted its line; none where the folder isn't accepted.
+pub(crate) fn answered(
+    alloc: Global,
+    classes: Vec<ClassDef>,
+    entries: &[u8],
+    owners: &[String],
+    wanted: &[String],
+) -> Result<Vec<String>> {
+    let world = World::new(alloc, classes)?;
+    let Ok(entries) = entries_of(alloc, entries) else {
+        return Ok(Vec::new(alloc));
+    };
+    match reach(alloc, &world, &entries) {
+        Ok(reached) => match base_link(alloc, &world, &reached) {
+            Ok(linked) => lines_of(alloc, &linked, owners, wanted),
+            Err(_) => Ok(Vec::new(alloc)),
+        },
+        Err(_) => Ok(Vec::new(alloc)),
+    }
+}
+
+fn lines_of(
+    alloc: Global,
+    linked: &LinkedWorld,
+    owners: &[String],
+    wanted: &[String],
+) -> Result<Vec<String>> {
+    let needs = needs_of(alloc, linked)?;
+    let mut lines = Vec::new(alloc);
+    for owner in owners {
+        if let Some(class) = linked.world().class_named(owner.as_str()) {
+            let pieces = class_pieces(alloc, linked, &needs, &class.name)?;
+            for place in 0..pieces.len() {
+                lines.push(line_of(alloc, "piece", &pieces[place])?)?;
+            }
+        }
+        if owner.as_str() == "java.lang.Object" {
+            put_helpers(alloc, linked, wanted, &mut lines)?;
+        }
+    }
+    Ok(lines)
+}
+
+fn put_helpers(
+    alloc: Global,
+    linked: &LinkedWorld,
+    wanted: &[String],
+    lines: &mut Vec<String>,
+) -> Result<()> {
+    for line in wanted {
+        if let Some(("helper", fields)) = line.as_str().split_once('\t') {
+            if let Some((_, rest)) = fields.split_once('\t') {
+                if let Some((name, _)) = rest.split_once('\t') {
+                    if let Some(piece) = helper_named(alloc, linked, name)? {
+                        lines.push(line_of(alloc, "helper", &piece)?)?;
+                    }
+                }
+            }
+        }
+    }
+    Ok(())
+}
