@@ -13,10 +13,16 @@ pub(crate) fn add_answer(
     text: &mut String,
 ) -> Result<(), NameError> {
     let first = known.len();
-    if let Some(class) = class_of(alloc, file) {
-        add_methods(alloc, &class, known)?;
-    }
+    add_class(alloc, file, known)?;
     add_numbers(alloc, known, first, text)
+}
+
+// Adds the canonical bytes of the methods of the class of a file; none where it spells no class.
+fn add_class(alloc: Global, file: &str, known: &mut Vec<Vec<u8>>) -> Result<(), NameError> {
+    match class_of(alloc, file) {
+        Some(class) => add_methods(alloc, &class, known),
+        None => Ok(()),
+    }
 }
 
 fn add_methods(alloc: Global, class: &ClassDef, known: &mut Vec<Vec<u8>>) -> Result<(), NameError> {

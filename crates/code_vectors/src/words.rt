@@ -31,20 +31,20 @@ fn word_of(alloc: Global, digits: &str) -> Option<String> {
 }
 
 fn add_commands(alloc: Global, words: &[String], text: &mut String) -> Result<(), NameError> {
-    add_command(alloc, &first_command(alloc, words)?, text)?;
+    add_command(alloc, first_command(alloc, words)?, text)?;
     add(&["\t"], text)?;
-    add_command(alloc, &split_command(alloc, words)?, text)?;
+    add_command(alloc, split_command(alloc, words)?, text)?;
     add(&["\t"], text)?;
-    add_command(alloc, &command(alloc, words)?, text)?;
+    add_command(alloc, command(alloc, words)?, text)?;
     add(&["\n"], text)
 }
 
 fn add_command(
     alloc: Global,
-    command: &Option<Command>,
+    command: Option<Command>,
     text: &mut String,
 ) -> Result<(), NameError> {
-    let spelled = spelled(alloc, command)?;
+    let spelled = spelled(alloc, &command)?;
     add(&[spelled.as_str()], text)
 }
 

@@ -1,5 +1,6 @@
 //! Answers questions on classes and worlds, each of which is to have the answer of an independent reference. The input is lines, with tabs between
-//! the fields. `local FILE` asks for the first local rule that a class breaks, and `infos FILE` for what its bodies ask for. `world` begins a block, in
+//! the fields. `read FILE` asks what the reader answers to a file, `write FILE` for the file that its class is written as, `local FILE` for the first local
+//! rule that the class breaks, `infos FILE` for what its bodies ask for, and `sizes GROUP..` for the first file of a folder that is too large. `world` begins a block, in
 //! which `class FILE` is a class of the world that the rest is asked of: `sub TYPE TYPE`, `ancestors NAME`, `resolve NAME METHOD`, `proxy NAME METHOD`,
 //! `refused why`, `check MEMBER`, `entries BYTES` for what is reachable, and `resolves BYTES` for whether anything is. `case NAME` begins
 //! a block with `file PATH BYTES` for each file of a folder in the order of the paths, and `judge BYTES` asks for the verdict on it. An answer stands behind its
@@ -10,11 +11,14 @@ mod blocks;
 mod infos;
 mod local;
 mod reachable;
+mod reads;
+mod sizes;
 mod texts;
 mod type_checks;
 mod types;
 mod verdicts;
 mod worlds;
+mod writes;
 
 use anyhow::Result;
 use blocks::Block;
@@ -52,6 +56,9 @@ fn add_answer(
         }
         Some(("class", file)) => block.add(alloc, file),
         Some(("local", file)) => local::add_answer(alloc, file, text),
+        Some(("read", file)) => reads::add_answer(alloc, file, text),
+        Some(("write", file)) => writes::add_answer(alloc, file, text),
+        Some(("sizes", groups)) => sizes::add_answer(alloc, groups, text),
         Some(("infos", file)) => infos::add_answer(alloc, file, text),
         Some(("file", fields)) => block.add_file(alloc, fields),
         Some(("judge", entries)) => block.add_verdict(alloc, entries, text),
