@@ -95,11 +95,7 @@ fn put_reflected(
     }
 }
 
-fn push_reflected(
-    kind: Kind,
-    target: Target,
-    cases: &mut Vec<Reflected>,
-) -> Result<(), NoMemory>
+fn push_reflected(kind: Kind, target: Target, cases: &mut Vec<Reflected>) -> Result<(), NoMemory>
     ensures { OnOk result (map reflected_view cases.new.items ≡ map reflected_view cases.old.items ++ record { kind = kind; owner = target.owner; method = target.method } ∷ []) }
 {
     cases.push(Reflected {
