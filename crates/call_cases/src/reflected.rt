@@ -1,5 +1,7 @@
 // The kinds of receivers that a reflective call tells apart.
-ghost use Rattle.std.specs.Prelude.{◌≡◌, ◌++◌, ◌∷◌, [], map, List, IfOk, OnOk, MatchOption};
+ghost use Rattle.std.specs.Prelude.{◌≡◌, ◌++◌, ◌∷◌, [], map, All, List, IfOk, OnOk, MatchOption};
+ghost use Rattle.class_printing.specs.Fits.{FitReflected};
+ghost use Rattle.js_tree.specs.Rules.{IsPiece};
 ghost use Rattle.js_tree.specs.Views.{piece_view};
 ghost use Rattle.helper_rules.specs.declared.kinds.Kind.{Kind as AnyKind};
 ghost use Rattle.piece_rules.specs.Dispatch.{AreReflected, IsReflectedTarget, IsReflectivePiece};
@@ -9,22 +11,25 @@ ghost use Rattle.sj_world.specs.Known.{Name};
 ghost use Rattle.call_cases.specs.Reached.{HasNoneReached, IsReachedAmong};
 
 use crate::told::{class_name, reached_target};
+use class_printing::{name_fits, pieces_of_classes_are_pieces};
 use helper_rules::Kind;
 use js_tree::JsPiece;
 use proxy_targets::names_of_targets;
 use sj_emit_class::{Reflected, reflective_piece};
 use sj_names::{ClassName, MethodName, NoMemory};
+use sj_pieces::method_name_fits;
 use sj_world::LinkedWorld;
 use std::alloc::Global;
 
 /// The function by which a reflective name is called: it has a case for each kind of primitive receivers whose class has a target for the
-/// name that is reached. Want of memory is the only error.
+/// name that is reached. It keeps the rules of printing. Want of memory is the only error.
 pub fn reflective_of(
     alloc: Global,
     w: &LinkedWorld,
     proxy: &MethodName,
 ) -> Result<JsPiece, NoMemory>
-    ensures { IfOk result (λ p. IsReflectivePiece w.now.world w.now.facts proxy.now (piece_view p)) }
+    ensures piece { IfOk result (λ p. IsReflectivePiece w.now.world w.now.facts proxy.now (piece_view p)) }
+    ensures rules { IfOk result (λ p. IsPiece (piece_view p)) }
 {
     let kinds = [
         Kind::Undefined,
@@ -35,7 +40,25 @@ pub fn reflective_of(
         Kind::Text,
     ];
     let cases = reflected_among(alloc, w, proxy, &kinds)?;
+    method_name_fits(proxy);
+    reflected_fit(&cases);
+    pieces_of_classes_are_pieces();
     reflective_piece(alloc, proxy, &cases)
+}
+
+fn reflected_fit(cases: &[Reflected])
+    ensures { All FitReflected (map reflected_view cases.now) }
+{
+    for reflected in cases {
+        one_fits(reflected);
+    }
+}
+
+fn one_fits(reflected: &Reflected)
+    ensures { FitReflected (reflected_view reflected.now) }
+{
+    name_fits(&reflected.owner);
+    method_name_fits(&reflected.method);
 }
 
 // Those of the kinds whose class has a reached target.
@@ -72,11 +95,7 @@ fn put_reflected(
     }
 }
 
-fn push_reflected(
-    kind: Kind,
-    target: Target,
-    cases: &mut Vec<Reflected>,
-) -> Result<(), NoMemory>
+fn push_reflected(kind: Kind, target: Target, cases: &mut Vec<Reflected>) -> Result<(), NoMemory>
     ensures { OnOk result (map reflected_view cases.new.items ≡ map reflected_view cases.old.items ++ record { kind = kind; owner = target.owner; method = target.method } ∷ []) }
 {
     cases.push(Reflected {

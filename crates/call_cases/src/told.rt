@@ -1,6 +1,8 @@
 // The kinds of receivers that a call tells apart.
-ghost use Rattle.std.specs.Prelude.{◌≡◌, ◌++◌, ◌∷◌, [], map, List, IfOk, OnOk, MatchOption, Contains};
+ghost use Rattle.std.specs.Prelude.{◌≡◌, ◌++◌, ◌∷◌, [], map, All, List, IfOk, OnOk, MatchOption, Contains};
 ghost use Rattle.sj_world.specs.declared.facts.Fact.TheVariants.{Body};
+ghost use Rattle.class_printing.specs.Fits.{FitTold};
+ghost use Rattle.js_tree.specs.Rules.{IsPiece};
 ghost use Rattle.js_tree.specs.Views.{piece_view};
 ghost use Rattle.helper_rules.specs.Words.{kind_class, told_kinds};
 ghost use Rattle.helper_rules.specs.declared.kinds.Kind.{Kind as AnyKind};
@@ -9,18 +11,21 @@ ghost use Rattle.reach_rules.specs.Rules as rules;
 ghost use Rattle.sj_emit_class.specs.Cases.{told_view};
 ghost use Rattle.sj_world.specs.Known.{Name};
 
+use class_printing::{name_fits, pieces_of_classes_are_pieces};
 use helper_rules::Kind;
 use js_tree::JsPiece;
 use piece_making::class_of_kind;
 use sj_emit_class::{Told, dispatch_piece};
 use sj_names::{ClassName, Member, MethodName, Namespace, NoMemory, Text};
+use sj_pieces::method_name_fits;
 use sj_world::{LinkedWorld, Resolution};
 use std::alloc::Global;
 
 /// The function by which a public method is called on receivers that may be primitive: it has a case for each kind of them whose class has
-/// a target for the method that is reached. Want of memory is the only error.
+/// a target for the method that is reached. It keeps the rules of printing. Want of memory is the only error.
 pub fn dispatch_of(alloc: Global, w: &LinkedWorld, method: &MethodName) -> Result<JsPiece, NoMemory>
-    ensures { IfOk result (λ p. IsDispatchPiece w.now.world w.now.facts method.now (piece_view p)) }
+    ensures piece { IfOk result (λ p. IsDispatchPiece w.now.world w.now.facts method.now (piece_view p)) }
+    ensures rules { IfOk result (λ p. IsPiece (piece_view p)) }
 {
     let kinds = [
         Kind::Undefined,
@@ -31,7 +36,18 @@ pub fn dispatch_of(alloc: Global, w: &LinkedWorld, method: &MethodName) -> Resul
         Kind::Text,
     ];
     let cases = told_among(alloc, w, method, &kinds)?;
+    method_name_fits(method);
+    told_fit(&cases);
+    pieces_of_classes_are_pieces();
     dispatch_piece(alloc, method, &cases)
+}
+
+fn told_fit(cases: &[Told])
+    ensures { All FitTold (map told_view cases.now) }
+{
+    for told in cases {
+        name_fits(&told.owner);
+    }
 }
 
 // Those of the kinds whose class has a reached target.

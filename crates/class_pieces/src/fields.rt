@@ -8,20 +8,14 @@ use sj_trees::FieldDef;
 use std::alloc::Global;
 
 /// The fields of instances, in the order of their names.
-pub fn own_fields<'w>(
-    alloc: Global,
-    fields: &'w [FieldDef],
-) -> Result<Vec<&'w FieldDef>, NoMemory>
+pub fn own_fields<'w>(alloc: Global, fields: &'w [FieldDef]) -> Result<Vec<&'w FieldDef>, NoMemory>
     ensures { IfOk result (λ list. AreSorted (filter is_own fields.now) (map (λ f. f.now) list.items)) }
 {
     let own = of_instances(alloc, fields)?;
     Ok(in_order(own))
 }
 
-fn of_instances<'w>(
-    alloc: Global,
-    fields: &'w [FieldDef],
-) -> Result<Vec<&'w FieldDef>, NoMemory>
+fn of_instances<'w>(alloc: Global, fields: &'w [FieldDef]) -> Result<Vec<&'w FieldDef>, NoMemory>
     ensures { IfOk result (λ list. map (λ f. f.now) list.items ≡ filter is_own fields.now) }
 {
     let mut own = Vec::new(alloc);

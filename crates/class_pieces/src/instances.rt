@@ -12,11 +12,7 @@ use sj_world::World;
 use std::alloc::Global;
 
 /// The kinds that are told by a word and whose values are instances of the class, in order.
-pub fn instances_of(
-    alloc: Global,
-    world: &World,
-    class: &ClassName,
-) -> Result<Vec<Kind>, NoMemory>
+pub fn instances_of(alloc: Global, world: &World, class: &ClassName) -> Result<Vec<Kind>, NoMemory>
     ensures { IfOk result (λ kinds. AreInstances world.now class.now worded_kinds kinds.items) }
 {
     let kinds = [

@@ -1,11 +1,10 @@
 // What the types of the parts of a class say of their values. It is known where a value is read, so each part is passed over once.
 ghost use Rattle.std.specs.Prelude.{All, IfSome, map};
 ghost use Rattle.class_printing.specs.Fits.{FitsEntry, FitsField, FitParts};
-ghost use Rattle.helper_rules.specs.Words.{units_of};
-ghost use Rattle.js_tree.specs.Rules.{IsUnit};
 ghost use Rattle.sj_emit_class.specs.Parts.{parts_view};
 ghost use Rattle.sj_pieces.specs.Ranges.{AreBytes};
 
+use class_printing::{name_fits, names_fit, text_fits};
 use sj_emit_class::ClassParts;
 use sj_names::ClassName;
 use sj_pieces::{member_fits, method_name_fits};
@@ -16,8 +15,7 @@ use sj_world::MethodEntry;
 pub fn parts_fit(parts: &ClassParts<'_>)
     ensures { FitParts (parts_view parts.now) }
 {
-    text_fits(parts.class.name.text());
-    units_fit(parts.class.name.text());
+    name_fits(&parts.class.name);
     superclass_fits(&parts.class.superclass);
     names_fit(parts.ancestors);
     entries_fit(&parts.entries);
@@ -25,34 +23,12 @@ pub fn parts_fit(parts: &ClassParts<'_>)
     fields_fit(&parts.statics);
 }
 
-fn text_fits(text: &str)
-    ensures { AreBytes text.now }
-{}
-
-fn units_fit(text: &str)
-    ensures { All IsUnit (units_of text.now) }
-{}
-
 fn superclass_fits(superclass: &Option<ClassName>)
     ensures { IfSome superclass.now AreBytes }
 {
     if let Some(name) = superclass {
-        text_fits(name.text());
-    }
-}
-
-fn names_fit(names: &[ClassName])
-    ensures { All AreBytes names.now }
-{
-    for name in names {
         name_fits(name);
     }
-}
-
-fn name_fits(name: &ClassName)
-    ensures { AreBytes name.now }
-{
-    text_fits(name.text());
 }
 
 fn entry_fits(entry: &MethodEntry)

@@ -5,12 +5,13 @@ use Rattle.std.specs.List.{flat_map, list_any}
 use Rattle.std.proofs.lemmas.List.Elements.{All-nil, All-cons, All-head, All-tail, All-append}
 use Rattle.class_printing.specs.Fits.{FitsEntry, FitsField, FitParts, FitTold, FitReflected}
 use Rattle.class_printing.proofs.Named.{choose, class-named, field-named, property-named, marker-named, entry-named, entry-units, method-named, marker-units, parameters-named}
-use Rattle.helper_rules.specs.Helpers.{own_marker, marker_property}
+use Rattle.class_printing.proofs.Units.{text-units}
+use Rattle.helper_rules.specs.Helpers.{constants, own_marker, marker_property}
 use Rattle.helper_rules.specs.Words.{uses, x, parameters_of, is_name as test_name, all_kinds, units_of, helper, bound, call1}
 use Rattle.helper_rules.specs.declared.kinds.Kind.{Kind}
 use Rattle.helper_rules.specs.declared.kinds.Kind.TheVariants as kinds
 use Rattle.js_tree.specs.Rules.{IsName, IsUnit, IsExpression, IsExpressions, IsStatement, AreStatements, IsObjectProperty, IsMember, IsItem, IsBinding, IsPiece}
-use Rattle.js_tree.specs.Terms.{Name, Expression, expression, call_of, text_literal, Statement, expression_statement, Member, Piece}
+use Rattle.js_tree.specs.Terms.{object_item, Name, Expression, expression, call_of, text_literal, Statement, expression_statement, Member, Piece}
 use Rattle.js_tree.specs.Views.{statements_of}
 use Rattle.js_tree.specs.declared.items.Binding.{Binding}
 use Rattle.piece_rules.specs.Dispatch as dispatch
@@ -26,7 +27,7 @@ use Rattle.sj_names.specs.MethodNames.{spelled_method}
 use Rattle.sj_names.specs.declared.method_names.MethodName.{MethodName}
 use Rattle.sj_names.specs.declared.method_names.Namespace.TheVariants.{Public, Constructor}
 use Rattle.sj_pieces.specs.Ranges.{AreBytes, FitsReference, FitsMethodName}
-use Rattle.sj_pieces.proofs.Names.{member-named}
+use Rattle.sj_pieces.proofs.Names.{member-named, spelled-bytes}
 use Rattle.sj_trees.specs.declared.classes.FieldDef.{FieldDef}
 use Rattle.sj_trees.specs.declared.types.IrType.{IrType}
 use Rattle.sj_trees.specs.declared.types.IrType.TheVariants as Types
@@ -71,8 +72,11 @@ statements-kept (s ∷ ss) h = (All-head IsStatement s ss h, statements-kept ss 
 marker-kept : (c : Name) → AreBytes c → IsObjectProperty (marker_property c)
 marker-kept c h = (marker-named c h, omega arith)
 
+pub constants-item : (name c : Name) (above : List Name) → IsName name → AreBytes c → All AreBytes above → IsItem (object_item name (constants c above))
+constants-item name c above n h k = (n, All-cons IsObjectProperty (own_marker c) (map marker_property above) (refl, marker-units c h) (mapped AreBytes IsObjectProperty marker_property marker-kept above k))
+
 constants-kept : (c : Name) (above : List Name) → AreBytes c → All AreBytes above → IsPiece (pieces.constants_piece c above)
-constants-kept c above h k = (class-named classes.Constants c h, none, (class-named classes.Constants c h, All-cons IsObjectProperty (own_marker c) (map marker_property above) (refl, marker-units c h) (mapped AreBytes IsObjectProperty marker_property marker-kept above k)))
+constants-kept c above h k = (class-named classes.Constants c h, none, constants-item (pieces.constants_piece c above).name c above (class-named classes.Constants c h) h k)
 
 -- classes
 boxed-kept : (m : MethodName) (e : Expression) → IsExpression e → IsExpression (pieces.boxed_result m e)
@@ -216,7 +220,7 @@ tests-kept : (p : Parts) → FitParts p → All IsPiece (pieces.tests_of p)
 tests-kept p h =
     let test : Piece = pieces.test_piece p.class.name p.instances (pieces.kind_of_class p.class.name all_kinds) in
     let cast : Piece = pieces.cast_piece p.class.name in
-    All-append IsPiece (pieces.when (p.is_tested || p.is_cast) (test ∷ [])) (pieces.when p.is_cast (cast ∷ [])) (when-kept (p.is_tested || p.is_cast) (test ∷ []) (alone test (test-kept p.class.name p.instances (pieces.kind_of_class p.class.name all_kinds) h.class))) (when-kept p.is_cast (cast ∷ []) (alone cast (cast-kept p.class.name h.class h.units)))
+    All-append IsPiece (pieces.when (p.is_tested || p.is_cast) (test ∷ [])) (pieces.when p.is_cast (cast ∷ [])) (when-kept (p.is_tested || p.is_cast) (test ∷ []) (alone test (test-kept p.class.name p.instances (pieces.kind_of_class p.class.name all_kinds) h.class))) (when-kept p.is_cast (cast ∷ []) (alone cast (cast-kept p.class.name h.class (text-units p.class.name h.class))))
 
 module-kept : (p : Parts) → FitParts p → All IsPiece (pieces.module_of p)
 module-kept p h = when-kept (p.is_loaded || p.is_stored) (pieces.cell_pieces p.class.name p.is_loaded) (cells-kept p.class.name p.is_loaded h.class)
@@ -260,5 +264,5 @@ object-units = All-cons IsUnit 111 (codes "bject") (omega arith) (All-cons IsUni
 own-kept : (p : MethodName) → FitsMethodName p → IsStatement (dispatch.own_case p)
 own-kept p h = (((refl, object-units), (entry-units p h, refl)), ((refl, refl, entry-named p h, uses-kept (parameters_of p) (parameters-named p)), tt))
 
-pub reflective-kept : (p : MethodName) (ts : List dispatch.Reflected) → FitsMethodName p → All IsUnit (units_of (spelled_method p)) → All FitReflected ts → IsPiece (dispatch.reflective_piece p ts)
-reflective-kept p ts h units k = (method-named methods.Reflective p h, once-named [] (flat_map dispatch.reflected_uses ts ++ helper (codes "$nme") ∷ []) (All-append IsBinding (flat_map dispatch.reflected_uses ts) (helper (codes "$nme") ∷ []) (flat FitReflected IsBinding dispatch.reflected_uses reflected-used ts k) (one (helper (codes "$nme")) refl)), (method-named methods.Reflective p h, All-cons IsName (codes "x") (parameters_of p) refl (parameters-named p), statements-kept _ (All-append IsStatement (map (dispatch.reflected_case p) ts) _ (mapped FitReflected IsStatement (dispatch.reflected_case p) (reflected-kept p) ts k) (All-cons IsStatement (dispatch.own_case p) (expression_statement (call1 (codes "$nme") (text_literal (units_of (spelled_method p)))) ∷ []) (own-kept p h) (All-cons IsStatement (expression_statement (call1 (codes "$nme") (text_literal (units_of (spelled_method p))))) [] (refl, (units, tt)) (All-nil IsStatement))))))
+pub reflective-kept : (p : MethodName) (ts : List dispatch.Reflected) → FitsMethodName p → All FitReflected ts → IsPiece (dispatch.reflective_piece p ts)
+reflective-kept p ts h k = (method-named methods.Reflective p h, once-named [] (flat_map dispatch.reflected_uses ts ++ helper (codes "$nme") ∷ []) (All-append IsBinding (flat_map dispatch.reflected_uses ts) (helper (codes "$nme") ∷ []) (flat FitReflected IsBinding dispatch.reflected_uses reflected-used ts k) (one (helper (codes "$nme")) refl)), (method-named methods.Reflective p h, All-cons IsName (codes "x") (parameters_of p) refl (parameters-named p), statements-kept _ (All-append IsStatement (map (dispatch.reflected_case p) ts) _ (mapped FitReflected IsStatement (dispatch.reflected_case p) (reflected-kept p) ts k) (All-cons IsStatement (dispatch.own_case p) (expression_statement (call1 (codes "$nme") (text_literal (units_of (spelled_method p)))) ∷ []) (own-kept p h) (All-cons IsStatement (expression_statement (call1 (codes "$nme") (text_literal (units_of (spelled_method p))))) [] (refl, (text-units (spelled_method p) (spelled-bytes p h), tt)) (All-nil IsStatement))))))

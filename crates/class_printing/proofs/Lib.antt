@@ -1,2 +1,4 @@
+pub mod HelpersKept
 pub mod Kept
 pub mod Named
+pub mod Units

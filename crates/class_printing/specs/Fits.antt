@@ -1,7 +1,5 @@
--- What the types of the parts of a class say: names are texts of bytes, and units have 16 bits.
+-- What the types of the parts of a class say: names are texts of bytes.
 use Rattle.std.specs.Prelude.{All, IfSome}
-use Rattle.helper_rules.specs.Words.{units_of}
-use Rattle.js_tree.specs.Rules.{IsUnit}
 use Rattle.piece_rules.specs.Dispatch as dispatch
 use Rattle.piece_rules.specs.Pieces.{Parts}
 use Rattle.sj_pieces.specs.Ranges.{AreBytes, FitsMethodName, FitsMember}
@@ -16,7 +14,6 @@ FitsField f = AreBytes f.name
 
 pub record FitParts (p : Parts) : Type 0 where
   pub class : AreBytes p.class.name
-  pub units : All IsUnit (units_of p.class.name)
   pub superclass : IfSome p.class.superclass AreBytes
   pub ancestors : All AreBytes p.ancestors
   pub entries : All FitsEntry p.entries

@@ -1,6 +1,7 @@
 // The pieces of helpers.
 ghost use Rattle.std.specs.Prelude.{◌≡◌, IfOk, IsTrue, length};
 ghost use Rattle.js_tree.specs.Terms.{Item};
+ghost use Rattle.js_tree.specs.Rules.{IsPiece};
 ghost use Rattle.js_tree.specs.Views.{item_view, module_view, piece_view};
 ghost use Rattle.helper_rules.specs.Helpers as rules;
 ghost use Rattle.helper_rules.specs.Texts.{is_fixed, only_item};
@@ -8,6 +9,7 @@ ghost use Rattle.helper_rules.specs.declared.kinds.Helper.TheVariants.{Constants
 
 use crate::texts::helper_text;
 use crate::uses::helper_uses;
+use class_printing::{names_fit, pieces_of_classes_are_pieces};
 use helper_rules::{Helper, Kind};
 use js_read::{JsError, read_module};
 use js_tree::{JsItem, JsModule, JsPiece};
@@ -16,14 +18,17 @@ use sj_names::{ClassName, Items, NoMemory, Text};
 use std::alloc::Global;
 use std::rc::Rc;
 
-/// The piece of a helper, where the class of a kind has these ancestors.
+/// The piece of a helper, where the class of a kind has these ancestors. It keeps the rules of printing. Want of memory is the only error.
 pub fn helper_piece(
     alloc: Global,
     helper: Helper,
     ancestors: &[ClassName],
 ) -> Result<JsPiece, NoMemory>
-    ensures { IfOk result (λ p. piece_view p ≡ rules.helper_piece (λ _. ancestors.now) helper) }
+    ensures piece { IfOk result (λ p. piece_view p ≡ rules.helper_piece (λ _. ancestors.now) helper) }
+    ensures rules { IfOk result (λ p. IsPiece (piece_view p)) }
 {
+    names_fit(ancestors);
+    pieces_of_classes_are_pieces();
     let item = helper_item(alloc, helper, ancestors)?;
     let uses = helper_uses(alloc, helper)?;
     let binding = helper_binding(alloc, helper)?;

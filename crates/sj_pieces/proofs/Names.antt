@@ -68,8 +68,8 @@ result-bytes : (r : Option TypeRef) → IfSome r FitsReference → AreBytes (spe
 result-bytes None h = letter-bytes 82 (omega arith)
 result-bytes (Some r) h = reference-bytes r h
 
-method-bytes : (m : MethodName) → FitsMethodName m → AreBytes (spelled_method m)
-method-bytes m h = All-append IsByte (m.simple ++ spelled_parameters m.params) (59 ∷ spelled_result m.result) (All-append IsByte m.simple (spelled_parameters m.params) h.0 (parameters-bytes m.params h.1)) (All-cons IsByte 59 (spelled_result m.result) (omega arith) (result-bytes m.result h.2))
+pub spelled-bytes : (m : MethodName) → FitsMethodName m → AreBytes (spelled_method m)
+spelled-bytes m h = All-append IsByte (m.simple ++ spelled_parameters m.params) (59 ∷ spelled_result m.result) (All-append IsByte m.simple (spelled_parameters m.params) h.0 (parameters-bytes m.params h.1)) (All-cons IsByte 59 (spelled_result m.result) (omega arith) (result-bytes m.result h.2))
 
 -- letters, digits, `_` and `$` alone
 abbrev pub AreCharacters : List ℕ → Type 0
@@ -128,4 +128,4 @@ function-named PrivateStatic class method bytes others = rw (function-rest class
 function-named Constructor class method bytes others = rw (function-rest class method bytes others) refl
 
 pub member-named : (m : Member) → FitsMember m → IsName (member_name m)
-member-named m h = function-named m.namespace m.class m.method h.0 (method-bytes m.method h.1)
+member-named m h = function-named m.namespace m.class m.method h.0 (spelled-bytes m.method h.1)
