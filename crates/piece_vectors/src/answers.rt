@@ -1,10 +1,15 @@
 // The lines that are answered.
-use crate::helpers::helper_named;
+ghost use Rattle.std.specs.Prelude.{All, map};
+ghost use Rattle.js_tree.specs.Rules.{IsPiece};
+ghost use Rattle.js_tree.specs.Views.{piece_view};
+
+use crate::helpers::helper_line;
 use crate::texts::line_of;
 use anyhow::Result;
 use class_needs::needs_of;
 use class_pieces::class_pieces;
 use entries_file::entries_of;
+use js_tree::JsPiece;
 use sj_baselink::base_link;
 use sj_reach::reach;
 use sj_trees::ClassDef;
@@ -43,15 +48,22 @@ fn lines_of(
     for owner in owners {
         if let Some(class) = linked.world().class_named(owner.as_str()) {
             let pieces = class_pieces(alloc, linked, &needs, &class.name)?;
-            for place in 0..pieces.len() {
-                lines.push(line_of(alloc, "piece", &pieces[place])?)?;
-            }
+            put_pieces(alloc, &pieces, &mut lines)?;
         }
         if owner.as_str() == "java.lang.Object" {
             put_helpers(alloc, linked, wanted, &mut lines)?;
         }
     }
     Ok(lines)
+}
+
+fn put_pieces(alloc: Global, pieces: &[JsPiece], lines: &mut Vec<String>) -> Result<()>
+    requires { All IsPiece (map piece_view pieces.now) }
+{
+    for piece in pieces {
+        lines.push(line_of(alloc, "piece", piece)?)?;
+    }
+    Ok(())
 }
 
 fn put_helpers(
@@ -61,15 +73,21 @@ fn put_helpers(
     lines: &mut Vec<String>,
 ) -> Result<()> {
     for line in wanted {
-        if let Some(("helper", fields)) = line.as_str().split_once('\t') {
-            if let Some((_, rest)) = fields.split_once('\t') {
-                if let Some((name, _)) = rest.split_once('\t') {
-                    if let Some(piece) = helper_named(alloc, linked, name)? {
-                        lines.push(line_of(alloc, "helper", &piece)?)?;
-                    }
-                }
+        if let Some(name) = helper_in(line.as_str()) {
+            if let Some(line) = helper_line(alloc, linked, name)? {
+                lines.push(line)?;
             }
         }
     }
     Ok(())
+}
+
+// The name in the line of a helper.
+fn helper_in<'l>(line: &'l str) -> Option<&'l str> {
+    let mut fields = line.split('\t');
+    if fields.next() == Some("helper") {
+        fields.nth(1)
+    } else {
+        None
+    }
 }

@@ -1,47 +1,98 @@
 // Helpers by their names.
+use crate::texts::line_of;
 use anyhow::Result;
 use call_cases::{dispatch_of, reflective_of};
 use helper_making::helper_piece;
 use helper_rules::{Failure, Helper, Kind};
-use js_tree::JsPiece;
 use piece_making::{class_of_kind, helper_name};
 use sj_infos::{BodyForm, forms_of};
 use sj_mangling::{MethodBinding, method_binding};
-use sj_names::{Member, MethodName};
+use sj_names::{ClassName, Member, MethodName};
 use sj_trees::MethodDef;
 use sj_world::{Fact, LinkedWorld, method_in};
 use std::alloc::Global;
 
-/// The helper of this name; `None` where there is none.
-pub(crate) fn helper_named(
+/// The line of the helper of this name; `None` where there is none.
+pub(crate) fn helper_line(
     alloc: Global,
     linked: &LinkedWorld,
     name: &str,
-) -> Result<Option<JsPiece>> {
+) -> Result<Option<String>> {
     for helper in helpers() {
         if helper_name(*helper) == name {
-            return Ok(Some(helper_of(alloc, linked, *helper)?));
+            return Ok(Some(fixed_line(alloc, linked, *helper)?));
         }
     }
+    call_line(alloc, linked, name)
+}
+
+// The line of the function of this name that tells primitive receivers apart.
+fn call_line(alloc: Global, linked: &LinkedWorld, name: &str) -> Result<Option<String>> {
     for fact in linked.facts() {
-        match fact {
-            Fact::Called(_, method) => {
-                if is_bound(alloc, MethodBinding::Dispatch, method, name)? {
-                    return Ok(Some(dispatch_of(alloc, linked, method)?));
-                }
-            }
-            Fact::Body(member) => {
-                if let Some(piece) = reflective_by(alloc, linked, member, name)? {
-                    return Ok(Some(piece));
-                }
-            }
-            _ => {}
+        if let Some(line) = line_by(alloc, linked, fact, name)? {
+            return Ok(Some(line));
         }
     }
     Ok(None)
 }
 
-fn is_bound(alloc: Global, binding: MethodBinding, method: &MethodName, name: &str) -> Result<bool> {
+fn line_by(alloc: Global, linked: &LinkedWorld, fact: &Fact, name: &str) -> Result<Option<String>> {
+    match fact {
+        Fact::Called(_, method) => dispatch_by(alloc, linked, method, name),
+        Fact::Body(member) => reflective_by(alloc, linked, member, name),
+        _ => Ok(None),
+    }
+}
+
+fn dispatch_by(
+    alloc: Global,
+    linked: &LinkedWorld,
+    method: &MethodName,
+    name: &str,
+) -> Result<Option<String>> {
+    if is_bound(alloc, MethodBinding::Dispatch, method, name)? {
+        Ok(Some(dispatch_line(alloc, linked, method)?))
+    } else {
+        Ok(None)
+    }
+}
+
+fn dispatch_line(alloc: Global, linked: &LinkedWorld, method: &MethodName) -> Result<String> {
+    let piece = dispatch_of(alloc, linked, method)?;
+    line_of(alloc, "helper", &piece)
+}
+
+fn reflective_line(alloc: Global, linked: &LinkedWorld, proxy: &MethodName) -> Result<String> {
+    let piece = reflective_of(alloc, linked, proxy)?;
+    line_of(alloc, "helper", &piece)
+}
+
+fn fixed_line(alloc: Global, linked: &LinkedWorld, helper: Helper) -> Result<String> {
+    let piece = helper_piece(alloc, helper, ancestors_for(linked, helper))?;
+    line_of(alloc, "helper", &piece)
+}
+
+// The ancestors of the class of a kind, where the helper is what the running code knows of it.
+fn ancestors_for<'w>(linked: &'w LinkedWorld, helper: Helper) -> &'w [ClassName] {
+    let Helper::ConstantsOf(kind) = helper else {
+        return &[];
+    };
+    for class in linked.world().hijacked() {
+        if class.text() == class_of_kind(kind) {
+            if let Some(ancestors) = linked.world().ancestors(class) {
+                return ancestors;
+            }
+        }
+    }
+    &[]
+}
+
+fn is_bound(
+    alloc: Global,
+    binding: MethodBinding,
+    method: &MethodName,
+    name: &str,
+) -> Result<bool> {
     Ok(method_binding(alloc, binding, method)?.as_str() == name)
 }
 
@@ -51,7 +102,7 @@ fn reflective_by(
     linked: &LinkedWorld,
     member: &Member,
     name: &str,
-) -> Result<Option<JsPiece>> {
+) -> Result<Option<String>> {
     let Some(class) = linked.world().class(&member.class) else {
         return Ok(None);
     };
@@ -66,30 +117,16 @@ fn reflective_in(
     linked: &LinkedWorld,
     method: &MethodDef,
     name: &str,
-) -> Result<Option<JsPiece>> {
+) -> Result<Option<String>> {
     let forms = forms_of(alloc, method)?;
     for form in forms.as_slice() {
         if let BodyForm::Reflective(proxy) = form {
             if is_bound(alloc, MethodBinding::Reflective, proxy, name)? {
-                return Ok(Some(reflective_of(alloc, linked, proxy)?));
+                return Ok(Some(reflective_line(alloc, linked, proxy)?));
             }
         }
     }
     Ok(None)
-}
-
-fn helper_of(alloc: Global, linked: &LinkedWorld, helper: Helper) -> Result<JsPiece> {
-    if let Helper::ConstantsOf(kind) = helper {
-        let hijacked = linked.world().hijacked();
-        for class in hijacked {
-            if class.text() == class_of_kind(kind) {
-                if let Some(ancestors) = linked.world().ancestors(class) {
-                    return Ok(helper_piece(alloc, helper, ancestors)?);
-                }
-            }
-        }
-    }
-    Ok(helper_piece(alloc, helper, &[])?)
 }
 
 fn helpers() -> &'static [Helper] {

@@ -1,34 +1,48 @@
 // The lines of pieces.
+ghost use Rattle.js_tree.specs.Rules.{IsPiece};
+ghost use Rattle.js_tree.specs.Views.{piece_view};
+
 use anyhow::Result;
 use js_print::print_piece;
-use js_tree::JsPiece;
+use js_tree::{Binding, JsPiece};
 use std::alloc::Global;
 
 /// The line of a piece, as the input has it.
-pub(crate) fn line_of(alloc: Global, kind: &str, piece: &JsPiece) -> Result<String> {
+pub(crate) fn line_of(alloc: Global, kind: &str, piece: &JsPiece) -> Result<String>
+    requires { IsPiece (piece_view piece.now) }
+{
     let mut line = String::from_str(alloc, kind)?;
-    let owner = piece.owner.text();
-    let name = piece.name.as_str();
-    line.push_str("\t")?;
-    line.push_str(owner)?;
-    line.push_str("\t")?;
-    line.push_str(name)?;
-    line.push_str("\t")?;
-    let mut is_first = true;
-    for used in piece.uses.as_slice() {
-        if !is_first {
-            line.push_str(",")?;
-        }
-        is_first = false;
-        line.push_str(used.owner.text())?;
-        line.push_str(" ")?;
-        line.push_str(used.name.as_str())?;
-    }
-    let text = print_piece(alloc, piece)?;
-    let text = String::from_utf8(text)?;
+    add(
+        &["\t", piece.owner.text(), "\t", piece.name.as_str()],
+        &mut line,
+    )?;
+    add_uses(piece.uses.as_slice(), &mut line)?;
+    let text = String::from_utf8(print_piece(alloc, piece)?)?;
     for each in text.as_str().lines() {
-        line.push_str("\t")?;
-        line.push_str(each)?;
+        add(&["\t", each], &mut line)?;
     }
     Ok(line)
+}
+
+fn add_uses(bindings: &[Binding], line: &mut String) -> Result<()> {
+    let mut separator = "\t";
+    for used in bindings {
+        add(
+            &[separator, used.owner.text(), " ", used.name.as_str()],
+            line,
+        )?;
+        separator = ",";
+    }
+    if bindings.is_empty() {
+        line.push('\t')?;
+    }
+    Ok(())
+}
+
+// Adds the words.
+fn add(words: &[&str], line: &mut String) -> Result<()> {
+    for word in words {
+        line.push_str(word)?;
+    }
+    Ok(())
 }
