@@ -6,7 +6,10 @@ pub mod Jumps
 pub mod Loops
 pub mod Main
 pub mod Matches
+pub mod Mutable
 pub mod Numbers
+pub mod Parts
+pub mod RulesGive
 pub mod Spills
 pub mod Statements
 pub mod Trees

@@ -1,19 +1,24 @@
--- What is asked of a tree where it is written: a tree of the forms that are built, with its locals in scope where they are used, and
--- operands that spilling can bring to a variable.
-use Rattle.std.specs.Prelude.{◌≡◌, ℕ, ◌^◌, ◌<◌, Bool, true, false, List, [], ◌∷◌, ◌⊎◌, FitsSigned}
-use Rattle.std.specs.Int.{w32, w64}
+-- What is asked of a tree where it is written: it keeps the rules of bodies in a scene whose locals and labels are those around it, and what it comes to
+-- may be brought to its destination.
+use Rattle.std.specs.Prelude.{◌≡◌, ℕ, Bool, true, false, ◌&&◌, not, List, [], ◌∷◌, ◌⊎◌, Some}
 use Rattle.sj_core.specs.Terms as core
-use Rattle.sj_desugar.specs.Desugar.{Targets, target_of, member, types_of, has_no_value}
-use Rattle.sj_desugar.specs.Plain.{is_plain, is_fixed}
+use Rattle.sj_desugar.specs.Coercions.{is_char}
+use Rattle.sj_desugar.specs.Desugar.{Targets, target_of, has_no_value}
+use Rattle.sj_desugar.specs.Plain.{is_plain, is_fixed, is_among, mutable_in}
 use Rattle.sj_desugar.specs.Spill.{Destination, discard, to_variable, to_result}
-use Rattle.sj_trees.specs.Term.{Term, Terms, no_terms, more_terms, Cases, no_cases, more_cases, var_def, skip, block_of, labeled, assign, return_to, if_then, while_loop, do_while, match_on, apply_static, unary_op, binary_op, undefined_literal, null_literal, boolean_literal, char_literal, byte_literal, short_literal, int_literal, long_literal, string_literal, var_ref, log_line}
-use Rattle.sj_trees.specs.TypeOf.{type_of_term, unary_result, binary_result}
+use Rattle.sj_trees.specs.Term.{Term, boolean_literal}
+use Rattle.sj_trees.specs.TypeOf.{type_of_term}
+use Rattle.sj_trees.specs.declared.classes.ParamDef.{ParamDef}
 use Rattle.sj_trees.specs.declared.positions.Position.{Position}
 use Rattle.sj_trees.specs.declared.types.IrType.{IrType}
-use Rattle.sj_trees.specs.declared.types.IrType.TheVariants.{Undefined, Null, Boolean, Char, Byte, Short, Int, Long, String}
-use Rattle.sj_plain.specs.Conditions.{unary_operand, left_operand, Operates, DividesBy, Plain, Usable, Scope}
-use Rattle.sj_plain.specs.Standing.{Fits, FitAll, types_referred, call_type}
-use Rattle.sj_bodies.specs.Locals.{Own, OwnAll}
+use Rattle.sj_trees.specs.declared.types.IrType.TheVariants.{NoType}
+use Rattle.sj_plain.specs.Conditions.{Plain, Usable, Scope}
+use Rattle.sj_plain.specs.Standing.{Fits}
+use Rattle.sj_bodies.specs.Subtyping.{IsSubtyping}
+use Rattle.sj_bodies.specs.Typing.{Scene, HasValue, local_of, Typed}
+use Rattle.sj_world.specs.Known.{Classes}
+use Rattle.sj_world.specs.Subtypes.{IsSub}
+use Rattle.typing_rules.specs.Labels.{type_of_label}
 
 pub data IsDiscard : Destination → Type 0 where
   is_discard : IsDiscard discard
@@ -44,52 +49,51 @@ with_label l k ls = record { targets = record { label = l; goes_to = k } ∷ ls.
 abbrev pub no_labels : Around
 no_labels = record { targets = []; reaches = λ l. Unit {0} }
 
-module _ (is_mutable : List ℕ → Bool) (has : Usable) where
-  -- an operand is plain, or it may be brought to any variable of its type
-  abbrev pub FineOperand : Scope → Term → (core.Variable → Type 0) → Type 0
-  FineOperand scope t fine = ((is_plain t ≡ true) × Plain has scope t) ⊎ ((is_plain t ≡ false) × (is_fixed is_mutable t ≡ false) × ((y : core.Variable) → fine y))
+-- the parameters in scope, each with its type
+abbrev pub parameters_of : List ParamDef → Scope
+parameters_of [] x t = ⊥
+parameters_of (d ∷ ds) x t = with_local d.name d.tpe (parameters_of ds) x t
 
-  abbrev mutual
-    pub Fine : Scope → Around → Destination → Term → Type 0
-    Fine g ls k (var_def p x t b e) = IsDiscard k × (Own e x → ⊥) × (((is_plain e ≡ true) × Plain has g e × Fits t (type_of_term e)) ⊎ ((is_plain e ≡ false) × Fine g ls (to_variable (core.named x) t) e))
-    Fine g ls k (skip p) = IsDiscard k
-    Fine g ls k (block_of p ts) = FineBlock g ls k ts
-    Fine g ls k (labeled p l t e) = Fine g (with_label l k ls) k e
-    Fine g ls k (assign p (var_ref q x t) e) = IsDiscard k × g x t × (is_mutable x ≡ true) × Fits t (type_of_term e) × FineOperand g e (λ y. Fine g ls (to_variable y (type_of_term e)) e)
-    Fine g ls k (return_to p e l) = ls.reaches l × Fine g ls (target_of ls.targets l) e
-    Fine g ls k (if_then p c a b t) = FineOperand g c (λ y. Fine g ls (to_variable y (type_of_term c)) c) × Fine g ls k a × Fine g ls k b
-    Fine g ls k (while_loop p c b) = ((IsDiscard k × FineOperand g c (λ y. Fine g ls (to_variable y (type_of_term c)) c)) ⊎ IsTrueLiteral c) × Fine g ls discard b
-    Fine g ls k (do_while p b c) = ((IsDiscard k × FineOperand g c (λ y. Fine g ls (to_variable y (type_of_term c)) c)) ⊎ IsTrueLiteral c) × Fine g ls discard b
-    Fine g ls k (match_on p e cs d t) = FineOperand g e (λ y. Fine g ls (to_variable y (type_of_term e)) e) × FineCases g ls k cs × Fine g ls k d
-    Fine g ls k (apply_static p c n m ts t) = FitsIn k t × (has.linked (member c n m) ≡ true) × (t ≡ call_type m.result) × FitAll (types_referred m.params) (types_of ts) × FineOperands g ls k ts
-    Fine g ls k (unary_op p o e) = FitsIn k (unary_result o) × Fits (unary_operand o) (type_of_term e) × FineOperand g e (λ y. Fine g ls (to_variable y (type_of_term e)) e)
-    Fine g ls k (binary_op p o e d) = FitsIn k (binary_result o) × ((Operates o (type_of_term e) (type_of_term d) × FineOperand g e (λ y. Fine g ls (to_variable y (type_of_term e)) e) × FineOperand g d (λ y. Fine g ls (to_variable y (type_of_term d)) d)) ⊎ (DividesBy o d × Fits (left_operand o) (type_of_term e) × FineOperand g e (λ y. Fine g ls (to_variable y (type_of_term e)) e)))
-    Fine g ls k (undefined_literal p) = FitsIn k Undefined
-    Fine g ls k (null_literal p) = FitsIn k Null
-    Fine g ls k (boolean_literal p b) = FitsIn k Boolean
-    Fine g ls k (char_literal p u) = FitsIn k Char × (u < 2 ^ 16)
-    Fine g ls k (byte_literal p n) = FitsIn k Byte × FitsSigned w32 n
-    Fine g ls k (short_literal p n) = FitsIn k Short × FitsSigned w32 n
-    Fine g ls k (int_literal p n) = FitsIn k Int × FitsSigned w32 n
-    Fine g ls k (long_literal p n) = FitsIn k Long × FitsSigned w64 n
-    Fine g ls k (string_literal p us) = FitsIn k String
-    Fine g ls k (var_ref p x t) = FitsIn k t × g x t
-    Fine g ls k (log_line p e) = IsDiscard k × FineOperand g e (λ y. Fine g ls (to_variable y (type_of_term e)) e)
-    Fine g ls k _ = ⊥
+-- no char stands where another type is expected: no form that is built makes an object that holds it
+abbrev pub NoBox : IrType → IrType → Type 0
+NoBox expected own = (is_char own && not (is_char expected)) ≡ false
 
-    -- a local is in scope in the rest of its block
-    pub FineBlock : Scope → Around → Destination → Terms → Type 0
-    FineBlock g ls k no_terms = Unit {0}
-    FineBlock g ls k (more_terms t no_terms) = Fine g ls k t
-    FineBlock g ls k (more_terms (var_def p x t b e) (more_terms u us)) = Fine g ls discard (var_def p x t b e) × (OwnAll (more_terms u us) x → ⊥) × FineBlock (with_local x t g) ls k (more_terms u us)
-    FineBlock g ls k (more_terms t (more_terms u us)) = Fine g ls discard t × FineBlock g ls k (more_terms u us)
+-- every local in scope has a type with values
+abbrev pub HaveValues : List ParamDef → Type 0
+HaveValues ds = (x : List ℕ) (d : ParamDef) → local_of ds x ≡ Some d → HasValue d.tpe
 
-    pub FineOperands : Scope → Around → Destination → Terms → Type 0
-    FineOperands g ls k no_terms = Unit {0}
-    FineOperands g ls k (more_terms t ts) = FineOperand g t (λ y. Fine g ls (to_variable y (type_of_term t)) t) × FineOperands g ls k ts
+-- each that is mutable is taken for it
+abbrev pub AreMutable : (List ℕ → Bool) → List ParamDef → Type 0
+AreMutable is_mutable ds = (x : List ℕ) (d : ParamDef) → local_of ds x ≡ Some d → d.«mutable» ≡ true → is_mutable x ≡ true
 
-    -- a case without keys isn't chosen and isn't written
-    pub FineCases : Scope → Around → Destination → Cases → Type 0
-    FineCases g ls k no_cases = Unit {0}
-    FineCases g ls k (more_cases [] t cs) = FineCases g ls k cs
-    FineCases g ls k (more_cases (n ∷ ns) t cs) = Fine g ls k t × FineCases g ls k cs
+-- what is put in front is mutable
+abbrev pub Mutable : (List ℕ → Bool) → (List (List ℕ) → List (List ℕ)) → Type 0
+Mutable is_mutable f = (y : List ℕ) → is_among (f []) y ≡ true → is_mutable y ≡ true
+
+-- a type that may be brought to a destination: it is given up, or stands for one that has values
+abbrev pub Asks : Classes → Destination → IrType → Type 0
+Asks w discard t = Unit {0}
+Asks w (to_variable x i) t = (IsSub w t i × NoBox i t) × (i ≡ NoType → ⊥)
+Asks w (to_result i) t = (IsSub w t i × NoBox i t) × (i ≡ NoType → ⊥)
+
+-- what is around a tree is what its scene says: subtyping is ordered; the locals of the scene are in scope, have values, and are taken for mutable where they
+-- are; and the values that leave to a label go where they are of its type
+pub record Amid (w : Classes) (is_mutable : List ℕ → Bool) (g : Scope) (ls : Around) (s : Scene) : Type 0 where
+  pub ordered : IsSubtyping (IsSub w)
+  pub seen : (x : List ℕ) (t : IrType) → parameters_of s.locals x t → g x t
+  pub values : HaveValues s.locals
+  pub changing : AreMutable is_mutable s.locals
+  pub targets : (l : List ℕ) (t : IrType) → type_of_label s.labels l ≡ Some t → Asks w (target_of ls.targets l) t
+  pub reaches : (l : List ℕ) → ls.reaches l
+
+-- a tree that keeps the rules where it is written, and may be brought to its destination
+pub record Fine (w : Classes) (is_mutable : List ℕ → Bool) (has : Usable) (g : Scope) (ls : Around) (k : Destination) (t : Term) : Type 0 where
+  pub scene : Scene
+  pub amid : Amid w is_mutable g ls scene
+  pub written : Mutable is_mutable (mutable_in t)
+  pub asks : Asks w k (type_of_term t)
+  pub typed : Typed w has scene t
+
+-- an operand is plain, or it may be brought to any variable of its type
+abbrev pub FineOperand : (List ℕ → Bool) → Usable → Scope → Term → (core.Variable → Type 0) → Type 0
+FineOperand is_mutable has scope t fine = ((is_plain t ≡ true) × Plain has scope t) ⊎ ((is_plain t ≡ false) × (is_fixed is_mutable t ≡ false) × ((y : core.Variable) → fine y))

@@ -1,5 +1,6 @@
 -- The locals that a tree defines.
-use Rattle.std.specs.Prelude.{◌≡◌, ℕ, List, ◌⊎◌}
+use Rattle.std.specs.Prelude.{◌≡◌, ℕ, List, [], ◌∷◌, ◌⊎◌}
+use Rattle.sj_trees.specs.declared.classes.ParamDef.{ParamDef}
 use Rattle.sj_trees.specs.Term.{Term, Terms, no_terms, more_terms, Cases, no_cases, more_cases, var_def, block_of, labeled, assign, return_to, if_then, while_loop, do_while, match_on, apply_static, unary_op, binary_op, log_line}
 
 abbrev mutual
@@ -27,3 +28,7 @@ abbrev mutual
   pub OwnCases : Cases → List ℕ → Type 0
   OwnCases no_cases y = ⊥
   OwnCases (more_cases ks t cs) y = Own t y ⊎ OwnCases cs y
+
+abbrev pub IsParameter : List ParamDef → List ℕ → Type 0
+IsParameter [] x = ⊥
+IsParameter (d ∷ ds) x = (x ≡ d.name) ⊎ IsParameter ds x

@@ -52,7 +52,7 @@ pub record IsEmitted (w : World) (has : Usable) (e : EmittedMethod) : Type 0 whe
   pub has_body : e.definition.body ≡ Some e.its_body
   pub parameters : HaveTypes e.definition.params e.member.method.params
   pub result_is : e.definition.result ≡ call_type e.member.method.result
-  pub fine : FineMethod has e.definition e.its_body
+  pub fine : FineMethod w has e.definition e.its_body
 
 -- one of these methods is that of the member
 pub record HasFunction (fs : List EmittedMethod) (m : Member) : Type 0 where

@@ -1,5 +1,5 @@
 -- Methods that are linked, what is asked of each, and when the calls of one and of its function are alike.
-use Rattle.std.specs.Prelude.{◌≡◌, ℕ, List, [], ◌∷◌, ◌⊎◌, Some, None}
+use Rattle.std.specs.Prelude.{◌≡◌, ℕ, List, [], ◌∷◌, Some, None}
 use Rattle.js_tree.specs.Terms.{Name}
 use Rattle.outcomes.specs.Outcome.{Out}
 use Rattle.outcomes.specs.Agreement.{forward, backward, Enough, Sim}
@@ -15,11 +15,14 @@ use Rattle.sj_names.specs.declared.method_names.Member.{Member}
 use Rattle.sj_trees.specs.Term.{Term}
 use Rattle.sj_trees.specs.declared.classes.MethodDef.{MethodDef}
 use Rattle.sj_trees.specs.declared.classes.ParamDef.{ParamDef}
-use Rattle.sj_bodies.specs.Fine.{Fine, no_labels, with_local}
+pub use Rattle.sj_bodies.specs.Fine.{parameters_of}
+pub use Rattle.sj_bodies.specs.Locals.{IsParameter}
+use Rattle.sj_bodies.specs.Fine.{Fine, no_labels}
 use Rattle.sj_bodies.specs.Locals.{Own}
+use Rattle.sj_world.specs.Known.{Classes}
 use Rattle.sj_plain.specs.Settings.{Place, a_function, function_call, Reaches, Valued}
 use Rattle.sj_plain.specs.Worlds.{World}
-use Rattle.sj_plain.specs.Conditions.{Usable, Scope}
+use Rattle.sj_plain.specs.Conditions.{Usable}
 use Rattle.sj_plain.specs.Standing.{call_type}
 use Rattle.sj_names.specs.declared.references.TypeRef.{TypeRef}
 use Rattle.sj_trees.specs.Types.{reference_type}
@@ -33,15 +36,6 @@ parameters_in p (x ∷ xs) = p.name (named x) ∷ parameters_in p xs
 abbrev pub function_of : Place → MethodDef → Term → js_meaning.Code
 function_of p d e = record { parameters = parameters_in p (desugared d e).params; body = statement_templates p.name p.label (desugared d e).body }
 
-abbrev pub IsParameter : List ParamDef → List ℕ → Type 0
-IsParameter [] x = ⊥
-IsParameter (d ∷ ds) x = (x ≡ d.name) ⊎ IsParameter ds x
-
--- the parameters in scope, each with its type
-abbrev pub parameters_of : List ParamDef → Scope
-parameters_of [] x t = ⊥
-parameters_of (d ∷ ds) x t = with_local d.name d.tpe (parameters_of ds) x t
-
 -- the types of parameters are those of the references in the name
 abbrev pub HaveTypes : List ParamDef → List TypeRef → Type 0
 HaveTypes [] [] = Unit {0}
@@ -49,8 +43,8 @@ HaveTypes (d ∷ ds) (r ∷ rs) = (d.tpe ≡ reference_type r) × HaveTypes ds r
 HaveTypes _ _ = ⊥
 
 -- the body is fine where it brings its value out of the method, with the parameters in scope, and it defines no parameter again
-pub record FineMethod (has : Usable) (d : MethodDef) (e : Term) : Type 0 where
-  pub fine : Fine (is_mutable_in d e) has (parameters_of d.params) no_labels (result_destination d.result) e
+pub record FineMethod (w : Classes) (has : Usable) (d : MethodDef) (e : Term) : Type 0 where
+  pub fine : Fine w (is_mutable_in d e) has (parameters_of d.params) no_labels (result_destination d.result) e
   pub fresh : (x : List ℕ) → Own e x → IsParameter d.params x → ⊥
 
 -- a member of the classes with the types that its name tells and a body that is fine by what the code of its file can use, whose function stands in that
@@ -63,7 +57,7 @@ pub record Linked (p : Place) (m : Member) : Type 0 where
   pub parameters : HaveTypes definition.params m.method.params
   pub result_is : definition.result ≡ call_type m.method.result
   pub emitted : js_meaning.code_of p.program (p.home (a_function m)) (member_name m) ≡ Some (function_of p definition its_body)
-  pub fine : FineMethod (p.has (p.home (a_function m))) definition its_body
+  pub fine : FineMethod p.classes (p.has (p.home (a_function m))) definition its_body
   pub reaches : Reaches p (p.home (a_function m))
 
 -- a call of a member by the IR, and a call of its function, with a bound on what its body does

@@ -7,7 +7,7 @@ use Rattle.sj_world.specs.Known.{Classes}
 use Rattle.sj_world.specs.Laws.{IsTopped}
 use Rattle.sj_world.specs.Subtypes.{IsSub, equal, from_nothing, to_any, null_to_class, null_to_array, class_to_class, primitive_to_class, arrays_alike, arrays_of_arrays}
 use Rattle.sj_names.proofs.Same.{impossible}
-use Rattle.sj_sound.specs.Subtyping.{is_lowest, IsSubtyping}
+use Rattle.sj_bodies.specs.Subtyping.{is_lowest, IsSubtyping}
 
 from_none : (w : Classes) (t : IrType) → IsSub w NoType t → t ≡ NoType
 from_none w t (equal e) = sym e

@@ -1,6 +1,4 @@
-pub mod Covered
 pub mod InWorld
-pub mod Mutable
 pub mod Right
 pub mod RulesGive
 pub mod Same

@@ -36,15 +36,16 @@ use Rattle.sj_calls.specs.Methods.{IsParameter}
 use Rattle.sj_calls.proofs.Calls.{result-same}
 use Rattle.sj_sound.specs.Rules.{RightMember}
 use Rattle.sj_calls.specs.Methods.{HaveTypes}
-use Rattle.sj_sound.specs.Subtyping.{IsSubtyping}
+use Rattle.sj_bodies.specs.Subtyping.{IsSubtyping}
 use Rattle.sj_sound.specs.Rules.{scene_of}
-use Rattle.sj_sound.specs.Typing.{Scene, local_of, HasValue, behind, in_label, Typed, TypedBlock, TypedAll, TypedCases}
-use Rattle.sj_sound.proofs.RulesGive.{Yields, ArgumentsFit, Takes, its_types, texts, yields_there, one_yields, other_yields, leaves_there, arguments_there, is_linked, operation}
+use Rattle.sj_bodies.specs.Typing.{Scene, local_of, HasValue, behind, in_label, Typed, TypedBlock, TypedAll, TypedCases}
+use Rattle.sj_bodies.proofs.RulesGive.{Yields, ArgumentsFit, Takes, its_types, texts, yields_there, one_yields, other_yields, leaves_there, arguments_there, is_linked, operation}
 use Rattle.built_forms.proofs.Around.{type_inside}
 use Rattle.sj_world.specs.Subtypes.{IsSub}
 use Rattle.typing_rules.specs.Labels.{type_of_label}
 use Rattle.typing_rules.specs.Rules.{IsText as IsJoined}
-use Rattle.sj_sound.proofs.Covered.{local-there, HaveValues, values-behind, value-not, true-or-none, unary-operand-value, left-operand-value, right-operand-value, not_no_type}
+use Rattle.sj_bodies.specs.Fine.{HaveValues, NoBox}
+use Rattle.sj_bodies.proofs.Parts.{local-there, values-behind, value-not, true-or-none, unary-operand-value, left-operand-value, right-operand-value, not_no_type}
 use Rattle.sj_sound.proofs.Values.{Classes, Adds, adds-refl, adds-trans, type-lift, HasType, has_type, of_undefined, of_null, of_boolean, of_byte, of_short, of_int, of_text, IsBoolean, a_boolean, IsNumber, a_number, IsText, a_text, wider, as_boolean, as_int, as_text, Gives, some_of, unary_gives, binary_gives, division_gives, of_char, of_long, as_long, join_gives, long_division_gives}
 
 -- not wrong, and where it is done, with what P says

@@ -13,7 +13,7 @@ use Rattle.sj_trees.specs.declared.types.IrType.TheVariants.{Undefined, Null, Bo
 use Rattle.sj_plain.specs.Conditions.{is_simple, unary_operand, left_operand, right_operand, IsDivision, a_quotient, a_remainder, IsLongDivision, a_long_quotient, a_long_remainder}
 use Rattle.sj_plain.proofs.Shifts.{join_is}
 use Rattle.sj_names.proofs.Same.{impossible}
-use Rattle.sj_sound.specs.Subtyping.{IsSubtyping}
+use Rattle.sj_bodies.specs.Subtyping.{IsSubtyping}
 use Rattle.typing_rules.specs.Rules.{IsText as IsJoined}
 
 -- the class of the object at each address

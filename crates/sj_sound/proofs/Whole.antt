@@ -28,22 +28,22 @@ use Rattle.sj_calls.proofs.Items.{nothing_in, in_front_or_behind}
 use Rattle.sj_calls.proofs.Whole as calls
 use Rattle.sj_sound.specs.Linked.{has_function, have_functions, IsRight, functions_of}
 use Rattle.sj_sound.specs.Rules.{scene_of, KeepsRules, RightMember}
-use Rattle.sj_sound.specs.Subtyping.{IsSubtyping}
+use Rattle.sj_bodies.specs.Subtyping.{IsSubtyping}
 use Rattle.sj_names.specs.declared.method_names.Namespace.TheVariants.{PublicStatic}
-use Rattle.sj_sound.specs.Typing.{Scene}
-use Rattle.sj_sound.proofs.RulesGive.{NoBox, yields_there}
+use Rattle.sj_bodies.specs.Typing.{Scene}
+use Rattle.sj_bodies.proofs.RulesGive.{yields_there}
 use Rattle.sj_world.specs.Laws.{IsTopped}
 use Rattle.sj_world.specs.Subtypes.{IsSub}
-use Rattle.sj_sound.proofs.Covered.{Asks, fine}
+use Rattle.sj_bodies.specs.Fine.{Asks, NoBox}
 use Rattle.sj_sound.proofs.InWorld.{in_world}
-use Rattle.sj_sound.proofs.Mutable.{mutable-known, parameter-known}
+use Rattle.sj_bodies.proofs.Mutable.{mutable-known, parameter-known}
 use Rattle.sj_sound.proofs.Right.{Comes, comes_then, CameRight, gave, left, threw, EnvTyped, ObjectTyped, typed_object, HeapTyped, none_left, call_right, bodies_right, no_label, nothing_there}
 use Rattle.sj_sound.proofs.Values.{Classes, HasType, has_type, of_undefined, of_null, of_boolean, of_char, of_long, of_byte, of_short, of_int, of_text, of_object}
 use Rattle.sj_sound.proofs.Same.{has_function-is}
 use Rattle.sj_plain.specs.Conditions.{Usable}
 
 module _ (w : ir_world.World) (law : IsSubtyping (IsSub w)) (has : Usable) where
-  asks-result : (is_mutable : List ℕ → Bool) (e : Term) (t : IrType) (k : Destination) → Way t k → (t ≡ NoType) ⊎ (IsSub w (type_of_term e) t × NoBox t (type_of_term e)) → Asks w law is_mutable has k (type_of_term e)
+  asks-result : (is_mutable : List ℕ → Bool) (e : Term) (t : IrType) (k : Destination) → Way t k → (t ≡ NoType) ⊎ (IsSub w (type_of_term e) t × NoBox t (type_of_term e)) → Asks w k (type_of_term e)
   asks-result is_mutable e _ _ gives_up y = tt
   asks-result is_mutable e _ _ (hands_on t h) (inl none) = impossible (sym h ∙ ap is_no_type none)
   asks-result is_mutable e _ _ (hands_on t h) (inr f) = (f, λ none. impossible (sym h ∙ ap is_no_type none))
@@ -52,9 +52,15 @@ module _ (w : ir_world.World) (law : IsSubtyping (IsSub w)) (has : Usable) where
   no_type e = impossible (cc)
 
   -- a method that keeps the rules is fine
-  pub method-fine : (d : MethodDef) (e : Term) → KeepsRules w has d e → FineMethod has d e
+  pub method-fine : (d : MethodDef) (e : Term) → KeepsRules w has d e → FineMethod w has d e
   method-fine d e r = record {
-    fine = fine w law (is_mutable_in d e) has e (scene_of d) no_labels (result_destination d.result) r.values (λ x p i m. parameter-known d e x p i m) (record { targets = λ l t e. no_type e; all = λ l. tt }) (mutable-known d e) (asks-result (is_mutable_in d e) e d.result (result_destination d.result) (way d.result) (yields_there w e d.result r.unboxed r.yields)) r.typed;
+    fine = record {
+      scene = scene_of d;
+      amid = record { ordered = law; seen = λ x t h. h; values = r.values; changing = λ x p i m. parameter-known d e x p i m; targets = λ l t e. no_type e; reaches = λ l. tt };
+      written = mutable-known d e;
+      asks = asks-result (is_mutable_in d e) e d.result (result_destination d.result) (way d.result) (yields_there w e d.result r.unboxed r.yields);
+      typed = r.typed;
+    };
     fresh = r.fresh;
   }
 

@@ -18,7 +18,7 @@ use Rattle.sj_sound.specs.Rules.{scene_of, KeepsRules}
 use Rattle.sj_world.specs.Laws.{IsTopped}
 use Rattle.sj_world.specs.Subtypes.{equal}
 use Rattle.sj_sound.proofs.Topped.{topped}
-use Rattle.sj_sound.specs.Typing.{Scene, local_of, HasValue, IsLocal, IsVariable, Here}
+use Rattle.sj_bodies.specs.Typing.{Scene, local_of, HasValue, IsLocal, IsVariable, Here}
 use Rattle.typing_rules.specs.Rules.{nothing_wanted, fitting}
 use Rattle.sj_trees.specs.Term.{int_literal, var_ref}
 use Rattle.sj_sound.specs.Worked.{tests_it, main_method, tripling_method, worked_world, emitted, worked_methods}

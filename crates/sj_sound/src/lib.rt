@@ -35,7 +35,7 @@ pub fn subtypes_of_worlds_are_ordered()
 
 /// A method whose body keeps the rules is covered by the theorem on calls.
 pub fn bodies_are_covered()
-    ensures { (w : World) → IsTopped w → (has : Usable) (d : MethodDef) (e : Term) → KeepsRules w has d e → FineMethod has d e }
+    ensures { (w : World) → IsTopped w → (has : Usable) (d : MethodDef) (e : Term) → KeepsRules w has d e → FineMethod w has d e }
 {}
 
 /// The theorem on programs of such methods: take a module that has the functions of these methods in this order and then calls the initializers

@@ -9,7 +9,8 @@ use Rattle.sj_trees.specs.declared.classes.MethodDef.{MethodDef}
 use Rattle.sj_trees.specs.declared.classes.ParamDef.{ParamDef}
 use Rattle.sj_bodies.proofs.Contexts.{equals, is-equal}
 use Rattle.sj_names.proofs.Same.{impossible}
-use Rattle.sj_sound.specs.Typing.{local_of}
+use Rattle.sj_bodies.specs.Fine.{Mutable}
+use Rattle.sj_bodies.specs.Typing.{local_of}
 
 -- names are put in front of those that are handed over, and these stay as they are
 abbrev pub PutsInFront : (List (List ℕ) → List (List ℕ)) → Type 0
@@ -80,10 +81,6 @@ among_first (x ∷ xs) ys y h = go (pointwise nat_eq y x) h (among_first xs ys y
 among_later : (xs ys : List (List ℕ)) (y : List ℕ) → is_among ys y ≡ true → is_among (xs ++ ys) y ≡ true
 among_later [] ys y h = h
 among_later (x ∷ xs) ys y h = behind_one (pointwise nat_eq y x) (is_among (xs ++ ys) y) (among_later xs ys y h)
-
--- what is put in front is mutable
-abbrev pub Mutable : (List ℕ → Bool) → (List (List ℕ) → List (List ℕ)) → Type 0
-Mutable is_mutable f = (y : List ℕ) → is_among (f []) y ≡ true → is_mutable y ≡ true
 
 -- of two that put names in front one after the other
 pub of_first : (is_mutable : List ℕ → Bool) (f g : List (List ℕ) → List (List ℕ)) → PutsInFront f → Mutable is_mutable (λ xs. f (g xs)) → Mutable is_mutable f

@@ -1,0 +1,136 @@
+-- What the rules of trees give where no char stands in place of another type.
+use Rattle.std.proofs.Common.{◌≡◌, ℕ, Bool, true, false, List, [], ◌∷◌, codes, Option, Some, None, refl, sym, subst, inl, inr, ⊎_elim, if◌then◌else◌}
+use Rattle.std.specs.Prelude.{◌⊎◌, ◌≢◌, ◌&&◌, ◌||◌, ℤ, pos, not, nat_eq}
+use Rattle.std.specs.Cmp.Lexicographic.{pointwise}
+use Rattle.std.specs.Ordering.{int_eq}
+use Rattle.std.proofs.lemmas.Bool.{and_parts}
+use Rattle.built_forms.specs.Built.{Usable, is_boxed, yields_boxed, leaves_boxed, any_is_boxed, is_nonzero_int, is_nonzero_long, is_operation}
+use Rattle.sj_desugar.specs.Coercions.{is_char}
+use Rattle.sj_desugar.specs.Desugar.{has_no_value}
+use Rattle.sj_names.proofs.Same.{impossible}
+use Rattle.sj_names.specs.declared.references.TypeRef.{TypeRef}
+use Rattle.sj_plain.specs.Conditions.{is_simple, left_operand, right_operand, IsDivision, a_quotient, a_remainder, IsLongDivision, a_long_quotient, a_long_remainder, DividesBy, by_int, by_long}
+use Rattle.sj_bodies.specs.Fine.{NoBox}
+use Rattle.sj_bodies.specs.Typing.{Scene, HasValue, IsResult, AllHaveValues, Typed}
+use Rattle.sj_trees.specs.Term.{Term, Terms, no_terms, more_terms, int_literal, long_literal}
+use Rattle.sj_trees.specs.TypeOf.{type_of_term}
+use Rattle.sj_trees.specs.Types.{class_type, reference_type}
+use Rattle.sj_trees.specs.declared.operators.BinaryOp.{BinaryOp}
+use Rattle.sj_trees.specs.declared.operators.BinaryOp.TheVariants.{StrictEqual, StrictNotEqual, StringConcatenate, IntDivide, IntRemainder, LongDivide, LongRemainder}
+use Rattle.sj_trees.specs.declared.types.IrType.{IrType}
+use Rattle.sj_trees.specs.declared.types.IrType.TheVariants.{NoType}
+use Rattle.sj_world.specs.Known.{Classes}
+use Rattle.sj_world.specs.Subtypes.{IsSub}
+use Rattle.typing_rules.specs.declared.labels.Label.{Label}
+use Rattle.typing_rules.specs.Labels.{type_of_label}
+use Rattle.typing_rules.specs.Rules.{call_type, IsText, OperandsFit, ReturnsTo}
+use Rattle.typing_rules.specs.Rules as rules
+
+-- the operands of an operator: of its own types, or texts that are joined
+pub data Takes (w : Classes) (o : BinaryOp) (e d : Term) : Type 0 where
+  its_types : is_simple o ≡ true → IsSub w (type_of_term e) (left_operand o) → IsSub w (type_of_term d) (right_operand o) → Takes w o e d
+  texts : o ≡ StringConcatenate → IsText (type_of_term e) → IsText (type_of_term d) → Takes w o e d
+
+when_not : (b : Bool) → not b ≡ true → b ≡ false
+when_not true h = impossible h
+when_not false h = refl
+
+neither : (a b : Bool) → not (a || b) ≡ true → (not a ≡ true) × (not b ≡ true)
+neither true b h = impossible h
+neither false b h = (refl, h)
+
+not_zero : (z : ℤ) → not (int_eq z (pos 0)) ≡ true → z ≢ pos 0
+not_zero z h e = let none : not (int_eq (pos 0) (pos 0)) ≡ true = subst (λ (y : ℤ). not (int_eq y (pos 0)) ≡ true) e h in impossible none
+
+pub class_has_value : (c : List ℕ) → has_no_value (class_type c) ≡ false
+class_has_value c = go (pointwise nat_eq c (codes "java.lang.Object"))
+  where
+    go : (b : Bool) → has_no_value (if b then IrType.Any else IrType.Class c) ≡ false
+    go true = refl
+    go false = refl
+
+result_value : (o : Option TypeRef) → IsResult (call_type o)
+result_value None = inr refl
+result_value (Some TypeRef.Void) = inl refl
+result_value (Some (TypeRef.Class c)) = inr (class_has_value c)
+result_value (Some TypeRef.Boolean) = inr refl
+result_value (Some TypeRef.Char) = inr refl
+result_value (Some TypeRef.Byte) = inr refl
+result_value (Some TypeRef.Short) = inr refl
+result_value (Some TypeRef.Int) = inr refl
+result_value (Some TypeRef.Long) = inr refl
+result_value (Some (TypeRef.Array r)) = inr refl
+
+-- a result by the type that its call has
+pub result_is : (o : Option TypeRef) (t : IrType) → t ≡ call_type o → IsResult t
+result_is o t is = subst IsResult (sym is) (result_value o)
+
+-- there is no value to yield, or it is no char where another type is expected
+no_box_yielded : (t : IrType) (e : Term) → not (yields_boxed t e) ≡ true → (t ≡ NoType) ⊎ NoBox t (type_of_term e)
+no_box_yielded NoType e h = inl refl
+no_box_yielded t e h = inr (when_not (is_boxed t e) h)
+
+module _ (w : Classes) where
+  -- the tree stands where the type is expected
+  abbrev pub FitsType : Term → IrType → Type 0
+  FitsType e t = IsSub w (type_of_term e) t × NoBox t (type_of_term e)
+
+  -- there is no value to yield, or the tree's fits
+  abbrev pub Yields : Term → IrType → Type 0
+  Yields e t = (t ≡ NoType) ⊎ FitsType e t
+
+  -- arguments are as many as the parameters, of which each has a value, and fit their types
+  abbrev pub ArgumentsFit : Terms → List TypeRef → Type 0
+  ArgumentsFit no_terms [] = Unit {0}
+  ArgumentsFit (more_terms e es) (r ∷ rs) = FitsType e (reference_type r) × HasValue (reference_type r) × ArgumentsFit es rs
+  ArgumentsFit _ _ = ⊥
+
+  pub fits_there : (e : Term) (t : IrType) → not (is_boxed t e) ≡ true → IsSub w (type_of_term e) t → FitsType e t
+  fits_there e t raw fits = (fits, when_not (is_boxed t e) raw)
+
+  pub yields_there : (e : Term) (t : IrType) → not (yields_boxed t e) ≡ true → rules.Yields w e t → Yields e t
+  yields_there e t raw (rules.nothing_wanted none) = inl none
+  yields_there e t raw (rules.fitting fits) = ⊎_elim (λ none. inl none) (λ own. inr (fits, own)) (no_box_yielded t e raw)
+
+  -- both branches of a choice
+  pub one_yields : (a b : Term) (t : IrType) → (not (yields_boxed t a) && not (yields_boxed t b)) ≡ true → rules.Yields w a t → Yields a t
+  one_yields a b t raw yields = yields_there a t (and_parts (not (yields_boxed t a)) (not (yields_boxed t b)) raw).0 yields
+
+  pub other_yields : (a b : Term) (t : IrType) → (not (yields_boxed t a) && not (yields_boxed t b)) ≡ true → rules.Yields w b t → Yields b t
+  other_yields a b t raw yields = yields_there b t (and_parts (not (yields_boxed t a)) (not (yields_boxed t b)) raw).1 yields
+
+  pub leaves_there : (ls : List Label) (l : List ℕ) (e : Term) → not (leaves_boxed (type_of_label ls l) e) ≡ true → (r : ReturnsTo w ls l e) → Yields e r.tpe
+  leaves_there ls l e raw r = yields_there e r.tpe (subst (λ (o : Option IrType). not (leaves_boxed o e) ≡ true) r.is_type raw) r.yields
+
+  arguments_are : (es : Terms) (rs : List TypeRef) → not (any_is_boxed rs es) ≡ true → AllHaveValues rs → rules.ArgumentsFit w es rs → ArgumentsFit es rs
+  arguments_are no_terms [] raw values fits = tt
+  arguments_are no_terms (r ∷ rs) raw values fits = absurd fits
+  arguments_are (more_terms e es) [] raw values fits = absurd fits
+  arguments_are (more_terms e es) (r ∷ rs) raw values fits = let own = neither (is_boxed (reference_type r) e) (any_is_boxed rs es) raw in (fits_there e (reference_type r) own.0 fits.0, values.0, arguments_are es rs own.1 values.1 fits.1)
+
+  -- those of a call that is linked
+  pub arguments_there : (linked : Bool) (es : Terms) (rs : List TypeRef) → (linked && not (any_is_boxed rs es)) ≡ true → AllHaveValues rs → rules.ArgumentsFit w es rs → ArgumentsFit es rs
+  arguments_there linked es rs raw values fits = arguments_are es rs (and_parts linked (not (any_is_boxed rs es)) raw).1 values fits
+
+  pub is_linked : (linked : Bool) (es : Terms) (rs : List TypeRef) → (linked && not (any_is_boxed rs es)) ≡ true → linked ≡ true
+  is_linked linked es rs raw = (and_parts linked (not (any_is_boxed rs es)) raw).0
+
+  module _ (has : Usable) (s : Scene) where
+    int_divisor : (o : BinaryOp) (d : Term) → IsDivision o → is_nonzero_int d ≡ true → Typed w has s d → DividesBy o d
+    int_divisor o (int_literal p z) i h typed = by_int o i p z typed.finds (not_zero z h)
+    int_divisor o _ i h typed = impossible h
+
+    long_divisor : (o : BinaryOp) (d : Term) → IsLongDivision o → is_nonzero_long d ≡ true → Typed w has s d → DividesBy o d
+    long_divisor o (long_literal p z) i h typed = by_long o i p z typed.finds (not_zero z h)
+    long_divisor o _ i h typed = impossible h
+
+    -- operands of an operator that is built: of its types, joined, or a dividend in front of a literal
+    pub operation : (o : BinaryOp) (a b : Term) → is_operation o b ≡ true → Typed w has s b → OperandsFit w o a b → Takes w o a b ⊎ (DividesBy o b × IsSub w (type_of_term a) (left_operand o))
+    operation StrictEqual a b h typed fits = impossible h
+    operation StrictNotEqual a b h typed fits = impossible h
+    operation IntDivide a b h typed fits = inr (int_divisor IntDivide b a_quotient h typed, fits.0)
+    operation IntRemainder a b h typed fits = inr (int_divisor IntRemainder b a_remainder h typed, fits.0)
+    operation LongDivide a b h typed fits = inr (long_divisor LongDivide b a_long_quotient h typed, fits.0)
+    operation LongRemainder a b h typed fits = inr (long_divisor LongRemainder b a_long_remainder h typed, fits.0)
+    operation StringConcatenate a b h typed fits = inl (texts refl fits.0 fits.1)
+    operation _ a b h typed fits = inl (its_types refl fits.0 fits.1)

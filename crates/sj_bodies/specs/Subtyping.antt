@@ -1,0 +1,26 @@
+-- What is asked of a relation of subtypes.
+use Rattle.std.specs.Prelude.{◌≡◌, Bool, true, false, ◌⊎◌}
+use Rattle.sj_trees.specs.declared.types.IrType.{IrType}
+use Rattle.sj_trees.specs.declared.types.IrType.TheVariants.{Nothing, Undefined, Boolean, Char, Byte, Short, Int, Long, String, NoType}
+
+-- a type of which only itself and nothing are subtypes
+abbrev pub is_lowest : IrType → Bool
+is_lowest Undefined = true
+is_lowest Boolean = true
+is_lowest Char = true
+is_lowest Byte = true
+is_lowest Short = true
+is_lowest Int = true
+is_lowest Long = true
+is_lowest String = true
+is_lowest NoType = true
+is_lowest Nothing = true
+is_lowest _ = false
+
+-- each type is a subtype of itself, and of what its supertypes are subtypes of; none is a subtype of none alone; and nothing but itself and
+-- nothing is a subtype of the types that are lowest
+pub record IsSubtyping (sub : IrType → IrType → Type 0) : Type 0 where
+  pub same : (t : IrType) → sub t t
+  pub further : (s t u : IrType) → sub s t → sub t u → sub s u
+  pub from_none : (t : IrType) → sub NoType t → t ≡ NoType
+  pub lowest : (s t : IrType) → is_lowest t ≡ true → sub s t → (s ≡ t) ⊎ (s ≡ Nothing)

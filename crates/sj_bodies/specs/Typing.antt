@@ -1,0 +1,121 @@
+-- The rules of bodies, in one statement: each tree meets the rule of its form, is of the forms that are built, and finds what it uses around it.
+use Rattle.std.specs.Prelude.{◌≡◌, ℕ, ◌^◌, ◌<◌, true, false, List, [], ◌∷◌, ◌⊎◌, FitsSigned, nat_eq, not, Option, Some, None, if◌then◌else◌}
+use Rattle.std.specs.Int.{w32, w64}
+use Rattle.std.specs.Cmp.Lexicographic.{pointwise}
+use Rattle.built_forms.specs.Built.{Usable, yields_boxed, stands}
+use Rattle.sj_desugar.specs.Desugar.{has_no_value}
+use Rattle.sj_names.specs.declared.method_names.Namespace.{Namespace}
+use Rattle.sj_names.specs.declared.references.TypeRef.{TypeRef}
+use Rattle.sj_bodies.specs.Locals.{Own, OwnAll}
+use Rattle.sj_trees.specs.Term.{Term, Terms, no_terms, more_terms, Cases, no_cases, more_cases, var_def, block_of, labeled, assign, return_to, if_then, while_loop, do_while, match_on, apply_static, unary_op, binary_op, char_literal, byte_literal, short_literal, int_literal, long_literal, var_ref, log_line}
+use Rattle.sj_trees.specs.Types.{reference_type}
+use Rattle.sj_trees.specs.declared.classes.ParamDef.{ParamDef}
+use Rattle.sj_trees.specs.declared.types.IrType.{IrType}
+use Rattle.sj_trees.specs.declared.types.IrType.TheVariants.{NoType}
+use Rattle.sj_world.specs.Known.{Classes}
+use Rattle.typing_rules.specs.declared.labels.Label.{Label}
+use Rattle.typing_rules.specs.Nodes.{inside}
+use Rattle.typing_rules.specs.Rules.{Meets, Yields}
+
+-- what a tree stands in: the namespace of its method, the locals in scope, the innermost first, and the labels around it, the innermost last
+pub record Scene : Type 0 where
+  pub space : Namespace
+  pub locals : List ParamDef
+  pub labels : List Label
+
+-- the innermost local of a name
+abbrev pub local_of : List ParamDef → List ℕ → Option ParamDef
+local_of [] x = None
+local_of (d ∷ ds) x = if pointwise nat_eq x d.name then Some d else local_of ds x
+
+-- a type of which there are values
+abbrev pub HasValue : IrType → Type 0
+HasValue t = has_no_value t ≡ false
+
+-- none, or a type of which there are values
+abbrev pub IsResult : IrType → Type 0
+IsResult t = (t ≡ NoType) ⊎ HasValue t
+
+-- each parameter has values
+abbrev pub AllHaveValues : List TypeRef → Type 0
+AllHaveValues [] = Unit {0}
+AllHaveValues (r ∷ rs) = HasValue (reference_type r) × AllHaveValues rs
+
+-- a local in scope, with its type; and one that is mutable
+pub record IsLocal (s : Scene) (x : List ℕ) (t : IrType) : Type 0 where
+  pub local : ParamDef
+  pub is : local_of s.locals x ≡ Some local
+  pub type_is : local.tpe ≡ t
+
+pub record IsVariable (s : Scene) (x : List ℕ) (t : IrType) : Type 0 where
+  pub local : ParamDef
+  pub is : local_of s.locals x ≡ Some local
+  pub type_is : local.tpe ≡ t
+  pub mutable : local.mutable ≡ true
+
+-- what a statement of a block defines for those behind it
+abbrev pub Defines : Term → List ℕ → Type 0
+Defines (var_def p x t b e) y = x ≡ y
+Defines _ y = ⊥
+
+abbrev pub behind : Term → Scene → Scene
+behind (var_def p x t b e) s = record { space = s.space; locals = record { name = x; «mutable» = b; tpe = t } ∷ s.locals; labels = s.labels }
+behind _ s = s
+
+abbrev pub in_label : List ℕ → IrType → Scene → Scene
+in_label l t s = record { space = s.space; locals = s.locals; labels = inside l t s.labels }
+
+-- what a tree asks of its surroundings: that a local which it uses is in scope, and one which it defines isn't defined in it again; that there are values where
+-- they are handed over; and that numbers are those of their types
+abbrev pub Finds : Scene → Term → Type 0
+Finds s (var_def p x t b e) = HasValue t × (Own e x → ⊥)
+Finds s (assign p (var_ref q x t) e) = IsVariable s x t
+Finds s (apply_static p c n m ts t) = AllHaveValues m.params
+Finds s (char_literal p u) = u < 2 ^ 16
+Finds s (byte_literal p z) = FitsSigned w32 z
+Finds s (short_literal p z) = FitsSigned w32 z
+Finds s (int_literal p z) = FitsSigned w32 z
+Finds s (long_literal p z) = FitsSigned w64 z
+Finds s (var_ref p x t) = IsLocal s x t
+Finds s _ = Unit {0}
+
+module _ (w : Classes) (has : Usable) where
+  -- what is asked at a tree, beside what is asked at those in it
+  pub record Here (s : Scene) (t : Term) : Type 0 where
+    pub meets : Meets w s.space s.labels t
+    pub built : stands has s.labels t ≡ true
+    pub finds : Finds s t
+
+  abbrev mutual
+    pub Typed : Scene → Term → Type 0
+    Typed s (var_def p x t b e) = Here s (var_def p x t b e) × Typed s e
+    Typed s (block_of p ts) = TypedBlock s ts
+    Typed s (labeled p l t e) = Here s (labeled p l t e) × Typed (in_label l t s) e
+    Typed s (assign p (var_ref q x t) e) = Here s (assign p (var_ref q x t) e) × Typed s e
+    Typed s (return_to p e l) = Here s (return_to p e l) × Typed s e
+    Typed s (if_then p c a b t) = Here s (if_then p c a b t) × Typed s c × Typed s a × Typed s b
+    Typed s (while_loop p c b) = Here s (while_loop p c b) × Typed s c × Typed s b
+    Typed s (do_while p b c) = Here s (do_while p b c) × Typed s b × Typed s c
+    Typed s (match_on p e cs d t) = Here s (match_on p e cs d t) × Typed s e × TypedCases s t cs × Typed s d
+    Typed s (apply_static p c n m ts t) = Here s (apply_static p c n m ts t) × TypedAll s ts
+    Typed s (unary_op p o e) = Here s (unary_op p o e) × Typed s e
+    Typed s (binary_op p o e d) = Here s (binary_op p o e d) × Typed s e × Typed s d
+    Typed s (log_line p e) = Here s (log_line p e) × Typed s e
+    -- a tree with none in it that is built
+    Typed s t = Here s t
+
+    -- a block isn't empty, and what a statement defines no later one defines again
+    pub TypedBlock : Scene → Terms → Type 0
+    TypedBlock s no_terms = ⊥
+    TypedBlock s (more_terms t no_terms) = Typed s t
+    TypedBlock s (more_terms t (more_terms u us)) = Typed s t × ((x : List ℕ) → Defines t x → OwnAll (more_terms u us) x → ⊥) × TypedBlock (behind t s) (more_terms u us)
+
+    pub TypedAll : Scene → Terms → Type 0
+    TypedAll s no_terms = Unit {0}
+    TypedAll s (more_terms t ts) = Typed s t × TypedAll s ts
+
+    -- a case without keys isn't chosen
+    pub TypedCases : Scene → IrType → Cases → Type 0
+    TypedCases s t no_cases = Unit {0}
+    TypedCases s t (more_cases [] e cs) = TypedCases s t cs
+    TypedCases s t (more_cases (n ∷ ns) e cs) = (Yields w e t × (not (yields_boxed t e) ≡ true)) × Typed s e × TypedCases s t cs
