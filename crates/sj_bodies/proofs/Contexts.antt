@@ -58,7 +58,7 @@ pub record Ready (p : Place) (here : Name) (scope : Scope) (writable : core.Vari
   pub sees : Sees p here scope w env sc
   pub «open» : (y : core.Variable) → writable y → IsOpen (sc.bindings (p.name y))
 
-pub ready-lift : (z : Setting) (scope : Scope) (q : core.Variable → Type 0) (u w : World) (env : ir.Env) (sc : js.Scope) → Grows u w → Ready z.place z.file scope q u env sc → Ready z.place z.file scope q w env sc
+pub ready-lift : (z : Setting) (scope : Scope) (q : core.Variable → Type 0) (u w : World) (env : ir.Env) (sc : js.Scope) → Grows u w → Ready z.place z.code scope q u env sc → Ready z.place z.code scope q w env sc
 ready-lift z scope q u w env sc g r = record { sees = sees-lift z scope u w env sc g r.sees; «open» = r.«open» }
 
 pub record Keeps (p : Place) (kept : core.Variable → Type 0) (before behind : js.Scope) : Type 0 where
@@ -127,11 +127,11 @@ module _ (z : Setting) (lawful : Lawful z) where
   pub started-other : (const : Bool) (y x : core.Variable) (v : js.Value) (sc : js.Scope) → (x ≡ y → ⊥) → (js_meaning.start const (z.place.name y) v sc).bindings (z.place.name x) ≡ sc.bindings (z.place.name x)
   started-other const y x v sc h = ap (λ (t : Bool). if t then js.holds const v else sc.bindings (z.place.name x)) (differs (z.place.name x) (z.place.name y) (λ e. h (lawful.base.names.variables x y e)))
 
-  pub started-inside : (const : Bool) (y : core.Variable) (v : js.Value) (sc : js.Scope) → Inside z.place z.file sc → Inside z.place z.file (js_meaning.start const (z.place.name y) v sc)
+  pub started-inside : (const : Bool) (y : core.Variable) (v : js.Value) (sc : js.Scope) → Inside z.place z.code sc → Inside z.place z.code (js_meaning.start const (z.place.name y) v sc)
   started-inside const y v sc i = record { file = i.file; free = λ x none. ap (λ (t : Bool). if t then js.holds const v else sc.bindings x) (differs x (z.place.name y) (λ e. none y (sym e))) ∙ i.free x none }
 
   -- a binding that is no local in scope and may not be written otherwise
-  pub started-ready : (scope : Scope) (q : core.Variable → Type 0) (const : Bool) (y : core.Variable) (v : js.Value) (w : World) (env : ir.Env) (sc : js.Scope) → ((x : List ℕ) (t : IrType) → scope x t → core.named x ≡ y → ⊥) → ((x : core.Variable) → q x → x ≡ y → ⊥) → Ready z.place z.file scope q w env sc → Ready z.place z.file scope q w env (js_meaning.start const (z.place.name y) v sc)
+  pub started-ready : (scope : Scope) (q : core.Variable → Type 0) (const : Bool) (y : core.Variable) (v : js.Value) (w : World) (env : ir.Env) (sc : js.Scope) → ((x : List ℕ) (t : IrType) → scope x t → core.named x ≡ y → ⊥) → ((x : core.Variable) → q x → x ≡ y → ⊥) → Ready z.place z.code scope q w env sc → Ready z.place z.code scope q w env (js_meaning.start const (z.place.name y) v sc)
   started-ready scope q const y v w env sc out unwritten r = record {
     sees = record { inside = started-inside const y v sc r.sees.inside; locals = λ x t i. subst (Holding w t (env.locals x)) (sym (started-other const y (core.named x) v sc (out x t i))) (r.sees.locals x t i) };
     «open» = λ x i. record { value = (r.«open» x i).value; is = started-other const y x v sc (unwritten x i) ∙ (r.«open» x i).is };

@@ -133,7 +133,7 @@ either_loop : (b : Bool) (p : Position) (c : core.Expression) (x v : Code) (y : 
 either_loop true p c x v y d = alone_declares (core.while_of (Some p) c x.statements) y (λ h. h) d
 either_loop false p c x v y d = alone_declares (core.while_of (Some p) (core.boolean_value true) v.statements) y (λ h. h) d
 
-module _ (is_mutable : List ℕ → Bool) where
+module _ (is_mutable sure : List ℕ → Bool) where
   defined_or_declared : (b : Bool) (p : Position) (x : List ℕ) (e : core.Expression) (c : Code) (own : List ℕ → Type 0) (j : ℕ) (y : core.Variable) → own x → (Declares c.statements y → IsNew own j y) → Declares (elim b as (λ b. Code) [ true ↦ one (core.define_of (Some p) (core.named x) e) j | false ↦ put_first (core.declare_of (Some p) (core.named x)) c ]).statements y → IsNew own j y
   defined_or_declared true p x e c own j y o h (inl d) = subst (IsNew own j) d o
   defined_or_declared true p x e c own j y o h (inr d) = absurd d
@@ -141,30 +141,30 @@ module _ (is_mutable : List ℕ → Bool) where
   defined_or_declared false p x e c own j y o h (inr d) = h d
 
   abbrev one_operand : Targets → Term → List Operand
-  one_operand ls e = operand is_mutable e (λ k j. into is_mutable ls k j e) ∷ []
+  one_operand ls e = operand is_mutable sure e (λ k j. into is_mutable sure ls k j e) ∷ []
 
   abbrev EachNewTree : Targets → Terms → Type 0
   EachNewTree ls no_terms = Unit {0}
-  EachNewTree ls (more_terms t ts) = ((k : Destination) (j : ℕ) (y : core.Variable) → Declares (into is_mutable ls k j t).statements y → IsNew (Own t) j y) × EachNewTree ls ts
+  EachNewTree ls (more_terms t ts) = ((k : Destination) (j : ℕ) (y : core.Variable) → Declares (into is_mutable sure ls k j t).statements y → IsNew (Own t) j y) × EachNewTree ls ts
 
-  each-new : (ls : Targets) (ts : Terms) (own : List ℕ → Type 0) → ((x : List ℕ) → OwnAll ts x → own x) → EachNewTree ls ts → EachNew own (operands is_mutable ls ts)
+  each-new : (ls : Targets) (ts : Terms) (own : List ℕ → Type 0) → ((x : List ℕ) → OwnAll ts x → own x) → EachNewTree ls ts → EachNew own (operands is_mutable sure ls ts)
   each-new ls no_terms own h n = tt
   each-new ls (more_terms t ts) own h n = ((λ k j y i. new-more (Own t) own j j y (λ x o. h x (inl o)) (omega arith) (n.0 k j y i)), each-new ls ts own (λ x o. h x (inr o)) n.1)
 
   mutual
-    pub new : (ls : Targets) (t : Term) (k : Destination) (j : ℕ) (y : core.Variable) → Declares (into is_mutable ls k j t).statements y → IsNew (Own t) j y
-    new ls (var_def p x t b e) k j y d = defined_or_declared (is_plain e) p x (coerced t (type_of_term e) (expression_of e)) (into is_mutable ls (to_variable (core.named x) t) j e) (Own (var_def p x t b e)) j y (inl refl) (λ i. new-more (Own e) (Own (var_def p x t b e)) j j y (λ x o. inr o) (omega arith) (new ls e (to_variable (core.named x) t) j y i)) d
+    pub new : (ls : Targets) (t : Term) (k : Destination) (j : ℕ) (y : core.Variable) → Declares (into is_mutable sure ls k j t).statements y → IsNew (Own t) j y
+    new ls (var_def p x t b e) k j y d = defined_or_declared (is_plain e) p x (coerced t (type_of_term e) (expression_of sure e)) (into is_mutable sure ls (to_variable (core.named x) t) j e) (Own (var_def p x t b e)) j y (inl refl) (λ i. new-more (Own e) (Own (var_def p x t b e)) j j y (λ x o. inr o) (omega arith) (new ls e (to_variable (core.named x) t) j y i)) d
     new ls (block_of p ts) k j y d = block-new ls ts k j y d
-    new ls (labeled p l t e) k j y d = new (record { label = l; goes_to = k } ∷ ls) e k j y (labeled-declares k p l (into is_mutable (record { label = l; goes_to = k } ∷ ls) k j e) y d)
+    new ls (labeled p l t e) k j y d = new (record { label = l; goes_to = k } ∷ ls) e k j y (labeled-declares k p l (into is_mutable sure (record { label = l; goes_to = k } ∷ ls) k j e) y d)
     new ls (assign p (var_ref q x t) e) k j y d = behind_operands (Own e) (one_operand ls e) (onward is_mutable ls e, tt) (new ls e, tt) j (λ es. one (core.assign_to (Some p) (core.named x) (coerced t (type_of_term e) (first_of es)))) y (λ es i. alone_declares (core.assign_to (Some p) (core.named x) (coerced t (type_of_term e) (first_of es))) y (λ h. h)) d
-    new ls (return_to p e l) k j y d = new ls e (target_of ls l) j y (leaving-declares (target_of ls l) p l (into is_mutable ls (target_of ls l) j e) y d)
-    new ls (if_then p c a b t) k j y d = behind_operands (Own (if_then p c a b t)) (one_operand ls c) (onward is_mutable ls c, tt) ((λ k j y i. new-more (Own c) (Own (if_then p c a b t)) j j y (λ x o. inl o) (omega arith) (new ls c k j y i)), tt) j (λ es j. branches p (first_of es) (into is_mutable ls k j a) (λ j. into is_mutable ls k j b)) y (λ es i. alone_declares (core.if_of (Some p) (first_of es) (into is_mutable ls k i a).statements (into is_mutable ls k (into is_mutable ls k i a).next b).statements) y (λ h. h)) d
-    new ls (while_loop p c b) k j y d = absurd (either_loop (is_plain c) p (expression_of c) (into is_mutable ls discard j b) (then_use (spill (one_operand ls c) j) (λ es j. put_first (break_unless (first_of es)) (into is_mutable ls discard j b))) y d)
-    new ls (do_while p b c) k j y d = absurd (alone_declares (core.loop_of (Some p) (then_code (into is_mutable ls discard j b) (λ j. then_use (spill (one_operand ls c) j) (λ es. one (break_unless (first_of es))))).statements) y (λ h. h) d)
-    new ls (match_on p e cs c t) k j y d = behind_operands (Own (match_on p e cs c t)) (one_operand ls e) (onward is_mutable ls e, tt) ((λ k j y i. new-more (Own e) (Own (match_on p e cs c t)) j j y (λ x o. inl o) (omega arith) (new ls e k j y i)), tt) j (λ es j. switch_code p (first_of es) (cases is_mutable ls k j cs) (λ j. into is_mutable ls k j c)) y (λ es i. alone_declares (core.switch_of (Some p) (first_of es) (cases is_mutable ls k i cs).cases (into is_mutable ls k (cases is_mutable ls k i cs).next c).statements) y (λ h. h)) d
-    new ls (apply_static p c n m ts t) k j y d = behind_operands (OwnAll ts) (operands is_mutable ls ts) (operands-onward is_mutable ls ts) (each-new ls ts (OwnAll ts) (λ x o. o) (operands-new ls ts)) j (λ es. finish k p t false (core.static_call (member c n m) (expressions_of (coerced_arguments m.params (types_of ts) es)))) y (λ es i. finish-declares k p t false (core.static_call (member c n m) (expressions_of (coerced_arguments m.params (types_of ts) es))) i y) d
+    new ls (return_to p e l) k j y d = new ls e (target_of ls l) j y (leaving-declares (target_of ls l) p l (into is_mutable sure ls (target_of ls l) j e) y d)
+    new ls (if_then p c a b t) k j y d = behind_operands (Own (if_then p c a b t)) (one_operand ls c) (onward is_mutable ls c, tt) ((λ k j y i. new-more (Own c) (Own (if_then p c a b t)) j j y (λ x o. inl o) (omega arith) (new ls c k j y i)), tt) j (λ es j. branches p (first_of es) (into is_mutable sure ls k j a) (λ j. into is_mutable sure ls k j b)) y (λ es i. alone_declares (core.if_of (Some p) (first_of es) (into is_mutable sure ls k i a).statements (into is_mutable sure ls k (into is_mutable sure ls k i a).next b).statements) y (λ h. h)) d
+    new ls (while_loop p c b) k j y d = absurd (either_loop (is_plain c) p (expression_of sure c) (into is_mutable sure ls discard j b) (then_use (spill (one_operand ls c) j) (λ es j. put_first (break_unless (first_of es)) (into is_mutable sure ls discard j b))) y d)
+    new ls (do_while p b c) k j y d = absurd (alone_declares (core.loop_of (Some p) (then_code (into is_mutable sure ls discard j b) (λ j. then_use (spill (one_operand ls c) j) (λ es. one (break_unless (first_of es))))).statements) y (λ h. h) d)
+    new ls (match_on p e cs c t) k j y d = behind_operands (Own (match_on p e cs c t)) (one_operand ls e) (onward is_mutable ls e, tt) ((λ k j y i. new-more (Own e) (Own (match_on p e cs c t)) j j y (λ x o. inl o) (omega arith) (new ls e k j y i)), tt) j (λ es j. switch_code p (first_of es) (cases is_mutable sure ls k j cs) (λ j. into is_mutable sure ls k j c)) y (λ es i. alone_declares (core.switch_of (Some p) (first_of es) (cases is_mutable sure ls k i cs).cases (into is_mutable sure ls k (cases is_mutable sure ls k i cs).next c).statements) y (λ h. h)) d
+    new ls (apply_static p c n m ts t) k j y d = behind_operands (OwnAll ts) (operands is_mutable sure ls ts) (operands-onward is_mutable ls ts) (each-new ls ts (OwnAll ts) (λ x o. o) (operands-new ls ts)) j (λ es. finish k p t false (core.static_call (member c n m) (expressions_of (coerced_arguments m.params (types_of ts) es)))) y (λ es i. finish-declares k p t false (core.static_call (member c n m) (expressions_of (coerced_arguments m.params (types_of ts) es))) i y) d
     new ls (unary_op p o e) k j y d = behind_operands (Own e) (one_operand ls e) (onward is_mutable ls e, tt) (new ls e, tt) j (λ es. finish k p (unary_result o) false (core.unary_of o (first_of es))) y (λ es i. finish-declares k p (unary_result o) false (core.unary_of o (first_of es)) i y) d
-    new ls (binary_op p o e c) k j y d = behind_operands (Own (binary_op p o e c)) (operand is_mutable e (λ k j. into is_mutable ls k j e) ∷ one_operand ls c) (onward is_mutable ls e, (onward is_mutable ls c, tt)) ((λ k j y i. new-more (Own e) (Own (binary_op p o e c)) j j y (λ x o. inl o) (omega arith) (new ls e k j y i)), ((λ k j y i. new-more (Own c) (Own (binary_op p o e c)) j j y (λ x o. inr o) (omega arith) (new ls c k j y i)), tt)) j (λ es. finish k p (binary_result o) false (core.binary_of o (operand_of o (type_of_term e) (first_of es)) (operand_of o (type_of_term c) (second_of es)))) y (λ es i. finish-declares k p (binary_result o) false (core.binary_of o (operand_of o (type_of_term e) (first_of es)) (operand_of o (type_of_term c) (second_of es))) i y) d
+    new ls (binary_op p o e c) k j y d = behind_operands (Own (binary_op p o e c)) (operand is_mutable sure e (λ k j. into is_mutable sure ls k j e) ∷ one_operand ls c) (onward is_mutable ls e, (onward is_mutable ls c, tt)) ((λ k j y i. new-more (Own e) (Own (binary_op p o e c)) j j y (λ x o. inl o) (omega arith) (new ls e k j y i)), ((λ k j y i. new-more (Own c) (Own (binary_op p o e c)) j j y (λ x o. inr o) (omega arith) (new ls c k j y i)), tt)) j (λ es. finish k p (binary_result o) false (core.binary_of o (operand_of o (type_of_term e) (first_of es)) (operand_of o (type_of_term c) (second_of es)))) y (λ es i. finish-declares k p (binary_result o) false (core.binary_of o (operand_of o (type_of_term e) (first_of es)) (operand_of o (type_of_term c) (second_of es))) i y) d
     new ls (undefined_literal p) k j y d = absurd (finish-declares k p Undefined true core.undefined_value j y d)
     new ls (null_literal p) k j y d = absurd (finish-declares k p Null true core.null_value j y d)
     new ls (boolean_literal p b) k j y d = absurd (finish-declares k p Boolean true (core.boolean_value b) j y d)
@@ -178,10 +178,10 @@ module _ (is_mutable : List ℕ → Bool) where
     new ls (log_line p e) k j y d = behind_operands (Own e) (one_operand ls e) (onward is_mutable ls e, tt) (new ls e, tt) j (λ es. one (core.log_of (Some p) (first_of es))) y (λ es i. alone_declares (core.log_of (Some p) (first_of es)) y (λ h. h)) d
     new ls _ k j y d = absurd d
 
-    pub block-new : (ls : Targets) (ts : Terms) (k : Destination) (j : ℕ) (y : core.Variable) → Declares (block is_mutable ls k j ts).statements y → IsNew (OwnAll ts) j y
+    pub block-new : (ls : Targets) (ts : Terms) (k : Destination) (j : ℕ) (y : core.Variable) → Declares (block is_mutable sure ls k j ts).statements y → IsNew (OwnAll ts) j y
     block-new ls no_terms k j y d = absurd d
     block-new ls (more_terms t no_terms) k j y d = new-more (Own t) (OwnAll (more_terms t no_terms)) j j y (λ x o. inl o) (omega arith) (new ls t k j y d)
-    block-new ls (more_terms t (more_terms u us)) k j y d = let c = into is_mutable ls discard j t in ⊎_elim (λ i. new-more (Own t) (OwnAll (more_terms t (more_terms u us))) j j y (λ x o. inl o) (omega arith) (new ls t discard j y i)) (λ i. new-more (OwnAll (more_terms u us)) (OwnAll (more_terms t (more_terms u us))) c.next j y (λ x o. inr o) (onward is_mutable ls t discard j) (block-new ls (more_terms u us) k c.next y i)) (declares-followed c.statements (block is_mutable ls k c.next (more_terms u us)).statements y d)
+    block-new ls (more_terms t (more_terms u us)) k j y d = let c = into is_mutable sure ls discard j t in ⊎_elim (λ i. new-more (Own t) (OwnAll (more_terms t (more_terms u us))) j j y (λ x o. inl o) (omega arith) (new ls t discard j y i)) (λ i. new-more (OwnAll (more_terms u us)) (OwnAll (more_terms t (more_terms u us))) c.next j y (λ x o. inr o) (onward is_mutable ls t discard j) (block-new ls (more_terms u us) k c.next y i)) (declares-followed c.statements (block is_mutable sure ls k c.next (more_terms u us)).statements y d)
 
     operands-new : (ls : Targets) (ts : Terms) → EachNewTree ls ts
     operands-new ls no_terms = tt

@@ -49,21 +49,21 @@ either false c d j h k = k
 step_up : (i j k : ℕ) → i ≤ j → j ≤ k → i ≤ k
 step_up i j k h l = omega arith
 
-module _ (is_mutable : List ℕ → Bool) where
+module _ (is_mutable sure : List ℕ → Bool) where
   mutual
-    pub onward : (ls : Targets) (t : Term) (k : Destination) (j : ℕ) → j ≤ (into is_mutable ls k j t).next
-    onward ls (var_def p x t b e) k j = either (is_plain e) (one (core.define_of (Some p) (core.named x) _) j) (put_first (core.declare_of (Some p) (core.named x)) (into is_mutable ls (to_variable (core.named x) t) j e)) j (omega arith) (onward ls e (to_variable (core.named x) t) j)
+    pub onward : (ls : Targets) (t : Term) (k : Destination) (j : ℕ) → j ≤ (into is_mutable sure ls k j t).next
+    onward ls (var_def p x t b e) k j = either (is_plain e) (one (core.define_of (Some p) (core.named x) _) j) (put_first (core.declare_of (Some p) (core.named x)) (into is_mutable sure ls (to_variable (core.named x) t) j e)) j (omega arith) (onward ls e (to_variable (core.named x) t) j)
     onward ls (block_of p ts) k j = block-onward ls ts k j
-    onward ls (labeled p l t e) k j = subst (λ n. j ≤ n) (sym (labeled-next k p l (into is_mutable (record { label = l; goes_to = k } ∷ ls) k j e))) (onward (record { label = l; goes_to = k } ∷ ls) e k j)
-    onward ls (assign p (var_ref q x t) e) k j = spill-onward (operand is_mutable e (λ k j. into is_mutable ls k j e) ∷ []) (onward ls e, tt) j
-    onward ls (return_to p e l) k j = subst (λ n. j ≤ n) (sym (leaving-next (target_of ls l) p l (into is_mutable ls (target_of ls l) j e))) (onward ls e (target_of ls l) j)
-    onward ls (if_then p c a b t) k j = let s = spill (operand is_mutable c (λ k j. into is_mutable ls k j c) ∷ []) j in step_up j s.next _ (spill-onward (operand is_mutable c (λ k j. into is_mutable ls k j c) ∷ []) (onward ls c, tt) j) (step_up s.next (into is_mutable ls k s.next a).next _ (onward ls a k s.next) (onward ls b k (into is_mutable ls k s.next a).next))
-    onward ls (while_loop p c b) k j = let s = spill (operand is_mutable c (λ k j. into is_mutable ls k j c) ∷ []) j in either (is_plain c) (wrapped (core.while_of (Some p) (expression_of c)) (into is_mutable ls discard j b)) (wrapped (core.while_of (Some p) (core.boolean_value true)) (then_use s (λ es j. put_first (break_unless (first_of es)) (into is_mutable ls discard j b)))) j (onward ls b discard j) (step_up j s.next _ (spill-onward (operand is_mutable c (λ k j. into is_mutable ls k j c) ∷ []) (onward ls c, tt) j) (onward ls b discard s.next))
-    onward ls (do_while p b c) k j = step_up j (into is_mutable ls discard j b).next _ (onward ls b discard j) (spill-onward (operand is_mutable c (λ k j. into is_mutable ls k j c) ∷ []) (onward ls c, tt) (into is_mutable ls discard j b).next)
-    onward ls (match_on p e cs d t) k j = let s = spill (operand is_mutable e (λ k j. into is_mutable ls k j e) ∷ []) j in step_up j s.next _ (spill-onward (operand is_mutable e (λ k j. into is_mutable ls k j e) ∷ []) (onward ls e, tt) j) (step_up s.next (cases is_mutable ls k s.next cs).next _ (cases-onward ls cs k s.next) (onward ls d k (cases is_mutable ls k s.next cs).next))
-    onward ls (apply_static p c n m ts t) k j = let s = spill (operands is_mutable ls ts) j in step_up j s.next _ (spill-onward (operands is_mutable ls ts) (operands-onward ls ts) j) (finish-onward k p t false _ s.next)
-    onward ls (unary_op p o e) k j = let s = spill (operand is_mutable e (λ k j. into is_mutable ls k j e) ∷ []) j in step_up j s.next _ (spill-onward (operand is_mutable e (λ k j. into is_mutable ls k j e) ∷ []) (onward ls e, tt) j) (finish-onward k p _ false _ s.next)
-    onward ls (binary_op p o e d) k j = let s = spill (operand is_mutable e (λ k j. into is_mutable ls k j e) ∷ operand is_mutable d (λ k j. into is_mutable ls k j d) ∷ []) j in step_up j s.next _ (spill-onward (operand is_mutable e (λ k j. into is_mutable ls k j e) ∷ operand is_mutable d (λ k j. into is_mutable ls k j d) ∷ []) (onward ls e, (onward ls d, tt)) j) (finish-onward k p _ false _ s.next)
+    onward ls (labeled p l t e) k j = subst (λ n. j ≤ n) (sym (labeled-next k p l (into is_mutable sure (record { label = l; goes_to = k } ∷ ls) k j e))) (onward (record { label = l; goes_to = k } ∷ ls) e k j)
+    onward ls (assign p (var_ref q x t) e) k j = spill-onward (operand is_mutable sure e (λ k j. into is_mutable sure ls k j e) ∷ []) (onward ls e, tt) j
+    onward ls (return_to p e l) k j = subst (λ n. j ≤ n) (sym (leaving-next (target_of ls l) p l (into is_mutable sure ls (target_of ls l) j e))) (onward ls e (target_of ls l) j)
+    onward ls (if_then p c a b t) k j = let s = spill (operand is_mutable sure c (λ k j. into is_mutable sure ls k j c) ∷ []) j in step_up j s.next _ (spill-onward (operand is_mutable sure c (λ k j. into is_mutable sure ls k j c) ∷ []) (onward ls c, tt) j) (step_up s.next (into is_mutable sure ls k s.next a).next _ (onward ls a k s.next) (onward ls b k (into is_mutable sure ls k s.next a).next))
+    onward ls (while_loop p c b) k j = let s = spill (operand is_mutable sure c (λ k j. into is_mutable sure ls k j c) ∷ []) j in either (is_plain c) (wrapped (core.while_of (Some p) (expression_of sure c)) (into is_mutable sure ls discard j b)) (wrapped (core.while_of (Some p) (core.boolean_value true)) (then_use s (λ es j. put_first (break_unless (first_of es)) (into is_mutable sure ls discard j b)))) j (onward ls b discard j) (step_up j s.next _ (spill-onward (operand is_mutable sure c (λ k j. into is_mutable sure ls k j c) ∷ []) (onward ls c, tt) j) (onward ls b discard s.next))
+    onward ls (do_while p b c) k j = step_up j (into is_mutable sure ls discard j b).next _ (onward ls b discard j) (spill-onward (operand is_mutable sure c (λ k j. into is_mutable sure ls k j c) ∷ []) (onward ls c, tt) (into is_mutable sure ls discard j b).next)
+    onward ls (match_on p e cs d t) k j = let s = spill (operand is_mutable sure e (λ k j. into is_mutable sure ls k j e) ∷ []) j in step_up j s.next _ (spill-onward (operand is_mutable sure e (λ k j. into is_mutable sure ls k j e) ∷ []) (onward ls e, tt) j) (step_up s.next (cases is_mutable sure ls k s.next cs).next _ (cases-onward ls cs k s.next) (onward ls d k (cases is_mutable sure ls k s.next cs).next))
+    onward ls (apply_static p c n m ts t) k j = let s = spill (operands is_mutable sure ls ts) j in step_up j s.next _ (spill-onward (operands is_mutable sure ls ts) (operands-onward ls ts) j) (finish-onward k p t false _ s.next)
+    onward ls (unary_op p o e) k j = let s = spill (operand is_mutable sure e (λ k j. into is_mutable sure ls k j e) ∷ []) j in step_up j s.next _ (spill-onward (operand is_mutable sure e (λ k j. into is_mutable sure ls k j e) ∷ []) (onward ls e, tt) j) (finish-onward k p _ false _ s.next)
+    onward ls (binary_op p o e d) k j = let s = spill (operand is_mutable sure e (λ k j. into is_mutable sure ls k j e) ∷ operand is_mutable sure d (λ k j. into is_mutable sure ls k j d) ∷ []) j in step_up j s.next _ (spill-onward (operand is_mutable sure e (λ k j. into is_mutable sure ls k j e) ∷ operand is_mutable sure d (λ k j. into is_mutable sure ls k j d) ∷ []) (onward ls e, (onward ls d, tt)) j) (finish-onward k p _ false _ s.next)
     onward ls (undefined_literal p) k j = finish-onward k p _ true _ j
     onward ls (null_literal p) k j = finish-onward k p _ true _ j
     onward ls (boolean_literal p b) k j = finish-onward k p _ true _ j
@@ -74,19 +74,19 @@ module _ (is_mutable : List ℕ → Bool) where
     onward ls (int_literal p n) k j = finish-onward k p _ true _ j
     onward ls (string_literal p us) k j = finish-onward k p _ true _ j
     onward ls (var_ref p x t) k j = finish-onward k p t true _ j
-    onward ls (log_line p e) k j = spill-onward (operand is_mutable e (λ k j. into is_mutable ls k j e) ∷ []) (onward ls e, tt) j
+    onward ls (log_line p e) k j = spill-onward (operand is_mutable sure e (λ k j. into is_mutable sure ls k j e) ∷ []) (onward ls e, tt) j
     onward ls _ k j = omega arith
 
-    pub block-onward : (ls : Targets) (ts : Terms) (k : Destination) (j : ℕ) → j ≤ (block is_mutable ls k j ts).next
+    pub block-onward : (ls : Targets) (ts : Terms) (k : Destination) (j : ℕ) → j ≤ (block is_mutable sure ls k j ts).next
     block-onward ls no_terms k j = omega arith
     block-onward ls (more_terms t no_terms) k j = onward ls t k j
-    block-onward ls (more_terms t (more_terms u us)) k j = step_up j (into is_mutable ls discard j t).next _ (onward ls t discard j) (block-onward ls (more_terms u us) k (into is_mutable ls discard j t).next)
+    block-onward ls (more_terms t (more_terms u us)) k j = step_up j (into is_mutable sure ls discard j t).next _ (onward ls t discard j) (block-onward ls (more_terms u us) k (into is_mutable sure ls discard j t).next)
 
-    pub operands-onward : (ls : Targets) (ts : Terms) → EachOnward (operands is_mutable ls ts)
+    pub operands-onward : (ls : Targets) (ts : Terms) → EachOnward (operands is_mutable sure ls ts)
     operands-onward ls no_terms = tt
     operands-onward ls (more_terms t ts) = (onward ls t, operands-onward ls ts)
 
-    pub cases-onward : (ls : Targets) (cs : Cases) (k : Destination) (j : ℕ) → j ≤ (cases is_mutable ls k j cs).next
+    pub cases-onward : (ls : Targets) (cs : Cases) (k : Destination) (j : ℕ) → j ≤ (cases is_mutable sure ls k j cs).next
     cases-onward ls no_cases k j = omega arith
     cases-onward ls (more_cases [] t cs) k j = cases-onward ls cs k j
-    cases-onward ls (more_cases (n ∷ ns) t cs) k j = step_up j (into is_mutable ls k j t).next _ (onward ls t k j) (cases-onward ls cs k (into is_mutable ls k j t).next)
+    cases-onward ls (more_cases (n ∷ ns) t cs) k j = step_up j (into is_mutable sure ls k j t).next _ (onward ls t k j) (cases-onward ls cs k (into is_mutable sure ls k j t).next)

@@ -61,7 +61,7 @@ pub record Piece : Type 0 where
 module _ (z : Setting) (lawful : Lawful z) where
   -- a tree and its statements, in a context, with a destination and numbers from this on
   abbrev pub Does : Context → Destination → ℕ → Term → Type 0
-  Does c k j t = (w : World) (env : ir.Env) (s : ir.State) (sc : js.Scope) (u : js.State) → Ready z.place z.file c.scope c.writable w env sc → SameState z.place w s u → Sim z.direction (Came z.place z.file c c.scope k w sc) (ir_meaning.step z.place.classes z.low t env s) (run z (into z.is_mutable c.targets k j t).statements sc u)
+  Does c k j t = (w : World) (env : ir.Env) (s : ir.State) (sc : js.Scope) (u : js.State) → Ready z.place z.code c.scope c.writable w env sc → SameState z.place w s u → Sim z.direction (Came z.place z.code c c.scope k w sc) (ir_meaning.step z.place.classes z.low t env s) (run z (into z.is_mutable z.code.sure c.targets k j t).statements sc u)
 
   -- an operand that gives a value at once, and whose expression goes on to give what stands for it
   pub record FixedRun (p : core.Variable → Type 0) (w : World) (env : ir.Env) (sc : js.Scope) (t : IrType) (r : ir.Run) (e : core.Expression) : Type 0 where
@@ -72,7 +72,7 @@ module _ (z : Setting) (lawful : Lawful z) where
     pub goes_on : (later : js.Scope) (u : js.State) → Keeps z.place p sc later → shown z e later u ≡ done (js.gives js_value u)
 
   abbrev FixedTree : (p : core.Variable → Type 0) (w : World) (env : ir.Env) (sc : js.Scope) (t : Term) → Type 0
-  FixedTree p w env sc t = FixedRun p w env sc (type_of_term t) (ir_meaning.step z.place.classes z.low t) (expression_of t)
+  FixedTree p w env sc t = FixedRun p w env sc (type_of_term t) (ir_meaning.step z.place.classes z.low t) (expression_of z.code.sure t)
 
   local_fixed : (p : core.Variable → Type 0) (w : World) (env : ir.Env) (sc : js.Scope) (q : Position) (x : List ℕ) (t : IrType) → p (core.named x) → (o : Option ir.Value) (cell : js.Cell) → Holding w t o cell → env.locals x ≡ o → sc.bindings (z.place.name (core.named x)) ≡ cell → FixedTree p w env sc (var_ref q x t)
   local_fixed p w env sc q x t kept _ _ (holding v j a) e h = record {
@@ -87,13 +87,13 @@ module _ (z : Setting) (lawful : Lawful z) where
   not_mutable true h = impossible h
   not_mutable false h = refl
 
-  value_fixed : (p : core.Variable → Type 0) (w : World) (env : ir.Env) (sc : js.Scope) (t : Term) (v : ir.Value) (x : js.Value) → Stands w v x → suits (type_of_term t) v ≡ true → ((s : ir.State) → ir_meaning.step z.place.classes z.low t env s ≡ done (ir.ends (ir.gives v) env s)) → ((later : js.Scope) (u : js.State) → shown z (expression_of t) later u ≡ done (js.gives x u)) → FixedTree p w env sc t
+  value_fixed : (p : core.Variable → Type 0) (w : World) (env : ir.Env) (sc : js.Scope) (t : Term) (v : ir.Value) (x : js.Value) → Stands w v x → suits (type_of_term t) v ≡ true → ((s : ir.State) → ir_meaning.step z.place.classes z.low t env s ≡ done (ir.ends (ir.gives v) env s)) → ((later : js.Scope) (u : js.State) → shown z (expression_of z.code.sure t) later u ≡ done (js.gives x u)) → FixedTree p w env sc t
   value_fixed p w env sc t v x a k g h = record { value = v; js_value = x; gives = g; alike = record { stands = a; suits = k }; goes_on = λ later u ks. h later u }
 
-  number_fixed : (p : core.Variable → Type 0) (w : World) (env : ir.Env) (sc : js.Scope) (t : Term) (v : ir.Value) (n : ℤ) → FitsSigned w32 n → Stands w v (js.number n) → suits (type_of_term t) v ≡ true → ((s : ir.State) → ir_meaning.step z.place.classes z.low t env s ≡ done (ir.ends (ir.gives v) env s)) → ((later : js.Scope) (u : js.State) → shown z (expression_of t) later u ≡ js_meaning.literal n later u) → FixedTree p w env sc t
+  number_fixed : (p : core.Variable → Type 0) (w : World) (env : ir.Env) (sc : js.Scope) (t : Term) (v : ir.Value) (n : ℤ) → FitsSigned w32 n → Stands w v (js.number n) → suits (type_of_term t) v ≡ true → ((s : ir.State) → ir_meaning.step z.place.classes z.low t env s ≡ done (ir.ends (ir.gives v) env s)) → ((later : js.Scope) (u : js.State) → shown z (expression_of z.code.sure t) later u ≡ js_meaning.literal n later u) → FixedTree p w env sc t
   number_fixed p w env sc t v n f a k g h = value_fixed p w env sc t v (js.number n) a k g (λ later u. h later u ∙ ap (λ (b : Bool). if b then done (js.gives (js.number n) u) else wrong) (fits-exact n f))
 
-  pub fixed_run : (c : Context) (p : core.Variable → Type 0) (t : Term) → Sound z.is_mutable (keeping c p) → is_fixed z.is_mutable t ≡ true → Plain (usable z) c.scope t → (w : World) (env : ir.Env) (sc : js.Scope) → Sees z.place z.file c.scope w env sc → FixedTree p w env sc t
+  pub fixed_run : (c : Context) (p : core.Variable → Type 0) (t : Term) → Sound z.is_mutable (keeping c p) → is_fixed z.is_mutable t ≡ true → Plain (usable z) c.scope t → (w : World) (env : ir.Env) (sc : js.Scope) → Sees z.place z.code c.scope w env sc → FixedTree p w env sc t
   fixed_run c p (undefined_literal q) sound e h w env sc sees = value_fixed p w env sc (undefined_literal q) ir.undefined js.undefined same_undefined refl (λ s. refl) (λ later u. refl)
   fixed_run c p (null_literal q) sound e h w env sc sees = value_fixed p w env sc (null_literal q) ir.null js.null same_null refl (λ s. refl) (λ later u. refl)
   fixed_run c p (boolean_literal q b) sound e h w env sc sees = value_fixed p w env sc (boolean_literal q b) (ir.boolean b) (js.boolean b) (same_boolean b) refl (λ s. refl) (λ later u. refl)
@@ -112,12 +112,12 @@ module _ (z : Setting) (lawful : Lawful z) where
 
   -- what is known of a plain one
   pub record Plainly (c : Context) (t : Piece) : Type 1 where
-    pub alike : (w : World) (env : ir.Env) (sc : js.Scope) → Sees z.place z.file c.scope w env sc → OperandAlike z w env sc t.here.tpe t.run (shown z t.here.text)
+    pub alike : (w : World) (env : ir.Env) (sc : js.Scope) → Sees z.place z.code c.scope w env sc → OperandAlike z w env sc t.here.tpe t.run (shown z t.here.text)
     pub told : tells t.here.tpe (text_of z t.here.text) ≡ true
-    pub fixes : t.here.fixed ≡ true → (p : core.Variable → Type 0) → Sound z.is_mutable (keeping c p) → (w : World) (env : ir.Env) (sc : js.Scope) → Sees z.place z.file c.scope w env sc → FixedRun p w env sc t.here.tpe t.run t.here.text
+    pub fixes : t.here.fixed ≡ true → (p : core.Variable → Type 0) → Sound z.is_mutable (keeping c p) → (w : World) (env : ir.Env) (sc : js.Scope) → Sees z.place z.code c.scope w env sc → FixedRun p w env sc t.here.tpe t.run t.here.text
 
   abbrev pub PieceDoes : Context → Destination → ℕ → Piece → Type 0
-  PieceDoes c k j t = (w : World) (env : ir.Env) (s : ir.State) (sc : js.Scope) (u : js.State) → Ready z.place z.file c.scope c.writable w env sc → SameState z.place w s u → Sim z.direction (Came z.place z.file c c.scope k w sc) (t.run env s) (run z (t.here.code k j).statements sc u)
+  PieceDoes c k j t = (w : World) (env : ir.Env) (s : ir.State) (sc : js.Scope) (u : js.State) → Ready z.place z.code c.scope c.writable w env sc → SameState z.place w s u → Sim z.direction (Came z.place z.code c c.scope k w sc) (t.run env s) (run z (t.here.code k j).statements sc u)
 
   abbrev pub runs : List Piece → List ir.Run
   runs [] = []
@@ -150,10 +150,10 @@ module _ (z : Setting) (lawful : Lawful z) where
 
   -- what is done with the values of operands, once their statements are behind
   abbrev pub Final : Context → Destination → World → js.Scope → (core.Variable → Type 0) → ℕ → js.Scope → World → List IrType → (List ir.Value → ir.Run) → (List core.Expression → ℕ → Code) → Type 1
-  Final c k from before p j start at ts act rest_of = (q : core.Variable → Type 0) (i : ℕ) (rs : List ir.Run) (es : List core.Expression) (w : World) (env : ir.Env) (s : ir.State) (sc : js.Scope) (u : js.State) → ((y : core.Variable) → p y → q y) → Sound z.is_mutable (keeping c q) → Ahead (keeping c q) i → j ≤ i → Grows at w → Ready z.place z.file c.scope c.writable w env sc → Keeps z.place c.kept before sc → Keeps z.place p start sc → SameState z.place w s u → OperandsAlike z w env sc ts rs es → Ends z lawful c c.scope k from before (ir_meaning.in_order rs act env s) (rest_of es i).statements sc u
+  Final c k from before p j start at ts act rest_of = (q : core.Variable → Type 0) (i : ℕ) (rs : List ir.Run) (es : List core.Expression) (w : World) (env : ir.Env) (s : ir.State) (sc : js.Scope) (u : js.State) → ((y : core.Variable) → p y → q y) → Sound z.is_mutable (keeping c q) → Ahead (keeping c q) i → j ≤ i → Grows at w → Ready z.place z.code c.scope c.writable w env sc → Keeps z.place c.kept before sc → Keeps z.place p start sc → SameState z.place w s u → OperandsAlike z w env sc ts rs es → Ends z lawful c c.scope k from before (ir_meaning.in_order rs act env s) (rest_of es i).statements sc u
 
   abbrev pub SpillDoes : Context → Destination → World → js.Scope → List Piece → Type 1
-  SpillDoes c k from before ts = (p : core.Variable → Type 0) (j : ℕ) (act : List ir.Value → ir.Run) (rest_of : List core.Expression → ℕ → Code) (w : World) (env : ir.Env) (s : ir.State) (sc : js.Scope) (u : js.State) → OperandsDo c j ts → Extends c p → Sound z.is_mutable (keeping c p) → Ahead (keeping c p) j → Final c k from before p j sc w (types ts) act rest_of → Grows from w → Ready z.place z.file c.scope c.writable w env sc → Keeps z.place c.kept before sc → SameState z.place w s u → Ends z lawful c c.scope k from before (ir_meaning.in_order (runs ts) act env s) (then_use (spill (operands_in ts) j) rest_of).statements sc u
+  SpillDoes c k from before ts = (p : core.Variable → Type 0) (j : ℕ) (act : List ir.Value → ir.Run) (rest_of : List core.Expression → ℕ → Code) (w : World) (env : ir.Env) (s : ir.State) (sc : js.Scope) (u : js.State) → OperandsDo c j ts → Extends c p → Sound z.is_mutable (keeping c p) → Ahead (keeping c p) j → Final c k from before p j sc w (types ts) act rest_of → Grows from w → Ready z.place z.code c.scope c.writable w env sc → Keeps z.place c.kept before sc → SameState z.place w s u → Ends z lawful c c.scope k from before (ir_meaning.in_order (runs ts) act env s) (then_use (spill (operands_in ts) j) rest_of).statements sc u
 
   plain_operand : (c : Context) (j : ℕ) (t : Piece) → t.here.plain ≡ true → OperandDoes c j t → Plainly c t
   plain_operand c j t e (inl h) = h.1
@@ -163,7 +163,7 @@ module _ (z : Setting) (lawful : Lawful z) where
   both_true true b h = (refl, h)
   both_true false b h = impossible h
 
-  all_plain_alike : (c : Context) (j : ℕ) (ts : List Piece) → all_plain (operands_in ts) ≡ true → OperandsDo c j ts → (w : World) (env : ir.Env) (sc : js.Scope) → Sees z.place z.file c.scope w env sc → OperandsAlike z w env sc (types ts) (runs ts) (texts (operands_in ts))
+  all_plain_alike : (c : Context) (j : ℕ) (ts : List Piece) → all_plain (operands_in ts) ≡ true → OperandsDo c j ts → (w : World) (env : ir.Env) (sc : js.Scope) → Sees z.place z.code c.scope w env sc → OperandsAlike z w env sc (types ts) (runs ts) (texts (operands_in ts))
   all_plain_alike c j [] e d w env sc sees = no_operands
   all_plain_alike c j (t ∷ ts) e d w env sc sees = let h = both_true (t.here.plain) (all_plain (operands_in ts)) e in more_operands t.here.tpe t.run t.here.text (types ts) (runs ts) (texts (operands_in ts)) ((plain_operand c j t h.0 d.0).told) ((plain_operand c j t h.0 d.0).alike w env sc sees) (all_plain_alike c j ts h.1 d.1 w env sc sees)
 
@@ -205,11 +205,11 @@ module _ (z : Setting) (lawful : Lawful z) where
       each _ _ (thrown y v x s u h a same) = sim_done z.direction F (ir.ends (ir.throws v) env s) (js.ends (js.thrown_with x) sc u) (through y v x s u h a same)
 
   -- all operands are plain
-  spill_all : (c : Context) (k : Destination) (from : World) (before : js.Scope) (t : Piece) (ts : List Piece) → all_plain (operands_in (t ∷ ts)) ≡ true → (p : core.Variable → Type 0) (j : ℕ) (act : List ir.Value → ir.Run) (made : List core.Expression → ℕ → Code) (w : World) (env : ir.Env) (s : ir.State) (sc : js.Scope) (u : js.State) → OperandsDo c j (t ∷ ts) → Sound z.is_mutable (keeping c p) → Ahead (keeping c p) j → Final c k from before p j sc w (types (t ∷ ts)) act made → Ready z.place z.file c.scope c.writable w env sc → Keeps z.place c.kept before sc → SameState z.place w s u → Ends z lawful c c.scope k from before (ir_meaning.in_order (runs (t ∷ ts)) act env s) (made (texts (operands_in (t ∷ ts))) j).statements sc u
+  spill_all : (c : Context) (k : Destination) (from : World) (before : js.Scope) (t : Piece) (ts : List Piece) → all_plain (operands_in (t ∷ ts)) ≡ true → (p : core.Variable → Type 0) (j : ℕ) (act : List ir.Value → ir.Run) (made : List core.Expression → ℕ → Code) (w : World) (env : ir.Env) (s : ir.State) (sc : js.Scope) (u : js.State) → OperandsDo c j (t ∷ ts) → Sound z.is_mutable (keeping c p) → Ahead (keeping c p) j → Final c k from before p j sc w (types (t ∷ ts)) act made → Ready z.place z.code c.scope c.writable w env sc → Keeps z.place c.kept before sc → SameState z.place w s u → Ends z lawful c c.scope k from before (ir_meaning.in_order (runs (t ∷ ts)) act env s) (made (texts (operands_in (t ∷ ts))) j).statements sc u
   spill_all c k from before t ts e p j act made w env s sc u ds sound ahead final r ks same = final p j (runs (t ∷ ts)) (texts (operands_in (t ∷ ts))) w env s sc u (λ y h. h) sound ahead (omega arith) (grows-refl w) r ks (keeps-refl z p sc) same (all_plain_alike c j (t ∷ ts) e ds w env sc r.sees)
 
   -- a fixed operand in front of one that isn't plain
-  spill_fixed : (c : Context) (k : Destination) (from : World) (before : js.Scope) (t : Piece) (ts : List Piece) → SpillDoes c k from before ts → t.here.fixed ≡ true → Plainly c t → (p : core.Variable → Type 0) (j : ℕ) (act : List ir.Value → ir.Run) (made : List core.Expression → ℕ → Code) (w : World) (env : ir.Env) (s : ir.State) (sc : js.Scope) (u : js.State) → OperandsDo c j ts → Extends c p → Sound z.is_mutable (keeping c p) → Ahead (keeping c p) j → Final c k from before p j sc w (types (t ∷ ts)) act made → Grows from w → Ready z.place z.file c.scope c.writable w env sc → Keeps z.place c.kept before sc → SameState z.place w s u → Ends z lawful c c.scope k from before (ir_meaning.in_order (runs (t ∷ ts)) act env s) (then_use (spill (operands_in ts) j) (λ es. made (t.here.text ∷ es))).statements sc u
+  spill_fixed : (c : Context) (k : Destination) (from : World) (before : js.Scope) (t : Piece) (ts : List Piece) → SpillDoes c k from before ts → t.here.fixed ≡ true → Plainly c t → (p : core.Variable → Type 0) (j : ℕ) (act : List ir.Value → ir.Run) (made : List core.Expression → ℕ → Code) (w : World) (env : ir.Env) (s : ir.State) (sc : js.Scope) (u : js.State) → OperandsDo c j ts → Extends c p → Sound z.is_mutable (keeping c p) → Ahead (keeping c p) j → Final c k from before p j sc w (types (t ∷ ts)) act made → Grows from w → Ready z.place z.code c.scope c.writable w env sc → Keeps z.place c.kept before sc → SameState z.place w s u → Ends z lawful c c.scope k from before (ir_meaning.in_order (runs (t ∷ ts)) act env s) (then_use (spill (operands_in ts) j) (λ es. made (t.here.text ∷ es))).statements sc u
   spill_fixed c k from before t ts others e plain p j act made w env s sc u ds sub sound ahead final g r ks same = known (plain.fixes e p sound w env sc r.sees)
     where
       known : FixedRun p w env sc t.here.tpe t.run t.here.text → Ends z lawful c c.scope k from before (ir_meaning.in_order (runs (t ∷ ts)) act env s) (then_use (spill (operands_in ts) j) (λ es. made (t.here.text ∷ es))).statements sc u
@@ -223,15 +223,15 @@ module _ (z : Setting) (lawful : Lawful z) where
   numbered_open c p j ahead x h e = ahead.writable j (omega arith) (subst c.writable e h)
 
   -- a plain operand that isn't fixed, in front of one that isn't plain: a constant
-  spill_constant : (c : Context) (k : Destination) (from : World) (before : js.Scope) (t : Piece) (ts : List Piece) → SpillDoes c k from before ts → Plainly c t → (p : core.Variable → Type 0) (j : ℕ) (act : List ir.Value → ir.Run) (made : List core.Expression → ℕ → Code) (w : World) (env : ir.Env) (s : ir.State) (sc : js.Scope) (u : js.State) → OperandsDo c j ts → Extends c p → Sound z.is_mutable (keeping c p) → Ahead (keeping c p) j → Final c k from before p j sc w (types (t ∷ ts)) act made → Grows from w → Ready z.place z.file c.scope c.writable w env sc → Keeps z.place c.kept before sc → SameState z.place w s u → Ends z lawful c c.scope k from before (ir_meaning.in_order (runs (t ∷ ts)) act env s) (core.statement (core.constant_of (Some (t.here.at)) (core.numbered j) (t.here.text)) (then_use (spill (operands_in ts) (suc j)) (λ es. made (core.variable_use (core.numbered j) ∷ es))).statements) sc u
-  spill_constant c k from before t ts others plain p j act made w env s sc u ds sub sound ahead final g r ks same = valued_seq (Came z.place z.file c c.scope k from before) w env t.here.tpe sc u (t.run env s) (t.here.text) (λ v. ir_meaning.in_order (runs ts) (λ vs. act (v ∷ vs))) (λ v u. done (js.ends js.normally (js_meaning.start true (z.place.name (core.numbered j)) v sc) u)) (run z (then_use (spill (operands_in ts) (suc j)) (λ es. made (core.variable_use (core.numbered j) ∷ es))).statements) (plain.alike w env sc r.sees w s u (grows-refl w) same) (throws-on z lawful c c.scope k from w before env sc g ks r) goes
+  spill_constant : (c : Context) (k : Destination) (from : World) (before : js.Scope) (t : Piece) (ts : List Piece) → SpillDoes c k from before ts → Plainly c t → (p : core.Variable → Type 0) (j : ℕ) (act : List ir.Value → ir.Run) (made : List core.Expression → ℕ → Code) (w : World) (env : ir.Env) (s : ir.State) (sc : js.Scope) (u : js.State) → OperandsDo c j ts → Extends c p → Sound z.is_mutable (keeping c p) → Ahead (keeping c p) j → Final c k from before p j sc w (types (t ∷ ts)) act made → Grows from w → Ready z.place z.code c.scope c.writable w env sc → Keeps z.place c.kept before sc → SameState z.place w s u → Ends z lawful c c.scope k from before (ir_meaning.in_order (runs (t ∷ ts)) act env s) (core.statement (core.constant_of (Some (t.here.at)) (core.numbered j) (t.here.text)) (then_use (spill (operands_in ts) (suc j)) (λ es. made (core.variable_use (core.numbered j) ∷ es))).statements) sc u
+  spill_constant c k from before t ts others plain p j act made w env s sc u ds sub sound ahead final g r ks same = valued_seq (Came z.place z.code c c.scope k from before) w env t.here.tpe sc u (t.run env s) (t.here.text) (λ v. ir_meaning.in_order (runs ts) (λ vs. act (v ∷ vs))) (λ v u. done (js.ends js.normally (js_meaning.start true (z.place.name (core.numbered j)) v sc) u)) (run z (then_use (spill (operands_in ts) (suc j)) (λ es. made (core.variable_use (core.numbered j) ∷ es))).statements) (plain.alike w env sc r.sees w s u (grows-refl w) same) (throws-on z lawful c c.scope k from w before env sc g ks r) goes
     where
       goes : (y : World) (v : ir.Value) (x : js.Value) (s : ir.State) (u : js.State) → Grows w y → SameValue y t.here.tpe v x → SameState z.place y s u → Ends z lawful c c.scope k from before (ir_meaning.in_order (runs ts) (λ vs. act (v ∷ vs)) env s) (then_use (spill (operands_in ts) (suc j)) (λ es. made (core.variable_use (core.numbered j) ∷ es))).statements (js_meaning.start true (z.place.name (core.numbered j)) x sc) u
       goes y v x s u h alike same = others (λ a. (a ≡ core.numbered j) ⊎ p a) (suc j) (λ vs. act (v ∷ vs)) (λ es. made (core.variable_use (core.numbered j) ∷ es)) y env s (js_meaning.start true (z.place.name (core.numbered j)) x sc) u (operands-later c j (suc j) ts (omega arith) ds) (extends-more c p j sub) (sound-kept c p j sound ahead) (ahead-kept c p j (suc j) (omega arith) ahead) (saved_final c k from before p j (suc j) t.here.tpe (types ts) w y sc (js_meaning.start true (z.place.name (core.numbered j)) x sc) act made v x true (omega arith) final h (started-keeps z lawful p true (core.numbered j) x sc (ahead.kept j (omega arith))) alike (started-here z lawful true (core.numbered j) x sc)) (grows-trans from w y g h) (ready-lift z c.scope c.writable w y env (js_meaning.start true (z.place.name (core.numbered j)) x sc) h (started-ready z lawful c.scope c.writable true (core.numbered j) x w env sc (λ a t b. numbered-named a j) (numbered_open c p j ahead) r)) (keeps-trans z c.kept before sc (js_meaning.start true (z.place.name (core.numbered j)) x sc) ks (started-keeps z lawful c.kept true (core.numbered j) x sc (λ b. ahead.kept j (omega arith) (sub.more (core.numbered j) b)))) same
 
   -- an operand that isn't plain: a variable, and the statements that bring its value there
-  spill_code_does : (c : Context) (k : Destination) (from : World) (before : js.Scope) (t : Piece) (ts : List Piece) → SpillDoes c k from before ts → Onward t → (p : core.Variable → Type 0) (j : ℕ) → PieceDoes (writing (keeping c p) (core.numbered j)) (to_variable (core.numbered j) (t.here.tpe)) (suc j) t → (act : List ir.Value → ir.Run) (made : List core.Expression → ℕ → Code) (w : World) (env : ir.Env) (s : ir.State) (sc : js.Scope) (u : js.State) → OperandsDo c j ts → Extends c p → Sound z.is_mutable (keeping c p) → Ahead (keeping c p) j → Final c k from before p j sc w (types (t ∷ ts)) act made → Grows from w → Ready z.place z.file c.scope c.writable w env sc → Keeps z.place c.kept before sc → SameState z.place w s u → Ends z lawful c c.scope k from before (ir_meaning.in_order (runs (t ∷ ts)) act env s) (core.statement (core.declare_of (Some (t.here.at)) (core.numbered j)) (followed (t.here.code (to_variable (core.numbered j) (t.here.tpe)) (suc j)).statements (then_use (spill (operands_in ts) (t.here.code (to_variable (core.numbered j) (t.here.tpe)) (suc j)).next) (λ es. made (core.variable_use (core.numbered j) ∷ es))).statements)) sc u
-  spill_code_does c k from before t ts others onward p j does act made w env s sc u ds sub sound ahead final g r ks same = subst (λ q. Sim z.direction (Came z.place z.file c c.scope k from before) (ir.go_on (t.run env s) f) q) (sym (run-followed z code.statements rest started u)) (sim_then z.direction (Came z.place z.file (writing (keeping c p) x) c.scope (to_variable x (t.here.tpe)) w started) (Came z.place z.file c c.scope k from before) (t.run env s) (run z code.statements started u) (ir.onward f) (js.next_statement (run z rest)) (does w env s started u (record { sees = r1.sees; «open» = open1 }) same) each)
+  spill_code_does : (c : Context) (k : Destination) (from : World) (before : js.Scope) (t : Piece) (ts : List Piece) → SpillDoes c k from before ts → Onward t → (p : core.Variable → Type 0) (j : ℕ) → PieceDoes (writing (keeping c p) (core.numbered j)) (to_variable (core.numbered j) (t.here.tpe)) (suc j) t → (act : List ir.Value → ir.Run) (made : List core.Expression → ℕ → Code) (w : World) (env : ir.Env) (s : ir.State) (sc : js.Scope) (u : js.State) → OperandsDo c j ts → Extends c p → Sound z.is_mutable (keeping c p) → Ahead (keeping c p) j → Final c k from before p j sc w (types (t ∷ ts)) act made → Grows from w → Ready z.place z.code c.scope c.writable w env sc → Keeps z.place c.kept before sc → SameState z.place w s u → Ends z lawful c c.scope k from before (ir_meaning.in_order (runs (t ∷ ts)) act env s) (core.statement (core.declare_of (Some (t.here.at)) (core.numbered j)) (followed (t.here.code (to_variable (core.numbered j) (t.here.tpe)) (suc j)).statements (then_use (spill (operands_in ts) (t.here.code (to_variable (core.numbered j) (t.here.tpe)) (suc j)).next) (λ es. made (core.variable_use (core.numbered j) ∷ es))).statements)) sc u
+  spill_code_does c k from before t ts others onward p j does act made w env s sc u ds sub sound ahead final g r ks same = subst (λ q. Sim z.direction (Came z.place z.code c c.scope k from before) (ir.go_on (t.run env s) f) q) (sym (run-followed z code.statements rest started u)) (sim_then z.direction (Came z.place z.code (writing (keeping c p) x) c.scope (to_variable x (t.here.tpe)) w started) (Came z.place z.code c c.scope k from before) (t.run env s) (run z code.statements started u) (ir.onward f) (js.next_statement (run z rest)) (does w env s started u (record { sees = r1.sees; «open» = open1 }) same) each)
     where
       x : core.Variable
       x = core.numbered j
@@ -248,7 +248,7 @@ module _ (z : Setting) (lawful : Lawful z) where
       f : ir.Value → ir.Run
       f v = ir_meaning.in_order (runs ts) (λ vs. act (v ∷ vs))
 
-      r1 : Ready z.place z.file c.scope c.writable w env started
+      r1 : Ready z.place z.code c.scope c.writable w env started
       r1 = started-ready z lawful c.scope c.writable false x js.undefined w env sc (λ a t b. numbered-named a j) (numbered_open c p j ahead) r
 
       open1 : (y : core.Variable) → (y ≡ x) ⊎ c.writable y → IsOpen (started.bindings (z.place.name y))
@@ -261,14 +261,14 @@ module _ (z : Setting) (lawful : Lawful z) where
       all_kept : (sc2 : js.Scope) → Keeps z.place (Less p (to_variable x (t.here.tpe))) started sc2 → Keeps z.place p started sc2
       all_kept sc2 k2 = keeps-fewer z (Less p (to_variable x (t.here.tpe))) p started sc2 (λ b h. (h, λ e. kept_here (subst p (sym e) h))) k2
 
-      each : (a : ir.Ended) (b : js.StatementEnd) → Came z.place z.file (writing (keeping c p) x) c.scope (to_variable x (t.here.tpe)) w started a b → Sim z.direction (Came z.place z.file c c.scope k from before) (ir.onward f a) (js.next_statement (run z rest) b)
+      each : (a : ir.Ended) (b : js.StatementEnd) → Came z.place z.code (writing (keeping c p) x) c.scope (to_variable x (t.here.tpe)) w started a b → Sim z.direction (Came z.place z.code c c.scope k from before) (ir.onward f a) (js.next_statement (run z rest) b)
       each _ _ (gave y v env' s' sc2 u' _ h (stored _ _ q a e) r2 k2 states) = others (λ b. (b ≡ x) ⊎ p b) code.next (λ vs. act (v ∷ vs)) (λ es. made (core.variable_use x ∷ es)) y env' s' sc2 u' (operands-later c j code.next ts (omega (arith, onward (to_variable x (t.here.tpe)) (suc j))) ds) (extends-more c p j sub) (sound-kept c p j sound ahead) (ahead-kept c p j code.next (onward (to_variable x (t.here.tpe)) (suc j)) ahead) (saved_final c k from before p j code.next t.here.tpe (types ts) w y sc sc2 act made v q false (onward (to_variable x (t.here.tpe)) (suc j)) final h (keeps-trans z p sc started sc2 (started-keeps z lawful p false x js.undefined sc kept_here) (all_kept sc2 k2)) a e) (grows-trans from w y g h) (record { sees = r2.sees; «open» = λ a b. r2.«open» a (inr b) }) (keeps-trans z c.kept before sc sc2 ks (keeps-trans z c.kept sc started sc2 (started-keeps z lawful c.kept false x js.undefined sc (λ b. kept_here (sub.more x b))) (keeps-fewer z p c.kept started sc2 sub.more (all_kept sc2 k2)))) states
       each _ _ (left y l v env' s' sc2 u' e reach h a r2 k2 states) = leaves_on z lawful c c.scope k from before (run z rest) y l v env' s' sc2 u' e (target_of c.targets l) refl reach (grows-trans from w y g h) a (record { sees = r2.sees; «open» = λ a b. r2.«open» a (inr b) }) (less-trans z c.kept (target_of c.targets l) before sc sc2 ks (less-trans z c.kept (target_of c.targets l) sc started sc2 (started-keeps z lawful c.kept false x js.undefined sc (λ b. kept_here (sub.more x b))) (keeps-fewer z (Less p (target_of c.targets l)) (Less c.kept (target_of c.targets l)) started sc2 (λ y i. (sub.more y i.0, i.1)) k2))) states
-      each _ _ (threw y v q env' s' sc2 u' h a r2 k2 states) = sim_done z.direction (Came z.place z.file c c.scope k from before) (ir.ends (ir.throws v) env' s') (js.ends (js.thrown_with q) sc2 u') (threw y v q env' s' sc2 u' (grows-trans from w y g h) a (record { sees = r2.sees; «open» = λ a b. r2.«open» a (inr b) }) (keeps-trans z c.kept before sc sc2 ks (keeps-trans z c.kept sc started sc2 (started-keeps z lawful c.kept false x js.undefined sc (λ b. kept_here (sub.more x b))) (keeps-fewer z p c.kept started sc2 sub.more k2))) states)
-      each _ _ (stopped y env' s' sc2 u' t h r2 k2 states) = sim_done z.direction (Came z.place z.file c c.scope k from before) (ir.ends ir.stops env' s') (js.ends js.breaks_nearest sc2 u') (stopped y env' s' sc2 u' t (grows-trans from w y g h) (record { sees = r2.sees; «open» = λ a b. r2.«open» a (inr b) }) (keeps-trans z c.kept before sc sc2 ks (keeps-trans z c.kept sc started sc2 (started-keeps z lawful c.kept false x js.undefined sc (λ b. kept_here (sub.more x b))) (keeps-fewer z p c.kept started sc2 sub.more k2))) states)
+      each _ _ (threw y v q env' s' sc2 u' h a r2 k2 states) = sim_done z.direction (Came z.place z.code c c.scope k from before) (ir.ends (ir.throws v) env' s') (js.ends (js.thrown_with q) sc2 u') (threw y v q env' s' sc2 u' (grows-trans from w y g h) a (record { sees = r2.sees; «open» = λ a b. r2.«open» a (inr b) }) (keeps-trans z c.kept before sc sc2 ks (keeps-trans z c.kept sc started sc2 (started-keeps z lawful c.kept false x js.undefined sc (λ b. kept_here (sub.more x b))) (keeps-fewer z p c.kept started sc2 sub.more k2))) states)
+      each _ _ (stopped y env' s' sc2 u' t h r2 k2 states) = sim_done z.direction (Came z.place z.code c c.scope k from before) (ir.ends ir.stops env' s') (js.ends js.breaks_nearest sc2 u') (stopped y env' s' sc2 u' t (grows-trans from w y g h) (record { sees = r2.sees; «open» = λ a b. r2.«open» a (inr b) }) (keeps-trans z c.kept before sc sc2 ks (keeps-trans z c.kept sc started sc2 (started-keeps z lawful c.kept false x js.undefined sc (λ b. kept_here (sub.more x b))) (keeps-fewer z p c.kept started sc2 sub.more k2))) states)
 
   -- one operand, by whether it and all behind it are plain, whether it is fixed, and whether it is plain
-  spill_one : (c : Context) (k : Destination) (from : World) (before : js.Scope) (t : Piece) (ts : List Piece) → SpillDoes c k from before ts → (a f b : Bool) → (t.here.plain && all_plain (operands_in ts)) ≡ a → t.here.fixed ≡ f → t.here.plain ≡ b → (p : core.Variable → Type 0) (j : ℕ) (act : List ir.Value → ir.Run) (made : List core.Expression → ℕ → Code) (w : World) (env : ir.Env) (s : ir.State) (sc : js.Scope) (u : js.State) → OperandsDo c j (t ∷ ts) → Extends c p → Sound z.is_mutable (keeping c p) → Ahead (keeping c p) j → Final c k from before p j sc w (types (t ∷ ts)) act made → Grows from w → Ready z.place z.file c.scope c.writable w env sc → Keeps z.place c.kept before sc → SameState z.place w s u → Ends z lawful c c.scope k from before (ir_meaning.in_order (runs (t ∷ ts)) act env s) (then_use (spill_case a f b t.here (operands_in ts) (spill (operands_in ts)) j) made).statements sc u
+  spill_one : (c : Context) (k : Destination) (from : World) (before : js.Scope) (t : Piece) (ts : List Piece) → SpillDoes c k from before ts → (a f b : Bool) → (t.here.plain && all_plain (operands_in ts)) ≡ a → t.here.fixed ≡ f → t.here.plain ≡ b → (p : core.Variable → Type 0) (j : ℕ) (act : List ir.Value → ir.Run) (made : List core.Expression → ℕ → Code) (w : World) (env : ir.Env) (s : ir.State) (sc : js.Scope) (u : js.State) → OperandsDo c j (t ∷ ts) → Extends c p → Sound z.is_mutable (keeping c p) → Ahead (keeping c p) j → Final c k from before p j sc w (types (t ∷ ts)) act made → Grows from w → Ready z.place z.code c.scope c.writable w env sc → Keeps z.place c.kept before sc → SameState z.place w s u → Ends z lawful c c.scope k from before (ir_meaning.in_order (runs (t ∷ ts)) act env s) (then_use (spill_case a f b t.here (operands_in ts) (spill (operands_in ts)) j) made).statements sc u
   spill_one c k from before t ts others true f b e1 e2 e3 p j act made w env s sc u ds sub sound ahead final g r ks same = spill_all c k from before t ts e1 p j act made w env s sc u ds sound ahead final r ks same
   spill_one c k from before t ts others false true b e1 e2 e3 p j act made w env s sc u (inl d, ds) sub sound ahead final g r ks same = spill_fixed c k from before t ts others e2 d.1 p j act made w env s sc u ds sub sound ahead final g r ks same
   spill_one c k from before t ts others false true b e1 e2 e3 p j act made w env s sc u (inr d, ds) sub sound ahead final g r ks same = impossible (sym d.1 ∙ e2)

@@ -7,7 +7,7 @@ use Rattle.outcomes.specs.Agreement.{Direction, Sim}
 use Rattle.outcomes.proofs.Simulation.{sim_done, sim_wrong, sim_then}
 use Rattle.ir_mean.specs.Meaning as ir_meaning
 use Rattle.ir_mean.specs.States as ir
-use Rattle.ir_mean.specs.Sure.{sure_locals}
+use Rattle.sure_receivers.specs.Sure.{sure_locals}
 use Rattle.ir_mean.specs.World.{member_of}
 use Rattle.js_mean.specs.Meaning as js_meaning
 use Rattle.js_mean.specs.Proper.{is_among, declared}

@@ -59,7 +59,7 @@ module _ (p : Place) (names : NamesDiffer p) (linked : (f : Name) (m : Member) �
   next d n k levels h f reaches is_mutable c q j t sound ahead out wr fine w env s sc u ready same = does (within f d is_mutable n k) (lawful d n k levels h f reaches is_mutable) (levels k (fewer d p.room.each n k h) f reaches is_mutable) t c q j sound ahead out wr fine w env s sc u ready same
 
   pub levels : (d : Direction) (n : ℕ) → Levels d n
-  levels forward zero k h = λ f reaches is_mutable c q j t sound ahead out wr fine w env s sc u ready same. sim_over (Came p f c c.scope q w sc) (js_meaning.below p.program k (statement_templates p.name p.label (into is_mutable c.targets q j t).statements) sc u)
+  levels forward zero k h = λ f reaches is_mutable c q j t sound ahead out wr fine w env s sc u ready same. sim_over (Came p f c c.scope q w sc) (js_meaning.below p.program k (statement_templates p.name p.label (into is_mutable sure c.targets q j t).statements) sc u)
   levels backward n zero h = λ f reaches is_mutable c q j t sound ahead out wr fine w env s sc u ready same. sim_going (Came p f c c.scope q w sc) (ir_meaning.below p.classes n t env s)
   levels forward (suc n) zero h = absurd (omega arith)
   levels backward zero (suc k) h = absurd (omega arith)

@@ -45,7 +45,7 @@ use Rattle.sj_plain.proofs.Worlds.{World, Grows, grows-refl, SameValue, Stands, 
 pub holding-lift : (u w : World) (t : IrType) (o : Option ir.Value) (cell : js.Cell) → Grows u w → Holding u t o cell → Holding w t o cell
 holding-lift u w t _ _ g (holding v x a) = holding v x (value-lift u w t v x g a)
 
-pub sees-lift : (z : Setting) (scope : Scope) (u w : World) (env : ir.Env) (sc : js.Scope) → Grows u w → Sees z.place z.file scope u env sc → Sees z.place z.file scope w env sc
+pub sees-lift : (z : Setting) (scope : Scope) (u w : World) (env : ir.Env) (sc : js.Scope) → Grows u w → Sees z.place z.code scope u env sc → Sees z.place z.code scope w env sc
 sees-lift z scope u w env sc g h = record { inside = h.inside; locals = λ x t i. holding-lift u w t (env.locals x) (sc.bindings (z.place.name (core.named x))) g (h.locals x t i) }
 
 module _ (z : Setting) (lawful : Lawful z) (scope : Scope) where
@@ -65,8 +65,8 @@ module _ (z : Setting) (lawful : Lawful z) (scope : Scope) where
   local_alike w env t s u _ _ outer (holding v x a) same = gives_alike w env t s u v x a same
 
   -- a call: the name stands for the function, the arguments are evaluated, and the bodies are alike
-  name_shown : (m : Member) (w : World) (s : ir.State) (sc : js.Scope) (u : js.State) → (usable z).linked m ≡ true → Inside z.place z.file sc → SameState z.place w s u → js_meaning.name_value z.place.program (member_name m) sc u ≡ done (js.gives (function_of_member z.place m) u)
-  name_shown m w s sc u linked inside same = (λ i. js_meaning.cell_value (js_meaning.or_outer (inside.free (member_name m) (lawful.base.names.tops (a_function m)) i) (js_meaning.top_cell (owner z.place.program (inside.file i) (member_name m)) (member_name m) u)) u) ∙ (λ i. js_meaning.cell_value (js_meaning.top_cell (lawful.base.reaches (a_function m) linked i) (member_name m) u) u) ∙ (λ i. js_meaning.cell_value (same.tops z.file (a_function m) linked i) u)
+  name_shown : (m : Member) (w : World) (s : ir.State) (sc : js.Scope) (u : js.State) → (usable z).linked m ≡ true → Inside z.place z.code sc → SameState z.place w s u → js_meaning.name_value z.place.program (member_name m) sc u ≡ done (js.gives (function_of_member z.place m) u)
+  name_shown m w s sc u linked inside same = (λ i. js_meaning.cell_value (js_meaning.or_outer (inside.free (member_name m) (lawful.base.names.tops (a_function m)) i) (js_meaning.top_cell (owner z.place.program (inside.file i) (member_name m)) (member_name m) u)) u) ∙ (λ i. js_meaning.cell_value (js_meaning.top_cell (lawful.base.reaches (a_function m) linked i) (member_name m) u) u) ∙ (λ i. js_meaning.cell_value (same.tops z.code.file (a_function m) linked i) u)
 
   weaker : (v w : World) (env : ir.Env) (t : IrType) (o : Out ir.Ended) (q : Out js.ExpressionEnd) → Grows v w → Sim z.direction (Valued z.place w env t) o q → Sim z.direction (Valued z.place v env t) o q
   weaker v w env t o q g h = sim_weaken z.direction (Valued z.place w env t) (Valued z.place v env t) o q (λ a b. valued-weaken z v w env t a b g) h
@@ -94,18 +94,18 @@ module _ (z : Setting) (lawful : Lawful z) (scope : Scope) where
   by_equal w env t o o' q q' e g h = subst (λ x. Sim z.direction (Valued z.place w env t) x q) (sym e) (subst (λ x. Sim z.direction (Valued z.place w env t) o' x) (sym g) h)
 
   abbrev pub PlainAlike : Term → Type 0
-  PlainAlike t = (w : World) (env : ir.Env) (s : ir.State) (sc : js.Scope) (u : js.State) → Sees z.place z.file scope w env sc → SameState z.place w s u → Sim z.direction (Valued z.place w env (type_of_term t)) (ir_meaning.step z.place.classes z.low t env s) (shown z (expression_of t) sc u)
+  PlainAlike t = (w : World) (env : ir.Env) (s : ir.State) (sc : js.Scope) (u : js.State) → Sees z.place z.code scope w env sc → SameState z.place w s u → Sim z.direction (Valued z.place w env (type_of_term t)) (ir_meaning.step z.place.classes z.low t env s) (shown z (expression_of z.code.sure t) sc u)
 
-  pub as_operand : (t : Term) → PlainAlike t → (w : World) (env : ir.Env) (sc : js.Scope) → Sees z.place z.file scope w env sc → OperandAlike z w env sc (type_of_term t) (ir_meaning.step z.place.classes z.low t) (shown z (expression_of t))
+  pub as_operand : (t : Term) → PlainAlike t → (w : World) (env : ir.Env) (sc : js.Scope) → Sees z.place z.code scope w env sc → OperandAlike z w env sc (type_of_term t) (ir_meaning.step z.place.classes z.low t) (shown z (expression_of z.code.sure t))
   as_operand t h w env sc sees y s u g same = h y env s sc u (sees-lift z scope w y env sc g sees) same
 
-  fitting_operand : (t : Term) (expected : IrType) → Fits expected (type_of_term t) → PlainAlike t → (w : World) (env : ir.Env) (sc : js.Scope) → Sees z.place z.file scope w env sc → OperandAlike z w env sc expected (ir_meaning.step z.place.classes z.low t) (shown z (expression_of t))
-  fitting_operand t expected f h w env sc sees y s u g same = fitting y env expected (type_of_term t) (ir_meaning.step z.place.classes z.low t env s) (shown z (expression_of t) sc u) f (as_operand t h w env sc sees y s u g same)
+  fitting_operand : (t : Term) (expected : IrType) → Fits expected (type_of_term t) → PlainAlike t → (w : World) (env : ir.Env) (sc : js.Scope) → Sees z.place z.code scope w env sc → OperandAlike z w env sc expected (ir_meaning.step z.place.classes z.low t) (shown z (expression_of z.code.sure t))
+  fitting_operand t expected f h w env sc sees y s u g same = fitting y env expected (type_of_term t) (ir_meaning.step z.place.classes z.low t env s) (shown z (expression_of z.code.sure t) sc u) f (as_operand t h w env sc sees y s u g same)
 
-  if_alike : (c a b : Term) (t : IrType) (e f : core.Expression) → PlainAlike c → PlainAlike a → PlainAlike b → Fits t (type_of_term a) → Fits t (type_of_term b) → e ≡ expression_of a → f ≡ expression_of b → tells (type_of_term c) (expression_template z.place.name z.place.label (expression_of c)) ≡ true → (w : World) (env : ir.Env) (s : ir.State) (sc : js.Scope) (u : js.State) → Sees z.place z.file scope w env sc → SameState z.place w s u → Sim z.direction (Valued z.place w env t) (ir_meaning.in_order (ir_meaning.step z.place.classes z.low c ∷ []) (ir_meaning.branch (ir_meaning.step z.place.classes z.low a) (ir_meaning.step z.place.classes z.low b)) env s) (shown z (core.choice_of (expression_of c) e f) sc u)
-  if_alike c a b t e f hc ha hb fa fb ea eb told w env s sc u sees same = by_equal w env t _ _ _ _ refl (λ i. shown z (core.choice_of (expression_of c) (ea i) (eb i)) sc u) (in_order_alike z w w env sc w (type_of_term c ∷ []) t (ir_meaning.step z.place.classes z.low c ∷ []) (expression_of c ∷ []) (ir_meaning.branch (ir_meaning.step z.place.classes z.low a) (ir_meaning.step z.place.classes z.low b)) (js_meaning.chosen (shown z (expression_of a)) (shown z (expression_of b))) (more_operands _ _ _ _ _ _ told (as_operand c hc w env sc sees) no_operands) (branch_acts w env sc (type_of_term c) t (ir_meaning.step z.place.classes z.low a) (ir_meaning.step z.place.classes z.low b) (shown z (expression_of a)) (shown z (expression_of b)) (fitting_operand a t fa ha w env sc sees) (fitting_operand b t fb hb w env sc sees)) w s u (grows-refl w) (grows-refl w) (grows-refl w) same)
+  if_alike : (c a b : Term) (t : IrType) (e f : core.Expression) → PlainAlike c → PlainAlike a → PlainAlike b → Fits t (type_of_term a) → Fits t (type_of_term b) → e ≡ expression_of z.code.sure a → f ≡ expression_of z.code.sure b → tells (type_of_term c) (expression_template z.place.name z.place.label (expression_of z.code.sure c)) ≡ true → (w : World) (env : ir.Env) (s : ir.State) (sc : js.Scope) (u : js.State) → Sees z.place z.code scope w env sc → SameState z.place w s u → Sim z.direction (Valued z.place w env t) (ir_meaning.in_order (ir_meaning.step z.place.classes z.low c ∷ []) (ir_meaning.branch (ir_meaning.step z.place.classes z.low a) (ir_meaning.step z.place.classes z.low b)) env s) (shown z (core.choice_of (expression_of z.code.sure c) e f) sc u)
+  if_alike c a b t e f hc ha hb fa fb ea eb told w env s sc u sees same = by_equal w env t _ _ _ _ refl (λ i. shown z (core.choice_of (expression_of z.code.sure c) (ea i) (eb i)) sc u) (in_order_alike z w w env sc w (type_of_term c ∷ []) t (ir_meaning.step z.place.classes z.low c ∷ []) (expression_of z.code.sure c ∷ []) (ir_meaning.branch (ir_meaning.step z.place.classes z.low a) (ir_meaning.step z.place.classes z.low b)) (js_meaning.chosen (shown z (expression_of z.code.sure a)) (shown z (expression_of z.code.sure b))) (more_operands _ _ _ _ _ _ told (as_operand c hc w env sc sees) no_operands) (branch_acts w env sc (type_of_term c) t (ir_meaning.step z.place.classes z.low a) (ir_meaning.step z.place.classes z.low b) (shown z (expression_of z.code.sure a)) (shown z (expression_of z.code.sure b)) (fitting_operand a t fa ha w env sc sees) (fitting_operand b t fb hb w env sc sees)) w s u (grows-refl w) (grows-refl w) (grows-refl w) same)
 
-  pub call_alike : (m : Member) (ts : List IrType) (rs : List ir.Run) (es es' : List core.Expression) → es ≡ es' → (usable z).linked m ≡ true → FitAll (types_referred m.method.params) ts → (w : World) (env : ir.Env) (s : ir.State) (sc : js.Scope) (u : js.State) → Inside z.place z.file sc → OperandsAlike z w env sc ts rs es' → SameState z.place w s u → Sim z.direction (Valued z.place w env (call_type m.method.result)) (ir_meaning.in_order rs (ir_meaning.call z.low (ir_world.member_of z.place.classes m.class m.namespace m.method) None) env s) (shown z (core.static_call m (expressions_of es)) sc u)
+  pub call_alike : (m : Member) (ts : List IrType) (rs : List ir.Run) (es es' : List core.Expression) → es ≡ es' → (usable z).linked m ≡ true → FitAll (types_referred m.method.params) ts → (w : World) (env : ir.Env) (s : ir.State) (sc : js.Scope) (u : js.State) → Inside z.place z.code sc → OperandsAlike z w env sc ts rs es' → SameState z.place w s u → Sim z.direction (Valued z.place w env (call_type m.method.result)) (ir_meaning.in_order rs (ir_meaning.call z.low (ir_world.member_of z.place.classes m.class m.namespace m.method) None) env s) (shown z (core.static_call m (expressions_of es)) sc u)
   call_alike m ts rs es es' e linked fit w env s sc u inside operands same = by_equal w env (call_type m.method.result) _ _ _ _ refl (ap (λ o. then_do o (js.with_value (λ f. js_meaning.in_order (js_meaning.arguments z.place.program z.js_low (expression_templates z.place.name z.place.label (expressions_of es))) (js_meaning.call z.place.program z.js_low f) sc))) (name_shown m w s sc u linked inside same) ∙ ap (λ args. js_meaning.in_order args (js_meaning.call z.place.program z.js_low (function_of_member z.place m)) sc u) (arguments_shown es ∙ ap (all_shown z) e)) (in_order_alike z w w env sc w ts (call_type m.method.result) rs es' (ir_meaning.call z.low (ir_world.member_of z.place.classes m.class m.namespace m.method) None) (js_meaning.call z.place.program z.js_low (function_of_member z.place m)) operands (call_acts m ts w env sc linked fit) w s u (grows-refl w) (grows-refl w) (grows-refl w) same)
 
   pub unary_alike : (o : UnaryOp) (own : IrType) (r : ir.Run) (e : core.Expression) → (w : World) (env : ir.Env) (s : ir.State) (sc : js.Scope) (u : js.State) → OperandsAlike z w env sc (own ∷ []) (r ∷ []) (e ∷ []) → SameState z.place w s u → Sim z.direction (Valued z.place w env (unary_result o)) (ir_meaning.in_order (r ∷ []) (ir_meaning.unary z.place.classes z.low o) env s) (shown z (core.unary_of o e) sc u)
@@ -134,7 +134,7 @@ module _ (z : Setting) (lawful : Lawful z) (scope : Scope) where
   binary_alike _ _ _ r q e d (joins left right) w env s sc u (more_operands _ _ _ _ _ _ h one (more_operands _ _ _ _ _ _ k other no_operands)) same = joined_alike z w env sc left right r q e d one other s u same
 
   abbrev text_of_tree : Term → tree.Expression
-  text_of_tree t = expression_template z.place.name z.place.label (expression_of t)
+  text_of_tree t = expression_template z.place.name z.place.label (expression_of z.code.sure t)
 
   -- what the text of a plain tree tells of its type
   not_long : (expected own : IrType) → is_narrow expected ≡ true → Fits expected own → is_long own ≡ false
@@ -165,7 +165,7 @@ module _ (z : Setting) (lawful : Lawful z) (scope : Scope) where
   binary_tells _ _ _ (of_its_types o left right h f g) b e x = simple_tells o h b e x
   binary_tells _ _ _ (joins left right) b e g = refl
 
-  division_tells : (o : BinaryOp) (d : Term) → DividesBy o d → (e : tree.Expression) → tells (binary_result o) (binary_template (is_nonzero_literal (expression_of d)) o e (text_of_tree d)) ≡ true
+  division_tells : (o : BinaryOp) (d : Term) → DividesBy o d → (e : tree.Expression) → tells (binary_result o) (binary_template (is_nonzero_literal (expression_of z.code.sure d)) o e (text_of_tree d)) ≡ true
   division_tells _ _ (by_int _ i p (pos zero) f ne) e = absurd (ne refl)
   division_tells _ _ (by_int _ a_quotient p (pos (suc n)) f ne) e = refl
   division_tells _ _ (by_int _ a_quotient p (negsuc n) f ne) e = refl
@@ -192,7 +192,7 @@ module _ (z : Setting) (lawful : Lawful z) (scope : Scope) where
   plain_tells (apply_static p c n m ts t) h = refl
   plain_tells (unary_op p o e) h = unary_tells o (type_of_term e) (text_of_tree e) h.0 (plain_tells e h.1)
   plain_tells (binary_op p o e d) (inl h) = binary_tells o (type_of_term e) (type_of_term d) h.0 _ _ _
-  plain_tells (binary_op p o e d) (inr h) = subst (λ x. tells (binary_result o) (expression_template z.place.name z.place.label x) ≡ true) (sym (division_same o d h.0 (type_of_term e) (type_of_term d) (expression_of e) (expression_of d))) (division_tells o d h.0 (text_of_tree e))
+  plain_tells (binary_op p o e d) (inr h) = subst (λ x. tells (binary_result o) (expression_template z.place.name z.place.label x) ≡ true) (sym (division_same o d h.0 (type_of_term e) (type_of_term d) (expression_of z.code.sure e) (expression_of z.code.sure d))) (division_tells o d h.0 (text_of_tree e))
   plain_tells (undefined_literal p) h = refl
   plain_tells (null_literal p) h = refl
   plain_tells (boolean_literal p b) h = refl
@@ -206,22 +206,22 @@ module _ (z : Setting) (lawful : Lawful z) (scope : Scope) where
   plain_tells _ h = absurd h
 
   -- a plain tree as the one operand, or the first of several
-  with_tree : (t : Term) → Plain (usable z) scope t → PlainAlike t → (w : World) (env : ir.Env) (sc : js.Scope) → Sees z.place z.file scope w env sc → (ts : List IrType) (rs : List ir.Run) (es : List core.Expression) → OperandsAlike z w env sc ts rs es → OperandsAlike z w env sc (type_of_term t ∷ ts) (ir_meaning.step z.place.classes z.low t ∷ rs) (expression_of t ∷ es)
-  with_tree t h alike w env sc sees ts rs es others = more_operands (type_of_term t) (ir_meaning.step z.place.classes z.low t) (expression_of t) ts rs es (plain_tells t h) (as_operand t alike w env sc sees) others
+  with_tree : (t : Term) → Plain (usable z) scope t → PlainAlike t → (w : World) (env : ir.Env) (sc : js.Scope) → Sees z.place z.code scope w env sc → (ts : List IrType) (rs : List ir.Run) (es : List core.Expression) → OperandsAlike z w env sc ts rs es → OperandsAlike z w env sc (type_of_term t ∷ ts) (ir_meaning.step z.place.classes z.low t ∷ rs) (expression_of z.code.sure t ∷ es)
+  with_tree t h alike w env sc sees ts rs es others = more_operands (type_of_term t) (ir_meaning.step z.place.classes z.low t) (expression_of z.code.sure t) ts rs es (plain_tells t h) (as_operand t alike w env sc sees) others
 
   division_plain : (q : Position) (o : BinaryOp) (e d : Term) → Plain (usable z) scope e → PlainAlike e → DividesBy o d → Fits (left_operand o) (type_of_term e) → PlainAlike (binary_op q o e d)
-  division_plain q o e d h alike by f w env s sc u sees same = by_equal w env (binary_result o) _ _ _ _ (dividend_alone z o d by (ir_meaning.step z.place.classes z.low e) env s) (λ i. shown z (division_same o d by (type_of_term e) (type_of_term d) (expression_of e) (expression_of d) i) sc u) (division_alike z o d by (type_of_term e) f (ir_meaning.step z.place.classes z.low e) (expression_of e) w env s sc u (with_tree e h alike w env sc sees [] [] [] no_operands) same)
+  division_plain q o e d h alike by f w env s sc u sees same = by_equal w env (binary_result o) _ _ _ _ (dividend_alone z o d by (ir_meaning.step z.place.classes z.low e) env s) (λ i. shown z (division_same o d by (type_of_term e) (type_of_term d) (expression_of z.code.sure e) (expression_of z.code.sure d) i) sc u) (division_alike z o d by (type_of_term e) f (ir_meaning.step z.place.classes z.low e) (expression_of z.code.sure e) w env s sc u (with_tree e h alike w env sc sees [] [] [] no_operands) same)
 
-  call_plain : (p : Position) (m : Member) (ts : Terms) (t : IrType) → t ≡ call_type m.method.result → (usable z).linked m ≡ true → FitAll (types_referred m.method.params) (types_of ts) → (w : World) (env : ir.Env) (s : ir.State) (sc : js.Scope) (u : js.State) → Sees z.place z.file scope w env sc → OperandsAlike z w env sc (types_of ts) (ir_meaning.operands z.place.classes z.low ts) (all_expressions ts) → SameState z.place w s u → Sim z.direction (Valued z.place w env t) (ir_meaning.in_order (ir_meaning.operands z.place.classes z.low ts) (ir_meaning.call z.low (ir_world.member_of z.place.classes m.class m.namespace m.method) None) env s) (shown z (core.static_call m (expressions_of (coerced_arguments m.method.params (types_of ts) (all_expressions ts)))) sc u)
-  call_plain p m ts t is linked fit w env s sc u sees operands same = subst (λ i. Sim z.direction (Valued z.place w env i) (ir_meaning.in_order (ir_meaning.operands z.place.classes z.low ts) (ir_meaning.call z.low (ir_world.member_of z.place.classes m.class m.namespace m.method) None) env s) (shown z (core.static_call m (expressions_of (coerced_arguments m.method.params (types_of ts) (all_expressions ts)))) sc u)) (sym is) (call_alike m (types_of ts) (ir_meaning.operands z.place.classes z.low ts) (coerced_arguments m.method.params (types_of ts) (all_expressions ts)) (all_expressions ts) (arguments-same m.method.params (types_of ts) (all_expressions ts) fit) linked fit w env s sc u sees.inside operands same)
+  call_plain : (p : Position) (m : Member) (ts : Terms) (t : IrType) → t ≡ call_type m.method.result → (usable z).linked m ≡ true → FitAll (types_referred m.method.params) (types_of ts) → (w : World) (env : ir.Env) (s : ir.State) (sc : js.Scope) (u : js.State) → Sees z.place z.code scope w env sc → OperandsAlike z w env sc (types_of ts) (ir_meaning.operands z.place.classes z.low ts) (all_expressions z.code.sure ts) → SameState z.place w s u → Sim z.direction (Valued z.place w env t) (ir_meaning.in_order (ir_meaning.operands z.place.classes z.low ts) (ir_meaning.call z.low (ir_world.member_of z.place.classes m.class m.namespace m.method) None) env s) (shown z (core.static_call m (expressions_of (coerced_arguments m.method.params (types_of ts) (all_expressions z.code.sure ts)))) sc u)
+  call_plain p m ts t is linked fit w env s sc u sees operands same = subst (λ i. Sim z.direction (Valued z.place w env i) (ir_meaning.in_order (ir_meaning.operands z.place.classes z.low ts) (ir_meaning.call z.low (ir_world.member_of z.place.classes m.class m.namespace m.method) None) env s) (shown z (core.static_call m (expressions_of (coerced_arguments m.method.params (types_of ts) (all_expressions z.code.sure ts)))) sc u)) (sym is) (call_alike m (types_of ts) (ir_meaning.operands z.place.classes z.low ts) (coerced_arguments m.method.params (types_of ts) (all_expressions z.code.sure ts)) (all_expressions z.code.sure ts) (arguments-same m.method.params (types_of ts) (all_expressions z.code.sure ts) fit) linked fit w env s sc u sees.inside operands same)
 
   mutual
     -- both directions at once: what a plain tree comes to, its expression comes to
     pub plain_alike : (t : Term) → Plain (usable z) scope t → PlainAlike t
-    plain_alike (if_then p c a b t) h w env s sc u sees same = if_alike c a b t (coerced t (type_of_term a) (expression_of a)) (coerced t (type_of_term b) (expression_of b)) (plain_alike c h.0) (plain_alike a h.1) (plain_alike b h.2) h.3 h.4 (coerced-same t (type_of_term a) (expression_of a) h.3) (coerced-same t (type_of_term b) (expression_of b) h.4) (plain_tells c h.0) w env s sc u sees same
+    plain_alike (if_then p c a b t) h w env s sc u sees same = if_alike c a b t (coerced t (type_of_term a) (expression_of z.code.sure a)) (coerced t (type_of_term b) (expression_of z.code.sure b)) (plain_alike c h.0) (plain_alike a h.1) (plain_alike b h.2) h.3 h.4 (coerced-same t (type_of_term a) (expression_of z.code.sure a) h.3) (coerced-same t (type_of_term b) (expression_of z.code.sure b) h.4) (plain_tells c h.0) w env s sc u sees same
     plain_alike (apply_static p c n m ts t) h w env s sc u sees same = call_plain p (member c n m) ts t h.1 h.0 h.2 w env s sc u sees (all_alike ts h.3 w env sc sees) same
-    plain_alike (unary_op p o e) h w env s sc u sees same = unary_alike o (type_of_term e) (ir_meaning.step z.place.classes z.low e) (expression_of e) w env s sc u (with_tree e h.1 (plain_alike e h.1) w env sc sees [] [] [] no_operands) same
-    plain_alike (binary_op p o e d) (inl h) w env s sc u sees same = binary_alike o (type_of_term e) (type_of_term d) (ir_meaning.step z.place.classes z.low e) (ir_meaning.step z.place.classes z.low d) (expression_of e) (expression_of d) h.0 w env s sc u (with_tree e h.1 (plain_alike e h.1) w env sc sees _ _ _ (with_tree d h.2 (plain_alike d h.2) w env sc sees [] [] [] no_operands)) same
+    plain_alike (unary_op p o e) h w env s sc u sees same = unary_alike o (type_of_term e) (ir_meaning.step z.place.classes z.low e) (expression_of z.code.sure e) w env s sc u (with_tree e h.1 (plain_alike e h.1) w env sc sees [] [] [] no_operands) same
+    plain_alike (binary_op p o e d) (inl h) w env s sc u sees same = binary_alike o (type_of_term e) (type_of_term d) (ir_meaning.step z.place.classes z.low e) (ir_meaning.step z.place.classes z.low d) (expression_of z.code.sure e) (expression_of z.code.sure d) h.0 w env s sc u (with_tree e h.1 (plain_alike e h.1) w env sc sees _ _ _ (with_tree d h.2 (plain_alike d h.2) w env sc sees [] [] [] no_operands)) same
     plain_alike (binary_op p o e d) (inr h) w env s sc u sees same = division_plain p o e d h.2 (plain_alike e h.2) h.0 h.1 w env s sc u sees same
     plain_alike (undefined_literal p) h w env s sc u sees same = literal_alike w env Undefined s u ir.undefined js.undefined same_undefined refl same
     plain_alike (null_literal p) h w env s sc u sees same = literal_alike w env Null s u ir.null js.null same_null refl same
@@ -235,6 +235,6 @@ module _ (z : Setting) (lawful : Lawful z) (scope : Scope) where
     plain_alike (var_ref p x t) h w env s sc u sees same = local_alike w env t s u (env.locals x) (sc.bindings (z.place.name (core.named x))) (js_meaning.top_cell (owner z.place.program sc.file (z.place.name (core.named x))) (z.place.name (core.named x)) u) (sees.locals x t h) same
     plain_alike _ h w env s sc u sees same = absurd h
 
-    pub all_alike : (ts : Terms) → AllPlain (usable z) scope ts → (w : World) (env : ir.Env) (sc : js.Scope) → Sees z.place z.file scope w env sc → OperandsAlike z w env sc (types_of ts) (ir_meaning.operands z.place.classes z.low ts) (all_expressions ts)
+    pub all_alike : (ts : Terms) → AllPlain (usable z) scope ts → (w : World) (env : ir.Env) (sc : js.Scope) → Sees z.place z.code scope w env sc → OperandsAlike z w env sc (types_of ts) (ir_meaning.operands z.place.classes z.low ts) (all_expressions z.code.sure ts)
     all_alike no_terms h w env sc sees = no_operands
     all_alike (more_terms t ts) h w env sc sees = with_tree t h.0 (plain_alike t h.0) w env sc sees _ _ _ (all_alike ts h.1 w env sc sees)

@@ -69,7 +69,7 @@ pub record Setting : Type 0 where
 
 -- what the code at hand can use
 abbrev pub usable : Setting → Usable
-usable z = z.place.has z.file
+usable z = z.place.has z.code.file
 
 -- the statements and expressions of this setting
 abbrev pub shown : Setting → core.Expression → js.Evaluation
@@ -163,7 +163,7 @@ Reaches p f = (t : Top) → is_usable (p.has f) t ≡ true → owner p.program f
 -- what the levels below give of what is called
 pub record Based (z : Setting) : Type 0 where
   pub names : NamesDiffer z.place
-  pub reaches : Reaches z.place z.file
+  pub reaches : Reaches z.place z.code
   pub calls : (m : Member) → (usable z).linked m ≡ true → CallsAlike z m
 
 -- what the levels below give to trees
