@@ -6,14 +6,15 @@ use Rattle.sj_trees.specs.declared.operators.BinaryOp.{BinaryOp}
 use Rattle.sj_trees.specs.declared.operators.UnaryOp.{UnaryOp}
 use Rattle.sj_trees.specs.declared.positions.Position.{Position}
 
--- a variable of the IR by its name, or one by its number, which holds an operand
+-- a variable of the IR by its name, one by its number, which holds an operand, or the one that holds This
 pub data Variable : Type 0 where
   named : List ℕ → Variable
   numbered : ℕ → Variable
+  receiver : Variable
 
 mutual
-  -- among them This; a field of an object; a static field; a value that isn't null, or an exception; an object of the member's class on which that
-  -- constructor ran; and a call of the member on a receiver
+  -- among them a field of an object, a static field, a value that isn't null, an object of the member's class on which that constructor ran, and a call
+  -- of the member on a receiver
   pub data Expression : Type 0 where
     undefined_value : Expression
     null_value : Expression
@@ -27,7 +28,6 @@ mutual
     value_text : Expression → Expression
     choice_of : Expression → Expression → Expression → Expression
     static_call : Member → Expressions → Expression
-    receiver_use : Expression
     field_of : Expression → List ℕ → List ℕ → Expression
     static_of : List ℕ → List ℕ → Expression
     checked_value : Expression → Expression

@@ -16,7 +16,7 @@ use Rattle.sj_trees.specs.declared.positions.Position.{Position}
 use Rattle.sj_trees.specs.declared.types.IrType.{IrType}
 use Rattle.sj_trees.specs.declared.types.IrType.TheVariants.{Any, Nothing, Undefined, Boolean, Char, Byte, Short, Int, Long, String, Null, NoType}
 use Rattle.sj_core.specs.Terms as core
-use Rattle.sj_core.specs.Terms.{named, Expression, receiver_use, field_of, static_of, made_of, receiver_call, checked_value, undefined_value, null_value, boolean_value, number_value, long_value, text_value, variable_use, choice_of, static_call, unary_of, binary_of, Statement, define_of, declare_of, assign_to, evaluate_of, return_of, log_of, assign_field, assign_static, throw_of, leave_label, break_nearest, if_of, while_of, loop_of, labeled_of, switch_of, Statements, no_statements, statement, followed, Method}
+use Rattle.sj_core.specs.Terms.{named, Expression, field_of, static_of, made_of, receiver_call, checked_value, undefined_value, null_value, boolean_value, number_value, long_value, text_value, variable_use, choice_of, static_call, unary_of, binary_of, Statement, define_of, declare_of, assign_to, evaluate_of, return_of, log_of, assign_field, assign_static, throw_of, leave_label, break_nearest, if_of, while_of, loop_of, labeled_of, switch_of, Statements, no_statements, statement, followed, Method}
 use Rattle.sj_core.specs.Views.{expressions_of}
 use Rattle.sj_desugar.specs.Coercions.{coerced, coerced_arguments, coerced_receiver}
 use Rattle.sj_desugar.specs.Plain.{is_no_type, is_plain, is_fixed, is_among, mutable_in, mutable_params}
@@ -108,7 +108,7 @@ module _ (sure : List ℕ → Bool) where
     expression_of (if_then p c a b t) = choice_of (expression_of c) (coerced t (type_of_term a) (expression_of a)) (coerced t (type_of_term b) (expression_of b))
     expression_of (apply_static p c n m ts t) = static_call (member c n m) (expressions_of (coerced_arguments m.params (types_of ts) (all_expressions ts)))
     expression_of (apply_statically p e c n m ts t) = receiver_call (member c n m) (coerced_receiver (type_of_term e) (received_text (is_sure sure e) (expression_of e))) (expressions_of (coerced_arguments m.params (types_of ts) (all_expressions ts)))
-    expression_of (this_ref p t) = receiver_use
+    expression_of (this_ref p t) = variable_use core.receiver
     expression_of (new_object p c m ts) = made_of (member c Constructor m) (expressions_of (coerced_arguments m.params (types_of ts) (all_expressions ts)))
     expression_of (select p e c f t) = field_of (received_text (is_sure sure e) (expression_of e)) c f
     expression_of (select_static p c f t) = static_of c f
@@ -222,7 +222,7 @@ module _ (is_mutable sure : List ℕ → Bool) where
     into ls k j (match_on p e cs d t) = then_use (spill (operand e (λ k j. into ls k j e) ∷ []) j) (λ es j. switch_code p (first_of es) (cases ls k j cs) (λ j. into ls k j d))
     into ls k j (apply_static p c n m ts t) = then_use (spill (operands ls ts) j) (λ es. finish k p t false (static_call (member c n m) (expressions_of (coerced_arguments m.params (types_of ts) es))))
     into ls k j (apply_statically p e c n m ts t) = then_use (spill (receiver e (λ k j. into ls k j e) ∷ operands ls ts) j) (λ es. finish k p t false (receiver_call (member c n m) (coerced_receiver (type_of_term e) (first_of es)) (expressions_of (coerced_arguments m.params (types_of ts) (rest_of es)))))
-    into ls k j (this_ref p t) = finish k p t true receiver_use j
+    into ls k j (this_ref p t) = finish k p t true (variable_use core.receiver) j
     into ls k j (throw p e) = then_use (spill (operand e (λ k j. into ls k j e) ∷ []) j) (λ es. one (throw_of (Some p) (coerced Any (type_of_term e) (first_of es))))
     into ls k j (new_object p c m ts) = then_use (spill (operands ls ts) j) (λ es. finish k p (class_type c) false (made_of (member c Constructor m) (expressions_of (coerced_arguments m.params (types_of ts) es))))
     into ls k j (select p e c f t) = then_use (spill (receiver e (λ k j. into ls k j e) ∷ []) j) (λ es. finish k p t false (field_of (first_of es) c f))
@@ -279,7 +279,7 @@ desugared d e = record { namespace = d.namespace; params = names_of d.params; bo
 
 -- a constructor gives the object that it ran on
 abbrev pub completed : Namespace → Statements → Statements
-completed Constructor ss = followed ss (statement (return_of None receiver_use) no_statements)
+completed Constructor ss = followed ss (statement (return_of None (variable_use core.receiver)) no_statements)
 completed n ss = ss
 
 -- any method with this body: that of a constructor is followed by the return of its object

@@ -7,7 +7,7 @@ use Rattle.js_tree.specs.declared.operators.HostFunction.TheVariants.{BigInt, Nu
 use Rattle.js_tree.specs.declared.operators.HostOperation.TheVariants.{BigIntAsIntN, BigIntAsUintN, MathImul}
 use Rattle.js_tree.specs.declared.operators.UnaryOperator.TheVariants.{Not}
 use Rattle.sj_core.specs.Terms as core
-use Rattle.sj_core.specs.Terms.{Variable, undefined_value, null_value, boolean_value, number_value, long_value, text_value, variable_use, boxed_char, char_text, value_text, choice_of, static_call, receiver_use, field_of, static_of, checked_value, made_of, receiver_call, constant_of, define_of, assign_to, assign_field, assign_static, evaluate_of, log_of, leave_label, if_of, loop_of, switch_of, Method}
+use Rattle.sj_core.specs.Terms.{Variable, undefined_value, null_value, boolean_value, number_value, long_value, text_value, variable_use, boxed_char, char_text, value_text, choice_of, static_call, field_of, static_of, checked_value, made_of, receiver_call, constant_of, define_of, assign_to, assign_field, assign_static, evaluate_of, log_of, leave_label, if_of, loop_of, switch_of, Method}
 use Rattle.sj_emit_expr.specs.Names.{variable_name, label_name}
 use Rattle.sj_mangling.specs.Bindings.{function_name, class_binding, field_binding}
 use Rattle.sj_mangling.specs.declared.bindings.ClassBinding.TheVariants.{Class}
@@ -117,10 +117,6 @@ binary_template nonzero _ e g = undefined_literal
 abbrev pub member_name : Member → Name
 member_name m = function_name m.namespace m.class m.method
 
--- the parameter that stands for This
-abbrev pub this_name : Name
-this_name = codes "$this"
-
 -- a class; the property of a field; a static field, and the function that sets it
 abbrev pub class_name : List ℕ → Name
 class_name c = class_binding Class c
@@ -159,7 +155,6 @@ module _ (name : Variable → Name) (label : List ℕ → Name) where
     expression_template (value_text e) = as_text (expression_template e)
     expression_template (choice_of c e g) = conditional_of (expression_template c) (expression_template e) (expression_template g)
     expression_template (static_call m es) = call_of (member_name m) (expression_templates es)
-    expression_template receiver_use = name_use this_name
     expression_template (field_of e c f) = property_of (expression_template e) (property_name c f)
     expression_template (static_of c f) = name_use (static_name c f)
     expression_template (checked_value e) = call_of check_name (js.expression (expression_template e) js.no_expressions)
