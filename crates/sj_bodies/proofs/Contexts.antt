@@ -54,7 +54,7 @@ pub record IsOpen (cell : js.Cell) : Type 0 where
   pub value : js.Value
   pub is : cell ≡ js.holds false value
 
-pub record Ready (p : Place) (here : Name) (scope : Scope) (writable : core.Variable → Type 0) (w : World) (env : ir.Env) (sc : js.Scope) : Type 0 where
+pub record Ready (p : Place) (here : Code) (scope : Scope) (writable : core.Variable → Type 0) (w : World) (env : ir.Env) (sc : js.Scope) : Type 0 where
   pub sees : Sees p here scope w env sc
   pub «open» : (y : core.Variable) → writable y → IsOpen (sc.bindings (p.name y))
 
@@ -99,7 +99,7 @@ pub data Arrives (p : Place) (w : World) (v : ir.Value) (sc : js.Scope) (usual :
   returned : (t : IrType) (j : js.Value) → SameValue w t v j → Arrives p w v sc usual (to_result t) (js.returns j)
 
 -- how a tree and its statements came to their end; inside a loop's turn, its condition may not hold any more
-pub data Came (p : Place) (here : Name) (c : Context) (scope : Scope) (k : Destination) (from : World) (before : js.Scope) : ir.Ended → js.StatementEnd → Type 0 where
+pub data Came (p : Place) (here : Code) (c : Context) (scope : Scope) (k : Destination) (from : World) (before : js.Scope) : ir.Ended → js.StatementEnd → Type 0 where
   gave : (w : World) (v : ir.Value) (env : ir.Env) (s : ir.State) (sc : js.Scope) (u : js.State) (e : js.Completion) → Grows from w → Arrives p w v sc js.normally k e → Ready p here scope c.writable w env sc → Keeps p (Less c.kept k) before sc → SameState p w s u → Came p here c scope k from before (ir.ends (ir.gives v) env s) (js.ends e sc u)
   left : (w : World) (l : List ℕ) (v : ir.Value) (env : ir.Env) (s : ir.State) (sc : js.Scope) (u : js.State) (e : js.Completion) → c.reaches l → Grows from w → Arrives p w v sc (js.breaks (p.label l)) (target_of c.targets l) e → Ready p here c.scope c.writable w env sc → Keeps p (Less c.kept (target_of c.targets l)) before sc → SameState p w s u → Came p here c scope k from before (ir.ends (ir.leaves l v) env s) (js.ends e sc u)
   threw : (w : World) (v : ir.Value) (x : js.Value) (env : ir.Env) (s : ir.State) (sc : js.Scope) (u : js.State) → Grows from w → SameValue w Any v x → Ready p here c.scope c.writable w env sc → Keeps p c.kept before sc → SameState p w s u → Came p here c scope k from before (ir.ends (ir.throws v) env s) (js.ends (js.thrown_with x) sc u)

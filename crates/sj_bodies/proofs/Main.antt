@@ -53,10 +53,10 @@ module _ (z : Setting) (lawful : Lawful z) (low : LowAlike z) where
   AmidHere c s = Amid z.place.classes z.is_mutable c.scope (around c) s
 
   tree : (c : Context) (s : Scene) → AmidHere c s → (k : Destination) (e : Term) → Mutable z.is_mutable (mutable_in e) → Asks z.place.classes k (type_of_term e) → Typed z.place.classes (usable z) s e → FineHere z lawful low c k e
-  tree c = tree_in z.place.classes z.is_mutable (usable z) c.scope (around c)
+  tree c = tree_in z.place.classes z.is_mutable (usable z) z.code.sure c.scope (around c)
 
-  part_of : (c : Context) (s : Scene) → AmidHere c s → (e : Term) → Mutable z.is_mutable (mutable_in e) → (t : IrType) → IsSub z.place.classes (type_of_term e) t → HasValue t → Typed z.place.classes (usable z) s e → FineOperand z.is_mutable (usable z) c.scope e (λ y. FineHere z lawful low c (to_variable y (type_of_term e)) e)
-  part_of c = operand_in z.place.classes z.is_mutable (usable z) c.scope (around c)
+  part_of : (c : Context) (s : Scene) → AmidHere c s → (e : Term) → Mutable z.is_mutable (mutable_in e) → (t : IrType) → IsSub z.place.classes (type_of_term e) t → HasValue t → Typed z.place.classes (usable z) s e → FineOperand z.is_mutable (usable z) z.code.sure c.scope e (λ y. FineHere z lawful low c (to_variable y (type_of_term e)) e)
+  part_of c = operand_in z.place.classes z.is_mutable (usable z) z.code.sure c.scope (around c)
 
   abbrev BlockDoes : Terms → Type 1
   BlockDoes ts = (c : Context) (k : Destination) (j : ℕ) → Sound z.is_mutable c → Ahead c j → Outside c (OwnAll ts) → Writes c.writable k → (scene : Scene) → AmidHere c scene → Mutable z.is_mutable (mutable_in_all ts) → (i : IrType) → Asks z.place.classes k (type_of_last i ts) → TypedBlock z.place.classes (usable z) scene ts → (w : World) (env : ir.Env) (s : ir.State) (sc : js.Scope) (u : js.State) → Ready z.place z.code c.scope c.writable w env sc → SameState z.place w s u → Ends z lawful c c.scope k w sc (ir_meaning.block z.place.classes z.low ts env s) (block z.is_mutable z.code.sure c.targets k j ts).statements sc u
@@ -107,7 +107,7 @@ module _ (z : Setting) (lawful : Lawful z) (low : LowAlike z) where
   log_by p e does c _ j sound ahead out fine is_discard = of_operands z lawful c discard (piece z lawful low c.targets e ∷ []) j ir_meaning.log (λ es. one (core.log_of (Some p) (first_of es))) sound ahead (operand_does z lawful low c j e does out (part_of c fine.scene fine.amid e fine.written String fine.typed.0.meets refl fine.typed.1), tt) (one_final z lawful c discard j (type_of_term e) ir_meaning.log (λ es. one (core.log_of (Some p) (first_of es))) (log_final z lawful c p j (type_of_term e)))
 
   labeled_does : (p : Position) (l : List ℕ) (t : IrType) (e : Term) → TreeDoes z lawful low e → TreeDoes z lawful low (labeled p l t e)
-  labeled_does p l t e does c k j sound ahead out wr fine = labeled_alike z lawful c l k p (ir_meaning.step z.place.classes z.low e) (into z.is_mutable z.code.sure (record { label = l; goes_to = k } ∷ c.targets) k j e) (sound-labelling z lawful c l k sound wr) wr (undeclared (labelling z lawful c l k) (Own e) j (into z.is_mutable z.code.sure (record { label = l; goes_to = k } ∷ c.targets) k j e).statements (record { scope = out.scope; writable = out.writable; kept = out.kept }) (record { writable = ahead.writable; kept = ahead.kept }) (new z.is_mutable z.code.sure (record { label = l; goes_to = k } ∷ c.targets) e k j)) (does (labelling z lawful c l k) k j (sound-labelling z lawful c l k sound wr) (record { writable = ahead.writable; kept = ahead.kept }) (record { scope = out.scope; writable = out.writable; kept = out.kept }) wr (record { scene = in_label l t fine.scene; amid = amid-inside z.place.classes z.is_mutable (usable z) c.scope (around c) fine.scene l t k fine.amid fine.asks; written = fine.written; asks = yields z.place.classes fine.amid.ordered z.is_mutable (usable z) k e t fine.asks (yields_there z.place.classes e t fine.typed.0.built fine.typed.0.meets); typed = fine.typed.1 }))
+  labeled_does p l t e does c k j sound ahead out wr fine = labeled_alike z lawful c l k p (ir_meaning.step z.place.classes z.low e) (into z.is_mutable z.code.sure (record { label = l; goes_to = k } ∷ c.targets) k j e) (sound-labelling z lawful c l k sound wr) wr (undeclared (labelling z lawful c l k) (Own e) j (into z.is_mutable z.code.sure (record { label = l; goes_to = k } ∷ c.targets) k j e).statements (record { scope = out.scope; writable = out.writable; kept = out.kept }) (record { writable = ahead.writable; kept = ahead.kept }) (new z.is_mutable z.code.sure (record { label = l; goes_to = k } ∷ c.targets) e k j)) (does (labelling z lawful c l k) k j (sound-labelling z lawful c l k sound wr) (record { writable = ahead.writable; kept = ahead.kept }) (record { scope = out.scope; writable = out.writable; kept = out.kept }) wr (record { scene = in_label l t fine.scene; amid = amid-inside z.place.classes z.is_mutable (usable z) z.code.sure c.scope (around c) fine.scene l t k fine.amid fine.asks; written = fine.written; asks = yields z.place.classes fine.amid.ordered z.is_mutable (usable z) k e t fine.asks (yields_there z.place.classes e t fine.typed.0.built fine.typed.0.meets); typed = fine.typed.1 }))
 
   return_does : (p : Position) (e : Term) (l : List ℕ) → TreeDoes z lawful low e → TreeDoes z lawful low (return_to p e l)
   return_does p e l does c k j sound ahead out wr fine w env s sc u r same = return_alike z lawful c k (target_of c.targets l) p l (ir_meaning.step z.place.classes z.low e) (into z.is_mutable z.code.sure c.targets (target_of c.targets l) j e) refl (fine.amid.reaches l) w env s sc u (does c (target_of c.targets l) j sound ahead out (sound.reached l (fine.amid.reaches l)) (tree c fine.scene fine.amid (target_of c.targets l) e fine.written (yields z.place.classes fine.amid.ordered z.is_mutable (usable z) (target_of c.targets l) e fine.typed.0.meets.tpe (fine.amid.targets l fine.typed.0.meets.tpe fine.typed.0.meets.is_type) (leaves_there z.place.classes fine.scene.labels l e fine.typed.0.built fine.typed.0.meets)) fine.typed.1) w env s sc u r same)
@@ -134,7 +134,7 @@ module _ (z : Setting) (lawful : Lawful z) (low : LowAlike z) where
       fits_here = fits-value z.place.classes fine.amid.ordered z.is_mutable (usable z) k (binary_result o) fine.asks (binary-value o)
 
       by : Takes z.place.classes o e d ⊎ (DividesBy o d × IsSub z.place.classes (type_of_term e) (left_operand o)) → Does z lawful c k j (binary_op p o e d)
-      by (inl h) = of_operands z lawful c k (piece z lawful low c.targets e ∷ piece z lawful low c.targets d ∷ []) j (ir_meaning.binary z.place.classes z.low o) (λ es. finish k p (binary_result o) false (core.binary_of o (operand_of o (type_of_term e) (first_of es)) (operand_of o (type_of_term d) (second_of es)))) sound ahead (operand_does z lawful low c j e does_e out_e (operand_by z.place.classes z.is_mutable (usable z) c.scope (around c) fine.scene fine.amid e (one_mutable z.is_mutable e d fine.written) (λ y. asks-left z.place.classes fine.amid.ordered z.is_mutable (usable z) y o e d h) fine.typed.1), (operand_does z lawful low c j d does_d out_d (operand_by z.place.classes z.is_mutable (usable z) c.scope (around c) fine.scene fine.amid d (other_mutable z.is_mutable e d fine.written) (λ y. asks-right z.place.classes fine.amid.ordered z.is_mutable (usable z) y o e d h) fine.typed.2), tt)) (two_final z lawful c k j (type_of_term e) (type_of_term d) (ir_meaning.binary z.place.classes z.low o) (λ es. finish k p (binary_result o) false (core.binary_of o (operand_of o (type_of_term e) (first_of es)) (operand_of o (type_of_term d) (second_of es)))) (binary_final p o (type_of_term e) (type_of_term d) c k j (operates z.place.classes fine.amid.ordered z.is_mutable (usable z) o e d h) sound wr fits_here))
+      by (inl h) = of_operands z lawful c k (piece z lawful low c.targets e ∷ piece z lawful low c.targets d ∷ []) j (ir_meaning.binary z.place.classes z.low o) (λ es. finish k p (binary_result o) false (core.binary_of o (operand_of o (type_of_term e) (first_of es)) (operand_of o (type_of_term d) (second_of es)))) sound ahead (operand_does z lawful low c j e does_e out_e (operand_by z.place.classes z.is_mutable (usable z) z.code.sure c.scope (around c) fine.scene fine.amid e (one_mutable z.is_mutable e d fine.written) (λ y. asks-left z.place.classes fine.amid.ordered z.is_mutable (usable z) y o e d h) fine.typed.1), (operand_does z lawful low c j d does_d out_d (operand_by z.place.classes z.is_mutable (usable z) z.code.sure c.scope (around c) fine.scene fine.amid d (other_mutable z.is_mutable e d fine.written) (λ y. asks-right z.place.classes fine.amid.ordered z.is_mutable (usable z) y o e d h) fine.typed.2), tt)) (two_final z lawful c k j (type_of_term e) (type_of_term d) (ir_meaning.binary z.place.classes z.low o) (λ es. finish k p (binary_result o) false (core.binary_of o (operand_of o (type_of_term e) (first_of es)) (operand_of o (type_of_term d) (second_of es)))) (binary_final p o (type_of_term e) (type_of_term d) c k j (operates z.place.classes fine.amid.ordered z.is_mutable (usable z) o e d h) sound wr fits_here))
       by (inr h) = division_does z lawful low p c k j o e d h.0 (fits-dividend z.place.classes fine.amid.ordered z.is_mutable (usable z) o d (type_of_term e) h.0 h.1) sound ahead wr fits_here (operand_does z lawful low c j e does_e out_e (part_of c fine.scene fine.amid e (one_mutable z.is_mutable e d fine.written) (left_operand o) h.1 (left-operand-value o) fine.typed.1))
 
   abbrev OperandsFine : Terms → Type 1

@@ -292,7 +292,7 @@ module _ (w : Classes) (law : IsSubtyping (IsSub w)) (is_mutable : List ℕ → 
 
   -- what is plain
   mutual
-    pub plain : (t : Term) (s : Scene) (g : Scope) → ((x : List ℕ) (t : IrType) → parameters_of s.locals x t → g x t) → Typed w has s t → is_plain t ≡ true → Plain has g t
+    pub plain : (t : Term) (s : Scene) (g : Scope) → ((x : List ℕ) (t : IrType) → parameters_of s.locals x t → g x t) → Typed w has s t → is_plain t ≡ true → Plain has sure g t
     plain (if_then p c a b t) s g v h k =
         let x = and_parts (not (is_no_type t) && is_plain c && is_plain a) (is_plain b) k in
         let y = and_parts (not (is_no_type t) && is_plain c) (is_plain a) x.0 in
@@ -325,7 +325,7 @@ module _ (w : Classes) (law : IsSubtyping (IsSub w)) (is_mutable : List ℕ → 
     plain (log_line p e) s g v h k = impossible k
     plain _ s g v h k = impossible h.built
 
-    pub all_plain : (ts : Terms) (s : Scene) (g : Scope) → ((x : List ℕ) (t : IrType) → parameters_of s.locals x t → g x t) → TypedAll w has s ts → are_plain ts ≡ true → AllPlain has g ts
+    pub all_plain : (ts : Terms) (s : Scene) (g : Scope) → ((x : List ℕ) (t : IrType) → parameters_of s.locals x t → g x t) → TypedAll w has s ts → are_plain ts ≡ true → AllPlain has sure g ts
     all_plain no_terms s g v h k = tt
     all_plain (more_terms t ts) s g v h k = let x = and_parts (is_plain t) (are_plain ts) k in (plain t s g v h.0 x.0, all_plain ts s g v h.1 x.1)
 
@@ -357,17 +357,17 @@ amid-inside w is_mutable has g ls s l t k a asks = record {
   reaches = λ m. inr (a.reaches m);
 }
 
-module _ (w : Classes) (is_mutable : List ℕ → Bool) (has : Usable) (g : Scope) (ls : Around) where
+module _ (w : Classes) (is_mutable : List ℕ → Bool) (has : Usable) (sure : List ℕ → Bool) (g : Scope) (ls : Around) where
   abbrev pub FineAt : Destination → Term → Type 0
-  FineAt k t = Fine w is_mutable has g ls k t
+  FineAt k t = Fine w is_mutable has sure g ls k t
 
   abbrev pub OperandAt : Term → Type 0
-  OperandAt e = FineOperand is_mutable has g e (λ y. FineAt (to_variable y (type_of_term e)) e)
+  OperandAt e = FineOperand is_mutable has sure g e (λ y. FineAt (to_variable y (type_of_term e)) e)
 
   abbrev Here : Scene → Type 0
   Here s = Amid w is_mutable g ls s
 
-  pub plain_at : (s : Scene) → Here s → (e : Term) → Typed w has s e → is_plain e ≡ true → Plain has g e
+  pub plain_at : (s : Scene) → Here s → (e : Term) → Typed w has s e → is_plain e ≡ true → Plain has sure g e
   plain_at s a e h i = plain w a.ordered is_mutable has e s g a.seen h i
 
   -- a tree in this scene
@@ -387,12 +387,12 @@ module _ (w : Classes) (is_mutable : List ℕ → Bool) (has : Usable) (g : Scop
   operand_in s a e m t fits value h = operand_by s a e m (λ y. asks-own w a.ordered is_mutable has y (type_of_term e) t fits (value-not t value)) h
 
   -- the right side of a definition
-  pub definition_of : (k : Destination) (p : Position) (x : List ℕ) (t : IrType) (b : Bool) (e : Term) → FineAt k (var_def p x t b e) → ((is_plain e ≡ true) × Plain has g e × Fits t (type_of_term e)) ⊎ ((is_plain e ≡ false) × FineAt (to_variable (core.named x) t) e)
+  pub definition_of : (k : Destination) (p : Position) (x : List ℕ) (t : IrType) (b : Bool) (e : Term) → FineAt k (var_def p x t b e) → ((is_plain e ≡ true) × Plain has sure g e × Fits t (type_of_term e)) ⊎ ((is_plain e ≡ false) × FineAt (to_variable (core.named x) t) e)
   definition_of k p x t b e f = go (is_plain e) refl
     where
       own : IsSub w (type_of_term e) t × NoBox t (type_of_term e)
       own = fits_there w e t f.typed.0.built f.typed.0.meets
 
-      go : (c : Bool) → is_plain e ≡ c → ((is_plain e ≡ true) × Plain has g e × Fits t (type_of_term e)) ⊎ ((is_plain e ≡ false) × FineAt (to_variable (core.named x) t) e)
+      go : (c : Bool) → is_plain e ≡ c → ((is_plain e ≡ true) × Plain has sure g e × Fits t (type_of_term e)) ⊎ ((is_plain e ≡ false) × FineAt (to_variable (core.named x) t) e)
       go true i = inl (i, plain_at f.scene f.amid e f.typed.1 i, fits-sub w f.amid.ordered is_mutable has t (type_of_term e) own.0 own.1)
       go false i = inr (i, tree_in f.scene f.amid (to_variable (core.named x) t) e (of_value is_mutable b x (mutable_in e) f.written) (own, value-not t f.typed.0.finds.0) f.typed.1)

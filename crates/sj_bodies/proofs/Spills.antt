@@ -93,7 +93,7 @@ module _ (z : Setting) (lawful : Lawful z) where
   number_fixed : (p : core.Variable → Type 0) (w : World) (env : ir.Env) (sc : js.Scope) (t : Term) (v : ir.Value) (n : ℤ) → FitsSigned w32 n → Stands w v (js.number n) → suits (type_of_term t) v ≡ true → ((s : ir.State) → ir_meaning.step z.place.classes z.low t env s ≡ done (ir.ends (ir.gives v) env s)) → ((later : js.Scope) (u : js.State) → shown z (expression_of z.code.sure t) later u ≡ js_meaning.literal n later u) → FixedTree p w env sc t
   number_fixed p w env sc t v n f a k g h = value_fixed p w env sc t v (js.number n) a k g (λ later u. h later u ∙ ap (λ (b : Bool). if b then done (js.gives (js.number n) u) else wrong) (fits-exact n f))
 
-  pub fixed_run : (c : Context) (p : core.Variable → Type 0) (t : Term) → Sound z.is_mutable (keeping c p) → is_fixed z.is_mutable t ≡ true → Plain (usable z) c.scope t → (w : World) (env : ir.Env) (sc : js.Scope) → Sees z.place z.code c.scope w env sc → FixedTree p w env sc t
+  pub fixed_run : (c : Context) (p : core.Variable → Type 0) (t : Term) → Sound z.is_mutable (keeping c p) → is_fixed z.is_mutable t ≡ true → Plain (usable z) z.code.sure c.scope t → (w : World) (env : ir.Env) (sc : js.Scope) → Sees z.place z.code c.scope w env sc → FixedTree p w env sc t
   fixed_run c p (undefined_literal q) sound e h w env sc sees = value_fixed p w env sc (undefined_literal q) ir.undefined js.undefined same_undefined refl (λ s. refl) (λ later u. refl)
   fixed_run c p (null_literal q) sound e h w env sc sees = value_fixed p w env sc (null_literal q) ir.null js.null same_null refl (λ s. refl) (λ later u. refl)
   fixed_run c p (boolean_literal q b) sound e h w env sc sees = value_fixed p w env sc (boolean_literal q b) (ir.boolean b) (js.boolean b) (same_boolean b) refl (λ s. refl) (λ later u. refl)

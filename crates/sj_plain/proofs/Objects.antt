@@ -18,33 +18,27 @@ use Rattle.js_tree.specs.Terms as tree
 use Rattle.sj_core.specs.Terms as core
 use Rattle.sj_core.specs.Views.{expressions_of}
 use Rattle.sj_desugar.specs.Desugar.{member}
-use Rattle.sj_emit_expr.specs.Templates.{property_name, class_name, member_name, expression_templates}
+use Rattle.sj_emit_expr.specs.Templates.{check_name, property_name, class_name, member_name, expression_templates}
 use Rattle.sj_mangling.specs.Bindings.{field_binding}
 use Rattle.sj_mangling.specs.declared.bindings.FieldBinding.TheVariants.{Property}
 use Rattle.sj_names.specs.Same.{is_same_text}
+use Rattle.helper_rules.specs.declared.kinds.Helper.TheVariants.{NotNull}
+use Rattle.sj_names.specs.declared.method_names.Member.{Member}
 use Rattle.sj_names.specs.declared.method_names.MethodName.{MethodName}
 use Rattle.sj_names.specs.declared.method_names.Namespace.TheVariants.{Constructor}
 use Rattle.sj_trees.specs.Types.{class_type}
 use Rattle.sj_trees.specs.declared.types.IrType.{IrType}
 use Rattle.sj_trees.specs.declared.types.IrType.TheVariants.{Any, Undefined, Class}
-use Rattle.sj_plain.specs.Settings.{Place, Setting, shown, usable, IsField, SameField, same_field, no_field, SameStored, same_object, TellsClass, SameHeap, SameState, Valued, valued, thrown, Based, a_constructor, a_class, top_name, top_function, top_call, links_of, Inside, Makes, makes, Built, built, failed, zeroed, IsReceiver}
-use Rattle.sj_plain.specs.Standing.{suits, FitAll, types_referred}
+use Rattle.sj_plain.specs.Settings.{Place, Setting, shown, usable, IsField, SameField, same_field, no_field, SameStored, same_object, TellsClass, SameHeap, SameState, Valued, valued, thrown, Based, Lawful, a_constructor, a_class, a_method, a_helper, top_name, top_function, top_call, links_of, Inside, Makes, makes, Built, built, failed, zeroed, IsReceiver}
+use Rattle.sj_plain.specs.Standing.{is_bare, suits, Fits, FitAll, types_referred, call_type}
 use Rattle.sj_plain.specs.Worlds.{with_pending, with_born}
 use Rattle.sj_plain.proofs.Heaps.{writes, births, stored-carry, numbers-same, place-there}
-use Rattle.sj_plain.proofs.Orders.{ActsAlike, OperandAlike, OperandsAlike, no_operands, more_operands, all_shown, in_order_alike}
-use Rattle.sj_plain.proofs.Told.{tells}
+use Rattle.sj_plain.proofs.Orders.{ActsAlike, OperandAlike, OperandsAlike, no_operands, more_operands, all_shown, in_order_alike, valued-weaken}
+use Rattle.sj_plain.proofs.Standing.{open-refers}
 use Rattle.sj_plain.proofs.Tops.{row_shown, top_seen}
 use Rattle.std.proofs.lemmas.Bool.{and_parts}
 use Rattle.std.proofs.lemmas.Slice.Eq.{bytes_eq-Decides}
-use Rattle.sj_plain.proofs.Worlds.{World, Grows, grows-refl, grows-trans, SameValue, Stands, same_undefined, same_null, same_reference, value-lift, value-carry, values-lift, values-fit, SameValues, no_values, one_more}
-
--- an object is of the type of its class
-pub suits-class : (c : List ℕ) (i : ℕ) → suits (class_type c) (ir.reference i) ≡ true
-suits-class c i = go (pointwise nat_eq c (codes "java.lang.Object"))
-  where
-    go : (b : Bool) → suits (if b then Any else Class c) (ir.reference i) ≡ true
-    go true = refl
-    go false = refl
+use Rattle.sj_plain.proofs.Worlds.{World, Grows, grows-refl, grows-trans, SameValue, Stands, same_undefined, same_null, same_boolean, same_char, same_number, same_long, same_text, same_reference, value-fits, value-lift, value-carry, values-lift, values-fit, SameValues, no_values, one_more}
 
 -- two texts that are the same by their test
 same-class : (d c : List ℕ) (b : Bool) → (is_same_text d c && b) ≡ true → d ≡ c
@@ -119,8 +113,8 @@ module _ (z : Setting) (law : Based z) where
   values-carry u w _ _ _ g (one_more t v x ts vs xs a others) = one_more t v x ts vs xs (value-carry u w t v x g a) (values-carry u w ts vs xs g others)
 
   -- the constructor runs on the object that the emitted code has made before the arguments, and the IR behind them
-  construct_acts : (c : List ℕ) (m : MethodName) (ts : List IrType) (w : World) (env : ir.Env) (sc : js.Scope) (a : ℕ) (o : js.Stored) → (usable z).built (member c Constructor m) ≡ true → FitAll (types_referred m.params) ts → ((b : js.Stored) → w.pending a ≡ Some b → ⊥) → SameStored z.place w (Some (zeroed z.place c)) (Some o) → ActsAlike z w (with_pending a o w) env ts (class_type c) (ir_meaning.construct z.place.classes z.low c m) (λ xs. js_meaning.call z.place.program z.js_low (top_function z.place (a_constructor (member c Constructor m))) (js.object a ∷ xs)) sc
-  construct_acts c m ts w env sc a o linked fit fresh shape y vs xs s u g alike same = subst (λ q. Sim z.direction (Valued z.place w env (class_type c)) (ir_meaning.construct z.place.classes z.low c m vs env s) q) (then_do-right (js_call u)) (sim_then z.direction (Built z.place born env (js.object a)) (Valued z.place w env (class_type c)) (ir_meaning.call z.low (ir_world.member_of z.place.classes c Constructor m) (Some (ir.reference i)) vs env (ir.with_stored (zeroed z.place c) s)) (js_call u) (ir.onward (λ v. ir.given (ir.reference i))) done (law.builds (member c Constructor m) linked born (ir.reference i) (js.object a) vs xs env (ir.with_stored (zeroed z.place c) s) u (record { stands = record { stands = same_reference i a (here-some i a (y.place i)); suits = refl }; there = λ e. cc }) (values-carry y born (types_referred m.params) vs xs placed (values-fit y (types_referred m.params) ts vs xs fit alike)) states) each)
+  construct_acts : (c : List ℕ) (m : MethodName) (ts : List IrType) (w : World) (env : ir.Env) (sc : js.Scope) (a : ℕ) (o : js.Stored) → (usable z).built (member c Constructor m) ≡ true → is_bare (class_type c) ≡ false → FitAll (types_referred m.params) ts → ((b : js.Stored) → w.pending a ≡ Some b → ⊥) → SameStored z.place w (Some (zeroed z.place c)) (Some o) → ActsAlike z w (with_pending a o w) env ts (class_type c) (ir_meaning.construct z.place.classes z.low c m) (λ xs. js_meaning.call z.place.program z.js_low (top_function z.place (a_constructor (member c Constructor m))) (js.object a ∷ xs)) sc
+  construct_acts c m ts w env sc a o linked bare fit fresh shape y vs xs s u g alike same = subst (λ q. Sim z.direction (Valued z.place w env (class_type c)) (ir_meaning.construct z.place.classes z.low c m vs env s) q) (then_do-right (js_call u)) (sim_then z.direction (Built z.place born env (js.object a)) (Valued z.place w env (class_type c)) (ir_meaning.call z.low (ir_world.member_of z.place.classes c Constructor m) (Some (ir.reference i)) vs env (ir.with_stored (zeroed z.place c) s)) (js_call u) (ir.onward (λ v. ir.given (ir.reference i))) done (law.builds (member c Constructor m) linked born (ir.reference i) (js.object a) vs xs env (ir.with_stored (zeroed z.place c) s) u (record { stands = record { stands = same_reference i a (here-some i a (y.place i)); suits = refl }; there = λ e. cc }) (values-carry y born (types_referred m.params) vs xs placed (values-fit y (types_referred m.params) ts vs xs fit alike)) states) each)
     where
       i : ℕ
       i = ir.next_address s
@@ -141,15 +135,15 @@ module _ (z : Setting) (law : Based z) where
       grown = record { places = λ j b e. placed j b (g.places j b e); owns = g.owns; pends = λ b d e. pending-left w y a b d fresh e (g.pends b d (pending-kept w a b o d fresh e (b == a) refl)) (b == a) refl }
 
       each : (e : ir.Ended) (b : js.ExpressionEnd) → Built z.place born env (js.object a) e b → Sim z.direction (Valued z.place w env (class_type c)) (ir.onward (λ v. ir.given (ir.reference i)) e) (done b)
-      each _ _ (built w2 v s2 u2 h states) = sim_done z.direction (Valued z.place w env (class_type c)) (ir.ends (ir.gives (ir.reference i)) env s2) (js.gives (js.object a) u2) (valued w2 (ir.reference i) (js.object a) s2 u2 (grows-trans w born w2 grown h) (record { stands = same_reference i a (h.places i a (here-some i a (y.place i))); suits = suits-class c i }) states)
+      each _ _ (built w2 v s2 u2 h states) = sim_done z.direction (Valued z.place w env (class_type c)) (ir.ends (ir.gives (ir.reference i)) env s2) (js.gives (js.object a) u2) (valued w2 (ir.reference i) (js.object a) s2 u2 (grows-trans w born w2 grown h) (record { stands = same_reference i a (h.places i a (here-some i a (y.place i))); suits = open-refers (class_type c) i bare }) states)
       each _ _ (failed w2 v x s2 u2 h e states) = sim_done z.direction (Valued z.place w env (class_type c)) (ir.ends (ir.throws v) env s2) (js.throws x u2) (thrown w2 v x s2 u2 (grows-trans w born w2 grown h) e states)
 
   new_shown : (c : List ℕ) (w : World) (s : ir.State) (sc : js.Scope) (u : js.State) → (usable z).made c ≡ true → Inside z.place z.code sc → SameState z.place w s u → js_meaning.evaluate z.place.program z.js_low (tree.new_of (class_name c) tree.no_expressions) sc u ≡ js_meaning.construct z.place.program z.js_low (links_of z.place c) (links_of z.place c) [] u
   new_shown c w s sc u made inside same = ap (λ o. then_do o (js.with_value (λ f. js_meaning.in_order [] (js_meaning.construct_value z.place.program z.js_low f) sc))) (top_seen z law (a_class c) (js.class (links_of z.place c)) sc u made inside (same.tops z.code.file (a_class c) made))
 
   -- `ct_C__M(new c_C(), ..)`: the object is made in front of the arguments
-  pub new_alike : (c : List ℕ) (m : MethodName) (ts : List IrType) (rs : List ir.Run) (es es' : List core.Expression) → es ≡ es' → (usable z).built (member c Constructor m) ≡ true → (usable z).made c ≡ true → FitAll (types_referred m.params) ts → (w : World) (env : ir.Env) (s : ir.State) (sc : js.Scope) (u : js.State) → Inside z.place z.code sc → OperandsAlike z w env sc ts rs es' → SameState z.place w s u → Sim z.direction (Valued z.place w env (class_type c)) (ir_meaning.in_order rs (ir_meaning.construct z.place.classes z.low c m) env s) (shown z (core.made_of (member c Constructor m) (expressions_of es)) sc u)
-  new_alike c m ts rs es es' are linked made fit w env s sc u inside operands same = subst (λ q. Sim z.direction (Valued z.place w env (class_type c)) (ir_meaning.in_order rs act env s) q) (sym js_is) (sim_then z.direction (Makes z.place w c env s) (Valued z.place w env (class_type c)) (done (ir.ends (ir.gives ir.undefined) env s)) (js_make u) (ir.onward (λ v. ir_meaning.in_order rs act)) (js.with_value rest) (law.makes c made w env s u same) each)
+  pub new_alike : (c : List ℕ) (m : MethodName) (ts : List IrType) (rs : List ir.Run) (es es' : List core.Expression) → es ≡ es' → (usable z).built (member c Constructor m) ≡ true → (usable z).made c ≡ true → is_bare (class_type c) ≡ false → FitAll (types_referred m.params) ts → (w : World) (env : ir.Env) (s : ir.State) (sc : js.Scope) (u : js.State) → Inside z.place z.code sc → OperandsAlike z w env sc ts rs es' → SameState z.place w s u → Sim z.direction (Valued z.place w env (class_type c)) (ir_meaning.in_order rs (ir_meaning.construct z.place.classes z.low c m) env s) (shown z (core.made_of (member c Constructor m) (expressions_of es)) sc u)
+  new_alike c m ts rs es es' are linked made bare fit w env s sc u inside operands same = subst (λ q. Sim z.direction (Valued z.place w env (class_type c)) (ir_meaning.in_order rs act env s) q) (sym js_is) (sim_then z.direction (Makes z.place w c env s) (Valued z.place w env (class_type c)) (done (ir.ends (ir.gives ir.undefined) env s)) (js_make u) (ir.onward (λ v. ir_meaning.in_order rs act)) (js.with_value rest) (law.makes c made w env s u same) each)
     where
       act : List ir.Value → ir.Run
       act = ir_meaning.construct z.place.classes z.low c m
@@ -167,7 +161,52 @@ module _ (z : Setting) (law : Based z) where
       js_is = ap (λ o. then_do o (js.with_value (λ f. js_meaning.in_order (js_meaning.evaluate z.place.program z.js_low (tree.new_of (class_name c) tree.no_expressions) ∷ js_meaning.arguments z.place.program z.js_low (expression_templates z.place.name z.place.label (expressions_of es))) (js_meaning.call z.place.program z.js_low f) sc))) (top_seen z law (a_constructor (member c Constructor m)) fun sc u linked inside (same.tops z.code.file (a_constructor (member c Constructor m)) linked)) ∙ ap (λ args. js_meaning.in_order (js_meaning.evaluate z.place.program z.js_low (tree.new_of (class_name c) tree.no_expressions) ∷ args) (js_meaning.call z.place.program z.js_low fun) sc u) (row_shown z es ∙ ap (all_shown z) are) ∙ ap (λ o. then_do o (js.with_value rest)) (new_shown c w s sc u made inside same)
 
       each : (e : ir.Ended) (b : js.ExpressionEnd) → Makes z.place w c env s e b → Sim z.direction (Valued z.place w env (class_type c)) (ir.onward (λ v. ir_meaning.in_order rs act) e) (js.with_value rest b)
-      each _ _ (makes a o u2 fresh shape states) = in_order_alike z w w env sc (with_pending a o w) ts (class_type c) rs es' act (λ xs. js_meaning.call z.place.program z.js_low fun (js.object a ∷ xs)) operands (construct_acts c m ts w env sc a o linked fit fresh shape) (with_pending a o w) s u2 (grown a o fresh) (grown a o fresh) (grows-refl (with_pending a o w)) states
+      each _ _ (makes a o u2 fresh shape states) = in_order_alike z w w env sc (with_pending a o w) ts (class_type c) rs es' act (λ xs. js_meaning.call z.place.program z.js_low fun (js.object a ∷ xs)) operands (construct_acts c m ts w env sc a o linked bare fit fresh shape) (with_pending a o w) s u2 (grown a o fresh) (grown a o fresh) (grows-refl (with_pending a o w)) states
         where
           grown : (a : ℕ) (o : js.Stored) → ((b : js.Stored) → w.pending a ≡ Some b → ⊥) → Grows w (with_pending a o w)
           grown a o fresh = record { places = λ j b e. e; owns = λ b d e. e; pends = λ b d e. pending-kept w a b o d fresh e (b == a) refl }
+
+  -- a member runs on a receiver
+  receive_acts : (m : Member) (own : IrType) (ts : List IrType) (w : World) (env : ir.Env) (sc : js.Scope) → (usable z).received m ≡ true → Fits Any own → FitAll (types_referred m.method.params) ts → ActsAlike z w w env (own ∷ ts) (call_type m.method.result) (ir_meaning.call_on z.place.classes z.low (ir_world.member_of z.place.classes m.class m.namespace m.method)) (js_meaning.call z.place.program z.js_low (top_function z.place (a_method m))) sc
+  receive_acts m own ts w env sc there f fit y _ _ s u g (one_more _ v x _ vs xs a others) same = by v x a.stands (value-fits y Any own v x f a)
+    where
+      goes : (v : ir.Value) (x : js.Value) → IsReceiver y v x → Sim z.direction (Valued z.place w env (call_type m.method.result)) (ir_meaning.call z.low (ir_world.member_of z.place.classes m.class m.namespace m.method) (Some v) vs env s) (top_call z.place z.js_low (a_method m) (x ∷ xs) u)
+      goes v x r = sim_weaken z.direction (Valued z.place y env (call_type m.method.result)) (Valued z.place w env (call_type m.method.result)) _ _ (λ a b. valued-weaken z w y env (call_type m.method.result) a b g) (law.receives m there y v x vs xs env s u r (values-fit y (types_referred m.method.params) ts vs xs fit others) same)
+
+      by : (v : ir.Value) (x : js.Value) → Stands y v x → SameValue y Any v x → Sim z.direction (Valued z.place w env (call_type m.method.result)) (ir_meaning.call_on z.place.classes z.low (ir_world.member_of z.place.classes m.class m.namespace m.method) (v ∷ vs) env s) (top_call z.place z.js_low (a_method m) (x ∷ xs) u)
+      by _ _ same_null k = sim_wrong z.direction (Valued z.place w env (call_type m.method.result)) _
+      by _ _ same_undefined k = goes _ _ (record { stands = k; there = λ e. cc })
+      by _ _ (same_boolean b) k = goes _ _ (record { stands = k; there = λ e. cc })
+      by _ _ (same_char c h) k = goes _ _ (record { stands = k; there = λ e. cc })
+      by _ _ (same_number n h) k = goes _ _ (record { stands = k; there = λ e. cc })
+      by _ _ (same_long n h) k = goes _ _ (record { stands = k; there = λ e. cc })
+      by _ _ (same_text us) k = goes _ _ (record { stands = k; there = λ e. cc })
+      by _ _ (same_reference i a e) k = goes _ _ (record { stands = k; there = λ e. cc })
+
+  pub received_call_alike : (m : Member) (own : IrType) (ts : List IrType) (r : ir.Run) (rs : List ir.Run) (e : core.Expression) (es : List core.Expression) → (usable z).received m ≡ true → Fits Any own → FitAll (types_referred m.method.params) ts → (w : World) (env : ir.Env) (s : ir.State) (sc : js.Scope) (u : js.State) → Inside z.place z.code sc → OperandsAlike z w env sc (own ∷ ts) (r ∷ rs) (e ∷ es) → SameState z.place w s u → Sim z.direction (Valued z.place w env (call_type m.method.result)) (ir_meaning.in_order (r ∷ rs) (ir_meaning.call_on z.place.classes z.low (ir_world.member_of z.place.classes m.class m.namespace m.method)) env s) (shown z (core.receiver_call m e (expressions_of es)) sc u)
+  received_call_alike m own ts r rs e es there f fit w env s sc u inside operands same = subst (λ q. Sim z.direction (Valued z.place w env (call_type m.method.result)) (ir_meaning.in_order (r ∷ rs) (ir_meaning.call_on z.place.classes z.low (ir_world.member_of z.place.classes m.class m.namespace m.method)) env s) q) (sym js_is) (in_order_alike z w w env sc w (own ∷ ts) (call_type m.method.result) (r ∷ rs) (e ∷ es) (ir_meaning.call_on z.place.classes z.low (ir_world.member_of z.place.classes m.class m.namespace m.method)) (js_meaning.call z.place.program z.js_low fun) operands (receive_acts m own ts w env sc there f fit) w s u (grows-refl w) (grows-refl w) (grows-refl w) same)
+    where
+      fun : js.Value
+      fun = top_function z.place (a_method m)
+
+      js_is : shown z (core.receiver_call m e (expressions_of es)) sc u ≡ js_meaning.in_order (all_shown z (e ∷ es)) (js_meaning.call z.place.program z.js_low fun) sc u
+      js_is = ap (λ o. then_do o (js.with_value (λ g. js_meaning.in_order (shown z e ∷ js_meaning.arguments z.place.program z.js_low (expression_templates z.place.name z.place.label (expressions_of es))) (js_meaning.call z.place.program z.js_low g) sc))) (top_seen z law (a_method m) fun sc u there inside (same.tops z.code.file (a_method m) there)) ∙ ap (λ args. js_meaning.in_order (shown z e ∷ args) (js_meaning.call z.place.program z.js_low fun) sc u) (row_shown z es)
+
+-- the null check of a value, as an act on it
+abbrev pub null_act : Setting → List ir.Value → ir.Run
+null_act z (v ∷ []) env s = ir_meaning.answered z.place.classes z.low (ir_meaning.not_null z.place.classes v) env s
+null_act z _ env s = wrong
+
+module _ (z : Setting) (lawful : Lawful z) where
+  check_acts : (t : IrType) (base : World) (env : ir.Env) (sc : js.Scope) → (usable z).helper check_name ≡ true → ActsAlike z base base env (t ∷ []) t (null_act z) (js_meaning.call z.place.program z.js_low (top_function z.place (a_helper NotNull))) sc
+  check_acts t base env sc has y _ _ s u g (one_more _ v x _ _ _ a no_values) same = sim_weaken z.direction (Valued z.place y env t) (Valued z.place base env t) _ _ (λ a b. valued-weaken z base y env t a b g) (lawful.checks has t y v x env s u a same)
+
+  -- a receiver with its null check
+  pub checked_alike : (t : IrType) (from : World) (env : ir.Env) (sc : js.Scope) (r : ir.Run) (e : core.Expression) → (usable z).helper check_name ≡ true → Inside z.place z.code sc → OperandsAlike z from env sc (t ∷ []) (r ∷ []) (e ∷ []) → OperandAlike z from env sc t (ir_meaning.checked z.place.classes z.low r) (shown z (core.checked_value e))
+  checked_alike t from env sc r e has inside operand w s u g same = subst (λ o. Sim z.direction (Valued z.place w env t) (ir_meaning.checked z.place.classes z.low r env s) o) (sym js_is) (in_order_alike z w from env sc w (t ∷ []) t (r ∷ []) (e ∷ []) (null_act z) (js_meaning.call z.place.program z.js_low fun) operand (check_acts t w env sc has) w s u (grows-refl w) g (grows-refl w) same)
+    where
+      fun : js.Value
+      fun = top_function z.place (a_helper NotNull)
+
+      js_is : shown z (core.checked_value e) sc u ≡ js_meaning.in_order (shown z e ∷ []) (js_meaning.call z.place.program z.js_low fun) sc u
+      js_is = ap (λ o. then_do o (js.with_value (λ g. js_meaning.in_order (shown z e ∷ []) (js_meaning.call z.place.program z.js_low g) sc))) (top_seen z lawful.base (a_helper NotNull) fun sc u has inside (same.tops z.code.file (a_helper NotNull) has))

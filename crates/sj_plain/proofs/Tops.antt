@@ -7,12 +7,12 @@ use Rattle.js_mean.specs.States as js
 use Rattle.sj_core.specs.Terms as core
 use Rattle.sj_core.specs.Views.{expressions_of}
 use Rattle.sj_emit_expr.specs.Templates.{expression_templates}
-use Rattle.sj_plain.specs.Settings.{Setting, Based, Inside, Top, top_name, is_usable, usable}
+use Rattle.sj_plain.specs.Settings.{Setting, shown, Based, Inside, Top, top_name, is_usable, usable}
 use Rattle.sj_plain.proofs.Orders.{all_shown}
 
 pub row_shown : (z : Setting) (es : List core.Expression) → js_meaning.arguments z.place.program z.js_low (expression_templates z.place.name z.place.label (expressions_of es)) ≡ all_shown z es
 row_shown z [] = refl
-row_shown z (e ∷ es) = ap (λ rest. js_meaning.evaluate z.place.program z.js_low _ ∷ rest) (row_shown z es)
+row_shown z (e ∷ es) = ap (λ rest. shown z e ∷ rest) (row_shown z es)
 
 -- what the code at hand can use it reaches by its name
 pub top_seen : (z : Setting) → Based z → (t : Top) (v : js.Value) (sc : js.Scope) (u : js.State) → is_usable (usable z) t ≡ true → Inside z.place z.code sc → u.tops (z.place.home t) (top_name t) ≡ js.holds false v → js_meaning.name_value z.place.program (top_name t) sc u ≡ done (js.gives v u)

@@ -4,13 +4,18 @@ pub use Rattle.typing_rules.specs.Rules.{unary_operand, left_operand, right_oper
 use Rattle.std.specs.Prelude.{◌≡◌, ℕ, ◌^◌, ◌<◌, Bool, true, false, List, ◌⊎◌, ℤ, pos, ◌≢◌, FitsSigned}
 use Rattle.std.specs.Int.{w32, w64}
 use Rattle.sj_desugar.specs.Desugar.{member, types_of}
-use Rattle.sj_plain.specs.Standing.{Fits, FitAll, types_referred, call_type}
-use Rattle.sj_trees.specs.Term.{Term, Terms, no_terms, more_terms, if_then, apply_static, unary_op, binary_op, undefined_literal, null_literal, boolean_literal, char_literal, byte_literal, short_literal, int_literal, long_literal, string_literal, var_ref}
+use Rattle.sj_plain.specs.Standing.{is_bare, Fits, FitAll, types_referred, call_type}
+use Rattle.sj_trees.specs.Term.{Term, Terms, no_terms, more_terms, if_then, new_object, select, apply_statically, this_ref, apply_static, unary_op, binary_op, undefined_literal, null_literal, boolean_literal, char_literal, byte_literal, short_literal, int_literal, long_literal, string_literal, var_ref}
 use Rattle.sj_trees.specs.TypeOf.{type_of_term}
+use Rattle.sj_trees.specs.Types.{class_type}
+use Rattle.sj_emit_expr.specs.Templates.{check_name}
+use Rattle.sj_names.specs.declared.method_names.Namespace.TheVariants.{Private, Constructor}
+use Rattle.sure_receivers.specs.Sure.{is_sure}
 use Rattle.sj_trees.specs.declared.operators.BinaryOp.{BinaryOp}
 use Rattle.sj_trees.specs.declared.operators.BinaryOp.TheVariants.{StrictEqual, StrictNotEqual, StringConcatenate, IntDivide, IntRemainder, LongDivide, LongRemainder}
 use Rattle.sj_trees.specs.declared.positions.Position.{Position}
 use Rattle.sj_trees.specs.declared.types.IrType.{IrType}
+use Rattle.sj_trees.specs.declared.types.IrType.TheVariants.{Any}
 
 -- the operators that are built and take two operands of types of their own, but for division
 abbrev pub is_simple : BinaryOp → Bool
@@ -34,7 +39,7 @@ pub data IsLongDivision : BinaryOp → Type 0 where
 -- an operator that takes operands of these types: one of its own types, or texts that are joined
 pub data Operates : BinaryOp → IrType → IrType → Type 0 where
   of_its_types : (o : BinaryOp) (s t : IrType) → is_simple o ≡ true → Fits (left_operand o) s → Fits (right_operand o) t → Operates o s t
-  joins : (s t : IrType) → Operates StringConcatenate s t
+  joins : (s t : IrType) → is_bare s ≡ true → is_bare t ≡ true → Operates StringConcatenate s t
 
 -- a division by a literal other than zero
 pub data DividesBy : BinaryOp → Term → Type 0 where
@@ -45,14 +50,21 @@ pub data DividesBy : BinaryOp → Term → Type 0 where
 abbrev pub Scope : Type 1
 Scope = List ℕ → IrType → Type 0
 
--- what there is, and the locals in scope
-module _ (has : Usable) (scope : Scope) where
+-- what there is, the locals that are never null, and the locals in scope
+module _ (has : Usable) (sure : List ℕ → Bool) (scope : Scope) where
+  -- a receiver that is never null, or its check can be used
+  abbrev pub MayBeChecked : Term → Type 0
+  MayBeChecked e = (is_sure sure e ≡ true) ⊎ (has.helper check_name ≡ true)
+
   abbrev mutual
     -- a plain tree of the forms that are built, whose locals are in scope, whose calls are of linked members, whose literals are of their types, and
     -- whose parts stand for the types that are expected
     pub Plain : Term → Type 0
     Plain (if_then p c a b t) = Plain c × Plain a × Plain b × Fits t (type_of_term a) × Fits t (type_of_term b)
     Plain (apply_static p c n m ts t) = (has.linked (member c n m) ≡ true) × (t ≡ call_type m.result) × FitAll (types_referred m.params) (types_of ts) × AllPlain ts
+    Plain (apply_statically p e c Private m ts t) = (has.received (member c Private m) ≡ true) × (t ≡ call_type m.result) × FitAll (types_referred m.params) (types_of ts) × AllPlain ts × Fits Any (type_of_term e) × MayBeChecked e × Plain e
+    Plain (new_object p c m ts) = (has.built (member c Constructor m) ≡ true) × (has.made c ≡ true) × (is_bare (class_type c) ≡ false) × FitAll (types_referred m.params) (types_of ts) × AllPlain ts
+    Plain (select p e c f t) = (has.field c f t ≡ true) × MayBeChecked e × Plain e
     Plain (unary_op p o e) = Fits (unary_operand o) (type_of_term e) × Plain e
     Plain (binary_op p o e d) = (Operates o (type_of_term e) (type_of_term d) × Plain e × Plain d) ⊎ (DividesBy o d × Fits (left_operand o) (type_of_term e) × Plain e)
     Plain (undefined_literal p) = Unit {0}
@@ -65,6 +77,7 @@ module _ (has : Usable) (scope : Scope) where
     Plain (long_literal p z) = FitsSigned w64 z
     Plain (string_literal p us) = Unit {0}
     Plain (var_ref p x t) = scope x t
+    Plain (this_ref p t) = Fits t Any
     Plain _ = ⊥
 
     pub AllPlain : Terms → Type 0
