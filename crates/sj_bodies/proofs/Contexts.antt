@@ -14,7 +14,7 @@ use Rattle.sj_desugar.specs.Spill.{Destination, discard, to_variable, to_result}
 use Rattle.sj_trees.specs.declared.types.IrType.{IrType}
 use Rattle.sj_trees.specs.declared.types.IrType.TheVariants.{Any}
 use Rattle.sj_plain.specs.Conditions.{Scope}
-use Rattle.sj_plain.specs.Settings.{Place, Setting, SameState, Inside, Lawful, Holding, Sees}
+use Rattle.sj_plain.specs.Settings.{Place, Code, Receiving, Setting, SameState, Inside, Lawful, Holding, Sees}
 use Rattle.sj_plain.proofs.Plain.{sees-lift}
 use Rattle.sj_plain.proofs.Worlds.{World, Grows, SameValue}
 
@@ -36,13 +36,15 @@ Writes q (to_variable y t) = q y
 Writes q (to_result t) = Unit {0}
 
 -- what may be written is no local in scope; a local in scope is kept where it isn't mutable, and no mutable one is; it has one type; and the
--- values that leave to a label go where it may be written
+-- values that leave to a label go where it may be written. This is kept.
 pub record Sound (is_mutable : List ℕ → Bool) (c : Context) : Type 0 where
   pub hidden : (x : List ℕ) (t : IrType) → c.writable (core.named x) → c.scope x t → ⊥
   pub constant : (x : List ℕ) (t : IrType) → c.scope x t → is_mutable x ≡ false → c.kept (core.named x)
   pub changing : (x : List ℕ) (t : IrType) → c.scope x t → c.kept (core.named x) → is_mutable x ≡ true → ⊥
   pub alone : (x : List ℕ) (s t : IrType) → c.scope x s → c.scope x t → s ≡ t
   pub reached : (l : List ℕ) → c.reaches l → Writes c.writable (target_of c.targets l)
+  pub receiver : c.kept core.receiver
+  pub received : c.writable core.receiver → ⊥
 
 -- no variable for an operand from this number on is in use
 pub record Ahead (c : Context) (j : ℕ) : Type 0 where
@@ -131,9 +133,9 @@ module _ (z : Setting) (lawful : Lawful z) where
   started-inside const y v sc i = record { file = i.file; free = λ x none. ap (λ (t : Bool). if t then js.holds const v else sc.bindings x) (differs x (z.place.name y) (λ e. none y (sym e))) ∙ i.free x none }
 
   -- a binding that is no local in scope and may not be written otherwise
-  pub started-ready : (scope : Scope) (q : core.Variable → Type 0) (const : Bool) (y : core.Variable) (v : js.Value) (w : World) (env : ir.Env) (sc : js.Scope) → ((x : List ℕ) (t : IrType) → scope x t → core.named x ≡ y → ⊥) → ((x : core.Variable) → q x → x ≡ y → ⊥) → Ready z.place z.code scope q w env sc → Ready z.place z.code scope q w env (js_meaning.start const (z.place.name y) v sc)
-  started-ready scope q const y v w env sc out unwritten r = record {
-    sees = record { inside = started-inside const y v sc r.sees.inside; locals = λ x t i. subst (Holding w t (env.locals x)) (sym (started-other const y (core.named x) v sc (out x t i))) (r.sees.locals x t i) };
+  pub started-ready : (scope : Scope) (q : core.Variable → Type 0) (const : Bool) (y : core.Variable) (v : js.Value) (w : World) (env : ir.Env) (sc : js.Scope) → ((x : List ℕ) (t : IrType) → scope x t → core.named x ≡ y → ⊥) → ((x : core.Variable) → q x → x ≡ y → ⊥) → (core.receiver ≡ y → ⊥) → Ready z.place z.code scope q w env sc → Ready z.place z.code scope q w env (js_meaning.start const (z.place.name y) v sc)
+  started-ready scope q const y v w env sc out unwritten apart r = record {
+    sees = record { inside = started-inside const y v sc r.sees.inside; this = subst (Receiving w env.this_value) (sym (started-other const y core.receiver v sc apart)) r.sees.this; sure = r.sees.sure; locals = λ x t i. subst (Holding w t (env.locals x)) (sym (started-other const y (core.named x) v sc (out x t i))) (r.sees.locals x t i) };
     «open» = λ x i. record { value = (r.«open» x i).value; is = started-other const y x v sc (unwritten x i) ∙ (r.«open» x i).is };
   }
 

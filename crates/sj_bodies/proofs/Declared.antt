@@ -7,21 +7,24 @@ use Rattle.js_tree.specs.Terms.{Name}
 use Rattle.sj_core.specs.Terms as core
 use Rattle.sj_core.specs.Terms.{followed}
 use Rattle.sj_core.specs.Views.{expressions_of}
-use Rattle.sj_desugar.specs.Coercions.{coerced, coerced_arguments}
-use Rattle.sj_desugar.specs.Desugar.{operand, into, block, operands, cases, finish, has_no_value, target_of, Targets, expression_of, labeled_code, leaving_code, wrapped, branches, break_unless, switch_code, first_of, second_of, member, types_of}
+use Rattle.sj_desugar.specs.Coercions.{coerced, coerced_arguments, coerced_receiver}
+use Rattle.sj_desugar.specs.Desugar.{receiver, received, rest_of, operand, into, block, operands, cases, finish, has_no_value, target_of, Targets, expression_of, labeled_code, leaving_code, wrapped, branches, break_unless, switch_code, first_of, second_of, member, types_of}
 use Rattle.sj_desugar.specs.Plain.{is_plain}
 use Rattle.sj_desugar.specs.Texts.{operand_of}
 use Rattle.sj_desugar.specs.Spill.{Destination, discard, to_variable, to_result, Code, one, put_first, Operand, all_plain, spill, spill_case, then_use, then_code}
 use Rattle.sj_emit_expr.specs.Templates.{statement_templates}
-use Rattle.sj_trees.specs.Term.{Term, Terms, no_terms, more_terms, var_def, block_of, labeled, assign, return_to, if_then, while_loop, do_while, match_on, apply_static, unary_op, binary_op, undefined_literal, null_literal, boolean_literal, char_literal, byte_literal, short_literal, int_literal, long_literal, string_literal, var_ref, log_line}
+use Rattle.sj_trees.specs.Term.{Term, Terms, no_terms, more_terms, throw, new_object, select, select_static, apply_statically, this_ref, var_def, block_of, labeled, assign, return_to, if_then, while_loop, do_while, match_on, apply_static, unary_op, binary_op, undefined_literal, null_literal, boolean_literal, char_literal, byte_literal, short_literal, int_literal, long_literal, string_literal, var_ref, log_line}
+use Rattle.sure_receivers.specs.Sure.{is_sure}
+use Rattle.sj_names.specs.declared.method_names.Namespace.TheVariants.{Constructor}
+use Rattle.sj_trees.specs.Types.{class_type}
 use Rattle.sj_trees.specs.TypeOf.{type_of_term, unary_result, binary_result}
 use Rattle.sj_trees.specs.declared.positions.Position.{Position}
 use Rattle.sj_trees.specs.declared.types.IrType.{IrType}
-use Rattle.sj_trees.specs.declared.types.IrType.TheVariants.{Undefined, Null, Boolean, Char, Byte, Short, Int, Long, String}
+use Rattle.sj_trees.specs.declared.types.IrType.TheVariants.{Any, Undefined, Null, Boolean, Char, Byte, Short, Int, Long, String}
 use Rattle.sj_plain.specs.Settings.{Setting}
 pub use Rattle.sj_bodies.specs.Locals.{Own, OwnAll, OwnCases}
 use Rattle.sj_bodies.proofs.Contexts.{is-equal}
-use Rattle.sj_bodies.proofs.Numbers.{EachOnward, onward, operands-onward}
+use Rattle.sj_bodies.proofs.Numbers.{EachOnward, onward, operands-onward, receiver-onward}
 use Rattle.sj_names.proofs.Same.{impossible}
 
 abbrev pub DeclaresOne : core.Statement → core.Variable → Type 0
@@ -69,10 +72,12 @@ declared-named z (core.statement s ss) n h = later z s ss n (declared-named z ss
 abbrev pub IsNew : (List ℕ → Type 0) → ℕ → core.Variable → Type 0
 IsNew own j (core.named x) = own x
 IsNew own j (core.numbered k) = j ≤ k
+IsNew own j core.receiver = ⊥
 
 pub new-more : (own wider : List ℕ → Type 0) (i j : ℕ) (y : core.Variable) → ((x : List ℕ) → own x → wider x) → j ≤ i → IsNew own i y → IsNew wider j y
 new-more own wider i j (core.named x) h l n = h x n
 new-more own wider i j (core.numbered k) h l n = omega arith
+new-more own wider i j core.receiver h l n = n
 
 new-number : (own : List ℕ → Type 0) (j : ℕ) (y : core.Variable) → core.numbered j ≡ y → IsNew own j y
 new-number own j y e = subst (IsNew own j) e (omega arith)
@@ -151,20 +156,36 @@ module _ (is_mutable sure : List ℕ → Bool) where
   each-new ls no_terms own h n = tt
   each-new ls (more_terms t ts) own h n = ((λ k j y i. new-more (Own t) own j j y (λ x o. h x (inl o)) (omega arith) (n.0 k j y i)), each-new ls ts own (λ x o. h x (inr o)) n.1)
 
+  -- a receiver, with its check or without
+  received-new : (b : Bool) (o : Operand) (own : List ℕ → Type 0) → ((k : Destination) (j : ℕ) → j ≤ (o.code k j).next) → ((k : Destination) (j : ℕ) (y : core.Variable) → Declares (o.code k j).statements y → IsNew own j y) → (k : Destination) (j : ℕ) (y : core.Variable) → Declares ((received b o).code k j).statements y → IsNew own j y
+  received-new true o own l h k j y d = h k j y d
+  received-new false o own l h k j y d = behind_operands own (o ∷ []) (l, tt) (h, tt) j (λ es. finish k o.at o.tpe false (core.checked_value (first_of es))) y (λ es i. finish-declares k o.at o.tpe false (core.checked_value (first_of es)) i y) d
+
+  receiver-new : (ls : Targets) (e : Term) (own : List ℕ → Type 0) → ((x : List ℕ) → Own e x → own x) → ((k : Destination) (j : ℕ) (y : core.Variable) → Declares (into is_mutable sure ls k j e).statements y → IsNew (Own e) j y) → (k : Destination) (j : ℕ) (y : core.Variable) → Declares ((receiver is_mutable sure e (λ k j. into is_mutable sure ls k j e)).code k j).statements y → IsNew own j y
+  receiver-new ls e own wider h k j y d = new-more (Own e) own j j y wider (omega arith) (received-new (is_sure sure e) (operand is_mutable sure e (λ k j. into is_mutable sure ls k j e)) (Own e) (onward is_mutable sure ls e) h k j y d)
+
   mutual
     pub new : (ls : Targets) (t : Term) (k : Destination) (j : ℕ) (y : core.Variable) → Declares (into is_mutable sure ls k j t).statements y → IsNew (Own t) j y
     new ls (var_def p x t b e) k j y d = defined_or_declared (is_plain e) p x (coerced t (type_of_term e) (expression_of sure e)) (into is_mutable sure ls (to_variable (core.named x) t) j e) (Own (var_def p x t b e)) j y (inl refl) (λ i. new-more (Own e) (Own (var_def p x t b e)) j j y (λ x o. inr o) (omega arith) (new ls e (to_variable (core.named x) t) j y i)) d
     new ls (block_of p ts) k j y d = block-new ls ts k j y d
     new ls (labeled p l t e) k j y d = new (record { label = l; goes_to = k } ∷ ls) e k j y (labeled-declares k p l (into is_mutable sure (record { label = l; goes_to = k } ∷ ls) k j e) y d)
-    new ls (assign p (var_ref q x t) e) k j y d = behind_operands (Own e) (one_operand ls e) (onward is_mutable ls e, tt) (new ls e, tt) j (λ es. one (core.assign_to (Some p) (core.named x) (coerced t (type_of_term e) (first_of es)))) y (λ es i. alone_declares (core.assign_to (Some p) (core.named x) (coerced t (type_of_term e) (first_of es))) y (λ h. h)) d
+    new ls (assign p (var_ref q x t) e) k j y d = behind_operands (Own e) (one_operand ls e) (onward is_mutable sure ls e, tt) (new ls e, tt) j (λ es. one (core.assign_to (Some p) (core.named x) (coerced t (type_of_term e) (first_of es)))) y (λ es i. alone_declares (core.assign_to (Some p) (core.named x) (coerced t (type_of_term e) (first_of es))) y (λ h. h)) d
     new ls (return_to p e l) k j y d = new ls e (target_of ls l) j y (leaving-declares (target_of ls l) p l (into is_mutable sure ls (target_of ls l) j e) y d)
-    new ls (if_then p c a b t) k j y d = behind_operands (Own (if_then p c a b t)) (one_operand ls c) (onward is_mutable ls c, tt) ((λ k j y i. new-more (Own c) (Own (if_then p c a b t)) j j y (λ x o. inl o) (omega arith) (new ls c k j y i)), tt) j (λ es j. branches p (first_of es) (into is_mutable sure ls k j a) (λ j. into is_mutable sure ls k j b)) y (λ es i. alone_declares (core.if_of (Some p) (first_of es) (into is_mutable sure ls k i a).statements (into is_mutable sure ls k (into is_mutable sure ls k i a).next b).statements) y (λ h. h)) d
+    new ls (if_then p c a b t) k j y d = behind_operands (Own (if_then p c a b t)) (one_operand ls c) (onward is_mutable sure ls c, tt) ((λ k j y i. new-more (Own c) (Own (if_then p c a b t)) j j y (λ x o. inl o) (omega arith) (new ls c k j y i)), tt) j (λ es j. branches p (first_of es) (into is_mutable sure ls k j a) (λ j. into is_mutable sure ls k j b)) y (λ es i. alone_declares (core.if_of (Some p) (first_of es) (into is_mutable sure ls k i a).statements (into is_mutable sure ls k (into is_mutable sure ls k i a).next b).statements) y (λ h. h)) d
     new ls (while_loop p c b) k j y d = absurd (either_loop (is_plain c) p (expression_of sure c) (into is_mutable sure ls discard j b) (then_use (spill (one_operand ls c) j) (λ es j. put_first (break_unless (first_of es)) (into is_mutable sure ls discard j b))) y d)
     new ls (do_while p b c) k j y d = absurd (alone_declares (core.loop_of (Some p) (then_code (into is_mutable sure ls discard j b) (λ j. then_use (spill (one_operand ls c) j) (λ es. one (break_unless (first_of es))))).statements) y (λ h. h) d)
-    new ls (match_on p e cs c t) k j y d = behind_operands (Own (match_on p e cs c t)) (one_operand ls e) (onward is_mutable ls e, tt) ((λ k j y i. new-more (Own e) (Own (match_on p e cs c t)) j j y (λ x o. inl o) (omega arith) (new ls e k j y i)), tt) j (λ es j. switch_code p (first_of es) (cases is_mutable sure ls k j cs) (λ j. into is_mutable sure ls k j c)) y (λ es i. alone_declares (core.switch_of (Some p) (first_of es) (cases is_mutable sure ls k i cs).cases (into is_mutable sure ls k (cases is_mutable sure ls k i cs).next c).statements) y (λ h. h)) d
-    new ls (apply_static p c n m ts t) k j y d = behind_operands (OwnAll ts) (operands is_mutable sure ls ts) (operands-onward is_mutable ls ts) (each-new ls ts (OwnAll ts) (λ x o. o) (operands-new ls ts)) j (λ es. finish k p t false (core.static_call (member c n m) (expressions_of (coerced_arguments m.params (types_of ts) es)))) y (λ es i. finish-declares k p t false (core.static_call (member c n m) (expressions_of (coerced_arguments m.params (types_of ts) es))) i y) d
-    new ls (unary_op p o e) k j y d = behind_operands (Own e) (one_operand ls e) (onward is_mutable ls e, tt) (new ls e, tt) j (λ es. finish k p (unary_result o) false (core.unary_of o (first_of es))) y (λ es i. finish-declares k p (unary_result o) false (core.unary_of o (first_of es)) i y) d
-    new ls (binary_op p o e c) k j y d = behind_operands (Own (binary_op p o e c)) (operand is_mutable sure e (λ k j. into is_mutable sure ls k j e) ∷ one_operand ls c) (onward is_mutable ls e, (onward is_mutable ls c, tt)) ((λ k j y i. new-more (Own e) (Own (binary_op p o e c)) j j y (λ x o. inl o) (omega arith) (new ls e k j y i)), ((λ k j y i. new-more (Own c) (Own (binary_op p o e c)) j j y (λ x o. inr o) (omega arith) (new ls c k j y i)), tt)) j (λ es. finish k p (binary_result o) false (core.binary_of o (operand_of o (type_of_term e) (first_of es)) (operand_of o (type_of_term c) (second_of es)))) y (λ es i. finish-declares k p (binary_result o) false (core.binary_of o (operand_of o (type_of_term e) (first_of es)) (operand_of o (type_of_term c) (second_of es))) i y) d
+    new ls (match_on p e cs c t) k j y d = behind_operands (Own (match_on p e cs c t)) (one_operand ls e) (onward is_mutable sure ls e, tt) ((λ k j y i. new-more (Own e) (Own (match_on p e cs c t)) j j y (λ x o. inl o) (omega arith) (new ls e k j y i)), tt) j (λ es j. switch_code p (first_of es) (cases is_mutable sure ls k j cs) (λ j. into is_mutable sure ls k j c)) y (λ es i. alone_declares (core.switch_of (Some p) (first_of es) (cases is_mutable sure ls k i cs).cases (into is_mutable sure ls k (cases is_mutable sure ls k i cs).next c).statements) y (λ h. h)) d
+    new ls (apply_static p c n m ts t) k j y d = behind_operands (OwnAll ts) (operands is_mutable sure ls ts) (operands-onward is_mutable sure ls ts) (each-new ls ts (OwnAll ts) (λ x o. o) (operands-new ls ts)) j (λ es. finish k p t false (core.static_call (member c n m) (expressions_of (coerced_arguments m.params (types_of ts) es)))) y (λ es i. finish-declares k p t false (core.static_call (member c n m) (expressions_of (coerced_arguments m.params (types_of ts) es))) i y) d
+    new ls (unary_op p o e) k j y d = behind_operands (Own e) (one_operand ls e) (onward is_mutable sure ls e, tt) (new ls e, tt) j (λ es. finish k p (unary_result o) false (core.unary_of o (first_of es))) y (λ es i. finish-declares k p (unary_result o) false (core.unary_of o (first_of es)) i y) d
+    new ls (binary_op p o e c) k j y d = behind_operands (Own (binary_op p o e c)) (operand is_mutable sure e (λ k j. into is_mutable sure ls k j e) ∷ one_operand ls c) (onward is_mutable sure ls e, (onward is_mutable sure ls c, tt)) ((λ k j y i. new-more (Own e) (Own (binary_op p o e c)) j j y (λ x o. inl o) (omega arith) (new ls e k j y i)), ((λ k j y i. new-more (Own c) (Own (binary_op p o e c)) j j y (λ x o. inr o) (omega arith) (new ls c k j y i)), tt)) j (λ es. finish k p (binary_result o) false (core.binary_of o (operand_of o (type_of_term e) (first_of es)) (operand_of o (type_of_term c) (second_of es)))) y (λ es i. finish-declares k p (binary_result o) false (core.binary_of o (operand_of o (type_of_term e) (first_of es)) (operand_of o (type_of_term c) (second_of es))) i y) d
+    new ls (assign p (select q a c f t) e) k j y d = behind_operands (Own (assign p (select q a c f t) e)) (receiver is_mutable sure a (λ k j. into is_mutable sure ls k j a) ∷ one_operand ls e) (receiver-onward is_mutable sure ls a, (onward is_mutable sure ls e, tt)) (receiver-new ls a (Own (assign p (select q a c f t) e)) (λ x o. inl o) (new ls a), ((λ k j y i. new-more (Own e) (Own (assign p (select q a c f t) e)) j j y (λ x o. inr o) (omega arith) (new ls e k j y i)), tt)) j (λ es. one (core.assign_field (Some p) (first_of es) c f (coerced t (type_of_term e) (second_of es)))) y (λ es i. alone_declares (core.assign_field (Some p) (first_of es) c f (coerced t (type_of_term e) (second_of es))) y (λ h. h)) d
+    new ls (assign p (select_static q c f t) e) k j y d = behind_operands (Own e) (one_operand ls e) (onward is_mutable sure ls e, tt) (new ls e, tt) j (λ es. one (core.assign_static (Some p) c f (coerced t (type_of_term e) (first_of es)))) y (λ es i. alone_declares (core.assign_static (Some p) c f (coerced t (type_of_term e) (first_of es))) y (λ h. h)) d
+    new ls (throw p e) k j y d = behind_operands (Own e) (one_operand ls e) (onward is_mutable sure ls e, tt) (new ls e, tt) j (λ es. one (core.throw_of (Some p) (coerced Any (type_of_term e) (first_of es)))) y (λ es i. alone_declares (core.throw_of (Some p) (coerced Any (type_of_term e) (first_of es))) y (λ h. h)) d
+    new ls (apply_statically p e c n m ts t) k j y d = behind_operands (Own (apply_statically p e c n m ts t)) (receiver is_mutable sure e (λ k j. into is_mutable sure ls k j e) ∷ operands is_mutable sure ls ts) (receiver-onward is_mutable sure ls e, operands-onward is_mutable sure ls ts) (receiver-new ls e (Own (apply_statically p e c n m ts t)) (λ x o. inl o) (new ls e), each-new ls ts (Own (apply_statically p e c n m ts t)) (λ x o. inr o) (operands-new ls ts)) j (λ es. finish k p t false (core.receiver_call (member c n m) (coerced_receiver (type_of_term e) (first_of es)) (expressions_of (coerced_arguments m.params (types_of ts) (rest_of es))))) y (λ es i. finish-declares k p t false (core.receiver_call (member c n m) (coerced_receiver (type_of_term e) (first_of es)) (expressions_of (coerced_arguments m.params (types_of ts) (rest_of es)))) i y) d
+    new ls (new_object p c m ts) k j y d = behind_operands (OwnAll ts) (operands is_mutable sure ls ts) (operands-onward is_mutable sure ls ts) (each-new ls ts (OwnAll ts) (λ x o. o) (operands-new ls ts)) j (λ es. finish k p (class_type c) false (core.made_of (member c Constructor m) (expressions_of (coerced_arguments m.params (types_of ts) es)))) y (λ es i. finish-declares k p (class_type c) false (core.made_of (member c Constructor m) (expressions_of (coerced_arguments m.params (types_of ts) es))) i y) d
+    new ls (select p e c f t) k j y d = behind_operands (Own e) (receiver is_mutable sure e (λ k j. into is_mutable sure ls k j e) ∷ []) (receiver-onward is_mutable sure ls e, tt) (receiver-new ls e (Own e) (λ x o. o) (new ls e), tt) j (λ es. finish k p t false (core.field_of (first_of es) c f)) y (λ es i. finish-declares k p t false (core.field_of (first_of es) c f) i y) d
+    new ls (select_static p c f t) k j y d = absurd (finish-declares k p t false (core.static_of c f) j y d)
+    new ls (this_ref p t) k j y d = absurd (finish-declares k p t true (core.variable_use core.receiver) j y d)
     new ls (undefined_literal p) k j y d = absurd (finish-declares k p Undefined true core.undefined_value j y d)
     new ls (null_literal p) k j y d = absurd (finish-declares k p Null true core.null_value j y d)
     new ls (boolean_literal p b) k j y d = absurd (finish-declares k p Boolean true (core.boolean_value b) j y d)
@@ -175,13 +196,13 @@ module _ (is_mutable sure : List ℕ → Bool) where
     new ls (int_literal p n) k j y d = absurd (finish-declares k p Int true (core.number_value n) j y d)
     new ls (string_literal p us) k j y d = absurd (finish-declares k p String true (core.text_value us) j y d)
     new ls (var_ref p x t) k j y d = absurd (finish-declares k p t true (core.variable_use (core.named x)) j y d)
-    new ls (log_line p e) k j y d = behind_operands (Own e) (one_operand ls e) (onward is_mutable ls e, tt) (new ls e, tt) j (λ es. one (core.log_of (Some p) (first_of es))) y (λ es i. alone_declares (core.log_of (Some p) (first_of es)) y (λ h. h)) d
+    new ls (log_line p e) k j y d = behind_operands (Own e) (one_operand ls e) (onward is_mutable sure ls e, tt) (new ls e, tt) j (λ es. one (core.log_of (Some p) (first_of es))) y (λ es i. alone_declares (core.log_of (Some p) (first_of es)) y (λ h. h)) d
     new ls _ k j y d = absurd d
 
     pub block-new : (ls : Targets) (ts : Terms) (k : Destination) (j : ℕ) (y : core.Variable) → Declares (block is_mutable sure ls k j ts).statements y → IsNew (OwnAll ts) j y
     block-new ls no_terms k j y d = absurd d
     block-new ls (more_terms t no_terms) k j y d = new-more (Own t) (OwnAll (more_terms t no_terms)) j j y (λ x o. inl o) (omega arith) (new ls t k j y d)
-    block-new ls (more_terms t (more_terms u us)) k j y d = let c = into is_mutable sure ls discard j t in ⊎_elim (λ i. new-more (Own t) (OwnAll (more_terms t (more_terms u us))) j j y (λ x o. inl o) (omega arith) (new ls t discard j y i)) (λ i. new-more (OwnAll (more_terms u us)) (OwnAll (more_terms t (more_terms u us))) c.next j y (λ x o. inr o) (onward is_mutable ls t discard j) (block-new ls (more_terms u us) k c.next y i)) (declares-followed c.statements (block is_mutable sure ls k c.next (more_terms u us)).statements y d)
+    block-new ls (more_terms t (more_terms u us)) k j y d = let c = into is_mutable sure ls discard j t in ⊎_elim (λ i. new-more (Own t) (OwnAll (more_terms t (more_terms u us))) j j y (λ x o. inl o) (omega arith) (new ls t discard j y i)) (λ i. new-more (OwnAll (more_terms u us)) (OwnAll (more_terms t (more_terms u us))) c.next j y (λ x o. inr o) (onward is_mutable sure ls t discard j) (block-new ls (more_terms u us) k c.next y i)) (declares-followed c.statements (block is_mutable sure ls k c.next (more_terms u us)).statements y d)
 
     operands-new : (ls : Targets) (ts : Terms) → EachNewTree ls ts
     operands-new ls no_terms = tt

@@ -20,7 +20,7 @@ use Rattle.sj_trees.specs.declared.types.IrType.{IrType}
 use Rattle.sj_plain.specs.Conditions.{Scope}
 use Rattle.sj_plain.specs.Standing.{Fits}
 use Rattle.sj_trees.specs.declared.types.IrType.TheVariants.{NoType}
-use Rattle.sj_plain.specs.Settings.{Setting, shown, run, SameState, Valued, valued, Lawful, Holding, holding, Sees}
+use Rattle.sj_plain.specs.Settings.{Receiving, Setting, shown, run, SameState, Valued, valued, Lawful, Holding, holding, Sees}
 use Rattle.sj_plain.proofs.Standing.{coerced-same}
 use Rattle.sj_bodies.proofs.Blocks.{Outside, Undeclared, block_alike}
 use Rattle.sj_bodies.proofs.Contexts.{Context, Writes, Sound, Ahead, IsOpen, Ready, ready-lift, Keeps, Goes, Less, keeps-less, less-trans, keeps-fewer, keeps-refl, keeps-trans, Arrives, let_go, stored, Came, gave, left, threw, stopped, equals, is-equal, started-here, started-other, started-inside, started-ready, started-keeps}
@@ -45,6 +45,8 @@ module _ (z : Setting) (lawful : Lawful z) where
     changing = sound.changing;
     alone = sound.alone;
     reached = λ l r. writes-more c.writable (λ y. (y ≡ core.numbered i) ⊎ c.writable y) (target_of c.targets l) (λ y h. inr h) (sound.reached l r);
+    receiver = sound.receiver;
+    received = λ wr. ⊎_elim (λ e. absurd (cc)) sound.received wr;
   }
 
   pub ahead-writing : (c : Context) (i : ℕ) → Ahead c i → Ahead (writing c (core.numbered i)) (suc i)
@@ -106,18 +108,21 @@ module _ (z : Setting) (lawful : Lawful z) where
       go true e = let same : y ≡ x = is-equal y x e in subst (λ o. Holding w i o (sc.bindings (z.place.name (core.named y)))) (sym (ap (λ (b : Bool). if b then Some v else env.locals y) e)) (subst (λ cell. Holding w i (Some v) cell) (sym (subst (λ n. sc.bindings (z.place.name (core.named n)) ≡ js.holds false j) (sym same) here)) (holding v j (subst (λ k. SameValue w k v j) (sym (own same h)) a)))
       go false e = let apart : y ≡ x → ⊥ = λ k. impossible (sym (subst (λ n. pointwise nat_eq y n ≡ false) (sym k) e) ∙ equals y) in subst (λ o. Holding w i o (sc.bindings (z.place.name (core.named y)))) (sym (ap (λ (b : Bool). if b then Some v else env.locals y) e)) (locals y i apart (others apart h))
 
+  receiver-named : (x : List ℕ) → core.receiver ≡ core.named x → ⊥
+  receiver-named x e = absurd (cc)
+
   named-apart : (x y : List ℕ) → (y ≡ x → ⊥) → core.named y ≡ core.named x → ⊥
   named-apart x y h e = h (cc)
 
   -- a local is written, and is in scope from here on
   pub set-ready : (scope : Scope) (q : core.Variable → Type 0) (x : List ℕ) (t : IrType) (w : World) (v : ir.Value) (j : js.Value) (env : ir.Env) (sc : js.Scope) → SameValue w t v j → Ready z.place z.code scope q w env sc → Ready z.place z.code (with_local x t scope) q w (ir_meaning.set_local x v env) (js_meaning.start false (z.place.name (core.named x)) j sc)
   set-ready scope q x t w v j env sc a r = record {
-    sees = record { inside = started-inside z lawful false (core.named x) j sc r.sees.inside; locals = set-locals scope x t w v j env (js_meaning.start false (z.place.name (core.named x)) j sc) a (λ y i h g. subst (Holding w i (env.locals y)) (sym (started-other z lawful false (core.named x) (core.named y) j sc (named-apart x y h))) (r.sees.locals y i g)) (started-here z lawful false (core.named x) j sc) };
+    sees = record { inside = started-inside z lawful false (core.named x) j sc r.sees.inside; this = subst (Receiving w env.this_value) (sym (started-other z lawful false (core.named x) core.receiver j sc (receiver-named x))) r.sees.this; sure = r.sees.sure; locals = set-locals scope x t w v j env (js_meaning.start false (z.place.name (core.named x)) j sc) a (λ y i h g. subst (Holding w i (env.locals y)) (sym (started-other z lawful false (core.named x) (core.named y) j sc (named-apart x y h))) (r.sees.locals y i g)) (started-here z lawful false (core.named x) j sc) };
     «open» = λ y i. started-open z lawful (core.named x) y j sc (r.«open» y i);
   }
 
   pub narrower : (wide scope : Scope) (q : core.Variable → Type 0) (w : World) (env : ir.Env) (sc : js.Scope) → ((x : List ℕ) (t : IrType) → scope x t → wide x t) → Ready z.place z.code wide q w env sc → Ready z.place z.code scope q w env sc
-  narrower wide scope q w env sc h r = record { sees = record { inside = r.sees.inside; locals = λ x t i. r.sees.locals x t (h x t i) }; «open» = r.«open» }
+  narrower wide scope q w env sc h r = record { sees = record { inside = r.sees.inside; this = r.sees.this; sure = r.sees.sure; locals = λ x t i. r.sees.locals x t (h x t i) }; «open» = r.«open» }
 
   -- a local in scope is that of its name
   still_local : (c : Context) (x : List ℕ) (t : IrType) → Sound z.is_mutable c → c.scope x t → (y : List ℕ) (i : IrType) → c.scope y i → with_local x t c.scope y i
@@ -214,14 +219,14 @@ module _ (z : Setting) (lawful : Lawful z) where
       started = js_meaning.start false (z.place.name (core.named x)) js.undefined sc
 
       r1 : Ready z.place z.code c.scope c.writable w env started
-      r1 = started-ready z lawful c.scope c.writable false (core.named x) js.undefined w env sc (λ a i g e. unseen i (subst (λ n. c.scope n i) (cc) g)) (λ a i e. unwritten (subst c.writable e i)) ready
+      r1 = started-ready z lawful c.scope c.writable false (core.named x) js.undefined w env sc (λ a i g e. unseen i (subst (λ n. c.scope n i) (cc) g)) (λ a i e. unwritten (subst c.writable e i)) (λ e. receiver-named x e) ready
 
       open1 : (y : core.Variable) → (y ≡ core.named x) ⊎ c.writable y → IsOpen (started.bindings (z.place.name y))
       open1 y (inl e) = subst (λ a. IsOpen (started.bindings (z.place.name a))) (sym e) (record { value = js.undefined; is = started-here z lawful false (core.named x) js.undefined sc })
       open1 y (inr h) = r1.«open» y h
 
       each : (a : ir.Ended) (b : js.StatementEnd) → Came z.place z.code (defining c x) c.scope (to_variable (core.named x) t) w started a b → Sim z.direction (Came z.place z.code c (with_local x t c.scope) discard w sc) (ir.onward (λ v. ir_meaning.in_order [] (λ vs. ir_meaning.define x (v ∷ vs))) a) (done b)
-      each _ _ (gave y v env' s' sc2 u' _ h (stored _ _ q a e) r2 k2 states) = sim_done z.direction (Came z.place z.code c (with_local x t c.scope) discard w sc) (ir.ends (ir.gives ir.undefined) (ir_meaning.set_local x v env') s') (js.ends js.normally sc2 u') (gave y ir.undefined (ir_meaning.set_local x v env') s' sc2 u' js.normally h let_go (record { sees = record { inside = r2.sees.inside; locals = set-locals c.scope x t y v q env' sc2 a (λ b i d g. r2.sees.locals b i g) e }; «open» = λ b i. r2.«open» b (inr i) }) (keeps-less z c.kept discard sc sc2 (keeps-trans z c.kept sc started sc2 (started-keeps z lawful c.kept false (core.named x) js.undefined sc fresh) (keeps-fewer z (Less c.kept (to_variable (core.named x) t)) c.kept started sc2 (λ b i. (i, λ e. fresh (subst c.kept (sym e) i))) k2))) states)
+      each _ _ (gave y v env' s' sc2 u' _ h (stored _ _ q a e) r2 k2 states) = sim_done z.direction (Came z.place z.code c (with_local x t c.scope) discard w sc) (ir.ends (ir.gives ir.undefined) (ir_meaning.set_local x v env') s') (js.ends js.normally sc2 u') (gave y ir.undefined (ir_meaning.set_local x v env') s' sc2 u' js.normally h let_go (record { sees = record { inside = r2.sees.inside; this = r2.sees.this; sure = r2.sees.sure; locals = set-locals c.scope x t y v q env' sc2 a (λ b i d g. r2.sees.locals b i g) e }; «open» = λ b i. r2.«open» b (inr i) }) (keeps-less z c.kept discard sc sc2 (keeps-trans z c.kept sc started sc2 (started-keeps z lawful c.kept false (core.named x) js.undefined sc fresh) (keeps-fewer z (Less c.kept (to_variable (core.named x) t)) c.kept started sc2 (λ b i. (i, λ e. fresh (subst c.kept (sym e) i))) k2))) states)
       each _ _ (left y l v env' s' sc2 u' e reach h a r2 k2 states) = sim_done z.direction (Came z.place z.code c (with_local x t c.scope) discard w sc) (ir.ends (ir.leaves l v) env' s') (js.ends e sc2 u') (left y l v env' s' sc2 u' e reach h a (record { sees = r2.sees; «open» = λ b i. r2.«open» b (inr i) }) (less-trans z c.kept (target_of c.targets l) sc started sc2 (started-keeps z lawful c.kept false (core.named x) js.undefined sc fresh) k2) states)
       each _ _ (threw y v q env' s' sc2 u' h a r2 k2 states) = sim_done z.direction (Came z.place z.code c (with_local x t c.scope) discard w sc) (ir.ends (ir.throws v) env' s') (js.ends (js.thrown_with q) sc2 u') (threw y v q env' s' sc2 u' h a (record { sees = r2.sees; «open» = λ b i. r2.«open» b (inr i) }) (keeps-trans z c.kept sc started sc2 (started-keeps z lawful c.kept false (core.named x) js.undefined sc fresh) k2) states)
       each _ _ (stopped y env' s' sc2 u' turn h r2 k2 states) = sim_done z.direction (Came z.place z.code c (with_local x t c.scope) discard w sc) (ir.ends ir.stops env' s') (js.ends js.breaks_nearest sc2 u') (stopped y env' s' sc2 u' turn h (record { sees = r2.sees; «open» = λ b i. r2.«open» b (inr i) }) (keeps-trans z c.kept sc started sc2 (started-keeps z lawful c.kept false (core.named x) js.undefined sc fresh) k2) states)
@@ -233,6 +238,8 @@ module _ (z : Setting) (lawful : Lawful z) where
     changing = sound.changing;
     alone = sound.alone;
     reached = λ l r. writes-more c.writable (λ y. (y ≡ core.named x) ⊎ c.writable y) (target_of c.targets l) (λ y h. inr h) (sound.reached l r);
+    receiver = sound.receiver;
+    received = λ wr. ⊎_elim (λ e. absurd (cc)) sound.received wr;
   }
 
   pub ahead-defining : (c : Context) (x : List ℕ) (j : ℕ) → Ahead c j → Ahead (defining c x) j

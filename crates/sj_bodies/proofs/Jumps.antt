@@ -46,6 +46,8 @@ module _ (z : Setting) (lawful : Lawful z) where
     changing = sound.changing;
     alone = sound.alone;
     reached = λ m r. go m (pointwise nat_eq m l) refl r;
+    receiver = sound.receiver;
+    received = sound.received;
   }
     where
       go : (m : List ℕ) (b : Bool) → pointwise nat_eq m l ≡ b → (m ≡ l) ⊎ c.reaches m → Writes c.writable (target_of (record { label = l; goes_to = k } ∷ c.targets) m)

@@ -52,10 +52,10 @@ module _ (z : Setting) (lawful : Lawful z) where
   turns c k next js_next low w sc _ _ (stopped y env s sc' u t g r ks same) = stops_here c k t w y env s sc sc' u g r ks same
 
   pub sound-turn : (c : Context) (k : Destination) → Sound z.is_mutable c → Sound z.is_mutable (in_turn c k)
-  sound-turn c k sound = record { hidden = sound.hidden; constant = sound.constant; changing = sound.changing; alone = sound.alone; reached = sound.reached }
+  sound-turn c k sound = record { hidden = sound.hidden; constant = sound.constant; changing = sound.changing; alone = sound.alone; reached = sound.reached; receiver = sound.receiver; received = sound.received }
 
   pub undeclared-turn : (c : Context) (k : Destination) (ss : core.Statements) → Undeclared c ss → Undeclared (in_turn c k) ss
-  undeclared-turn c k ss h = record { scope = h.scope; writable = h.writable; kept = h.kept }
+  undeclared-turn c k ss h = record { scope = h.scope; writable = h.writable; kept = h.kept; receiver = h.receiver }
 
   pub ahead-turn : (c : Context) (k : Destination) (j : ℕ) → Ahead c j → Ahead (in_turn c k) j
   ahead-turn c k j h = record { writable = h.writable; kept = h.kept }

@@ -78,6 +78,8 @@ module _ (z : Setting) (lawful : Lawful z) (low : LowAlike z) where
     changing = λ y i g k m. ⊎_elim (λ q. let e : y ≡ x = cc in impossible (sym q.1 ∙ subst (λ a. z.is_mutable a ≡ true) e m)) (λ q. ⊎_elim (λ e. fresh (subst (λ a. c.kept (core.named a)) e.0 q)) (λ h. sound.changing y i h.1 q m) g) k;
     alone = one_type c x t sound;
     reached = sound.reached;
+    receiver = inr sound.receiver;
+    received = sound.received;
   }
 
   ahead-behind : (c : Context) (x : List ℕ) (t : IrType) (j : ℕ) → Ahead c j → Ahead (behind z c x t) j
@@ -107,7 +109,7 @@ module _ (z : Setting) (lawful : Lawful z) (low : LowAlike z) where
   log_by p e does c _ j sound ahead out fine is_discard = of_operands z lawful c discard (piece z lawful low c.targets e ∷ []) j ir_meaning.log (λ es. one (core.log_of (Some p) (first_of es))) sound ahead (operand_does z lawful low c j e does out (part_of c fine.scene fine.amid e fine.written String fine.typed.0.meets refl fine.typed.1), tt) (one_final z lawful c discard j (type_of_term e) ir_meaning.log (λ es. one (core.log_of (Some p) (first_of es))) (log_final z lawful c p j (type_of_term e)))
 
   labeled_does : (p : Position) (l : List ℕ) (t : IrType) (e : Term) → TreeDoes z lawful low e → TreeDoes z lawful low (labeled p l t e)
-  labeled_does p l t e does c k j sound ahead out wr fine = labeled_alike z lawful c l k p (ir_meaning.step z.place.classes z.low e) (into z.is_mutable z.code.sure (record { label = l; goes_to = k } ∷ c.targets) k j e) (sound-labelling z lawful c l k sound wr) wr (undeclared (labelling z lawful c l k) (Own e) j (into z.is_mutable z.code.sure (record { label = l; goes_to = k } ∷ c.targets) k j e).statements (record { scope = out.scope; writable = out.writable; kept = out.kept }) (record { writable = ahead.writable; kept = ahead.kept }) (new z.is_mutable z.code.sure (record { label = l; goes_to = k } ∷ c.targets) e k j)) (does (labelling z lawful c l k) k j (sound-labelling z lawful c l k sound wr) (record { writable = ahead.writable; kept = ahead.kept }) (record { scope = out.scope; writable = out.writable; kept = out.kept }) wr (record { scene = in_label l t fine.scene; amid = amid-inside z.place.classes z.is_mutable (usable z) z.code.sure c.scope (around c) fine.scene l t k fine.amid fine.asks; written = fine.written; asks = yields z.place.classes fine.amid.ordered z.is_mutable (usable z) k e t fine.asks (yields_there z.place.classes e t fine.typed.0.built fine.typed.0.meets); typed = fine.typed.1 }))
+  labeled_does p l t e does c k j sound ahead out wr fine = labeled_alike z lawful c l k p (ir_meaning.step z.place.classes z.low e) (into z.is_mutable z.code.sure (record { label = l; goes_to = k } ∷ c.targets) k j e) (sound-labelling z lawful c l k sound wr) wr (undeclared (labelling z lawful c l k) (Own e) j (into z.is_mutable z.code.sure (record { label = l; goes_to = k } ∷ c.targets) k j e).statements (record { scope = out.scope; writable = out.writable; kept = out.kept }) (record { writable = ahead.writable; kept = ahead.kept }) (new z.is_mutable z.code.sure (record { label = l; goes_to = k } ∷ c.targets) e k j)) (does (labelling z lawful c l k) k j (sound-labelling z lawful c l k sound wr) (record { writable = ahead.writable; kept = ahead.kept }) (record { scope = out.scope; writable = out.writable; kept = out.kept }) wr (record { scene = in_label l t fine.scene; amid = amid-inside z.place.classes z.is_mutable (usable z) c.scope (around c) fine.scene l t k fine.amid fine.asks; written = fine.written; asks = yields z.place.classes fine.amid.ordered z.is_mutable (usable z) k e t fine.asks (yields_there z.place.classes e t fine.typed.0.built fine.typed.0.meets); typed = fine.typed.1 }))
 
   return_does : (p : Position) (e : Term) (l : List ℕ) → TreeDoes z lawful low e → TreeDoes z lawful low (return_to p e l)
   return_does p e l does c k j sound ahead out wr fine w env s sc u r same = return_alike z lawful c k (target_of c.targets l) p l (ir_meaning.step z.place.classes z.low e) (into z.is_mutable z.code.sure c.targets (target_of c.targets l) j e) refl (fine.amid.reaches l) w env s sc u (does c (target_of c.targets l) j sound ahead out (sound.reached l (fine.amid.reaches l)) (tree c fine.scene fine.amid (target_of c.targets l) e fine.written (yields z.place.classes fine.amid.ordered z.is_mutable (usable z) (target_of c.targets l) e fine.typed.0.meets.tpe (fine.amid.targets l fine.typed.0.meets.tpe fine.typed.0.meets.is_type) (leaves_there z.place.classes fine.scene.labels l e fine.typed.0.built fine.typed.0.meets)) fine.typed.1) w env s sc u r same)

@@ -40,10 +40,10 @@ pub outside-settled : (c : Context) (own : List ℕ → Type 0) → Outside c ow
 outside-settled c own h = record { scope = h.scope; writable = h.writable; kept = h.kept }
 
 pub undeclared-settled : (c : Context) (ss : core.Statements) → Undeclared c ss → Undeclared (settled c) ss
-undeclared-settled c ss h = record { scope = h.scope; writable = h.writable; kept = h.kept }
+undeclared-settled c ss h = record { scope = h.scope; writable = h.writable; kept = h.kept; receiver = h.receiver }
 
 pub sound-settled : (z : Setting) (c : Context) → Sound z.is_mutable c → Sound z.is_mutable (settled c)
-sound-settled z c h = record { hidden = h.hidden; constant = h.constant; changing = h.changing; alone = h.alone; reached = h.reached }
+sound-settled z c h = record { hidden = h.hidden; constant = h.constant; changing = h.changing; alone = h.alone; reached = h.reached; receiver = h.receiver; received = h.received }
 
 -- the statements of a case end the switch
 abbrev pub one_break : core.Statements
@@ -56,7 +56,7 @@ only_break : (ss : core.Statements) (y : core.Variable) → Declares (with_break
 only_break ss y d = ⊎_elim (λ i. i) (λ i. ⊎_elim (λ e. absurd e) (λ e. absurd e) i) (declares-followed ss one_break y d)
 
 pub undeclared-case : (c : Context) (ss : core.Statements) → Undeclared c ss → Undeclared (settled c) (with_break ss)
-undeclared-case c ss h = record { scope = λ x t i d. h.scope x t i (only_break ss (core.named x) d); writable = λ y i d. h.writable y i (only_break ss y d); kept = λ y i d. h.kept y i (only_break ss y d) }
+undeclared-case c ss h = record { scope = λ x t i d. h.scope x t i (only_break ss (core.named x) d); writable = λ y i d. h.writable y i (only_break ss y d); kept = λ y i d. h.kept y i (only_break ss y d); receiver = λ d. h.receiver (only_break ss core.receiver d) }
 
 module _ (z : Setting) (lawful : Lawful z) where
   abbrev block_in : core.Statements → core.Statements → js.Execution

@@ -1,10 +1,12 @@
 -- The numbers of variables for operands never go back.
 use Rattle.std.proofs.Common.{◌≡◌, ℕ, suc, ◌≤◌, Bool, true, false, ◌&&◌, List, [], ◌∷◌, Some, refl, sym, subst, arith}
 use Rattle.sj_core.specs.Terms as core
-use Rattle.sj_desugar.specs.Desugar.{operand, into, block, operands, cases, finish, has_no_value, target_of, Targets, expression_of, labeled_code, leaving_code, wrapped, break_unless, first_of}
+use Rattle.sj_desugar.specs.Desugar.{receiver, received, operand, into, block, operands, cases, finish, has_no_value, target_of, Targets, expression_of, labeled_code, leaving_code, wrapped, break_unless, first_of}
 use Rattle.sj_desugar.specs.Plain.{is_plain}
 use Rattle.sj_desugar.specs.Spill.{Destination, discard, to_variable, to_result, Code, one, put_first, Operand, all_plain, spill, spill_case, then_use}
-use Rattle.sj_trees.specs.Term.{Term, Terms, no_terms, more_terms, Cases, no_cases, more_cases, var_def, block_of, labeled, assign, return_to, if_then, while_loop, do_while, match_on, apply_static, unary_op, binary_op, undefined_literal, null_literal, boolean_literal, char_literal, byte_literal, short_literal, int_literal, long_literal, string_literal, var_ref, log_line}
+use Rattle.sure_receivers.specs.Sure.{is_sure}
+use Rattle.sj_trees.specs.Types.{class_type}
+use Rattle.sj_trees.specs.Term.{Term, Terms, no_terms, more_terms, Cases, no_cases, more_cases, throw, new_object, select, select_static, apply_statically, this_ref, var_def, block_of, labeled, assign, return_to, if_then, while_loop, do_while, match_on, apply_static, unary_op, binary_op, undefined_literal, null_literal, boolean_literal, char_literal, byte_literal, short_literal, int_literal, long_literal, string_literal, var_ref, log_line}
 use Rattle.sj_trees.specs.declared.positions.Position.{Position}
 use Rattle.sj_trees.specs.declared.types.IrType.{IrType}
 
@@ -49,6 +51,11 @@ either false c d j h k = k
 step_up : (i j k : ℕ) → i ≤ j → j ≤ k → i ≤ k
 step_up i j k h l = omega arith
 
+-- a receiver, with its check or without
+pub received-onward : (b : Bool) (o : Operand) → ((k : Destination) (j : ℕ) → j ≤ (o.code k j).next) → (k : Destination) (j : ℕ) → j ≤ ((received b o).code k j).next
+received-onward true o h k j = h k j
+received-onward false o h k j = let s = spill (o ∷ []) j in step_up j s.next _ (spill-onward (o ∷ []) (h, tt) j) (finish-onward k o.at o.tpe false _ s.next)
+
 module _ (is_mutable sure : List ℕ → Bool) where
   mutual
     pub onward : (ls : Targets) (t : Term) (k : Destination) (j : ℕ) → j ≤ (into is_mutable sure ls k j t).next
@@ -64,6 +71,14 @@ module _ (is_mutable sure : List ℕ → Bool) where
     onward ls (apply_static p c n m ts t) k j = let s = spill (operands is_mutable sure ls ts) j in step_up j s.next _ (spill-onward (operands is_mutable sure ls ts) (operands-onward ls ts) j) (finish-onward k p t false _ s.next)
     onward ls (unary_op p o e) k j = let s = spill (operand is_mutable sure e (λ k j. into is_mutable sure ls k j e) ∷ []) j in step_up j s.next _ (spill-onward (operand is_mutable sure e (λ k j. into is_mutable sure ls k j e) ∷ []) (onward ls e, tt) j) (finish-onward k p _ false _ s.next)
     onward ls (binary_op p o e d) k j = let s = spill (operand is_mutable sure e (λ k j. into is_mutable sure ls k j e) ∷ operand is_mutable sure d (λ k j. into is_mutable sure ls k j d) ∷ []) j in step_up j s.next _ (spill-onward (operand is_mutable sure e (λ k j. into is_mutable sure ls k j e) ∷ operand is_mutable sure d (λ k j. into is_mutable sure ls k j d) ∷ []) (onward ls e, (onward ls d, tt)) j) (finish-onward k p _ false _ s.next)
+    onward ls (assign p (select q a c f t) e) k j = spill-onward (receiver is_mutable sure a (λ k j. into is_mutable sure ls k j a) ∷ operand is_mutable sure e (λ k j. into is_mutable sure ls k j e) ∷ []) (received-onward (is_sure sure a) (operand is_mutable sure a (λ k j. into is_mutable sure ls k j a)) (onward ls a), (onward ls e, tt)) j
+    onward ls (assign p (select_static q c f t) e) k j = spill-onward (operand is_mutable sure e (λ k j. into is_mutable sure ls k j e) ∷ []) (onward ls e, tt) j
+    onward ls (throw p e) k j = spill-onward (operand is_mutable sure e (λ k j. into is_mutable sure ls k j e) ∷ []) (onward ls e, tt) j
+    onward ls (apply_statically p e c n m ts t) k j = let s = spill (receiver is_mutable sure e (λ k j. into is_mutable sure ls k j e) ∷ operands is_mutable sure ls ts) j in step_up j s.next _ (spill-onward (receiver is_mutable sure e (λ k j. into is_mutable sure ls k j e) ∷ operands is_mutable sure ls ts) (received-onward (is_sure sure e) (operand is_mutable sure e (λ k j. into is_mutable sure ls k j e)) (onward ls e), operands-onward ls ts) j) (finish-onward k p t false _ s.next)
+    onward ls (new_object p c m ts) k j = let s = spill (operands is_mutable sure ls ts) j in step_up j s.next _ (spill-onward (operands is_mutable sure ls ts) (operands-onward ls ts) j) (finish-onward k p (class_type c) false _ s.next)
+    onward ls (select p e c f t) k j = let s = spill (receiver is_mutable sure e (λ k j. into is_mutable sure ls k j e) ∷ []) j in step_up j s.next _ (spill-onward (receiver is_mutable sure e (λ k j. into is_mutable sure ls k j e) ∷ []) (received-onward (is_sure sure e) (operand is_mutable sure e (λ k j. into is_mutable sure ls k j e)) (onward ls e), tt) j) (finish-onward k p t false _ s.next)
+    onward ls (select_static p c f t) k j = finish-onward k p t false _ j
+    onward ls (this_ref p t) k j = finish-onward k p t true _ j
     onward ls (undefined_literal p) k j = finish-onward k p _ true _ j
     onward ls (null_literal p) k j = finish-onward k p _ true _ j
     onward ls (boolean_literal p b) k j = finish-onward k p _ true _ j
@@ -90,3 +105,6 @@ module _ (is_mutable sure : List ℕ → Bool) where
     cases-onward ls no_cases k j = omega arith
     cases-onward ls (more_cases [] t cs) k j = cases-onward ls cs k j
     cases-onward ls (more_cases (n ∷ ns) t cs) k j = step_up j (into is_mutable sure ls k j t).next _ (onward ls t k j) (cases-onward ls cs k (into is_mutable sure ls k j t).next)
+
+  pub receiver-onward : (ls : Targets) (e : Term) (k : Destination) (j : ℕ) → j ≤ ((receiver is_mutable sure e (λ k j. into is_mutable sure ls k j e)).code k j).next
+  receiver-onward ls e = received-onward (is_sure sure e) (operand is_mutable sure e (λ k j. into is_mutable sure ls k j e)) (onward ls e)

@@ -1,6 +1,6 @@
 -- What a tree that keeps the rules gives where it is written: what is asked of its parts.
 use Rattle.std.proofs.Common.{◌≡◌, ℕ, Bool, true, false, ◌&&◌, List, [], ◌∷◌, Some, refl, sym, ap, ◌∙◌, subst, ◌⊎◌, inl, inr, ⊎_elim, if◌then◌else◌}
-use Rattle.std.specs.Prelude.{not, nat_eq}
+use Rattle.std.specs.Prelude.{not, ◌||◌, nat_eq}
 use Rattle.std.specs.Cmp.Lexicographic.{pointwise}
 use Rattle.std.proofs.lemmas.Bool.{and_parts}
 use Rattle.sj_core.specs.Terms as core
@@ -21,7 +21,7 @@ use Rattle.sj_trees.specs.declared.positions.Position.{Position}
 use Rattle.sj_trees.specs.declared.types.IrType.{IrType}
 use Rattle.sj_trees.specs.declared.types.IrType.TheVariants.{Any, Nothing, Undefined, Boolean, Char, Byte, Short, Int, Long, String, Class, Null, Array, NoType}
 use Rattle.sj_plain.specs.Conditions.{is_simple, unary_operand, left_operand, right_operand, a_quotient, a_remainder, a_long_quotient, a_long_remainder, DividesBy, by_int, by_long, Operates, of_its_types, joins, Plain, AllPlain, Usable, Scope}
-use Rattle.sj_plain.specs.Standing.{Fits, FitAll, types_referred}
+use Rattle.sj_plain.specs.Standing.{is_bare, Fits, FitAll, types_referred}
 use Rattle.sj_plain.proofs.Standing.{fits-same}
 use Rattle.sj_bodies.specs.Fine.{Around, with_label, IsDiscard, is_discard, IsTrueLiteral, true_literal, FitsIn, FineOperand, Fine, Amid, Asks, Mutable, HaveValues, AreMutable, NoBox, with_local, parameters_of}
 use Rattle.sj_bodies.proofs.Contexts.{equals, is-equal}
@@ -128,29 +128,38 @@ nothing-fits (Array r) = refl
 nothing-fits NoType = refl
 
 -- a type of which more than itself and nothing are subtypes
-open_fits : (t own : IrType) → is_lowest t ≡ false → NoBox t own → Fits t own
-open_fits Nothing own h n = impossible (sym h)
-open_fits Undefined own h n = impossible (sym h)
-open_fits Boolean own h n = impossible (sym h)
-open_fits Char own h n = impossible (sym h)
-open_fits Byte own h n = impossible (sym h)
-open_fits Short own h n = impossible (sym h)
-open_fits Int own h n = impossible (sym h)
-open_fits Long own h n = impossible (sym h)
-open_fits String own h n = impossible (sym h)
-open_fits NoType own h n = impossible (sym h)
-open_fits Any Char h n = impossible (sym n)
-open_fits Any own h n = refl
-open_fits (Class c) Char h n = impossible (sym n)
-open_fits (Class c) own h n = refl
-open_fits Null Char h n = impossible (sym n)
-open_fits Null own h n = refl
-open_fits (Array r) Char h n = impossible (sym n)
-open_fits (Array r) own h n = refl
+open_fits : (t own : IrType) → is_lowest t ≡ false → NoBox t own → (not (is_bare t) || is_bare own) ≡ true → Fits t own
+open_fits Nothing own h n b = impossible (sym h)
+open_fits Undefined own h n b = impossible (sym h)
+open_fits Boolean own h n b = impossible (sym h)
+open_fits Char own h n b = impossible (sym h)
+open_fits Byte own h n b = impossible (sym h)
+open_fits Short own h n b = impossible (sym h)
+open_fits Int own h n b = impossible (sym h)
+open_fits Long own h n b = impossible (sym h)
+open_fits String own h n b = impossible (sym h)
+open_fits NoType own h n b = impossible (sym h)
+open_fits Any Char h n b = impossible (sym n)
+open_fits Any own h n b = b
+open_fits (Class c) Char h n b = impossible (sym n)
+open_fits (Class c) Nothing h n b = refl
+open_fits (Class c) own h n b = b
+open_fits Null Char h n b = impossible (sym n)
+open_fits Null own h n b = b
+open_fits (Array r) Char h n b = impossible (sym n)
+open_fits (Array r) own h n b = b
 
 not-false : (b : Bool) → not b ≡ true → b ≡ false
 not-false true h = impossible h
 not-false false h = refl
+
+-- what joins to a text is of a type at which no object stands
+bare-text : (t : IrType) → IsText t → is_bare t ≡ true
+bare-text Any h = absurd h
+bare-text (Class c) h = subst (λ n. is_bare (Class n) ≡ true) (sym h) refl
+bare-text (Array r) h = absurd h
+bare-text NoType h = absurd h
+bare-text t h = refl
 
 -- what isn't plain isn't fixed
 pub not_fixed : (is_mutable : List ℕ → Bool) (t : Term) → is_plain t ≡ false → is_fixed is_mutable t ≡ false
@@ -177,9 +186,13 @@ module _ (w : Classes) (law : IsSubtyping (IsSub w)) (is_mutable : List ℕ → 
   pub fits-sub : (t own : IrType) → IsSub w own t → NoBox t own → Fits t own
   fits-sub t own f n = go (is_lowest t) refl
     where
+      goes : (b : Bool) → is_bare t ≡ b → (not (is_bare t) || is_bare own) ≡ true
+      goes true e = ap (λ (c : Bool). not c || is_bare own) e ∙ law.bare own t e f
+      goes false e = ap (λ (c : Bool). not c || is_bare own) e
+
       go : (b : Bool) → is_lowest t ≡ b → Fits t own
       go true e = ⊎_elim (λ i. subst (Fits t) (sym i) (fits-same t)) (λ i. subst (Fits t) (sym i) (nothing-fits t)) (law.lowest own t e f)
-      go false e = open_fits t own e n
+      go false e = open_fits t own e n (goes (is_bare t) refl)
 
   -- of the types that are lowest no char is one but char
   lowest-box : (t own : IrType) → is_lowest t ≡ true → IsSub w own t → NoBox t own
@@ -215,7 +228,7 @@ module _ (w : Classes) (law : IsSubtyping (IsSub w)) (is_mutable : List ℕ → 
 
   pub operates : (o : BinaryOp) (e d : Term) → Takes w o e d → Operates o (type_of_term e) (type_of_term d)
   operates o e d (its_types h f g) = of_its_types o (type_of_term e) (type_of_term d) h (fits-sub (left_operand o) (type_of_term e) f (lowest-box (left_operand o) (type_of_term e) (left_lowest o h) f)) (fits-sub (right_operand o) (type_of_term d) g (lowest-box (right_operand o) (type_of_term d) (right_lowest o h) g))
-  operates o e d (texts is f g) = subst (λ p. Operates p (type_of_term e) (type_of_term d)) (sym is) (joins (type_of_term e) (type_of_term d))
+  operates o e d (texts is f g) = subst (λ p. Operates p (type_of_term e) (type_of_term d)) (sym is) (joins (type_of_term e) (type_of_term d) (bare-text (type_of_term e) f) (bare-text (type_of_term d) g))
 
   pub fit-all : (ts : Terms) (rs : List TypeRef) → ArgumentsFit w ts rs → FitAll (types_referred rs) (types_of ts)
   fit-all no_terms [] h = tt
@@ -292,42 +305,42 @@ module _ (w : Classes) (law : IsSubtyping (IsSub w)) (is_mutable : List ℕ → 
 
   -- what is plain
   mutual
-    pub plain : (t : Term) (s : Scene) (g : Scope) → ((x : List ℕ) (t : IrType) → parameters_of s.locals x t → g x t) → Typed w has s t → is_plain t ≡ true → Plain has sure g t
-    plain (if_then p c a b t) s g v h k =
+    pub plain : (sure : List ℕ → Bool) (t : Term) (s : Scene) (g : Scope) → ((x : List ℕ) (t : IrType) → parameters_of s.locals x t → g x t) → Typed w has s t → is_plain t ≡ true → Plain has sure g t
+    plain sure (if_then p c a b t) s g v h k =
         let x = and_parts (not (is_no_type t) && is_plain c && is_plain a) (is_plain b) k in
         let y = and_parts (not (is_no_type t) && is_plain c) (is_plain a) x.0 in
         let z = and_parts (not (is_no_type t)) (is_plain c) y.0 in
-        (plain c s g v h.1 z.1, plain a s g v h.2 y.1, plain b s g v h.3 x.1, yield-fits t a (not-false (is_no_type t) z.0) (one_yields w a b t h.0.built h.0.meets.1), yield-fits t b (not-false (is_no_type t) z.0) (other_yields w a b t h.0.built h.0.meets.2))
-    plain (apply_static p c n m ts t) s g v h k = (is_linked w (has.linked (member c n m)) ts m.params h.0.built, h.0.meets.1, fit-all ts m.params (arguments_there w (has.linked (member c n m)) ts m.params h.0.built h.0.finds h.0.meets.2), all_plain ts s g v h.1 k)
-    plain (unary_op p o e) s g v h k = (fits-unary o (type_of_term e) h.0.meets, plain e s g v h.1 k)
-    plain (binary_op p o e d) s g v h k =
+        (plain sure c s g v h.1 z.1, plain sure a s g v h.2 y.1, plain sure b s g v h.3 x.1, yield-fits t a (not-false (is_no_type t) z.0) (one_yields w a b t h.0.built h.0.meets.1), yield-fits t b (not-false (is_no_type t) z.0) (other_yields w a b t h.0.built h.0.meets.2))
+    plain sure (apply_static p c n m ts t) s g v h k = (is_linked w (has.linked (member c n m)) ts m.params h.0.built, h.0.meets.1, fit-all ts m.params (arguments_there w (has.linked (member c n m)) ts m.params h.0.built h.0.finds h.0.meets.2), all_plain sure ts s g v h.1 k)
+    plain sure (unary_op p o e) s g v h k = (fits-unary o (type_of_term e) h.0.meets, plain sure e s g v h.1 k)
+    plain sure (binary_op p o e d) s g v h k =
         let x = and_parts (is_plain e) (is_plain d) k in
-        ⊎_elim (λ takes. inl (operates o e d takes, plain e s g v h.1 x.0, plain d s g v h.2 x.1)) (λ divides. inr (divides.0, fits-dividend o d (type_of_term e) divides.0 divides.1, plain e s g v h.1 x.0)) (operation w has s o e d h.0.built h.2 h.0.meets)
-    plain (undefined_literal p) s g v h k = tt
-    plain (null_literal p) s g v h k = tt
-    plain (boolean_literal p b) s g v h k = tt
-    plain (char_literal p n) s g v h k = h.finds
-    plain (long_literal p n) s g v h k = h.finds
-    plain (byte_literal p n) s g v h k = h.finds
-    plain (short_literal p n) s g v h k = h.finds
-    plain (int_literal p n) s g v h k = h.finds
-    plain (string_literal p us) s g v h k = tt
-    plain (var_ref p x t) s g v h k = v x t (there s x t h.finds)
-    plain (var_def p x t b e) s g v h k = impossible k
-    plain (skip p) s g v h k = impossible k
-    plain (block_of p ts) s g v h k = impossible k
-    plain (labeled p l t e) s g v h k = impossible k
-    plain (assign p e d) s g v h k = impossible k
-    plain (return_to p e l) s g v h k = impossible k
-    plain (while_loop p c b) s g v h k = impossible k
-    plain (do_while p b c) s g v h k = impossible k
-    plain (match_on p e cs d t) s g v h k = impossible k
-    plain (log_line p e) s g v h k = impossible k
-    plain _ s g v h k = impossible h.built
+        ⊎_elim (λ takes. inl (operates o e d takes, plain sure e s g v h.1 x.0, plain sure d s g v h.2 x.1)) (λ divides. inr (divides.0, fits-dividend o d (type_of_term e) divides.0 divides.1, plain sure e s g v h.1 x.0)) (operation w has s o e d h.0.built h.2 h.0.meets)
+    plain sure (undefined_literal p) s g v h k = tt
+    plain sure (null_literal p) s g v h k = tt
+    plain sure (boolean_literal p b) s g v h k = tt
+    plain sure (char_literal p n) s g v h k = h.finds
+    plain sure (long_literal p n) s g v h k = h.finds
+    plain sure (byte_literal p n) s g v h k = h.finds
+    plain sure (short_literal p n) s g v h k = h.finds
+    plain sure (int_literal p n) s g v h k = h.finds
+    plain sure (string_literal p us) s g v h k = tt
+    plain sure (var_ref p x t) s g v h k = v x t (there s x t h.finds)
+    plain sure (var_def p x t b e) s g v h k = impossible k
+    plain sure (skip p) s g v h k = impossible k
+    plain sure (block_of p ts) s g v h k = impossible k
+    plain sure (labeled p l t e) s g v h k = impossible k
+    plain sure (assign p e d) s g v h k = impossible k
+    plain sure (return_to p e l) s g v h k = impossible k
+    plain sure (while_loop p c b) s g v h k = impossible k
+    plain sure (do_while p b c) s g v h k = impossible k
+    plain sure (match_on p e cs d t) s g v h k = impossible k
+    plain sure (log_line p e) s g v h k = impossible k
+    plain sure _ s g v h k = impossible h.built
 
-    pub all_plain : (ts : Terms) (s : Scene) (g : Scope) → ((x : List ℕ) (t : IrType) → parameters_of s.locals x t → g x t) → TypedAll w has s ts → are_plain ts ≡ true → AllPlain has sure g ts
-    all_plain no_terms s g v h k = tt
-    all_plain (more_terms t ts) s g v h k = let x = and_parts (is_plain t) (are_plain ts) k in (plain t s g v h.0 x.0, all_plain ts s g v h.1 x.1)
+    pub all_plain : (sure : List ℕ → Bool) (ts : Terms) (s : Scene) (g : Scope) → ((x : List ℕ) (t : IrType) → parameters_of s.locals x t → g x t) → TypedAll w has s ts → are_plain ts ≡ true → AllPlain has sure g ts
+    all_plain sure no_terms s g v h k = tt
+    all_plain sure (more_terms t ts) s g v h k = let x = and_parts (is_plain t) (are_plain ts) k in (plain sure t s g v h.0 x.0, all_plain sure ts s g v h.1 x.1)
 
 -- of two trees one after the other
 pub one_mutable : (is_mutable : List ℕ → Bool) (a b : Term) → Mutable is_mutable (λ xs. mutable_in a (mutable_in b xs)) → Mutable is_mutable (mutable_in a)
@@ -368,7 +381,7 @@ module _ (w : Classes) (is_mutable : List ℕ → Bool) (has : Usable) (sure : L
   Here s = Amid w is_mutable g ls s
 
   pub plain_at : (s : Scene) → Here s → (e : Term) → Typed w has s e → is_plain e ≡ true → Plain has sure g e
-  plain_at s a e h i = plain w a.ordered is_mutable has e s g a.seen h i
+  plain_at s a e h i = plain w a.ordered is_mutable has sure e s g a.seen h i
 
   -- a tree in this scene
   pub tree_in : (s : Scene) → Here s → (k : Destination) (e : Term) → Mutable is_mutable (mutable_in e) → Asks w k (type_of_term e) → Typed w has s e → FineAt k e
