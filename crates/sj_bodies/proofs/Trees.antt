@@ -118,15 +118,15 @@ module _ (z : Setting) (lawful : Lawful z) (low : LowAlike z) where
   list_of ls no_terms = []
   list_of ls (more_terms t ts) = piece ls t ∷ list_of ls ts
 
-  operands-list : (ls : Targets) (ts : Terms) → operands z.is_mutable z.code.sure ls ts ≡ operands_in z lawful (list_of ls ts)
+  pub operands-list : (ls : Targets) (ts : Terms) → operands z.is_mutable z.code.sure ls ts ≡ operands_in z lawful (list_of ls ts)
   operands-list ls no_terms = refl
   operands-list ls (more_terms t ts) = ap (λ os. operand z.is_mutable z.code.sure t (λ k j. into z.is_mutable z.code.sure ls k j t) ∷ os) (operands-list ls ts)
 
-  runs-list : (ls : Targets) (ts : Terms) → ir_meaning.operands z.place.classes z.low ts ≡ runs z lawful (list_of ls ts)
+  pub runs-list : (ls : Targets) (ts : Terms) → ir_meaning.operands z.place.classes z.low ts ≡ runs z lawful (list_of ls ts)
   runs-list ls no_terms = refl
   runs-list ls (more_terms t ts) = ap (λ rs. ir_meaning.step z.place.classes z.low t ∷ rs) (runs-list ls ts)
 
-  types-list : (ls : Targets) (ts : Terms) → types_of ts ≡ types z lawful (list_of ls ts)
+  pub types-list : (ls : Targets) (ts : Terms) → types_of ts ≡ types z lawful (list_of ls ts)
   types-list ls no_terms = refl
   types-list ls (more_terms t ts) = ap (λ is. type_of_term t ∷ is) (types-list ls ts)
 
