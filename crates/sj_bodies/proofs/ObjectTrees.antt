@@ -87,7 +87,7 @@ module _ (z : Setting) (lawful : Lawful z) (low : LowAlike z) where
   select_does p c k j e d f t sound ahead wr fits has operand w env s sc u r same = subst (λ o. Ends z lawful c c.scope k w sc o (into z.is_mutable z.code.sure c.targets k j (select p e d f t)).statements sc u) (sym (sure_run e (ir_meaning.select_field d f) [] w env s sc c.scope r.sees)) (expression_does c k j (receiver_piece c.targets e ∷ []) t p (ir_meaning.select_field d f) (λ es. core.field_of (first_of es) d f) sound ahead wr fits (operand, tt) given w env s sc u r same)
     where
       given : (rs : List ir.Run) (es : List core.Expression) (w : World) (env : ir.Env) (s : ir.State) (sc : js.Scope) (u : js.State) → Inside z.place z.code sc → OperandsAlike z w env sc ((receiver_piece c.targets e).here.tpe ∷ []) rs es → SameState z.place w s u → Sim z.direction (Valued z.place w env t) (ir_meaning.in_order rs (ir_meaning.select_field d f) env s) (shown z (core.field_of (first_of es) d f) sc u)
-      given _ _ w env s sc u inside (more_operands own q g _ _ _ told one no_operands) same = select_alike z lawful.base w env s sc u own q g d f t (lawful.base.fields d f t has) (more_operands own q g [] [] [] told one no_operands) same
+      given _ _ w env s sc u inside (more_operands own q g _ _ _ told one no_operands) same = select_alike z lawful.base w env s sc u own q g d f t (lawful.base.fields d f t has).field (more_operands own q g [] [] [] told one no_operands) same
 
   -- a new object
   pub new_does : (p : Position) (c : Context) (k : Destination) (j : ℕ) (d : List ℕ) (m : MethodName) (ts : Terms) → Sound z.is_mutable c → Ahead c j → Writes c.writable k → FitsIn k (class_type d) → (usable z).built (member d Constructor m) ≡ true → (usable z).made d ≡ true → is_bare (class_type d) ≡ false → FitAll (types_referred m.params) (types_of ts) → OperandsDo z lawful c j (list_of z lawful low c.targets ts) → Does z lawful c k j (new_object p d m ts)

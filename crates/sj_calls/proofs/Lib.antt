@@ -2,4 +2,5 @@ pub mod Calls
 pub mod Items
 pub mod Levels
 pub mod Names
+pub mod Receivers
 pub mod Whole

@@ -1,3 +1,4 @@
 pub mod Files
 pub mod Methods
 pub mod Names
+pub mod Objects

@@ -29,7 +29,7 @@ use Rattle.sj_names.specs.declared.method_names.Namespace.TheVariants.{Construct
 use Rattle.sj_trees.specs.Types.{class_type}
 use Rattle.sj_trees.specs.declared.types.IrType.{IrType}
 use Rattle.sj_trees.specs.declared.types.IrType.TheVariants.{Any, Undefined, Class}
-use Rattle.sj_plain.specs.Settings.{Place, Setting, shown, usable, IsField, SameField, same_field, no_field, SameStored, same_object, TellsClass, SameHeap, SameState, Valued, valued, thrown, Based, Lawful, a_constructor, a_class, a_method, a_helper, top_name, top_function, top_call, links_of, Inside, Makes, makes, Built, built, failed, zeroed, IsReceiver}
+use Rattle.sj_plain.specs.Settings.{Place, Setting, shown, usable, IsField, FieldsDiffer, SameField, same_field, no_field, SameStored, same_object, TellsClass, SameHeap, SameState, Valued, valued, thrown, Based, Lawful, a_constructor, a_class, a_method, a_helper, top_name, top_function, top_call, links_of, Inside, Makes, makes, Built, built, failed, zeroed, IsReceiver}
 use Rattle.sj_plain.specs.Standing.{is_bare, suits, Fits, FitAll, types_referred, call_type}
 use Rattle.sj_plain.specs.Worlds.{with_pending, with_born}
 use Rattle.sj_plain.proofs.Heaps.{writes, births, stored-carry, numbers-same, place-there}
@@ -68,29 +68,29 @@ module _ (z : Setting) (law : Based z) where
   select_alike w env s sc u own r e c f t has operands same = in_order_alike z w w env sc w (own ∷ []) t (r ∷ []) (e ∷ []) (ir_meaning.select_field c f) (js_meaning.read_property z.place.program (property_name c f)) operands (select_acts w env sc own c f t has) w s u (grows-refl w) (grows-refl w) (grows-refl w) same
 
   -- a field that is written
-  written : (y : World) (v : ir.Value) (x : js.Value) (c f : List ℕ) (t : IrType) (fields : ir.Fields) (properties : Name → Option js.Value) → IsField z.place.classes c f t → SameValue y t v x → ((d g : List ℕ) (i : IrType) → IsField z.place.classes d g i → SameField y i (fields d g) (properties (field_binding Property d g))) → (d g : List ℕ) (i : IrType) → IsField z.place.classes d g i → SameField y i (ir.with_field c f v fields d g) (js_objects.with_property (property_name c f) x properties (field_binding Property d g))
-  written y v x c f t fields properties has a fs d g i there = subst (λ b. SameField y i (ir.with_field c f v fields d g) (if b then Some x else properties (field_binding Property d g))) (sym (law.differ.properties c f d g t i has there)) (go (is_same_text d c && is_same_text g f) refl)
+  written : FieldsDiffer z.place → (y : World) (v : ir.Value) (x : js.Value) (c f : List ℕ) (t : IrType) (fields : ir.Fields) (properties : Name → Option js.Value) → IsField z.place.classes c f t → SameValue y t v x → ((d g : List ℕ) (i : IrType) → IsField z.place.classes d g i → SameField y i (fields d g) (properties (field_binding Property d g))) → (d g : List ℕ) (i : IrType) → IsField z.place.classes d g i → SameField y i (ir.with_field c f v fields d g) (js_objects.with_property (property_name c f) x properties (field_binding Property d g))
+  written differ y v x c f t fields properties has a fs d g i there = subst (λ b. SameField y i (ir.with_field c f v fields d g) (if b then Some x else properties (field_binding Property d g))) (sym (differ.properties c f d g t i has there)) (go (is_same_text d c && is_same_text g f) refl)
     where
       go : (b : Bool) → (is_same_text d c && is_same_text g f) ≡ b → SameField y i (if b then Some v else fields d g) (if b then Some x else properties (field_binding Property d g))
-      go true e = same_field v x (subst (λ k. SameValue y k v x) (law.differ.types c f t i has (subst (λ n. IsField z.place.classes n f i) (same-class d c (is_same_text g f) e) (subst (λ n. IsField z.place.classes d n i) (same-name (is_same_text d c) g f e) there))) a)
+      go true e = same_field v x (subst (λ k. SameValue y k v x) (differ.types c f t i has (subst (λ n. IsField z.place.classes n f i) (same-class d c (is_same_text g f) e) (subst (λ n. IsField z.place.classes d n i) (same-name (is_same_text d c) g f e) there))) a)
       go false e = fs d g i there
 
-  written_there : (F : ir.Ended → js.StatementEnd → Type 0) (y : World) (env : ir.Env) (sc : js.Scope) (s : ir.State) (u : js.State) (i a : ℕ) (v : ir.Value) (x : js.Value) (c f : List ℕ) (t : IrType) (o : Option ir.Stored) (q : Option js.Stored) → IsField z.place.classes c f t → y.place i ≡ Some a → SameValue y t v x → SameState z.place y s u → ((s : ir.State) (u : js.State) → SameState z.place y s u → F (ir.ends (ir.gives ir.undefined) env s) (js.ends js.normally sc u)) → SameStored z.place y o q → Sim z.direction F (ir_meaning.assigned (ir_meaning.set_field c f v i o s) env s) (js_meaning.with_state (js_objects.set_stored a q (property_name c f) x u) sc u)
-  written_there F y env sc s u i a v x c f t _ _ has there alike same goes (same_object d fields properties told fs) = by (fields c f)
+  written_there : FieldsDiffer z.place → (F : ir.Ended → js.StatementEnd → Type 0) (y : World) (env : ir.Env) (sc : js.Scope) (s : ir.State) (u : js.State) (i a : ℕ) (v : ir.Value) (x : js.Value) (c f : List ℕ) (t : IrType) (o : Option ir.Stored) (q : Option js.Stored) → IsField z.place.classes c f t → y.place i ≡ Some a → SameValue y t v x → SameState z.place y s u → ((s : ir.State) (u : js.State) → SameState z.place y s u → F (ir.ends (ir.gives ir.undefined) env s) (js.ends js.normally sc u)) → SameStored z.place y o q → Sim z.direction F (ir_meaning.assigned (ir_meaning.set_field c f v i o s) env s) (js_meaning.with_state (js_objects.set_stored a q (property_name c f) x u) sc u)
+  written_there differ F y env sc s u i a v x c f t _ _ has there alike same goes (same_object d fields properties told fs) = by (fields c f)
     where
       with_it : js.Stored
       with_it = js.plain (links_of z.place d) (js_objects.with_property (property_name c f) x properties)
 
       by : (old : Option ir.Value) → Sim z.direction F (ir_meaning.assigned (ir_meaning.if_there old (ir.at_address i (ir.object d (ir.with_field c f v fields)) s)) env s) (done (js.ends js.normally sc (js_objects.at_address a with_it u)))
       by None = sim_wrong z.direction F _
-      by (Some old) = sim_done z.direction F (ir.ends (ir.gives ir.undefined) env (ir.at_address i (ir.object d (ir.with_field c f v fields)) s)) (js.ends js.normally sc (js_objects.at_address a with_it u)) (goes _ _ (record { heaps = writes z.place y s.heap u.heap same.heaps i a (ir.object d (ir.with_field c f v fields)) with_it there (same_object d (ir.with_field c f v fields) (js_objects.with_property (property_name c f) x properties) (record { address = told.address; constants = told.constants; held = told.held; owned = told.owned; marked = told.marked }) (written y v x c f t fields properties has alike fs)); tops = same.tops }))
+      by (Some old) = sim_done z.direction F (ir.ends (ir.gives ir.undefined) env (ir.at_address i (ir.object d (ir.with_field c f v fields)) s)) (js.ends js.normally sc (js_objects.at_address a with_it u)) (goes _ _ (record { heaps = writes z.place y s.heap u.heap same.heaps i a (ir.object d (ir.with_field c f v fields)) with_it there (same_object d (ir.with_field c f v fields) (js_objects.with_property (property_name c f) x properties) (record { address = told.address; constants = told.constants; held = told.held; owned = told.owned; marked = told.marked; known = told.known }) (written differ y v x c f t fields properties has alike fs)); tops = same.tops }))
 
   -- a field of an object is written: the IR gives undef, and the statement ends normally, in states that stand for each other
-  pub field_written : (F : ir.Ended → js.StatementEnd → Type 0) (y : World) (env : ir.Env) (sc : js.Scope) (s : ir.State) (u : js.State) (own : IrType) (r v : ir.Value) (q x : js.Value) (c f : List ℕ) (t : IrType) → IsField z.place.classes c f t → SameValue y own r q → SameValue y t v x → SameState z.place y s u → ((s : ir.State) (u : js.State) → SameState z.place y s u → F (ir.ends (ir.gives ir.undefined) env s) (js.ends js.normally sc u)) → Sim z.direction F (ir_meaning.assign_field c f (r ∷ v ∷ []) env s) (js_meaning.with_state (js_objects.set_property q (property_name c f) x u) sc u)
-  field_written F y env sc s u own r v q x c f t has object alike same goes = by r q object.stands
+  pub field_written : FieldsDiffer z.place → (F : ir.Ended → js.StatementEnd → Type 0) (y : World) (env : ir.Env) (sc : js.Scope) (s : ir.State) (u : js.State) (own : IrType) (r v : ir.Value) (q x : js.Value) (c f : List ℕ) (t : IrType) → IsField z.place.classes c f t → SameValue y own r q → SameValue y t v x → SameState z.place y s u → ((s : ir.State) (u : js.State) → SameState z.place y s u → F (ir.ends (ir.gives ir.undefined) env s) (js.ends js.normally sc u)) → Sim z.direction F (ir_meaning.assign_field c f (r ∷ v ∷ []) env s) (js_meaning.with_state (js_objects.set_property q (property_name c f) x u) sc u)
+  field_written differ F y env sc s u own r v q x c f t has object alike same goes = by r q object.stands
     where
       by : (r : ir.Value) (q : js.Value) → Stands y r q → Sim z.direction F (ir_meaning.assign_field c f (r ∷ v ∷ []) env s) (js_meaning.with_state (js_objects.set_property q (property_name c f) x u) sc u)
-      by _ _ (same_reference i a e) = written_there F y env sc s u i a v x c f t (slice_get s.heap i) (slice_get u.heap a) has e alike same goes (same.heaps.objects i a e)
+      by _ _ (same_reference i a e) = written_there differ F y env sc s u i a v x c f t (slice_get s.heap i) (slice_get u.heap a) has e alike same goes (same.heaps.objects i a e)
       by _ _ _ = sim_wrong z.direction F _
 
   pending-kept : (w : World) (a b : ℕ) (o d : js.Stored) → ((b : js.Stored) → w.pending a ≡ Some b → ⊥) → w.pending b ≡ Some d → (t : Bool) → (b == a) ≡ t → (if t then Some o else w.pending b) ≡ Some d

@@ -251,7 +251,7 @@ module _ (z : Setting) (lawful : Lawful z) (scope : Scope) where
     plain_alike (apply_static p c n m ts t) h w env s sc u sees same = call_plain p (member c n m) ts t h.1 h.0 h.2 w env s sc u sees (all_alike ts h.3 w env sc sees) same
     plain_alike (apply_statically p e c Private m ts t) h w env s sc u sees same = by_equal w env t _ _ _ _ refl (λ i. shown z (core.receiver_call (member c Private m) (coerced-same (Class (codes "java.lang.Character")) (type_of_term e) (received_text (is_sure z.code.sure e) (expression_of z.code.sure e)) (fits-character (type_of_term e) h.4) i) (expressions_of (arguments-same m.params (types_of ts) (all_expressions z.code.sure ts) h.2 i))) sc u) (subst (λ k. Sim z.direction (Valued z.place w env k) (ir_meaning.step z.place.classes z.low (apply_statically p e c Private m ts t) env s) (shown z (core.receiver_call (member c Private m) (received_text (is_sure z.code.sure e) (expression_of z.code.sure e)) (expressions_of (all_expressions z.code.sure ts))) sc u)) (sym h.1) (received_call_alike z lawful.base (member c Private m) (type_of_term e) (types_of ts) (ir_meaning.receiving z.place.classes (is_sure env.sure e) z.low (ir_meaning.step z.place.classes z.low e)) (ir_meaning.operands z.place.classes z.low ts) (received_text (is_sure z.code.sure e) (expression_of z.code.sure e)) (all_expressions z.code.sure ts) h.0 h.4 h.2 w env s sc u sees.inside (in_front _ _ _ w env sc _ _ _ (receiver_plain e h.6 (plain_alike e h.6) h.5 w env sc sees) (all_alike ts h.3 w env sc sees)) same))
     plain_alike (new_object p c m ts) h w env s sc u sees same = new_alike z lawful.base c m (types_of ts) (ir_meaning.operands z.place.classes z.low ts) (coerced_arguments m.params (types_of ts) (all_expressions z.code.sure ts)) (all_expressions z.code.sure ts) (arguments-same m.params (types_of ts) (all_expressions z.code.sure ts) h.3) h.0 h.1 h.2 h.3 w env s sc u sees.inside (all_alike ts h.4 w env sc sees) same
-    plain_alike (select p e c f t) h w env s sc u sees same = select_alike z lawful.base w env s sc u (type_of_term e) (ir_meaning.receiving z.place.classes (is_sure env.sure e) z.low (ir_meaning.step z.place.classes z.low e)) (received_text (is_sure z.code.sure e) (expression_of z.code.sure e)) c f t (lawful.base.fields c f t h.0) (receiver_plain e h.2 (plain_alike e h.2) h.1 w env sc sees) same
+    plain_alike (select p e c f t) h w env s sc u sees same = select_alike z lawful.base w env s sc u (type_of_term e) (ir_meaning.receiving z.place.classes (is_sure env.sure e) z.low (ir_meaning.step z.place.classes z.low e)) (received_text (is_sure z.code.sure e) (expression_of z.code.sure e)) c f t (lawful.base.fields c f t h.0).field (receiver_plain e h.2 (plain_alike e h.2) h.1 w env sc sees) same
     plain_alike (this_ref p t) h w env s sc u sees same = this_alike w env t s u env.this_value (sc.bindings (z.place.name core.receiver)) (js_meaning.top_cell (owner z.place.program sc.file (z.place.name core.receiver)) (z.place.name core.receiver) u) h sees.this same
     plain_alike (unary_op p o e) h w env s sc u sees same = unary_alike o (type_of_term e) (ir_meaning.step z.place.classes z.low e) (expression_of z.code.sure e) w env s sc u (with_tree e h.1 (plain_alike e h.1) w env sc sees [] [] [] no_operands) same
     plain_alike (binary_op p o e d) (inl h) w env s sc u sees same = binary_alike o (type_of_term e) (type_of_term d) (ir_meaning.step z.place.classes z.low e) (ir_meaning.step z.place.classes z.low d) (expression_of z.code.sure e) (expression_of z.code.sure d) h.0 w env s sc u (with_tree e h.1 (plain_alike e h.1) w env sc sees _ _ _ (with_tree d h.2 (plain_alike d h.2) w env sc sees [] [] [] no_operands)) same

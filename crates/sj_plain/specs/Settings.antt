@@ -15,6 +15,8 @@ use Rattle.ir_mean.specs.World as ir_world
 use Rattle.js_mean.specs.Files.{owner}
 use Rattle.js_mean.specs.Meaning as js_meaning
 use Rattle.js_mean.specs.States as js
+use Rattle.js_mean.specs.Shows.{object_shown, class_marked}
+use Rattle.outcomes.specs.Shown as shown_ends
 use Rattle.sj_core.specs.Terms as core
 use Rattle.sj_emit_expr.specs.Templates.{check_name, member_name, expression_template, statement_templates}
 use Rattle.sj_mangling.specs.Bindings.{class_binding, field_binding}
@@ -120,13 +122,15 @@ pub data SameField (w : World) (t : IrType) : Option ir.Value → Option js.Valu
   same_field : (v : ir.Value) (x : js.Value) → SameValue w t v x → SameField w t (Some v) (Some x)
   no_field : (x : Option js.Value) → SameField w t None x
 
--- the properties lead to the constants of the class, which the emitted code has for itself and which tell its marker
+-- the properties lead to the constants of the class, which the emitted code has for itself and which tell its marker; and by that an object which
+-- nothing catches is shown
 pub record TellsClass (w : World) (c : List ℕ) (properties : Name → Option js.Value) : Type 0 where
   pub address : ℕ
   pub constants : Name → Option js.Value
   pub held : properties (codes "k") ≡ Some (js.object address)
   pub owned : w.owned address ≡ Some (js.plain [] constants)
   pub marked : constants (codes "s") ≡ Some (js.text (class_binding Marker c))
+  pub known : (v : Option js.Value) → object_shown (class_marked (class_binding Marker c)) v ≡ Some (shown_ends.object_of c)
 
 -- where a class of the emitted code is declared
 abbrev pub link_of : Place → List ℕ → js.ClassLink
@@ -226,12 +230,16 @@ pub record FieldsDiffer (p : Place) : Type 0 where
   pub properties : (c f d g : List ℕ) (s t : IrType) → IsField p.classes c f s → IsField p.classes d g t → pointwise nat_eq (field_binding Property d g) (field_binding Property c f) ≡ (is_same_text d c && is_same_text g f)
   pub types : (c f : List ℕ) (s t : IrType) → IsField p.classes c f s → IsField p.classes c f t → s ≡ t
 
+-- the class has the field, and fields differ
+pub record HasField (p : Place) (c f : List ℕ) (t : IrType) : Type 0 where
+  pub field : IsField p.classes c f t
+  pub differ : FieldsDiffer p
+
 -- what the levels below give of what is called and made
 pub record Based (z : Setting) : Type 0 where
   pub names : NamesDiffer z.place
-  pub differ : FieldsDiffer z.place
   pub reaches : Reaches z.place z.code.file
-  pub fields : (c f : List ℕ) (t : IrType) → (usable z).field c f t ≡ true → IsField z.place.classes c f t
+  pub fields : (c f : List ℕ) (t : IrType) → (usable z).field c f t ≡ true → HasField z.place c f t
   pub calls : (m : Member) → (usable z).linked m ≡ true → CallsAlike z m
   pub receives : (m : Member) → (usable z).received m ≡ true → ReceivesAlike z m
   pub builds : (m : Member) → (usable z).built m ≡ true → BuildsAlike z m
