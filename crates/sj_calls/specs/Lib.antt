@@ -1,4 +1,5 @@
 pub mod Files
+pub mod Made
 pub mod Methods
 pub mod Names
 pub mod Objects
