@@ -1,7 +1,9 @@
 pub mod Calls
 pub mod Items
+pub mod Helps
 pub mod Levels
 pub mod Making
 pub mod Names
+pub mod News
 pub mod Receivers
 pub mod Whole

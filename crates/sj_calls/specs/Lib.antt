@@ -1,4 +1,5 @@
 pub mod Files
+pub mod Helpers
 pub mod Made
 pub mod Methods
 pub mod Names
