@@ -3,7 +3,7 @@ use Rattle.std.proofs.Common.{◌≡◌, ℕ, zero, suc, Bool, true, false, List
 use Rattle.std.specs.Prelude.{codes}
 use Rattle.outcomes.specs.Outcome.{Out, done, then_do}
 use Rattle.outcomes.specs.Agreement.{Direction, Sim}
-use Rattle.outcomes.proofs.Sequence.{then_do-associative}
+use Rattle.outcomes.proofs.Sequence.{then_do-associative, then_do-right}
 use Rattle.outcomes.proofs.Simulation.{sim_done, sim_wrong, sim_then}
 use Rattle.ir_mean.specs.Meaning as ir_meaning
 use Rattle.ir_mean.specs.States as ir
@@ -26,7 +26,7 @@ use Rattle.helper_rules.specs.declared.kinds.Helper.{Helper}
 use Rattle.helper_rules.specs.declared.kinds.Helper.TheVariants.{NotNull, Throws}
 use Rattle.helper_rules.specs.declared.kinds.Failure.TheVariants.{NullReceiver}
 use Rattle.sj_plain.specs.Settings.{Place, Code, Setting, usable, shown, SameState, Valued, valued, thrown, Based, Inside, a_helper, top_function, top_call}
-use Rattle.sj_plain.specs.Standing.{is_bare, Fits}
+use Rattle.sj_plain.specs.Standing.{is_bare, suits, Fits}
 use Rattle.sj_plain.proofs.Objects.{new_alike}
 use Rattle.sj_plain.proofs.Orders.{OperandsAlike, no_operands, more_operands}
 use Rattle.sj_plain.proofs.Worlds.{World, Grows, grows-refl, SameValue, Stands, same_undefined, same_null, same_boolean, same_char, same_number, same_long, same_text, same_reference, value-fits}
@@ -121,3 +121,28 @@ module _ (p : Place) where
     where
       around : Out js.ExpressionEnd → Out js.ExpressionEnd
       around o = then_do (then_do (then_do (then_do (then_do (then_do o (js.with_value (λ f. js_meaning.in_order [] (js_meaning.call p.program (js_meaning.below p.program m) f) (js_meaning.enter failing_block (check_scope js.null))))) (js.in_statement (js_meaning.enter failing_block (check_scope js.null)) (λ v. js_meaning.nothing (js_meaning.enter failing_block (check_scope js.null))))) (js.next_statement js_meaning.nothing)) (js_meaning.leaving failing_block (check_scope js.null))) (js.next_statement (js_meaning.execute_all p.program (js_meaning.below p.program m) hands_back))) js_meaning.returned
+
+-- what the helper that fails does on both sides, where its function has this bound
+abbrev pub FailsAt : Direction → Place → ir_meaning.Low → ℕ → Type 0
+FailsAt d p low m = (w : World) (env : ir.Env) (s : ir.State) (u : js.State) → SameState p w s u → Sim d (Failed p w env) (ir_meaning.raise p.classes low (codes "java.lang.NullPointerException") (codes "null") env s) (top_call p (js_meaning.below p.program m) (a_helper (Throws NullReceiver)) [] u)
+
+module _ (d : Direction) (p : Place) (low : ir_meaning.Low) (m : ℕ) (stands : HelperStands p NotNull checking_code) (owned : owner p.program (p.home (a_helper NotNull)) (helper_name (Throws NullReceiver)) ≡ Some (p.home (a_helper (Throws NullReceiver)))) (fails : FailsAt d p low m) where
+  -- the null check of a value, and its helper
+  pub checks_alike : (held : (w : World) (s : ir.State) (u : js.State) → SameState p w s u → u.tops (p.home (a_helper (Throws NullReceiver))) (helper_name (Throws NullReceiver)) ≡ js.holds false (top_function p (a_helper (Throws NullReceiver)))) (t : IrType) (w : World) (v : ir.Value) (x : js.Value) (env : ir.Env) (s : ir.State) (u : js.State) → SameValue w t v x → SameState p w s u → Sim d (Valued p w env t) (ir_meaning.answered p.classes low (ir_meaning.not_null p.classes v) env s) (top_call p (js_meaning.below p.program (suc m)) (a_helper NotNull) (x ∷ []) u)
+  checks_alike held t w v x env s u a same = by v x a.stands a.suits
+    where
+      given : (v : ir.Value) (x : js.Value) → Stands w v x → suits t v ≡ true → (v ≡ ir.null → ⊥) → Sim d (Valued p w env t) (done (ir.ends (ir.gives v) env s)) (top_call p (js_meaning.below p.program (suc m)) (a_helper NotNull) (x ∷ []) u)
+      given v x a k there = subst (λ o. Sim d (Valued p w env t) (done (ir.ends (ir.gives v) env s)) o) (sym (hands_on p m w v x u stands a there)) (sim_done d (Valued p w env t) (ir.ends (ir.gives v) env s) (js.gives x u) (valued w v x s u (grows-refl w) (record { stands = a; suits = k }) same))
+
+      each : (a : ir.Ended) (b : js.ExpressionEnd) → Failed p w env a b → Sim d (Valued p w env t) (done a) (behind_failure p (js_meaning.below p.program m) b)
+      each _ _ (failed_so y v q s u g k same) = sim_done d (Valued p w env t) (ir.ends (ir.throws v) env s) (js.throws q u) (thrown y v q s u g k same)
+
+      by : (v : ir.Value) (x : js.Value) → Stands w v x → suits t v ≡ true → Sim d (Valued p w env t) (ir_meaning.answered p.classes low (ir_meaning.not_null p.classes v) env s) (top_call p (js_meaning.below p.program (suc m)) (a_helper NotNull) (x ∷ []) u)
+      by _ _ same_null k = subst (λ o. Sim d (Valued p w env t) (ir_meaning.raise p.classes low (codes "java.lang.NullPointerException") (codes "null") env s) o) (sym (null_fails p m u stands owned (held w s u same))) (subst (λ o. Sim d (Valued p w env t) o (then_do (top_call p (js_meaning.below p.program m) (a_helper (Throws NullReceiver)) [] u) (behind_failure p (js_meaning.below p.program m)))) (then_do-right (ir_meaning.raise p.classes low (codes "java.lang.NullPointerException") (codes "null") env s)) (sim_then d (Failed p w env) (Valued p w env t) (ir_meaning.raise p.classes low (codes "java.lang.NullPointerException") (codes "null") env s) (top_call p (js_meaning.below p.program m) (a_helper (Throws NullReceiver)) [] u) done (behind_failure p (js_meaning.below p.program m)) (fails w env s u same) each))
+      by _ _ same_undefined k = given _ _ same_undefined k (λ e. cc)
+      by _ _ (same_boolean b) k = given _ _ (same_boolean b) k (λ e. cc)
+      by _ _ (same_char c f) k = given _ _ (same_char c f) k (λ e. cc)
+      by _ _ (same_number n f) k = given _ _ (same_number n f) k (λ e. cc)
+      by _ _ (same_long n f) k = given _ _ (same_long n f) k (λ e. cc)
+      by _ _ (same_text us) k = given _ _ (same_text us) k (λ e. cc)
+      by _ _ (same_reference i b e) k = given _ _ (same_reference i b e) k (λ e. cc)
