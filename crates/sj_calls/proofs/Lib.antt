@@ -5,5 +5,6 @@ pub mod Levels
 pub mod Making
 pub mod Names
 pub mod News
+pub mod ObjectLevels
 pub mod Receivers
 pub mod Whole

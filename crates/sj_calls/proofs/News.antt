@@ -13,14 +13,8 @@ use Rattle.js_tree.specs.Terms.{Name}
 use Rattle.sj_plain.specs.Settings.{Place, SameStored, SameState, Makes, makes, link_of, links_of, zeroed}
 use Rattle.sj_plain.proofs.Heaps.{pends, unpending}
 use Rattle.sj_plain.proofs.Worlds.{World}
-use Rattle.sj_calls.specs.Made.{Makers}
+use Rattle.sj_calls.specs.Worlds.{Stands}
 use Rattle.sj_calls.proofs.Making.{chains_make, short_bounds_go}
-
--- the chain of a class stands in the program, and an object that it makes stands for the IR's
-pub record Stands (p : Place) (c : List ℕ) (w : World) (u : js.State) : Type 0 where
-  pub own : Name → Option js.Value
-  pub makers : Makers p.program (link_of p) u (chain_of p.classes c) own
-  pub shape : SameStored p w (Some (zeroed p c)) (Some (js.plain (links_of p c) own))
 
 -- a number is less than another, or it is that one and some more
 record More (a n : ℕ) : Type 0 where

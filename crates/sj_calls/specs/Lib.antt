@@ -4,3 +4,4 @@ pub mod Made
 pub mod Methods
 pub mod Names
 pub mod Objects
+pub mod Worlds
