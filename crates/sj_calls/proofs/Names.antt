@@ -15,7 +15,7 @@ use Rattle.sj_core.specs.Terms.{Variable, named, numbered, receiver}
 use Rattle.sj_emit_expr.specs.Names.{variable_name, label_name}
 use Rattle.sj_emit_expr.specs.Templates.{member_name}
 use Rattle.sj_mangling.specs.Bindings.{function_name, class_binding}
-use Rattle.sj_mangling.specs.declared.bindings.ClassBinding.TheVariants.{Class}
+use Rattle.sj_mangling.specs.declared.bindings.ClassBinding.TheVariants.{Class, Constants}
 use Rattle.sj_mangling.specs.Mangling.{mangled}
 use Rattle.sj_mangling.specs.Numerals.{number_text}
 use Rattle.sj_mangling.proofs.Injective.{mangled_texts_differ}
@@ -24,7 +24,7 @@ use Rattle.sj_names.specs.declared.method_names.Member.{Member}
 use Rattle.sj_names.specs.declared.method_names.MethodName.{MethodName}
 use Rattle.sj_names.specs.declared.method_names.Namespace.{Namespace}
 use Rattle.sj_names.specs.declared.method_names.Namespace.TheVariants.{Public, PublicStatic, Private, PrivateStatic, Constructor}
-use Rattle.sj_plain.specs.Settings.{Top, a_function, a_method, a_constructor, a_class, a_helper, top_name, NamesDiffer}
+use Rattle.sj_plain.specs.Settings.{Top, a_function, a_method, a_constructor, a_class, some_constants, a_helper, top_name, NamesDiffer}
 use Rattle.sj_calls.specs.Names.{emitted_in}
 use Rattle.sj_plain.specs.Conditions.{Usable}
 
@@ -90,6 +90,12 @@ no_class c (named x) e = let h : ◌≡◌ {A = ℕ} 118 99 = ap first e in absu
 no_class c receiver e = let h : ◌≡◌ {A = ℕ} 36 99 = ap first e in absurd (omega arith)
 no_class c (numbered n) e = let h : ◌≡◌ {A = ℕ} 36 99 = ap first e in absurd (omega arith)
 
+-- and that of its constants with `k`
+no_constants : (c : List ℕ) (x : Variable) → variable_name x ≡ class_binding Constants c → ⊥
+no_constants c (named x) e = let h : ◌≡◌ {A = ℕ} 118 107 = ap first e in absurd (omega arith)
+no_constants c receiver e = let h : ◌≡◌ {A = ℕ} 36 107 = ap first e in absurd (omega arith)
+no_constants c (numbered n) e = let h : ◌≡◌ {A = ℕ} 36 107 = ap first e in absurd (omega arith)
+
 -- the name of a helper is `$` and a letter, and more
 pub record BeginsSo (name : Name) : Type 0 where
   pub letter : ℕ
@@ -138,6 +144,7 @@ no_top (a_function m) = no_function m
 no_top (a_method m) = no_function m
 no_top (a_constructor m) = no_function m
 no_top (a_class c) = no_class c
+no_top (some_constants c) = no_constants c
 no_top (a_helper h) = no_helper h
 
 pub emitted_names_differ : (classes : ir_world.World) (program : js.Program) (home : Top → Name) (has : Name → Usable) (room : Room) → NamesDiffer (emitted_in classes program home has room)

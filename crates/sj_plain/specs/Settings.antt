@@ -20,7 +20,7 @@ use Rattle.outcomes.specs.Shown as shown_ends
 use Rattle.sj_core.specs.Terms as core
 use Rattle.sj_emit_expr.specs.Templates.{check_name, member_name, expression_template, statement_templates}
 use Rattle.sj_mangling.specs.Bindings.{class_binding, field_binding}
-use Rattle.sj_mangling.specs.declared.bindings.ClassBinding.TheVariants.{Class, Marker}
+use Rattle.sj_mangling.specs.declared.bindings.ClassBinding.TheVariants.{Class, Constants, Marker}
 use Rattle.sj_mangling.specs.declared.bindings.FieldBinding.TheVariants.{Property}
 use Rattle.sj_names.specs.declared.method_names.Member.{Member}
 use Rattle.sj_names.specs.Same.{is_same_text}
@@ -32,13 +32,14 @@ use Rattle.sj_trees.specs.declared.classes.FieldDef.{FieldDef}
 use Rattle.sj_trees.specs.declared.types.IrType.{IrType}
 use Rattle.sj_trees.specs.declared.types.IrType.TheVariants.{Any}
 
--- a binding at the top of a file of the emitted code: the function of a static member, of one that runs on a receiver, and of a constructor; a class; and
--- a helper
+-- a binding at the top of a file of the emitted code: the function of a static member, of one that runs on a receiver, and of a constructor; a class, and
+-- its constants; and a helper
 pub data Top : Type 0 where
   a_function : Member → Top
   a_method : Member → Top
   a_constructor : Member → Top
   a_class : List ℕ → Top
+  some_constants : List ℕ → Top
   a_helper : Helper → Top
 
 abbrev pub top_name : Top → Name
@@ -46,6 +47,7 @@ top_name (a_function m) = member_name m
 top_name (a_method m) = member_name m
 top_name (a_constructor m) = member_name m
 top_name (a_class c) = class_binding Class c
+top_name (some_constants c) = class_binding Constants c
 top_name (a_helper h) = helper_name h
 
 -- the code that can use this can use the binding
@@ -54,6 +56,7 @@ is_usable has (a_function m) = has.linked m
 is_usable has (a_method m) = has.received m
 is_usable has (a_constructor m) = has.built m
 is_usable has (a_class c) = has.made c
+is_usable has (some_constants c) = has.made c
 is_usable has (a_helper h) = has.helper (helper_name h)
 
 -- what is fixed: the two programs, the names that stand for variables and labels, the file of each binding, what the code of each file can use, and the
@@ -156,16 +159,26 @@ pub record SameHeap (p : Place) (w : World) (s : List ir.Stored) (u : List js.St
   pub unborn : (i a : ℕ) (o : js.Stored) → w.place i ≡ Some a → w.pending a ≡ Some o → ⊥
   pub separate : (a : ℕ) (o b : js.Stored) → w.owned a ≡ Some o → w.pending a ≡ Some b → ⊥
 
--- what a binding at the top holds once its file has run
-abbrev pub TopHolds : Place → Top → js.Cell → Type 0
-TopHolds p (a_function m) cell = cell ≡ js.holds false (function_of_member p m)
-TopHolds p (a_class c) cell = cell ≡ js.holds false (js.class (links_of p c))
-TopHolds p t cell = cell ≡ js.holds false (top_function p t)
+-- the constants of a class, which the emitted code has for itself at an address, and which tell its marker
+pub record HoldsConstants (owned : ℕ → Option js.Stored) (c : List ℕ) (cell : js.Cell) : Type 0 where
+  pub address : ℕ
+  pub constants : Name → Option js.Value
+  pub held : cell ≡ js.holds true (js.object address)
+  pub owned_there : owned address ≡ Some (js.plain [] constants)
+  pub marked : constants (codes "s") ≡ Some (js.text (class_binding Marker c))
+  pub known : (v : Option js.Value) → object_shown (class_marked (class_binding Marker c)) v ≡ Some (shown_ends.object_of c)
+
+-- what a binding at the top holds once its file has run, by what the emitted code has for itself
+abbrev pub TopHolds : Place → (ℕ → Option js.Stored) → Top → js.Cell → Type 0
+TopHolds p owned (a_function m) cell = cell ≡ js.holds false (function_of_member p m)
+TopHolds p owned (a_class c) cell = cell ≡ js.holds false (js.class (links_of p c))
+TopHolds p owned (some_constants c) cell = HoldsConstants owned c cell
+TopHolds p owned t cell = cell ≡ js.holds false (top_function p t)
 
 -- the states stand for each other: the heaps do, and what the code of some file can use holds what it is to hold
 pub record SameState (p : Place) (w : World) (s : ir.State) (u : js.State) : Type 0 where
   pub heaps : SameHeap p w s.heap u.heap
-  pub tops : (f : Name) (t : Top) → is_usable (p.has f) t ≡ true → TopHolds p t (u.tops (p.home t) (top_name t))
+  pub tops : (f : Name) (t : Top) → is_usable (p.has f) t ≡ true → TopHolds p w.owned t (u.tops (p.home t) (top_name t))
 
 -- a name that no variable has: those of functions, and of whatever else stands at the top of a file
 abbrev pub OfNoVariable : Place → Name → Type 0
