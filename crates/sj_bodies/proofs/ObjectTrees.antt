@@ -3,7 +3,9 @@ use Rattle.std.proofs.Common.{◌≡◌, ℕ, suc, Bool, true, false, List, [], 
 use Rattle.std.specs.Prelude.{codes}
 use Rattle.outcomes.specs.Outcome.{Out, done, then_do}
 use Rattle.outcomes.specs.Agreement.{Sim}
+use Rattle.outcomes.proofs.Sequence.{then_do-right}
 use Rattle.outcomes.proofs.Simulation.{sim_done, sim_wrong, sim_then}
+use Rattle.sj_plain.proofs.Runs.{Ran, ran, ran_out, constructor_runs}
 use Rattle.ir_mean.specs.Meaning as ir_meaning
 use Rattle.ir_mean.specs.States as ir
 use Rattle.ir_mean.specs.World as ir_world
@@ -38,7 +40,7 @@ use Rattle.sj_plain.specs.Conditions.{MayBeChecked, Scope}
 use Rattle.sj_bodies.proofs.Blocks.{Outside}
 use Rattle.sj_bodies.proofs.Declared.{Own}
 use Rattle.sj_plain.proofs.Plain.{plain_alike, plain_tells, as_operand}
-use Rattle.sj_bodies.proofs.Contexts.{Context, Writes, Sound, Ahead, Ready, ready-lift, Came, threw}
+use Rattle.sj_bodies.proofs.Contexts.{Context, Writes, Sound, Ahead, Ready, ready-lift, keeps-less, let_go, Came, gave, threw}
 use Rattle.sj_bodies.proofs.Forms.{sound-writing, ahead-writing, outside-writing, of_operands, one_final, quiet_alike, OneFinal}
 use Rattle.sj_bodies.proofs.Numbers.{onward, received-onward}
 use Rattle.sj_bodies.proofs.Spills.{keeping, writing, Does, Final, Piece, PieceDoes, Onward, OperandDoes, OperandsDo, runs, operands_in, types}
@@ -135,3 +137,23 @@ module _ (z : Setting) (lawful : Lawful z) (low : LowAlike z) where
 
       given : (rs : List ir.Run) (es : List core.Expression) (w : World) (env : ir.Env) (s : ir.State) (sc : js.Scope) (u : js.State) → Inside z.place z.code sc → OperandsAlike z w env sc ((receiver_piece c.targets e).here.tpe ∷ types z lawful (list_of z lawful low c.targets ts)) rs es → SameState z.place w s u → Sim z.direction (Valued z.place w env t) (ir_meaning.in_order rs act env s) (shown z (text es) sc u)
       given _ _ w env s sc u inside (more_operands own q g _ qs gs told one others) same = subst (λ o. Sim z.direction (Valued z.place w env t) (ir_meaning.in_order (q ∷ qs) act env s) (shown z o sc u)) (sym (text_is g gs)) (subst (λ i. Sim z.direction (Valued z.place w env i) (ir_meaning.in_order (q ∷ qs) act env s) (shown z (core.receiver_call (member d Private m) g (expressions_of gs)) sc u)) (sym is) (received_call_alike z lawful.base (member d Private m) own (types_of ts) q qs g gs there (subst (Fits Any) (sym (received-type (is_sure z.code.sure e) (operand z.is_mutable z.code.sure e (λ k j. into z.is_mutable z.code.sure c.targets k j e)))) any) fit w env s sc u inside (more_operands own q g (types_of ts) qs gs told one (subst (λ is. OperandsAlike z w env sc is qs gs) (sym (types-list z lawful low c.targets ts)) others)) same))
+
+  -- a call of a constructor on a receiver, which is given up: it gives nothing by the IR, and the object by its function
+  pub construct_does : (p : Position) (c : Context) (j : ℕ) (e : Term) (d : List ℕ) (m : MethodName) (ts : Terms) (t : IrType) → Sound z.is_mutable c → Ahead c j → (usable z).built (member d Constructor m) ≡ true → Fits Any (type_of_term e) → FitAll (types_referred m.params) (types_of ts) → OperandsDo z lawful c j (receiver_piece c.targets e ∷ list_of z lawful low c.targets ts) → Does z lawful c discard j (apply_statically p e d Constructor m ts t)
+  construct_does p c j e d m ts t sound ahead there any fit ds w env s sc u r same = subst (λ o. Ends z lawful c c.scope discard w sc o (into z.is_mutable z.code.sure c.targets discard j (apply_statically p e d Constructor m ts t)).statements sc u) (sym (sure_run e act (ir_meaning.operands z.place.classes z.low ts) w env s sc c.scope r.sees)) (subst (λ os. Ends z lawful c c.scope discard w sc (ir_meaning.in_order ((receiver_piece c.targets e).run ∷ ir_meaning.operands z.place.classes z.low ts) act env s) (then_use (spill ((receiver_piece c.targets e).here ∷ os) j) (λ es. finish discard p t false (text es))).statements sc u) (sym (operands-list z lawful low c.targets ts)) (subst (λ rs. Ends z lawful c c.scope discard w sc (ir_meaning.in_order ((receiver_piece c.targets e).run ∷ rs) act env s) (then_use (spill (operands_in z lawful (receiver_piece c.targets e ∷ list_of z lawful low c.targets ts)) j) (λ es. finish discard p t false (text es))).statements sc u) (sym (runs-list z lawful low c.targets ts)) (of_operands z lawful c discard (receiver_piece c.targets e ∷ list_of z lawful low c.targets ts) j act (λ es. finish discard p t false (text es)) sound ahead ds final w env s sc u r same)))
+    where
+      act : List ir.Value → ir.Run
+      act = ir_meaning.call_on z.place.classes z.low (ir_world.member_of z.place.classes d Constructor m)
+
+      text : List core.Expression → core.Expression
+      text es = core.receiver_call (member d Constructor m) (coerced_receiver (type_of_term e) (first_of es)) (expressions_of (coerced_arguments m.params (types_of ts) (rest_of es)))
+
+      text_is : (g : core.Expression) (gs : List core.Expression) → text (g ∷ gs) ≡ core.receiver_call (member d Constructor m) g (expressions_of gs)
+      text_is g gs = λ i. core.receiver_call (member d Constructor m) (coerced-same (Class (codes "java.lang.Character")) (type_of_term e) g (fits-character (type_of_term e) any) i) (expressions_of (arguments-same m.params (types_of ts) gs fit i))
+
+      final : (w : World) (sc : js.Scope) → Final z lawful c discard w sc c.kept j sc w (types z lawful (receiver_piece c.targets e ∷ list_of z lawful low c.targets ts)) act (λ es. finish discard p t false (text es))
+      final from before q i _ _ w env s sc u more so ah l g ready kb ks same (more_operands own a f _ qs gs told one others) = subst (λ o. Ends z lawful c c.scope discard from before (ir_meaning.in_order (a ∷ qs) act env s) (core.statement (core.evaluate_of (Some p) o) core.no_statements) sc u) (sym (text_is f gs)) (ends-one z lawful c c.scope discard from before (ir_meaning.in_order (a ∷ qs) act env s) (core.evaluate_of (Some p) (core.receiver_call (member d Constructor m) f (expressions_of gs))) sc u (subst (λ o. Sim z.direction (Came z.place z.code c c.scope discard from before) o (then_do (shown z (core.receiver_call (member d Constructor m) f (expressions_of gs)) sc u) (js.in_statement sc (λ v. js_meaning.nothing sc)))) (then_do-right (ir_meaning.in_order (a ∷ qs) act env s)) (sim_then z.direction (Ran z.place w env) (Came z.place z.code c c.scope discard from before) (ir_meaning.in_order (a ∷ qs) act env s) (shown z (core.receiver_call (member d Constructor m) f (expressions_of gs)) sc u) done (js.in_statement sc (λ v. js_meaning.nothing sc)) (constructor_runs z lawful.base (member d Constructor m) own (types_of ts) a qs f gs there (subst (Fits Any) (sym (received-type (is_sure z.code.sure e) (operand z.is_mutable z.code.sure e (λ k j. into z.is_mutable z.code.sure c.targets k j e)))) any) fit w env s sc u ready.sees.inside (more_operands own a f (types_of ts) qs gs told one (subst (λ is. OperandsAlike z w env sc is qs gs) (sym (types-list z lawful low c.targets ts)) others)) same) each)))
+        where
+          each : (a : ir.Ended) (b : js.ExpressionEnd) → Ran z.place w env a b → Sim z.direction (Came z.place z.code c c.scope discard from before) (done a) (js.in_statement sc (λ v. js_meaning.nothing sc) b)
+          each _ _ (ran y v x s u h states) = sim_done z.direction (Came z.place z.code c c.scope discard from before) (ir.ends (ir.gives v) env s) (js.ends js.normally sc u) (gave y v env s sc u js.normally (grows-trans from w y g h) let_go (ready-lift z c.scope c.writable w y env sc h ready) (keeps-less z c.kept discard before sc kb) states)
+          each _ _ (ran_out y v x s u h a states) = sim_done z.direction (Came z.place z.code c c.scope discard from before) (ir.ends (ir.throws v) env s) (js.ends (js.thrown_with x) sc u) (threw y v x env s sc u (grows-trans from w y g h) a (ready-lift z c.scope c.writable w y env sc h ready) kb states)

@@ -10,3 +10,4 @@ pub mod Divisions
 pub mod Tops
 pub mod Objects
 pub mod Plain
+pub mod Runs
