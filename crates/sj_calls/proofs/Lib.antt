@@ -1,4 +1,5 @@
 pub mod Calls
+pub mod Chains
 pub mod Items
 pub mod Helps
 pub mod Levels
