@@ -21,10 +21,10 @@ constants_kept c [] own = refl
 constants_kept c (f ∷ fs) own = constants_kept c fs (with_property (field_binding Property c f.name) (zero_value f.tpe) own)
 
 module _ (p : Place) (w : World) (s : ir.State) (u : js.State) (same : SameState p w s u) where
-  holds_constants : (c : Name) (superclass : Option Name) (fields : List FieldDef) → ClassStands p c superclass fields → HoldsConstants w.owned c (u.tops (p.home (some_constants c)) (constants_name c))
+  pub holds_constants : (c : Name) (superclass : Option Name) (fields : List FieldDef) → ClassStands p c superclass fields → HoldsConstants w.owned c (u.tops (p.home (some_constants c)) (constants_name c))
   holds_constants c superclass fields st = same.tops st.user (some_constants c) st.usable
 
-  maker_stands : (c : Name) (superclass : Option Name) (fields : List FieldDef) (st : ClassStands p c superclass fields) → MakerStands p.program (link_of p) u c superclass fields (holds_constants c superclass fields st).address
+  pub maker_stands : (c : Name) (superclass : Option Name) (fields : List FieldDef) (st : ClassStands p c superclass fields) → MakerStands p.program (link_of p) u c superclass fields (holds_constants c superclass fields st).address
   maker_stands c superclass fields st = record {
     others = st.others;
     members_are = st.members_are;
@@ -33,7 +33,7 @@ module _ (p : Place) (w : World) (s : ir.State) (u : js.State) (same : SameState
     constants_stand = ap (λ (o : Option Name). top_cell o (constants_name c) u) st.reached ∙ (holds_constants c superclass fields st).held;
   }
 
-  tells : (c : Name) (superclass : Option Name) (fields : List FieldDef) (st : ClassStands p c superclass fields) (before : Name → Option js.Value) → TellsClass w c (started c fields (holds_constants c superclass fields st).address before)
+  pub tells : (c : Name) (superclass : Option Name) (fields : List FieldDef) (st : ClassStands p c superclass fields) (before : Name → Option js.Value) → TellsClass w c (started c fields (holds_constants c superclass fields st).address before)
   tells c superclass fields st before = let h = holds_constants c superclass fields st in record {
     address = h.address;
     constants = h.constants;
@@ -44,6 +44,6 @@ module _ (p : Place) (w : World) (s : ir.State) (u : js.State) (same : SameState
   }
 
   -- the constructors of a chain that stands in the program
-  pub made_by : (c : Name) (cs : List Name) → ChainStands p (c ∷ cs) → MadeBy p w u c cs
+  abbrev pub made_by : (c : Name) (cs : List Name) → ChainStands p (c ∷ cs) → MadeBy p w u c cs
   made_by _ _ (extends_none c fields st) = record { own = started c fields (holds_constants c None fields st).address no_properties; makers = makes_top c fields (holds_constants c None fields st).address (maker_stands c None fields st); tells = tells c None fields st no_properties }
   made_by _ _ (extends_one c d ds fields st rest) = let r = made_by d ds rest in record { own = started c fields (holds_constants c (Some d) fields st).address r.own; makers = makes_more c d ds fields (holds_constants c (Some d) fields st).address r.own r.makers (maker_stands c (Some d) fields st); tells = tells c (Some d) fields st r.own }

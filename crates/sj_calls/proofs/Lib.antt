@@ -9,3 +9,4 @@ pub mod News
 pub mod ObjectLevels
 pub mod Receivers
 pub mod Whole
+pub mod Zeros
