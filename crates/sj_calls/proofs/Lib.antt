@@ -8,5 +8,6 @@ pub mod Names
 pub mod News
 pub mod ObjectLevels
 pub mod Receivers
+pub mod Shapes
 pub mod Whole
 pub mod Zeros
