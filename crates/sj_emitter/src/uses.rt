@@ -135,7 +135,8 @@ fn add_uses_in(
             add_all_uses_in(alloc, arguments, bindings)
         }
         CoreExpression::ReceiverCall(member, receiver, arguments) => {
-            add(bindings, function_binding(alloc, member)?)?;
+            let function = function_binding(alloc, member)?;
+            add(bindings, function)?;
             add_uses_in(alloc, receiver, bindings)?;
             add_all_uses_in(alloc, arguments, bindings)
         }
