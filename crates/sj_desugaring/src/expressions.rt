@@ -73,7 +73,29 @@ pub fn expression_of(
         Tree::LongLiteral(_, value) => Ok(CoreExpression::Long(*value)),
         Tree::StringLiteral(_, units) => Ok(CoreExpression::Text(units.copied()?)),
         Tree::VarRef(_, name, _) => local_use(name),
-        _ => Ok(CoreExpression::Undefined),
+        Tree::VarDef(_, _, _, _, _)
+        | Tree::Skip(_)
+        | Tree::Block(_, _)
+        | Tree::Labeled(_, _, _, _)
+        | Tree::Assign(_, _, _)
+        | Tree::Return(_, _, _)
+        | Tree::While(_, _, _)
+        | Tree::DoWhile(_, _, _)
+        | Tree::TryCatch(_, _, _, _, _)
+        | Tree::TryFinally(_, _, _)
+        | Tree::Throw(_, _)
+        | Tree::Match(_, _, _, _, _)
+        | Tree::LoadModule(_, _)
+        | Tree::StoreModule(_, _, _)
+        | Tree::Apply(_, _, _, _, _)
+        | Tree::NewArray(_, _, _)
+        | Tree::ArrayValue(_, _, _)
+        | Tree::ArrayLength(_, _)
+        | Tree::ArraySelect(_, _, _, _)
+        | Tree::IsInstanceOf(_, _, _)
+        | Tree::AsInstanceOf(_, _, _)
+        | Tree::Undefined(_)
+        | Tree::Log(_, _) => Ok(CoreExpression::Undefined),
     }
 }
 

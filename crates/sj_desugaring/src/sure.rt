@@ -1,5 +1,5 @@
 // Locals and receivers that are never null.
-ghost use Rattle.std.specs.Prelude.{◌≡◌, ◌∷◌, ◌&&◌, [], not, IfOk, OnOk};
+ghost use Rattle.std.specs.Prelude.{◌≡◌, ◌&&◌, [], not, IfOk, OnOk};
 ghost use Rattle.sj_desugar.specs.Plain as plain;
 ghost use Rattle.sj_trees.specs.TypeOf.{type_of_term};
 ghost use Rattle.sj_trees.specs.View.{view, terms_view, cases_view};
@@ -72,7 +72,6 @@ fn is_sure_local(
 }
 
 // Adds a local where it is never null.
-#[tactic(auto, using(std::proofs::lemmas::Grind::common_steps, crate::proofs::Sures::one_local))]
 fn add_local(
     alloc: Global,
     name: &LocalName,
@@ -80,7 +79,7 @@ fn add_local(
     value: &Tree,
     sure: &mut Vec<LocalName>,
 ) -> Result<(), NoMemory>
-    ensures { OnOk result (plain.is_among sure.new.items ≡ receivers.sure_behind (plain.is_among sure.old.items) (sures.definition name.now mutable (view value.now) ∷ [])) }
+    ensures { OnOk result (sure.new.items ≡ sures.with_local sure.old.items name.now mutable (view value.now)) }
 {
     let is_one = is_sure_local(alloc, sure.as_slice(), mutable, value)?;
     if is_one {
@@ -91,9 +90,8 @@ fn add_local(
 
 // Adds the locals that a tree defines and that are never null.
 #[cycle(sure)]
-#[tactic(auto, using(std::proofs::lemmas::Grind::common_steps, crate::proofs::Sures::rows))]
 fn add_sure(alloc: Global, tree: &Tree, sure: &mut Vec<LocalName>) -> Result<(), NoMemory>
-    ensures { OnOk result (plain.is_among sure.new.items ≡ receivers.sure_behind (plain.is_among sure.old.items) (receivers.definitions (view tree.now))) }
+    ensures { OnOk result (sure.new.items ≡ sures.sure_in (view tree.now) sure.old.items) }
 {
     match tree {
         Tree::VarDef(_, name, _, mutable, value) => {
@@ -163,7 +161,7 @@ fn add_sure(alloc: Global, tree: &Tree, sure: &mut Vec<LocalName>) -> Result<(),
 #[cycle(sure)]
 #[tactic(auto, using(std::proofs::lemmas::Grind::common_steps, crate::proofs::Sures::rows))]
 fn add_all_sure(alloc: Global, trees: &[Tree], sure: &mut Vec<LocalName>) -> Result<(), NoMemory>
-    ensures { OnOk result (plain.is_among sure.new.items ≡ receivers.sure_behind (plain.is_among sure.old.items) (receivers.definitions_in (terms_view trees.now))) }
+    ensures { OnOk result (sure.new.items ≡ sures.sure_in_all (terms_view trees.now) sure.old.items) }
 {
     for each in trees {
         add_sure(alloc, each, sure)?;
@@ -178,7 +176,7 @@ fn add_sure_of_cases(
     cases: &[MatchCase],
     sure: &mut Vec<LocalName>,
 ) -> Result<(), NoMemory>
-    ensures { OnOk result (plain.is_among sure.new.items ≡ receivers.sure_behind (plain.is_among sure.old.items) (receivers.definitions_of_cases (cases_view cases.now))) }
+    ensures { OnOk result (sure.new.items ≡ sures.sure_in_cases (cases_view cases.now) sure.old.items) }
 {
     for each in cases {
         add_sure(alloc, &each.body, sure)?;
