@@ -30,78 +30,84 @@ pub statements_of-returns-in-If : goal.statements_of-returns-in-If
 statements_of-returns-in-If t c =
     let n = c.in-If in
     let a = c.args in
-    let m = is_among a.mutable.now in
+    let m = is_among a.locals.now.mutable.now in
+    let s = is_among a.locals.now.sure.now in
     let ls = map target_view a.targets.now in
     let k = destination_view a.destination.now in
     let v : view a.tree.now ≡ if_then n.position (view n.condition.value) (view n.yes.value) (view n.no.value) n.field-4 = ap view (n.is ∙ sym (rolls-If n.position n.condition n.yes n.no n.field-4)) ∙ fold-roll-Tree Term Case view_step case_step (Tree-F.If n.position n.condition n.yes n.no n.field-4) in
-    let e_test : placed_view c.in_ok-test-in-If.test ≡ comes_to m ls true a.next (view n.condition.value) = subst (λ (x : Tree). placed_view c.in_ok-test-in-If.test ≡ comes_to m ls true a.next (view x)) c.deref-in-If.ensures c.in_ok-test-in-If.ensures in
-    let e_first : code_view c.in_ok-first-in-If.first ≡ into m ls k c.in_ok-test-in-If.test.next (view n.yes.value) = subst (λ (x : Tree). code_view c.in_ok-first-in-If.first ≡ into m ls k c.in_ok-test-in-If.test.next (view x)) c.deref-in-If-2.ensures c.in_ok-first-in-If.ensures in
-    let e_second : code_view c.in_ok-second-in-If.second ≡ into m ls k c.in_ok-first-in-If.first.next (view n.no.value) = subst (λ (x : Tree). code_view c.in_ok-second-in-If.second ≡ into m ls k c.in_ok-first-in-If.first.next (view x)) c.deref-in-If-3.ensures c.in_ok-second-in-If.ensures in
-    subst (λ x. IfOk c.branched.result (λ w. code_view w ≡ x)) (sym (ap (into m ls k a.next) v ∙ if-joins m ls k a.next n.position (placed_view c.in_ok-test-in-If.test) (code_view c.in_ok-first-in-If.first) (code_view c.in_ok-second-in-If.second) (view n.condition.value) (view n.yes.value) (view n.no.value) n.field-4 e_test e_first e_second)) c.branched.ensures
+    let e_test : placed_view c.in_ok-test-in-If.test ≡ comes_to m s ls true a.next (view n.condition.value) = subst (λ (x : Tree). placed_view c.in_ok-test-in-If.test ≡ comes_to m s ls true a.next (view x)) c.deref-in-If.ensures c.in_ok-test-in-If.ensures in
+    let e_first : code_view c.in_ok-first-in-If.first ≡ into m s ls k c.in_ok-test-in-If.test.next (view n.yes.value) = subst (λ (x : Tree). code_view c.in_ok-first-in-If.first ≡ into m s ls k c.in_ok-test-in-If.test.next (view x)) c.deref-in-If-2.ensures c.in_ok-first-in-If.ensures in
+    let e_second : code_view c.in_ok-second-in-If.second ≡ into m s ls k c.in_ok-first-in-If.first.next (view n.no.value) = subst (λ (x : Tree). code_view c.in_ok-second-in-If.second ≡ into m s ls k c.in_ok-first-in-If.first.next (view x)) c.deref-in-If-3.ensures c.in_ok-second-in-If.ensures in
+    subst (λ x. IfOk c.branched.result (λ w. code_view w ≡ x)) (sym (ap (into m s ls k a.next) v ∙ if-joins m s ls k a.next n.position (placed_view c.in_ok-test-in-If.test) (code_view c.in_ok-first-in-If.first) (code_view c.in_ok-second-in-If.second) (view n.condition.value) (view n.yes.value) (view n.no.value) n.field-4 e_test e_first e_second)) c.branched.ensures
 
 pub statements_of-returns-in-UnaryOp : goal.statements_of-returns-in-UnaryOp
 statements_of-returns-in-UnaryOp t c =
     let n = c.in-UnaryOp in
     let a = c.args in
-    let m = is_among a.mutable.now in
+    let m = is_among a.locals.now.mutable.now in
+    let s = is_among a.locals.now.sure.now in
     let ls = map target_view a.targets.now in
     let k = destination_view a.destination.now in
     let v : view a.tree.now ≡ unary_op n.position n.op (view n.value.value) = ap view (n.is ∙ sym (rolls-UnaryOp n.position n.op n.value)) ∙ fold-roll-Tree Term Case view_step case_step (Tree-F.UnaryOp n.position n.op n.value) in
-    let e_operand : placed_view c.in_ok-operand-in-UnaryOp.operand ≡ comes_to m ls true a.next (view n.value.value) = subst (λ (x : Tree). placed_view c.in_ok-operand-in-UnaryOp.operand ≡ comes_to m ls true a.next (view x)) c.deref-in-UnaryOp.ensures c.in_ok-operand-in-UnaryOp.ensures in
-    subst (λ x. IfOk c.unary_value.result (λ w. code_view w ≡ x)) (sym (ap (into m ls k a.next) v ∙ unary-joins m ls k a.next n.position (placed_view c.in_ok-operand-in-UnaryOp.operand) n.op (view n.value.value) e_operand)) c.unary_value.ensures
+    let e_operand : placed_view c.in_ok-operand-in-UnaryOp.operand ≡ comes_to m s ls true a.next (view n.value.value) = subst (λ (x : Tree). placed_view c.in_ok-operand-in-UnaryOp.operand ≡ comes_to m s ls true a.next (view x)) c.deref-in-UnaryOp.ensures c.in_ok-operand-in-UnaryOp.ensures in
+    subst (λ x. IfOk c.unary_value.result (λ w. code_view w ≡ x)) (sym (ap (into m s ls k a.next) v ∙ unary-joins m s ls k a.next n.position (placed_view c.in_ok-operand-in-UnaryOp.operand) n.op (view n.value.value) e_operand)) c.unary_value.ensures
 
 pub statements_of-returns-in-Log : goal.statements_of-returns-in-Log
 statements_of-returns-in-Log t c =
     let n = c.in-Log in
     let a = c.args in
-    let m = is_among a.mutable.now in
+    let m = is_among a.locals.now.mutable.now in
+    let s = is_among a.locals.now.sure.now in
     let ls = map target_view a.targets.now in
     let k = destination_view a.destination.now in
     let v : view a.tree.now ≡ log_line n.position (view n.text.value) = ap view (n.is ∙ sym (rolls-Log n.position n.text)) ∙ fold-roll-Tree Term Case view_step case_step (Tree-F.Log n.position n.text) in
-    let e_line : placed_view c.in_ok-line-in-Log.line ≡ comes_to m ls true a.next (view n.text.value) = subst (λ (x : Tree). placed_view c.in_ok-line-in-Log.line ≡ comes_to m ls true a.next (view x)) c.deref-in-Log.ensures c.in_ok-line-in-Log.ensures in
-    subst (λ x. IfOk c.logged.result (λ w. code_view w ≡ x)) (sym (ap (into m ls k a.next) v ∙ log-joins m ls k a.next n.position (placed_view c.in_ok-line-in-Log.line) (view n.text.value) e_line)) c.logged.ensures
+    let e_line : placed_view c.in_ok-line-in-Log.line ≡ comes_to m s ls true a.next (view n.text.value) = subst (λ (x : Tree). placed_view c.in_ok-line-in-Log.line ≡ comes_to m s ls true a.next (view x)) c.deref-in-Log.ensures c.in_ok-line-in-Log.ensures in
+    subst (λ x. IfOk c.logged.result (λ w. code_view w ≡ x)) (sym (ap (into m s ls k a.next) v ∙ log-joins m s ls k a.next n.position (placed_view c.in_ok-line-in-Log.line) (view n.text.value) e_line)) c.logged.ensures
 
 pub statements_of-returns-in-BinaryOp : goal.statements_of-returns-in-BinaryOp
 statements_of-returns-in-BinaryOp t c =
     let n = c.in-BinaryOp in
     let a = c.args in
-    let m = is_among a.mutable.now in
+    let m = is_among a.locals.now.mutable.now in
+    let s = is_among a.locals.now.sure.now in
     let ls = map target_view a.targets.now in
     let k = destination_view a.destination.now in
     let v : view a.tree.now ≡ binary_op n.position n.op (view n.left.value) (view n.right.value) = ap view (n.is ∙ sym (rolls-BinaryOp n.position n.op n.left n.right)) ∙ fold-roll-Tree Term Case view_step case_step (Tree-F.BinaryOp n.position n.op n.left n.right) in
     let plain : c.is_plain-second_plain.result ≡ is_plain (view n.right.value) = subst (λ (x : Tree). c.is_plain-second_plain.result ≡ is_plain (view x)) c.deref-in-BinaryOp.ensures c.is_plain-second_plain.ensures in
-    let e_one : placed_view c.in_ok-one-in-BinaryOp.one ≡ comes_to m ls c.is_plain-second_plain.result a.next (view n.left.value) = subst (λ (x : Tree). placed_view c.in_ok-one-in-BinaryOp.one ≡ comes_to m ls c.is_plain-second_plain.result a.next (view x)) c.deref-in-BinaryOp-2.ensures c.in_ok-one-in-BinaryOp.ensures in
-    let e_other : placed_view c.in_ok-other-in-BinaryOp.other ≡ comes_to m ls true c.in_ok-one-in-BinaryOp.one.next (view n.right.value) = subst (λ (x : Tree). placed_view c.in_ok-other-in-BinaryOp.other ≡ comes_to m ls true c.in_ok-one-in-BinaryOp.one.next (view x)) c.deref-in-BinaryOp-3.ensures c.in_ok-other-in-BinaryOp.ensures in
+    let e_one : placed_view c.in_ok-one-in-BinaryOp.one ≡ comes_to m s ls c.is_plain-second_plain.result a.next (view n.left.value) = subst (λ (x : Tree). placed_view c.in_ok-one-in-BinaryOp.one ≡ comes_to m s ls c.is_plain-second_plain.result a.next (view x)) c.deref-in-BinaryOp-2.ensures c.in_ok-one-in-BinaryOp.ensures in
+    let e_other : placed_view c.in_ok-other-in-BinaryOp.other ≡ comes_to m s ls true c.in_ok-one-in-BinaryOp.one.next (view n.right.value) = subst (λ (x : Tree). placed_view c.in_ok-other-in-BinaryOp.other ≡ comes_to m s ls true c.in_ok-one-in-BinaryOp.one.next (view x)) c.deref-in-BinaryOp-3.ensures c.in_ok-other-in-BinaryOp.ensures in
     let o = placed_view c.in_ok-one-in-BinaryOp.one in
     let r = placed_view c.in_ok-other-in-BinaryOp.other in
     let written : (x y : Tree) → Code = λ x y. behind o (λ g i. behind r (λ h. finish k n.position (binary_result n.op) false (core.binary_of n.op (operand_of n.op (type_of_term (view x)) g) (operand_of n.op (type_of_term (view y)) h)))) in
     let named : written c.deref-in-BinaryOp-4.result.now c.deref-in-BinaryOp-5.result.now ≡ written n.left.value n.right.value = λ i. written (c.deref-in-BinaryOp-4.ensures i) (c.deref-in-BinaryOp-5.ensures i) in
-    subst (λ x. IfOk c.binary_value.result (λ w. code_view w ≡ x)) (sym (ap (into m ls k a.next) v ∙ binary-joins m ls k a.next n.position o r n.op (view n.left.value) (view n.right.value) c.is_plain-second_plain.result plain e_one e_other ∙ sym named)) c.binary_value.ensures
+    subst (λ x. IfOk c.binary_value.result (λ w. code_view w ≡ x)) (sym (ap (into m s ls k a.next) v ∙ binary-joins m s ls k a.next n.position o r n.op (view n.left.value) (view n.right.value) c.is_plain-second_plain.result plain e_one e_other ∙ sym named)) c.binary_value.ensures
 
 pub statements_of-returns-in-Match : goal.statements_of-returns-in-Match
 statements_of-returns-in-Match t c =
     let n = c.in-Match in
     let a = c.args in
-    let m = is_among a.mutable.now in
+    let m = is_among a.locals.now.mutable.now in
+    let s = is_among a.locals.now.sure.now in
     let ls = map target_view a.targets.now in
     let k = destination_view a.destination.now in
     let v : view a.tree.now ≡ match_on n.position (view n.selector.value) (cases_view n.cases.items) (view n.default.value) n.field-4 = ap view (n.is ∙ sym (rolls-Match n.position n.selector n.cases n.default n.field-4)) ∙ fold-roll-Tree Term Case view_step case_step (Tree-F.Match n.position n.selector n.cases n.default n.field-4) in
-    let e_selected : placed_view c.in_ok-selected-in-Match.selected ≡ comes_to m ls true a.next (view n.selector.value) = subst (λ (x : Tree). placed_view c.in_ok-selected-in-Match.selected ≡ comes_to m ls true a.next (view x)) c.deref-in-Match.ensures c.in_ok-selected-in-Match.ensures in
-    let e_branches : branches_view c.in_ok-branches-in-Match.branches ≡ cases m ls k c.in_ok-selected-in-Match.selected.next (cases_view n.cases.items) = subst (λ xs. branches_view c.in_ok-branches-in-Match.branches ≡ cases m ls k c.in_ok-selected-in-Match.selected.next (cases_view xs)) c.deref-in-Match-2.ensures.value c.in_ok-branches-in-Match.ensures in
-    let e_last : code_view c.in_ok-last-in-Match.last ≡ into m ls k c.in_ok-branches-in-Match.branches.next (view n.default.value) = subst (λ (x : Tree). code_view c.in_ok-last-in-Match.last ≡ into m ls k c.in_ok-branches-in-Match.branches.next (view x)) c.deref-in-Match-3.ensures c.in_ok-last-in-Match.ensures in
-    subst (λ x. IfOk c.switched.result (λ w. code_view w ≡ x)) (sym (ap (into m ls k a.next) v ∙ match-joins m ls k a.next n.position (placed_view c.in_ok-selected-in-Match.selected) (branches_view c.in_ok-branches-in-Match.branches) (code_view c.in_ok-last-in-Match.last) (view n.selector.value) (cases_view n.cases.items) (view n.default.value) n.field-4 e_selected e_branches e_last)) c.switched.ensures
+    let e_selected : placed_view c.in_ok-selected-in-Match.selected ≡ comes_to m s ls true a.next (view n.selector.value) = subst (λ (x : Tree). placed_view c.in_ok-selected-in-Match.selected ≡ comes_to m s ls true a.next (view x)) c.deref-in-Match.ensures c.in_ok-selected-in-Match.ensures in
+    let e_branches : branches_view c.in_ok-branches-in-Match.branches ≡ cases m s ls k c.in_ok-selected-in-Match.selected.next (cases_view n.cases.items) = subst (λ xs. branches_view c.in_ok-branches-in-Match.branches ≡ cases m s ls k c.in_ok-selected-in-Match.selected.next (cases_view xs)) c.deref-in-Match-2.ensures.value c.in_ok-branches-in-Match.ensures in
+    let e_last : code_view c.in_ok-last-in-Match.last ≡ into m s ls k c.in_ok-branches-in-Match.branches.next (view n.default.value) = subst (λ (x : Tree). code_view c.in_ok-last-in-Match.last ≡ into m s ls k c.in_ok-branches-in-Match.branches.next (view x)) c.deref-in-Match-3.ensures c.in_ok-last-in-Match.ensures in
+    subst (λ x. IfOk c.switched.result (λ w. code_view w ≡ x)) (sym (ap (into m s ls k a.next) v ∙ match-joins m s ls k a.next n.position (placed_view c.in_ok-selected-in-Match.selected) (branches_view c.in_ok-branches-in-Match.branches) (code_view c.in_ok-last-in-Match.last) (view n.selector.value) (cases_view n.cases.items) (view n.default.value) n.field-4 e_selected e_branches e_last)) c.switched.ensures
 
 pub statements_of-returns-in-DoWhile : goal.statements_of-returns-in-DoWhile
 statements_of-returns-in-DoWhile t c =
     let n = c.in-DoWhile in
     let a = c.args in
-    let m = is_among a.mutable.now in
+    let m = is_among a.locals.now.mutable.now in
+    let s = is_among a.locals.now.sure.now in
     let ls = map target_view a.targets.now in
     let k = destination_view a.destination.now in
     let v : view a.tree.now ≡ do_while n.position (view n.body.value) (view n.condition.value) = ap view (n.is ∙ sym (rolls-DoWhile n.position n.body n.condition)) ∙ fold-roll-Tree Term Case view_step case_step (Tree-F.DoWhile n.position n.body n.condition) in
-    let e_whole : code_view c.in_ok-whole-in-DoWhile.whole ≡ into m ls discard a.next (view n.body.value) = subst (λ (x : Tree). code_view c.in_ok-whole-in-DoWhile.whole ≡ into m ls discard a.next (view x)) c.deref-in-DoWhile.ensures c.in_ok-whole-in-DoWhile.ensures in
-    let e_back : placed_view c.in_ok-back-in-DoWhile.back ≡ comes_to m ls true c.in_ok-whole-in-DoWhile.whole.next (view n.condition.value) = subst (λ (x : Tree). placed_view c.in_ok-back-in-DoWhile.back ≡ comes_to m ls true c.in_ok-whole-in-DoWhile.whole.next (view x)) c.deref-in-DoWhile-2.ensures c.in_ok-back-in-DoWhile.ensures in
-    subst (λ x. IfOk c.looped_behind.result (λ w. code_view w ≡ x)) (sym (ap (into m ls k a.next) v ∙ loop-joins m ls k a.next n.position (code_view c.in_ok-whole-in-DoWhile.whole) (placed_view c.in_ok-back-in-DoWhile.back) (view n.body.value) (view n.condition.value) e_whole e_back)) c.looped_behind.ensures
+    let e_whole : code_view c.in_ok-whole-in-DoWhile.whole ≡ into m s ls discard a.next (view n.body.value) = subst (λ (x : Tree). code_view c.in_ok-whole-in-DoWhile.whole ≡ into m s ls discard a.next (view x)) c.deref-in-DoWhile.ensures c.in_ok-whole-in-DoWhile.ensures in
+    let e_back : placed_view c.in_ok-back-in-DoWhile.back ≡ comes_to m s ls true c.in_ok-whole-in-DoWhile.whole.next (view n.condition.value) = subst (λ (x : Tree). placed_view c.in_ok-back-in-DoWhile.back ≡ comes_to m s ls true c.in_ok-whole-in-DoWhile.whole.next (view x)) c.deref-in-DoWhile-2.ensures c.in_ok-back-in-DoWhile.ensures in
+    subst (λ x. IfOk c.looped_behind.result (λ w. code_view w ≡ x)) (sym (ap (into m s ls k a.next) v ∙ loop-joins m s ls k a.next n.position (code_view c.in_ok-whole-in-DoWhile.whole) (placed_view c.in_ok-back-in-DoWhile.back) (view n.body.value) (view n.condition.value) e_whole e_back)) c.looped_behind.ensures
 
 pub statements_of-cases_of-requires : goal.statements_of-cases_of-requires
 statements_of-cases_of-requires t c =
@@ -111,53 +117,58 @@ pub statements_of-returns-in-While : goal.statements_of-returns-in-While
 statements_of-returns-in-While t c =
     let n = c.in-While in
     let a = c.args in
-    let m = is_among a.mutable.now in
+    let m = is_among a.locals.now.mutable.now in
+    let s = is_among a.locals.now.sure.now in
     let ls = map target_view a.targets.now in
     let k = destination_view a.destination.now in
     let v : view a.tree.now ≡ while_loop n.position (view n.condition.value) (view n.body.value) = ap view (n.is ∙ sym (rolls-While n.position n.condition n.body)) ∙ fold-roll-Tree Term Case view_step case_step (Tree-F.While n.position n.condition n.body) in
     let tested : c.is_plain-repeated.result ≡ is_plain (view n.condition.value) = subst (λ (x : Tree). c.is_plain-repeated.result ≡ is_plain (view x)) c.deref-in-While.ensures c.is_plain-repeated.ensures in
-    let e_front : placed_view c.in_ok-front-in-While.front ≡ comes_to m ls true a.next (view n.condition.value) = subst (λ (x : Tree). placed_view c.in_ok-front-in-While.front ≡ comes_to m ls true a.next (view x)) c.deref-else-repeated.ensures c.in_ok-front-in-While.ensures in
-    let e_rest : code_view c.in_ok-rest-in-While.rest ≡ into m ls discard c.in_ok-front-in-While.front.next (view n.body.value) = subst (λ (x : Tree). code_view c.in_ok-rest-in-While.rest ≡ into m ls discard c.in_ok-front-in-While.front.next (view x)) c.deref-else-repeated-2.ensures c.in_ok-rest-in-While.ensures in
-    subst (λ x. IfOk c.tested_loop.result (λ w. code_view w ≡ x)) (sym (ap (into m ls k a.next) v ∙ turn-joins m ls k a.next n.position (placed_view c.in_ok-front-in-While.front) (code_view c.in_ok-rest-in-While.rest) (behind (placed_view c.in_ok-front-in-While.front) (λ g i. put_first (break_unless g) (code_view c.in_ok-rest-in-While.rest))) (view n.condition.value) (view n.body.value) (sym tested ∙ c.if-repeated.false) e_front e_rest refl)) c.tested_loop.ensures
+    let e_front : placed_view c.in_ok-front-in-While.front ≡ comes_to m s ls true a.next (view n.condition.value) = subst (λ (x : Tree). placed_view c.in_ok-front-in-While.front ≡ comes_to m s ls true a.next (view x)) c.deref-else-repeated.ensures c.in_ok-front-in-While.ensures in
+    let e_rest : code_view c.in_ok-rest-in-While.rest ≡ into m s ls discard c.in_ok-front-in-While.front.next (view n.body.value) = subst (λ (x : Tree). code_view c.in_ok-rest-in-While.rest ≡ into m s ls discard c.in_ok-front-in-While.front.next (view x)) c.deref-else-repeated-2.ensures c.in_ok-rest-in-While.ensures in
+    subst (λ x. IfOk c.tested_loop.result (λ w. code_view w ≡ x)) (sym (ap (into m s ls k a.next) v ∙ turn-joins m s ls k a.next n.position (placed_view c.in_ok-front-in-While.front) (code_view c.in_ok-rest-in-While.rest) (behind (placed_view c.in_ok-front-in-While.front) (λ g i. put_first (break_unless g) (code_view c.in_ok-rest-in-While.rest))) (view n.condition.value) (view n.body.value) (sym tested ∙ c.if-repeated.false) e_front e_rest refl)) c.tested_loop.ensures
 
 pub statements_of-returns-in-VarRef : goal.statements_of-returns-in-VarRef
 statements_of-returns-in-VarRef t c =
     let n = c.in-Assign in
     let r = c.in-VarRef in
     let a = c.args in
-    let m = is_among a.mutable.now in
+    let m = is_among a.locals.now.mutable.now in
+    let s = is_among a.locals.now.sure.now in
     let ls = map target_view a.targets.now in
     let k = destination_view a.destination.now in
     let there : view n.target.value ≡ var_ref r.field-0 r.name r.tpe = ap view (sym c.deref-in-Assign.ensures ∙ r.is ∙ sym (rolls-VarRef r.field-0 r.name r.tpe)) ∙ fold-roll-Tree Term Case view_step case_step (Tree-F.VarRef r.field-0 r.name r.tpe) in
     let v : view a.tree.now ≡ assign n.position (var_ref r.field-0 r.name r.tpe) (view n.value.value) = ap view (n.is ∙ sym (rolls-Assign n.position n.target n.value)) ∙ fold-roll-Tree Term Case view_step case_step (Tree-F.Assign n.position n.target n.value) ∙ ap (λ x. assign n.position x (view n.value.value)) there in
     let o = placed_view c.in_ok-new_value-in-VarRef.new_value in
-    let e_new : o ≡ comes_to m ls true a.next (view n.value.value) = subst (λ (x : Tree). o ≡ comes_to m ls true a.next (view x)) c.deref-in-VarRef.ensures c.in_ok-new_value-in-VarRef.ensures in
-    subst (λ x. IfOk c.assigned.result (λ w. code_view w ≡ x)) (sym (ap (into m ls k a.next) v ∙ assign-joins m ls k a.next n.position o r.field-0 r.name r.tpe (view n.value.value) e_new ∙ sym (ap (λ (x : Tree). behind o (λ g. one (assign_to (Some n.position) (named r.name) (coerced r.tpe (type_of_term (view x)) g)))) c.deref-in-VarRef-2.ensures))) c.assigned.ensures
+    let e_new : o ≡ comes_to m s ls true a.next (view n.value.value) = subst (λ (x : Tree). o ≡ comes_to m s ls true a.next (view x)) c.deref-in-VarRef.ensures c.in_ok-new_value-in-VarRef.ensures in
+    subst (λ x. IfOk c.assigned.result (λ w. code_view w ≡ x)) (sym (ap (into m s ls k a.next) v ∙ assign-joins m s ls k a.next n.position o r.field-0 r.name r.tpe (view n.value.value) e_new ∙ sym (ap (λ (x : Tree). behind o (λ g. one (assign_to (Some n.position) (named r.name) (coerced r.tpe (type_of_term (view x)) g)))) c.deref-in-VarRef-2.ensures))) c.assigned.ensures
 
 pub block_of-loop-index-preserved : goal.block_of-loop-index-preserved
 block_of-loop-index-preserved t c =
     let a = c.args in
-    let m = is_among a.mutable.now in
+    let m = is_among a.locals.now.mutable.now in
+    let s = is_among a.locals.now.sure.now in
     let ls = map target_view a.targets.now in
     let k = destination_view a.destination.now in
-    block-step m ls a.trees.now c.loop-index.index c.index-trees-index.result k (destination_view c.for_last-goes_to.result.now) (code_view c.loop-index.written) (code_view c.in_ok-code.code) (code_view c.in_ok-written.written) c.loop-index-test.true c.index-trees-index.is (c.for_last-goes_to.ensures ∙ ap (λ us. for_last us k discard) (slice-rest a.trees.now (c.loop-index.index + 1))) c.in_ok-code.ensures c.in_ok-written.ensures ∙ c.loop-index.invariant
+    block-step m s ls a.trees.now c.loop-index.index c.index-trees-index.result k (destination_view c.for_last-goes_to.result.now) (code_view c.loop-index.written) (code_view c.in_ok-code.code) (code_view c.in_ok-written.written) c.loop-index-test.true c.index-trees-index.is (c.for_last-goes_to.ensures ∙ ap (λ us. for_last us k discard) (slice-rest a.trees.now (c.loop-index.index + 1))) c.in_ok-code.ensures c.in_ok-written.ensures ∙ c.loop-index.invariant
 
 pub arguments_of-loop-index-preserved : goal.arguments_of-loop-index-preserved
 arguments_of-loop-index-preserved t c =
     let a = c.args in
-    let m = is_among a.mutable.now in
+    let m = is_among a.locals.now.mutable.now in
+    let s = is_among a.locals.now.sure.now in
     let ls = map target_view a.targets.now in
     let x = c.index-trees-index.result in
     let rest : c.are_plain-rest_is_plain.result ≡ are_plain (terms_view (drop (c.loop-index.index + 1) a.trees.now)) = c.are_plain-rest_is_plain.ensures ∙ ap (λ us. are_plain (terms_view us)) (slice-rest a.trees.now (c.loop-index.index + 1)) in
     let own : c.in_ok-own.own ≡ type_of_term (view x) = c.in_ok-own.ensures in
     let one : expression_view c.in_ok-coerced_argument.field-0 ≡ coerced_argument c.loop-index.left.now (type_of_term (view x)) (expression_view c.in_ok-operand.operand.expression) = c.in_ok-coerced_argument.ensures ∙ ap (λ u. coerced_argument c.loop-index.left.now u (expression_view c.in_ok-operand.operand.expression)) own in
     let pushed : map expression_view c.push.new.self.items ≡ map expression_view c.loop-index.expressions.items ++ expression_view c.in_ok-coerced_argument.field-0 ∷ [] = rw c.in_ok-push.ensures.items (map_push _ c.loop-index.expressions.items c.in_ok-coerced_argument.field-0) in
-    arguments-step m ls a.trees.now c.loop-index.index x (code_view c.loop-index.written) (code_view c.in_ok-written.written) (placed_view c.in_ok-operand.operand) (map expression_view c.loop-index.expressions.items) (map expression_view c.push.new.self.items) c.loop-index.left.now c.without_first-left.result.now c.are_plain-rest_is_plain.result c.loop-index-test.true c.index-trees-index.is rest c.in_ok-operand.ensures c.in_ok-written.ensures (pushed ∙ ap (λ e. map expression_view c.loop-index.expressions.items ++ e ∷ []) one) c.without_first-left.ensures ∙ c.loop-index.invariant
+    arguments-step m s ls a.trees.now c.loop-index.index x (code_view c.loop-index.written) (code_view c.in_ok-written.written) (placed_view c.in_ok-operand.operand) (map expression_view c.loop-index.expressions.items) (map expression_view c.push.new.self.items) c.loop-index.left.now c.without_first-left.result.now c.are_plain-rest_is_plain.result c.loop-index-test.true c.index-trees-index.is rest c.in_ok-operand.ensures c.in_ok-written.ensures (pushed ∙ ap (λ e. map expression_view c.loop-index.expressions.items ++ e ∷ []) one) c.without_first-left.ensures ∙ c.loop-index.invariant
 
 pub cases_of-loop-each-preserved : goal.cases_of-loop-each-preserved
 cases_of-loop-each-preserved t c =
     let a = c.args in
-    let m = is_among a.mutable.now in
+    let m = is_among a.locals.now.mutable.now in
+    let s = is_among a.locals.now.sure.now in
     let ls = map target_view a.targets.now in
     let k = destination_view a.destination.now in
     let x = c.each-item.result in
@@ -165,7 +176,7 @@ cases_of-loop-each-preserved t c =
     let keys : c.as_slice-keys.result.now ≡ (view_case x).0 = c.as_slice-keys.ensures ∙ sym (ap (λ y. y.0) seen) in
     let put : 0 < length c.as_slice-keys.result.now = grind (arith, nat_tests) in
     let some : 0 < length (view_case x).0 = subst (λ ks. 0 < length ks) keys put in
-    let coded : code_view c.in_ok-code.code ≡ into m ls k c.loop-each.number (view_case x).1 = c.in_ok-code.ensures ∙ ap (λ y. into m ls k c.loop-each.number y) (sym (ap (λ y. y.1) seen)) in
+    let coded : code_view c.in_ok-code.code ≡ into m s ls k c.loop-each.number (view_case x).1 = c.in_ok-code.ensures ∙ ap (λ y. into m s ls k c.loop-each.number y) (sym (ap (λ y. y.1) seen)) in
     let made : case_view c.in_ok-case_of.field-0 ≡ ((view_case x).0, followed (code_view c.in_ok-code.code).statements (statement (break_nearest None) no_statements)) = c.in_ok-case_of.ensures ∙ ap (λ ks. (ks, followed (code_view c.in_ok-code.code).statements (statement (break_nearest None) no_statements))) keys in
     let pushed : map case_view c.push.new.self.items ≡ map case_view c.loop-each.switched.items ++ case_view c.in_ok-case_of.field-0 ∷ [] = rw c.in_ok-push.ensures.items (map_push _ c.loop-each.switched.items c.in_ok-case_of.field-0) in
-    cases-take m ls a.cases.now c.loop-each.each-index x k c.loop-each.number (map case_view c.loop-each.switched.items) (map case_view c.push.new.self.items) (code_view c.in_ok-code.code) c.loop-each-test.true c.each-item.is some coded (pushed ∙ ap (λ y. map case_view c.loop-each.switched.items ++ y ∷ []) made) ∙ c.loop-each.invariant
+    cases-take m s ls a.cases.now c.loop-each.each-index x k c.loop-each.number (map case_view c.loop-each.switched.items) (map case_view c.push.new.self.items) (code_view c.in_ok-code.code) c.loop-each-test.true c.each-item.is some coded (pushed ∙ ap (λ y. map case_view c.loop-each.switched.items ++ y ∷ []) made) ∙ c.loop-each.invariant
