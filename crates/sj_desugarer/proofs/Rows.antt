@@ -1,26 +1,29 @@
 -- What is written for each form, by what its operands come to.
-use Rattle.std.proofs.Common.{◌≡◌, ◌∙◌, ℕ, Bool, true, false, List, [], ◌∷◌, ap, sym, Some}
+use Rattle.std.proofs.Common.{◌≡◌, ◌∙◌, ℕ, suc, Bool, true, false, ◌&&◌, List, [], ◌∷◌, ap, sym, Some}
 use Rattle.sj_core.specs.Terms.{named, assign_to, log_of, while_of, loop_of, boolean_value}
 use Rattle.sj_core.specs.Terms as core
-use Rattle.sj_desugar.specs.Coercions.{coerced}
+use Rattle.sj_desugar.specs.Coercions.{coerced, coerced_arguments, coerced_receiver}
 use Rattle.sj_core.specs.Views.{expressions_of}
-use Rattle.sj_desugar.specs.Desugar.{Targets, into, expression_of, cases, member, types_of, operand, operands, branched, wrapped, break_unless, switched, finish, first_of, second_of, branches, switch_code, Branches}
-use Rattle.sj_desugar.specs.Plain.{is_plain}
-use Rattle.sj_desugar.specs.Spill.{Destination, discard, Code, one, put_first, joined, Spilled, spill, then_use}
+use Rattle.sj_desugar.specs.Desugar.{Targets, into, expression_of, cases, member, types_of, operand, operands, branched, wrapped, break_unless, switched, finish, first_of, second_of, rest_of, received, receiver, position_of, branches, switch_code, Branches}
+use Rattle.sj_desugar.specs.Plain.{is_plain, are_plain}
+use Rattle.sj_desugar.specs.Spill.{Destination, discard, to_variable, Code, one, put_first, joined, Spilled, spill, then_use}
 use Rattle.sj_desugar.specs.Texts.{operand_of}
 use Rattle.sj_desugaring.specs.Arguments.{with_arguments}
 use Rattle.sj_desugaring.specs.Forms.{behind}
-use Rattle.sj_desugarer.specs.Operands.{comes_to}
-use Rattle.sj_desugaring.specs.Placing.{Placed}
-use Rattle.sj_desugarer.proofs.Spilling.{use-one, use-two}
+use Rattle.sj_desugarer.specs.Operands.{comes_to, comes_received}
+use Rattle.sj_desugaring.specs.Placing.{Placed, placed, placed_case, brought}
+use Rattle.sj_desugarer.proofs.Spilling.{use-one, use-two, use-first}
+use Rattle.sj_desugarer.proofs.Runs.{operands-plain}
 use Rattle.sj_names.specs.declared.method_names.MethodName.{MethodName}
 use Rattle.sj_names.specs.declared.method_names.Namespace.{Namespace}
-use Rattle.sj_trees.specs.Term.{Term, Terms, Cases, apply_static, assign, var_ref, if_then, while_loop, do_while, match_on, unary_op, binary_op, log_line}
+use Rattle.sj_trees.specs.Term.{Term, Terms, Cases, apply_static, apply_statically, throw, select, select_static, assign, var_ref, if_then, while_loop, do_while, match_on, unary_op, binary_op, log_line}
 use Rattle.sj_trees.specs.TypeOf.{type_of_term, unary_result, binary_result}
 use Rattle.sj_trees.specs.declared.operators.BinaryOp.{BinaryOp}
 use Rattle.sj_trees.specs.declared.operators.UnaryOp.{UnaryOp}
 use Rattle.sj_trees.specs.declared.positions.Position.{Position}
 use Rattle.sj_trees.specs.declared.types.IrType.{IrType}
+use Rattle.sj_trees.specs.declared.types.IrType.TheVariants.{Any}
+use Rattle.sure_receivers.specs.Sure.{is_sure}
 
 module _ (m s : List ℕ → Bool) (ls : Targets) (k : Destination) (j : ℕ) (p : Position) where
   pub assign-row : (q : Position) (x : List ℕ) (t : IrType) (e : Term) → into m s ls k j (assign p (var_ref q x t) e) ≡ behind (comes_to m s ls true j e) (λ g. one (assign_to (Some p) (named x) (coerced t (type_of_term e) g)))
@@ -95,3 +98,47 @@ module _ (m s : List ℕ → Bool) (ls : Targets) (k : Destination) (j : ℕ) (p
 
   pub call-joins : (r : Spilled) (c : List ℕ) (n : Namespace) (f : MethodName) (ts : Terms) (t : IrType) → r ≡ with_arguments f.params (types_of ts) (spill (operands m s ls ts) j) → into m s ls k j (apply_static p c n f ts t) ≡ then_use r (λ es. finish k p t false (core.static_call (member c n f) (expressions_of es)))
   call-joins r c n f ts t h = ap (λ (x : Spilled). then_use x (λ es. finish k p t false (core.static_call (member c n f) (expressions_of es)))) (sym h)
+
+  -- receivers
+  pub received-sure : (rest : Bool) (t : Term) → is_sure s t ≡ true → comes_to m s ls rest j t ≡ comes_received m s ls rest j t
+  unfolding comes_to comes_received
+  received-sure rest t h = ap (λ b. placed rest (received b (operand m s t (λ k j. into m s ls k j t))) j) (sym h)
+
+  pub received-checked : (rest : Bool) (t : Term) → is_sure s t ≡ false → placed rest (received false (operand m s t (λ k j. into m s ls k j t))) j ≡ comes_received m s ls rest j t
+  unfolding comes_received
+  received-checked rest t h = ap (λ b. placed rest (received b (operand m s t (λ k j. into m s ls k j t))) j) (sym h)
+
+  pub checked-brought : (rest : Bool) (t : Term) → is_plain t ≡ false → placed rest (received false (operand m s t (λ k j. into m s ls k j t))) j ≡ brought (position_of t) j (behind (comes_to m s ls true (suc j) t) (λ e. finish (to_variable (core.numbered j) (type_of_term t)) (position_of t) (type_of_term t) false (core.checked_value e)))
+  unfolding comes_to
+  checked-brought rest t h = ap (λ b. placed_case (b && rest) false b (received false (operand m s t (λ k j. into m s ls k j t))) j) h ∙ ap (brought (position_of t) j) (use-one (operand m s t (λ k j. into m s ls k j t)) (suc j) (λ es. finish (to_variable (core.numbered j) (type_of_term t)) (position_of t) (type_of_term t) false (core.checked_value (first_of es))))
+
+  pub throw-joins : (o : Placed) (e : Term) → o ≡ comes_to m s ls true j e → into m s ls k j (throw p e) ≡ behind o (λ g. one (core.throw_of (Some p) (coerced Any (type_of_term e) g)))
+  unfolding comes_to
+  throw-joins o e h = use-one (operand m s e (λ k j. into m s ls k j e)) j (λ es. one (core.throw_of (Some p) (coerced Any (type_of_term e) (first_of es)))) ∙ (λ i. behind (sym h i) (λ g. one (core.throw_of (Some p) (coerced Any (type_of_term e) g))))
+
+  pub field-joins : (o : Placed) (e : Term) (c f : List ℕ) (t : IrType) → o ≡ comes_received m s ls true j e → into m s ls k j (select p e c f t) ≡ behind o (λ g. finish k p t false (core.field_of g c f))
+  unfolding comes_received
+  field-joins o e c f t h = use-one (receiver m s e (λ k j. into m s ls k j e)) j (λ es. finish k p t false (core.field_of (first_of es) c f)) ∙ (λ i. behind (sym h i) (λ g. finish k p t false (core.field_of g c f)))
+
+  pub static-joins : (o : Placed) (q : Position) (c f : List ℕ) (t : IrType) (e : Term) → o ≡ comes_to m s ls true j e → into m s ls k j (assign p (select_static q c f t) e) ≡ behind o (λ g. one (core.assign_static (Some p) c f (coerced t (type_of_term e) g)))
+  unfolding comes_to
+  static-joins o q c f t e h = use-one (operand m s e (λ k j. into m s ls k j e)) j (λ es. one (core.assign_static (Some p) c f (coerced t (type_of_term e) (first_of es)))) ∙ (λ i. behind (sym h i) (λ g. one (core.assign_static (Some p) c f (coerced t (type_of_term e) g))))
+
+  set-row : (q : Position) (d : Term) (c f : List ℕ) (t : IrType) (e : Term) → into m s ls k j (assign p (select q d c f t) e) ≡ behind (comes_received m s ls (is_plain e) j d) (λ g i. behind (comes_to m s ls true i e) (λ h. one (core.assign_field (Some p) g c f (coerced t (type_of_term e) h))))
+  unfolding comes_to comes_received
+  set-row q d c f t e = use-two (receiver m s d (λ k j. into m s ls k j d)) (operand m s e (λ k j. into m s ls k j e)) j (λ es. one (core.assign_field (Some p) (first_of es) c f (coerced t (type_of_term e) (second_of es))))
+
+  pub set-joins : (o r : Placed) (q : Position) (d : Term) (c f : List ℕ) (t : IrType) (e : Term) (rest : Bool) → rest ≡ is_plain e → o ≡ comes_received m s ls rest j d → r ≡ comes_to m s ls true o.next e → into m s ls k j (assign p (select q d c f t) e) ≡ behind o (λ g i. behind r (λ h. one (core.assign_field (Some p) g c f (coerced t (type_of_term e) h))))
+  set-joins o r q d c f t e rest hr h hd =
+      let e1 : comes_received m s ls (is_plain e) j d ≡ o = ap (λ b. comes_received m s ls b j d) (sym hr) ∙ sym h in
+      let e2 : comes_to m s ls true (comes_received m s ls (is_plain e) j d).next e ≡ r = ap (λ (x : Placed). comes_to m s ls true x.next e) e1 ∙ sym hd in
+      set-row q d c f t e ∙ (λ i. behind (e1 i) (λ g x. behind (e2 i) (λ h. one (core.assign_field (Some p) g c f (coerced t (type_of_term e) h)))))
+
+  receive-row : (e : Term) (c : List ℕ) (n : Namespace) (f : MethodName) (ts : Terms) (t : IrType) → into m s ls k j (apply_statically p e c n f ts t) ≡ behind (comes_received m s ls (are_plain ts) j e) (λ g i. then_use (spill (operands m s ls ts) i) (λ es. finish k p t false (core.receiver_call (member c n f) (coerced_receiver (type_of_term e) g) (expressions_of (coerced_arguments f.params (types_of ts) es)))))
+  unfolding comes_received
+  receive-row e c n f ts t = use-first (receiver m s e (λ k j. into m s ls k j e)) (operands m s ls ts) j (λ es. finish k p t false (core.receiver_call (member c n f) (coerced_receiver (type_of_term e) (first_of es)) (expressions_of (coerced_arguments f.params (types_of ts) (rest_of es))))) ∙ ap (λ b. behind (placed b (receiver m s e (λ k j. into m s ls k j e)) j) (λ g i. then_use (spill (operands m s ls ts) i) (λ es. finish k p t false (core.receiver_call (member c n f) (coerced_receiver (type_of_term e) g) (expressions_of (coerced_arguments f.params (types_of ts) es)))))) (operands-plain m s ls ts)
+
+  pub receive-joins : (o : Placed) (r : Spilled) (e : Term) (c : List ℕ) (n : Namespace) (f : MethodName) (ts : Terms) (t : IrType) (rest : Bool) → rest ≡ are_plain ts → o ≡ comes_received m s ls rest j e → r ≡ with_arguments f.params (types_of ts) (spill (operands m s ls ts) o.next) → into m s ls k j (apply_statically p e c n f ts t) ≡ behind o (λ g i. then_use r (λ es. finish k p t false (core.receiver_call (member c n f) (coerced_receiver (type_of_term e) g) (expressions_of es))))
+  receive-joins o r e c n f ts t rest hr h ha =
+      let e1 : comes_received m s ls (are_plain ts) j e ≡ o = ap (λ b. comes_received m s ls b j e) (sym hr) ∙ sym h in
+      receive-row e c n f ts t ∙ ap (λ (x : Placed). behind x (λ g i. then_use (with_arguments f.params (types_of ts) (spill (operands m s ls ts) i)) (λ es. finish k p t false (core.receiver_call (member c n f) (coerced_receiver (type_of_term e) g) (expressions_of es))))) e1 ∙ ap (λ (x : Spilled). behind o (λ g i. then_use x (λ es. finish k p t false (core.receiver_call (member c n f) (coerced_receiver (type_of_term e) g) (expressions_of es))))) (sym ha)

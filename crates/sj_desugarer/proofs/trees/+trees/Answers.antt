@@ -1,30 +1,33 @@
-use Rattle.std.proofs.Common.{◌≡◌, ◌∙◌, ◌+◌, ◌<◌, ◌++◌, ◌∷◌, [], ap, sym, subst, map, drop, length, true, false, refl, None, Some, IfOk, arith}
+use Rattle.std.proofs.Common.{◌≡◌, ◌∙◌, suc, ◌+◌, ◌<◌, ◌++◌, ◌∷◌, [], ap, sym, subst, map, drop, length, true, false, refl, None, Some, IfOk, arith}
 use Rattle.std.proofs.lemmas.Bool.Decides.{nat_tests}
 use Rattle.std.proofs.lemmas.List.{map_push}
 use Rattle.sj_core.specs.Terms as core
 use Rattle.sj_core.specs.Terms.{named, assign_to, followed, statement, no_statements, break_nearest}
 use Rattle.sj_core.specs.Views.{expression_view, case_view}
-use Rattle.sj_desugar.specs.Coercions.{coerced}
-use Rattle.sj_desugar.specs.Desugar.{into, break_unless, cases, finish}
+use Rattle.sj_core.specs.Views.{expressions_of}
+use Rattle.sj_desugar.specs.Coercions.{coerced, coerced_receiver}
+use Rattle.sj_desugar.specs.Desugar.{into, break_unless, cases, finish, member, operands, position_of, types_of}
 use Rattle.sj_desugar.specs.Plain.{is_among, is_plain, are_plain}
-use Rattle.sj_desugar.specs.Spill.{Code, discard, one, put_first}
+use Rattle.sj_desugar.specs.Spill.{Code, discard, one, put_first, spill, then_use, to_variable}
 use Rattle.sj_desugar.specs.Texts.{operand_of}
-use Rattle.sj_desugaring.specs.Arguments.{coerced_argument}
+use Rattle.sj_desugaring.specs.Arguments.{coerced_argument, with_arguments}
 use Rattle.sj_desugaring.specs.Forms.{behind, for_last}
-use Rattle.sj_desugarer.proofs.Rows.{assign-joins, if-joins, log-joins, unary-joins, binary-joins, match-joins, turn-joins, loop-joins}
+use Rattle.sj_desugarer.proofs.Rows.{assign-joins, if-joins, log-joins, unary-joins, binary-joins, match-joins, turn-joins, loop-joins, received-sure, received-checked, checked-brought, set-joins, static-joins, receive-joins, field-joins, throw-joins}
 use Rattle.sj_desugarer.proofs.Runs.{slice-rest, block-step, arguments-step, cases-take}
 use Rattle.sj_desugarer.proofs.trees.+trees.Goals as goal
-use Rattle.sj_desugarer.specs.Operands.{comes_to}
-use Rattle.sj_desugaring.specs.Views.{destination_view, target_view, code_view, placed_view, branches_view}
+use Rattle.sj_desugarer.specs.Operands.{comes_to, comes_received}
+use Rattle.sj_desugaring.specs.Views.{destination_view, target_view, code_view, placed_view, all_view, branches_view}
 use Rattle.sj_trees.proofs.trees.Tree.TheLaws.{the_size}
-use Rattle.sj_trees.specs.Term.{Term, var_ref, assign, if_then, while_loop, do_while, match_on, unary_op, binary_op, log_line}
+use Rattle.sj_desugaring.specs.Placing.{brought}
+use Rattle.sj_trees.specs.declared.types.IrType.TheVariants.{Any}
+use Rattle.sj_trees.specs.Term.{Term, select, select_static, apply_statically, throw, var_ref, assign, if_then, while_loop, do_while, match_on, unary_op, binary_op, log_line}
 use Rattle.sj_trees.specs.TypeOf.{type_of_term, binary_result}
 use Rattle.sj_trees.specs.View.{view, terms_view, cases_view, view_case, view_step, case_step, Case}
 use Rattle.sj_trees.specs.declared.trees.Tree.{Tree}
 use Rattle.sj_trees.specs.declared.trees.Tree.TheFolds.{fold-roll-Tree, fold_out-MatchCase}
 use Rattle.sj_trees.specs.declared.trees.Tree.TheOpen.{Tree-F}
 use Rattle.sj_trees.specs.declared.trees.Tree.TheViews.{sized-Match}
-use Rattle.sj_trees.specs.declared.trees.Tree.TheVariants.{rolls-Assign, rolls-VarRef, rolls-If, rolls-While, rolls-DoWhile, rolls-Match, rolls-UnaryOp, rolls-BinaryOp, rolls-Log}
+use Rattle.sj_trees.specs.declared.trees.Tree.TheVariants.{rolls-Assign, rolls-Select, rolls-SelectStatic, rolls-ApplyStatically, rolls-Throw, rolls-VarRef, rolls-If, rolls-While, rolls-DoWhile, rolls-Match, rolls-UnaryOp, rolls-BinaryOp, rolls-Log}
 
 pub statements_of-returns-in-If : goal.statements_of-returns-in-If
 statements_of-returns-in-If t c =
@@ -180,3 +183,108 @@ cases_of-loop-each-preserved t c =
     let made : case_view c.in_ok-case_of.field-0 ≡ ((view_case x).0, followed (code_view c.in_ok-code.code).statements (statement (break_nearest None) no_statements)) = c.in_ok-case_of.ensures ∙ ap (λ ks. (ks, followed (code_view c.in_ok-code.code).statements (statement (break_nearest None) no_statements))) keys in
     let pushed : map case_view c.push.new.self.items ≡ map case_view c.loop-each.switched.items ++ case_view c.in_ok-case_of.field-0 ∷ [] = rw c.in_ok-push.ensures.items (map_push _ c.loop-each.switched.items c.in_ok-case_of.field-0) in
     cases-take m s ls a.cases.now c.loop-each.each-index x k c.loop-each.number (map case_view c.loop-each.switched.items) (map case_view c.push.new.self.items) (code_view c.in_ok-code.code) c.loop-each-test.true c.each-item.is some coded (pushed ∙ ap (λ y. map case_view c.loop-each.switched.items ++ y ∷ []) made) ∙ c.loop-each.invariant
+
+pub checked_receiver-returns-in_ok-code : goal.checked_receiver-returns-in_ok-code
+checked_receiver-returns-in_ok-code t c =
+    let a = c.args in
+    let m = is_among a.locals.now.mutable.now in
+    let s = is_among a.locals.now.sure.now in
+    let ls = map target_view a.targets.now in
+    let v = view a.tree.now in
+    let inner : placed_view c.in_ok-inner.inner ≡ comes_to m s ls true (suc a.next) v = c.in_ok-inner.ensures ∙ ap (λ n. comes_to m s ls true n v) c.in_ok-behind.ensures in
+    let whole : code_view c.in_ok-code.code ≡ behind (comes_to m s ls true (suc a.next) v) (λ e. finish (to_variable (core.numbered a.next) (type_of_term v)) (position_of v) (type_of_term v) false (core.checked_value e)) = c.in_ok-code.ensures ∙ (λ i. behind (inner i) (λ e. finish (c.in_ok-variable.ensures i) (position_of v) (type_of_term v) false (core.checked_value e))) in
+    subst (λ x. IfOk c.brought.result (λ p. placed_view p ≡ x)) ((λ i. brought (c.position_of-else-plain.ensures i) a.next (whole i)) ∙ sym (checked-brought m s ls discard a.next (position_of v) a.rest_is_plain v (sym c.is_plain-plain.ensures ∙ c.if-plain.false))) c.brought.ensures
+
+pub receiver_of-returns-then-never_null : goal.receiver_of-returns-then-never_null
+receiver_of-returns-then-never_null t c =
+    let a = c.args in
+    let m = is_among a.locals.now.mutable.now in
+    let s = is_among a.locals.now.sure.now in
+    let ls = map target_view a.targets.now in
+    let v = view a.tree.now in
+    subst (λ x. IfOk c.operand_of.result (λ p. placed_view p ≡ x)) (received-sure m s ls discard a.next (position_of v) a.rest_is_plain v (sym c.in_ok-never_null.ensures ∙ c.if-never_null.true)) c.operand_of.ensures
+
+pub receiver_of-returns-else-never_null : goal.receiver_of-returns-else-never_null
+receiver_of-returns-else-never_null t c =
+    let a = c.args in
+    let m = is_among a.locals.now.mutable.now in
+    let s = is_among a.locals.now.sure.now in
+    let ls = map target_view a.targets.now in
+    let v = view a.tree.now in
+    subst (λ x. IfOk c.checked_receiver.result (λ p. placed_view p ≡ x)) (received-checked m s ls discard a.next (position_of v) a.rest_is_plain v (sym c.in_ok-never_null.ensures ∙ c.if-never_null.false)) c.checked_receiver.ensures
+
+pub statements_of-returns-in-Select-deref : goal.statements_of-returns-in-Select-deref
+statements_of-returns-in-Select-deref t c =
+    let n = c.in-Assign in
+    let r = c.in-Select-deref in
+    let a = c.args in
+    let m = is_among a.locals.now.mutable.now in
+    let s = is_among a.locals.now.sure.now in
+    let ls = map target_view a.targets.now in
+    let k = destination_view a.destination.now in
+    let there : view n.target.value ≡ select r.field-0 (view r.object.value) r.class r.name r.tpe = ap view (sym c.deref-in-Assign.ensures ∙ r.is ∙ sym (rolls-Select r.field-0 r.object r.class r.name r.tpe)) ∙ fold-roll-Tree Term Case view_step case_step (Tree-F.Select r.field-0 r.object r.class r.name r.tpe) in
+    let v : view a.tree.now ≡ assign n.position (select r.field-0 (view r.object.value) r.class r.name r.tpe) (view n.value.value) = ap view (n.is ∙ sym (rolls-Assign n.position n.target n.value)) ∙ fold-roll-Tree Term Case view_step case_step (Tree-F.Assign n.position n.target n.value) ∙ ap (λ x. assign n.position x (view n.value.value)) there in
+    let o = placed_view c.in_ok-owner-in-Select-deref.owner in
+    let w = placed_view c.in_ok-new_value-in-Select-deref.new_value in
+    let plain : c.is_plain-value_plain.result ≡ is_plain (view n.value.value) = subst (λ (x : Tree). c.is_plain-value_plain.result ≡ is_plain (view x)) c.deref-in-Select-deref.ensures c.is_plain-value_plain.ensures in
+    let e_owner : o ≡ comes_received m s ls c.is_plain-value_plain.result a.next (view r.object.value) = subst (λ (x : Tree). o ≡ comes_received m s ls c.is_plain-value_plain.result a.next (view x)) c.deref-in-Select-deref-2.ensures c.in_ok-owner-in-Select-deref.ensures in
+    let e_new : w ≡ comes_to m s ls true c.in_ok-owner-in-Select-deref.owner.next (view n.value.value) = subst (λ (x : Tree). w ≡ comes_to m s ls true c.in_ok-owner-in-Select-deref.owner.next (view x)) c.deref-in-Select-deref-3.ensures c.in_ok-new_value-in-Select-deref.ensures in
+    subst (λ x. IfOk c.field_set.result (λ w. code_view w ≡ x)) (sym (ap (into m s ls k a.next) v ∙ set-joins m s ls k a.next n.position o w r.field-0 (view r.object.value) r.class r.name r.tpe (view n.value.value) c.is_plain-value_plain.result plain e_owner e_new ∙ sym (ap (λ (x : Tree). behind o (λ g i. behind w (λ h. one (core.assign_field (Some n.position) g r.class r.name (coerced r.tpe (type_of_term (view x)) h))))) c.deref-in-Select-deref-4.ensures))) c.field_set.ensures
+
+pub statements_of-returns-in-SelectStatic : goal.statements_of-returns-in-SelectStatic
+statements_of-returns-in-SelectStatic t c =
+    let n = c.in-Assign in
+    let r = c.in-SelectStatic in
+    let a = c.args in
+    let m = is_among a.locals.now.mutable.now in
+    let s = is_among a.locals.now.sure.now in
+    let ls = map target_view a.targets.now in
+    let k = destination_view a.destination.now in
+    let there : view n.target.value ≡ select_static r.field-0 r.class r.name r.tpe = ap view (sym c.deref-in-Assign.ensures ∙ r.is ∙ sym (rolls-SelectStatic r.field-0 r.class r.name r.tpe)) ∙ fold-roll-Tree Term Case view_step case_step (Tree-F.SelectStatic r.field-0 r.class r.name r.tpe) in
+    let v : view a.tree.now ≡ assign n.position (select_static r.field-0 r.class r.name r.tpe) (view n.value.value) = ap view (n.is ∙ sym (rolls-Assign n.position n.target n.value)) ∙ fold-roll-Tree Term Case view_step case_step (Tree-F.Assign n.position n.target n.value) ∙ ap (λ x. assign n.position x (view n.value.value)) there in
+    let w = placed_view c.in_ok-new_value-in-SelectStatic.new_value in
+    let e_new : w ≡ comes_to m s ls true a.next (view n.value.value) = subst (λ (x : Tree). w ≡ comes_to m s ls true a.next (view x)) c.deref-in-SelectStatic.ensures c.in_ok-new_value-in-SelectStatic.ensures in
+    subst (λ x. IfOk c.static_set.result (λ w. code_view w ≡ x)) (sym (ap (into m s ls k a.next) v ∙ static-joins m s ls k a.next n.position w r.field-0 r.class r.name r.tpe (view n.value.value) e_new ∙ sym (ap (λ (x : Tree). behind w (λ g. one (core.assign_static (Some n.position) r.class r.name (coerced r.tpe (type_of_term (view x)) g)))) c.deref-in-SelectStatic-2.ensures))) c.static_set.ensures
+
+pub statements_of-returns-in-ApplyStatically : goal.statements_of-returns-in-ApplyStatically
+statements_of-returns-in-ApplyStatically t c =
+    let n = c.in-ApplyStatically in
+    let a = c.args in
+    let m = is_among a.locals.now.mutable.now in
+    let s = is_among a.locals.now.sure.now in
+    let ls = map target_view a.targets.now in
+    let k = destination_view a.destination.now in
+    let ts = terms_view n.trees.items in
+    let v : view a.tree.now ≡ apply_statically n.position (view n.object.value) n.class n.namespace n.method ts n.tpe = ap view (n.is ∙ sym (rolls-ApplyStatically n.position n.object n.class n.namespace n.method n.trees n.tpe)) ∙ fold-roll-Tree Term Case view_step case_step (Tree-F.ApplyStatically n.position n.object n.class n.namespace n.method n.trees n.tpe) in
+    let o = placed_view c.in_ok-owner-in-ApplyStatically.owner in
+    let w = all_view c.in_ok-arguments-in-ApplyStatically.arguments in
+    let plain : c.are_plain-all_plain.result ≡ are_plain ts = subst (λ xs. c.are_plain-all_plain.result ≡ are_plain (terms_view xs)) c.deref-in-ApplyStatically.ensures.value c.are_plain-all_plain.ensures in
+    let e_owner : o ≡ comes_received m s ls c.are_plain-all_plain.result a.next (view n.object.value) = subst (λ (x : Tree). o ≡ comes_received m s ls c.are_plain-all_plain.result a.next (view x)) c.deref-in-ApplyStatically-2.ensures c.in_ok-owner-in-ApplyStatically.ensures in
+    let e_arguments : w ≡ with_arguments n.method.params (types_of ts) (spill (operands m s ls ts) c.in_ok-owner-in-ApplyStatically.owner.next) = c.in_ok-arguments-in-ApplyStatically.ensures ∙ (λ i. with_arguments (c.as_slice-params-in-ApplyStatically.ensures i) (types_of (terms_view (c.deref-in-ApplyStatically-3.ensures.value i))) (spill (operands m s ls (terms_view (c.deref-in-ApplyStatically-3.ensures.value i))) c.in_ok-owner-in-ApplyStatically.owner.next)) in
+    subst (λ x. IfOk c.receiver_value.result (λ w. code_view w ≡ x)) (sym (ap (into m s ls k a.next) v ∙ receive-joins m s ls k a.next n.position o w (view n.object.value) n.class n.namespace n.method ts n.tpe c.are_plain-all_plain.result plain e_owner e_arguments ∙ sym (ap (λ (x : Tree). behind o (λ g i. then_use w (λ es. finish k n.position n.tpe false (core.receiver_call (member n.class n.namespace n.method) (coerced_receiver (type_of_term (view x)) g) (expressions_of es))))) c.deref-in-ApplyStatically-4.ensures))) c.receiver_value.ensures
+
+pub statements_of-returns-in-Select : goal.statements_of-returns-in-Select
+statements_of-returns-in-Select t c =
+    let n = c.in-Select in
+    let a = c.args in
+    let m = is_among a.locals.now.mutable.now in
+    let s = is_among a.locals.now.sure.now in
+    let ls = map target_view a.targets.now in
+    let k = destination_view a.destination.now in
+    let v : view a.tree.now ≡ select n.position (view n.object.value) n.class n.name n.tpe = ap view (n.is ∙ sym (rolls-Select n.position n.object n.class n.name n.tpe)) ∙ fold-roll-Tree Term Case view_step case_step (Tree-F.Select n.position n.object n.class n.name n.tpe) in
+    let o = placed_view c.in_ok-owner-in-Select.owner in
+    let e_owner : o ≡ comes_received m s ls true a.next (view n.object.value) = subst (λ (x : Tree). o ≡ comes_received m s ls true a.next (view x)) c.deref-in-Select.ensures c.in_ok-owner-in-Select.ensures in
+    subst (λ x. IfOk c.field_value.result (λ w. code_view w ≡ x)) (sym (ap (into m s ls k a.next) v ∙ field-joins m s ls k a.next n.position o (view n.object.value) n.class n.name n.tpe e_owner)) c.field_value.ensures
+
+pub statements_of-returns-in-Throw : goal.statements_of-returns-in-Throw
+statements_of-returns-in-Throw t c =
+    let n = c.in-Throw in
+    let a = c.args in
+    let m = is_among a.locals.now.mutable.now in
+    let s = is_among a.locals.now.sure.now in
+    let ls = map target_view a.targets.now in
+    let k = destination_view a.destination.now in
+    let v : view a.tree.now ≡ throw n.position (view n.value.value) = ap view (n.is ∙ sym (rolls-Throw n.position n.value)) ∙ fold-roll-Tree Term Case view_step case_step (Tree-F.Throw n.position n.value) in
+    let o = placed_view c.in_ok-object-in-Throw.object in
+    let e_object : o ≡ comes_to m s ls true a.next (view n.value.value) = subst (λ (x : Tree). o ≡ comes_to m s ls true a.next (view x)) c.deref-in-Throw.ensures c.in_ok-object-in-Throw.ensures in
+    subst (λ x. IfOk c.thrown.result (λ w. code_view w ≡ x)) (sym (ap (into m s ls k a.next) v ∙ throw-joins m s ls k a.next n.position o (view n.value.value) e_object ∙ sym (ap (λ (x : Tree). behind o (λ g. one (core.throw_of (Some n.position) (coerced Any (type_of_term (view x)) g)))) c.deref-in-Throw-2.ensures))) c.thrown.ensures
