@@ -8,6 +8,7 @@ ghost use Rattle.sj_desugaring.specs.Forms as forms;
 ghost use Rattle.sj_desugarer.specs.Operands.{comes_to, comes_received};
 ghost use Rattle.sj_desugaring.specs.Placing.{placed};
 ghost use Rattle.sj_desugaring.specs.Views.{destination_view, target_view, code_view, placed_view, all_view, branches_view};
+ghost use Rattle.sj_trees.specs.Term.{assign};
 ghost use Rattle.sj_trees.specs.View.{view, terms_view, cases_view};
 
 use sj_desugaring::{
@@ -20,7 +21,7 @@ use sj_desugaring::{
     unary_value, value_of, with_label, without_first,
 };
 use sj_names::{LocalName, NoMemory, TypeRef};
-use sj_trees::{MatchCase, Tree, type_of};
+use sj_trees::{MatchCase, Position, Tree, type_of};
 use std::alloc::Global;
 
 /// The locals of a body that are mutable, and those that are never null.
@@ -60,62 +61,9 @@ pub fn statements_of(
             let body_code = statements_of(alloc, locals, &inner, destination, next, body)?;
             labeled(alloc, destination, *position, label, body_code)
         }
-        Tree::Assign(position, target, value) => match &**target {
-            Tree::VarRef(_, name, tpe) => {
-                let new_value = operand_of(alloc, locals, targets, true, next, value)?;
-                assigned(alloc, *position, name, tpe, value, new_value)
-            }
-            Tree::Select(_, object, class, name, tpe) => {
-                let value_plain = is_plain(value);
-                let owner = receiver_of(alloc, locals, targets, value_plain, next, object)?;
-                let new_value = operand_of(alloc, locals, targets, true, owner.next, value)?;
-                let place = FieldPlace { class, name, tpe };
-                field_set(alloc, *position, &place, value, owner, new_value)
-            }
-            Tree::SelectStatic(_, class, name, tpe) => {
-                let new_value = operand_of(alloc, locals, targets, true, next, value)?;
-                let place = FieldPlace { class, name, tpe };
-                static_set(alloc, *position, &place, value, new_value)
-            }
-            Tree::VarDef(_, _, _, _, _)
-            | Tree::Skip(_)
-            | Tree::Block(_, _)
-            | Tree::Labeled(_, _, _, _)
-            | Tree::Assign(_, _, _)
-            | Tree::Return(_, _, _)
-            | Tree::If(_, _, _, _, _)
-            | Tree::While(_, _, _)
-            | Tree::DoWhile(_, _, _)
-            | Tree::TryCatch(_, _, _, _, _)
-            | Tree::TryFinally(_, _, _)
-            | Tree::Throw(_, _)
-            | Tree::Match(_, _, _, _, _)
-            | Tree::New(_, _, _, _)
-            | Tree::LoadModule(_, _)
-            | Tree::StoreModule(_, _, _)
-            | Tree::Apply(_, _, _, _, _)
-            | Tree::ApplyStatically(_, _, _, _, _, _, _)
-            | Tree::ApplyStatic(_, _, _, _, _, _)
-            | Tree::UnaryOp(_, _, _)
-            | Tree::BinaryOp(_, _, _, _)
-            | Tree::NewArray(_, _, _)
-            | Tree::ArrayValue(_, _, _)
-            | Tree::ArrayLength(_, _)
-            | Tree::ArraySelect(_, _, _, _)
-            | Tree::IsInstanceOf(_, _, _)
-            | Tree::AsInstanceOf(_, _, _)
-            | Tree::Undefined(_)
-            | Tree::Null(_)
-            | Tree::BooleanLiteral(_, _)
-            | Tree::CharLiteral(_, _)
-            | Tree::ByteLiteral(_, _)
-            | Tree::ShortLiteral(_, _)
-            | Tree::IntLiteral(_, _)
-            | Tree::LongLiteral(_, _)
-            | Tree::StringLiteral(_, _)
-            | Tree::This(_, _)
-            | Tree::Log(_, _) => Ok(nothing(alloc, next)),
-        },
+        Tree::Assign(position, target, value) => {
+            assignment_of(alloc, locals, targets, destination, next, *position, target, value)
+        }
         Tree::Return(position, value, label) => {
             let goes_to = target_of(targets, label)?;
             let left = statements_of(alloc, locals, targets, &goes_to, next, value)?;
@@ -239,6 +187,78 @@ pub fn statements_of(
         | Tree::ArraySelect(_, _, _, _)
         | Tree::IsInstanceOf(_, _, _)
         | Tree::AsInstanceOf(_, _, _) => Ok(nothing(alloc, next)),
+    }
+}
+
+// An assignment of what the one tree comes to, to what the other names; nothing for a tree that names nothing.
+#[cycle(trees)]
+fn assignment_of(
+    alloc: Global,
+    locals: &Locals<'_>,
+    targets: &[Target],
+    destination: &Destination,
+    next: u64,
+    position: Position,
+    target: &Tree,
+    value: &Tree,
+) -> Result<Written, NoMemory>
+    ensures { IfOk result (λ w. code_view w ≡ desugar.into (is_among locals.now.mutable.now) (is_among locals.now.sure.now) (map target_view targets.now) (destination_view destination.now) next (assign position (view target.now) (view value.now))) }
+{
+    match target {
+        Tree::VarRef(_, name, tpe) => {
+            let new_value = operand_of(alloc, locals, targets, true, next, value)?;
+            assigned(alloc, position, name, tpe, value, new_value)
+        }
+        Tree::Select(_, object, class, name, tpe) => {
+            let value_plain = is_plain(value);
+            let owner = receiver_of(alloc, locals, targets, value_plain, next, object)?;
+            let new_value = operand_of(alloc, locals, targets, true, owner.next, value)?;
+            let place = FieldPlace { class, name, tpe };
+            field_set(alloc, position, &place, value, owner, new_value)
+        }
+        Tree::SelectStatic(_, class, name, tpe) => {
+            let new_value = operand_of(alloc, locals, targets, true, next, value)?;
+            let place = FieldPlace { class, name, tpe };
+            static_set(alloc, position, &place, value, new_value)
+        }
+        Tree::VarDef(_, _, _, _, _)
+        | Tree::Skip(_)
+        | Tree::Block(_, _)
+        | Tree::Labeled(_, _, _, _)
+        | Tree::Assign(_, _, _)
+        | Tree::Return(_, _, _)
+        | Tree::If(_, _, _, _, _)
+        | Tree::While(_, _, _)
+        | Tree::DoWhile(_, _, _)
+        | Tree::TryCatch(_, _, _, _, _)
+        | Tree::TryFinally(_, _, _)
+        | Tree::Throw(_, _)
+        | Tree::Match(_, _, _, _, _)
+        | Tree::New(_, _, _, _)
+        | Tree::LoadModule(_, _)
+        | Tree::StoreModule(_, _, _)
+        | Tree::Apply(_, _, _, _, _)
+        | Tree::ApplyStatically(_, _, _, _, _, _, _)
+        | Tree::ApplyStatic(_, _, _, _, _, _)
+        | Tree::UnaryOp(_, _, _)
+        | Tree::BinaryOp(_, _, _, _)
+        | Tree::NewArray(_, _, _)
+        | Tree::ArrayValue(_, _, _)
+        | Tree::ArrayLength(_, _)
+        | Tree::ArraySelect(_, _, _, _)
+        | Tree::IsInstanceOf(_, _, _)
+        | Tree::AsInstanceOf(_, _, _)
+        | Tree::Undefined(_)
+        | Tree::Null(_)
+        | Tree::BooleanLiteral(_, _)
+        | Tree::CharLiteral(_, _)
+        | Tree::ByteLiteral(_, _)
+        | Tree::ShortLiteral(_, _)
+        | Tree::IntLiteral(_, _)
+        | Tree::LongLiteral(_, _)
+        | Tree::StringLiteral(_, _)
+        | Tree::This(_, _)
+        | Tree::Log(_, _) => Ok(nothing(alloc, next)),
     }
 }
 
