@@ -1,8 +1,8 @@
-// What runs are made on, and what they are to put.
-use anyhow::Result;
-use sj_names::{Bytes, Text};
-use sj_outside::{Contents, PutFile};
+// What runs are made on.
+use crate::runs::add_run;
+use sj_outside::{Contents, ContentsError};
 use std::alloc::Global;
+use std::mem;
 
 /// The numbers of the calls that are to fail, where the first call has the number 1 and 0 is none.
 #[derive(Clone, Copy)]
@@ -12,86 +12,117 @@ pub struct Failing {
     pub lines: u64,
 }
 
-/// The words of a run, what is held, the calls that fail, and the files that are to be put.
-#[derive(Drop)]
+const NEVER: Failing = Failing {
+    folders: 0,
+    outputs: 0,
+    lines: 0,
+};
+
+/// The words of a run, what is held, of which the first folder that is open holds all, and the calls that fail.
 pub struct Case {
-    pub name: String,
-    pub words: Vec<String>,
-    /// The folders that are open, of which the first holds all.
-    pub open: Vec<Contents>,
-    pub failing: Failing,
-    pub puts: Vec<PutFile>,
+    words: Vec<String>,
+    open: Vec<Contents>,
+    failing: Failing,
+}
+
+impl Drop for Case {
+    fn drop(self) {
+        let Case {
+            words: _words,
+            open: _open,
+            failing: _,
+        } = self;
+    }
 }
 
 impl Case {
-    pub(crate) fn new(alloc: Global) -> Result<Case> {
-        let mut open = Vec::new(alloc);
-        open.push(Contents::new(alloc))?;
-        Ok(Case {
-            name: String::new(alloc),
+    pub(crate) fn new(alloc: Global) -> Case {
+        Case {
             words: Vec::new(alloc),
-            open,
-            failing: Failing {
-                folders: 0,
-                outputs: 0,
-                lines: 0,
-            },
-            puts: Vec::new(alloc),
-        })
+            open: Vec::new(alloc),
+            failing: NEVER,
+        }
     }
 
-    pub(crate) fn name_copy(&self, alloc: Global) -> Result<String> {
-        Ok(String::from_str(alloc, self.name.as_str())?)
-    }
-
-    /// Adds a line of the case.
-    pub(crate) fn add(&mut self, alloc: Global, kind: &str, fields: &str) -> Result<()> {
+    /// Adds a line of the case, or what its run comes to.
+    pub(crate) fn add(
+        &mut self,
+        alloc: Global,
+        kind: &str,
+        fields: &str,
+        text: &mut String,
+    ) -> Result<(), ContentsError> {
         match kind {
-            "case" => self.set_name(alloc, fields),
-            "folder" => Ok(self.open.push(Contents::new(alloc))?),
+            "folder" => self.open(Contents::new(alloc)),
             "file" => self.add_file(alloc, fields),
             "end" => self.end_folder(alloc, fields),
-            "word" => Ok(self.words.push(String::from_str(alloc, fields)?)?),
+            "word" => self.add_word(alloc, fields),
             "fail" => {
                 self.set_failing(fields);
                 Ok(())
             }
-            "put" => self.add_put(alloc, fields),
-            _ => Ok(()),
+            "run" => add_run(alloc, fields, self, text),
+            _ => {
+                *self = Case::new(alloc);
+                Ok(())
+            }
         }
     }
 
-    fn set_name(&mut self, alloc: Global, name: &str) -> Result<()> {
-        self.name = String::from_str(alloc, name)?;
+    pub(crate) fn failing(&self) -> Failing {
+        self.failing
+    }
+
+    pub(crate) fn take_words(&mut self, alloc: Global) -> Vec<String> {
+        mem::replace(&mut self.words, Vec::new(alloc))
+    }
+
+    /// Closes the folder that was opened last; an empty one where none is open.
+    pub(crate) fn close(&mut self, alloc: Global) -> Contents {
+        match self.open.pop() {
+            Some(contents) => contents,
+            None => Contents::new(alloc),
+        }
+    }
+
+    fn open(&mut self, contents: Contents) -> Result<(), ContentsError> {
+        self.open.push(contents)?;
         Ok(())
     }
 
-    fn add_file(&mut self, alloc: Global, fields: &str) -> Result<()> {
-        let Some((name, bytes)) = fields.split_once('\t') else {
-            return Ok(());
-        };
-        let bytes = hex::decode(alloc, bytes)?;
-        let Some(folder) = self.open.pop() else {
-            return Ok(());
-        };
-        self.open.push(folder.with_file(alloc, name, &bytes)?)?;
+    fn add_word(&mut self, alloc: Global, word: &str) -> Result<(), ContentsError> {
+        let word = String::from_str(alloc, word)?;
+        self.words.push(word)?;
         Ok(())
     }
 
-    fn end_folder(&mut self, alloc: Global, name: &str) -> Result<()> {
-        let Some(inner) = self.open.pop() else {
-            return Ok(());
-        };
-        let Some(outer) = self.open.pop() else {
-            return Ok(());
-        };
-        self.open.push(outer.with_folder(alloc, name, inner)?)?;
-        Ok(())
+    fn add_file(&mut self, alloc: Global, fields: &str) -> Result<(), ContentsError> {
+        let (name, digits) = fields.split_once('\t').ok_or(ContentsError::BadName)?;
+        match hex::decode(alloc, digits) {
+            Ok(bytes) => self.add_bytes(alloc, name, &bytes),
+            Err(_) => Err(ContentsError::BadName),
+        }
+    }
+
+    fn add_bytes(
+        &mut self,
+        alloc: Global,
+        name: &str,
+        bytes: &[u8],
+    ) -> Result<(), ContentsError> {
+        let folder = self.close(alloc).with_file(alloc, name, bytes)?;
+        self.open(folder)
+    }
+
+    fn end_folder(&mut self, alloc: Global, name: &str) -> Result<(), ContentsError> {
+        let inner = self.close(alloc);
+        let outer = self.close(alloc).with_folder(alloc, name, inner)?;
+        self.open(outer)
     }
 
     fn set_failing(&mut self, fields: &str) {
         if let Some((calls, number)) = fields.split_once('\t') {
-            let number = number_of(number);
+            let number = number.parse::<u64>().unwrap_or(0);
             match calls {
                 "folders" => self.failing.folders = number,
                 "outputs" => self.failing.outputs = number,
@@ -99,36 +130,5 @@ impl Case {
                 _ => {}
             }
         }
-    }
-
-    fn add_put(&mut self, alloc: Global, fields: &str) -> Result<()> {
-        if let Some((edit, file)) = fields.split_once('\t') {
-            if let Some((name, bytes)) = file.split_once('\t') {
-                let bytes = hex::decode(alloc, bytes)?;
-                self.puts.push(PutFile {
-                    out: Text::from_str(alloc, "out")?,
-                    edit: edit_of(edit),
-                    name: Text::from_str(alloc, name)?,
-                    bytes: Bytes::from_vec(bytes),
-                })?;
-            }
-        }
-        Ok(())
-    }
-}
-
-// The number that decimal digits spell, or 0.
-fn number_of(digits: &str) -> u64 {
-    match digits.parse::<u64>() {
-        Ok(number) => number,
-        Err(_) => 0,
-    }
-}
-
-// The number of an edit.
-fn edit_of(digits: &str) -> u32 {
-    match digits.parse::<u32>() {
-        Ok(number) => number,
-        Err(_) => 0,
     }
 }

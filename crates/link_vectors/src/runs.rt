@@ -1,89 +1,61 @@
 // Runs in memory.
-use crate::cases::{Case, Failing};
-use anyhow::Result;
-use sj_outside::{Contents, FoldersInMemory, LinesInMemory, OutputsInMemory, PutFile};
+use crate::cases::Case;
+use sj_outside::{ContentsError, FoldersInMemory, LinesInMemory, OutputsInMemory, PutFile};
 use sjslink::run;
 use std::alloc::Global;
 
-/// Whether the run of the case has the status and prints the lines that are wanted, and puts the files.
-pub fn is_met(alloc: Global, case: Case, wanted: &str) -> Result<bool> {
-    let Case {
-        words,
-        mut open,
-        failing,
-        puts,
-        ..
-    } = case;
-    let contents = match open.pop() {
-        Some(contents) => contents,
-        None => Contents::new(alloc),
-    };
-    let Some((status, lines)) = wanted.split_once('\t') else {
-        return Ok(false);
-    };
-    let lines = hex::decode(alloc, lines)?;
-    let answered = answered(alloc, words, contents, failing)?;
-    Ok(answered.is(status, &lines, &puts))
-}
-
-// What a run came to.
-#[derive(Drop)]
-struct Answer {
-    status: u8,
-    lines: LinesInMemory,
-    outputs: OutputsInMemory,
-}
-
-impl Answer {
-    fn is(&self, status: &str, lines: &[u8], puts: &[PutFile]) -> bool {
-        has_status(self.status, status)
-            && self.lines.text.as_slice() == lines
-            && are_same(self.outputs.puts.as_slice(), puts)
-    }
-}
-
-fn answered(
+/// Adds what the run of a case comes to.
+pub(crate) fn add_run(
     alloc: Global,
-    words: Vec<String>,
-    contents: Contents,
-    failing: Failing,
-) -> Result<Answer> {
-    let mut outputs = OutputsInMemory::new(alloc, one(alloc, failing.outputs)?);
-    let mut lines = LinesInMemory::new(alloc, one(alloc, failing.lines)?);
-    let mut folders = FoldersInMemory::new(contents, one(alloc, failing.folders)?);
+    name: &str,
+    case: &mut Case,
+    text: &mut String,
+) -> Result<(), ContentsError> {
+    let failing = case.failing();
+    let failing_puts = vec![in alloc; failing.outputs]?;
+    let failing_lines = vec![in alloc; failing.lines]?;
+    let failing_calls = vec![in alloc; failing.folders]?;
+    let mut outputs = OutputsInMemory::new(alloc, failing_puts);
+    let mut lines = LinesInMemory::new(alloc, failing_lines);
+    let mut folders = FoldersInMemory::new(case.close(alloc), failing_calls);
+    let words = case.take_words(alloc);
     let status = match words.len() < 1000 {
         true => run(alloc, words, &mut folders, &mut outputs, &mut lines).exit_code(),
         false => 255,
     };
-    Ok(Answer {
-        status,
-        lines,
-        outputs,
-    })
+    add_told(alloc, name, status, &lines, text)?;
+    add_puts(alloc, outputs.puts.as_slice(), text)
 }
 
-fn one(alloc: Global, number: u64) -> Result<Vec<u64>> {
-    Ok(vec![in alloc; number]?)
+fn add_told(
+    alloc: Global,
+    name: &str,
+    status: u8,
+    lines: &LinesInMemory,
+    text: &mut String,
+) -> Result<(), ContentsError> {
+    let told = format!(in alloc; "run\t{name}\t{status}\t")?;
+    text.push_str(told.as_str())?;
+    add_digits(alloc, lines.text.as_slice(), text)
 }
 
-fn has_status(status: u8, wanted: &str) -> bool {
-    match wanted.parse::<u8>() {
-        Ok(wanted) => status == wanted,
-        Err(_) => false,
+fn add_puts(alloc: Global, puts: &[PutFile], text: &mut String) -> Result<(), ContentsError> {
+    for put in puts {
+        add_put(alloc, put, text)?;
     }
+    Ok(())
 }
 
-fn are_same(puts: &[PutFile], wanted: &[PutFile]) -> bool {
-    puts.len() == wanted.len()
-        && puts
-            .iter()
-            .zip(wanted)
-            .all(|(one, other)| is_same(one, other))
+fn add_put(alloc: Global, put: &PutFile, text: &mut String) -> Result<(), ContentsError> {
+    let told = format!(in alloc; "put\t{}\t{}\t{}\t", put.out, put.edit, put.name)?;
+    text.push_str(told.as_str())?;
+    add_digits(alloc, put.bytes.as_slice(), text)
 }
 
-fn is_same(one: &PutFile, other: &PutFile) -> bool {
-    one.out == other.out
-        && one.edit == other.edit
-        && one.name == other.name
-        && one.bytes.as_slice() == other.bytes.as_slice()
+// Adds the bytes in hexadecimal digits, and ends the line.
+fn add_digits(alloc: Global, bytes: &[u8], text: &mut String) -> Result<(), ContentsError> {
+    let digits = hex::encode(alloc, bytes)?;
+    text.push_str(digits.as_str())?;
+    text.push_str("\n")?;
+    Ok(())
 }
