@@ -104,12 +104,7 @@ impl Case {
         }
     }
 
-    fn add_bytes(
-        &mut self,
-        alloc: Global,
-        name: &str,
-        bytes: &[u8],
-    ) -> Result<(), ContentsError> {
+    fn add_bytes(&mut self, alloc: Global, name: &str, bytes: &[u8]) -> Result<(), ContentsError> {
         let folder = self.close(alloc).with_file(alloc, name, bytes)?;
         self.open(folder)
     }

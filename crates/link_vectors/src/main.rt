@@ -24,11 +24,7 @@ fn main(rt: HostRuntime) -> Result<()> {
 }
 
 // What is written for a line.
-fn answer(
-    alloc: Global,
-    line: &str,
-    case: &mut Case,
-) -> result::Result<String, ContentsError> {
+fn answer(alloc: Global, line: &str, case: &mut Case) -> result::Result<String, ContentsError> {
     let mut text = String::new(alloc);
     let (kind, fields) = line.split_once('\t').unwrap_or((line, ""));
     case.add(alloc, kind, fields, &mut text)?;
