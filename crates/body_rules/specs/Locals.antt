@@ -5,7 +5,7 @@ use Rattle.sj_desugar.specs.Desugar.{has_no_value}
 use Rattle.sj_desugar.specs.Plain.{is_among}
 use Rattle.sj_trees.specs.declared.types.IrType.{IrType}
 use Rattle.sj_trees.specs.declared.classes.ParamDef.{ParamDef}
-use Rattle.sj_trees.specs.Term.{Term, Terms, no_terms, more_terms, Cases, no_cases, more_cases, var_def, block_of, labeled, assign, return_to, if_then, while_loop, do_while, match_on, apply_static, unary_op, binary_op, log_line}
+use Rattle.sj_trees.specs.Term.{Term, Terms, no_terms, more_terms, Cases, no_cases, more_cases, var_def, block_of, labeled, assign, return_to, if_then, while_loop, do_while, match_on, throw, new_object, select, apply_statically, apply_static, unary_op, binary_op, log_line}
 
 abbrev mutual
   -- the locals that a tree of the forms that are built defines
@@ -13,12 +13,17 @@ abbrev mutual
   Own (var_def p x t b e) y = (x ≡ y) ⊎ Own e y
   Own (block_of p ts) y = OwnAll ts y
   Own (labeled p l t e) y = Own e y
+  Own (assign p (select q d c f t) e) y = Own d y ⊎ Own e y
   Own (assign p d e) y = Own e y
+  Own (throw p e) y = Own e y
   Own (return_to p e l) y = Own e y
   Own (if_then p c a b t) y = Own c y ⊎ (Own a y ⊎ Own b y)
   Own (while_loop p c b) y = Own c y ⊎ Own b y
   Own (do_while p b c) y = Own b y ⊎ Own c y
   Own (match_on p e cs d t) y = Own e y ⊎ (OwnCases cs y ⊎ Own d y)
+  Own (new_object p c m ts) y = OwnAll ts y
+  Own (select p e c f t) y = Own e y
+  Own (apply_statically p e c n m ts t) y = Own e y ⊎ OwnAll ts y
   Own (apply_static p c n m ts t) y = OwnAll ts y
   Own (unary_op p o e) y = Own e y
   Own (binary_op p o e d) y = Own e y ⊎ Own d y

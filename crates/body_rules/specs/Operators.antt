@@ -2,7 +2,7 @@
 pub use Rattle.typing_rules.specs.Rules.{unary_operand, left_operand, right_operand}
 use Rattle.std.specs.Prelude.{◌≡◌, Bool, true, false, ℤ, pos, ◌≢◌, FitsSigned}
 use Rattle.std.specs.Int.{w32, w64}
-use Rattle.body_rules.specs.Standing.{Fits}
+use Rattle.body_rules.specs.Standing.{is_bare, Fits}
 use Rattle.sj_trees.specs.Term.{Term, int_literal, long_literal}
 use Rattle.sj_trees.specs.declared.operators.BinaryOp.{BinaryOp}
 use Rattle.sj_trees.specs.declared.operators.BinaryOp.TheVariants.{StrictEqual, StrictNotEqual, StringConcatenate, IntDivide, IntRemainder, LongDivide, LongRemainder}
@@ -31,7 +31,7 @@ pub data IsLongDivision : BinaryOp → Type 0 where
 -- an operator that takes operands of these types: one of its own types, or texts that are joined
 pub data Operates : BinaryOp → IrType → IrType → Type 0 where
   of_its_types : (o : BinaryOp) (s t : IrType) → is_simple o ≡ true → Fits (left_operand o) s → Fits (right_operand o) t → Operates o s t
-  joins : (s t : IrType) → Operates StringConcatenate s t
+  joins : (s t : IrType) → is_bare s ≡ true → is_bare t ≡ true → Operates StringConcatenate s t
 
 -- a division by a literal other than zero
 pub data DividesBy : BinaryOp → Term → Type 0 where

@@ -1,12 +1,20 @@
--- Which types stand where another is expected, as far as the kind of a value tells: the types that tell chars and texts from other values are told apart.
--- No form makes an object that holds a char yet, so where another type is expected no char stands.
+-- Which types stand where another is expected, as far as the kind of a value tells: the types that tell chars, texts and objects from other values are told
+-- apart. No form makes an object that holds a char yet, so where another type is expected no char stands.
 pub use Rattle.typing_rules.specs.Rules.{call_type}
-use Rattle.std.specs.Prelude.{◌≡◌, Bool, true, false, ◌&&◌, not, List, [], ◌∷◌}
+use Rattle.std.specs.Prelude.{◌≡◌, Bool, true, false, ◌&&◌, ◌||◌, not, List, [], ◌∷◌, codes}
 use Rattle.sj_desugar.specs.Coercions.{is_char}
+use Rattle.sj_names.specs.Same.{is_same_text}
 use Rattle.sj_names.specs.declared.references.TypeRef.{TypeRef}
 use Rattle.sj_trees.specs.Types.{reference_type}
 use Rattle.sj_trees.specs.declared.types.IrType.{IrType}
-use Rattle.sj_trees.specs.declared.types.IrType.TheVariants.{Nothing, Undefined, Boolean, Char, Byte, Short, Int, Long, String}
+use Rattle.sj_trees.specs.declared.types.IrType.TheVariants.{Any, Class, Array, Nothing, Undefined, Boolean, Char, Byte, Short, Int, Long, String}
+
+-- a type at which no object stands: a primitive one, that of texts, or one without values. What joins to a text is of such a type.
+abbrev pub is_bare : IrType → Bool
+is_bare Any = false
+is_bare (Class c) = is_same_text c (codes "java.lang.String")
+is_bare (Array r) = false
+is_bare _ = true
 
 -- a tree of the second type may stand where the first is expected, as far as its value's kind tells
 abbrev pub fits : IrType → IrType → Bool
@@ -29,7 +37,7 @@ fits Long own = false
 fits String String = true
 fits String own = false
 fits expected Char = false
-fits expected own = true
+fits expected own = not (is_bare expected) || is_bare own
 
 abbrev pub Fits : IrType → IrType → Type 0
 Fits expected own = fits expected own ≡ true

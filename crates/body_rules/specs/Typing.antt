@@ -1,12 +1,15 @@
 -- The rules of bodies, in one statement: each tree meets the rule of its form, is of the forms that are built, and finds what it uses around it.
-use Rattle.std.specs.Prelude.{◌≡◌, ℕ, ◌^◌, ◌<◌, true, List, [], ◌∷◌, ◌⊎◌, FitsSigned, not, Some}
+use Rattle.std.specs.Prelude.{◌≡◌, ℕ, ◌^◌, ◌<◌, true, List, [], ◌∷◌, ◌⊎◌, FitsSigned, not, Some, Bool, ◌||◌}
 use Rattle.std.specs.Int.{w32, w64}
 use Rattle.built_forms.specs.Built.{Usable, yields_boxed, stands}
+use Rattle.sj_emit_expr.specs.Templates.{check_name}
 use Rattle.sj_names.specs.declared.method_names.Namespace.{Namespace}
+use Rattle.sj_names.specs.declared.method_names.Namespace.TheVariants.{PublicStatic, PrivateStatic}
+use Rattle.sure_receivers.specs.Sure.{is_sure}
 use Rattle.sj_names.specs.declared.references.TypeRef.{TypeRef}
 use Rattle.body_rules.specs.Locals.{Own, OwnAll, local_of, HasValue}
-use Rattle.sj_trees.specs.Term.{Term, Terms, no_terms, more_terms, Cases, no_cases, more_cases, var_def, block_of, labeled, assign, return_to, if_then, while_loop, do_while, match_on, apply_static, unary_op, binary_op, boolean_literal, char_literal, byte_literal, short_literal, int_literal, long_literal, var_ref, log_line}
-use Rattle.sj_trees.specs.Types.{reference_type}
+use Rattle.sj_trees.specs.Term.{Term, Terms, no_terms, more_terms, Cases, no_cases, more_cases, var_def, block_of, labeled, assign, return_to, if_then, while_loop, do_while, match_on, throw, new_object, select, apply_statically, this_ref, apply_static, unary_op, binary_op, boolean_literal, char_literal, byte_literal, short_literal, int_literal, long_literal, var_ref, log_line}
+use Rattle.sj_trees.specs.Types.{class_type, reference_type}
 use Rattle.sj_trees.specs.declared.classes.ParamDef.{ParamDef}
 use Rattle.sj_trees.specs.declared.positions.Position.{Position}
 use Rattle.sj_trees.specs.declared.types.IrType.{IrType}
@@ -16,9 +19,12 @@ use Rattle.typing_rules.specs.declared.labels.Label.{Label}
 use Rattle.typing_rules.specs.Nodes.{inside}
 use Rattle.typing_rules.specs.Rules.{Meets, Yields}
 
--- what a tree stands in: the namespace of its method, the locals in scope, the innermost first, and the labels around it, the innermost last
+-- what a tree stands in: the class and the namespace of its method, the locals of the body that are never null, the locals in scope, the innermost first, and
+-- the labels around it, the innermost last
 pub record Scene : Type 0 where
+  pub owner : List ℕ
   pub space : Namespace
+  pub sure : List ℕ → Bool
   pub locals : List ParamDef
   pub labels : List Label
 
@@ -52,17 +58,29 @@ Defines (var_def p x t b e) y = x ≡ y
 Defines _ y = ⊥
 
 abbrev pub behind : Term → Scene → Scene
-behind (var_def p x t b e) s = record { space = s.space; locals = record { name = x; «mutable» = b; tpe = t } ∷ s.locals; labels = s.labels }
+behind (var_def p x t b e) s = record { owner = s.owner; space = s.space; sure = s.sure; locals = record { name = x; «mutable» = b; tpe = t } ∷ s.locals; labels = s.labels }
 behind _ s = s
 
 abbrev pub in_label : List ℕ → IrType → Scene → Scene
-in_label l t s = record { space = s.space; locals = s.locals; labels = inside l t s.labels }
+in_label l t s = record { owner = s.owner; space = s.space; sure = s.sure; locals = s.locals; labels = inside l t s.labels }
+
+-- a method that runs on an object
+abbrev pub RunsOnObject : Namespace → Type 0
+RunsOnObject PublicStatic = ⊥
+RunsOnObject PrivateStatic = ⊥
+RunsOnObject _ = Unit {0}
+
+-- a receiver that is never null, or the null check can be used
+abbrev pub may_check : Usable → (List ℕ → Bool) → Term → Bool
+may_check has sure e = is_sure sure e || has.helper check_name
 
 -- what a tree asks of its surroundings: that a local which it uses is in scope, and one which it defines isn't defined in it again; that there are values where
 -- they are handed over; and that numbers are those of their types
 abbrev pub Finds : Scene → Term → Type 0
 Finds s (var_def p x t b e) = HasValue t × (Own e x → ⊥)
 Finds s (assign p (var_ref q x t) e) = IsVariable s x t
+Finds s (new_object p c m ts) = AllHaveValues m.params
+Finds s (apply_statically p e c n m ts t) = AllHaveValues m.params
 Finds s (apply_static p c n m ts t) = AllHaveValues m.params
 Finds s (char_literal p u) = u < 2 ^ 16
 Finds s (byte_literal p z) = FitsSigned w32 z
@@ -70,13 +88,14 @@ Finds s (short_literal p z) = FitsSigned w32 z
 Finds s (int_literal p z) = FitsSigned w32 z
 Finds s (long_literal p z) = FitsSigned w64 z
 Finds s (var_ref p x t) = IsLocal s x t
+Finds s (this_ref p t) = RunsOnObject s.space × (t ≡ class_type s.owner)
 Finds s _ = Unit {0}
 
 module _ (w : Classes) (has : Usable) where
   -- what is asked at a tree, beside what is asked at those in it
   pub record Here (s : Scene) (t : Term) : Type 0 where
     pub meets : Meets w s.space s.labels t
-    pub built : stands has s.labels t ≡ true
+    pub built : stands has (may_check has s.sure) s.labels t ≡ true
     pub finds : Finds s t
 
   abbrev mutual
@@ -89,7 +108,11 @@ module _ (w : Classes) (has : Usable) where
     Typed s (if_then p c a b t) = Here s (if_then p c a b t) × Typed s c × Typed s a × Typed s b
     Typed s (while_loop p c b) = Here s (while_loop p c b) × Typed s c × Typed s b
     Typed s (do_while p b c) = Here s (do_while p b c) × Typed s b × Typed s c
+    Typed s (throw p e) = Here s (throw p e) × Typed s e
     Typed s (match_on p e cs d t) = Here s (match_on p e cs d t) × Typed s e × TypedCases s t cs × Typed s d
+    Typed s (new_object p c m ts) = Here s (new_object p c m ts) × TypedAll s ts
+    Typed s (select p e c f t) = Here s (select p e c f t) × Typed s e
+    Typed s (apply_statically p e c n m ts t) = Here s (apply_statically p e c n m ts t) × Typed s e × TypedAll s ts
     Typed s (apply_static p c n m ts t) = Here s (apply_static p c n m ts t) × TypedAll s ts
     Typed s (unary_op p o e) = Here s (unary_op p o e) × Typed s e
     Typed s (binary_op p o e d) = Here s (binary_op p o e d) × Typed s e × Typed s d

@@ -1,23 +1,23 @@
 -- The forms of bodies that are built: what is asked of a method beside its typing, so that the theorem on bodies covers it, one Boolean.
-use Rattle.std.specs.Prelude.{pos, Bool, true, false, ◌&&◌, ◌||◌, not, List, [], ◌∷◌, Option, Some, None}
+use Rattle.std.specs.Prelude.{ℕ, pos, Bool, true, false, ◌&&◌, ◌||◌, not, List, [], ◌∷◌, Option, Some, None}
 use Rattle.std.specs.Ordering.{int_eq}
 use Rattle.sj_desugar.specs.Coercions.{is_char}
 use Rattle.sj_desugar.specs.Desugar.{member}
 use Rattle.sj_names.specs.declared.method_names.Namespace.{Namespace}
-use Rattle.sj_names.specs.declared.method_names.Namespace.TheVariants.{PublicStatic, PrivateStatic}
+use Rattle.sj_names.specs.declared.method_names.Namespace.TheVariants.{PublicStatic, Private, PrivateStatic, Constructor}
 use Rattle.sj_names.specs.declared.references.TypeRef.{TypeRef}
 use Rattle.sj_names.specs.declared.method_names.Member.{Member}
 use Rattle.typing_rules.specs.declared.labels.Label.{Label}
 use Rattle.typing_rules.specs.Labels.{type_of_label}
 use Rattle.typing_rules.specs.Nodes.{inside}
-use Rattle.sj_trees.specs.Term.{Term, Terms, no_terms, more_terms, Cases, no_cases, more_cases, var_def, skip, block_of, labeled, assign, return_to, if_then, while_loop, do_while, match_on, apply_static, unary_op, binary_op, undefined_literal, null_literal, boolean_literal, char_literal, byte_literal, short_literal, int_literal, long_literal, string_literal, var_ref, log_line}
+use Rattle.sj_trees.specs.Term.{Term, Terms, no_terms, more_terms, Cases, no_cases, more_cases, var_def, skip, block_of, labeled, assign, return_to, if_then, while_loop, do_while, match_on, throw, new_object, select, apply_statically, this_ref, apply_static, unary_op, binary_op, undefined_literal, null_literal, boolean_literal, char_literal, byte_literal, short_literal, int_literal, long_literal, string_literal, var_ref, log_line}
 use Rattle.sj_trees.specs.TypeOf.{type_of_term}
 use Rattle.sj_trees.specs.Types.{reference_type}
 use Rattle.sj_trees.specs.declared.classes.MethodDef.{MethodDef}
 use Rattle.sj_trees.specs.declared.operators.BinaryOp.{BinaryOp}
 use Rattle.sj_trees.specs.declared.operators.BinaryOp.TheVariants.{StrictEqual, StrictNotEqual, IntDivide, IntRemainder, LongDivide, LongRemainder}
 use Rattle.sj_trees.specs.declared.types.IrType.{IrType}
-use Rattle.sj_trees.specs.declared.types.IrType.TheVariants.{NoType}
+use Rattle.sj_trees.specs.declared.types.IrType.TheVariants.{Any, NoType}
 
 -- a char stands where another type is expected: there an object has to be made that holds it
 abbrev pub is_boxed : IrType → Term → Bool
@@ -56,13 +56,25 @@ is_operation LongDivide d = is_nonzero_long d
 is_operation LongRemainder d = is_nonzero_long d
 is_operation _ d = true
 
--- what a body can use: the members that are linked. Forms that make objects, read fields or load modules add what there is of these.
+-- what a body can use: the static members that are linked, and those that run on a receiver; the constructors that are; the classes of which objects are
+-- made; their fields, with their types; helpers, by their names; and whether values are thrown
 pub record Usable : Type 0 where
   pub linked : Member → Bool
+  pub received : Member → Bool
+  pub built : Member → Bool
+  pub made : List ℕ → Bool
+  pub field : List ℕ → List ℕ → IrType → Bool
+  pub helper : List ℕ → Bool
+  pub throwing : Bool
 
-module _ (has : Usable) where
-  -- the tree is of the forms that are built, whatever the trees in it are: its call is of a linked member, its divisor is a literal, and no char stands where
-  -- another type is expected
+-- these static members and nothing else
+abbrev pub members_alone : (Member → Bool) → Usable
+members_alone linked = record { linked = linked; received = λ m. false; built = λ m. false; made = λ c. false; field = λ c f t. false; helper = λ x. false; throwing = false }
+
+-- what a body can use, and the receivers that are never null or whose null check can be used
+module _ (has : Usable) (checked : Term → Bool) where
+  -- the tree is of the forms that are built, whatever the trees in it are: what it calls, makes and reads is there, its divisor is a literal, its receiver
+  -- is checked where it has to be, and no char stands where another type is expected
   abbrev pub stands : List Label → Term → Bool
   stands ls (var_def p x t b e) = not (is_boxed t e)
   stands ls (skip p) = true
@@ -73,7 +85,12 @@ module _ (has : Usable) where
   stands ls (if_then p c a b t) = not (yields_boxed t a) && not (yields_boxed t b)
   stands ls (while_loop p c b) = true
   stands ls (do_while p b c) = true
+  stands ls (throw p e) = has.throwing && not (is_boxed Any e)
   stands ls (match_on p e cs d t) = not (yields_boxed t d)
+  stands ls (new_object p c m ts) = has.made c && (has.built (member c Constructor m) && not (any_is_boxed m.params ts))
+  stands ls (select p e c f t) = has.field c f t && checked e
+  stands ls (apply_statically p e c Private m ts t) = has.received (member c Private m) && (checked e && (not (is_boxed Any e) && not (any_is_boxed m.params ts)))
+  stands ls (apply_statically p e c Constructor m ts t) = has.built (member c Constructor m) && not (any_is_boxed m.params ts)
   stands ls (apply_static p c n m ts t) = has.linked (member c n m) && not (any_is_boxed m.params ts)
   stands ls (unary_op p o e) = true
   stands ls (binary_op p o e d) = is_operation o d
@@ -87,6 +104,7 @@ module _ (has : Usable) where
   stands ls (long_literal p z) = true
   stands ls (string_literal p us) = true
   stands ls (var_ref p x t) = true
+  stands ls (this_ref p t) = true
   stands ls (log_line p e) = true
   stands ls _ = false
 
@@ -101,7 +119,11 @@ module _ (has : Usable) where
     is_built ls (if_then p c a b t) = stands ls (if_then p c a b t) && (is_built ls c && (is_built ls a && is_built ls b))
     is_built ls (while_loop p c b) = is_built ls c && is_built ls b
     is_built ls (do_while p b c) = is_built ls b && is_built ls c
+    is_built ls (throw p e) = stands ls (throw p e) && is_built ls e
     is_built ls (match_on p e cs d t) = stands ls (match_on p e cs d t) && (is_built ls e && (are_built_cases ls t cs && is_built ls d))
+    is_built ls (new_object p c m ts) = stands ls (new_object p c m ts) && are_built ls ts
+    is_built ls (select p e c f t) = stands ls (select p e c f t) && is_built ls e
+    is_built ls (apply_statically p e c n m ts t) = stands ls (apply_statically p e c n m ts t) && (is_built ls e && are_built ls ts)
     is_built ls (apply_static p c n m ts t) = has.linked (member c n m) && (not (any_is_boxed m.params ts) && are_built ls ts)
     is_built ls (unary_op p o e) = is_built ls e
     is_built ls (binary_op p o e d) = stands ls (binary_op p o e d) && (is_built ls e && is_built ls d)
@@ -119,16 +141,16 @@ module _ (has : Usable) where
     are_built_cases ls t (more_cases (n ∷ ns) e cs) = not (yields_boxed t e) && (is_built ls e && are_built_cases ls t cs)
 
 -- a method of this body is built: its value is no char where its result is of another type
-abbrev pub is_built_method : Usable → MethodDef → Term → Bool
-is_built_method has d e = not (yields_boxed d.result e) && is_built has [] e
+abbrev pub is_built_method : Usable → (Term → Bool) → MethodDef → Term → Bool
+is_built_method has checked d e = not (yields_boxed d.result e) && is_built has checked [] e
 
--- whatever is called
+-- whatever static member is called
 abbrev pub anything : Usable
-anything = record { linked = λ m. true }
+anything = members_alone (λ m. true)
 
 -- the body is of the forms that are built, whatever it calls
 abbrev pub is_built_body : MethodDef → Term → Bool
-is_built_body = is_built_method anything
+is_built_body = is_built_method anything (λ e. true)
 
 abbrev pub is_static : Namespace → Bool
 is_static PublicStatic = true

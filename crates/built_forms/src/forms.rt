@@ -12,7 +12,7 @@ use sj_trees::{IrType, MatchCase, Tree};
 /// Whether a tree with these labels around it is of the forms that are built, whatever it calls.
 #[cycle(forms)]
 pub fn is_built(tree: &Tree, labels: &Labels) -> bool
-    ensures { result ≡ built.is_built built.anything (labels_view labels.now) (view tree.now) }
+    ensures { result ≡ built.is_built built.anything (λ e. true) (labels_view labels.now) (view tree.now) }
 {
     match tree {
         Tree::Skip(_)
@@ -25,7 +25,8 @@ pub fn is_built(tree: &Tree, labels: &Labels) -> bool
         | Tree::IntLiteral(_, _)
         | Tree::LongLiteral(_, _)
         | Tree::StringLiteral(_, _)
-        | Tree::VarRef(_, _, _) => true,
+        | Tree::VarRef(_, _, _)
+        | Tree::This(_, _) => true,
         Tree::VarDef(_, _, tpe, _, value) => !is_boxed(tpe, value) && is_built(value, labels),
         Tree::Block(_, trees) => are_built(trees, labels),
         Tree::Labeled(_, name, tpe, body) => {
@@ -76,14 +77,13 @@ pub fn is_built(tree: &Tree, labels: &Labels) -> bool
         | Tree::ArrayLength(_, _)
         | Tree::ArraySelect(_, _, _, _)
         | Tree::IsInstanceOf(_, _, _)
-        | Tree::AsInstanceOf(_, _, _)
-        | Tree::This(_, _) => false,
+        | Tree::AsInstanceOf(_, _, _) => false,
     }
 }
 
 #[cycle(forms)]
 fn are_built(trees: &[Tree], labels: &Labels) -> bool
-    ensures { result ≡ built.are_built built.anything (labels_view labels.now) (terms_view trees.now) }
+    ensures { result ≡ built.are_built built.anything (λ e. true) (labels_view labels.now) (terms_view trees.now) }
 {
     for each in trees {
         if !is_built(each, labels) {
@@ -95,7 +95,7 @@ fn are_built(trees: &[Tree], labels: &Labels) -> bool
 
 #[cycle(forms)]
 fn are_built_cases(cases: &[MatchCase], tpe: &IrType, labels: &Labels) -> bool
-    ensures { result ≡ built.are_built_cases built.anything (labels_view labels.now) tpe.now (cases_view cases.now) }
+    ensures { result ≡ built.are_built_cases built.anything (λ e. true) (labels_view labels.now) tpe.now (cases_view cases.now) }
 {
     for each in cases {
         if !is_built_case(each, tpe, labels) {
@@ -108,7 +108,7 @@ fn are_built_cases(cases: &[MatchCase], tpe: &IrType, labels: &Labels) -> bool
 // A case without keys isn't written.
 #[cycle(forms)]
 fn is_built_case(case: &MatchCase, tpe: &IrType, labels: &Labels) -> bool
-    ensures { result ≡ built.are_built_cases built.anything (labels_view labels.now) tpe.now (cases_view (case.now ∷ [])) }
+    ensures { result ≡ built.are_built_cases built.anything (λ e. true) (labels_view labels.now) tpe.now (cases_view (case.now ∷ [])) }
 {
     case.keys.as_slice().is_empty()
         || !yields_boxed(tpe, &case.body) && is_built(&case.body, labels)

@@ -16,7 +16,7 @@ use Rattle.sj_core.specs.Terms as core
 use Rattle.sj_desugar.specs.Desugar.{target_of}
 use Rattle.sj_desugar.specs.Spill.{Destination, Code}
 use Rattle.sj_emit_expr.specs.Templates.{statement_templates}
-use Rattle.sj_plain.specs.Settings.{Setting, run, Lawful, Holding, OfNoVariable}
+use Rattle.sj_plain.specs.Settings.{Receiving, Setting, run, Lawful, Holding, OfNoVariable}
 use Rattle.sj_trees.specs.declared.types.IrType.{IrType}
 use Rattle.sj_bodies.proofs.Contexts.{Context, Writes, Sound, Ahead, Ready, Keeps, Less, Arrives, let_go, stored, returned, Came, gave, left, threw, stopped}
 use Rattle.sj_proper.proofs.Declared.{Declares, declared-named}
@@ -47,7 +47,9 @@ pub record Undeclared (c : Context) (ss : core.Statements) : Type 0 where
   pub scope : (x : List ℕ) (t : IrType) → c.scope x t → Declares ss (core.named x) → ⊥
   pub writable : (y : core.Variable) → c.writable y → Declares ss y → ⊥
   pub kept : (y : core.Variable) → c.kept y → Declares ss y → ⊥
+  pub receiver : Declares ss core.receiver → ⊥
 
+<<<<<<< HEAD
 outside-writable : (c : Context) (own : List ℕ → Type 0) (j : ℕ) → Outside c own → Ahead c j → (n : ℕ) (y : core.Variable) → IsIn own j n y → c.writable y → ⊥
 outside-writable c own j out ahead n (core.named x) i h = out.writable x i h
 outside-writable c own j out ahead n (core.numbered k) i h = ahead.writable k i.0 h
@@ -61,6 +63,24 @@ undeclared c own j code out ahead g = record {
   scope = λ x t i d. out.scope x t (g.fresh (core.named x) d) i;
   writable = λ y i d. outside-writable c own j out ahead code.next y (g.fresh y d) i;
   kept = λ y i d. outside-kept c own j out ahead code.next y (g.fresh y d) i;
+=======
+outside-writable : (c : Context) (own : List ℕ → Type 0) (j : ℕ) → Outside c own → Ahead c j → (y : core.Variable) → IsNew own j y → c.writable y → ⊥
+outside-writable c own j out ahead (core.named x) n h = out.writable x n h
+outside-writable c own j out ahead (core.numbered k) n h = ahead.writable k n h
+outside-writable c own j out ahead core.receiver n h = n
+
+outside-kept : (c : Context) (own : List ℕ → Type 0) (j : ℕ) → Outside c own → Ahead c j → (y : core.Variable) → IsNew own j y → c.kept y → ⊥
+outside-kept c own j out ahead (core.named x) n h = out.kept x n h
+outside-kept c own j out ahead (core.numbered k) n h = ahead.kept k n h
+outside-kept c own j out ahead core.receiver n h = n
+
+pub undeclared : (c : Context) (own : List ℕ → Type 0) (j : ℕ) (ss : core.Statements) → Outside c own → Ahead c j → ((y : core.Variable) → Declares ss y → IsNew own j y) → Undeclared c ss
+undeclared c own j ss out ahead h = record {
+  scope = λ x t i d. out.scope x t (h (core.named x) d) i;
+  writable = λ y i d. outside-writable c own j out ahead y (h y d) i;
+  kept = λ y i d. outside-kept c own j out ahead y (h y d) i;
+  receiver = λ d. h core.receiver d;
+>>>>>>> 6a46694
 }
 
 module _ (z : Setting) (lawful : Lawful z) (c : Context) (ss : core.Statements) (free : Undeclared c ss) where
@@ -88,15 +108,15 @@ module _ (z : Setting) (lawful : Lawful z) (c : Context) (ss : core.Statements) 
   behind_block : (outer inner : js.Scope) (n : Name) → is_among (declared shown_statements) n ≡ false → (js_meaning.leave shown_statements outer inner).bindings n ≡ inner.bindings n
   behind_block outer inner n h = ap (λ (b : Bool). if b then outer.bindings n else inner.bindings n) h
 
-  enter-ready : (w : World) (env : ir.Env) (sc : js.Scope) → Ready z.place z.file c.scope c.writable w env sc → Ready z.place z.file c.scope c.writable w env (js_meaning.enter shown_statements sc)
+  enter-ready : (w : World) (env : ir.Env) (sc : js.Scope) → Ready z.place z.code c.scope c.writable w env sc → Ready z.place z.code c.scope c.writable w env (js_meaning.enter shown_statements sc)
   enter-ready w env sc r = record {
-    sees = record { inside = record { file = r.sees.inside.file; free = λ x none. entered sc x (not_among x none) ∙ r.sees.inside.free x none }; locals = λ x t i. subst (Holding w t (env.locals x)) (sym (entered sc (z.place.name (core.named x)) (not_declared (core.named x) (free.scope x t i)))) (r.sees.locals x t i) };
+    sees = record { inside = record { file = r.sees.inside.file; free = λ x none. entered sc x (not_among x none) ∙ r.sees.inside.free x none }; this = subst (Receiving w env.this_value) (sym (entered sc (z.place.name core.receiver) (not_declared core.receiver free.receiver))) r.sees.this; sure = r.sees.sure; locals = λ x t i. subst (Holding w t (env.locals x)) (sym (entered sc (z.place.name (core.named x)) (not_declared (core.named x) (free.scope x t i)))) (r.sees.locals x t i) };
     «open» = λ y i. record { value = (r.«open» y i).value; is = entered sc (z.place.name y) (not_declared y (free.writable y i)) ∙ (r.«open» y i).is };
   }
 
-  leave-ready : (w : World) (env : ir.Env) (outer inner : js.Scope) → Ready z.place z.file c.scope c.writable w env inner → Ready z.place z.file c.scope c.writable w env (js_meaning.leave shown_statements outer inner)
+  leave-ready : (w : World) (env : ir.Env) (outer inner : js.Scope) → Ready z.place z.code c.scope c.writable w env inner → Ready z.place z.code c.scope c.writable w env (js_meaning.leave shown_statements outer inner)
   leave-ready w env outer inner r = record {
-    sees = record { inside = record { file = r.sees.inside.file; free = λ x none. behind_block outer inner x (not_among x none) ∙ r.sees.inside.free x none }; locals = λ x t i. subst (Holding w t (env.locals x)) (sym (behind_block outer inner (z.place.name (core.named x)) (not_declared (core.named x) (free.scope x t i)))) (r.sees.locals x t i) };
+    sees = record { inside = record { file = r.sees.inside.file; free = λ x none. behind_block outer inner x (not_among x none) ∙ r.sees.inside.free x none }; this = subst (Receiving w env.this_value) (sym (behind_block outer inner (z.place.name core.receiver) (not_declared core.receiver free.receiver))) r.sees.this; sure = r.sees.sure; locals = λ x t i. subst (Holding w t (env.locals x)) (sym (behind_block outer inner (z.place.name (core.named x)) (not_declared (core.named x) (free.scope x t i)))) (r.sees.locals x t i) };
     «open» = λ y i. record { value = (r.«open» y i).value; is = behind_block outer inner (z.place.name y) (not_declared y (free.writable y i)) ∙ (r.«open» y i).is };
   }
 
@@ -108,16 +128,16 @@ module _ (z : Setting) (lawful : Lawful z) (c : Context) (ss : core.Statements) 
   leave-arrives w v outer inner usual _ _ wr (stored x t j a h) = stored x t j a (behind_block outer inner (z.place.name x) (not_declared x (free.writable x wr)) ∙ h)
   leave-arrives w v outer inner usual _ _ wr (returned t j a) = returned t j a
 
-  leaving_alike : (k : Destination) (w : World) (sc : js.Scope) → Sound z.is_mutable c → Writes c.writable k → (a : ir.Ended) (b : js.StatementEnd) → Came z.place z.file c c.scope k w (js_meaning.enter shown_statements sc) a b → Sim z.direction (Came z.place z.file c c.scope k w sc) (done a) (js_meaning.leaving shown_statements sc b)
-  leaving_alike k w sc sound wr _ _ (gave y v env s sc' u e g a r ks same) = sim_done z.direction (Came z.place z.file c c.scope k w sc) (ir.ends (ir.gives v) env s) (js.ends e (js_meaning.leave shown_statements sc sc') u) (gave y v env s (js_meaning.leave shown_statements sc sc') u e g (leave-arrives y v sc sc' js.normally k e wr a) (leave-ready y env sc sc' r) (leave-keeps (Less c.kept k) sc sc' (λ y h. h.0) ks) same)
-  leaving_alike k w sc sound wr _ _ (left y l v env s sc' u e reach g a r ks same) = sim_done z.direction (Came z.place z.file c c.scope k w sc) (ir.ends (ir.leaves l v) env s) (js.ends e (js_meaning.leave shown_statements sc sc') u) (left y l v env s (js_meaning.leave shown_statements sc sc') u e reach g (leave-arrives y v sc sc' (js.breaks (z.place.label l)) (target_of c.targets l) e (sound.reached l reach) a) (leave-ready y env sc sc' r) (leave-keeps (Less c.kept (target_of c.targets l)) sc sc' (λ y h. h.0) ks) same)
-  leaving_alike k w sc sound wr _ _ (threw y v x env s sc' u g a r ks same) = sim_done z.direction (Came z.place z.file c c.scope k w sc) (ir.ends (ir.throws v) env s) (js.ends (js.thrown_with x) (js_meaning.leave shown_statements sc sc') u) (threw y v x env s (js_meaning.leave shown_statements sc sc') u g a (leave-ready y env sc sc' r) (leave-keeps c.kept sc sc' (λ y h. h) ks) same)
-  leaving_alike k w sc sound wr _ _ (stopped y env s sc' u t g r ks same) = sim_done z.direction (Came z.place z.file c c.scope k w sc) (ir.ends ir.stops env s) (js.ends js.breaks_nearest (js_meaning.leave shown_statements sc sc') u) (stopped y env s (js_meaning.leave shown_statements sc sc') u t g (leave-ready y env sc sc' r) (leave-keeps c.kept sc sc' (λ y h. h) ks) same)
+  leaving_alike : (k : Destination) (w : World) (sc : js.Scope) → Sound z.is_mutable c → Writes c.writable k → (a : ir.Ended) (b : js.StatementEnd) → Came z.place z.code c c.scope k w (js_meaning.enter shown_statements sc) a b → Sim z.direction (Came z.place z.code c c.scope k w sc) (done a) (js_meaning.leaving shown_statements sc b)
+  leaving_alike k w sc sound wr _ _ (gave y v env s sc' u e g a r ks same) = sim_done z.direction (Came z.place z.code c c.scope k w sc) (ir.ends (ir.gives v) env s) (js.ends e (js_meaning.leave shown_statements sc sc') u) (gave y v env s (js_meaning.leave shown_statements sc sc') u e g (leave-arrives y v sc sc' js.normally k e wr a) (leave-ready y env sc sc' r) (leave-keeps (Less c.kept k) sc sc' (λ y h. h.0) ks) same)
+  leaving_alike k w sc sound wr _ _ (left y l v env s sc' u e reach g a r ks same) = sim_done z.direction (Came z.place z.code c c.scope k w sc) (ir.ends (ir.leaves l v) env s) (js.ends e (js_meaning.leave shown_statements sc sc') u) (left y l v env s (js_meaning.leave shown_statements sc sc') u e reach g (leave-arrives y v sc sc' (js.breaks (z.place.label l)) (target_of c.targets l) e (sound.reached l reach) a) (leave-ready y env sc sc' r) (leave-keeps (Less c.kept (target_of c.targets l)) sc sc' (λ y h. h.0) ks) same)
+  leaving_alike k w sc sound wr _ _ (threw y v x env s sc' u g a r ks same) = sim_done z.direction (Came z.place z.code c c.scope k w sc) (ir.ends (ir.throws v) env s) (js.ends (js.thrown_with x) (js_meaning.leave shown_statements sc sc') u) (threw y v x env s (js_meaning.leave shown_statements sc sc') u g a (leave-ready y env sc sc' r) (leave-keeps c.kept sc sc' (λ y h. h) ks) same)
+  leaving_alike k w sc sound wr _ _ (stopped y env s sc' u t g r ks same) = sim_done z.direction (Came z.place z.code c c.scope k w sc) (ir.ends ir.stops env s) (js.ends js.breaks_nearest (js_meaning.leave shown_statements sc sc') u) (stopped y env s (js_meaning.leave shown_statements sc sc') u t g (leave-ready y env sc sc' r) (leave-keeps c.kept sc sc' (λ y h. h) ks) same)
 
   -- what stands in a block with the names that these statements declare
-  pub scoped_alike : (k : Destination) (w : World) (env : ir.Env) (sc : js.Scope) (u : js.State) (o : Out ir.Ended) (x : js.Execution) → Sound z.is_mutable c → Writes c.writable k → Ready z.place z.file c.scope c.writable w env sc → (Ready z.place z.file c.scope c.writable w env (js_meaning.enter shown_statements sc) → Sim z.direction (Came z.place z.file c c.scope k w (js_meaning.enter shown_statements sc)) o (x (js_meaning.enter shown_statements sc) u)) → Sim z.direction (Came z.place z.file c c.scope k w sc) o (js_meaning.in_block shown_statements x sc u)
-  scoped_alike k w env sc u o x sound wr r inner = subst (λ q. Sim z.direction (Came z.place z.file c c.scope k w sc) q (js_meaning.in_block shown_statements x sc u)) (then_do-right o) (sim_then z.direction (Came z.place z.file c c.scope k w (js_meaning.enter shown_statements sc)) (Came z.place z.file c c.scope k w sc) o (x (js_meaning.enter shown_statements sc) u) done (js_meaning.leaving shown_statements sc) (inner (enter-ready w env sc r)) (leaving_alike k w sc sound wr))
+  pub scoped_alike : (k : Destination) (w : World) (env : ir.Env) (sc : js.Scope) (u : js.State) (o : Out ir.Ended) (x : js.Execution) → Sound z.is_mutable c → Writes c.writable k → Ready z.place z.code c.scope c.writable w env sc → (Ready z.place z.code c.scope c.writable w env (js_meaning.enter shown_statements sc) → Sim z.direction (Came z.place z.code c c.scope k w (js_meaning.enter shown_statements sc)) o (x (js_meaning.enter shown_statements sc) u)) → Sim z.direction (Came z.place z.code c c.scope k w sc) o (js_meaning.in_block shown_statements x sc u)
+  scoped_alike k w env sc u o x sound wr r inner = subst (λ q. Sim z.direction (Came z.place z.code c c.scope k w sc) q (js_meaning.in_block shown_statements x sc u)) (then_do-right o) (sim_then z.direction (Came z.place z.code c c.scope k w (js_meaning.enter shown_statements sc)) (Came z.place z.code c c.scope k w sc) o (x (js_meaning.enter shown_statements sc) u) done (js_meaning.leaving shown_statements sc) (inner (enter-ready w env sc r)) (leaving_alike k w sc sound wr))
 
   -- a tree whose statements stand in a block of their own
-  pub block_alike : (k : Destination) (w : World) (env : ir.Env) (sc : js.Scope) (u : js.State) (o : Out ir.Ended) → Sound z.is_mutable c → Writes c.writable k → Ready z.place z.file c.scope c.writable w env sc → (Ready z.place z.file c.scope c.writable w env (js_meaning.enter shown_statements sc) → Sim z.direction (Came z.place z.file c c.scope k w (js_meaning.enter shown_statements sc)) o (run z ss (js_meaning.enter shown_statements sc) u)) → Sim z.direction (Came z.place z.file c c.scope k w sc) o (js_meaning.in_block shown_statements (run z ss) sc u)
+  pub block_alike : (k : Destination) (w : World) (env : ir.Env) (sc : js.Scope) (u : js.State) (o : Out ir.Ended) → Sound z.is_mutable c → Writes c.writable k → Ready z.place z.code c.scope c.writable w env sc → (Ready z.place z.code c.scope c.writable w env (js_meaning.enter shown_statements sc) → Sim z.direction (Came z.place z.code c c.scope k w (js_meaning.enter shown_statements sc)) o (run z ss (js_meaning.enter shown_statements sc) u)) → Sim z.direction (Came z.place z.code c c.scope k w sc) o (js_meaning.in_block shown_statements (run z ss) sc u)
   block_alike k w env sc u o = scoped_alike k w env sc u o (run z ss)

@@ -11,8 +11,13 @@ use Rattle.sj_desugar.specs.Desugar.{Targets, target_of}
 use Rattle.sj_desugar.specs.Spill.{Destination, discard, to_variable, to_result}
 use Rattle.sj_trees.specs.declared.types.IrType.{IrType}
 use Rattle.sj_trees.specs.declared.types.IrType.TheVariants.{Any}
+<<<<<<< HEAD
 use Rattle.body_rules.specs.Locals.{Scope}
 use Rattle.sj_plain.specs.Settings.{Place, Setting, SameState, Inside, Lawful, Holding, Sees}
+=======
+use Rattle.sj_plain.specs.Conditions.{Scope}
+use Rattle.sj_plain.specs.Settings.{Place, Code, Receiving, Setting, SameState, Inside, Lawful, Holding, Sees}
+>>>>>>> 6a46694
 use Rattle.sj_plain.proofs.Plain.{sees-lift}
 use Rattle.sj_plain.proofs.Worlds.{World, Grows, SameValue}
 
@@ -34,13 +39,15 @@ Writes q (to_variable y t) = q y
 Writes q (to_result t) = Unit {0}
 
 -- what may be written is no local in scope; a local in scope is kept where it isn't mutable, and no mutable one is; it has one type; and the
--- values that leave to a label go where it may be written
+-- values that leave to a label go where it may be written. This is kept.
 pub record Sound (is_mutable : List ℕ → Bool) (c : Context) : Type 0 where
   pub hidden : (x : List ℕ) (t : IrType) → c.writable (core.named x) → c.scope x t → ⊥
   pub constant : (x : List ℕ) (t : IrType) → c.scope x t → is_mutable x ≡ false → c.kept (core.named x)
   pub changing : (x : List ℕ) (t : IrType) → c.scope x t → c.kept (core.named x) → is_mutable x ≡ true → ⊥
   pub alone : (x : List ℕ) (s t : IrType) → c.scope x s → c.scope x t → s ≡ t
   pub reached : (l : List ℕ) → c.reaches l → Writes c.writable (target_of c.targets l)
+  pub receiver : c.kept core.receiver
+  pub received : c.writable core.receiver → ⊥
 
 -- no variable for an operand from this number on is in use
 pub record Ahead (c : Context) (j : ℕ) : Type 0 where
@@ -52,11 +59,11 @@ pub record IsOpen (cell : js.Cell) : Type 0 where
   pub value : js.Value
   pub is : cell ≡ js.holds false value
 
-pub record Ready (p : Place) (here : Name) (scope : Scope) (writable : core.Variable → Type 0) (w : World) (env : ir.Env) (sc : js.Scope) : Type 0 where
+pub record Ready (p : Place) (here : Code) (scope : Scope) (writable : core.Variable → Type 0) (w : World) (env : ir.Env) (sc : js.Scope) : Type 0 where
   pub sees : Sees p here scope w env sc
   pub «open» : (y : core.Variable) → writable y → IsOpen (sc.bindings (p.name y))
 
-pub ready-lift : (z : Setting) (scope : Scope) (q : core.Variable → Type 0) (u w : World) (env : ir.Env) (sc : js.Scope) → Grows u w → Ready z.place z.file scope q u env sc → Ready z.place z.file scope q w env sc
+pub ready-lift : (z : Setting) (scope : Scope) (q : core.Variable → Type 0) (u w : World) (env : ir.Env) (sc : js.Scope) → Grows u w → Ready z.place z.code scope q u env sc → Ready z.place z.code scope q w env sc
 ready-lift z scope q u w env sc g r = record { sees = sees-lift z scope u w env sc g r.sees; «open» = r.«open» }
 
 pub record Keeps (p : Place) (kept : core.Variable → Type 0) (before behind : js.Scope) : Type 0 where
@@ -97,7 +104,7 @@ pub data Arrives (p : Place) (w : World) (v : ir.Value) (sc : js.Scope) (usual :
   returned : (t : IrType) (j : js.Value) → SameValue w t v j → Arrives p w v sc usual (to_result t) (js.returns j)
 
 -- how a tree and its statements came to their end; inside a loop's turn, its condition may not hold any more
-pub data Came (p : Place) (here : Name) (c : Context) (scope : Scope) (k : Destination) (from : World) (before : js.Scope) : ir.Ended → js.StatementEnd → Type 0 where
+pub data Came (p : Place) (here : Code) (c : Context) (scope : Scope) (k : Destination) (from : World) (before : js.Scope) : ir.Ended → js.StatementEnd → Type 0 where
   gave : (w : World) (v : ir.Value) (env : ir.Env) (s : ir.State) (sc : js.Scope) (u : js.State) (e : js.Completion) → Grows from w → Arrives p w v sc js.normally k e → Ready p here scope c.writable w env sc → Keeps p (Less c.kept k) before sc → SameState p w s u → Came p here c scope k from before (ir.ends (ir.gives v) env s) (js.ends e sc u)
   left : (w : World) (l : List ℕ) (v : ir.Value) (env : ir.Env) (s : ir.State) (sc : js.Scope) (u : js.State) (e : js.Completion) → c.reaches l → Grows from w → Arrives p w v sc (js.breaks (p.label l)) (target_of c.targets l) e → Ready p here c.scope c.writable w env sc → Keeps p (Less c.kept (target_of c.targets l)) before sc → SameState p w s u → Came p here c scope k from before (ir.ends (ir.leaves l v) env s) (js.ends e sc u)
   threw : (w : World) (v : ir.Value) (x : js.Value) (env : ir.Env) (s : ir.State) (sc : js.Scope) (u : js.State) → Grows from w → SameValue w Any v x → Ready p here c.scope c.writable w env sc → Keeps p c.kept before sc → SameState p w s u → Came p here c scope k from before (ir.ends (ir.throws v) env s) (js.ends (js.thrown_with x) sc u)
@@ -112,13 +119,13 @@ module _ (z : Setting) (lawful : Lawful z) where
   pub started-other : (const : Bool) (y x : core.Variable) (v : js.Value) (sc : js.Scope) → (x ≡ y → ⊥) → (js_meaning.start const (z.place.name y) v sc).bindings (z.place.name x) ≡ sc.bindings (z.place.name x)
   started-other const y x v sc h = ap (λ (t : Bool). if t then js.holds const v else sc.bindings (z.place.name x)) (differs (z.place.name x) (z.place.name y) (λ e. h (lawful.base.names.variables x y e)))
 
-  pub started-inside : (const : Bool) (y : core.Variable) (v : js.Value) (sc : js.Scope) → Inside z.place z.file sc → Inside z.place z.file (js_meaning.start const (z.place.name y) v sc)
+  pub started-inside : (const : Bool) (y : core.Variable) (v : js.Value) (sc : js.Scope) → Inside z.place z.code sc → Inside z.place z.code (js_meaning.start const (z.place.name y) v sc)
   started-inside const y v sc i = record { file = i.file; free = λ x none. ap (λ (t : Bool). if t then js.holds const v else sc.bindings x) (differs x (z.place.name y) (λ e. none y (sym e))) ∙ i.free x none }
 
   -- a binding that is no local in scope and may not be written otherwise
-  pub started-ready : (scope : Scope) (q : core.Variable → Type 0) (const : Bool) (y : core.Variable) (v : js.Value) (w : World) (env : ir.Env) (sc : js.Scope) → ((x : List ℕ) (t : IrType) → scope x t → core.named x ≡ y → ⊥) → ((x : core.Variable) → q x → x ≡ y → ⊥) → Ready z.place z.file scope q w env sc → Ready z.place z.file scope q w env (js_meaning.start const (z.place.name y) v sc)
-  started-ready scope q const y v w env sc out unwritten r = record {
-    sees = record { inside = started-inside const y v sc r.sees.inside; locals = λ x t i. subst (Holding w t (env.locals x)) (sym (started-other const y (core.named x) v sc (out x t i))) (r.sees.locals x t i) };
+  pub started-ready : (scope : Scope) (q : core.Variable → Type 0) (const : Bool) (y : core.Variable) (v : js.Value) (w : World) (env : ir.Env) (sc : js.Scope) → ((x : List ℕ) (t : IrType) → scope x t → core.named x ≡ y → ⊥) → ((x : core.Variable) → q x → x ≡ y → ⊥) → (core.receiver ≡ y → ⊥) → Ready z.place z.code scope q w env sc → Ready z.place z.code scope q w env (js_meaning.start const (z.place.name y) v sc)
+  started-ready scope q const y v w env sc out unwritten apart r = record {
+    sees = record { inside = started-inside const y v sc r.sees.inside; this = subst (Receiving w env.this_value) (sym (started-other const y core.receiver v sc apart)) r.sees.this; sure = r.sees.sure; locals = λ x t i. subst (Holding w t (env.locals x)) (sym (started-other const y (core.named x) v sc (out x t i))) (r.sees.locals x t i) };
     «open» = λ x i. record { value = (r.«open» x i).value; is = started-other const y x v sc (unwritten x i) ∙ (r.«open» x i).is };
   }
 

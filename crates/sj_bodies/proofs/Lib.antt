@@ -10,3 +10,4 @@ pub mod Spills
 pub mod Statements
 pub mod Trees
 pub mod Turns
+pub mod ObjectTrees

@@ -5,7 +5,7 @@ use Rattle.std.specs.Int.{w32}
 use Rattle.outcomes.specs.Outcome.{Out, done, wrong, then_do}
 use Rattle.outcomes.specs.Agreement.{Sim}
 use Rattle.outcomes.proofs.Sequence.{then_do-associative}
-use Rattle.outcomes.proofs.Simulation.{sim_done, sim_then}
+use Rattle.outcomes.proofs.Simulation.{sim_done, sim_wrong, sim_then}
 use Rattle.ir_mean.specs.Meaning as ir_meaning
 use Rattle.ir_mean.specs.States as ir
 use Rattle.js_mean.specs.Files.{owner}
@@ -16,22 +16,30 @@ use Rattle.sj_core.specs.Terms.{followed}
 use Rattle.sj_desugar.specs.Desugar.{into, operands, expression_of, target_of}
 use Rattle.sj_desugar.specs.Plain.{is_fixed}
 use Rattle.sj_desugar.specs.Spill.{Destination, to_variable, Code, Operand, all_plain, texts, spill, spill_case, then_use}
+<<<<<<< HEAD
 use Rattle.sj_trees.specs.Term.{Term, undefined_literal, null_literal, boolean_literal, char_literal, byte_literal, short_literal, int_literal, long_literal, string_literal, var_ref, this_ref}
 use Rattle.sj_trees.specs.declared.positions.Position.{Position}
 use Rattle.sj_trees.specs.declared.types.IrType.{IrType}
 use Rattle.body_rules.proofs.Locals.{there}
+=======
+use Rattle.sj_trees.specs.Term.{Term, if_then, apply_statically, new_object, select, this_ref, apply_static, unary_op, binary_op, undefined_literal, null_literal, boolean_literal, char_literal, byte_literal, short_literal, int_literal, long_literal, string_literal, var_ref}
+use Rattle.sj_trees.specs.declared.positions.Position.{Position}
+use Rattle.sj_trees.specs.declared.types.IrType.{IrType}
+use Rattle.sj_trees.specs.declared.types.IrType.TheVariants.{Any}
+use Rattle.sj_names.specs.declared.method_names.Namespace.TheVariants.{Private}
+>>>>>>> 6a46694
 use Rattle.sj_plain.specs.Conditions.{Plain}
-use Rattle.sj_plain.specs.Settings.{Setting, shown, run, SameState, Valued, valued, thrown, Lawful, Holding, holding, Sees, usable}
+use Rattle.sj_plain.specs.Settings.{Receiving, no_receiver, on_receiver, Setting, shown, run, SameState, Valued, valued, thrown, Lawful, Holding, holding, Sees, usable}
 use Rattle.sj_names.proofs.Same.{impossible}
 use Rattle.sj_plain.proofs.Templates.{fits-exact, unit_is_int}
 use Rattle.sj_plain.proofs.Told.{tells}
-use Rattle.sj_plain.specs.Standing.{suits}
+use Rattle.sj_plain.specs.Standing.{suits, Fits}
 use Rattle.int_arithmetic.proofs.Longs.{in_range-fits}
 use Rattle.sj_trees.specs.TypeOf.{type_of_term}
 use Rattle.sj_plain.proofs.Orders.{text_of, OperandAlike, OperandsAlike, no_operands, more_operands}
 use Rattle.sj_bodies.proofs.Contexts.{Context, Sound, Ahead, IsOpen, Ready, ready-lift, Keeps, Less, less-trans, keeps-refl, keeps-trans, keeps-fewer, stored, Came, gave, left, threw, stopped, started-here, started-ready, started-keeps}
 use Rattle.sj_bodies.proofs.Statements.{run-followed, leaves_on, ThrowsOn, throws-on, Ends}
-use Rattle.sj_plain.proofs.Worlds.{World, Grows, grows-refl, grows-trans, SameValue, Stands, same_undefined, same_null, same_boolean, same_char, same_number, same_long, same_text, value-lift}
+use Rattle.sj_plain.proofs.Worlds.{World, Grows, grows-refl, grows-trans, SameValue, Stands, same_undefined, same_null, same_boolean, same_char, same_number, same_long, same_text, value-lift, value-fits}
 
 -- a context in which further variables keep what they hold, and one in which one more may be written
 abbrev pub keeping : Context → (core.Variable → Type 0) → Context
@@ -62,7 +70,7 @@ pub record Piece : Type 0 where
 module _ (z : Setting) (lawful : Lawful z) where
   -- a tree and its statements, in a context, with a destination and numbers from this on
   abbrev pub Does : Context → Destination → ℕ → Term → Type 0
-  Does c k j t = (w : World) (env : ir.Env) (s : ir.State) (sc : js.Scope) (u : js.State) → Ready z.place z.file c.scope c.writable w env sc → SameState z.place w s u → Sim z.direction (Came z.place z.file c c.scope k w sc) (ir_meaning.step z.place.classes z.low t env s) (run z (into z.is_mutable c.targets k j t).statements sc u)
+  Does c k j t = (w : World) (env : ir.Env) (s : ir.State) (sc : js.Scope) (u : js.State) → Ready z.place z.code c.scope c.writable w env sc → SameState z.place w s u → Sim z.direction (Came z.place z.code c c.scope k w sc) (ir_meaning.step z.place.classes z.low t env s) (run z (into z.is_mutable z.code.sure c.targets k j t).statements sc u)
 
   -- an operand that gives a value at once, and whose expression goes on to give what stands for it
   pub record FixedRun (p : core.Variable → Type 0) (w : World) (env : ir.Env) (sc : js.Scope) (t : IrType) (r : ir.Run) (e : core.Expression) : Type 0 where
@@ -73,7 +81,7 @@ module _ (z : Setting) (lawful : Lawful z) where
     pub goes_on : (later : js.Scope) (u : js.State) → Keeps z.place p sc later → shown z e later u ≡ done (js.gives js_value u)
 
   abbrev FixedTree : (p : core.Variable → Type 0) (w : World) (env : ir.Env) (sc : js.Scope) (t : Term) → Type 0
-  FixedTree p w env sc t = FixedRun p w env sc (type_of_term t) (ir_meaning.step z.place.classes z.low t) (expression_of t)
+  FixedTree p w env sc t = FixedRun p w env sc (type_of_term t) (ir_meaning.step z.place.classes z.low t) (expression_of z.code.sure t)
 
   local_fixed : (p : core.Variable → Type 0) (w : World) (env : ir.Env) (sc : js.Scope) (q : Position) (x : List ℕ) (t : IrType) → p (core.named x) → (o : Option ir.Value) (cell : js.Cell) → Holding w t o cell → env.locals x ≡ o → sc.bindings (z.place.name (core.named x)) ≡ cell → FixedTree p w env sc (var_ref q x t)
   local_fixed p w env sc q x t kept _ _ (holding v j a) e h = record {
@@ -88,12 +96,13 @@ module _ (z : Setting) (lawful : Lawful z) where
   not_mutable true h = impossible h
   not_mutable false h = refl
 
-  value_fixed : (p : core.Variable → Type 0) (w : World) (env : ir.Env) (sc : js.Scope) (t : Term) (v : ir.Value) (x : js.Value) → Stands w v x → suits (type_of_term t) v ≡ true → ((s : ir.State) → ir_meaning.step z.place.classes z.low t env s ≡ done (ir.ends (ir.gives v) env s)) → ((later : js.Scope) (u : js.State) → shown z (expression_of t) later u ≡ done (js.gives x u)) → FixedTree p w env sc t
+  value_fixed : (p : core.Variable → Type 0) (w : World) (env : ir.Env) (sc : js.Scope) (t : Term) (v : ir.Value) (x : js.Value) → Stands w v x → suits (type_of_term t) v ≡ true → ((s : ir.State) → ir_meaning.step z.place.classes z.low t env s ≡ done (ir.ends (ir.gives v) env s)) → ((later : js.Scope) (u : js.State) → shown z (expression_of z.code.sure t) later u ≡ done (js.gives x u)) → FixedTree p w env sc t
   value_fixed p w env sc t v x a k g h = record { value = v; js_value = x; gives = g; alike = record { stands = a; suits = k }; goes_on = λ later u ks. h later u }
 
-  number_fixed : (p : core.Variable → Type 0) (w : World) (env : ir.Env) (sc : js.Scope) (t : Term) (v : ir.Value) (n : ℤ) → FitsSigned w32 n → Stands w v (js.number n) → suits (type_of_term t) v ≡ true → ((s : ir.State) → ir_meaning.step z.place.classes z.low t env s ≡ done (ir.ends (ir.gives v) env s)) → ((later : js.Scope) (u : js.State) → shown z (expression_of t) later u ≡ js_meaning.literal n later u) → FixedTree p w env sc t
+  number_fixed : (p : core.Variable → Type 0) (w : World) (env : ir.Env) (sc : js.Scope) (t : Term) (v : ir.Value) (n : ℤ) → FitsSigned w32 n → Stands w v (js.number n) → suits (type_of_term t) v ≡ true → ((s : ir.State) → ir_meaning.step z.place.classes z.low t env s ≡ done (ir.ends (ir.gives v) env s)) → ((later : js.Scope) (u : js.State) → shown z (expression_of z.code.sure t) later u ≡ js_meaning.literal n later u) → FixedTree p w env sc t
   number_fixed p w env sc t v n f a k g h = value_fixed p w env sc t v (js.number n) a k g (λ later u. h later u ∙ ap (λ (b : Bool). if b then done (js.gives (js.number n) u) else wrong) (fits-exact n f))
 
+<<<<<<< HEAD
   pub fixed_run : (c : Context) (p : core.Variable → Type 0) (t : Term) → Sound z.is_mutable (keeping c p) → is_fixed z.is_mutable t ≡ true → Plain z.place.classes (usable z) c.scope t → (w : World) (env : ir.Env) (sc : js.Scope) → Sees z.place z.file c.scope w env sc → FixedTree p w env sc t
   fixed_run c p (undefined_literal q) sound e h w env sc sees = value_fixed p w env sc (undefined_literal q) ir.undefined js.undefined same_undefined refl (λ s. refl) (λ later u. refl)
   fixed_run c p (null_literal q) sound e h w env sc sees = value_fixed p w env sc (null_literal q) ir.null js.null same_null refl (λ s. refl) (λ later u. refl)
@@ -107,15 +116,51 @@ module _ (z : Setting) (lawful : Lawful z) where
   fixed_run c p (var_ref q x t) sound e h w env sc sees = local_fixed p w env sc q x t (sound.constant x t (h.seen x t (there h.scene x t h.typed.finds)) (not_mutable (z.is_mutable x) e)) (env.locals x) (sc.bindings (z.place.name (core.named x))) (sees.locals x t (h.seen x t (there h.scene x t h.typed.finds))) refl refl
   fixed_run c p (this_ref q t) sound e h w env sc sees = impossible h.typed.built
   fixed_run c p _ sound e h w env sc sees = impossible e
+=======
+  -- or it is wrong
+  abbrev pub FixedOrWrong : (p : core.Variable → Type 0) (w : World) (env : ir.Env) (sc : js.Scope) (t : IrType) (r : ir.Run) (e : core.Expression) → Type 0
+  FixedOrWrong p w env sc t r e = FixedRun p w env sc t r e ⊎ ((s : ir.State) → r env s ≡ wrong)
+
+  this_fixed : (p : core.Variable → Type 0) (w : World) (env : ir.Env) (sc : js.Scope) (q : Position) (t : IrType) → Fits t Any → p core.receiver → (o : Option ir.Value) (cell : js.Cell) → Receiving w o cell → env.this_value ≡ o → sc.bindings (z.place.name core.receiver) ≡ cell → FixedOrWrong p w env sc t (ir_meaning.step z.place.classes z.low (this_ref q t)) (core.variable_use core.receiver)
+  this_fixed p w env sc q t f kept _ _ (no_receiver cell) e h = inr (λ s. ap (λ (o : Option ir.Value). ir_meaning.local_value o env s) e)
+  this_fixed p w env sc q t f kept _ _ (on_receiver v j a) e h = inl (record {
+    value = v;
+    js_value = j;
+    gives = λ s. ap (λ (o : Option ir.Value). ir_meaning.local_value o env s) e;
+    alike = value-fits w t Any v j f a.stands;
+    goes_on = λ later u ks. ap (λ (cell : js.Cell). js_meaning.cell_value (js_meaning.or_outer cell (js_meaning.top_cell (owner z.place.program later.file (z.place.name core.receiver)) (z.place.name core.receiver) u)) u) (ks.same core.receiver kept ∙ h);
+  })
+
+  pub fixed_run : (c : Context) (p : core.Variable → Type 0) (t : Term) → Sound z.is_mutable (keeping c p) → is_fixed z.is_mutable t ≡ true → Plain (usable z) z.code.sure c.scope t → (w : World) (env : ir.Env) (sc : js.Scope) → Sees z.place z.code c.scope w env sc → FixedOrWrong p w env sc (type_of_term t) (ir_meaning.step z.place.classes z.low t) (expression_of z.code.sure t)
+  fixed_run c p (undefined_literal q) sound e h w env sc sees = inl (value_fixed p w env sc (undefined_literal q) ir.undefined js.undefined same_undefined refl (λ s. refl) (λ later u. refl))
+  fixed_run c p (null_literal q) sound e h w env sc sees = inl (value_fixed p w env sc (null_literal q) ir.null js.null same_null refl (λ s. refl) (λ later u. refl))
+  fixed_run c p (boolean_literal q b) sound e h w env sc sees = inl (value_fixed p w env sc (boolean_literal q b) (ir.boolean b) (js.boolean b) (same_boolean b) refl (λ s. refl) (λ later u. refl))
+  fixed_run c p (string_literal q us) sound e h w env sc sees = inl (value_fixed p w env sc (string_literal q us) (ir.text us) (js.text us) (same_text us) refl (λ s. refl) (λ later u. refl))
+  fixed_run c p (char_literal q n) sound e h w env sc sees = inl (number_fixed p w env sc (char_literal q n) (ir.char n) (pos n) (unit_is_int n h) (same_char n h) refl (λ s. refl) (λ later u. refl))
+  fixed_run c p (byte_literal q n) sound e h w env sc sees = inl (number_fixed p w env sc (byte_literal q n) (ir.number n) n h (same_number n h) refl (λ s. refl) (λ later u. refl))
+  fixed_run c p (short_literal q n) sound e h w env sc sees = inl (number_fixed p w env sc (short_literal q n) (ir.number n) n h (same_number n h) refl (λ s. refl) (λ later u. refl))
+  fixed_run c p (int_literal q n) sound e h w env sc sees = inl (number_fixed p w env sc (int_literal q n) (ir.number n) n h (same_number n h) refl (λ s. refl) (λ later u. refl))
+  fixed_run c p (long_literal q n) sound e h w env sc sees = inl (value_fixed p w env sc (long_literal q n) (ir.long n) (js.big_int n) (same_long n h) refl (λ s. refl) (λ later u. ap (λ (b : Bool). if b then done (js.gives (js.big_int n) u) else wrong) (in_range-fits n h)))
+  fixed_run c p (var_ref q x t) sound e h w env sc sees = inl (local_fixed p w env sc q x t (sound.constant x t h (not_mutable (z.is_mutable x) e)) (env.locals x) (sc.bindings (z.place.name (core.named x))) (sees.locals x t h) refl refl)
+  fixed_run c p (this_ref q t) sound e h w env sc sees = this_fixed p w env sc q t h sound.receiver env.this_value (sc.bindings (z.place.name core.receiver)) sees.this refl refl
+  fixed_run c p (if_then q a b d t) sound e h w env sc sees = impossible e
+  fixed_run c p (apply_static q x n m ts t) sound e h w env sc sees = impossible e
+  fixed_run c p (apply_statically q x d Private m ts t) sound e h w env sc sees = impossible e
+  fixed_run c p (new_object q x m ts) sound e h w env sc sees = impossible e
+  fixed_run c p (select q x d f t) sound e h w env sc sees = impossible e
+  fixed_run c p (unary_op q o a) sound e h w env sc sees = impossible e
+  fixed_run c p (binary_op q o a b) sound e h w env sc sees = impossible e
+  fixed_run c p _ sound e h w env sc sees = absurd h
+>>>>>>> 6a46694
 
   -- what is known of a plain one
   pub record Plainly (c : Context) (t : Piece) : Type 1 where
-    pub alike : (w : World) (env : ir.Env) (sc : js.Scope) → Sees z.place z.file c.scope w env sc → OperandAlike z w env sc t.here.tpe t.run (shown z t.here.text)
+    pub alike : (w : World) (env : ir.Env) (sc : js.Scope) → Sees z.place z.code c.scope w env sc → OperandAlike z w env sc t.here.tpe t.run (shown z t.here.text)
     pub told : tells t.here.tpe (text_of z t.here.text) ≡ true
-    pub fixes : t.here.fixed ≡ true → (p : core.Variable → Type 0) → Sound z.is_mutable (keeping c p) → (w : World) (env : ir.Env) (sc : js.Scope) → Sees z.place z.file c.scope w env sc → FixedRun p w env sc t.here.tpe t.run t.here.text
+    pub fixes : t.here.fixed ≡ true → (p : core.Variable → Type 0) → Sound z.is_mutable (keeping c p) → (w : World) (env : ir.Env) (sc : js.Scope) → Sees z.place z.code c.scope w env sc → FixedOrWrong p w env sc t.here.tpe t.run t.here.text
 
   abbrev pub PieceDoes : Context → Destination → ℕ → Piece → Type 0
-  PieceDoes c k j t = (w : World) (env : ir.Env) (s : ir.State) (sc : js.Scope) (u : js.State) → Ready z.place z.file c.scope c.writable w env sc → SameState z.place w s u → Sim z.direction (Came z.place z.file c c.scope k w sc) (t.run env s) (run z (t.here.code k j).statements sc u)
+  PieceDoes c k j t = (w : World) (env : ir.Env) (s : ir.State) (sc : js.Scope) (u : js.State) → Ready z.place z.code c.scope c.writable w env sc → SameState z.place w s u → Sim z.direction (Came z.place z.code c c.scope k w sc) (t.run env s) (run z (t.here.code k j).statements sc u)
 
   abbrev pub runs : List Piece → List ir.Run
   runs [] = []
@@ -148,10 +193,10 @@ module _ (z : Setting) (lawful : Lawful z) where
 
   -- what is done with the values of operands, once their statements are behind
   abbrev pub Final : Context → Destination → World → js.Scope → (core.Variable → Type 0) → ℕ → js.Scope → World → List IrType → (List ir.Value → ir.Run) → (List core.Expression → ℕ → Code) → Type 1
-  Final c k from before p j start at ts act rest_of = (q : core.Variable → Type 0) (i : ℕ) (rs : List ir.Run) (es : List core.Expression) (w : World) (env : ir.Env) (s : ir.State) (sc : js.Scope) (u : js.State) → ((y : core.Variable) → p y → q y) → Sound z.is_mutable (keeping c q) → Ahead (keeping c q) i → j ≤ i → Grows at w → Ready z.place z.file c.scope c.writable w env sc → Keeps z.place c.kept before sc → Keeps z.place p start sc → SameState z.place w s u → OperandsAlike z w env sc ts rs es → Ends z lawful c c.scope k from before (ir_meaning.in_order rs act env s) (rest_of es i).statements sc u
+  Final c k from before p j start at ts act rest_of = (q : core.Variable → Type 0) (i : ℕ) (rs : List ir.Run) (es : List core.Expression) (w : World) (env : ir.Env) (s : ir.State) (sc : js.Scope) (u : js.State) → ((y : core.Variable) → p y → q y) → Sound z.is_mutable (keeping c q) → Ahead (keeping c q) i → j ≤ i → Grows at w → Ready z.place z.code c.scope c.writable w env sc → Keeps z.place c.kept before sc → Keeps z.place p start sc → SameState z.place w s u → OperandsAlike z w env sc ts rs es → Ends z lawful c c.scope k from before (ir_meaning.in_order rs act env s) (rest_of es i).statements sc u
 
   abbrev pub SpillDoes : Context → Destination → World → js.Scope → List Piece → Type 1
-  SpillDoes c k from before ts = (p : core.Variable → Type 0) (j : ℕ) (act : List ir.Value → ir.Run) (rest_of : List core.Expression → ℕ → Code) (w : World) (env : ir.Env) (s : ir.State) (sc : js.Scope) (u : js.State) → OperandsDo c j ts → Extends c p → Sound z.is_mutable (keeping c p) → Ahead (keeping c p) j → Final c k from before p j sc w (types ts) act rest_of → Grows from w → Ready z.place z.file c.scope c.writable w env sc → Keeps z.place c.kept before sc → SameState z.place w s u → Ends z lawful c c.scope k from before (ir_meaning.in_order (runs ts) act env s) (then_use (spill (operands_in ts) j) rest_of).statements sc u
+  SpillDoes c k from before ts = (p : core.Variable → Type 0) (j : ℕ) (act : List ir.Value → ir.Run) (rest_of : List core.Expression → ℕ → Code) (w : World) (env : ir.Env) (s : ir.State) (sc : js.Scope) (u : js.State) → OperandsDo c j ts → Extends c p → Sound z.is_mutable (keeping c p) → Ahead (keeping c p) j → Final c k from before p j sc w (types ts) act rest_of → Grows from w → Ready z.place z.code c.scope c.writable w env sc → Keeps z.place c.kept before sc → SameState z.place w s u → Ends z lawful c c.scope k from before (ir_meaning.in_order (runs ts) act env s) (then_use (spill (operands_in ts) j) rest_of).statements sc u
 
   plain_operand : (c : Context) (j : ℕ) (t : Piece) → t.here.plain ≡ true → OperandDoes c j t → Plainly c t
   plain_operand c j t e (inl h) = h.1
@@ -161,7 +206,7 @@ module _ (z : Setting) (lawful : Lawful z) where
   both_true true b h = (refl, h)
   both_true false b h = impossible h
 
-  all_plain_alike : (c : Context) (j : ℕ) (ts : List Piece) → all_plain (operands_in ts) ≡ true → OperandsDo c j ts → (w : World) (env : ir.Env) (sc : js.Scope) → Sees z.place z.file c.scope w env sc → OperandsAlike z w env sc (types ts) (runs ts) (texts (operands_in ts))
+  all_plain_alike : (c : Context) (j : ℕ) (ts : List Piece) → all_plain (operands_in ts) ≡ true → OperandsDo c j ts → (w : World) (env : ir.Env) (sc : js.Scope) → Sees z.place z.code c.scope w env sc → OperandsAlike z w env sc (types ts) (runs ts) (texts (operands_in ts))
   all_plain_alike c j [] e d w env sc sees = no_operands
   all_plain_alike c j (t ∷ ts) e d w env sc sees = let h = both_true (t.here.plain) (all_plain (operands_in ts)) e in more_operands t.here.tpe t.run t.here.text (types ts) (runs ts) (texts (operands_in ts)) ((plain_operand c j t h.0 d.0).told) ((plain_operand c j t h.0 d.0).alike w env sc sees) (all_plain_alike c j ts h.1 d.1 w env sc sees)
 
@@ -182,6 +227,8 @@ module _ (z : Setting) (lawful : Lawful z) where
     changing = λ x t g k m. ⊎_elim (λ e. numbered-named x j e) (λ i. sound.changing x t g i m) k;
     alone = sound.alone;
     reached = sound.reached;
+    receiver = inr sound.receiver;
+    received = sound.received;
   }
 
   pub ahead-kept : (c : Context) (p : core.Variable → Type 0) (j i : ℕ) → suc j ≤ i → Ahead (keeping c p) j → Ahead (keeping c (λ y. (y ≡ core.numbered j) ⊎ p y)) i
@@ -203,15 +250,16 @@ module _ (z : Setting) (lawful : Lawful z) where
       each _ _ (thrown y v x s u h a same) = sim_done z.direction F (ir.ends (ir.throws v) env s) (js.ends (js.thrown_with x) sc u) (through y v x s u h a same)
 
   -- all operands are plain
-  spill_all : (c : Context) (k : Destination) (from : World) (before : js.Scope) (t : Piece) (ts : List Piece) → all_plain (operands_in (t ∷ ts)) ≡ true → (p : core.Variable → Type 0) (j : ℕ) (act : List ir.Value → ir.Run) (made : List core.Expression → ℕ → Code) (w : World) (env : ir.Env) (s : ir.State) (sc : js.Scope) (u : js.State) → OperandsDo c j (t ∷ ts) → Sound z.is_mutable (keeping c p) → Ahead (keeping c p) j → Final c k from before p j sc w (types (t ∷ ts)) act made → Ready z.place z.file c.scope c.writable w env sc → Keeps z.place c.kept before sc → SameState z.place w s u → Ends z lawful c c.scope k from before (ir_meaning.in_order (runs (t ∷ ts)) act env s) (made (texts (operands_in (t ∷ ts))) j).statements sc u
+  spill_all : (c : Context) (k : Destination) (from : World) (before : js.Scope) (t : Piece) (ts : List Piece) → all_plain (operands_in (t ∷ ts)) ≡ true → (p : core.Variable → Type 0) (j : ℕ) (act : List ir.Value → ir.Run) (made : List core.Expression → ℕ → Code) (w : World) (env : ir.Env) (s : ir.State) (sc : js.Scope) (u : js.State) → OperandsDo c j (t ∷ ts) → Sound z.is_mutable (keeping c p) → Ahead (keeping c p) j → Final c k from before p j sc w (types (t ∷ ts)) act made → Ready z.place z.code c.scope c.writable w env sc → Keeps z.place c.kept before sc → SameState z.place w s u → Ends z lawful c c.scope k from before (ir_meaning.in_order (runs (t ∷ ts)) act env s) (made (texts (operands_in (t ∷ ts))) j).statements sc u
   spill_all c k from before t ts e p j act made w env s sc u ds sound ahead final r ks same = final p j (runs (t ∷ ts)) (texts (operands_in (t ∷ ts))) w env s sc u (λ y h. h) sound ahead (omega arith) (grows-refl w) r ks (keeps-refl z p sc) same (all_plain_alike c j (t ∷ ts) e ds w env sc r.sees)
 
   -- a fixed operand in front of one that isn't plain
-  spill_fixed : (c : Context) (k : Destination) (from : World) (before : js.Scope) (t : Piece) (ts : List Piece) → SpillDoes c k from before ts → t.here.fixed ≡ true → Plainly c t → (p : core.Variable → Type 0) (j : ℕ) (act : List ir.Value → ir.Run) (made : List core.Expression → ℕ → Code) (w : World) (env : ir.Env) (s : ir.State) (sc : js.Scope) (u : js.State) → OperandsDo c j ts → Extends c p → Sound z.is_mutable (keeping c p) → Ahead (keeping c p) j → Final c k from before p j sc w (types (t ∷ ts)) act made → Grows from w → Ready z.place z.file c.scope c.writable w env sc → Keeps z.place c.kept before sc → SameState z.place w s u → Ends z lawful c c.scope k from before (ir_meaning.in_order (runs (t ∷ ts)) act env s) (then_use (spill (operands_in ts) j) (λ es. made (t.here.text ∷ es))).statements sc u
+  spill_fixed : (c : Context) (k : Destination) (from : World) (before : js.Scope) (t : Piece) (ts : List Piece) → SpillDoes c k from before ts → t.here.fixed ≡ true → Plainly c t → (p : core.Variable → Type 0) (j : ℕ) (act : List ir.Value → ir.Run) (made : List core.Expression → ℕ → Code) (w : World) (env : ir.Env) (s : ir.State) (sc : js.Scope) (u : js.State) → OperandsDo c j ts → Extends c p → Sound z.is_mutable (keeping c p) → Ahead (keeping c p) j → Final c k from before p j sc w (types (t ∷ ts)) act made → Grows from w → Ready z.place z.code c.scope c.writable w env sc → Keeps z.place c.kept before sc → SameState z.place w s u → Ends z lawful c c.scope k from before (ir_meaning.in_order (runs (t ∷ ts)) act env s) (then_use (spill (operands_in ts) j) (λ es. made (t.here.text ∷ es))).statements sc u
   spill_fixed c k from before t ts others e plain p j act made w env s sc u ds sub sound ahead final g r ks same = known (plain.fixes e p sound w env sc r.sees)
     where
-      known : FixedRun p w env sc t.here.tpe t.run t.here.text → Ends z lawful c c.scope k from before (ir_meaning.in_order (runs (t ∷ ts)) act env s) (then_use (spill (operands_in ts) j) (λ es. made (t.here.text ∷ es))).statements sc u
-      known f = subst (λ o. Ends z lawful c c.scope k from before (ir.go_on o (λ v. ir_meaning.in_order (runs ts) (λ vs. act (v ∷ vs)))) (then_use (spill (operands_in ts) j) (λ es. made (t.here.text ∷ es))).statements sc u) (sym (f.gives s)) (others p j (λ vs. act (f.value ∷ vs)) (λ es. made (t.here.text ∷ es)) w env s sc u ds sub sound ahead (λ q i rs es y env' s' sc' u' more so ah l h ready kb kp states operands. final q i (ir.given f.value ∷ rs) (t.here.text ∷ es) y env' s' sc' u' more so ah l h ready kb kp states (more_operands t.here.tpe (ir.given f.value) t.here.text (types ts) rs es plain.told (fixed_alike p w y env env' sc sc' t.here.tpe t.run t.here.text f h kp) operands)) g r ks same)
+      known : FixedOrWrong p w env sc t.here.tpe t.run t.here.text → Ends z lawful c c.scope k from before (ir_meaning.in_order (runs (t ∷ ts)) act env s) (then_use (spill (operands_in ts) j) (λ es. made (t.here.text ∷ es))).statements sc u
+      known (inr f) = subst (λ o. Ends z lawful c c.scope k from before (ir.go_on o (λ v. ir_meaning.in_order (runs ts) (λ vs. act (v ∷ vs)))) (then_use (spill (operands_in ts) j) (λ es. made (t.here.text ∷ es))).statements sc u) (sym (f s)) (sim_wrong z.direction (Came z.place z.code c c.scope k from before) _)
+      known (inl f) = subst (λ o. Ends z lawful c c.scope k from before (ir.go_on o (λ v. ir_meaning.in_order (runs ts) (λ vs. act (v ∷ vs)))) (then_use (spill (operands_in ts) j) (λ es. made (t.here.text ∷ es))).statements sc u) (sym (f.gives s)) (others p j (λ vs. act (f.value ∷ vs)) (λ es. made (t.here.text ∷ es)) w env s sc u ds sub sound ahead (λ q i rs es y env' s' sc' u' more so ah l h ready kb kp states operands. final q i (ir.given f.value ∷ rs) (t.here.text ∷ es) y env' s' sc' u' more so ah l h ready kb kp states (more_operands t.here.tpe (ir.given f.value) t.here.text (types ts) rs es plain.told (fixed_alike p w y env env' sc sc' t.here.tpe t.run t.here.text f h kp) operands)) g r ks same)
 
   -- what is known behind an operand that has been saved in the variable of this number
   saved_final : (c : Context) (k : Destination) (from : World) (before : js.Scope) (p : core.Variable → Type 0) (j i : ℕ) (own : IrType) (ts : List IrType) (w y : World) (sc sc' : js.Scope) (act : List ir.Value → ir.Run) (made : List core.Expression → ℕ → Code) (v : ir.Value) (x : js.Value) (const : Bool) → suc j ≤ i → Final c k from before p j sc w (own ∷ ts) act made → Grows w y → Keeps z.place p sc sc' → SameValue y own v x → sc'.bindings (z.place.name (core.numbered j)) ≡ js.holds const x → Final c k from before (λ a. (a ≡ core.numbered j) ⊎ p a) i sc' y ts (λ vs. act (v ∷ vs)) (λ es. made (core.variable_use (core.numbered j) ∷ es))
@@ -221,15 +269,15 @@ module _ (z : Setting) (lawful : Lawful z) where
   numbered_open c p j ahead x h e = ahead.writable j (omega arith) (subst c.writable e h)
 
   -- a plain operand that isn't fixed, in front of one that isn't plain: a constant
-  spill_constant : (c : Context) (k : Destination) (from : World) (before : js.Scope) (t : Piece) (ts : List Piece) → SpillDoes c k from before ts → Plainly c t → (p : core.Variable → Type 0) (j : ℕ) (act : List ir.Value → ir.Run) (made : List core.Expression → ℕ → Code) (w : World) (env : ir.Env) (s : ir.State) (sc : js.Scope) (u : js.State) → OperandsDo c j ts → Extends c p → Sound z.is_mutable (keeping c p) → Ahead (keeping c p) j → Final c k from before p j sc w (types (t ∷ ts)) act made → Grows from w → Ready z.place z.file c.scope c.writable w env sc → Keeps z.place c.kept before sc → SameState z.place w s u → Ends z lawful c c.scope k from before (ir_meaning.in_order (runs (t ∷ ts)) act env s) (core.statement (core.constant_of (Some (t.here.at)) (core.numbered j) (t.here.text)) (then_use (spill (operands_in ts) (suc j)) (λ es. made (core.variable_use (core.numbered j) ∷ es))).statements) sc u
-  spill_constant c k from before t ts others plain p j act made w env s sc u ds sub sound ahead final g r ks same = valued_seq (Came z.place z.file c c.scope k from before) w env t.here.tpe sc u (t.run env s) (t.here.text) (λ v. ir_meaning.in_order (runs ts) (λ vs. act (v ∷ vs))) (λ v u. done (js.ends js.normally (js_meaning.start true (z.place.name (core.numbered j)) v sc) u)) (run z (then_use (spill (operands_in ts) (suc j)) (λ es. made (core.variable_use (core.numbered j) ∷ es))).statements) (plain.alike w env sc r.sees w s u (grows-refl w) same) (throws-on z lawful c c.scope k from w before env sc g ks r) goes
+  spill_constant : (c : Context) (k : Destination) (from : World) (before : js.Scope) (t : Piece) (ts : List Piece) → SpillDoes c k from before ts → Plainly c t → (p : core.Variable → Type 0) (j : ℕ) (act : List ir.Value → ir.Run) (made : List core.Expression → ℕ → Code) (w : World) (env : ir.Env) (s : ir.State) (sc : js.Scope) (u : js.State) → OperandsDo c j ts → Extends c p → Sound z.is_mutable (keeping c p) → Ahead (keeping c p) j → Final c k from before p j sc w (types (t ∷ ts)) act made → Grows from w → Ready z.place z.code c.scope c.writable w env sc → Keeps z.place c.kept before sc → SameState z.place w s u → Ends z lawful c c.scope k from before (ir_meaning.in_order (runs (t ∷ ts)) act env s) (core.statement (core.constant_of (Some (t.here.at)) (core.numbered j) (t.here.text)) (then_use (spill (operands_in ts) (suc j)) (λ es. made (core.variable_use (core.numbered j) ∷ es))).statements) sc u
+  spill_constant c k from before t ts others plain p j act made w env s sc u ds sub sound ahead final g r ks same = valued_seq (Came z.place z.code c c.scope k from before) w env t.here.tpe sc u (t.run env s) (t.here.text) (λ v. ir_meaning.in_order (runs ts) (λ vs. act (v ∷ vs))) (λ v u. done (js.ends js.normally (js_meaning.start true (z.place.name (core.numbered j)) v sc) u)) (run z (then_use (spill (operands_in ts) (suc j)) (λ es. made (core.variable_use (core.numbered j) ∷ es))).statements) (plain.alike w env sc r.sees w s u (grows-refl w) same) (throws-on z lawful c c.scope k from w before env sc g ks r) goes
     where
       goes : (y : World) (v : ir.Value) (x : js.Value) (s : ir.State) (u : js.State) → Grows w y → SameValue y t.here.tpe v x → SameState z.place y s u → Ends z lawful c c.scope k from before (ir_meaning.in_order (runs ts) (λ vs. act (v ∷ vs)) env s) (then_use (spill (operands_in ts) (suc j)) (λ es. made (core.variable_use (core.numbered j) ∷ es))).statements (js_meaning.start true (z.place.name (core.numbered j)) x sc) u
-      goes y v x s u h alike same = others (λ a. (a ≡ core.numbered j) ⊎ p a) (suc j) (λ vs. act (v ∷ vs)) (λ es. made (core.variable_use (core.numbered j) ∷ es)) y env s (js_meaning.start true (z.place.name (core.numbered j)) x sc) u (operands-later c j (suc j) ts (omega arith) ds) (extends-more c p j sub) (sound-kept c p j sound ahead) (ahead-kept c p j (suc j) (omega arith) ahead) (saved_final c k from before p j (suc j) t.here.tpe (types ts) w y sc (js_meaning.start true (z.place.name (core.numbered j)) x sc) act made v x true (omega arith) final h (started-keeps z lawful p true (core.numbered j) x sc (ahead.kept j (omega arith))) alike (started-here z lawful true (core.numbered j) x sc)) (grows-trans from w y g h) (ready-lift z c.scope c.writable w y env (js_meaning.start true (z.place.name (core.numbered j)) x sc) h (started-ready z lawful c.scope c.writable true (core.numbered j) x w env sc (λ a t b. numbered-named a j) (numbered_open c p j ahead) r)) (keeps-trans z c.kept before sc (js_meaning.start true (z.place.name (core.numbered j)) x sc) ks (started-keeps z lawful c.kept true (core.numbered j) x sc (λ b. ahead.kept j (omega arith) (sub.more (core.numbered j) b)))) same
+      goes y v x s u h alike same = others (λ a. (a ≡ core.numbered j) ⊎ p a) (suc j) (λ vs. act (v ∷ vs)) (λ es. made (core.variable_use (core.numbered j) ∷ es)) y env s (js_meaning.start true (z.place.name (core.numbered j)) x sc) u (operands-later c j (suc j) ts (omega arith) ds) (extends-more c p j sub) (sound-kept c p j sound ahead) (ahead-kept c p j (suc j) (omega arith) ahead) (saved_final c k from before p j (suc j) t.here.tpe (types ts) w y sc (js_meaning.start true (z.place.name (core.numbered j)) x sc) act made v x true (omega arith) final h (started-keeps z lawful p true (core.numbered j) x sc (ahead.kept j (omega arith))) alike (started-here z lawful true (core.numbered j) x sc)) (grows-trans from w y g h) (ready-lift z c.scope c.writable w y env (js_meaning.start true (z.place.name (core.numbered j)) x sc) h (started-ready z lawful c.scope c.writable true (core.numbered j) x w env sc (λ a t b. numbered-named a j) (numbered_open c p j ahead) (λ e. absurd (cc)) r)) (keeps-trans z c.kept before sc (js_meaning.start true (z.place.name (core.numbered j)) x sc) ks (started-keeps z lawful c.kept true (core.numbered j) x sc (λ b. ahead.kept j (omega arith) (sub.more (core.numbered j) b)))) same
 
   -- an operand that isn't plain: a variable, and the statements that bring its value there
-  spill_code_does : (c : Context) (k : Destination) (from : World) (before : js.Scope) (t : Piece) (ts : List Piece) → SpillDoes c k from before ts → Onward t → (p : core.Variable → Type 0) (j : ℕ) → PieceDoes (writing (keeping c p) (core.numbered j)) (to_variable (core.numbered j) (t.here.tpe)) (suc j) t → (act : List ir.Value → ir.Run) (made : List core.Expression → ℕ → Code) (w : World) (env : ir.Env) (s : ir.State) (sc : js.Scope) (u : js.State) → OperandsDo c j ts → Extends c p → Sound z.is_mutable (keeping c p) → Ahead (keeping c p) j → Final c k from before p j sc w (types (t ∷ ts)) act made → Grows from w → Ready z.place z.file c.scope c.writable w env sc → Keeps z.place c.kept before sc → SameState z.place w s u → Ends z lawful c c.scope k from before (ir_meaning.in_order (runs (t ∷ ts)) act env s) (core.statement (core.declare_of (Some (t.here.at)) (core.numbered j)) (followed (t.here.code (to_variable (core.numbered j) (t.here.tpe)) (suc j)).statements (then_use (spill (operands_in ts) (t.here.code (to_variable (core.numbered j) (t.here.tpe)) (suc j)).next) (λ es. made (core.variable_use (core.numbered j) ∷ es))).statements)) sc u
-  spill_code_does c k from before t ts others onward p j does act made w env s sc u ds sub sound ahead final g r ks same = subst (λ q. Sim z.direction (Came z.place z.file c c.scope k from before) (ir.go_on (t.run env s) f) q) (sym (run-followed z code.statements rest started u)) (sim_then z.direction (Came z.place z.file (writing (keeping c p) x) c.scope (to_variable x (t.here.tpe)) w started) (Came z.place z.file c c.scope k from before) (t.run env s) (run z code.statements started u) (ir.onward f) (js.next_statement (run z rest)) (does w env s started u (record { sees = r1.sees; «open» = open1 }) same) each)
+  spill_code_does : (c : Context) (k : Destination) (from : World) (before : js.Scope) (t : Piece) (ts : List Piece) → SpillDoes c k from before ts → Onward t → (p : core.Variable → Type 0) (j : ℕ) → PieceDoes (writing (keeping c p) (core.numbered j)) (to_variable (core.numbered j) (t.here.tpe)) (suc j) t → (act : List ir.Value → ir.Run) (made : List core.Expression → ℕ → Code) (w : World) (env : ir.Env) (s : ir.State) (sc : js.Scope) (u : js.State) → OperandsDo c j ts → Extends c p → Sound z.is_mutable (keeping c p) → Ahead (keeping c p) j → Final c k from before p j sc w (types (t ∷ ts)) act made → Grows from w → Ready z.place z.code c.scope c.writable w env sc → Keeps z.place c.kept before sc → SameState z.place w s u → Ends z lawful c c.scope k from before (ir_meaning.in_order (runs (t ∷ ts)) act env s) (core.statement (core.declare_of (Some (t.here.at)) (core.numbered j)) (followed (t.here.code (to_variable (core.numbered j) (t.here.tpe)) (suc j)).statements (then_use (spill (operands_in ts) (t.here.code (to_variable (core.numbered j) (t.here.tpe)) (suc j)).next) (λ es. made (core.variable_use (core.numbered j) ∷ es))).statements)) sc u
+  spill_code_does c k from before t ts others onward p j does act made w env s sc u ds sub sound ahead final g r ks same = subst (λ q. Sim z.direction (Came z.place z.code c c.scope k from before) (ir.go_on (t.run env s) f) q) (sym (run-followed z code.statements rest started u)) (sim_then z.direction (Came z.place z.code (writing (keeping c p) x) c.scope (to_variable x (t.here.tpe)) w started) (Came z.place z.code c c.scope k from before) (t.run env s) (run z code.statements started u) (ir.onward f) (js.next_statement (run z rest)) (does w env s started u (record { sees = r1.sees; «open» = open1 }) same) each)
     where
       x : core.Variable
       x = core.numbered j
@@ -246,8 +294,8 @@ module _ (z : Setting) (lawful : Lawful z) where
       f : ir.Value → ir.Run
       f v = ir_meaning.in_order (runs ts) (λ vs. act (v ∷ vs))
 
-      r1 : Ready z.place z.file c.scope c.writable w env started
-      r1 = started-ready z lawful c.scope c.writable false x js.undefined w env sc (λ a t b. numbered-named a j) (numbered_open c p j ahead) r
+      r1 : Ready z.place z.code c.scope c.writable w env started
+      r1 = started-ready z lawful c.scope c.writable false x js.undefined w env sc (λ a t b. numbered-named a j) (numbered_open c p j ahead) (λ e. absurd (cc)) r
 
       open1 : (y : core.Variable) → (y ≡ x) ⊎ c.writable y → IsOpen (started.bindings (z.place.name y))
       open1 y (inl e) = subst (λ a. IsOpen (started.bindings (z.place.name a))) (sym e) (record { value = js.undefined; is = started-here z lawful false x js.undefined sc })
@@ -259,14 +307,14 @@ module _ (z : Setting) (lawful : Lawful z) where
       all_kept : (sc2 : js.Scope) → Keeps z.place (Less p (to_variable x (t.here.tpe))) started sc2 → Keeps z.place p started sc2
       all_kept sc2 k2 = keeps-fewer z (Less p (to_variable x (t.here.tpe))) p started sc2 (λ b h. (h, λ e. kept_here (subst p (sym e) h))) k2
 
-      each : (a : ir.Ended) (b : js.StatementEnd) → Came z.place z.file (writing (keeping c p) x) c.scope (to_variable x (t.here.tpe)) w started a b → Sim z.direction (Came z.place z.file c c.scope k from before) (ir.onward f a) (js.next_statement (run z rest) b)
+      each : (a : ir.Ended) (b : js.StatementEnd) → Came z.place z.code (writing (keeping c p) x) c.scope (to_variable x (t.here.tpe)) w started a b → Sim z.direction (Came z.place z.code c c.scope k from before) (ir.onward f a) (js.next_statement (run z rest) b)
       each _ _ (gave y v env' s' sc2 u' _ h (stored _ _ q a e) r2 k2 states) = others (λ b. (b ≡ x) ⊎ p b) code.next (λ vs. act (v ∷ vs)) (λ es. made (core.variable_use x ∷ es)) y env' s' sc2 u' (operands-later c j code.next ts (omega (arith, onward (to_variable x (t.here.tpe)) (suc j))) ds) (extends-more c p j sub) (sound-kept c p j sound ahead) (ahead-kept c p j code.next (onward (to_variable x (t.here.tpe)) (suc j)) ahead) (saved_final c k from before p j code.next t.here.tpe (types ts) w y sc sc2 act made v q false (onward (to_variable x (t.here.tpe)) (suc j)) final h (keeps-trans z p sc started sc2 (started-keeps z lawful p false x js.undefined sc kept_here) (all_kept sc2 k2)) a e) (grows-trans from w y g h) (record { sees = r2.sees; «open» = λ a b. r2.«open» a (inr b) }) (keeps-trans z c.kept before sc sc2 ks (keeps-trans z c.kept sc started sc2 (started-keeps z lawful c.kept false x js.undefined sc (λ b. kept_here (sub.more x b))) (keeps-fewer z p c.kept started sc2 sub.more (all_kept sc2 k2)))) states
       each _ _ (left y l v env' s' sc2 u' e reach h a r2 k2 states) = leaves_on z lawful c c.scope k from before (run z rest) y l v env' s' sc2 u' e (target_of c.targets l) refl reach (grows-trans from w y g h) a (record { sees = r2.sees; «open» = λ a b. r2.«open» a (inr b) }) (less-trans z c.kept (target_of c.targets l) before sc sc2 ks (less-trans z c.kept (target_of c.targets l) sc started sc2 (started-keeps z lawful c.kept false x js.undefined sc (λ b. kept_here (sub.more x b))) (keeps-fewer z (Less p (target_of c.targets l)) (Less c.kept (target_of c.targets l)) started sc2 (λ y i. (sub.more y i.0, i.1)) k2))) states
-      each _ _ (threw y v q env' s' sc2 u' h a r2 k2 states) = sim_done z.direction (Came z.place z.file c c.scope k from before) (ir.ends (ir.throws v) env' s') (js.ends (js.thrown_with q) sc2 u') (threw y v q env' s' sc2 u' (grows-trans from w y g h) a (record { sees = r2.sees; «open» = λ a b. r2.«open» a (inr b) }) (keeps-trans z c.kept before sc sc2 ks (keeps-trans z c.kept sc started sc2 (started-keeps z lawful c.kept false x js.undefined sc (λ b. kept_here (sub.more x b))) (keeps-fewer z p c.kept started sc2 sub.more k2))) states)
-      each _ _ (stopped y env' s' sc2 u' t h r2 k2 states) = sim_done z.direction (Came z.place z.file c c.scope k from before) (ir.ends ir.stops env' s') (js.ends js.breaks_nearest sc2 u') (stopped y env' s' sc2 u' t (grows-trans from w y g h) (record { sees = r2.sees; «open» = λ a b. r2.«open» a (inr b) }) (keeps-trans z c.kept before sc sc2 ks (keeps-trans z c.kept sc started sc2 (started-keeps z lawful c.kept false x js.undefined sc (λ b. kept_here (sub.more x b))) (keeps-fewer z p c.kept started sc2 sub.more k2))) states)
+      each _ _ (threw y v q env' s' sc2 u' h a r2 k2 states) = sim_done z.direction (Came z.place z.code c c.scope k from before) (ir.ends (ir.throws v) env' s') (js.ends (js.thrown_with q) sc2 u') (threw y v q env' s' sc2 u' (grows-trans from w y g h) a (record { sees = r2.sees; «open» = λ a b. r2.«open» a (inr b) }) (keeps-trans z c.kept before sc sc2 ks (keeps-trans z c.kept sc started sc2 (started-keeps z lawful c.kept false x js.undefined sc (λ b. kept_here (sub.more x b))) (keeps-fewer z p c.kept started sc2 sub.more k2))) states)
+      each _ _ (stopped y env' s' sc2 u' t h r2 k2 states) = sim_done z.direction (Came z.place z.code c c.scope k from before) (ir.ends ir.stops env' s') (js.ends js.breaks_nearest sc2 u') (stopped y env' s' sc2 u' t (grows-trans from w y g h) (record { sees = r2.sees; «open» = λ a b. r2.«open» a (inr b) }) (keeps-trans z c.kept before sc sc2 ks (keeps-trans z c.kept sc started sc2 (started-keeps z lawful c.kept false x js.undefined sc (λ b. kept_here (sub.more x b))) (keeps-fewer z p c.kept started sc2 sub.more k2))) states)
 
   -- one operand, by whether it and all behind it are plain, whether it is fixed, and whether it is plain
-  spill_one : (c : Context) (k : Destination) (from : World) (before : js.Scope) (t : Piece) (ts : List Piece) → SpillDoes c k from before ts → (a f b : Bool) → (t.here.plain && all_plain (operands_in ts)) ≡ a → t.here.fixed ≡ f → t.here.plain ≡ b → (p : core.Variable → Type 0) (j : ℕ) (act : List ir.Value → ir.Run) (made : List core.Expression → ℕ → Code) (w : World) (env : ir.Env) (s : ir.State) (sc : js.Scope) (u : js.State) → OperandsDo c j (t ∷ ts) → Extends c p → Sound z.is_mutable (keeping c p) → Ahead (keeping c p) j → Final c k from before p j sc w (types (t ∷ ts)) act made → Grows from w → Ready z.place z.file c.scope c.writable w env sc → Keeps z.place c.kept before sc → SameState z.place w s u → Ends z lawful c c.scope k from before (ir_meaning.in_order (runs (t ∷ ts)) act env s) (then_use (spill_case a f b t.here (operands_in ts) (spill (operands_in ts)) j) made).statements sc u
+  spill_one : (c : Context) (k : Destination) (from : World) (before : js.Scope) (t : Piece) (ts : List Piece) → SpillDoes c k from before ts → (a f b : Bool) → (t.here.plain && all_plain (operands_in ts)) ≡ a → t.here.fixed ≡ f → t.here.plain ≡ b → (p : core.Variable → Type 0) (j : ℕ) (act : List ir.Value → ir.Run) (made : List core.Expression → ℕ → Code) (w : World) (env : ir.Env) (s : ir.State) (sc : js.Scope) (u : js.State) → OperandsDo c j (t ∷ ts) → Extends c p → Sound z.is_mutable (keeping c p) → Ahead (keeping c p) j → Final c k from before p j sc w (types (t ∷ ts)) act made → Grows from w → Ready z.place z.code c.scope c.writable w env sc → Keeps z.place c.kept before sc → SameState z.place w s u → Ends z lawful c c.scope k from before (ir_meaning.in_order (runs (t ∷ ts)) act env s) (then_use (spill_case a f b t.here (operands_in ts) (spill (operands_in ts)) j) made).statements sc u
   spill_one c k from before t ts others true f b e1 e2 e3 p j act made w env s sc u ds sub sound ahead final g r ks same = spill_all c k from before t ts e1 p j act made w env s sc u ds sound ahead final r ks same
   spill_one c k from before t ts others false true b e1 e2 e3 p j act made w env s sc u (inl d, ds) sub sound ahead final g r ks same = spill_fixed c k from before t ts others e2 d.1 p j act made w env s sc u ds sub sound ahead final g r ks same
   spill_one c k from before t ts others false true b e1 e2 e3 p j act made w env s sc u (inr d, ds) sub sound ahead final g r ks same = impossible (sym d.1 ∙ e2)

@@ -48,7 +48,7 @@ use Rattle.sj_plain.proofs.Worlds.{World}
 
 -- the level below: each tree of the forms that are built, and its statements, with one unit less
 abbrev pub LowAlike : Setting → Type 1
-LowAlike z = (c : Context) (k : Destination) (j : ℕ) (t : Term) → Sound z.is_mutable c → Ahead c j → Outside c (Own t) → Writes c.writable k → Fine z.place.classes z.is_mutable (usable z) c.scope (around c) k t → (w : World) (env : ir.Env) (s : ir.State) (sc : js.Scope) (u : js.State) → Ready z.place z.file c.scope c.writable w env sc → SameState z.place w s u → Sim z.direction (Came z.place z.file c c.scope k w sc) (z.low t env s) (z.js_low (statement_templates z.place.name z.place.label (into z.is_mutable c.targets k j t).statements) sc u)
+LowAlike z = (c : Context) (k : Destination) (j : ℕ) (t : Term) → Sound z.is_mutable c → Ahead c j → Outside c (Own t) → Writes c.writable k → Fine z.place.classes z.is_mutable (usable z) z.code.sure c.scope (around c) k t → (w : World) (env : ir.Env) (s : ir.State) (sc : js.Scope) (u : js.State) → Ready z.place z.code c.scope c.writable w env sc → SameState z.place w s u → Sim z.direction (Came z.place z.code c c.scope k w sc) (z.low t env s) (z.js_low (statement_templates z.place.name z.place.label (into z.is_mutable z.code.sure c.targets k j t).statements) sc u)
 
 -- what is written for a tree in which each local is defined once, wherever its values go
 pub written : (is_mutable : List ℕ → Bool) (ls : Targets) (t : Term) (k : Destination) (j : ℕ) {around : List (List ℕ)} → Once around t → Good (Own t) around false j (into is_mutable ls k j t)
@@ -75,7 +75,7 @@ go_on-given o = ap (then_do o) (fun_ext onward-given) ∙ then_do-right o
 
 module _ (z : Setting) (lawful : Lawful z) (low : LowAlike z) where
   abbrev pub FineHere : Context → Destination → Term → Type 0
-  FineHere c k t = Fine z.place.classes z.is_mutable (usable z) c.scope (around c) k t
+  FineHere c k t = Fine z.place.classes z.is_mutable (usable z) z.code.sure c.scope (around c) k t
 
   -- the theorem on one tree
   abbrev pub TreeDoes : Term → Type 1
@@ -83,8 +83,9 @@ module _ (z : Setting) (lawful : Lawful z) (low : LowAlike z) where
 
   -- a tree as an operand
   abbrev pub piece : Targets → Term → Piece
-  piece ls t = record { run = ir_meaning.step z.place.classes z.low t; here = operand z.is_mutable t (λ k j. into z.is_mutable ls k j t) }
+  piece ls t = record { run = ir_meaning.step z.place.classes z.low t; here = operand z.is_mutable z.code.sure t (λ k j. into z.is_mutable z.code.sure ls k j t) }
 
+<<<<<<< HEAD
   pub operand_does : (c : Context) (j : ℕ) (t : Term) → TreeDoes t → Outside c (Own t) → FineOperand z.place.classes z.is_mutable (usable z) c.scope t (λ y. FineHere c (to_variable y (type_of_term t)) t) → OperandDoes z lawful c j (piece c.targets t)
   operand_does c j t does out (inl h) = inl (h.plain, record { alike = λ w env sc sees. as_operand z lawful c.scope t (plain_alike z lawful c.scope t h).alike w env sc sees; told = (plain_alike z lawful c.scope t h).told; fixes = λ e p sound w env sc sees. fixed_run z lawful c p t sound e h w env sc sees })
   operand_does c j t does out (inr h) = inr (h.0, h.1, (λ k i. (written z.is_mutable c.targets t k i (h.2 (core.numbered j)).once).onward), λ p i l ext sound ahead. does (writing (keeping c p) (core.numbered i)) (to_variable (core.numbered i) (type_of_term t)) (suc i) (sound-writing z lawful (keeping c p) i sound ahead) (ahead-writing z lawful (keeping c p) i ahead) (outside-writing z lawful c p i (Own t) ext out) (inl refl) (h.2 (core.numbered i)))
@@ -95,6 +96,18 @@ module _ (z : Setting) (lawful : Lawful z) (low : LowAlike z) where
 
   pub quiet : (t : Term) (c : Context) (k : Destination) (p : Position) (e : core.Expression) (j : ℕ) (v : ir.Env → ir.Value) → Sound z.is_mutable c → Writes c.writable k → FitsIn k (type_of_term t) → Plain z.place.classes (usable z) c.scope t → expression_of t ≡ e → ((w : World) (env : ir.Env) (s : ir.State) (sc : js.Scope) → Ready z.place z.file c.scope c.writable w env sc → ir_meaning.step z.place.classes z.low t env s ≡ done (ir.ends (ir.gives (v env)) env s)) → (w : World) (env : ir.Env) (s : ir.State) (sc : js.Scope) (u : js.State) → Ready z.place z.file c.scope c.writable w env sc → SameState z.place w s u → Ends z lawful c c.scope k w sc (ir_meaning.step z.place.classes z.low t env s) (finish k p (type_of_term t) true e j).statements sc u
   quiet t c k p e j v sound wr fits plain is at w env s sc u r same = quiet_alike z lawful c k p (type_of_term t) e j sound wr fits w env s sc u (ir_meaning.step z.place.classes z.low t env s) (v env) (at w env s sc r) r same (subst (λ d. Sim z.direction (Valued z.place w env (type_of_term t)) (ir_meaning.step z.place.classes z.low t env s) (shown z d sc u)) is ((plain_alike z lawful c.scope t plain).alike w env s sc u r.sees same))
+=======
+  pub operand_does : (c : Context) (j : ℕ) (t : Term) → TreeDoes t → Outside c (Own t) → FineOperand z.is_mutable (usable z) z.code.sure c.scope t (λ y. FineHere c (to_variable y (type_of_term t)) t) → OperandDoes z lawful c j (piece c.targets t)
+  operand_does c j t does out (inl h) = inl (h.0, record { alike = λ w env sc sees. as_operand z lawful c.scope t (plain_alike z lawful c.scope t h.1) w env sc sees; told = plain_tells z lawful c.scope t h.1; fixes = λ e p sound w env sc sees. fixed_run z lawful c p t sound e h.1 w env sc sees })
+  operand_does c j t does out (inr h) = inr (h.0, h.1, (λ k i. onward z.is_mutable z.code.sure c.targets t k i), λ p i l ext sound ahead. does (writing (keeping c p) (core.numbered i)) (to_variable (core.numbered i) (type_of_term t)) (suc i) (sound-writing z lawful (keeping c p) i sound ahead) (ahead-writing z lawful (keeping c p) i ahead) (outside-writing z lawful c p i (Own t) ext out) (inl refl) (h.2 (core.numbered i)))
+
+  -- a definition by what is known of its right side
+  pub define_does : (p : Position) (x : List ℕ) (t : IrType) (b : Bool) (e : Term) → TreeDoes e → (c : Context) (j : ℕ) → Sound z.is_mutable c → Ahead c j → Outside c (Own (var_def p x t b e)) → FineHere c discard (var_def p x t b e) → (w : World) (env : ir.Env) (s : ir.State) (sc : js.Scope) (u : js.State) → Ready z.place z.code c.scope c.writable w env sc → SameState z.place w s u → Ends z lawful c (with_local x t c.scope) discard w sc (ir_meaning.step z.place.classes z.low (var_def p x t b e) env s) (into z.is_mutable z.code.sure c.targets discard j (var_def p x t b e)).statements sc u
+  define_does p x t b e does c j sound ahead out fine = define_alike z lawful c p x t (type_of_term e) (ir_meaning.step z.place.classes z.low e) (expression_of z.code.sure e) (into z.is_mutable z.code.sure c.targets (to_variable (core.named x) t) j e) j (is_plain e) sound (λ i. out.scope x i (inl refl)) (out.writable x (inl refl)) (out.kept x (inl refl)) (⊎_elim (λ h. inl (h.0, h.2, λ w env sc sees. as_operand z lawful c.scope e (plain_alike z lawful c.scope e h.1) w env sc sees)) (λ h. inr (h.0, does (defining z lawful c x) (to_variable (core.named x) t) j (sound-defining z lawful c x sound (λ i. out.scope x i (inl refl)) (out.kept x (inl refl))) (ahead-defining z lawful c x j ahead) (record { scope = λ y i o. out.scope y i (inr o); writable = λ y o wr. ⊎_elim (λ i. fine.typed.0.finds.1 (subst (Own e) (cc) o)) (out.writable y (inr o)) wr; kept = λ y o. out.kept y (inr o) }) (inl refl) h.1)) (definition_of z.place.classes z.is_mutable (usable z) z.code.sure c.scope (around c) discard p x t b e fine))
+
+  pub quiet : (t : Term) (c : Context) (k : Destination) (p : Position) (e : core.Expression) (j : ℕ) (v : ir.Env → ir.Value) → Sound z.is_mutable c → Writes c.writable k → FitsIn k (type_of_term t) → Plain (usable z) z.code.sure c.scope t → expression_of z.code.sure t ≡ e → ((w : World) (env : ir.Env) (s : ir.State) (sc : js.Scope) → Ready z.place z.code c.scope c.writable w env sc → ir_meaning.step z.place.classes z.low t env s ≡ done (ir.ends (ir.gives (v env)) env s)) → (w : World) (env : ir.Env) (s : ir.State) (sc : js.Scope) (u : js.State) → Ready z.place z.code c.scope c.writable w env sc → SameState z.place w s u → Ends z lawful c c.scope k w sc (ir_meaning.step z.place.classes z.low t env s) (finish k p (type_of_term t) true e j).statements sc u
+  quiet t c k p e j v sound wr fits plain is at w env s sc u r same = quiet_alike z lawful c k p (type_of_term t) e j sound wr fits w env s sc u (ir_meaning.step z.place.classes z.low t env s) (v env) (at w env s sc r) r same (subst (λ d. Sim z.direction (Valued z.place w env (type_of_term t)) (ir_meaning.step z.place.classes z.low t env s) (shown z d sc u)) is (plain_alike z lawful c.scope t plain w env s sc u r.sees same))
+>>>>>>> 6a46694
 
   abbrev pub value_of : Option ir.Value → ir.Value
   value_of None = ir.undefined
@@ -108,7 +121,7 @@ module _ (z : Setting) (lawful : Lawful z) (low : LowAlike z) where
 
   -- a divisor that is a literal stays where it stands
   abbrev Divided : Bool → Bool → Operand → Targets → Destination → Position → BinaryOp → ℕ → Term → (core.Expression → core.Expression → core.Expression) → Type 0
-  Divided f b o ls k p op j d made = then_use (spill_case (b && all_plain (operand z.is_mutable d (λ k j. into z.is_mutable ls k j d) ∷ [])) f b o (operand z.is_mutable d (λ k j. into z.is_mutable ls k j d) ∷ []) (spill (operand z.is_mutable d (λ k j. into z.is_mutable ls k j d) ∷ [])) j) (λ es. finish k p (binary_result op) false (made (first_of es) (second_of es))) ≡ then_use (spill_case (b && true) f b o [] (spill []) j) (λ es. finish k p (binary_result op) false (made (first_of es) (expression_of d)))
+  Divided f b o ls k p op j d made = then_use (spill_case (b && all_plain (operand z.is_mutable z.code.sure d (λ k j. into z.is_mutable z.code.sure ls k j d) ∷ [])) f b o (operand z.is_mutable z.code.sure d (λ k j. into z.is_mutable z.code.sure ls k j d) ∷ []) (spill (operand z.is_mutable z.code.sure d (λ k j. into z.is_mutable z.code.sure ls k j d) ∷ [])) j) (λ es. finish k p (binary_result op) false (made (first_of es) (second_of es))) ≡ then_use (spill_case (b && true) f b o [] (spill []) j) (λ es. finish k p (binary_result op) false (made (first_of es) (expression_of z.code.sure d)))
 
   int_stays : (f b : Bool) (o : Operand) (q : Position) (n : ℤ) (ls : Targets) (k : Destination) (p : Position) (op : BinaryOp) (j : ℕ) (made : core.Expression → core.Expression → core.Expression) → Divided f b o ls k p op j (int_literal q n) made
   int_stays f true o q n ls k p op j made = refl
@@ -129,15 +142,15 @@ module _ (z : Setting) (lawful : Lawful z) (low : LowAlike z) where
   list_of ls no_terms = []
   list_of ls (more_terms t ts) = piece ls t ∷ list_of ls ts
 
-  operands-list : (ls : Targets) (ts : Terms) → operands z.is_mutable ls ts ≡ operands_in z lawful (list_of ls ts)
+  pub operands-list : (ls : Targets) (ts : Terms) → operands z.is_mutable z.code.sure ls ts ≡ operands_in z lawful (list_of ls ts)
   operands-list ls no_terms = refl
-  operands-list ls (more_terms t ts) = ap (λ os. operand z.is_mutable t (λ k j. into z.is_mutable ls k j t) ∷ os) (operands-list ls ts)
+  operands-list ls (more_terms t ts) = ap (λ os. operand z.is_mutable z.code.sure t (λ k j. into z.is_mutable z.code.sure ls k j t) ∷ os) (operands-list ls ts)
 
-  runs-list : (ls : Targets) (ts : Terms) → ir_meaning.operands z.place.classes z.low ts ≡ runs z lawful (list_of ls ts)
+  pub runs-list : (ls : Targets) (ts : Terms) → ir_meaning.operands z.place.classes z.low ts ≡ runs z lawful (list_of ls ts)
   runs-list ls no_terms = refl
   runs-list ls (more_terms t ts) = ap (λ rs. ir_meaning.step z.place.classes z.low t ∷ rs) (runs-list ls ts)
 
-  types-list : (ls : Targets) (ts : Terms) → types_of ts ≡ types z lawful (list_of ls ts)
+  pub types-list : (ls : Targets) (ts : Terms) → types_of ts ≡ types z lawful (list_of ls ts)
   types-list ls no_terms = refl
   types-list ls (more_terms t ts) = ap (λ is. type_of_term t ∷ is) (types-list ls ts)
 
@@ -156,7 +169,7 @@ module _ (z : Setting) (lawful : Lawful z) (low : LowAlike z) where
 
   -- a division, by what is known of its dividend
   pub division_does : (p : Position) (c : Context) (k : Destination) (j : ℕ) (o : BinaryOp) (e d : Term) → DividesBy o d → Fits (left_operand o) (type_of_term e) → Sound z.is_mutable c → Ahead c j → Writes c.writable k → FitsIn k (binary_result o) → OperandDoes z lawful c j (piece c.targets e) → Does z lawful c k j (binary_op p o e d)
-  division_does p c k j o e d by fit sound ahead wr fits dividend w env s sc u r same = subst (λ x. Ends z lawful c c.scope k w sc x (into z.is_mutable c.targets k j (binary_op p o e d)).statements sc u) (sym (dividend_alone z o d by (ir_meaning.step z.place.classes z.low e) env s)) (subst (λ code. Ends z lawful c c.scope k w sc (ir_meaning.in_order (ir_meaning.step z.place.classes z.low e ∷ []) (division_act z o (divisor_of d)) env s) code.statements sc u) (sym (divisor_stays o d by (is_fixed z.is_mutable e) (is_plain e) (operand z.is_mutable e (λ k j. into z.is_mutable c.targets k j e)) c.targets k p j made)) (of_operands z lawful c k (piece c.targets e ∷ []) j (division_act z o (divisor_of d)) (λ es. finish k p (binary_result o) false (made (first_of es) (expression_of d))) sound ahead (dividend, tt) (one_final z lawful c k j (type_of_term e) (division_act z o (divisor_of d)) (λ es. finish k p (binary_result o) false (made (first_of es) (expression_of d))) (finish_one c k p (type_of_term e) (binary_result o) (division_act z o (divisor_of d)) (λ x. made x (expression_of d)) j sound wr fits (λ a x w env s sc u alike same. subst (λ g. Sim z.direction (Valued z.place w env (binary_result o)) (ir_meaning.in_order (a ∷ []) (division_act z o (divisor_of d)) env s) (shown z g sc u)) (sym (division_same z lawful c.scope o d by (type_of_term e) (type_of_term d) x (expression_of d))) (division_alike z o d by (type_of_term e) fit a x w env s sc u alike same)))) w env s sc u r same))
+  division_does p c k j o e d by fit sound ahead wr fits dividend w env s sc u r same = subst (λ x. Ends z lawful c c.scope k w sc x (into z.is_mutable z.code.sure c.targets k j (binary_op p o e d)).statements sc u) (sym (dividend_alone z o d by (ir_meaning.step z.place.classes z.low e) env s)) (subst (λ code. Ends z lawful c c.scope k w sc (ir_meaning.in_order (ir_meaning.step z.place.classes z.low e ∷ []) (division_act z o (divisor_of d)) env s) code.statements sc u) (sym (divisor_stays o d by (is_fixed z.is_mutable e) (is_plain e) (operand z.is_mutable z.code.sure e (λ k j. into z.is_mutable z.code.sure c.targets k j e)) c.targets k p j made)) (of_operands z lawful c k (piece c.targets e ∷ []) j (division_act z o (divisor_of d)) (λ es. finish k p (binary_result o) false (made (first_of es) (expression_of z.code.sure d))) sound ahead (dividend, tt) (one_final z lawful c k j (type_of_term e) (division_act z o (divisor_of d)) (λ es. finish k p (binary_result o) false (made (first_of es) (expression_of z.code.sure d))) (finish_one c k p (type_of_term e) (binary_result o) (division_act z o (divisor_of d)) (λ x. made x (expression_of z.code.sure d)) j sound wr fits (λ a x w env s sc u alike same. subst (λ g. Sim z.direction (Valued z.place w env (binary_result o)) (ir_meaning.in_order (a ∷ []) (division_act z o (divisor_of d)) env s) (shown z g sc u)) (sym (division_same z lawful c.scope o d by (type_of_term e) (type_of_term d) x (expression_of z.code.sure d))) (division_alike z o d by (type_of_term e) fit a x w env s sc u alike same)))) w env s sc u r same))
     where
       made : core.Expression → core.Expression → core.Expression
       made x y = core.binary_of o (operand_of o (type_of_term e) x) (operand_of o (type_of_term d) y)

@@ -56,8 +56,13 @@ pub record Amid (w : Classes) (is_mutable : List ℕ → Bool) (g : Scope) (ls :
   pub targets : (l : List ℕ) (t : IrType) → type_of_label s.labels l ≡ Some t → Asks w (target_of ls.targets l) t
   pub reaches : (l : List ℕ) → ls.reaches l
 
+<<<<<<< HEAD
 -- a tree that keeps the rules where it is written, defines each local once, and may be brought to its destination
 pub record Fine (w : Classes) (is_mutable : List ℕ → Bool) (has : Usable) (g : Scope) (ls : Around) (k : Destination) (t : Term) : Type 0 where
+=======
+-- a tree that keeps the rules where it is written, and may be brought to its destination
+pub record Fine (w : Classes) (is_mutable : List ℕ → Bool) (has : Usable) (sure : List ℕ → Bool) (g : Scope) (ls : Around) (k : Destination) (t : Term) : Type 0 where
+>>>>>>> 6a46694
   pub scene : Scene
   pub amid : Amid w is_mutable g ls scene
   pub around : List (List ℕ)
@@ -67,5 +72,10 @@ pub record Fine (w : Classes) (is_mutable : List ℕ → Bool) (has : Usable) (g
   pub typed : Typed w has scene t
 
 -- an operand is plain, or it may be brought to any variable of its type
+<<<<<<< HEAD
 abbrev pub FineOperand : Classes → (List ℕ → Bool) → Usable → Scope → Term → (core.Variable → Type 0) → Type 0
 FineOperand w is_mutable has scope t fine = Plain w has scope t ⊎ ((is_plain t ≡ false) × (is_fixed is_mutable t ≡ false) × ((y : core.Variable) → fine y))
+=======
+abbrev pub FineOperand : (List ℕ → Bool) → Usable → (List ℕ → Bool) → Scope → Term → (core.Variable → Type 0) → Type 0
+FineOperand is_mutable has sure scope t fine = ((is_plain t ≡ true) × Plain has sure scope t) ⊎ ((is_plain t ≡ false) × (is_fixed is_mutable t ≡ false) × ((y : core.Variable) → fine y))
+>>>>>>> 6a46694

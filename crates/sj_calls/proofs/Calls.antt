@@ -7,7 +7,7 @@ use Rattle.outcomes.specs.Agreement.{Direction, Sim}
 use Rattle.outcomes.proofs.Simulation.{sim_done, sim_wrong, sim_then}
 use Rattle.ir_mean.specs.Meaning as ir_meaning
 use Rattle.ir_mean.specs.States as ir
-use Rattle.ir_mean.specs.Sure.{sure_locals}
+use Rattle.sure_receivers.specs.Sure.{sure_locals}
 use Rattle.ir_mean.specs.World.{member_of}
 use Rattle.js_mean.specs.Meaning as js_meaning
 use Rattle.js_mean.specs.Proper.{is_among, declared}
@@ -22,8 +22,13 @@ use Rattle.sj_names.specs.declared.method_names.Member.{Member}
 use Rattle.sj_trees.specs.declared.classes.ParamDef.{ParamDef}
 use Rattle.sj_trees.specs.declared.types.IrType.{IrType}
 use Rattle.sj_trees.specs.declared.types.IrType.TheVariants.{NoType}
+<<<<<<< HEAD
 use Rattle.body_rules.specs.Locals.{Own, IsParameter, parameters_of, with_local, Scope}
 use Rattle.sj_plain.specs.Settings.{Place, Setting, SameState, Valued, valued, thrown, NamesDiffer, OfNoVariable, Holding, holding, a_function, function_call}
+=======
+use Rattle.sj_bodies.specs.Locals.{Own}
+use Rattle.sj_plain.specs.Settings.{Place, Code, no_receiver, Setting, SameState, Valued, valued, thrown, NamesDiffer, OfNoVariable, Holding, holding, a_function, function_call}
+>>>>>>> 6a46694
 use Rattle.sj_bodies.proofs.Blocks.{Outside, bind-undeclared}
 use Rattle.sj_bodies.proofs.Contexts.{Context, Writes, Sound, Ahead, Ready, let_go, returned, Came, gave, left, threw, stopped}
 use Rattle.body_rules.proofs.Equal.{differs, equals, is-equal}
@@ -60,6 +65,7 @@ one_type (d ∷ ds) x s t (inr h) (inr k) = one_type ds x s t h.1 k.1
 abbrev pub Kept : (List ℕ → Bool) → (List ℕ → Type 0) → core.Variable → Type 0
 Kept is_mutable scope (core.named x) = scope x × (is_mutable x ≡ false)
 Kept is_mutable scope (core.numbered k) = ⊥
+Kept is_mutable scope core.receiver = Unit {0}
 
 abbrev pub start : (List ℕ → Bool) → List ParamDef → Context
 start is_mutable ds = record { scope = parameters_of ds; writable = λ y. ⊥; kept = Kept is_mutable (IsParameter ds); targets = []; reaches = λ l. Unit {0}; turning = ⊥ }
@@ -71,6 +77,8 @@ sound-start is_mutable ds = record {
   changing = λ x t g k m. impossible (sym k.1 ∙ m);
   alone = one_type ds;
   reached = λ l r. tt;
+  receiver = tt;
+  received = λ wr. wr;
 }
 
 pub ahead-start : (is_mutable : List ℕ → Bool) (ds : List ParamDef) → Ahead (start is_mutable ds) 1
@@ -88,7 +96,7 @@ pub way : (t : IrType) → Way t (result_destination t)
 way NoType = gives_up
 way t = hands_on t refl
 
-writes-nothing : (q : core.Variable → Type 0) (t : IrType) (k : Destination) → Way t k → Writes q k
+pub writes-nothing : (q : core.Variable → Type 0) (t : IrType) (k : Destination) → Way t k → Writes q k
 writes-nothing q _ _ gives_up = tt
 writes-nothing q _ _ (hands_on t h) = tt
 
@@ -117,7 +125,7 @@ body-fine w has d e r = record {
 }
 
 -- the end of a body is the end of its call
-pub comes_back : (d : Direction) (p : Place) (file : Name) (t : IrType) (k : Destination) → Way t k → (c : Context) (scope : Scope) (w : World) (before : js.Scope) (env : ir.Env) (a : ir.Ended) (b : js.StatementEnd) → Came p file c scope k w before a b → Sim d (Valued p w env t) (ir_meaning.returned t env a) (js_meaning.returned b)
+pub comes_back : (d : Direction) (p : Place) (file : Code) (t : IrType) (k : Destination) → Way t k → (c : Context) (scope : Scope) (w : World) (before : js.Scope) (env : ir.Env) (a : ir.Ended) (b : js.StatementEnd) → Came p file c scope k w before a b → Sim d (Valued p w env t) (ir_meaning.returned t env a) (js_meaning.returned b)
 comes_back d p file _ _ gives_up c scope w before env _ _ (gave y v inner s sc u _ g let_go r ks same) = sim_done d (Valued p w env NoType) (ir.ends (ir.gives ir.undefined) env s) (js.gives js.undefined u) (valued y ir.undefined js.undefined s u g (record { stands = same_undefined; suits = refl }) same)
 comes_back d p file _ _ (hands_on t h) c scope w before env _ _ (gave y v inner s sc u _ g (returned _ j a) r ks same) = subst (λ x. Sim d (Valued p w env t) (ir.given x env s) (done (js.gives j u))) (sym (result-same t v h)) (sim_done d (Valued p w env t) (ir.ends (ir.gives v) env s) (js.gives j u) (valued y v j s u g a same))
 comes_back d p file t k i c scope w before env _ _ (left y l v inner s sc u e reach g a r ks same) = sim_wrong d (Valued p w env t) (js_meaning.returned (js.ends e sc u))
@@ -174,14 +182,17 @@ module _ (p : Place) (names : NamesDiffer p) where
       go true e = let n = declared-named p.name p.label ss y e in absurd (none n.variable n.name)
 
   -- calls of a member and of its function are alike where the levels below are
-  pub call_alike : (d : Direction) (low : ir_meaning.Low) (js_low : js_meaning.Low) (m : Member) (l : Linked p m) → LowAlike (record { place = p; file = p.home (a_function m); direction = d; is_mutable = is_mutable_in l.definition l.its_body; low = low; js_low = js_low }) → (w : World) (vs : List ir.Value) (xs : List js.Value) (env : ir.Env) (s : ir.State) (u : js.State) → SameValues w (types_referred m.method.params) vs xs → SameState p w s u → Sim d (Valued p w env (call_type m.method.result)) (ir_meaning.call low (member_of p.classes m.class m.namespace m.method) None vs env s) (function_call p js_low m xs u)
+  pub call_alike : (d : Direction) (low : ir_meaning.Low) (js_low : js_meaning.Low) (m : Member) (l : Linked p m) → LowAlike (record { place = p; code = record { file = p.home (a_function m); sure = sure_locals l.its_body }; direction = d; is_mutable = is_mutable_in l.definition l.its_body; low = low; js_low = js_low }) → (w : World) (vs : List ir.Value) (xs : List js.Value) (env : ir.Env) (s : ir.State) (u : js.State) → SameValues w (types_referred m.method.params) vs xs → SameState p w s u → Sim d (Valued p w env (call_type m.method.result)) (ir_meaning.call low (member_of p.classes m.class m.namespace m.method) None vs env s) (function_call p js_low m xs u)
   call_alike d low js_low m l below w vs xs env s u values same = subst (λ t. Sim d (Valued p w env t) (ir_meaning.call low (member_of p.classes m.class m.namespace m.method) None vs env s) (function_call p js_low m xs u)) l.result_is (subst (λ o. Sim d (Valued p w env l.definition.result) o (function_call p js_low m xs u)) (sym ir_is) (subst (λ o. Sim d (Valued p w env l.definition.result) (ir_meaning.body_call low l.definition.result (Some l.its_body) None (ir_meaning.parameters l.definition.params vs) env s) o) (sym js_is) (locals (bound w l.definition.params m.method.params vs xs names_declared l.parameters values))))
     where
       is_mutable : List ℕ → Bool
       is_mutable = is_mutable_in l.definition l.its_body
 
       z : Setting
-      z = record { place = p; file = p.home (a_function m); direction = d; is_mutable = is_mutable; low = low; js_low = js_low }
+      z = record { place = p; code = record { file = p.home (a_function m); sure = sure_locals l.its_body }; direction = d; is_mutable = is_mutable; low = low; js_low = js_low }
+
+      here : Code
+      here = record { file = p.home (a_function m); sure = sure_locals l.its_body }
 
       scope : Scope
       scope = parameters_of l.definition.params
@@ -208,10 +219,19 @@ module _ (p : Place) (names : NamesDiffer p) where
       js_is = ap (λ o. js_meaning.code_call js_low (p.home (a_function m)) o xs u) l.emitted
 
       locals : Bound p w l.definition.params vs xs names_declared → Sim d (Valued p w env l.definition.result) (ir_meaning.body_call low l.definition.result (Some l.its_body) None (ir_meaning.parameters l.definition.params vs) env s) js_body
+<<<<<<< HEAD
       locals h = subst (λ o. Sim d (Valued p w env l.definition.result) (ir_meaning.body_call low l.definition.result (Some l.its_body) None o env s) js_body) (sym h.are) (sim_then d (Came p (p.home (a_function m)) (start is_mutable l.definition.params) scope k w sc) (Valued p w env l.definition.result) (low l.its_body inner s) (js_low code.body sc u) (ir_meaning.returned l.definition.result env) js_meaning.returned (below (start is_mutable l.definition.params) k 1 l.its_body (sound-start is_mutable l.definition.params) (ahead-start is_mutable l.definition.params) (outside-start is_mutable l.definition.params (Own l.its_body) l.rules.once.fresh) (writes-nothing (λ y. ⊥) l.definition.result k (way l.definition.result)) (body-fine p.classes (p.has (p.home (a_function m))) l.definition l.its_body l.rules) w inner s sc u ready same) (comes_back d p (p.home (a_function m)) l.definition.result k (way l.definition.result) (start is_mutable l.definition.params) scope w sc env))
+=======
+      locals h = subst (λ o. Sim d (Valued p w env l.definition.result) (ir_meaning.body_call low l.definition.result (Some l.its_body) None o env s) js_body) (sym h.are) (sim_then d (Came p here (start is_mutable l.definition.params) scope k w sc) (Valued p w env l.definition.result) (low l.its_body inner s) (js_low code.body sc u) (ir_meaning.returned l.definition.result env) js_meaning.returned (below (start is_mutable l.definition.params) k 1 l.its_body (sound-start is_mutable l.definition.params) (ahead-start is_mutable l.definition.params) (outside-start is_mutable l.definition.params (Own l.its_body) l.fine.fresh) (writes-nothing (λ y. ⊥) l.definition.result k (way l.definition.result)) l.fine.fine w inner s sc u ready same) (comes_back d p here l.definition.result k (way l.definition.result) (start is_mutable l.definition.params) scope w sc env))
+>>>>>>> 6a46694
         where
           inner : ir.Env
           inner = record { this_value = None; locals = h.locals; sure = sure_locals l.its_body }
 
+<<<<<<< HEAD
           ready : Ready p (p.home (a_function m)) scope (λ y. ⊥) w inner sc
           ready = record { sees = record { inside = record { file = refl; free = λ y none. parameters-free (names_of l.definition.params) xs names_declared y none (body-free (desugared l.definition l.its_body).body y none) }; locals = h.hold }; «open» = λ y wr. absurd wr }
+=======
+          ready : Ready p here scope (λ y. ⊥) w inner sc
+          ready = record { sees = record { inside = record { file = refl; free = λ y none. parameters-free (names_of l.definition.params) xs names_declared y none (body-free z refl (desugared l.definition l.its_body).body y none) }; this = no_receiver (sc.bindings (p.name core.receiver)); sure = refl; locals = h.hold }; «open» = λ y wr. absurd wr }
+>>>>>>> 6a46694

@@ -1,5 +1,13 @@
 pub mod Calls
+pub mod Chains
 pub mod Items
+pub mod Helps
 pub mod Levels
+pub mod Making
 pub mod Names
+pub mod News
+pub mod ObjectLevels
+pub mod Receivers
+pub mod Shapes
 pub mod Whole
+pub mod Zeros

@@ -1,24 +1,89 @@
 -- The names of the emitted code differ.
+<<<<<<< HEAD
 use Rattle.std.proofs.Common.{◌≡◌, ◌≤◌, ℕ, List, ◌∷◌, ap, arith}
+=======
+use Rattle.std.proofs.Common.{◌≡◌, ◌≤◌, ℕ, zero, suc, List, [], ◌∷◌, map, refl, ap, sym, ◌∙◌, arith}
+use Rattle.std.specs.Prelude.{codes, ◌+◌}
+use Rattle.std.specs.Int.Digits.{digits_of, AllBelowBase}
+use Rattle.std.proofs.lemmas.Int.Digits.{all_below_base_digits_of}
+use Rattle.helper_rules.specs.Helpers.{helper_name}
+use Rattle.helper_rules.specs.declared.kinds.Helper.{Helper}
+use Rattle.helper_rules.specs.declared.kinds.Helper.TheVariants as helpers
+use Rattle.helper_rules.specs.declared.kinds.Failure.TheVariants as failures
+>>>>>>> 6a46694
 use Rattle.outcomes.specs.Agreement.{Room}
 use Rattle.ir_mean.specs.World as ir_world
 use Rattle.js_mean.specs.States as js
 use Rattle.js_tree.specs.Terms.{Name}
+<<<<<<< HEAD
 use Rattle.sj_core.specs.Terms.{Variable, named, numbered}
 use Rattle.sj_emit_expr.specs.Names.{variable_name}
+=======
+use Rattle.sj_core.specs.Terms.{Variable, named, numbered, receiver}
+use Rattle.sj_emit_expr.specs.Names.{variable_name, label_name}
+>>>>>>> 6a46694
 use Rattle.sj_emit_expr.specs.Templates.{member_name}
 use Rattle.sj_mangling.specs.Bindings.{function_name, class_binding}
-use Rattle.sj_mangling.specs.declared.bindings.ClassBinding.TheVariants.{Class}
+use Rattle.sj_mangling.specs.declared.bindings.ClassBinding.TheVariants.{Class, Constants}
 use Rattle.sj_mangling.specs.Mangling.{mangled}
 use Rattle.sj_mangling.specs.Numerals.{number_text}
 use Rattle.sj_names.specs.declared.method_names.Member.{Member}
 use Rattle.sj_names.specs.declared.method_names.MethodName.{MethodName}
 use Rattle.sj_names.specs.declared.method_names.Namespace.{Namespace}
 use Rattle.sj_names.specs.declared.method_names.Namespace.TheVariants.{Public, PublicStatic, Private, PrivateStatic, Constructor}
+<<<<<<< HEAD
 use Rattle.sj_plain.specs.Settings.{Top, a_function, a_class, top_name, NamesDiffer}
 use Rattle.sj_proper.proofs.Names.{first, variables-differ, labels-differ}
 use Rattle.sj_calls.specs.Names.{emitted_in}
 use Rattle.built_forms.specs.Built.{Usable}
+=======
+use Rattle.sj_plain.specs.Settings.{Top, a_function, a_method, a_constructor, a_class, some_constants, a_helper, top_name, NamesDiffer}
+use Rattle.sj_calls.specs.Names.{emitted_in}
+use Rattle.sj_plain.specs.Conditions.{Usable}
+
+abbrev first : List ℕ → ℕ
+first [] = 0
+first (a ∷ rest) = a
+
+abbrev behind : List ℕ → List ℕ
+behind [] = []
+behind (a ∷ rest) = rest
+
+heads : (a b : ℕ) (xs ys : List ℕ) → a ∷ xs ≡ b ∷ ys → a ≡ b
+heads a b xs ys e = ap first e
+
+tails : (a b : ℕ) (xs ys : List ℕ) → a ∷ xs ≡ b ∷ ys → xs ≡ ys
+tails a b xs ys e = ap behind e
+
+apart : (x : List ℕ) (n : ℕ) → variable_name (named x) ≡ variable_name (numbered n) → ⊥
+apart x n e = let h : ◌≡◌ {A = ℕ} 118 36 = heads 118 36 (95 ∷ mangled x) (number_text n) e in absurd (omega arith)
+
+this-named : (x : List ℕ) → variable_name receiver ≡ variable_name (named x) → ⊥
+this-named x e = let h : ◌≡◌ {A = ℕ} 36 118 = heads 36 118 (codes "this") (95 ∷ mangled x) e in absurd (omega arith)
+
+-- a numeral begins with a digit
+low-digit : (ds : List ℕ) (a : ℕ) (rest : List ℕ) → AllBelowBase 10 ds → a ∷ rest ≡ map (λ d. 48 + d) ds → 58 ≤ a → ⊥
+low-digit [] a rest all e h = absurd (cc)
+low-digit (d ∷ ds) a rest all e h = let k : a ≡ 48 + d = heads a (48 + d) rest (map (λ d. 48 + d) ds) e in omega (arith, k, all.0, h)
+
+low-numeral : (n : ℕ) (a : ℕ) (rest : List ℕ) → a ∷ rest ≡ number_text n → 58 ≤ a → ⊥
+low-numeral zero a rest e h = let k : a ≡ 48 = heads a 48 rest [] e in omega (arith, k, h)
+low-numeral (suc n) a rest e h = low-digit (digits_of 10 (suc n)) a rest (all_below_base_digits_of 10 (suc n) (omega arith)) e h
+
+pub variables-differ : (x y : Variable) → variable_name x ≡ variable_name y → x ≡ y
+variables-differ (named x) (named y) e = ap named (mangled_texts_differ x y (tails 95 95 (mangled x) (mangled y) (tails 118 118 (95 ∷ mangled x) (95 ∷ mangled y) e)))
+variables-differ (named x) (numbered n) e = absurd (apart x n e)
+variables-differ receiver receiver e = refl
+variables-differ receiver (named x) e = absurd (this-named x e)
+variables-differ (named x) receiver e = absurd (this-named x (sym e))
+variables-differ receiver (numbered n) e = absurd (low-numeral n 116 (codes "his") (tails 36 36 (codes "this") (number_text n) e) (omega arith))
+variables-differ (numbered n) receiver e = absurd (low-numeral n 116 (codes "his") (tails 36 36 (codes "this") (number_text n) (sym e)) (omega arith))
+variables-differ (numbered n) (named x) e = absurd (apart x n (sym e))
+variables-differ (numbered n) (numbered k) e = ap numbered (numerals_differ n k (tails 36 36 (number_text n) (number_text k) e))
+
+pub labels-differ : (l m : List ℕ) → label_name l ≡ label_name m → l ≡ m
+labels-differ l m e = mangled_texts_differ l m (tails 95 95 (mangled l) (mangled m) (tails 108 108 (95 ∷ mangled l) (95 ∷ mangled m) e))
+>>>>>>> 6a46694
 
 -- the name of a function begins with `f`, `s`, `p` or `c`
 begins : (n : Namespace) (c : List ℕ) (k : MethodName) (a : ℕ) (rest : List ℕ) → a ∷ rest ≡ function_name n c k → (99 ≤ a) × (a ≤ 115)
@@ -30,16 +95,71 @@ begins Constructor c k a rest e = let h : a ≡ 99 = ap first e in (omega arith,
 
 no_function : (m : Member) (x : Variable) → variable_name x ≡ member_name m → ⊥
 no_function m (named x) e = let h = begins m.namespace m.class m.method 118 (95 ∷ mangled x) e in let k : 118 ≤ 115 = h.1 in omega arith
+no_function m receiver e = let h = begins m.namespace m.class m.method 36 (codes "this") e in let k : 99 ≤ 36 = h.0 in omega arith
 no_function m (numbered n) e = let h = begins m.namespace m.class m.method 36 (number_text n) e in let k : 99 ≤ 36 = h.0 in omega arith
 
 -- the name of a class begins with `c`
 no_class : (c : List ℕ) (x : Variable) → variable_name x ≡ class_binding Class c → ⊥
 no_class c (named x) e = let h : ◌≡◌ {A = ℕ} 118 99 = ap first e in absurd (omega arith)
+no_class c receiver e = let h : ◌≡◌ {A = ℕ} 36 99 = ap first e in absurd (omega arith)
 no_class c (numbered n) e = let h : ◌≡◌ {A = ℕ} 36 99 = ap first e in absurd (omega arith)
+
+-- and that of its constants with `k`
+no_constants : (c : List ℕ) (x : Variable) → variable_name x ≡ class_binding Constants c → ⊥
+no_constants c (named x) e = let h : ◌≡◌ {A = ℕ} 118 107 = ap first e in absurd (omega arith)
+no_constants c receiver e = let h : ◌≡◌ {A = ℕ} 36 107 = ap first e in absurd (omega arith)
+no_constants c (numbered n) e = let h : ◌≡◌ {A = ℕ} 36 107 = ap first e in absurd (omega arith)
+
+-- the name of a helper is `$` and a letter, and more
+pub record BeginsSo (name : Name) : Type 0 where
+  pub letter : ℕ
+  pub rest : List ℕ
+  pub is : name ≡ 36 ∷ letter ∷ rest
+  pub high : 58 ≤ letter
+  pub other : letter ≡ 116 → ⊥
+
+helper-begins : (h : Helper) → BeginsSo (helper_name h)
+helper-begins (helpers.TestOf k) = record { letter = 105; rest = _; is = refl; high = omega arith; other = λ e. omega arith }
+helper-begins (helpers.CastTo k) = record { letter = 97; rest = _; is = refl; high = omega arith; other = λ e. omega arith }
+helper-begins (helpers.ConstantsOf k) = record { letter = 107; rest = _; is = refl; high = omega arith; other = λ e. omega arith }
+helper-begins helpers.NotNull = record { letter = 110; rest = _; is = refl; high = omega arith; other = λ e. omega arith }
+helper-begins helpers.IntQuotient = record { letter = 105; rest = _; is = refl; high = omega arith; other = λ e. omega arith }
+helper-begins helpers.IntRemainder = record { letter = 105; rest = _; is = refl; high = omega arith; other = λ e. omega arith }
+helper-begins helpers.LongQuotient = record { letter = 108; rest = _; is = refl; high = omega arith; other = λ e. omega arith }
+helper-begins helpers.LongRemainder = record { letter = 108; rest = _; is = refl; high = omega arith; other = λ e. omega arith }
+helper-begins helpers.BoxedChar = record { letter = 67; rest = _; is = refl; high = omega arith; other = λ e. omega arith }
+helper-begins helpers.Equal = record { letter = 101; rest = _; is = refl; high = omega arith; other = λ e. omega arith }
+helper-begins helpers.ArrayClass = record { letter = 65; rest = _; is = refl; high = omega arith; other = λ e. omega arith }
+helper-begins helpers.MakeArray = record { letter = 109; rest = _; is = refl; high = omega arith; other = λ e. omega arith }
+helper-begins helpers.CheckIndex = record { letter = 105; rest = _; is = refl; high = omega arith; other = λ e. omega arith }
+helper-begins helpers.Get = record { letter = 103; rest = _; is = refl; high = omega arith; other = λ e. omega arith }
+helper-begins helpers.Set = record { letter = 115; rest = _; is = refl; high = omega arith; other = λ e. omega arith }
+helper-begins helpers.Put = record { letter = 112; rest = _; is = refl; high = omega arith; other = λ e. omega arith }
+helper-begins helpers.Covers = record { letter = 99; rest = _; is = refl; high = omega arith; other = λ e. omega arith }
+helper-begins helpers.Fits = record { letter = 102; rest = _; is = refl; high = omega arith; other = λ e. omega arith }
+helper-begins helpers.ClassOf = record { letter = 107; rest = _; is = refl; high = omega arith; other = λ e. omega arith }
+helper-begins helpers.TestOfArray = record { letter = 105; rest = _; is = refl; high = omega arith; other = λ e. omega arith }
+helper-begins helpers.CastToArray = record { letter = 97; rest = _; is = refl; high = omega arith; other = λ e. omega arith }
+helper-begins (helpers.Throws failures.NullReceiver) = record { letter = 110; rest = _; is = refl; high = omega arith; other = λ e. omega arith }
+helper-begins (helpers.Throws failures.Division) = record { letter = 97; rest = _; is = refl; high = omega arith; other = λ e. omega arith }
+helper-begins (helpers.Throws failures.Cast) = record { letter = 99; rest = _; is = refl; high = omega arith; other = λ e. omega arith }
+helper-begins (helpers.Throws failures.Index) = record { letter = 105; rest = _; is = refl; high = omega arith; other = λ e. omega arith }
+helper-begins (helpers.Throws failures.Store) = record { letter = 97; rest = _; is = refl; high = omega arith; other = λ e. omega arith }
+helper-begins (helpers.Throws failures.Size) = record { letter = 110; rest = _; is = refl; high = omega arith; other = λ e. omega arith }
+helper-begins (helpers.Throws failures.Method) = record { letter = 110; rest = _; is = refl; high = omega arith; other = λ e. omega arith }
+
+no_helper : (h : Helper) (x : Variable) → variable_name x ≡ helper_name h → ⊥
+no_helper h (named x) e = let b = helper-begins h in let k : ◌≡◌ {A = ℕ} 118 36 = heads 118 36 (95 ∷ mangled x) (b.letter ∷ b.rest) (e ∙ b.is) in absurd (omega arith)
+no_helper h (numbered n) e = let b = helper-begins h in low-numeral n b.letter b.rest (sym (tails 36 36 (number_text n) (b.letter ∷ b.rest) (e ∙ b.is))) b.high
+no_helper h receiver e = let b = helper-begins h in b.other (sym (heads 116 b.letter (codes "his") b.rest (tails 36 36 (codes "this") (b.letter ∷ b.rest) (e ∙ b.is))))
 
 no_top : (t : Top) (x : Variable) → variable_name x ≡ top_name t → ⊥
 no_top (a_function m) = no_function m
+no_top (a_method m) = no_function m
+no_top (a_constructor m) = no_function m
 no_top (a_class c) = no_class c
+no_top (some_constants c) = no_constants c
+no_top (a_helper h) = no_helper h
 
 pub emitted_names_differ : (classes : ir_world.World) (program : js.Program) (home : Top → Name) (has : Name → Usable) (room : Room) → NamesDiffer (emitted_in classes program home has room)
 emitted_names_differ classes program home has room = record { variables = variables-differ; labels = labels-differ; tops = no_top }

@@ -1,7 +1,7 @@
 -- A file that has the functions of methods and calls initializers shows what these show.
-use Rattle.std.proofs.Common.{◌≡◌, ℕ, Bool, true, false, List, [], ◌∷◌, ◌++◌, ◌&&◌, map, refl, sym, ap, ◌∙◌, subst, Contains, Option, Some, None, if◌then◌else◌, length, ◌<◌, ◌^◌, arith}
+use Rattle.std.proofs.Common.{◌≡◌, ℕ, Bool, true, false, List, [], ◌∷◌, ◌++◌, ◌&&◌, map, refl, sym, ap, ◌∙◌, subst, Contains, Option, Some, None, if◌then◌else◌, slice_get, length, ◌<◌, ◌^◌, arith}
 use Rattle.std.specs.Int.{w32, w64}
-use Rattle.std.specs.Prelude.{ℤ, pos, negsuc, FitsSigned}
+use Rattle.std.specs.Prelude.{ℤ, pos, negsuc, codes, FitsSigned}
 use Rattle.std.specs.List.{list_all}
 use Rattle.std.proofs.lemmas.Bool.{and_parts}
 use Rattle.std.proofs.lemmas.List.Elements.{Contains-append_left, Contains-append_right, Contains-push}
@@ -16,6 +16,9 @@ use Rattle.ir_mean.specs.States as ir
 use Rattle.ir_mean.specs.World as ir_world
 use Rattle.js_mean.specs.Files as files
 use Rattle.js_mean.specs.Meaning as js_meaning
+use Rattle.js_mean.specs.Objects as js_objects
+use Rattle.sj_mangling.specs.Bindings.{class_binding}
+use Rattle.sj_mangling.specs.declared.bindings.ClassBinding.TheVariants.{Marker}
 use Rattle.js_mean.specs.Proper.{is_among, are_distinct, item_names, is_proper_item, is_proper_module}
 use Rattle.js_mean.specs.Shows as js_showing
 use Rattle.js_mean.specs.States as js
@@ -25,22 +28,34 @@ use Rattle.sj_desugar.specs.Desugar.{desugared}
 use Rattle.sj_emit_expr.specs.Templates.{member_name, parameter_names}
 use Rattle.sj_names.specs.declared.entry_points.EntryPoint.{EntryPoint}
 use Rattle.sj_names.specs.declared.method_names.Member.{Member}
-use Rattle.sj_plain.specs.Settings.{Place, Top, a_function, a_class, top_name, is_usable, TopHolds, SameHeap, SameState, Valued, valued, thrown, NamesDiffer}
-use Rattle.sj_plain.specs.Worlds.{World, nothing_made, Stands, same_undefined, same_null, same_boolean, same_char, same_number, same_long, same_text, no_values}
+use Rattle.sj_plain.specs.Settings.{some_constants, links_of, SameStored, same_object, a_method, a_constructor, a_helper, Place, Top, a_function, a_class, top_name, is_usable, TopHolds, SameHeap, SameState, Valued, valued, thrown, NamesDiffer}
+use Rattle.sj_plain.specs.Worlds.{World, nothing_made, Stands, same_undefined, same_null, same_boolean, same_char, same_number, same_long, same_text, same_reference, no_values}
 use Rattle.sj_plain.specs.Standing.{suits}
 use Rattle.sj_names.proofs.Same.{impossible}
 use Rattle.sj_trees.specs.declared.types.IrType.TheVariants.{Any, NoType}
+<<<<<<< HEAD
 use Rattle.body_rules.proofs.Equal.{equals}
 use Rattle.sj_proper.specs.Emitted.{EmittedMethod, function_item_of, initializer_member, call_item_of, module_with}
 use Rattle.sj_calls.specs.Files.{program_with, IsEmitted, HasFunction}
 use Rattle.sj_calls.specs.Methods.{parameters_in, function_of, Linked, ir_call, js_call}
+=======
+use Rattle.sj_bodies.proofs.Contexts.{equals}
+use Rattle.sj_calls.specs.Files.{EmittedMethod, function_item_of, initializer_member, call_item_of, module_with, program_with, IsEmitted, HasFunction}
+use Rattle.sj_calls.specs.Methods.{CallsAlone, parameters_in, function_of, Linked, ir_call, js_call}
+>>>>>>> 6a46694
 use Rattle.sj_calls.specs.Names.{emitted_in}
 use Rattle.sj_calls.proofs.Items.{code_with, code_found, cell_found}
 use Rattle.body_rules.proofs.InWorld.{in_world}
 use Rattle.sj_calls.proofs.Levels.{calls_agree}
 use Rattle.sj_world.specs.Laws.{IsTopped}
 use Rattle.sj_calls.proofs.Names.{emitted_names_differ}
+<<<<<<< HEAD
 use Rattle.built_forms.specs.Built.{Usable}
+=======
+use Rattle.sj_plain.specs.Conditions.{Usable}
+use Rattle.built_forms.specs.Built.{members_alone}
+use Rattle.sj_names.specs.declared.method_names.Member.{Member}
+>>>>>>> 6a46694
 
 -- a program of one file, and what is found in it
 abbrev alone : Name → Module → js.Program
@@ -70,14 +85,41 @@ long_shown : (n : ℤ) → FitsSigned w64 n → js_showing.is_below (2 ^ 63) n �
 long_shown (pos n) f = let h : n < 2 ^ 63 = f.sfits in grind arith
 long_shown (negsuc n) f = let h : n < 2 ^ 63 = f.sfits in grind arith
 
-uncaught_alike : (p : js.Program) (d : Direction) (w : World) (v : ir.Value) (x : js.Value) (s : ir.State) (u : js.State) → Stands w v x → suits Any v ≡ true → Sim d ◌≡◌ (ir_showing.uncaught_or_wrong (ir_showing.thrown s v)) (js_showing.uncaught_or_wrong (js_showing.thrown p u x))
-uncaught_alike p d w _ _ s u same_undefined h = sim_done d ◌≡◌ (uncaught shown.undefined) (uncaught shown.undefined) refl
-uncaught_alike p d w _ _ s u same_null h = sim_done d ◌≡◌ (uncaught shown.null) (uncaught shown.null) refl
-uncaught_alike p d w _ _ s u (same_boolean b) h = sim_done d ◌≡◌ (uncaught (shown.boolean b)) (uncaught (shown.boolean b)) refl
-uncaught_alike p d w _ _ s u (same_char n f) h = impossible h
-uncaught_alike p d w _ _ s u (same_number n f) h = subst (λ (b : Bool). Sim d ◌≡◌ (done (uncaught (shown.number n))) (js_showing.uncaught_or_wrong (if b then Some (shown.number n) else None))) (sym (number_shown n f)) (sim_done d ◌≡◌ (uncaught (shown.number n)) (uncaught (shown.number n)) refl)
-uncaught_alike p d w _ _ s u (same_long n f) h = subst (λ (b : Bool). Sim d ◌≡◌ (done (uncaught (shown.long n))) (js_showing.uncaught_or_wrong (if b then Some (shown.long n) else None))) (sym (long_shown n f)) (sim_done d ◌≡◌ (uncaught (shown.long n)) (uncaught (shown.long n)) refl)
-uncaught_alike p d w _ _ s u (same_text us) h = sim_done d ◌≡◌ (uncaught (shown.text us)) (uncaught (shown.text us)) refl
+-- what stands at an address, and what stands for it there, are shown alike: by the class of the object, which its marker tells
+stored_alike : (p : Place) (q : js.Program) (d : Direction) (w : World) (s : List ir.Stored) (u : js.State) → SameHeap p w s u.heap → (o : Option ir.Stored) (g : Option js.Stored) → SameStored p w o g → Sim d ◌≡◌ (ir_showing.uncaught_or_wrong (ir_showing.thrown_stored o)) (js_showing.uncaught_or_wrong (js_showing.object_shown (js_showing.class_shown (js_showing.marker_in q u (js_objects.stored_property q g (codes "k")))) (js_objects.stored_property q g (codes "c"))))
+stored_alike p q d w s u heaps _ _ (same_object c fields properties told fs) = subst (λ o. Sim d ◌≡◌ (done (uncaught (shown.object_of c))) (js_showing.uncaught_or_wrong o)) (sym is) (sim_done d ◌≡◌ (uncaught (shown.object_of c)) (uncaught (shown.object_of c)) refl)
+  where
+    ls : List js.ClassLink
+    ls = links_of p c
+
+    char : Option js.Value
+    char = js_objects.stored_property q (Some (js.plain ls properties)) (codes "c")
+
+    -- the marker, by the properties that lead to it
+    by_key : Option js.Value → Option js.Value
+    by_key k = js_showing.marker_in q u (js_objects.value_on (js_objects.or_value k (js_objects.method_on q ls (codes "k"))) (codes "k"))
+
+    by_constants : Option js.Stored → Option js.Value
+    by_constants o = js_objects.stored_property q o (codes "s")
+
+    by_marker : Option js.Value → Option js.Value
+    by_marker m = js_objects.value_on (js_objects.or_value m (js_objects.method_on q [] (codes "s"))) (codes "s")
+
+    marker_is : by_key (properties (codes "k")) ≡ Some (js.text (class_binding Marker c))
+    marker_is = ap by_key told.held ∙ ap by_constants (heaps.owned told.address (js.plain [] told.constants) told.owned) ∙ ap by_marker told.marked
+
+    is : js_showing.object_shown (js_showing.class_shown (js_showing.marker_in q u (js_objects.stored_property q (Some (js.plain ls properties)) (codes "k")))) char ≡ Some (shown.object_of c)
+    is = ap (λ m. js_showing.object_shown (js_showing.class_shown m) char) marker_is ∙ told.known char
+
+uncaught_alike : (place : Place) (p : js.Program) (d : Direction) (w : World) (v : ir.Value) (x : js.Value) (s : ir.State) (u : js.State) → SameState place w s u → Stands w v x → suits Any v ≡ true → Sim d ◌≡◌ (ir_showing.uncaught_or_wrong (ir_showing.thrown s v)) (js_showing.uncaught_or_wrong (js_showing.thrown p u x))
+uncaught_alike place p d w _ _ s u same same_undefined h = sim_done d ◌≡◌ (uncaught shown.undefined) (uncaught shown.undefined) refl
+uncaught_alike place p d w _ _ s u same same_null h = sim_done d ◌≡◌ (uncaught shown.null) (uncaught shown.null) refl
+uncaught_alike place p d w _ _ s u same (same_boolean b) h = sim_done d ◌≡◌ (uncaught (shown.boolean b)) (uncaught (shown.boolean b)) refl
+uncaught_alike place p d w _ _ s u same (same_char n f) h = impossible h
+uncaught_alike place p d w _ _ s u same (same_number n f) h = subst (λ (b : Bool). Sim d ◌≡◌ (done (uncaught (shown.number n))) (js_showing.uncaught_or_wrong (if b then Some (shown.number n) else None))) (sym (number_shown n f)) (sim_done d ◌≡◌ (uncaught (shown.number n)) (uncaught (shown.number n)) refl)
+uncaught_alike place p d w _ _ s u same (same_long n f) h = subst (λ (b : Bool). Sim d ◌≡◌ (done (uncaught (shown.long n))) (js_showing.uncaught_or_wrong (if b then Some (shown.long n) else None))) (sym (long_shown n f)) (sim_done d ◌≡◌ (uncaught (shown.long n)) (uncaught (shown.long n)) refl)
+uncaught_alike place p d w _ _ s u same (same_text us) h = sim_done d ◌≡◌ (uncaught (shown.text us)) (uncaught (shown.text us)) refl
+uncaught_alike place p d w _ _ s u same (same_reference i a e) h = stored_alike place p d w s.heap u same.heaps (slice_get s.heap i) (slice_get u.heap a) (same.heaps.objects i a e)
 
 -- functions do nothing as items
 past_functions : (p : js.Program) (k : ℕ) (f : Name) (fs : List EmittedMethod) (is : List Item) (u : js.State) → js_meaning.run_items p k f (map function_item_of fs ++ is) u ≡ js_meaning.run_items p k f is u
@@ -99,7 +141,10 @@ no_heaps p = record {
   separate = λ a o b e g. nothing_there o e;
 }
 
-module _ (w : ir_world.World) (id : List ℕ) (fs : List EmittedMethod) (es : List EntryPoint) (has : Usable) where
+module _ (w : ir_world.World) (id : List ℕ) (fs : List EmittedMethod) (es : List EntryPoint) (linked_here : Member → Bool) where
+  abbrev has : Usable
+  has = members_alone linked_here
+
   abbrev file : Name
   file = js_showing.file_of id
 
@@ -142,9 +187,16 @@ module _ (w : ir_world.World) (id : List ℕ) (fs : List EmittedMethod) (es : Li
     opening_same : SameState place nothing_made (ir_world.opening w) (js_meaning.opening program)
     opening_same = record { heaps = no_heaps place; tops = λ f t h. top_there t h }
       where
-        top_there : (t : Top) → is_usable has t ≡ true → TopHolds place t ((js_meaning.opening program).tops file (top_name t))
+        top_there : (t : Top) → is_usable has t ≡ true → TopHolds place nothing_made.owned t ((js_meaning.opening program).tops file (top_name t))
         top_there (a_function m) l = let h = functions m l in ap (λ o. js_meaning.module_cell file o (member_name m)) (module_there file (module_with fs es)) ∙ subst (λ x. js_meaning.items_cell file (map function_item_of fs ++ map call_item_of es) (member_name x) ≡ js.holds false (js.function file (member_name x))) h.is (cell_found file fs (map call_item_of es) h.method h.listed)
+        top_there (a_method m) l = impossible l
+        top_there (a_constructor m) l = impossible l
         top_there (a_class c) l = impossible l
+        top_there (some_constants c) l = impossible l
+        top_there (a_helper h) l = impossible l
+
+    no_objects : CallsAlone place
+    no_objects = record { received = λ f m. refl; built = λ f m. refl; made = λ f c. refl; field = λ f c g t. refl; helper = λ f x. refl }
 
     names : NamesDiffer place
     names = emitted_names_differ w program (λ t. file) (λ f. has) no_room
@@ -163,8 +215,13 @@ module _ (w : ir_world.World) (id : List ℕ) (fs : List EmittedMethod) (es : Li
         called cell = then_do (js_meaning.cell_value cell u) (js.with_value (λ g. js_meaning.in_order [] (js_meaning.call program (js_meaning.below program k) g) (js_meaning.top_scope program file)))
 
     item_alike : (d : Direction) (n k : ℕ) → Enough place.room 0 d n k → (e : EntryPoint) → has.linked (initializer_member e) ≡ true → (y : World) (s : ir.State) (u : js.State) → SameState place y s u → Sim d (Valued place y ir_showing.outside NoType) (ir_call place (initializer_member e) [] ir_showing.outside s n) (item_run e k u)
+<<<<<<< HEAD
     item_alike forward n k h e l y s u same = subst (λ o. Sim forward (Valued place y ir_showing.outside NoType) (ir_call place (initializer_member e) [] ir_showing.outside s n) o) (sym (item_is e k y s u l same)) ((calls_agree place (in_world w topped) names (λ f m l. linked m l) file (initializer_member e) l y [] [] ir_showing.outside s u no_values same).there n k h)
     item_alike backward n k h e l y s u same = subst (λ o. Sim backward (Valued place y ir_showing.outside NoType) (ir_call place (initializer_member e) [] ir_showing.outside s n) o) (sym (item_is e k y s u l same)) ((calls_agree place (in_world w topped) names (λ f m l. linked m l) file (initializer_member e) l y [] [] ir_showing.outside s u no_values same).back n k h)
+=======
+    item_alike forward n k h e l y s u same = subst (λ o. Sim forward (Valued place y ir_showing.outside NoType) (ir_call place (initializer_member e) [] ir_showing.outside s n) o) (sym (item_is e k y s u l same)) ((calls_agree place names (λ f m l. linked m l) no_objects file (initializer_member e) l y [] [] ir_showing.outside s u no_values same).there n k h)
+    item_alike backward n k h e l y s u same = subst (λ o. Sim backward (Valued place y ir_showing.outside NoType) (ir_call place (initializer_member e) [] ir_showing.outside s n) o) (sym (item_is e k y s u l same)) ((calls_agree place names (λ f m l. linked m l) no_objects file (initializer_member e) l y [] [] ir_showing.outside s u no_values same).back n k h)
+>>>>>>> 6a46694
 
     -- the end of the file
     abbrev ended : ℕ → Out js.ExpressionEnd → Shown
@@ -191,7 +248,7 @@ module _ (w : ir_world.World) (id : List ℕ) (fs : List EmittedMethod) (es : Li
 
         next : (d : Direction) (n k : ℕ) (is : List EntryPoint) (y : World) → ((z : World) (v : ir.Value) (s : ir.State) (u : js.State) → SameState place z s u → Sim d ◌≡◌ (ir_showing.all_show w n is s) (ended k (calls is k u))) → (a : ir.Ended) (b : js.ExpressionEnd) → Valued place y ir_showing.outside NoType a b → Sim d ◌≡◌ (ir_showing.next_or_end (ir_showing.all_show w n is) a) (then_do (then_do (js.with_value (λ v. js_meaning.run_items program k file (map call_item_of is)) b) (js.with_value (λ v. js_meaning.run_files program k []))) (js_showing.ending program))
         next d n k is y others _ _ (valued z v x s u g a same) = others z v s u same
-        next d n k is y others _ _ (thrown z v x s u g a same) = uncaught_alike program d z v x s u a.stands a.suits
+        next d n k is y others _ _ (thrown z v x s u g a same) = uncaught_alike place program d z v x s u same a.stands a.suits
 
     -- what the file shows
     abbrev order_shows : ℕ → List Name → Shown
@@ -206,5 +263,10 @@ module _ (w : ir_world.World) (id : List ℕ) (fs : List EmittedMethod) (es : Li
     pub shows_alike : ((e : EntryPoint) → Contains es e → has.linked (initializer_member e) ≡ true) → (d : Direction) (n k : ℕ) → Enough place.room 0 d n k → Sim d ◌≡◌ (ir_showing.all_show w n es (ir_world.opening w)) (js_showing.js_shows program id k)
     shows_alike all d n k h = subst (λ o. Sim d ◌≡◌ (ir_showing.all_show w n es (ir_world.opening w)) o) (sym (js_is k)) (calls_alike d n k h es all nothing_made (ir_world.opening w) (js_meaning.opening program) opening_same)
 
+<<<<<<< HEAD
 pub file_agrees : (w : ir_world.World) → IsTopped w → (entries : List EntryPoint) (id : List ℕ) (fs : List EmittedMethod) (has : Usable) → is_proper_module (module_with fs (ir_showing.initializers entries id)) ≡ true → ((e : EmittedMethod) → Contains fs e → IsEmitted w has e) → ((m : Member) → has.linked m ≡ true → HasFunction fs m) → ((e : EntryPoint) → Contains (ir_showing.initializers entries id) e → has.linked (initializer_member e) ≡ true) → ((n : ℕ) → IsNotWrong (ir_showing.ir_shows w entries id n).end) → Agree (ir_showing.ir_shows w entries id) (js_showing.js_shows (program_with id fs (ir_showing.initializers entries id)) id)
 file_agrees w topped entries id fs has proper emitted functions all right = agree-from_sim no_room (ir_showing.ir_shows w entries id) (js_showing.js_shows (program_with id fs (ir_showing.initializers entries id)) id) (shows_alike w id fs (ir_showing.initializers entries id) has topped proper emitted functions all) right
+=======
+pub file_agrees : (w : ir_world.World) (entries : List EntryPoint) (id : List ℕ) (fs : List EmittedMethod) (linked_here : Member → Bool) → is_proper_module (module_with fs (ir_showing.initializers entries id)) ≡ true → ((e : EmittedMethod) → Contains fs e → IsEmitted w (members_alone linked_here) e) → ((m : Member) → linked_here m ≡ true → HasFunction fs m) → ((e : EntryPoint) → Contains (ir_showing.initializers entries id) e → linked_here (initializer_member e) ≡ true) → ((n : ℕ) → IsNotWrong (ir_showing.ir_shows w entries id n).end) → Agree (ir_showing.ir_shows w entries id) (js_showing.js_shows (program_with id fs (ir_showing.initializers entries id)) id)
+file_agrees w entries id fs linked_here proper emitted functions all right = agree-from_sim no_room (ir_showing.ir_shows w entries id) (js_showing.js_shows (program_with id fs (ir_showing.initializers entries id)) id) (shows_alike w id fs (ir_showing.initializers entries id) linked_here proper emitted functions all) right
+>>>>>>> 6a46694

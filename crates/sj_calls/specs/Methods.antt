@@ -1,5 +1,6 @@
 -- Methods that are linked, what is asked of each, and when the calls of one and of its function are alike.
-use Rattle.std.specs.Prelude.{◌≡◌, ℕ, List, [], ◌∷◌, Some, None}
+use Rattle.std.specs.Prelude.{◌≡◌, ℕ, false, List, [], ◌∷◌, Some, None}
+use Rattle.sj_trees.specs.declared.types.IrType.{IrType}
 use Rattle.js_tree.specs.Terms.{Name}
 use Rattle.outcomes.specs.Outcome.{Out}
 use Rattle.outcomes.specs.Agreement.{forward, backward, Enough, Sim}
@@ -19,7 +20,15 @@ pub use Rattle.body_rules.specs.Locals.{IsParameter}
 use Rattle.sj_proper.specs.Methods.{KeepsRules, HaveTypes}
 use Rattle.sj_plain.specs.Settings.{Place, a_function, function_call, Reaches, Valued}
 use Rattle.sj_plain.specs.Worlds.{World}
+<<<<<<< HEAD
 use Rattle.body_rules.specs.Standing.{call_type}
+=======
+use Rattle.sj_plain.specs.Conditions.{Usable}
+use Rattle.sj_plain.specs.Standing.{call_type}
+use Rattle.sj_names.specs.declared.references.TypeRef.{TypeRef}
+use Rattle.sj_trees.specs.Types.{reference_type}
+use Rattle.sure_receivers.specs.Sure.{sure_locals}
+>>>>>>> 6a46694
 
 -- the parameters of a function
 abbrev pub parameters_in : Place → List (List ℕ) → List Name
@@ -30,8 +39,24 @@ parameters_in p (x ∷ xs) = p.name (named x) ∷ parameters_in p xs
 abbrev pub function_of : Place → MethodDef → Term → js_meaning.Code
 function_of p d e = record { parameters = parameters_in p (desugared d e).params; body = statement_templates p.name p.label (desugared d e).body }
 
+<<<<<<< HEAD
 -- a member of the classes with the types that its name tells and a body that keeps the rules by what the code of its file can use, whose function stands
 -- in that file; and what can be used there is reached there
+=======
+-- the types of parameters are those of the references in the name
+abbrev pub HaveTypes : List ParamDef → List TypeRef → Type 0
+HaveTypes [] [] = Unit {0}
+HaveTypes (d ∷ ds) (r ∷ rs) = (d.tpe ≡ reference_type r) × HaveTypes ds rs
+HaveTypes _ _ = ⊥
+
+-- the body is fine where it brings its value out of the method, with the parameters in scope, and it defines no parameter again
+pub record FineMethod (w : Classes) (has : Usable) (d : MethodDef) (e : Term) : Type 0 where
+  pub fine : Fine w (is_mutable_in d e) has (sure_locals e) (parameters_of d.params) no_labels (result_destination d.result) e
+  pub fresh : (x : List ℕ) → Own e x → IsParameter d.params x → ⊥
+
+-- a member of the classes with the types that its name tells and a body that is fine by what the code of its file can use, whose function stands in that
+-- file; and what can be used there is reached there
+>>>>>>> 6a46694
 pub record Linked (p : Place) (m : Member) : Type 0 where
   pub definition : MethodDef
   pub its_body : Term
@@ -56,3 +81,11 @@ js_call p m xs u n = function_call p (js_meaning.below p.program n) m xs u
 pub record CallsAgree (p : Place) (m : Member) (w : World) (vs : List ir.Value) (xs : List js.Value) (env : ir.Env) (s : ir.State) (u : js.State) : Type 0 where
   pub there : (n k : ℕ) → Enough p.room 0 forward n k → Sim forward (Valued p w env (call_type m.method.result)) (ir_call p m vs env s n) (js_call p m xs u k)
   pub back : (n k : ℕ) → Enough p.room 0 backward n k → Sim backward (Valued p w env (call_type m.method.result)) (ir_call p m vs env s n) (js_call p m xs u k)
+
+-- the code of no file makes an object, calls a member on one, reads a field or uses a helper
+pub record CallsAlone (p : Place) : Type 0 where
+  pub received : (f : Name) (m : Member) → (p.has f).received m ≡ false
+  pub built : (f : Name) (m : Member) → (p.has f).built m ≡ false
+  pub made : (f : Name) (c : List ℕ) → (p.has f).made c ≡ false
+  pub field : (f : Name) (c g : List ℕ) (t : IrType) → (p.has f).field c g t ≡ false
+  pub helper : (f x : Name) → (p.has f).helper x ≡ false

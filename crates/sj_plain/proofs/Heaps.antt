@@ -53,7 +53,7 @@ field-carry w y t g _ _ (same_field v x a) = same_field v x (value-carry w y t v
 field-carry w y t g _ _ (no_field x) = no_field x
 
 tells-carry : (w y : World) (c : List ℕ) (properties : Name → Option js.Value) → ((a : ℕ) (o : js.Stored) → w.owned a ≡ Some o → y.owned a ≡ Some o) → TellsClass w c properties → TellsClass y c properties
-tells-carry w y c properties g h = record { address = h.address; constants = h.constants; held = h.held; owned = g h.address (js.plain [] h.constants) h.owned; marked = h.marked }
+tells-carry w y c properties g h = record { address = h.address; constants = h.constants; held = h.held; owned = g h.address (js.plain [] h.constants) h.owned; marked = h.marked; known = h.known }
 
 pub stored-carry : (p : Place) (w y : World) → ((i a : ℕ) → w.place i ≡ Some a → y.place i ≡ Some a) → ((a : ℕ) (o : js.Stored) → w.owned a ≡ Some o → y.owned a ≡ Some o) → (o : Option ir.Stored) (q : Option js.Stored) → SameStored p w o q → SameStored p y o q
 stored-carry p w y g h _ _ (same_object c fields properties k f) = same_object c fields properties (tells-carry w y c properties h k) (λ d n t i. field-carry w y t g (fields d n) (properties (field_binding Property d n)) (f d n t i))

@@ -7,4 +7,7 @@ pub mod Orders
 pub mod Templates
 pub mod Shifts
 pub mod Divisions
+pub mod Tops
+pub mod Objects
 pub mod Plain
+pub mod Runs

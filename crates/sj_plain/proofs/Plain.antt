@@ -1,4 +1,5 @@
 -- A plain tree and its expression are alike.
+<<<<<<< HEAD
 use Rattle.std.proofs.Common.{◌≡◌, zero, suc, Bool, true, false, List, [], ◌∷◌, None, Option, refl, sym, ap, ◌∙◌, subst, if◌then◌else◌, ⊎_elim}
 use Rattle.std.specs.Prelude.{ℤ, pos, negsuc, FitsSigned, ℕ, ◌&&◌, not}
 use Rattle.std.proofs.lemmas.Bool.{and_parts}
@@ -11,6 +12,10 @@ use Rattle.sj_desugar.specs.Plain.{is_plain, are_plain, is_no_type}
 use Rattle.sj_names.specs.declared.method_names.Namespace.{Namespace}
 use Rattle.sj_names.specs.declared.method_names.MethodName.{MethodName}
 use Rattle.sj_world.specs.Subtypes.{IsSub}
+=======
+use Rattle.std.proofs.Common.{◌≡◌, zero, suc, Bool, true, false, List, [], ◌∷◌, None, Option, refl, sym, ap, ◌∙◌, subst, inl, inr, if◌then◌else◌}
+use Rattle.std.specs.Prelude.{ℤ, pos, negsuc, codes, ◌⊎◌, FitsSigned}
+>>>>>>> 6a46694
 use Rattle.std.specs.Int.{w32, w64}
 use Rattle.int_arithmetic.proofs.Longs.{in_range-fits}
 use Rattle.outcomes.specs.Outcome.{Out, done, wrong, then_do}
@@ -26,12 +31,16 @@ use Rattle.js_tree.specs.Terms as tree
 use Rattle.sj_core.specs.Terms as core
 use Rattle.sj_core.specs.Views.{expressions_of}
 use Rattle.sj_desugar.specs.Coercions.{coerced, coerced_arguments}
-use Rattle.sj_desugar.specs.Desugar.{member, types_of, expression_of, all_expressions}
+use Rattle.sj_desugar.specs.Desugar.{member, types_of, received_text, expression_of, all_expressions}
 use Rattle.sj_desugar.specs.Texts.{operand_of}
-use Rattle.sj_emit_expr.specs.Templates.{member_name, expression_template, expression_templates, binary_template, unary_template, is_nonzero_literal}
+use Rattle.sj_emit_expr.specs.Templates.{check_name, member_name, expression_template, expression_templates, binary_template, unary_template, is_nonzero_literal}
 use Rattle.sj_names.proofs.Same.{impossible}
 use Rattle.sj_names.specs.declared.method_names.Member.{Member}
+<<<<<<< HEAD
 use Rattle.sj_trees.specs.Term.{Term, Terms, no_terms, more_terms, var_def, skip, block_of, labeled, assign, return_to, if_then, while_loop, do_while, match_on, apply_static, unary_op, binary_op, log_line, undefined_literal, null_literal, boolean_literal, char_literal, byte_literal, short_literal, int_literal, long_literal, string_literal, var_ref}
+=======
+use Rattle.sj_trees.specs.Term.{Term, Terms, no_terms, more_terms, if_then, new_object, select, apply_statically, this_ref, apply_static, unary_op, binary_op, undefined_literal, null_literal, boolean_literal, char_literal, byte_literal, short_literal, int_literal, long_literal, string_literal, var_ref}
+>>>>>>> 6a46694
 use Rattle.sj_trees.specs.TypeOf.{type_of_term, unary_result, binary_result}
 use Rattle.sj_trees.specs.declared.operators.BinaryOp.{BinaryOp}
 use Rattle.sj_trees.specs.declared.operators.BinaryOp.TheVariants.{StrictEqual, StrictNotEqual, StringConcatenate, IntDivide, IntRemainder, LongDivide, LongRemainder, LongShiftLeft, LongShiftRightLogical, LongShiftRightArithmetic}
@@ -39,6 +48,7 @@ use Rattle.sj_trees.specs.declared.operators.UnaryOp.{UnaryOp}
 use Rattle.sj_trees.specs.declared.operators.UnaryOp.TheVariants.{CharToInt, ByteToInt, ShortToInt}
 use Rattle.sj_trees.specs.declared.positions.Position.{Position}
 use Rattle.sj_trees.specs.declared.types.IrType.{IrType}
+<<<<<<< HEAD
 use Rattle.sj_trees.specs.declared.types.IrType.TheVariants.{Undefined, Null, Boolean, Char, Byte, Short, Int, Long, String}
 use Rattle.body_rules.specs.Operators.{is_simple, Operates, of_its_types, joins, a_quotient, a_remainder, a_long_quotient, a_long_remainder, DividesBy, by_int, by_long}
 use Rattle.typing_rules.specs.Rules.{left_operand, right_operand, unary_operand}
@@ -47,20 +57,37 @@ use Rattle.body_rules.specs.Locals.{Scope}
 use Rattle.sj_plain.specs.Settings.{Setting, shown, SameState, Inside, Valued, valued, Lawful, Holding, holding, Sees, usable, a_function, function_of_member, function_call}
 use Rattle.sj_plain.specs.Standing.{suits}
 use Rattle.body_rules.specs.Standing.{Fits, FitAll, types_referred, call_type}
+=======
+use Rattle.sj_trees.specs.declared.types.IrType.TheVariants.{Any, Undefined, Null, Boolean, Char, Byte, Short, Int, Long, String, Class}
+use Rattle.sj_plain.specs.Conditions.{is_simple, left_operand, right_operand, unary_operand, MayBeChecked, Operates, of_its_types, joins, a_quotient, a_remainder, a_long_quotient, a_long_remainder, DividesBy, by_int, by_long, Plain, AllPlain, Scope}
+use Rattle.sj_plain.specs.Settings.{Setting, shown, SameState, Inside, Valued, valued, Lawful, Holding, holding, Sees, Receiving, no_receiver, on_receiver, usable, a_function, function_of_member, function_call}
+use Rattle.sj_plain.specs.Standing.{suits, Fits, FitAll, types_referred, call_type}
+>>>>>>> 6a46694
 use Rattle.sj_plain.proofs.Divisions.{division_alike, dividend_alone}
 use Rattle.sj_plain.proofs.Operators.{template_value, is_direct}
+use Rattle.sj_plain.proofs.Objects.{select_alike, new_alike, received_call_alike, checked_alike}
+use Rattle.sure_receivers.specs.Sure.{is_sure}
+use Rattle.sj_names.specs.declared.method_names.Namespace.TheVariants.{Private}
 use Rattle.sj_plain.proofs.Orders.{ActsAlike, OperandAlike, OperandsAlike, no_operands, more_operands, all_shown, valued-weaken, valued-fits, in_order_alike}
 use Rattle.sj_plain.proofs.Shifts.{left_shift_alike, right_shift_alike, zero_shift_alike, joined_alike}
+<<<<<<< HEAD
 use Rattle.body_rules.proofs.Standing.{coerced-same, arguments-same}
+=======
+use Rattle.sj_plain.proofs.Standing.{coerced-same, arguments-same, fits-character}
+>>>>>>> 6a46694
 use Rattle.sj_plain.proofs.Templates.{fits-exact, unit_is_int, by_value, by_one_value, one_template_value, binary_shown, binary_acts, unary_shown, unary_acts}
 use Rattle.sj_plain.proofs.Told.{is_long, is_narrow, tells, tells-narrow, no_ratio}
-use Rattle.sj_plain.proofs.Worlds.{World, Grows, grows-refl, SameValue, Stands, same_undefined, same_null, same_boolean, same_char, same_number, same_long, same_text, value-lift, values-fit, no_values, one_more}
+use Rattle.sj_plain.proofs.Worlds.{World, Grows, grows-refl, SameValue, Stands, same_undefined, same_null, same_boolean, same_char, same_number, same_long, same_text, value-lift, value-fits, values-fit, no_values, one_more}
 
 pub holding-lift : (u w : World) (t : IrType) (o : Option ir.Value) (cell : js.Cell) → Grows u w → Holding u t o cell → Holding w t o cell
 holding-lift u w t _ _ g (holding v x a) = holding v x (value-lift u w t v x g a)
 
-pub sees-lift : (z : Setting) (scope : Scope) (u w : World) (env : ir.Env) (sc : js.Scope) → Grows u w → Sees z.place z.file scope u env sc → Sees z.place z.file scope w env sc
-sees-lift z scope u w env sc g h = record { inside = h.inside; locals = λ x t i. holding-lift u w t (env.locals x) (sc.bindings (z.place.name (core.named x))) g (h.locals x t i) }
+pub receiving-lift : (u w : World) (o : Option ir.Value) (cell : js.Cell) → Grows u w → Receiving u o cell → Receiving w o cell
+receiving-lift u w _ _ g (no_receiver cell) = no_receiver cell
+receiving-lift u w _ _ g (on_receiver v x a) = on_receiver v x (record { stands = value-lift u w Any v x g a.stands; there = a.there })
+
+pub sees-lift : (z : Setting) (scope : Scope) (u w : World) (env : ir.Env) (sc : js.Scope) → Grows u w → Sees z.place z.code scope u env sc → Sees z.place z.code scope w env sc
+sees-lift z scope u w env sc g h = record { inside = h.inside; this = receiving-lift u w env.this_value (sc.bindings (z.place.name core.receiver)) g h.this; sure = h.sure; locals = λ x t i. holding-lift u w t (env.locals x) (sc.bindings (z.place.name (core.named x))) g (h.locals x t i) }
 
 module _ (z : Setting) (lawful : Lawful z) (scope : Scope) where
   gives_alike : (w : World) (env : ir.Env) (t : IrType) (s : ir.State) (u : js.State) (v : ir.Value) (x : js.Value) → SameValue w t v x → SameState z.place w s u → Sim z.direction (Valued z.place w env t) (done (ir.ends (ir.gives v) env s)) (done (js.gives x u))
@@ -78,9 +105,14 @@ module _ (z : Setting) (lawful : Lawful z) (scope : Scope) where
   local_alike : (w : World) (env : ir.Env) (t : IrType) (s : ir.State) (u : js.State) (o : Option ir.Value) (cell outer : js.Cell) → Holding w t o cell → SameState z.place w s u → Sim z.direction (Valued z.place w env t) (ir_meaning.local_value o env s) (js_meaning.cell_value (js_meaning.or_outer cell outer) u)
   local_alike w env t s u _ _ outer (holding v x a) same = gives_alike w env t s u v x a same
 
+  -- This, where the type is one at which a reference may stand
+  this_alike : (w : World) (env : ir.Env) (t : IrType) (s : ir.State) (u : js.State) (o : Option ir.Value) (cell outer : js.Cell) → Fits t Any → Receiving w o cell → SameState z.place w s u → Sim z.direction (Valued z.place w env t) (ir_meaning.local_value o env s) (js_meaning.cell_value (js_meaning.or_outer cell outer) u)
+  this_alike w env t s u _ _ outer f (no_receiver cell) same = sim_wrong z.direction (Valued z.place w env t) _
+  this_alike w env t s u _ _ outer f (on_receiver v x a) same = gives_alike w env t s u v x (value-fits w t Any v x f a.stands) same
+
   -- a call: the name stands for the function, the arguments are evaluated, and the bodies are alike
-  name_shown : (m : Member) (w : World) (s : ir.State) (sc : js.Scope) (u : js.State) → (usable z).linked m ≡ true → Inside z.place z.file sc → SameState z.place w s u → js_meaning.name_value z.place.program (member_name m) sc u ≡ done (js.gives (function_of_member z.place m) u)
-  name_shown m w s sc u linked inside same = (λ i. js_meaning.cell_value (js_meaning.or_outer (inside.free (member_name m) (lawful.base.names.tops (a_function m)) i) (js_meaning.top_cell (owner z.place.program (inside.file i) (member_name m)) (member_name m) u)) u) ∙ (λ i. js_meaning.cell_value (js_meaning.top_cell (lawful.base.reaches (a_function m) linked i) (member_name m) u) u) ∙ (λ i. js_meaning.cell_value (same.tops z.file (a_function m) linked i) u)
+  name_shown : (m : Member) (w : World) (s : ir.State) (sc : js.Scope) (u : js.State) → (usable z).linked m ≡ true → Inside z.place z.code sc → SameState z.place w s u → js_meaning.name_value z.place.program (member_name m) sc u ≡ done (js.gives (function_of_member z.place m) u)
+  name_shown m w s sc u linked inside same = (λ i. js_meaning.cell_value (js_meaning.or_outer (inside.free (member_name m) (lawful.base.names.tops (a_function m)) i) (js_meaning.top_cell (owner z.place.program (inside.file i) (member_name m)) (member_name m) u)) u) ∙ (λ i. js_meaning.cell_value (js_meaning.top_cell (lawful.base.reaches (a_function m) linked i) (member_name m) u) u) ∙ (λ i. js_meaning.cell_value (same.tops z.code.file (a_function m) linked i) u)
 
   weaker : (v w : World) (env : ir.Env) (t : IrType) (o : Out ir.Ended) (q : Out js.ExpressionEnd) → Grows v w → Sim z.direction (Valued z.place w env t) o q → Sim z.direction (Valued z.place v env t) o q
   weaker v w env t o q g h = sim_weaken z.direction (Valued z.place w env t) (Valued z.place v env t) o q (λ a b. valued-weaken z v w env t a b g) h
@@ -108,18 +140,18 @@ module _ (z : Setting) (lawful : Lawful z) (scope : Scope) where
   by_equal w env t o o' q q' e g h = subst (λ x. Sim z.direction (Valued z.place w env t) x q) (sym e) (subst (λ x. Sim z.direction (Valued z.place w env t) o' x) (sym g) h)
 
   abbrev pub PlainAlike : Term → Type 0
-  PlainAlike t = (w : World) (env : ir.Env) (s : ir.State) (sc : js.Scope) (u : js.State) → Sees z.place z.file scope w env sc → SameState z.place w s u → Sim z.direction (Valued z.place w env (type_of_term t)) (ir_meaning.step z.place.classes z.low t env s) (shown z (expression_of t) sc u)
+  PlainAlike t = (w : World) (env : ir.Env) (s : ir.State) (sc : js.Scope) (u : js.State) → Sees z.place z.code scope w env sc → SameState z.place w s u → Sim z.direction (Valued z.place w env (type_of_term t)) (ir_meaning.step z.place.classes z.low t env s) (shown z (expression_of z.code.sure t) sc u)
 
-  pub as_operand : (t : Term) → PlainAlike t → (w : World) (env : ir.Env) (sc : js.Scope) → Sees z.place z.file scope w env sc → OperandAlike z w env sc (type_of_term t) (ir_meaning.step z.place.classes z.low t) (shown z (expression_of t))
+  pub as_operand : (t : Term) → PlainAlike t → (w : World) (env : ir.Env) (sc : js.Scope) → Sees z.place z.code scope w env sc → OperandAlike z w env sc (type_of_term t) (ir_meaning.step z.place.classes z.low t) (shown z (expression_of z.code.sure t))
   as_operand t h w env sc sees y s u g same = h y env s sc u (sees-lift z scope w y env sc g sees) same
 
-  fitting_operand : (t : Term) (expected : IrType) → Fits expected (type_of_term t) → PlainAlike t → (w : World) (env : ir.Env) (sc : js.Scope) → Sees z.place z.file scope w env sc → OperandAlike z w env sc expected (ir_meaning.step z.place.classes z.low t) (shown z (expression_of t))
-  fitting_operand t expected f h w env sc sees y s u g same = fitting y env expected (type_of_term t) (ir_meaning.step z.place.classes z.low t env s) (shown z (expression_of t) sc u) f (as_operand t h w env sc sees y s u g same)
+  fitting_operand : (t : Term) (expected : IrType) → Fits expected (type_of_term t) → PlainAlike t → (w : World) (env : ir.Env) (sc : js.Scope) → Sees z.place z.code scope w env sc → OperandAlike z w env sc expected (ir_meaning.step z.place.classes z.low t) (shown z (expression_of z.code.sure t))
+  fitting_operand t expected f h w env sc sees y s u g same = fitting y env expected (type_of_term t) (ir_meaning.step z.place.classes z.low t env s) (shown z (expression_of z.code.sure t) sc u) f (as_operand t h w env sc sees y s u g same)
 
-  if_alike : (c a b : Term) (t : IrType) (e f : core.Expression) → PlainAlike c → PlainAlike a → PlainAlike b → Fits t (type_of_term a) → Fits t (type_of_term b) → e ≡ expression_of a → f ≡ expression_of b → tells (type_of_term c) (expression_template z.place.name z.place.label (expression_of c)) ≡ true → (w : World) (env : ir.Env) (s : ir.State) (sc : js.Scope) (u : js.State) → Sees z.place z.file scope w env sc → SameState z.place w s u → Sim z.direction (Valued z.place w env t) (ir_meaning.in_order (ir_meaning.step z.place.classes z.low c ∷ []) (ir_meaning.branch (ir_meaning.step z.place.classes z.low a) (ir_meaning.step z.place.classes z.low b)) env s) (shown z (core.choice_of (expression_of c) e f) sc u)
-  if_alike c a b t e f hc ha hb fa fb ea eb told w env s sc u sees same = by_equal w env t _ _ _ _ refl (λ i. shown z (core.choice_of (expression_of c) (ea i) (eb i)) sc u) (in_order_alike z w w env sc w (type_of_term c ∷ []) t (ir_meaning.step z.place.classes z.low c ∷ []) (expression_of c ∷ []) (ir_meaning.branch (ir_meaning.step z.place.classes z.low a) (ir_meaning.step z.place.classes z.low b)) (js_meaning.chosen (shown z (expression_of a)) (shown z (expression_of b))) (more_operands _ _ _ _ _ _ told (as_operand c hc w env sc sees) no_operands) (branch_acts w env sc (type_of_term c) t (ir_meaning.step z.place.classes z.low a) (ir_meaning.step z.place.classes z.low b) (shown z (expression_of a)) (shown z (expression_of b)) (fitting_operand a t fa ha w env sc sees) (fitting_operand b t fb hb w env sc sees)) w s u (grows-refl w) (grows-refl w) (grows-refl w) same)
+  if_alike : (c a b : Term) (t : IrType) (e f : core.Expression) → PlainAlike c → PlainAlike a → PlainAlike b → Fits t (type_of_term a) → Fits t (type_of_term b) → e ≡ expression_of z.code.sure a → f ≡ expression_of z.code.sure b → tells (type_of_term c) (expression_template z.place.name z.place.label (expression_of z.code.sure c)) ≡ true → (w : World) (env : ir.Env) (s : ir.State) (sc : js.Scope) (u : js.State) → Sees z.place z.code scope w env sc → SameState z.place w s u → Sim z.direction (Valued z.place w env t) (ir_meaning.in_order (ir_meaning.step z.place.classes z.low c ∷ []) (ir_meaning.branch (ir_meaning.step z.place.classes z.low a) (ir_meaning.step z.place.classes z.low b)) env s) (shown z (core.choice_of (expression_of z.code.sure c) e f) sc u)
+  if_alike c a b t e f hc ha hb fa fb ea eb told w env s sc u sees same = by_equal w env t _ _ _ _ refl (λ i. shown z (core.choice_of (expression_of z.code.sure c) (ea i) (eb i)) sc u) (in_order_alike z w w env sc w (type_of_term c ∷ []) t (ir_meaning.step z.place.classes z.low c ∷ []) (expression_of z.code.sure c ∷ []) (ir_meaning.branch (ir_meaning.step z.place.classes z.low a) (ir_meaning.step z.place.classes z.low b)) (js_meaning.chosen (shown z (expression_of z.code.sure a)) (shown z (expression_of z.code.sure b))) (more_operands _ _ _ _ _ _ told (as_operand c hc w env sc sees) no_operands) (branch_acts w env sc (type_of_term c) t (ir_meaning.step z.place.classes z.low a) (ir_meaning.step z.place.classes z.low b) (shown z (expression_of z.code.sure a)) (shown z (expression_of z.code.sure b)) (fitting_operand a t fa ha w env sc sees) (fitting_operand b t fb hb w env sc sees)) w s u (grows-refl w) (grows-refl w) (grows-refl w) same)
 
-  pub call_alike : (m : Member) (ts : List IrType) (rs : List ir.Run) (es es' : List core.Expression) → es ≡ es' → (usable z).linked m ≡ true → FitAll (types_referred m.method.params) ts → (w : World) (env : ir.Env) (s : ir.State) (sc : js.Scope) (u : js.State) → Inside z.place z.file sc → OperandsAlike z w env sc ts rs es' → SameState z.place w s u → Sim z.direction (Valued z.place w env (call_type m.method.result)) (ir_meaning.in_order rs (ir_meaning.call z.low (ir_world.member_of z.place.classes m.class m.namespace m.method) None) env s) (shown z (core.static_call m (expressions_of es)) sc u)
+  pub call_alike : (m : Member) (ts : List IrType) (rs : List ir.Run) (es es' : List core.Expression) → es ≡ es' → (usable z).linked m ≡ true → FitAll (types_referred m.method.params) ts → (w : World) (env : ir.Env) (s : ir.State) (sc : js.Scope) (u : js.State) → Inside z.place z.code sc → OperandsAlike z w env sc ts rs es' → SameState z.place w s u → Sim z.direction (Valued z.place w env (call_type m.method.result)) (ir_meaning.in_order rs (ir_meaning.call z.low (ir_world.member_of z.place.classes m.class m.namespace m.method) None) env s) (shown z (core.static_call m (expressions_of es)) sc u)
   call_alike m ts rs es es' e linked fit w env s sc u inside operands same = by_equal w env (call_type m.method.result) _ _ _ _ refl (ap (λ o. then_do o (js.with_value (λ f. js_meaning.in_order (js_meaning.arguments z.place.program z.js_low (expression_templates z.place.name z.place.label (expressions_of es))) (js_meaning.call z.place.program z.js_low f) sc))) (name_shown m w s sc u linked inside same) ∙ ap (λ args. js_meaning.in_order args (js_meaning.call z.place.program z.js_low (function_of_member z.place m)) sc u) (arguments_shown es ∙ ap (all_shown z) e)) (in_order_alike z w w env sc w ts (call_type m.method.result) rs es' (ir_meaning.call z.low (ir_world.member_of z.place.classes m.class m.namespace m.method) None) (js_meaning.call z.place.program z.js_low (function_of_member z.place m)) operands (call_acts m ts w env sc linked fit) w s u (grows-refl w) (grows-refl w) (grows-refl w) same)
 
   pub unary_alike : (o : UnaryOp) (own : IrType) (r : ir.Run) (e : core.Expression) → (w : World) (env : ir.Env) (s : ir.State) (sc : js.Scope) (u : js.State) → OperandsAlike z w env sc (own ∷ []) (r ∷ []) (e ∷ []) → SameState z.place w s u → Sim z.direction (Valued z.place w env (unary_result o)) (ir_meaning.in_order (r ∷ []) (ir_meaning.unary z.place.classes z.low o) env s) (shown z (core.unary_of o e) sc u)
@@ -145,10 +177,10 @@ module _ (z : Setting) (lawful : Lawful z) (scope : Scope) where
   -- an operator that takes operands of these types, but for division
   pub binary_alike : (o : BinaryOp) (left right : IrType) (r q : ir.Run) (e d : core.Expression) → Operates o left right → (w : World) (env : ir.Env) (s : ir.State) (sc : js.Scope) (u : js.State) → TwoAlike o left right e d r q (core.binary_of o (operand_of o left e) (operand_of o right d)) w env s sc u
   binary_alike _ _ _ r q e d (of_its_types o left right is f g) w env s sc u operands same = simple_alike o left right r q e d is f g w env s sc u operands same
-  binary_alike _ _ _ r q e d (joins left right) w env s sc u (more_operands _ _ _ _ _ _ h one (more_operands _ _ _ _ _ _ k other no_operands)) same = joined_alike z w env sc left right r q e d one other s u same
+  binary_alike _ _ _ r q e d (joins left right bare other_bare) w env s sc u (more_operands _ _ _ _ _ _ h one (more_operands _ _ _ _ _ _ k other no_operands)) same = joined_alike z w env sc left right r q e d one other s u same bare other_bare
 
   abbrev text_of_tree : Term → tree.Expression
-  text_of_tree t = expression_template z.place.name z.place.label (expression_of t)
+  text_of_tree t = expression_template z.place.name z.place.label (expression_of z.code.sure t)
 
   -- what the text of a plain tree tells of its type
   not_long : (expected own : IrType) → is_narrow expected ≡ true → Fits expected own → is_long own ≡ false
@@ -177,9 +209,9 @@ module _ (z : Setting) (lawful : Lawful z) (scope : Scope) where
 
   binary_tells : (o : BinaryOp) (left right : IrType) → Operates o left right → (b : Bool) (e g : tree.Expression) → tells (binary_result o) (binary_template b o e g) ≡ true
   binary_tells _ _ _ (of_its_types o left right h f g) b e x = simple_tells o h b e x
-  binary_tells _ _ _ (joins left right) b e g = refl
+  binary_tells _ _ _ (joins left right bare other) b e g = refl
 
-  division_tells : (o : BinaryOp) (d : Term) → DividesBy o d → (e : tree.Expression) → tells (binary_result o) (binary_template (is_nonzero_literal (expression_of d)) o e (text_of_tree d)) ≡ true
+  division_tells : (o : BinaryOp) (d : Term) → DividesBy o d → (e : tree.Expression) → tells (binary_result o) (binary_template (is_nonzero_literal (expression_of z.code.sure d)) o e (text_of_tree d)) ≡ true
   division_tells _ _ (by_int _ i p (pos zero) f ne) e = absurd (ne refl)
   division_tells _ _ (by_int _ a_quotient p (pos (suc n)) f ne) e = refl
   division_tells _ _ (by_int _ a_quotient p (negsuc n) f ne) e = refl
@@ -201,6 +233,7 @@ module _ (z : Setting) (lawful : Lawful z) (scope : Scope) where
   pub division_same : (o : BinaryOp) (d : Term) → DividesBy o d → (s t : IrType) (e g : core.Expression) → core.binary_of o (operand_of o s e) (operand_of o t g) ≡ core.binary_of o e g
   division_same o d by s t e g = λ i. core.binary_of o (operand_same o d by s e i) (operand_same o d by t g i)
 
+<<<<<<< HEAD
   -- a plain tree and its expression: they are alike, and the text tells of its type
   pub record TreeAlike (t : Term) : Type 0 where
     pub alike : PlainAlike t
@@ -227,10 +260,54 @@ module _ (z : Setting) (lawful : Lawful z) (scope : Scope) where
     alike = λ w env s sc u sees same. by_equal w env (binary_result o) _ _ _ _ (dividend_alone z o d by (ir_meaning.step z.place.classes z.low e) env s) (λ i. shown z (division_same o d by (type_of_term e) (type_of_term d) (expression_of e) (expression_of d) i) sc u) (division_alike z o d by (type_of_term e) fit (ir_meaning.step z.place.classes z.low e) (expression_of e) w env s sc u (with_tree e h w env sc sees [] [] [] no_operands) same);
     told = subst (λ x. tells (binary_result o) (expression_template z.place.name z.place.label x) ≡ true) (sym (division_same o d by (type_of_term e) (type_of_term d) (expression_of e) (expression_of d))) (division_tells o d by (text_of_tree e));
   }
+=======
+  pub plain_tells : (t : Term) → Plain (usable z) z.code.sure scope t → tells (type_of_term t) (text_of_tree t) ≡ true
+  plain_tells (if_then p c a b t) h = refl
+  plain_tells (apply_static p c n m ts t) h = refl
+  plain_tells (apply_statically p e c Private m ts t) h = refl
+  plain_tells (new_object p c m ts) h = refl
+  plain_tells (select p e c f t) h = refl
+  plain_tells (this_ref p t) h = refl
+  plain_tells (unary_op p o e) h = unary_tells o (type_of_term e) (text_of_tree e) h.0 (plain_tells e h.1)
+  plain_tells (binary_op p o e d) (inl h) = binary_tells o (type_of_term e) (type_of_term d) h.0 _ _ _
+  plain_tells (binary_op p o e d) (inr h) = subst (λ x. tells (binary_result o) (expression_template z.place.name z.place.label x) ≡ true) (sym (division_same o d h.0 (type_of_term e) (type_of_term d) (expression_of z.code.sure e) (expression_of z.code.sure d))) (division_tells o d h.0 (text_of_tree e))
+  plain_tells (undefined_literal p) h = refl
+  plain_tells (null_literal p) h = refl
+  plain_tells (boolean_literal p b) h = refl
+  plain_tells (char_literal p u) h = refl
+  plain_tells (byte_literal p n) h = refl
+  plain_tells (short_literal p n) h = refl
+  plain_tells (int_literal p n) h = refl
+  plain_tells (long_literal p n) h = refl
+  plain_tells (string_literal p us) h = refl
+  plain_tells (var_ref p x t) h = refl
+  plain_tells _ h = absurd h
 
-  call_plain : (p : Position) (m : Member) (ts : Terms) (t : IrType) → t ≡ call_type m.method.result → (usable z).linked m ≡ true → FitAll (types_referred m.method.params) (types_of ts) → (w : World) (env : ir.Env) (s : ir.State) (sc : js.Scope) (u : js.State) → Sees z.place z.file scope w env sc → OperandsAlike z w env sc (types_of ts) (ir_meaning.operands z.place.classes z.low ts) (all_expressions ts) → SameState z.place w s u → Sim z.direction (Valued z.place w env t) (ir_meaning.in_order (ir_meaning.operands z.place.classes z.low ts) (ir_meaning.call z.low (ir_world.member_of z.place.classes m.class m.namespace m.method) None) env s) (shown z (core.static_call m (expressions_of (coerced_arguments m.method.params (types_of ts) (all_expressions ts)))) sc u)
-  call_plain p m ts t is linked fit w env s sc u sees operands same = subst (λ i. Sim z.direction (Valued z.place w env i) (ir_meaning.in_order (ir_meaning.operands z.place.classes z.low ts) (ir_meaning.call z.low (ir_world.member_of z.place.classes m.class m.namespace m.method) None) env s) (shown z (core.static_call m (expressions_of (coerced_arguments m.method.params (types_of ts) (all_expressions ts)))) sc u)) (sym is) (call_alike m (types_of ts) (ir_meaning.operands z.place.classes z.low ts) (coerced_arguments m.method.params (types_of ts) (all_expressions ts)) (all_expressions ts) (arguments-same m.method.params (types_of ts) (all_expressions ts) fit) linked fit w env s sc u sees.inside operands same)
+  -- a plain tree as the one operand, or the first of several
+  with_tree : (t : Term) → Plain (usable z) z.code.sure scope t → PlainAlike t → (w : World) (env : ir.Env) (sc : js.Scope) → Sees z.place z.code scope w env sc → (ts : List IrType) (rs : List ir.Run) (es : List core.Expression) → OperandsAlike z w env sc ts rs es → OperandsAlike z w env sc (type_of_term t ∷ ts) (ir_meaning.step z.place.classes z.low t ∷ rs) (expression_of z.code.sure t ∷ es)
+  with_tree t h alike w env sc sees ts rs es others = more_operands (type_of_term t) (ir_meaning.step z.place.classes z.low t) (expression_of z.code.sure t) ts rs es (plain_tells t h) (as_operand t alike w env sc sees) others
 
+  division_plain : (q : Position) (o : BinaryOp) (e d : Term) → Plain (usable z) z.code.sure scope e → PlainAlike e → DividesBy o d → Fits (left_operand o) (type_of_term e) → PlainAlike (binary_op q o e d)
+  division_plain q o e d h alike by f w env s sc u sees same = by_equal w env (binary_result o) _ _ _ _ (dividend_alone z o d by (ir_meaning.step z.place.classes z.low e) env s) (λ i. shown z (division_same o d by (type_of_term e) (type_of_term d) (expression_of z.code.sure e) (expression_of z.code.sure d) i) sc u) (division_alike z o d by (type_of_term e) f (ir_meaning.step z.place.classes z.low e) (expression_of z.code.sure e) w env s sc u (with_tree e h alike w env sc sees [] [] [] no_operands) same)
+
+  call_plain : (p : Position) (m : Member) (ts : Terms) (t : IrType) → t ≡ call_type m.method.result → (usable z).linked m ≡ true → FitAll (types_referred m.method.params) (types_of ts) → (w : World) (env : ir.Env) (s : ir.State) (sc : js.Scope) (u : js.State) → Sees z.place z.code scope w env sc → OperandsAlike z w env sc (types_of ts) (ir_meaning.operands z.place.classes z.low ts) (all_expressions z.code.sure ts) → SameState z.place w s u → Sim z.direction (Valued z.place w env t) (ir_meaning.in_order (ir_meaning.operands z.place.classes z.low ts) (ir_meaning.call z.low (ir_world.member_of z.place.classes m.class m.namespace m.method) None) env s) (shown z (core.static_call m (expressions_of (coerced_arguments m.method.params (types_of ts) (all_expressions z.code.sure ts)))) sc u)
+  call_plain p m ts t is linked fit w env s sc u sees operands same = subst (λ i. Sim z.direction (Valued z.place w env i) (ir_meaning.in_order (ir_meaning.operands z.place.classes z.low ts) (ir_meaning.call z.low (ir_world.member_of z.place.classes m.class m.namespace m.method) None) env s) (shown z (core.static_call m (expressions_of (coerced_arguments m.method.params (types_of ts) (all_expressions z.code.sure ts)))) sc u)) (sym is) (call_alike m (types_of ts) (ir_meaning.operands z.place.classes z.low ts) (coerced_arguments m.method.params (types_of ts) (all_expressions z.code.sure ts)) (all_expressions z.code.sure ts) (arguments-same m.method.params (types_of ts) (all_expressions z.code.sure ts) fit) linked fit w env s sc u sees.inside operands same)
+
+  -- a receiver, by whether it is sure
+  pub received_alike : (b : Bool) (t : IrType) (w : World) (env : ir.Env) (sc : js.Scope) (r : ir.Run) (e : core.Expression) → (b ≡ true) ⊎ ((usable z).helper check_name ≡ true) → Inside z.place z.code sc → OperandsAlike z w env sc (t ∷ []) (r ∷ []) (e ∷ []) → OperandsAlike z w env sc (t ∷ []) (ir_meaning.receiving z.place.classes b z.low r ∷ []) (received_text b e ∷ [])
+  received_alike true t w env sc r e may inside h = h
+  received_alike false t w env sc r e (inl i) inside h = impossible i
+  received_alike false t w env sc r e (inr i) inside h = more_operands t (ir_meaning.checked z.place.classes z.low r) (core.checked_value e) [] [] [] refl (checked_alike z lawful t w env sc r e i inside h) no_operands
+
+  receiver_plain : (e : Term) → Plain (usable z) z.code.sure scope e → PlainAlike e → MayBeChecked (usable z) z.code.sure scope e → (w : World) (env : ir.Env) (sc : js.Scope) → Sees z.place z.code scope w env sc → OperandsAlike z w env sc (type_of_term e ∷ []) (ir_meaning.receiving z.place.classes (is_sure env.sure e) z.low (ir_meaning.step z.place.classes z.low e) ∷ []) (received_text (is_sure z.code.sure e) (expression_of z.code.sure e) ∷ [])
+  receiver_plain e h alike may w env sc sees = subst (λ q. OperandsAlike z w env sc (type_of_term e ∷ []) (ir_meaning.receiving z.place.classes (is_sure q e) z.low (ir_meaning.step z.place.classes z.low e) ∷ []) (received_text (is_sure z.code.sure e) (expression_of z.code.sure e) ∷ [])) (sym sees.sure) (received_alike (is_sure z.code.sure e) (type_of_term e) w env sc (ir_meaning.step z.place.classes z.low e) (expression_of z.code.sure e) may sees.inside (with_tree e h alike w env sc sees [] [] [] no_operands))
+>>>>>>> 6a46694
+
+  -- one operand in front of others
+  in_front : (t : IrType) (r : ir.Run) (e : core.Expression) (w : World) (env : ir.Env) (sc : js.Scope) (ts : List IrType) (rs : List ir.Run) (es : List core.Expression) → OperandsAlike z w env sc (t ∷ []) (r ∷ []) (e ∷ []) → OperandsAlike z w env sc ts rs es → OperandsAlike z w env sc (t ∷ ts) (r ∷ rs) (e ∷ es)
+  in_front _ _ _ w env sc ts rs es (more_operands t r e _ _ _ told one no_operands) others = more_operands t r e ts rs es told one others
+
+<<<<<<< HEAD
   module _ (scene : Scene) (seen : InScope scene scope) where
     abbrev law : IsSubtyping (IsSub z.place.classes)
     law = lawful.base.ordered
@@ -298,3 +375,32 @@ module _ (z : Setting) (lawful : Lawful z) (scope : Scope) where
 
   pub plain_alike : (t : Term) → Plain z.place.classes (usable z) scope t → TreeAlike t
   plain_alike t p = tree_alike p.scene p.seen t p.typed p.plain
+=======
+  mutual
+    -- both directions at once: what a plain tree comes to, its expression comes to
+    pub plain_alike : (t : Term) → Plain (usable z) z.code.sure scope t → PlainAlike t
+    plain_alike (if_then p c a b t) h w env s sc u sees same = if_alike c a b t (coerced t (type_of_term a) (expression_of z.code.sure a)) (coerced t (type_of_term b) (expression_of z.code.sure b)) (plain_alike c h.0) (plain_alike a h.1) (plain_alike b h.2) h.3 h.4 (coerced-same t (type_of_term a) (expression_of z.code.sure a) h.3) (coerced-same t (type_of_term b) (expression_of z.code.sure b) h.4) (plain_tells c h.0) w env s sc u sees same
+    plain_alike (apply_static p c n m ts t) h w env s sc u sees same = call_plain p (member c n m) ts t h.1 h.0 h.2 w env s sc u sees (all_alike ts h.3 w env sc sees) same
+    plain_alike (apply_statically p e c Private m ts t) h w env s sc u sees same = by_equal w env t _ _ _ _ refl (λ i. shown z (core.receiver_call (member c Private m) (coerced-same (Class (codes "java.lang.Character")) (type_of_term e) (received_text (is_sure z.code.sure e) (expression_of z.code.sure e)) (fits-character (type_of_term e) h.4) i) (expressions_of (arguments-same m.params (types_of ts) (all_expressions z.code.sure ts) h.2 i))) sc u) (subst (λ k. Sim z.direction (Valued z.place w env k) (ir_meaning.step z.place.classes z.low (apply_statically p e c Private m ts t) env s) (shown z (core.receiver_call (member c Private m) (received_text (is_sure z.code.sure e) (expression_of z.code.sure e)) (expressions_of (all_expressions z.code.sure ts))) sc u)) (sym h.1) (received_call_alike z lawful.base (member c Private m) (type_of_term e) (types_of ts) (ir_meaning.receiving z.place.classes (is_sure env.sure e) z.low (ir_meaning.step z.place.classes z.low e)) (ir_meaning.operands z.place.classes z.low ts) (received_text (is_sure z.code.sure e) (expression_of z.code.sure e)) (all_expressions z.code.sure ts) h.0 h.4 h.2 w env s sc u sees.inside (in_front _ _ _ w env sc _ _ _ (receiver_plain e h.6 (plain_alike e h.6) h.5 w env sc sees) (all_alike ts h.3 w env sc sees)) same))
+    plain_alike (new_object p c m ts) h w env s sc u sees same = new_alike z lawful.base c m (types_of ts) (ir_meaning.operands z.place.classes z.low ts) (coerced_arguments m.params (types_of ts) (all_expressions z.code.sure ts)) (all_expressions z.code.sure ts) (arguments-same m.params (types_of ts) (all_expressions z.code.sure ts) h.3) h.0 h.1 h.2 h.3 w env s sc u sees.inside (all_alike ts h.4 w env sc sees) same
+    plain_alike (select p e c f t) h w env s sc u sees same = select_alike z lawful.base w env s sc u (type_of_term e) (ir_meaning.receiving z.place.classes (is_sure env.sure e) z.low (ir_meaning.step z.place.classes z.low e)) (received_text (is_sure z.code.sure e) (expression_of z.code.sure e)) c f t (lawful.base.fields c f t h.0).field (receiver_plain e h.2 (plain_alike e h.2) h.1 w env sc sees) same
+    plain_alike (this_ref p t) h w env s sc u sees same = this_alike w env t s u env.this_value (sc.bindings (z.place.name core.receiver)) (js_meaning.top_cell (owner z.place.program sc.file (z.place.name core.receiver)) (z.place.name core.receiver) u) h sees.this same
+    plain_alike (unary_op p o e) h w env s sc u sees same = unary_alike o (type_of_term e) (ir_meaning.step z.place.classes z.low e) (expression_of z.code.sure e) w env s sc u (with_tree e h.1 (plain_alike e h.1) w env sc sees [] [] [] no_operands) same
+    plain_alike (binary_op p o e d) (inl h) w env s sc u sees same = binary_alike o (type_of_term e) (type_of_term d) (ir_meaning.step z.place.classes z.low e) (ir_meaning.step z.place.classes z.low d) (expression_of z.code.sure e) (expression_of z.code.sure d) h.0 w env s sc u (with_tree e h.1 (plain_alike e h.1) w env sc sees _ _ _ (with_tree d h.2 (plain_alike d h.2) w env sc sees [] [] [] no_operands)) same
+    plain_alike (binary_op p o e d) (inr h) w env s sc u sees same = division_plain p o e d h.2 (plain_alike e h.2) h.0 h.1 w env s sc u sees same
+    plain_alike (undefined_literal p) h w env s sc u sees same = literal_alike w env Undefined s u ir.undefined js.undefined same_undefined refl same
+    plain_alike (null_literal p) h w env s sc u sees same = literal_alike w env Null s u ir.null js.null same_null refl same
+    plain_alike (boolean_literal p b) h w env s sc u sees same = literal_alike w env Boolean s u (ir.boolean b) (js.boolean b) (same_boolean b) refl same
+    plain_alike (char_literal p n) h w env s sc u sees same = number_alike w env Char s sc u (ir.char n) (pos n) (unit_is_int n h) (same_char n h) refl same
+    plain_alike (byte_literal p n) h w env s sc u sees same = number_alike w env Byte s sc u (ir.number n) n h (same_number n h) refl same
+    plain_alike (short_literal p n) h w env s sc u sees same = number_alike w env Short s sc u (ir.number n) n h (same_number n h) refl same
+    plain_alike (int_literal p n) h w env s sc u sees same = number_alike w env Int s sc u (ir.number n) n h (same_number n h) refl same
+    plain_alike (long_literal p n) h w env s sc u sees same = long_alike w env s sc u n h same
+    plain_alike (string_literal p us) h w env s sc u sees same = literal_alike w env String s u (ir.text us) (js.text us) (same_text us) refl same
+    plain_alike (var_ref p x t) h w env s sc u sees same = local_alike w env t s u (env.locals x) (sc.bindings (z.place.name (core.named x))) (js_meaning.top_cell (owner z.place.program sc.file (z.place.name (core.named x))) (z.place.name (core.named x)) u) (sees.locals x t h) same
+    plain_alike _ h w env s sc u sees same = absurd h
+
+    pub all_alike : (ts : Terms) → AllPlain (usable z) z.code.sure scope ts → (w : World) (env : ir.Env) (sc : js.Scope) → Sees z.place z.code scope w env sc → OperandsAlike z w env sc (types_of ts) (ir_meaning.operands z.place.classes z.low ts) (all_expressions z.code.sure ts)
+    all_alike no_terms h w env sc sees = no_operands
+    all_alike (more_terms t ts) h w env sc sees = with_tree t h.0 (plain_alike t h.0) w env sc sees _ _ _ (all_alike ts h.1 w env sc sees)
+>>>>>>> 6a46694

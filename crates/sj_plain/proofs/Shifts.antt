@@ -25,13 +25,17 @@ use Rattle.sj_names.proofs.Same.{impossible}
 use Rattle.sj_trees.specs.declared.types.IrType.{IrType}
 use Rattle.sj_trees.specs.declared.types.IrType.TheVariants.{Char, Int, Long, String}
 use Rattle.sj_plain.specs.Settings.{Setting, shown, SameState, Valued}
+<<<<<<< HEAD
 use Rattle.sj_plain.specs.Standing.{suits}
 use Rattle.body_rules.specs.Standing.{Fits}
+=======
+use Rattle.sj_plain.specs.Standing.{is_bare, suits, Fits}
+>>>>>>> 6a46694
 use Rattle.sj_plain.proofs.Orders.{OperandAlike, converted, two_converted, in_order-then}
 use Rattle.sj_plain.proofs.Operators.{wrapped_value, long_given, GivenIf}
-use Rattle.sj_plain.proofs.Standing.{fits-suits}
+use Rattle.sj_plain.proofs.Standing.{fits-suits, bare-refers}
 use Rattle.sj_plain.proofs.Templates.{alone_shown, value_alike, wrapped_shown, by_value, binary-act, same_act}
-use Rattle.sj_plain.proofs.Worlds.{World, Stands, same_undefined, same_null, same_boolean, same_char, same_number, same_long, same_text, SameValue}
+use Rattle.sj_plain.proofs.Worlds.{World, Stands, same_undefined, same_null, same_boolean, same_char, same_number, same_long, same_text, same_reference, SameValue}
 
 -- a value of a type for which Long is expected, and one for which Int is
 pub data IsLong (w : World) : ir.Value → js.Value → Type 0 where
@@ -48,6 +52,7 @@ long_of w _ _ (same_boolean b) h = impossible h
 long_of w _ _ (same_char u f) h = impossible h
 long_of w _ _ (same_number z f) h = impossible h
 long_of w _ _ (same_text us) h = impossible h
+long_of w _ _ (same_reference i a e) h = impossible h
 
 int_of : (w : World) (v : ir.Value) (x : js.Value) → Stands w v x → suits Int v ≡ true → IsInt w v x
 int_of w _ _ (same_number z f) h = an_int z f
@@ -57,6 +62,7 @@ int_of w _ _ (same_boolean b) h = impossible h
 int_of w _ _ (same_char u f) h = impossible h
 int_of w _ _ (same_long z f) h = impossible h
 int_of w _ _ (same_text us) h = impossible h
+int_of w _ _ (same_reference i a e) h = impossible h
 
 pub as_long : (w : World) (t : IrType) (v : ir.Value) (x : js.Value) → Fits Long t → SameValue w t v x → IsLong w v x
 as_long w t v x f a = long_of w v x a.stands (fits-suits Long t v f a.suits)
@@ -114,15 +120,16 @@ small_unit : (u : ℕ) → u < 2 ^ 16 → u % 2 ^ 16 ≡ u
 small_unit u h = omega arith
 
 -- no value of a type other than char is one
-value_texts : (w : World) (t : IrType) (v : ir.Value) (x : js.Value) → Stands w v x → ((u : ℕ) → suits t (ir.char u) ≡ false) → suits t v ≡ true → Texts v (js_operators.binary_value Op.Add (js.text []) x)
-value_texts w t _ _ same_undefined h k = record { of_value = refl; is = refl }
-value_texts w t _ _ same_null h k = record { of_value = refl; is = refl }
-value_texts w t _ _ (same_boolean true) h k = record { of_value = refl; is = refl }
-value_texts w t _ _ (same_boolean false) h k = record { of_value = refl; is = refl }
-value_texts w t _ _ (same_char u f) h k = impossible (sym (h u) ∙ k)
-value_texts w t _ _ (same_number z f) h k = record { of_value = refl; is = refl }
-value_texts w t _ _ (same_long z f) h k = record { of_value = refl; is = refl }
-value_texts w t _ _ (same_text us) h k = record { of_value = refl; is = refl }
+value_texts : (w : World) (t : IrType) → is_bare t ≡ true → (v : ir.Value) (x : js.Value) → Stands w v x → ((u : ℕ) → suits t (ir.char u) ≡ false) → suits t v ≡ true → Texts v (js_operators.binary_value Op.Add (js.text []) x)
+value_texts w t b _ _ same_undefined h k = record { of_value = refl; is = refl }
+value_texts w t b _ _ same_null h k = record { of_value = refl; is = refl }
+value_texts w t b _ _ (same_boolean true) h k = record { of_value = refl; is = refl }
+value_texts w t b _ _ (same_boolean false) h k = record { of_value = refl; is = refl }
+value_texts w t b _ _ (same_char u f) h k = impossible (sym (h u) ∙ k)
+value_texts w t b _ _ (same_number z f) h k = record { of_value = refl; is = refl }
+value_texts w t b _ _ (same_long z f) h k = record { of_value = refl; is = refl }
+value_texts w t b _ _ (same_text us) h k = record { of_value = refl; is = refl }
+value_texts w t b _ _ (same_reference i a e) h k = impossible (sym (bare-refers t i b) ∙ k)
 
 char_texts : (w : World) (v : ir.Value) (x : js.Value) → Stands w v x → suits Char v ≡ true → Texts v (text_value Char x)
 char_texts w _ _ (same_char u f) k = record { of_value = refl; is = ap (λ (n : ℕ). Some (js.text (n ∷ []))) (small_unit u f) }
@@ -132,6 +139,7 @@ char_texts w _ _ (same_boolean b) k = impossible k
 char_texts w _ _ (same_number z f) k = impossible k
 char_texts w _ _ (same_long z f) k = impossible k
 char_texts w _ _ (same_text us) k = impossible k
+char_texts w _ _ (same_reference i a e) k = impossible k
 
 string_texts : (w : World) (v : ir.Value) (x : js.Value) → Stands w v x → suits String v ≡ true → Texts v (Some x)
 string_texts w _ _ (same_text us) k = record { of_value = refl; is = refl }
@@ -141,11 +149,12 @@ string_texts w _ _ (same_boolean b) k = impossible k
 string_texts w _ _ (same_char u f) k = impossible k
 string_texts w _ _ (same_number z f) k = impossible k
 string_texts w _ _ (same_long z f) k = impossible k
+string_texts w _ _ (same_reference i a e) k = impossible k
 
-pub texts : (w : World) (t : IrType) (v : ir.Value) (x : js.Value) → Stands w v x → suits t v ≡ true → Texts v (text_value t x)
-texts w String v x a k = string_texts w v x a k
-texts w Char v x a k = char_texts w v x a k
-texts w t v x a k = value_texts w t v x a (λ u. refl) k
+pub texts : (w : World) (t : IrType) → is_bare t ≡ true → (v : ir.Value) (x : js.Value) → Stands w v x → suits t v ≡ true → Texts v (text_value t x)
+texts w String b v x a k = string_texts w v x a k
+texts w Char b v x a k = char_texts w v x a k
+texts w t b v x a k = value_texts w t b v x a (λ u. refl) k
 
 pub join_is : (v v' : ir.Value) → ir_operators.binary_value StringConcatenate v v' ≡ ir_operators.any_value StringConcatenate v v'
 join_is (ir.boolean a) (ir.boolean b) = refl
@@ -220,5 +229,5 @@ module _ (z : Setting) where
         given y _ _ _ _ (a_long a f) (an_int b g) = long_given y (longs.shifted_right_with_zeros a b) _ (ap (λ o. wrapped_value (js_operators.big o)) (on_longs.right_shift-is (pos (cast_unsigned w64 a)) b) ∙ ap (λ n. Some (js.big_int n)) (on_longs.zero_shift-is a b f)) (on_longs.zero_shift-fits a b f)
 
     -- texts that are joined
-    pub joined_alike : Sim z.direction (Valued z.place w env String) (ir_meaning.in_order (r ∷ q ∷ []) (ir_meaning.binary z.place.classes z.low StringConcatenate) env s) (shown z (core.binary_of StringConcatenate (text_of left e) (text_of right d)) sc u)
-    joined_alike = subst (λ o. Sim z.direction (Valued z.place w env String) (ir_meaning.in_order (r ∷ q ∷ []) (ir_meaning.binary z.place.classes z.low StringConcatenate) env s) o) (sym (in_order-converted (text_value left) (text_value right) (shown z e) (shown z d) (shown z (text_of left e)) (shown z (text_of right d)) (js_meaning.binary Op.Add) (by_value (js_operators.binary_value Op.Add)) (text_shown left e) (text_shown right d) (binary-act Op.Add) sc u)) (two_converted z w env sc String left right (text_value left) (text_value right) units_value units_value (λ y v x a. (texts y left v x a.stands a.suits).is) (λ y v x a. (texts y right v x a.stands a.suits).is) r q (shown z e) (shown z d) (ir_meaning.binary z.place.classes z.low StringConcatenate) (by_value (js_operators.binary_value Op.Add)) (λ y v v' x x' s u g a b same. value_alike z w y env String sc s u (ir_operators.binary_value StringConcatenate v v') (js_operators.binary_value Op.Add (units_value v) (units_value v')) (subst (λ o. GivenIf y String o (js_operators.binary_value Op.Add (units_value v) (units_value v'))) (sym (join_is v v')) (join_given y v v' _ _ (texts y left v x a.stands a.suits) (texts y right v' x' b.stands b.suits))) g same) one other s u same)
+    pub joined_alike : is_bare left ≡ true → is_bare right ≡ true → Sim z.direction (Valued z.place w env String) (ir_meaning.in_order (r ∷ q ∷ []) (ir_meaning.binary z.place.classes z.low StringConcatenate) env s) (shown z (core.binary_of StringConcatenate (text_of left e) (text_of right d)) sc u)
+    joined_alike bare other_bare = subst (λ o. Sim z.direction (Valued z.place w env String) (ir_meaning.in_order (r ∷ q ∷ []) (ir_meaning.binary z.place.classes z.low StringConcatenate) env s) o) (sym (in_order-converted (text_value left) (text_value right) (shown z e) (shown z d) (shown z (text_of left e)) (shown z (text_of right d)) (js_meaning.binary Op.Add) (by_value (js_operators.binary_value Op.Add)) (text_shown left e) (text_shown right d) (binary-act Op.Add) sc u)) (two_converted z w env sc String left right (text_value left) (text_value right) units_value units_value (λ y v x a. (texts y left bare v x a.stands a.suits).is) (λ y v x a. (texts y right other_bare v x a.stands a.suits).is) r q (shown z e) (shown z d) (ir_meaning.binary z.place.classes z.low StringConcatenate) (by_value (js_operators.binary_value Op.Add)) (λ y v v' x x' s u g a b same. value_alike z w y env String sc s u (ir_operators.binary_value StringConcatenate v v') (js_operators.binary_value Op.Add (units_value v) (units_value v')) (subst (λ o. GivenIf y String o (js_operators.binary_value Op.Add (units_value v) (units_value v'))) (sym (join_is v v')) (join_given y v v' _ _ (texts y left bare v x a.stands a.suits) (texts y right other_bare v' x' b.stands b.suits))) g same) one other s u same)

@@ -2,8 +2,13 @@
 use Rattle.std.proofs.Common.{◌≡◌, ℕ, List, [], ◌∷◌, Some}
 use Rattle.ir_mean.specs.States as ir
 use Rattle.js_mean.specs.States as js
+<<<<<<< HEAD
 pub use Rattle.sj_plain.specs.Worlds.{World, nothing_made, Grows, Stands, same_undefined, same_null, same_boolean, same_char, same_number, same_long, same_text, SameValue, SameValues, no_values, one_more}
 use Rattle.body_rules.specs.Standing.{Fits, FitAll}
+=======
+pub use Rattle.sj_plain.specs.Worlds.{World, nothing_made, Grows, Stands, same_undefined, same_null, same_boolean, same_char, same_number, same_long, same_text, same_reference, SameValue, SameValues, no_values, one_more}
+use Rattle.sj_plain.specs.Standing.{Fits, FitAll}
+>>>>>>> 6a46694
 use Rattle.sj_plain.proofs.Standing.{fits-suits}
 use Rattle.sj_trees.specs.declared.types.IrType.{IrType}
 
@@ -22,6 +27,7 @@ stands-carry u w _ _ g (same_char c f) = same_char c f
 stands-carry u w _ _ g (same_number z f) = same_number z f
 stands-carry u w _ _ g (same_long z f) = same_long z f
 stands-carry u w _ _ g (same_text us) = same_text us
+stands-carry u w _ _ g (same_reference i a e) = same_reference i a (g i a e)
 
 pub value-carry : (u w : World) (t : IrType) (v : ir.Value) (x : js.Value) → ((i a : ℕ) → u.place i ≡ Some a → w.place i ≡ Some a) → SameValue u t v x → SameValue w t v x
 value-carry u w t v x g a = record { stands = stands-carry u w v x g a.stands; suits = a.suits }

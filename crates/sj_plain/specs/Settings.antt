@@ -1,9 +1,13 @@
 -- What a body is compared in: the two programs, how things are named, and what the levels below give.
-use Rattle.std.specs.Prelude.{◌≡◌, ℕ, Bool, true, false, List, [], map, slice_get, codes, Option, Some, None}
+use Rattle.std.specs.Prelude.{◌≡◌, ℕ, Bool, true, false, ◌&&◌, List, [], ◌∷◌, map, slice_get, codes, nat_eq, Option, Some, None}
+use Rattle.std.specs.Cmp.Lexicographic.{pointwise}
 use Rattle.std.specs.List.{Contains}
 use Rattle.js_tree.specs.Terms.{Name}
 use Rattle.outcomes.specs.Agreement.{Direction, Room, Sim}
-use Rattle.outcomes.specs.Outcome.{Out}
+use Rattle.outcomes.specs.Outcome.{Out, done}
+use Rattle.helper_rules.specs.Helpers.{helper_name}
+use Rattle.helper_rules.specs.declared.kinds.Helper.{Helper}
+use Rattle.helper_rules.specs.declared.kinds.Helper.TheVariants.{NotNull}
 use Rattle.ir_mean.specs.Dispatch.{chain_of}
 use Rattle.ir_mean.specs.Meaning as ir_meaning
 use Rattle.ir_mean.specs.States as ir
@@ -11,36 +15,58 @@ use Rattle.ir_mean.specs.World as ir_world
 use Rattle.js_mean.specs.Files.{owner}
 use Rattle.js_mean.specs.Meaning as js_meaning
 use Rattle.js_mean.specs.States as js
+use Rattle.js_mean.specs.Shows.{object_shown, class_marked}
+use Rattle.outcomes.specs.Shown as shown_ends
 use Rattle.sj_core.specs.Terms as core
-use Rattle.sj_emit_expr.specs.Templates.{member_name, expression_template, statement_templates}
+use Rattle.sj_emit_expr.specs.Templates.{check_name, member_name, expression_template, statement_templates}
 use Rattle.sj_mangling.specs.Bindings.{class_binding, field_binding}
-use Rattle.sj_mangling.specs.declared.bindings.ClassBinding.TheVariants.{Class, Marker}
+use Rattle.sj_mangling.specs.declared.bindings.ClassBinding.TheVariants.{Class, Constants, Marker}
 use Rattle.sj_mangling.specs.declared.bindings.FieldBinding.TheVariants.{Property}
 use Rattle.sj_names.specs.declared.method_names.Member.{Member}
+<<<<<<< HEAD
 use Rattle.body_rules.specs.Subtyping.{IsSubtyping}
 use Rattle.sj_plain.specs.Worlds.{World, Grows, SameValue, SameValues}
 use Rattle.sj_world.specs.Subtypes.{IsSub}
 use Rattle.built_forms.specs.Built.{Usable}
 use Rattle.body_rules.specs.Locals.{Scope}
 use Rattle.body_rules.specs.Standing.{types_referred, call_type}
+=======
+use Rattle.sj_names.specs.Same.{is_same_text}
+use Rattle.sj_plain.specs.Worlds.{World, with_pending, Grows, SameValue, SameValues}
+use Rattle.sj_plain.specs.Conditions.{Usable, Scope}
+use Rattle.sj_plain.specs.Standing.{types_referred, call_type}
+>>>>>>> 6a46694
 use Rattle.sj_trees.specs.declared.classes.ClassDef.{ClassDef}
 use Rattle.sj_trees.specs.declared.classes.FieldDef.{FieldDef}
 use Rattle.sj_trees.specs.declared.types.IrType.{IrType}
 use Rattle.sj_trees.specs.declared.types.IrType.TheVariants.{Any}
 
--- a binding at the top of a file of the emitted code: the function of a member, or a class
+-- a binding at the top of a file of the emitted code: the function of a static member, of one that runs on a receiver, and of a constructor; a class, and
+-- its constants; and a helper
 pub data Top : Type 0 where
   a_function : Member → Top
+  a_method : Member → Top
+  a_constructor : Member → Top
   a_class : List ℕ → Top
+  some_constants : List ℕ → Top
+  a_helper : Helper → Top
 
 abbrev pub top_name : Top → Name
 top_name (a_function m) = member_name m
+top_name (a_method m) = member_name m
+top_name (a_constructor m) = member_name m
 top_name (a_class c) = class_binding Class c
+top_name (some_constants c) = class_binding Constants c
+top_name (a_helper h) = helper_name h
 
--- the code that can use this can use the binding; so far none uses a class
+-- the code that can use this can use the binding
 abbrev pub is_usable : Usable → Top → Bool
 is_usable has (a_function m) = has.linked m
-is_usable has (a_class c) = false
+is_usable has (a_method m) = has.received m
+is_usable has (a_constructor m) = has.built m
+is_usable has (a_class c) = has.made c
+is_usable has (some_constants c) = has.made c
+is_usable has (a_helper h) = has.helper (helper_name h)
 
 -- what is fixed: the two programs, the names that stand for variables and labels, the file of each binding, what the code of each file can use, and the
 -- units that the emitted code may take beyond those of the IR
@@ -57,14 +83,26 @@ pub record Place : Type 0 where
 abbrev pub function_of_member : Place → Member → js.Value
 function_of_member p m = js.function (p.home (a_function m)) (member_name m)
 
--- a call of it with these values
-abbrev pub function_call : Place → js_meaning.Low → Member → List js.Value → js.State → Out js.ExpressionEnd
-function_call p low m = js_meaning.code_call low (p.home (a_function m)) (js_meaning.code_of p.program (p.home (a_function m)) (member_name m))
+-- the function at the top of a file, and a call of it with these values
+abbrev pub top_function : Place → Top → js.Value
+top_function p t = js.function (p.home t) (top_name t)
 
--- a place, the file of the code at hand, the half of the agreement that is spoken of, the mutable locals of the body, and what the levels below give
+abbrev pub top_call : Place → js_meaning.Low → Top → List js.Value → js.State → Out js.ExpressionEnd
+top_call p low t = js_meaning.code_call low (p.home t) (js_meaning.code_of p.program (p.home t) (top_name t))
+
+-- a call of a member's function with these values
+abbrev pub function_call : Place → js_meaning.Low → Member → List js.Value → js.State → Out js.ExpressionEnd
+function_call p low m = top_call p low (a_function m)
+
+-- the code at hand: the file that it stands in, and the locals of its body that are never null
+pub record Code : Type 0 where
+  pub file : Name
+  pub sure : List ℕ → Bool
+
+-- a place, the code at hand, the half of the agreement that is spoken of, the mutable locals of the body, and what the levels below give
 pub record Setting : Type 0 where
   pub place : Place
-  pub file : Name
+  pub code : Code
   pub direction : Direction
   pub is_mutable : List ℕ → Bool
   pub low : ir_meaning.Low
@@ -72,7 +110,7 @@ pub record Setting : Type 0 where
 
 -- what the code at hand can use
 abbrev pub usable : Setting → Usable
-usable z = z.place.has z.file
+usable z = z.place.has z.code.file
 
 -- the statements and expressions of this setting
 abbrev pub shown : Setting → core.Expression → js.Evaluation
@@ -96,22 +134,28 @@ pub data SameField (w : World) (t : IrType) : Option ir.Value → Option js.Valu
   same_field : (v : ir.Value) (x : js.Value) → SameValue w t v x → SameField w t (Some v) (Some x)
   no_field : (x : Option js.Value) → SameField w t None x
 
--- the properties lead to the constants of the class, which the emitted code has for itself and which tell its marker
+-- the properties lead to the constants of the class, which the emitted code has for itself and which tell its marker; and by that an object which
+-- nothing catches is shown
 pub record TellsClass (w : World) (c : List ℕ) (properties : Name → Option js.Value) : Type 0 where
   pub address : ℕ
   pub constants : Name → Option js.Value
   pub held : properties (codes "k") ≡ Some (js.object address)
   pub owned : w.owned address ≡ Some (js.plain [] constants)
   pub marked : constants (codes "s") ≡ Some (js.text (class_binding Marker c))
+  pub known : (v : Option js.Value) → object_shown (class_marked (class_binding Marker c)) v ≡ Some (shown_ends.object_of c)
 
 -- where a class of the emitted code is declared
 abbrev pub link_of : Place → List ℕ → js.ClassLink
 link_of p c = record { file = p.home (a_class c); name = top_name (a_class c) }
 
+-- and those that it extends
+abbrev pub links_of : Place → List ℕ → List js.ClassLink
+links_of p c = map (link_of p) (chain_of p.classes c)
+
 -- what stands at an address of the IR, and what stands at the address that it has in the world: an object of a class, made by the class that stands for
 -- it and by those that this one extends, with a property for each field
 pub data SameStored (p : Place) (w : World) : Option ir.Stored → Option js.Stored → Type 0 where
-  same_object : (c : List ℕ) (fields : ir.Fields) (properties : Name → Option js.Value) → TellsClass w c properties → ((d f : List ℕ) (t : IrType) → IsField p.classes d f t → SameField w t (fields d f) (properties (field_binding Property d f))) → SameStored p w (Some (ir.object c fields)) (Some (js.plain (map (link_of p) (chain_of p.classes c)) properties))
+  same_object : (c : List ℕ) (fields : ir.Fields) (properties : Name → Option js.Value) → TellsClass w c properties → ((d f : List ℕ) (t : IrType) → IsField p.classes d f t → SameField w t (fields d f) (properties (field_binding Property d f))) → SameStored p w (Some (ir.object c fields)) (Some (js.plain (links_of p c) properties))
 
 -- the heaps stand for each other: what has an address in the world stands on both; two addresses of the IR have two; and what the emitted code has for
 -- itself, or has made before the IR, stands where it stood, at no address of the world
@@ -124,23 +168,34 @@ pub record SameHeap (p : Place) (w : World) (s : List ir.Stored) (u : List js.St
   pub unborn : (i a : ℕ) (o : js.Stored) → w.place i ≡ Some a → w.pending a ≡ Some o → ⊥
   pub separate : (a : ℕ) (o b : js.Stored) → w.owned a ≡ Some o → w.pending a ≡ Some b → ⊥
 
--- what a binding at the top holds once its file has run
-abbrev pub TopHolds : Place → Top → js.Cell → Type 0
-TopHolds p (a_function m) cell = cell ≡ js.holds false (function_of_member p m)
-TopHolds p (a_class c) cell = cell ≡ js.holds false (js.class (map (link_of p) (chain_of p.classes c)))
+-- the constants of a class, which the emitted code has for itself at an address, and which tell its marker
+pub record HoldsConstants (owned : ℕ → Option js.Stored) (c : List ℕ) (cell : js.Cell) : Type 0 where
+  pub address : ℕ
+  pub constants : Name → Option js.Value
+  pub held : cell ≡ js.holds true (js.object address)
+  pub owned_there : owned address ≡ Some (js.plain [] constants)
+  pub marked : constants (codes "s") ≡ Some (js.text (class_binding Marker c))
+  pub known : (v : Option js.Value) → object_shown (class_marked (class_binding Marker c)) v ≡ Some (shown_ends.object_of c)
+
+-- what a binding at the top holds once its file has run, by what the emitted code has for itself
+abbrev pub TopHolds : Place → (ℕ → Option js.Stored) → Top → js.Cell → Type 0
+TopHolds p owned (a_function m) cell = cell ≡ js.holds false (function_of_member p m)
+TopHolds p owned (a_class c) cell = cell ≡ js.holds false (js.class (links_of p c))
+TopHolds p owned (some_constants c) cell = HoldsConstants owned c cell
+TopHolds p owned t cell = cell ≡ js.holds false (top_function p t)
 
 -- the states stand for each other: the heaps do, and what the code of some file can use holds what it is to hold
 pub record SameState (p : Place) (w : World) (s : ir.State) (u : js.State) : Type 0 where
   pub heaps : SameHeap p w s.heap u.heap
-  pub tops : (f : Name) (t : Top) → is_usable (p.has f) t ≡ true → TopHolds p t (u.tops (p.home t) (top_name t))
+  pub tops : (f : Name) (t : Top) → is_usable (p.has f) t ≡ true → TopHolds p w.owned t (u.tops (p.home t) (top_name t))
 
 -- a name that no variable has: those of functions, and of whatever else stands at the top of a file
 abbrev pub OfNoVariable : Place → Name → Type 0
 OfNoVariable p x = (y : core.Variable) → p.name y ≡ x → ⊥
 
 -- the scope belongs to the function of a method in this file: nothing but variables is bound in it
-pub record Inside (p : Place) (here : Name) (sc : js.Scope) : Type 0 where
-  pub file : sc.file ≡ here
+pub record Inside (p : Place) (here : Code) (sc : js.Scope) : Type 0 where
+  pub file : sc.file ≡ here.file
   pub free : (x : Name) → OfNoVariable p x → sc.bindings x ≡ js.absent
 
 -- an expression of this type of the IR that gave a value or threw one and changed no local, and the expression that is emitted for it
@@ -163,22 +218,81 @@ pub record NamesDiffer (p : Place) : Type 0 where
 abbrev pub Reaches : Place → Name → Type 0
 Reaches p f = (t : Top) → is_usable (p.has f) t ≡ true → owner p.program f (top_name t) ≡ Some (p.home t)
 
+<<<<<<< HEAD
 -- subtyping is ordered, and what the levels below give of what is called
+=======
+-- an object of the class with its fields at the zeros of their types
+abbrev pub zeroed : Place → List ℕ → ir.Stored
+zeroed p c = ir.object c (ir_world.new_fields p.classes c)
+
+-- `new` of a class: the emitted code makes the object, and the IR does nothing yet
+pub data Makes (p : Place) (from : World) (c : List ℕ) (env : ir.Env) (s : ir.State) : ir.Ended → js.ExpressionEnd → Type 0 where
+  makes : (a : ℕ) (o : js.Stored) (u : js.State) → ((b : js.Stored) → from.pending a ≡ Some b → ⊥) → SameStored p from (Some (zeroed p c)) (Some o) → SameState p (with_pending a o from) s u → Makes p from c env s (ir.ends (ir.gives ir.undefined) env s) (js.gives (js.object a) u)
+
+abbrev pub MakesAlike : Setting → List ℕ → Type 0
+MakesAlike z c = (w : World) (env : ir.Env) (s : ir.State) (u : js.State) → SameState z.place w s u → Sim z.direction (Makes z.place w c env s) (done (ir.ends (ir.gives ir.undefined) env s)) (js_meaning.construct z.place.program z.js_low (links_of z.place c) (links_of z.place c) [] u)
+
+-- a constructor: by the IR it gives nothing that is used, and its function gives the object that it ran on
+pub data Built (p : Place) (from : World) (env : ir.Env) (this : js.Value) : ir.Ended → js.ExpressionEnd → Type 0 where
+  built : (w : World) (v : ir.Value) (s : ir.State) (u : js.State) → Grows from w → SameState p w s u → Built p from env this (ir.ends (ir.gives v) env s) (js.gives this u)
+  failed : (w : World) (v : ir.Value) (x : js.Value) (s : ir.State) (u : js.State) → Grows from w → SameValue w Any v x → SameState p w s u → Built p from env this (ir.ends (ir.throws v) env s) (js.throws x u)
+
+-- a value that a member may run on, and the one that stands for it: any but null and a char
+pub record IsReceiver (w : World) (v : ir.Value) (x : js.Value) : Type 0 where
+  pub stands : SameValue w Any v x
+  pub there : v ≡ ir.null → ⊥
+
+-- a constructor on a receiver, and its function
+abbrev pub BuildsAlike : Setting → Member → Type 0
+BuildsAlike z m = (w : World) (v : ir.Value) (x : js.Value) (vs : List ir.Value) (xs : List js.Value) (env : ir.Env) (s : ir.State) (u : js.State) → IsReceiver w v x → SameValues w (types_referred m.method.params) vs xs → SameState z.place w s u → Sim z.direction (Built z.place w env x) (ir_meaning.call z.low (ir_world.member_of z.place.classes m.class m.namespace m.method) (Some v) vs env s) (top_call z.place z.js_low (a_constructor m) (x ∷ xs) u)
+
+-- a member on a receiver, and its function
+abbrev pub ReceivesAlike : Setting → Member → Type 0
+ReceivesAlike z m = (w : World) (v : ir.Value) (x : js.Value) (vs : List ir.Value) (xs : List js.Value) (env : ir.Env) (s : ir.State) (u : js.State) → IsReceiver w v x → SameValues w (types_referred m.method.params) vs xs → SameState z.place w s u → Sim z.direction (Valued z.place w env (call_type m.method.result)) (ir_meaning.call z.low (ir_world.member_of z.place.classes m.class m.namespace m.method) (Some v) vs env s) (top_call z.place z.js_low (a_method m) (x ∷ xs) u)
+
+-- two fields of the classes have two properties, and a field has one type
+pub record FieldsDiffer (p : Place) : Type 0 where
+  pub properties : (c f d g : List ℕ) (s t : IrType) → IsField p.classes c f s → IsField p.classes d g t → pointwise nat_eq (field_binding Property d g) (field_binding Property c f) ≡ (is_same_text d c && is_same_text g f)
+  pub types : (c f : List ℕ) (s t : IrType) → IsField p.classes c f s → IsField p.classes c f t → s ≡ t
+
+-- the class has the field, and fields differ
+pub record HasField (p : Place) (c f : List ℕ) (t : IrType) : Type 0 where
+  pub field : IsField p.classes c f t
+  pub differ : FieldsDiffer p
+
+-- what the levels below give of what is called and made
+>>>>>>> 6a46694
 pub record Based (z : Setting) : Type 0 where
   pub ordered : IsSubtyping (IsSub z.place.classes)
   pub names : NamesDiffer z.place
-  pub reaches : Reaches z.place z.file
+  pub reaches : Reaches z.place z.code.file
+  pub fields : (c f : List ℕ) (t : IrType) → (usable z).field c f t ≡ true → HasField z.place c f t
   pub calls : (m : Member) → (usable z).linked m ≡ true → CallsAlike z m
+  pub receives : (m : Member) → (usable z).received m ≡ true → ReceivesAlike z m
+  pub builds : (m : Member) → (usable z).built m ≡ true → BuildsAlike z m
+  pub makes : (c : List ℕ) → (usable z).made c ≡ true → MakesAlike z c
 
--- what the levels below give to trees
+-- the null check of a value, and its helper
+abbrev pub ChecksAlike : Setting → Type 0
+ChecksAlike z = (t : IrType) (w : World) (v : ir.Value) (x : js.Value) (env : ir.Env) (s : ir.State) (u : js.State) → SameValue w t v x → SameState z.place w s u → Sim z.direction (Valued z.place w env t) (ir_meaning.answered z.place.classes z.low (ir_meaning.not_null z.place.classes v) env s) (top_call z.place z.js_low (a_helper NotNull) (x ∷ []) u)
+
+-- what the levels below give to trees, with what helpers do
 pub record Lawful (z : Setting) : Type 0 where
   pub base : Based z
+  pub checks : (usable z).helper check_name ≡ true → ChecksAlike z
 
 -- what a local of this type holds, and the binding that stands for it
 pub data Holding (w : World) (t : IrType) : Option ir.Value → js.Cell → Type 0 where
   holding : (v : ir.Value) (x : js.Value) → SameValue w t v x → Holding w t (Some v) (js.holds false x)
 
--- the locals in scope stand for each other
-pub record Sees (p : Place) (here : Name) (scope : Scope) (w : World) (env : ir.Env) (sc : js.Scope) : Type 0 where
+-- This, if there is one, and the binding that stands for it
+pub data Receiving (w : World) : Option ir.Value → js.Cell → Type 0 where
+  no_receiver : (cell : js.Cell) → Receiving w None cell
+  on_receiver : (v : ir.Value) (x : js.Value) → IsReceiver w v x → Receiving w (Some v) (js.holds false x)
+
+-- the locals in scope stand for each other, and so does This; and the locals that are taken to be never null are those of the body
+pub record Sees (p : Place) (here : Code) (scope : Scope) (w : World) (env : ir.Env) (sc : js.Scope) : Type 0 where
   pub inside : Inside p here sc
+  pub this : Receiving w env.this_value (sc.bindings (p.name core.receiver))
+  pub sure : env.sure ≡ here.sure
   pub locals : (x : List ℕ) (t : IrType) → scope x t → Holding w t (env.locals x) (sc.bindings (p.name (core.named x)))

@@ -7,7 +7,7 @@ use Rattle.sj_plain.specs.Standing.{suits}
 use Rattle.sj_trees.specs.declared.types.IrType.{IrType}
 
 -- the address that the emitted code has for each address of the IR; what it has for itself at other addresses, which stays as it is; and the objects
--- that it has already made and the IR hasn't yet, as they stand. So far no form makes an object.
+-- that it has already made and the IR hasn't yet, as they stand.
 pub record World : Type 0 where
   pub place : ℕ → Option ℕ
   pub owned : ℕ → Option js.Stored
@@ -30,7 +30,7 @@ pub record Grows (old new : World) : Type 0 where
   pub owns : (a : ℕ) (o : js.Stored) → old.owned a ≡ Some o → new.owned a ≡ Some o
   pub pends : (a : ℕ) (o : js.Stored) → old.pending a ≡ Some o → new.pending a ≡ Some o
 
--- a value, and the value of the emitted code that stands for it, a char being a Number; so far no form makes a reference
+-- a value, and the value of the emitted code that stands for it, a char being a Number, and a reference the address that it has in the world
 pub data Stands (w : World) : ir.Value → js.Value → Type 0 where
   same_undefined : Stands w ir.undefined js.undefined
   same_null : Stands w ir.null js.null
@@ -39,6 +39,7 @@ pub data Stands (w : World) : ir.Value → js.Value → Type 0 where
   same_number : (z : ℤ) → FitsSigned w32 z → Stands w (ir.number z) (js.number z)
   same_long : (z : ℤ) → FitsSigned w64 z → Stands w (ir.long z) (js.big_int z)
   same_text : (us : List ℕ) → Stands w (ir.text us) (js.text us)
+  same_reference : (i a : ℕ) → w.place i ≡ Some a → Stands w (ir.reference i) (js.object a)
 
 -- and the value is of the kind of this type
 pub record SameValue (w : World) (t : IrType) (v : ir.Value) (x : js.Value) : Type 0 where

@@ -87,23 +87,37 @@ either-good : (own : List ℕ → Type 0) (ls : List (List ℕ)) (b v : Bool) (j
 either-good own ls b true j c d g h = g
 either-good own ls b false j c d g h = h
 
+<<<<<<< HEAD
 module _ (is_mutable : List ℕ → Bool) where
   abbrev pub TreeGood : Term → Type 0
   TreeGood t = (around : List (List ℕ)) (ts : Targets) (ls : List (List ℕ)) (b : Bool) (k : Destination) (j : ℕ) → Once around t → Emitted around ts ls → Good (Own t) ls b j (into is_mutable ts k j t)
+=======
+module _ (is_mutable sure : List ℕ → Bool) where
+  abbrev TreeGood : Term → Type 0
+  TreeGood t = (around : List (List ℕ)) (ts : Targets) (ls : List (List ℕ)) (b : Bool) (k : Destination) (j : ℕ) → Once around t → Emitted around ts ls → Good (Own t) ls b j (into is_mutable sure ts k j t)
+>>>>>>> 6a46694
 
   -- one operand
-  each_one : (e : Term) → TreeGood e → (around : List (List ℕ)) (ts : Targets) (ls : List (List ℕ)) (b : Bool) → Once around e → Emitted around ts ls → (j : ℕ) → Good (Own e) ls b j (spilled (spill (operand is_mutable e (λ k j. into is_mutable ts k j e) ∷ []) j))
-  each_one e good around ts ls b h em = operand-good (Own e) no_name (Own e) ls b (operand is_mutable e (λ k j. into is_mutable ts k j e)) [] (λ k j. good around ts ls b k j h em) (λ j. good-none no_name ls b j) (nothing_apart (Own e)) (all_part (Own e)) (no_part (Own e))
+  each_one : (e : Term) → TreeGood e → (around : List (List ℕ)) (ts : Targets) (ls : List (List ℕ)) (b : Bool) → Once around e → Emitted around ts ls → (j : ℕ) → Good (Own e) ls b j (spilled (spill (operand is_mutable sure e (λ k j. into is_mutable sure ts k j e) ∷ []) j))
+  each_one e good around ts ls b h em = operand-good (Own e) no_name (Own e) ls b (operand is_mutable sure e (λ k j. into is_mutable sure ts k j e)) [] (λ k j. good around ts ls b k j h em) (λ j. good-none no_name ls b j) (nothing_apart (Own e)) (all_part (Own e)) (no_part (Own e))
 
   -- one operand, and one statement that declares nothing
-  act_good : (e : Term) → TreeGood e → (own : List ℕ → Type 0) → Part (Own e) own → (around : List (List ℕ)) (ts : Targets) (ls : List (List ℕ)) (b : Bool) (j : ℕ) (made : List core.Expression → ℕ → Code) → Once around e → Emitted around ts ls → ((es : List core.Expression) (i : ℕ) → Good no_name ls b i (made es i)) → Good own ls b j (then_use (spill (operand is_mutable e (λ k j. into is_mutable ts k j e) ∷ []) j) made)
-  act_good e good own part around ts ls b j made h em made_good = good-use (Own e) no_name own ls b (operand is_mutable e (λ k j. into is_mutable ts k j e) ∷ []) made j (each_one e good around ts ls b h em j) made_good (nothing_apart (Own e)) part (no_part own)
+  act_good : (e : Term) → TreeGood e → (own : List ℕ → Type 0) → Part (Own e) own → (around : List (List ℕ)) (ts : Targets) (ls : List (List ℕ)) (b : Bool) (j : ℕ) (made : List core.Expression → ℕ → Code) → Once around e → Emitted around ts ls → ((es : List core.Expression) (i : ℕ) → Good no_name ls b i (made es i)) → Good own ls b j (then_use (spill (operand is_mutable sure e (λ k j. into is_mutable sure ts k j e) ∷ []) j) made)
+  act_good e good own part around ts ls b j made h em made_good = good-use (Own e) no_name own ls b (operand is_mutable sure e (λ k j. into is_mutable sure ts k j e) ∷ []) made j (each_one e good around ts ls b h em j) made_good (nothing_apart (Own e)) part (no_part own)
 
+<<<<<<< HEAD
   abbrev pub while_code : Term → Term → Targets → ℕ → Code
   while_code c d ts j = then_use (spill (operand is_mutable c (λ k j. into is_mutable ts k j c) ∷ []) j) (λ es j. put_first (break_unless (first_of es)) (into is_mutable ts discard j d))
 
   abbrev pub do_code : Term → Term → Targets → ℕ → Code
   do_code d c ts j = then_code (into is_mutable ts discard j d) (λ j. then_use (spill (operand is_mutable c (λ k j. into is_mutable ts k j c) ∷ []) j) (λ es. one (break_unless (first_of es))))
+=======
+  abbrev while_code : Term → Term → Targets → ℕ → Code
+  while_code c d ts j = then_use (spill (operand is_mutable sure c (λ k j. into is_mutable sure ts k j c) ∷ []) j) (λ es j. put_first (break_unless (first_of es)) (into is_mutable sure ts discard j d))
+
+  abbrev do_code : Term → Term → Targets → ℕ → Code
+  do_code d c ts j = then_code (into is_mutable sure ts discard j d) (λ j. then_use (spill (operand is_mutable sure c (λ k j. into is_mutable sure ts k j c) ∷ []) j) (λ es. one (break_unless (first_of es))))
+>>>>>>> 6a46694
 
   -- the body of a loop, its condition included
   pub while_good : (p : Position) (c d : Term) → TreeGood c → TreeGood d → (around : List (List ℕ)) (ts : Targets) (ls : List (List ℕ)) (j : ℕ) → Once around (while_loop p c d) → Emitted around ts ls → Good (Own (while_loop p c d)) ls true j (while_code c d ts j)
@@ -114,18 +128,27 @@ module _ (is_mutable : List ℕ → Bool) where
 
   mutual
     pub good : (t : Term) → TreeGood t
-    good (var_def p x t c e) = λ around ts ls b k j h em. either-good (Own (var_def p x t c e)) ls b (is_plain e) j (one (core.define_of (Some p) (core.named x) (coerced t (type_of_term e) (expression_of e))) j) (put_first (core.declare_of (Some p) (core.named x)) (into is_mutable ts (to_variable (core.named x) t) j e)) (good-named no_name (Own (var_def p x t c e)) ls b j x (core.define_of (Some p) (core.named x) (coerced t (type_of_term e) (expression_of e))) (no_code j) (λ y d. d) tt (inl refl) (no_part (Own (var_def p x t c e))) (λ i. i) (good-none no_name ls b j)) (good-named (Own e) (Own (var_def p x t c e)) ls b j x (core.declare_of (Some p) (core.named x)) (into is_mutable ts (to_variable (core.named x) t) j e) (λ y d. d) tt (inl refl) (λ y o. inr o) h.0 (good e around ts ls b (to_variable (core.named x) t) j h.1 em))
+    good (var_def p x t c e) = λ around ts ls b k j h em. either-good (Own (var_def p x t c e)) ls b (is_plain e) j (one (core.define_of (Some p) (core.named x) (coerced t (type_of_term e) (expression_of sure e))) j) (put_first (core.declare_of (Some p) (core.named x)) (into is_mutable sure ts (to_variable (core.named x) t) j e)) (good-named no_name (Own (var_def p x t c e)) ls b j x (core.define_of (Some p) (core.named x) (coerced t (type_of_term e) (expression_of sure e))) (no_code j) (λ y d. d) tt (inl refl) (no_part (Own (var_def p x t c e))) (λ i. i) (good-none no_name ls b j)) (good-named (Own e) (Own (var_def p x t c e)) ls b j x (core.declare_of (Some p) (core.named x)) (into is_mutable sure ts (to_variable (core.named x) t) j e) (λ y d. d) tt (inl refl) (λ y o. inr o) h.0 (good e around ts ls b (to_variable (core.named x) t) j h.1 em))
     good (block_of p es) = λ around ts ls b k j h em. good_block es around ts ls b k j h em
-    good (labeled p l t e) = λ around ts ls b k j h em. labeled-good (Own e) ls b j k p l (into is_mutable (target l k ∷ ts) k j e) (λ i. h.0 (em.outer l i)) (good e (l ∷ around) (target l k ∷ ts) (inside k l ls) b k j h.1 (emitted-inside around ts ls l k em))
+    good (labeled p l t e) = λ around ts ls b k j h em. labeled-good (Own e) ls b j k p l (into is_mutable sure (target l k ∷ ts) k j e) (λ i. h.0 (em.outer l i)) (good e (l ∷ around) (target l k ∷ ts) (inside k l ls) b k j h.1 (emitted-inside around ts ls l k em))
     good (assign p (var_ref q x t) e) = λ around ts ls b k j h em. act_good e (good e) (Own e) (all_part (Own e)) around ts ls b j (λ es. one (core.assign_to (Some p) (core.named x) (coerced t (type_of_term e) (first_of es)))) h em (λ es i. good-one no_name ls b i i (core.assign_to (Some p) (core.named x) (coerced t (type_of_term e) (first_of es))) (omega arith) (λ y d. d) tt)
+<<<<<<< HEAD
     good (return_to p e l) = λ around ts ls b k j h em. leaving-good (Own e) ls b j (target_of ts l) p l (into is_mutable ts (target_of ts l) j e) (λ i. em.has l h.0 i) (good e around ts ls b (target_of ts l) j h.1 em)
     good (if_then p c a d t) = λ around ts ls b k j h em. act_good c (good c) (Own (if_then p c a d t)) (λ x o. inl o) around ts ls b j (λ es j. branches p (first_of es) (into is_mutable ts k j a) (λ j. into is_mutable ts k j d)) h.0 em (λ es i. branches-good (Own a) (Own d) no_name ls b p (first_of es) (into is_mutable ts k i a) (λ j. into is_mutable ts k j d) i (good a around ts ls b k i h.1 em) (good d around ts ls b k (into is_mutable ts k i a).next h.2 em))
     good (while_loop p c d) = λ around ts ls b k j h em. either-good (Own (while_loop p c d)) ls b (is_plain c) j (wrapped (core.while_of (Some p) (expression_of c)) (into is_mutable ts discard j d)) (wrapped (core.while_of (Some p) (core.boolean_value true)) (while_code c d ts j)) (let g = good d around ts ls true discard j h.1 em in good-one (Own (while_loop p c d)) ls b j (into is_mutable ts discard j d).next (core.while_of (Some p) (expression_of c) (into is_mutable ts discard j d).statements) g.onward (λ y i. i) (g.distinct, g.proper)) (let g = while_good p c d (good c) (good d) around ts ls j h em in good-one (Own (while_loop p c d)) ls b j (while_code c d ts j).next (core.while_of (Some p) (core.boolean_value true) (while_code c d ts j).statements) g.onward (λ y i. i) (g.distinct, g.proper))
     good (do_while p d c) = λ around ts ls b k j h em. let g = do_good p d c (good d) (good c) around ts ls j h em in good-one (Own (do_while p d c)) ls b j (do_code d c ts j).next (core.loop_of (Some p) (do_code d c ts j).statements) g.onward (λ y i. i) (g.distinct, g.proper)
     good (match_on p e cs d t) = λ around ts ls b k j h em. act_good e (good e) (Own (match_on p e cs d t)) (λ x o. inl o) around ts ls b j (λ es j. switch_code p (first_of es) (cases is_mutable ts k j cs) (λ j. into is_mutable ts k j d)) h.0 em (λ es i. switch-good no_name (Own d) ls b p (first_of es) (cases is_mutable ts k i cs) (λ j. into is_mutable ts k j d) i (good_cases cs around ts ls k i h.1 em) (good d around ts ls true k (cases is_mutable ts k i cs).next h.2 em))
     good (apply_static p c n m es t) = λ around ts ls b k j h em. good-use (OwnAll es) no_name (OwnAll es) ls b (operands is_mutable ts es) (λ xs. finish k p t false (core.static_call (member c n m) (expressions_of (coerced_arguments m.params (types_of es) xs)))) j (good_operands es around ts ls b h em j) (λ xs i. finish-good no_name ls b k p t false (core.static_call (member c n m) (expressions_of (coerced_arguments m.params (types_of es) xs))) i) (nothing_apart (OwnAll es)) (all_part (OwnAll es)) (no_part (OwnAll es))
+=======
+    good (return_to p e l) = λ around ts ls b k j h em. leaving-good (Own e) ls b j (target_of ts l) p l (into is_mutable sure ts (target_of ts l) j e) (λ i. em.has l h.0 i) (good e around ts ls b (target_of ts l) j h.1 em)
+    good (if_then p c a d t) = λ around ts ls b k j h em. act_good c (good c) (Own (if_then p c a d t)) (λ x o. inl o) around ts ls b j (λ es j. branches p (first_of es) (into is_mutable sure ts k j a) (λ j. into is_mutable sure ts k j d)) h.0 em (λ es i. branches-good (Own a) (Own d) no_name ls b p (first_of es) (into is_mutable sure ts k i a) (λ j. into is_mutable sure ts k j d) i (good a around ts ls b k i h.1 em) (good d around ts ls b k (into is_mutable sure ts k i a).next h.2 em))
+    good (while_loop p c d) = λ around ts ls b k j h em. either-good (Own (while_loop p c d)) ls b (is_plain c) j (wrapped (core.while_of (Some p) (expression_of sure c)) (into is_mutable sure ts discard j d)) (wrapped (core.while_of (Some p) (core.boolean_value true)) (while_code c d ts j)) (let g = good d around ts ls true discard j h.1 em in good-one (Own (while_loop p c d)) ls b j (into is_mutable sure ts discard j d).next (core.while_of (Some p) (expression_of sure c) (into is_mutable sure ts discard j d).statements) g.onward (λ y i. i) (g.distinct, g.proper)) (let g = good-use (Own c) (Own d) (Own (while_loop p c d)) ls true (operand is_mutable sure c (λ k j. into is_mutable sure ts k j c) ∷ []) (λ es j. put_first (break_unless (first_of es)) (into is_mutable sure ts discard j d)) j (each_one c (good c) around ts ls true h.0 em j) (λ es i. break-good (Own d) ls i (first_of es) (into is_mutable sure ts discard i d) (good d around ts ls true discard i h.1 em)) h.2 (λ x o. inl o) (λ x o. inr o) in good-one (Own (while_loop p c d)) ls b j (while_code c d ts j).next (core.while_of (Some p) (core.boolean_value true) (while_code c d ts j).statements) g.onward (λ y i. i) (g.distinct, g.proper))
+    good (do_while p d c) = λ around ts ls b k j h em. let g = good-joined (Own d) (Own c) (Own (do_while p d c)) ls true j (into is_mutable sure ts discard j d) (then_use (spill (operand is_mutable sure c (λ k j. into is_mutable sure ts k j c) ∷ []) (into is_mutable sure ts discard j d).next) (λ es. one (break_unless (first_of es)))) (good d around ts ls true discard j h.0 em) (act_good c (good c) (Own c) (all_part (Own c)) around ts ls true (into is_mutable sure ts discard j d).next (λ es. one (break_unless (first_of es))) h.1 em (λ es i. break-good no_name ls i (first_of es) (no_code i) (good-none no_name ls true i))) h.2 (λ x o. inl o) (λ x o. inr o) in good-one (Own (do_while p d c)) ls b j (do_code d c ts j).next (core.loop_of (Some p) (do_code d c ts j).statements) g.onward (λ y i. i) (g.distinct, g.proper)
+    good (match_on p e cs d t) = λ around ts ls b k j h em. act_good e (good e) (Own (match_on p e cs d t)) (λ x o. inl o) around ts ls b j (λ es j. switch_code p (first_of es) (cases is_mutable sure ts k j cs) (λ j. into is_mutable sure ts k j d)) h.0 em (λ es i. switch-good no_name (Own d) ls b p (first_of es) (cases is_mutable sure ts k i cs) (λ j. into is_mutable sure ts k j d) i (good_cases cs around ts ls k i h.1 em) (good d around ts ls true k (cases is_mutable sure ts k i cs).next h.2 em))
+    good (apply_static p c n m es t) = λ around ts ls b k j h em. good-use (OwnAll es) no_name (OwnAll es) ls b (operands is_mutable sure ts es) (λ xs. finish k p t false (core.static_call (member c n m) (expressions_of (coerced_arguments m.params (types_of es) xs)))) j (good_operands es around ts ls b h em j) (λ xs i. finish-good no_name ls b k p t false (core.static_call (member c n m) (expressions_of (coerced_arguments m.params (types_of es) xs))) i) (nothing_apart (OwnAll es)) (all_part (OwnAll es)) (no_part (OwnAll es))
+>>>>>>> 6a46694
     good (unary_op p o e) = λ around ts ls b k j h em. act_good e (good e) (Own e) (all_part (Own e)) around ts ls b j (λ es. finish k p (unary_result o) false (core.unary_of o (first_of es))) h em (λ es i. finish-good no_name ls b k p (unary_result o) false (core.unary_of o (first_of es)) i)
-    good (binary_op p o e d) = λ around ts ls b k j h em. good-use (Own (binary_op p o e d)) no_name (Own (binary_op p o e d)) ls b (operand is_mutable e (λ k j. into is_mutable ts k j e) ∷ operand is_mutable d (λ k j. into is_mutable ts k j d) ∷ []) (λ es. finish k p (binary_result o) false (core.binary_of o (operand_of o (type_of_term e) (first_of es)) (operand_of o (type_of_term d) (second_of es)))) j (operand-good (Own e) (Own d) (Own (binary_op p o e d)) ls b (operand is_mutable e (λ k j. into is_mutable ts k j e)) (operand is_mutable d (λ k j. into is_mutable ts k j d) ∷ []) (λ k j. good e around ts ls b k j h.0 em) (each_one d (good d) around ts ls b h.1 em) h.2 (λ x o. inl o) (λ x o. inr o) j) (λ es i. finish-good no_name ls b k p (binary_result o) false (core.binary_of o (operand_of o (type_of_term e) (first_of es)) (operand_of o (type_of_term d) (second_of es))) i) (nothing_apart (Own (binary_op p o e d))) (all_part (Own (binary_op p o e d))) (no_part (Own (binary_op p o e d)))
+    good (binary_op p o e d) = λ around ts ls b k j h em. good-use (Own (binary_op p o e d)) no_name (Own (binary_op p o e d)) ls b (operand is_mutable sure e (λ k j. into is_mutable sure ts k j e) ∷ operand is_mutable sure d (λ k j. into is_mutable sure ts k j d) ∷ []) (λ es. finish k p (binary_result o) false (core.binary_of o (operand_of o (type_of_term e) (first_of es)) (operand_of o (type_of_term d) (second_of es)))) j (operand-good (Own e) (Own d) (Own (binary_op p o e d)) ls b (operand is_mutable sure e (λ k j. into is_mutable sure ts k j e)) (operand is_mutable sure d (λ k j. into is_mutable sure ts k j d) ∷ []) (λ k j. good e around ts ls b k j h.0 em) (each_one d (good d) around ts ls b h.1 em) h.2 (λ x o. inl o) (λ x o. inr o) j) (λ es i. finish-good no_name ls b k p (binary_result o) false (core.binary_of o (operand_of o (type_of_term e) (first_of es)) (operand_of o (type_of_term d) (second_of es))) i) (nothing_apart (Own (binary_op p o e d))) (all_part (Own (binary_op p o e d))) (no_part (Own (binary_op p o e d)))
     good (undefined_literal p) = λ around ts ls b k j h em. finish-good no_name ls b k p Undefined true core.undefined_value j
     good (null_literal p) = λ around ts ls b k j h em. finish-good no_name ls b k p Null true core.null_value j
     good (boolean_literal p v) = λ around ts ls b k j h em. finish-good no_name ls b k p Boolean true (core.boolean_value v) j
@@ -139,16 +162,20 @@ module _ (is_mutable : List ℕ → Bool) where
     good (log_line p e) = λ around ts ls b k j h em. act_good e (good e) (Own e) (all_part (Own e)) around ts ls b j (λ es. one (core.log_of (Some p) (first_of es))) h em (λ es i. good-one no_name ls b i i (core.log_of (Some p) (first_of es)) (omega arith) (λ y d. d) tt)
     good t = λ around ts ls b k j h em. good-none (Own t) ls b j
 
-    good_block : (es : Terms) (around : List (List ℕ)) (ts : Targets) (ls : List (List ℕ)) (b : Bool) (k : Destination) (j : ℕ) → OnceAll around es → Emitted around ts ls → Good (OwnAll es) ls b j (block is_mutable ts k j es)
+    good_block : (es : Terms) (around : List (List ℕ)) (ts : Targets) (ls : List (List ℕ)) (b : Bool) (k : Destination) (j : ℕ) → OnceAll around es → Emitted around ts ls → Good (OwnAll es) ls b j (block is_mutable sure ts k j es)
     good_block no_terms around ts ls b k j h em = good-none (OwnAll no_terms) ls b j
-    good_block (more_terms t no_terms) around ts ls b k j h em = good-widen (Own t) (OwnAll (more_terms t no_terms)) ls b j (into is_mutable ts k j t) (λ x o. inl o) (good t around ts ls b k j h.0 em)
-    good_block (more_terms t (more_terms u us)) around ts ls b k j h em = good-joined (Own t) (OwnAll (more_terms u us)) (OwnAll (more_terms t (more_terms u us))) ls b j (into is_mutable ts discard j t) (block is_mutable ts k (into is_mutable ts discard j t).next (more_terms u us)) (good t around ts ls b discard j h.0 em) (good_block (more_terms u us) around ts ls b k (into is_mutable ts discard j t).next h.1 em) h.2 (λ x o. inl o) (λ x o. inr o)
+    good_block (more_terms t no_terms) around ts ls b k j h em = good-widen (Own t) (OwnAll (more_terms t no_terms)) ls b j (into is_mutable sure ts k j t) (λ x o. inl o) (good t around ts ls b k j h.0 em)
+    good_block (more_terms t (more_terms u us)) around ts ls b k j h em = good-joined (Own t) (OwnAll (more_terms u us)) (OwnAll (more_terms t (more_terms u us))) ls b j (into is_mutable sure ts discard j t) (block is_mutable sure ts k (into is_mutable sure ts discard j t).next (more_terms u us)) (good t around ts ls b discard j h.0 em) (good_block (more_terms u us) around ts ls b k (into is_mutable sure ts discard j t).next h.1 em) h.2 (λ x o. inl o) (λ x o. inr o)
 
-    good_operands : (es : Terms) (around : List (List ℕ)) (ts : Targets) (ls : List (List ℕ)) (b : Bool) → OnceAll around es → Emitted around ts ls → (j : ℕ) → Good (OwnAll es) ls b j (spilled (spill (operands is_mutable ts es) j))
+    good_operands : (es : Terms) (around : List (List ℕ)) (ts : Targets) (ls : List (List ℕ)) (b : Bool) → OnceAll around es → Emitted around ts ls → (j : ℕ) → Good (OwnAll es) ls b j (spilled (spill (operands is_mutable sure ts es) j))
     good_operands no_terms around ts ls b h em = λ j. good-none (OwnAll no_terms) ls b j
-    good_operands (more_terms t es) around ts ls b h em = operand-good (Own t) (OwnAll es) (OwnAll (more_terms t es)) ls b (operand is_mutable t (λ k j. into is_mutable ts k j t)) (operands is_mutable ts es) (λ k j. good t around ts ls b k j h.0 em) (good_operands es around ts ls b h.1 em) h.2 (λ x o. inl o) (λ x o. inr o)
+    good_operands (more_terms t es) around ts ls b h em = operand-good (Own t) (OwnAll es) (OwnAll (more_terms t es)) ls b (operand is_mutable sure t (λ k j. into is_mutable sure ts k j t)) (operands is_mutable sure ts es) (λ k j. good t around ts ls b k j h.0 em) (good_operands es around ts ls b h.1 em) h.2 (λ x o. inl o) (λ x o. inr o)
 
+<<<<<<< HEAD
     pub good_cases : (cs : Cases) (around : List (List ℕ)) (ts : Targets) (ls : List (List ℕ)) (k : Destination) (j : ℕ) → OnceCases around cs → Emitted around ts ls → GoodCases ls j (cases is_mutable ts k j cs)
+=======
+    good_cases : (cs : Cases) (around : List (List ℕ)) (ts : Targets) (ls : List (List ℕ)) (k : Destination) (j : ℕ) → OnceCases around cs → Emitted around ts ls → GoodCases ls j (cases is_mutable sure ts k j cs)
+>>>>>>> 6a46694
     good_cases no_cases around ts ls k j h em = record { onward = omega arith; proper = tt }
     good_cases (more_cases [] t cs) around ts ls k j h em = good_cases cs around ts ls k j h.1 em
-    good_cases (more_cases (n ∷ ns) t cs) around ts ls k j h em = case-good-in (Own t) ls j (n ∷ ns) (into is_mutable ts k j t) (λ j. cases is_mutable ts k j cs) (good t around ts ls true k j h.0 em) (good_cases cs around ts ls k (into is_mutable ts k j t).next h.1 em)
+    good_cases (more_cases (n ∷ ns) t cs) around ts ls k j h em = case-good-in (Own t) ls j (n ∷ ns) (into is_mutable sure ts k j t) (λ j. cases is_mutable sure ts k j cs) (good t around ts ls true k j h.0 em) (good_cases cs around ts ls k (into is_mutable sure ts k j t).next h.1 em)

@@ -1,9 +1,10 @@
 -- What is asked of a method whose body is of the forms that are built.
-use Rattle.std.specs.Prelude.{◌≡◌, true, List, [], ◌∷◌, not}
+use Rattle.std.specs.Prelude.{◌≡◌, ℕ, true, List, [], ◌∷◌, not}
 use Rattle.body_rules.specs.Locals.{HaveValues}
 use Rattle.sj_proper.specs.Once.{DefinesOnce}
 use Rattle.body_rules.specs.Typing.{Scene, IsResult, Typed}
 use Rattle.built_forms.specs.Built.{Usable, yields_boxed}
+use Rattle.sure_receivers.specs.Sure.{sure_locals}
 use Rattle.sj_names.specs.declared.references.TypeRef.{TypeRef}
 use Rattle.sj_trees.specs.Term.{Term}
 use Rattle.sj_trees.specs.Types.{reference_type}
@@ -18,14 +19,14 @@ HaveTypes [] [] = Unit {0}
 HaveTypes (d ∷ ds) (r ∷ rs) = (d.tpe ≡ reference_type r) × HaveTypes ds rs
 HaveTypes _ _ = ⊥
 
--- what the body of a method stands in
-abbrev pub scene_of : MethodDef → Scene
-scene_of d = record { space = d.namespace; locals = d.params; labels = [] }
+-- what the body of a method of this class stands in
+abbrev pub scene_of : List ℕ → MethodDef → Term → Scene
+scene_of c d e = record { owner = c; space = d.namespace; sure = sure_locals e; locals = d.params; labels = [] }
 
--- the body keeps the rules with the parameters in scope and yields the result as what it is; each local is defined once; there are values of each
+-- the body of a method of this class keeps the rules with the parameters in scope and yields the result as what it is; each local is defined once; there are values of each
 -- parameter's type, and of the result's unless it is none
-pub record KeepsRules (w : Classes) (has : Usable) (d : MethodDef) (e : Term) : Type 0 where
-  pub typed : Typed w has (scene_of d) e
+pub record KeepsRules (w : Classes) (has : Usable) (c : List ℕ) (d : MethodDef) (e : Term) : Type 0 where
+  pub typed : Typed w has (scene_of c d e) e
   pub yields : Yields w e d.result
   pub unboxed : not (yields_boxed d.result e) ≡ true
   pub result : IsResult d.result

@@ -10,7 +10,7 @@ use Rattle.ir_mean.specs.Dispatch.{chain_of}
 use Rattle.ir_mean.specs.Meaning as ir_meaning
 use Rattle.ir_mean.specs.Operators.{Answer, unary_value, binary_value}
 use Rattle.ir_mean.specs.States as ir
-use Rattle.ir_mean.specs.Sure.{sure_locals}
+use Rattle.sure_receivers.specs.Sure.{sure_locals}
 use Rattle.ir_mean.specs.World.{World, member_of}
 use Rattle.sj_desugar.specs.Desugar.{member}
 use Rattle.sj_desugar.specs.Plain.{is_no_type}

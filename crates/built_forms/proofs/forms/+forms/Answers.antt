@@ -22,8 +22,8 @@ is_built-returns-then-not-is_boxed-2 t c =
     let there : view n.target.value ≡ var_ref r.field-0 r.field-1 r.tpe = ap view (sym c.deref-in-Assign.ensures ∙ r.is ∙ sym (rolls-VarRef r.field-0 r.field-1 r.tpe)) ∙ fold-roll-Tree Term Case view_step case_step (Tree-F.VarRef r.field-0 r.field-1 r.tpe) in
     let v : view c.args.tree.now ≡ assign n.field-0 (var_ref r.field-0 r.field-1 r.tpe) (view n.value.value) = ap view (n.is ∙ sym (rolls-Assign n.field-0 n.target n.value)) ∙ fold-roll-Tree Term Case view_step case_step (Tree-F.Assign n.field-0 n.target n.value) ∙ ap (λ x. assign n.field-0 x (view n.value.value)) there in
     let fits : false ≡ is_boxed r.tpe (view n.value.value) = sym c.if-not-is_boxed-2.true ∙ c.is_boxed-in-VarRef.ensures ∙ ap (λ x. is_boxed r.tpe (view x)) c.deref-in-VarRef.ensures in
-    let own : c.is_built-then-not-is_boxed-2.result ≡ is_built anything (labels_view c.args.labels.now) (view n.value.value) = c.is_built-then-not-is_boxed-2.ensures ∙ ap (λ x. is_built anything (labels_view c.args.labels.now) (view x)) c.deref-then-not-is_boxed-2.ensures in
-    own ∙ ap (λ b. not b && is_built anything (labels_view c.args.labels.now) (view n.value.value)) fits ∙ ap (is_built anything (labels_view c.args.labels.now)) (sym v)
+    let own : c.is_built-then-not-is_boxed-2.result ≡ is_built anything (λ e. true) (labels_view c.args.labels.now) (view n.value.value) = c.is_built-then-not-is_boxed-2.ensures ∙ ap (λ x. is_built anything (λ e. true) (labels_view c.args.labels.now) (view x)) c.deref-then-not-is_boxed-2.ensures in
+    own ∙ ap (λ b. not b && is_built anything (λ e. true) (labels_view c.args.labels.now) (view n.value.value)) fits ∙ ap (is_built anything (λ e. true) (labels_view c.args.labels.now)) (sym v)
 
 pub are_built_cases-returns-then-not-is_built_case : goal.are_built_cases-returns-then-not-is_built_case
 are_built_cases-returns-then-not-is_built_case t c =

@@ -1,0 +1,118 @@
+-- All levels, where code makes objects and uses them: trees and calls are alike at bounds that stand to each other as the direction says.
+use Rattle.std.specs.Prelude.{◌+◌, ◌*◌, ◌≤◌, codes}
+use Rattle.std.proofs.Common.{◌≡◌, ℕ, zero, suc, Bool, true, false, List, [], ◌∷◌, Some, None, length, refl, sym, ap, ◌∙◌, subst, arith}
+use Rattle.outcomes.specs.Outcome.{Out, going}
+use Rattle.outcomes.specs.Agreement.{Direction, forward, backward, Enough, Sim}
+use Rattle.outcomes.proofs.Simulation.{sim_over, sim_going}
+use Rattle.helper_rules.specs.declared.kinds.Failure.TheVariants.{NullReceiver}
+use Rattle.helper_rules.specs.declared.kinds.Helper.TheVariants.{NotNull, Throws}
+use Rattle.ir_mean.specs.Dispatch.{chain_of}
+use Rattle.ir_mean.specs.Meaning as ir_meaning
+use Rattle.ir_mean.specs.States as ir
+use Rattle.ir_mean.specs.World.{member_of}
+use Rattle.js_mean.specs.Meaning as js_meaning
+use Rattle.js_mean.specs.States as js
+use Rattle.js_tree.specs.Terms.{Name}
+use Rattle.sj_desugar.specs.Desugar.{into, is_mutable_in}
+use Rattle.sj_emit_expr.specs.Templates.{check_name, statement_templates}
+use Rattle.sj_names.specs.declared.method_names.Member.{Member}
+use Rattle.sure_receivers.specs.Sure.{sure_locals}
+use Rattle.sj_plain.specs.Settings.{Place, Code, a_function, a_method, a_constructor, a_helper, top_call, Setting, SameState, Valued, Built, NamesDiffer, Reaches, Based, Lawful, BuildsAlike, ReceivesAlike, ChecksAlike, IsReceiver}
+use Rattle.sj_plain.specs.Standing.{types_referred, call_type}
+use Rattle.sj_plain.proofs.Worlds.{World, SameValue, SameValues}
+use Rattle.sj_bodies.proofs.Contexts.{Came}
+use Rattle.sj_bodies.proofs.Main.{does}
+use Rattle.sj_bodies.proofs.Trees.{LowAlike}
+use Rattle.sj_calls.specs.Helpers.{Failed}
+use Rattle.sj_calls.specs.Methods.{Linked, CallsAgree, ir_call, js_call}
+use Rattle.sj_calls.specs.Objects.{RunsOn, Constructs}
+use Rattle.sj_calls.specs.Worlds.{IsMade, CanCheck, HasObjects}
+use Rattle.sj_calls.proofs.Calls.{call_alike}
+use Rattle.sj_calls.proofs.Helps.{FailsAt, fails_alike, checks_alike, in_helper}
+use Rattle.sj_calls.proofs.News.{made_alike}
+use Rattle.sj_calls.proofs.Receivers.{receive_alike, build_alike}
+
+module _ (p : Place) (names : NamesDiffer p) (has : HasObjects p) where
+  -- a body in a file of the place, with what the levels of these bounds give
+  abbrev within : Code → Direction → (List ℕ → Bool) → ℕ → ℕ → Setting
+  within f d is_mutable n k = record { place = p; code = f; direction = d; is_mutable = is_mutable; low = ir_meaning.below p.classes n; js_low = js_meaning.below p.program k }
+
+  abbrev Level : Direction → ℕ → ℕ → Type 1
+  Level d n k = (f : Code) → Reaches p f.file → (is_mutable : List ℕ → Bool) → LowAlike (within f d is_mutable n k)
+
+  -- one bound of the IR, and each bound of the emitted code that is enough for it
+  abbrev Levels : Direction → ℕ → Type 1
+  Levels d n = (k : ℕ) → Enough p.room 0 d n k → Level d n k
+
+  fewer : (d : Direction) (more n k : ℕ) → Enough p.room more d n k → Enough p.room 0 d n k
+  fewer forward more n k h = omega arith
+  fewer backward more n k h = h
+
+  -- two units less, where there are those around a call
+  two_fewer : (d : Direction) (n k : ℕ) → Enough p.room p.room.each d n (suc (suc k)) → Enough p.room 0 d n k
+  two_fewer forward n k h = let e = has.each in omega (arith, e, h)
+  two_fewer backward n k h = omega (arith, h)
+
+  times-suc : (a n : ℕ) → a * suc n ≡ a + a * n
+  times-suc a n = grind arith
+
+  spent : (d : Direction) (n k : ℕ) → Enough p.room 0 d (suc n) (suc k) → Enough p.room p.room.each d n k
+  spent forward n k h = let e = times-suc p.room.each n in omega arith
+  spent backward n k h = omega arith
+
+  member_alike : (d : Direction) (n k : ℕ) → Level d n k → (m : Member) → Linked p m → (w : World) (vs : List ir.Value) (xs : List js.Value) (env : ir.Env) (s : ir.State) (u : js.State) → SameValues w (types_referred m.method.params) vs xs → SameState p w s u → Sim d (Valued p w env (call_type m.method.result)) (ir_call p m vs env s n) (js_call p m xs u k)
+  member_alike d n k level m l = call_alike p names d (ir_meaning.below p.classes n) (js_meaning.below p.program k) m l (level (record { file = p.home (a_function m); sure = sure_locals l.its_body }) l.reaches (is_mutable_in l.definition l.its_body))
+
+  method_alike : (f : Code) (is_mutable : List ℕ → Bool) (d : Direction) (n k : ℕ) → Level d n k → (m : Member) → RunsOn p m → ReceivesAlike (within f d is_mutable n k) m
+  method_alike f is_mutable d n k level m l = receive_alike p names d (ir_meaning.below p.classes n) (js_meaning.below p.program k) m l (level (record { file = p.home (a_method m); sure = sure_locals l.its_body }) l.reaches (is_mutable_in l.definition l.its_body))
+
+  constructor_alike : (f : Code) (is_mutable : List ℕ → Bool) (d : Direction) (n k : ℕ) → Enough p.room 0 d n k → Level d n k → (m : Member) → Constructs p m → BuildsAlike (within f d is_mutable n k) m
+  constructor_alike f is_mutable d n (suc k) h level m l = build_alike p names d (ir_meaning.below p.classes n) k m l (level (record { file = p.home (a_constructor m); sure = sure_locals l.its_body }) l.reaches (is_mutable_in l.definition l.its_body))
+  constructor_alike f is_mutable forward n zero h level m l = let e = has.beyond in absurd (omega (arith, e, h))
+  constructor_alike f is_mutable backward n zero h level m l = λ w v x vs xs env s u this values same. subst (λ o. Sim backward (Built p w env x) (ir_meaning.call (ir_meaning.below p.classes n) (member_of p.classes m.class m.namespace m.method) (Some v) vs env s) o) (sym (ap (λ o. js_meaning.code_call (js_meaning.below p.program 0) (p.home (a_constructor m)) o (x ∷ xs) u) l.emitted)) (sim_going (Built p w env x) (ir_meaning.call (ir_meaning.below p.classes n) (member_of p.classes m.class m.namespace m.method) (Some v) vs env s))
+
+  enough_for : (d : Direction) (n k : ℕ) (c : List ℕ) → IsMade p c → Enough p.room 0 d n k → d ≡ forward → length (chain_of p.classes c) ≤ k
+  enough_for forward n k c made h e = let l = made.depth in omega (arith, l, h)
+  enough_for backward n k c made h e = absurd (cc)
+
+  based : (d : Direction) (n k : ℕ) → Levels d n → Enough p.room 0 d n k → (f : Code) → Reaches p f.file → (is_mutable : List ℕ → Bool) → Based (within f d is_mutable n k)
+  based d n k levels h f reaches is_mutable = record {
+    names = names;
+    reaches = reaches;
+    fields = has.field f.file;
+    calls = λ m l. member_alike d n k (levels k h) m (has.linked f.file m l);
+    receives = λ m l. method_alike f is_mutable d n k (levels k h) m (has.received f.file m l);
+    builds = λ m l. constructor_alike f is_mutable d n k h (levels k h) m (has.built f.file m l);
+    makes = λ c l w env s u same. let made = has.made f.file c l in made_alike d p c k (enough_for d n k c made h) w env s u (made.stands w s u same) same;
+  }
+
+  -- the helper that fails, within what is left of the units around a call
+  fails_at : CanCheck p → (d : Direction) (n m : ℕ) → Levels d n → Enough p.room p.room.each d n (suc m) → FailsAt d p (ir_meaning.below p.classes n) m
+  fails_at can d n (suc q) levels h = fails_alike d p (Throws NullReceiver) (ir_meaning.below p.classes n) q (codes "java.lang.NullPointerException") (codes "null") (based d n q levels (two_fewer d n q h) (in_helper p (Throws NullReceiver)) can.reaches (λ x. false)) can.failure can.built can.made refl refl
+  fails_at can forward n zero levels h = let e = has.each in absurd (omega (arith, e, h))
+  fails_at can backward n zero levels h = λ w env s u same. subst (λ o. Sim backward (Failed p w env) (ir_meaning.raise p.classes (ir_meaning.below p.classes n) (codes "java.lang.NullPointerException") (codes "null") env s) o) (sym (ap (λ o. js_meaning.code_call (js_meaning.below p.program 0) (p.home (a_helper (Throws NullReceiver))) o [] u) can.failure)) (sim_going (Failed p w env) (ir_meaning.raise p.classes (ir_meaning.below p.classes n) (codes "java.lang.NullPointerException") (codes "null") env s))
+
+  checks_at : CanCheck p → (f : Code) (is_mutable : List ℕ → Bool) (d : Direction) (n k : ℕ) → Levels d n → Enough p.room p.room.each d n k → ChecksAlike (within f d is_mutable n k)
+  checks_at can f is_mutable d n (suc m) levels h = checks_alike d p (ir_meaning.below p.classes n) m can.check can.owned (fails_at can d n m levels h) can.held
+  checks_at can f is_mutable forward n zero levels h = let e = has.beyond in absurd (omega (arith, e, h))
+  checks_at can f is_mutable backward n zero levels h = λ t w v x env s u a same. subst (λ o. Sim backward (Valued p w env t) (ir_meaning.answered p.classes (ir_meaning.below p.classes n) (ir_meaning.not_null p.classes v) env s) o) (sym (ap (λ o. js_meaning.code_call (js_meaning.below p.program 0) (p.home (a_helper NotNull)) o (x ∷ []) u) can.check)) (sim_going (Valued p w env t) (ir_meaning.answered p.classes (ir_meaning.below p.classes n) (ir_meaning.not_null p.classes v) env s))
+
+  lawful : (d : Direction) (n k : ℕ) → Levels d n → Enough p.room p.room.each d n k → (f : Code) → Reaches p f.file → (is_mutable : List ℕ → Bool) → Lawful (within f d is_mutable n k)
+  lawful d n k levels h f reaches is_mutable = record { base = based d n k levels (fewer d p.room.each n k h) f reaches is_mutable; checks = λ i. checks_at (has.checked f.file i) f is_mutable d n k levels h }
+
+  next : (d : Direction) (n k : ℕ) → Levels d n → Enough p.room p.room.each d n k → Level d (suc n) (suc k)
+  next d n k levels h f reaches is_mutable c q j t sound ahead out wr fine w env s sc u ready same = does (within f d is_mutable n k) (lawful d n k levels h f reaches is_mutable) (levels k (fewer d p.room.each n k h) f reaches is_mutable) t c q j sound ahead out wr fine w env s sc u ready same
+
+  pub levels : (d : Direction) (n : ℕ) → Levels d n
+  levels forward zero k h = λ f reaches is_mutable c q j t sound ahead out wr fine w env s sc u ready same. sim_over (Came p f c c.scope q w sc) (js_meaning.below p.program k (statement_templates p.name p.label (into is_mutable f.sure c.targets q j t).statements) sc u)
+  levels backward n zero h = λ f reaches is_mutable c q j t sound ahead out wr fine w env s sc u ready same. sim_going (Came p f c c.scope q w sc) (ir_meaning.below p.classes n t env s)
+  levels forward (suc n) zero h = absurd (omega arith)
+  levels backward zero (suc k) h = absurd (omega arith)
+  levels d (suc n) (suc k) h = next d n k (levels d n) (spent d n k h)
+
+  -- calls of static members agree, where code makes objects and uses them
+  pub calls_agree : (f : Name) (m : Member) → (p.has f).linked m ≡ true → (w : World) (vs : List ir.Value) (xs : List js.Value) (env : ir.Env) (s : ir.State) (u : js.State) → SameValues w (types_referred m.method.params) vs xs → SameState p w s u → CallsAgree p m w vs xs env s u
+  calls_agree f m l w vs xs env s u values same = record {
+    there = λ n k h. member_alike forward n k (levels forward n k h) m (has.linked f m l) w vs xs env s u values same;
+    back = λ n k h. member_alike backward n k (levels backward n k h) m (has.linked f m l) w vs xs env s u values same;
+  }

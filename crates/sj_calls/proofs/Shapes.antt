@@ -1,0 +1,62 @@
+-- A new object of the emitted code stands for one of the IR, where the classes of its chain stand in the program.
+use Rattle.std.proofs.Common.{◌≡◌, ℕ, Bool, true, false, List, [], ◌∷◌, Option, Some, None, refl, sym, ap, ◌∙◌, subst, if◌then◌else◌}
+use Rattle.std.specs.List.{list_any}
+use Rattle.std.specs.Prelude.{pos}
+use Rattle.ir_mean.specs.Dispatch.{chain_of}
+use Rattle.ir_mean.specs.States as ir
+use Rattle.ir_mean.specs.World as ir_world
+use Rattle.js_mean.specs.States as js
+use Rattle.js_tree.specs.Terms.{Name}
+use Rattle.sj_mangling.specs.Bindings.{field_binding}
+use Rattle.sj_mangling.specs.declared.bindings.FieldBinding.TheVariants.{Property}
+use Rattle.sj_names.specs.Same.{is_same_text}
+use Rattle.sj_plain.specs.Settings.{Place, IsField, FieldsDiffer, SameState, SameField, same_field, no_field, SameStored, same_object, zeroed, link_of, links_of}
+use Rattle.sj_plain.specs.Standing.{suits}
+use Rattle.sj_plain.specs.Worlds.{World, SameValue, same_undefined, same_null, same_boolean, same_char, same_number, same_long, same_text}
+use Rattle.sj_plain.proofs.Templates.{fits-exact}
+use Rattle.sj_trees.specs.declared.types.IrType.{IrType}
+use Rattle.sj_trees.specs.declared.types.IrType.TheVariants as Types
+use Rattle.sj_calls.specs.Chains.{ChainStands, MadeBy}
+use Rattle.sj_calls.specs.Made.{zero_value, Makers}
+use Rattle.sj_calls.specs.Worlds.{Stands}
+use Rattle.sj_calls.proofs.Chains.{made_by}
+use Rattle.sj_calls.proofs.Zeros.{ChainFields, zeros}
+use Rattle.std.specs.Prelude.{FitsSigned, ◌<◌, ◌^◌}
+use Rattle.std.proofs.Common.{arith}
+
+-- the zero of a type of which there are values
+zero_alike : (w : World) (t : IrType) → (t ≡ Types.Nothing → ⊥) → SameValue w t (ir_world.zero_of t) (zero_value t)
+zero_alike w Types.Boolean h = record { stands = same_boolean false; suits = refl }
+zero_alike w Types.Char h = record { stands = same_char 0 (omega arith); suits = refl }
+zero_alike w Types.Byte h = record { stands = same_number (pos 0) (record { sfits = omega arith }); suits = refl }
+zero_alike w Types.Short h = record { stands = same_number (pos 0) (record { sfits = omega arith }); suits = refl }
+zero_alike w Types.Int h = record { stands = same_number (pos 0) (record { sfits = omega arith }); suits = refl }
+zero_alike w Types.Long h = record { stands = same_long (pos 0) (record { sfits = omega arith }); suits = refl }
+zero_alike w Types.String h = record { stands = same_text []; suits = refl }
+zero_alike w Types.Undefined h = record { stands = same_undefined; suits = refl }
+zero_alike w Types.Nothing h = absurd (h refl)
+zero_alike w Types.Any h = record { stands = same_null; suits = refl }
+zero_alike w (Types.Class c) h = record { stands = same_null; suits = refl }
+zero_alike w Types.Null h = record { stands = same_null; suits = refl }
+zero_alike w (Types.Array r) h = record { stands = same_null; suits = refl }
+zero_alike w Types.NoType h = record { stands = same_null; suits = refl }
+
+-- a field of the IR begins at the zero of its type, of which there are values
+pub record BeginsAtZero (p : Place) (d g : Name) (t : IrType) : Type 0 where
+  pub zero : ir_world.zeros_in (ir_world.class_of p.classes d) g ≡ Some (ir_world.zero_of t)
+  pub values : t ≡ Types.Nothing → ⊥
+
+-- `new` of the class can be told in each state
+pub stands_there : (p : Place) → FieldsDiffer p → ((d g : Name) (t : IrType) → IsField p.classes d g t → BeginsAtZero p d g t) → (c : Name) (cs : List Name) (st : ChainStands p (c ∷ cs)) → ChainFields p (c ∷ cs) st → chain_of p.classes c ≡ c ∷ cs → (w : World) (s : ir.State) (u : js.State) → SameState p w s u → Stands p c w u
+stands_there p differ begins c cs st fields chain w s u same = record {
+  own = r.own;
+  makers = subst (λ ds. Makers p.program (link_of p) u ds r.own) (sym chain) r.makers;
+  shape = same_object c (ir_world.new_fields p.classes c) r.own r.tells (λ d g t i. go d g t i (list_any (is_same_text d) (chain_of p.classes c)) refl);
+}
+  where
+    r : MadeBy p w u c cs
+    r = made_by p w s u same c cs st
+
+    go : (d g : Name) (t : IrType) → IsField p.classes d g t → (b : Bool) → list_any (is_same_text d) (chain_of p.classes c) ≡ b → SameField w t (if b then ir_world.zeros_in (ir_world.class_of p.classes d) g else None) (r.own (field_binding Property d g))
+    go d g t i false e = no_field (r.own (field_binding Property d g))
+    go d g t i true e = subst (λ o. SameField w t o (r.own (field_binding Property d g))) (sym (begins d g t i).zero) (subst (λ q. SameField w t (Some (ir_world.zero_of t)) q) (sym (zeros p differ w s u same c cs st fields d g t i (ap (list_any (is_same_text d)) (sym chain) ∙ e))) (same_field (ir_world.zero_of t) (zero_value t) (zero_alike w t (begins d g t i).values)))

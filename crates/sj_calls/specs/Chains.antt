@@ -1,0 +1,32 @@
+-- The classes of a chain, as they stand in the program.
+use Rattle.std.specs.Prelude.{◌≡◌, ℕ, true, List, [], ◌∷◌, Option, Some, None}
+use Rattle.helper_rules.specs.Words.{constants_name}
+use Rattle.js_mean.specs.Classes.{members_of}
+use Rattle.js_mean.specs.Files.{owner}
+use Rattle.js_mean.specs.States as js
+use Rattle.js_tree.specs.Terms.{Name, Member, constructor_of}
+use Rattle.js_tree.specs.Views.{statements_of}
+use Rattle.piece_rules.specs.Pieces.{constructor_body}
+use Rattle.sj_plain.specs.Settings.{Place, TellsClass, link_of, some_constants, a_class}
+use Rattle.sj_plain.specs.Worlds.{World}
+use Rattle.sj_trees.specs.declared.classes.FieldDef.{FieldDef}
+use Rattle.sj_calls.specs.Made.{Makers}
+
+-- the class stands in its file, with the constructor of its fields; its file reaches its constants; and the code of some file can make its objects
+pub record ClassStands (p : Place) (c : Name) (superclass : Option Name) (fields : List FieldDef) : Type 0 where
+  pub others : List Member
+  pub members_are : members_of p.program (link_of p c) ≡ Some (constructor_of [] (statements_of (constructor_body c superclass fields)) ∷ others)
+  pub reached : owner p.program (p.home (a_class c)) (constants_name c) ≡ Some (p.home (some_constants c))
+  pub user : Name
+  pub usable : (p.has user).made c ≡ true
+
+-- each class with the one that it extends
+pub data ChainStands (p : Place) : List Name → Type 0 where
+  extends_none : (c : Name) (fields : List FieldDef) → ClassStands p c None fields → ChainStands p (c ∷ [])
+  extends_one : (c d : Name) (ds : List Name) (fields : List FieldDef) → ClassStands p c (Some d) fields → ChainStands p (d ∷ ds) → ChainStands p (c ∷ d ∷ ds)
+
+-- what the constructors of the chain make in a state: properties that lead to the constants of the first class
+pub record MadeBy (p : Place) (w : World) (u : js.State) (c : Name) (cs : List Name) : Type 0 where
+  pub own : Name → Option js.Value
+  pub makers : Makers p.program (link_of p) u (c ∷ cs) own
+  pub tells : TellsClass w c own

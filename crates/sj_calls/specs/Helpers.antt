@@ -1,0 +1,33 @@
+-- Helpers that fail: what each does, and its function.
+use Rattle.std.specs.Prelude.{◌≡◌, ℕ, List, [], ◌∷◌, Some, codes}
+use Rattle.outcomes.specs.Agreement.{Sim}
+use Rattle.ir_mean.specs.Meaning as ir_meaning
+use Rattle.ir_mean.specs.States as ir
+use Rattle.js_mean.specs.Meaning as js_meaning
+use Rattle.js_mean.specs.States as js
+use Rattle.js_tree.specs.Terms.{throw_of, return_of, text_literal}
+use Rattle.js_tree.specs.Views.{statements_of}
+use Rattle.helper_rules.specs.Helpers.{raise, when, does, calls, helper_name}
+use Rattle.helper_rules.specs.Words.{x, is_null}
+use Rattle.helper_rules.specs.declared.kinds.Failure.{Failure}
+use Rattle.helper_rules.specs.declared.kinds.Failure.TheVariants.{NullReceiver}
+use Rattle.helper_rules.specs.declared.kinds.Helper.{Helper}
+use Rattle.helper_rules.specs.declared.kinds.Helper.TheVariants.{NotNull, Throws}
+use Rattle.sj_plain.specs.Settings.{Place, a_helper, top_call, SameState, Setting}
+use Rattle.sj_plain.specs.Worlds.{World, Grows, SameValue}
+use Rattle.sj_trees.specs.declared.types.IrType.TheVariants.{Any}
+
+-- the function that throws an exception of this class with this message, and the one that hands on what isn't null
+abbrev pub failing_code : List ℕ → List ℕ → js_meaning.Code
+failing_code e message = record { parameters = []; body = statements_of (throw_of (raise e (text_literal message)) ∷ []) }
+
+abbrev pub checking_code : js_meaning.Code
+checking_code = record { parameters = codes "x" ∷ []; body = statements_of (when (is_null x) (does (calls (Throws NullReceiver) []) ∷ []) ∷ return_of x ∷ []) }
+
+-- the function of a helper stands in its file
+abbrev pub HelperStands : Place → Helper → js_meaning.Code → Type 0
+HelperStands p h code = js_meaning.code_of p.program (p.home (a_helper h)) (helper_name h) ≡ Some code
+
+-- a throw on both sides
+pub data Failed (p : Place) (from : World) (env : ir.Env) : ir.Ended → js.ExpressionEnd → Type 0 where
+  failed_so : (w : World) (v : ir.Value) (y : js.Value) (s : ir.State) (u : js.State) → Grows from w → SameValue w Any v y → SameState p w s u → Failed p from env (ir.ends (ir.throws v) env s) (js.throws y u)

@@ -1,0 +1,54 @@
+-- What the code of a program has of objects: members that run on receivers, constructors, classes, fields and the null check, each where code can use it.
+use Rattle.std.specs.Prelude.{◌≡◌, ℕ, ◌≤◌, true, false, List, length, codes, Option, Some}
+use Rattle.helper_rules.specs.Helpers.{helper_name}
+use Rattle.helper_rules.specs.declared.kinds.Failure.TheVariants.{NullReceiver}
+use Rattle.helper_rules.specs.declared.kinds.Helper.TheVariants.{NotNull, Throws}
+use Rattle.ir_mean.specs.Dispatch.{chain_of}
+use Rattle.ir_mean.specs.Meaning.{with_message}
+use Rattle.ir_mean.specs.States as ir
+use Rattle.js_mean.specs.Files.{owner}
+use Rattle.js_mean.specs.States as js
+use Rattle.js_tree.specs.Terms.{Name}
+use Rattle.sj_desugar.specs.Desugar.{member}
+use Rattle.sj_emit_expr.specs.Templates.{check_name}
+use Rattle.sj_names.specs.declared.method_names.Member.{Member}
+use Rattle.sj_names.specs.declared.method_names.Namespace.TheVariants.{Constructor}
+use Rattle.sj_trees.specs.declared.types.IrType.{IrType}
+use Rattle.sj_plain.specs.Settings.{Place, SameState, SameStored, HasField, Reaches, a_helper, top_function, link_of, links_of, zeroed}
+use Rattle.sj_plain.specs.Worlds.{World}
+use Rattle.sj_calls.specs.Helpers.{HelperStands, failing_code, checking_code}
+use Rattle.sj_calls.specs.Made.{Makers}
+use Rattle.sj_calls.specs.Methods.{Linked}
+use Rattle.sj_calls.specs.Objects.{RunsOn, Constructs}
+
+-- the chain of a class stands in the program, and an object that it makes stands for the IR's
+pub record Stands (p : Place) (c : List ℕ) (w : World) (u : js.State) : Type 0 where
+  pub own : Name → Option js.Value
+  pub makers : Makers p.program (link_of p) u (chain_of p.classes c) own
+  pub shape : SameStored p w (Some (zeroed p c)) (Some (js.plain (links_of p c) own))
+
+-- objects of the class can be made in each state, and the units beyond those of the IR are enough for its chain
+pub record IsMade (p : Place) (c : List ℕ) : Type 0 where
+  pub depth : length (chain_of p.classes c) ≤ p.room.beyond
+  pub stands : (w : World) (s : ir.State) (u : js.State) → SameState p w s u → Stands p c w u
+
+-- the null check stands in the program, and so does what it throws
+pub record CanCheck (p : Place) : Type 0 where
+  pub check : HelperStands p NotNull checking_code
+  pub failure : HelperStands p (Throws NullReceiver) (failing_code (codes "java.lang.NullPointerException") (codes "null"))
+  pub owned : owner p.program (p.home (a_helper NotNull)) (helper_name (Throws NullReceiver)) ≡ Some (p.home (a_helper (Throws NullReceiver)))
+  pub held : (w : World) (s : ir.State) (u : js.State) → SameState p w s u → u.tops (p.home (a_helper (Throws NullReceiver))) (helper_name (Throws NullReceiver)) ≡ js.holds false (top_function p (a_helper (Throws NullReceiver)))
+  pub reaches : Reaches p (p.home (a_helper (Throws NullReceiver)))
+  pub built : (p.has (p.home (a_helper (Throws NullReceiver)))).built (member (codes "java.lang.NullPointerException") Constructor with_message) ≡ true
+  pub made : (p.has (p.home (a_helper (Throws NullReceiver)))).made (codes "java.lang.NullPointerException") ≡ true
+
+-- what the code of any file can use is there; and around a call there are two units for a helper, and one beyond those of the IR
+pub record HasObjects (p : Place) : Type 0 where
+  pub linked : (f : Name) (m : Member) → (p.has f).linked m ≡ true → Linked p m
+  pub received : (f : Name) (m : Member) → (p.has f).received m ≡ true → RunsOn p m
+  pub built : (f : Name) (m : Member) → (p.has f).built m ≡ true → Constructs p m
+  pub made : (f : Name) (c : List ℕ) → (p.has f).made c ≡ true → IsMade p c
+  pub field : (f : Name) (c g : List ℕ) (t : IrType) → (p.has f).field c g t ≡ true → HasField p c g t
+  pub checked : (f : Name) → (p.has f).helper check_name ≡ true → CanCheck p
+  pub each : 2 ≤ p.room.each
+  pub beyond : 1 ≤ p.room.beyond
