@@ -3,6 +3,7 @@ use Rattle.std.specs.Prelude.{ℕ, pos, Bool, true, false, ◌&&◌, ◌||◌, n
 use Rattle.std.specs.Ordering.{int_eq}
 use Rattle.sj_desugar.specs.Coercions.{is_char}
 use Rattle.sj_desugar.specs.Desugar.{member}
+use Rattle.sj_desugar.specs.Plain.{is_no_type}
 use Rattle.sj_names.specs.declared.method_names.Namespace.{Namespace}
 use Rattle.sj_names.specs.declared.method_names.Namespace.TheVariants.{PublicStatic, Private, PrivateStatic, Constructor}
 use Rattle.sj_names.specs.declared.references.TypeRef.{TypeRef}
@@ -57,7 +58,7 @@ is_operation LongRemainder d = is_nonzero_long d
 is_operation _ d = true
 
 -- what a body can use: the static members that are linked, and those that run on a receiver; the constructors that are; the classes of which objects are
--- made; their fields, with their types; helpers, by their names; and whether values are thrown
+-- made; their fields, with their types; helpers, by their names; and whether it can throw, and name the object that it runs on
 pub record Usable : Type 0 where
   pub linked : Member → Bool
   pub received : Member → Bool
@@ -65,16 +66,16 @@ pub record Usable : Type 0 where
   pub made : List ℕ → Bool
   pub field : List ℕ → List ℕ → IrType → Bool
   pub helper : List ℕ → Bool
-  pub throwing : Bool
+  pub objects : Bool
 
 -- these static members and nothing else
 abbrev pub members_alone : (Member → Bool) → Usable
-members_alone linked = record { linked = linked; received = λ m. false; built = λ m. false; made = λ c. false; field = λ c f t. false; helper = λ x. false; throwing = false }
+members_alone linked = record { linked = linked; received = λ m. false; built = λ m. false; made = λ c. false; field = λ c f t. false; helper = λ x. false; objects = false }
 
 -- what a body can use, and the receivers that are never null or whose null check can be used
 module _ (has : Usable) (checked : Term → Bool) where
   -- the tree is of the forms that are built, whatever the trees in it are: what it calls, makes and reads is there, its divisor is a literal, its receiver
-  -- is checked where it has to be, and no char stands where another type is expected
+  -- is checked where it has to be, the call of a constructor has no value, and no char stands where another type is expected
   abbrev pub stands : List Label → Term → Bool
   stands ls (var_def p x t b e) = not (is_boxed t e)
   stands ls (skip p) = true
@@ -85,12 +86,12 @@ module _ (has : Usable) (checked : Term → Bool) where
   stands ls (if_then p c a b t) = not (yields_boxed t a) && not (yields_boxed t b)
   stands ls (while_loop p c b) = true
   stands ls (do_while p b c) = true
-  stands ls (throw p e) = has.throwing && not (is_boxed Any e)
+  stands ls (throw p e) = has.objects && not (is_boxed Any e)
   stands ls (match_on p e cs d t) = not (yields_boxed t d)
   stands ls (new_object p c m ts) = has.made c && (has.built (member c Constructor m) && not (any_is_boxed m.params ts))
   stands ls (select p e c f t) = has.field c f t && checked e
   stands ls (apply_statically p e c Private m ts t) = has.received (member c Private m) && (checked e && (not (is_boxed Any e) && not (any_is_boxed m.params ts)))
-  stands ls (apply_statically p e c Constructor m ts t) = has.built (member c Constructor m) && not (any_is_boxed m.params ts)
+  stands ls (apply_statically p e c Constructor m ts t) = has.built (member c Constructor m) && (is_no_type t && not (any_is_boxed m.params ts))
   stands ls (apply_static p c n m ts t) = has.linked (member c n m) && not (any_is_boxed m.params ts)
   stands ls (unary_op p o e) = true
   stands ls (binary_op p o e d) = is_operation o d
@@ -104,7 +105,7 @@ module _ (has : Usable) (checked : Term → Bool) where
   stands ls (long_literal p z) = true
   stands ls (string_literal p us) = true
   stands ls (var_ref p x t) = true
-  stands ls (this_ref p t) = true
+  stands ls (this_ref p t) = has.objects
   stands ls (log_line p e) = true
   stands ls _ = false
 

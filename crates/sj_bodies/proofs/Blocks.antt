@@ -49,7 +49,6 @@ pub record Undeclared (c : Context) (ss : core.Statements) : Type 0 where
   pub kept : (y : core.Variable) → c.kept y → Declares ss y → ⊥
   pub receiver : Declares ss core.receiver → ⊥
 
-<<<<<<< HEAD
 outside-writable : (c : Context) (own : List ℕ → Type 0) (j : ℕ) → Outside c own → Ahead c j → (n : ℕ) (y : core.Variable) → IsIn own j n y → c.writable y → ⊥
 outside-writable c own j out ahead n (core.named x) i h = out.writable x i h
 outside-writable c own j out ahead n (core.numbered k) i h = ahead.writable k i.0 h
@@ -63,24 +62,6 @@ undeclared c own j code out ahead g = record {
   scope = λ x t i d. out.scope x t (g.fresh (core.named x) d) i;
   writable = λ y i d. outside-writable c own j out ahead code.next y (g.fresh y d) i;
   kept = λ y i d. outside-kept c own j out ahead code.next y (g.fresh y d) i;
-=======
-outside-writable : (c : Context) (own : List ℕ → Type 0) (j : ℕ) → Outside c own → Ahead c j → (y : core.Variable) → IsNew own j y → c.writable y → ⊥
-outside-writable c own j out ahead (core.named x) n h = out.writable x n h
-outside-writable c own j out ahead (core.numbered k) n h = ahead.writable k n h
-outside-writable c own j out ahead core.receiver n h = n
-
-outside-kept : (c : Context) (own : List ℕ → Type 0) (j : ℕ) → Outside c own → Ahead c j → (y : core.Variable) → IsNew own j y → c.kept y → ⊥
-outside-kept c own j out ahead (core.named x) n h = out.kept x n h
-outside-kept c own j out ahead (core.numbered k) n h = ahead.kept k n h
-outside-kept c own j out ahead core.receiver n h = n
-
-pub undeclared : (c : Context) (own : List ℕ → Type 0) (j : ℕ) (ss : core.Statements) → Outside c own → Ahead c j → ((y : core.Variable) → Declares ss y → IsNew own j y) → Undeclared c ss
-undeclared c own j ss out ahead h = record {
-  scope = λ x t i d. out.scope x t (h (core.named x) d) i;
-  writable = λ y i d. outside-writable c own j out ahead y (h y d) i;
-  kept = λ y i d. outside-kept c own j out ahead y (h y d) i;
-  receiver = λ d. h core.receiver d;
->>>>>>> 6a46694
 }
 
 module _ (z : Setting) (lawful : Lawful z) (c : Context) (ss : core.Statements) (free : Undeclared c ss) where

@@ -11,13 +11,8 @@ use Rattle.sj_desugar.specs.Desugar.{Targets, target_of}
 use Rattle.sj_desugar.specs.Spill.{Destination, discard, to_variable, to_result}
 use Rattle.sj_trees.specs.declared.types.IrType.{IrType}
 use Rattle.sj_trees.specs.declared.types.IrType.TheVariants.{Any}
-<<<<<<< HEAD
 use Rattle.body_rules.specs.Locals.{Scope}
-use Rattle.sj_plain.specs.Settings.{Place, Setting, SameState, Inside, Lawful, Holding, Sees}
-=======
-use Rattle.sj_plain.specs.Conditions.{Scope}
 use Rattle.sj_plain.specs.Settings.{Place, Code, Receiving, Setting, SameState, Inside, Lawful, Holding, Sees}
->>>>>>> 6a46694
 use Rattle.sj_plain.proofs.Plain.{sees-lift}
 use Rattle.sj_plain.proofs.Worlds.{World, Grows, SameValue}
 

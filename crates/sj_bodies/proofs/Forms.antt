@@ -20,13 +20,8 @@ use Rattle.sj_trees.specs.declared.types.IrType.{IrType}
 use Rattle.body_rules.specs.Locals.{Scope, with_local}
 use Rattle.body_rules.specs.Standing.{Fits}
 use Rattle.sj_trees.specs.declared.types.IrType.TheVariants.{NoType}
-<<<<<<< HEAD
-use Rattle.sj_plain.specs.Settings.{Setting, shown, run, SameState, Valued, valued, Lawful, Holding, holding, Sees}
-use Rattle.body_rules.proofs.Standing.{coerced-same}
-=======
 use Rattle.sj_plain.specs.Settings.{Receiving, Setting, shown, run, SameState, Valued, valued, Lawful, Holding, holding, Sees}
-use Rattle.sj_plain.proofs.Standing.{coerced-same}
->>>>>>> 6a46694
+use Rattle.body_rules.proofs.Standing.{coerced-same}
 use Rattle.sj_bodies.proofs.Blocks.{Outside, Undeclared, block_alike}
 use Rattle.sj_bodies.proofs.Contexts.{Context, Writes, Sound, Ahead, IsOpen, Ready, ready-lift, Keeps, Goes, Less, keeps-less, less-trans, keeps-fewer, keeps-refl, keeps-trans, Arrives, let_go, stored, Came, gave, left, threw, stopped, started-here, started-other, started-inside, started-ready, started-keeps}
 use Rattle.body_rules.proofs.Equal.{equals, is-equal}

@@ -21,13 +21,8 @@ use Rattle.sj_trees.specs.declared.types.IrType.{IrType}
 use Rattle.body_rules.specs.Locals.{Scope}
 use Rattle.sj_bodies.specs.Fine.{FitsIn}
 use Rattle.sj_trees.specs.declared.types.IrType.TheVariants.{Any}
-<<<<<<< HEAD
-use Rattle.sj_plain.specs.Settings.{Setting, shown, run, SameState, Valued, valued, thrown, Lawful, Holding, Sees}
-use Rattle.body_rules.proofs.Standing.{coerced-same}
-=======
 use Rattle.sj_plain.specs.Settings.{Receiving, Setting, shown, run, SameState, Valued, valued, thrown, Lawful, Holding, Sees}
-use Rattle.sj_plain.proofs.Standing.{coerced-same}
->>>>>>> 6a46694
+use Rattle.body_rules.proofs.Standing.{coerced-same}
 use Rattle.sj_bodies.proofs.Contexts.{Context, Writes, Sound, IsOpen, Ready, ready-lift, Keeps, Less, keeps-less, keeps-all, less-trans, Arrives, let_go, stored, returned, Came, gave, left, threw, stopped, started-here, started-other, started-inside, started-less}
 use Rattle.sj_plain.proofs.Worlds.{World, Grows, grows-trans, SameValue, value-fits}
 

@@ -26,7 +26,8 @@ use Rattle.helper_rules.specs.declared.kinds.Helper.{Helper}
 use Rattle.helper_rules.specs.declared.kinds.Helper.TheVariants.{NotNull, Throws}
 use Rattle.helper_rules.specs.declared.kinds.Failure.TheVariants.{NullReceiver}
 use Rattle.sj_plain.specs.Settings.{Place, Code, Setting, usable, shown, SameState, Valued, valued, thrown, Based, Inside, a_helper, top_function, top_call}
-use Rattle.sj_plain.specs.Standing.{is_bare, suits, Fits}
+use Rattle.sj_plain.specs.Standing.{suits}
+use Rattle.body_rules.specs.Standing.{is_bare, Fits}
 use Rattle.sj_plain.proofs.Objects.{new_alike}
 use Rattle.sj_plain.proofs.Orders.{OperandsAlike, no_operands, more_operands}
 use Rattle.sj_plain.proofs.Worlds.{World, Grows, grows-refl, SameValue, Stands, same_undefined, same_null, same_boolean, same_char, same_number, same_long, same_text, same_reference, value-fits}
@@ -34,7 +35,7 @@ use Rattle.sj_calls.specs.Helpers.{failing_code, checking_code, HelperStands, Fa
 
 -- in a file of helpers no local is in scope
 abbrev pub in_helper : Place → Helper → Code
-in_helper p h = record { file = p.home (a_helper h); sure = λ x. false }
+in_helper p h = record { file = p.home (a_helper h); owner = codes "java.lang.Object"; sure = λ x. false }
 
 module _ (d : Direction) (p : Place) (h : Helper) (low : ir_meaning.Low) (n : ℕ) (e message : List ℕ) where
   -- where the code of the helper runs, with a unit less

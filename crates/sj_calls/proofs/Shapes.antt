@@ -1,7 +1,7 @@
 -- A new object of the emitted code stands for one of the IR, where the classes of its chain stand in the program.
-use Rattle.std.proofs.Common.{◌≡◌, ℕ, Bool, true, false, List, [], ◌∷◌, Option, Some, None, refl, sym, ap, ◌∙◌, subst, if◌then◌else◌}
+use Rattle.std.proofs.Common.{◌≡◌, ℕ, Bool, true, false, List, [], ◌∷◌, Option, Some, None, refl, sym, ap, ◌∙◌, subst, if◌then◌else◌, arith}
 use Rattle.std.specs.List.{list_any}
-use Rattle.std.specs.Prelude.{pos}
+use Rattle.std.specs.Prelude.{pos, FitsSigned, ◌<◌, ◌^◌}
 use Rattle.ir_mean.specs.Dispatch.{chain_of}
 use Rattle.ir_mean.specs.States as ir
 use Rattle.ir_mean.specs.World as ir_world
@@ -21,8 +21,6 @@ use Rattle.sj_calls.specs.Made.{zero_value, Makers}
 use Rattle.sj_calls.specs.Worlds.{Stands}
 use Rattle.sj_calls.proofs.Chains.{made_by}
 use Rattle.sj_calls.proofs.Zeros.{ChainFields, zeros}
-use Rattle.std.specs.Prelude.{FitsSigned, ◌<◌, ◌^◌}
-use Rattle.std.proofs.Common.{arith}
 
 -- the zero of a type of which there are values
 zero_alike : (w : World) (t : IrType) → (t ≡ Types.Nothing → ⊥) → SameValue w t (ir_world.zero_of t) (zero_value t)

@@ -33,29 +33,17 @@ use Rattle.sj_plain.specs.Worlds.{World, nothing_made, Stands, same_undefined, s
 use Rattle.sj_plain.specs.Standing.{suits}
 use Rattle.sj_names.proofs.Same.{impossible}
 use Rattle.sj_trees.specs.declared.types.IrType.TheVariants.{Any, NoType}
-<<<<<<< HEAD
 use Rattle.body_rules.proofs.Equal.{equals}
 use Rattle.sj_proper.specs.Emitted.{EmittedMethod, function_item_of, initializer_member, call_item_of, module_with}
 use Rattle.sj_calls.specs.Files.{program_with, IsEmitted, HasFunction}
-use Rattle.sj_calls.specs.Methods.{parameters_in, function_of, Linked, ir_call, js_call}
-=======
-use Rattle.sj_bodies.proofs.Contexts.{equals}
-use Rattle.sj_calls.specs.Files.{EmittedMethod, function_item_of, initializer_member, call_item_of, module_with, program_with, IsEmitted, HasFunction}
 use Rattle.sj_calls.specs.Methods.{CallsAlone, parameters_in, function_of, Linked, ir_call, js_call}
->>>>>>> 6a46694
 use Rattle.sj_calls.specs.Names.{emitted_in}
 use Rattle.sj_calls.proofs.Items.{code_with, code_found, cell_found}
 use Rattle.body_rules.proofs.InWorld.{in_world}
 use Rattle.sj_calls.proofs.Levels.{calls_agree}
-use Rattle.sj_world.specs.Laws.{IsTopped}
+use Rattle.sj_world.specs.Laws.{IsPlain}
 use Rattle.sj_calls.proofs.Names.{emitted_names_differ}
-<<<<<<< HEAD
-use Rattle.built_forms.specs.Built.{Usable}
-=======
-use Rattle.sj_plain.specs.Conditions.{Usable}
 use Rattle.built_forms.specs.Built.{members_alone}
-use Rattle.sj_names.specs.declared.method_names.Member.{Member}
->>>>>>> 6a46694
 
 -- a program of one file, and what is found in it
 abbrev alone : Name → Module → js.Program
@@ -180,7 +168,7 @@ module _ (w : ir_world.World) (id : List ℕ) (fs : List EmittedMethod) (es : Li
       distinct : are_distinct (item_names (map function_item_of fs ++ map call_item_of es)) ≡ true
       distinct = (and_parts names true (and_parts (names && true) true (and_parts (names && true && true) (list_all is_proper_item (map function_item_of fs ++ map call_item_of es)) proper).0).0).0
 
-  module _ (topped : IsTopped w) (proper : is_proper_module (module_with fs es) ≡ true) (emitted : (e : EmittedMethod) → Contains fs e → IsEmitted w has e) (functions : (m : Member) → has.linked m ≡ true → HasFunction fs m) where
+  module _ (plain : IsPlain w) (proper : is_proper_module (module_with fs es) ≡ true) (emitted : (e : EmittedMethod) → Contains fs e → IsEmitted w has e) (functions : (m : Member) → has.linked m ≡ true → HasFunction fs m) where
     linked : (m : Member) → has.linked m ≡ true → Linked place m
     linked m l = let h = functions m l in subst (Linked place) h.is (linked_by proper h.method h.listed (emitted h.method h.listed))
 
@@ -215,13 +203,8 @@ module _ (w : ir_world.World) (id : List ℕ) (fs : List EmittedMethod) (es : Li
         called cell = then_do (js_meaning.cell_value cell u) (js.with_value (λ g. js_meaning.in_order [] (js_meaning.call program (js_meaning.below program k) g) (js_meaning.top_scope program file)))
 
     item_alike : (d : Direction) (n k : ℕ) → Enough place.room 0 d n k → (e : EntryPoint) → has.linked (initializer_member e) ≡ true → (y : World) (s : ir.State) (u : js.State) → SameState place y s u → Sim d (Valued place y ir_showing.outside NoType) (ir_call place (initializer_member e) [] ir_showing.outside s n) (item_run e k u)
-<<<<<<< HEAD
-    item_alike forward n k h e l y s u same = subst (λ o. Sim forward (Valued place y ir_showing.outside NoType) (ir_call place (initializer_member e) [] ir_showing.outside s n) o) (sym (item_is e k y s u l same)) ((calls_agree place (in_world w topped) names (λ f m l. linked m l) file (initializer_member e) l y [] [] ir_showing.outside s u no_values same).there n k h)
-    item_alike backward n k h e l y s u same = subst (λ o. Sim backward (Valued place y ir_showing.outside NoType) (ir_call place (initializer_member e) [] ir_showing.outside s n) o) (sym (item_is e k y s u l same)) ((calls_agree place (in_world w topped) names (λ f m l. linked m l) file (initializer_member e) l y [] [] ir_showing.outside s u no_values same).back n k h)
-=======
-    item_alike forward n k h e l y s u same = subst (λ o. Sim forward (Valued place y ir_showing.outside NoType) (ir_call place (initializer_member e) [] ir_showing.outside s n) o) (sym (item_is e k y s u l same)) ((calls_agree place names (λ f m l. linked m l) no_objects file (initializer_member e) l y [] [] ir_showing.outside s u no_values same).there n k h)
-    item_alike backward n k h e l y s u same = subst (λ o. Sim backward (Valued place y ir_showing.outside NoType) (ir_call place (initializer_member e) [] ir_showing.outside s n) o) (sym (item_is e k y s u l same)) ((calls_agree place names (λ f m l. linked m l) no_objects file (initializer_member e) l y [] [] ir_showing.outside s u no_values same).back n k h)
->>>>>>> 6a46694
+    item_alike forward n k h e l y s u same = subst (λ o. Sim forward (Valued place y ir_showing.outside NoType) (ir_call place (initializer_member e) [] ir_showing.outside s n) o) (sym (item_is e k y s u l same)) ((calls_agree place (in_world w plain) names (λ f m l. linked m l) no_objects file (initializer_member e) l y [] [] ir_showing.outside s u no_values same).there n k h)
+    item_alike backward n k h e l y s u same = subst (λ o. Sim backward (Valued place y ir_showing.outside NoType) (ir_call place (initializer_member e) [] ir_showing.outside s n) o) (sym (item_is e k y s u l same)) ((calls_agree place (in_world w plain) names (λ f m l. linked m l) no_objects file (initializer_member e) l y [] [] ir_showing.outside s u no_values same).back n k h)
 
     -- the end of the file
     abbrev ended : ℕ → Out js.ExpressionEnd → Shown
@@ -263,10 +246,5 @@ module _ (w : ir_world.World) (id : List ℕ) (fs : List EmittedMethod) (es : Li
     pub shows_alike : ((e : EntryPoint) → Contains es e → has.linked (initializer_member e) ≡ true) → (d : Direction) (n k : ℕ) → Enough place.room 0 d n k → Sim d ◌≡◌ (ir_showing.all_show w n es (ir_world.opening w)) (js_showing.js_shows program id k)
     shows_alike all d n k h = subst (λ o. Sim d ◌≡◌ (ir_showing.all_show w n es (ir_world.opening w)) o) (sym (js_is k)) (calls_alike d n k h es all nothing_made (ir_world.opening w) (js_meaning.opening program) opening_same)
 
-<<<<<<< HEAD
-pub file_agrees : (w : ir_world.World) → IsTopped w → (entries : List EntryPoint) (id : List ℕ) (fs : List EmittedMethod) (has : Usable) → is_proper_module (module_with fs (ir_showing.initializers entries id)) ≡ true → ((e : EmittedMethod) → Contains fs e → IsEmitted w has e) → ((m : Member) → has.linked m ≡ true → HasFunction fs m) → ((e : EntryPoint) → Contains (ir_showing.initializers entries id) e → has.linked (initializer_member e) ≡ true) → ((n : ℕ) → IsNotWrong (ir_showing.ir_shows w entries id n).end) → Agree (ir_showing.ir_shows w entries id) (js_showing.js_shows (program_with id fs (ir_showing.initializers entries id)) id)
-file_agrees w topped entries id fs has proper emitted functions all right = agree-from_sim no_room (ir_showing.ir_shows w entries id) (js_showing.js_shows (program_with id fs (ir_showing.initializers entries id)) id) (shows_alike w id fs (ir_showing.initializers entries id) has topped proper emitted functions all) right
-=======
-pub file_agrees : (w : ir_world.World) (entries : List EntryPoint) (id : List ℕ) (fs : List EmittedMethod) (linked_here : Member → Bool) → is_proper_module (module_with fs (ir_showing.initializers entries id)) ≡ true → ((e : EmittedMethod) → Contains fs e → IsEmitted w (members_alone linked_here) e) → ((m : Member) → linked_here m ≡ true → HasFunction fs m) → ((e : EntryPoint) → Contains (ir_showing.initializers entries id) e → linked_here (initializer_member e) ≡ true) → ((n : ℕ) → IsNotWrong (ir_showing.ir_shows w entries id n).end) → Agree (ir_showing.ir_shows w entries id) (js_showing.js_shows (program_with id fs (ir_showing.initializers entries id)) id)
-file_agrees w entries id fs linked_here proper emitted functions all right = agree-from_sim no_room (ir_showing.ir_shows w entries id) (js_showing.js_shows (program_with id fs (ir_showing.initializers entries id)) id) (shows_alike w id fs (ir_showing.initializers entries id) linked_here proper emitted functions all) right
->>>>>>> 6a46694
+pub file_agrees : (w : ir_world.World) → IsPlain w → (entries : List EntryPoint) (id : List ℕ) (fs : List EmittedMethod) (linked_here : Member → Bool) → is_proper_module (module_with fs (ir_showing.initializers entries id)) ≡ true → ((e : EmittedMethod) → Contains fs e → IsEmitted w (members_alone linked_here) e) → ((m : Member) → linked_here m ≡ true → HasFunction fs m) → ((e : EntryPoint) → Contains (ir_showing.initializers entries id) e → linked_here (initializer_member e) ≡ true) → ((n : ℕ) → IsNotWrong (ir_showing.ir_shows w entries id n).end) → Agree (ir_showing.ir_shows w entries id) (js_showing.js_shows (program_with id fs (ir_showing.initializers entries id)) id)
+file_agrees w plain entries id fs linked_here proper emitted functions all right = agree-from_sim no_room (ir_showing.ir_shows w entries id) (js_showing.js_shows (program_with id fs (ir_showing.initializers entries id)) id) (shows_alike w id fs (ir_showing.initializers entries id) linked_here plain proper emitted functions all) right

@@ -23,4 +23,4 @@ pub record IsJudgedMethod (w : World) (fs : List EmittedMethod) (e : EmittedMeth
   pub found : member_of w e.member.class e.member.namespace e.member.method ≡ Some e.definition
   pub has_body : e.definition.body ≡ Some e.its_body
   pub typed : IsTyped w e.definition
-  pub built : is_built_method (functions_of fs) e.definition e.its_body ≡ true
+  pub built : is_built_method (functions_of fs) (may_check (functions_of fs) (sure_locals e.its_body)) e.definition e.its_body ≡ true

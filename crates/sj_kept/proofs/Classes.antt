@@ -5,7 +5,7 @@ use Rattle.std.specs.Cmp.Lexicographic.{pointwise}
 use Rattle.std.proofs.lemmas.Bool.{and_parts}
 use Rattle.sj_local.specs.MemberRules.{breaks_method, has_result, is_void}
 use Rattle.sj_local.specs.TreeRules.{is_constructor}
-use Rattle.sj_local.specs.ClassRules.{keeps_superclass}
+use Rattle.sj_local.specs.ClassRules.{keeps_superclass, keeps_hijacked}
 use Rattle.sj_local.specs.Names.{is_init, is_same_type}
 use Rattle.sj_local.specs.Firsts.{in_32_bits, first_where, FirstAnswer, none_left, this_one, a_later_one}
 use Rattle.sj_local.specs.Broken.{at_method, unless, Breaks, TreeBreaks, FirstTree, FirstBroken, all_rules, tree_place}
@@ -73,6 +73,10 @@ place-unless false e = impossible (cc)
 -- the rule on superclasses
 pub keeps-superclass : (c : ClassDef) → FirstBroken c None → keeps_superclass c ≡ true
 keeps-superclass c h = place-unless (keeps_superclass c) (none-each (Breaks c) 1 all_rules None h refl rule.Superclass (0, omega arith, refl))
+
+-- the rule on hijacked classes
+pub keeps-hijacked : (c : ClassDef) → FirstBroken c None → keeps_hijacked c ≡ true
+keeps-hijacked c h = place-unless (keeps_hijacked c) (none-each (Breaks c) 1 all_rules None h refl rule.Hijacked (1, omega arith, refl))
 
 -- where no element passes a test, each fails it
 none-passes : {A : Type 0} (test : A → Bool) (xs : List A) → first_where test xs ≡ None → (x : A) → Contains xs x → test x ≡ false

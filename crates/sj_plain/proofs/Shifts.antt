@@ -25,12 +25,8 @@ use Rattle.sj_names.proofs.Same.{impossible}
 use Rattle.sj_trees.specs.declared.types.IrType.{IrType}
 use Rattle.sj_trees.specs.declared.types.IrType.TheVariants.{Char, Int, Long, String}
 use Rattle.sj_plain.specs.Settings.{Setting, shown, SameState, Valued}
-<<<<<<< HEAD
 use Rattle.sj_plain.specs.Standing.{suits}
-use Rattle.body_rules.specs.Standing.{Fits}
-=======
-use Rattle.sj_plain.specs.Standing.{is_bare, suits, Fits}
->>>>>>> 6a46694
+use Rattle.body_rules.specs.Standing.{is_bare, Fits}
 use Rattle.sj_plain.proofs.Orders.{OperandAlike, converted, two_converted, in_order-then}
 use Rattle.sj_plain.proofs.Operators.{wrapped_value, long_given, GivenIf}
 use Rattle.sj_plain.proofs.Standing.{fits-suits, bare-refers}

@@ -1,19 +1,12 @@
 -- A value that suits a type suits each type for which that one may stand.
-<<<<<<< HEAD
-use Rattle.std.proofs.Common.{◌≡◌, true, refl}
-=======
-use Rattle.std.proofs.Common.{◌≡◌, ℕ, Bool, true, false, ◌&&◌, List, [], ◌∷◌, refl, ap, sym, ◌∙◌}
-use Rattle.std.specs.Prelude.{not, ◌||◌, codes, if◌then◌else◌}
->>>>>>> 6a46694
+use Rattle.std.proofs.Common.{◌≡◌, ℕ, Bool, true, false, refl, ap, sym, ◌∙◌}
+use Rattle.std.specs.Prelude.{not, ◌||◌}
 use Rattle.ir_mean.specs.States as ir
 use Rattle.sj_names.proofs.Same.{impossible}
 use Rattle.sj_trees.specs.declared.types.IrType.{IrType}
 use Rattle.sj_trees.specs.declared.types.IrType.TheVariants.{Any, Nothing, Undefined, Boolean, Char, Byte, Short, Int, Long, String, Class, Null, Array, NoType}
-<<<<<<< HEAD
 use Rattle.sj_plain.specs.Standing.{suits}
-use Rattle.body_rules.specs.Standing.{Fits}
-=======
-use Rattle.sj_plain.specs.Standing.{is_bare, suits, Fits, FitAll, types_referred}
+use Rattle.body_rules.specs.Standing.{is_bare, Fits}
 
 not-true : (b : Bool) → not b ≡ true → b ≡ false
 not-true true h = impossible h
@@ -61,7 +54,6 @@ refers-suits expected String i f h = impossible h
 refers-suits Null (Class d) i f h = impossible (sym (not_bare (Class d) i h) ∙ f)
 refers-suits NoType (Class d) i f h = impossible (sym (not_bare (Class d) i h) ∙ f)
 refers-suits expected own i f h = impossible f
->>>>>>> 6a46694
 
 pub fits-suits : (expected own : IrType) (v : ir.Value) → Fits expected own → suits own v ≡ true → suits expected v ≡ true
 fits-suits expected Nothing v f h = impossible h
@@ -102,60 +94,6 @@ fits-suits NoType Char v f h = impossible f
 fits-suits NoType own (ir.char u) f h = impossible h
 fits-suits NoType own (ir.reference i) f h = refers-suits NoType own i f h
 fits-suits NoType own v f h = refl
-<<<<<<< HEAD
-=======
-
-no_box : (expected own : IrType) → Fits expected own → (is_char own && not (is_char expected)) ≡ false
-no_box Char Char f = refl
-no_box expected Char f = impossible f
-no_box expected own f = refl
-
--- what stands for its type isn't coerced
-pub coerced-same : (expected own : IrType) (e : core.Expression) → Fits expected own → coerced expected own e ≡ e
-coerced-same expected own e f = ap (λ (b : Bool). if b then core.boxed_char e else e) (no_box expected own f)
-
-pub arguments-same : (rs : List TypeRef) (ts : List IrType) (es : List core.Expression) → FitAll (types_referred rs) ts → coerced_arguments rs ts es ≡ es
-arguments-same [] ts es f = refl
-arguments-same (r ∷ rs) [] es f = refl
-arguments-same (r ∷ rs) (t ∷ ts) [] f = refl
-arguments-same (r ∷ rs) (t ∷ ts) (e ∷ es) f = λ i. coerced-same (reference_type r) t e f.0 i ∷ arguments-same rs ts es f.1 i
-
-excluded : (b : Bool) → (not b || b) ≡ true
-excluded true = refl
-excluded false = refl
-
-pub fits-same : (t : IrType) → Fits t t
-fits-same Any = refl
-fits-same Nothing = refl
-fits-same Undefined = refl
-fits-same Boolean = refl
-fits-same Char = refl
-fits-same Byte = refl
-fits-same Short = refl
-fits-same Int = refl
-fits-same Long = refl
-fits-same String = refl
-fits-same (Class c) = excluded (is_bare (Class c))
-fits-same Null = refl
-fits-same (Array r) = refl
-fits-same NoType = refl
-
--- what stands at any type that isn't primitive stands at a class
-pub fits-character : (t : IrType) → Fits Any t → Fits (Class (codes "java.lang.Character")) t
-fits-character Nothing f = refl
-fits-character Char f = impossible f
-fits-character Any f = refl
-fits-character Undefined f = refl
-fits-character Boolean f = refl
-fits-character Byte f = refl
-fits-character Short f = refl
-fits-character Int f = refl
-fits-character Long f = refl
-fits-character String f = refl
-fits-character (Class c) f = refl
-fits-character Null f = refl
-fits-character (Array r) f = refl
-fits-character NoType f = refl
 
 -- no reference suits a bare type
 pub bare-refers : (t : IrType) (i : ℕ) → is_bare t ≡ true → suits t (ir.reference i) ≡ false
@@ -190,4 +128,3 @@ open-refers Short i b = impossible (sym b)
 open-refers Int i b = impossible (sym b)
 open-refers Long i b = impossible (sym b)
 open-refers String i b = impossible (sym b)
->>>>>>> 6a46694

@@ -2,13 +2,8 @@
 use Rattle.std.proofs.Common.{◌≡◌, ℕ, List, [], ◌∷◌, Some}
 use Rattle.ir_mean.specs.States as ir
 use Rattle.js_mean.specs.States as js
-<<<<<<< HEAD
-pub use Rattle.sj_plain.specs.Worlds.{World, nothing_made, Grows, Stands, same_undefined, same_null, same_boolean, same_char, same_number, same_long, same_text, SameValue, SameValues, no_values, one_more}
-use Rattle.body_rules.specs.Standing.{Fits, FitAll}
-=======
 pub use Rattle.sj_plain.specs.Worlds.{World, nothing_made, Grows, Stands, same_undefined, same_null, same_boolean, same_char, same_number, same_long, same_text, same_reference, SameValue, SameValues, no_values, one_more}
-use Rattle.sj_plain.specs.Standing.{Fits, FitAll}
->>>>>>> 6a46694
+use Rattle.body_rules.specs.Standing.{Fits, FitAll}
 use Rattle.sj_plain.proofs.Standing.{fits-suits}
 use Rattle.sj_trees.specs.declared.types.IrType.{IrType}
 

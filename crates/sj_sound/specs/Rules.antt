@@ -14,6 +14,6 @@ pub record RightMember (w : World) (has : Usable) (m : Member) : Type 0 where
   pub its_body : Term
   pub found : member_of w m.class m.namespace m.method ≡ Some definition
   pub has_body : definition.body ≡ Some its_body
-  pub rules : KeepsRules w has definition its_body
+  pub rules : KeepsRules w has m.class definition its_body
   pub parameters : HaveTypes definition.params m.method.params
   pub result_is : definition.result ≡ call_type m.method.result
