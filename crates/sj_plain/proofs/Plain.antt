@@ -26,7 +26,7 @@ use Rattle.js_mean.specs.States as js
 use Rattle.js_tree.specs.Terms as tree
 use Rattle.sj_core.specs.Terms as core
 use Rattle.sj_core.specs.Views.{expressions_of}
-use Rattle.sj_desugar.specs.Coercions.{coerced, coerced_arguments}
+use Rattle.sj_desugar.specs.Coercions.{is_char, coerced, coerced_arguments}
 use Rattle.sj_names.specs.declared.references.TypeRef.{TypeRef}
 use Rattle.sj_desugar.specs.Desugar.{has_no_value, member, types_of, received_text, expression_of, all_expressions}
 use Rattle.sj_desugar.specs.Texts.{operand_of}
@@ -77,10 +77,10 @@ module _ (z : Setting) (lawful : Lawful z) (scope : Scope) where
   gives_alike : (w : World) (env : ir.Env) (t : IrType) (s : ir.State) (u : js.State) (v : ir.Value) (x : js.Value) → SameValue w t v x → SameState z.place w s u → Sim z.direction (Valued z.place w env t) (done (ir.ends (ir.gives v) env s)) (done (js.gives x u))
   gives_alike w env t s u v x a same = sim_done z.direction (Valued z.place w env t) (ir.ends (ir.gives v) env s) (js.gives x u) (valued w v x s u (grows-refl w) a same)
 
-  literal_alike : (w : World) (env : ir.Env) (t : IrType) (s : ir.State) (u : js.State) (v : ir.Value) (x : js.Value) → Stands w v x → suits t v ≡ true → SameState z.place w s u → Sim z.direction (Valued z.place w env t) (done (ir.ends (ir.gives v) env s)) (done (js.gives x u))
+  literal_alike : (w : World) (env : ir.Env) (t : IrType) (s : ir.State) (u : js.State) (v : ir.Value) (x : js.Value) → Stands w (is_char t) v x → suits t v ≡ true → SameState z.place w s u → Sim z.direction (Valued z.place w env t) (done (ir.ends (ir.gives v) env s)) (done (js.gives x u))
   literal_alike w env t s u v x a k same = gives_alike w env t s u v x (record { stands = a; suits = k }) same
 
-  number_alike : (w : World) (env : ir.Env) (t : IrType) (s : ir.State) (sc : js.Scope) (u : js.State) (v : ir.Value) (n : ℤ) → FitsSigned w32 n → Stands w v (js.number n) → suits t v ≡ true → SameState z.place w s u → Sim z.direction (Valued z.place w env t) (done (ir.ends (ir.gives v) env s)) (js_meaning.literal n sc u)
+  number_alike : (w : World) (env : ir.Env) (t : IrType) (s : ir.State) (sc : js.Scope) (u : js.State) (v : ir.Value) (n : ℤ) → FitsSigned w32 n → Stands w (is_char t) v (js.number n) → suits t v ≡ true → SameState z.place w s u → Sim z.direction (Valued z.place w env t) (done (ir.ends (ir.gives v) env s)) (js_meaning.literal n sc u)
   number_alike w env t s sc u v n f a k same = subst (λ (b : Bool). Sim z.direction (Valued z.place w env t) (done (ir.ends (ir.gives v) env s)) (if b then done (js.gives (js.number n) u) else wrong)) (sym (fits-exact n f)) (literal_alike w env t s u v (js.number n) a k same)
 
   long_alike : (w : World) (env : ir.Env) (s : ir.State) (sc : js.Scope) (u : js.State) (n : ℤ) → FitsSigned w64 n → SameState z.place w s u → Sim z.direction (Valued z.place w env Long) (done (ir.ends (ir.gives (ir.long n)) env s)) (js_meaning.literal_of_big n sc u)
@@ -110,7 +110,7 @@ module _ (z : Setting) (lawful : Lawful z) (scope : Scope) where
   branch_acts : (w : World) (env : ir.Env) (sc : js.Scope) (own t : IrType) (first second : ir.Run) (one other : js.Evaluation) → OperandAlike z w env sc t first one → OperandAlike z w env sc t second other → ActsAlike z w w env (own ∷ []) t (ir_meaning.branch first second) (js_meaning.chosen one other) sc
   branch_acts w env sc own t first second one other f g y _ _ s u h (one_more _ v x _ _ _ a no_values) same = by v x a.stands
     where
-      by : (v : ir.Value) (x : js.Value) → Stands y v x → Sim z.direction (Valued z.place w env t) (ir_meaning.branch first second (v ∷ []) env s) (js_meaning.chosen one other (x ∷ []) sc u)
+      by : (v : ir.Value) (x : js.Value) → Stands y (is_char own) v x → Sim z.direction (Valued z.place w env t) (ir_meaning.branch first second (v ∷ []) env s) (js_meaning.chosen one other (x ∷ []) sc u)
       by _ _ (same_boolean true) = weaker w y env t (first env s) (one sc u) h (f y s u h same)
       by _ _ (same_boolean false) = weaker w y env t (second env s) (other sc u) h (g y s u h same)
       by _ _ _ = sim_wrong z.direction (Valued z.place w env t) _
@@ -138,8 +138,8 @@ module _ (z : Setting) (lawful : Lawful z) (scope : Scope) where
   pub call_alike : (m : Member) (ts : List IrType) (rs : List ir.Run) (es es' : List core.Expression) → es ≡ es' → (usable z).linked m ≡ true → FitAll (types_referred m.method.params) ts → (w : World) (env : ir.Env) (s : ir.State) (sc : js.Scope) (u : js.State) → Inside z.place z.code sc → OperandsAlike z w env sc ts rs es' → SameState z.place w s u → Sim z.direction (Valued z.place w env (call_type m.method.result)) (ir_meaning.in_order rs (ir_meaning.call z.low (ir_world.member_of z.place.classes m.class m.namespace m.method) None) env s) (shown z (core.static_call m (expressions_of es)) sc u)
   call_alike m ts rs es es' e linked fit w env s sc u inside operands same = by_equal w env (call_type m.method.result) _ _ _ _ refl (ap (λ o. then_do o (js.with_value (λ f. js_meaning.in_order (js_meaning.arguments z.place.program z.js_low (expression_templates z.place.name z.place.label (expressions_of es))) (js_meaning.call z.place.program z.js_low f) sc))) (name_shown m w s sc u linked inside same) ∙ ap (λ args. js_meaning.in_order args (js_meaning.call z.place.program z.js_low (function_of_member z.place m)) sc u) (arguments_shown es ∙ ap (all_shown z) e)) (in_order_alike z w w env sc w ts (call_type m.method.result) rs es' (ir_meaning.call z.low (ir_world.member_of z.place.classes m.class m.namespace m.method) None) (js_meaning.call z.place.program z.js_low (function_of_member z.place m)) operands (call_acts m ts w env sc linked fit) w s u (grows-refl w) (grows-refl w) (grows-refl w) same)
 
-  pub unary_alike : (o : UnaryOp) (own : IrType) (r : ir.Run) (e : core.Expression) → (w : World) (env : ir.Env) (s : ir.State) (sc : js.Scope) (u : js.State) → OperandsAlike z w env sc (own ∷ []) (r ∷ []) (e ∷ []) → SameState z.place w s u → Sim z.direction (Valued z.place w env (unary_result o)) (ir_meaning.in_order (r ∷ []) (ir_meaning.unary z.place.classes z.low o) env s) (shown z (core.unary_of o e) sc u)
-  unary_alike o own r e w env s sc u operand same = by_equal w env (unary_result o) _ _ _ _ refl (unary_shown z.place.program z.js_low (expression_template z.place.name z.place.label e) sc u o) (in_order_alike z w w env sc w (own ∷ []) (unary_result o) (r ∷ []) (e ∷ []) (ir_meaning.unary z.place.classes z.low o) (by_one_value (one_template_value o)) operand (unary_acts z w env sc o own) w s u (grows-refl w) (grows-refl w) (grows-refl w) same)
+  pub unary_alike : (o : UnaryOp) (own : IrType) (r : ir.Run) (e : core.Expression) → Fits (unary_operand o) own → (w : World) (env : ir.Env) (s : ir.State) (sc : js.Scope) (u : js.State) → OperandsAlike z w env sc (own ∷ []) (r ∷ []) (e ∷ []) → SameState z.place w s u → Sim z.direction (Valued z.place w env (unary_result o)) (ir_meaning.in_order (r ∷ []) (ir_meaning.unary z.place.classes z.low o) env s) (shown z (core.unary_of o e) sc u)
+  unary_alike o own r e fit w env s sc u operand same = by_equal w env (unary_result o) _ _ _ _ refl (unary_shown z.place.program z.js_low (expression_template z.place.name z.place.label e) sc u o) (in_order_alike z w w env sc w (own ∷ []) (unary_result o) (r ∷ []) (e ∷ []) (ir_meaning.unary z.place.classes z.low o) (by_one_value (one_template_value o)) operand (unary_acts z w env sc o own fit) w s u (grows-refl w) (grows-refl w) (grows-refl w) same)
 
   -- an operator whose template takes the operands' values as they are
   direct_alike : (o : BinaryOp) (left right : IrType) (r q : ir.Run) (e d : core.Expression) → is_direct o ≡ true → Fits (left_operand o) left → Fits (right_operand o) right → (w : World) (env : ir.Env) (s : ir.State) (sc : js.Scope) (u : js.State) → OperandsAlike z w env sc (left ∷ right ∷ []) (r ∷ q ∷ []) (e ∷ d ∷ []) → SameState z.place w s u → Sim z.direction (Valued z.place w env (binary_result o)) (ir_meaning.in_order (r ∷ q ∷ []) (ir_meaning.binary z.place.classes z.low o) env s) (shown z (core.binary_of o e d) sc u)
@@ -228,7 +228,7 @@ module _ (z : Setting) (lawful : Lawful z) (scope : Scope) where
 
   unary_tree : (p : Position) (o : UnaryOp) (e : Term) → Fits (unary_operand o) (type_of_term e) → TreeAlike e → TreeAlike (unary_op p o e)
   unary_tree p o e fit h = record {
-    alike = λ w env s sc u sees same. unary_alike o (type_of_term e) (ir_meaning.step z.place.classes z.low e) (expression_of z.code.sure e) w env s sc u (with_tree e h w env sc sees [] [] [] no_operands) same;
+    alike = λ w env s sc u sees same. unary_alike o (type_of_term e) (ir_meaning.step z.place.classes z.low e) (expression_of z.code.sure e) fit w env s sc u (with_tree e h w env sc sees [] [] [] no_operands) same;
     told = unary_tells o (type_of_term e) (text_of_tree e) fit h.told;
   }
 
@@ -365,7 +365,7 @@ module _ (z : Setting) (lawful : Lawful z) (scope : Scope) where
       tree_alike (undefined_literal p) h k v = record { alike = λ w env s sc u sees same. literal_alike w env Undefined s u ir.undefined js.undefined same_undefined refl same; told = refl }
       tree_alike (null_literal p) h k v = record { alike = λ w env s sc u sees same. literal_alike w env Null s u ir.null js.null same_null refl same; told = refl }
       tree_alike (boolean_literal p b) h k v = record { alike = λ w env s sc u sees same. literal_alike w env Boolean s u (ir.boolean b) (js.boolean b) (same_boolean b) refl same; told = refl }
-      tree_alike (char_literal p n) h k v = record { alike = λ w env s sc u sees same. number_alike w env Char s sc u (ir.char n) (pos n) (unit_is_int n h.finds) (same_char n h.finds) refl same; told = refl }
+      tree_alike (char_literal p n) h k v = record { alike = λ w env s sc u sees same. number_alike w env Char s sc u (ir.char n) (pos n) (unit_is_int n h.finds) (same_char refl n h.finds) refl same; told = refl }
       tree_alike (byte_literal p n) h k v = record { alike = λ w env s sc u sees same. number_alike w env Byte s sc u (ir.number n) n h.finds (same_number n h.finds) refl same; told = refl }
       tree_alike (short_literal p n) h k v = record { alike = λ w env s sc u sees same. number_alike w env Short s sc u (ir.number n) n h.finds (same_number n h.finds) refl same; told = refl }
       tree_alike (int_literal p n) h k v = record { alike = λ w env s sc u sees same. number_alike w env Int s sc u (ir.number n) n h.finds (same_number n h.finds) refl same; told = refl }

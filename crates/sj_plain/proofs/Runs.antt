@@ -10,6 +10,7 @@ use Rattle.js_mean.specs.Meaning as js_meaning
 use Rattle.js_mean.specs.States as js
 use Rattle.sj_core.specs.Terms as core
 use Rattle.sj_core.specs.Views.{expressions_of}
+use Rattle.sj_desugar.specs.Coercions.{is_char}
 use Rattle.sj_emit_expr.specs.Templates.{expression_templates}
 use Rattle.sj_names.specs.declared.method_names.Member.{Member}
 use Rattle.sj_trees.specs.Types.{class_type}
@@ -19,7 +20,7 @@ use Rattle.sj_plain.specs.Settings.{Place, Setting, shown, usable, SameState, Va
 use Rattle.body_rules.specs.Standing.{Fits, FitAll, types_referred}
 use Rattle.sj_plain.proofs.Orders.{OperandsAlike, no_operands, more_operands, all_shown}
 use Rattle.sj_plain.proofs.Tops.{row_shown, top_seen}
-use Rattle.sj_plain.proofs.Worlds.{World, Grows, grows-refl, grows-trans, SameValue, Stands, same_undefined, same_null, same_boolean, same_char, same_number, same_long, same_text, same_reference, value-fits, value-lift, values-fit, SameValues, no_values, one_more}
+use Rattle.sj_plain.proofs.Worlds.{World, Grows, grows-refl, grows-trans, SameValue, Stands, same_undefined, same_null, same_boolean, same_char, same_box, same_number, same_long, same_text, same_reference, value-fits, value-lift, values-fit, SameValues, no_values, one_more}
 
 -- both sides gave something that isn't used, or threw
 pub data Ran (p : Place) (from : World) (env : ir.Env) : ir.Ended → js.ExpressionEnd → Type 0 where
@@ -46,11 +47,12 @@ module _ (z : Setting) (law : Based z) where
       goes : (v : ir.Value) (x : js.Value) → IsReceiver y m.class v x → Sim z.direction (Ran z.place w env) (ir_meaning.call z.low (ir_world.member_of z.place.classes m.class m.namespace m.method) (Some v) vs env s) (top_call z.place z.js_low (a_constructor m) (x ∷ xs) u)
       goes v x r = sim_weaken z.direction (Built z.place y env x) (Ran z.place w env) _ _ (each x) (law.builds m there y v x vs xs env s u r (values-fit y (types_referred m.method.params) ts vs xs fit others) same)
 
-      by : (v : ir.Value) (x : js.Value) → Stands y v x → SameValue y (class_type m.class) v x → Sim z.direction (Ran z.place w env) (ir_meaning.call_on z.place.classes z.low (ir_world.member_of z.place.classes m.class m.namespace m.method) (v ∷ vs) env s) (top_call z.place z.js_low (a_constructor m) (x ∷ xs) u)
+      by : (v : ir.Value) (x : js.Value) → Stands y (is_char own) v x → SameValue y (class_type m.class) v x → Sim z.direction (Ran z.place w env) (ir_meaning.call_on z.place.classes z.low (ir_world.member_of z.place.classes m.class m.namespace m.method) (v ∷ vs) env s) (top_call z.place z.js_low (a_constructor m) (x ∷ xs) u)
       by _ _ same_null k = sim_wrong z.direction (Ran z.place w env) _
       by _ _ same_undefined k = goes _ _ (record { stands = k; there = λ e. cc })
       by _ _ (same_boolean b) k = goes _ _ (record { stands = k; there = λ e. cc })
-      by _ _ (same_char c h) k = goes _ _ (record { stands = k; there = λ e. cc })
+      by _ _ (same_char r c h) k = goes _ _ (record { stands = k; there = λ e. cc })
+      by _ _ (same_box r c b h i) k = goes _ _ (record { stands = k; there = λ e. cc })
       by _ _ (same_number n h) k = goes _ _ (record { stands = k; there = λ e. cc })
       by _ _ (same_long n h) k = goes _ _ (record { stands = k; there = λ e. cc })
       by _ _ (same_text us) k = goes _ _ (record { stands = k; there = λ e. cc })

@@ -1,5 +1,4 @@
--- Which values are of the kind of a type. A char is a Number where its type is char; no form makes an object that holds a char yet, so elsewhere no char
--- stands.
+-- Which values are of the kind of a type.
 use Rattle.std.specs.Prelude.{Bool, true, false, not}
 use Rattle.ir_mean.specs.States as ir
 use Rattle.body_rules.specs.Standing.{is_bare}
@@ -25,6 +24,6 @@ suits Long (ir.long z) = true
 suits Long v = false
 suits String (ir.text us) = true
 suits String v = false
-suits t (ir.char u) = false
+suits t (ir.char u) = not (is_bare t)
 suits t (ir.reference i) = not (is_bare t)
 suits t v = true
