@@ -1,5 +1,5 @@
 // The forms of trees that are built.
-ghost use Rattle.std.specs.Prelude.{◌≡◌, [], ◌∷◌};
+ghost use Rattle.std.specs.Prelude.{◌≡◌, true, [], ◌∷◌};
 ghost use Rattle.built_forms.specs.Built as built;
 ghost use Rattle.built_forms.specs.Labels.{labels_view};
 ghost use Rattle.sj_trees.specs.View.{view, terms_view, cases_view};

@@ -1,4 +1,4 @@
-use Rattle.std.proofs.Common.{◌≡◌, drop}
+use Rattle.std.proofs.Common.{◌≡◌, true, drop}
 use Rattle.built_forms.specs.Built.{anything, are_built, are_built_cases}
 use Rattle.built_forms.specs.Labels.{labels_view}
 use Rattle.sj_trees.specs.View.{terms_view, cases_view}
