@@ -1,6 +1,6 @@
 -- A tree of the one type stands where the other is expected: what the rules say of types, as far as the kinds of values tell.
-use Rattle.std.proofs.Common.{◌≡◌, Bool, true, false, ◌&&◌, List, [], ◌∷◌, refl, sym, ap, ◌∙◌, subst, ◌⊎◌, inl, inr, ⊎_elim}
-use Rattle.std.specs.Prelude.{not}
+use Rattle.std.proofs.Common.{◌≡◌, ℕ, Bool, true, false, ◌&&◌, List, [], ◌∷◌, codes, refl, sym, ap, ◌∙◌, subst, ◌⊎◌, inl, inr, ⊎_elim}
+use Rattle.std.specs.Prelude.{not, ◌||◌}
 use Rattle.sj_desugar.specs.Coercions.{is_char}
 use Rattle.sj_desugar.specs.Desugar.{types_of, has_no_value}
 use Rattle.sj_desugar.specs.Plain.{is_no_type}
@@ -16,10 +16,11 @@ use Rattle.sj_trees.specs.declared.types.IrType.{IrType}
 use Rattle.sj_trees.specs.declared.types.IrType.TheVariants.{Any, Nothing, Undefined, Boolean, Char, Byte, Short, Int, Long, String, Class, Null, Array, NoType}
 use Rattle.body_rules.specs.Operators.{is_simple, a_quotient, a_remainder, a_long_quotient, a_long_remainder, DividesBy, by_int, by_long, Operates, of_its_types, joins}
 use Rattle.typing_rules.specs.Rules.{unary_operand, left_operand, right_operand, IsText}
-use Rattle.body_rules.specs.Standing.{Fits, FitAll, types_referred, NoBox}
+use Rattle.body_rules.specs.Standing.{is_bare, Fits, FitAll, types_referred, NoBox}
 use Rattle.body_rules.proofs.Standing.{fits-same}
 use Rattle.body_rules.specs.Typing.{IsTrueLiteral, true_literal}
-use Rattle.sj_names.proofs.Same.{impossible}
+use Rattle.sj_names.proofs.Same.{impossible, text-refl}
+use Rattle.sj_names.specs.Same.{is_same_text}
 use Rattle.body_rules.specs.Subtyping.{is_lowest, IsSubtyping}
 use Rattle.body_rules.specs.Locals.{HasValue}
 use Rattle.body_rules.proofs.RulesGive.{Takes, its_types, texts, Yields, ArgumentsFit}
@@ -81,26 +82,39 @@ nothing-fits Null = refl
 nothing-fits (Array r) = refl
 nothing-fits NoType = refl
 
+implied : (a b : Bool) → (a ≡ true → b ≡ true) → (not a || b) ≡ true
+implied true b h = h refl
+implied false b h = refl
+
 -- a type of which more than itself and nothing are subtypes
-open_fits : (t own : IrType) → is_lowest t ≡ false → NoBox t own → Fits t own
-open_fits Nothing own h n = impossible (sym h)
-open_fits Undefined own h n = impossible (sym h)
-open_fits Boolean own h n = impossible (sym h)
-open_fits Char own h n = impossible (sym h)
-open_fits Byte own h n = impossible (sym h)
-open_fits Short own h n = impossible (sym h)
-open_fits Int own h n = impossible (sym h)
-open_fits Long own h n = impossible (sym h)
-open_fits String own h n = impossible (sym h)
-open_fits NoType own h n = impossible (sym h)
-open_fits Any Char h n = impossible (sym n)
-open_fits Any own h n = refl
-open_fits (Class c) Char h n = impossible (sym n)
-open_fits (Class c) own h n = refl
-open_fits Null Char h n = impossible (sym n)
-open_fits Null own h n = refl
-open_fits (Array r) Char h n = impossible (sym n)
-open_fits (Array r) own h n = refl
+open_fits : (t own : IrType) → is_lowest t ≡ false → NoBox t own → (is_bare t ≡ true → is_bare own ≡ true) → Fits t own
+open_fits Nothing own h n b = impossible (sym h)
+open_fits Undefined own h n b = impossible (sym h)
+open_fits Boolean own h n b = impossible (sym h)
+open_fits Char own h n b = impossible (sym h)
+open_fits Byte own h n b = impossible (sym h)
+open_fits Short own h n b = impossible (sym h)
+open_fits Int own h n b = impossible (sym h)
+open_fits Long own h n b = impossible (sym h)
+open_fits String own h n b = impossible (sym h)
+open_fits NoType own h n b = impossible (sym h)
+open_fits t Nothing h n b = nothing-fits t
+open_fits Any Char h n b = impossible (sym n)
+open_fits Any own h n b = refl
+open_fits (Class c) Char h n b = impossible (sym n)
+open_fits (Class c) own h n b = implied (is_bare (Class c)) (is_bare own) b
+open_fits Null Char h n b = impossible (sym n)
+open_fits Null own h n b = b refl
+open_fits (Array r) Char h n b = impossible (sym n)
+open_fits (Array r) own h n b = refl
+
+-- what joins to a text is bare
+pub text_bare : (t : IrType) → IsText t → is_bare t ≡ true
+text_bare Any h = absurd h
+text_bare NoType h = absurd h
+text_bare (Array r) h = absurd h
+text_bare (Class c) h = subst (λ (n : List ℕ). is_same_text n (codes "java.lang.String") ≡ true) (sym h) (text-refl (codes "java.lang.String"))
+text_bare _ h = refl
 
 not-false : (b : Bool) → not b ≡ true → b ≡ false
 not-false true h = impossible h
@@ -118,7 +132,7 @@ module _ (w : Classes) (law : IsSubtyping (IsSub w)) where
     where
       go : (b : Bool) → is_lowest t ≡ b → Fits t own
       go true e = ⊎_elim (λ i. subst (Fits t) (sym i) (fits-same t)) (λ i. subst (Fits t) (sym i) (nothing-fits t)) (law.lowest own t e f)
-      go false e = open_fits t own e n
+      go false e = open_fits t own e n (λ b. law.bare own t b f)
 
   -- of the types that are lowest no char is one but char
   lowest-box : (t own : IrType) → is_lowest t ≡ true → IsSub w own t → NoBox t own
@@ -154,7 +168,7 @@ module _ (w : Classes) (law : IsSubtyping (IsSub w)) where
 
   pub operates : (o : BinaryOp) (e d : Term) → Takes w o e d → Operates o (type_of_term e) (type_of_term d)
   operates o e d (its_types h f g) = of_its_types o (type_of_term e) (type_of_term d) h (fits-sub (left_operand o) (type_of_term e) f (lowest-box (left_operand o) (type_of_term e) (left_lowest o h) f)) (fits-sub (right_operand o) (type_of_term d) g (lowest-box (right_operand o) (type_of_term d) (right_lowest o h) g))
-  operates o e d (texts is f g) = subst (λ p. Operates p (type_of_term e) (type_of_term d)) (sym is) (joins (type_of_term e) (type_of_term d))
+  operates o e d (texts is f g) = subst (λ p. Operates p (type_of_term e) (type_of_term d)) (sym is) (joins (type_of_term e) (type_of_term d) (text_bare (type_of_term e) f) (text_bare (type_of_term d) g))
 
   pub fit-all : (ts : Terms) (rs : List TypeRef) → ArgumentsFit w ts rs → FitAll (types_referred rs) (types_of ts)
   fit-all no_terms [] h = tt

@@ -4,6 +4,7 @@ pub mod InWorld
 pub mod Lists
 pub mod Locals
 pub mod Mutable
+pub mod Plain
 pub mod RulesGive
 pub mod Standing
 pub mod Topped

@@ -35,7 +35,7 @@ pub when_not : (b : Bool) → not b ≡ true → b ≡ false
 when_not true h = impossible h
 when_not false h = refl
 
-neither : (a b : Bool) → not (a || b) ≡ true → (not a ≡ true) × (not b ≡ true)
+pub neither : (a b : Bool) → not (a || b) ≡ true → (not a ≡ true) × (not b ≡ true)
 neither true b h = impossible h
 neither false b h = (refl, h)
 

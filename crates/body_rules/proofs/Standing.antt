@@ -1,7 +1,7 @@
 -- What stands for its type isn't coerced.
-use Rattle.std.proofs.Common.{◌≡◌, Bool, List, [], ◌∷◌, refl, ap}
-use Rattle.std.specs.Prelude.{if◌then◌else◌}
-use Rattle.body_rules.specs.Standing.{Fits, FitAll, types_referred, NoBox}
+use Rattle.std.proofs.Common.{◌≡◌, Bool, true, false, List, [], ◌∷◌, refl, ap}
+use Rattle.std.specs.Prelude.{if◌then◌else◌, not, ◌||◌, codes}
+use Rattle.body_rules.specs.Standing.{is_bare, Fits, FitAll, types_referred, NoBox}
 use Rattle.sj_core.specs.Terms as core
 use Rattle.sj_desugar.specs.Coercions.{coerced, coerced_arguments}
 use Rattle.sj_names.proofs.Same.{impossible}
@@ -25,6 +25,10 @@ arguments-same (r ∷ rs) [] es f = refl
 arguments-same (r ∷ rs) (t ∷ ts) [] f = refl
 arguments-same (r ∷ rs) (t ∷ ts) (e ∷ es) f = λ i. coerced-same (reference_type r) t e f.0 i ∷ arguments-same rs ts es f.1 i
 
+excluded : (b : Bool) → (not b || b) ≡ true
+excluded true = refl
+excluded false = refl
+
 pub fits-same : (t : IrType) → Fits t t
 fits-same Any = refl
 fits-same Nothing = refl
@@ -36,7 +40,24 @@ fits-same Short = refl
 fits-same Int = refl
 fits-same Long = refl
 fits-same String = refl
-fits-same (Class c) = refl
+fits-same (Class c) = excluded (is_bare (Class c))
 fits-same Null = refl
 fits-same (Array r) = refl
 fits-same NoType = refl
+
+-- what stands at any type that isn't primitive stands at a class
+pub fits-character : (t : IrType) → Fits Any t → Fits (Class (codes "java.lang.Character")) t
+fits-character Nothing f = refl
+fits-character Char f = impossible f
+fits-character Any f = refl
+fits-character Undefined f = refl
+fits-character Boolean f = refl
+fits-character Byte f = refl
+fits-character Short f = refl
+fits-character Int f = refl
+fits-character Long f = refl
+fits-character String f = refl
+fits-character (Class c) f = refl
+fits-character Null f = refl
+fits-character (Array r) f = refl
+fits-character NoType f = refl

@@ -6,10 +6,10 @@
 
 ghost use Rattle.body_rules.specs.Subtyping.{IsSubtyping};
 ghost use Rattle.sj_world.specs.Known.{Classes};
-ghost use Rattle.sj_world.specs.Laws.{IsTopped};
+ghost use Rattle.sj_world.specs.Laws.{IsPlain};
 ghost use Rattle.sj_world.specs.Subtypes.{IsSub};
 
-/// Subtyping in a world where nothing stands above `java.lang.Object` has the properties that are asked of subtyping.
+/// Subtyping in a world where no class writes a hijacked class or stands above `java.lang.Object` has the properties that are asked of subtyping.
 pub fn subtypes_of_worlds_are_ordered()
-    ensures { (w : Classes) → IsTopped w → IsSubtyping (IsSub w) }
+    ensures { (w : Classes) → IsPlain w → IsSubtyping (IsSub w) }
 {}
