@@ -1,5 +1,5 @@
 -- A world whose classes keep the rules on superclasses and on hijacked classes writes no hijacked class, and nothing above `java.lang.Object`.
-use Rattle.std.proofs.Common.{◌≡◌, Bool, true, false, List, [], ◌∷◌, ◌++◌, ◌&&◌, ◌||◌, Contains, Option, Some, None, refl, sym, ap, subst, inl, inr, if◌then◌else◌}
+use Rattle.std.proofs.Common.{◌≡◌, Bool, true, false, List, [], ◌∷◌, ◌++◌, ◌&&◌, Contains, Option, Some, None, refl, sym, subst, inl, inr, if◌then◌else◌}
 use Rattle.std.specs.Prelude.{not, is_some}
 use Rattle.std.specs.List.{list_any}
 use Rattle.std.proofs.lemmas.Bool.{and_parts}
@@ -11,7 +11,7 @@ use Rattle.sj_local.specs.Names.{is_some_name}
 use Rattle.sj_names.proofs.Same.{impossible, text-same}
 use Rattle.sj_names.specs.WellKnown.{is_object}
 use Rattle.sj_trees.specs.declared.classes.ClassDef.{ClassDef}
-use Rattle.sj_world.specs.Ancestors.{listed, written, written_in, IsWritten}
+use Rattle.sj_world.specs.Ancestors.{listed, written, written_in}
 use Rattle.sj_world.specs.Known.{Name, Classes, is_same, class_of, is_hijacked, object}
 use Rattle.sj_world.specs.Laws.{IsPlain}
 

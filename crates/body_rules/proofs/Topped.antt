@@ -1,11 +1,11 @@
 -- In a world where no class writes a hijacked class or stands above `java.lang.Object`, nothing stands above this one, and a class stands below
 -- `java.lang.String` only as that class itself.
-use Rattle.std.proofs.Common.{◌≡◌, Bool, true, false, List, [], Contains, Option, Some, None, codes, refl, sym, subst, inl, inr}
+use Rattle.std.proofs.Common.{◌≡◌, Bool, true, false, [], Contains, Option, Some, None, codes, refl, sym, subst, inl, inr}
 use Rattle.std.specs.Prelude.{if◌then◌else◌}
 use Rattle.body_rules.proofs.Lists.{nothing_in, in_front_or_behind, from_filter}
 use Rattle.sj_names.proofs.Same.{impossible}
 use Rattle.sj_trees.specs.declared.classes.ClassDef.{ClassDef}
-use Rattle.sj_world.specs.Ancestors.{listed, superclass_of_absent, above_in, written_in, directly_above, IsParent, IsWritten, Way, by_path, is_object, IsAncestor}
+use Rattle.sj_world.specs.Ancestors.{listed, superclass_of_absent, above_in, written_in, directly_above, IsParent, Way, by_path, is_object, IsAncestor}
 use Rattle.sj_world.specs.Known.{Name, Classes, class_of, is_known, is_hijacked, stands_as, object}
 use Rattle.sj_world.specs.Laws.{IsTopped, IsPlain}
 use Rattle.sj_world.specs.Paths.{Path, stay, on}

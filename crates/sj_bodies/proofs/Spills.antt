@@ -13,6 +13,7 @@ use Rattle.js_mean.specs.Meaning as js_meaning
 use Rattle.js_mean.specs.States as js
 use Rattle.sj_core.specs.Terms as core
 use Rattle.sj_core.specs.Terms.{followed}
+use Rattle.sj_desugar.specs.Coercions.{is_char}
 use Rattle.sj_desugar.specs.Desugar.{into, operands, expression_of, target_of}
 use Rattle.sj_desugar.specs.Plain.{is_fixed}
 use Rattle.sj_desugar.specs.Spill.{Destination, to_variable, Code, Operand, all_plain, texts, spill, spill_case, then_use}
@@ -90,10 +91,10 @@ module _ (z : Setting) (lawful : Lawful z) where
   not_mutable true h = impossible h
   not_mutable false h = refl
 
-  value_fixed : (p : core.Variable → Type 0) (w : World) (env : ir.Env) (sc : js.Scope) (t : Term) (v : ir.Value) (x : js.Value) → Stands w v x → suits (type_of_term t) v ≡ true → ((s : ir.State) → ir_meaning.step z.place.classes z.low t env s ≡ done (ir.ends (ir.gives v) env s)) → ((later : js.Scope) (u : js.State) → shown z (expression_of z.code.sure t) later u ≡ done (js.gives x u)) → FixedTree p w env sc t
+  value_fixed : (p : core.Variable → Type 0) (w : World) (env : ir.Env) (sc : js.Scope) (t : Term) (v : ir.Value) (x : js.Value) → Stands w (is_char (type_of_term t)) v x → suits (type_of_term t) v ≡ true → ((s : ir.State) → ir_meaning.step z.place.classes z.low t env s ≡ done (ir.ends (ir.gives v) env s)) → ((later : js.Scope) (u : js.State) → shown z (expression_of z.code.sure t) later u ≡ done (js.gives x u)) → FixedTree p w env sc t
   value_fixed p w env sc t v x a k g h = record { value = v; js_value = x; gives = g; alike = record { stands = a; suits = k }; goes_on = λ later u ks. h later u }
 
-  number_fixed : (p : core.Variable → Type 0) (w : World) (env : ir.Env) (sc : js.Scope) (t : Term) (v : ir.Value) (n : ℤ) → FitsSigned w32 n → Stands w v (js.number n) → suits (type_of_term t) v ≡ true → ((s : ir.State) → ir_meaning.step z.place.classes z.low t env s ≡ done (ir.ends (ir.gives v) env s)) → ((later : js.Scope) (u : js.State) → shown z (expression_of z.code.sure t) later u ≡ js_meaning.literal n later u) → FixedTree p w env sc t
+  number_fixed : (p : core.Variable → Type 0) (w : World) (env : ir.Env) (sc : js.Scope) (t : Term) (v : ir.Value) (n : ℤ) → FitsSigned w32 n → Stands w (is_char (type_of_term t)) v (js.number n) → suits (type_of_term t) v ≡ true → ((s : ir.State) → ir_meaning.step z.place.classes z.low t env s ≡ done (ir.ends (ir.gives v) env s)) → ((later : js.Scope) (u : js.State) → shown z (expression_of z.code.sure t) later u ≡ js_meaning.literal n later u) → FixedTree p w env sc t
   number_fixed p w env sc t v n f a k g h = value_fixed p w env sc t v (js.number n) a k g (λ later u. h later u ∙ ap (λ (b : Bool). if b then done (js.gives (js.number n) u) else wrong) (fits-exact n f))
 
   -- or it is wrong
@@ -115,7 +116,7 @@ module _ (z : Setting) (lawful : Lawful z) where
   fixed_run c p (null_literal q) sound e h w env sc sees = inl (value_fixed p w env sc (null_literal q) ir.null js.null same_null refl (λ s. refl) (λ later u. refl))
   fixed_run c p (boolean_literal q b) sound e h w env sc sees = inl (value_fixed p w env sc (boolean_literal q b) (ir.boolean b) (js.boolean b) (same_boolean b) refl (λ s. refl) (λ later u. refl))
   fixed_run c p (string_literal q us) sound e h w env sc sees = inl (value_fixed p w env sc (string_literal q us) (ir.text us) (js.text us) (same_text us) refl (λ s. refl) (λ later u. refl))
-  fixed_run c p (char_literal q n) sound e h w env sc sees = inl (number_fixed p w env sc (char_literal q n) (ir.char n) (pos n) (unit_is_int n h.typed.finds) (same_char n h.typed.finds) refl (λ s. refl) (λ later u. refl))
+  fixed_run c p (char_literal q n) sound e h w env sc sees = inl (number_fixed p w env sc (char_literal q n) (ir.char n) (pos n) (unit_is_int n h.typed.finds) (same_char refl n h.typed.finds) refl (λ s. refl) (λ later u. refl))
   fixed_run c p (byte_literal q n) sound e h w env sc sees = inl (number_fixed p w env sc (byte_literal q n) (ir.number n) n h.typed.finds (same_number n h.typed.finds) refl (λ s. refl) (λ later u. refl))
   fixed_run c p (short_literal q n) sound e h w env sc sees = inl (number_fixed p w env sc (short_literal q n) (ir.number n) n h.typed.finds (same_number n h.typed.finds) refl (λ s. refl) (λ later u. refl))
   fixed_run c p (int_literal q n) sound e h w env sc sees = inl (number_fixed p w env sc (int_literal q n) (ir.number n) n h.typed.finds (same_number n h.typed.finds) refl (λ s. refl) (λ later u. refl))

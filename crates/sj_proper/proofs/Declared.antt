@@ -56,3 +56,4 @@ declared-named name_of label_of (core.statement s ss) n h = later name_of label_
 abbrev pub IsNew : (List ℕ → Type 0) → ℕ → core.Variable → Type 0
 IsNew own j (core.named x) = own x
 IsNew own j (core.numbered k) = j ≤ k
+IsNew own j core.receiver = ⊥

@@ -16,6 +16,7 @@ use Rattle.sj_proper.proofs.Core.{Distinct, distinct-followed, ProperOne, Proper
 abbrev pub IsIn : (List ℕ → Type 0) → ℕ → ℕ → core.Variable → Type 0
 IsIn own j n (core.named x) = own x
 IsIn own j n (core.numbered k) = (j ≤ k) × (k < n)
+IsIn own j n core.receiver = ⊥
 
 pub record Good (own : List ℕ → Type 0) (ls : List (List ℕ)) (b : Bool) (j : ℕ) (c : Code) : Type 0 where
   pub onward : j ≤ c.next
@@ -32,6 +33,7 @@ no_name x = ⊥
 in-wider : (own more : List ℕ → Type 0) (i j n m : ℕ) (y : core.Variable) → Part own more → j ≤ i → n ≤ m → IsIn own i n y → IsIn more j m y
 in-wider own more i j n m (core.named x) h l k d = h x d
 in-wider own more i j n m (core.numbered q) h l k d = let a = d.0 in let c = d.1 in (omega arith, omega arith)
+in-wider own more i j n m core.receiver h l k d = d
 
 pub good-widen : (own more : List ℕ → Type 0) (ls : List (List ℕ)) (b : Bool) (j : ℕ) (c : Code) → Part own more → Good own ls b j c → Good more ls b j c
 good-widen own more ls b j c h g = record { onward = g.onward; fresh = λ y d. in-wider own more j j c.next c.next y h (omega arith) (omega arith) (g.fresh y d); distinct = g.distinct; proper = g.proper }
@@ -46,6 +48,7 @@ good-one own ls b j n s l h p = record { onward = l; fresh = λ y d. ⊎_elim (�
 apart-in : (own other : List ℕ → Type 0) (i j n m : ℕ) (y : core.Variable) → Apart own other → n ≤ j → IsIn own i n y → IsIn other j m y → ⊥
 apart-in own other i j n m (core.named x) h l d e = h x d e
 apart-in own other i j n m (core.numbered q) h l d e = let a = d.1 in let c = e.0 in omega arith
+apart-in own other i j n m core.receiver h l d e = d
 
 pub good-joined : (one other own : List ℕ → Type 0) (ls : List (List ℕ)) (b : Bool) (j : ℕ) (c d : Code) → Good one ls b j c → Good other ls b c.next d → Apart one other → Part one own → Part other own → Good own ls b j (joined c d)
 good-joined one other own ls b j c d g h apart sub more = record {

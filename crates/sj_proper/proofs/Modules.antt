@@ -15,6 +15,7 @@ use Rattle.sj_proper.proofs.Names.{variables-differ, labels-differ}
 use Rattle.sj_mangling.proofs.FunctionNames.{function_names_differ}
 use Rattle.sj_names.specs.declared.entry_points.EntryPoint.{EntryPoint}
 use Rattle.sj_trees.specs.declared.classes.ParamDef.{ParamDef}
+use Rattle.sure_receivers.specs.Sure.{sure_locals}
 use Rattle.body_rules.specs.Locals.{Own, IsParameter}
 use Rattle.body_rules.proofs.Equal.{differs}
 use Rattle.sj_proper.proofs.Declared.{Declares}
@@ -62,8 +63,8 @@ item_proper e h = both (are_distinct (parameter_names (names_of e.definition.par
     body : core.Statements
     body = (desugared e.definition e.its_body).body
 
-    g : Good (Own e.its_body) [] false 1 (into (is_mutable_in e.definition e.its_body) [] (result_destination e.definition.result) 1 e.its_body)
-    g = good (is_mutable_in e.definition e.its_body) e.its_body [] [] [] false (result_destination e.definition.result) 1 h.once (record { has = λ l i k. absurd i; outer = λ l i. i })
+    g : Good (Own e.its_body) [] false 1 (into (is_mutable_in e.definition e.its_body) (sure_locals e.its_body) [] (result_destination e.definition.result) 1 e.its_body)
+    g = good (is_mutable_in e.definition e.its_body) (sure_locals e.its_body) e.its_body [] [] [] false (result_destination e.definition.result) 1 h.once (record { has = λ l i k. absurd i; outer = λ l i. i })
 
 -- items, and the names that they declare
 calls_proper : (is : List EntryPoint) → list_all is_proper_item (map call_item_of is) ≡ true

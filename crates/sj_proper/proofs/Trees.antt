@@ -4,16 +4,19 @@ use Rattle.std.specs.Prelude.{nat_eq, pos}
 use Rattle.std.specs.Cmp.Lexicographic.{pointwise}
 use Rattle.sj_core.specs.Terms as core
 use Rattle.sj_core.specs.Views.{expressions_of}
-use Rattle.sj_desugar.specs.Coercions.{coerced, coerced_arguments}
-use Rattle.sj_desugar.specs.Desugar.{operand, into, block, operands, cases, finish, target_of, Target, Targets, expression_of, labeled_code, leaving_code, wrapped, branches, break_unless, switch_code, first_of, second_of, member, types_of}
+use Rattle.sj_desugar.specs.Coercions.{coerced, coerced_arguments, coerced_receiver}
+use Rattle.sj_desugar.specs.Desugar.{receiver, received, rest_of, operand, into, block, operands, cases, finish, target_of, Target, Targets, expression_of, labeled_code, leaving_code, wrapped, branches, break_unless, switch_code, first_of, second_of, member, types_of}
 use Rattle.sj_desugar.specs.Plain.{is_plain}
 use Rattle.sj_desugar.specs.Texts.{operand_of}
-use Rattle.sj_desugar.specs.Spill.{Destination, discard, to_variable, to_result, Code, no_code, one, put_first, then_code, spill, then_use}
-use Rattle.sj_trees.specs.Term.{Term, Terms, no_terms, more_terms, Cases, no_cases, more_cases, var_def, block_of, labeled, assign, return_to, if_then, while_loop, do_while, match_on, apply_static, unary_op, binary_op, undefined_literal, null_literal, boolean_literal, char_literal, byte_literal, short_literal, int_literal, long_literal, string_literal, var_ref, log_line}
+use Rattle.sj_desugar.specs.Spill.{Destination, discard, to_variable, to_result, Code, Operand, no_code, one, put_first, then_code, spill, then_use}
+use Rattle.sj_trees.specs.Term.{Term, Terms, no_terms, more_terms, Cases, no_cases, more_cases, var_def, block_of, labeled, assign, return_to, if_then, while_loop, do_while, throw, match_on, new_object, select, select_static, apply_statically, apply_static, unary_op, binary_op, undefined_literal, null_literal, boolean_literal, char_literal, byte_literal, short_literal, int_literal, long_literal, string_literal, var_ref, this_ref, log_line}
+use Rattle.sj_names.specs.declared.method_names.Namespace.TheVariants.{Constructor}
+use Rattle.sj_trees.specs.Types.{class_type}
+use Rattle.sure_receivers.specs.Sure.{is_sure}
 use Rattle.sj_trees.specs.TypeOf.{type_of_term, unary_result, binary_result}
 use Rattle.sj_trees.specs.declared.positions.Position.{Position}
 use Rattle.sj_trees.specs.declared.types.IrType.{IrType}
-use Rattle.sj_trees.specs.declared.types.IrType.TheVariants.{Undefined, Null, Boolean, Char, Byte, Short, Int, Long, String}
+use Rattle.sj_trees.specs.declared.types.IrType.TheVariants.{Any, Undefined, Null, Boolean, Char, Byte, Short, Int, Long, String}
 use Rattle.body_rules.specs.Locals.{Own, OwnAll}
 use Rattle.body_rules.proofs.Equal.{equals, is-equal}
 use Rattle.sj_names.proofs.Same.{impossible}
@@ -87,15 +90,9 @@ either-good : (own : List ℕ → Type 0) (ls : List (List ℕ)) (b v : Bool) (j
 either-good own ls b true j c d g h = g
 either-good own ls b false j c d g h = h
 
-<<<<<<< HEAD
-module _ (is_mutable : List ℕ → Bool) where
-  abbrev pub TreeGood : Term → Type 0
-  TreeGood t = (around : List (List ℕ)) (ts : Targets) (ls : List (List ℕ)) (b : Bool) (k : Destination) (j : ℕ) → Once around t → Emitted around ts ls → Good (Own t) ls b j (into is_mutable ts k j t)
-=======
 module _ (is_mutable sure : List ℕ → Bool) where
-  abbrev TreeGood : Term → Type 0
+  abbrev pub TreeGood : Term → Type 0
   TreeGood t = (around : List (List ℕ)) (ts : Targets) (ls : List (List ℕ)) (b : Bool) (k : Destination) (j : ℕ) → Once around t → Emitted around ts ls → Good (Own t) ls b j (into is_mutable sure ts k j t)
->>>>>>> 6a46694
 
   -- one operand
   each_one : (e : Term) → TreeGood e → (around : List (List ℕ)) (ts : Targets) (ls : List (List ℕ)) (b : Bool) → Once around e → Emitted around ts ls → (j : ℕ) → Good (Own e) ls b j (spilled (spill (operand is_mutable sure e (λ k j. into is_mutable sure ts k j e) ∷ []) j))
@@ -105,26 +102,33 @@ module _ (is_mutable sure : List ℕ → Bool) where
   act_good : (e : Term) → TreeGood e → (own : List ℕ → Type 0) → Part (Own e) own → (around : List (List ℕ)) (ts : Targets) (ls : List (List ℕ)) (b : Bool) (j : ℕ) (made : List core.Expression → ℕ → Code) → Once around e → Emitted around ts ls → ((es : List core.Expression) (i : ℕ) → Good no_name ls b i (made es i)) → Good own ls b j (then_use (spill (operand is_mutable sure e (λ k j. into is_mutable sure ts k j e) ∷ []) j) made)
   act_good e good own part around ts ls b j made h em made_good = good-use (Own e) no_name own ls b (operand is_mutable sure e (λ k j. into is_mutable sure ts k j e) ∷ []) made j (each_one e good around ts ls b h em j) made_good (nothing_apart (Own e)) part (no_part own)
 
-<<<<<<< HEAD
-  abbrev pub while_code : Term → Term → Targets → ℕ → Code
-  while_code c d ts j = then_use (spill (operand is_mutable c (λ k j. into is_mutable ts k j c) ∷ []) j) (λ es j. put_first (break_unless (first_of es)) (into is_mutable ts discard j d))
+  -- a receiver, with its null check or without
+  received_good : (v : Bool) (o : Operand) (own : List ℕ → Type 0) (ls : List (List ℕ)) (b : Bool) → ((k : Destination) (j : ℕ) → Good own ls b j (o.code k j)) → (k : Destination) (j : ℕ) → Good own ls b j ((received v o).code k j)
+  received_good true o own ls b g k j = g k j
+  received_good false o own ls b g k j = good-use own no_name own ls b (o ∷ []) (λ es. finish k o.at o.tpe false (core.checked_value (first_of es))) j (operand-good own no_name own ls b o [] g (λ j. good-none no_name ls b j) (nothing_apart own) (all_part own) (no_part own) j) (λ es i. finish-good no_name ls b k o.at o.tpe false (core.checked_value (first_of es)) i) (nothing_apart own) (all_part own) (no_part own)
 
-  abbrev pub do_code : Term → Term → Targets → ℕ → Code
-  do_code d c ts j = then_code (into is_mutable ts discard j d) (λ j. then_use (spill (operand is_mutable c (λ k j. into is_mutable ts k j c) ∷ []) j) (λ es. one (break_unless (first_of es))))
-=======
-  abbrev while_code : Term → Term → Targets → ℕ → Code
+  abbrev receiver_in : Term → Targets → Operand
+  receiver_in e ts = receiver is_mutable sure e (λ k j. into is_mutable sure ts k j e)
+
+  receiver_good : (e : Term) → TreeGood e → (around : List (List ℕ)) (ts : Targets) (ls : List (List ℕ)) (b : Bool) → Once around e → Emitted around ts ls → (k : Destination) (j : ℕ) → Good (Own e) ls b j ((receiver_in e ts).code k j)
+  receiver_good e good around ts ls b h em = received_good (is_sure sure e) (operand is_mutable sure e (λ k j. into is_mutable sure ts k j e)) (Own e) ls b (λ k j. good around ts ls b k j h em)
+
+  -- a receiver in front of other operands
+  receiver_first : (e : Term) → TreeGood e → (other own : List ℕ → Type 0) (os : List Operand) → Apart (Own e) other → Part (Own e) own → Part other own → (around : List (List ℕ)) (ts : Targets) (ls : List (List ℕ)) (b : Bool) → Once around e → Emitted around ts ls → ((j : ℕ) → Good other ls b j (spilled (spill os j))) → (j : ℕ) → Good own ls b j (spilled (spill (receiver_in e ts ∷ os) j))
+  receiver_first e good other own os apart part more around ts ls b h em rest = operand-good (Own e) other own ls b (receiver_in e ts) os (receiver_good e good around ts ls b h em) rest apart part more
+
+  abbrev pub while_code : Term → Term → Targets → ℕ → Code
   while_code c d ts j = then_use (spill (operand is_mutable sure c (λ k j. into is_mutable sure ts k j c) ∷ []) j) (λ es j. put_first (break_unless (first_of es)) (into is_mutable sure ts discard j d))
 
-  abbrev do_code : Term → Term → Targets → ℕ → Code
+  abbrev pub do_code : Term → Term → Targets → ℕ → Code
   do_code d c ts j = then_code (into is_mutable sure ts discard j d) (λ j. then_use (spill (operand is_mutable sure c (λ k j. into is_mutable sure ts k j c) ∷ []) j) (λ es. one (break_unless (first_of es))))
->>>>>>> 6a46694
 
   -- the body of a loop, its condition included
   pub while_good : (p : Position) (c d : Term) → TreeGood c → TreeGood d → (around : List (List ℕ)) (ts : Targets) (ls : List (List ℕ)) (j : ℕ) → Once around (while_loop p c d) → Emitted around ts ls → Good (Own (while_loop p c d)) ls true j (while_code c d ts j)
-  while_good p c d good_c good_d around ts ls j h em = good-use (Own c) (Own d) (Own (while_loop p c d)) ls true (operand is_mutable c (λ k j. into is_mutable ts k j c) ∷ []) (λ es j. put_first (break_unless (first_of es)) (into is_mutable ts discard j d)) j (each_one c good_c around ts ls true h.0 em j) (λ es i. break-good (Own d) ls i (first_of es) (into is_mutable ts discard i d) (good_d around ts ls true discard i h.1 em)) h.2 (λ x o. inl o) (λ x o. inr o)
+  while_good p c d good_c good_d around ts ls j h em = good-use (Own c) (Own d) (Own (while_loop p c d)) ls true (operand is_mutable sure c (λ k j. into is_mutable sure ts k j c) ∷ []) (λ es j. put_first (break_unless (first_of es)) (into is_mutable sure ts discard j d)) j (each_one c good_c around ts ls true h.0 em j) (λ es i. break-good (Own d) ls i (first_of es) (into is_mutable sure ts discard i d) (good_d around ts ls true discard i h.1 em)) h.2 (λ x o. inl o) (λ x o. inr o)
 
   pub do_good : (p : Position) (d c : Term) → TreeGood d → TreeGood c → (around : List (List ℕ)) (ts : Targets) (ls : List (List ℕ)) (j : ℕ) → Once around (do_while p d c) → Emitted around ts ls → Good (Own (do_while p d c)) ls true j (do_code d c ts j)
-  do_good p d c good_d good_c around ts ls j h em = good-joined (Own d) (Own c) (Own (do_while p d c)) ls true j (into is_mutable ts discard j d) (then_use (spill (operand is_mutable c (λ k j. into is_mutable ts k j c) ∷ []) (into is_mutable ts discard j d).next) (λ es. one (break_unless (first_of es)))) (good_d around ts ls true discard j h.0 em) (act_good c good_c (Own c) (all_part (Own c)) around ts ls true (into is_mutable ts discard j d).next (λ es. one (break_unless (first_of es))) h.1 em (λ es i. break-good no_name ls i (first_of es) (no_code i) (good-none no_name ls true i))) h.2 (λ x o. inl o) (λ x o. inr o)
+  do_good p d c good_d good_c around ts ls j h em = good-joined (Own d) (Own c) (Own (do_while p d c)) ls true j (into is_mutable sure ts discard j d) (then_use (spill (operand is_mutable sure c (λ k j. into is_mutable sure ts k j c) ∷ []) (into is_mutable sure ts discard j d).next) (λ es. one (break_unless (first_of es)))) (good_d around ts ls true discard j h.0 em) (act_good c good_c (Own c) (all_part (Own c)) around ts ls true (into is_mutable sure ts discard j d).next (λ es. one (break_unless (first_of es))) h.1 em (λ es i. break-good no_name ls i (first_of es) (no_code i) (good-none no_name ls true i))) h.2 (λ x o. inl o) (λ x o. inr o)
 
   mutual
     pub good : (t : Term) → TreeGood t
@@ -132,21 +136,20 @@ module _ (is_mutable sure : List ℕ → Bool) where
     good (block_of p es) = λ around ts ls b k j h em. good_block es around ts ls b k j h em
     good (labeled p l t e) = λ around ts ls b k j h em. labeled-good (Own e) ls b j k p l (into is_mutable sure (target l k ∷ ts) k j e) (λ i. h.0 (em.outer l i)) (good e (l ∷ around) (target l k ∷ ts) (inside k l ls) b k j h.1 (emitted-inside around ts ls l k em))
     good (assign p (var_ref q x t) e) = λ around ts ls b k j h em. act_good e (good e) (Own e) (all_part (Own e)) around ts ls b j (λ es. one (core.assign_to (Some p) (core.named x) (coerced t (type_of_term e) (first_of es)))) h em (λ es i. good-one no_name ls b i i (core.assign_to (Some p) (core.named x) (coerced t (type_of_term e) (first_of es))) (omega arith) (λ y d. d) tt)
-<<<<<<< HEAD
-    good (return_to p e l) = λ around ts ls b k j h em. leaving-good (Own e) ls b j (target_of ts l) p l (into is_mutable ts (target_of ts l) j e) (λ i. em.has l h.0 i) (good e around ts ls b (target_of ts l) j h.1 em)
-    good (if_then p c a d t) = λ around ts ls b k j h em. act_good c (good c) (Own (if_then p c a d t)) (λ x o. inl o) around ts ls b j (λ es j. branches p (first_of es) (into is_mutable ts k j a) (λ j. into is_mutable ts k j d)) h.0 em (λ es i. branches-good (Own a) (Own d) no_name ls b p (first_of es) (into is_mutable ts k i a) (λ j. into is_mutable ts k j d) i (good a around ts ls b k i h.1 em) (good d around ts ls b k (into is_mutable ts k i a).next h.2 em))
-    good (while_loop p c d) = λ around ts ls b k j h em. either-good (Own (while_loop p c d)) ls b (is_plain c) j (wrapped (core.while_of (Some p) (expression_of c)) (into is_mutable ts discard j d)) (wrapped (core.while_of (Some p) (core.boolean_value true)) (while_code c d ts j)) (let g = good d around ts ls true discard j h.1 em in good-one (Own (while_loop p c d)) ls b j (into is_mutable ts discard j d).next (core.while_of (Some p) (expression_of c) (into is_mutable ts discard j d).statements) g.onward (λ y i. i) (g.distinct, g.proper)) (let g = while_good p c d (good c) (good d) around ts ls j h em in good-one (Own (while_loop p c d)) ls b j (while_code c d ts j).next (core.while_of (Some p) (core.boolean_value true) (while_code c d ts j).statements) g.onward (λ y i. i) (g.distinct, g.proper))
-    good (do_while p d c) = λ around ts ls b k j h em. let g = do_good p d c (good d) (good c) around ts ls j h em in good-one (Own (do_while p d c)) ls b j (do_code d c ts j).next (core.loop_of (Some p) (do_code d c ts j).statements) g.onward (λ y i. i) (g.distinct, g.proper)
-    good (match_on p e cs d t) = λ around ts ls b k j h em. act_good e (good e) (Own (match_on p e cs d t)) (λ x o. inl o) around ts ls b j (λ es j. switch_code p (first_of es) (cases is_mutable ts k j cs) (λ j. into is_mutable ts k j d)) h.0 em (λ es i. switch-good no_name (Own d) ls b p (first_of es) (cases is_mutable ts k i cs) (λ j. into is_mutable ts k j d) i (good_cases cs around ts ls k i h.1 em) (good d around ts ls true k (cases is_mutable ts k i cs).next h.2 em))
-    good (apply_static p c n m es t) = λ around ts ls b k j h em. good-use (OwnAll es) no_name (OwnAll es) ls b (operands is_mutable ts es) (λ xs. finish k p t false (core.static_call (member c n m) (expressions_of (coerced_arguments m.params (types_of es) xs)))) j (good_operands es around ts ls b h em j) (λ xs i. finish-good no_name ls b k p t false (core.static_call (member c n m) (expressions_of (coerced_arguments m.params (types_of es) xs))) i) (nothing_apart (OwnAll es)) (all_part (OwnAll es)) (no_part (OwnAll es))
-=======
+    good (assign p (select q d c f t) e) = λ around ts ls b k j h em. good-use (Own (assign p (select q d c f t) e)) no_name (Own (assign p (select q d c f t) e)) ls b (receiver_in d ts ∷ operand is_mutable sure e (λ k j. into is_mutable sure ts k j e) ∷ []) (λ es. one (core.assign_field (Some p) (first_of es) c f (coerced t (type_of_term e) (second_of es)))) j (receiver_first d (good d) (Own e) (Own (assign p (select q d c f t) e)) (operand is_mutable sure e (λ k j. into is_mutable sure ts k j e) ∷ []) h.2 (λ x o. inl o) (λ x o. inr o) around ts ls b h.0 em (each_one e (good e) around ts ls b h.1 em) j) (λ es i. good-one no_name ls b i i (core.assign_field (Some p) (first_of es) c f (coerced t (type_of_term e) (second_of es))) (omega arith) (λ y d. d) tt) (nothing_apart (Own (assign p (select q d c f t) e))) (all_part (Own (assign p (select q d c f t) e))) (no_part (Own (assign p (select q d c f t) e)))
+    good (assign p (select_static q c f t) e) = λ around ts ls b k j h em. act_good e (good e) (Own e) (all_part (Own e)) around ts ls b j (λ es. one (core.assign_static (Some p) c f (coerced t (type_of_term e) (first_of es)))) h em (λ es i. good-one no_name ls b i i (core.assign_static (Some p) c f (coerced t (type_of_term e) (first_of es))) (omega arith) (λ y d. d) tt)
+    good (throw p e) = λ around ts ls b k j h em. act_good e (good e) (Own e) (all_part (Own e)) around ts ls b j (λ es. one (core.throw_of (Some p) (coerced Any (type_of_term e) (first_of es)))) h em (λ es i. good-one no_name ls b i i (core.throw_of (Some p) (coerced Any (type_of_term e) (first_of es))) (omega arith) (λ y d. d) tt)
     good (return_to p e l) = λ around ts ls b k j h em. leaving-good (Own e) ls b j (target_of ts l) p l (into is_mutable sure ts (target_of ts l) j e) (λ i. em.has l h.0 i) (good e around ts ls b (target_of ts l) j h.1 em)
     good (if_then p c a d t) = λ around ts ls b k j h em. act_good c (good c) (Own (if_then p c a d t)) (λ x o. inl o) around ts ls b j (λ es j. branches p (first_of es) (into is_mutable sure ts k j a) (λ j. into is_mutable sure ts k j d)) h.0 em (λ es i. branches-good (Own a) (Own d) no_name ls b p (first_of es) (into is_mutable sure ts k i a) (λ j. into is_mutable sure ts k j d) i (good a around ts ls b k i h.1 em) (good d around ts ls b k (into is_mutable sure ts k i a).next h.2 em))
-    good (while_loop p c d) = λ around ts ls b k j h em. either-good (Own (while_loop p c d)) ls b (is_plain c) j (wrapped (core.while_of (Some p) (expression_of sure c)) (into is_mutable sure ts discard j d)) (wrapped (core.while_of (Some p) (core.boolean_value true)) (while_code c d ts j)) (let g = good d around ts ls true discard j h.1 em in good-one (Own (while_loop p c d)) ls b j (into is_mutable sure ts discard j d).next (core.while_of (Some p) (expression_of sure c) (into is_mutable sure ts discard j d).statements) g.onward (λ y i. i) (g.distinct, g.proper)) (let g = good-use (Own c) (Own d) (Own (while_loop p c d)) ls true (operand is_mutable sure c (λ k j. into is_mutable sure ts k j c) ∷ []) (λ es j. put_first (break_unless (first_of es)) (into is_mutable sure ts discard j d)) j (each_one c (good c) around ts ls true h.0 em j) (λ es i. break-good (Own d) ls i (first_of es) (into is_mutable sure ts discard i d) (good d around ts ls true discard i h.1 em)) h.2 (λ x o. inl o) (λ x o. inr o) in good-one (Own (while_loop p c d)) ls b j (while_code c d ts j).next (core.while_of (Some p) (core.boolean_value true) (while_code c d ts j).statements) g.onward (λ y i. i) (g.distinct, g.proper))
-    good (do_while p d c) = λ around ts ls b k j h em. let g = good-joined (Own d) (Own c) (Own (do_while p d c)) ls true j (into is_mutable sure ts discard j d) (then_use (spill (operand is_mutable sure c (λ k j. into is_mutable sure ts k j c) ∷ []) (into is_mutable sure ts discard j d).next) (λ es. one (break_unless (first_of es)))) (good d around ts ls true discard j h.0 em) (act_good c (good c) (Own c) (all_part (Own c)) around ts ls true (into is_mutable sure ts discard j d).next (λ es. one (break_unless (first_of es))) h.1 em (λ es i. break-good no_name ls i (first_of es) (no_code i) (good-none no_name ls true i))) h.2 (λ x o. inl o) (λ x o. inr o) in good-one (Own (do_while p d c)) ls b j (do_code d c ts j).next (core.loop_of (Some p) (do_code d c ts j).statements) g.onward (λ y i. i) (g.distinct, g.proper)
+    good (while_loop p c d) = λ around ts ls b k j h em. either-good (Own (while_loop p c d)) ls b (is_plain c) j (wrapped (core.while_of (Some p) (expression_of sure c)) (into is_mutable sure ts discard j d)) (wrapped (core.while_of (Some p) (core.boolean_value true)) (while_code c d ts j)) (let g = good d around ts ls true discard j h.1 em in good-one (Own (while_loop p c d)) ls b j (into is_mutable sure ts discard j d).next (core.while_of (Some p) (expression_of sure c) (into is_mutable sure ts discard j d).statements) g.onward (λ y i. i) (g.distinct, g.proper)) (let g = while_good p c d (good c) (good d) around ts ls j h em in good-one (Own (while_loop p c d)) ls b j (while_code c d ts j).next (core.while_of (Some p) (core.boolean_value true) (while_code c d ts j).statements) g.onward (λ y i. i) (g.distinct, g.proper))
+    good (do_while p d c) = λ around ts ls b k j h em. let g = do_good p d c (good d) (good c) around ts ls j h em in good-one (Own (do_while p d c)) ls b j (do_code d c ts j).next (core.loop_of (Some p) (do_code d c ts j).statements) g.onward (λ y i. i) (g.distinct, g.proper)
     good (match_on p e cs d t) = λ around ts ls b k j h em. act_good e (good e) (Own (match_on p e cs d t)) (λ x o. inl o) around ts ls b j (λ es j. switch_code p (first_of es) (cases is_mutable sure ts k j cs) (λ j. into is_mutable sure ts k j d)) h.0 em (λ es i. switch-good no_name (Own d) ls b p (first_of es) (cases is_mutable sure ts k i cs) (λ j. into is_mutable sure ts k j d) i (good_cases cs around ts ls k i h.1 em) (good d around ts ls true k (cases is_mutable sure ts k i cs).next h.2 em))
     good (apply_static p c n m es t) = λ around ts ls b k j h em. good-use (OwnAll es) no_name (OwnAll es) ls b (operands is_mutable sure ts es) (λ xs. finish k p t false (core.static_call (member c n m) (expressions_of (coerced_arguments m.params (types_of es) xs)))) j (good_operands es around ts ls b h em j) (λ xs i. finish-good no_name ls b k p t false (core.static_call (member c n m) (expressions_of (coerced_arguments m.params (types_of es) xs))) i) (nothing_apart (OwnAll es)) (all_part (OwnAll es)) (no_part (OwnAll es))
->>>>>>> 6a46694
+    good (apply_statically p e c n m es t) = λ around ts ls b k j h em. good-use (Own (apply_statically p e c n m es t)) no_name (Own (apply_statically p e c n m es t)) ls b (receiver_in e ts ∷ operands is_mutable sure ts es) (λ xs. finish k p t false (core.receiver_call (member c n m) (coerced_receiver (type_of_term e) (first_of xs)) (expressions_of (coerced_arguments m.params (types_of es) (rest_of xs))))) j (receiver_first e (good e) (OwnAll es) (Own (apply_statically p e c n m es t)) (operands is_mutable sure ts es) h.2 (λ x o. inl o) (λ x o. inr o) around ts ls b h.0 em (good_operands es around ts ls b h.1 em) j) (λ xs i. finish-good no_name ls b k p t false (core.receiver_call (member c n m) (coerced_receiver (type_of_term e) (first_of xs)) (expressions_of (coerced_arguments m.params (types_of es) (rest_of xs)))) i) (nothing_apart (Own (apply_statically p e c n m es t))) (all_part (Own (apply_statically p e c n m es t))) (no_part (Own (apply_statically p e c n m es t)))
+    good (new_object p c m es) = λ around ts ls b k j h em. good-use (OwnAll es) no_name (OwnAll es) ls b (operands is_mutable sure ts es) (λ xs. finish k p (class_type c) false (core.made_of (member c Constructor m) (expressions_of (coerced_arguments m.params (types_of es) xs)))) j (good_operands es around ts ls b h em j) (λ xs i. finish-good no_name ls b k p (class_type c) false (core.made_of (member c Constructor m) (expressions_of (coerced_arguments m.params (types_of es) xs))) i) (nothing_apart (OwnAll es)) (all_part (OwnAll es)) (no_part (OwnAll es))
+    good (select p e c f t) = λ around ts ls b k j h em. good-use (Own e) no_name (Own e) ls b (receiver_in e ts ∷ []) (λ es. finish k p t false (core.field_of (first_of es) c f)) j (receiver_first e (good e) no_name (Own e) [] (nothing_apart (Own e)) (all_part (Own e)) (no_part (Own e)) around ts ls b h em (λ j. good-none no_name ls b j) j) (λ es i. finish-good no_name ls b k p t false (core.field_of (first_of es) c f) i) (nothing_apart (Own e)) (all_part (Own e)) (no_part (Own e))
+    good (select_static p c f t) = λ around ts ls b k j h em. finish-good no_name ls b k p t false (core.static_of c f) j
+    good (this_ref p t) = λ around ts ls b k j h em. finish-good no_name ls b k p t true (core.variable_use core.receiver) j
     good (unary_op p o e) = λ around ts ls b k j h em. act_good e (good e) (Own e) (all_part (Own e)) around ts ls b j (λ es. finish k p (unary_result o) false (core.unary_of o (first_of es))) h em (λ es i. finish-good no_name ls b k p (unary_result o) false (core.unary_of o (first_of es)) i)
     good (binary_op p o e d) = λ around ts ls b k j h em. good-use (Own (binary_op p o e d)) no_name (Own (binary_op p o e d)) ls b (operand is_mutable sure e (λ k j. into is_mutable sure ts k j e) ∷ operand is_mutable sure d (λ k j. into is_mutable sure ts k j d) ∷ []) (λ es. finish k p (binary_result o) false (core.binary_of o (operand_of o (type_of_term e) (first_of es)) (operand_of o (type_of_term d) (second_of es)))) j (operand-good (Own e) (Own d) (Own (binary_op p o e d)) ls b (operand is_mutable sure e (λ k j. into is_mutable sure ts k j e)) (operand is_mutable sure d (λ k j. into is_mutable sure ts k j d) ∷ []) (λ k j. good e around ts ls b k j h.0 em) (each_one d (good d) around ts ls b h.1 em) h.2 (λ x o. inl o) (λ x o. inr o) j) (λ es i. finish-good no_name ls b k p (binary_result o) false (core.binary_of o (operand_of o (type_of_term e) (first_of es)) (operand_of o (type_of_term d) (second_of es))) i) (nothing_apart (Own (binary_op p o e d))) (all_part (Own (binary_op p o e d))) (no_part (Own (binary_op p o e d)))
     good (undefined_literal p) = λ around ts ls b k j h em. finish-good no_name ls b k p Undefined true core.undefined_value j
@@ -171,11 +174,7 @@ module _ (is_mutable sure : List ℕ → Bool) where
     good_operands no_terms around ts ls b h em = λ j. good-none (OwnAll no_terms) ls b j
     good_operands (more_terms t es) around ts ls b h em = operand-good (Own t) (OwnAll es) (OwnAll (more_terms t es)) ls b (operand is_mutable sure t (λ k j. into is_mutable sure ts k j t)) (operands is_mutable sure ts es) (λ k j. good t around ts ls b k j h.0 em) (good_operands es around ts ls b h.1 em) h.2 (λ x o. inl o) (λ x o. inr o)
 
-<<<<<<< HEAD
-    pub good_cases : (cs : Cases) (around : List (List ℕ)) (ts : Targets) (ls : List (List ℕ)) (k : Destination) (j : ℕ) → OnceCases around cs → Emitted around ts ls → GoodCases ls j (cases is_mutable ts k j cs)
-=======
-    good_cases : (cs : Cases) (around : List (List ℕ)) (ts : Targets) (ls : List (List ℕ)) (k : Destination) (j : ℕ) → OnceCases around cs → Emitted around ts ls → GoodCases ls j (cases is_mutable sure ts k j cs)
->>>>>>> 6a46694
+    pub good_cases : (cs : Cases) (around : List (List ℕ)) (ts : Targets) (ls : List (List ℕ)) (k : Destination) (j : ℕ) → OnceCases around cs → Emitted around ts ls → GoodCases ls j (cases is_mutable sure ts k j cs)
     good_cases no_cases around ts ls k j h em = record { onward = omega arith; proper = tt }
     good_cases (more_cases [] t cs) around ts ls k j h em = good_cases cs around ts ls k j h.1 em
     good_cases (more_cases (n ∷ ns) t cs) around ts ls k j h em = case-good-in (Own t) ls j (n ∷ ns) (into is_mutable sure ts k j t) (λ j. cases is_mutable sure ts k j cs) (good t around ts ls true k j h.0 em) (good_cases cs around ts ls k (into is_mutable sure ts k j t).next h.1 em)

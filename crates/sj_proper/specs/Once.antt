@@ -2,7 +2,7 @@
 use Rattle.std.specs.Prelude.{◌≡◌, ℕ, List, [], ◌∷◌, ◌⊎◌}
 use Rattle.sj_desugar.specs.Desugar.{names_of}
 use Rattle.sj_trees.specs.declared.classes.MethodDef.{MethodDef}
-use Rattle.sj_trees.specs.Term.{Term, Terms, no_terms, more_terms, Cases, no_cases, more_cases, var_def, block_of, labeled, assign, return_to, if_then, while_loop, do_while, match_on, apply_static, unary_op, binary_op, log_line}
+use Rattle.sj_trees.specs.Term.{Term, Terms, no_terms, more_terms, Cases, no_cases, more_cases, var_def, block_of, labeled, assign, return_to, if_then, while_loop, do_while, throw, match_on, new_object, select, apply_statically, apply_static, unary_op, binary_op, log_line}
 use Rattle.body_rules.specs.Locals.{Own, OwnAll, OwnCases, IsParameter}
 
 abbrev pub IsAmong : List (List ℕ) → List ℕ → Type 0
@@ -19,12 +19,17 @@ abbrev mutual
   Once ls (var_def p x t b e) = (Own e x → ⊥) × Once ls e
   Once ls (block_of p ts) = OnceAll ls ts
   Once ls (labeled p l t e) = (IsAmong ls l → ⊥) × Once (l ∷ ls) e
+  Once ls (assign p (select q d c f t) e) = Once ls d × Once ls e × Apart (Own d) (Own e)
   Once ls (assign p d e) = Once ls e
+  Once ls (throw p e) = Once ls e
   Once ls (return_to p e l) = IsAmong ls l × Once ls e
   Once ls (if_then p c a b t) = Once ls c × Once ls a × Once ls b × Apart (Own c) (Own a) × Apart (Own c) (Own b) × Apart (Own a) (Own b)
   Once ls (while_loop p c b) = Once ls c × Once ls b × Apart (Own c) (Own b)
   Once ls (do_while p b c) = Once ls b × Once ls c × Apart (Own b) (Own c)
   Once ls (match_on p e cs d t) = Once ls e × OnceCases ls cs × Once ls d × Apart (Own e) (OwnCases cs) × Apart (Own e) (Own d) × Apart (OwnCases cs) (Own d)
+  Once ls (new_object p c m ts) = OnceAll ls ts
+  Once ls (select p e c f t) = Once ls e
+  Once ls (apply_statically p e c n m ts t) = Once ls e × OnceAll ls ts × Apart (Own e) (OwnAll ts)
   Once ls (apply_static p c n m ts t) = OnceAll ls ts
   Once ls (unary_op p o e) = Once ls e
   Once ls (binary_op p o e d) = Once ls e × Once ls d × Apart (Own e) (Own d)
