@@ -38,7 +38,7 @@ use Rattle.body_rules.proofs.Mutable.{of_first, of_second, of_definition, front,
 use Rattle.sj_plain.specs.Conditions.{IsNoConstruction, Plain}
 use Rattle.sj_desugar.specs.Plain.{is_plain, mutable_in, mutable_in_all, mutable_in_cases}
 use Rattle.sj_bodies.proofs.Parts.{plain_at, tree_in, operand_in, operand_by, amid-behind, amid-inside, one_mutable, other_mutable, given_up, fits, fits-value, yields, asks-left, asks-right}
-use Rattle.body_rules.proofs.Fitting.{fits-sub, fit-all, fits-dividend, operates, unary-value, binary-value, unary-operand-value, left-operand-value}
+use Rattle.body_rules.proofs.Fitting.{fits-sub, fit-all, fits-unary, fits-dividend, operates, unary-value, binary-value, unary-operand-value, left-operand-value}
 use Rattle.body_rules.proofs.Locals.{there, typed-there, local-value}
 use Rattle.body_rules.proofs.RulesGive.{Takes, FitsType, ArgumentsFit, class_has_value, fits_there, yields_there, one_yields, other_yields, leaves_there, arguments_there, is_linked, operation, result_is}
 use Rattle.sj_names.specs.declared.references.TypeRef.{TypeRef}
@@ -131,7 +131,7 @@ module _ (z : Setting) (lawful : Lawful z) (low : LowAlike z) where
   if_does p a b d t does_a does_b does_d c k j sound ahead out wr fine = of_operands z lawful c k (piece z lawful low c.targets a ∷ []) j (ir_meaning.branch (ir_meaning.step z.place.classes z.low b) (ir_meaning.step z.place.classes z.low d)) (λ es i. branches p (first_of es) (into z.is_mutable z.code.sure c.targets k i b) (λ i. into z.is_mutable z.code.sure c.targets k i d)) sound ahead (operand_does z lawful low c j a does_a (outside-part c (Own (if_then p a b d t)) (Own a) (λ x o. inl o) out) (part_of c fine.scene fine.amid a (of_first z.is_mutable (mutable_in a) (λ xs. mutable_in b (mutable_in d xs)) (front a) fine.written) Boolean fine.typed.0.meets.0 refl fine.typed.1 fine.around fine.once.0), tt) (one_final z lawful c k j (type_of_term a) (ir_meaning.branch (ir_meaning.step z.place.classes z.low b) (ir_meaning.step z.place.classes z.low d)) (λ es i. branches p (first_of es) (into z.is_mutable z.code.sure c.targets k i b) (λ i. into z.is_mutable z.code.sure c.targets k i d)) (if_final z lawful c k p (λ i. into z.is_mutable z.code.sure c.targets k i b) (λ i. into z.is_mutable z.code.sure c.targets k i d) (ir_meaning.step z.place.classes z.low b) (ir_meaning.step z.place.classes z.low d) j sound wr (λ i l. (written z.is_mutable z.code.sure c.targets b k i fine.once.1).onward) (λ i l ah. undeclared c (Own b) i (into z.is_mutable z.code.sure c.targets k i b) (outside-part c (Own (if_then p a b d t)) (Own b) (λ x o. inr (inl o)) out) ah (written z.is_mutable z.code.sure c.targets b k i fine.once.1)) (λ i l ah. undeclared c (Own d) i (into z.is_mutable z.code.sure c.targets k i d) (outside-part c (Own (if_then p a b d t)) (Own d) (λ x o. inr (inr o)) out) ah (written z.is_mutable z.code.sure c.targets d k i fine.once.2)) (λ i l ah. does_b c k i sound ah (outside-part c (Own (if_then p a b d t)) (Own b) (λ x o. inr (inl o)) out) wr (tree c fine.scene fine.amid k b (one_mutable z.is_mutable b d (of_second z.is_mutable (mutable_in a) (λ xs. mutable_in b (mutable_in d xs)) (front a) fine.written)) (yields z.place.classes lawful.base.ordered k b t fine.asks (one_yields z.place.classes b d t fine.typed.0.built fine.typed.0.meets.1)) fine.typed.2 fine.around fine.once.1)) (λ i l ah. does_d c k i sound ah (outside-part c (Own (if_then p a b d t)) (Own d) (λ x o. inr (inr o)) out) wr (tree c fine.scene fine.amid k d (other_mutable z.is_mutable b d (of_second z.is_mutable (mutable_in a) (λ xs. mutable_in b (mutable_in d xs)) (front a) fine.written)) (yields z.place.classes lawful.base.ordered k d t fine.asks (other_yields z.place.classes b d t fine.typed.0.built fine.typed.0.meets.2)) fine.typed.3 fine.around fine.once.2)) (type_of_term a)))
 
   unary_does : (p : Position) (o : UnaryOp) (e : Term) → TreeDoes z lawful low e → TreeDoes z lawful low (unary_op p o e)
-  unary_does p o e does c k j sound ahead out wr fine = of_operands z lawful c k (piece z lawful low c.targets e ∷ []) j (ir_meaning.unary z.place.classes z.low o) (λ es. finish k p (unary_result o) false (core.unary_of o (first_of es))) sound ahead (operand_does z lawful low c j e does out (part_of c fine.scene fine.amid e fine.written (unary_operand o) fine.typed.0.meets (unary-operand-value o) fine.typed.1 fine.around fine.once), tt) (one_final z lawful c k j (type_of_term e) (ir_meaning.unary z.place.classes z.low o) (λ es. finish k p (unary_result o) false (core.unary_of o (first_of es))) (finish_one z lawful low c k p (type_of_term e) (unary_result o) (ir_meaning.unary z.place.classes z.low o) (core.unary_of o) j sound wr (fits-value z.place.classes lawful.base.ordered k (unary_result o) fine.asks (unary-value o)) (λ r x w env s sc u alike same. unary_alike z lawful c.scope o (type_of_term e) r x w env s sc u alike same)))
+  unary_does p o e does c k j sound ahead out wr fine = of_operands z lawful c k (piece z lawful low c.targets e ∷ []) j (ir_meaning.unary z.place.classes z.low o) (λ es. finish k p (unary_result o) false (core.unary_of o (first_of es))) sound ahead (operand_does z lawful low c j e does out (part_of c fine.scene fine.amid e fine.written (unary_operand o) fine.typed.0.meets (unary-operand-value o) fine.typed.1 fine.around fine.once), tt) (one_final z lawful c k j (type_of_term e) (ir_meaning.unary z.place.classes z.low o) (λ es. finish k p (unary_result o) false (core.unary_of o (first_of es))) (finish_one z lawful low c k p (type_of_term e) (unary_result o) (ir_meaning.unary z.place.classes z.low o) (core.unary_of o) j sound wr (fits-value z.place.classes lawful.base.ordered k (unary_result o) fine.asks (unary-value o)) (λ r x w env s sc u alike same. unary_alike z lawful c.scope o (type_of_term e) r x (fits-unary z.place.classes lawful.base.ordered o (type_of_term e) fine.typed.0.meets) w env s sc u alike same)))
 
   binary_final : (p : Position) (o : BinaryOp) (s t : IrType) (c : Context) (k : Destination) (j : ℕ) → Operates o s t → Sound z.is_mutable c → Writes c.writable k → FitsIn k (binary_result o) → (w : World) (sc : js.Scope) → TwoFinal z lawful c k w sc j s t (ir_meaning.binary z.place.classes z.low o) (λ es. finish k p (binary_result o) false (core.binary_of o (operand_of o s (first_of es)) (operand_of o t (second_of es))))
   binary_final p o m n c k j operates sound wr fits from before i r q e d w env s sc u ahead l g ready ks same operands = finish_alike z lawful c k p (binary_result o) (core.binary_of o (operand_of o m e) (operand_of o n d)) i sound wr fits w from before env (ir_meaning.in_order (r ∷ q ∷ []) (ir_meaning.binary z.place.classes z.low o) env s) sc u g ks ready (binary_alike z lawful c.scope o m n r q e d operates w env s sc u operands same)
@@ -169,7 +169,7 @@ module _ (z : Setting) (lawful : Lawful z) (low : LowAlike z) where
   scene_behind x t b s = record { owner = s.owner; space = s.space; sure = s.sure; locals = record { name = x; «mutable» = b; tpe = t } ∷ s.locals; labels = s.labels }
 
   defined_does : (p : Position) (x : List ℕ) (t : IrType) (b : Bool) (e u : Term) (us : Terms) → TreeDoes z lawful low e → BlockDoes (more_terms u us) → BlockDoes (more_terms (var_def p x t b e) (more_terms u us))
-  defined_does p x t b e u us does others c k j sound ahead out wr scene amid mut i asks typed labels once w env s sc q r same = one_and_rest (var_def p x t b e) (more_terms u us) us c k j (with_local x t c.scope) w env s sc q (define_does z lawful low p x t b e does c j sound ahead out_first (tree c scene amid discard (var_def p x t b e) (of_first z.is_mutable (mutable_in (var_def p x t b e)) (mutable_in_all (more_terms u us)) (front (var_def p x t b e)) mut) tt typed.0 labels once.0) w env s sc q r same) (λ y v env s sc' q g ready ks same. sim_weaken z.direction (Came z.place z.code (behind z c x t) (behind z c x t).scope k y sc') (Came z.place z.code c c.scope k w sc) (ir_meaning.block z.place.classes z.low (more_terms u us) env s) (run z (block z.is_mutable z.code.sure c.targets k next (more_terms u us)).statements sc' q) (came-narrow z lawful c (behind z c x t) (behind z c x t).scope c.scope k w y sc sc' refl refl (λ l h. h) (λ h. h) (none_hidden c x t (λ i. out.scope x i (inl (inl refl)))) (none_hidden c x t (λ i. out.scope x i (inl (inl refl)))) (λ y h. inr h) g ks) (others (behind z c x t) k next (sound-behind c x t sound (out.writable x (inl (inl refl))) (out.kept x (inl (inl refl)))) (ahead-behind c x t next (ahead-later z lawful c j next (written z.is_mutable z.code.sure c.targets (var_def p x t b e) discard j once.0).onward ahead)) (outside-behind c x t (more_terms u us) (outside-part c (OwnAll (more_terms (var_def p x t b e) (more_terms u us))) (OwnAll (more_terms u us)) (λ x o. inr o) out) (typed.1 x refl)) wr (scene_behind x t b scene) (amid-behind z.place.classes z.is_mutable c.scope (around c) scene x t b amid typed.0.0.finds.0 (of_definition z.is_mutable b x (mutable_in e) (of_first z.is_mutable (mutable_in (var_def p x t b e)) (mutable_in_all (more_terms u us)) (front (var_def p x t b e)) mut))) (of_second z.is_mutable (mutable_in (var_def p x t b e)) (mutable_in_all (more_terms u us)) (front (var_def p x t b e)) mut) NoType asks typed.2 labels once.1 y env s sc' q ready same))
+  defined_does p x t b e u us does others c k j sound ahead out wr scene amid mut i asks typed labels once w env s sc q r same = one_and_rest (var_def p x t b e) (more_terms u us) us c k j (with_local x t c.scope) w env s sc q (define_does z lawful low p x t b e does c j sound ahead out_first (tree c scene amid discard (var_def p x t b e) (of_first z.is_mutable (mutable_in (var_def p x t b e)) (mutable_in_all (more_terms u us)) (front (var_def p x t b e)) mut) tt typed.0 labels once.0) w env s sc q r same) (λ y v env s sc' q g ready ks same. sim_weaken z.direction (Came z.place z.code (behind z c x t) (behind z c x t).scope k y sc') (Came z.place z.code c c.scope k w sc) (ir_meaning.block z.place.classes z.low (more_terms u us) env s) (run z (block z.is_mutable z.code.sure c.targets k next (more_terms u us)).statements sc' q) (came-narrow z lawful c (behind z c x t) (behind z c x t).scope c.scope k w y sc sc' refl refl (λ l h. h) (λ h. h) (none_hidden c x t (λ i. out.scope x i (inl (inl refl)))) (none_hidden c x t (λ i. out.scope x i (inl (inl refl)))) (λ y h. inr h) g ks) (others (behind z c x t) k next (sound-behind c x t sound (out.writable x (inl (inl refl))) (out.kept x (inl (inl refl)))) (ahead-behind c x t next (ahead-later z lawful c j next (written z.is_mutable z.code.sure c.targets (var_def p x t b e) discard j once.0).onward ahead)) (outside-behind c x t (more_terms u us) (outside-part c (OwnAll (more_terms (var_def p x t b e) (more_terms u us))) (OwnAll (more_terms u us)) (λ x o. inr o) out) (typed.1 x refl)) wr (scene_behind x t b scene) (amid-behind z.place.classes z.is_mutable z.code c.scope (around c) scene x t b amid typed.0.0.finds.0 (of_definition z.is_mutable b x (mutable_in e) (of_first z.is_mutable (mutable_in (var_def p x t b e)) (mutable_in_all (more_terms u us)) (front (var_def p x t b e)) mut))) (of_second z.is_mutable (mutable_in (var_def p x t b e)) (mutable_in_all (more_terms u us)) (front (var_def p x t b e)) mut) NoType asks typed.2 labels once.1 y env s sc' q ready same))
     where
       next : ℕ
       next = (into z.is_mutable z.code.sure c.targets discard j (var_def p x t b e)).next

@@ -36,14 +36,6 @@ use Rattle.typing_rules.specs.Nodes.{inside}
 use Rattle.built_forms.proofs.Around.{type_inside}
 use Rattle.body_rules.proofs.Mutable.{of_first, of_second, of_value, front}
 
--- what joins to a text is of a type at which no object stands
-bare-text : (t : IrType) → IsText t → is_bare t ≡ true
-bare-text Any h = absurd h
-bare-text (Class c) h = subst (λ n. is_bare (Class n) ≡ true) (sym h) refl
-bare-text (Array r) h = absurd h
-bare-text NoType h = absurd h
-bare-text t h = refl
-
 -- what isn't plain isn't fixed
 pub not_fixed : (is_mutable : List ℕ → Bool) (t : Term) → is_plain t ≡ false → is_fixed is_mutable t ≡ false
 not_fixed is_mutable (undefined_literal p) h = impossible (sym h)

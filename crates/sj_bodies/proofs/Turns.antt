@@ -82,7 +82,7 @@ module _ (z : Setting) (lawful : Lawful z) (low : LowAlike z) where
     free_body c j ahead out labels once = undeclared c (Own b) j (body_code c j) (out_b c out) ahead (written z.is_mutable z.code.sure c.targets b discard j once)
 
     free_spilled : (c : Context) (j : ℕ) → Ahead c j → Outside c (Own (while_loop p cond b)) → (labels : List (List ℕ)) → Once labels (while_loop p cond b) → Undeclared c (spilled_code c j).statements
-    free_spilled c j ahead out labels once = undeclared c (Own (while_loop p cond b)) j (spilled_code c j) out ahead (while_good z.is_mutable p cond b (good z.is_mutable cond) (good z.is_mutable b) labels c.targets labels j once (emitted_alike labels c.targets))
+    free_spilled c j ahead out labels once = undeclared c (Own (while_loop p cond b)) j (spilled_code c j) out ahead (while_good z.is_mutable z.code.sure p cond b (good z.is_mutable z.code.sure cond) (good z.is_mutable z.code.sure b) labels c.targets labels j once (emitted_alike labels c.targets))
 
     -- the value of the loop is given up
     while_by : (c : Context) (k : Destination) (j : ℕ) → Sound z.is_mutable c → Ahead c j → Outside c (Own (while_loop p cond b)) → Writes c.writable k → Fine z.place.classes z.is_mutable (usable z) z.code c.scope (around c) k (while_loop p cond b) → IsDiscard k × FineOperand z.place.classes z.is_mutable (usable z) z.code c.scope cond (λ y. Fine z.place.classes z.is_mutable (usable z) z.code c.scope (around c) (to_variable y (type_of_term cond)) cond) → Does z lawful c k j (while_loop p cond b)
@@ -100,7 +100,7 @@ module _ (z : Setting) (lawful : Lawful z) (low : LowAlike z) where
     inner_code c j = then_code (into z.is_mutable z.code.sure c.targets discard j b) (test_code c)
 
     free_inner : (c : Context) (j : ℕ) → Ahead c j → Outside c (Own (do_while p b cond)) → (labels : List (List ℕ)) → Once labels (do_while p b cond) → Undeclared c (inner_code c j).statements
-    free_inner c j ahead out labels once = undeclared c (Own (do_while p b cond)) j (inner_code c j) out ahead (do_good z.is_mutable p b cond (good z.is_mutable b) (good z.is_mutable cond) labels c.targets labels j once (emitted_alike labels c.targets))
+    free_inner c j ahead out labels once = undeclared c (Own (do_while p b cond)) j (inner_code c j) out ahead (do_good z.is_mutable z.code.sure p b cond (good z.is_mutable z.code.sure b) (good z.is_mutable z.code.sure cond) labels c.targets labels j once (emitted_alike labels c.targets))
 
     turn : ir.Run
     turn env s = ir.go_on (ir_meaning.step z.place.classes z.low b env s) (λ v. ir_meaning.in_order (ir_meaning.step z.place.classes z.low cond ∷ []) (ir_meaning.branch (ir.given ir.undefined) stop))
