@@ -220,4 +220,4 @@ module _ (p : Place) (names : NamesDiffer p) where
           inner = record { this_value = None; locals = h.locals; sure = sure_locals l.its_body }
 
           ready : Ready p here scope (λ y. ⊥) w inner sc
-          ready = record { sees = record { inside = record { file = refl; free = λ y none. parameters-free (names_of l.definition.params) xs names_declared y none (body-free z refl (desugared l.definition l.its_body).body y none) }; this = no_receiver (sc.bindings (p.name core.receiver)); sure = refl; locals = h.hold }; «open» = λ y wr. absurd wr }
+          ready = record { sees = record { inside = record { file = refl; free = λ y none. parameters-free (names_of l.definition.params) xs names_declared y none (body-free (desugared l.definition l.its_body).body y none) }; this = no_receiver (sc.bindings (p.name core.receiver)); sure = refl; locals = h.hold }; «open» = λ y wr. absurd wr }

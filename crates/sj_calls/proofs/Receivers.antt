@@ -21,14 +21,15 @@ use Rattle.sj_names.specs.declared.method_names.Member.{Member}
 use Rattle.sj_trees.specs.declared.types.IrType.{IrType}
 use Rattle.body_rules.specs.Locals.{parameters_of, Own, Scope}
 use Rattle.sj_plain.specs.Settings.{Place, Code, Receiving, on_receiver, IsReceiver, Setting, SameState, Valued, Built, built, failed, run, NamesDiffer, OfNoVariable, Holding, holding, a_method, a_constructor, top_call, Top}
-use Rattle.sj_bodies.proofs.Contexts.{Context, Ready, Keeps, let_go, Came, gave, left, threw, stopped, differs}
-use Rattle.body_rules.proofs.Equal.{equals}
+use Rattle.sj_bodies.proofs.Contexts.{Context, Ready, Keeps, let_go, Came, gave, left, threw, stopped}
+use Rattle.body_rules.proofs.Equal.{differs, equals}
 use Rattle.sj_bodies.proofs.Statements.{run-followed, run-one}
 use Rattle.sj_bodies.proofs.Trees.{LowAlike}
 use Rattle.sj_plain.proofs.Worlds.{World, SameValue, SameValues}
 use Rattle.sj_calls.specs.Methods.{parameters_in}
 use Rattle.sj_calls.specs.Objects.{function_on, body_of, constructor_body, RunsOn, Constructs}
-use Rattle.sj_calls.proofs.Calls.{start, sound-start, ahead-start, outside-start, way, writes-nothing, comes_back, Bound, bound, parameters-free, body-free}
+use Rattle.sj_calls.proofs.Calls.{start, sound-start, ahead-start, outside-start, way, writes-nothing, body-fine, comes_back, Bound, bound, parameters-free, body-free}
+use Rattle.sj_bodies.specs.Fine.{Fine, no_labels}
 use Rattle.body_rules.specs.Standing.{types_referred, call_type}
 use Rattle.sure_receivers.specs.Sure.{sure_locals}
 
@@ -96,7 +97,7 @@ module _ (p : Place) (names : NamesDiffer p) where
           inner = record { this_value = Some v; locals = h.locals; sure = sure_locals l.its_body }
 
           ready : Ready p here scope (λ y. ⊥) w inner sc
-          ready = record { sees = record { inside = record { file = refl; free = λ y none. free_there x outer y none ∙ parameters-free p names (names_of l.definition.params) xs names_declared y none (body-free p names z refl (body_of l.definition l.its_body) y none) }; this = subst (Receiving w m.class (Some v)) (sym (receiver_here x outer)) (on_receiver v x this); sure = refl; locals = λ y t i. subst (Holding w t (h.locals y)) (sym (local_there x outer y)) (h.hold y t i) }; «open» = λ y wr. absurd wr }
+          ready = record { sees = record { inside = record { file = refl; free = λ y none. free_there x outer y none ∙ parameters-free p names (names_of l.definition.params) xs names_declared y none (body-free p names (body_of l.definition l.its_body) y none) }; this = subst (Receiving w m.class (Some v)) (sym (receiver_here x outer)) (on_receiver v x this); sure = refl; locals = λ y t i. subst (Holding w t (h.locals y)) (sym (local_there x outer y)) (h.hold y t i) }; «open» = λ y wr. absurd wr }
 
   -- behind the body of a constructor its function gives the object that it ran on
   comes_out : (d : Direction) (js_low : js_meaning.Low) (c : Context) (scope : Scope) (here : Code) (w : World) (before : js.Scope) (x : js.Value) (t : IrType) (env : ir.Env) → c.kept core.receiver → before.bindings (p.name core.receiver) ≡ js.holds false x → (a : ir.Ended) (b : js.StatementEnd) → Came p here c scope discard w before a b → Sim d (Built p w env x) (ir_meaning.returned t env a) (then_do (js.next_statement (js_meaning.execute_all p.program js_low (statement_templates p.name p.label (core.statement (core.return_of None (core.variable_use core.receiver)) core.no_statements))) b) js_meaning.returned)
@@ -158,7 +159,7 @@ module _ (p : Place) (names : NamesDiffer p) where
           inner = record { this_value = Some v; locals = h.locals; sure = sure_locals l.its_body }
 
           ready : Ready p here scope (λ y. ⊥) w inner sc
-          ready = record { sees = record { inside = record { file = refl; free = λ y none. free_there x outer y none ∙ parameters-free p names (names_of l.definition.params) xs names_declared y none (body-free p names z refl (constructor_body l.definition l.its_body) y none) }; this = subst (Receiving w m.class (Some v)) (sym (receiver_here x outer)) (on_receiver v x this); sure = refl; locals = λ y t i. subst (Holding w t (h.locals y)) (sym (local_there x outer y)) (h.hold y t i) }; «open» = λ y wr. absurd wr }
+          ready = record { sees = record { inside = record { file = refl; free = λ y none. free_there x outer y none ∙ parameters-free p names (names_of l.definition.params) xs names_declared y none (body-free p names (constructor_body l.definition l.its_body) y none) }; this = subst (Receiving w m.class (Some v)) (sym (receiver_here x outer)) (on_receiver v x this); sure = refl; locals = λ y t i. subst (Holding w t (h.locals y)) (sym (local_there x outer y)) (h.hold y t i) }; «open» = λ y wr. absurd wr }
 
           gone : result_destination l.definition.result ≡ discard
           gone = ap result_destination l.result_is

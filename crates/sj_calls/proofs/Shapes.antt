@@ -25,7 +25,7 @@ use Rattle.sj_calls.proofs.Zeros.{ChainFields, zeros}
 -- the zero of a type of which there are values
 zero_alike : (w : World) (t : IrType) → (t ≡ Types.Nothing → ⊥) → SameValue w t (ir_world.zero_of t) (zero_value t)
 zero_alike w Types.Boolean h = record { stands = same_boolean false; suits = refl }
-zero_alike w Types.Char h = record { stands = same_char 0 (omega arith); suits = refl }
+zero_alike w Types.Char h = record { stands = same_char refl 0 (omega arith); suits = refl }
 zero_alike w Types.Byte h = record { stands = same_number (pos 0) (record { sfits = omega arith }); suits = refl }
 zero_alike w Types.Short h = record { stands = same_number (pos 0) (record { sfits = omega arith }); suits = refl }
 zero_alike w Types.Int h = record { stands = same_number (pos 0) (record { sfits = omega arith }); suits = refl }

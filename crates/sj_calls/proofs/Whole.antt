@@ -1,7 +1,7 @@
 -- A file that has the functions of methods and calls initializers shows what these show.
 use Rattle.std.proofs.Common.{◌≡◌, ℕ, Bool, true, false, List, [], ◌∷◌, ◌++◌, ◌&&◌, map, refl, sym, ap, ◌∙◌, subst, Contains, Option, Some, None, if◌then◌else◌, slice_get, length, ◌<◌, ◌^◌, arith}
 use Rattle.std.specs.Int.{w32, w64}
-use Rattle.std.specs.Prelude.{ℤ, pos, negsuc, codes, FitsSigned}
+use Rattle.std.specs.Prelude.{ℤ, pos, negsuc, codes, FitsSigned, nat_lt}
 use Rattle.std.specs.List.{list_all}
 use Rattle.std.proofs.lemmas.Bool.{and_parts}
 use Rattle.std.proofs.lemmas.List.Elements.{Contains-append_left, Contains-append_right, Contains-push}
@@ -29,7 +29,7 @@ use Rattle.sj_emit_expr.specs.Templates.{member_name, parameter_names}
 use Rattle.sj_names.specs.declared.entry_points.EntryPoint.{EntryPoint}
 use Rattle.sj_names.specs.declared.method_names.Member.{Member}
 use Rattle.sj_plain.specs.Settings.{some_constants, links_of, SameStored, same_object, a_method, a_constructor, a_helper, Place, Top, a_function, a_class, top_name, is_usable, TopHolds, SameHeap, SameState, Valued, valued, thrown, NamesDiffer}
-use Rattle.sj_plain.specs.Worlds.{World, nothing_made, Stands, same_undefined, same_null, same_boolean, same_char, same_number, same_long, same_text, same_reference, no_values}
+use Rattle.sj_plain.specs.Worlds.{World, nothing_made, Stands, same_undefined, same_null, same_boolean, same_char, same_box, IsBox, same_number, same_long, same_text, same_reference, no_values}
 use Rattle.sj_plain.specs.Standing.{suits}
 use Rattle.sj_names.proofs.Same.{impossible}
 use Rattle.sj_trees.specs.declared.types.IrType.TheVariants.{Any, NoType}
@@ -43,7 +43,7 @@ use Rattle.body_rules.proofs.InWorld.{in_world}
 use Rattle.sj_calls.proofs.Levels.{calls_agree}
 use Rattle.sj_world.specs.Laws.{IsPlain}
 use Rattle.sj_calls.proofs.Names.{emitted_names_differ}
-use Rattle.built_forms.specs.Built.{members_alone}
+use Rattle.built_forms.specs.Built.{Usable, members_alone}
 
 -- a program of one file, and what is found in it
 abbrev alone : Name → Module → js.Program
@@ -99,11 +99,38 @@ stored_alike p q d w s u heaps _ _ (same_object c fields properties told fs) = s
     is : js_showing.object_shown (js_showing.class_shown (js_showing.marker_in q u (js_objects.stored_property q (Some (js.plain ls properties)) (codes "k")))) char ≡ Some (shown.object_of c)
     is = ap (λ m. js_showing.object_shown (js_showing.class_shown m) char) marker_is ∙ told.known char
 
-uncaught_alike : (place : Place) (p : js.Program) (d : Direction) (w : World) (v : ir.Value) (x : js.Value) (s : ir.State) (u : js.State) → SameState place w s u → Stands w v x → suits Any v ≡ true → Sim d ◌≡◌ (ir_showing.uncaught_or_wrong (ir_showing.thrown s v)) (js_showing.uncaught_or_wrong (js_showing.thrown p u x))
+-- an object that holds a char is shown as the char
+char_below : (n : ℕ) → n < 2 ^ 16 → nat_lt n (2 ^ 16) ≡ true
+char_below n h = grind arith
+
+box_alike : (p : Place) (q : js.Program) (d : Direction) (w : World) (s : List ir.Stored) (u : js.State) (n a : ℕ) → SameHeap p w s u.heap → n < 2 ^ 16 → IsBox w n a → Sim d ◌≡◌ (done (uncaught (shown.char n))) (js_showing.uncaught_or_wrong (js_showing.thrown q u (js.object a)))
+box_alike p q d w s u n a heaps below box = subst (λ o. Sim d ◌≡◌ (done (uncaught (shown.char n))) (js_showing.uncaught_or_wrong o)) (sym is) (sim_done d ◌≡◌ (uncaught (shown.char n)) (uncaught (shown.char n)) refl)
+  where
+    by_stored : Option js.Stored → Option shown.Thrown
+    by_stored o = js_showing.object_shown (js_showing.class_shown (js_showing.marker_in q u (js_objects.stored_property q o (codes "k")))) (js_objects.stored_property q o (codes "c"))
+
+    -- a property of the object itself
+    own : Option js.Value → Name → Option js.Value
+    own v x = js_objects.value_on (js_objects.or_value v (js_objects.method_on q box.links x)) x
+
+    by_constants : Option js.Stored → Option js.Value
+    by_constants o = js_objects.stored_property q o (codes "s")
+
+    by_marker : Option js.Value → Option js.Value
+    by_marker m = js_objects.value_on (js_objects.or_value m (js_objects.method_on q [] (codes "s"))) (codes "s")
+
+    marker_is : js_showing.marker_in q u (own (box.properties (codes "k")) (codes "k")) ≡ Some (js.text (class_binding Marker (codes "java.lang.Character")))
+    marker_is = ap (λ v. js_showing.marker_in q u (own v (codes "k"))) box.held ∙ ap by_constants (heaps.owned box.address (js.plain [] box.constants) box.constants_owned) ∙ ap by_marker box.marked
+
+    is : js_showing.thrown q u (js.object a) ≡ Some (shown.char n)
+    is = ap by_stored (heaps.owned a (js.plain box.links box.properties) box.owned) ∙ ap (λ m. js_showing.object_shown (js_showing.class_shown m) (own (box.properties (codes "c")) (codes "c"))) marker_is ∙ ap (λ v. js_showing.char_shown (own v (codes "c"))) box.char ∙ ap (λ (t : Bool). if t then Some (shown.char n) else None) (char_below n below)
+
+uncaught_alike : (place : Place) (p : js.Program) (d : Direction) (w : World) (v : ir.Value) (x : js.Value) (s : ir.State) (u : js.State) → SameState place w s u → Stands w false v x → suits Any v ≡ true → Sim d ◌≡◌ (ir_showing.uncaught_or_wrong (ir_showing.thrown s v)) (js_showing.uncaught_or_wrong (js_showing.thrown p u x))
 uncaught_alike place p d w _ _ s u same same_undefined h = sim_done d ◌≡◌ (uncaught shown.undefined) (uncaught shown.undefined) refl
 uncaught_alike place p d w _ _ s u same same_null h = sim_done d ◌≡◌ (uncaught shown.null) (uncaught shown.null) refl
 uncaught_alike place p d w _ _ s u same (same_boolean b) h = sim_done d ◌≡◌ (uncaught (shown.boolean b)) (uncaught (shown.boolean b)) refl
-uncaught_alike place p d w _ _ s u same (same_char n f) h = impossible h
+uncaught_alike place p d w _ _ s u same (same_char r n f) h = impossible r
+uncaught_alike place p d w _ _ s u same (same_box r n a f b) h = box_alike place p d w s.heap u n a same.heaps f b
 uncaught_alike place p d w _ _ s u same (same_number n f) h = subst (λ (b : Bool). Sim d ◌≡◌ (done (uncaught (shown.number n))) (js_showing.uncaught_or_wrong (if b then Some (shown.number n) else None))) (sym (number_shown n f)) (sim_done d ◌≡◌ (uncaught (shown.number n)) (uncaught (shown.number n)) refl)
 uncaught_alike place p d w _ _ s u same (same_long n f) h = subst (λ (b : Bool). Sim d ◌≡◌ (done (uncaught (shown.long n))) (js_showing.uncaught_or_wrong (if b then Some (shown.long n) else None))) (sym (long_shown n f)) (sim_done d ◌≡◌ (uncaught (shown.long n)) (uncaught (shown.long n)) refl)
 uncaught_alike place p d w _ _ s u same (same_text us) h = sim_done d ◌≡◌ (uncaught (shown.text us)) (uncaught (shown.text us)) refl

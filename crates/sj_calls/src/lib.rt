@@ -5,7 +5,7 @@
 //! their clauses are theorems.
 #![tactic(auto)]
 
-ghost use Rattle.std.specs.Prelude.{◌≡◌, ℕ, true, List};
+ghost use Rattle.std.specs.Prelude.{◌≡◌, ℕ, Bool, true, List};
 ghost use Rattle.std.specs.List.{Contains};
 ghost use Rattle.outcomes.specs.Agreement.{IsNotWrong, Agree, Room};
 ghost use Rattle.ir_mean.specs.Shows.{initializers, ir_shows};
@@ -25,7 +25,7 @@ ghost use Rattle.sj_proper.specs.Emitted.{EmittedMethod, initializer_member, mod
 ghost use Rattle.sj_calls.specs.Files.{program_with, IsEmitted, HasFunction};
 ghost use Rattle.sj_calls.specs.Methods.{CallsAlone, Linked, CallsAgree};
 ghost use Rattle.sj_calls.specs.Names.{emitted_in};
-ghost use Rattle.built_forms.specs.Built.{members_alone};
+ghost use Rattle.built_forms.specs.Built.{Usable, members_alone};
 
 /// The theorem on calls, for any names of variables and labels that differ and any files of functions: let each member that the code of a file can use
 /// be a method of the classes with the types that its name tells, whose body keeps the rules by what the code of its own file can use and reaches by name there, and whose emitted function
