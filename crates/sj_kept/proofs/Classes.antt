@@ -5,7 +5,7 @@ use Rattle.std.specs.Cmp.Lexicographic.{pointwise}
 use Rattle.std.proofs.lemmas.Bool.{and_parts}
 use Rattle.sj_local.specs.MemberRules.{breaks_method, has_result, is_void}
 use Rattle.sj_local.specs.TreeRules.{is_constructor}
-use Rattle.sj_local.specs.ClassRules.{keeps_superclass}
+use Rattle.sj_local.specs.ClassRules.{keeps_superclass, keeps_hijacked}
 use Rattle.sj_local.specs.Names.{is_init, is_same_type}
 use Rattle.sj_local.specs.Firsts.{in_32_bits, first_where, FirstAnswer, none_left, this_one, a_later_one}
 use Rattle.sj_local.specs.Broken.{at_method, unless, Breaks, TreeBreaks, FirstTree, FirstBroken, all_rules, tree_place}
@@ -49,6 +49,7 @@ class-keeps c h m i = record {
   definition = none-first _ (method-keeps c rule.Definition (kept rule.Definition in_eleventh) m i);
   variable = none-first _ (method-keeps c rule.Variable (kept rule.Variable in_twelfth) m i);
   jump = none-first _ (method-keeps c rule.ReturnLabel (kept rule.ReturnLabel in_thirteenth) m i);
+  this = none-first _ (method-keeps c rule.This (kept rule.This in_fourteenth) m i);
 }
   where
     kept : (r : Rule) → Contains all_rules r → Breaks c r None
@@ -66,6 +67,9 @@ class-keeps c h m i = record {
     in_thirteenth : Contains all_rules rule.ReturnLabel
     in_thirteenth = (12, omega arith, refl)
 
+    in_fourteenth : Contains all_rules rule.This
+    in_fourteenth = (13, omega arith, refl)
+
 place-unless : (b : Bool) → None ≡ unless b → b ≡ true
 place-unless true e = refl
 place-unless false e = impossible (cc)
@@ -73,6 +77,10 @@ place-unless false e = impossible (cc)
 -- the rule on superclasses
 pub keeps-superclass : (c : ClassDef) → FirstBroken c None → keeps_superclass c ≡ true
 keeps-superclass c h = place-unless (keeps_superclass c) (none-each (Breaks c) 1 all_rules None h refl rule.Superclass (0, omega arith, refl))
+
+-- the rule on hijacked classes
+pub keeps-hijacked : (c : ClassDef) → FirstBroken c None → keeps_hijacked c ≡ true
+keeps-hijacked c h = place-unless (keeps_hijacked c) (none-each (Breaks c) 1 all_rules None h refl rule.Hijacked (1, omega arith, refl))
 
 -- where no element passes a test, each fails it
 none-passes : {A : Type 0} (test : A → Bool) (xs : List A) → first_where test xs ≡ None → (x : A) → Contains xs x → test x ≡ false
