@@ -58,7 +58,7 @@ is_operation LongRemainder d = is_nonzero_long d
 is_operation _ d = true
 
 -- what a body can use: the static members that are linked, and those that run on a receiver; the constructors that are; the classes of which objects are
--- made; their fields, with their types; helpers, by their names; and whether values are thrown
+-- made; their fields, with their types; helpers, by their names; and whether it can throw, and name the object that it runs on
 pub record Usable : Type 0 where
   pub linked : Member → Bool
   pub received : Member → Bool
@@ -66,11 +66,11 @@ pub record Usable : Type 0 where
   pub made : List ℕ → Bool
   pub field : List ℕ → List ℕ → IrType → Bool
   pub helper : List ℕ → Bool
-  pub throwing : Bool
+  pub objects : Bool
 
 -- these static members and nothing else
 abbrev pub members_alone : (Member → Bool) → Usable
-members_alone linked = record { linked = linked; received = λ m. false; built = λ m. false; made = λ c. false; field = λ c f t. false; helper = λ x. false; throwing = false }
+members_alone linked = record { linked = linked; received = λ m. false; built = λ m. false; made = λ c. false; field = λ c f t. false; helper = λ x. false; objects = false }
 
 -- what a body can use, and the receivers that are never null or whose null check can be used
 module _ (has : Usable) (checked : Term → Bool) where
@@ -86,7 +86,7 @@ module _ (has : Usable) (checked : Term → Bool) where
   stands ls (if_then p c a b t) = not (yields_boxed t a) && not (yields_boxed t b)
   stands ls (while_loop p c b) = true
   stands ls (do_while p b c) = true
-  stands ls (throw p e) = has.throwing && not (is_boxed Any e)
+  stands ls (throw p e) = has.objects && not (is_boxed Any e)
   stands ls (match_on p e cs d t) = not (yields_boxed t d)
   stands ls (new_object p c m ts) = has.made c && (has.built (member c Constructor m) && not (any_is_boxed m.params ts))
   stands ls (select p e c f t) = has.field c f t && checked e
@@ -105,7 +105,7 @@ module _ (has : Usable) (checked : Term → Bool) where
   stands ls (long_literal p z) = true
   stands ls (string_literal p us) = true
   stands ls (var_ref p x t) = true
-  stands ls (this_ref p t) = true
+  stands ls (this_ref p t) = has.objects
   stands ls (log_line p e) = true
   stands ls _ = false
 

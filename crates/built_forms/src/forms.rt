@@ -25,8 +25,7 @@ pub fn is_built(tree: &Tree, labels: &Labels) -> bool
         | Tree::IntLiteral(_, _)
         | Tree::LongLiteral(_, _)
         | Tree::StringLiteral(_, _)
-        | Tree::VarRef(_, _, _)
-        | Tree::This(_, _) => true,
+        | Tree::VarRef(_, _, _) => true,
         Tree::VarDef(_, _, tpe, _, value) => !is_boxed(tpe, value) && is_built(value, labels),
         Tree::Block(_, trees) => are_built(trees, labels),
         Tree::Labeled(_, name, tpe, body) => {
@@ -77,7 +76,8 @@ pub fn is_built(tree: &Tree, labels: &Labels) -> bool
         | Tree::ArrayLength(_, _)
         | Tree::ArraySelect(_, _, _, _)
         | Tree::IsInstanceOf(_, _, _)
-        | Tree::AsInstanceOf(_, _, _) => false,
+        | Tree::AsInstanceOf(_, _, _)
+        | Tree::This(_, _) => false,
     }
 }
 
