@@ -49,6 +49,7 @@ class-keeps c h m i = record {
   definition = none-first _ (method-keeps c rule.Definition (kept rule.Definition in_eleventh) m i);
   variable = none-first _ (method-keeps c rule.Variable (kept rule.Variable in_twelfth) m i);
   jump = none-first _ (method-keeps c rule.ReturnLabel (kept rule.ReturnLabel in_thirteenth) m i);
+  this = none-first _ (method-keeps c rule.This (kept rule.This in_fourteenth) m i);
 }
   where
     kept : (r : Rule) → Contains all_rules r → Breaks c r None
@@ -65,6 +66,9 @@ class-keeps c h m i = record {
 
     in_thirteenth : Contains all_rules rule.ReturnLabel
     in_thirteenth = (12, omega arith, refl)
+
+    in_fourteenth : Contains all_rules rule.This
+    in_fourteenth = (13, omega arith, refl)
 
 place-unless : (b : Bool) → None ≡ unless b → b ≡ true
 place-unless true e = refl

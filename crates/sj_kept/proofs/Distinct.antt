@@ -7,7 +7,8 @@ use Rattle.sj_local.specs.declared.walks.Declaration.{Declaration}
 use Rattle.sj_local.specs.declared.walks.Declaration.TheVariants as declaration
 use Rattle.sj_local.specs.Nodes.{Context, Node, node, inside, in_a_block, with_label, behind, below, statements_below, all_below, cases_below}
 use Rattle.sj_local.specs.TreeRules.{declarations}
-use Rattle.sj_trees.specs.Term.{Term, Terms, no_terms, more_terms, Cases, no_cases, more_cases, var_def, skip, block_of, labeled, assign, return_to, if_then, while_loop, do_while, match_on, apply_static, unary_op, binary_op, log_line}
+use Rattle.sj_names.specs.declared.method_names.Namespace.{Namespace}
+use Rattle.sj_trees.specs.Term.{Term, Terms, no_terms, more_terms, Cases, no_cases, more_cases, var_def, skip, block_of, labeled, assign, return_to, if_then, while_loop, do_while, throw, match_on, new_object, select, apply_statically, apply_static, unary_op, binary_op, log_line}
 use Rattle.body_rules.specs.Locals.{Own, OwnAll, OwnCases}
 use Rattle.body_rules.proofs.Equal.{is-equal}
 use Rattle.sj_names.proofs.Same.{impossible}
@@ -67,7 +68,10 @@ mutual
   own-declares (var_def p n t m e) x y (inr o) = inr (own-declares e x y o)
   own-declares (block_of p ts) x y o = own-statements ts (in_a_block x) y o
   own-declares (labeled p l t e) x y o = inr (own-declares e (with_label l x) y o)
+  own-declares (assign p (select q d c f t) e) x y (inl o) = in-left (At x (select q d c f t)) (At x e) (declaration.Local y) (own-declares d x y o)
+  own-declares (assign p (select q d c f t) e) x y (inr o) = in-right (At x (select q d c f t)) (At x e) (declaration.Local y) (own-declares e x y o)
   own-declares (assign p a e) x y o = in-right (At x a) (At x e) (declaration.Local y) (own-declares e x y o)
+  own-declares (throw p e) x y o = own-declares e x y o
   own-declares (return_to p e l) x y o = own-declares e x y o
   own-declares (if_then p c a b t) x y (inl o) = in-left (At x c ++ At x a) (At x b) (declaration.Local y) (in-left (At x c) (At x a) (declaration.Local y) (own-declares c x y o))
   own-declares (if_then p c a b t) x y (inr (inl o)) = in-left (At x c ++ At x a) (At x b) (declaration.Local y) (in-right (At x c) (At x a) (declaration.Local y) (own-declares a x y o))
@@ -79,6 +83,10 @@ mutual
   own-declares (match_on p e cs d t) x y (inl o) = in-left (At x e ++ cases_below x cs) (At x d) (declaration.Local y) (in-left (At x e) (cases_below x cs) (declaration.Local y) (own-declares e x y o))
   own-declares (match_on p e cs d t) x y (inr (inl o)) = in-left (At x e ++ cases_below x cs) (At x d) (declaration.Local y) (in-right (At x e) (cases_below x cs) (declaration.Local y) (own-cases cs x y o))
   own-declares (match_on p e cs d t) x y (inr (inr o)) = in-right (At x e ++ cases_below x cs) (At x d) (declaration.Local y) (own-declares d x y o)
+  own-declares (new_object p c m ts) x y o = own-all ts x y o
+  own-declares (select p e c f t) x y o = own-declares e x y o
+  own-declares (apply_statically p e c n m ts t) x y (inl o) = in-left (At x e) (all_below x ts) (declaration.Local y) (own-declares e x y o)
+  own-declares (apply_statically p e c n m ts t) x y (inr o) = in-right (At x e) (all_below x ts) (declaration.Local y) (own-all ts x y o)
   own-declares (apply_static p c n m ts t) x y o = own-all ts x y o
   own-declares (unary_op p q e) x y o = own-declares e x y o
   own-declares (binary_op p q e d) x y (inl o) = in-left (At x e) (At x d) (declaration.Local y) (own-declares e x y o)
@@ -137,73 +145,86 @@ not_false : (b : Bool) → not b ≡ false → b ≡ true
 not_false true h = refl
 not_false false h = impossible (sym h)
 
--- two trees one behind the other
-two_by : (c b : Term) (x : Context) (around : List (List ℕ)) → (Keeps (node x c) → AllKeep (below x c) → Fresh (At x c) → Out around (At x c) → Once around c) → (Keeps (node x b) → AllKeep (below x b) → Fresh (At x b) → Out around (At x b) → Once around b) → AllKeep (At x c ++ At x b) → Fresh (At x c ++ At x b) → Out around (At x c ++ At x b) → Once around c × Once around b × Apart (Own c) (Own b)
-two_by c b x a first second h f o =
-    let g = parts (At x c) (At x b) f in
-    let v = keep-front (At x c) (At x b) h in
-    let w = keep-behind (At x c) (At x b) h in
-    (first v.0 v.1 g.0 (out-left a (At x c) (At x b) o), second w.0 w.1 g.1 (out-right a (At x c) (At x b) o), apart (Own c) (Own b) (At x c) (At x b) (own-declares c x) (own-declares b x) g.2)
+module _ (owner : List ℕ) (space : Namespace) where
+  -- two trees one behind the other
+  two_by : (c b : Term) (x : Context) (around : List (List ℕ)) → (Keeps owner space (node x c) → AllKeep owner space (below x c) → Fresh (At x c) → Out around (At x c) → Once around c) → (Keeps owner space (node x b) → AllKeep owner space (below x b) → Fresh (At x b) → Out around (At x b) → Once around b) → AllKeep owner space (At x c ++ At x b) → Fresh (At x c ++ At x b) → Out around (At x c ++ At x b) → Once around c × Once around b × Apart (Own c) (Own b)
+  two_by c b x a first second h f o =
+      let g = parts (At x c) (At x b) f in
+      let v = keep-front owner space (At x c) (At x b) h in
+      let w = keep-behind owner space (At x c) (At x b) h in
+      (first v.0 v.1 g.0 (out-left a (At x c) (At x b) o), second w.0 w.1 g.1 (out-right a (At x c) (At x b) o), apart (Own c) (Own b) (At x c) (At x b) (own-declares c x) (own-declares b x) g.2)
 
-mutual
-  pub once : (t : Term) (x y : Context) (around : List (List ℕ)) → y.labels ≡ x.labels → Around x.labels around → Keeps (node y t) → AllKeep (below x t) → Fresh (At x t) → Out around (At x t) → Once around t
-  once (var_def p n t m e) x y a z l k h f o = ((λ i. f.0 (own-declares e x n i)), once e x x a refl l h.0 h.1 f.1 (λ q i w. o q i (inr w)))
-  once (skip p) x y a z l k h f o = tt
-  once (block_of p ts) x y a z l k h f o = once_statements ts (in_a_block x) a l h f o
-  once (labeled p q t e) x y a z l k h f o = ((λ i. o q i (inl refl)), once e (with_label q x) (with_label q x) (q ∷ a) refl (around-label x.labels a q l) h.0 h.1 f.1 (λ r i w. ⊎_elim (λ same. f.0 (subst (λ v. Has (declares (At (with_label q x) e)) (declaration.Label v)) same w)) (λ j. o r j (inr w)) i))
-  once (assign p d e) x y a z l k h f o = let m = keep-behind (At x d) (At x e) h in once e x x a refl l m.0 m.1 (parts (At x d) (At x e) f).1 (out-right a (At x d) (At x e) o)
-  once (return_to p e q) x y a z l k h f o = (l.known q (not_false (list_any (pointwise nat_eq q) x.labels) (subst (λ r. not (list_any (pointwise nat_eq q) r) ≡ false) z k.jump)), once e x x a refl l h.0 h.1 f o)
-  once (if_then p c d e t) x y a z l k h f o =
-      let g = parts (At x c ++ At x d) (At x e) f in
-      let i = parts (At x c) (At x d) g.0 in
-      let m = keep-front (At x c ++ At x d) (At x e) h in
-      let v = keep-front (At x c) (At x d) m in
-      let q = keep-behind (At x c) (At x d) m in
-      let w = keep-behind (At x c ++ At x d) (At x e) h in
-      let r = out-left a (At x c ++ At x d) (At x e) o in (
-        once c x x a refl l v.0 v.1 i.0 (out-left a (At x c) (At x d) r),
-        once d x x a refl l q.0 q.1 i.1 (out-right a (At x c) (At x d) r),
-        once e x x a refl l w.0 w.1 g.1 (out-right a (At x c ++ At x d) (At x e) o),
-        apart (Own c) (Own d) (At x c) (At x d) (own-declares c x) (own-declares d x) i.2,
-        apart (Own c) (Own e) (At x c ++ At x d) (At x e) (λ y j. in-left (At x c) (At x d) (declaration.Local y) (own-declares c x y j)) (own-declares e x) g.2,
-        apart (Own d) (Own e) (At x c ++ At x d) (At x e) (λ y j. in-right (At x c) (At x d) (declaration.Local y) (own-declares d x y j)) (own-declares e x) g.2,
-      )
-  once (while_loop p c b) x y a z l k h f o = two_by c b x a (once c x x a refl l) (once b x x a refl l) h f o
-  once (do_while p b c) x y a z l k h f o = two_by b c x a (once b x x a refl l) (once c x x a refl l) h f o
-  once (match_on p e cs d t) x y a z l k h f o =
-      let g = parts (At x e ++ cases_below x cs) (At x d) f in
-      let i = parts (At x e) (cases_below x cs) g.0 in
-      let m = keep-front (At x e ++ cases_below x cs) (At x d) h in
-      let v = keep-front (At x e) (cases_below x cs) m in
-      let w = keep-behind (At x e ++ cases_below x cs) (At x d) h in
-      let r = out-left a (At x e ++ cases_below x cs) (At x d) o in (
-        once e x x a refl l v.0 v.1 i.0 (out-left a (At x e) (cases_below x cs) r),
-        once_cases cs x a l (keep-behind (At x e) (cases_below x cs) m) i.1 (out-right a (At x e) (cases_below x cs) r),
-        once d x x a refl l w.0 w.1 g.1 (out-right a (At x e ++ cases_below x cs) (At x d) o),
-        apart (Own e) (OwnCases cs) (At x e) (cases_below x cs) (own-declares e x) (own-cases cs x) i.2,
-        apart (Own e) (Own d) (At x e ++ cases_below x cs) (At x d) (λ y j. in-left (At x e) (cases_below x cs) (declaration.Local y) (own-declares e x y j)) (own-declares d x) g.2,
-        apart (OwnCases cs) (Own d) (At x e ++ cases_below x cs) (At x d) (λ y j. in-right (At x e) (cases_below x cs) (declaration.Local y) (own-cases cs x y j)) (own-declares d x) g.2,
-      )
-  once (apply_static p c n m ts t) x y a z l k h f o = once_all ts x a l h f o
-  once (unary_op p q e) x y a z l k h f o = once e x x a refl l h.0 h.1 f o
-  once (binary_op p q e d) x y a z l k h f o = two_by e d x a (once e x x a refl l) (once d x x a refl l) h f o
-  once (log_line p e) x y a z l k h f o = once e x x a refl l h.0 h.1 f o
-  once _ x y a z l k h f o = tt
+  mutual
+    pub once : (t : Term) (x y : Context) (around : List (List ℕ)) → y.labels ≡ x.labels → Around x.labels around → Keeps owner space (node y t) → AllKeep owner space (below x t) → Fresh (At x t) → Out around (At x t) → Once around t
+    once (var_def p n t m e) x y a z l k h f o = ((λ i. f.0 (own-declares e x n i)), once e x x a refl l h.0 h.1 f.1 (λ q i w. o q i (inr w)))
+    once (skip p) x y a z l k h f o = tt
+    once (block_of p ts) x y a z l k h f o = once_statements ts (in_a_block x) a l h f o
+    once (labeled p q t e) x y a z l k h f o = ((λ i. o q i (inl refl)), once e (with_label q x) (with_label q x) (q ∷ a) refl (around-label x.labels a q l) h.0 h.1 f.1 (λ r i w. ⊎_elim (λ same. f.0 (subst (λ v. Has (declares (At (with_label q x) e)) (declaration.Label v)) same w)) (λ j. o r j (inr w)) i))
+    once (assign p (select q d c r t) e) x y a z l k h f o =
+        let v = keep-front owner space (At x (select q d c r t)) (At x e) h in
+        let m = keep-behind owner space (At x (select q d c r t)) (At x e) h in
+        let g = parts (At x (select q d c r t)) (At x e) f in
+        (once d x x a refl l v.1.0 v.1.1 g.0 (out-left a (At x (select q d c r t)) (At x e) o), once e x x a refl l m.0 m.1 g.1 (out-right a (At x (select q d c r t)) (At x e) o), apart (Own d) (Own e) (At x (select q d c r t)) (At x e) (own-declares d x) (own-declares e x) g.2)
+    once (assign p d e) x y a z l k h f o = let m = keep-behind owner space (At x d) (At x e) h in once e x x a refl l m.0 m.1 (parts (At x d) (At x e) f).1 (out-right a (At x d) (At x e) o)
+    once (throw p e) x y a z l k h f o = once e x x a refl l h.0 h.1 f o
+    once (return_to p e q) x y a z l k h f o = (l.known q (not_false (list_any (pointwise nat_eq q) x.labels) (subst (λ r. not (list_any (pointwise nat_eq q) r) ≡ false) z k.jump)), once e x x a refl l h.0 h.1 f o)
+    once (if_then p c d e t) x y a z l k h f o =
+        let g = parts (At x c ++ At x d) (At x e) f in
+        let i = parts (At x c) (At x d) g.0 in
+        let m = keep-front owner space (At x c ++ At x d) (At x e) h in
+        let v = keep-front owner space (At x c) (At x d) m in
+        let q = keep-behind owner space (At x c) (At x d) m in
+        let w = keep-behind owner space (At x c ++ At x d) (At x e) h in
+        let r = out-left a (At x c ++ At x d) (At x e) o in (
+          once c x x a refl l v.0 v.1 i.0 (out-left a (At x c) (At x d) r),
+          once d x x a refl l q.0 q.1 i.1 (out-right a (At x c) (At x d) r),
+          once e x x a refl l w.0 w.1 g.1 (out-right a (At x c ++ At x d) (At x e) o),
+          apart (Own c) (Own d) (At x c) (At x d) (own-declares c x) (own-declares d x) i.2,
+          apart (Own c) (Own e) (At x c ++ At x d) (At x e) (λ y j. in-left (At x c) (At x d) (declaration.Local y) (own-declares c x y j)) (own-declares e x) g.2,
+          apart (Own d) (Own e) (At x c ++ At x d) (At x e) (λ y j. in-right (At x c) (At x d) (declaration.Local y) (own-declares d x y j)) (own-declares e x) g.2,
+        )
+    once (while_loop p c b) x y a z l k h f o = two_by c b x a (once c x x a refl l) (once b x x a refl l) h f o
+    once (do_while p b c) x y a z l k h f o = two_by b c x a (once b x x a refl l) (once c x x a refl l) h f o
+    once (match_on p e cs d t) x y a z l k h f o =
+        let g = parts (At x e ++ cases_below x cs) (At x d) f in
+        let i = parts (At x e) (cases_below x cs) g.0 in
+        let m = keep-front owner space (At x e ++ cases_below x cs) (At x d) h in
+        let v = keep-front owner space (At x e) (cases_below x cs) m in
+        let w = keep-behind owner space (At x e ++ cases_below x cs) (At x d) h in
+        let r = out-left a (At x e ++ cases_below x cs) (At x d) o in (
+          once e x x a refl l v.0 v.1 i.0 (out-left a (At x e) (cases_below x cs) r),
+          once_cases cs x a l (keep-behind owner space (At x e) (cases_below x cs) m) i.1 (out-right a (At x e) (cases_below x cs) r),
+          once d x x a refl l w.0 w.1 g.1 (out-right a (At x e ++ cases_below x cs) (At x d) o),
+          apart (Own e) (OwnCases cs) (At x e) (cases_below x cs) (own-declares e x) (own-cases cs x) i.2,
+          apart (Own e) (Own d) (At x e ++ cases_below x cs) (At x d) (λ y j. in-left (At x e) (cases_below x cs) (declaration.Local y) (own-declares e x y j)) (own-declares d x) g.2,
+          apart (OwnCases cs) (Own d) (At x e ++ cases_below x cs) (At x d) (λ y j. in-right (At x e) (cases_below x cs) (declaration.Local y) (own-cases cs x y j)) (own-declares d x) g.2,
+        )
+    once (new_object p c m ts) x y a z l k h f o = once_all ts x a l h f o
+    once (select p e c q t) x y a z l k h f o = once e x x a refl l h.0 h.1 f o
+    once (apply_statically p e c n m ts t) x y a z l k h f o =
+        let g = parts (At x e) (all_below x ts) f in
+        let v = keep-front owner space (At x e) (all_below x ts) h in
+        (once e x x a refl l v.0 v.1 g.0 (out-left a (At x e) (all_below x ts) o), once_all ts x a l (keep-behind owner space (At x e) (all_below x ts) h) g.1 (out-right a (At x e) (all_below x ts) o), apart (Own e) (OwnAll ts) (At x e) (all_below x ts) (own-declares e x) (own-all ts x) g.2)
+    once (apply_static p c n m ts t) x y a z l k h f o = once_all ts x a l h f o
+    once (unary_op p q e) x y a z l k h f o = once e x x a refl l h.0 h.1 f o
+    once (binary_op p q e d) x y a z l k h f o = two_by e d x a (once e x x a refl l) (once d x x a refl l) h f o
+    once (log_line p e) x y a z l k h f o = once e x x a refl l h.0 h.1 f o
+    once _ x y a z l k h f o = tt
 
-  once_statements : (ts : Terms) (x : Context) (around : List (List ℕ)) → Around x.labels around → AllKeep (statements_below x ts) → Fresh (statements_below x ts) → Out around (statements_below x ts) → OnceAll around ts
-  once_statements no_terms x a l h f o = tt
-  once_statements (more_terms t ts) x a l h f o =
-      let g = parts (At (inside x) t) (statements_below (behind t x) ts) f in
-      (once t (inside x) x a refl l h.0 (keep-front (below (inside x) t) (statements_below (behind t x) ts) h.1) g.0 (out-left a (At (inside x) t) (statements_below (behind t x) ts) o), once_statements ts (behind t x) a l (keep-behind (below (inside x) t) (statements_below (behind t x) ts) h.1) g.1 (out-right a (At (inside x) t) (statements_below (behind t x) ts) o), apart (Own t) (OwnAll ts) (At (inside x) t) (statements_below (behind t x) ts) (own-declares t (inside x)) (own-statements ts (behind t x)) g.2)
+    once_statements : (ts : Terms) (x : Context) (around : List (List ℕ)) → Around x.labels around → AllKeep owner space (statements_below x ts) → Fresh (statements_below x ts) → Out around (statements_below x ts) → OnceAll around ts
+    once_statements no_terms x a l h f o = tt
+    once_statements (more_terms t ts) x a l h f o =
+        let g = parts (At (inside x) t) (statements_below (behind t x) ts) f in
+        (once t (inside x) x a refl l h.0 (keep-front owner space (below (inside x) t) (statements_below (behind t x) ts) h.1) g.0 (out-left a (At (inside x) t) (statements_below (behind t x) ts) o), once_statements ts (behind t x) a l (keep-behind owner space (below (inside x) t) (statements_below (behind t x) ts) h.1) g.1 (out-right a (At (inside x) t) (statements_below (behind t x) ts) o), apart (Own t) (OwnAll ts) (At (inside x) t) (statements_below (behind t x) ts) (own-declares t (inside x)) (own-statements ts (behind t x)) g.2)
 
-  once_all : (ts : Terms) (x : Context) (around : List (List ℕ)) → Around x.labels around → AllKeep (all_below x ts) → Fresh (all_below x ts) → Out around (all_below x ts) → OnceAll around ts
-  once_all no_terms x a l h f o = tt
-  once_all (more_terms t ts) x a l h f o =
-      let g = parts (At x t) (all_below x ts) f in
-      (once t x x a refl l h.0 (keep-front (below x t) (all_below x ts) h.1) g.0 (out-left a (At x t) (all_below x ts) o), once_all ts x a l (keep-behind (below x t) (all_below x ts) h.1) g.1 (out-right a (At x t) (all_below x ts) o), apart (Own t) (OwnAll ts) (At x t) (all_below x ts) (own-declares t x) (own-all ts x) g.2)
+    once_all : (ts : Terms) (x : Context) (around : List (List ℕ)) → Around x.labels around → AllKeep owner space (all_below x ts) → Fresh (all_below x ts) → Out around (all_below x ts) → OnceAll around ts
+    once_all no_terms x a l h f o = tt
+    once_all (more_terms t ts) x a l h f o =
+        let g = parts (At x t) (all_below x ts) f in
+        (once t x x a refl l h.0 (keep-front owner space (below x t) (all_below x ts) h.1) g.0 (out-left a (At x t) (all_below x ts) o), once_all ts x a l (keep-behind owner space (below x t) (all_below x ts) h.1) g.1 (out-right a (At x t) (all_below x ts) o), apart (Own t) (OwnAll ts) (At x t) (all_below x ts) (own-declares t x) (own-all ts x) g.2)
 
-  once_cases : (cs : Cases) (x : Context) (around : List (List ℕ)) → Around x.labels around → AllKeep (cases_below x cs) → Fresh (cases_below x cs) → Out around (cases_below x cs) → OnceCases around cs
-  once_cases no_cases x a l h f o = tt
-  once_cases (more_cases ns t cs) x a l h f o =
-      let g = parts (At x t) (cases_below x cs) f in
-      (once t x x a refl l h.0 (keep-front (below x t) (cases_below x cs) h.1) g.0 (out-left a (At x t) (cases_below x cs) o), once_cases cs x a l (keep-behind (below x t) (cases_below x cs) h.1) g.1 (out-right a (At x t) (cases_below x cs) o), apart (Own t) (OwnCases cs) (At x t) (cases_below x cs) (own-declares t x) (own-cases cs x) g.2)
+    once_cases : (cs : Cases) (x : Context) (around : List (List ℕ)) → Around x.labels around → AllKeep owner space (cases_below x cs) → Fresh (cases_below x cs) → Out around (cases_below x cs) → OnceCases around cs
+    once_cases no_cases x a l h f o = tt
+    once_cases (more_cases ns t cs) x a l h f o =
+        let g = parts (At x t) (cases_below x cs) f in
+        (once t x x a refl l h.0 (keep-front owner space (below x t) (cases_below x cs) h.1) g.0 (out-left a (At x t) (cases_below x cs) o), once_cases cs x a l (keep-behind owner space (below x t) (cases_below x cs) h.1) g.1 (out-right a (At x t) (cases_below x cs) o), apart (Own t) (OwnCases cs) (At x t) (cases_below x cs) (own-declares t x) (own-cases cs x) g.2)

@@ -25,7 +25,7 @@ use Rattle.body_rules.specs.Locals.{IsParameter, local_of}
 use Rattle.sj_proper.specs.Once.{IsAmong, Once, AreDistinct, DefinesOnce}
 use Rattle.sj_kept.specs.Kept.{KeepsTreeRules}
 use Rattle.sj_kept.proofs.Distinct.{Has, NoRepeat, declares, own-declares, repeat-parts, once}
-use Rattle.sj_kept.proofs.Kept.{AllKeep, SameLocal, neither, both_have}
+use Rattle.sj_kept.proofs.Kept.{AllKeep, keeps_this, SameLocal, neither, both_have}
 
 suc-none : (o : Option ℕ) → option_map suc o ≡ None → o ≡ None
 suc-none None h = refl
@@ -39,13 +39,14 @@ first-fails test x xs h = go (test x) refl h
     go true e k = impossible (cc)
     go false e k = (e, suc-none (first_where test xs) k)
 
-all-keep : (c : ClassDef) (space : Namespace) (xs : List Node) → first_where (breaks rule.Definition c space) xs ≡ None → first_where (breaks rule.Variable c space) xs ≡ None → first_where (breaks rule.ReturnLabel c space) xs ≡ None → AllKeep xs
-all-keep c space [] d v j = tt
-all-keep c space (x ∷ xs) d v j =
+all-keep : (c : ClassDef) (space : Namespace) (xs : List Node) → first_where (breaks rule.Definition c space) xs ≡ None → first_where (breaks rule.Variable c space) xs ≡ None → first_where (breaks rule.ReturnLabel c space) xs ≡ None → first_where (breaks rule.This c space) xs ≡ None → AllKeep c.name space xs
+all-keep c space [] d v j o = tt
+all-keep c space (x ∷ xs) d v j o =
     let e = first-fails (breaks rule.Definition c space) x xs d in
     let w = first-fails (breaks rule.Variable c space) x xs v in
     let k = first-fails (breaks rule.ReturnLabel c space) x xs j in
-    (record { definition = e.0; variable = w.0; jump = k.0 }, all-keep c space xs e.1 w.1 k.1)
+    let r = first-fails (breaks rule.This c space) x xs o in
+    (record { definition = e.0; variable = w.0; jump = k.0; this = keeps_this c space x.tree r.0 }, all-keep c space xs e.1 w.1 k.1 r.1)
 
 -- a repeat that has no tree is none
 no-index : (earlier : List Declaration) (ds : List Declared) (r : Option ℕ) → FirstRepeat earlier (map (λ (d : Declared). d.declaration) ds) r → option_and_then (λ n. option_map (λ (d : Declared). d.tree) (slice_get ds n)) r ≡ None → r ≡ None
@@ -140,8 +141,8 @@ module _ (c : ClassDef) (d : MethodDef) (e : Term) (body : d.body ≡ Some e) (k
   nodes-are : method_nodes d ≡ node (outermost d) e ∷ below (outermost d) e
   nodes-are = ap (body_nodes d) body
 
-  pub keep : AllKeep (node (outermost d) e ∷ below (outermost d) e)
-  keep = subst AllKeep nodes-are (all-keep c d.namespace (method_nodes d) kept.definition kept.variable kept.jump)
+  pub keep : AllKeep c.name d.namespace (node (outermost d) e ∷ below (outermost d) e)
+  keep = subst (AllKeep c.name d.namespace) nodes-are (all-keep c d.namespace (method_nodes d) kept.definition kept.variable kept.jump kept.this)
 
   apart : NoRepeat (param_declarations d.params) × NoRepeat (declares (node (outermost d) e ∷ below (outermost d) e)) × ((q : Declaration) → Has (param_declarations d.params) q → Has (declares (node (outermost d) e ∷ below (outermost d) e)) q → ⊥)
   apart = repeat-parts (param_declarations d.params) (declares (node (outermost d) e ∷ below (outermost d) e)) (subst (λ xs. NoRepeat (param_declarations d.params ++ declares xs)) nodes-are (method-distinct d twice))
@@ -150,7 +151,7 @@ module _ (c : ClassDef) (d : MethodDef) (e : Term) (body : d.body ≡ Some e) (k
   distinct = params-distinct d.params apart.0
 
   pub body_once : Once [] e
-  body_once = once e (outermost d) (outermost d) [] refl (record { known = λ l h. impossible h }) keep.0 keep.1 apart.1 (λ l i k. i)
+  body_once = once c.name d.namespace e (outermost d) (outermost d) [] refl (record { known = λ l h. impossible h }) keep.0 keep.1 apart.1 (λ l i k. i)
 
   pub body_keeps : DefinesOnce d e
   body_keeps = record { once = body_once; parameters = distinct; fresh = λ x o i. apart.2 (declaration.Local x) (param-among d.params x (param-is d.params x i)) (own-declares e (outermost d) x o) }

@@ -15,7 +15,7 @@ ghost use Rattle.body_rules.specs.Standing.{call_type};
 ghost use Rattle.sj_kept.specs.Kept.{KeepsTreeRules};
 ghost use Rattle.sj_proper.specs.Once.{DefinesOnce};
 
-/// Each method of a class that breaks none of the local rules keeps those on declarations, definitions, variables and jumps.
+/// Each method of a class that breaks none of the local rules keeps those on declarations, definitions, variables, jumps and This.
 pub fn classes_keep_tree_rules()
     ensures { (c : ClassDef) → FirstBroken c None → (d : MethodDef) → Contains c.methods d → KeepsTreeRules c d }
 {}

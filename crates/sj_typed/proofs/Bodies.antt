@@ -3,7 +3,7 @@ use Rattle.std.proofs.Common.{◌≡◌, ℕ, ◌+◌, ◌^◌, arith, Bool, tru
 use Rattle.std.specs.List.{All}
 use Rattle.std.proofs.lemmas.Bool.{and_parts, and_from}
 use Rattle.std.proofs.lemmas.List.Elements.{All-nil, All-cons, All-head, All-tail}
-use Rattle.built_forms.specs.Built.{Usable, is_boxed, yields_boxed, leaves_boxed, any_is_boxed, is_operation, is_built, are_built, are_built_cases, is_built_method}
+use Rattle.built_forms.specs.Built.{Usable, stands, is_boxed, yields_boxed, leaves_boxed, any_is_boxed, is_operation, is_built, are_built, are_built_cases, is_built_method}
 use Rattle.listing_spelling.specs.Rules.{IsListedTree, AreListedTrees, AreListedCases}
 use Rattle.sj_ask.specs.Sizes.{size, size_of_cases}
 use Rattle.sj_desugar.specs.Desugar.{member, has_no_value}
@@ -17,16 +17,18 @@ use Rattle.sj_local.specs.Nodes as local
 use Rattle.sj_local.specs.TreeRules.{innermost, has_type, is_mutable, has_no_terms, outermost}
 use Rattle.sj_names.proofs.Same.{impossible}
 use Rattle.sj_names.specs.declared.method_names.Namespace.{Namespace}
-use Rattle.body_rules.specs.Typing.{Scene, IsResult, in_label, Typed, TypedBlock, TypedAll, TypedCases}
+use Rattle.body_rules.specs.Typing.{Scene, may_check, IsResult, in_label, Typed, TypedBlock, TypedAll, TypedCases}
 use Rattle.body_rules.specs.Locals.{local_of, HasValue}
 use Rattle.body_rules.specs.Typing as scenes
 use Rattle.sj_proper.specs.Once.{Once, OnceAll, OnceCases}
 use Rattle.sj_proper.specs.Methods.{scene_of, KeepsRules}
-use Rattle.sj_trees.specs.Term.{Term, Terms, no_terms, more_terms, Cases, no_cases, more_cases, var_def, skip, block_of, labeled, assign, return_to, if_then, while_loop, do_while, match_on, apply_static, unary_op, binary_op, undefined_literal, null_literal, boolean_literal, char_literal, byte_literal, short_literal, int_literal, long_literal, string_literal, var_ref, log_line}
+use Rattle.sj_trees.specs.Term.{Term, Terms, no_terms, more_terms, Cases, no_cases, more_cases, var_def, skip, block_of, labeled, assign, return_to, if_then, while_loop, do_while, throw, match_on, new_object, select, apply_statically, apply_static, unary_op, binary_op, undefined_literal, null_literal, boolean_literal, char_literal, byte_literal, short_literal, int_literal, long_literal, string_literal, var_ref, this_ref, log_line}
 use Rattle.sj_trees.specs.declared.classes.ClassDef.{ClassDef}
 use Rattle.sj_trees.specs.declared.classes.MethodDef.{MethodDef}
 use Rattle.sj_trees.specs.declared.classes.ParamDef.{ParamDef}
 use Rattle.sj_trees.specs.declared.types.IrType.{IrType}
+use Rattle.sj_trees.specs.declared.types.IrType.TheVariants.{Any}
+use Rattle.sure_receivers.specs.Sure.{sure_locals}
 use Rattle.sj_typed.proofs.Values.{all_have_values, fits, fits_long}
 use Rattle.sj_world.specs.Known.{Classes}
 use Rattle.typing_rules.specs.Labels.{type_of_label}
@@ -45,8 +47,8 @@ abbrev At : Context → Term → List local.Node
 At x t = node x t ∷ below x t
 
 -- three lists one behind the other
-three : (xs ys zs : List local.Node) → AllKeep (xs ++ ys ++ zs) → AllKeep xs × AllKeep ys × AllKeep zs
-three xs ys zs h = let m = keep-front (xs ++ ys) zs h in (keep-front xs ys m, keep-behind xs ys m, keep-behind (xs ++ ys) zs h)
+three : (owner : List ℕ) (space : Namespace) (xs ys zs : List local.Node) → AllKeep owner space (xs ++ ys ++ zs) → AllKeep owner space xs × AllKeep owner space ys × AllKeep owner space zs
+three owner space xs ys zs h = let m = keep-front owner space (xs ++ ys) zs h in (keep-front owner space xs ys m, keep-behind owner space xs ys m, keep-behind owner space (xs ++ ys) zs h)
 
 module _ (w : Classes) (has : Usable) where
   abbrev Met : Namespace → List Node → Type 0
@@ -76,61 +78,75 @@ module _ (w : Classes) (has : Usable) where
 
   mutual
     -- a tree that stands where `x` tells, and the trees in it
-    typed : (t : Term) (x y : Context) (s : Scene) (around : List (List ℕ)) (n : ℕ) → y.scope ≡ x.scope → SameScope x.scope s.locals → Keeps (node y t) → AllKeep (below x t) → Once around t → is_built has s.labels t ≡ true → IsListedTree t → Met s.space (nodes s.labels n t) → Typed w has s t
+    typed : (t : Term) (x y : Context) (s : Scene) (around : List (List ℕ)) (n : ℕ) → y.scope ≡ x.scope → SameScope x.scope s.locals → Keeps s.owner s.space (node y t) → AllKeep s.owner s.space (below x t) → Once around t → is_built has (may_check has s.sure) s.labels t ≡ true → IsListedTree t → Met s.space (nodes s.labels n t) → Typed w has s t
     typed (var_def p v t m e) x y s a n z c k h o built listed all =
-        let q = and_parts (not (is_boxed t e)) (is_built has s.labels e) built in
+        let q = and_parts (not (is_boxed t e)) (is_built has (may_check has s.sure) s.labels e) built in
         (record { meets = own s.space s.labels n (var_def p v t m e) all; built = q.0; finds = (defined-value y.in_block t k.definition, o.0) }, typed e x x s a (n + 1) refl c h.0 h.1 o.1 q.1 listed.2 (inner s.space s.labels n (var_def p v t m e) all))
     typed (skip p) x y s a n z c k h o built listed all = record { meets = tt; built = refl; finds = tt }
     typed (block_of p ts) x y s a n z c k h o built listed all = typed_block ts (in_a_block x) s a (n + 1) c h o k.definition built listed (inner s.space s.labels n (block_of p ts) all)
     typed (labeled p l t e) x y s a n z c k h o built listed all =
-        let q = and_parts (not (yields_boxed t e)) (is_built has (typing.inside l t s.labels) e) built in
+        let q = and_parts (not (yields_boxed t e)) (is_built has (may_check has s.sure) (typing.inside l t s.labels) e) built in
         (record { meets = own s.space s.labels n (labeled p l t e) all; built = q.0; finds = tt }, typed e (with_label l x) (with_label l x) (in_label l t s) (l ∷ a) (n + 1) refl c h.0 h.1 o.1 q.1 listed.2 (inner s.space s.labels n (labeled p l t e) all))
     typed (assign p (var_ref r v t) e) x y s a n z c k h o built listed all =
-        let q = and_parts (not (is_boxed t e)) (is_built has s.labels e) built in
+        let q = and_parts (not (is_boxed t e)) (is_built has (may_check has s.sure) s.labels e) built in
         let met = inner s.space s.labels n (assign p (var_ref r v t) e) all in
         (record { meets = own s.space s.labels n (assign p (var_ref r v t) e) all; built = q.0; finds = variable-is s v t (innermost x.scope v) (local_of s.locals v) refl (c.same v) (not_false (has_type t (innermost x.scope v)) h.0.variable) (not_false (is_mutable (innermost x.scope v)) (subst (λ i. not (is_mutable (innermost i v)) ≡ false) z k.variable)) }, typed e x x s a (n + 1 + size (var_ref r v t)) refl c h.1.0 h.1.1 o q.1 listed.1 (other s.space s.labels (n + 1) (var_ref r v t) e met))
+    typed (throw p e) x y s a n z c k h o built listed all =
+        let q = and_parts (has.objects && not (is_boxed Any e)) (is_built has (may_check has s.sure) s.labels e) built in
+        (record { meets = own s.space s.labels n (throw p e) all; built = q.0; finds = tt }, typed e x x s a (n + 1) refl c h.0 h.1 o q.1 listed (inner s.space s.labels n (throw p e) all))
     typed (return_to p e l) x y s a n z c k h o built listed all =
-        let q = and_parts (not (leaves_boxed (type_of_label s.labels l) e)) (is_built has s.labels e) built in
+        let q = and_parts (not (leaves_boxed (type_of_label s.labels l) e)) (is_built has (may_check has s.sure) s.labels e) built in
         (record { meets = own s.space s.labels n (return_to p e l) all; built = q.0; finds = tt }, typed e x x s a (n + 1) refl c h.0 h.1 o.1 q.1 listed.0 (inner s.space s.labels n (return_to p e l) all))
     typed (if_then p d e f t) x y s a n z c k h o built listed all =
         let met = inner s.space s.labels n (if_then p d e f t) all in
         let rest : Met s.space (nodes s.labels (n + 1 + size d) e ++ nodes s.labels (n + 1 + size d + size e) f) = back s.space (nodes s.labels (n + 1) d) (nodes s.labels (n + 1 + size d) e ++ nodes s.labels (n + 1 + size d + size e) f) met in
-        let kept = three (At x d) (At x e) (At x f) h in
-        let q = and_parts (not (yields_boxed t e) && not (yields_boxed t f)) (is_built has s.labels d && (is_built has s.labels e && is_built has s.labels f)) built in
-        let parts = and_parts (is_built has s.labels d) (is_built has s.labels e && is_built has s.labels f) q.1 in
-        let branches = and_parts (is_built has s.labels e) (is_built has s.labels f) parts.1 in
+        let kept = three s.owner s.space (At x d) (At x e) (At x f) h in
+        let q = and_parts (not (yields_boxed t e) && not (yields_boxed t f)) (is_built has (may_check has s.sure) s.labels d && (is_built has (may_check has s.sure) s.labels e && is_built has (may_check has s.sure) s.labels f)) built in
+        let parts = and_parts (is_built has (may_check has s.sure) s.labels d) (is_built has (may_check has s.sure) s.labels e && is_built has (may_check has s.sure) s.labels f) q.1 in
+        let branches = and_parts (is_built has (may_check has s.sure) s.labels e) (is_built has (may_check has s.sure) s.labels f) parts.1 in
         (record { meets = own s.space s.labels n (if_then p d e f t) all; built = q.0; finds = tt }, typed d x x s a (n + 1) refl c kept.0.0 kept.0.1 o.0 parts.0 listed.0 (front s.space (nodes s.labels (n + 1) d) (nodes s.labels (n + 1 + size d) e ++ nodes s.labels (n + 1 + size d + size e) f) met), typed e x x s a (n + 1 + size d) refl c kept.1.0 kept.1.1 o.1 branches.0 listed.1 (one s.space s.labels (n + 1 + size d) e f rest), typed f x x s a (n + 1 + size d + size e) refl c kept.2.0 kept.2.1 o.2 branches.1 listed.2 (other s.space s.labels (n + 1 + size d) e f rest))
     typed (while_loop p d e) x y s a n z c k h o built listed all =
         let met = inner s.space s.labels n (while_loop p d e) all in
-        let later = keep-behind (At x d) (At x e) h in
-        let parts = and_parts (is_built has s.labels d) (is_built has s.labels e) built in
-        (record { meets = own s.space s.labels n (while_loop p d e) all; built = refl; finds = tt }, typed d x x s a (n + 1) refl c h.0 (keep-front (below x d) (At x e) h.1) o.0 parts.0 listed.0 (one s.space s.labels (n + 1) d e met), typed e x x s a (n + 1 + size d) refl c later.0 later.1 o.1 parts.1 listed.1 (other s.space s.labels (n + 1) d e met))
+        let later = keep-behind s.owner s.space (At x d) (At x e) h in
+        let parts = and_parts (is_built has (may_check has s.sure) s.labels d) (is_built has (may_check has s.sure) s.labels e) built in
+        (record { meets = own s.space s.labels n (while_loop p d e) all; built = refl; finds = tt }, typed d x x s a (n + 1) refl c h.0 (keep-front s.owner s.space (below x d) (At x e) h.1) o.0 parts.0 listed.0 (one s.space s.labels (n + 1) d e met), typed e x x s a (n + 1 + size d) refl c later.0 later.1 o.1 parts.1 listed.1 (other s.space s.labels (n + 1) d e met))
     typed (do_while p d e) x y s a n z c k h o built listed all =
         let met = inner s.space s.labels n (do_while p d e) all in
-        let later = keep-behind (At x d) (At x e) h in
-        let parts = and_parts (is_built has s.labels d) (is_built has s.labels e) built in
-        (record { meets = own s.space s.labels n (do_while p d e) all; built = refl; finds = tt }, typed d x x s a (n + 1) refl c h.0 (keep-front (below x d) (At x e) h.1) o.0 parts.0 listed.0 (one s.space s.labels (n + 1) d e met), typed e x x s a (n + 1 + size d) refl c later.0 later.1 o.1 parts.1 listed.1 (other s.space s.labels (n + 1) d e met))
+        let later = keep-behind s.owner s.space (At x d) (At x e) h in
+        let parts = and_parts (is_built has (may_check has s.sure) s.labels d) (is_built has (may_check has s.sure) s.labels e) built in
+        (record { meets = own s.space s.labels n (do_while p d e) all; built = refl; finds = tt }, typed d x x s a (n + 1) refl c h.0 (keep-front s.owner s.space (below x d) (At x e) h.1) o.0 parts.0 listed.0 (one s.space s.labels (n + 1) d e met), typed e x x s a (n + 1 + size d) refl c later.0 later.1 o.1 parts.1 listed.1 (other s.space s.labels (n + 1) d e met))
     typed (match_on p e cs d t) x y s a n z c k h o built listed all =
         let met = inner s.space s.labels n (match_on p e cs d t) all in
         let i = n + 1 + size e in
         let rest : Met s.space (nodes_of_cases s.labels i cs ++ nodes s.labels (i + size_of_cases cs) d) = back s.space (nodes s.labels (n + 1) e) (nodes_of_cases s.labels i cs ++ nodes s.labels (i + size_of_cases cs) d) met in
         let its = own s.space s.labels n (match_on p e cs d t) all in
-        let kept = three (At x e) (cases_below x cs) (At x d) h in
-        let q = and_parts (not (yields_boxed t d)) (is_built has s.labels e && (are_built_cases has s.labels t cs && is_built has s.labels d)) built in
-        let parts = and_parts (is_built has s.labels e) (are_built_cases has s.labels t cs && is_built has s.labels d) q.1 in
-        let branches = and_parts (are_built_cases has s.labels t cs) (is_built has s.labels d) parts.1 in
+        let kept = three s.owner s.space (At x e) (cases_below x cs) (At x d) h in
+        let q = and_parts (not (yields_boxed t d)) (is_built has (may_check has s.sure) s.labels e && (are_built_cases has (may_check has s.sure) s.labels t cs && is_built has (may_check has s.sure) s.labels d)) built in
+        let parts = and_parts (is_built has (may_check has s.sure) s.labels e) (are_built_cases has (may_check has s.sure) s.labels t cs && is_built has (may_check has s.sure) s.labels d) q.1 in
+        let branches = and_parts (are_built_cases has (may_check has s.sure) s.labels t cs) (is_built has (may_check has s.sure) s.labels d) parts.1 in
         (record { meets = its; built = q.0; finds = tt }, typed e x x s a (n + 1) refl c kept.0.0 kept.0.1 o.0 parts.0 listed.0 (front s.space (nodes s.labels (n + 1) e) (nodes_of_cases s.labels i cs ++ nodes s.labels (i + size_of_cases cs) d) met), typed_cases cs x s a t i c kept.1 o.1 branches.0 listed.1 its.1 (front s.space (nodes_of_cases s.labels i cs) (nodes s.labels (i + size_of_cases cs) d) rest), typed d x x s a (i + size_of_cases cs) refl c kept.2.0 kept.2.1 o.2 branches.1 listed.2 (back s.space (nodes_of_cases s.labels i cs) (nodes s.labels (i + size_of_cases cs) d) rest))
+    typed (new_object p cn m ts) x y s a n z c k h o built listed all =
+        let q = and_parts (stands has (may_check has s.sure) s.labels (new_object p cn m ts)) (are_built has (may_check has s.sure) s.labels ts) built in
+        (record { meets = own s.space s.labels n (new_object p cn m ts) all; built = q.0; finds = all_have_values m.params listed.1.0.params }, typed_all ts x s a (n + 1) c h o q.1 listed.2 (inner s.space s.labels n (new_object p cn m ts) all))
+    typed (select p e cn f t) x y s a n z c k h o built listed all =
+        let q = and_parts (stands has (may_check has s.sure) s.labels (select p e cn f t)) (is_built has (may_check has s.sure) s.labels e) built in
+        (record { meets = own s.space s.labels n (select p e cn f t) all; built = q.0; finds = tt }, typed e x x s a (n + 1) refl c h.0 h.1 o q.1 listed.0 (inner s.space s.labels n (select p e cn f t) all))
+    typed (apply_statically p e cn ns m ts t) x y s a n z c k h o built listed all =
+        let met = inner s.space s.labels n (apply_statically p e cn ns m ts t) all in
+        let q = and_parts (stands has (may_check has s.sure) s.labels (apply_statically p e cn ns m ts t)) (is_built has (may_check has s.sure) s.labels e && are_built has (may_check has s.sure) s.labels ts) built in
+        let parts = and_parts (is_built has (may_check has s.sure) s.labels e) (are_built has (may_check has s.sure) s.labels ts) q.1 in
+        (record { meets = own s.space s.labels n (apply_statically p e cn ns m ts t) all; built = q.0; finds = all_have_values m.params listed.2.0.params }, typed e x x s a (n + 1) refl c h.0 (keep-front s.owner s.space (below x e) (all_below x ts) h.1) o.0 parts.0 listed.0 (front s.space (nodes s.labels (n + 1) e) (nodes_of_all s.labels (n + 1 + size e) ts) met), typed_all ts x s a (n + 1 + size e) c (keep-behind s.owner s.space (At x e) (all_below x ts) h) o.1 parts.1 listed.3 (back s.space (nodes s.labels (n + 1) e) (nodes_of_all s.labels (n + 1 + size e) ts) met))
     typed (apply_static p cn ns m ts t) x y s a n z c k h o built listed all =
-        let linked = and_parts (has.linked (member cn ns m)) (not (any_is_boxed m.params ts) && are_built has s.labels ts) built in
-        let q = and_parts (not (any_is_boxed m.params ts)) (are_built has s.labels ts) linked.1 in
+        let linked = and_parts (has.linked (member cn ns m)) (not (any_is_boxed m.params ts) && are_built has (may_check has s.sure) s.labels ts) built in
+        let q = and_parts (not (any_is_boxed m.params ts)) (are_built has (may_check has s.sure) s.labels ts) linked.1 in
         (record { meets = own s.space s.labels n (apply_static p cn ns m ts t) all; built = and_from (has.linked (member cn ns m)) (not (any_is_boxed m.params ts)) linked.0 q.0; finds = all_have_values m.params listed.1.0.params }, typed_all ts x s a (n + 1) c h o q.1 listed.2 (inner s.space s.labels n (apply_static p cn ns m ts t) all))
     typed (unary_op p op e) x y s a n z c k h o built listed all = (record { meets = own s.space s.labels n (unary_op p op e) all; built = refl; finds = tt }, typed e x x s a (n + 1) refl c h.0 h.1 o built listed (inner s.space s.labels n (unary_op p op e) all))
     typed (binary_op p op d e) x y s a n z c k h o built listed all =
         let met = inner s.space s.labels n (binary_op p op d e) all in
-        let later = keep-behind (At x d) (At x e) h in
-        let q = and_parts (is_operation op e) (is_built has s.labels d && is_built has s.labels e) built in
-        let parts = and_parts (is_built has s.labels d) (is_built has s.labels e) q.1 in
-        (record { meets = own s.space s.labels n (binary_op p op d e) all; built = q.0; finds = tt }, typed d x x s a (n + 1) refl c h.0 (keep-front (below x d) (At x e) h.1) o.0 parts.0 listed.0 (one s.space s.labels (n + 1) d e met), typed e x x s a (n + 1 + size d) refl c later.0 later.1 o.1 parts.1 listed.1 (other s.space s.labels (n + 1) d e met))
+        let later = keep-behind s.owner s.space (At x d) (At x e) h in
+        let q = and_parts (is_operation op e) (is_built has (may_check has s.sure) s.labels d && is_built has (may_check has s.sure) s.labels e) built in
+        let parts = and_parts (is_built has (may_check has s.sure) s.labels d) (is_built has (may_check has s.sure) s.labels e) q.1 in
+        (record { meets = own s.space s.labels n (binary_op p op d e) all; built = q.0; finds = tt }, typed d x x s a (n + 1) refl c h.0 (keep-front s.owner s.space (below x d) (At x e) h.1) o.0 parts.0 listed.0 (one s.space s.labels (n + 1) d e met), typed e x x s a (n + 1 + size d) refl c later.0 later.1 o.1 parts.1 listed.1 (other s.space s.labels (n + 1) d e met))
     typed (undefined_literal p) x y s a n z c k h o built listed all = record { meets = tt; built = refl; finds = tt }
     typed (null_literal p) x y s a n z c k h o built listed all = record { meets = tt; built = refl; finds = tt }
     typed (boolean_literal p b) x y s a n z c k h o built listed all = record { meets = tt; built = refl; finds = tt }
@@ -141,42 +157,43 @@ module _ (w : Classes) (has : Usable) where
     typed (long_literal p u) x y s a n z c k h o built listed all = record { meets = tt; built = refl; finds = fits_long u listed }
     typed (string_literal p us) x y s a n z c k h o built listed all = record { meets = tt; built = refl; finds = tt }
     typed (var_ref p v t) x y s a n z c k h o built listed all = record { meets = tt; built = refl; finds = local-is s v t (innermost x.scope v) (local_of s.locals v) refl (c.same v) (not_false (has_type t (innermost x.scope v)) (subst (λ i. not (has_type t (innermost i v)) ≡ false) z k.variable)) }
+    typed (this_ref p t) x y s a n z c k h o built listed all = record { meets = tt; built = built; finds = k.this }
     typed (log_line p e) x y s a n z c k h o built listed all = (record { meets = own s.space s.labels n (log_line p e) all; built = refl; finds = tt }, typed e x x s a (n + 1) refl c h.0 h.1 o built listed (inner s.space s.labels n (log_line p e) all))
     typed _ x y s a n z c k h o built listed all = impossible built
 
-    typed_block : (ts : Terms) (x : Context) (s : Scene) (around : List (List ℕ)) (n : ℕ) → SameScope x.scope s.locals → AllKeep (statements_below x ts) → OnceAll around ts → has_no_terms ts ≡ false → are_built has s.labels ts ≡ true → AreListedTrees ts → Met s.space (nodes_of_all s.labels n ts) → TypedBlock w has s ts
+    typed_block : (ts : Terms) (x : Context) (s : Scene) (around : List (List ℕ)) (n : ℕ) → SameScope x.scope s.locals → AllKeep s.owner s.space (statements_below x ts) → OnceAll around ts → has_no_terms ts ≡ false → are_built has (may_check has s.sure) s.labels ts ≡ true → AreListedTrees ts → Met s.space (nodes_of_all s.labels n ts) → TypedBlock w has s ts
     typed_block no_terms x s a n c h o e built listed all = impossible (sym e)
-    typed_block (more_terms t no_terms) x s a n c h o e built listed all = typed t (inside x) x s a n refl c h.0 (keep-front (below (inside x) t) [] h.1) o.0 (and_parts (is_built has s.labels t) true built).0 listed.0 (front s.space (nodes s.labels n t) [] all)
+    typed_block (more_terms t no_terms) x s a n c h o e built listed all = typed t (inside x) x s a n refl c h.0 (keep-front s.owner s.space (below (inside x) t) [] h.1) o.0 (and_parts (is_built has (may_check has s.sure) s.labels t) true built).0 listed.0 (front s.space (nodes s.labels n t) [] all)
     typed_block (more_terms (var_def p v t m d) (more_terms u us)) x s a n c h o e built listed all =
-        let q = and_parts (is_built has s.labels (var_def p v t m d)) (are_built has s.labels (more_terms u us)) built in
-        (typed (var_def p v t m d) (inside x) x s a n refl c h.0 (keep-front (below (inside x) (var_def p v t m d)) (statements_below (behind (var_def p v t m d) x) (more_terms u us)) h.1) o.0 q.0 listed.0 (front s.space (nodes s.labels n (var_def p v t m d)) (nodes_of_all s.labels (n + size (var_def p v t m d)) (more_terms u us)) all), (λ y i k. o.2 y (inl i) k), typed_block (more_terms u us) (behind (var_def p v t m d) x) (scenes.behind (var_def p v t m d) s) a (n + size (var_def p v t m d)) (scope-behind x.scope s.locals (record { name = v; «mutable» = m; tpe = t }) c) (keep-behind (below (inside x) (var_def p v t m d)) (statements_below (behind (var_def p v t m d) x) (more_terms u us)) h.1) o.1 refl q.1 listed.1 (back s.space (nodes s.labels n (var_def p v t m d)) (nodes_of_all s.labels (n + size (var_def p v t m d)) (more_terms u us)) all))
+        let q = and_parts (is_built has (may_check has s.sure) s.labels (var_def p v t m d)) (are_built has (may_check has s.sure) s.labels (more_terms u us)) built in
+        (typed (var_def p v t m d) (inside x) x s a n refl c h.0 (keep-front s.owner s.space (below (inside x) (var_def p v t m d)) (statements_below (behind (var_def p v t m d) x) (more_terms u us)) h.1) o.0 q.0 listed.0 (front s.space (nodes s.labels n (var_def p v t m d)) (nodes_of_all s.labels (n + size (var_def p v t m d)) (more_terms u us)) all), (λ y i k. o.2 y (inl i) k), typed_block (more_terms u us) (behind (var_def p v t m d) x) (scenes.behind (var_def p v t m d) s) a (n + size (var_def p v t m d)) (scope-behind x.scope s.locals (record { name = v; «mutable» = m; tpe = t }) c) (keep-behind s.owner s.space (below (inside x) (var_def p v t m d)) (statements_below (behind (var_def p v t m d) x) (more_terms u us)) h.1) o.1 refl q.1 listed.1 (back s.space (nodes s.labels n (var_def p v t m d)) (nodes_of_all s.labels (n + size (var_def p v t m d)) (more_terms u us)) all))
     typed_block (more_terms t (more_terms u us)) x s a n c h o e built listed all =
-        let q = and_parts (is_built has s.labels t) (are_built has s.labels (more_terms u us)) built in
-        (typed t (inside x) x s a n refl c h.0 (keep-front (below (inside x) t) (statements_below (behind t x) (more_terms u us)) h.1) o.0 q.0 listed.0 (front s.space (nodes s.labels n t) (nodes_of_all s.labels (n + size t) (more_terms u us)) all), (λ y i k. absurd i), typed_block (more_terms u us) (behind t x) s a (n + size t) (scope-nothing x.scope s.locals c) (keep-behind (below (inside x) t) (statements_below (behind t x) (more_terms u us)) h.1) o.1 refl q.1 listed.1 (back s.space (nodes s.labels n t) (nodes_of_all s.labels (n + size t) (more_terms u us)) all))
+        let q = and_parts (is_built has (may_check has s.sure) s.labels t) (are_built has (may_check has s.sure) s.labels (more_terms u us)) built in
+        (typed t (inside x) x s a n refl c h.0 (keep-front s.owner s.space (below (inside x) t) (statements_below (behind t x) (more_terms u us)) h.1) o.0 q.0 listed.0 (front s.space (nodes s.labels n t) (nodes_of_all s.labels (n + size t) (more_terms u us)) all), (λ y i k. absurd i), typed_block (more_terms u us) (behind t x) s a (n + size t) (scope-nothing x.scope s.locals c) (keep-behind s.owner s.space (below (inside x) t) (statements_below (behind t x) (more_terms u us)) h.1) o.1 refl q.1 listed.1 (back s.space (nodes s.labels n t) (nodes_of_all s.labels (n + size t) (more_terms u us)) all))
 
-    typed_all : (ts : Terms) (x : Context) (s : Scene) (around : List (List ℕ)) (n : ℕ) → SameScope x.scope s.locals → AllKeep (all_below x ts) → OnceAll around ts → are_built has s.labels ts ≡ true → AreListedTrees ts → Met s.space (nodes_of_all s.labels n ts) → TypedAll w has s ts
+    typed_all : (ts : Terms) (x : Context) (s : Scene) (around : List (List ℕ)) (n : ℕ) → SameScope x.scope s.locals → AllKeep s.owner s.space (all_below x ts) → OnceAll around ts → are_built has (may_check has s.sure) s.labels ts ≡ true → AreListedTrees ts → Met s.space (nodes_of_all s.labels n ts) → TypedAll w has s ts
     typed_all no_terms x s a n c h o built listed all = tt
     typed_all (more_terms t ts) x s a n c h o built listed all =
-        let q = and_parts (is_built has s.labels t) (are_built has s.labels ts) built in
-        (typed t x x s a n refl c h.0 (keep-front (below x t) (all_below x ts) h.1) o.0 q.0 listed.0 (front s.space (nodes s.labels n t) (nodes_of_all s.labels (n + size t) ts) all), typed_all ts x s a (n + size t) c (keep-behind (At x t) (all_below x ts) h) o.1 q.1 listed.1 (back s.space (nodes s.labels n t) (nodes_of_all s.labels (n + size t) ts) all))
+        let q = and_parts (is_built has (may_check has s.sure) s.labels t) (are_built has (may_check has s.sure) s.labels ts) built in
+        (typed t x x s a n refl c h.0 (keep-front s.owner s.space (below x t) (all_below x ts) h.1) o.0 q.0 listed.0 (front s.space (nodes s.labels n t) (nodes_of_all s.labels (n + size t) ts) all), typed_all ts x s a (n + size t) c (keep-behind s.owner s.space (At x t) (all_below x ts) h) o.1 q.1 listed.1 (back s.space (nodes s.labels n t) (nodes_of_all s.labels (n + size t) ts) all))
 
-    typed_cases : (cs : Cases) (x : Context) (s : Scene) (around : List (List ℕ)) (t : IrType) (n : ℕ) → SameScope x.scope s.locals → AllKeep (cases_below x cs) → OnceCases around cs → are_built_cases has s.labels t cs ≡ true → AreListedCases cs → CasesYield w cs t → Met s.space (nodes_of_cases s.labels n cs) → TypedCases w has s t cs
+    typed_cases : (cs : Cases) (x : Context) (s : Scene) (around : List (List ℕ)) (t : IrType) (n : ℕ) → SameScope x.scope s.locals → AllKeep s.owner s.space (cases_below x cs) → OnceCases around cs → are_built_cases has (may_check has s.sure) s.labels t cs ≡ true → AreListedCases cs → CasesYield w cs t → Met s.space (nodes_of_cases s.labels n cs) → TypedCases w has s t cs
     typed_cases no_cases x s a t n c h o built listed its all = tt
-    typed_cases (more_cases [] e cs) x s a t n c h o built listed its all = typed_cases cs x s a t (n + size e) c (keep-behind (At x e) (cases_below x cs) h) o.1 built listed.2 its.1 (back s.space (nodes s.labels n e) (nodes_of_cases s.labels (n + size e) cs) all)
+    typed_cases (more_cases [] e cs) x s a t n c h o built listed its all = typed_cases cs x s a t (n + size e) c (keep-behind s.owner s.space (At x e) (cases_below x cs) h) o.1 built listed.2 its.1 (back s.space (nodes s.labels n e) (nodes_of_cases s.labels (n + size e) cs) all)
     typed_cases (more_cases (key ∷ keys) e cs) x s a t n c h o built listed its all =
-        let q = and_parts (not (yields_boxed t e)) (is_built has s.labels e && are_built_cases has s.labels t cs) built in
-        let parts = and_parts (is_built has s.labels e) (are_built_cases has s.labels t cs) q.1 in
-        ((its.0, q.0), typed e x x s a n refl c h.0 (keep-front (below x e) (cases_below x cs) h.1) o.0 parts.0 listed.1 (front s.space (nodes s.labels n e) (nodes_of_cases s.labels (n + size e) cs) all), typed_cases cs x s a t (n + size e) c (keep-behind (At x e) (cases_below x cs) h) o.1 parts.1 listed.2 its.1 (back s.space (nodes s.labels n e) (nodes_of_cases s.labels (n + size e) cs) all))
+        let q = and_parts (not (yields_boxed t e)) (is_built has (may_check has s.sure) s.labels e && are_built_cases has (may_check has s.sure) s.labels t cs) built in
+        let parts = and_parts (is_built has (may_check has s.sure) s.labels e) (are_built_cases has (may_check has s.sure) s.labels t cs) q.1 in
+        ((its.0, q.0), typed e x x s a n refl c h.0 (keep-front s.owner s.space (below x e) (cases_below x cs) h.1) o.0 parts.0 listed.1 (front s.space (nodes s.labels n e) (nodes_of_cases s.labels (n + size e) cs) all), typed_cases cs x s a t (n + size e) c (keep-behind s.owner s.space (At x e) (cases_below x cs) h) o.1 parts.1 listed.2 its.1 (back s.space (nodes s.labels n e) (nodes_of_cases s.labels (n + size e) cs) all))
 
 one_body : {o : Option Term} {e d : Term} → o ≡ Some e → o ≡ Some d → e ≡ d
 one_body e d = cc
 
-pub rules_kept : (w : Classes) (has : Usable) (c : ClassDef) (d : MethodDef) (e : Term) → d.body ≡ Some e → KeepsTreeRules c d → IsTyped w d → is_built_method has d e ≡ true → IsListedTree e → IsResult d.result → ((x : List ℕ) (p : ParamDef) → local_of d.params x ≡ Some p → HasValue p.tpe) → KeepsRules w has d e
+pub rules_kept : (w : Classes) (has : Usable) (c : ClassDef) (d : MethodDef) (e : Term) → d.body ≡ Some e → KeepsTreeRules c d → IsTyped w d → is_built_method has (may_check has (sure_locals e)) d e ≡ true → IsListedTree e → IsResult d.result → ((x : List ℕ) (p : ParamDef) → local_of d.params x ≡ Some p → HasValue p.tpe) → KeepsRules w has c.name d e
 rules_kept w has c d e is kept judged built listed result values =
     let same : judged.body ≡ e = one_body judged.has_body is in
-    let q = and_parts (not (yields_boxed d.result e)) (is_built has [] e) built in
+    let q = and_parts (not (yields_boxed d.result e)) (is_built has (may_check has (sure_locals e)) [] e) built in
     record {
-      typed = typed w has e (outermost d) (outermost d) (scene_of d) [] 0 refl (record { same = params-same d.params (distinct c d e is kept) }) (keep c d e is kept).0 (keep c d e is kept).1 (body_once c d e is kept) q.1 listed (subst (λ (b : Term). All (MeetsThere w d.namespace) (nodes [] 0 b)) same judged.met);
+      typed = typed w has e (outermost d) (outermost d) (scene_of c.name d e) [] 0 refl (record { same = params-same d.params (distinct c d e is kept) }) (keep c d e is kept).0 (keep c d e is kept).1 (body_once c d e is kept) q.1 listed (subst (λ (b : Term). All (MeetsThere w d.namespace) (nodes [] 0 b)) same judged.met);
       yields = subst (λ (b : Term). Yields w b d.result) same judged.yields;
       unboxed = q.0;
       result = result;

@@ -8,7 +8,7 @@ ghost use Rattle.std.specs.Prelude.{◌≡◌, ℕ, true, List, Some};
 ghost use Rattle.listing_spelling.specs.Rules.{IsListedTree};
 ghost use Rattle.sj_kept.specs.Kept.{KeepsTreeRules};
 ghost use Rattle.body_rules.specs.Locals.{local_of, HasValue};
-ghost use Rattle.body_rules.specs.Typing.{IsResult};
+ghost use Rattle.body_rules.specs.Typing.{may_check, IsResult};
 ghost use Rattle.sj_proper.specs.Methods.{KeepsRules};
 ghost use Rattle.sj_trees.specs.Term.{Term};
 ghost use Rattle.sj_trees.specs.declared.classes.ClassDef.{ClassDef};
@@ -17,9 +17,10 @@ ghost use Rattle.sj_trees.specs.declared.classes.ParamDef.{ParamDef};
 ghost use Rattle.built_forms.specs.Built.{Usable, is_built_method};
 ghost use Rattle.typing_rules.specs.Typed.{IsTyped};
 ghost use Rattle.sj_world.specs.Known.{Classes};
+ghost use Rattle.sure_receivers.specs.Sure.{sure_locals};
 
 /// A method that keeps the local rules on trees, is typed in a world, is of the forms that are built, and whose body has a listing, keeps the rules over
 /// trees in that world, so it is covered by the theorem on programs; where its parameters and its result have types with values that are built.
 pub fn typed_bodies_keep_the_rules()
-    ensures { (w : Classes) (has : Usable) (c : ClassDef) (d : MethodDef) (e : Term) → d.body ≡ Some e → KeepsTreeRules c d → IsTyped w d → is_built_method has d e ≡ true → IsListedTree e → IsResult d.result → ((x : List ℕ) (p : ParamDef) → local_of d.params x ≡ Some p → HasValue p.tpe) → KeepsRules w has d e }
+    ensures { (w : Classes) (has : Usable) (c : ClassDef) (d : MethodDef) (e : Term) → d.body ≡ Some e → KeepsTreeRules c d → IsTyped w d → is_built_method has (may_check has (sure_locals e)) d e ≡ true → IsListedTree e → IsResult d.result → ((x : List ℕ) (p : ParamDef) → local_of d.params x ≡ Some p → HasValue p.tpe) → KeepsRules w has c.name d e }
 {}
