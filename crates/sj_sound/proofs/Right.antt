@@ -16,8 +16,11 @@ use Rattle.sj_desugar.specs.Desugar.{member}
 use Rattle.sj_desugar.specs.Plain.{is_no_type}
 use Rattle.sj_names.specs.Same.{is_same_text}
 use Rattle.sj_names.specs.declared.method_names.Member.{Member}
+use Rattle.sj_names.specs.declared.method_names.MethodName.{MethodName}
+use Rattle.sj_names.specs.declared.method_names.Namespace.{Namespace}
+use Rattle.sj_names.specs.declared.method_names.Namespace.TheVariants.{Private, Constructor}
 use Rattle.sj_names.specs.declared.references.TypeRef.{TypeRef}
-use Rattle.sj_trees.specs.Term.{Term, Terms, no_terms, more_terms, Cases, no_cases, more_cases, var_def, skip, block_of, labeled, assign, return_to, if_then, while_loop, do_while, match_on, apply_static, unary_op, binary_op, undefined_literal, null_literal, boolean_literal, char_literal, byte_literal, short_literal, int_literal, long_literal, string_literal, var_ref, log_line}
+use Rattle.sj_trees.specs.Term.{Term, Terms, no_terms, more_terms, Cases, no_cases, more_cases, var_def, skip, block_of, labeled, assign, return_to, if_then, while_loop, do_while, throw, match_on, new_object, select, apply_statically, apply_static, unary_op, binary_op, undefined_literal, null_literal, boolean_literal, char_literal, byte_literal, short_literal, int_literal, long_literal, string_literal, var_ref, log_line}
 use Rattle.sj_trees.specs.TypeOf.{type_of_term, type_of_last, loop_type, unary_result, binary_result}
 use Rattle.sj_trees.specs.Types.{reference_type}
 use Rattle.sj_trees.specs.declared.classes.ParamDef.{ParamDef}
@@ -27,7 +30,7 @@ use Rattle.sj_trees.specs.declared.types.IrType.{IrType}
 use Rattle.sj_trees.specs.declared.types.IrType.TheVariants.{Any, Undefined, Null, Boolean, Byte, Short, Int, String, NoType, Nothing, Char, Long}
 use Rattle.typing_rules.specs.Rules.{unary_operand, left_operand, right_operand, IsText as IsJoined}
 use Rattle.body_rules.specs.Operators.{IsDivision, a_quotient, a_remainder, IsLongDivision, a_long_quotient, a_long_remainder, DividesBy, by_int, by_long}
-use Rattle.built_forms.specs.Built.{Usable}
+use Rattle.built_forms.specs.Built.{Usable, members_alone}
 use Rattle.sj_plain.specs.Settings.{IsField}
 use Rattle.body_rules.specs.Standing.{call_type}
 use Rattle.body_rules.specs.Typing.{IsTrueLiteral, true_literal, Scene, behind, in_label, Typed, TypedBlock, TypedAll, TypedCases}
@@ -66,7 +69,11 @@ comes_after P Q l Wrong f h k = absurd h
 pub comes_then : {A B : Type 0} (P : A → Type 0) (Q : B → Type 0) (o : Out A) (f : A → Out B) → Comes P o.end → ((a : A) → P a → Comes Q (f a).end) → Comes Q (then_do o f).end
 comes_then P Q o f h k = comes_after P Q o.lines o.end f h k
 
-module _ (w : World) (law : IsSubtyping (IsSub w)) (has : Usable) where
+module _ (w : World) (law : IsSubtyping (IsSub w)) (linked_here : Member → Bool) where
+  -- bodies that make no object and use none
+  abbrev has : Usable
+  has = members_alone linked_here
+
   -- what is typed by the classes of addresses
   module _ (at : Classes) where
     -- what a tree of the type gives: any value where it is none
@@ -245,7 +252,7 @@ module _ (w : World) (law : IsSubtyping (IsSub w)) (has : Usable) where
       each _ (threw k v env st b i j) = threw k v env st b i j
 
   abbrev with_local : ParamDef → Scene → Scene
-  with_local d s = record { space = s.space; locals = d ∷ s.locals; labels = s.labels }
+  with_local d s = record { owner = s.owner; space = s.space; sure = s.sure; locals = d ∷ s.locals; labels = s.labels }
 
   leave-right : (at : Classes) (s : Scene) (d : ParamDef) (t : IrType) (a : End ir.Ended) → (IsParameter s.locals d.name → ⊥) → Comes (CameRight at (with_local d s) (d ∷ s.locals) t) a → Comes (CameRight at s s.locals t) a
   leave-right at s d t a fresh = comes_weaken (CameRight at (with_local d s) (d ∷ s.locals) t) (CameRight at s s.locals t) a each
@@ -319,7 +326,7 @@ module _ (w : World) (law : IsSubtyping (IsSub w)) (has : Usable) where
   call_right low right m l s t is at vs fit env st e = subst (λ o. Right at s t o) (sym called) (comes_then (CameRight at scene l.definition.params l.definition.result) (CameRight at s s.locals t) (low l.its_body inner st) (ir_meaning.returned l.definition.result env) (yields-right at scene l.definition.params l.its_body l.definition.result (low l.its_body inner st).end yielded (right l.its_body scene l.rules.values l.rules.typed l.rules.once.fresh at inner st (record { locals = record { holds = b.hold }; heap = e.heap }))) back)
     where
       scene : Scene
-      scene = scene_of l.definition
+      scene = scene_of m.class l.definition l.its_body
 
       yielded : Yields w l.its_body l.definition.result
       yielded = yields_there w l.its_body l.definition.result l.rules.unboxed l.rules.yields
@@ -414,6 +421,12 @@ module _ (w : World) (law : IsSubtyping (IsSub w)) (has : Usable) where
     binary_right : (o : BinaryOp) (e d : Term) (at : Classes) (s : Scene) → Takes w o e d → (env : ir.Env) (st : ir.State) → Right at s (type_of_term e) (step e env st) → ((k : Classes) (env : ir.Env) (st : ir.State) → Ready k s.locals env st → Right k s (type_of_term d) (step d env st)) → Right at s (binary_result o) (ir_meaning.in_order (step e ∷ step d ∷ []) (ir_meaning.binary w low o) env st)
     binary_right o e d at s takes env st first second = go_on_right at s s.locals (type_of_term e) s.locals (binary_result o) (step e env st) (λ a. ir_meaning.in_order (step d ∷ []) (λ vs. ir_meaning.binary w low o (a ∷ vs))) first (λ y f a env st g i. one_right y s s.locals (type_of_term d) (binary_result o) (step d) (λ vs. ir_meaning.binary w low o (a ∷ vs)) env st (second y env st i) (λ z n b env st k i. value_right z low s (binary_result o) (binary_value o a b) env st (two_right o e d z takes a b (gives-lift y z n a (type_of_term e) g) k) i))
 
+    -- no member runs on an object
+    no_call : {A : Type 0} (p : Position) (e : Term) (c : List ℕ) (n : Namespace) (k : MethodName) (ts : Terms) (t : IrType) (s : Scene) → Typed w has s (apply_statically p e c n k ts t) → A
+    no_call p e c Private k ts t s h = impossible h.0.built
+    no_call p e c Constructor k ts t s h = impossible h.0.built
+    no_call p e c n k ts t s h = impossible h.0.built
+
     mutual
       pub tree_right : (t : Term) → TreeRight t
       tree_right (var_def p x t b e) = λ s v h fresh at env st i. narrow-right at s (record { name = x; «mutable» = b; tpe = t }) NoType (step (var_def p x t b e) env st).end (fresh x (inl refl)) (definition_right p x t b e (tree_right e) s v h fresh at env st i)
@@ -440,6 +453,10 @@ module _ (w : World) (law : IsSubtyping (IsSub w)) (has : Usable) where
       tree_right (string_literal p us) = λ s v h fresh at env st i. here at s s.locals String (ir.text us) env st (inr (has_type String (of_text us) (law.same String))) i
       tree_right (var_ref p x t) = λ s v h fresh at env st i. local_right at s t (env.locals x) env st (subst (HoldsType at (env.locals x)) h.finds.type_is (i.locals.holds x h.finds.local h.finds.is)) i
       tree_right (log_line p e) = λ s v h fresh at env st i. operand_right e at s NoType String ir_meaning.log env st (tree_right e s v h.1 fresh at env st i) h.0.meets string_not (λ y b q env st k i. log_right y s q env st (as_text (IsSub w) law y q k) i)
+      tree_right (throw p e) = λ s v h fresh at env st i. impossible h.0.built
+      tree_right (new_object p c m ts) = λ s v h fresh at env st i. impossible h.0.built
+      tree_right (select p e c f t) = λ s v h fresh at env st i. impossible h.0.built
+      tree_right (apply_statically p e c n m ts t) = λ s v h fresh at env st i. no_call p e c n m ts t s h
       tree_right _ = λ s v h fresh at env st i. impossible h.built
 
       block_right : (ts : Terms) (s : Scene) → HaveValues s.locals → TypedBlock w has s ts → Fresh s (OwnAll ts) → (at : Classes) (env : ir.Env) (st : ir.State) → Ready at s.locals env st → (q : IrType) → Right at s (type_of_last q ts) (ir_meaning.block w low ts env st)

@@ -1,5 +1,5 @@
 -- A program of methods that keep the rules, and its file.
-use Rattle.std.proofs.Common.{◌≡◌, ℕ, true, List, [], ◌∷◌, Option, Some, None, slice_get, refl, subst, ⊎_elim, Contains}
+use Rattle.std.proofs.Common.{◌≡◌, ℕ, true, false, List, [], ◌∷◌, Option, Some, None, slice_get, refl, subst, ⊎_elim, Contains}
 use Rattle.std.proofs.lemmas.Bool.{and_parts}
 use Rattle.outcomes.specs.Outcome.{End, Done, Going, Wrong}
 use Rattle.outcomes.specs.Agreement.{IsNotWrong, Agree}
@@ -44,10 +44,10 @@ module _ (w : ir_world.World) (plain : IsPlain w) (fs : List EmittedMethod) (rig
   nowhere = record { owner = []; space = PublicStatic; sure = λ x. false; locals = []; labels = [] }
 
   abbrev typed_by : Classes → ir.State → Type 0
-  typed_by = HeapTyped w (in_world w plain) (functions_of fs)
+  typed_by = HeapTyped w (in_world w plain) (has_function fs)
 
-  nothing_held : (at : Classes) → EnvTyped w (in_world w plain) (functions_of fs) at [] ir_showing.outside
-  nothing_held at = record { holds = nothing_there w (in_world w plain) (functions_of fs) at }
+  nothing_held : (at : Classes) → EnvTyped w (in_world w plain) (has_function fs) at [] ir_showing.outside
+  nothing_held at = record { holds = nothing_there w (in_world w plain) (has_function fs) at }
 
   -- no address has a class yet
   abbrev no_classes : Classes
@@ -60,7 +60,7 @@ module _ (w : ir_world.World) (plain : IsPlain w) (fs : List EmittedMethod) (rig
   nothing_typed st = record { objects = λ i c e. absurd (no_class c e) }
 
   -- a value that is thrown and nothing catches is shown
-  stored_right : (at : Classes) (c : List ℕ) (o : Option ir.Stored) → ObjectTyped w (in_world w plain) (functions_of fs) at c o → Comes (λ a. Unit {0}) (ir_showing.uncaught_or_wrong (ir_showing.thrown_stored o)).end
+  stored_right : (at : Classes) (c : List ℕ) (o : Option ir.Stored) → ObjectTyped w (in_world w plain) (has_function fs) at c o → Comes (λ a. Unit {0}) (ir_showing.uncaught_or_wrong (ir_showing.thrown_stored o)).end
   stored_right at c _ (typed_object fields h) = tt
 
   uncaught_right : (at : Classes) (v : ir.Value) (st : ir.State) → HasType (IsSub w) (in_world w plain) at v Any → typed_by at st → Comes (λ a. Unit {0}) (ir_showing.uncaught_or_wrong (ir_showing.thrown st v)).end
@@ -78,14 +78,14 @@ module _ (w : ir_world.World) (plain : IsPlain w) (fs : List EmittedMethod) (rig
   -- the initializers are wrong at no bound
   all_right : (n : ℕ) (es : List EntryPoint) → have_functions fs es ≡ true → (at : Classes) (st : ir.State) → typed_by at st → Comes (λ a. Unit {0}) (ir_showing.all_show w n es st).end
   all_right n [] h at st typed = tt
-  all_right n (e ∷ es) h at st typed = comes_then (CameRight w (in_world w plain) (functions_of fs) at nowhere [] NoType) (λ a. Unit {0}) (ir_meaning.meaning w n (ir_showing.initializer_call e) ir_showing.outside st) (ir_showing.next_or_end (ir_showing.all_show w n es)) (call_right w (in_world w plain) (functions_of fs) (ir_meaning.below w n) (bodies_right w (in_world w plain) (functions_of fs) members n) (initializer_member e) (members (initializer_member e) k.0) nowhere NoType refl at [] none_left ir_showing.outside st (record { locals = nothing_held at; heap = typed })) (next at n es (all_right n es k.1))
+  all_right n (e ∷ es) h at st typed = comes_then (CameRight w (in_world w plain) (has_function fs) at nowhere [] NoType) (λ a. Unit {0}) (ir_meaning.meaning w n (ir_showing.initializer_call e) ir_showing.outside st) (ir_showing.next_or_end (ir_showing.all_show w n es)) (call_right w (in_world w plain) (has_function fs) (ir_meaning.below w n) (bodies_right w (in_world w plain) (has_function fs) members n) (initializer_member e) (members (initializer_member e) k.0) nowhere NoType refl at [] none_left ir_showing.outside st (record { locals = nothing_held at; heap = typed })) (next at n es (all_right n es k.1))
     where
       k : (has_function fs (initializer_member e) ≡ true) × (have_functions fs es ≡ true)
       k = and_parts (has_function fs (initializer_member e)) (have_functions fs es) h
 
-      next : (at : Classes) (n : ℕ) (es : List EntryPoint) → ((at : Classes) (st : ir.State) → typed_by at st → Comes (λ a. Unit {0}) (ir_showing.all_show w n es st).end) → (a : ir.Ended) → CameRight w (in_world w plain) (functions_of fs) at nowhere [] NoType a → Comes (λ a. Unit {0}) (ir_showing.next_or_end (ir_showing.all_show w n es) a).end
+      next : (at : Classes) (n : ℕ) (es : List EntryPoint) → ((at : Classes) (st : ir.State) → typed_by at st → Comes (λ a. Unit {0}) (ir_showing.all_show w n es st).end) → (a : ir.Ended) → CameRight w (in_world w plain) (has_function fs) at nowhere [] NoType a → Comes (λ a. Unit {0}) (ir_showing.next_or_end (ir_showing.all_show w n es) a).end
       next at n es others _ (gave k v env st a g i) = others k st i.heap
-      next at n es others _ (left k l v env st r a i g j) = no_label w (in_world w plain) (functions_of fs) l r i
+      next at n es others _ (left k l v env st r a i g j) = no_label w (in_world w plain) (has_function fs) l r i
       next at n es others _ (threw k v env st a i j) = uncaught_right k v st i j.heap
 
 pub called : (fs : List EmittedMethod) (es : List EntryPoint) → have_functions fs es ≡ true → (e : EntryPoint) → Contains es e → has_function fs (initializer_member e) ≡ true

@@ -4,7 +4,9 @@ use Rattle.std.specs.Prelude.{pos, nat_eq, FitsSigned}
 use Rattle.std.specs.Cmp.Lexicographic.{pointwise}
 use Rattle.std.specs.Int.{w32}
 use Rattle.outcomes.specs.Agreement.{Agree}
-use Rattle.ir_mean.specs.Rows.{nowhere, once, triples}
+use Rattle.ir_mean.specs.Rows.{nowhere, object_name, object_with, once, triples}
+use Rattle.sj_local.specs.ClassRules.{keeps_superclass, keeps_hijacked}
+use Rattle.sj_trees.specs.declared.classes.ClassDef.{ClassDef}
 use Rattle.ir_mean.specs.Shows.{ir_shows}
 use Rattle.js_mean.specs.Shows.{js_shows}
 use Rattle.sj_trees.specs.declared.classes.ParamDef.{ParamDef}
@@ -37,7 +39,7 @@ number_here s n h = record { meets = tt; built = refl; finds = fits n h }
 
 main_rules : KeepsRules worked_world linked object_name main_method tests_it
 main_rules = record {
-  typed = (record { meets = (equal refl, nothing_wanted refl, nothing_wanted refl); built = refl; finds = tt }, (record { meets = (equal refl, equal refl); built = refl; finds = tt }, (record { meets = (tt, refl, (equal refl, tt)); built = refl; finds = (refl, tt) }, (number_here (scene_of main_method) 1 (omega arith), tt)), number_here (scene_of main_method) 27 (omega arith)), (record { meets = equal refl; built = refl; finds = tt }, record { meets = tt; built = refl; finds = tt }), (record { meets = equal refl; built = refl; finds = tt }, record { meets = tt; built = refl; finds = tt }));
+  typed = (record { meets = (equal refl, nothing_wanted refl, nothing_wanted refl); built = refl; finds = tt }, (record { meets = (equal refl, equal refl); built = refl; finds = tt }, (record { meets = (tt, refl, (equal refl, tt)); built = refl; finds = (refl, tt) }, (number_here (scene_of object_name main_method tests_it) 1 (omega arith), tt)), number_here (scene_of object_name main_method tests_it) 27 (omega arith)), (record { meets = equal refl; built = refl; finds = tt }, record { meets = tt; built = refl; finds = tt }), (record { meets = equal refl; built = refl; finds = tt }, record { meets = tt; built = refl; finds = tt }));
   yields = nothing_wanted refl;
   unboxed = refl;
   result = inl refl;
