@@ -1,7 +1,6 @@
 -- Methods that are judged have what the theorem on classes asks.
-use Rattle.std.proofs.Common.{◌≡◌, ◌&&◌, ℕ, Bool, true, false, not, List, [], ◌∷◌, ◌++◌, Option, Some, None, refl, sym, subst, Contains, if◌then◌else◌}
-use Rattle.std.specs.Prelude.{IsTrue, MatchOption, is_some}
-use Rattle.std.proofs.lemmas.Bool.{and_parts}
+use Rattle.std.proofs.Common.{◌≡◌, ℕ, true, List, Option, sym, subst, Contains}
+use Rattle.std.specs.Prelude.{IsTrue, MatchOption}
 use Rattle.std.proofs.lemmas.List.Elements.{All-contains}
 use Rattle.outcomes.specs.Agreement.{Agree}
 use Rattle.ir_mean.specs.Shows.{initializers, ir_shows}
@@ -17,26 +16,19 @@ use Rattle.sj_proper.specs.Emitted.{EmittedMethod, HaveOwnMembers}
 use Rattle.sj_calls.specs.Files.{program_with}
 use Rattle.sj_sound.specs.Linked.{have_functions, functions_of}
 use Rattle.sj_judged.specs.Programs.{IsAccepted}
-use Rattle.sj_kept.proofs.Classes.{class-keeps, keeps-superclass, signature-keeps}
+use Rattle.sj_kept.proofs.Classes.{class-keeps, keeps-superclass, keeps-hijacked, signature-keeps}
 use Rattle.sj_judged.proofs.Programs.{classes_agree}
-use Rattle.sj_local.specs.Broken.{FirstBroken}
-use Rattle.sj_local.specs.ClassRules.{is_class, is_interface, is_empty, keeps_superclass}
-use Rattle.sj_local.specs.Names.{is_object}
-use Rattle.sj_names.proofs.Same.{impossible, text-same}
-use Rattle.sj_names.specs.Same.{is_same_text}
 use Rattle.body_rules.proofs.Plain.{plain_world}
 use Rattle.sj_proper.specs.Methods.{KeepsRules}
 use Rattle.sj_proper.specs.Methods.{HaveTypes}
 use Rattle.body_rules.specs.Standing.{call_type}
 use Rattle.sj_trees.specs.Term.{Term}
-use Rattle.sj_world.specs.Ancestors.{listed, written, above_in}
-use Rattle.sj_world.specs.Known.{class_of, object}
 use Rattle.sj_world.specs.Laws.{IsPlain}
 use Rattle.body_rules.proofs.RulesGive.{result_is}
 use Rattle.sj_typed.proofs.Bodies.{rules_kept}
 use Rattle.sj_typed.proofs.Values.{parameters_have_values}
 use Rattle.sj_judged.specs.Judged.{IsJudgedClass, IsJudgedMethod}
-use Rattle.sj_judged.proofs.Found.{OwnerOf, owner_of, here, there}
+use Rattle.sj_judged.proofs.Found.{OwnerOf, owner_of}
 
 module _ (w : World) (fs : List EmittedMethod) (classes : (c : ClassDef) → Contains w c → IsJudgedClass c) (e : EmittedMethod) (h : IsJudgedMethod w fs e) where
   its : OwnerOf w e.member e.definition
