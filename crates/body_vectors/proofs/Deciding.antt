@@ -11,12 +11,12 @@ use Rattle.sj_names.specs.declared.method_names.Namespace.{Namespace}
 use Rattle.sj_names.specs.declared.method_names.Namespace.TheVariants.{PublicStatic, PrivateStatic}
 use Rattle.sj_names.specs.declared.references.TypeRef.{TypeRef}
 use Rattle.body_rules.specs.Locals.{Own}
-use Rattle.body_rules.specs.Typing.{Scene, IsResult, AllHaveValues, IsLocal, IsVariable, Defines, behind, in_label, Finds, Here, Typed, TypedBlock, TypedAll, TypedCases}
+use Rattle.body_rules.specs.Typing.{Scene, IsResult, AllHaveValues, IsLocal, IsVariable, Defines, behind, in_label, Finds, Here, Typed, TypedBlock, TypedAll, TypedCases, may_check}
 use Rattle.body_rules.specs.Locals.{local_of}
 use Rattle.sj_proper.specs.Once.{Once, OnceAll, OnceCases}
 use Rattle.sj_trees.proofs.SameTypes.{type-same}
 use Rattle.sj_trees.specs.SameTypes.{is_same_type}
-use Rattle.sj_trees.specs.Term.{Term, Terms, no_terms, more_terms, Cases, no_cases, more_cases, var_def, skip, block_of, labeled, assign, return_to, if_then, while_loop, do_while, match_on, apply_static, unary_op, binary_op, undefined_literal, null_literal, boolean_literal, char_literal, byte_literal, short_literal, int_literal, long_literal, string_literal, var_ref, log_line}
+use Rattle.sj_trees.specs.Term.{Term, Terms, no_terms, more_terms, Cases, no_cases, more_cases, var_def, skip, block_of, labeled, assign, return_to, if_then, while_loop, do_while, match_on, throw, new_object, select, apply_statically, this_ref, apply_static, unary_op, binary_op, undefined_literal, null_literal, boolean_literal, char_literal, byte_literal, short_literal, int_literal, long_literal, string_literal, var_ref, log_line}
 use Rattle.sj_trees.specs.TypeOf.{type_of_term}
 use Rattle.sj_trees.specs.Types.{reference_type}
 use Rattle.sj_trees.specs.declared.classes.ParamDef.{ParamDef}
@@ -133,6 +133,9 @@ is_variable (Some d) t = is_same_type d.tpe t && d.«mutable»
 abbrev is_found : Scene → Term → Bool
 is_found s (var_def p x t b e) = not (has_no_value t)
 is_found s (assign p (var_ref q x t) e) = is_variable (local_of s.locals x) t
+is_found s (new_object p c m ts) = false
+is_found s (apply_statically p e c n m ts t) = false
+is_found s (this_ref p t) = false
 is_found s (apply_static p c n m ts t) = all_have_values m.params
 is_found s (char_literal p u) = nat_lt u (2 ^ 16)
 is_found s (byte_literal p z) = has_bits (2 ^ 31) z
@@ -144,7 +147,7 @@ is_found s _ = true
 
 module _ (has : Usable) where
   abbrev is_here : Scene → Term → Bool
-  is_here s t = is_met s.labels t && (stands has s.labels t && is_found s t)
+  is_here s t = is_met s.labels t && (stands has (may_check has s.sure) s.labels t && is_found s t)
 
   abbrev mutual
     pub is_typed : Scene → Term → Bool
@@ -235,6 +238,9 @@ variable_is s x t (Some d) e h = let k = and_parts (is_same_type d.tpe t) d.«mu
 found : (around : List (List ℕ)) (s : Scene) (t : Term) → Once around t → is_found s t ≡ true → Finds s t
 found around s (var_def p x t b e) o h = (when_not (has_no_value t) h, o.0)
 found around s (assign p (var_ref q x t) e) o h = variable_is s x t (local_of s.locals x) refl h
+found around s (new_object p c m ts) o h = impossible h
+found around s (apply_statically p e c n m ts t) o h = impossible h
+found around s (this_ref p t) o h = impossible h
 found around s (apply_static p c n m ts t) o h = values_are m.params h
 found around s (char_literal p u) o h = units u h
 found around s (byte_literal p z) o h = ints z h
@@ -308,7 +314,7 @@ module _ (w : Classes) (has : Usable) where
   met space ls _ h = impossible h
 
   here : (around : List (List ℕ)) (s : Scene) (t : Term) → Once around t → is_here has s t ≡ true → Here w has s t
-  here around s t o h = let k = and_parts (is_met s.labels t) (stands has s.labels t && is_found s t) h in let rest = and_parts (stands has s.labels t) (is_found s t) k.1 in record { meets = met s.space s.labels t k.0; built = rest.0; finds = found around s t o rest.1 }
+  here around s t o h = let k = and_parts (is_met s.labels t) (stands has (may_check has s.sure) s.labels t && is_found s t) h in let rest = and_parts (stands has (may_check has s.sure) s.labels t) (is_found s t) k.1 in record { meets = met s.space s.labels t k.0; built = rest.0; finds = found around s t o rest.1 }
 
   -- a tree with one tree in it
   with_one : (around inner : List (List ℕ)) (s r : Scene) (t e : Term) → Once around t → (Once inner e → is_typed has r e ≡ true → Typed w has r e) → Once inner e → (is_here has s t && is_typed has r e) ≡ true → Here w has s t × Typed w has r e
@@ -337,6 +343,10 @@ module _ (w : Classes) (has : Usable) where
     typed ar s (unary_op p q e) o h = with_one ar ar s s (unary_op p q e) e o (typed ar s e) o h
     typed ar s (binary_op p q e d) o h = let k = and_parts (is_here has s (binary_op p q e d)) (is_typed has s e && is_typed has s d) h in let parts = and_parts (is_typed has s e) (is_typed has s d) k.1 in (here ar s (binary_op p q e d) o k.0, typed ar s e o.0 parts.0, typed ar s d o.1 parts.1)
     typed ar s (log_line p e) o h = with_one ar ar s s (log_line p e) e o (typed ar s e) o h
+    typed ar s (throw p e) o h = impossible h
+    typed ar s (new_object p c m ts) o h = impossible h
+    typed ar s (select p e c f t) o h = impossible h
+    typed ar s (apply_statically p e c n m ts t) o h = impossible h
     typed ar s t o h = here ar s t o h
 
     typed_block : (around : List (List ℕ)) (s : Scene) (ts : Terms) → OnceAll around ts → is_typed_block has s ts ≡ true → TypedBlock w has s ts
