@@ -16,11 +16,11 @@ use Rattle.sj_plain.specs.Worlds.{World, SameValue, same_undefined, same_null, s
 use Rattle.sj_plain.proofs.Templates.{fits-exact}
 use Rattle.sj_trees.specs.declared.types.IrType.{IrType}
 use Rattle.sj_trees.specs.declared.types.IrType.TheVariants as Types
-use Rattle.sj_calls.specs.Chains.{ChainStands, MadeBy}
+use Rattle.sj_calls.specs.Chains.{ChainStands, MadeBy, ChainFields, BeginsAtZero}
 use Rattle.sj_calls.specs.Made.{zero_value, Makers}
 use Rattle.sj_calls.specs.Worlds.{Stands}
 use Rattle.sj_calls.proofs.Chains.{made_by}
-use Rattle.sj_calls.proofs.Zeros.{ChainFields, zeros}
+use Rattle.sj_calls.proofs.Zeros.{zeros}
 
 -- the zero of a type of which there are values
 zero_alike : (w : World) (t : IrType) → (t ≡ Types.Nothing → ⊥) → SameValue w t (ir_world.zero_of t) (zero_value t)
@@ -38,11 +38,6 @@ zero_alike w (Types.Class c) h = record { stands = same_null; suits = refl }
 zero_alike w Types.Null h = record { stands = same_null; suits = refl }
 zero_alike w (Types.Array r) h = record { stands = same_null; suits = refl }
 zero_alike w Types.NoType h = record { stands = same_null; suits = refl }
-
--- a field of the IR begins at the zero of its type, of which there are values
-pub record BeginsAtZero (p : Place) (d g : Name) (t : IrType) : Type 0 where
-  pub zero : ir_world.zeros_in (ir_world.class_of p.classes d) g ≡ Some (ir_world.zero_of t)
-  pub values : t ≡ Types.Nothing → ⊥
 
 -- `new` of the class can be told in each state
 pub stands_there : (p : Place) → FieldsDiffer p → ((d g : Name) (t : IrType) → IsField p.classes d g t → BeginsAtZero p d g t) → (c : Name) (cs : List Name) (st : ChainStands p (c ∷ cs)) → ChainFields p (c ∷ cs) st → chain_of p.classes c ≡ c ∷ cs → (w : World) (s : ir.State) (u : js.State) → SameState p w s u → Stands p c w u
