@@ -3,7 +3,6 @@ use Rattle.std.proofs.Common.{◌≡◌, ℕ, ◌≤◌, Bool, true, false, List
 use Rattle.ir_mean.specs.States as ir
 use Rattle.js_mean.specs.Meaning as js_meaning
 use Rattle.js_mean.specs.States as js
-use Rattle.js_tree.specs.Terms.{Name}
 use Rattle.sj_bodies.specs.Fine.{Around}
 use Rattle.body_rules.proofs.Equal.{differs, equals}
 use Rattle.sj_core.specs.Terms as core

@@ -1,6 +1,6 @@
 -- Trees of objects, and their statements: This, new objects, fields, throws and calls on receivers, by what is known of their operands.
-use Rattle.std.proofs.Common.{◌≡◌, ℕ, suc, ◌≤◌, Bool, true, false, ◌&&◌, arith, List, [], ◌∷◌, Some, None, Option, refl, sym, ap, ◌∙◌, subst, ◌⊎◌, inl, inr, ⊎_elim}
-use Rattle.outcomes.specs.Outcome.{Out, done, then_do}
+use Rattle.std.proofs.Common.{◌≡◌, ℕ, suc, ◌≤◌, Bool, true, false, ◌&&◌, arith, List, [], ◌∷◌, Some, Option, refl, sym, ap, subst, ◌⊎◌, inl, inr}
+use Rattle.outcomes.specs.Outcome.{done, then_do}
 use Rattle.outcomes.specs.Agreement.{Sim}
 use Rattle.outcomes.proofs.Sequence.{then_do-right}
 use Rattle.outcomes.proofs.Simulation.{sim_done, sim_wrong, sim_then}
@@ -8,15 +8,13 @@ use Rattle.sj_plain.proofs.Runs.{Ran, ran, ran_out, constructor_runs}
 use Rattle.ir_mean.specs.Meaning as ir_meaning
 use Rattle.ir_mean.specs.States as ir
 use Rattle.ir_mean.specs.World as ir_world
-use Rattle.js_mean.specs.Files.{owner}
 use Rattle.js_mean.specs.Meaning as js_meaning
 use Rattle.js_mean.specs.States as js
 use Rattle.sj_core.specs.Terms as core
 use Rattle.sj_core.specs.Views.{expressions_of}
 use Rattle.sj_desugar.specs.Coercions.{coerced, coerced_arguments, coerced_receiver}
-use Rattle.sj_desugar.specs.Desugar.{Targets, into, operands, operand, receiver, received, expression_of, first_of, rest_of, finish, member, types_of, position_of, has_no_value}
-use Rattle.sj_desugar.specs.Plain.{is_plain, is_fixed}
-use Rattle.sj_desugar.specs.Spill.{Destination, discard, to_variable, to_result, Code, one, Operand, spill, spill_case, then_use}
+use Rattle.sj_desugar.specs.Desugar.{Targets, into, operand, receiver, received, expression_of, first_of, rest_of, finish, member, types_of, position_of, has_no_value}
+use Rattle.sj_desugar.specs.Spill.{Destination, discard, to_variable, one, Operand, spill, spill_case, then_use}
 use Rattle.sj_emit_expr.specs.Templates.{check_name}
 use Rattle.sj_names.proofs.Same.{impossible}
 use Rattle.sj_names.specs.declared.method_names.MethodName.{MethodName}
@@ -29,9 +27,9 @@ use Rattle.sj_trees.specs.declared.types.IrType.{IrType}
 use Rattle.sj_trees.specs.declared.types.IrType.TheVariants.{Any}
 use Rattle.sure_receivers.specs.Sure.{is_sure}
 use Rattle.body_rules.specs.Standing.{is_bare, Fits, FitAll, NoBox, types_referred, call_type}
-use Rattle.sj_plain.specs.Settings.{Setting, shown, SameState, Valued, valued, Lawful, Inside, Receiving, no_receiver, on_receiver, Sees, usable}
+use Rattle.sj_plain.specs.Settings.{Setting, shown, SameState, Valued, Lawful, Inside, Receiving, no_receiver, on_receiver, Sees, usable}
 use Rattle.sj_plain.proofs.Objects.{null_act, select_alike, new_alike, received_call_alike, checked_alike}
-use Rattle.sj_plain.proofs.Orders.{OperandAlike, OperandsAlike, no_operands, more_operands}
+use Rattle.sj_plain.proofs.Orders.{OperandsAlike, no_operands, more_operands}
 use Rattle.body_rules.proofs.Standing.{coerced-same, arguments-same, fits-same}
 use Rattle.sj_plain.proofs.Worlds.{World, Grows, grows-refl, grows-trans, SameValue, value-fits}
 use Rattle.sj_bodies.specs.Fine.{FitsIn, FineOperand}
@@ -44,7 +42,7 @@ use Rattle.sj_plain.proofs.Received.{receiver-same}
 use Rattle.sj_bodies.proofs.Contexts.{Context, Writes, Sound, Ahead, Ready, ready-lift, keeps-less, let_go, Came, gave, threw}
 use Rattle.sj_bodies.proofs.Forms.{sound-writing, ahead-writing, outside-writing, of_operands, one_final, quiet_alike, OneFinal}
 use Rattle.sj_proper.proofs.Good.{no_name, finish-good}
-use Rattle.sj_bodies.proofs.Spills.{keeping, writing, Does, Final, Piece, PieceDoes, Onward, OperandDoes, OperandsDo, runs, operands_in, types}
+use Rattle.sj_bodies.proofs.Spills.{keeping, writing, Does, Final, Piece, OperandDoes, OperandsDo, runs, operands_in, types}
 use Rattle.sj_bodies.proofs.Statements.{finish_alike, valued_then, throws-on, ends-one, Ends}
 use Rattle.sj_bodies.proofs.Trees.{written, LowAlike, TreeDoes, FineHere, piece, operand_does, list_of, operands-list, runs-list, types-list}
 

@@ -28,13 +28,12 @@ use Rattle.sj_names.proofs.Same.{impossible}
 use Rattle.sj_plain.proofs.Templates.{fits-exact, unit_is_int}
 use Rattle.sj_plain.proofs.Told.{tells}
 use Rattle.sj_plain.specs.Standing.{suits}
-use Rattle.body_rules.specs.Standing.{Fits}
 use Rattle.int_arithmetic.proofs.Longs.{in_range-fits}
 use Rattle.sj_trees.specs.TypeOf.{type_of_term}
 use Rattle.sj_plain.proofs.Orders.{text_of, OperandAlike, OperandsAlike, no_operands, more_operands}
 use Rattle.sj_bodies.proofs.Contexts.{Context, Sound, Ahead, IsOpen, Ready, ready-lift, Keeps, Less, less-trans, keeps-refl, keeps-trans, keeps-fewer, stored, Came, gave, left, threw, stopped, started-here, started-ready, started-keeps}
 use Rattle.sj_bodies.proofs.Statements.{run-followed, leaves_on, ThrowsOn, throws-on, Ends}
-use Rattle.sj_plain.proofs.Worlds.{World, Grows, grows-refl, grows-trans, SameValue, Stands, same_undefined, same_null, same_boolean, same_char, same_number, same_long, same_text, value-lift, value-fits}
+use Rattle.sj_plain.proofs.Worlds.{World, Grows, grows-refl, grows-trans, SameValue, Stands, same_undefined, same_null, same_boolean, same_char, same_number, same_long, same_text, value-lift}
 
 -- a context in which further variables keep what they hold, and one in which one more may be written
 abbrev pub keeping : Context → (core.Variable → Type 0) → Context

@@ -1,10 +1,10 @@
 -- Helpers that fail: an exception is made and thrown on both sides; and the null check.
-use Rattle.std.proofs.Common.{◌≡◌, ℕ, zero, suc, Bool, true, false, List, [], ◌∷◌, Some, None, Option, refl, sym, ap, ◌∙◌, subst}
+use Rattle.std.proofs.Common.{◌≡◌, ℕ, suc, Bool, true, false, List, [], ◌∷◌, Some, Option, refl, sym, ap, ◌∙◌, subst}
 use Rattle.std.specs.Prelude.{codes}
 use Rattle.outcomes.specs.Outcome.{Out, done, then_do}
 use Rattle.outcomes.specs.Agreement.{Direction, Sim}
 use Rattle.outcomes.proofs.Sequence.{then_do-associative, then_do-right}
-use Rattle.outcomes.proofs.Simulation.{sim_done, sim_wrong, sim_then}
+use Rattle.outcomes.proofs.Simulation.{sim_done, sim_then}
 use Rattle.ir_mean.specs.Meaning as ir_meaning
 use Rattle.ir_mean.specs.States as ir
 use Rattle.js_mean.specs.Meaning as js_meaning
@@ -26,12 +26,12 @@ use Rattle.sj_trees.specs.declared.types.IrType.TheVariants.{Any, String}
 use Rattle.helper_rules.specs.declared.kinds.Helper.{Helper}
 use Rattle.helper_rules.specs.declared.kinds.Helper.TheVariants.{NotNull, Throws}
 use Rattle.helper_rules.specs.declared.kinds.Failure.TheVariants.{NullReceiver}
-use Rattle.sj_plain.specs.Settings.{Place, Code, Setting, usable, shown, SameState, Valued, valued, thrown, Based, Inside, a_helper, top_function, top_call}
+use Rattle.sj_plain.specs.Settings.{Place, Code, Setting, usable, shown, SameState, Valued, valued, thrown, Based, a_helper, top_function, top_call}
 use Rattle.sj_plain.specs.Standing.{suits}
 use Rattle.body_rules.specs.Standing.{is_bare, Fits}
 use Rattle.sj_plain.proofs.Objects.{new_alike}
 use Rattle.sj_plain.proofs.Orders.{OperandsAlike, no_operands, more_operands}
-use Rattle.sj_plain.proofs.Worlds.{World, Grows, grows-refl, SameValue, Stands, same_undefined, same_null, same_boolean, same_char, same_box, same_number, same_long, same_text, same_reference, value-fits}
+use Rattle.sj_plain.proofs.Worlds.{World, grows-refl, SameValue, Stands, same_undefined, same_null, same_boolean, same_char, same_box, same_number, same_long, same_text, same_reference, value-fits}
 use Rattle.sj_calls.specs.Helpers.{failing_code, checking_code, HelperStands, Failed, failed_so}
 
 -- in a file of helpers no local is in scope

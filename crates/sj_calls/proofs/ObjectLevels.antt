@@ -1,7 +1,6 @@
 -- All levels, where code makes objects and uses them: trees and calls are alike at bounds that stand to each other as the direction says.
 use Rattle.std.specs.Prelude.{◌+◌, ◌*◌, ◌≤◌, codes}
-use Rattle.std.proofs.Common.{◌≡◌, ℕ, zero, suc, Bool, true, false, List, [], ◌∷◌, Some, None, length, refl, sym, ap, ◌∙◌, subst, arith}
-use Rattle.outcomes.specs.Outcome.{Out, going}
+use Rattle.std.proofs.Common.{◌≡◌, ℕ, zero, suc, Bool, true, false, List, [], ◌∷◌, Some, length, refl, sym, ap, subst, arith}
 use Rattle.outcomes.specs.Agreement.{Direction, forward, backward, Enough, Sim}
 use Rattle.outcomes.proofs.Simulation.{sim_over, sim_going}
 use Rattle.helper_rules.specs.declared.kinds.Failure.TheVariants.{NullReceiver}
@@ -14,12 +13,12 @@ use Rattle.js_mean.specs.Meaning as js_meaning
 use Rattle.js_mean.specs.States as js
 use Rattle.js_tree.specs.Terms.{Name}
 use Rattle.sj_desugar.specs.Desugar.{into, is_mutable_in}
-use Rattle.sj_emit_expr.specs.Templates.{check_name, statement_templates}
+use Rattle.sj_emit_expr.specs.Templates.{statement_templates}
 use Rattle.sj_names.specs.declared.method_names.Member.{Member}
 use Rattle.sure_receivers.specs.Sure.{sure_locals}
-use Rattle.sj_plain.specs.Settings.{Place, Code, a_function, a_method, a_constructor, a_helper, top_call, Setting, SameState, Valued, Built, NamesDiffer, Reaches, Based, Lawful, BuildsAlike, ReceivesAlike, ChecksAlike, IsReceiver}
+use Rattle.sj_plain.specs.Settings.{Place, Code, a_function, a_method, a_constructor, a_helper, Setting, SameState, Valued, Built, NamesDiffer, Reaches, Based, Lawful, BuildsAlike, ReceivesAlike, ChecksAlike}
 use Rattle.body_rules.specs.Standing.{types_referred, call_type}
-use Rattle.sj_plain.proofs.Worlds.{World, SameValue, SameValues}
+use Rattle.sj_plain.proofs.Worlds.{World, SameValues}
 use Rattle.sj_bodies.proofs.Contexts.{Came}
 use Rattle.sj_bodies.proofs.Main.{does}
 use Rattle.sj_bodies.proofs.Trees.{LowAlike}

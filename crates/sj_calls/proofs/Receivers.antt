@@ -1,7 +1,5 @@
 -- A call on a receiver: the receiver is the first parameter of the function, and This of the body. A constructor gives the object that it ran on.
-use Rattle.std.proofs.Common.{◌≡◌, ℕ, suc, Bool, true, false, List, [], ◌∷◌, Some, None, Option, refl, sym, ap, ◌∙◌, subst, if◌then◌else◌}
-use Rattle.std.specs.Prelude.{nat_eq}
-use Rattle.std.specs.Cmp.Lexicographic.{pointwise}
+use Rattle.std.proofs.Common.{◌≡◌, ℕ, suc, Bool, false, List, [], ◌∷◌, Some, None, refl, sym, ap, ◌∙◌, subst, if◌then◌else◌}
 use Rattle.outcomes.specs.Outcome.{Out, done, then_do}
 use Rattle.outcomes.specs.Agreement.{Direction, Sim}
 use Rattle.outcomes.proofs.Simulation.{sim_done, sim_wrong, sim_then}
@@ -20,12 +18,12 @@ use Rattle.sj_emit_expr.specs.Templates.{statement_templates}
 use Rattle.sj_names.specs.declared.method_names.Member.{Member}
 use Rattle.sj_trees.specs.declared.types.IrType.{IrType}
 use Rattle.body_rules.specs.Locals.{parameters_of, Own, Scope}
-use Rattle.sj_plain.specs.Settings.{Place, Code, Receiving, on_receiver, IsReceiver, Setting, SameState, Valued, Built, built, failed, run, NamesDiffer, OfNoVariable, Holding, holding, a_method, a_constructor, top_call, Top}
-use Rattle.sj_bodies.proofs.Contexts.{Context, Ready, Keeps, let_go, Came, gave, left, threw, stopped}
+use Rattle.sj_plain.specs.Settings.{Place, Code, Receiving, on_receiver, IsReceiver, Setting, SameState, Valued, Built, built, failed, run, NamesDiffer, OfNoVariable, Holding, a_method, a_constructor, top_call}
+use Rattle.sj_bodies.proofs.Contexts.{Context, Ready, let_go, Came, gave, left, threw, stopped}
 use Rattle.body_rules.proofs.Equal.{differs, equals}
-use Rattle.sj_bodies.proofs.Statements.{run-followed, run-one}
+use Rattle.sj_bodies.proofs.Statements.{run-followed}
 use Rattle.sj_bodies.proofs.Trees.{LowAlike}
-use Rattle.sj_plain.proofs.Worlds.{World, SameValue, SameValues}
+use Rattle.sj_plain.proofs.Worlds.{World, SameValues}
 use Rattle.sj_calls.specs.Methods.{parameters_in}
 use Rattle.sj_calls.specs.Objects.{function_on, body_of, constructor_body, RunsOn, Constructs}
 use Rattle.sj_calls.proofs.Calls.{start, sound-start, ahead-start, outside-start, way, writes-nothing, body-fine, comes_back, Bound, bound, parameters-free, body-free}

@@ -1,7 +1,7 @@
 -- A new object of the emitted code stands for one of the IR, where the classes of its chain stand in the program.
-use Rattle.std.proofs.Common.{◌≡◌, ℕ, Bool, true, false, List, [], ◌∷◌, Option, Some, None, refl, sym, ap, ◌∙◌, subst, if◌then◌else◌, arith}
+use Rattle.std.proofs.Common.{◌≡◌, Bool, true, false, List, [], ◌∷◌, Some, None, refl, sym, ap, ◌∙◌, subst, if◌then◌else◌, arith}
 use Rattle.std.specs.List.{list_any}
-use Rattle.std.specs.Prelude.{pos, FitsSigned, ◌<◌, ◌^◌}
+use Rattle.std.specs.Prelude.{pos}
 use Rattle.ir_mean.specs.Dispatch.{chain_of}
 use Rattle.ir_mean.specs.States as ir
 use Rattle.ir_mean.specs.World as ir_world
@@ -10,10 +10,8 @@ use Rattle.js_tree.specs.Terms.{Name}
 use Rattle.sj_mangling.specs.Bindings.{field_binding}
 use Rattle.sj_mangling.specs.declared.bindings.FieldBinding.TheVariants.{Property}
 use Rattle.sj_names.specs.Same.{is_same_text}
-use Rattle.sj_plain.specs.Settings.{Place, IsField, FieldsDiffer, SameState, SameField, same_field, no_field, SameStored, same_object, zeroed, link_of, links_of}
-use Rattle.sj_plain.specs.Standing.{suits}
+use Rattle.sj_plain.specs.Settings.{Place, IsField, FieldsDiffer, SameState, SameField, same_field, no_field, same_object, link_of}
 use Rattle.sj_plain.specs.Worlds.{World, SameValue, same_undefined, same_null, same_boolean, same_char, same_number, same_long, same_text}
-use Rattle.sj_plain.proofs.Templates.{fits-exact}
 use Rattle.sj_trees.specs.declared.types.IrType.{IrType}
 use Rattle.sj_trees.specs.declared.types.IrType.TheVariants as Types
 use Rattle.sj_calls.specs.Chains.{ChainStands, MadeBy, ChainFields, BeginsAtZero}

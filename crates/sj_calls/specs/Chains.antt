@@ -1,5 +1,5 @@
 -- The classes of a chain, as they stand in the program.
-use Rattle.std.specs.Prelude.{◌≡◌, ℕ, true, List, [], ◌∷◌, Option, Some, None, ◌⊎◌}
+use Rattle.std.specs.Prelude.{◌≡◌, true, List, [], ◌∷◌, Option, Some, None, ◌⊎◌}
 use Rattle.helper_rules.specs.Words.{constants_name}
 use Rattle.ir_mean.specs.World as ir_world
 use Rattle.js_mean.specs.Classes.{members_of}

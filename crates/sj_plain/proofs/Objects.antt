@@ -1,6 +1,5 @@
 -- Fields, and objects that are made: what the acts of the IR come to, the expressions come to.
-use Rattle.std.specs.Prelude.{codes, nat_eq, ◌==◌}
-use Rattle.std.specs.Cmp.Lexicographic.{pointwise}
+use Rattle.std.specs.Prelude.{◌==◌}
 use Rattle.std.proofs.lemmas.Bool.{eq-eqb, and_parts}
 use Rattle.std.proofs.Common.{◌≡◌, ℕ, Bool, true, false, List, [], ◌∷◌, ◌&&◌, slice_get, length, Some, None, Option, refl, sym, ap, ◌∙◌, subst, if◌then◌else◌}
 use Rattle.outcomes.specs.Outcome.{Out, done, wrong, then_do}
@@ -18,7 +17,7 @@ use Rattle.js_tree.specs.Terms as tree
 use Rattle.sj_core.specs.Terms as core
 use Rattle.sj_core.specs.Views.{expressions_of}
 use Rattle.sj_desugar.specs.Desugar.{member}
-use Rattle.sj_emit_expr.specs.Templates.{check_name, property_name, class_name, member_name, expression_templates}
+use Rattle.sj_emit_expr.specs.Templates.{check_name, property_name, class_name, expression_templates}
 use Rattle.sj_mangling.specs.Bindings.{field_binding}
 use Rattle.sj_mangling.specs.declared.bindings.FieldBinding.TheVariants.{Property}
 use Rattle.sj_desugar.specs.Coercions.{is_char}
@@ -29,17 +28,15 @@ use Rattle.sj_names.specs.declared.method_names.MethodName.{MethodName}
 use Rattle.sj_names.specs.declared.method_names.Namespace.TheVariants.{Constructor}
 use Rattle.sj_trees.specs.Types.{class_type}
 use Rattle.sj_trees.specs.declared.types.IrType.{IrType}
-use Rattle.sj_trees.specs.declared.types.IrType.TheVariants.{Any, Undefined, Class}
-use Rattle.sj_plain.specs.Settings.{Place, Setting, shown, usable, IsField, FieldsDiffer, SameField, same_field, no_field, SameStored, same_object, TellsClass, SameHeap, SameState, Valued, valued, thrown, Based, Lawful, a_constructor, a_class, a_method, a_helper, top_name, top_function, top_call, links_of, Inside, Makes, makes, Built, built, failed, zeroed, IsReceiver}
-use Rattle.sj_plain.specs.Standing.{suits}
+use Rattle.sj_plain.specs.Settings.{Setting, shown, usable, IsField, FieldsDiffer, SameField, same_field, no_field, SameStored, same_object, SameHeap, SameState, Valued, valued, thrown, Based, Lawful, a_constructor, a_class, a_method, a_helper, top_function, top_call, links_of, Inside, Makes, makes, Built, built, failed, zeroed, IsReceiver}
 use Rattle.body_rules.specs.Standing.{is_bare, Fits, FitAll, types_referred, call_type}
 use Rattle.sj_plain.specs.Worlds.{with_pending, with_born}
 use Rattle.sj_plain.proofs.Heaps.{writes, births, stored-carry, numbers-same, place-there}
-use Rattle.sj_plain.proofs.Orders.{ActsAlike, OperandAlike, OperandsAlike, no_operands, more_operands, all_shown, in_order_alike, valued-weaken}
+use Rattle.sj_plain.proofs.Orders.{ActsAlike, OperandAlike, OperandsAlike, all_shown, in_order_alike, valued-weaken}
 use Rattle.sj_plain.proofs.Standing.{open-refers}
 use Rattle.sj_plain.proofs.Tops.{row_shown, top_seen}
 use Rattle.std.proofs.lemmas.Slice.Eq.{bytes_eq-Decides}
-use Rattle.sj_plain.proofs.Worlds.{World, Grows, grows-refl, grows-trans, SameValue, Stands, same_undefined, same_null, same_boolean, same_char, same_box, same_number, same_long, same_text, same_reference, value-fits, value-lift, value-carry, values-lift, values-fit, SameValues, no_values, one_more}
+use Rattle.sj_plain.proofs.Worlds.{World, Grows, grows-refl, grows-trans, SameValue, Stands, same_undefined, same_null, same_boolean, same_char, same_box, same_number, same_long, same_text, same_reference, value-fits, value-carry, values-fit, SameValues, no_values, one_more}
 
 -- two texts that are the same by their test
 same-class : (d c : List ℕ) (b : Bool) → (is_same_text d c && b) ≡ true → d ≡ c

@@ -1,6 +1,6 @@
 -- A plain tree and its expression are alike.
 use Rattle.std.proofs.Common.{◌≡◌, zero, suc, Bool, true, false, List, [], ◌∷◌, None, Option, refl, sym, ap, ◌∙◌, subst, inl, inr, if◌then◌else◌, ⊎_elim}
-use Rattle.std.specs.Prelude.{ℤ, pos, negsuc, FitsSigned, ℕ, ◌&&◌, ◌||◌, ◌⊎◌, not}
+use Rattle.std.specs.Prelude.{ℤ, pos, negsuc, FitsSigned, ℕ, ◌&&◌, ◌⊎◌, not}
 use Rattle.std.proofs.lemmas.Bool.{and_parts}
 use Rattle.body_rules.proofs.Fitting.{yield-fits, fit-all, fits-unary, fits-dividend, operates, not_no_type, unary-operand-value, left-operand-value, right-operand-value}
 use Rattle.body_rules.proofs.Locals.{there}
@@ -28,7 +28,7 @@ use Rattle.sj_core.specs.Terms as core
 use Rattle.sj_core.specs.Views.{expressions_of}
 use Rattle.sj_desugar.specs.Coercions.{is_char, coerced, coerced_arguments}
 use Rattle.sj_names.specs.declared.references.TypeRef.{TypeRef}
-use Rattle.sj_desugar.specs.Desugar.{has_no_value, member, types_of, received_text, expression_of, all_expressions}
+use Rattle.sj_desugar.specs.Desugar.{member, types_of, received_text, expression_of, all_expressions}
 use Rattle.sj_desugar.specs.Texts.{operand_of}
 use Rattle.sj_emit_expr.specs.Templates.{check_name, member_name, expression_template, expression_templates, binary_template, unary_template, is_nonzero_literal}
 use Rattle.sj_names.proofs.Same.{impossible}
@@ -42,7 +42,7 @@ use Rattle.sj_trees.specs.declared.operators.UnaryOp.TheVariants.{CharToInt, Byt
 use Rattle.sj_trees.specs.declared.positions.Position.{Position}
 use Rattle.sj_trees.specs.declared.types.IrType.{IrType}
 use Rattle.sj_trees.specs.Types.{class_type, reference_type}
-use Rattle.sj_trees.specs.declared.types.IrType.TheVariants.{NoType, Undefined, Null, Boolean, Char, Byte, Short, Int, Long, String}
+use Rattle.sj_trees.specs.declared.types.IrType.TheVariants.{Undefined, Null, Boolean, Char, Byte, Short, Int, Long, String}
 use Rattle.body_rules.specs.Operators.{is_simple, Operates, of_its_types, joins, a_quotient, a_remainder, a_long_quotient, a_long_remainder, DividesBy, by_int, by_long}
 use Rattle.typing_rules.specs.Rules.{left_operand, right_operand, unary_operand}
 use Rattle.sj_plain.specs.Conditions.{InScope, IsNoConstruction, Plain}
@@ -61,7 +61,7 @@ use Rattle.sj_plain.proofs.Shifts.{left_shift_alike, right_shift_alike, zero_shi
 use Rattle.body_rules.proofs.Standing.{coerced-same, arguments-same}
 use Rattle.sj_plain.proofs.Templates.{fits-exact, unit_is_int, by_value, by_one_value, one_template_value, binary_shown, binary_acts, unary_shown, unary_acts}
 use Rattle.sj_plain.proofs.Told.{is_long, is_narrow, tells, tells-narrow, no_ratio}
-use Rattle.sj_plain.proofs.Worlds.{World, Grows, grows-refl, SameValue, Stands, same_undefined, same_null, same_boolean, same_char, same_number, same_long, same_text, value-lift, value-fits, values-fit, no_values, one_more}
+use Rattle.sj_plain.proofs.Worlds.{World, Grows, grows-refl, SameValue, Stands, same_undefined, same_null, same_boolean, same_char, same_number, same_long, same_text, value-lift, values-fit, no_values, one_more}
 
 pub holding-lift : (u w : World) (t : IrType) (o : Option ir.Value) (cell : js.Cell) → Grows u w → Holding u t o cell → Holding w t o cell
 holding-lift u w t _ _ g (holding v x a) = holding v x (value-lift u w t v x g a)
