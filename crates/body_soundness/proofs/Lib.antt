@@ -1,0 +1,5 @@
+pub mod Calls
+pub mod Heaps
+pub mod Right
+pub mod Sured
+pub mod Values
