@@ -36,7 +36,7 @@ module _ (w : World) (plain : IsPlain w) (has : Usable) (laws : ObjectLaws w has
   no_class c e = cc
 
   ready : Ready w (in_world w plain) has no_classes (record { owner = []; space = PublicStatic; sure = λ x. false }) [] outside (opening w)
-  ready = record { locals = record { holds = nothing_there w (in_world w plain) has no_classes; full = λ r x d e k. absurd (cc); this = λ r. absurd r; sure = refl }; heap = record { objects = λ i c e. absurd (no_class c e) } }
+  ready = record { locals = record { holds = nothing_there w (in_world w plain) has no_classes; full = λ r x d e k. absurd (cc); this = λ r. absurd r; sure = refl }; heap = record { objects = λ i c e. absurd (no_class c e); made = λ i c e. absurd (no_class c e) } }
 
   pub never_wrong : (n : ℕ) (m : Member) → has.linked m ≡ true → IsStatic m.namespace → m.method.params ≡ [] → IsNotWrong (call (below w n) (member_of w m.class m.namespace m.method) None [] outside (opening w)).end
   never_wrong n m linked static none = comes-not_wrong (CameRight w (in_world w plain) has no_classes nowhere [] (call_type m.method.result)) (call (below w n) (member_of w m.class m.namespace m.method) None [] outside (opening w)).end (call_right w (in_world w plain) has laws (below w n) (bodies_right w (in_world w plain) has laws members n) m (members m linked) nowhere (call_type m.method.result) refl no_classes [] (subst (ValuesFit w (in_world w plain) has no_classes []) (sym none) none_left) None (λ r. absurd (no_object m.namespace static r)) outside (opening w) ready)
@@ -53,6 +53,8 @@ nothing_asked w linked = record {
   once = λ r m d e f b. no_receivers linked r;
   made = λ c h. impossible h;
   fields = λ c f t h. impossible h;
-  holders = λ c f t h o s. impossible h;
+  one_type = λ c f s t h k. impossible h;
+  holders = λ c f t h d m s. impossible h;
+  strangers = λ c f t h o n i s. impossible h;
   exceptions = λ h. impossible h;
 }

@@ -1,7 +1,7 @@
 -- A body that keeps the rules is never wrong by the IR; what it gives or throws is of its type, and each object keeps its class, with fields of their
 -- types.
 use Rattle.std.proofs.Common.{◌≡◌, ℕ, zero, suc, arith, codes, ◌++◌, ◌&&◌, ◌||◌, not, Bool, true, false, List, [], ◌∷◌, Some, None, Option, refl, sym, ap, ◌∙◌, subst, ◌⊎◌, inl, inr, ⊎_elim, if◌then◌else◌}
-use Rattle.std.specs.Prelude.{nat_eq, slice_get, ◌==◌, is_some, ℤ, pos}
+use Rattle.std.specs.Prelude.{nat_eq, slice_get, set, ◌==◌, is_some, ℤ, pos}
 use Rattle.std.proofs.lemmas.Bool.{and_parts}
 use Rattle.std.specs.Cmp.Lexicographic.{pointwise}
 use Rattle.std.specs.List.{list_any}
@@ -12,9 +12,9 @@ use Rattle.ir_mean.specs.Meaning as ir_meaning
 use Rattle.ir_mean.specs.Operators.{Answer, unary_value, binary_value}
 use Rattle.ir_mean.specs.States as ir
 use Rattle.sure_receivers.specs.Sure.{is_sure_type, is_sure, Definition, definitions, definitions_in, definitions_of_cases, sure_locals}
-use Rattle.body_soundness.proofs.Heaps.{get-end, get-front, not-past}
+use Rattle.body_soundness.proofs.Heaps.{get-end, get-front, not-past, get-set, get-set_other}
 use Rattle.body_soundness.proofs.Sured.{Sured, sured-parts, sure-named, body-sured}
-use Rattle.body_soundness.specs.Laws.{NamesOnce, HasReceivers, reads, calls, Holder, a_null, a_nothing, an_object, null_pointer, ObjectLaws}
+use Rattle.body_soundness.specs.Laws.{HasReceivers, reads, calls, null_pointer, ObjectLaws}
 use Rattle.ir_mean.specs.World.{World, class_of, method_among, method_in, member_of, zeros_in, zero_of, new_fields}
 use Rattle.sj_desugar.specs.Desugar.{member, has_no_value}
 use Rattle.sj_emit_expr.specs.Templates.{check_name}
@@ -42,9 +42,10 @@ use Rattle.body_rules.specs.Standing.{call_type}
 use Rattle.body_rules.specs.Typing.{RunsOnObject, may_check, IsTrueLiteral, true_literal, Scene, behind, in_label, Typed, TypedBlock, TypedAll, TypedCases}
 use Rattle.body_rules.specs.Locals.{Own, OwnAll, OwnCases, IsParameter, local_of, HasValue, HaveValues}
 use Rattle.body_rules.proofs.Equal.{is-equal}
-use Rattle.sj_names.proofs.Same.{impossible, namespace-same}
+use Rattle.sj_names.proofs.Same.{impossible, text-same, namespace-same}
 use Rattle.body_soundness.specs.Rules.{RightMember}
 use Rattle.sj_proper.specs.Methods.{HaveTypes, scene_of}
+use Rattle.sj_proper.specs.Once.{NamesOnce}
 use Rattle.body_rules.specs.Subtyping.{IsSubtyping}
 use Rattle.body_rules.proofs.RulesGive.{class_has_value, Yields, ArgumentsFit, Takes, its_types, texts, yields_there, one_yields, other_yields, leaves_there, arguments_there, is_linked, operation}
 use Rattle.built_forms.proofs.Around.{type_inside}
@@ -56,7 +57,7 @@ use Rattle.body_rules.proofs.Topped.{string_class}
 use Rattle.typing_rules.specs.Labels.{type_of_label}
 use Rattle.body_rules.proofs.Locals.{local-there, values-behind}
 use Rattle.body_rules.proofs.Fitting.{value-not, true-or-none, unary-operand-value, left-operand-value, right-operand-value, not_no_type}
-use Rattle.body_soundness.proofs.Values.{Classes, Adds, adds-refl, adds-trans, type-lift, HasType, has_type, of_undefined, of_null, of_boolean, of_byte, of_short, of_int, of_text, IsBoolean, a_boolean, IsNumber, a_number, IsText, a_text, wider, as_boolean, as_int, as_text, Gives, some_of, unary_gives, binary_gives, division_gives, of_char, of_long, as_long, join_gives, long_division_gives, of_object, primitive_full, ObjectAt, object_at, as_object, of_null_null, of_nothing}
+use Rattle.body_soundness.proofs.Values.{Classes, Adds, adds-refl, adds-trans, type-lift, HasType, has_type, of_undefined, of_null, of_boolean, of_byte, of_short, of_int, of_text, IsBoolean, a_boolean, IsNumber, a_number, IsText, a_text, wider, as_boolean, as_int, as_text, Gives, some_of, unary_gives, binary_gives, division_gives, of_char, of_long, as_long, join_gives, long_division_gives, of_object, primitive_full, Sort, is_null, is_object, is_primitive, sort_of}
 
 -- not wrong, and where it is done, with what P says
 abbrev pub Comes : {A : Type 0} → (A → Type 0) → End A → Type 0
@@ -84,6 +85,9 @@ NeverNull o = o ≡ Some ir.null → ⊥
 
 some_same : (v a : ir.Value) → ◌≡◌ {A = Option ir.Value} (Some v) (Some a) → v ≡ a
 some_same v a e = cc
+
+some_text : (c d : List ℕ) → ◌≡◌ {A = Option (List ℕ)} (Some c) (Some d) → c ≡ d
+some_text c d e = cc
 
 result-same : (t : IrType) (v : ir.Value) → is_no_type t ≡ false → ir_meaning.result_value t v ≡ v
 result-same NoType v h = impossible (sym h)
@@ -155,9 +159,10 @@ module _ (w : World) (law : IsSubtyping (IsSub w)) (has : Usable) where
     pub data ObjectTyped (c : List ℕ) : Option ir.Stored → Type 0 where
       typed_object : (fields : ir.Fields) → ((d f : List ℕ) (t : IrType) → list_any (is_same_text d) (chain_of w c) ≡ true → has.field d f t ≡ true → HoldsType (fields d f) t) → ObjectTyped c (Some (ir.object c fields))
 
-    -- an object of its class stands at each address that has one
+    -- an object of its class, which is made, stands at each address that has one
     pub record HeapTyped (st : ir.State) : Type 0 where
       pub objects : (i : ℕ) (c : List ℕ) → at i ≡ Some c → ObjectTyped c (slice_get st.heap i)
+      pub made : (i : ℕ) (c : List ℕ) → at i ≡ Some c → has.made c ≡ true
 
     -- the locals in scope and the heap hold what they may
     pub record Ready (f : Frame) (ds : List ParamDef) (env : ir.Env) (st : ir.State) : Type 0 where
@@ -506,7 +511,7 @@ module _ (w : World) (law : IsSubtyping (IsSub w)) (has : Usable) where
   abbrev with_class : ℕ → List ℕ → Classes → Classes
   with_class a c at i = if i == a then Some c else at i
 
-  module _ (laws : ObjectLaws w has) (at : Classes) (c : List ℕ) (st : ir.State) (heap : HeapTyped at st) where
+  module _ (laws : ObjectLaws w has) (at : Classes) (c : List ℕ) (is_made : has.made c ≡ true) (st : ir.State) (heap : HeapTyped at st) where
     abbrev there : ℕ
     there = ir.next_address st
 
@@ -539,11 +544,38 @@ module _ (w : World) (law : IsSubtyping (IsSub w)) (has : Usable) where
     still i d _ e (typed_object fields h) = subst (ObjectTyped wider_classes d) (sym (get-front st.heap (ir.object c (new_fields w c) ∷ []) i (ir.object d fields) e)) (typed_object fields (λ b f t k is. holds-lift at wider_classes adds_one (fields b f) t (h b f t k is)))
 
     born_typed : HeapTyped wider_classes born
-    born_typed = record { objects = λ i d e. go i d (i == there) refl e }
+    born_typed = record { objects = λ i d e. go i d (i == there) refl e; made = λ i d e. made i d (i == there) e }
       where
         go : (i : ℕ) (d : List ℕ) (b : Bool) → (i == there) ≡ b → (if b then Some c else at i) ≡ Some d → ObjectTyped wider_classes d (slice_get born.heap i)
         go i d true k e = let same : c ≡ d = cc in subst (λ (j : ℕ). ObjectTyped wider_classes d (slice_get born.heap j)) (sym (numbers-same i there k)) (subst (ObjectTyped wider_classes d) (sym (get-end st.heap (ir.object c (new_fields w c)))) (subst (λ (n : List ℕ). ObjectTyped wider_classes n (Some (ir.object c (new_fields w c)))) same (typed_object (new_fields w c) zeros)))
         go i d false k e = still i d (slice_get st.heap i) refl (heap.objects i d e)
+
+        made : (i : ℕ) (d : List ℕ) (b : Bool) → (if b then Some c else at i) ≡ Some d → has.made d ≡ true
+        made i d true e = let same : c ≡ d = cc in subst (λ (n : List ℕ). has.made n ≡ true) same is_made
+        made i d false e = heap.made i d e
+
+  -- an object at its address whose field holds another value
+  module _ (laws : ObjectLaws w has) (at : Classes) (st : ir.State) (heap : HeapTyped at st) (a : ℕ) (d : List ℕ) (known : at a ≡ Some d) (fields : ir.Fields) (stands : slice_get st.heap a ≡ Some (ir.object d fields)) (typed : (b g : List ℕ) (u : IrType) → list_any (is_same_text b) (chain_of w d) ≡ true → has.field b g u ≡ true → HoldsType at (fields b g) u) (c f : List ℕ) (t : IrType) (field : has.field c f t ≡ true) (v : ir.Value) (its : HasType (IsSub w) law at v t) where
+    fields_typed : (b g : List ℕ) (u : IrType) → list_any (is_same_text b) (chain_of w d) ≡ true → has.field b g u ≡ true → HoldsType at (ir.with_field c f v fields b g) u
+    fields_typed b g u k is = go (is_same_text b c && is_same_text g f) refl
+      where
+        go : (q : Bool) → (is_same_text b c && is_same_text g f) ≡ q → HoldsType at (if q then Some v else fields b g) u
+        go true e =
+            let parts = and_parts (is_same_text b c) (is_same_text g f) e in
+            let one : has.field c g u ≡ true = subst (λ (n : List ℕ). has.field n g u ≡ true) (text-same b c parts.0) is in
+            let two : has.field c f u ≡ true = subst (λ (n : List ℕ). has.field c n u ≡ true) (text-same g f parts.1) one in
+            holds_type v u (subst (HasType (IsSub w) law at v) (laws.one_type c f t u field two) its)
+        go false e = typed b g u k is
+
+    pub written : HeapTyped at (ir.at_address a (ir.object d (ir.with_field c f v fields)) st)
+    written = record { objects = λ j e k. go j e (j == a) refl k; made = heap.made }
+      where
+        other : (j : ℕ) → (j == a) ≡ false → j ≡ a → ⊥
+        other j k e = impossible (sym k ∙ subst (λ (n : ℕ). (n == a) ≡ true) (sym e) (numbers-equal a))
+
+        go : (j : ℕ) (e : List ℕ) (b : Bool) → (j == a) ≡ b → at j ≡ Some e → ObjectTyped at e (slice_get (set st.heap a (ir.object d (ir.with_field c f v fields))) j)
+        go j e true k is = let same : j ≡ a = numbers-same j a k in let class : d ≡ e = some_text d e (sym known ∙ ap at (sym same) ∙ is) in subst (λ (n : ℕ). ObjectTyped at e (slice_get (set st.heap a (ir.object d (ir.with_field c f v fields))) n)) (sym same) (subst (ObjectTyped at e) (sym (get-set st.heap a (ir.object d fields) (ir.object d (ir.with_field c f v fields)) stands)) (subst (λ (n : List ℕ). ObjectTyped at n (Some (ir.object d (ir.with_field c f v fields)))) class (typed_object (ir.with_field c f v fields) fields_typed)))
+        go j e false k is = subst (ObjectTyped at e) (sym (get-set_other st.heap j a (ir.object d (ir.with_field c f v fields)) (other j k))) (heap.objects j e is)
 
   class_below : (c : List ℕ) → IsSub w (Class c) (class_type c)
   class_below c = go (is_same_text c (codes "java.lang.Object"))
@@ -623,7 +655,7 @@ module _ (w : World) (law : IsSubtyping (IsSub w)) (has : Usable) where
     TreeRight t = (s : Scene) → InScope (frame_of s) s.locals → Typed w has s t → Fresh s (Own t) → Sures s (definitions t) → (at : Classes) (env : ir.Env) (st : ir.State) → Ready at (frame_of s) s.locals env st → Right at s (type_of_term t) (step t env st)
 
     construct_right : (c : List ℕ) (m : MethodName) → has.made c ≡ true → has.built (member c Constructor m) ≡ true → (s : Scene) (at : Classes) (vs : List ir.Value) → ValuesFit at vs m.params → (env : ir.Env) (st : ir.State) → Ready at (frame_of s) s.locals env st → Right at s (class_type c) (ir_meaning.construct w low c m vs env st)
-    construct_right c m made built s at vs fit env st i = rebased at after_it more s s.locals (class_type c) (ir_meaning.construct w low c m vs env st).end (go_on_right after_it s s.locals (call_type m.result) s.locals (class_type c) (ir_meaning.call low (member_of w c Constructor m) (Some object) vs env heap) (λ v. ir.given object) (call_right laws low right (member c Constructor m) (laws.built (member c Constructor m) built) s (call_type m.result) refl after_it vs (fit-lift at after_it more vs m.params fit) (Some object) (λ r. holds_object object c (its_type after_it (adds-refl after_it)) (λ e. cc)) env heap (record { locals = env-lift at after_it more (frame_of s) s.locals env i.locals; heap = born_typed laws at c st i.heap })) (λ k b v env st g j. here k s s.locals (class_type c) object env st (inr (its_type k b)) j))
+    construct_right c m made built s at vs fit env st i = rebased at after_it more s s.locals (class_type c) (ir_meaning.construct w low c m vs env st).end (go_on_right after_it s s.locals (call_type m.result) s.locals (class_type c) (ir_meaning.call low (member_of w c Constructor m) (Some object) vs env heap) (λ v. ir.given object) (call_right laws low right (member c Constructor m) (laws.built (member c Constructor m) built) s (call_type m.result) refl after_it vs (fit-lift at after_it more vs m.params fit) (Some object) (λ r. holds_object object c (its_type after_it (adds-refl after_it)) (λ e. cc)) env heap (record { locals = env-lift at after_it more (frame_of s) s.locals env i.locals; heap = born_typed laws at c made st i.heap })) (λ k b v env st g j. here k s s.locals (class_type c) object env st (inr (its_type k b)) j))
       where
         object : ir.Value
         object = ir.reference (ir.next_address st)
@@ -635,10 +667,10 @@ module _ (w : World) (law : IsSubtyping (IsSub w)) (has : Usable) where
         after_it = with_class (ir.next_address st) c at
 
         more : Adds at after_it
-        more = adds_one laws at c st i.heap
+        more = adds_one laws at c made st i.heap
 
         its_type : (k : Classes) → Adds after_it k → HasType (IsSub w) law k object (class_type c)
-        its_type k b = has_type (Class c) (of_object (ir.next_address st) c (b.keeps (ir.next_address st) c (class_there laws at c st i.heap)) (laws.made c made)) (class_below c)
+        its_type k b = has_type (Class c) (of_object (ir.next_address st) c (b.keeps (ir.next_address st) c (class_there laws at c made st i.heap)) (laws.made c made)) (class_below c)
 
     -- an exception that is made and thrown
     raise_right : (c message : List ℕ) → has.made c ≡ true → has.built (member c Constructor ir_meaning.with_message) ≡ true → (s : Scene) (t : IrType) (at : Classes) (env : ir.Env) (st : ir.State) → Ready at (frame_of s) s.locals env st → FullRight at s t (ir_meaning.raise w low c message env st)
@@ -720,19 +752,34 @@ module _ (w : World) (law : IsSubtyping (IsSub w)) (has : Usable) where
     there_right : (at : Classes) (s : Scene) (t : IrType) (o : Option ir.Value) (env : ir.Env) (st : ir.State) → HoldsType at o t → Ready at (frame_of s) s.locals env st → Right at s t (ir_meaning.value_or_wrong o env st)
     there_right at s t _ env st (holds_type v _ h) e = here at s s.locals t v env st (inr h) e
 
+    -- a receiver of a class with a field is an object that has the field
+    holder_right : {A : Type 0} (at : Classes) (c f : List ℕ) (t : IrType) (v : ir.Value) (st : ir.State) → has.field c f t ≡ true → HasType (IsSub w) law at v (class_type c) → Full v → HeapTyped at st → ((a : ℕ) (d : List ℕ) → v ≡ ir.reference a → at a ≡ Some d → list_any (is_same_text c) (chain_of w d) ≡ true → A) → A
+    holder_right {A} at c f t v st is (has_type o i sub) n e on = go (sort_of (IsSub w) law at v o i)
+      where
+        go : Sort (IsSub w) law at v o → A
+        go (is_null k) = absurd (n k)
+        go (is_primitive h k) = absurd (laws.strangers c f t is o h k sub)
+        go (is_object a d same its known) = on a d same known (laws.holders c f t is d (e.made a d known) (subst (λ (q : IrType). IsSub w q (class_type c)) its sub))
+
     field_right : (at : Classes) (s : Scene) (c f : List ℕ) (t : IrType) (v : ir.Value) (env : ir.Env) (st : ir.State) → has.field c f t ≡ true → HasType (IsSub w) law at v (class_type c) → Full v → Ready at (frame_of s) s.locals env st → Right at s t (ir_meaning.select_field c f (v ∷ []) env st)
-    field_right at s c f t v env st is (has_type o i sub) n e = go (laws.holders c f t is o sub)
+    field_right at s c f t v env st is h n e = holder_right at c f t v st is h n e.heap (λ a d same known k. subst (λ (x : ir.Value). Right at s t (ir_meaning.select_field c f (x ∷ []) env st)) (sym same) (stored d (slice_get st.heap a) k (e.heap.objects a d known)))
       where
         stored : (d : List ℕ) (q : Option ir.Stored) → list_any (is_same_text c) (chain_of w d) ≡ true → ObjectTyped at d q → Right at s t (ir_meaning.value_or_wrong (ir_meaning.field_of c f q) env st)
         stored d _ k (typed_object fields h) = there_right at s t (fields c f) env st (h c f t k is) e
 
-        object : (d : List ℕ) → list_any (is_same_text c) (chain_of w d) ≡ true → ObjectAt (IsSub w) law at v d → Right at s t (ir_meaning.select_field c f (v ∷ []) env st)
-        object d k (object_at a same known) = subst (λ (x : ir.Value). Right at s t (ir_meaning.select_field c f (x ∷ []) env st)) (sym same) (stored d (slice_get st.heap a) k (e.heap.objects a d known))
+    -- an assignment to a field
+    set_right : (at : Classes) (s : Scene) (c f : List ℕ) (t : IrType) (v x : ir.Value) (env : ir.Env) (st : ir.State) → has.field c f t ≡ true → HasType (IsSub w) law at v (class_type c) → Full v → HasType (IsSub w) law at x t → Ready at (frame_of s) s.locals env st → Right at s NoType (ir_meaning.assign_field c f (v ∷ x ∷ []) env st)
+    set_right at s c f t v x env st is h n i e = holder_right at c f t v st is h n e.heap (λ a d same known k. subst (λ (y : ir.Value). Right at s NoType (ir_meaning.assign_field c f (y ∷ x ∷ []) env st)) (sym same) (stored a d known k (slice_get st.heap a) refl (e.heap.objects a d known)))
+      where
+        there : (o : Option ir.Value) (next : ir.State) → HoldsType at o t → HeapTyped at next → Right at s NoType (ir_meaning.assigned (ir_meaning.if_there o next) env st)
+        there _ next (holds_type y _ j) heap = here at s s.locals NoType ir.undefined env next (inl refl) (record { locals = e.locals; heap = heap })
 
-        go : Holder w c o → Right at s t (ir_meaning.select_field c f (v ∷ []) env st)
-        go (a_null k) = absurd (n (of_null_null (IsSub w) law at v o i k))
-        go (a_nothing k) = of_nothing (IsSub w) law at v o i k
-        go (an_object d k chain) = object d chain (as_object (IsSub w) law at v o d i k)
+        stored : (a : ℕ) (d : List ℕ) → at a ≡ Some d → list_any (is_same_text c) (chain_of w d) ≡ true → (q : Option ir.Stored) → slice_get st.heap a ≡ q → ObjectTyped at d q → Right at s NoType (ir_meaning.assigned (ir_meaning.set_field c f x a q st) env st)
+        stored a d known k _ stands (typed_object fields g) = there (fields c f) (ir.at_address a (ir.object d (ir.with_field c f x fields)) st) (g c f t k is) (written laws at st e.heap a d known fields stands g c f t is x i)
+
+    -- an assignment to the field of a receiver
+    pub field_set_right : (p q : Position) (d : Term) (c f : List ℕ) (t : IrType) (e : Term) → TreeRight d → TreeRight e → (s : Scene) → InScope (frame_of s) s.locals → has.field c f t ≡ true → may_check has s.sure d ≡ true → IsSub w (type_of_term d) (class_type c) → IsSub w (type_of_term e) t → Typed w has s d → Typed w has s e → Fresh s (Own (assign p (select q d c f t) e)) → Sures s (definitions (assign p (select q d c f t) e)) → (at : Classes) (env : ir.Env) (st : ir.State) → Ready at (frame_of s) s.locals env st → Right at s NoType (step (assign p (select q d c f t) e) env st)
+    field_set_right p q d c f t e first second s v is check own fits h k fresh u at env st i = let parts = sures-parts s (definitions d) (definitions e) u in go_on_both at s s.locals (type_of_term d) s.locals NoType Full (ir_meaning.receiving w (is_sure env.sure d) low (step d) env st) (λ a. ir_meaning.in_order (step e ∷ []) (λ vs. ir_meaning.assign_field c f (a ∷ vs))) (receiver_right (reads c f t is) d s h (check_there d s check) at env st i (first s v h (λ x o. fresh x (inl o)) parts.0 at env st i)) (λ y b a env st g n i. go_on_right y s s.locals (type_of_term e) s.locals NoType (step e env st) (λ x. ir_meaning.in_order [] (λ vs. ir_meaning.assign_field c f (a ∷ x ∷ vs))) (second s v k (λ x o. fresh x (inr o)) parts.1 y env st i) (λ z m x env st j i. set_right z s c f t a x env st is (type-lift (IsSub w) law y z m a (class_type c) (operand-type y a (type_of_term d) (class_type c) g own (value-not (class_type c) (class_has_value c)))) n (operand-type z x (type_of_term e) t j fits (value-not t (laws.fields c f t is).0)) i))
 
     called_on : (d : Option MethodDef) (v : ir.Value) (vs : List ir.Value) (env : ir.Env) (st : ir.State) → Full v → ir_meaning.call_on w low d (v ∷ vs) env st ≡ ir_meaning.call low d (Some v) vs env st
     called_on d ir.null vs env st n = absurd (n refl)

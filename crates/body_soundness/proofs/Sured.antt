@@ -7,7 +7,7 @@ use Rattle.body_rules.proofs.RulesGive.{when_not}
 use Rattle.sj_names.proofs.Same.{impossible}
 use Rattle.sj_names.specs.Same.{is_same_text}
 use Rattle.sj_trees.specs.Term.{Term, new_object, new_array, array_value, load_module, var_ref, this_ref}
-use Rattle.body_soundness.specs.Laws.{Names, AreOnce}
+use Rattle.sj_proper.specs.Once.{Names, AreOnce}
 use Rattle.sure_receivers.specs.Sure.{is_sure_type, is_sure, Definition, definitions, sure_behind, sure_locals}
 
 -- each of these definitions that makes a sure local has a sure right side, and the local is immutable

@@ -16,6 +16,7 @@ use Rattle.sj_names.proofs.Same.{impossible}
 use Rattle.body_rules.specs.Standing.{is_bare}
 use Rattle.body_rules.specs.Subtyping.{is_lowest, IsSubtyping}
 use Rattle.body_rules.proofs.Fitting.{text_bare}
+use Rattle.sj_world.specs.Subtypes.{hijacked_class}
 use Rattle.sure_receivers.specs.Sure.{is_sure_type}
 
 -- the class of the object at each address
@@ -325,45 +326,23 @@ module _ (sub : IrType → IrType → Type 0) (law : IsSubtyping sub) (at : Clas
       go (inl k) = impossible (ap is_sure_type k ∙ h)
       go (inr k) = cc
 
-  -- an object of the class stands there
-  pub data ObjectAt (v : ir.Value) (c : List ℕ) : Type 0 where
-    object_at : (i : ℕ) → v ≡ ir.reference i → at i ≡ Some c → ObjectAt v c
+  -- a value is null, an object, or of a primitive type
+  pub data Sort (v : ir.Value) (o : IrType) : Type 0 where
+    is_null : v ≡ ir.null → Sort v o
+    is_object : (i : ℕ) (c : List ℕ) → v ≡ ir.reference i → o ≡ Class c → at i ≡ Some c → Sort v o
+    is_primitive : (c : List ℕ) → hijacked_class o ≡ Some c → Sort v o
 
-  pub as_object : (v : ir.Value) (o : IrType) (c : List ℕ) → IsOf v o → o ≡ Class c → ObjectAt v c
-  as_object _ _ c (of_object i d e n) k = let same : d ≡ c = cc in object_at i refl (e ∙ ap Some same)
-  as_object _ _ c of_null k = absurd (cc)
-  as_object _ _ c of_undefined k = absurd (cc)
-  as_object _ _ c (of_boolean b) k = absurd (cc)
-  as_object _ _ c (of_char u) k = absurd (cc)
-  as_object _ _ c (of_long z) k = absurd (cc)
-  as_object _ _ c (of_byte z) k = absurd (cc)
-  as_object _ _ c (of_short z) k = absurd (cc)
-  as_object _ _ c (of_int z) k = absurd (cc)
-  as_object _ _ c (of_text us) k = absurd (cc)
-
-  pub of_null_null : (v : ir.Value) (o : IrType) → IsOf v o → o ≡ Null → v ≡ ir.null
-  of_null_null _ _ of_null k = refl
-  of_null_null _ _ of_undefined k = absurd (cc)
-  of_null_null _ _ (of_boolean b) k = absurd (cc)
-  of_null_null _ _ (of_char u) k = absurd (cc)
-  of_null_null _ _ (of_long z) k = absurd (cc)
-  of_null_null _ _ (of_byte z) k = absurd (cc)
-  of_null_null _ _ (of_short z) k = absurd (cc)
-  of_null_null _ _ (of_int z) k = absurd (cc)
-  of_null_null _ _ (of_text us) k = absurd (cc)
-  of_null_null _ _ (of_object i c e n) k = absurd (cc)
-
-  pub of_nothing : {A : Type 0} (v : ir.Value) (o : IrType) → IsOf v o → o ≡ Nothing → A
-  of_nothing _ _ of_null k = absurd (cc)
-  of_nothing _ _ of_undefined k = absurd (cc)
-  of_nothing _ _ (of_boolean b) k = absurd (cc)
-  of_nothing _ _ (of_char u) k = absurd (cc)
-  of_nothing _ _ (of_long z) k = absurd (cc)
-  of_nothing _ _ (of_byte z) k = absurd (cc)
-  of_nothing _ _ (of_short z) k = absurd (cc)
-  of_nothing _ _ (of_int z) k = absurd (cc)
-  of_nothing _ _ (of_text us) k = absurd (cc)
-  of_nothing _ _ (of_object i c e n) k = absurd (cc)
+  pub sort_of : (v : ir.Value) (o : IrType) → IsOf v o → Sort v o
+  sort_of _ _ of_null = is_null refl
+  sort_of _ _ of_undefined = is_primitive _ refl
+  sort_of _ _ (of_boolean b) = is_primitive _ refl
+  sort_of _ _ (of_char u) = is_primitive _ refl
+  sort_of _ _ (of_long z) = is_primitive _ refl
+  sort_of _ _ (of_byte z) = is_primitive _ refl
+  sort_of _ _ (of_short z) = is_primitive _ refl
+  sort_of _ _ (of_int z) = is_primitive _ refl
+  sort_of _ _ (of_text us) = is_primitive _ refl
+  sort_of _ _ (of_object i c e n) = is_object i c refl refl e
 
 module _ (sub : IrType → IrType → Type 0) (law : IsSubtyping sub) (h k : Classes) (adds : Adds h k) where
   of-lift : (v : ir.Value) (t : IrType) → IsOf sub law h v t → IsOf sub law k v t
