@@ -1,4 +1,5 @@
 pub mod Calls
+pub mod Chains
 pub mod Heaps
 pub mod Right
 pub mod Sured
