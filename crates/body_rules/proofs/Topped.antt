@@ -14,7 +14,7 @@ abbrev pub string_class : Name
 string_class = codes "java.lang.String"
 
 -- what stands directly above a class that is absent: `java.lang.Object`, of one that isn't what it writes
-absent_above : (name x : Name) → Contains (listed (superclass_of_absent name)) x → x ≡ object
+pub absent_above : (name x : Name) → Contains (listed (superclass_of_absent name)) x → x ≡ object
 absent_above name x h = go (is_hijacked name) h
   where
     go : (b : Bool) → Contains (listed (if b then Some object else None)) x → x ≡ object

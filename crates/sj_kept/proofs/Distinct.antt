@@ -53,10 +53,10 @@ Fresh xs = NoRepeat (declares xs)
 pub parts : (xs ys : List Node) → Fresh (xs ++ ys) → Fresh xs × Fresh ys × ((d : Declaration) → Has (declares xs) d → Has (declares ys) d → ⊥)
 parts xs ys h = repeat-parts (declares xs) (declares ys) (subst NoRepeat (declares-append xs ys) h)
 
-in-left : (xs ys : List Node) (d : Declaration) → Has (declares xs) d → Has (declares (xs ++ ys)) d
+pub in-left : (xs ys : List Node) (d : Declaration) → Has (declares xs) d → Has (declares (xs ++ ys)) d
 in-left xs ys d h = subst (λ l. Has l d) (sym (declares-append xs ys)) (has-left (declares xs) (declares ys) d h)
 
-in-right : (xs ys : List Node) (d : Declaration) → Has (declares ys) d → Has (declares (xs ++ ys)) d
+pub in-right : (xs ys : List Node) (d : Declaration) → Has (declares ys) d → Has (declares (xs ++ ys)) d
 in-right xs ys d h = subst (λ l. Has l d) (sym (declares-append xs ys)) (has-right (declares xs) (declares ys) d h)
 
 abbrev At : Context → Term → List Node

@@ -22,9 +22,10 @@ use Rattle.sj_trees.specs.declared.classes.ParamDef.{ParamDef}
 use Rattle.body_rules.proofs.Equal.{is-equal}
 use Rattle.sj_names.proofs.Same.{impossible}
 use Rattle.body_rules.specs.Locals.{IsParameter, local_of}
-use Rattle.sj_proper.specs.Once.{IsAmong, Once, AreDistinct, DefinesOnce}
+use Rattle.sj_proper.specs.Once.{IsAmong, Once, AreDistinct, DefinesOnce, NamesOnce}
 use Rattle.sj_kept.specs.Kept.{KeepsTreeRules}
 use Rattle.sj_kept.proofs.Distinct.{Has, NoRepeat, declares, own-declares, repeat-parts, once}
+use Rattle.sj_kept.proofs.Names.{told, names-once}
 use Rattle.sj_kept.proofs.Kept.{AllKeep, keeps_this, SameLocal, neither, both_have}
 
 suc-none : (o : Option ℕ) → option_map suc o ≡ None → o ≡ None
@@ -155,3 +156,7 @@ module _ (c : ClassDef) (d : MethodDef) (e : Term) (body : d.body ≡ Some e) (k
 
   pub body_keeps : DefinesOnce d e
   body_keeps = record { once = body_once; parameters = distinct; fresh = λ x o i. apart.2 (declaration.Local x) (param-among d.params x (param-is d.params x i)) (own-declares e (outermost d) x o) }
+
+  -- also in forms that aren't built
+  pub names_keep : NamesOnce d e
+  names_keep = record { once = names-once e (outermost d) apart.1; fresh = λ x n i. apart.2 (declaration.Local x) (param-among d.params x (param-is d.params x i)) (told e (outermost d) x n) }

@@ -13,7 +13,7 @@ ghost use Rattle.sj_trees.specs.declared.classes.MethodDef.{MethodDef};
 ghost use Rattle.sj_proper.specs.Methods.{HaveTypes};
 ghost use Rattle.body_rules.specs.Standing.{call_type};
 ghost use Rattle.sj_kept.specs.Kept.{KeepsTreeRules};
-ghost use Rattle.sj_proper.specs.Once.{DefinesOnce};
+ghost use Rattle.sj_proper.specs.Once.{DefinesOnce, NamesOnce};
 
 /// Each method of a class that breaks none of the local rules keeps those on declarations, definitions, variables, jumps and This.
 pub fn classes_keep_tree_rules()
@@ -28,4 +28,9 @@ pub fn methods_have_the_types_of_their_names()
 /// A method that keeps the rules on trees defines each local once.
 pub fn locals_are_defined_once()
     ensures { (c : ClassDef) (d : MethodDef) (e : Term) → d.body ≡ Some e → KeepsTreeRules c d → DefinesOnce d e }
+{}
+
+/// It defines none twice whatever its forms are, and no parameter again.
+pub fn names_are_defined_once()
+    ensures { (c : ClassDef) (d : MethodDef) (e : Term) → d.body ≡ Some e → KeepsTreeRules c d → NamesOnce d e }
 {}

@@ -4,6 +4,7 @@ use Rattle.sj_desugar.specs.Desugar.{names_of}
 use Rattle.sj_trees.specs.declared.classes.MethodDef.{MethodDef}
 use Rattle.sj_trees.specs.Term.{Term, Terms, no_terms, more_terms, Cases, no_cases, more_cases, var_def, block_of, labeled, assign, return_to, if_then, while_loop, do_while, throw, match_on, new_object, select, apply_statically, apply_static, unary_op, binary_op, log_line}
 use Rattle.body_rules.specs.Locals.{Own, OwnAll, OwnCases, IsParameter}
+use Rattle.sure_receivers.specs.Sure.{Definition, definitions}
 
 abbrev pub IsAmong : List (List ℕ) → List ℕ → Type 0
 IsAmong [] x = ⊥
@@ -53,3 +54,18 @@ pub record DefinesOnce (d : MethodDef) (e : Term) : Type 0 where
   pub once : Once [] e
   pub parameters : AreDistinct (names_of d.params)
   pub fresh : (x : List ℕ) → Own e x → IsParameter d.params x → ⊥
+
+-- a name is defined by one of these
+abbrev pub Names : List Definition → List ℕ → Type 0
+Names [] x = ⊥
+Names (d ∷ ds) x = (d.name ≡ x) ⊎ Names ds x
+
+-- no name is defined twice
+abbrev pub AreOnce : List Definition → Type 0
+AreOnce [] = Unit {0}
+AreOnce (d ∷ ds) = (Names ds d.name → ⊥) × AreOnce ds
+
+-- whatever the forms of the body are, no local is defined twice in it, and no parameter again
+pub record NamesOnce (d : MethodDef) (e : Term) : Type 0 where
+  pub once : AreOnce (definitions e)
+  pub fresh : (x : List ℕ) → Names (definitions e) x → IsParameter d.params x → ⊥

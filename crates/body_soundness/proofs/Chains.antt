@@ -1,0 +1,111 @@
+-- What stands below a class with fields has it on its chain of superclasses, and no primitive type stands there.
+use Rattle.std.proofs.Common.{◌≡◌, ℕ, Bool, true, false, List, [], ◌∷◌, ◌++◌, ◌&&◌, ◌||◌, Contains, Option, Some, None, codes, refl, sym, ap, ◌∙◌, subst, ◌⊎◌, inl, inr, if◌then◌else◌}
+use Rattle.std.specs.Prelude.{not, is_some}
+use Rattle.std.specs.List.{list_any}
+use Rattle.std.proofs.lemmas.Bool.{and_parts}
+use Rattle.std.proofs.lemmas.List.Elements.{Contains-append_cases}
+use Rattle.body_rules.proofs.Lists.{nothing_in, in_front_or_behind, from_filter}
+use Rattle.body_rules.proofs.Plain.{class_found, plain_world}
+use Rattle.body_rules.proofs.Topped.{absent_above}
+use Rattle.body_soundness.specs.Worlds.{AreClassesKept, HasFields, WritesInterfaces}
+use Rattle.sj_local.specs.ClassRules.{is_empty, is_class, is_interface, is_hijacked_kind, is_rightly_hijacked, is_right_number, keeps_superclass, keeps_hijacked}
+use Rattle.sj_local.specs.Names.{is_some_name}
+use Rattle.sj_names.proofs.Same.{impossible, text-same, text-refl}
+use Rattle.sj_names.specs.WellKnown.{is_object, is_number}
+use Rattle.sj_trees.specs.Types.{class_type}
+use Rattle.sj_trees.specs.declared.classes.ClassDef.{ClassDef}
+use Rattle.sj_trees.specs.declared.types.IrType.{IrType}
+use Rattle.sj_trees.specs.declared.types.IrType.TheVariants.{Any, Class}
+use Rattle.sj_world.specs.Ancestors.{listed, superclass_of_absent, superclass_in, above_in, written, written_in, directly_above, IsParent, IsWritten, IsAncestor, Way, by_path, is_object as is_top, next_on_chain, IsNext, IsOnChain}
+use Rattle.sj_world.specs.Known.{Name, Classes, is_same, class_of, is_known, is_hijacked, stands_as, object, integer}
+use Rattle.sj_world.specs.Laws.{IsPlain}
+use Rattle.sj_world.specs.Paths.{Path, stay, on}
+use Rattle.sj_world.specs.Subtypes.{hijacked_class, IsSub, equal, from_nothing, to_any, null_to_class, null_to_array, class_to_class, primitive_to_class, arrays_alike, arrays_of_arrays}
+
+either_false : (a b : Bool) → (a || b) ≡ true → a ≡ false → b ≡ true
+either_false true b h k = impossible (sym k)
+either_false false b h k = h
+
+-- a class that isn't hijacked stands as itself
+byte_not : (b : Name) → is_hijacked b ≡ false → (n : Name) → is_hijacked n ≡ true → is_same b n ≡ false
+byte_not b free n h = go (is_same b n) refl
+  where
+    go : (q : Bool) → is_same b n ≡ q → is_same b n ≡ false
+    go false e = e
+    go true e = impossible (sym free ∙ subst (λ (m : Name). is_hijacked m ≡ true) (sym (text-same b n e)) h)
+
+stands_itself : (b : Name) → is_hijacked b ≡ false → stands_as b ≡ b
+stands_itself b free = (λ i. if (byte_not b free (codes "java.lang.Byte") refl i || byte_not b free (codes "java.lang.Short") refl i) then integer else b)
+
+only_listed : (s : Option Name) (c : Name) → Contains (listed s) c → s ≡ Some c
+only_listed None c h = nothing_in c h
+only_listed (Some d) c h = elim (in_front_or_behind d [] c h) [ inl e ↦ ap Some e | inr none ↦ nothing_in c none ]
+
+-- a class with a superclass is no interface, and isn't `java.lang.Object`
+has_superclass : (k : ClassDef) (c : Name) → keeps_superclass k ≡ true → k.superclass ≡ Some c → (is_interface k.kind ≡ false) × (is_object k.name ≡ false)
+has_superclass k c h s = go (is_object k.name) refl (is_interface k.kind) refl (subst (λ (o : Option Name). (if is_object k.name then is_class k.kind && not (is_some o) && is_empty k.interfaces else if is_interface k.kind then not (is_some o) else is_some o) ≡ true) s h)
+  where
+    go : (a : Bool) → is_object k.name ≡ a → (b : Bool) → is_interface k.kind ≡ b → (if a then is_class k.kind && false && is_empty k.interfaces else if b then false else true) ≡ true → (is_interface k.kind ≡ false) × (is_object k.name ≡ false)
+    go true e b f q = impossible (and_parts (is_class k.kind) false (and_parts (is_class k.kind && false) (is_empty k.interfaces) q).0).1
+    go false e true f q = impossible q
+    go false e false f q = (f, e)
+
+module _ (w : Classes) (kept : AreClassesKept w) where
+  plain : IsPlain w
+  plain = plain_world w kept.superclass kept.hijacked
+
+  -- what a class writes above itself: its superclass or an interface
+  above_it : (b c : Name) → is_object c ≡ false → IsParent w b c → (class : ClassDef) × (class_of w (stands_as b) ≡ Some class) × ((class.superclass ≡ Some c) ⊎ Contains class.interfaces c)
+  above_it b c top step = go (class_of w (stands_as b)) refl (from_filter (is_known w) (directly_above w (stands_as b)) c step)
+    where
+      go : (o : Option ClassDef) → class_of w (stands_as b) ≡ o → Contains (above_in o (stands_as b)) c → (class : ClassDef) × (class_of w (stands_as b) ≡ Some class) × ((class.superclass ≡ Some c) ⊎ Contains class.interfaces c)
+      go None e i = impossible (sym top ∙ ap is_object (absent_above (stands_as b) c i))
+      go (Some k) e i = (k, e, elim (Contains-append_cases (listed k.superclass) k.interfaces c i) [ inl first ↦ inl (only_listed k.superclass c first) | inr rest ↦ inr rest ])
+
+  -- nothing but a hijacked class itself leads to one
+  free_above : (d : Name) → is_hijacked d ≡ false → (b : Name) → Path (IsParent w) d b → is_hijacked b ≡ false
+  free_above d free _ stay = free
+  free_above d free _ (on b c path step) = go (class_of w (stands_as b)) refl (from_filter (is_known w) (directly_above w (stands_as b)) c step)
+    where
+      go : (o : Option ClassDef) → class_of w (stands_as b) ≡ o → Contains (above_in o (stands_as b)) c → is_hijacked c ≡ false
+      go None e i = ap is_hijacked (absent_above (stands_as b) c i)
+      go (Some k) e i = plain.apart (stands_as b) c (subst (λ (o : Option ClassDef). Contains (written_in o) c) (sym e) i)
+
+  interface_not : {A : Type 0} (d b c : Name) → WritesInterfaces w d → Path (IsParent w) d b → (class : ClassDef) → class_of w (stands_as b) ≡ Some class → Contains class.interfaces c → (k : ClassDef) → class_of w c ≡ Some k → is_interface k.kind ≡ false → A
+  interface_not d b c faces path class found i k there other = impossible (sym other ∙ faces b path class found c k i there)
+
+  climb : (d : Name) → is_hijacked d ≡ false → WritesInterfaces w d → (c : Name) → Path (IsParent w) d c → (k : ClassDef) → class_of w c ≡ Some k → is_interface k.kind ≡ false → is_object c ≡ false → IsOnChain w d c
+  climb d free faces _ stay k there other top = stay
+  climb d free faces _ (on b c path step) k there other top = go (climb d free faces b path) (above_it b c top step)
+    where
+      same : stands_as b ≡ b
+      same = stands_itself b (free_above d free b path)
+
+      further : ((k : ClassDef) → class_of w b ≡ Some k → is_interface k.kind ≡ false → is_object b ≡ false → IsOnChain w d b) → (class : ClassDef) → class_of w (stands_as b) ≡ Some class → class.superclass ≡ Some c → IsOnChain w d c
+      further rise class found super =
+          let its : class_of w b ≡ Some class = subst (λ (n : Name). class_of w n ≡ Some class) same found in
+          let at = class_found w b class its in
+          let parts = has_superclass class c (kept.superclass class at.0) super in
+          on b c (rise class its parts.0 (subst (λ (n : Name). is_object n ≡ false) at.1 parts.1)) (ap (λ (o : Option ClassDef). superclass_in o (stands_as b)) found ∙ super)
+
+      go : ((k : ClassDef) → class_of w b ≡ Some k → is_interface k.kind ≡ false → is_object b ≡ false → IsOnChain w d b) → (class : ClassDef) × (class_of w (stands_as b) ≡ Some class) × ((class.superclass ≡ Some c) ⊎ Contains class.interfaces c) → IsOnChain w d c
+      go rise found = elim found.2 [ inl super ↦ further rise found.0 found.1 super | inr face ↦ interface_not d b c faces path found.0 found.1 face k there other ]
+
+  -- what is made below a class with fields has it on its chain
+  pub on_chain : (c d : Name) → HasFields w c → is_hijacked d ≡ false → WritesInterfaces w d → IsSub w (Class d) (class_type c) → IsOnChain w d c
+  on_chain c d h free faces sub = go (subst (λ (t : IrType). IsSub w (Class d) t) (ap (λ (b : Bool). if b then Any else Class c) h.no_object) sub)
+    where
+      up : Way w d c → IsOnChain w d c
+      up (by_path path) = climb d free faces c path h.class h.found h.no_interface h.no_object
+      up (is_top e) = impossible (sym h.no_object ∙ ap is_object e)
+
+      go : IsSub w (Class d) (Class c) → IsOnChain w d c
+      go (equal e) = let same : d ≡ c = cc in subst (λ (n : Name). IsOnChain w d n) same stay
+      go (from_nothing e) = absurd (cc)
+      go (to_any e n) = absurd (cc)
+      go (null_to_class b e f) = absurd (cc)
+      go (null_to_array b e f) = absurd (cc)
+      go (class_to_class a b e f k) = let one : a ≡ d = cc in let two : b ≡ c = cc in up (subst (λ (n : Name). Way w n c) one (subst (λ (n : Name). Way w a n) two k.way))
+      go (primitive_to_class a b e f k) = absurd (cc)
+      go (arrays_alike a b e f g k) = absurd (cc)
+      go (arrays_of_arrays a b e f g k) = absurd (cc)

@@ -1,0 +1,917 @@
+-- A body that keeps the rules is never wrong by the IR; what it gives or throws is of its type, and each object keeps its class, with fields of their
+-- types.
+use Rattle.std.proofs.Common.{◌≡◌, ℕ, zero, suc, arith, codes, ◌++◌, ◌&&◌, ◌||◌, not, Bool, true, false, List, [], ◌∷◌, Some, None, Option, refl, sym, ap, ◌∙◌, subst, ◌⊎◌, inl, inr, ⊎_elim, if◌then◌else◌}
+use Rattle.std.specs.Prelude.{nat_eq, slice_get, set, ◌==◌, is_some, ℤ, pos}
+use Rattle.std.proofs.lemmas.Bool.{and_parts}
+use Rattle.std.specs.Cmp.Lexicographic.{pointwise}
+use Rattle.std.specs.List.{list_any}
+use Rattle.std.specs.Ordering.{int_eq}
+use Rattle.outcomes.specs.Outcome.{Lines, End, Done, Going, Wrong, Out, then_do, after}
+use Rattle.ir_mean.specs.Dispatch.{chain_of}
+use Rattle.ir_mean.specs.Meaning as ir_meaning
+use Rattle.ir_mean.specs.Operators.{Answer, unary_value, binary_value}
+use Rattle.ir_mean.specs.States as ir
+use Rattle.sure_receivers.specs.Sure.{is_sure_type, is_sure, Definition, definitions, definitions_in, definitions_of_cases, sure_locals}
+use Rattle.body_soundness.proofs.Heaps.{get-end, get-front, not-past, get-set, get-set_other}
+use Rattle.body_soundness.proofs.Sured.{Sured, sured-parts, sure-named, body-sured}
+use Rattle.body_soundness.specs.Laws.{HasReceivers, reads, calls, null_pointer, ObjectLaws}
+use Rattle.ir_mean.specs.World.{World, class_of, method_among, method_in, member_of, zeros_in, zero_of, new_fields}
+use Rattle.sj_desugar.specs.Desugar.{member, has_no_value}
+use Rattle.sj_emit_expr.specs.Templates.{check_name}
+use Rattle.sj_desugar.specs.Plain.{is_no_type}
+use Rattle.sj_names.specs.Same.{is_same_text, is_same_namespace, is_same_method}
+use Rattle.sj_names.specs.declared.method_names.MethodName.{MethodName}
+use Rattle.sj_names.specs.declared.method_names.Namespace.{Namespace}
+use Rattle.sj_names.specs.declared.method_names.Namespace.TheVariants.{Constructor}
+use Rattle.sj_names.specs.declared.method_names.Member.{Member}
+use Rattle.sj_names.specs.declared.references.TypeRef.{TypeRef}
+use Rattle.sj_trees.specs.Term.{Term, Terms, no_terms, more_terms, Cases, no_cases, more_cases, var_def, skip, block_of, labeled, assign, return_to, if_then, while_loop, do_while, throw, match_on, new_object, new_array, array_value, load_module, select, apply_statically, apply_static, unary_op, binary_op, undefined_literal, null_literal, boolean_literal, char_literal, byte_literal, short_literal, int_literal, long_literal, string_literal, var_ref, this_ref, log_line}
+use Rattle.sj_trees.specs.TypeOf.{type_of_term, type_of_last, loop_type, unary_result, binary_result}
+use Rattle.sj_trees.specs.Types.{class_type, reference_type}
+use Rattle.sj_trees.specs.declared.classes.ClassDef.{ClassDef}
+use Rattle.sj_trees.specs.declared.classes.MethodDef.{MethodDef}
+use Rattle.sj_trees.specs.declared.classes.ParamDef.{ParamDef}
+use Rattle.sj_trees.specs.declared.operators.BinaryOp.{BinaryOp}
+use Rattle.sj_trees.specs.declared.positions.Position.{Position}
+use Rattle.sj_trees.specs.declared.types.IrType.{IrType}
+use Rattle.sj_trees.specs.declared.types.IrType.TheVariants.{Any, Class, Array, Undefined, Null, Boolean, Byte, Short, Int, String, NoType, Nothing, Char, Long}
+use Rattle.typing_rules.specs.Rules.{IsStatic, IsReceiver, unary_operand, left_operand, right_operand, IsText as IsJoined}
+use Rattle.body_rules.specs.Operators.{IsDivision, a_quotient, a_remainder, IsLongDivision, a_long_quotient, a_long_remainder, DividesBy, by_int, by_long}
+use Rattle.built_forms.specs.Built.{Usable, is_boxed, any_is_boxed}
+use Rattle.body_rules.specs.Standing.{call_type}
+use Rattle.body_rules.specs.Typing.{RunsOnObject, may_check, IsTrueLiteral, true_literal, Scene, behind, in_label, Typed, TypedBlock, TypedAll, TypedCases}
+use Rattle.body_rules.specs.Locals.{Own, OwnAll, OwnCases, IsParameter, local_of, HasValue, HaveValues}
+use Rattle.body_rules.proofs.Equal.{is-equal}
+use Rattle.sj_names.proofs.Same.{impossible, text-same, namespace-same}
+use Rattle.body_soundness.specs.Rules.{RightMember}
+use Rattle.sj_proper.specs.Methods.{HaveTypes, scene_of}
+use Rattle.sj_proper.specs.Once.{NamesOnce}
+use Rattle.body_rules.specs.Subtyping.{IsSubtyping}
+use Rattle.body_rules.proofs.RulesGive.{class_has_value, Yields, ArgumentsFit, Takes, its_types, texts, yields_there, one_yields, other_yields, leaves_there, arguments_there, is_linked, operation}
+use Rattle.built_forms.proofs.Around.{type_inside}
+use Rattle.sj_world.specs.Ancestors.{by_path}
+use Rattle.sj_world.specs.Known as known
+use Rattle.sj_world.specs.Paths.{stay}
+use Rattle.sj_world.specs.Subtypes.{IsSub, to_any, null_to_class, null_to_array, primitive_to_class}
+use Rattle.body_rules.proofs.Topped.{string_class}
+use Rattle.typing_rules.specs.Labels.{type_of_label}
+use Rattle.body_rules.proofs.Locals.{local-there, values-behind}
+use Rattle.body_rules.proofs.Fitting.{value-not, true-or-none, unary-operand-value, left-operand-value, right-operand-value, not_no_type}
+use Rattle.body_soundness.proofs.Values.{Classes, Adds, adds-refl, adds-trans, type-lift, HasType, has_type, of_undefined, of_null, of_boolean, of_byte, of_short, of_int, of_text, IsBoolean, a_boolean, IsNumber, a_number, IsText, a_text, wider, as_boolean, as_int, as_text, Gives, some_of, unary_gives, binary_gives, division_gives, of_char, of_long, as_long, join_gives, long_division_gives, of_object, primitive_full, Sort, is_null, is_object, is_primitive, sort_of}
+
+-- not wrong, and where it is done, with what P says
+abbrev pub Comes : {A : Type 0} → (A → Type 0) → End A → Type 0
+Comes P (Done a) = P a
+Comes P Going = Unit {0}
+Comes P Wrong = ⊥
+
+-- what follows from P may stand in its place
+comes_weaken : {A : Type 0} (P Q : A → Type 0) (e : End A) → ((a : A) → P a → Q a) → Comes P e → Comes Q e
+comes_weaken P Q (Done a) f h = f a h
+comes_weaken P Q Going f h = h
+comes_weaken P Q Wrong f h = h
+
+comes_after : {A B : Type 0} (P : A → Type 0) (Q : B → Type 0) (l : Lines) (e : End A) (f : A → Out B) → Comes P e → ((a : A) → P a → Comes Q (f a).end) → Comes Q (after l e f).end
+comes_after P Q l (Done a) f h k = k a h
+comes_after P Q l Going f h k = tt
+comes_after P Q l Wrong f h k = absurd h
+
+pub comes_then : {A B : Type 0} (P : A → Type 0) (Q : B → Type 0) (o : Out A) (f : A → Out B) → Comes P o.end → ((a : A) → P a → Comes Q (f a).end) → Comes Q (then_do o f).end
+comes_then P Q o f h k = comes_after P Q o.lines o.end f h k
+
+-- it doesn't hold null
+abbrev pub NeverNull : Option ir.Value → Type 0
+NeverNull o = o ≡ Some ir.null → ⊥
+
+some_same : (v a : ir.Value) → ◌≡◌ {A = Option ir.Value} (Some v) (Some a) → v ≡ a
+some_same v a e = cc
+
+some_text : (c d : List ℕ) → ◌≡◌ {A = Option (List ℕ)} (Some c) (Some d) → c ≡ d
+some_text c d e = cc
+
+result-same : (t : IrType) (v : ir.Value) → is_no_type t ≡ false → ir_meaning.result_value t v ≡ v
+result-same NoType v h = impossible (sym h)
+result-same t v h = refl
+
+or_true : (b : Bool) → (b || true) ≡ true
+or_true true = refl
+or_true false = refl
+
+-- a method that is found has the namespace that it is looked for in
+namespace_among : (ds : List MethodDef) (n : Namespace) (m : MethodName) (d : MethodDef) → method_among ds n m ≡ Some d → d.namespace ≡ n
+namespace_among [] n m d e = impossible (cc)
+namespace_among (x ∷ xs) n m d e = go (is_same_namespace n x.namespace && is_same_method m x.name) refl e (namespace_among xs n m d)
+  where
+    go : (b : Bool) → (is_same_namespace n x.namespace && is_same_method m x.name) ≡ b → (if b then Some x else method_among xs n m) ≡ Some d → (method_among xs n m ≡ Some d → d.namespace ≡ n) → d.namespace ≡ n
+    go true k f later = let same : x ≡ d = cc in subst (λ (z : MethodDef). z.namespace ≡ n) same (sym (namespace-same n x.namespace (and_parts (is_same_namespace n x.namespace) (is_same_method m x.name) k).0))
+    go false k f later = later f
+
+namespace_found : (w : World) (c : List ℕ) (n : Namespace) (m : MethodName) (d : MethodDef) → member_of w c n m ≡ Some d → d.namespace ≡ n
+namespace_found w c n m d e = go (class_of w c) e
+  where
+    go : (o : Option ClassDef) → method_in o n m ≡ Some d → d.namespace ≡ n
+    go None k = impossible (cc)
+    go (Some k) f = namespace_among k.methods n m d f
+
+-- a static method runs on no object
+pub no_object : (n : Namespace) → IsStatic n → RunsOnObject n → ⊥
+no_object Namespace.PublicStatic h r = r
+no_object Namespace.PrivateStatic h r = r
+no_object _ h r = h
+
+numbers-same : (a b : ℕ) → (a == b) ≡ true → a ≡ b
+numbers-same a b e = grind arith
+
+numbers-equal : (a : ℕ) → (a == a) ≡ true
+numbers-equal a = grind arith
+
+-- what stays as it is while a body runs: its class and namespace, and its sure locals
+pub record Frame : Type 0 where
+  pub owner : List ℕ
+  pub space : Namespace
+  pub sure : List ℕ → Bool
+
+abbrev pub frame_of : Scene → Frame
+frame_of s = record { owner = s.owner; space = s.space; sure = s.sure }
+
+module _ (w : World) (law : IsSubtyping (IsSub w)) (has : Usable) where
+  -- what is typed by the classes of addresses
+  module _ (at : Classes) where
+    -- what a tree of the type gives: any value where it is none
+    abbrev pub GivesType : ir.Value → IrType → Type 0
+    GivesType v t = (t ≡ NoType) ⊎ HasType (IsSub w) law at v t
+
+    pub data HoldsType : Option ir.Value → IrType → Type 0 where
+      holds_type : (v : ir.Value) (t : IrType) → HasType (IsSub w) law at v t → HoldsType (Some v) t
+
+    -- a value of the class's type that isn't null
+    pub data HoldsObject : Option ir.Value → List ℕ → Type 0 where
+      holds_object : (v : ir.Value) (c : List ℕ) → HasType (IsSub w) law at v (class_type c) → (v ≡ ir.null → ⊥) → HoldsObject (Some v) c
+
+    -- each local in scope holds a value of its type, and a sure one isn't null; a method that runs on an object has one
+    pub record EnvTyped (f : Frame) (ds : List ParamDef) (env : ir.Env) : Type 0 where
+      pub holds : (x : List ℕ) (d : ParamDef) → local_of ds x ≡ Some d → HoldsType (env.locals x) d.tpe
+      pub full : HasReceivers has → (x : List ℕ) (d : ParamDef) → local_of ds x ≡ Some d → f.sure x ≡ true → NeverNull (env.locals x)
+      pub this : RunsOnObject f.space → HoldsObject env.this_value f.owner
+      pub sure : env.sure ≡ f.sure
+
+    -- an object of this class, each of whose fields that can be used holds a value of its type
+    pub data ObjectTyped (c : List ℕ) : Option ir.Stored → Type 0 where
+      typed_object : (fields : ir.Fields) → ((d f : List ℕ) (t : IrType) → list_any (is_same_text d) (chain_of w c) ≡ true → has.field d f t ≡ true → HoldsType (fields d f) t) → ObjectTyped c (Some (ir.object c fields))
+
+    -- an object of its class, which is made, stands at each address that has one
+    pub record HeapTyped (st : ir.State) : Type 0 where
+      pub objects : (i : ℕ) (c : List ℕ) → at i ≡ Some c → ObjectTyped c (slice_get st.heap i)
+      pub made : (i : ℕ) (c : List ℕ) → at i ≡ Some c → has.made c ≡ true
+
+    -- the locals in scope and the heap hold what they may
+    pub record Ready (f : Frame) (ds : List ParamDef) (env : ir.Env) (st : ir.State) : Type 0 where
+      pub locals : EnvTyped f ds env
+      pub heap : HeapTyped st
+
+    env-set : (f : Frame) (ds : List ParamDef) (d : ParamDef) (env : ir.Env) (v : ir.Value) → HasType (IsSub w) law at v d.tpe → (HasReceivers has → f.sure d.name ≡ true → v ≡ ir.null → ⊥) → EnvTyped f ds env → EnvTyped f (d ∷ ds) (ir_meaning.set_local d.name v env)
+    env-set f ds d env v i n h = record { holds = λ y c e. go y c (pointwise nat_eq y d.name) e; full = λ r y c e k. not r y c (pointwise nat_eq y d.name) refl e k; this = h.this; sure = h.sure }
+      where
+        go : (y : List ℕ) (c : ParamDef) (b : Bool) → (if b then Some d else local_of ds y) ≡ Some c → HoldsType (if b then Some v else env.locals y) c.tpe
+        go y c true k = let same : d ≡ c = cc in subst (λ (a : ParamDef). HoldsType (Some v) a.tpe) same (holds_type v d.tpe i)
+        go y c false k = h.holds y c k
+
+        not : HasReceivers has → (y : List ℕ) (c : ParamDef) (b : Bool) → pointwise nat_eq y d.name ≡ b → (if b then Some d else local_of ds y) ≡ Some c → f.sure y ≡ true → NeverNull (if b then Some v else env.locals y)
+        not r y c true q k s = λ e. n r (subst (λ (x : List ℕ). f.sure x ≡ true) (is-equal y d.name q) s) (some_same v ir.null e)
+        not r y c false q k s = h.full r y c k s
+
+    env-narrow : (f : Frame) (ds : List ParamDef) (d : ParamDef) (env : ir.Env) → (IsParameter ds d.name → ⊥) → EnvTyped f (d ∷ ds) env → EnvTyped f ds env
+    env-narrow f ds d env fresh h = record { holds = λ y c e. h.holds y c (ap (λ b. if b then Some d else local_of ds y) (other y c e (pointwise nat_eq y d.name) refl) ∙ e); full = λ r y c e k. h.full r y c (ap (λ b. if b then Some d else local_of ds y) (other y c e (pointwise nat_eq y d.name) refl) ∙ e) k; this = h.this; sure = h.sure }
+      where
+        other : (y : List ℕ) (c : ParamDef) → local_of ds y ≡ Some c → (b : Bool) → pointwise nat_eq y d.name ≡ b → pointwise nat_eq y d.name ≡ false
+        other y c e true i = absurd (fresh (subst (IsParameter ds) (is-equal y d.name i) (local-there ds y c e)))
+        other y c e false i = i
+
+    env-assign : (f : Frame) (ds : List ParamDef) (x : List ℕ) (d : ParamDef) (env : ir.Env) (v : ir.Value) → local_of ds x ≡ Some d → HasType (IsSub w) law at v d.tpe → (HasReceivers has → f.sure x ≡ true → v ≡ ir.null → ⊥) → EnvTyped f ds env → EnvTyped f ds (ir_meaning.set_local x v env)
+    env-assign f ds x d env v there i n h = record { holds = λ y c e. go y c e (pointwise nat_eq y x) refl; full = λ r y c e k. not r y c e k (pointwise nat_eq y x) refl; this = h.this; sure = h.sure }
+      where
+        same : (a b : ParamDef) → ◌≡◌ {A = Option ParamDef} (Some a) (Some b) → a ≡ b
+        same a b e = cc
+
+        go : (y : List ℕ) (c : ParamDef) → local_of ds y ≡ Some c → (b : Bool) → pointwise nat_eq y x ≡ b → HoldsType (if pointwise nat_eq y x then Some v else env.locals y) c.tpe
+        go y c e true j = subst (λ o. HoldsType o c.tpe) (sym (ap (λ (b : Bool). if b then Some v else env.locals y) j)) (subst (λ (a : ParamDef). HoldsType (Some v) a.tpe) (same d c (sym there ∙ ap (local_of ds) (sym (is-equal y x j)) ∙ e)) (holds_type v d.tpe i))
+        go y c e false j = subst (λ o. HoldsType o c.tpe) (sym (ap (λ (b : Bool). if b then Some v else env.locals y) j)) (h.holds y c e)
+
+        not : HasReceivers has → (y : List ℕ) (c : ParamDef) → local_of ds y ≡ Some c → f.sure y ≡ true → (b : Bool) → pointwise nat_eq y x ≡ b → NeverNull (if pointwise nat_eq y x then Some v else env.locals y)
+        not r y c e k true j = subst NeverNull (sym (ap (λ (b : Bool). if b then Some v else env.locals y) j)) (λ q. n r (subst (λ (z : List ℕ). f.sure z ≡ true) (is-equal y x j) k) (some_same v ir.null q))
+        not r y c e k false j = subst NeverNull (sym (ap (λ (b : Bool). if b then Some v else env.locals y) j)) (h.full r y c e k)
+
+    set-ready : (f : Frame) (ds : List ParamDef) (d : ParamDef) (env : ir.Env) (st : ir.State) (v : ir.Value) → HasType (IsSub w) law at v d.tpe → (HasReceivers has → f.sure d.name ≡ true → v ≡ ir.null → ⊥) → Ready f ds env st → Ready f (d ∷ ds) (ir_meaning.set_local d.name v env) st
+    set-ready f ds d env st v i n h = record { locals = env-set f ds d env v i n h.locals; heap = h.heap }
+
+    narrow-ready : (f : Frame) (ds : List ParamDef) (d : ParamDef) (env : ir.Env) (st : ir.State) → (IsParameter ds d.name → ⊥) → Ready f (d ∷ ds) env st → Ready f ds env st
+    narrow-ready f ds d env st fresh h = record { locals = env-narrow f ds d env fresh h.locals; heap = h.heap }
+
+    assign-ready : (f : Frame) (ds : List ParamDef) (x : List ℕ) (d : ParamDef) (env : ir.Env) (st : ir.State) (v : ir.Value) → local_of ds x ≡ Some d → HasType (IsSub w) law at v d.tpe → (HasReceivers has → f.sure x ≡ true → v ≡ ir.null → ⊥) → Ready f ds env st → Ready f ds (ir_meaning.set_local x v env) st
+    assign-ready f ds x d env st v there i n h = record { locals = env-assign f ds x d env v there i n h.locals; heap = h.heap }
+
+    gives-yield : (v : ir.Value) (e : Term) (t : IrType) → GivesType v (type_of_term e) → Yields w e t → GivesType v t
+    gives-yield v e t g (inl none) = inl none
+    gives-yield v e t (inl none) (inr f) = inl (law.from_none t (subst (λ s. IsSub w s t) none f.0))
+    gives-yield v e t (inr h) (inr f) = inr (wider (IsSub w) law at v (type_of_term e) t f.0 h)
+
+    operand-type : (v : ir.Value) (s t : IrType) → GivesType v s → IsSub w s t → (t ≡ NoType → ⊥) → HasType (IsSub w) law at v t
+    operand-type v s t (inl none) f n = absurd (n (law.from_none t (subst (λ a. IsSub w a t) none f)))
+    operand-type v s t (inr h) f n = wider (IsSub w) law at v s t f h
+
+    -- arguments and parameters
+    pub data ValuesFit : List ir.Value → List TypeRef → Type 0 where
+      none_left : ValuesFit [] []
+      one_fits : (v : ir.Value) (r : TypeRef) (vs : List ir.Value) (rs : List TypeRef) → HasType (IsSub w) law at v (reference_type r) → ValuesFit vs rs → ValuesFit (v ∷ vs) (r ∷ rs)
+
+    pub record Bound (ds : List ParamDef) (vs : List ir.Value) : Type 0 where
+      pub locals : ir.Locals
+      pub are : ir_meaning.parameters ds vs ≡ Some locals
+      pub hold : (x : List ℕ) (d : ParamDef) → local_of ds x ≡ Some d → HoldsType (locals x) d.tpe
+
+    one_bound : (d : ParamDef) (ds : List ParamDef) (v : ir.Value) (vs : List ir.Value) → HasType (IsSub w) law at v d.tpe → Bound ds vs → Bound (d ∷ ds) (v ∷ vs)
+    one_bound d ds v vs i h = record { locals = λ y. if pointwise nat_eq y d.name then Some v else h.locals y; are = ap (ir_meaning.holding d.name v) h.are; hold = λ y c e. go y c (pointwise nat_eq y d.name) e }
+      where
+        go : (y : List ℕ) (c : ParamDef) (b : Bool) → (if b then Some d else local_of ds y) ≡ Some c → HoldsType (if b then Some v else h.locals y) c.tpe
+        go y c true k = let same : d ≡ c = cc in subst (λ (a : ParamDef). HoldsType (Some v) a.tpe) same (holds_type v d.tpe i)
+        go y c false k = h.hold y c k
+
+    pub nothing_there : (x : List ℕ) (d : ParamDef) → ◌≡◌ {A = Option ParamDef} None (Some d) → HoldsType None d.tpe
+    nothing_there x d e = impossible (cc)
+
+    bound : (ds : List ParamDef) (rs : List TypeRef) (vs : List ir.Value) → HaveTypes ds rs → ValuesFit vs rs → Bound ds vs
+    bound [] _ _ h none_left = record { locals = λ x. None; are = refl; hold = nothing_there }
+    bound [] _ _ h (one_fits v r vs rs i rest) = absurd h
+    bound (d ∷ ds) _ _ h none_left = absurd h
+    bound (d ∷ ds) _ _ h (one_fits v r vs rs i rest) = one_bound d ds v vs (subst (HasType (IsSub w) law at v) (sym h.0) i) (bound ds rs vs h.1 rest)
+
+    result-type : (t : IrType) (v : ir.Value) → GivesType v t → GivesType (ir_meaning.result_value t v) t
+    result-type t v (inl none) = inl none
+    result-type t v (inr h) = go (is_no_type t) refl
+      where
+        is_none : (t : IrType) → is_no_type t ≡ true → t ≡ NoType
+        is_none NoType e = refl
+        is_none _ e = impossible e
+
+        go : (b : Bool) → is_no_type t ≡ b → GivesType (ir_meaning.result_value t v) t
+        go true e = inl (is_none t e)
+        go false e = subst (λ x. GivesType x t) (sym (result-same t v e)) (inr h)
+
+  -- what is typed goes on to be
+  holds-lift : (h k : Classes) → Adds h k → (o : Option ir.Value) (t : IrType) → HoldsType h o t → HoldsType k o t
+  holds-lift h k a _ _ (holds_type v t i) = holds_type v t (type-lift (IsSub w) law h k a v t i)
+
+  object-lift : (h k : Classes) → Adds h k → (o : Option ir.Value) (c : List ℕ) → HoldsObject h o c → HoldsObject k o c
+  object-lift h k a _ _ (holds_object v c i n) = holds_object v c (type-lift (IsSub w) law h k a v (class_type c) i) n
+
+  env-lift : (h k : Classes) → Adds h k → (f : Frame) (ds : List ParamDef) (env : ir.Env) → EnvTyped h f ds env → EnvTyped k f ds env
+  env-lift h k a f ds env e = record { holds = λ x d i. holds-lift h k a (env.locals x) d.tpe (e.holds x d i); full = e.full; this = λ r. object-lift h k a env.this_value f.owner (e.this r); sure = e.sure }
+
+  gives-lift : (h k : Classes) → Adds h k → (v : ir.Value) (t : IrType) → GivesType h v t → GivesType k v t
+  gives-lift h k a v t (inl none) = inl none
+  gives-lift h k a v t (inr i) = inr (type-lift (IsSub w) law h k a v t i)
+
+  -- a tree gives a value of its type, leaves with one of the label's, or throws one; by then there may be more objects
+  pub data CameRight (at : Classes) (s : Scene) (inner : List ParamDef) (t : IrType) : ir.Ended → Type 0 where
+    gave : (k : Classes) (v : ir.Value) (env : ir.Env) (st : ir.State) → Adds at k → GivesType k v t → Ready k (frame_of s) inner env st → CameRight at s inner t (ir.ends (ir.gives v) env st)
+    left : (k : Classes) (l : List ℕ) (v : ir.Value) (env : ir.Env) (st : ir.State) (r : IrType) → Adds at k → type_of_label s.labels l ≡ Some r → GivesType k v r → Ready k (frame_of s) s.locals env st → CameRight at s inner t (ir.ends (ir.leaves l v) env st)
+    threw : (k : Classes) (v : ir.Value) (env : ir.Env) (st : ir.State) → Adds at k → HasType (IsSub w) law k v Any → Ready k (frame_of s) s.locals env st → CameRight at s inner t (ir.ends (ir.throws v) env st)
+
+  came-rebase : (h k : Classes) → Adds h k → (s : Scene) (inner : List ParamDef) (t : IrType) (a : ir.Ended) → CameRight k s inner t a → CameRight h s inner t a
+  came-rebase h k b s inner t _ (gave y v env st a g i) = gave y v env st (adds-trans h k y b a) g i
+  came-rebase h k b s inner t _ (left y l v env st r a i g e) = left y l v env st r (adds-trans h k y b a) i g e
+  came-rebase h k b s inner t _ (threw y v env st a i e) = threw y v env st (adds-trans h k y b a) i e
+
+  rebased : (h k : Classes) → Adds h k → (s : Scene) (inner : List ParamDef) (t : IrType) (e : End ir.Ended) → Comes (CameRight k s inner t) e → Comes (CameRight h s inner t) e
+  rebased h k b s inner t e = comes_weaken (CameRight k s inner t) (CameRight h s inner t) e (came-rebase h k b s inner t)
+
+  -- what goes on behind a tree, with the classes that there are by then
+  go_on_right : (at : Classes) (s : Scene) (inner : List ParamDef) (t : IrType) (outer : List ParamDef) (q : IrType) (o : Out ir.Ended) (f : ir.Value → ir.Run) → Comes (CameRight at s inner t) o.end → ((k : Classes) → Adds at k → (v : ir.Value) (env : ir.Env) (st : ir.State) → GivesType k v t → Ready k (frame_of s) inner env st → Comes (CameRight k s outer q) (f v env st).end) → Comes (CameRight at s outer q) (ir.go_on o f).end
+  go_on_right at s inner t outer q o f h on = comes_then (CameRight at s inner t) (CameRight at s outer q) o (ir.onward f) h each
+    where
+      each : (a : ir.Ended) → CameRight at s inner t a → Comes (CameRight at s outer q) (ir.onward f a).end
+      each _ (gave k v env st a g e) = rebased at k a s outer q (f v env st).end (on k a v env st g e)
+      each _ (left k l v env st r a i g e) = left k l v env st r a i g e
+      each _ (threw k v env st a i e) = threw k v env st a i e
+
+  abbrev Right : Classes → Scene → IrType → Out ir.Ended → Type 0
+  Right at s t o = Comes (CameRight at s s.locals t) o.end
+
+  -- one operand, and what is done with its value
+  one_right : (at : Classes) (s : Scene) (inner : List ParamDef) (q t : IrType) (r : ir.Run) (act : List ir.Value → ir.Run) (env : ir.Env) (st : ir.State) → Right at s q (r env st) → ((k : Classes) → Adds at k → (v : ir.Value) (env : ir.Env) (st : ir.State) → GivesType k v q → Ready k (frame_of s) s.locals env st → Comes (CameRight k s inner t) (act (v ∷ []) env st).end) → Comes (CameRight at s inner t) (ir_meaning.in_order (r ∷ []) act env st).end
+  one_right at s inner q t r act env st h on = go_on_right at s s.locals q inner t (r env st) (λ v. ir_meaning.in_order [] (λ vs. act (v ∷ vs))) h on
+
+  -- a value that is there
+  here : (at : Classes) (s : Scene) (inner : List ParamDef) (t : IrType) (v : ir.Value) (env : ir.Env) (st : ir.State) → GivesType at v t → Ready at (frame_of s) inner env st → CameRight at s inner t (ir.ends (ir.gives v) env st)
+  here at s inner t v env st g e = gave at v env st (adds-refl at) g e
+
+  value_right : (at : Classes) (low : ir_meaning.Low) (s : Scene) (t : IrType) (o : Answer) (env : ir.Env) (st : ir.State) → Gives (IsSub w) law at t o → Ready at (frame_of s) s.locals env st → Right at s t (ir_meaning.answered w low o env st)
+  value_right at low s t _ env st (some_of v h) e = here at s s.locals t v env st (inr h) e
+
+  local_right : (at : Classes) (s : Scene) (t : IrType) (o : Option ir.Value) (env : ir.Env) (st : ir.State) → HoldsType at o t → Ready at (frame_of s) s.locals env st → Right at s t (ir_meaning.local_value o env st)
+  local_right at s t _ env st (holds_type v _ h) e = here at s s.locals t v env st (inr h) e
+
+  branch_right : (at : Classes) (s : Scene) (t : IrType) (first second : ir.Run) (v : ir.Value) (env : ir.Env) (st : ir.State) → IsBoolean v → Right at s t (first env st) → Right at s t (second env st) → Right at s t (ir_meaning.branch first second (v ∷ []) env st)
+  branch_right at s t first second _ env st (a_boolean true) h k = h
+  branch_right at s t first second _ env st (a_boolean false) h k = k
+
+  yields-right : (at : Classes) (s : Scene) (inner : List ParamDef) (e : Term) (t : IrType) (a : End ir.Ended) → Yields w e t → Comes (CameRight at s inner (type_of_term e)) a → Comes (CameRight at s inner t) a
+  yields-right at s inner e t a y = comes_weaken (CameRight at s inner (type_of_term e)) (CameRight at s inner t) a each
+    where
+      each : (a : ir.Ended) → CameRight at s inner (type_of_term e) a → CameRight at s inner t a
+      each _ (gave k v env st b g i) = gave k v env st b (gives-yield k v e t g y) i
+      each _ (left k l v env st r b i g j) = left k l v env st r b i g j
+      each _ (threw k v env st b i j) = threw k v env st b i j
+
+  narrow-right : (at : Classes) (s : Scene) (d : ParamDef) (t : IrType) (a : End ir.Ended) → (IsParameter s.locals d.name → ⊥) → Comes (CameRight at s (d ∷ s.locals) t) a → Comes (CameRight at s s.locals t) a
+  narrow-right at s d t a fresh = comes_weaken (CameRight at s (d ∷ s.locals) t) (CameRight at s s.locals t) a each
+    where
+      each : (a : ir.Ended) → CameRight at s (d ∷ s.locals) t a → CameRight at s s.locals t a
+      each _ (gave k v env st b g i) = gave k v env st b g (narrow-ready k (frame_of s) s.locals d env st fresh i)
+      each _ (left k l v env st r b i g j) = left k l v env st r b i g j
+      each _ (threw k v env st b i j) = threw k v env st b i j
+
+  abbrev with_local : ParamDef → Scene → Scene
+  with_local d s = record { owner = s.owner; space = s.space; sure = s.sure; locals = d ∷ s.locals; labels = s.labels }
+
+  leave-right : (at : Classes) (s : Scene) (d : ParamDef) (t : IrType) (a : End ir.Ended) → (IsParameter s.locals d.name → ⊥) → Comes (CameRight at (with_local d s) (d ∷ s.locals) t) a → Comes (CameRight at s s.locals t) a
+  leave-right at s d t a fresh = comes_weaken (CameRight at (with_local d s) (d ∷ s.locals) t) (CameRight at s s.locals t) a each
+    where
+      each : (a : ir.Ended) → CameRight at (with_local d s) (d ∷ s.locals) t a → CameRight at s s.locals t a
+      each _ (gave k v env st b g i) = gave k v env st b g (narrow-ready k (frame_of s) s.locals d env st fresh i)
+      each _ (left k l v env st r b i g j) = left k l v env st r b i g (narrow-ready k (frame_of s) s.locals d env st fresh j)
+      each _ (threw k v env st b i j) = threw k v env st b i (narrow-ready k (frame_of s) s.locals d env st fresh j)
+
+  -- a label is reached
+  arrives-right : (at : Classes) (s : Scene) (l : List ℕ) (e : Term) (t : IrType) → Yields w e t → (a : ir.Ended) → CameRight at (in_label l t s) s.locals (type_of_term e) a → Right at s t (ir_meaning.arrive l a)
+  arrives-right at s l e t y _ (gave k v env st b g i) = gave k v env st b (gives-yield k v e t g y) i
+  arrives-right at s l e t y _ (threw k v env st b i j) = threw k v env st b i j
+  arrives-right at s l e t y _ (left k m v env st r b i g j) = go (pointwise nat_eq m l) (sym (type_inside l t s.labels m) ∙ i)
+    where
+      go : (q : Bool) → (if q then Some t else type_of_label s.labels m) ≡ Some r → Right at s t (if q then ir.given v env st else record { lines = []; end = Done (ir.ends (ir.leaves m v) env st) })
+      go true e = let same : t ≡ r = cc in gave k v env st b (subst (GivesType k v) (sym same) g) j
+      go false e = left k m v env st r b e g j
+
+  -- a turn of a loop: its body, or that it stops
+  data Turned (at : Classes) (s : Scene) (t : IrType) : ir.Ended → Type 0 where
+    turned : (k : Classes) (v : ir.Value) (env : ir.Env) (st : ir.State) → Adds at k → Ready k (frame_of s) s.locals env st → Turned at s t (ir.ends (ir.gives v) env st)
+    turned_away : (k : Classes) (l : List ℕ) (v : ir.Value) (env : ir.Env) (st : ir.State) (r : IrType) → Adds at k → type_of_label s.labels l ≡ Some r → GivesType k v r → Ready k (frame_of s) s.locals env st → Turned at s t (ir.ends (ir.leaves l v) env st)
+    turned_thrown : (k : Classes) (v : ir.Value) (env : ir.Env) (st : ir.State) → Adds at k → HasType (IsSub w) law k v Any → Ready k (frame_of s) s.locals env st → Turned at s t (ir.ends (ir.throws v) env st)
+    ended : (k : Classes) (env : ir.Env) (st : ir.State) → Adds at k → t ≡ NoType → Ready k (frame_of s) s.locals env st → Turned at s t (ir.ends ir.stops env st)
+
+  turned-rebase : (h k : Classes) → Adds h k → (s : Scene) (t : IrType) (a : ir.Ended) → Turned k s t a → Turned h s t a
+  turned-rebase h k b s t _ (turned y v env st a e) = turned y v env st (adds-trans h k y b a) e
+  turned-rebase h k b s t _ (turned_away y l v env st r a i g e) = turned_away y l v env st r (adds-trans h k y b a) i g e
+  turned-rebase h k b s t _ (turned_thrown y v env st a i e) = turned_thrown y v env st (adds-trans h k y b a) i e
+  turned-rebase h k b s t _ (ended y env st a i e) = ended y env st (adds-trans h k y b a) i e
+
+  -- what goes on behind a tree inside a turn
+  go_on_turn : (at : Classes) (s : Scene) (t q : IrType) (o : Out ir.Ended) (f : ir.Value → ir.Run) → Right at s t o → ((k : Classes) → Adds at k → (v : ir.Value) (env : ir.Env) (st : ir.State) → GivesType k v t → Ready k (frame_of s) s.locals env st → Comes (Turned k s q) (f v env st).end) → Comes (Turned at s q) (ir.go_on o f).end
+  go_on_turn at s t q o f h on = comes_then (CameRight at s s.locals t) (Turned at s q) o (ir.onward f) h each
+    where
+      each : (a : ir.Ended) → CameRight at s s.locals t a → Comes (Turned at s q) (ir.onward f a).end
+      each _ (gave k v env st a g e) = comes_weaken (Turned k s q) (Turned at s q) (f v env st).end (turned-rebase at k a s q) (on k a v env st g e)
+      each _ (left k l v env st r a i g e) = turned_away k l v env st r a i g e
+      each _ (threw k v env st a i e) = turned_thrown k v env st a i e
+
+  turn_right : (at : Classes) (s : Scene) (t : IrType) (next : ir.Run) → ((k : Classes) (env : ir.Env) (st : ir.State) → Ready k (frame_of s) s.locals env st → Right k s t (next env st)) → (a : ir.Ended) → Turned at s t a → Right at s t (ir_meaning.after_turn next a)
+  turn_right at s t next h _ (turned k v env st a e) = rebased at k a s s.locals t (next env st).end (h k env st e)
+  turn_right at s t next h _ (turned_away k l v env st r a i g e) = left k l v env st r a i g e
+  turn_right at s t next h _ (turned_thrown k v env st a i e) = threw k v env st a i e
+  turn_right at s t next h _ (ended k env st a i e) = gave k ir.undefined env st a (inl i) e
+
+  as_turn : (at : Classes) (s : Scene) (q t : IrType) (a : End ir.Ended) → Comes (CameRight at s s.locals q) a → Comes (Turned at s t) a
+  as_turn at s q t a = comes_weaken (CameRight at s s.locals q) (Turned at s t) a each
+    where
+      each : (a : ir.Ended) → CameRight at s s.locals q a → Turned at s t a
+      each _ (gave k v env st b g e) = turned k v env st b e
+      each _ (left k l v env st r b i g e) = turned_away k l v env st r b i g e
+      each _ (threw k v env st b i e) = turned_thrown k v env st b i e
+
+  test_right : (at : Classes) (s : Scene) (t : IrType) (first : ir.Run) (v : ir.Value) (env : ir.Env) (st : ir.State) → t ≡ NoType → IsBoolean v → Ready at (frame_of s) s.locals env st → Comes (Turned at s t) (first env st).end → Comes (Turned at s t) (ir_meaning.branch first (λ env s. record { lines = []; end = Done (ir.ends ir.stops env s) }) (v ∷ []) env st).end
+  test_right at s t first _ env st none (a_boolean true) e h = h
+  test_right at s t first _ env st none (a_boolean false) e h = ended at env st (adds-refl at) none e
+
+  abbrev pub Fresh : Scene → (List ℕ → Type 0) → Type 0
+  Fresh s own = (x : List ℕ) → own x → IsParameter s.locals x → ⊥
+
+  -- the locals in scope have types with values, and where there are receivers none that is sure is mutable
+  pub record InScope (f : Frame) (ds : List ParamDef) : Type 0 where
+    pub values : HaveValues ds
+    pub fixed : HasReceivers has → (x : List ℕ) (d : ParamDef) → local_of ds x ≡ Some d → f.sure x ≡ true → d.«mutable» ≡ false
+
+  scope-behind : (f : Frame) (ds : List ParamDef) (d : ParamDef) → InScope f ds → HasValue d.tpe → (HasReceivers has → f.sure d.name ≡ true → d.«mutable» ≡ false) → InScope f (d ∷ ds)
+  scope-behind f ds d v h n = record { values = values-behind ds d v.values h; fixed = λ r y c e k. go r y c (pointwise nat_eq y d.name) refl e k }
+    where
+      go : HasReceivers has → (y : List ℕ) (c : ParamDef) (b : Bool) → pointwise nat_eq y d.name ≡ b → (if b then Some d else local_of ds y) ≡ Some c → f.sure y ≡ true → c.«mutable» ≡ false
+      go r y c true q e k = let same : d ≡ c = cc in subst (λ (a : ParamDef). a.«mutable» ≡ false) same (n r (subst (λ (z : List ℕ). f.sure z ≡ true) (is-equal y d.name q) k))
+      go r y c false q e k = v.fixed r y c e k
+
+  -- where there are receivers, what makes a sure local is never null
+  abbrev pub Sures : Scene → List Definition → Type 0
+  Sures s ds = HasReceivers has → Sured s.sure ds
+
+  -- there are receivers, and the local is sure
+  abbrev SureHere : Scene → List ℕ → Type 0
+  SureHere s x = HasReceivers has × (s.sure x ≡ true)
+
+  sures-parts : (s : Scene) (xs ys : List Definition) → Sures s (xs ++ ys) → Sures s xs × Sures s ys
+  sures-parts s xs ys h = ((λ r. (sured-parts s.sure xs ys (h r)).0), (λ r. (sured-parts s.sure xs ys (h r)).1))
+
+  -- the level below is right
+  abbrev pub LowRight : ir_meaning.Low → Type 0
+  LowRight low = (t : Term) (s : Scene) → InScope (frame_of s) s.locals → Typed w has s t → Fresh s (Own t) → Sures s (definitions t) → (at : Classes) (env : ir.Env) (st : ir.State) → Ready at (frame_of s) s.locals env st → Right at s (type_of_term t) (low t env st)
+
+  pub no_label : {A : Type 0} (l : List ℕ) (r : IrType) → ◌≡◌ {A = Option IrType} None (Some r) → A
+  no_label l r e = impossible (cc)
+
+  pub call_right : ObjectLaws w has → (low : ir_meaning.Low) → LowRight low → (m : Member) → RightMember w has m → (s : Scene) (t : IrType) → t ≡ call_type m.method.result → (at : Classes) (vs : List ir.Value) → ValuesFit at vs m.method.params → (this : Option ir.Value) → (RunsOnObject m.namespace → HoldsObject at this m.class) → (env : ir.Env) (st : ir.State) → Ready at (frame_of s) s.locals env st → Right at s t (ir_meaning.call low (member_of w m.class m.namespace m.method) this vs env st)
+  call_right laws low right m l s t is at vs fit this object env st e = subst (λ o. Right at s t o) (sym called) (comes_then (CameRight at scene l.definition.params l.definition.result) (CameRight at s s.locals t) (low l.its_body inner st) (ir_meaning.returned l.definition.result env) (yields-right at scene l.definition.params l.its_body l.definition.result (low l.its_body inner st).end yielded (right l.its_body scene scope l.rules.typed l.rules.once.fresh (λ r. body-sured l.its_body (names r).once) at inner st (record { locals = record { holds = b.hold; full = λ r x d i k. absurd (unsure r x d i k); this = λ r. object (subst RunsOnObject (namespace_found w m.class m.namespace m.method l.definition l.found) r); sure = refl }; heap = e.heap }))) back)
+    where
+      scene : Scene
+      scene = scene_of m.class l.definition l.its_body
+
+      names : HasReceivers has → NamesOnce l.definition l.its_body
+      names r = laws.once r m l.definition l.its_body l.found l.has_body
+
+      -- no parameter is sure
+      unsure : HasReceivers has → (x : List ℕ) (d : ParamDef) → local_of l.definition.params x ≡ Some d → sure_locals l.its_body x ≡ true → ⊥
+      unsure r x d i k = (names r).fresh x (sure-named l.its_body x k) (local-there l.definition.params x d i)
+
+      scope : InScope (frame_of scene) l.definition.params
+      scope = record { values = l.rules.values; fixed = λ r x d i k. absurd (unsure r x d i k) }
+
+      yielded : Yields w l.its_body l.definition.result
+      yielded = yields_there w l.its_body l.definition.result l.rules.unboxed l.rules.yields
+
+      b : Bound at l.definition.params vs
+      b = bound at l.definition.params m.method.params vs l.parameters fit
+
+      inner : ir.Env
+      inner = record { this_value = this; locals = b.locals; sure = sure_locals l.its_body }
+
+      called : ir_meaning.call low (member_of w m.class m.namespace m.method) this vs env st ≡ then_do (low l.its_body inner st) (ir_meaning.returned l.definition.result env)
+      called = ap (λ o. ir_meaning.call low o this vs env st) l.found ∙ ap (λ o. ir_meaning.body_call low l.definition.result o this (ir_meaning.parameters l.definition.params vs) env st) l.has_body ∙ ap (λ o. ir_meaning.body_call low l.definition.result (Some l.its_body) this o env st) b.are
+
+      -- the locals of the caller are there again
+      again : (k : Classes) (st : ir.State) → Adds at k → HeapTyped k st → Ready k (frame_of s) s.locals env st
+      again k st a heap = record { locals = env-lift at k a (frame_of s) s.locals env e.locals; heap = heap }
+
+      back : (a : ir.Ended) → CameRight at scene l.definition.params l.definition.result a → Right at s t (ir_meaning.returned l.definition.result env a)
+      back _ (gave k v en st a g i) = gave k (ir_meaning.result_value l.definition.result v) env st a (subst (GivesType k (ir_meaning.result_value l.definition.result v)) (l.result_is ∙ sym is) (result-type k l.definition.result v g)) (again k st a i.heap)
+      back _ (left k q v en st r a i g j) = no_label q r i
+      back _ (threw k v en st a i j) = threw k v env st a i (again k st a j.heap)
+
+  -- zeros are of the types of their fields
+  zero_type : (at : Classes) (t : IrType) → HasValue t → HasType (IsSub w) law at (zero_of t) t
+  zero_type at Any h = has_type Null of_null (to_any refl (λ e. cc))
+  zero_type at Undefined h = has_type Undefined of_undefined (law.same Undefined)
+  zero_type at Boolean h = has_type Boolean (of_boolean false) (law.same Boolean)
+  zero_type at Char h = has_type Char (of_char 0) (law.same Char)
+  zero_type at Byte h = has_type Byte (of_byte (pos 0)) (law.same Byte)
+  zero_type at Short h = has_type Short (of_short (pos 0)) (law.same Short)
+  zero_type at Int h = has_type Int (of_int (pos 0)) (law.same Int)
+  zero_type at Long h = has_type Long (of_long (pos 0)) (law.same Long)
+  zero_type at String h = has_type String (of_text []) (law.same String)
+  zero_type at (Class c) h = has_type Null of_null (null_to_class c refl refl)
+  zero_type at Null h = has_type Null of_null (law.same Null)
+  zero_type at (Array r) h = has_type Null of_null (null_to_array r refl refl)
+  zero_type at Nothing h = impossible (sym h)
+  zero_type at NoType h = impossible (sym h)
+
+  class_any : (c : List ℕ) → IsSub w (class_type c) Any
+  class_any c = to_any refl (λ e. impossible (sym (class_has_value c) ∙ ap has_no_value e))
+
+  -- arguments go on to fit
+  fit-lift : (h k : Classes) → Adds h k → (vs : List ir.Value) (rs : List TypeRef) → ValuesFit h vs rs → ValuesFit k vs rs
+  fit-lift h k a _ _ none_left = none_left
+  fit-lift h k a _ _ (one_fits v r vs rs i rest) = one_fits v r vs rs (type-lift (IsSub w) law h k a v (reference_type r) i) (fit-lift h k a vs rs rest)
+
+  -- what is asked of the forms on receivers
+  new_parts : (c : List ℕ) (m : MethodName) (ts : Terms) → (has.made c && (has.built (member c Constructor m) && not (any_is_boxed m.params ts))) ≡ true → (has.made c ≡ true) × ((has.built (member c Constructor m) && not (any_is_boxed m.params ts)) ≡ true)
+  new_parts c m ts h = and_parts (has.made c) (has.built (member c Constructor m) && not (any_is_boxed m.params ts)) h
+
+  private_parts : (e : Term) (c : List ℕ) (m : MethodName) (ts : Terms) (s : Scene) → (has.received (member c Namespace.Private m) && (may_check has s.sure e && (not (is_boxed Any e) && not (any_is_boxed m.params ts)))) ≡ true → (has.received (member c Namespace.Private m) ≡ true) × (may_check has s.sure e ≡ true) × (not (any_is_boxed m.params ts) ≡ true)
+  private_parts e c m ts s h =
+      let first = and_parts (has.received (member c Namespace.Private m)) (may_check has s.sure e && (not (is_boxed Any e) && not (any_is_boxed m.params ts))) h in
+      let second = and_parts (may_check has s.sure e) (not (is_boxed Any e) && not (any_is_boxed m.params ts)) first.1 in
+      (first.0, second.0, (and_parts (not (is_boxed Any e)) (not (any_is_boxed m.params ts)) second.1).1)
+
+  constructor_parts : (c : List ℕ) (m : MethodName) (ts : Terms) (t : IrType) → (has.built (member c Constructor m) && (is_no_type t && not (any_is_boxed m.params ts))) ≡ true → (has.built (member c Constructor m) ≡ true) × (not (any_is_boxed m.params ts) ≡ true)
+  constructor_parts c m ts t h = let first = and_parts (has.built (member c Constructor m)) (is_no_type t && not (any_is_boxed m.params ts)) h in (first.0, (and_parts (is_no_type t) (not (any_is_boxed m.params ts)) first.1).1)
+
+  check_there : (e : Term) (s : Scene) → may_check has s.sure e ≡ true → is_sure s.sure e ≡ false → has.helper check_name ≡ true
+  check_there e s h k = go (is_sure s.sure e) (and_parts (not (has_no_value (type_of_term e))) (is_sure s.sure e || has.helper check_name) h).1 k
+    where
+      go : (b : Bool) → (b || has.helper check_name) ≡ true → b ≡ false → has.helper check_name ≡ true
+      go true q k = impossible (sym k)
+      go false q k = q
+
+  -- the class of one more address
+  abbrev with_class : ℕ → List ℕ → Classes → Classes
+  with_class a c at i = if i == a then Some c else at i
+
+  module _ (laws : ObjectLaws w has) (at : Classes) (c : List ℕ) (is_made : has.made c ≡ true) (st : ir.State) (heap : HeapTyped at st) where
+    abbrev there : ℕ
+    there = ir.next_address st
+
+    abbrev wider_classes : Classes
+    wider_classes = with_class there c at
+
+    abbrev born : ir.State
+    born = ir.with_stored (ir.object c (new_fields w c)) st
+
+    past : (d : List ℕ) (q : Option ir.Stored) → slice_get st.heap there ≡ q → ObjectTyped at d q → ⊥
+    past d _ e (typed_object fields h) = not-past st.heap (ir.object d fields) e
+
+    unused : (d : List ℕ) → at there ≡ Some d → ⊥
+    unused d e = past d (slice_get st.heap there) refl (heap.objects there d e)
+
+    adds_one : Adds at wider_classes
+    adds_one = record { keeps = λ i d e. go i d e (i == there) refl }
+      where
+        go : (i : ℕ) (d : List ℕ) → at i ≡ Some d → (b : Bool) → (i == there) ≡ b → (if i == there then Some c else at i) ≡ Some d
+        go i d e true k = absurd (unused d (subst (λ (j : ℕ). at j ≡ Some d) (numbers-same i there k) e))
+        go i d e false k = ap (λ (b : Bool). if b then Some c else at i) k ∙ e
+
+    class_there : wider_classes there ≡ Some c
+    class_there = ap (λ (b : Bool). if b then Some c else at there) (numbers-equal there)
+
+    zeros : (d f : List ℕ) (t : IrType) → list_any (is_same_text d) (chain_of w c) ≡ true → has.field d f t ≡ true → HoldsType wider_classes (new_fields w c d f) t
+    zeros d f t k is = let known = laws.fields d f t is in subst (λ (o : Option ir.Value). HoldsType wider_classes o t) (sym (ap (λ (b : Bool). if b then zeros_in (class_of w d) f else None) k ∙ known.1)) (holds_type (zero_of t) t (zero_type wider_classes t known.0))
+
+    still : (i : ℕ) (d : List ℕ) (q : Option ir.Stored) → slice_get st.heap i ≡ q → ObjectTyped at d q → ObjectTyped wider_classes d (slice_get born.heap i)
+    still i d _ e (typed_object fields h) = subst (ObjectTyped wider_classes d) (sym (get-front st.heap (ir.object c (new_fields w c) ∷ []) i (ir.object d fields) e)) (typed_object fields (λ b f t k is. holds-lift at wider_classes adds_one (fields b f) t (h b f t k is)))
+
+    born_typed : HeapTyped wider_classes born
+    born_typed = record { objects = λ i d e. go i d (i == there) refl e; made = λ i d e. made i d (i == there) e }
+      where
+        go : (i : ℕ) (d : List ℕ) (b : Bool) → (i == there) ≡ b → (if b then Some c else at i) ≡ Some d → ObjectTyped wider_classes d (slice_get born.heap i)
+        go i d true k e = let same : c ≡ d = cc in subst (λ (j : ℕ). ObjectTyped wider_classes d (slice_get born.heap j)) (sym (numbers-same i there k)) (subst (ObjectTyped wider_classes d) (sym (get-end st.heap (ir.object c (new_fields w c)))) (subst (λ (n : List ℕ). ObjectTyped wider_classes n (Some (ir.object c (new_fields w c)))) same (typed_object (new_fields w c) zeros)))
+        go i d false k e = still i d (slice_get st.heap i) refl (heap.objects i d e)
+
+        made : (i : ℕ) (d : List ℕ) (b : Bool) → (if b then Some c else at i) ≡ Some d → has.made d ≡ true
+        made i d true e = let same : c ≡ d = cc in subst (λ (n : List ℕ). has.made n ≡ true) same is_made
+        made i d false e = heap.made i d e
+
+  -- an object at its address whose field holds another value
+  module _ (laws : ObjectLaws w has) (at : Classes) (st : ir.State) (heap : HeapTyped at st) (a : ℕ) (d : List ℕ) (known : at a ≡ Some d) (fields : ir.Fields) (stands : slice_get st.heap a ≡ Some (ir.object d fields)) (typed : (b g : List ℕ) (u : IrType) → list_any (is_same_text b) (chain_of w d) ≡ true → has.field b g u ≡ true → HoldsType at (fields b g) u) (c f : List ℕ) (t : IrType) (field : has.field c f t ≡ true) (v : ir.Value) (its : HasType (IsSub w) law at v t) where
+    fields_typed : (b g : List ℕ) (u : IrType) → list_any (is_same_text b) (chain_of w d) ≡ true → has.field b g u ≡ true → HoldsType at (ir.with_field c f v fields b g) u
+    fields_typed b g u k is = go (is_same_text b c && is_same_text g f) refl
+      where
+        go : (q : Bool) → (is_same_text b c && is_same_text g f) ≡ q → HoldsType at (if q then Some v else fields b g) u
+        go true e =
+            let parts = and_parts (is_same_text b c) (is_same_text g f) e in
+            let one : has.field c g u ≡ true = subst (λ (n : List ℕ). has.field n g u ≡ true) (text-same b c parts.0) is in
+            let two : has.field c f u ≡ true = subst (λ (n : List ℕ). has.field c n u ≡ true) (text-same g f parts.1) one in
+            holds_type v u (subst (HasType (IsSub w) law at v) (laws.one_type c f t u field two) its)
+        go false e = typed b g u k is
+
+    pub written : HeapTyped at (ir.at_address a (ir.object d (ir.with_field c f v fields)) st)
+    written = record { objects = λ j e k. go j e (j == a) refl k; made = heap.made }
+      where
+        other : (j : ℕ) → (j == a) ≡ false → j ≡ a → ⊥
+        other j k e = impossible (sym k ∙ subst (λ (n : ℕ). (n == a) ≡ true) (sym e) (numbers-equal a))
+
+        go : (j : ℕ) (e : List ℕ) (b : Bool) → (j == a) ≡ b → at j ≡ Some e → ObjectTyped at e (slice_get (set st.heap a (ir.object d (ir.with_field c f v fields))) j)
+        go j e true k is = let same : j ≡ a = numbers-same j a k in let class : d ≡ e = some_text d e (sym known ∙ ap at (sym same) ∙ is) in subst (λ (n : ℕ). ObjectTyped at e (slice_get (set st.heap a (ir.object d (ir.with_field c f v fields))) n)) (sym same) (subst (ObjectTyped at e) (sym (get-set st.heap a (ir.object d fields) (ir.object d (ir.with_field c f v fields)) stands)) (subst (λ (n : List ℕ). ObjectTyped at n (Some (ir.object d (ir.with_field c f v fields)))) class (typed_object (ir.with_field c f v fields) fields_typed)))
+        go j e false k is = subst (ObjectTyped at e) (sym (get-set_other st.heap j a (ir.object d (ir.with_field c f v fields)) (other j k))) (heap.objects j e is)
+
+  class_below : (c : List ℕ) → IsSub w (Class c) (class_type c)
+  class_below c = go (is_same_text c (codes "java.lang.Object"))
+    where
+      go : (b : Bool) → IsSub w (Class c) (if b then Any else Class c)
+      go true = to_any refl (λ e. cc)
+      go false = law.same (Class c)
+
+  -- what a value is, where a tree gives one
+  abbrev pub Only : (ir.Value → Type 0) → ir.Ended → Type 0
+  Only Q (ir.ends (ir.gives v) env st) = Q v
+  Only Q _ = Unit {0}
+
+  abbrev pub Perhaps : (ir.Value → Type 0) → End ir.Ended → Type 0
+  Perhaps Q (Done a) = Only Q a
+  Perhaps Q _ = Unit {0}
+
+  abbrev Full : ir.Value → Type 0
+  Full v = v ≡ ir.null → ⊥
+
+  both_come : (Q : ir.Value → Type 0) (P : ir.Ended → Type 0) (e : End ir.Ended) → Comes P e → Perhaps Q e → Comes (λ a. P a × Only Q a) e
+  both_come Q P (Done a) h k = (h, k)
+  both_come Q P Going h k = tt
+  both_come Q P Wrong h k = h
+
+  if_only : (P : Type 0) (e : End ir.Ended) → (P → Perhaps Full e) → Perhaps (λ v. P → Full v) e
+  if_only P (Done (ir.ends (ir.gives v) env st)) h = h
+  if_only P (Done (ir.ends (ir.throws v) env st)) h = tt
+  if_only P (Done (ir.ends (ir.leaves l v) env st)) h = tt
+  if_only P (Done (ir.ends ir.stops env st)) h = tt
+  if_only P Going h = tt
+  if_only P Wrong h = tt
+
+  after_only : (Q : ir.Value → Type 0) (l : Lines) (e : End ir.Ended) (f : ir.Value → ir.Run) → ((v : ir.Value) (env : ir.Env) (st : ir.State) → Perhaps Q (f v env st).end) → Perhaps Q (after l e (ir.onward f)).end
+  after_only Q l (Done (ir.ends (ir.gives v) env st)) f h = h v env st
+  after_only Q l (Done (ir.ends (ir.throws v) env st)) f h = tt
+  after_only Q l (Done (ir.ends (ir.leaves m v) env st)) f h = tt
+  after_only Q l (Done (ir.ends ir.stops env st)) f h = tt
+  after_only Q l Going f h = tt
+  after_only Q l Wrong f h = tt
+
+  go_on_only : (Q : ir.Value → Type 0) (o : Out ir.Ended) (f : ir.Value → ir.Run) → ((v : ir.Value) (env : ir.Env) (st : ir.State) → Perhaps Q (f v env st).end) → Perhaps Q (ir.go_on o f).end
+  go_on_only Q o f h = after_only Q o.lines o.end f h
+
+  order_only : (Q : ir.Value → Type 0) (rs : List ir.Run) (act : List ir.Value → ir.Run) (env : ir.Env) (st : ir.State) → ((vs : List ir.Value) (env : ir.Env) (st : ir.State) → Perhaps Q (act vs env st).end) → Perhaps Q (ir_meaning.in_order rs act env st).end
+  order_only Q [] act env st h = h [] env st
+  order_only Q (r ∷ rs) act env st h = go_on_only Q (r env st) (λ v. ir_meaning.in_order rs (λ vs. act (v ∷ vs))) (λ v env st. order_only Q rs (λ vs. act (v ∷ vs)) env st (λ vs. h (v ∷ vs)))
+
+  -- what goes on behind a tree of which more is known than its type
+  go_on_both : (at : Classes) (s : Scene) (inner : List ParamDef) (t : IrType) (outer : List ParamDef) (q : IrType) (Q : ir.Value → Type 0) (o : Out ir.Ended) (f : ir.Value → ir.Run) → Comes (λ a. CameRight at s inner t a × Only Q a) o.end → ((k : Classes) → Adds at k → (v : ir.Value) (env : ir.Env) (st : ir.State) → GivesType k v t → Q v → Ready k (frame_of s) inner env st → Comes (CameRight k s outer q) (f v env st).end) → Comes (CameRight at s outer q) (ir.go_on o f).end
+  go_on_both at s inner t outer q Q o f h on = comes_then (λ a. CameRight at s inner t a × Only Q a) (CameRight at s outer q) o (ir.onward f) h (λ a p. each a p.0 p.1)
+    where
+      each : (a : ir.Ended) → CameRight at s inner t a → Only Q a → Comes (CameRight at s outer q) (ir.onward f a).end
+      each _ (gave k v env st a g e) n = rebased at k a s outer q (f v env st).end (on k a v env st g n e)
+      each _ (left k l v env st r a i g e) n = left k l v env st r a i g e
+      each _ (threw k v env st a i e) n = threw k v env st a i e
+
+  -- with a value that isn't null
+  abbrev FullRight : Classes → Scene → IrType → Out ir.Ended → Type 0
+  FullRight at s t o = Comes (λ a. CameRight at s s.locals t a × Only Full a) o.end
+
+  full-rebase : (h k : Classes) → Adds h k → (s : Scene) (t : IrType) (e : End ir.Ended) → Comes (λ a. CameRight k s s.locals t a × Only Full a) e → Comes (λ a. CameRight h s s.locals t a × Only Full a) e
+  full-rebase h k b s t e = comes_weaken (λ a. CameRight k s s.locals t a × Only Full a) (λ a. CameRight h s s.locals t a × Only Full a) e (λ a p. (came-rebase h k b s s.locals t a p.0, p.1))
+
+  -- a value of an object
+  this_right : (at : Classes) (s : Scene) (t : IrType) (c : List ℕ) (o : Option ir.Value) (env : ir.Env) (st : ir.State) → t ≡ class_type c → HoldsObject at o c → Ready at (frame_of s) s.locals env st → FullRight at s t (ir_meaning.local_value o env st)
+  this_right at s t _ _ env st is (holds_object v c h n) e = (here at s s.locals t v env st (inr (subst (HasType (IsSub w) law at v) (sym is) h)) e, n)
+
+  only_right : (P : ir.Ended → Type 0) (Q : ir.Value → Type 0) (e : End ir.Ended) → Comes (λ a. P a × Only Q a) e → Comes P e
+  only_right P Q e = comes_weaken (λ a. P a × Only Q a) P e (λ a p. p.0)
+
+  module _ (laws : ObjectLaws w has) (members : (m : Member) → has.linked m ≡ true → RightMember w has m) (low : ir_meaning.Low) (right : LowRight low) where
+    abbrev step : Term → ir.Run
+    step = ir_meaning.step w low
+
+    abbrev TreeRight : Term → Type 0
+    TreeRight t = (s : Scene) → InScope (frame_of s) s.locals → Typed w has s t → Fresh s (Own t) → Sures s (definitions t) → (at : Classes) (env : ir.Env) (st : ir.State) → Ready at (frame_of s) s.locals env st → Right at s (type_of_term t) (step t env st)
+
+    construct_right : (c : List ℕ) (m : MethodName) → has.made c ≡ true → has.built (member c Constructor m) ≡ true → (s : Scene) (at : Classes) (vs : List ir.Value) → ValuesFit at vs m.params → (env : ir.Env) (st : ir.State) → Ready at (frame_of s) s.locals env st → Right at s (class_type c) (ir_meaning.construct w low c m vs env st)
+    construct_right c m made built s at vs fit env st i = rebased at after_it more s s.locals (class_type c) (ir_meaning.construct w low c m vs env st).end (go_on_right after_it s s.locals (call_type m.result) s.locals (class_type c) (ir_meaning.call low (member_of w c Constructor m) (Some object) vs env heap) (λ v. ir.given object) (call_right laws low right (member c Constructor m) (laws.built (member c Constructor m) built) s (call_type m.result) refl after_it vs (fit-lift at after_it more vs m.params fit) (Some object) (λ r. holds_object object c (its_type after_it (adds-refl after_it)) (λ e. cc)) env heap (record { locals = env-lift at after_it more (frame_of s) s.locals env i.locals; heap = born_typed laws at c made st i.heap })) (λ k b v env st g j. here k s s.locals (class_type c) object env st (inr (its_type k b)) j))
+      where
+        object : ir.Value
+        object = ir.reference (ir.next_address st)
+
+        heap : ir.State
+        heap = ir.with_stored (ir.object c (new_fields w c)) st
+
+        after_it : Classes
+        after_it = with_class (ir.next_address st) c at
+
+        more : Adds at after_it
+        more = adds_one laws at c made st i.heap
+
+        its_type : (k : Classes) → Adds after_it k → HasType (IsSub w) law k object (class_type c)
+        its_type k b = has_type (Class c) (of_object (ir.next_address st) c (b.keeps (ir.next_address st) c (class_there laws at c made st i.heap)) (laws.made c made)) (class_below c)
+
+    -- an exception that is made and thrown
+    raise_right : (c message : List ℕ) → has.made c ≡ true → has.built (member c Constructor ir_meaning.with_message) ≡ true → (s : Scene) (t : IrType) (at : Classes) (env : ir.Env) (st : ir.State) → Ready at (frame_of s) s.locals env st → FullRight at s t (ir_meaning.raise w low c message env st)
+    raise_right c message made built s t at env st i = comes_then (CameRight at s s.locals (class_type c)) (λ a. CameRight at s s.locals t a × Only Full a) (ir_meaning.construct w low c ir_meaning.with_message (ir.text message ∷ []) env st) (ir.onward (λ v. ir_meaning.throw_value (v ∷ []))) (construct_right c ir_meaning.with_message made built s at (ir.text message ∷ []) (one_fits (ir.text message) (TypeRef.Class string_class) [] [] (text_class at message) none_left) env st i) each
+      where
+        text_class : (at : Classes) (us : List ℕ) → HasType (IsSub w) law at (ir.text us) (Class string_class)
+        text_class at us = has_type String (of_text us) (primitive_to_class string_class string_class refl refl (record { known = or_true (is_some (known.class_of w string_class)); way = by_path stay }))
+
+        each : (a : ir.Ended) → CameRight at s s.locals (class_type c) a → Comes (λ a. CameRight at s s.locals t a × Only Full a) (ir.onward (λ v. ir_meaning.throw_value (v ∷ [])) a).end
+        each _ (gave k v env st a g e) = (threw k v env st a (operand-type k v (class_type c) Any g (class_any c) (value-not Any refl)) e, tt)
+        each _ (left k l v env st r a j g e) = (left k l v env st r a j g e, tt)
+        each _ (threw k v env st a j e) = (threw k v env st a j e, tt)
+
+    -- the null check
+    answered_right : (s : Scene) (t : IrType) → has.helper check_name ≡ true → (at : Classes) (v : ir.Value) (env : ir.Env) (st : ir.State) → GivesType at v t → Ready at (frame_of s) s.locals env st → FullRight at s t (ir_meaning.answered w low (ir_meaning.not_null w v) env st)
+    answered_right s t h at ir.null env st g e = let there = laws.exceptions h in raise_right null_pointer (codes "null") there.0 there.1 s t at env st e
+    answered_right s t h at ir.undefined env st g e = (here at s s.locals t ir.undefined env st g e, λ k. cc)
+    answered_right s t h at (ir.boolean b) env st g e = (here at s s.locals t (ir.boolean b) env st g e, λ k. cc)
+    answered_right s t h at (ir.char u) env st g e = (here at s s.locals t (ir.char u) env st g e, λ k. cc)
+    answered_right s t h at (ir.number z) env st g e = (here at s s.locals t (ir.number z) env st g e, λ k. cc)
+    answered_right s t h at (ir.long z) env st g e = (here at s s.locals t (ir.long z) env st g e, λ k. cc)
+    answered_right s t h at (ir.text us) env st g e = (here at s s.locals t (ir.text us) env st g e, λ k. cc)
+    answered_right s t h at (ir.reference a) env st g e = (here at s s.locals t (ir.reference a) env st g e, λ k. cc)
+
+    checked_right : (s : Scene) (t : IrType) → has.helper check_name ≡ true → (at : Classes) (r : ir.Run) (env : ir.Env) (st : ir.State) → Right at s t (r env st) → FullRight at s t (ir_meaning.checked w low r env st)
+    checked_right s t h at r env st does = comes_then (CameRight at s s.locals t) (λ a. CameRight at s s.locals t a × Only Full a) (r env st) (ir.onward (λ v. ir_meaning.answered w low (ir_meaning.not_null w v))) does each
+      where
+        each : (a : ir.Ended) → CameRight at s s.locals t a → Comes (λ a. CameRight at s s.locals t a × Only Full a) (ir.onward (λ v. ir_meaning.answered w low (ir_meaning.not_null w v)) a).end
+        each _ (gave k v env st a g e) = full-rebase at k a s t (ir_meaning.answered w low (ir_meaning.not_null w v) env st).end (answered_right s t h k v env st g e)
+        each _ (left k l v env st r a j g e) = (left k l v env st r a j g e, tt)
+        each _ (threw k v env st a j e) = (threw k v env st a j e, tt)
+
+    -- a sure tree gives no null
+    primitive_only : (at : Classes) (s : Scene) (inner : List ParamDef) (t : IrType) (e : End ir.Ended) → is_sure_type t ≡ true → Comes (CameRight at s inner t) e → Perhaps Full e
+    primitive_only at s inner t Going h k = tt
+    primitive_only at s inner t Wrong h k = tt
+    primitive_only at s inner t (Done a) h k = go a k
+      where
+        go : (a : ir.Ended) → CameRight at s inner t a → Only Full a
+        go _ (gave k v env st b (inl none) e) = impossible (sym (ap is_sure_type none) ∙ h)
+        go _ (gave k v env st b (inr i) e) = primitive_full (IsSub w) law k v t h i
+        go _ (left k l v env st r b i g e) = tt
+        go _ (threw k v env st b i e) = tt
+
+    held_only : (o : Option ir.Value) (env : ir.Env) (st : ir.State) → NeverNull o → Perhaps Full (ir_meaning.local_value o env st).end
+    held_only None env st h = tt
+    held_only (Some v) env st h = λ e. h (ap Some e)
+
+    sure_only : HasReceivers has → (t : Term) (s : Scene) → Typed w has s t → is_sure s.sure t ≡ true → (at : Classes) (env : ir.Env) (st : ir.State) → Ready at (frame_of s) s.locals env st → Right at s (type_of_term t) (step t env st) → Perhaps Full (step t env st).end
+    sure_only r (this_ref p t) s h k at env st i does = object_only env.this_value (i.locals.this h.finds.0)
+      where
+        object_only : (o : Option ir.Value) → HoldsObject at o s.owner → Perhaps Full (ir_meaning.local_value o env st).end
+        object_only _ (holds_object v _ j n) = n
+    sure_only r (new_object p c m ts) s h k at env st i does = order_only Full (ir_meaning.operands w low ts) (ir_meaning.construct w low c m) env st (λ vs env st. go_on_only Full (ir_meaning.call low (member_of w c Constructor m) (Some (ir.reference (ir.next_address st))) vs env (ir.with_stored (ir.object c (new_fields w c)) st)) (λ v. ir.given (ir.reference (ir.next_address st))) (λ v e z q. cc))
+    sure_only r (new_array p q e) s h k at env st i does = impossible h.built
+    sure_only r (array_value p q ts) s h k at env st i does = impossible h.built
+    sure_only r (load_module p c) s h k at env st i does = impossible h.built
+    sure_only r (var_ref p x t) s h k at env st i does = go (s.sure x) refl k
+      where
+        go : (b : Bool) → s.sure x ≡ b → (b || is_sure_type t) ≡ true → Perhaps Full (step (var_ref p x t) env st).end
+        go true e q = held_only (env.locals x) env st (i.locals.full r x h.finds.local h.finds.is e)
+        go false e q = primitive_only at s s.locals t (step (var_ref p x t) env st).end q does
+    sure_only r t s h k at env st i does = primitive_only at s s.locals (type_of_term t) (step t env st).end k does
+
+    -- a receiver, with its null check where it isn't sure
+    receiver_right : HasReceivers has → (e : Term) (s : Scene) → Typed w has s e → (is_sure s.sure e ≡ false → has.helper check_name ≡ true) → (at : Classes) (env : ir.Env) (st : ir.State) → Ready at (frame_of s) s.locals env st → Right at s (type_of_term e) (step e env st) → FullRight at s (type_of_term e) (ir_meaning.receiving w (is_sure env.sure e) low (step e) env st)
+    receiver_right r e s h check at env st i does = subst (λ (q : List ℕ → Bool). FullRight at s (type_of_term e) (ir_meaning.receiving w (is_sure q e) low (step e) env st)) (sym i.locals.sure) (go (is_sure s.sure e) refl)
+      where
+        go : (b : Bool) → is_sure s.sure e ≡ b → FullRight at s (type_of_term e) (ir_meaning.receiving w b low (step e) env st)
+        go true k = both_come Full (CameRight at s s.locals (type_of_term e)) (step e env st).end does (sure_only r e s h k at env st i does)
+        go false k = checked_right s (type_of_term e) (check k) at (step e) env st does
+
+    -- the receiver of a constructor's call is This
+    own_right : (e : Term) (s : Scene) → IsReceiver Constructor e → Typed w has s e → (at : Classes) (env : ir.Env) (st : ir.State) → Ready at (frame_of s) s.locals env st → FullRight at s (type_of_term e) (ir_meaning.receiving w (is_sure env.sure e) low (step e) env st)
+    own_right (this_ref p t) s own h at env st i = this_right at s t s.owner env.this_value env st h.finds.1 (i.locals.this h.finds.0) i
+    own_right _ s own h at env st i = absurd own
+
+    -- the field of a receiver
+    there_right : (at : Classes) (s : Scene) (t : IrType) (o : Option ir.Value) (env : ir.Env) (st : ir.State) → HoldsType at o t → Ready at (frame_of s) s.locals env st → Right at s t (ir_meaning.value_or_wrong o env st)
+    there_right at s t _ env st (holds_type v _ h) e = here at s s.locals t v env st (inr h) e
+
+    -- a receiver of a class with a field is an object that has the field
+    holder_right : {A : Type 0} (at : Classes) (c f : List ℕ) (t : IrType) (v : ir.Value) (st : ir.State) → has.field c f t ≡ true → HasType (IsSub w) law at v (class_type c) → Full v → HeapTyped at st → ((a : ℕ) (d : List ℕ) → v ≡ ir.reference a → at a ≡ Some d → list_any (is_same_text c) (chain_of w d) ≡ true → A) → A
+    holder_right {A} at c f t v st is (has_type o i sub) n e on = go (sort_of (IsSub w) law at v o i)
+      where
+        go : Sort (IsSub w) law at v o → A
+        go (is_null k) = absurd (n k)
+        go (is_primitive h k) = absurd (laws.strangers c f t is o h k sub)
+        go (is_object a d same its known) = on a d same known (laws.holders c f t is d (e.made a d known) (subst (λ (q : IrType). IsSub w q (class_type c)) its sub))
+
+    field_right : (at : Classes) (s : Scene) (c f : List ℕ) (t : IrType) (v : ir.Value) (env : ir.Env) (st : ir.State) → has.field c f t ≡ true → HasType (IsSub w) law at v (class_type c) → Full v → Ready at (frame_of s) s.locals env st → Right at s t (ir_meaning.select_field c f (v ∷ []) env st)
+    field_right at s c f t v env st is h n e = holder_right at c f t v st is h n e.heap (λ a d same known k. subst (λ (x : ir.Value). Right at s t (ir_meaning.select_field c f (x ∷ []) env st)) (sym same) (stored d (slice_get st.heap a) k (e.heap.objects a d known)))
+      where
+        stored : (d : List ℕ) (q : Option ir.Stored) → list_any (is_same_text c) (chain_of w d) ≡ true → ObjectTyped at d q → Right at s t (ir_meaning.value_or_wrong (ir_meaning.field_of c f q) env st)
+        stored d _ k (typed_object fields h) = there_right at s t (fields c f) env st (h c f t k is) e
+
+    -- an assignment to a field
+    set_right : (at : Classes) (s : Scene) (c f : List ℕ) (t : IrType) (v x : ir.Value) (env : ir.Env) (st : ir.State) → has.field c f t ≡ true → HasType (IsSub w) law at v (class_type c) → Full v → HasType (IsSub w) law at x t → Ready at (frame_of s) s.locals env st → Right at s NoType (ir_meaning.assign_field c f (v ∷ x ∷ []) env st)
+    set_right at s c f t v x env st is h n i e = holder_right at c f t v st is h n e.heap (λ a d same known k. subst (λ (y : ir.Value). Right at s NoType (ir_meaning.assign_field c f (y ∷ x ∷ []) env st)) (sym same) (stored a d known k (slice_get st.heap a) refl (e.heap.objects a d known)))
+      where
+        there : (o : Option ir.Value) (next : ir.State) → HoldsType at o t → HeapTyped at next → Right at s NoType (ir_meaning.assigned (ir_meaning.if_there o next) env st)
+        there _ next (holds_type y _ j) heap = here at s s.locals NoType ir.undefined env next (inl refl) (record { locals = e.locals; heap = heap })
+
+        stored : (a : ℕ) (d : List ℕ) → at a ≡ Some d → list_any (is_same_text c) (chain_of w d) ≡ true → (q : Option ir.Stored) → slice_get st.heap a ≡ q → ObjectTyped at d q → Right at s NoType (ir_meaning.assigned (ir_meaning.set_field c f x a q st) env st)
+        stored a d known k _ stands (typed_object fields g) = there (fields c f) (ir.at_address a (ir.object d (ir.with_field c f x fields)) st) (g c f t k is) (written laws at st e.heap a d known fields stands g c f t is x i)
+
+    -- an assignment to the field of a receiver
+    pub field_set_right : (p q : Position) (d : Term) (c f : List ℕ) (t : IrType) (e : Term) → TreeRight d → TreeRight e → (s : Scene) → InScope (frame_of s) s.locals → has.field c f t ≡ true → may_check has s.sure d ≡ true → IsSub w (type_of_term d) (class_type c) → IsSub w (type_of_term e) t → Typed w has s d → Typed w has s e → Fresh s (Own (assign p (select q d c f t) e)) → Sures s (definitions (assign p (select q d c f t) e)) → (at : Classes) (env : ir.Env) (st : ir.State) → Ready at (frame_of s) s.locals env st → Right at s NoType (step (assign p (select q d c f t) e) env st)
+    field_set_right p q d c f t e first second s v is check own fits h k fresh u at env st i = let parts = sures-parts s (definitions d) (definitions e) u in go_on_both at s s.locals (type_of_term d) s.locals NoType Full (ir_meaning.receiving w (is_sure env.sure d) low (step d) env st) (λ a. ir_meaning.in_order (step e ∷ []) (λ vs. ir_meaning.assign_field c f (a ∷ vs))) (receiver_right (reads c f t is) d s h (check_there d s check) at env st i (first s v h (λ x o. fresh x (inl o)) parts.0 at env st i)) (λ y b a env st g n i. go_on_right y s s.locals (type_of_term e) s.locals NoType (step e env st) (λ x. ir_meaning.in_order [] (λ vs. ir_meaning.assign_field c f (a ∷ x ∷ vs))) (second s v k (λ x o. fresh x (inr o)) parts.1 y env st i) (λ z m x env st j i. set_right z s c f t a x env st is (type-lift (IsSub w) law y z m a (class_type c) (operand-type y a (type_of_term d) (class_type c) g own (value-not (class_type c) (class_has_value c)))) n (operand-type z x (type_of_term e) t j fits (value-not t (laws.fields c f t is).0)) i))
+
+    called_on : (d : Option MethodDef) (v : ir.Value) (vs : List ir.Value) (env : ir.Env) (st : ir.State) → Full v → ir_meaning.call_on w low d (v ∷ vs) env st ≡ ir_meaning.call low d (Some v) vs env st
+    called_on d ir.null vs env st n = absurd (n refl)
+    called_on d v vs env st n = refl
+
+    -- a call on a receiver
+    received_right : (c : List ℕ) (n : Namespace) (m : MethodName) → RightMember w has (member c n m) → (s : Scene) (t own : IrType) → t ≡ call_type m.result → IsSub w own (class_type c) → (k : Classes) (v : ir.Value) → GivesType k v own → Full v → (y : Classes) → Adds k y → (vs : List ir.Value) (env : ir.Env) (st : ir.State) → ValuesFit y vs m.params → Ready y (frame_of s) s.locals env st → Right y s t (ir_meaning.call_on w low (member_of w c n m) (v ∷ vs) env st)
+    received_right c n m l s t own is sub k v g full y b vs env st q i = subst (λ (o : Out ir.Ended). Right y s t o) (sym (called_on (member_of w c n m) v vs env st full)) (call_right laws low right (member c n m) l s t is y vs q (Some v) (λ r. holds_object v c (type-lift (IsSub w) law k y b v (class_type c) (operand-type k v own (class_type c) g sub (value-not (class_type c) (class_has_value c)))) full) env st i)
+
+    -- a definition: the local is in scope behind it
+    definition_right : (p : Position) (x : List ℕ) (t : IrType) (b : Bool) (e : Term) → TreeRight e → (s : Scene) → InScope (frame_of s) s.locals → Typed w has s (var_def p x t b e) → Fresh s (Own (var_def p x t b e)) → Sures s (definitions (var_def p x t b e)) → (at : Classes) (env : ir.Env) (st : ir.State) → Ready at (frame_of s) s.locals env st → Comes (CameRight at s (record { name = x; «mutable» = b; tpe = t } ∷ s.locals) NoType) (step (var_def p x t b e) env st).end
+    definition_right p x t b e does s v h fresh u at env st i = go_on_both at s s.locals (type_of_term e) (record { name = x; «mutable» = b; tpe = t } ∷ s.locals) NoType (λ q. SureHere s x → Full q) (step e env st) (λ q. ir_meaning.in_order [] (λ vs. ir_meaning.define x (q ∷ vs))) (both_come (λ q. SureHere s x → Full q) (CameRight at s s.locals (type_of_term e)) (step e env st).end came (if_only (SureHere s x) (step e env st).end (λ r. sure_only r.0 e s h.1 ((parts.1 r.0).0 r.1).1 at env st i came))) (λ k a q env st g n i. here k s (record { name = x; «mutable» = b; tpe = t } ∷ s.locals) NoType ir.undefined (ir_meaning.set_local x q env) st (inl refl) (set-ready k (frame_of s) s.locals (record { name = x; «mutable» = b; tpe = t }) env st q (operand-type k q (type_of_term e) t g h.0.meets (value-not t h.0.finds.0)) (λ r y. n (r, y)) i))
+      where
+        parts : Sures s (definitions e) × Sures s (record { name = x; is_mutable = b; value = e } ∷ [])
+        parts = sures-parts s (definitions e) (record { name = x; is_mutable = b; value = e } ∷ []) u
+
+        came : Right at s (type_of_term e) (step e env st)
+        came = does s v h.1 (λ y o. fresh y (inr o)) parts.0 at env st i
+
+    operand_right : (e : Term) (at : Classes) (s : Scene) (t r : IrType) (act : List ir.Value → ir.Run) (env : ir.Env) (st : ir.State) → Right at s (type_of_term e) (step e env st) → IsSub w (type_of_term e) r → (r ≡ NoType → ⊥) → ((k : Classes) → Adds at k → (v : ir.Value) (env : ir.Env) (st : ir.State) → HasType (IsSub w) law k v r → Ready k (frame_of s) s.locals env st → Right k s t (act (v ∷ []) env st)) → Right at s t (ir_meaning.in_order (step e ∷ []) act env st)
+    operand_right e at s t r act env st h f n on = one_right at s s.locals (type_of_term e) t (step e) act env st h (λ k a v env st g i. on k a v env st (operand-type k v (type_of_term e) r g f n) i)
+
+    boolean_not : Boolean ≡ NoType → ⊥
+    boolean_not = value-not Boolean refl
+
+    int_not : Int ≡ NoType → ⊥
+    int_not = value-not Int refl
+
+    string_not : String ≡ NoType → ⊥
+    string_not = value-not String refl
+
+    -- a condition, and what is done where it holds
+    tested_right : (c : Term) (first : ir.Run) (s : Scene) (t : IrType) → t ≡ NoType → (at : Classes) (env : ir.Env) (st : ir.State) → Right at s (type_of_term c) (step c env st) → IsSub w (type_of_term c) Boolean → ((k : Classes) (env : ir.Env) (st : ir.State) → Ready k (frame_of s) s.locals env st → Comes (Turned k s t) (first env st).end) → Comes (Turned at s t) (ir_meaning.in_order (step c ∷ []) (ir_meaning.branch first (λ env s. record { lines = []; end = Done (ir.ends ir.stops env s) })) env st).end
+    tested_right c first s t none at env st h f body = go_on_turn at s (type_of_term c) t (step c env st) (λ v. ir_meaning.in_order [] (λ vs. ir_meaning.branch first (λ env s. record { lines = []; end = Done (ir.ends ir.stops env s) }) (v ∷ vs))) h (λ k a v env st g i. test_right k s t first v env st none (as_boolean (IsSub w) law k v (operand-type k v (type_of_term c) Boolean g f boolean_not)) i (body k env st i))
+
+    while_turn : (p : Position) (c b : Term) → TreeRight c → TreeRight b → (s : Scene) → InScope (frame_of s) s.locals → Typed w has s (while_loop p c b) → Fresh s (Own (while_loop p c b)) → Sures s (definitions (while_loop p c b)) → (loop_type c ≡ NoType) ⊎ IsTrueLiteral c → (at : Classes) (env : ir.Env) (st : ir.State) → Ready at (frame_of s) s.locals env st → Comes (Turned at s (loop_type c)) (ir_meaning.in_order (step c ∷ []) (ir_meaning.branch (step b) (λ env s. record { lines = []; end = Done (ir.ends ir.stops env s) })) env st).end
+    while_turn p c b dc db s v h fresh u (inl none) at env st i = tested_right c (step b) s (loop_type c) none at env st (dc s v h.1 (λ x o. fresh x (inl o)) (sures-parts s (definitions c) (definitions b) u).0 at env st i) h.0.meets (λ k env st i. as_turn k s (type_of_term b) (loop_type c) (step b env st).end (db s v h.2 (λ x o. fresh x (inr o)) (sures-parts s (definitions c) (definitions b) u).1 k env st i))
+    while_turn p _ b dc db s v h fresh u (inr (true_literal q)) at env st i = as_turn at s (type_of_term b) Nothing (step b env st).end (db s v h.2 (λ x o. fresh x (inr o)) u at env st i)
+
+    do_test : (p : Position) (b c : Term) → TreeRight c → (s : Scene) → InScope (frame_of s) s.locals → Typed w has s (do_while p b c) → Fresh s (Own (do_while p b c)) → Sures s (definitions (do_while p b c)) → (loop_type c ≡ NoType) ⊎ IsTrueLiteral c → (at : Classes) (env : ir.Env) (st : ir.State) → Ready at (frame_of s) s.locals env st → Comes (Turned at s (loop_type c)) (ir_meaning.in_order (step c ∷ []) (ir_meaning.branch (ir.given ir.undefined) (λ env s. record { lines = []; end = Done (ir.ends ir.stops env s) })) env st).end
+    do_test p b c dc s v h fresh u (inl none) at env st i = tested_right c (ir.given ir.undefined) s (loop_type c) none at env st (dc s v h.2 (λ x o. fresh x (inr o)) (sures-parts s (definitions b) (definitions c) u).1 at env st i) h.0.meets (λ k env st i. turned k ir.undefined env st (adds-refl k) i)
+    do_test p b _ dc s v h fresh u (inr (true_literal q)) at env st i = turned at ir.undefined env st (adds-refl at) i
+
+    do_turn : (p : Position) (b c : Term) → TreeRight b → TreeRight c → (s : Scene) → InScope (frame_of s) s.locals → Typed w has s (do_while p b c) → Fresh s (Own (do_while p b c)) → Sures s (definitions (do_while p b c)) → (at : Classes) (env : ir.Env) (st : ir.State) → Ready at (frame_of s) s.locals env st → Comes (Turned at s (loop_type c)) (ir.go_on (step b env st) (λ v. ir_meaning.in_order (step c ∷ []) (ir_meaning.branch (ir.given ir.undefined) (λ env s. record { lines = []; end = Done (ir.ends ir.stops env s) })))).end
+    do_turn p b c db dc s v h fresh u at env st i = go_on_turn at s (type_of_term b) (loop_type c) (step b env st) (λ v. ir_meaning.in_order (step c ∷ []) (ir_meaning.branch (ir.given ir.undefined) (λ env s. record { lines = []; end = Done (ir.ends ir.stops env s) }))) (db s v h.1 (λ x o. fresh x (inl o)) (sures-parts s (definitions b) (definitions c) u).0 at env st i) (λ k a q env st g i. do_test p b c dc s v h fresh u (true-or-none c) k env st i)
+
+    log_right : (at : Classes) (s : Scene) (v : ir.Value) (env : ir.Env) (st : ir.State) → IsText v → Ready at (frame_of s) s.locals env st → Right at s NoType (ir_meaning.log (v ∷ []) env st)
+    log_right at s _ env st (a_text us) i = here at s s.locals NoType ir.undefined env st (inl refl) i
+
+    chosen_right : (at : Classes) (s : Scene) (t : IrType) (bs : List ir_meaning.Branch) (d : ir.Run) (v : ir.Value) (env : ir.Env) (st : ir.State) → IsNumber v → ((n : ℤ) → Right at s t (ir_meaning.branch_of bs d n env st)) → Right at s t (ir_meaning.choose bs d (v ∷ []) env st)
+    chosen_right at s t bs d _ env st (a_number n) h = h n
+
+    one_or_later : (at : Classes) (s : Scene) (t : IrType) (b : Bool) (q others : ir.Run) (env : ir.Env) (st : ir.State) → Right at s t (q env st) → Right at s t (others env st) → Right at s t ((if b then q else others) env st)
+    one_or_later at s t true q others env st h k = h
+    one_or_later at s t false q others env st h k = k
+
+    division_right : (o : BinaryOp) (e d : Term) (at : Classes) (s : Scene) → DividesBy o d → IsSub w (type_of_term e) (left_operand o) → (env : ir.Env) (st : ir.State) → Right at s (type_of_term e) (step e env st) → Right at s (binary_result o) (ir_meaning.in_order (step e ∷ step d ∷ []) (ir_meaning.binary w low o) env st)
+    division_right _ e _ at s (by_int o i p n k ne) f env st h = go_on_right at s s.locals (type_of_term e) s.locals (binary_result o) (step e env st) (λ v. ir_meaning.in_order (step (int_literal p n) ∷ []) (λ vs. ir_meaning.binary w low o (v ∷ vs))) h (λ y a v env st g j. value_right y low s (binary_result o) (binary_value o v (ir.number n)) env st (division_gives (IsSub w) law y o i v (as_int (IsSub w) law y v (operand-type y v (type_of_term e) Int g (int_operand o i e f) int_not)) n ne) j)
+      where
+        int_operand : (o : BinaryOp) → IsDivision o → (e : Term) → IsSub w (type_of_term e) (left_operand o) → IsSub w (type_of_term e) Int
+        int_operand _ a_quotient e f = f
+        int_operand _ a_remainder e f = f
+    division_right _ e _ at s (by_long o i p n k ne) f env st h = go_on_right at s s.locals (type_of_term e) s.locals (binary_result o) (step e env st) (λ v. ir_meaning.in_order (step (long_literal p n) ∷ []) (λ vs. ir_meaning.binary w low o (v ∷ vs))) h (λ y a v env st g j. value_right y low s (binary_result o) (binary_value o v (ir.long n)) env st (long_division_gives (IsSub w) law y o i v (as_long (IsSub w) law y v (operand-type y v (type_of_term e) Long g (long_operand o i e f) (value-not Long refl))) n ne) j)
+      where
+        long_operand : (o : BinaryOp) → IsLongDivision o → (e : Term) → IsSub w (type_of_term e) (left_operand o) → IsSub w (type_of_term e) Long
+        long_operand _ a_long_quotient e f = f
+        long_operand _ a_long_remainder e f = f
+
+    -- an operand of a type that joins to a text has a value of its type
+    text-type : (at : Classes) (v : ir.Value) (t : IrType) → IsJoined t → GivesType at v t → HasType (IsSub w) law at v t
+    text-type at v t h (inl none) = absurd (not_no_type t h none)
+    text-type at v t h (inr i) = i
+
+    two_right : (o : BinaryOp) (e d : Term) (at : Classes) → Takes w o e d → (v a : ir.Value) → GivesType at v (type_of_term e) → GivesType at a (type_of_term d) → Gives (IsSub w) law at (binary_result o) (binary_value o v a)
+    two_right o e d at (its_types h f g) v a i j = binary_gives (IsSub w) law at o h v a (operand-type at v (type_of_term e) (left_operand o) i f (value-not (left_operand o) (left-operand-value o))) (operand-type at a (type_of_term d) (right_operand o) j g (value-not (right_operand o) (right-operand-value o)))
+    two_right o e d at (texts is f g) v a i j = subst (λ p. Gives (IsSub w) law at (binary_result p) (binary_value p v a)) (sym is) (join_gives (IsSub w) law at v a (type_of_term e) (type_of_term d) f g (text-type at v (type_of_term e) f i) (text-type at a (type_of_term d) g j))
+
+    binary_right : (o : BinaryOp) (e d : Term) (at : Classes) (s : Scene) → Takes w o e d → (env : ir.Env) (st : ir.State) → Right at s (type_of_term e) (step e env st) → ((k : Classes) (env : ir.Env) (st : ir.State) → Ready k (frame_of s) s.locals env st → Right k s (type_of_term d) (step d env st)) → Right at s (binary_result o) (ir_meaning.in_order (step e ∷ step d ∷ []) (ir_meaning.binary w low o) env st)
+    binary_right o e d at s takes env st first second = go_on_right at s s.locals (type_of_term e) s.locals (binary_result o) (step e env st) (λ a. ir_meaning.in_order (step d ∷ []) (λ vs. ir_meaning.binary w low o (a ∷ vs))) first (λ y f a env st g i. one_right y s s.locals (type_of_term d) (binary_result o) (step d) (λ vs. ir_meaning.binary w low o (a ∷ vs)) env st (second y env st i) (λ z n b env st k i. value_right z low s (binary_result o) (binary_value o a b) env st (two_right o e d z takes a b (gives-lift y z n a (type_of_term e) g) k) i))
+
+    mutual
+      pub tree_right : (t : Term) → TreeRight t
+      tree_right (var_def p x t b e) = λ s v h fresh u at env st i. narrow-right at s (record { name = x; «mutable» = b; tpe = t }) NoType (step (var_def p x t b e) env st).end (fresh x (inl refl)) (definition_right p x t b e (tree_right e) s v h fresh u at env st i)
+      tree_right (skip p) = λ s v h fresh u at env st i. here at s s.locals NoType ir.undefined env st (inl refl) i
+      tree_right (block_of p ts) = λ s v h fresh u at env st i. block_right ts s v h fresh u at env st i NoType
+      tree_right (labeled p l t e) = λ s v h fresh u at env st i. comes_then (CameRight at (in_label l t s) s.locals (type_of_term e)) (CameRight at s s.locals t) (step e env st) (ir_meaning.arrive l) (tree_right e (in_label l t s) v h.1 fresh u at env st i) (arrives-right at s l e t (yields_there w e t h.0.built h.0.meets))
+      tree_right (assign p (var_ref q x t) e) = λ s v h fresh u at env st i. operand_right e at s NoType t (ir_meaning.define x) env st (tree_right e s v h.1 fresh u at env st i) h.0.meets.1 (value-not t (subst HasValue h.0.finds.type_is (v.values x h.0.finds.local h.0.finds.is))) (λ y b a env st k i. here y s s.locals NoType ir.undefined (ir_meaning.set_local x a env) st (inl refl) (assign-ready y (frame_of s) s.locals x h.0.finds.local env st a h.0.finds.is (subst (HasType (IsSub w) law y a) (sym h.0.finds.type_is) k) (λ r q. impossible (sym (v.fixed r x h.0.finds.local h.0.finds.is q) ∙ h.0.finds.mutable)) i))
+      tree_right (return_to p e l) = λ s v h fresh u at env st i. one_right at s s.locals (type_of_term e) Nothing (step e) (ir_meaning.leave l) env st (tree_right e s v h.1 fresh u at env st i) (λ y b a env st g i. left y l a env st h.0.meets.tpe (adds-refl y) h.0.meets.is_type (gives-yield y a e h.0.meets.tpe g (leaves_there w s.labels l e h.0.built h.0.meets)) i)
+      tree_right (if_then p c a b t) = λ s v h fresh u at env st i. operand_right c at s t Boolean (ir_meaning.branch (step a) (step b)) env st (tree_right c s v h.1 (λ x o. fresh x (inl o)) (sures-parts s (definitions c) (definitions a) (sures-parts s (definitions c ++ definitions a) (definitions b) u).0).0 at env st i) h.0.meets.0 boolean_not (λ y n q env st k i. branch_right y s t (step a) (step b) q env st (as_boolean (IsSub w) law y q k) (yields-right y s s.locals a t (step a env st).end (one_yields w a b t h.0.built h.0.meets.1) (tree_right a s v h.2 (λ x o. fresh x (inr (inl o))) (sures-parts s (definitions c) (definitions a) (sures-parts s (definitions c ++ definitions a) (definitions b) u).0).1 y env st i)) (yields-right y s s.locals b t (step b env st).end (other_yields w a b t h.0.built h.0.meets.2) (tree_right b s v h.3 (λ x o. fresh x (inr (inr o))) (sures-parts s (definitions c ++ definitions a) (definitions b) u).1 y env st i)))
+      tree_right (while_loop p c b) = λ s v h fresh u at env st i. comes_then (Turned at s (loop_type c)) (CameRight at s s.locals (loop_type c)) (ir_meaning.in_order (step c ∷ []) (ir_meaning.branch (step b) (λ env s. record { lines = []; end = Done (ir.ends ir.stops env s) })) env st) (ir_meaning.after_turn (low (while_loop p c b))) (while_turn p c b (tree_right c) (tree_right b) s v h fresh u (true-or-none c) at env st i) (turn_right at s (loop_type c) (low (while_loop p c b)) (right (while_loop p c b) s v h fresh u))
+      tree_right (do_while p b c) = λ s v h fresh u at env st i. comes_then (Turned at s (loop_type c)) (CameRight at s s.locals (loop_type c)) (ir.go_on (step b env st) (λ v. ir_meaning.in_order (step c ∷ []) (ir_meaning.branch (ir.given ir.undefined) (λ env s. record { lines = []; end = Done (ir.ends ir.stops env s) })))) (ir_meaning.after_turn (low (do_while p b c))) (do_turn p b c (tree_right b) (tree_right c) s v h fresh u at env st i) (turn_right at s (loop_type c) (low (do_while p b c)) (right (do_while p b c) s v h fresh u))
+      tree_right (match_on p e cs d t) = λ s v h fresh u at env st i. operand_right e at s t Int (ir_meaning.choose (ir_meaning.branches w low cs) (step d)) env st (tree_right e s v h.1 (λ x o. fresh x (inl o)) (sures-parts s (definitions e) (definitions_of_cases cs) (sures-parts s (definitions e ++ definitions_of_cases cs) (definitions d) u).0).0 at env st i) h.0.meets.0 int_not (λ y b q env st k i. chosen_right y s t (ir_meaning.branches w low cs) (step d) q env st (as_int (IsSub w) law y q k) (λ n. cases_right cs s t v h.2 (λ x o. fresh x (inr (inl o))) (sures-parts s (definitions e) (definitions_of_cases cs) (sures-parts s (definitions e ++ definitions_of_cases cs) (definitions d) u).0).1 (step d) n y env st i (yields-right y s s.locals d t (step d env st).end (yields_there w d t h.0.built h.0.meets.2) (tree_right d s v h.3 (λ x o. fresh x (inr (inr o))) (sures-parts s (definitions e ++ definitions_of_cases cs) (definitions d) u).1 y env st i))))
+      tree_right (apply_static p c n m ts t) = λ s v h fresh u at env st i. arguments_right ts m.params s t v (arguments_there w (has.linked (member c n m)) ts m.params h.0.built h.0.finds h.0.meets.2) h.1 fresh u at (ir_meaning.call low (member_of w c n m) None) env st i (λ y b vs env st k i. call_right laws low right (member c n m) (members (member c n m) (is_linked w (has.linked (member c n m)) ts m.params h.0.built)) s t h.0.meets.1 y vs k None (λ r. absurd (no_object n h.0.meets.0 r)) env st i)
+      tree_right (throw p e) = λ s v h fresh u at env st i. operand_right e at s Nothing Any ir_meaning.throw_value env st (tree_right e s v h.1 fresh u at env st i) h.0.meets (value-not Any refl) (λ y b a env st k i. threw y a env st (adds-refl y) k i)
+      tree_right (new_object p c m ts) = λ s v h fresh u at env st i. let its = new_parts c m ts h.0.built in arguments_right ts m.params s (class_type c) v (arguments_there w (has.built (member c Constructor m)) ts m.params its.1 h.0.finds h.0.meets.1) h.1 fresh u at (ir_meaning.construct w low c m) env st i (λ y b vs env st k i. construct_right c m its.0 (is_linked w (has.built (member c Constructor m)) ts m.params its.1) s y vs k env st i)
+      tree_right (select p e c f t) = λ s v h fresh u at env st i. let its = and_parts (has.field c f t) (may_check has s.sure e) h.0.built in go_on_both at s s.locals (type_of_term e) s.locals t Full (ir_meaning.receiving w (is_sure env.sure e) low (step e) env st) (λ a. ir_meaning.in_order [] (λ vs. ir_meaning.select_field c f (a ∷ vs))) (receiver_right (reads c f t its.0) e s h.1 (check_there e s its.1) at env st i (tree_right e s v h.1 fresh u at env st i)) (λ y b a env st g n i. field_right y s c f t a env st its.0 (operand-type y a (type_of_term e) (class_type c) g h.0.meets.0 (value-not (class_type c) (class_has_value c))) n i)
+      tree_right (apply_statically p e c Namespace.Private m ts t) = λ s v h fresh u at env st i. let its = private_parts e c m ts s h.0.built in let parts = sures-parts s (definitions e) (definitions_in ts) u in go_on_both at s s.locals (type_of_term e) s.locals t Full (ir_meaning.receiving w (is_sure env.sure e) low (step e) env st) (λ a. ir_meaning.in_order (ir_meaning.operands w low ts) (λ vs. ir_meaning.call_on w low (member_of w c Namespace.Private m) (a ∷ vs))) (receiver_right (calls (member c Namespace.Private m) its.0) e s h.1 (check_there e s its.1) at env st i (tree_right e s v h.1 (λ x o. fresh x (inl o)) parts.0 at env st i)) (λ y b a env st g n i. arguments_right ts m.params s t v (arguments_there w true ts m.params its.2 h.0.finds h.0.meets.3) h.2 (λ x o. fresh x (inr o)) parts.1 y (λ vs. ir_meaning.call_on w low (member_of w c Namespace.Private m) (a ∷ vs)) env st i (λ z d vs env st k i. received_right c Namespace.Private m (laws.received (member c Namespace.Private m) its.0) s t (type_of_term e) h.0.meets.1 h.0.meets.2 y a g n z d vs env st k i))
+      tree_right (apply_statically p e c Constructor m ts t) = λ s v h fresh u at env st i. let its = constructor_parts c m ts t h.0.built in let parts = sures-parts s (definitions e) (definitions_in ts) u in go_on_both at s s.locals (type_of_term e) s.locals t Full (ir_meaning.receiving w (is_sure env.sure e) low (step e) env st) (λ a. ir_meaning.in_order (ir_meaning.operands w low ts) (λ vs. ir_meaning.call_on w low (member_of w c Constructor m) (a ∷ vs))) (own_right e s h.0.meets.0 h.1 at env st i) (λ y b a env st g n i. arguments_right ts m.params s t v (arguments_there w true ts m.params its.1 h.0.finds h.0.meets.3) h.2 (λ x o. fresh x (inr o)) parts.1 y (λ vs. ir_meaning.call_on w low (member_of w c Constructor m) (a ∷ vs)) env st i (λ z d vs env st k i. received_right c Constructor m (laws.built (member c Constructor m) its.0) s t (type_of_term e) h.0.meets.1 h.0.meets.2 y a g n z d vs env st k i))
+      tree_right (apply_statically p e c n m ts t) = λ s v h fresh u at env st i. impossible h.0.built
+      tree_right (this_ref p t) = λ s v h fresh u at env st i. only_right (CameRight at s s.locals t) Full (ir_meaning.local_value env.this_value env st).end (this_right at s t s.owner env.this_value env st h.finds.1 (i.locals.this h.finds.0) i)
+      tree_right (unary_op p o e) = λ s v h fresh u at env st i. operand_right e at s (unary_result o) (unary_operand o) (ir_meaning.unary w low o) env st (tree_right e s v h.1 fresh u at env st i) h.0.meets (value-not (unary_operand o) (unary-operand-value o)) (λ y b q env st k i. value_right y low s (unary_result o) (unary_value o q) env st (unary_gives (IsSub w) law y o q k) i)
+      tree_right (binary_op p o e d) = λ s v h fresh u at env st i. ⊎_elim (λ takes. binary_right o e d at s takes env st (tree_right e s v h.1 (λ x o. fresh x (inl o)) (sures-parts s (definitions e) (definitions d) u).0 at env st i) (λ k env st i. tree_right d s v h.2 (λ x o. fresh x (inr o)) (sures-parts s (definitions e) (definitions d) u).1 k env st i)) (λ divides. division_right o e d at s divides.0 divides.1 env st (tree_right e s v h.1 (λ x o. fresh x (inl o)) (sures-parts s (definitions e) (definitions d) u).0 at env st i)) (operation w has s o e d h.0.built h.2 h.0.meets)
+      tree_right (undefined_literal p) = λ s v h fresh u at env st i. here at s s.locals Undefined ir.undefined env st (inr (has_type Undefined of_undefined (law.same Undefined))) i
+      tree_right (null_literal p) = λ s v h fresh u at env st i. here at s s.locals Null ir.null env st (inr (has_type Null of_null (law.same Null))) i
+      tree_right (boolean_literal p b) = λ s v h fresh u at env st i. here at s s.locals Boolean (ir.boolean b) env st (inr (has_type Boolean (of_boolean b) (law.same Boolean))) i
+      tree_right (char_literal p n) = λ s v h fresh u at env st i. here at s s.locals Char (ir.char n) env st (inr (has_type Char (of_char n) (law.same Char))) i
+      tree_right (long_literal p n) = λ s v h fresh u at env st i. here at s s.locals Long (ir.long n) env st (inr (has_type Long (of_long n) (law.same Long))) i
+      tree_right (byte_literal p n) = λ s v h fresh u at env st i. here at s s.locals Byte (ir.number n) env st (inr (has_type Byte (of_byte n) (law.same Byte))) i
+      tree_right (short_literal p n) = λ s v h fresh u at env st i. here at s s.locals Short (ir.number n) env st (inr (has_type Short (of_short n) (law.same Short))) i
+      tree_right (int_literal p n) = λ s v h fresh u at env st i. here at s s.locals Int (ir.number n) env st (inr (has_type Int (of_int n) (law.same Int))) i
+      tree_right (string_literal p us) = λ s v h fresh u at env st i. here at s s.locals String (ir.text us) env st (inr (has_type String (of_text us) (law.same String))) i
+      tree_right (var_ref p x t) = λ s v h fresh u at env st i. local_right at s t (env.locals x) env st (subst (HoldsType at (env.locals x)) h.finds.type_is (i.locals.holds x h.finds.local h.finds.is)) i
+      tree_right (log_line p e) = λ s v h fresh u at env st i. operand_right e at s NoType String ir_meaning.log env st (tree_right e s v h.1 fresh u at env st i) h.0.meets string_not (λ y b q env st k i. log_right y s q env st (as_text (IsSub w) law y q k) i)
+      tree_right _ = λ s v h fresh u at env st i. impossible h.built
+
+      block_right : (ts : Terms) (s : Scene) → InScope (frame_of s) s.locals → TypedBlock w has s ts → Fresh s (OwnAll ts) → Sures s (definitions_in ts) → (at : Classes) (env : ir.Env) (st : ir.State) → Ready at (frame_of s) s.locals env st → (q : IrType) → Right at s (type_of_last q ts) (ir_meaning.block w low ts env st)
+      block_right no_terms s v h fresh u at env st i q = absurd h
+      block_right (more_terms t no_terms) s v h fresh u at env st i q = go_on_right at s s.locals (type_of_term t) s.locals (type_of_term t) (step t env st) (ir_meaning.rest w low no_terms) (tree_right t s v h (λ x o. fresh x (inl o)) (sures-parts s (definitions t) [] u).0 at env st i) (λ y b a env st g i. here y s s.locals (type_of_term t) a env st g i)
+      block_right (more_terms (var_def p x t b e) (more_terms n1 us)) s v h fresh u at env st i q = go_on_right at s (record { name = x; «mutable» = b; tpe = t } ∷ s.locals) NoType s.locals (type_of_last (type_of_term n1) us) (step (var_def p x t b e) env st) (ir_meaning.rest w low (more_terms n1 us)) (definition_right p x t b e (tree_right e) s v h.0 (λ y o. fresh y (inl o)) (sures-parts s (definitions (var_def p x t b e)) (definitions_in (more_terms n1 us)) u).0 at env st i) (λ z n a env st g i. leave-right z s (record { name = x; «mutable» = b; tpe = t }) (type_of_last (type_of_term n1) us) (ir_meaning.block w low (more_terms n1 us) env st).end (fresh x (inl (inl refl))) (block_right (more_terms n1 us) (behind (var_def p x t b e) s) (scope-behind (frame_of s) s.locals (record { name = x; «mutable» = b; tpe = t }) v h.0.0.finds.0 (λ r k. (((sures-parts s (definitions e) (record { name = x; is_mutable = b; value = e } ∷ []) (sures-parts s (definitions (var_def p x t b e)) (definitions_in (more_terms n1 us)) u).0).1 r).0 k).0)) h.2 (λ y o j. ⊎_elim (λ same. h.1 x refl (subst (OwnAll (more_terms n1 us)) same o)) (λ there. fresh y (inr o) there) j) (sures-parts s (definitions (var_def p x t b e)) (definitions_in (more_terms n1 us)) u).1 z env st i NoType))
+      block_right (more_terms t (more_terms n1 us)) s v h fresh u at env st i q = go_on_right at s s.locals (type_of_term t) s.locals (type_of_last (type_of_term n1) us) (step t env st) (ir_meaning.rest w low (more_terms n1 us)) (tree_right t s v h.0 (λ x o. fresh x (inl o)) (sures-parts s (definitions t) (definitions_in (more_terms n1 us)) u).0 at env st i) (λ z n a env st g i. block_right (more_terms n1 us) s v h.2 (λ x o. fresh x (inr o)) (sures-parts s (definitions t) (definitions_in (more_terms n1 us)) u).1 z env st i NoType)
+
+      arguments_right : (ts : Terms) (rs : List TypeRef) (s : Scene) (t : IrType) → InScope (frame_of s) s.locals → ArgumentsFit w ts rs → TypedAll w has s ts → Fresh s (OwnAll ts) → Sures s (definitions_in ts) → (at : Classes) (act : List ir.Value → ir.Run) (env : ir.Env) (st : ir.State) → Ready at (frame_of s) s.locals env st → ((k : Classes) → Adds at k → (vs : List ir.Value) (env : ir.Env) (st : ir.State) → ValuesFit k vs rs → Ready k (frame_of s) s.locals env st → Right k s t (act vs env st)) → Right at s t (ir_meaning.in_order (ir_meaning.operands w low ts) act env st)
+      arguments_right no_terms [] s t v f h fresh u at act env st i on = on at (adds-refl at) [] env st none_left i
+      arguments_right no_terms (r ∷ rs) s t v f h fresh u at act env st i on = absurd f
+      arguments_right (more_terms e es) [] s t v f h fresh u at act env st i on = absurd f
+      arguments_right (more_terms e es) (r ∷ rs) s t v f h fresh u at act env st i on = go_on_right at s s.locals (type_of_term e) s.locals t (step e env st) (λ a. ir_meaning.in_order (ir_meaning.operands w low es) (λ vs. act (a ∷ vs))) (tree_right e s v h.0 (λ x o. fresh x (inl o)) (sures-parts s (definitions e) (definitions_in es) u).0 at env st i) (λ y b a env st g i. arguments_right es rs s t v f.2 h.1 (λ x o. fresh x (inr o)) (sures-parts s (definitions e) (definitions_in es) u).1 y (λ vs. act (a ∷ vs)) env st i (λ z n vs env st k i. on z (adds-trans at y z b n) (a ∷ vs) env st (one_fits a r vs rs (type-lift (IsSub w) law y z n a (reference_type r) (operand-type y a (type_of_term e) (reference_type r) g f.0.0 (value-not (reference_type r) f.1))) k) i))
+
+      cases_right : (cs : Cases) (s : Scene) (t : IrType) → InScope (frame_of s) s.locals → TypedCases w has s t cs → Fresh s (OwnCases cs) → Sures s (definitions_of_cases cs) → (d : ir.Run) (n : ℤ) (at : Classes) (env : ir.Env) (st : ir.State) → Ready at (frame_of s) s.locals env st → Right at s t (d env st) → Right at s t (ir_meaning.branch_of (ir_meaning.branches w low cs) d n env st)
+      cases_right no_cases s t v h fresh u d n at env st i k = k
+      cases_right (more_cases [] e cs) s t v h fresh u d n at env st i k = cases_right cs s t v h (λ x o. fresh x (inr o)) (sures-parts s (definitions e) (definitions_of_cases cs) u).1 d n at env st i k
+      cases_right (more_cases (m ∷ ns) e cs) s t v h fresh u d n at env st i k = one_or_later at s t (list_any (int_eq n) (m ∷ ns)) (step e) (ir_meaning.branch_of (ir_meaning.branches w low cs) d n) env st (yields-right at s s.locals e t (step e env st).end (yields_there w e t h.0.1 h.0.0) (tree_right e s v h.1 (λ x o. fresh x (inl o)) (sures-parts s (definitions e) (definitions_of_cases cs) u).0 at env st i)) (cases_right cs s t v h.2 (λ x o. fresh x (inr o)) (sures-parts s (definitions e) (definitions_of_cases cs) u).1 d n at env st i k)
+
+  pub bodies_right : ObjectLaws w has → ((m : Member) → has.linked m ≡ true → RightMember w has m) → (n : ℕ) → LowRight (ir_meaning.below w n)
+  bodies_right laws members zero t s v h fresh u at env st i = tt
+  bodies_right laws members (suc n) t s v h fresh u at env st i = tree_right laws members (ir_meaning.below w n) (bodies_right laws members n) t s v h fresh u at env st i

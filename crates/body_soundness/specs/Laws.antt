@@ -1,0 +1,44 @@
+-- What a world has of the members, classes and fields that bodies use on objects.
+use Rattle.std.specs.Prelude.{◌≡◌, ℕ, true, false, List, Some, codes}
+use Rattle.std.specs.List.{list_any}
+use Rattle.body_rules.specs.Locals.{HasValue}
+use Rattle.body_rules.specs.Standing.{is_bare}
+use Rattle.body_soundness.specs.Rules.{RightMember}
+use Rattle.built_forms.specs.Built.{Usable}
+use Rattle.ir_mean.specs.Dispatch.{chain_of}
+use Rattle.ir_mean.specs.Meaning.{with_message}
+use Rattle.ir_mean.specs.World.{World, class_of, member_of, zeros_in, zero_of}
+use Rattle.sj_trees.specs.Term.{Term}
+use Rattle.sj_trees.specs.declared.classes.MethodDef.{MethodDef}
+use Rattle.sj_proper.specs.Once.{NamesOnce}
+use Rattle.sj_desugar.specs.Desugar.{member}
+use Rattle.sj_emit_expr.specs.Templates.{check_name}
+use Rattle.sj_names.specs.Same.{is_same_text}
+use Rattle.sj_names.specs.declared.method_names.Member.{Member}
+use Rattle.sj_names.specs.declared.method_names.Namespace.TheVariants.{Constructor}
+use Rattle.sj_trees.specs.Types.{class_type}
+use Rattle.sj_trees.specs.declared.types.IrType.{IrType}
+use Rattle.sj_trees.specs.declared.types.IrType.TheVariants.{Class}
+use Rattle.sj_world.specs.Subtypes.{hijacked_class, IsSub}
+
+-- there are receivers that have to be known or checked: those of fields that are read, and of calls
+pub data HasReceivers (has : Usable) : Type 0 where
+  reads : (c f : List ℕ) (t : IrType) → has.field c f t ≡ true → HasReceivers has
+  calls : (m : Member) → has.received m ≡ true → HasReceivers has
+
+abbrev pub null_pointer : List ℕ
+null_pointer = codes "java.lang.NullPointerException"
+
+-- Members that run on an object and constructors keep the rules; where there are receivers, bodies define no local twice; objects of a class that is made
+-- stand at no bare type. A field that can be read has one type, with values, and is an instance field of its class, which stands on the chain of
+-- superclasses of each class that is made below it; no primitive type is below it. Where the null check can be used, its exception is made.
+pub record ObjectLaws (w : World) (has : Usable) : Type 0 where
+  pub received : (m : Member) → has.received m ≡ true → RightMember w has m
+  pub built : (m : Member) → has.built m ≡ true → RightMember w has m
+  pub once : HasReceivers has → (m : Member) (d : MethodDef) (e : Term) → member_of w m.class m.namespace m.method ≡ Some d → d.body ≡ Some e → NamesOnce d e
+  pub made : (c : List ℕ) → has.made c ≡ true → is_bare (Class c) ≡ false
+  pub fields : (c f : List ℕ) (t : IrType) → has.field c f t ≡ true → HasValue t × (zeros_in (class_of w c) f ≡ Some (zero_of t))
+  pub one_type : (c f : List ℕ) (s t : IrType) → has.field c f s ≡ true → has.field c f t ≡ true → s ≡ t
+  pub holders : (c f : List ℕ) (t : IrType) → has.field c f t ≡ true → (d : List ℕ) → has.made d ≡ true → IsSub w (Class d) (class_type c) → list_any (is_same_text c) (chain_of w d) ≡ true
+  pub strangers : (c f : List ℕ) (t : IrType) → has.field c f t ≡ true → (o : IrType) (h : List ℕ) → hijacked_class o ≡ Some h → IsSub w o (class_type c) → ⊥
+  pub exceptions : has.helper check_name ≡ true → (has.made null_pointer ≡ true) × (has.built (member null_pointer Constructor with_message) ≡ true)
