@@ -1,6 +1,6 @@
-pub mod Calls
 pub mod Chains
 pub mod Heaps
+pub mod Modules
 pub mod Right
 pub mod Sured
 pub mod Values

@@ -5,22 +5,23 @@
 //! clauses are theorems.
 #![tactic(auto)]
 
-ghost use Rattle.std.specs.Prelude.{◌≡◌, ℕ, Bool, true, [], None};
+ghost use Rattle.std.specs.Prelude.{◌≡◌, ℕ, Bool, true, List};
+ghost use Rattle.std.specs.List.{Contains};
 ghost use Rattle.body_soundness.specs.Laws.{ObjectLaws};
 ghost use Rattle.body_soundness.specs.Rules.{RightMember};
 ghost use Rattle.built_forms.specs.Built.{Usable, members_alone};
-ghost use Rattle.ir_mean.specs.Meaning.{below, call};
-ghost use Rattle.ir_mean.specs.Shows.{outside};
-ghost use Rattle.ir_mean.specs.World.{World, member_of, opening};
+ghost use Rattle.ir_mean.specs.Shows.{initializers, ir_shows};
+ghost use Rattle.ir_mean.specs.World.{World};
 ghost use Rattle.outcomes.specs.Agreement.{IsNotWrong};
+ghost use Rattle.sj_names.specs.declared.entry_points.EntryPoint.{EntryPoint};
 ghost use Rattle.sj_names.specs.declared.method_names.Member.{Member};
+ghost use Rattle.sj_proper.specs.Emitted.{initializer_member};
 ghost use Rattle.sj_world.specs.Laws.{IsPlain};
-ghost use Rattle.typing_rules.specs.Rules.{IsStatic};
 
-/// Where the members that can be called keep the rules, and the world has what the laws on objects ask, a call of a static member without parameters from
-/// the state that a program begins with is wrong at no bound.
-pub fn calls_are_never_wrong()
-    ensures { (w : World) → IsPlain w → (has : Usable) → ObjectLaws w has → ((m : Member) → has.linked m ≡ true → RightMember w has m) → (n : ℕ) (m : Member) → has.linked m ≡ true → IsStatic m.namespace → m.method.params ≡ [] → IsNotWrong (call (below w n) (member_of w m.class m.namespace m.method) None [] outside (opening w)).end }
+/// Where the members that can be called keep the rules, and the world has what the laws on objects ask, what a public module shows whose initializers
+/// can be called is wrong at no bound.
+pub fn modules_are_never_wrong()
+    ensures { (w : World) → IsPlain w → (has : Usable) → ObjectLaws w has → ((m : Member) → has.linked m ≡ true → RightMember w has m) → (entries : List EntryPoint) (id : List ℕ) → ((e : EntryPoint) → Contains (initializers entries id) e → has.linked (initializer_member e) ≡ true) → (n : ℕ) → IsNotWrong (ir_shows w entries id n).end }
 {}
 
 /// Where nothing but static members is used, the laws on objects ask nothing.
