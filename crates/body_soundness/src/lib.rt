@@ -5,16 +5,23 @@
 //! clauses are theorems.
 #![tactic(auto)]
 
-ghost use Rattle.std.specs.Prelude.{◌≡◌, ℕ, Bool, true, [], None};
+ghost use Rattle.std.specs.Prelude.{◌≡◌, ℕ, Bool, true, false, [], Some, None};
 ghost use Rattle.body_soundness.specs.Laws.{ObjectLaws};
 ghost use Rattle.body_soundness.specs.Rules.{RightMember};
+ghost use Rattle.body_soundness.specs.Worlds.{AreClassesKept, HasFields, WritesInterfaces};
 ghost use Rattle.built_forms.specs.Built.{Usable, members_alone};
 ghost use Rattle.ir_mean.specs.Meaning.{below, call};
 ghost use Rattle.ir_mean.specs.Shows.{outside};
 ghost use Rattle.ir_mean.specs.World.{World, member_of, opening};
 ghost use Rattle.outcomes.specs.Agreement.{IsNotWrong};
 ghost use Rattle.sj_names.specs.declared.method_names.Member.{Member};
+ghost use Rattle.sj_trees.specs.Types.{class_type};
+ghost use Rattle.sj_trees.specs.declared.types.IrType.{IrType};
+ghost use Rattle.sj_trees.specs.declared.types.IrType.TheVariants.{Class};
+ghost use Rattle.sj_world.specs.Ancestors.{IsOnChain};
+ghost use Rattle.sj_world.specs.Known.{Name, Classes, is_hijacked};
 ghost use Rattle.sj_world.specs.Laws.{IsPlain};
+ghost use Rattle.sj_world.specs.Subtypes.{hijacked_class, IsSub};
 ghost use Rattle.typing_rules.specs.Rules.{IsStatic};
 
 /// Where the members that can be called keep the rules, and the world has what the laws on objects ask, a call of a static member without parameters from
@@ -26,4 +33,11 @@ pub fn calls_are_never_wrong()
 /// Where nothing but static members is used, the laws on objects ask nothing.
 pub fn members_alone_ask_nothing()
     ensures { (w : World) (linked : Member → Bool) → ObjectLaws w (members_alone linked) }
+{}
+
+/// What is below a class whose instances may have fields, in a world whose classes keep the rules on superclasses and on hijacked classes: a class has it on its
+/// chain of superclasses, and no primitive type stands there; where what is written as an interface on the way is one.
+pub fn classes_with_fields_are_on_chains()
+    ensures classes { (w : Classes) → AreClassesKept w → (c d : Name) → HasFields w c → is_hijacked d ≡ false → WritesInterfaces w d → IsSub w (Class d) (class_type c) → IsOnChain w d c }
+    ensures primitives { (w : Classes) → AreClassesKept w → (c : Name) (o : IrType) (h : Name) → HasFields w c → hijacked_class o ≡ Some h → WritesInterfaces w h → IsSub w o (class_type c) → ⊥ }
 {}
