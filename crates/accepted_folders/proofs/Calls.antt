@@ -16,12 +16,15 @@ use Rattle.sj_names.proofs.Same.{impossible}
 use Rattle.sj_names.specs.Same.{is_same_text}
 use Rattle.sj_names.specs.declared.entry_points.EntryPoint.{EntryPoint}
 use Rattle.sj_names.specs.declared.method_names.Member.{Member}
+use Rattle.sj_names.specs.declared.method_names.Namespace.TheVariants.{Private}
+use Rattle.body_rules.specs.Typing.{may_check}
+use Rattle.sure_receivers.specs.Sure.{sure_locals}
 use Rattle.built_forms.specs.Built.{Usable}
 use Rattle.sj_sound.specs.Linked.{has_function, have_functions, functions_of}
 use Rattle.typing_rules.specs.declared.labels.Label.{Label}
 use Rattle.typing_rules.specs.Labels.{type_of_label}
 use Rattle.typing_rules.specs.Nodes.{inside as inside_label}
-use Rattle.sj_trees.specs.Term.{Term, Terms, no_terms, more_terms, Cases, no_cases, more_cases, var_def, skip, block_of, labeled, assign, return_to, if_then, while_loop, do_while, match_on, apply_static, unary_op, binary_op, undefined_literal, null_literal, boolean_literal, char_literal, byte_literal, short_literal, int_literal, long_literal, string_literal, var_ref, log_line}
+use Rattle.sj_trees.specs.Term.{Term, Terms, no_terms, more_terms, Cases, no_cases, more_cases, var_def, skip, block_of, labeled, assign, return_to, if_then, while_loop, do_while, match_on, apply_statically, apply_static, unary_op, binary_op, undefined_literal, null_literal, boolean_literal, char_literal, byte_literal, short_literal, int_literal, long_literal, string_literal, var_ref, log_line}
 use Rattle.sj_trees.specs.declared.types.IrType.{IrType}
 use Rattle.built_forms.specs.Built.{is_boxed, yields_boxed, leaves_boxed, any_is_boxed, is_operation, is_built, are_built, are_built_cases, is_built_method, anything, is_built_body}
 use Rattle.sj_world.specs.Known.{Classes}
@@ -34,7 +37,7 @@ use Rattle.accepted_folders.specs.Bodies.{AreBodies}
 use Rattle.accepted_folders.specs.Laws.{CallsAreAmongBodies, InitializersAreAmongBodies}
 use Rattle.accepted_folders.proofs.Members.{has_function-from, defined}
 
-module _ (has : Usable) where
+module _ (has : Usable) (checked : Term → Bool) where
   -- a call is of a linked member
   abbrev Calls : Term → Type 0
   Calls (apply_static p c n m ts t) = has.linked (member c n m) ≡ true
@@ -58,39 +61,39 @@ module _ (has : Usable) where
   two a b h = (front (trees a) (trees b) h, back (trees a) (trees b) h)
 
   mutual
-    built : (t : Term) (ls : List Label) → is_built anything ls t ≡ true → Each (trees t) → is_built has ls t ≡ true
-    built (var_def p x t b e) ls k h = let q = and_parts (not (is_boxed t e)) (is_built anything ls e) k in and_from (not (is_boxed t e)) (is_built has ls e) q.0 (built e ls q.1 (inner (var_def p x t b e) h))
+    built : (t : Term) (ls : List Label) → is_built anything (λ e. true) ls t ≡ true → Each (trees t) → is_built has checked ls t ≡ true
+    built (var_def p x t b e) ls k h = let q = and_parts (not (is_boxed t e)) (is_built anything (λ e. true) ls e) k in and_from (not (is_boxed t e)) (is_built has checked ls e) q.0 (built e ls q.1 (inner (var_def p x t b e) h))
     built (skip p) ls k h = refl
     built (block_of p ts) ls k h = all_built ts ls k (inner (block_of p ts) h)
-    built (labeled p l t e) ls k h = let q = and_parts (not (yields_boxed t e)) (is_built anything (inside_label l t ls) e) k in and_from (not (yields_boxed t e)) (is_built has (inside_label l t ls) e) q.0 (built e (inside_label l t ls) q.1 (inner (labeled p l t e) h))
-    built (assign p (var_ref q x t) e) ls k h = let r = and_parts (not (is_boxed t e)) (is_built anything ls e) k in and_from (not (is_boxed t e)) (is_built has ls e) r.0 (built e ls r.1 (two (var_ref q x t) e (inner (assign p (var_ref q x t) e) h)).1)
-    built (return_to p e l) ls k h = let q = and_parts (not (leaves_boxed (type_of_label ls l) e)) (is_built anything ls e) k in and_from (not (leaves_boxed (type_of_label ls l) e)) (is_built has ls e) q.0 (built e ls q.1 (inner (return_to p e l) h))
+    built (labeled p l t e) ls k h = let q = and_parts (not (yields_boxed t e)) (is_built anything (λ e. true) (inside_label l t ls) e) k in and_from (not (yields_boxed t e)) (is_built has checked (inside_label l t ls) e) q.0 (built e (inside_label l t ls) q.1 (inner (labeled p l t e) h))
+    built (assign p (var_ref q x t) e) ls k h = let r = and_parts (not (is_boxed t e)) (is_built anything (λ e. true) ls e) k in and_from (not (is_boxed t e)) (is_built has checked ls e) r.0 (built e ls r.1 (two (var_ref q x t) e (inner (assign p (var_ref q x t) e) h)).1)
+    built (return_to p e l) ls k h = let q = and_parts (not (leaves_boxed (type_of_label ls l) e)) (is_built anything (λ e. true) ls e) k in and_from (not (leaves_boxed (type_of_label ls l) e)) (is_built has checked ls e) q.0 (built e ls q.1 (inner (return_to p e l) h))
     built (if_then p c a b t) ls k h =
-        let q = and_parts (not (yields_boxed t a) && not (yields_boxed t b)) (is_built anything ls c && (is_built anything ls a && is_built anything ls b)) k in
-        let r = and_parts (is_built anything ls c) (is_built anything ls a && is_built anything ls b) q.1 in
-        let s = and_parts (is_built anything ls a) (is_built anything ls b) r.1 in
+        let q = and_parts (not (yields_boxed t a) && not (yields_boxed t b)) (is_built anything (λ e. true) ls c && (is_built anything (λ e. true) ls a && is_built anything (λ e. true) ls b)) k in
+        let r = and_parts (is_built anything (λ e. true) ls c) (is_built anything (λ e. true) ls a && is_built anything (λ e. true) ls b) q.1 in
+        let s = and_parts (is_built anything (λ e. true) ls a) (is_built anything (λ e. true) ls b) r.1 in
         let inside : Each (trees c ++ trees a ++ trees b) = inner (if_then p c a b t) h in
         let head = two c a (front (trees c ++ trees a) (trees b) inside) in
         let last = back (trees c ++ trees a) (trees b) inside in
-        and_from (not (yields_boxed t a) && not (yields_boxed t b)) (is_built has ls c && (is_built has ls a && is_built has ls b)) q.0 (and_from (is_built has ls c) (is_built has ls a && is_built has ls b) (built c ls r.0 head.0) (and_from (is_built has ls a) (is_built has ls b) (built a ls s.0 head.1) (built b ls s.1 last)))
-    built (while_loop p c b) ls k h = let q = and_parts (is_built anything ls c) (is_built anything ls b) k in let parts = two c b (inner (while_loop p c b) h) in and_from (is_built has ls c) (is_built has ls b) (built c ls q.0 parts.0) (built b ls q.1 parts.1)
-    built (do_while p b c) ls k h = let q = and_parts (is_built anything ls b) (is_built anything ls c) k in let parts = two b c (inner (do_while p b c) h) in and_from (is_built has ls b) (is_built has ls c) (built b ls q.0 parts.0) (built c ls q.1 parts.1)
+        and_from (not (yields_boxed t a) && not (yields_boxed t b)) (is_built has checked ls c && (is_built has checked ls a && is_built has checked ls b)) q.0 (and_from (is_built has checked ls c) (is_built has checked ls a && is_built has checked ls b) (built c ls r.0 head.0) (and_from (is_built has checked ls a) (is_built has checked ls b) (built a ls s.0 head.1) (built b ls s.1 last)))
+    built (while_loop p c b) ls k h = let q = and_parts (is_built anything (λ e. true) ls c) (is_built anything (λ e. true) ls b) k in let parts = two c b (inner (while_loop p c b) h) in and_from (is_built has checked ls c) (is_built has checked ls b) (built c ls q.0 parts.0) (built b ls q.1 parts.1)
+    built (do_while p b c) ls k h = let q = and_parts (is_built anything (λ e. true) ls b) (is_built anything (λ e. true) ls c) k in let parts = two b c (inner (do_while p b c) h) in and_from (is_built has checked ls b) (is_built has checked ls c) (built b ls q.0 parts.0) (built c ls q.1 parts.1)
     built (match_on p e cs d t) ls k h =
-        let q = and_parts (not (yields_boxed t d)) (is_built anything ls e && (are_built_cases anything ls t cs && is_built anything ls d)) k in
-        let r = and_parts (is_built anything ls e) (are_built_cases anything ls t cs && is_built anything ls d) q.1 in
-        let s = and_parts (are_built_cases anything ls t cs) (is_built anything ls d) r.1 in
+        let q = and_parts (not (yields_boxed t d)) (is_built anything (λ e. true) ls e && (are_built_cases anything (λ e. true) ls t cs && is_built anything (λ e. true) ls d)) k in
+        let r = and_parts (is_built anything (λ e. true) ls e) (are_built_cases anything (λ e. true) ls t cs && is_built anything (λ e. true) ls d) q.1 in
+        let s = and_parts (are_built_cases anything (λ e. true) ls t cs) (is_built anything (λ e. true) ls d) r.1 in
         let inside : Each (trees e ++ cases_below cs ++ trees d) = inner (match_on p e cs d t) h in
         let head : Each (trees e ++ cases_below cs) = front (trees e ++ cases_below cs) (trees d) inside in
-        and_from (not (yields_boxed t d)) (is_built has ls e && (are_built_cases has ls t cs && is_built has ls d)) q.0 (and_from (is_built has ls e) (are_built_cases has ls t cs && is_built has ls d) (built e ls r.0 (front (trees e) (cases_below cs) head)) (and_from (are_built_cases has ls t cs) (is_built has ls d) (cases_built cs ls t s.0 (back (trees e) (cases_below cs) head)) (built d ls s.1 (back (trees e ++ cases_below cs) (trees d) inside))))
+        and_from (not (yields_boxed t d)) (is_built has checked ls e && (are_built_cases has checked ls t cs && is_built has checked ls d)) q.0 (and_from (is_built has checked ls e) (are_built_cases has checked ls t cs && is_built has checked ls d) (built e ls r.0 (front (trees e) (cases_below cs) head)) (and_from (are_built_cases has checked ls t cs) (is_built has checked ls d) (cases_built cs ls t s.0 (back (trees e) (cases_below cs) head)) (built d ls s.1 (back (trees e ++ cases_below cs) (trees d) inside))))
     built (apply_static p c n m ts t) ls k h =
-        let q = and_parts (not (any_is_boxed m.params ts)) (are_built anything ls ts) k in
-        and_from (has.linked (member c n m)) (not (any_is_boxed m.params ts) && are_built has ls ts) (All-head Calls (apply_static p c n m ts t) (all_below ts) h) (and_from (not (any_is_boxed m.params ts)) (are_built has ls ts) q.0 (all_built ts ls q.1 (inner (apply_static p c n m ts t) h)))
+        let q = and_parts (not (any_is_boxed m.params ts)) (are_built anything (λ e. true) ls ts) k in
+        and_from (has.linked (member c n m)) (not (any_is_boxed m.params ts) && are_built has checked ls ts) (All-head Calls (apply_static p c n m ts t) (all_below ts) h) (and_from (not (any_is_boxed m.params ts)) (are_built has checked ls ts) q.0 (all_built ts ls q.1 (inner (apply_static p c n m ts t) h)))
     built (unary_op p o e) ls k h = built e ls k (inner (unary_op p o e) h)
     built (binary_op p o e d) ls k h =
-        let q = and_parts (is_operation o d) (is_built anything ls e && is_built anything ls d) k in
-        let r = and_parts (is_built anything ls e) (is_built anything ls d) q.1 in
+        let q = and_parts (is_operation o d) (is_built anything (λ e. true) ls e && is_built anything (λ e. true) ls d) k in
+        let r = and_parts (is_built anything (λ e. true) ls e) (is_built anything (λ e. true) ls d) q.1 in
         let parts = two e d (inner (binary_op p o e d) h) in
-        and_from (is_operation o d) (is_built has ls e && is_built has ls d) q.0 (and_from (is_built has ls e) (is_built has ls d) (built e ls r.0 parts.0) (built d ls r.1 parts.1))
+        and_from (is_operation o d) (is_built has checked ls e && is_built has checked ls d) q.0 (and_from (is_built has checked ls e) (is_built has checked ls d) (built e ls r.0 parts.0) (built d ls r.1 parts.1))
     built (undefined_literal p) ls k h = refl
     built (null_literal p) ls k h = refl
     built (boolean_literal p b) ls k h = refl
@@ -102,19 +105,20 @@ module _ (has : Usable) where
     built (string_literal p us) ls k h = refl
     built (var_ref p x t) ls k h = refl
     built (log_line p e) ls k h = built e ls k (inner (log_line p e) h)
+    built (apply_statically p e c Private m ts t) ls k h = impossible k
     built t ls k h = impossible k
 
-    all_built : (ts : Terms) (ls : List Label) → are_built anything ls ts ≡ true → Each (all_below ts) → are_built has ls ts ≡ true
+    all_built : (ts : Terms) (ls : List Label) → are_built anything (λ e. true) ls ts ≡ true → Each (all_below ts) → are_built has checked ls ts ≡ true
     all_built no_terms ls k h = refl
-    all_built (more_terms t ts) ls k h = let q = and_parts (is_built anything ls t) (are_built anything ls ts) k in and_from (is_built has ls t) (are_built has ls ts) (built t ls q.0 (front (trees t) (all_below ts) h)) (all_built ts ls q.1 (back (trees t) (all_below ts) h))
+    all_built (more_terms t ts) ls k h = let q = and_parts (is_built anything (λ e. true) ls t) (are_built anything (λ e. true) ls ts) k in and_from (is_built has checked ls t) (are_built has checked ls ts) (built t ls q.0 (front (trees t) (all_below ts) h)) (all_built ts ls q.1 (back (trees t) (all_below ts) h))
 
-    cases_built : (cs : Cases) (ls : List Label) (t : IrType) → are_built_cases anything ls t cs ≡ true → Each (cases_below cs) → are_built_cases has ls t cs ≡ true
+    cases_built : (cs : Cases) (ls : List Label) (t : IrType) → are_built_cases anything (λ e. true) ls t cs ≡ true → Each (cases_below cs) → are_built_cases has checked ls t cs ≡ true
     cases_built no_cases ls t k h = refl
     cases_built (more_cases [] e cs) ls t k h = cases_built cs ls t k (back (trees e) (cases_below cs) h)
     cases_built (more_cases (key ∷ keys) e cs) ls t k h =
-        let q = and_parts (not (yields_boxed t e)) (is_built anything ls e && are_built_cases anything ls t cs) k in
-        let r = and_parts (is_built anything ls e) (are_built_cases anything ls t cs) q.1 in
-        and_from (not (yields_boxed t e)) (is_built has ls e && are_built_cases has ls t cs) q.0 (and_from (is_built has ls e) (are_built_cases has ls t cs) (built e ls r.0 (front (trees e) (cases_below cs) h)) (cases_built cs ls t r.1 (back (trees e) (cases_below cs) h)))
+        let q = and_parts (not (yields_boxed t e)) (is_built anything (λ e. true) ls e && are_built_cases anything (λ e. true) ls t cs) k in
+        let r = and_parts (is_built anything (λ e. true) ls e) (are_built_cases anything (λ e. true) ls t cs) q.1 in
+        and_from (not (yields_boxed t e)) (is_built has checked ls e && are_built_cases has checked ls t cs) q.0 (and_from (is_built has checked ls e) (are_built_cases has checked ls t cs) (built e ls r.0 (front (trees e) (cases_below cs) h)) (cases_built cs ls t r.1 (back (trees e) (cases_below cs) h)))
 
 all-from : {X : Type 0} (P : X → Type 0) (xs : List X) → ((x : X) → Contains xs x → P x) → All P xs
 all-from P [] h = All-nil P
@@ -132,12 +136,12 @@ module _ (w : Classes) (entries : List EntryPoint) (fs : List EmittedMethod) (bo
     called : (k : Member) → Contains (asked_by_body (Some e.its_body)) (Static k) → has_function fs k ≡ true
     called k c = has-body k (closed w entries (Body k) (asked_body k (of_call k (record { member = e.member; needed = needed e i; definition = e.definition; defined = defined w e.member e.definition (bodies.found e i).found; asked = subst (λ (o : Option Term). Contains (asked_by_body o) (Static k)) (sym (bodies.found e i).has_body) c }))))
 
-    each : (x : Term) → Contains (trees e.its_body) x → Calls (functions_of fs) x
+    each : (x : Term) → Contains (trees e.its_body) x → Calls (functions_of fs) (may_check (functions_of fs) (sure_locals e.its_body)) x
     each (apply_static p c n m ts t) among = called (member c n m) (in_all (asks (sure_among [] (trees e.its_body))) (trees e.its_body) (apply_static p c n m ts t) (Static (member c n m)) among (here (Static (member c n m)) []))
     each x among = tt
 
-    among_bodies : is_built_body e.definition e.its_body ≡ true → is_built_method (functions_of fs) e.definition e.its_body ≡ true
-    among_bodies k = let q = and_parts (not (yields_boxed e.definition.result e.its_body)) (is_built anything [] e.its_body) k in and_from (not (yields_boxed e.definition.result e.its_body)) (is_built (functions_of fs) [] e.its_body) q.0 (built (functions_of fs) e.its_body [] q.1 (all-from (Calls (functions_of fs)) (trees e.its_body) each))
+    among_bodies : is_built_body e.definition e.its_body ≡ true → is_built_method (functions_of fs) (may_check (functions_of fs) (sure_locals e.its_body)) e.definition e.its_body ≡ true
+    among_bodies k = let q = and_parts (not (yields_boxed e.definition.result e.its_body)) (is_built anything (λ e. true) [] e.its_body) k in and_from (not (yields_boxed e.definition.result e.its_body)) (is_built (functions_of fs) (may_check (functions_of fs) (sure_locals e.its_body)) [] e.its_body) q.0 (built (functions_of fs) (may_check (functions_of fs) (sure_locals e.its_body)) e.its_body [] q.1 (all-from (Calls (functions_of fs) (may_check (functions_of fs) (sure_locals e.its_body))) (trees e.its_body) each))
 
   pub entry : (e : EntryPoint) → Contains entries e → has_function fs (initializer_member e) ≡ true
   entry e i = has-body (entry_member e) (closed w entries (Body (entry_member e)) (asked_body (entry_member e) (of_entry e i)))

@@ -32,9 +32,8 @@ use Rattle.sj_proper.specs.Emitted.{EmittedMethod}
 use Rattle.body_rules.proofs.Lists.{nothing_in, in_front_or_behind}
 use Rattle.sj_names.proofs.Same.{impossible}
 use Rattle.sj_sound.specs.Linked.{have_functions, functions_of}
-use Rattle.body_rules.proofs.Topped.{topped}
-use Rattle.sj_world.specs.Ancestors.{directly_above}
-use Rattle.sj_world.specs.Known.{object}
+use Rattle.body_rules.proofs.Plain.{plain_world}
+use Rattle.sj_world.specs.Laws.{IsPlain}
 use Rattle.built_forms.specs.Built.{Usable}
 use Rattle.built_forms.specs.Built.{yields_boxed}
 use Rattle.body_rules.specs.Locals.{local_of, HasValue}
@@ -159,7 +158,7 @@ well_named m h =
     record { simple = k.0; params = parameters m.params rest.0; result = result_named m.result rest.1 }
 
 abbrev is_accepted : Usable → MethodDef → Bool
-is_accepted has d = is_typed has (scene_of d) (body_in d) && (yields_there (body_in d) d.result && (not (yields_boxed d.result (body_in d)) && ((is_none d.result || not (has_no_value d.result)) && (are_values d.params && is_well_named d.name))))
+is_accepted has d = is_typed has (scene_of object_name d (body_in d)) (body_in d) && (yields_there (body_in d) d.result && (not (yields_boxed d.result (body_in d)) && ((is_none d.result || not (has_no_value d.result)) && (are_values d.params && is_well_named d.name))))
 
 -- a method of `java.lang.Object` that the class gives for its member
 record IsFound (c : ClassDef) (d : MethodDef) : Type 0 where
@@ -169,7 +168,7 @@ record IsFound (c : ClassDef) (d : MethodDef) : Type 0 where
 
 accepted : (c : ClassDef) (fs : List EmittedMethod) (d : MethodDef) → FirstBroken c None → IsFound c d → is_accepted (functions_of fs) d ≡ true → IsAccepted (c ∷ []) fs (emitted d (body_in d))
 accepted c fs d unbroken there h =
-    let body = and_parts (is_typed (functions_of fs) (scene_of d) (body_in d)) (yields_there (body_in d) d.result && (not (yields_boxed d.result (body_in d)) && ((is_none d.result || not (has_no_value d.result)) && (are_values d.params && is_well_named d.name)))) h in
+    let body = and_parts (is_typed (functions_of fs) (scene_of object_name d (body_in d)) (body_in d)) (yields_there (body_in d) d.result && (not (yields_boxed d.result (body_in d)) && ((is_none d.result || not (has_no_value d.result)) && (are_values d.params && is_well_named d.name)))) h in
     let value = and_parts (yields_there (body_in d) d.result) (not (yields_boxed d.result (body_in d)) && ((is_none d.result || not (has_no_value d.result)) && (are_values d.params && is_well_named d.name))) body.1 in
     let raw = and_parts (not (yields_boxed d.result (body_in d))) ((is_none d.result || not (has_no_value d.result)) && (are_values d.params && is_well_named d.name)) value.1 in
     let result = and_parts (is_none d.result || not (has_no_value d.result)) (are_values d.params && is_well_named d.name) raw.1 in
@@ -183,7 +182,7 @@ accepted c fs d unbroken there h =
       found = there.found;
       has_body = there.has_body;
       rules = record {
-        typed = typed (c ∷ []) (functions_of fs) [] (scene_of d) (body_in d) once.once body.0;
+        typed = typed (c ∷ []) (functions_of fs) [] (scene_of object_name d (body_in d)) (body_in d) once.once body.0;
         yields = yields_type (c ∷ []) (functions_of fs) (body_in d) d.result value.0;
         unboxed = raw.0;
         result = result_is d.result result.0;
@@ -222,11 +221,10 @@ tests c =
     keeps_superclass c ∷ keeps_hijacked c ∷ are_new is_same_text [] c.interfaces ∷ is_empty c.fields ∷ are_new like_named [] (map method_key c.methods) ∷
     not (is_some (method_place c rules.MethodName)) ∷ not (is_some (method_place c rules.Signature)) ∷ not (is_some (method_place c rules.MissingBody)) ∷
     not (is_some (constructors_place c)) ∷ list_all declares_once c.methods ∷ list_all has_body c.methods ∷
-    list_all (is_accepted (functions_of (all_emitted c.methods))) c.methods ∷ all_unlike (all_emitted c.methods) ∷ have_functions (all_emitted c.methods) once ∷
-    is_empty (directly_above (c ∷ []) object) ∷ []
+    list_all (is_accepted (functions_of (all_emitted c.methods))) c.methods ∷ all_unlike (all_emitted c.methods) ∷ have_functions (all_emitted c.methods) once ∷ []
 
 abbrev pub all_hold : List Bool
-all_hold = true ∷ true ∷ true ∷ true ∷ true ∷ true ∷ true ∷ true ∷ true ∷ true ∷ true ∷ true ∷ true ∷ true ∷ true ∷ []
+all_hold = true ∷ true ∷ true ∷ true ∷ true ∷ true ∷ true ∷ true ∷ true ∷ true ∷ true ∷ true ∷ true ∷ true ∷ []
 
 -- a class that the reference recorded, by computing
 pub record Recorded (c : ClassDef) : Type 0 where
@@ -284,10 +282,19 @@ module _ (c : ClassDef) (h : Recorded c) where
       let rows : list_all (is_accepted (functions_of (all_emitted c.methods))) c.methods ≡ true = cc in
       each_of (IsAccepted (c ∷ []) fs) fs (all_accepted c fs c.methods recorded_unbroken (λ d i. i) h.found bodies rows)
 
+  alone : (P : ClassDef → Type 0) → P c → (d : ClassDef) → Contains (c ∷ []) d → P d
+  alone P its d i = ⊎_elim (λ same. subst P same its) (λ none. nothing_in d none) (in_front_or_behind c [] d i)
+
+  recorded_plain : IsPlain (c ∷ [])
+  recorded_plain =
+      let tested = h.tested in
+      let superclass : keeps_superclass c ≡ true = cc in
+      let hijacked : keeps_hijacked c ≡ true = cc in
+      plain_world (c ∷ []) (alone (λ d. keeps_superclass d ≡ true) superclass) (alone (λ d. keeps_hijacked d ≡ true) hijacked)
+
   pub recorded_agrees : Agree (class_within c) (file_within c.methods)
   recorded_agrees =
       let tested = h.tested in
       let unlike : all_unlike (all_emitted c.methods) ≡ true = cc in
       let called : have_functions (all_emitted c.methods) once ≡ true = cc in
-      let above : is_empty (directly_above (c ∷ []) object) ≡ true = cc in
-      classes_agree (c ∷ []) (topped (c ∷ []) (empty (directly_above (c ∷ []) object) above)) once (codes "main") (all_emitted c.methods) each_accepted_of (own (all_emitted c.methods) unlike) called
+      classes_agree (c ∷ []) recorded_plain once (codes "main") (all_emitted c.methods) each_accepted_of (own (all_emitted c.methods) unlike) called
