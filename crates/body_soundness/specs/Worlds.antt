@@ -2,7 +2,7 @@
 use Rattle.std.specs.Prelude.{◌≡◌, true, false, Some}
 use Rattle.std.specs.List.{Contains}
 use Rattle.sj_local.specs.ClassRules.{is_interface, keeps_superclass, keeps_hijacked}
-use Rattle.sj_names.specs.WellKnown.{is_object, is_number}
+use Rattle.sj_names.specs.WellKnown.{is_object, is_number, is_hijacked}
 use Rattle.sj_trees.specs.declared.classes.ClassDef.{ClassDef}
 use Rattle.sj_world.specs.Ancestors.{IsParent}
 use Rattle.sj_world.specs.Known.{Name, Classes, class_of, stands_as}
@@ -20,6 +20,7 @@ pub record HasFields (w : Classes) (c : Name) : Type 0 where
   pub no_interface : is_interface class.kind ≡ false
   pub no_object : is_object c ≡ false
   pub no_number : is_number c ≡ false
+  pub no_hijacked : is_hijacked c ≡ false
 
 -- whatever is written as an interface by a class, or by one above it, is one
 abbrev pub WritesInterfaces : Classes → Name → Type 0
