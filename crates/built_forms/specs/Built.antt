@@ -1,5 +1,5 @@
 -- The forms of bodies that are built: what is asked of a method beside its typing, so that the theorem on bodies covers it, one Boolean.
-use Rattle.std.specs.Prelude.{pos, Bool, true, false, ◌&&◌, ◌||◌, not, List, [], ◌∷◌, Option, Some, None}
+use Rattle.std.specs.Prelude.{ℕ, pos, Bool, true, false, ◌&&◌, ◌||◌, not, List, [], ◌∷◌, Option, Some, None}
 use Rattle.std.specs.Ordering.{int_eq}
 use Rattle.sj_desugar.specs.Coercions.{is_char}
 use Rattle.sj_desugar.specs.Desugar.{member}
@@ -56,9 +56,19 @@ is_operation LongDivide d = is_nonzero_long d
 is_operation LongRemainder d = is_nonzero_long d
 is_operation _ d = true
 
--- what a body can use: the members that are linked. Forms that make objects, read fields or load modules add what there is of these.
+-- what a body can use: the static members that are linked, and those that run on a receiver; the constructors that are; the classes of which objects are
+-- made; their fields, with their types; and helpers, by their names
 pub record Usable : Type 0 where
   pub linked : Member → Bool
+  pub received : Member → Bool
+  pub built : Member → Bool
+  pub made : List ℕ → Bool
+  pub field : List ℕ → List ℕ → IrType → Bool
+  pub helper : List ℕ → Bool
+
+-- these static members and nothing else
+abbrev pub members_alone : (Member → Bool) → Usable
+members_alone linked = record { linked = linked; received = λ m. false; built = λ m. false; made = λ c. false; field = λ c f t. false; helper = λ x. false }
 
 module _ (has : Usable) where
   -- the tree is of the forms that are built, whatever the trees in it are: its call is of a linked member, its divisor is a literal, and no char stands where
@@ -124,7 +134,7 @@ is_built_method has d e = not (yields_boxed d.result e) && is_built has [] e
 
 -- whatever is called
 abbrev pub anything : Usable
-anything = record { linked = λ m. true }
+anything = record { linked = λ m. true; received = λ m. true; built = λ m. true; made = λ c. true; field = λ c f t. true; helper = λ x. true }
 
 -- the body is of the forms that are built, whatever it calls
 abbrev pub is_built_body : MethodDef → Term → Bool

@@ -6,6 +6,5 @@ pub mod Operators
 pub mod Rows
 pub mod Shows
 pub mod States
-pub mod Sure
 pub mod Values
 pub mod World

@@ -24,7 +24,7 @@ use Rattle.ir_mean.specs.Dispatch.{Found, resolved, proxy_target}
 use Rattle.ir_mean.specs.Operators.{Answer, answers, raises, lacks, unary_value, binary_value}
 use Rattle.sj_names.specs.Same.{is_same_text}
 use Rattle.ir_mean.specs.States.{Value, undefined, null, boolean, char, number, long, text, reference, Stored, object, array, State, Locals, Env, Kind, gives, throws, leaves, stops, Ended, ends, Run, given, go_on, next_address, with_stored, at_address, with_field, with_static, with_cell}
-use Rattle.ir_mean.specs.Sure.{is_sure, sure_locals}
+use Rattle.sure_receivers.specs.Sure.{is_sure, sure_locals}
 use Rattle.ir_mean.specs.World.{World, member_of, new_fields, class_of_value, is_of_type, zero_of, cast_of_null, type_text}
 
 -- trees evaluated with one unit less than what stands around them: the bodies of calls and the next turns of loops

@@ -6,12 +6,15 @@ use Rattle.sj_trees.specs.declared.operators.BinaryOp.{BinaryOp}
 use Rattle.sj_trees.specs.declared.operators.UnaryOp.{UnaryOp}
 use Rattle.sj_trees.specs.declared.positions.Position.{Position}
 
--- a variable of the IR by its name, or one by its number, which holds an operand
+-- a variable of the IR by its name, one by its number, which holds an operand, or the one that holds This
 pub data Variable : Type 0 where
   named : List ℕ → Variable
   numbered : ℕ → Variable
+  receiver : Variable
 
 mutual
+  -- among them a field of an object, a static field, a value that isn't null, an object of the member's class on which that constructor ran, and a call
+  -- of the member on a receiver
   pub data Expression : Type 0 where
     undefined_value : Expression
     null_value : Expression
@@ -25,6 +28,11 @@ mutual
     value_text : Expression → Expression
     choice_of : Expression → Expression → Expression → Expression
     static_call : Member → Expressions → Expression
+    field_of : Expression → List ℕ → List ℕ → Expression
+    static_of : List ℕ → List ℕ → Expression
+    checked_value : Expression → Expression
+    made_of : Member → Expressions → Expression
+    receiver_call : Member → Expression → Expressions → Expression
     unary_of : UnaryOp → Expression → Expression
     binary_of : BinaryOp → Expression → Expression → Expression
 
@@ -45,6 +53,9 @@ mutual
     evaluate_of : Origin → Expression → Statement
     return_of : Origin → Expression → Statement
     log_of : Origin → Expression → Statement
+    assign_field : Origin → Expression → List ℕ → List ℕ → Expression → Statement
+    assign_static : Origin → List ℕ → List ℕ → Expression → Statement
+    throw_of : Origin → Expression → Statement
     leave_label : Origin → List ℕ → Statement
     break_nearest : Origin → Statement
     if_of : Origin → Expression → Statements → Statements → Statement

@@ -1,10 +1,10 @@
 -- Where a char becomes an object that holds it.
-use Rattle.std.specs.Prelude.{Bool, true, false, ◌&&◌, not, List, ◌∷◌, if◌then◌else◌}
+use Rattle.std.specs.Prelude.{Bool, true, false, ◌&&◌, not, List, ◌∷◌, codes, if◌then◌else◌}
 use Rattle.sj_core.specs.Terms.{Expression, boxed_char}
 use Rattle.sj_names.specs.declared.references.TypeRef.{TypeRef}
 use Rattle.sj_trees.specs.Types.{reference_type}
 use Rattle.sj_trees.specs.declared.types.IrType.{IrType}
-use Rattle.sj_trees.specs.declared.types.IrType.TheVariants.{Char}
+use Rattle.sj_trees.specs.declared.types.IrType.TheVariants.{Char, Class}
 
 abbrev pub is_char : IrType → Bool
 is_char Char = true
@@ -18,3 +18,7 @@ coerced expected own e = if (is_char own && not (is_char expected)) then boxed_c
 abbrev pub coerced_arguments : List TypeRef → List IrType → List Expression → List Expression
 coerced_arguments (r ∷ rs) (t ∷ ts) (e ∷ es) = coerced (reference_type r) t e ∷ coerced_arguments rs ts es
 coerced_arguments _ _ es = es
+
+-- a receiver: a char is called as an object that holds it
+abbrev pub coerced_receiver : IrType → Expression → Expression
+coerced_receiver own e = coerced (Class (codes "java.lang.Character")) own e

@@ -5,20 +5,23 @@ use Rattle.std.specs.Prelude.{nat_eq}
 use Rattle.sj_names.specs.declared.method_names.Member.{Member}
 use Rattle.sj_names.specs.declared.method_names.MethodName.{MethodName}
 use Rattle.sj_names.specs.declared.method_names.Namespace.{Namespace}
+use Rattle.sj_names.specs.declared.method_names.Namespace.TheVariants.{Constructor}
 use Rattle.sj_trees.specs.Term.{Term, Terms, no_terms, more_terms, Cases, no_cases, more_cases, var_def, skip, block_of, labeled, assign, return_to, if_then, while_loop, do_while, try_catch, try_finally, throw, match_on, new_object, load_module, store_module, select, select_static, apply, apply_statically, apply_static, unary_op, binary_op, new_array, array_value, array_length, array_select, is_instance_of, as_instance_of, undefined_literal, null_literal, boolean_literal, char_literal, byte_literal, short_literal, int_literal, long_literal, string_literal, var_ref, this_ref, log_line}
+use Rattle.sj_trees.specs.Types.{class_type}
 use Rattle.sj_trees.specs.TypeOf.{type_of_term, unary_result, binary_result}
 use Rattle.sj_trees.specs.declared.classes.MethodDef.{MethodDef}
 use Rattle.sj_trees.specs.declared.classes.ParamDef.{ParamDef}
 use Rattle.sj_trees.specs.declared.operators.UnaryOp.TheVariants.{BooleanNot}
 use Rattle.sj_trees.specs.declared.positions.Position.{Position}
 use Rattle.sj_trees.specs.declared.types.IrType.{IrType}
-use Rattle.sj_trees.specs.declared.types.IrType.TheVariants.{Nothing, Undefined, Boolean, Char, Byte, Short, Int, Long, String, Null, NoType}
+use Rattle.sj_trees.specs.declared.types.IrType.TheVariants.{Any, Nothing, Undefined, Boolean, Char, Byte, Short, Int, Long, String, Null, NoType}
 use Rattle.sj_core.specs.Terms as core
-use Rattle.sj_core.specs.Terms.{named, Expression, undefined_value, null_value, boolean_value, number_value, long_value, text_value, variable_use, choice_of, static_call, unary_of, binary_of, Statement, define_of, declare_of, assign_to, evaluate_of, return_of, log_of, leave_label, break_nearest, if_of, while_of, loop_of, labeled_of, switch_of, Statements, no_statements, statement, followed, Method}
+use Rattle.sj_core.specs.Terms.{named, Expression, field_of, static_of, made_of, receiver_call, checked_value, undefined_value, null_value, boolean_value, number_value, long_value, text_value, variable_use, choice_of, static_call, unary_of, binary_of, Statement, define_of, declare_of, assign_to, evaluate_of, return_of, log_of, assign_field, assign_static, throw_of, leave_label, break_nearest, if_of, while_of, loop_of, labeled_of, switch_of, Statements, no_statements, statement, followed, Method}
 use Rattle.sj_core.specs.Views.{expressions_of}
-use Rattle.sj_desugar.specs.Coercions.{coerced, coerced_arguments}
+use Rattle.sj_desugar.specs.Coercions.{coerced, coerced_arguments, coerced_receiver}
 use Rattle.sj_desugar.specs.Plain.{is_no_type, is_plain, is_fixed, is_among, mutable_in, mutable_params}
 use Rattle.sj_desugar.specs.Texts.{operand_of}
+use Rattle.sure_receivers.specs.Sure.{is_sure, sure_locals}
 use Rattle.sj_desugar.specs.Spill.{Destination, discard, to_variable, to_result, Code, no_code, one, put_first, joined, then_code, Operand, spill, then_use}
 
 -- the position of a tree
@@ -87,28 +90,45 @@ abbrev pub second_of : List Expression → Expression
 second_of [] = undefined_value
 second_of (e ∷ es) = first_of es
 
-abbrev mutual
-  -- a plain tree as an expression. A form that isn't built yet stands as undefined.
-  pub expression_of : Term → Expression
-  expression_of (if_then p c a b t) = choice_of (expression_of c) (coerced t (type_of_term a) (expression_of a)) (coerced t (type_of_term b) (expression_of b))
-  expression_of (apply_static p c n m ts t) = static_call (member c n m) (expressions_of (coerced_arguments m.params (types_of ts) (all_expressions ts)))
-  expression_of (unary_op p o e) = unary_of o (expression_of e)
-  expression_of (binary_op p o e d) = binary_of o (operand_of o (type_of_term e) (expression_of e)) (operand_of o (type_of_term d) (expression_of d))
-  expression_of (undefined_literal p) = undefined_value
-  expression_of (null_literal p) = null_value
-  expression_of (boolean_literal p b) = boolean_value b
-  expression_of (char_literal p u) = number_value (pos u)
-  expression_of (byte_literal p z) = number_value z
-  expression_of (short_literal p z) = number_value z
-  expression_of (int_literal p z) = number_value z
-  expression_of (long_literal p z) = long_value z
-  expression_of (string_literal p us) = text_value us
-  expression_of (var_ref p x t) = variable_use (named x)
-  expression_of _ = undefined_value
+-- those behind the first
+abbrev pub rest_of : List Expression → List Expression
+rest_of [] = []
+rest_of (e ∷ es) = es
 
-  pub all_expressions : Terms → List Expression
-  all_expressions no_terms = []
-  all_expressions (more_terms e es) = expression_of e ∷ all_expressions es
+-- a receiver, with its null check unless it is sure
+abbrev pub received_text : Bool → Expression → Expression
+received_text true e = e
+received_text false e = checked_value e
+
+-- the locals that are never null
+module _ (sure : List ℕ → Bool) where
+  abbrev mutual
+    -- a plain tree as an expression. A form that isn't built yet stands as undefined.
+    pub expression_of : Term → Expression
+    expression_of (if_then p c a b t) = choice_of (expression_of c) (coerced t (type_of_term a) (expression_of a)) (coerced t (type_of_term b) (expression_of b))
+    expression_of (apply_static p c n m ts t) = static_call (member c n m) (expressions_of (coerced_arguments m.params (types_of ts) (all_expressions ts)))
+    expression_of (apply_statically p e c n m ts t) = receiver_call (member c n m) (coerced_receiver (type_of_term e) (received_text (is_sure sure e) (expression_of e))) (expressions_of (coerced_arguments m.params (types_of ts) (all_expressions ts)))
+    expression_of (this_ref p t) = variable_use core.receiver
+    expression_of (new_object p c m ts) = made_of (member c Constructor m) (expressions_of (coerced_arguments m.params (types_of ts) (all_expressions ts)))
+    expression_of (select p e c f t) = field_of (received_text (is_sure sure e) (expression_of e)) c f
+    expression_of (select_static p c f t) = static_of c f
+    expression_of (unary_op p o e) = unary_of o (expression_of e)
+    expression_of (binary_op p o e d) = binary_of o (operand_of o (type_of_term e) (expression_of e)) (operand_of o (type_of_term d) (expression_of d))
+    expression_of (undefined_literal p) = undefined_value
+    expression_of (null_literal p) = null_value
+    expression_of (boolean_literal p b) = boolean_value b
+    expression_of (char_literal p u) = number_value (pos u)
+    expression_of (byte_literal p z) = number_value z
+    expression_of (short_literal p z) = number_value z
+    expression_of (int_literal p z) = number_value z
+    expression_of (long_literal p z) = long_value z
+    expression_of (string_literal p us) = text_value us
+    expression_of (var_ref p x t) = variable_use (named x)
+    expression_of _ = undefined_value
+
+    pub all_expressions : Terms → List Expression
+    all_expressions no_terms = []
+    all_expressions (more_terms e es) = expression_of e ∷ all_expressions es
 
 -- the labels around a tree, the innermost first, and where a value that leaves to one goes
 pub record Target : Type 0 where
@@ -172,25 +192,41 @@ switched p e bs d = record { statements = statement (switch_of (Some p) e bs.cas
 abbrev pub switch_code : Position → Expression → Branches → (ℕ → Code) → Code
 switch_code p e bs d = switched p e bs (d bs.next)
 
-module _ (is_mutable : List ℕ → Bool) where
+-- a receiver as an operand, with its null check unless it is sure: with it, it isn't fixed, and where it isn't plain it is spilled by itself
+abbrev pub received : Bool → Operand → Operand
+received true o = o
+received false o = record { at = o.at; tpe = o.tpe; plain = o.plain; fixed = false; text = checked_value o.text; code = λ k j. then_use (spill (o ∷ []) j) (λ es. finish k o.at o.tpe false (checked_value (first_of es))) }
+
+module _ (is_mutable sure : List ℕ → Bool) where
   abbrev pub operand : Term → (Destination → ℕ → Code) → Operand
-  operand t code = record { at = position_of t; tpe = type_of_term t; plain = is_plain t; fixed = is_fixed is_mutable t; text = expression_of t; code = code }
+  operand t code = record { at = position_of t; tpe = type_of_term t; plain = is_plain t; fixed = is_fixed is_mutable t; text = expression_of sure t; code = code }
+
+  abbrev pub receiver : Term → (Destination → ℕ → Code) → Operand
+  receiver t code = received (is_sure sure t) (operand t code)
 
   abbrev mutual
     -- a tree as statements that bring its value to a destination, with variables for operands from this number on. A form that isn't built
     -- yet writes nothing.
     pub into : Targets → Destination → ℕ → Term → Code
-    into ls k j (var_def p x t b e) = elim (is_plain e) [ true ↦ one (define_of (Some p) (named x) (coerced t (type_of_term e) (expression_of e))) j | false ↦ put_first (declare_of (Some p) (named x)) (into ls (to_variable (named x) t) j e) ]
+    into ls k j (var_def p x t b e) = elim (is_plain e) [ true ↦ one (define_of (Some p) (named x) (coerced t (type_of_term e) (expression_of sure e))) j | false ↦ put_first (declare_of (Some p) (named x)) (into ls (to_variable (named x) t) j e) ]
     into ls k j (skip p) = no_code j
     into ls k j (block_of p ts) = block ls k j ts
     into ls k j (labeled p l t e) = labeled_code k p l (into (record { label = l; goes_to = k } ∷ ls) k j e)
     into ls k j (assign p (var_ref q x t) e) = then_use (spill (operand e (λ k j. into ls k j e) ∷ []) j) (λ es. one (assign_to (Some p) (named x) (coerced t (type_of_term e) (first_of es))))
+    into ls k j (assign p (select q d c f t) e) = then_use (spill (receiver d (λ k j. into ls k j d) ∷ operand e (λ k j. into ls k j e) ∷ []) j) (λ es. one (assign_field (Some p) (first_of es) c f (coerced t (type_of_term e) (second_of es))))
+    into ls k j (assign p (select_static q c f t) e) = then_use (spill (operand e (λ k j. into ls k j e) ∷ []) j) (λ es. one (assign_static (Some p) c f (coerced t (type_of_term e) (first_of es))))
     into ls k j (return_to p e l) = leaving_code (target_of ls l) p l (into ls (target_of ls l) j e)
     into ls k j (if_then p c a b t) = then_use (spill (operand c (λ k j. into ls k j c) ∷ []) j) (λ es j. branches p (first_of es) (into ls k j a) (λ j. into ls k j b))
-    into ls k j (while_loop p c b) = elim (is_plain c) [ true ↦ wrapped (while_of (Some p) (expression_of c)) (into ls discard j b) | false ↦ wrapped (while_of (Some p) (boolean_value true)) (then_use (spill (operand c (λ k j. into ls k j c) ∷ []) j) (λ es j. put_first (break_unless (first_of es)) (into ls discard j b))) ]
+    into ls k j (while_loop p c b) = elim (is_plain c) [ true ↦ wrapped (while_of (Some p) (expression_of sure c)) (into ls discard j b) | false ↦ wrapped (while_of (Some p) (boolean_value true)) (then_use (spill (operand c (λ k j. into ls k j c) ∷ []) j) (λ es j. put_first (break_unless (first_of es)) (into ls discard j b))) ]
     into ls k j (do_while p b c) = wrapped (loop_of (Some p)) (then_code (into ls discard j b) (λ j. then_use (spill (operand c (λ k j. into ls k j c) ∷ []) j) (λ es. one (break_unless (first_of es)))))
     into ls k j (match_on p e cs d t) = then_use (spill (operand e (λ k j. into ls k j e) ∷ []) j) (λ es j. switch_code p (first_of es) (cases ls k j cs) (λ j. into ls k j d))
     into ls k j (apply_static p c n m ts t) = then_use (spill (operands ls ts) j) (λ es. finish k p t false (static_call (member c n m) (expressions_of (coerced_arguments m.params (types_of ts) es))))
+    into ls k j (apply_statically p e c n m ts t) = then_use (spill (receiver e (λ k j. into ls k j e) ∷ operands ls ts) j) (λ es. finish k p t false (receiver_call (member c n m) (coerced_receiver (type_of_term e) (first_of es)) (expressions_of (coerced_arguments m.params (types_of ts) (rest_of es)))))
+    into ls k j (this_ref p t) = finish k p t true (variable_use core.receiver) j
+    into ls k j (throw p e) = then_use (spill (operand e (λ k j. into ls k j e) ∷ []) j) (λ es. one (throw_of (Some p) (coerced Any (type_of_term e) (first_of es))))
+    into ls k j (new_object p c m ts) = then_use (spill (operands ls ts) j) (λ es. finish k p (class_type c) false (made_of (member c Constructor m) (expressions_of (coerced_arguments m.params (types_of ts) es))))
+    into ls k j (select p e c f t) = then_use (spill (receiver e (λ k j. into ls k j e) ∷ []) j) (λ es. finish k p t false (field_of (first_of es) c f))
+    into ls k j (select_static p c f t) = finish k p t false (static_of c f) j
     into ls k j (unary_op p o e) = then_use (spill (operand e (λ k j. into ls k j e) ∷ []) j) (λ es. finish k p (unary_result o) false (unary_of o (first_of es)))
     into ls k j (binary_op p o e d) = then_use (spill (operand e (λ k j. into ls k j e) ∷ operand d (λ k j. into ls k j d) ∷ []) j) (λ es. finish k p (binary_result o) false (binary_of o (operand_of o (type_of_term e) (first_of es)) (operand_of o (type_of_term d) (second_of es))))
     into ls k j (undefined_literal p) = finish k p Undefined true undefined_value j
@@ -228,7 +264,7 @@ result_destination t = elim (is_no_type t) [ true ↦ discard | false ↦ to_res
 
 -- the statements of a body whose mutable locals are these
 abbrev pub body_code : (List ℕ → Bool) → IrType → Term → Statements
-body_code is_mutable t e = (into is_mutable [] (result_destination t) 1 e).statements
+body_code is_mutable t e = (into is_mutable (sure_locals e) [] (result_destination t) 1 e).statements
 
 abbrev pub is_mutable_in : MethodDef → Term → List ℕ → Bool
 is_mutable_in d e x = is_among (mutable_params d.params (mutable_in e [])) x
@@ -240,3 +276,12 @@ names_of (d ∷ ds) = d.name ∷ names_of ds
 -- a method with this body in the core
 abbrev pub desugared : MethodDef → Term → Method
 desugared d e = record { namespace = d.namespace; params = names_of d.params; body = body_code (is_mutable_in d e) d.result e }
+
+-- a constructor gives the object that it ran on
+abbrev pub completed : Namespace → Statements → Statements
+completed Constructor ss = followed ss (statement (return_of None (variable_use core.receiver)) no_statements)
+completed n ss = ss
+
+-- any method with this body: that of a constructor is followed by the return of its object
+abbrev pub desugared_member : MethodDef → Term → Method
+desugared_member d e = record { namespace = d.namespace; params = names_of d.params; body = completed d.namespace (body_code (is_mutable_in d e) d.result e) }

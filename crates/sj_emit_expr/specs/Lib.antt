@@ -1,4 +1,6 @@
+pub mod Members
 pub mod Names
+pub mod ObjectRows
 pub mod Pieces
 pub mod Rows
 pub mod Templates

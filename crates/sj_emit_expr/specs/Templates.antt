@@ -1,15 +1,17 @@
 -- The emitted text of each expression and statement of the core: one line a form and an operator.
 use Rattle.std.specs.Prelude.{ℕ, zero, Bool, true, false, List, [], ◌∷◌, pos, codes}
 use Rattle.js_tree.specs.Terms as js
-use Rattle.js_tree.specs.Terms.{Name, null_literal, boolean_literal, undefined_literal, number_literal, big_literal, text_literal, name_use, call_of, new_of, binary_of, conditional_of, host_call, host_call_of_two, const_of, let_of, expression_statement, assign_name, break_to, if_only, if_else, do_forever, switch_on}
+use Rattle.js_tree.specs.Terms.{Name, null_literal, boolean_literal, undefined_literal, number_literal, big_literal, text_literal, name_use, property_of, call_of, new_of, binary_of, conditional_of, host_call, host_call_of_two, const_of, let_of, expression_statement, assign_name, assign_property, break_to, if_only, if_else, do_forever, switch_on}
 use Rattle.js_tree.specs.declared.operators.BinaryOperator.TheVariants.{Add, Subtract, Multiply, Divide, Remainder, BitAnd, BitOr, BitXor, ShiftLeft, ShiftRight, ShiftRightUnsigned, StrictEqual, StrictNotEqual, Less, LessOrEqual, Greater, GreaterOrEqual}
 use Rattle.js_tree.specs.declared.operators.HostFunction.TheVariants.{BigInt, Number, StringFromCharCode, ConsoleLog}
 use Rattle.js_tree.specs.declared.operators.HostOperation.TheVariants.{BigIntAsIntN, BigIntAsUintN, MathImul}
 use Rattle.js_tree.specs.declared.operators.UnaryOperator.TheVariants.{Not}
 use Rattle.sj_core.specs.Terms as core
-use Rattle.sj_core.specs.Terms.{Variable, undefined_value, null_value, boolean_value, number_value, long_value, text_value, variable_use, boxed_char, char_text, value_text, choice_of, static_call, constant_of, define_of, assign_to, evaluate_of, log_of, leave_label, if_of, loop_of, switch_of, Method}
+use Rattle.sj_core.specs.Terms.{Variable, undefined_value, null_value, boolean_value, number_value, long_value, text_value, variable_use, boxed_char, char_text, value_text, choice_of, static_call, field_of, static_of, checked_value, made_of, receiver_call, constant_of, define_of, assign_to, assign_field, assign_static, evaluate_of, log_of, leave_label, if_of, loop_of, switch_of, Method}
 use Rattle.sj_emit_expr.specs.Names.{variable_name, label_name}
-use Rattle.sj_mangling.specs.Bindings.{function_name}
+use Rattle.sj_mangling.specs.Bindings.{function_name, class_binding, field_binding}
+use Rattle.sj_mangling.specs.declared.bindings.ClassBinding.TheVariants.{Class}
+use Rattle.sj_mangling.specs.declared.bindings.FieldBinding.TheVariants.{Property, Variable as StaticField, Setter}
 use Rattle.sj_names.specs.declared.method_names.Member.{Member}
 use Rattle.sj_trees.specs.declared.operators.BinaryOp.{BinaryOp}
 use Rattle.sj_trees.specs.declared.operators.BinaryOp.TheVariants.{StringConcatenate, BooleanEqual, BooleanNotEqual, BooleanOr, BooleanAnd, IntAdd, IntSubtract, IntMultiply, IntDivide, IntRemainder, IntOr, IntAnd, IntXor, IntShiftLeft, IntShiftRightLogical, IntShiftRightArithmetic, IntEqual, IntNotEqual, IntLess, IntLessOrEqual, IntGreater, IntGreaterOrEqual, LongAdd, LongSubtract, LongMultiply, LongDivide, LongRemainder, LongOr, LongAnd, LongXor, LongShiftLeft, LongShiftRightLogical, LongShiftRightArithmetic, LongEqual, LongNotEqual, LongLess, LongLessOrEqual, LongGreater, LongGreaterOrEqual}
@@ -115,6 +117,23 @@ binary_template nonzero _ e g = undefined_literal
 abbrev pub member_name : Member → Name
 member_name m = function_name m.namespace m.class m.method
 
+-- a class; the property of a field; a static field, and the function that sets it
+abbrev pub class_name : List ℕ → Name
+class_name c = class_binding Class c
+
+abbrev pub property_name : List ℕ → List ℕ → Name
+property_name c f = field_binding Property c f
+
+abbrev pub static_name : List ℕ → List ℕ → Name
+static_name c f = field_binding StaticField c f
+
+abbrev pub setter_name : List ℕ → List ℕ → Name
+setter_name c f = field_binding Setter c f
+
+-- the helper that hands on what isn't null
+abbrev pub check_name : Name
+check_name = codes "$nn"
+
 -- a choice whose second branch has no statements is written without it
 abbrev pub choice_template : js.Expression → js.Statements → js.Statements → js.Statement
 choice_template c ss js.no_statements = if_only c ss
@@ -136,6 +155,11 @@ module _ (name : Variable → Name) (label : List ℕ → Name) where
     expression_template (value_text e) = as_text (expression_template e)
     expression_template (choice_of c e g) = conditional_of (expression_template c) (expression_template e) (expression_template g)
     expression_template (static_call m es) = call_of (member_name m) (expression_templates es)
+    expression_template (field_of e c f) = property_of (expression_template e) (property_name c f)
+    expression_template (static_of c f) = name_use (static_name c f)
+    expression_template (checked_value e) = call_of check_name (js.expression (expression_template e) js.no_expressions)
+    expression_template (made_of m es) = call_of (member_name m) (js.expression (new_of (class_name m.class) js.no_expressions) (expression_templates es))
+    expression_template (receiver_call m e es) = call_of (member_name m) (js.expression (expression_template e) (expression_templates es))
     expression_template (core.unary_of o e) = unary_template o (expression_template e)
     expression_template (core.binary_of o e g) = binary_template (is_nonzero_literal g) o (expression_template e) (expression_template g)
 
@@ -152,6 +176,9 @@ module _ (name : Variable → Name) (label : List ℕ → Name) where
     statement_template (evaluate_of p e) = expression_statement (expression_template e)
     statement_template (core.return_of p e) = js.return_of (expression_template e)
     statement_template (log_of p e) = expression_statement (host_call ConsoleLog (expression_template e))
+    statement_template (assign_field p e c f g) = assign_property (expression_template e) (property_name c f) (expression_template g)
+    statement_template (assign_static p c f e) = expression_statement (call_of (setter_name c f) (js.expression (expression_template e) js.no_expressions))
+    statement_template (core.throw_of p e) = js.throw_of (expression_template e)
     statement_template (leave_label p l) = break_to (label l)
     statement_template (core.break_nearest p) = js.break_nearest
     statement_template (if_of p c ss ts) = choice_template (expression_template c) (statement_templates ss) (statement_templates ts)

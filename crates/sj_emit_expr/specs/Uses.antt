@@ -3,8 +3,8 @@ use Rattle.std.specs.Prelude.{ℕ, Bool, false, ◌&&◌, List, [], ◌∷◌, �
 use Rattle.std.specs.Cmp.Lexicographic.{pointwise}
 use Rattle.std.specs.List.{list_any}
 use Rattle.js_tree.specs.declared.items.Binding.{Binding}
-use Rattle.sj_core.specs.Terms.{Expression, boxed_char, char_text, value_text, choice_of, static_call, unary_of, binary_of, Expressions, no_expressions, expression, Statement, constant_of, define_of, declare_of, assign_to, evaluate_of, return_of, log_of, leave_label, break_nearest, if_of, while_of, loop_of, labeled_of, switch_of, Statements, no_statements, statement, Cases, no_cases, switch_case}
-use Rattle.sj_emit_expr.specs.Templates.{member_name, is_nonzero_literal}
+use Rattle.sj_core.specs.Terms.{Expression, boxed_char, char_text, value_text, choice_of, static_call, field_of, static_of, checked_value, made_of, receiver_call, unary_of, binary_of, Expressions, no_expressions, expression, Statement, constant_of, define_of, declare_of, assign_to, evaluate_of, return_of, log_of, assign_field, assign_static, throw_of, leave_label, break_nearest, if_of, while_of, loop_of, labeled_of, switch_of, Statements, no_statements, statement, Cases, no_cases, switch_case}
+use Rattle.sj_emit_expr.specs.Templates.{member_name, class_name, static_name, setter_name, check_name, is_nonzero_literal}
 use Rattle.sj_names.specs.declared.method_names.Member.{Member}
 use Rattle.sj_trees.specs.declared.operators.BinaryOp.{BinaryOp}
 use Rattle.sj_trees.specs.declared.operators.BinaryOp.TheVariants.{IntDivide, IntRemainder, LongDivide, LongRemainder}
@@ -14,6 +14,15 @@ object_binding x = record { owner = codes "java.lang.Object"; name = x }
 
 abbrev pub function_binding : Member → Binding
 function_binding m = record { owner = m.class; name = member_name m }
+
+abbrev pub class_use : List ℕ → Binding
+class_use c = record { owner = c; name = class_name c }
+
+abbrev pub static_use : List ℕ → List ℕ → Binding
+static_use c f = record { owner = c; name = static_name c f }
+
+abbrev pub setter_use : List ℕ → List ℕ → Binding
+setter_use c f = record { owner = c; name = setter_name c f }
 
 -- the helper that an operator calls
 abbrev pub helper_of : Bool → BinaryOp → List Binding
@@ -31,6 +40,11 @@ abbrev mutual
   uses_in (value_text e) = uses_in e
   uses_in (choice_of c e g) = uses_in c ++ uses_in e ++ uses_in g
   uses_in (static_call m es) = function_binding m ∷ uses_in_all es
+  uses_in (field_of e c f) = uses_in e
+  uses_in (static_of c f) = static_use c f ∷ []
+  uses_in (checked_value e) = object_binding check_name ∷ uses_in e
+  uses_in (made_of m es) = function_binding m ∷ class_use m.class ∷ uses_in_all es
+  uses_in (receiver_call m e es) = function_binding m ∷ uses_in e ++ uses_in_all es
   uses_in (unary_of o e) = uses_in e
   uses_in (binary_of o e g) = helper_of (is_nonzero_literal g) o ++ uses_in e ++ uses_in g
   uses_in _ = []
@@ -48,6 +62,9 @@ abbrev mutual
   uses_of (evaluate_of p e) = uses_in e
   uses_of (return_of p e) = uses_in e
   uses_of (log_of p e) = uses_in e
+  uses_of (assign_field p e c f g) = uses_in e ++ uses_in g
+  uses_of (assign_static p c f e) = setter_use c f ∷ uses_in e
+  uses_of (throw_of p e) = uses_in e
   uses_of (leave_label p l) = []
   uses_of (break_nearest p) = []
   uses_of (if_of p c ss ts) = uses_in c ++ uses_of_all ss ++ uses_of_all ts

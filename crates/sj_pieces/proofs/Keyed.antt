@@ -67,12 +67,12 @@ either-keyed : (plain : Bool) (c d : Code) → Keyed c → Keyed d → Keyed (el
 either-keyed true c d h k = h
 either-keyed false c d h k = k
 
-module _ (is_mutable : List ℕ → Bool) where
+module _ (is_mutable sure : List ℕ → Bool) where
   abbrev TreeKeyed : Term → Type 0
-  TreeKeyed t = (ts : Targets) (k : Destination) (j : ℕ) → Keyed (into is_mutable ts k j t)
+  TreeKeyed t = (ts : Targets) (k : Destination) (j : ℕ) → Keyed (into is_mutable sure ts k j t)
 
   abbrev one_of : Targets → Term → List Operand
-  one_of ts e = operand is_mutable e (λ k j. into is_mutable ts k j e) ∷ []
+  one_of ts e = operand is_mutable sure e (λ k j. into is_mutable sure ts k j e) ∷ []
 
   -- one operand
   act_keyed : (e : Term) → TreeKeyed e → (ts : Targets) (j : ℕ) (made : List core.Expression → ℕ → Code) → ((es : List core.Expression) (i : ℕ) → Keyed (made es i)) → Keyed (then_use (spill (one_of ts e) j) made)
@@ -80,18 +80,18 @@ module _ (is_mutable : List ℕ → Bool) where
 
   mutual
     keyed : (t : Term) → TreeKeyed t
-    keyed (var_def p x t c e) = λ ts k j. either-keyed (is_plain e) (one (core.define_of (Some p) (core.named x) (coerced t (type_of_term e) (expression_of e))) j) (put_first (core.declare_of (Some p) (core.named x)) (into is_mutable ts (to_variable (core.named x) t) j e)) (tt, tt) (tt, keyed e ts (to_variable (core.named x) t) j)
+    keyed (var_def p x t c e) = λ ts k j. either-keyed (is_plain e) (one (core.define_of (Some p) (core.named x) (coerced t (type_of_term e) (expression_of sure e))) j) (put_first (core.declare_of (Some p) (core.named x)) (into is_mutable sure ts (to_variable (core.named x) t) j e)) (tt, tt) (tt, keyed e ts (to_variable (core.named x) t) j)
     keyed (block_of p es) = λ ts k j. keyed_block es ts k j
-    keyed (labeled p l t e) = λ ts k j. labeled-keyed k p l (into is_mutable (record { label = l; goes_to = k } ∷ ts) k j e) (keyed e (record { label = l; goes_to = k } ∷ ts) k j)
+    keyed (labeled p l t e) = λ ts k j. labeled-keyed k p l (into is_mutable sure (record { label = l; goes_to = k } ∷ ts) k j e) (keyed e (record { label = l; goes_to = k } ∷ ts) k j)
     keyed (assign p (var_ref q x t) e) = λ ts k j. act_keyed e (keyed e) ts j (λ es. one (core.assign_to (Some p) (core.named x) (coerced t (type_of_term e) (first_of es)))) (λ es i. (tt, tt))
-    keyed (return_to p e l) = λ ts k j. leaving-keyed (target_of ts l) p l (into is_mutable ts (target_of ts l) j e) (keyed e ts (target_of ts l) j)
-    keyed (if_then p c a b t) = λ ts k j. act_keyed c (keyed c) ts j (λ es j. branches p (first_of es) (into is_mutable ts k j a) (λ j. into is_mutable ts k j b)) (λ es i. ((keyed a ts k i, keyed b ts k (into is_mutable ts k i a).next), tt))
-    keyed (while_loop p c b) = λ ts k j. either-keyed (is_plain c) (wrapped (core.while_of (Some p) (expression_of c)) (into is_mutable ts discard j b)) (wrapped (core.while_of (Some p) (core.boolean_value true)) (then_use (spill (one_of ts c) j) (λ es j. put_first (break_unless (first_of es)) (into is_mutable ts discard j b)))) (keyed b ts discard j, tt) (act_keyed c (keyed c) ts j (λ es j. put_first (break_unless (first_of es)) (into is_mutable ts discard j b)) (λ es i. (((tt, tt), tt), keyed b ts discard i)), tt)
-    keyed (do_while p b c) = λ ts k j. (followed-keyed (into is_mutable ts discard j b).statements (then_use (spill (one_of ts c) (into is_mutable ts discard j b).next) (λ es. one (break_unless (first_of es)))).statements (keyed b ts discard j) (act_keyed c (keyed c) ts (into is_mutable ts discard j b).next (λ es. one (break_unless (first_of es))) (λ es i. (((tt, tt), tt), tt))), tt)
-    keyed (match_on p e cs b t) = λ ts k j. act_keyed e (keyed e) ts j (λ es j. switch_code p (first_of es) (cases is_mutable ts k j cs) (λ j. into is_mutable ts k j b)) (λ es i. ((keyed_cases cs ts k i, keyed b ts k (cases is_mutable ts k i cs).next), tt))
-    keyed (apply_static p c n m es t) = λ ts k j. use-keyed (operands is_mutable ts es) (keyed_operands es ts) j (λ xs. finish k p t false (core.static_call (member c n m) (expressions_of (coerced_arguments m.params (types_of es) xs)))) (λ xs i. finish-keyed k p t false (core.static_call (member c n m) (expressions_of (coerced_arguments m.params (types_of es) xs))) i)
+    keyed (return_to p e l) = λ ts k j. leaving-keyed (target_of ts l) p l (into is_mutable sure ts (target_of ts l) j e) (keyed e ts (target_of ts l) j)
+    keyed (if_then p c a b t) = λ ts k j. act_keyed c (keyed c) ts j (λ es j. branches p (first_of es) (into is_mutable sure ts k j a) (λ j. into is_mutable sure ts k j b)) (λ es i. ((keyed a ts k i, keyed b ts k (into is_mutable sure ts k i a).next), tt))
+    keyed (while_loop p c b) = λ ts k j. either-keyed (is_plain c) (wrapped (core.while_of (Some p) (expression_of sure c)) (into is_mutable sure ts discard j b)) (wrapped (core.while_of (Some p) (core.boolean_value true)) (then_use (spill (one_of ts c) j) (λ es j. put_first (break_unless (first_of es)) (into is_mutable sure ts discard j b)))) (keyed b ts discard j, tt) (act_keyed c (keyed c) ts j (λ es j. put_first (break_unless (first_of es)) (into is_mutable sure ts discard j b)) (λ es i. (((tt, tt), tt), keyed b ts discard i)), tt)
+    keyed (do_while p b c) = λ ts k j. (followed-keyed (into is_mutable sure ts discard j b).statements (then_use (spill (one_of ts c) (into is_mutable sure ts discard j b).next) (λ es. one (break_unless (first_of es)))).statements (keyed b ts discard j) (act_keyed c (keyed c) ts (into is_mutable sure ts discard j b).next (λ es. one (break_unless (first_of es))) (λ es i. (((tt, tt), tt), tt))), tt)
+    keyed (match_on p e cs b t) = λ ts k j. act_keyed e (keyed e) ts j (λ es j. switch_code p (first_of es) (cases is_mutable sure ts k j cs) (λ j. into is_mutable sure ts k j b)) (λ es i. ((keyed_cases cs ts k i, keyed b ts k (cases is_mutable sure ts k i cs).next), tt))
+    keyed (apply_static p c n m es t) = λ ts k j. use-keyed (operands is_mutable sure ts es) (keyed_operands es ts) j (λ xs. finish k p t false (core.static_call (member c n m) (expressions_of (coerced_arguments m.params (types_of es) xs)))) (λ xs i. finish-keyed k p t false (core.static_call (member c n m) (expressions_of (coerced_arguments m.params (types_of es) xs))) i)
     keyed (unary_op p o e) = λ ts k j. act_keyed e (keyed e) ts j (λ es. finish k p (unary_result o) false (core.unary_of o (first_of es))) (λ es i. finish-keyed k p (unary_result o) false (core.unary_of o (first_of es)) i)
-    keyed (binary_op p o e b) = λ ts k j. use-keyed (operand is_mutable e (λ k j. into is_mutable ts k j e) ∷ one_of ts b) ((λ x t i. keyed e ts (to_variable x t) i), ((λ x t i. keyed b ts (to_variable x t) i), tt)) j (λ es. finish k p (binary_result o) false (core.binary_of o (operand_of o (type_of_term e) (first_of es)) (operand_of o (type_of_term b) (second_of es)))) (λ es i. finish-keyed k p (binary_result o) false (core.binary_of o (operand_of o (type_of_term e) (first_of es)) (operand_of o (type_of_term b) (second_of es))) i)
+    keyed (binary_op p o e b) = λ ts k j. use-keyed (operand is_mutable sure e (λ k j. into is_mutable sure ts k j e) ∷ one_of ts b) ((λ x t i. keyed e ts (to_variable x t) i), ((λ x t i. keyed b ts (to_variable x t) i), tt)) j (λ es. finish k p (binary_result o) false (core.binary_of o (operand_of o (type_of_term e) (first_of es)) (operand_of o (type_of_term b) (second_of es)))) (λ es i. finish-keyed k p (binary_result o) false (core.binary_of o (operand_of o (type_of_term e) (first_of es)) (operand_of o (type_of_term b) (second_of es))) i)
     keyed (undefined_literal p) = λ ts k j. finish-keyed k p Undefined true core.undefined_value j
     keyed (null_literal p) = λ ts k j. finish-keyed k p Null true core.null_value j
     keyed (boolean_literal p v) = λ ts k j. finish-keyed k p Boolean true (core.boolean_value v) j
@@ -105,19 +105,19 @@ module _ (is_mutable : List ℕ → Bool) where
     keyed (log_line p e) = λ ts k j. act_keyed e (keyed e) ts j (λ es. one (core.log_of (Some p) (first_of es))) (λ es i. (tt, tt))
     keyed t = λ ts k j. tt
 
-    keyed_block : (es : Terms) (ts : Targets) (k : Destination) (j : ℕ) → Keyed (block is_mutable ts k j es)
+    keyed_block : (es : Terms) (ts : Targets) (k : Destination) (j : ℕ) → Keyed (block is_mutable sure ts k j es)
     keyed_block no_terms ts k j = tt
     keyed_block (more_terms t no_terms) ts k j = keyed t ts k j
-    keyed_block (more_terms t (more_terms u us)) ts k j = followed-keyed (into is_mutable ts discard j t).statements (block is_mutable ts k (into is_mutable ts discard j t).next (more_terms u us)).statements (keyed t ts discard j) (keyed_block (more_terms u us) ts k (into is_mutable ts discard j t).next)
+    keyed_block (more_terms t (more_terms u us)) ts k j = followed-keyed (into is_mutable sure ts discard j t).statements (block is_mutable sure ts k (into is_mutable sure ts discard j t).next (more_terms u us)).statements (keyed t ts discard j) (keyed_block (more_terms u us) ts k (into is_mutable sure ts discard j t).next)
 
-    keyed_operands : (es : Terms) (ts : Targets) → EachKeyed (operands is_mutable ts es)
+    keyed_operands : (es : Terms) (ts : Targets) → EachKeyed (operands is_mutable sure ts es)
     keyed_operands no_terms ts = tt
     keyed_operands (more_terms t es) ts = ((λ x i j. keyed t ts (to_variable x i) j), keyed_operands es ts)
 
-    keyed_cases : (cs : Cases) (ts : Targets) (k : Destination) (j : ℕ) → HaveKeys (cases is_mutable ts k j cs).cases
+    keyed_cases : (cs : Cases) (ts : Targets) (k : Destination) (j : ℕ) → HaveKeys (cases is_mutable sure ts k j cs).cases
     keyed_cases no_cases ts k j = tt
     keyed_cases (more_cases [] t cs) ts k j = keyed_cases cs ts k j
-    keyed_cases (more_cases (n ∷ ns) t cs) ts k j = (refl, followed-keyed (into is_mutable ts k j t).statements (core.statement (core.break_nearest None) core.no_statements) (keyed t ts k j) (tt, tt), keyed_cases cs ts k (into is_mutable ts k j t).next)
+    keyed_cases (more_cases (n ∷ ns) t cs) ts k j = (refl, followed-keyed (into is_mutable sure ts k j t).statements (core.statement (core.break_nearest None) core.no_statements) (keyed t ts k j) (tt, tt), keyed_cases cs ts k (into is_mutable sure ts k j t).next)
 
 pub desugared-keyed : (d : MethodDef) (e : Term) → HasKeys (desugared d e)
 desugared-keyed d e = keyed (is_mutable_in d e) e [] (result_destination d.result) 1

@@ -1,0 +1,36 @@
+use Rattle.std.proofs.Common.{refl}
+use Rattle.std.specs.Fmt.{digits}
+use Rattle.js_tree.specs.Written.{put}
+use Rattle.sj_emit_expr.proofs.worked_objects.Goals as goal
+
+pub returns-clause-constructor : goal.returns-clause-constructor
+unfolding put digits
+returns-clause-constructor c = refl
+
+pub returns-clause-sum : goal.returns-clause-sum
+unfolding put digits
+returns-clause-sum c = refl
+
+pub returns-clause-sets : goal.returns-clause-sets
+unfolding put digits
+returns-clause-sets c = refl
+
+pub returns-clause-gets : goal.returns-clause-gets
+unfolding put digits
+returns-clause-gets c = refl
+
+pub returns-clause-others : goal.returns-clause-others
+unfolding put digits
+returns-clause-others c = refl
+
+pub returns-clause-constructor_uses : goal.returns-clause-constructor_uses
+unfolding put digits
+returns-clause-constructor_uses c = refl
+
+pub returns-clause-sum_uses : goal.returns-clause-sum_uses
+unfolding put digits
+returns-clause-sum_uses c = refl
+
+pub returns-clause-others_uses : goal.returns-clause-others_uses
+unfolding put digits
+returns-clause-others_uses c = refl

@@ -1,0 +1,23 @@
+-- The piece of any method: a function, which has its receiver as the first parameter where there is one.
+use Rattle.std.specs.Prelude.{List, ◌∷◌}
+use Rattle.js_tree.specs.Terms.{Name, Piece}
+use Rattle.sj_core.specs.Terms.{Method, receiver}
+use Rattle.sj_emit_expr.specs.Names.{variable_name}
+use Rattle.sj_emit_expr.specs.Pieces.{function_piece}
+use Rattle.sj_emit_expr.specs.Templates.{parameter_names, body_template}
+use Rattle.sj_emit_expr.specs.Uses.{uses}
+use Rattle.sj_names.specs.declared.method_names.Member.{Member}
+use Rattle.sj_names.specs.declared.method_names.Namespace.{Namespace}
+use Rattle.sj_names.specs.declared.method_names.Namespace.TheVariants.{PublicStatic, PrivateStatic}
+
+-- `$this` in front, but in a static method
+abbrev pub with_receiver : Namespace → List Name → List Name
+with_receiver PublicStatic xs = xs
+with_receiver PrivateStatic xs = xs
+with_receiver _ xs = variable_name receiver ∷ xs
+
+abbrev pub function_parameters : Method → List Name
+function_parameters m = with_receiver m.namespace (parameter_names m.params)
+
+abbrev pub member_piece : Member → Method → Piece
+member_piece m c = function_piece m (function_parameters c) (body_template c) (uses c.body)

@@ -1,0 +1,82 @@
+-- Methods with objects, and the functions that are written for them.
+use Rattle.std.specs.Prelude.{ℕ, true, false, List, [], ◌∷◌, pos, codes, Some, None}
+use Rattle.js_tree.specs.Terms.{Piece}
+use Rattle.sj_desugar.specs.Desugar.{desugared_member}
+use Rattle.sj_emit_expr.specs.Members.{member_piece}
+use Rattle.sj_names.specs.declared.method_names.MethodName.{MethodName}
+use Rattle.sj_names.specs.declared.method_names.Namespace.{Namespace}
+use Rattle.sj_names.specs.declared.method_names.Namespace.TheVariants.{PublicStatic, Private, Constructor}
+use Rattle.sj_names.specs.declared.references.TypeRef.{TypeRef}
+use Rattle.sj_trees.specs.Erase.{nowhere}
+use Rattle.sj_trees.specs.Term.{Term, Terms, no_terms, more_terms, var_def, skip, block_of, assign, throw, new_object, select, select_static, apply_statically, int_literal, long_literal, var_ref, this_ref, binary_op}
+use Rattle.sj_trees.specs.declared.classes.MethodDef.{MethodDef}
+use Rattle.sj_trees.specs.declared.classes.ParamDef.{ParamDef}
+use Rattle.sj_trees.specs.declared.operators.BinaryOp.TheVariants.{IntAdd, IntDivide, LongRemainder}
+use Rattle.sj_trees.specs.declared.types.IrType.{IrType}
+use Rattle.sj_trees.specs.declared.types.IrType.TheVariants as Types
+
+abbrev pub a_name : List ℕ
+a_name = codes "A"
+
+abbrev pub a_class : IrType
+a_class = Types.Class a_name
+
+abbrev pub named : List ℕ → List TypeRef → TypeRef → MethodName
+named simple params result = record { simple = simple; params = params; result = Some result }
+
+-- a constructor of the class A that takes an int, and that of java.lang.Object
+abbrev pub from_int : MethodName
+from_int = named (codes "<init>") (TypeRef.Int ∷ []) TypeRef.Void
+
+abbrev pub from_nothing : MethodName
+from_nothing = named (codes "<init>") [] TypeRef.Void
+
+abbrev pub number : ℕ → Term
+number n = int_literal nowhere (pos n)
+
+abbrev pub use_of : List ℕ → IrType → Term
+use_of x t = var_ref nowhere x t
+
+abbrev pub param : List ℕ → IrType → ParamDef
+param x t = record { name = x; «mutable» = false; tpe = t }
+
+-- its field `f`, an int
+abbrev pub field : Term → Term
+field e = select nowhere e a_name (codes "f") Types.Int
+
+abbrev pub this : Term
+this = this_ref nowhere a_class
+
+-- the piece of a method of the class A with this body
+abbrev pub piece : Namespace → MethodName → List ParamDef → IrType → Term → Piece
+piece n m params result body = member_piece (record { class = a_name; namespace = n; method = m }) (desugared_member (record { pos = nowhere; namespace = n; name = m; params = params; result = result; body = Some body; hash = None }) body)
+
+abbrev pub block : List Term → Term
+block ts = block_of nowhere (all ts)
+  where
+    all : List Term → Terms
+    all [] = no_terms
+    all (t ∷ ts) = more_terms t (all ts)
+
+-- it calls the constructor of java.lang.Object on This, and sets the field
+abbrev pub constructor_piece : Piece
+constructor_piece = piece Constructor from_int (param (codes "x") Types.Int ∷ []) Types.NoType (block (apply_statically nowhere this (codes "java.lang.Object") Constructor from_nothing no_terms Types.NoType ∷ assign nowhere (field this) (use_of (codes "x") Types.Int) ∷ []))
+
+-- `q.f + a.f`, where `a` is a new object: of the two receivers `q` alone may be null
+abbrev pub sum_piece : Piece
+sum_piece = piece PublicStatic (named (codes "sum") (TypeRef.Class a_name ∷ []) TypeRef.Int) (param (codes "q") a_class ∷ []) Types.Int (block (var_def nowhere (codes "a") a_class false (new_object nowhere a_name from_int (more_terms (number 1) no_terms)) ∷ binary_op nowhere IntAdd (field (use_of (codes "q") a_class)) (field (use_of (codes "a") a_class)) ∷ []))
+
+-- a value that isn't plain, behind a receiver with its check and behind one that is sure
+abbrev pub sets_piece : Piece
+sets_piece = piece Private (named (codes "sets") (TypeRef.Class a_name ∷ []) TypeRef.Void) (param (codes "q") a_class ∷ []) Types.NoType (block (assign nowhere (field (use_of (codes "q") a_class)) (block (skip nowhere ∷ number 2 ∷ [])) ∷ assign nowhere (field this) (block (skip nowhere ∷ number 3 ∷ [])) ∷ []))
+
+-- a receiver that isn't plain, with its check
+abbrev pub gets_piece : Piece
+gets_piece = piece PublicStatic (named (codes "gets") (TypeRef.Class a_name ∷ []) TypeRef.Int) (param (codes "q") a_class ∷ []) Types.Int (field (block (skip nowhere ∷ use_of (codes "q") a_class ∷ [])))
+
+-- a static field, a call on a receiver, divisions by locals, and a throw
+abbrev pub others_piece : Piece
+others_piece = piece PublicStatic (named (codes "others") (TypeRef.Class a_name ∷ TypeRef.Int ∷ TypeRef.Long ∷ []) TypeRef.Void) (param (codes "q") a_class ∷ param (codes "i") Types.Int ∷ param (codes "j") Types.Long ∷ []) Types.NoType (block (assign nowhere static (binary_op nowhere IntDivide static (use_of (codes "i") Types.Int)) ∷ binary_op nowhere LongRemainder (long_literal nowhere (pos 7)) (use_of (codes "j") Types.Long) ∷ apply_statically nowhere (use_of (codes "q") a_class) a_name Private (named (codes "m") (TypeRef.Int ∷ []) TypeRef.Void) (more_terms (number 4) no_terms) Types.NoType ∷ throw nowhere (use_of (codes "q") a_class) ∷ []))
+  where
+    static : Term
+    static = select_static nowhere a_name (codes "s") Types.Int
