@@ -1,5 +1,5 @@
 -- What is written for each form, by what its operands come to.
-use Rattle.std.proofs.Common.{◌≡◌, ◌∙◌, ℕ, suc, Bool, true, false, ◌&&◌, List, [], ◌∷◌, ap, sym, Some}
+use Rattle.std.proofs.Common.{◌≡◌, ◌∙◌, ℕ, suc, Bool, true, false, ◌&&◌, List, [], ◌∷◌, ap, sym, refl, Some}
 use Rattle.sj_core.specs.Terms.{named, assign_to, log_of, while_of, loop_of, boolean_value}
 use Rattle.sj_core.specs.Terms as core
 use Rattle.sj_desugar.specs.Coercions.{coerced, coerced_arguments, coerced_receiver}
@@ -10,7 +10,7 @@ use Rattle.sj_desugar.specs.Spill.{Destination, discard, to_variable, Code, one,
 use Rattle.sj_desugar.specs.Texts.{operand_of}
 use Rattle.sj_desugaring.specs.Arguments.{with_arguments}
 use Rattle.sj_desugaring.specs.Forms.{behind}
-use Rattle.sj_desugarer.specs.Operands.{comes_to, comes_received}
+use Rattle.sj_desugarer.specs.Operands.{comes_to, comes_received, owner_place, assigned_code}
 use Rattle.sj_desugaring.specs.Placing.{Placed, placed, placed_case, brought}
 use Rattle.sj_desugarer.proofs.Spilling.{use-one, use-two, use-first}
 use Rattle.sj_desugarer.proofs.Runs.{operands-plain}
@@ -26,7 +26,7 @@ use Rattle.sj_trees.specs.declared.types.IrType.TheVariants.{Any}
 use Rattle.sure_receivers.specs.Sure.{is_sure}
 
 module _ (m s : List ℕ → Bool) (ls : Targets) (k : Destination) (j : ℕ) (p : Position) where
-  pub assign-row : (q : Position) (x : List ℕ) (t : IrType) (e : Term) → into m s ls k j (assign p (var_ref q x t) e) ≡ behind (comes_to m s ls true j e) (λ g. one (assign_to (Some p) (named x) (coerced t (type_of_term e) g)))
+  assign-row : (q : Position) (x : List ℕ) (t : IrType) (e : Term) → into m s ls k j (assign p (var_ref q x t) e) ≡ behind (comes_to m s ls true j e) (λ g. one (assign_to (Some p) (named x) (coerced t (type_of_term e) g)))
   unfolding comes_to
   assign-row q x t e = use-one (operand m s e (λ k j. into m s ls k j e)) j (λ es. one (assign_to (Some p) (named x) (coerced t (type_of_term e) (first_of es))))
 
@@ -59,9 +59,6 @@ module _ (m s : List ℕ → Bool) (ls : Targets) (k : Destination) (j : ℕ) (p
   loop-row b c = ap (λ d. wrapped (loop_of (Some p)) (joined (into m s ls discard j b) d)) (use-one (operand m s c (λ k j. into m s ls k j c)) (into m s ls discard j b).next (λ es. one (break_unless (first_of es))))
 
   -- the same where the parts are known by other names
-  pub assign-joins : (o : Placed) (q : Position) (x : List ℕ) (t : IrType) (e : Term) → o ≡ comes_to m s ls true j e → into m s ls k j (assign p (var_ref q x t) e) ≡ behind o (λ g. one (assign_to (Some p) (named x) (coerced t (type_of_term e) g)))
-  assign-joins o q x t e h = assign-row q x t e ∙ (λ i. behind (sym h i) (λ g. one (assign_to (Some p) (named x) (coerced t (type_of_term e) g))))
-
   pub if-joins : (o : Placed) (u v : Code) (c a b : Term) (t : IrType) → o ≡ comes_to m s ls true j c → u ≡ into m s ls k o.next a → v ≡ into m s ls k u.next b → into m s ls k j (if_then p c a b t) ≡ behind o (λ g i. branched p g u v)
   if-joins o u v c a b t h hy hn =
       let e1 : into m s ls k (comes_to m s ls true j c).next a ≡ u = ap (λ (r : Placed). into m s ls k r.next a) (sym h) ∙ sym hy in
@@ -120,19 +117,19 @@ module _ (m s : List ℕ → Bool) (ls : Targets) (k : Destination) (j : ℕ) (p
   unfolding comes_received
   field-joins o e c f t h = use-one (receiver m s e (λ k j. into m s ls k j e)) j (λ es. finish k p t false (core.field_of (first_of es) c f)) ∙ (λ i. behind (sym h i) (λ g. finish k p t false (core.field_of g c f)))
 
-  pub static-joins : (o : Placed) (q : Position) (c f : List ℕ) (t : IrType) (e : Term) → o ≡ comes_to m s ls true j e → into m s ls k j (assign p (select_static q c f t) e) ≡ behind o (λ g. one (core.assign_static (Some p) c f (coerced t (type_of_term e) g)))
+  static-row : (q : Position) (c f : List ℕ) (t : IrType) (e : Term) → into m s ls k j (assign p (select_static q c f t) e) ≡ behind (comes_to m s ls true j e) (λ g. one (core.assign_static (Some p) c f (coerced t (type_of_term e) g)))
   unfolding comes_to
-  static-joins o q c f t e h = use-one (operand m s e (λ k j. into m s ls k j e)) j (λ es. one (core.assign_static (Some p) c f (coerced t (type_of_term e) (first_of es)))) ∙ (λ i. behind (sym h i) (λ g. one (core.assign_static (Some p) c f (coerced t (type_of_term e) g))))
+  static-row q c f t e = use-one (operand m s e (λ k j. into m s ls k j e)) j (λ es. one (core.assign_static (Some p) c f (coerced t (type_of_term e) (first_of es))))
 
   set-row : (q : Position) (d : Term) (c f : List ℕ) (t : IrType) (e : Term) → into m s ls k j (assign p (select q d c f t) e) ≡ behind (comes_received m s ls (is_plain e) j d) (λ g i. behind (comes_to m s ls true i e) (λ h. one (core.assign_field (Some p) g c f (coerced t (type_of_term e) h))))
   unfolding comes_to comes_received
   set-row q d c f t e = use-two (receiver m s d (λ k j. into m s ls k j d)) (operand m s e (λ k j. into m s ls k j e)) j (λ es. one (core.assign_field (Some p) (first_of es) c f (coerced t (type_of_term e) (second_of es))))
 
-  pub set-joins : (o r : Placed) (q : Position) (d : Term) (c f : List ℕ) (t : IrType) (e : Term) (rest : Bool) → rest ≡ is_plain e → o ≡ comes_received m s ls rest j d → r ≡ comes_to m s ls true o.next e → into m s ls k j (assign p (select q d c f t) e) ≡ behind o (λ g i. behind r (λ h. one (core.assign_field (Some p) g c f (coerced t (type_of_term e) h))))
-  set-joins o r q d c f t e rest hr h hd =
-      let e1 : comes_received m s ls (is_plain e) j d ≡ o = ap (λ b. comes_received m s ls b j d) (sym hr) ∙ sym h in
-      let e2 : comes_to m s ls true (comes_received m s ls (is_plain e) j d).next e ≡ r = ap (λ (x : Placed). comes_to m s ls true x.next e) e1 ∙ sym hd in
-      set-row q d c f t e ∙ (λ i. behind (e1 i) (λ g x. behind (e2 i) (λ h. one (core.assign_field (Some p) g c f (coerced t (type_of_term e) h)))))
+  pub assignment-row : (t e : Term) → into m s ls k j (assign p t e) ≡ assigned_code m s ls j p t e (owner_place m s ls (is_plain e) j t)
+  assignment-row (var_ref q x t) e = assign-row q x t e
+  assignment-row (select q d c f t) e = set-row q d c f t e
+  assignment-row (select_static q c f t) e = static-row q c f t e
+  assignment-row _ e = refl
 
   receive-row : (e : Term) (c : List ℕ) (n : Namespace) (f : MethodName) (ts : Terms) (t : IrType) → into m s ls k j (apply_statically p e c n f ts t) ≡ behind (comes_received m s ls (are_plain ts) j e) (λ g i. then_use (spill (operands m s ls ts) i) (λ es. finish k p t false (core.receiver_call (member c n f) (coerced_receiver (type_of_term e) g) (expressions_of (coerced_arguments f.params (types_of ts) es)))))
   unfolding comes_received

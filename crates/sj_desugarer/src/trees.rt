@@ -5,22 +5,23 @@ ghost use Rattle.sj_desugar.specs.Plain.{is_among};
 ghost use Rattle.sj_desugar.specs.Spill.{spill};
 ghost use Rattle.sj_desugaring.specs.Arguments.{with_arguments};
 ghost use Rattle.sj_desugaring.specs.Forms as forms;
-ghost use Rattle.sj_desugarer.specs.Operands.{comes_to, comes_received};
+ghost use Rattle.sj_desugarer.specs.Operands.{comes_to, comes_received, owner_place, assigned_code};
 ghost use Rattle.sj_desugaring.specs.Placing.{placed};
 ghost use Rattle.sj_desugaring.specs.Views.{destination_view, target_view, code_view, placed_view, all_view, branches_view};
 ghost use Rattle.sj_trees.specs.View.{view, terms_view, cases_view};
 
+use sj_core::CoreExpression;
 use sj_desugaring::{
     Callee, Destination, FieldPlace, Operation, Placed, PlacedAll, SwitchCases, Target, Written,
     are_plain, assigned, binary_value, branched, brought, call_value, case_of, checked,
     checked_operand, coerced_argument, declared, defined, expression_of, field_set, field_value,
     in_place, is_fixed, is_plain, is_sure, joined, kept, labeled, leaving, local_destination,
     logged, looped, looped_behind, made_value, nothing, number_behind, operand_destination,
-    position_of, receiver_value, static_set, switched, target_of, tested_loop, thrown,
-    unary_value, value_of, with_label, without_first,
+    position_of, receiver_value, static_set, switched, target_of, tested_loop, thrown, unary_value,
+    value_of, with_label, without_first,
 };
 use sj_names::{LocalName, NoMemory, TypeRef};
-use sj_trees::{MatchCase, Tree, type_of};
+use sj_trees::{MatchCase, Position, Tree, type_of};
 use std::alloc::Global;
 
 /// The locals of a body that are mutable, and those that are never null.
@@ -60,62 +61,13 @@ pub fn statements_of(
             let body_code = statements_of(alloc, locals, &inner, destination, next, body)?;
             labeled(alloc, destination, *position, label, body_code)
         }
-        Tree::Assign(position, target, value) => match &**target {
-            Tree::VarRef(_, name, tpe) => {
-                let new_value = operand_of(alloc, locals, targets, true, next, value)?;
-                assigned(alloc, *position, name, tpe, value, new_value)
-            }
-            Tree::Select(_, object, class, name, tpe) => {
-                let value_plain = is_plain(value);
-                let owner = receiver_of(alloc, locals, targets, value_plain, next, object)?;
-                let new_value = operand_of(alloc, locals, targets, true, owner.next, value)?;
-                let place = FieldPlace { class, name, tpe };
-                field_set(alloc, *position, &place, value, owner, new_value)
-            }
-            Tree::SelectStatic(_, class, name, tpe) => {
-                let new_value = operand_of(alloc, locals, targets, true, next, value)?;
-                let place = FieldPlace { class, name, tpe };
-                static_set(alloc, *position, &place, value, new_value)
-            }
-            Tree::VarDef(_, _, _, _, _)
-            | Tree::Skip(_)
-            | Tree::Block(_, _)
-            | Tree::Labeled(_, _, _, _)
-            | Tree::Assign(_, _, _)
-            | Tree::Return(_, _, _)
-            | Tree::If(_, _, _, _, _)
-            | Tree::While(_, _, _)
-            | Tree::DoWhile(_, _, _)
-            | Tree::TryCatch(_, _, _, _, _)
-            | Tree::TryFinally(_, _, _)
-            | Tree::Throw(_, _)
-            | Tree::Match(_, _, _, _, _)
-            | Tree::New(_, _, _, _)
-            | Tree::LoadModule(_, _)
-            | Tree::StoreModule(_, _, _)
-            | Tree::Apply(_, _, _, _, _)
-            | Tree::ApplyStatically(_, _, _, _, _, _, _)
-            | Tree::ApplyStatic(_, _, _, _, _, _)
-            | Tree::UnaryOp(_, _, _)
-            | Tree::BinaryOp(_, _, _, _)
-            | Tree::NewArray(_, _, _)
-            | Tree::ArrayValue(_, _, _)
-            | Tree::ArrayLength(_, _)
-            | Tree::ArraySelect(_, _, _, _)
-            | Tree::IsInstanceOf(_, _, _)
-            | Tree::AsInstanceOf(_, _, _)
-            | Tree::Undefined(_)
-            | Tree::Null(_)
-            | Tree::BooleanLiteral(_, _)
-            | Tree::CharLiteral(_, _)
-            | Tree::ByteLiteral(_, _)
-            | Tree::ShortLiteral(_, _)
-            | Tree::IntLiteral(_, _)
-            | Tree::LongLiteral(_, _)
-            | Tree::StringLiteral(_, _)
-            | Tree::This(_, _)
-            | Tree::Log(_, _) => Ok(nothing(alloc, next)),
-        },
+        Tree::Assign(position, target, value) => {
+            let value_plain = is_plain(value);
+            let owner = owner_of(alloc, locals, targets, value_plain, next, target)?;
+            assignment_of(
+                alloc, locals, targets, next, *position, value, target, owner,
+            )
+        }
         Tree::Return(position, value, label) => {
             let goes_to = target_of(targets, label)?;
             let left = statements_of(alloc, locals, targets, &goes_to, next, value)?;
@@ -239,6 +191,135 @@ pub fn statements_of(
         | Tree::ArraySelect(_, _, _, _)
         | Tree::IsInstanceOf(_, _, _)
         | Tree::AsInstanceOf(_, _, _) => Ok(nothing(alloc, next)),
+    }
+}
+
+// The object of the field that a tree names as an operand. A tree that names no field writes nothing.
+#[cycle(trees)]
+fn owner_of(
+    alloc: Global,
+    locals: &Locals<'_>,
+    targets: &[Target],
+    rest_is_plain: bool,
+    next: u64,
+    target: &Tree,
+) -> Result<Placed, NoMemory>
+    ensures { IfOk result (λ p. placed_view p ≡ owner_place (is_among locals.now.mutable.now) (is_among locals.now.sure.now) (map target_view targets.now) rest_is_plain next (view target.now)) }
+{
+    match target {
+        Tree::Select(_, object, _, _, _) => {
+            receiver_of(alloc, locals, targets, rest_is_plain, next, object)
+        }
+        Tree::VarDef(_, _, _, _, _)
+        | Tree::Skip(_)
+        | Tree::Block(_, _)
+        | Tree::Labeled(_, _, _, _)
+        | Tree::Assign(_, _, _)
+        | Tree::Return(_, _, _)
+        | Tree::If(_, _, _, _, _)
+        | Tree::While(_, _, _)
+        | Tree::DoWhile(_, _, _)
+        | Tree::TryCatch(_, _, _, _, _)
+        | Tree::TryFinally(_, _, _)
+        | Tree::Throw(_, _)
+        | Tree::Match(_, _, _, _, _)
+        | Tree::New(_, _, _, _)
+        | Tree::LoadModule(_, _)
+        | Tree::StoreModule(_, _, _)
+        | Tree::Apply(_, _, _, _, _)
+        | Tree::ApplyStatically(_, _, _, _, _, _, _)
+        | Tree::ApplyStatic(_, _, _, _, _, _)
+        | Tree::UnaryOp(_, _, _)
+        | Tree::BinaryOp(_, _, _, _)
+        | Tree::NewArray(_, _, _)
+        | Tree::ArrayValue(_, _, _)
+        | Tree::ArrayLength(_, _)
+        | Tree::ArraySelect(_, _, _, _)
+        | Tree::IsInstanceOf(_, _, _)
+        | Tree::AsInstanceOf(_, _, _)
+        | Tree::Undefined(_)
+        | Tree::Null(_)
+        | Tree::BooleanLiteral(_, _)
+        | Tree::CharLiteral(_, _)
+        | Tree::ByteLiteral(_, _)
+        | Tree::ShortLiteral(_, _)
+        | Tree::IntLiteral(_, _)
+        | Tree::LongLiteral(_, _)
+        | Tree::StringLiteral(_, _)
+        | Tree::This(_, _)
+        | Tree::Log(_, _)
+        | Tree::VarRef(_, _, _)
+        | Tree::SelectStatic(_, _, _, _) => Ok(in_place(alloc, CoreExpression::Undefined, next)),
+    }
+}
+
+// An assignment of what the one tree comes to, to what the other names, behind the object of a field. A tree that names nothing writes nothing.
+#[cycle(trees)]
+fn assignment_of(
+    alloc: Global,
+    locals: &Locals<'_>,
+    targets: &[Target],
+    next: u64,
+    position: Position,
+    value: &Tree,
+    target: &Tree,
+    owner: Placed,
+) -> Result<Written, NoMemory>
+    ensures { IfOk result (λ w. code_view w ≡ assigned_code (is_among locals.now.mutable.now) (is_among locals.now.sure.now) (map target_view targets.now) next position (view target.now) (view value.now) (placed_view owner)) }
+{
+    match target {
+        Tree::VarRef(_, name, tpe) => {
+            let new_value = operand_of(alloc, locals, targets, true, next, value)?;
+            assigned(alloc, position, name, tpe, value, new_value)
+        }
+        Tree::Select(_, _, class, name, tpe) => {
+            let new_value = operand_of(alloc, locals, targets, true, owner.next, value)?;
+            let place = FieldPlace { class, name, tpe };
+            field_set(alloc, position, &place, value, owner, new_value)
+        }
+        Tree::SelectStatic(_, class, name, tpe) => {
+            let new_value = operand_of(alloc, locals, targets, true, next, value)?;
+            let place = FieldPlace { class, name, tpe };
+            static_set(alloc, position, &place, value, new_value)
+        }
+        Tree::VarDef(_, _, _, _, _)
+        | Tree::Skip(_)
+        | Tree::Block(_, _)
+        | Tree::Labeled(_, _, _, _)
+        | Tree::Assign(_, _, _)
+        | Tree::Return(_, _, _)
+        | Tree::If(_, _, _, _, _)
+        | Tree::While(_, _, _)
+        | Tree::DoWhile(_, _, _)
+        | Tree::TryCatch(_, _, _, _, _)
+        | Tree::TryFinally(_, _, _)
+        | Tree::Throw(_, _)
+        | Tree::Match(_, _, _, _, _)
+        | Tree::New(_, _, _, _)
+        | Tree::LoadModule(_, _)
+        | Tree::StoreModule(_, _, _)
+        | Tree::Apply(_, _, _, _, _)
+        | Tree::ApplyStatically(_, _, _, _, _, _, _)
+        | Tree::ApplyStatic(_, _, _, _, _, _)
+        | Tree::UnaryOp(_, _, _)
+        | Tree::BinaryOp(_, _, _, _)
+        | Tree::NewArray(_, _, _)
+        | Tree::ArrayValue(_, _, _)
+        | Tree::ArrayLength(_, _)
+        | Tree::ArraySelect(_, _, _, _)
+        | Tree::IsInstanceOf(_, _, _)
+        | Tree::AsInstanceOf(_, _, _)
+        | Tree::Undefined(_)
+        | Tree::Null(_)
+        | Tree::BooleanLiteral(_, _)
+        | Tree::CharLiteral(_, _)
+        | Tree::ByteLiteral(_, _)
+        | Tree::ShortLiteral(_, _)
+        | Tree::IntLiteral(_, _)
+        | Tree::LongLiteral(_, _)
+        | Tree::StringLiteral(_, _)
+        | Tree::This(_, _)
+        | Tree::Log(_, _) => Ok(nothing(alloc, next)),
     }
 }
 

@@ -1,4 +1,4 @@
-use Rattle.std.proofs.Common.{◌≡◌, ◌∙◌, suc, ◌+◌, ◌<◌, ◌++◌, ◌∷◌, [], ap, sym, subst, map, drop, length, true, false, refl, None, Some, IfOk, arith}
+use Rattle.std.proofs.Common.{◌≡◌, ◌∙◌, suc, ◌+◌, ◌<◌, ◌++◌, ◌∷◌, [], ap, sym, subst, map, drop, length, Bool, true, false, refl, None, Some, IfOk, arith}
 use Rattle.std.proofs.lemmas.Bool.Decides.{nat_tests}
 use Rattle.std.proofs.lemmas.List.{map_push}
 use Rattle.sj_core.specs.Terms as core
@@ -12,10 +12,10 @@ use Rattle.sj_desugar.specs.Spill.{Code, discard, one, put_first, spill, then_us
 use Rattle.sj_desugar.specs.Texts.{operand_of}
 use Rattle.sj_desugaring.specs.Arguments.{coerced_argument, with_arguments}
 use Rattle.sj_desugaring.specs.Forms.{behind, for_last}
-use Rattle.sj_desugarer.proofs.Rows.{assign-joins, if-joins, log-joins, unary-joins, binary-joins, match-joins, turn-joins, loop-joins, received-sure, received-checked, checked-brought, set-joins, static-joins, receive-joins, field-joins, throw-joins}
+use Rattle.sj_desugarer.proofs.Rows.{assignment-row, if-joins, log-joins, unary-joins, binary-joins, match-joins, turn-joins, loop-joins, received-sure, received-checked, checked-brought, receive-joins, field-joins, throw-joins}
 use Rattle.sj_desugarer.proofs.Runs.{slice-rest, block-step, arguments-step, cases-take}
 use Rattle.sj_desugarer.proofs.trees.+trees.Goals as goal
-use Rattle.sj_desugarer.specs.Operands.{comes_to, comes_received}
+use Rattle.sj_desugarer.specs.Operands.{comes_to, comes_received, owner_place, assigned_code}
 use Rattle.sj_desugaring.specs.Views.{destination_view, target_view, code_view, placed_view, all_view, branches_view}
 use Rattle.sj_trees.proofs.trees.Tree.TheLaws.{the_size}
 use Rattle.sj_desugaring.specs.Placing.{brought}
@@ -130,21 +130,6 @@ statements_of-returns-in-While t c =
     let e_rest : code_view c.in_ok-rest-in-While.rest ≡ into m s ls discard c.in_ok-front-in-While.front.next (view n.body.value) = subst (λ (x : Tree). code_view c.in_ok-rest-in-While.rest ≡ into m s ls discard c.in_ok-front-in-While.front.next (view x)) c.deref-else-repeated-2.ensures c.in_ok-rest-in-While.ensures in
     subst (λ x. IfOk c.tested_loop.result (λ w. code_view w ≡ x)) (sym (ap (into m s ls k a.next) v ∙ turn-joins m s ls k a.next n.position (placed_view c.in_ok-front-in-While.front) (code_view c.in_ok-rest-in-While.rest) (behind (placed_view c.in_ok-front-in-While.front) (λ g i. put_first (break_unless g) (code_view c.in_ok-rest-in-While.rest))) (view n.condition.value) (view n.body.value) (sym tested ∙ c.if-repeated.false) e_front e_rest refl)) c.tested_loop.ensures
 
-pub statements_of-returns-in-VarRef : goal.statements_of-returns-in-VarRef
-statements_of-returns-in-VarRef t c =
-    let n = c.in-Assign in
-    let r = c.in-VarRef in
-    let a = c.args in
-    let m = is_among a.locals.now.mutable.now in
-    let s = is_among a.locals.now.sure.now in
-    let ls = map target_view a.targets.now in
-    let k = destination_view a.destination.now in
-    let there : view n.target.value ≡ var_ref r.field-0 r.name r.tpe = ap view (sym c.deref-in-Assign.ensures ∙ r.is ∙ sym (rolls-VarRef r.field-0 r.name r.tpe)) ∙ fold-roll-Tree Term Case view_step case_step (Tree-F.VarRef r.field-0 r.name r.tpe) in
-    let v : view a.tree.now ≡ assign n.position (var_ref r.field-0 r.name r.tpe) (view n.value.value) = ap view (n.is ∙ sym (rolls-Assign n.position n.target n.value)) ∙ fold-roll-Tree Term Case view_step case_step (Tree-F.Assign n.position n.target n.value) ∙ ap (λ x. assign n.position x (view n.value.value)) there in
-    let o = placed_view c.in_ok-new_value-in-VarRef.new_value in
-    let e_new : o ≡ comes_to m s ls true a.next (view n.value.value) = subst (λ (x : Tree). o ≡ comes_to m s ls true a.next (view x)) c.deref-in-VarRef.ensures c.in_ok-new_value-in-VarRef.ensures in
-    subst (λ x. IfOk c.assigned.result (λ w. code_view w ≡ x)) (sym (ap (into m s ls k a.next) v ∙ assign-joins m s ls k a.next n.position o r.field-0 r.name r.tpe (view n.value.value) e_new ∙ sym (ap (λ (x : Tree). behind o (λ g. one (assign_to (Some n.position) (named r.name) (coerced r.tpe (type_of_term (view x)) g)))) c.deref-in-VarRef-2.ensures))) c.assigned.ensures
-
 pub block_of-loop-index-preserved : goal.block_of-loop-index-preserved
 block_of-loop-index-preserved t c =
     let a = c.args in
@@ -213,39 +198,6 @@ receiver_of-returns-else-never_null t c =
     let v = view a.tree.now in
     subst (λ x. IfOk c.checked_receiver.result (λ p. placed_view p ≡ x)) (received-checked m s ls discard a.next (position_of v) a.rest_is_plain v (sym c.in_ok-never_null.ensures ∙ c.if-never_null.false)) c.checked_receiver.ensures
 
-pub statements_of-returns-in-Select-deref : goal.statements_of-returns-in-Select-deref
-statements_of-returns-in-Select-deref t c =
-    let n = c.in-Assign in
-    let r = c.in-Select-deref in
-    let a = c.args in
-    let m = is_among a.locals.now.mutable.now in
-    let s = is_among a.locals.now.sure.now in
-    let ls = map target_view a.targets.now in
-    let k = destination_view a.destination.now in
-    let there : view n.target.value ≡ select r.field-0 (view r.object.value) r.class r.name r.tpe = ap view (sym c.deref-in-Assign.ensures ∙ r.is ∙ sym (rolls-Select r.field-0 r.object r.class r.name r.tpe)) ∙ fold-roll-Tree Term Case view_step case_step (Tree-F.Select r.field-0 r.object r.class r.name r.tpe) in
-    let v : view a.tree.now ≡ assign n.position (select r.field-0 (view r.object.value) r.class r.name r.tpe) (view n.value.value) = ap view (n.is ∙ sym (rolls-Assign n.position n.target n.value)) ∙ fold-roll-Tree Term Case view_step case_step (Tree-F.Assign n.position n.target n.value) ∙ ap (λ x. assign n.position x (view n.value.value)) there in
-    let o = placed_view c.in_ok-owner-in-Select-deref.owner in
-    let w = placed_view c.in_ok-new_value-in-Select-deref.new_value in
-    let plain : c.is_plain-value_plain.result ≡ is_plain (view n.value.value) = subst (λ (x : Tree). c.is_plain-value_plain.result ≡ is_plain (view x)) c.deref-in-Select-deref.ensures c.is_plain-value_plain.ensures in
-    let e_owner : o ≡ comes_received m s ls c.is_plain-value_plain.result a.next (view r.object.value) = subst (λ (x : Tree). o ≡ comes_received m s ls c.is_plain-value_plain.result a.next (view x)) c.deref-in-Select-deref-2.ensures c.in_ok-owner-in-Select-deref.ensures in
-    let e_new : w ≡ comes_to m s ls true c.in_ok-owner-in-Select-deref.owner.next (view n.value.value) = subst (λ (x : Tree). w ≡ comes_to m s ls true c.in_ok-owner-in-Select-deref.owner.next (view x)) c.deref-in-Select-deref-3.ensures c.in_ok-new_value-in-Select-deref.ensures in
-    subst (λ x. IfOk c.field_set.result (λ w. code_view w ≡ x)) (sym (ap (into m s ls k a.next) v ∙ set-joins m s ls k a.next n.position o w r.field-0 (view r.object.value) r.class r.name r.tpe (view n.value.value) c.is_plain-value_plain.result plain e_owner e_new ∙ sym (ap (λ (x : Tree). behind o (λ g i. behind w (λ h. one (core.assign_field (Some n.position) g r.class r.name (coerced r.tpe (type_of_term (view x)) h))))) c.deref-in-Select-deref-4.ensures))) c.field_set.ensures
-
-pub statements_of-returns-in-SelectStatic : goal.statements_of-returns-in-SelectStatic
-statements_of-returns-in-SelectStatic t c =
-    let n = c.in-Assign in
-    let r = c.in-SelectStatic in
-    let a = c.args in
-    let m = is_among a.locals.now.mutable.now in
-    let s = is_among a.locals.now.sure.now in
-    let ls = map target_view a.targets.now in
-    let k = destination_view a.destination.now in
-    let there : view n.target.value ≡ select_static r.field-0 r.class r.name r.tpe = ap view (sym c.deref-in-Assign.ensures ∙ r.is ∙ sym (rolls-SelectStatic r.field-0 r.class r.name r.tpe)) ∙ fold-roll-Tree Term Case view_step case_step (Tree-F.SelectStatic r.field-0 r.class r.name r.tpe) in
-    let v : view a.tree.now ≡ assign n.position (select_static r.field-0 r.class r.name r.tpe) (view n.value.value) = ap view (n.is ∙ sym (rolls-Assign n.position n.target n.value)) ∙ fold-roll-Tree Term Case view_step case_step (Tree-F.Assign n.position n.target n.value) ∙ ap (λ x. assign n.position x (view n.value.value)) there in
-    let w = placed_view c.in_ok-new_value-in-SelectStatic.new_value in
-    let e_new : w ≡ comes_to m s ls true a.next (view n.value.value) = subst (λ (x : Tree). w ≡ comes_to m s ls true a.next (view x)) c.deref-in-SelectStatic.ensures c.in_ok-new_value-in-SelectStatic.ensures in
-    subst (λ x. IfOk c.static_set.result (λ w. code_view w ≡ x)) (sym (ap (into m s ls k a.next) v ∙ static-joins m s ls k a.next n.position w r.field-0 r.class r.name r.tpe (view n.value.value) e_new ∙ sym (ap (λ (x : Tree). behind w (λ g. one (core.assign_static (Some n.position) r.class r.name (coerced r.tpe (type_of_term (view x)) g)))) c.deref-in-SelectStatic-2.ensures))) c.static_set.ensures
-
 pub statements_of-returns-in-ApplyStatically : goal.statements_of-returns-in-ApplyStatically
 statements_of-returns-in-ApplyStatically t c =
     let n = c.in-ApplyStatically in
@@ -288,3 +240,62 @@ statements_of-returns-in-Throw t c =
     let o = placed_view c.in_ok-object-in-Throw.object in
     let e_object : o ≡ comes_to m s ls true a.next (view n.value.value) = subst (λ (x : Tree). o ≡ comes_to m s ls true a.next (view x)) c.deref-in-Throw.ensures c.in_ok-object-in-Throw.ensures in
     subst (λ x. IfOk c.thrown.result (λ w. code_view w ≡ x)) (sym (ap (into m s ls k a.next) v ∙ throw-joins m s ls k a.next n.position o (view n.value.value) e_object ∙ sym (ap (λ (x : Tree). behind o (λ g. one (core.throw_of (Some n.position) (coerced Any (type_of_term (view x)) g)))) c.deref-in-Throw-2.ensures))) c.thrown.ensures
+
+pub statements_of-returns-in-Assign : goal.statements_of-returns-in-Assign
+statements_of-returns-in-Assign t c =
+    let n = c.in-Assign in
+    let a = c.args in
+    let m = is_among a.locals.now.mutable.now in
+    let s = is_among a.locals.now.sure.now in
+    let ls = map target_view a.targets.now in
+    let k = destination_view a.destination.now in
+    let v : view a.tree.now ≡ assign n.position (view n.target.value) (view n.value.value) = ap view (n.is ∙ sym (rolls-Assign n.position n.target n.value)) ∙ fold-roll-Tree Term Case view_step case_step (Tree-F.Assign n.position n.target n.value) in
+    let plain : c.is_plain-value_plain.result ≡ is_plain (view n.value.value) = subst (λ (x : Tree). c.is_plain-value_plain.result ≡ is_plain (view x)) c.deref-in-Assign.ensures c.is_plain-value_plain.ensures in
+    let o = placed_view c.in_ok-owner-in-Assign.owner in
+    let place : o ≡ owner_place m s ls c.is_plain-value_plain.result a.next (view n.target.value) = subst (λ (x : Tree). o ≡ owner_place m s ls c.is_plain-value_plain.result a.next (view x)) c.deref-in-Assign-2.ensures c.in_ok-owner-in-Assign.ensures in
+    let object : o ≡ owner_place m s ls (is_plain (view n.value.value)) a.next (view n.target.value) = subst (λ (b : Bool). o ≡ owner_place m s ls b a.next (view n.target.value)) plain place in
+    let written : IfOk c.assignment_of.result (λ w. code_view w ≡ assigned_code m s ls a.next n.position (view n.target.value) (view n.value.value) o) = subst (λ (x : Tree). IfOk c.assignment_of.result (λ w. code_view w ≡ assigned_code m s ls a.next n.position (view x) (view n.value.value) o)) c.deref-in-Assign-4.ensures (subst (λ (x : Tree). IfOk c.assignment_of.result (λ w. code_view w ≡ assigned_code m s ls a.next n.position (view c.deref-in-Assign-4.result.now) (view x) o)) c.deref-in-Assign-3.ensures c.assignment_of.ensures) in
+    subst (λ x. IfOk c.assignment_of.result (λ w. code_view w ≡ x)) (ap (assigned_code m s ls a.next n.position (view n.target.value) (view n.value.value)) object ∙ sym (ap (into m s ls k a.next) v ∙ assignment-row m s ls k a.next n.position (view n.target.value) (view n.value.value))) written
+
+pub owner_of-returns-in-Select : goal.owner_of-returns-in-Select
+owner_of-returns-in-Select t c =
+    let r = c.in-Select in
+    let a = c.args in
+    let m = is_among a.locals.now.mutable.now in
+    let s = is_among a.locals.now.sure.now in
+    let ls = map target_view a.targets.now in
+    let there : view a.target.now ≡ select r.field-0 (view r.object.value) r.field-2 r.field-3 r.field-4 = ap view (r.is ∙ sym (rolls-Select r.field-0 r.object r.field-2 r.field-3 r.field-4)) ∙ fold-roll-Tree Term Case view_step case_step (Tree-F.Select r.field-0 r.object r.field-2 r.field-3 r.field-4) in
+    subst (λ x. IfOk c.receiver_of.result (λ p. placed_view p ≡ x)) (ap (λ (x : Tree). comes_received m s ls a.rest_is_plain a.next (view x)) c.deref.ensures ∙ sym (ap (owner_place m s ls a.rest_is_plain a.next) there)) c.receiver_of.ensures
+
+pub assignment_of-returns-in_ok-new_value-in-VarRef : goal.assignment_of-returns-in_ok-new_value-in-VarRef
+assignment_of-returns-in_ok-new_value-in-VarRef t c =
+    let r = c.in-VarRef in
+    let a = c.args in
+    let m = is_among a.locals.now.mutable.now in
+    let s = is_among a.locals.now.sure.now in
+    let ls = map target_view a.targets.now in
+    let e = view a.value.now in
+    let there : view a.target.now ≡ var_ref r.field-0 r.name r.tpe = ap view (r.is ∙ sym (rolls-VarRef r.field-0 r.name r.tpe)) ∙ fold-roll-Tree Term Case view_step case_step (Tree-F.VarRef r.field-0 r.name r.tpe) in
+    subst (λ x. IfOk c.assigned.result (λ w. code_view w ≡ x)) ((λ i. behind (c.in_ok-new_value-in-VarRef.ensures i) (λ g. one (assign_to (Some a.position) (named r.name) (coerced r.tpe (type_of_term e) g)))) ∙ sym (ap (λ x. assigned_code m s ls a.next a.position x e (placed_view a.owner)) there)) c.assigned.ensures
+
+pub assignment_of-returns-in_ok-new_value-in-Select : goal.assignment_of-returns-in_ok-new_value-in-Select
+assignment_of-returns-in_ok-new_value-in-Select t c =
+    let r = c.in-Select in
+    let a = c.args in
+    let m = is_among a.locals.now.mutable.now in
+    let s = is_among a.locals.now.sure.now in
+    let ls = map target_view a.targets.now in
+    let e = view a.value.now in
+    let there : view a.target.now ≡ select r.field-0 (view r.field-1.value) r.class r.name r.tpe = ap view (r.is ∙ sym (rolls-Select r.field-0 r.field-1 r.class r.name r.tpe)) ∙ fold-roll-Tree Term Case view_step case_step (Tree-F.Select r.field-0 r.field-1 r.class r.name r.tpe) in
+    subst (λ x. IfOk c.field_set.result (λ w. code_view w ≡ x)) ((λ i. behind (placed_view a.owner) (λ g x. behind (c.in_ok-new_value-in-Select.ensures i) (λ h. one (core.assign_field (Some a.position) g r.class r.name (coerced r.tpe (type_of_term e) h))))) ∙ sym (ap (λ x. assigned_code m s ls a.next a.position x e (placed_view a.owner)) there)) c.field_set.ensures
+
+pub assignment_of-returns-in_ok-new_value-in-SelectStatic : goal.assignment_of-returns-in_ok-new_value-in-SelectStatic
+assignment_of-returns-in_ok-new_value-in-SelectStatic t c =
+    let r = c.in-SelectStatic in
+    let a = c.args in
+    let m = is_among a.locals.now.mutable.now in
+    let s = is_among a.locals.now.sure.now in
+    let ls = map target_view a.targets.now in
+    let e = view a.value.now in
+    let there : view a.target.now ≡ select_static r.field-0 r.class r.name r.tpe = ap view (r.is ∙ sym (rolls-SelectStatic r.field-0 r.class r.name r.tpe)) ∙ fold-roll-Tree Term Case view_step case_step (Tree-F.SelectStatic r.field-0 r.class r.name r.tpe) in
+    subst (λ x. IfOk c.static_set.result (λ w. code_view w ≡ x)) ((λ i. behind (c.in_ok-new_value-in-SelectStatic.ensures i) (λ g. one (core.assign_static (Some a.position) r.class r.name (coerced r.tpe (type_of_term e) g)))) ∙ sym (ap (λ x. assigned_code m s ls a.next a.position x e (placed_view a.owner)) there)) c.static_set.ensures
