@@ -4,6 +4,7 @@ ghost use Rattle.js_tree.specs.Rules.{IsPiece};
 ghost use Rattle.js_tree.specs.Views.{piece_view};
 ghost use Rattle.sj_desugarer.specs.Methods.{method_desugared};
 ghost use Rattle.sj_emit_expr.specs.Pieces.{piece_of};
+ghost use Rattle.sj_pieces.specs.Owners.{BodyOnObjects};
 
 use crate::forms::is_built;
 use crate::texts::{add, add_digits, class_of};
@@ -13,7 +14,7 @@ use sj_desugarer::desugar;
 use sj_emitter::emit_member;
 use sj_mangling::function_name;
 use sj_names::{ClassName, Member, Meter, NameError, NoMemory};
-use sj_pieces::{desugared_methods_have_keys, member_piece};
+use sj_pieces::{desugared_fields_have_owners, desugared_methods_have_keys, member_piece};
 use sj_trees::{ClassDef, MethodDef};
 use std::alloc::Global;
 
@@ -79,12 +80,14 @@ fn add_printed(alloc: Global, piece: &JsPiece, text: &mut String) -> Result<(), 
     add_digits(alloc, bytes.as_slice(), text)
 }
 
-// The piece of a static method.
+// The piece of a static method whose fields are those of objects.
 fn emitted(alloc: Global, member: &Member, method: &MethodDef) -> Result<JsPiece, NoMemory>
+    requires { BodyOnObjects method.now.body }
     ensures piece { IfOk result (λ p. piece_view p ≡ piece_of member.now (method_desugared method.now)) }
     ensures rules { IfOk result (λ p. IsPiece (piece_view p)) }
 {
     desugared_methods_have_keys();
+    desugared_fields_have_owners();
     let core = desugar(alloc, method)?;
     let function = emit_member(alloc, &core, &mut Meter::new())?;
     member_piece(alloc, member, &core, function)

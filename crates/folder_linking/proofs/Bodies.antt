@@ -8,6 +8,7 @@ use Rattle.js_tree.specs.Views.{piece_view}
 use Rattle.sj_desugarer.specs.Methods.{method_desugared, desugared_with}
 use Rattle.sj_emit_expr.specs.Pieces.{piece_of}
 use Rattle.sj_names.specs.declared.method_names.Member.{Member}
+use Rattle.sj_pieces.specs.Owners.{BodyOnObjects}
 use Rattle.sj_trees.specs.Term.{Term}
 use Rattle.sj_trees.specs.declared.classes.MethodDef.{MethodDef}
 use Rattle.sj_world.specs.Known.{Classes, is_known, is_hijacked}
@@ -54,7 +55,7 @@ pub class_known : (w : Classes) (k : Member) (d : MethodDef) → IsMethodOf w k 
 class_known w k d h = ap (λ o. is_some o || is_hijacked k.class) h.is_class
 
 -- the function of a member that has this definition
-pub function_is : (w : Classes) (k : Member) (d : MethodDef) (f : Function) → IsDefined w k → IsMethodOf w k d → f.member.now ≡ k → piece_view f.piece ≡ piece_of k (method_desugared d) → IsPiece (piece_view f.piece) → HasAncestors w k.class f.ancestors → IsFunction w f
+pub function_is : (w : Classes) (k : Member) (d : MethodDef) (f : Function) → IsDefined w k → IsMethodOf w k d → f.member.now ≡ k → piece_view f.piece ≡ piece_of k (method_desugared d) → (BodyOnObjects d.body → IsPiece (piece_view f.piece)) → HasAncestors w k.class f.ancestors → IsFunction w f
 function_is w k d f has is member piece rules above = go (some_of d.body (subst (λ (e : MethodDef). IsSome e.body) (same_definition w k has.definition d has.defined is) has.has_body))
   where
     go : (t : Term) × (d.body ≡ Some t) → IsFunction w f
@@ -63,7 +64,7 @@ function_is w k d f has is member piece rules above = go (some_of d.body (subst 
       member_is = sym member;
       found = record { found = found-member w k d is; has_body = b.1 };
       piece_is = piece ∙ ap (λ o. piece_of k (desugared_with d o)) b.1;
-      rules = rules;
+      rules = λ h. rules (subst BodyOnObjects (sym b.1) h);
       ancestors = above;
     }
 

@@ -28,12 +28,17 @@ use Rattle.folder_verdicts.proofs.Defined.{needed_bodies}
 use Rattle.folder_verdicts.specs.Stages.{IsDefined, KeepRules}
 use Rattle.worklist.proofs.Inserted.{nothing_in}
 use Rattle.accepted_folders.specs.Bodies.{AreBodies}
+use Rattle.accepted_folders.proofs.Calls.{needed}
+use Rattle.accepted_folders.proofs.Members.{defined}
 use Rattle.folder_judging.specs.Counts.{members_of, bodies_among}
 use Rattle.linked_folders.proofs.Edits.{Differ, no_more}
+use Rattle.linked_folders.proofs.Links.{body_built}
 use Rattle.linked_folders.proofs.Names.{names_tell}
 use Rattle.folder_linking.specs.declared.functions.Function.{Function}
 use Rattle.folder_linking.specs.Functions.{IsFunction, AreInOrder, member_of, piece}
 use Rattle.folder_linking.specs.Linking.{IsLinkable, ArePieces}
+use Rattle.sj_pieces.specs.Owners.{OnObjects}
+use Rattle.folder_linking.proofs.Objects.{built_on_objects}
 use Rattle.folder_linking.proofs.Ordered.{methods, methods_in_order, members_are, pieces_are, methods_found, pieces_keep}
 
 abbrev is_one : Member → Member → Bool
@@ -197,6 +202,11 @@ module _ (entries : List EntryPoint) (l : Linked) (can : IsLinkable entries l) (
   bodies : AreBodies l.world entries all
   bodies = record { exact = exact; found = methods_found l.world fs each; own = own }
 
+  objects : (e : EmittedMethod) → Contains all e → OnObjects e.its_body
+  objects e i =
+      let found = bodies.found e i in
+      built_on_objects e.definition e.its_body (body_built e.definition e.its_body found.has_body (can.built e.member e.definition (needed l.world entries all bodies e i) (defined l.world e.member e.definition found.found)))
+
   -- the pieces of the functions are those of all needed bodies, in order
   pub pieces : (ps : List JsPiece) → ps ≡ map piece fs → ArePieces l.world entries (map piece_view ps)
   pieces ps made = record {
@@ -204,7 +214,7 @@ module _ (entries : List EntryPoint) (l : Linked) (can : IsLinkable entries l) (
     bodies = bodies;
     in_order = methods_in_order l.world fs each are.in_order own (names_tell entries can.files l.world all can.are_bytes can.is_accepted can.built bodies);
     pieces_are = pieces_are l.world fs each ∙ sym views;
-    rules = subst (λ (qs : List Piece). All IsPiece qs) (sym views) (pieces_keep l.world fs each);
+    rules = subst (λ (qs : List Piece). All IsPiece qs) (sym views) (pieces_keep l.world fs each objects);
   }
     where
       views : map piece_view ps ≡ map (λ (f : Function). piece_view f.piece) fs

@@ -17,6 +17,7 @@ use Rattle.js_tree.specs.Views.{piece_view}
 use Rattle.sj_proper.specs.Emitted.{EmittedMethod, piece_of_method}
 use Rattle.sj_emit_expr.specs.Templates.{member_name}
 use Rattle.sj_proper.specs.Emitted.{HaveOwnMembers}
+use Rattle.sj_pieces.specs.Owners.{OnObjects}
 use Rattle.sj_split.proofs.Members.{at_first, further, cons_cases}
 use Rattle.sj_world.proofs.Orders.{same_name, same_compared}
 use Rattle.sj_world.specs.Known.{Name, Classes}
@@ -169,6 +170,10 @@ module _ (w : Classes) where
   pub methods_found : (fs : List Function) (each : (f : Function) → Contains fs f → IsFunction w f) (e : EmittedMethod) → Contains (methods fs each) e → IsFound w e
   methods_found fs each e h = let m = in_methods fs each e h in subst (IsFound w) m.method_is m.is.found
 
-  pub pieces_keep : (fs : List Function) → ((f : Function) → Contains fs f → IsFunction w f) → All IsPiece (map (λ (f : Function). piece_view f.piece) fs)
-  pieces_keep [] each = All-nil IsPiece
-  pieces_keep (f ∷ fs) each = All-cons IsPiece (piece_view f.piece) (map (λ (g : Function). piece_view g.piece) fs) (each f (at_first f fs)).rules (pieces_keep fs (λ g i. each g (further f g fs i)))
+  pub pieces_keep : (fs : List Function) (each : (f : Function) → Contains fs f → IsFunction w f) → ((e : EmittedMethod) → Contains (methods fs each) e → OnObjects e.its_body) → All IsPiece (map (λ (f : Function). piece_view f.piece) fs)
+  unfolding methods
+  pieces_keep [] each objects = All-nil IsPiece
+  pieces_keep (f ∷ fs) each objects =
+      let rest = λ (g : Function) (i : Contains fs g). each g (further f g fs i) in
+      let first = each f (at_first f fs) in
+      All-cons IsPiece (piece_view f.piece) (map (λ (g : Function). piece_view g.piece) fs) (first.rules (objects first.method (at_first first.method (methods fs rest)))) (pieces_keep fs rest (λ e i. objects e (further first.method e (methods fs rest) i)))

@@ -9,6 +9,7 @@ use Rattle.js_tree.specs.declared.items.JsPiece.{JsPiece}
 use Rattle.js_tree.specs.Rules.{IsPiece}
 use Rattle.js_tree.specs.Views.{piece_view}
 use Rattle.sj_proper.specs.Emitted.{EmittedMethod, piece_of_method}
+use Rattle.sj_pieces.specs.Owners.{OnObjects}
 use Rattle.sj_names.specs.declared.method_names.Member.{Member}
 use Rattle.sj_world.specs.Known.{Name, Classes}
 use Rattle.sj_world.specs.Tables.{AreAncestors}
@@ -21,13 +22,13 @@ pub record HasAncestors (w : Classes) (class : Name) (count : ℕ) : Type 0 wher
   pub are : AreAncestors w class names
   pub many : count ≡ length names
 
--- the function of the member's body, with the number of its class's ancestors
+-- the function of the member's body, with the number of its class's ancestors; it can be printed where the body's fields are those of objects
 pub record IsFunction (w : Classes) (f : Function) : Type 0 where
   pub method : EmittedMethod
   pub member_is : method.member ≡ f.member.now
   pub found : IsFound w method
   pub piece_is : piece_view f.piece ≡ piece_of_method method
-  pub rules : IsPiece (piece_view f.piece)
+  pub rules : OnObjects method.its_body → IsPiece (piece_view f.piece)
   pub ancestors : HasAncestors w method.member.class f.ancestors
 
 abbrev pub piece : Function → JsPiece

@@ -7,6 +7,7 @@ ghost use Rattle.sj_desugarer.specs.Methods.{method_desugared};
 ghost use Rattle.sj_emit_expr.specs.Pieces.{piece_of};
 ghost use Rattle.sj_emit_expr.specs.Templates.{parameter_names, body_template};
 ghost use Rattle.sj_emit_expr.specs.Uses.{uses};
+ghost use Rattle.sj_pieces.specs.Owners.{BodyOnObjects};
 ghost use Rattle.js_tree.specs.Rules.{IsPiece};
 ghost use Rattle.sj_names.specs.declared.method_names.Member.{Member};
 ghost use Rattle.sj_world.specs.Known.{is_known};
@@ -24,7 +25,7 @@ use sj_ask::WorldOracle;
 use sj_core::CoreMethod;
 use sj_desugarer::desugar;
 use sj_names::{ClassName, Member, NoMemory};
-use sj_pieces::{desugared_methods_have_keys, member_piece};
+use sj_pieces::{desugared_fields_have_owners, desugared_methods_have_keys, member_piece};
 use sj_recorder::Recorder;
 use sj_trees::MethodDef;
 use sj_workers::Workers;
@@ -111,10 +112,11 @@ fn emitted_piece<W: Workers>(
     work: &mut W,
 ) -> Result<JsPiece, NoMemory>
     ensures piece { IfOk result (λ p. piece_view p ≡ piece_of member.now (method_desugared definition.now)) }
-    ensures rules { IfOk result (λ p. IsPiece (piece_view p)) }
+    ensures rules { BodyOnObjects definition.now.body → IfOk result (λ p. IsPiece (piece_view p)) }
     ensures counted { Emits 1 result (W.meter work.old) (W.meter work.new) }
 {
     desugared_methods_have_keys();
+    desugared_fields_have_owners();
     let core = desugar(alloc, definition)?;
     let emitted = emit(alloc, linked, member, &core, work)?;
     member_piece(alloc, member, &core, emitted)

@@ -6,6 +6,7 @@ use Rattle.sj_desugar.specs.Desugar.{desugared}
 use Rattle.sj_desugarer.specs.Methods.{desugared_with}
 use Rattle.sj_names.specs.declared.method_names.Member.{Member}
 use Rattle.sj_pieces.specs.Keys.{HasKeys}
+use Rattle.sj_pieces.specs.Owners.{OnObjects, BodyOnObjects, FieldsHaveOwners}
 use Rattle.sj_emit_expr.specs.Pieces.{piece_of}
 use Rattle.sj_trees.specs.Term.{Term}
 use Rattle.sj_trees.specs.declared.classes.MethodDef.{MethodDef}
@@ -14,6 +15,10 @@ use Rattle.code_vectors.proofs.emits.emitted.Goals as goal
 with-keys : ((d : MethodDef) (e : Term) → HasKeys (desugared d e)) → (d : MethodDef) (body : Option Term) → HasKeys (desugared_with d body)
 with-keys h d None = tt
 with-keys h d (Some e) = h d e
+
+with-owners : ((d : MethodDef) (e : Term) → OnObjects e → FieldsHaveOwners (desugared d e)) → (d : MethodDef) (body : Option Term) → BodyOnObjects body → FieldsHaveOwners (desugared_with d body)
+with-owners h d None objects = tt
+with-owners h d (Some e) objects = h d e objects
 
 -- the piece of a method is that of one that is equal to it
 piece_of_equal : {E : Type 0} (r : Result JsPiece E) (m : Member) (a b : Method) → a ≡ b → IfOk r (λ p. piece_view p ≡ piece_of m a) → IfOk r (λ p. piece_view p ≡ piece_of m b)
@@ -25,4 +30,4 @@ returns-clause-piece c = piece_of_equal c.member_piece.result c.args.member.now 
 pub returns-clause-rules : goal.returns-clause-rules
 returns-clause-rules c =
     let d = c.args.method.now in
-    c.member_piece.ensures.rules (subst HasKeys (sym c.in_ok-core.ensures) (with-keys c.desugared_methods_have_keys.ensures d d.body))
+    c.member_piece.ensures.rules (subst HasKeys (sym c.in_ok-core.ensures) (with-keys c.desugared_methods_have_keys.ensures d d.body)) (subst FieldsHaveOwners (sym c.in_ok-core.ensures) (with-owners c.desugared_fields_have_owners.ensures.methods d d.body c.requires))
