@@ -1,5 +1,5 @@
 -- What stands below a class with fields has it on its chain of superclasses, and no primitive type stands there.
-use Rattle.std.proofs.Common.{◌≡◌, ℕ, Bool, true, false, List, [], ◌∷◌, ◌++◌, ◌&&◌, ◌||◌, Contains, Option, Some, None, codes, refl, sym, ap, ◌∙◌, subst, ◌⊎◌, inl, inr, if◌then◌else◌}
+use Rattle.std.proofs.Common.{◌≡◌, Bool, true, false, [], ◌&&◌, ◌||◌, Contains, Option, Some, None, codes, refl, sym, ap, ◌∙◌, subst, ◌⊎◌, inl, inr, if◌then◌else◌}
 use Rattle.std.specs.Prelude.{not, is_some}
 use Rattle.std.specs.List.{list_any}
 use Rattle.std.proofs.lemmas.Bool.{and_parts}
@@ -10,14 +10,14 @@ use Rattle.body_rules.proofs.Topped.{absent_above}
 use Rattle.body_soundness.specs.Worlds.{AreClassesKept, HasFields, WritesInterfaces}
 use Rattle.sj_local.specs.ClassRules.{is_empty, is_class, is_interface, is_hijacked_kind, is_rightly_hijacked, is_right_number, keeps_superclass, keeps_hijacked}
 use Rattle.sj_local.specs.Names.{is_some_name}
-use Rattle.sj_names.proofs.Same.{impossible, text-same, text-refl}
+use Rattle.sj_names.proofs.Same.{impossible, text-same}
 use Rattle.sj_names.specs.WellKnown.{is_object, is_number}
 use Rattle.sj_trees.specs.Types.{class_type}
 use Rattle.sj_trees.specs.declared.classes.ClassDef.{ClassDef}
 use Rattle.sj_trees.specs.declared.types.IrType.{IrType}
 use Rattle.sj_trees.specs.declared.types.IrType.TheVariants.{Any, Nothing, Null, Array, Class}
-use Rattle.sj_world.specs.Ancestors.{listed, superclass_of_absent, superclass_in, above_in, written, written_in, directly_above, IsParent, IsWritten, IsAncestor, Way, by_path, is_object as is_top, next_on_chain, IsNext, IsOnChain}
-use Rattle.sj_world.specs.Known.{Name, Classes, is_same, class_of, is_known, is_hijacked, stands_as, object, integer}
+use Rattle.sj_world.specs.Ancestors.{listed, superclass_in, above_in, written_in, directly_above, IsParent, Way, by_path, is_object as is_top, IsOnChain}
+use Rattle.sj_world.specs.Known.{Name, Classes, is_same, class_of, is_known, is_hijacked, stands_as, integer}
 use Rattle.sj_world.specs.Laws.{IsPlain}
 use Rattle.sj_world.specs.Paths.{Path, stay, on}
 use Rattle.sj_world.specs.Subtypes.{hijacked_class, IsSub, equal, from_nothing, to_any, null_to_class, null_to_array, class_to_class, primitive_to_class, arrays_alike, arrays_of_arrays}

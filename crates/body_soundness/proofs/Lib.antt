@@ -4,3 +4,4 @@ pub mod Heaps
 pub mod Right
 pub mod Sured
 pub mod Values
+pub mod Worked

@@ -8,6 +8,7 @@
 ghost use Rattle.std.specs.Prelude.{◌≡◌, ℕ, Bool, true, false, [], Some, None};
 ghost use Rattle.body_soundness.specs.Laws.{ObjectLaws};
 ghost use Rattle.body_soundness.specs.Rules.{RightMember};
+ghost use Rattle.body_soundness.specs.Worked.{object_world, object_use, main_member};
 ghost use Rattle.body_soundness.specs.Worlds.{AreClassesKept, HasFields, WritesInterfaces};
 ghost use Rattle.built_forms.specs.Built.{Usable, members_alone};
 ghost use Rattle.ir_mean.specs.Meaning.{below, call};
@@ -40,4 +41,10 @@ pub fn members_alone_ask_nothing()
 pub fn classes_with_fields_are_on_chains()
     ensures classes { (w : Classes) → AreClassesKept w → (c d : Name) → HasFields w c → is_hijacked d ≡ false → WritesInterfaces w d → IsSub w (Class d) (class_type c) → IsOnChain w d c }
     ensures primitives { (w : Classes) → AreClassesKept w → (c : Name) (o : IrType) (h : Name) → HasFields w c → hijacked_class o ≡ Some h → WritesInterfaces w h → IsSub w o (class_type c) → ⊥ }
+{}
+
+/// The premises can be met where objects are used: by a world whose `main` makes an object and calls a method on it that gives its field. Its call is wrong at no bound.
+pub fn worked_objects()
+    ensures laws { ObjectLaws object_world object_use }
+    ensures never_wrong { (n : ℕ) → IsNotWrong (call (below object_world n) (member_of object_world main_member.class main_member.namespace main_member.method) None [] outside (opening object_world)).end }
 {}
