@@ -1,6 +1,7 @@
 pub mod Calls
 pub mod Chains
 pub mod Heaps
+pub mod Lengths
 pub mod Right
 pub mod Sured
 pub mod Values

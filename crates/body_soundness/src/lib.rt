@@ -5,23 +5,31 @@
 //! clauses are theorems.
 #![tactic(auto)]
 
+ghost use Rattle.std.specs.List.{list_any};
 ghost use Rattle.std.specs.Prelude.{◌≡◌, ℕ, Bool, true, false, [], Some, None};
 ghost use Rattle.body_soundness.specs.Laws.{ObjectLaws};
 ghost use Rattle.body_soundness.specs.Rules.{RightMember};
 ghost use Rattle.body_soundness.specs.Worked.{object_world, object_use, main_member};
 ghost use Rattle.body_soundness.specs.Worlds.{AreClassesKept, HasFields, WritesInterfaces};
 ghost use Rattle.built_forms.specs.Built.{Usable, members_alone};
+ghost use Rattle.ir_mean.specs.Dispatch.{chain_of};
 ghost use Rattle.ir_mean.specs.Meaning.{below, call};
 ghost use Rattle.ir_mean.specs.Shows.{outside};
 ghost use Rattle.ir_mean.specs.World.{World, member_of, opening};
 ghost use Rattle.outcomes.specs.Agreement.{IsNotWrong};
+ghost use Rattle.sj_local.specs.ClassRules.{keeps_hijacked};
+ghost use Rattle.sj_local.specs.MemberRules.{breaks_field};
+ghost use Rattle.sj_names.specs.Same.{is_same_text};
 ghost use Rattle.sj_names.specs.declared.method_names.Member.{Member};
 ghost use Rattle.sj_trees.specs.Types.{class_type};
+ghost use Rattle.sj_trees.specs.declared.classes.ClassDef.{ClassDef};
+ghost use Rattle.sj_trees.specs.declared.classes.FieldDef.{FieldDef};
 ghost use Rattle.sj_trees.specs.declared.types.IrType.{IrType};
 ghost use Rattle.sj_trees.specs.declared.types.IrType.TheVariants.{Class};
 ghost use Rattle.sj_world.specs.Ancestors.{IsOnChain};
-ghost use Rattle.sj_world.specs.Known.{Name, Classes, is_hijacked};
+ghost use Rattle.sj_world.specs.Known.{Name, Classes, class_of, is_hijacked};
 ghost use Rattle.sj_world.specs.Laws.{IsPlain};
+ghost use Rattle.sj_world.specs.Refusals.{HasNoCycle};
 ghost use Rattle.sj_world.specs.Subtypes.{hijacked_class, IsSub};
 ghost use Rattle.typing_rules.specs.Rules.{IsStatic};
 
@@ -37,9 +45,10 @@ pub fn members_alone_ask_nothing()
 {}
 
 /// What is below a class whose instances may have fields, in a world whose classes keep the rules on superclasses and on hijacked classes: a class has it on its
-/// chain of superclasses, and no primitive type stands there; where what is written as an interface on the way is one.
+/// chain of superclasses, also on that which is worked out, and no primitive type stands there; where what is written as an interface on the way is one.
 pub fn classes_with_fields_are_on_chains()
     ensures classes { (w : Classes) → AreClassesKept w → (c d : Name) → HasFields w c → is_hijacked d ≡ false → WritesInterfaces w d → IsSub w (Class d) (class_type c) → IsOnChain w d c }
+    ensures chains { (w : Classes) → AreClassesKept w → HasNoCycle w → (c d : Name) → HasFields w c → is_hijacked d ≡ false → WritesInterfaces w d → IsSub w (Class d) (class_type c) → list_any (is_same_text c) (chain_of w d) ≡ true }
     ensures primitives { (w : Classes) → AreClassesKept w → (c : Name) (o : IrType) (h : Name) → HasFields w c → hijacked_class o ≡ Some h → WritesInterfaces w h → IsSub w o (class_type c) → ⊥ }
 {}
 
@@ -47,4 +56,9 @@ pub fn classes_with_fields_are_on_chains()
 pub fn worked_objects()
     ensures laws { ObjectLaws object_world object_use }
     ensures never_wrong { (n : ℕ) → IsNotWrong (call (below object_world n) (member_of object_world main_member.class main_member.namespace main_member.method) None [] outside (opening object_world)).end }
+{}
+
+/// A class of the world that has an instance field, and keeps the rules on hijacked classes and on fields, is one whose instances may have fields.
+pub fn classes_with_an_instance_field_have_fields()
+    ensures { (w : Classes) (c : ClassDef) (f : FieldDef) → class_of w c.name ≡ Some c → keeps_hijacked c ≡ true → breaks_field c f ≡ false → f.is_static ≡ false → HasFields w c.name }
 {}
