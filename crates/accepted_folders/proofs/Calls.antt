@@ -16,9 +16,6 @@ use Rattle.sj_names.proofs.Same.{impossible}
 use Rattle.sj_names.specs.Same.{is_same_text}
 use Rattle.sj_names.specs.declared.entry_points.EntryPoint.{EntryPoint}
 use Rattle.sj_names.specs.declared.method_names.Member.{Member}
-use Rattle.sj_names.specs.declared.method_names.Namespace.TheVariants.{Private}
-use Rattle.body_rules.specs.Typing.{may_check}
-use Rattle.sure_receivers.specs.Sure.{sure_locals}
 use Rattle.built_forms.specs.Built.{Usable}
 use Rattle.sj_sound.specs.Linked.{has_function, have_functions, functions_of}
 use Rattle.typing_rules.specs.declared.labels.Label.{Label}
@@ -26,7 +23,13 @@ use Rattle.typing_rules.specs.Labels.{type_of_label}
 use Rattle.typing_rules.specs.Nodes.{inside as inside_label}
 use Rattle.sj_trees.specs.Term.{Term, Terms, no_terms, more_terms, Cases, no_cases, more_cases, var_def, skip, block_of, labeled, assign, return_to, if_then, while_loop, do_while, match_on, apply_statically, apply_static, unary_op, binary_op, undefined_literal, null_literal, boolean_literal, char_literal, byte_literal, short_literal, int_literal, long_literal, string_literal, var_ref, log_line}
 use Rattle.sj_trees.specs.declared.types.IrType.{IrType}
-use Rattle.built_forms.specs.Built.{is_boxed, yields_boxed, leaves_boxed, any_is_boxed, is_operation, is_built, are_built, are_built_cases, is_built_method, anything, is_built_body}
+use Rattle.built_forms.specs.Built.{is_boxed, yields_boxed, leaves_boxed, any_is_boxed, is_operation, is_built, are_built, are_built_cases, anything, is_built_body}
+use Rattle.body_rules.specs.Typing.{may_check, is_built_with}
+use Rattle.sure_receivers.specs.Sure.{sure_locals}
+use Rattle.sj_names.specs.declared.method_names.MethodName.{MethodName}
+use Rattle.sj_names.specs.declared.method_names.Namespace.{Namespace}
+use Rattle.sj_trees.specs.declared.positions.Position.{Position}
+use Rattle.sj_names.specs.declared.method_names.Namespace.TheVariants.{Private, Constructor}
 use Rattle.sj_world.specs.Known.{Classes}
 use Rattle.sj_world.specs.declared.facts.Fact.TheVariants.{Body}
 use Rattle.reach_rules.proofs.Derivations.{closed}
@@ -59,6 +62,12 @@ module _ (has : Usable) (checked : Term → Bool) where
 
   two : (a b : Term) → Each (trees a ++ trees b) → Each (trees a) × Each (trees b)
   two a b h = (front (trees a) (trees b) h, back (trees a) (trees b) h)
+
+  -- no member runs on an object
+  no_call : {A : Type 0} (p : Position) (e : Term) (c : List ℕ) (n : Namespace) (m : MethodName) (ts : Terms) (t : IrType) (ls : List Label) → is_built anything (λ e. true) ls (apply_statically p e c n m ts t) ≡ true → A
+  no_call p e c Private m ts t ls k = impossible k
+  no_call p e c Constructor m ts t ls k = impossible k
+  no_call p e c n m ts t ls k = impossible k
 
   mutual
     built : (t : Term) (ls : List Label) → is_built anything (λ e. true) ls t ≡ true → Each (trees t) → is_built has checked ls t ≡ true
@@ -105,7 +114,7 @@ module _ (has : Usable) (checked : Term → Bool) where
     built (string_literal p us) ls k h = refl
     built (var_ref p x t) ls k h = refl
     built (log_line p e) ls k h = built e ls k (inner (log_line p e) h)
-    built (apply_statically p e c Private m ts t) ls k h = impossible k
+    built (apply_statically p e c n m ts t) ls k h = no_call p e c n m ts t ls k
     built t ls k h = impossible k
 
     all_built : (ts : Terms) (ls : List Label) → are_built anything (λ e. true) ls ts ≡ true → Each (all_below ts) → are_built has checked ls ts ≡ true
@@ -133,15 +142,18 @@ module _ (w : Classes) (entries : List EntryPoint) (fs : List EmittedMethod) (bo
   has-body k r = has_function-from fs k ((bodies.exact k).1 r)
 
   module _ (e : EmittedMethod) (i : Contains fs e) where
+    abbrev checks : Term → Bool
+    checks = may_check (functions_of fs) (sure_locals e.its_body)
+
     called : (k : Member) → Contains (asked_by_body (Some e.its_body)) (Static k) → has_function fs k ≡ true
     called k c = has-body k (closed w entries (Body k) (asked_body k (of_call k (record { member = e.member; needed = needed e i; definition = e.definition; defined = defined w e.member e.definition (bodies.found e i).found; asked = subst (λ (o : Option Term). Contains (asked_by_body o) (Static k)) (sym (bodies.found e i).has_body) c }))))
 
-    each : (x : Term) → Contains (trees e.its_body) x → Calls (functions_of fs) (may_check (functions_of fs) (sure_locals e.its_body)) x
+    each : (x : Term) → Contains (trees e.its_body) x → Calls (functions_of fs) checks x
     each (apply_static p c n m ts t) among = called (member c n m) (in_all (asks (sure_among [] (trees e.its_body))) (trees e.its_body) (apply_static p c n m ts t) (Static (member c n m)) among (here (Static (member c n m)) []))
     each x among = tt
 
-    among_bodies : is_built_body e.definition e.its_body ≡ true → is_built_method (functions_of fs) (may_check (functions_of fs) (sure_locals e.its_body)) e.definition e.its_body ≡ true
-    among_bodies k = let q = and_parts (not (yields_boxed e.definition.result e.its_body)) (is_built anything (λ e. true) [] e.its_body) k in and_from (not (yields_boxed e.definition.result e.its_body)) (is_built (functions_of fs) (may_check (functions_of fs) (sure_locals e.its_body)) [] e.its_body) q.0 (built (functions_of fs) (may_check (functions_of fs) (sure_locals e.its_body)) e.its_body [] q.1 (all-from (Calls (functions_of fs) (may_check (functions_of fs) (sure_locals e.its_body))) (trees e.its_body) each))
+    among_bodies : is_built_body e.definition e.its_body ≡ true → is_built_with (functions_of fs) e.definition e.its_body ≡ true
+    among_bodies k = let q = and_parts (not (yields_boxed e.definition.result e.its_body)) (is_built anything (λ e. true) [] e.its_body) k in and_from (not (yields_boxed e.definition.result e.its_body)) (is_built (functions_of fs) checks [] e.its_body) q.0 (built (functions_of fs) checks e.its_body [] q.1 (all-from (Calls (functions_of fs) checks) (trees e.its_body) each))
 
   pub entry : (e : EntryPoint) → Contains entries e → has_function fs (initializer_member e) ≡ true
   entry e i = has-body (entry_member e) (closed w entries (Body (entry_member e)) (asked_body (entry_member e) (of_entry e i)))

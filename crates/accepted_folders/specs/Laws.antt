@@ -10,9 +10,8 @@ use Rattle.sj_proper.specs.Emitted.{EmittedMethod, module_with}
 use Rattle.sj_names.specs.declared.entry_points.EntryPoint.{EntryPoint}
 use Rattle.sj_names.specs.declared.folders.SourceFile.{SourceFile}
 use Rattle.sj_sound.specs.Linked.{functions_of, have_functions}
-use Rattle.body_rules.specs.Typing.{may_check}
-use Rattle.sure_receivers.specs.Sure.{sure_locals}
-use Rattle.built_forms.specs.Built.{is_built_method, is_built_body}
+use Rattle.built_forms.specs.Built.{is_built_body}
+use Rattle.body_rules.specs.Typing.{is_built_with}
 use Rattle.sj_world.specs.Known.{Classes}
 use Rattle.folder_verdicts.specs.Verdicts.{IsVerdict, accepted}
 use Rattle.accepted_folders.specs.Accepted.{IsAccepted}
@@ -28,7 +27,7 @@ AcceptedFoldersHaveBodies = (entries : List EntryPoint) (files : List SourceFile
 
 -- what a body calls that is needed is needed itself: so a body that is built whatever it calls is built where it calls these methods alone
 abbrev pub CallsAreAmongBodies : Type 0
-CallsAreAmongBodies = (w : Classes) (entries : List EntryPoint) (fs : List EmittedMethod) (e : EmittedMethod) → AreBodies w entries fs → Contains fs e → is_built_body e.definition e.its_body ≡ true → is_built_method (functions_of fs) (may_check (functions_of fs) (sure_locals e.its_body)) e.definition e.its_body ≡ true
+CallsAreAmongBodies = (w : Classes) (entries : List EntryPoint) (fs : List EmittedMethod) (e : EmittedMethod) → AreBodies w entries fs → Contains fs e → is_built_body e.definition e.its_body ≡ true → is_built_with (functions_of fs) e.definition e.its_body ≡ true
 
 -- the method of each initializer is among the bodies
 abbrev pub InitializersAreAmongBodies : Type 0

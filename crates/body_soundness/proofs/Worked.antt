@@ -1,21 +1,20 @@
 -- The worked world with objects has what soundness asks.
-use Rattle.std.proofs.Common.{◌≡◌, ◌<◌, ℕ, Bool, true, false, ◌&&◌, List, [], ◌∷◌, Some, None, Option, Contains, refl, sym, ◌∙◌, subst, inl, inr, ⊎_elim, arith, if◌then◌else◌}
+use Rattle.std.proofs.Common.{◌≡◌, codes, ◌<◌, ℕ, Bool, true, false, ◌&&◌, List, [], ◌∷◌, Some, None, Option, Contains, refl, sym, ◌∙◌, subst, inl, inr, ⊎_elim, arith, if◌then◌else◌}
 use Rattle.std.specs.List.{list_any}
 use Rattle.std.proofs.lemmas.Bool.{and_parts}
 use Rattle.body_rules.proofs.Lists.{nothing_in, in_front_or_behind, at_front, further_on}
 use Rattle.body_rules.proofs.Plain.{class_found, plain_world}
 use Rattle.body_rules.specs.Locals.{HasValue}
 use Rattle.body_rules.specs.Standing.{is_bare}
-use Rattle.body_soundness.proofs.Calls.{never_wrong}
+use Rattle.body_soundness.proofs.Modules.{never_wrong}
 use Rattle.body_soundness.proofs.Chains.{no_primitive}
 use Rattle.body_soundness.specs.Laws.{ObjectLaws}
 use Rattle.body_soundness.specs.Rules.{RightMember}
 use Rattle.body_soundness.specs.Worked.{class_name, field_name, init_name, get_name, gets_field, gets, init_method, get_method, main_method, its_field, its_class, object_world, main_member, is_member, object_use}
 use Rattle.body_soundness.specs.Worlds.{AreClassesKept, HasFields, WritesInterfaces}
 use Rattle.ir_mean.specs.Dispatch.{chain_of}
-use Rattle.ir_mean.specs.Meaning.{below, call}
-use Rattle.ir_mean.specs.Rows.{nowhere, object_name, object_with}
-use Rattle.ir_mean.specs.Shows.{outside}
+use Rattle.ir_mean.specs.Rows.{nowhere, object_name, object_with, main_entry, once}
+use Rattle.ir_mean.specs.Shows.{initializers, ir_shows}
 use Rattle.ir_mean.specs.World.{World, member_of, method_among, method_in, opening, zeros_in, zero_of}
 use Rattle.ir_mean.specs.World as ir_world
 use Rattle.outcomes.specs.Agreement.{IsNotWrong}
@@ -27,6 +26,8 @@ use Rattle.sj_names.specs.declared.method_names.Member.{Member}
 use Rattle.sj_names.specs.declared.method_names.MethodName.{MethodName}
 use Rattle.sj_names.specs.declared.method_names.Namespace.{Namespace}
 use Rattle.sj_names.specs.declared.method_names.Namespace.TheVariants.{Private, Constructor}
+use Rattle.sj_names.specs.declared.entry_points.EntryPoint.{EntryPoint}
+use Rattle.sj_proper.specs.Emitted.{initializer_member}
 use Rattle.sj_proper.specs.Methods.{KeepsRules}
 use Rattle.sj_proper.specs.Once.{NamesOnce}
 use Rattle.sj_trees.proofs.SameTypes.{type-same}
@@ -167,5 +168,8 @@ object_laws = record {
   exceptions = λ h. impossible h;
 }
 
-pub gets_right : (n : ℕ) → IsNotWrong (call (below object_world n) (member_of object_world main_member.class main_member.namespace main_member.method) None [] outside (opening object_world)).end
-gets_right n = never_wrong object_world plain object_use object_laws linked_right n main_member refl tt refl
+initializer_linked : (e : EntryPoint) → Contains (initializers once (codes "main")) e → object_use.linked (initializer_member e) ≡ true
+initializer_linked e i = ⊎_elim (λ same. subst (λ (x : EntryPoint). object_use.linked (initializer_member x) ≡ true) same refl) (λ none. nothing_in e none) (in_front_or_behind main_entry [] e i)
+
+pub gets_right : (n : ℕ) → IsNotWrong (ir_shows object_world once (codes "main") n).end
+gets_right = never_wrong object_world plain object_use object_laws linked_right once (codes "main") initializer_linked

@@ -5,22 +5,24 @@
 //! clauses are theorems.
 #![tactic(auto)]
 
-ghost use Rattle.std.specs.List.{list_any};
-ghost use Rattle.std.specs.Prelude.{◌≡◌, ℕ, Bool, true, false, [], Some, None};
+ghost use Rattle.std.specs.Prelude.{◌≡◌, ℕ, Bool, true, false, List, Some, codes};
+ghost use Rattle.std.specs.List.{Contains, list_any};
 ghost use Rattle.body_soundness.specs.Laws.{ObjectLaws};
 ghost use Rattle.body_soundness.specs.Rules.{RightMember};
-ghost use Rattle.body_soundness.specs.Worked.{object_world, object_use, main_member};
+ghost use Rattle.body_soundness.specs.Worked.{object_world, object_use};
 ghost use Rattle.body_soundness.specs.Worlds.{AreClassesKept, HasFields, WritesInterfaces};
 ghost use Rattle.built_forms.specs.Built.{Usable, members_alone};
 ghost use Rattle.ir_mean.specs.Dispatch.{chain_of};
-ghost use Rattle.ir_mean.specs.Meaning.{below, call};
-ghost use Rattle.ir_mean.specs.Shows.{outside};
-ghost use Rattle.ir_mean.specs.World.{World, member_of, opening};
+ghost use Rattle.ir_mean.specs.Rows.{once};
+ghost use Rattle.ir_mean.specs.Shows.{initializers, ir_shows};
+ghost use Rattle.ir_mean.specs.World.{World};
 ghost use Rattle.outcomes.specs.Agreement.{IsNotWrong};
 ghost use Rattle.sj_local.specs.ClassRules.{keeps_hijacked};
 ghost use Rattle.sj_local.specs.MemberRules.{breaks_field};
 ghost use Rattle.sj_names.specs.Same.{is_same_text};
+ghost use Rattle.sj_names.specs.declared.entry_points.EntryPoint.{EntryPoint};
 ghost use Rattle.sj_names.specs.declared.method_names.Member.{Member};
+ghost use Rattle.sj_proper.specs.Emitted.{initializer_member};
 ghost use Rattle.sj_trees.specs.Types.{class_type};
 ghost use Rattle.sj_trees.specs.declared.classes.ClassDef.{ClassDef};
 ghost use Rattle.sj_trees.specs.declared.classes.FieldDef.{FieldDef};
@@ -31,12 +33,11 @@ ghost use Rattle.sj_world.specs.Known.{Name, Classes, class_of, is_hijacked};
 ghost use Rattle.sj_world.specs.Laws.{IsPlain};
 ghost use Rattle.sj_world.specs.Refusals.{HasNoCycle};
 ghost use Rattle.sj_world.specs.Subtypes.{hijacked_class, IsSub};
-ghost use Rattle.typing_rules.specs.Rules.{IsStatic};
 
-/// Where the members that can be called keep the rules, and the world has what the laws on objects ask, a call of a static member without parameters from
-/// the state that a program begins with is wrong at no bound.
-pub fn calls_are_never_wrong()
-    ensures { (w : World) → IsPlain w → (has : Usable) → ObjectLaws w has → ((m : Member) → has.linked m ≡ true → RightMember w has m) → (n : ℕ) (m : Member) → has.linked m ≡ true → IsStatic m.namespace → m.method.params ≡ [] → IsNotWrong (call (below w n) (member_of w m.class m.namespace m.method) None [] outside (opening w)).end }
+/// Where the members that can be called keep the rules, and the world has what the laws on objects ask, what a public module shows whose initializers
+/// can be called is wrong at no bound.
+pub fn modules_are_never_wrong()
+    ensures { (w : World) → IsPlain w → (has : Usable) → ObjectLaws w has → ((m : Member) → has.linked m ≡ true → RightMember w has m) → (entries : List EntryPoint) (id : List ℕ) → ((e : EntryPoint) → Contains (initializers entries id) e → has.linked (initializer_member e) ≡ true) → (n : ℕ) → IsNotWrong (ir_shows w entries id n).end }
 {}
 
 /// Where nothing but static members is used, the laws on objects ask nothing.
@@ -52,13 +53,14 @@ pub fn classes_with_fields_are_on_chains()
     ensures primitives { (w : Classes) → AreClassesKept w → (c : Name) (o : IrType) (h : Name) → HasFields w c → hijacked_class o ≡ Some h → WritesInterfaces w h → IsSub w o (class_type c) → ⊥ }
 {}
 
-/// The premises can be met where objects are used: by a world whose `main` makes an object and calls a method on it that gives its field. Its call is wrong at no bound.
-pub fn worked_objects()
-    ensures laws { ObjectLaws object_world object_use }
-    ensures never_wrong { (n : ℕ) → IsNotWrong (call (below object_world n) (member_of object_world main_member.class main_member.namespace main_member.method) None [] outside (opening object_world)).end }
-{}
-
 /// A class of the world that has an instance field, and keeps the rules on hijacked classes and on fields, is one whose instances may have fields.
 pub fn classes_with_an_instance_field_have_fields()
     ensures { (w : Classes) (c : ClassDef) (f : FieldDef) → class_of w c.name ≡ Some c → keeps_hijacked c ≡ true → breaks_field c f ≡ false → f.is_static ≡ false → HasFields w c.name }
+{}
+
+/// The premises can be met where objects are used: by a world whose `main` makes an object and calls a method on it that gives its field. What it shows is wrong at
+/// no bound.
+pub fn worked_objects()
+    ensures laws { ObjectLaws object_world object_use }
+    ensures never_wrong { (n : ℕ) → IsNotWrong (ir_shows object_world once (codes "main") n).end }
 {}

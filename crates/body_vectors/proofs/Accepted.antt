@@ -7,7 +7,7 @@ use Rattle.js_mean.specs.Shows.{js_shows}
 use Rattle.sj_trees.specs.declared.classes.ClassDef.{ClassDef}
 use Rattle.sj_proper.specs.Emitted.{EmittedMethod}
 use Rattle.sj_calls.specs.Files.{program_with}
-use Rattle.sj_sound.proofs.Worked.{worked_topped}
+use Rattle.sj_sound.proofs.Worked.{worked_plain}
 use Rattle.sj_sound.specs.Worked.{main_method, tripling_method, worked_world, worked_methods}
 use Rattle.sj_proper.specs.Emitted.{HaveOwnMembers}
 use Rattle.sj_judged.specs.Programs.{IsAccepted}
@@ -27,4 +27,4 @@ pub own_members : HaveOwnMembers worked_methods
 own_members = own worked_methods refl
 
 pub worked_agrees : Agree (ir_shows worked_world once (codes "main")) (js_shows (program_with (codes "main") worked_methods once) (codes "main"))
-worked_agrees = classes_agree worked_world worked_topped once (codes "main") worked_methods each_accepted own_members refl
+worked_agrees = classes_agree worked_world worked_plain once (codes "main") worked_methods each_accepted own_members refl

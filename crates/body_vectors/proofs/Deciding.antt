@@ -8,17 +8,17 @@ use Rattle.sj_desugar.specs.Desugar.{has_no_value}
 use Rattle.sj_names.proofs.Same.{impossible, text-same}
 use Rattle.sj_names.specs.Same.{is_same_text}
 use Rattle.sj_names.specs.declared.method_names.Namespace.{Namespace}
-use Rattle.sj_names.specs.declared.method_names.Namespace.TheVariants.{Public, PublicStatic, Private, PrivateStatic, Constructor}
+use Rattle.sj_names.specs.declared.method_names.Namespace.TheVariants.{PublicStatic, PrivateStatic}
 use Rattle.sj_names.specs.declared.references.TypeRef.{TypeRef}
 use Rattle.body_rules.specs.Locals.{Own}
-use Rattle.body_rules.specs.Typing.{Scene, RunsOnObject, may_check, IsResult, AllHaveValues, IsLocal, IsVariable, Defines, behind, in_label, Finds, Here, Typed, TypedBlock, TypedAll, TypedCases}
+use Rattle.body_rules.specs.Typing.{Scene, IsResult, AllHaveValues, IsLocal, IsVariable, Defines, behind, in_label, Finds, Here, Typed, TypedBlock, TypedAll, TypedCases, may_check}
 use Rattle.body_rules.specs.Locals.{local_of}
 use Rattle.sj_proper.specs.Once.{Once, OnceAll, OnceCases}
 use Rattle.sj_trees.proofs.SameTypes.{type-same}
 use Rattle.sj_trees.specs.SameTypes.{is_same_type}
-use Rattle.sj_trees.specs.Term.{Term, Terms, no_terms, more_terms, Cases, no_cases, more_cases, var_def, skip, block_of, labeled, assign, return_to, if_then, while_loop, do_while, throw, match_on, new_object, select, apply_statically, apply_static, unary_op, binary_op, undefined_literal, null_literal, boolean_literal, char_literal, byte_literal, short_literal, int_literal, long_literal, string_literal, var_ref, this_ref, log_line}
+use Rattle.sj_trees.specs.Term.{Term, Terms, no_terms, more_terms, Cases, no_cases, more_cases, var_def, skip, block_of, labeled, assign, return_to, if_then, while_loop, do_while, match_on, throw, new_object, select, apply_statically, this_ref, apply_static, unary_op, binary_op, undefined_literal, null_literal, boolean_literal, char_literal, byte_literal, short_literal, int_literal, long_literal, string_literal, var_ref, log_line}
 use Rattle.sj_trees.specs.TypeOf.{type_of_term}
-use Rattle.sj_trees.specs.Types.{class_type, reference_type}
+use Rattle.sj_trees.specs.Types.{reference_type}
 use Rattle.sj_trees.specs.declared.classes.ParamDef.{ParamDef}
 use Rattle.sj_trees.specs.declared.operators.BinaryOp.{BinaryOp}
 use Rattle.sj_trees.specs.declared.operators.BinaryOp.TheVariants.{StringConcatenate}
@@ -28,7 +28,7 @@ use Rattle.sj_world.specs.Known.{Classes}
 use Rattle.sj_world.specs.Subtypes.{IsSub, equal, from_nothing, to_any}
 use Rattle.typing_rules.specs.declared.labels.Label.{Label}
 use Rattle.typing_rules.specs.Labels.{type_of_label}
-use Rattle.typing_rules.specs.Rules.{call_type, unary_operand, left_operand, right_operand, IsText, IsStatic, IsReceiver, ArgumentsFit, OperandsFit, CasesYield, ReturnsTo, Yields, nothing_wanted, fitting, Meets}
+use Rattle.typing_rules.specs.Rules.{call_type, unary_operand, left_operand, right_operand, IsText, IsStatic, ArgumentsFit, OperandsFit, CasesYield, ReturnsTo, Yields, nothing_wanted, fitting, Meets}
 
 either : (a b : Bool) → (a || b) ≡ true → (a ≡ true) ⊎ (b ≡ true)
 either true b h = inl refl
@@ -86,14 +86,7 @@ is_static PublicStatic = true
 is_static PrivateStatic = true
 is_static _ = false
 
--- a call of a constructor is on This, and no call here is static
-abbrev is_receiver : Namespace → Term → Bool
-is_receiver Public e = true
-is_receiver Private e = true
-is_receiver Constructor (this_ref p t) = true
-is_receiver _ _ = false
-
--- the rule of the form, for the forms that are built, but for a field, which is looked up in a world
+-- the rule of the form, for the forms that are built
 abbrev is_met : List Label → Term → Bool
 is_met ls (var_def p x t b e) = is_below (type_of_term e) t
 is_met ls (skip p) = true
@@ -103,10 +96,7 @@ is_met ls (return_to p e l) = leaves_there (type_of_label ls l) e
 is_met ls (if_then p c a b t) = is_below (type_of_term c) Boolean && (yields_there a t && yields_there b t)
 is_met ls (while_loop p c b) = is_below (type_of_term c) Boolean
 is_met ls (do_while p b c) = is_below (type_of_term c) Boolean
-is_met ls (throw p e) = is_below (type_of_term e) Any
 is_met ls (match_on p e cs d t) = is_below (type_of_term e) Int && (cases_yield cs t && yields_there d t)
-is_met ls (new_object p c m ts) = is_same_text m.simple (codes "<init>") && arguments_fit ts m.params
-is_met ls (apply_statically p e c n m ts t) = is_receiver n e && (is_same_type t (call_type m.result) && (is_below (type_of_term e) (class_type c) && arguments_fit ts m.params))
 is_met ls (apply_static p c n m ts t) = is_static n && (is_same_type t (call_type m.result) && arguments_fit ts m.params)
 is_met ls (unary_op p o e) = is_below (type_of_term e) (unary_operand o)
 is_met ls (binary_op p o a b) = operands_fit o a b
@@ -120,7 +110,6 @@ is_met ls (int_literal p z) = true
 is_met ls (long_literal p z) = true
 is_met ls (string_literal p us) = true
 is_met ls (var_ref p x t) = true
-is_met ls (this_ref p t) = true
 is_met ls (log_line p e) = is_below (type_of_term e) String
 is_met ls _ = false
 
@@ -144,8 +133,9 @@ is_variable (Some d) t = is_same_type d.tpe t && d.«mutable»
 abbrev is_found : Scene → Term → Bool
 is_found s (var_def p x t b e) = not (has_no_value t)
 is_found s (assign p (var_ref q x t) e) = is_variable (local_of s.locals x) t
-is_found s (new_object p c m ts) = all_have_values m.params
-is_found s (apply_statically p e c n m ts t) = all_have_values m.params
+is_found s (new_object p c m ts) = false
+is_found s (apply_statically p e c n m ts t) = false
+is_found s (this_ref p t) = false
 is_found s (apply_static p c n m ts t) = all_have_values m.params
 is_found s (char_literal p u) = nat_lt u (2 ^ 16)
 is_found s (byte_literal p z) = has_bits (2 ^ 31) z
@@ -153,7 +143,6 @@ is_found s (short_literal p z) = has_bits (2 ^ 31) z
 is_found s (int_literal p z) = has_bits (2 ^ 31) z
 is_found s (long_literal p z) = has_bits (2 ^ 63) z
 is_found s (var_ref p x t) = is_local (local_of s.locals x) t
-is_found s (this_ref p t) = not (is_static s.space) && is_same_type t (class_type s.owner)
 is_found s _ = true
 
 module _ (has : Usable) where
@@ -170,11 +159,7 @@ module _ (has : Usable) where
     is_typed s (if_then p c a b t) = is_here s (if_then p c a b t) && (is_typed s c && (is_typed s a && is_typed s b))
     is_typed s (while_loop p c b) = is_here s (while_loop p c b) && (is_typed s c && is_typed s b)
     is_typed s (do_while p b c) = is_here s (do_while p b c) && (is_typed s b && is_typed s c)
-    is_typed s (throw p e) = is_here s (throw p e) && is_typed s e
     is_typed s (match_on p e cs d t) = is_here s (match_on p e cs d t) && (is_typed s e && (are_typed_cases s t cs && is_typed s d))
-    is_typed s (new_object p c m ts) = is_here s (new_object p c m ts) && are_typed s ts
-    is_typed s (select p e c f t) = is_here s (select p e c f t) && is_typed s e
-    is_typed s (apply_statically p e c n m ts t) = is_here s (apply_statically p e c n m ts t) && (is_typed s e && are_typed s ts)
     is_typed s (apply_static p c n m ts t) = is_here s (apply_static p c n m ts t) && are_typed s ts
     is_typed s (unary_op p o e) = is_here s (unary_op p o e) && is_typed s e
     is_typed s (binary_op p o e d) = is_here s (binary_op p o e d) && (is_typed s e && is_typed s d)
@@ -224,18 +209,6 @@ static_is PublicStatic h = tt
 static_is PrivateStatic h = tt
 static_is n h = impossible h
 
-receiver_is : (n : Namespace) (e : Term) → is_receiver n e ≡ true → IsReceiver n e
-receiver_is Public e h = tt
-receiver_is Private e h = tt
-receiver_is Constructor (this_ref p t) h = tt
-receiver_is Constructor _ h = impossible h
-receiver_is _ e h = impossible h
-
-runs : (n : Namespace) → not (is_static n) ≡ true → RunsOnObject n
-runs PublicStatic h = impossible h
-runs PrivateStatic h = impossible h
-runs _ h = tt
-
 ints : (z : ℤ) → has_bits (2 ^ 31) z ≡ true → FitsSigned w32 z
 ints (pos n) h = let small : nat_lt n (2 ^ 31) ≡ true = h in let below : n < 2 ^ 31 = grind arith in record { sfits = below }
 ints (negsuc n) h = let small : nat_lt n (2 ^ 31) ≡ true = h in let below : n < 2 ^ 31 = grind arith in record { sfits = below }
@@ -265,8 +238,9 @@ variable_is s x t (Some d) e h = let k = and_parts (is_same_type d.tpe t) d.«mu
 found : (around : List (List ℕ)) (s : Scene) (t : Term) → Once around t → is_found s t ≡ true → Finds s t
 found around s (var_def p x t b e) o h = (when_not (has_no_value t) h, o.0)
 found around s (assign p (var_ref q x t) e) o h = variable_is s x t (local_of s.locals x) refl h
-found around s (new_object p c m ts) o h = values_are m.params h
-found around s (apply_statically p e c n m ts t) o h = values_are m.params h
+found around s (new_object p c m ts) o h = impossible h
+found around s (apply_statically p e c n m ts t) o h = impossible h
+found around s (this_ref p t) o h = impossible h
 found around s (apply_static p c n m ts t) o h = values_are m.params h
 found around s (char_literal p u) o h = units u h
 found around s (byte_literal p z) o h = ints z h
@@ -274,7 +248,6 @@ found around s (short_literal p z) o h = ints z h
 found around s (int_literal p z) o h = ints z h
 found around s (long_literal p z) o h = longs z h
 found around s (var_ref p x t) o h = local_is s x t (local_of s.locals x) refl h
-found around s (this_ref p t) o h = let k = and_parts (not (is_static s.space)) (is_same_type t (class_type s.owner)) h in (runs s.space k.0, type-same t (class_type s.owner) k.1)
 found around s _ o h = tt
 
 -- what a statement of a block defines it declares
@@ -323,14 +296,7 @@ module _ (w : Classes) (has : Usable) where
   met space ls (if_then p c a b t) h = let k = and_parts (is_below (type_of_term c) Boolean) (yields_there a t && yields_there b t) h in let both = and_parts (yields_there a t) (yields_there b t) k.1 in (below (type_of_term c) Boolean k.0, yields_type a t both.0, yields_type b t both.1)
   met space ls (while_loop p c b) h = below (type_of_term c) Boolean h
   met space ls (do_while p b c) h = below (type_of_term c) Boolean h
-  met space ls (throw p e) h = below (type_of_term e) Any h
   met space ls (match_on p e cs d t) h = let k = and_parts (is_below (type_of_term e) Int) (cases_yield cs t && yields_there d t) h in let branches = and_parts (cases_yield cs t) (yields_there d t) k.1 in (below (type_of_term e) Int k.0, all_yield cs t branches.0, yields_type d t branches.1)
-  met space ls (new_object p c m ts) h = let k = and_parts (is_same_text m.simple (codes "<init>")) (arguments_fit ts m.params) h in (text-same m.simple (codes "<init>") k.0, arguments ts m.params k.1)
-  met space ls (apply_statically p e c n m ts t) h =
-      let k = and_parts (is_receiver n e) (is_same_type t (call_type m.result) && (is_below (type_of_term e) (class_type c) && arguments_fit ts m.params)) h in
-      let given = and_parts (is_same_type t (call_type m.result)) (is_below (type_of_term e) (class_type c) && arguments_fit ts m.params) k.1 in
-      let handed = and_parts (is_below (type_of_term e) (class_type c)) (arguments_fit ts m.params) given.1 in
-      (receiver_is n e k.0, type-same t (call_type m.result) given.0, below (type_of_term e) (class_type c) handed.0, arguments ts m.params handed.1)
   met space ls (apply_static p c n m ts t) h = let k = and_parts (is_static n) (is_same_type t (call_type m.result) && arguments_fit ts m.params) h in let handed = and_parts (is_same_type t (call_type m.result)) (arguments_fit ts m.params) k.1 in (static_is n k.0, type-same t (call_type m.result) handed.0, arguments ts m.params handed.1)
   met space ls (unary_op p o e) h = below (type_of_term e) (unary_operand o) h
   met space ls (binary_op p o a b) h = operands o a b h
@@ -344,7 +310,6 @@ module _ (w : Classes) (has : Usable) where
   met space ls (long_literal p z) h = tt
   met space ls (string_literal p us) h = tt
   met space ls (var_ref p x t) h = tt
-  met space ls (this_ref p t) h = tt
   met space ls (log_line p e) h = below (type_of_term e) String h
   met space ls _ h = impossible h
 
@@ -369,22 +334,19 @@ module _ (w : Classes) (has : Usable) where
         (here ar s (if_then p c a b t) o k.0, typed ar s c o.0 condition.0, typed ar s a o.1 branches.0, typed ar s b o.2 branches.1)
     typed ar s (while_loop p c b) o h = let k = and_parts (is_here has s (while_loop p c b)) (is_typed has s c && is_typed has s b) h in let parts = and_parts (is_typed has s c) (is_typed has s b) k.1 in (here ar s (while_loop p c b) o k.0, typed ar s c o.0 parts.0, typed ar s b o.1 parts.1)
     typed ar s (do_while p b c) o h = let k = and_parts (is_here has s (do_while p b c)) (is_typed has s b && is_typed has s c) h in let parts = and_parts (is_typed has s b) (is_typed has s c) k.1 in (here ar s (do_while p b c) o k.0, typed ar s b o.0 parts.0, typed ar s c o.1 parts.1)
-    typed ar s (throw p e) o h = with_one ar ar s s (throw p e) e o (typed ar s e) o h
     typed ar s (match_on p e cs d t) o h =
         let k = and_parts (is_here has s (match_on p e cs d t)) (is_typed has s e && (are_typed_cases has s t cs && is_typed has s d)) h in
         let selector = and_parts (is_typed has s e) (are_typed_cases has s t cs && is_typed has s d) k.1 in
         let branches = and_parts (are_typed_cases has s t cs) (is_typed has s d) selector.1 in
         (here ar s (match_on p e cs d t) o k.0, typed ar s e o.0 selector.0, typed_cases ar s t cs o.1 branches.0, typed ar s d o.2 branches.1)
-    typed ar s (new_object p c m ts) o h = let k = and_parts (is_here has s (new_object p c m ts)) (are_typed has s ts) h in (here ar s (new_object p c m ts) o k.0, typed_all ar s ts o k.1)
-    typed ar s (select p e c f t) o h = with_one ar ar s s (select p e c f t) e o (typed ar s e) o h
-    typed ar s (apply_statically p e c n m ts t) o h =
-        let k = and_parts (is_here has s (apply_statically p e c n m ts t)) (is_typed has s e && are_typed has s ts) h in
-        let parts = and_parts (is_typed has s e) (are_typed has s ts) k.1 in
-        (here ar s (apply_statically p e c n m ts t) o k.0, typed ar s e o.0 parts.0, typed_all ar s ts o.1 parts.1)
     typed ar s (apply_static p c n m ts t) o h = let k = and_parts (is_here has s (apply_static p c n m ts t)) (are_typed has s ts) h in (here ar s (apply_static p c n m ts t) o k.0, typed_all ar s ts o k.1)
     typed ar s (unary_op p q e) o h = with_one ar ar s s (unary_op p q e) e o (typed ar s e) o h
     typed ar s (binary_op p q e d) o h = let k = and_parts (is_here has s (binary_op p q e d)) (is_typed has s e && is_typed has s d) h in let parts = and_parts (is_typed has s e) (is_typed has s d) k.1 in (here ar s (binary_op p q e d) o k.0, typed ar s e o.0 parts.0, typed ar s d o.1 parts.1)
     typed ar s (log_line p e) o h = with_one ar ar s s (log_line p e) e o (typed ar s e) o h
+    typed ar s (throw p e) o h = impossible h
+    typed ar s (new_object p c m ts) o h = impossible h
+    typed ar s (select p e c f t) o h = impossible h
+    typed ar s (apply_statically p e c n m ts t) o h = impossible h
     typed ar s t o h = here ar s t o h
 
     typed_block : (around : List (List ℕ)) (s : Scene) (ts : Terms) → OnceAll around ts → is_typed_block has s ts ≡ true → TypedBlock w has s ts

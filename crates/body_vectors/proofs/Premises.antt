@@ -33,7 +33,6 @@ use Rattle.body_rules.proofs.Lists.{nothing_in, in_front_or_behind}
 use Rattle.sj_names.proofs.Same.{impossible}
 use Rattle.sj_sound.specs.Linked.{have_functions, functions_of}
 use Rattle.body_rules.proofs.Plain.{plain_world}
-use Rattle.sj_world.specs.Laws.{IsPlain}
 use Rattle.built_forms.specs.Built.{Usable}
 use Rattle.built_forms.specs.Built.{yields_boxed}
 use Rattle.body_rules.specs.Locals.{local_of, HasValue}
@@ -41,7 +40,7 @@ use Rattle.sj_proper.specs.Methods.{scene_of}
 use Rattle.sj_sound.specs.Worked.{emitted}
 use Rattle.sj_proper.specs.Emitted.{HaveOwnMembers}
 use Rattle.sj_judged.specs.Programs.{IsAccepted}
-use Rattle.sj_kept.proofs.Classes.{class-keeps}
+use Rattle.sj_kept.proofs.Classes.{class-keeps, keeps-superclass, keeps-hijacked}
 use Rattle.sj_kept.proofs.Methods.{body_keeps}
 use Rattle.sj_judged.proofs.Programs.{classes_agree}
 use Rattle.body_vectors.specs.Bounds.{emitted_of, all_emitted, class_within, file_within}
@@ -282,19 +281,12 @@ module _ (c : ClassDef) (h : Recorded c) where
       let rows : list_all (is_accepted (functions_of (all_emitted c.methods))) c.methods ≡ true = cc in
       each_of (IsAccepted (c ∷ []) fs) fs (all_accepted c fs c.methods recorded_unbroken (λ d i. i) h.found bodies rows)
 
-  alone : (P : ClassDef → Type 0) → P c → (d : ClassDef) → Contains (c ∷ []) d → P d
-  alone P its d i = ⊎_elim (λ same. subst P same its) (λ none. nothing_in d none) (in_front_or_behind c [] d i)
-
-  recorded_plain : IsPlain (c ∷ [])
-  recorded_plain =
-      let tested = h.tested in
-      let superclass : keeps_superclass c ≡ true = cc in
-      let hijacked : keeps_hijacked c ≡ true = cc in
-      plain_world (c ∷ []) (alone (λ d. keeps_superclass d ≡ true) superclass) (alone (λ d. keeps_hijacked d ≡ true) hijacked)
+  only : (d : ClassDef) (P : ClassDef → Type 0) → P c → Contains (c ∷ []) d → P d
+  only d P h i = ⊎_elim (λ same. subst P same h) (λ none. nothing_in d none) (in_front_or_behind c [] d i)
 
   pub recorded_agrees : Agree (class_within c) (file_within c.methods)
   recorded_agrees =
       let tested = h.tested in
       let unlike : all_unlike (all_emitted c.methods) ≡ true = cc in
       let called : have_functions (all_emitted c.methods) once ≡ true = cc in
-      classes_agree (c ∷ []) recorded_plain once (codes "main") (all_emitted c.methods) each_accepted_of (own (all_emitted c.methods) unlike) called
+      classes_agree (c ∷ []) (plain_world (c ∷ []) (λ d i. only d (λ (e : ClassDef). keeps_superclass e ≡ true) (keeps-superclass c recorded_unbroken) i) (λ d i. only d (λ (e : ClassDef). keeps_hijacked e ≡ true) (keeps-hijacked c recorded_unbroken) i)) once (codes "main") (all_emitted c.methods) each_accepted_of (own (all_emitted c.methods) unlike) called

@@ -1,5 +1,5 @@
 -- Arguments along parameters, of which one is a char for a parameter of another type.
-use Rattle.std.proofs.Common.{◌≡◌, ◌∙◌, ◌<◌, ◌≤◌, ◌+◌, ℕ, zero, suc, Bool, true, false, ◌||◌, List, [], ◌∷◌, refl, sym, ap, length, get_or, drop, min, add-one, arith}
+use Rattle.std.proofs.Common.{◌≡◌, ◌∙◌, ◌<◌, ◌≤◌, ◌+◌, ℕ, zero, suc, Bool, false, ◌||◌, List, [], ◌∷◌, refl, sym, ap, length, get_or, drop, min, add-one, arith}
 use Rattle.std.proofs.Math.Seq.{drop-cons}
 use Rattle.sj_names.specs.declared.references.TypeRef.{TypeRef}
 use Rattle.sj_trees.specs.Term.{Terms, no_terms, more_terms}

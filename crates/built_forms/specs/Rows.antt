@@ -1,16 +1,16 @@
 -- Small methods: which are built.
-use Rattle.std.specs.Prelude.{◌≡◌, ℕ, pos, Bool, true, false, List, [], ◌∷◌, Option, Some, None, codes}
+use Rattle.std.specs.Prelude.{◌≡◌, ℕ, pos, true, false, List, [], ◌∷◌, Option, Some, None, codes}
 use Rattle.sj_names.specs.declared.method_names.MethodName.{MethodName}
 use Rattle.sj_names.specs.declared.method_names.Namespace.{Namespace}
 use Rattle.sj_names.specs.declared.method_names.Namespace.TheVariants.{Public, PublicStatic, PrivateStatic, Constructor}
 use Rattle.sj_names.specs.declared.references.TypeRef.{TypeRef}
 use Rattle.sj_trees.specs.Erase.{nowhere}
-use Rattle.sj_trees.specs.Term.{Term, no_terms, more_terms, no_cases, more_cases, skip, block_of, labeled, assign, return_to, if_then, match_on, new_object, select, apply_static, binary_op, char_literal, int_literal, long_literal, var_ref, this_ref}
+use Rattle.sj_trees.specs.Term.{Term, no_terms, more_terms, no_cases, more_cases, skip, block_of, labeled, assign, return_to, if_then, match_on, new_object, select, apply_static, binary_op, char_literal, int_literal, long_literal, var_ref}
 use Rattle.sj_trees.specs.declared.classes.MethodDef.{MethodDef}
 use Rattle.sj_trees.specs.declared.operators.BinaryOp.{BinaryOp}
 use Rattle.sj_trees.specs.declared.operators.BinaryOp.TheVariants.{StrictEqual, IntDivide, LongRemainder}
 use Rattle.sj_trees.specs.declared.types.IrType.{IrType}
-use Rattle.sj_trees.specs.declared.types.IrType.TheVariants.{Any, Boolean, Char, Int, Long, Class, NoType}
+use Rattle.sj_trees.specs.declared.types.IrType.TheVariants.{Any, Boolean, Char, Int, Long, NoType}
 use Rattle.built_forms.specs.Built.{not_built}
 
 abbrev pub method_name : TypeRef → MethodName

@@ -27,9 +27,9 @@ use Rattle.sj_names.specs.declared.method_names.Member.{Member}
 use Rattle.sj_sound.proofs.Same.{has_function-is}
 use Rattle.sj_sound.specs.Linked.{has_function, have_functions, functions_of}
 use Rattle.sj_split.specs.Walks.{Refers, IsReached}
-use Rattle.body_rules.specs.Typing.{may_check}
+use Rattle.body_rules.specs.Typing.{may_check, is_built_with}
 use Rattle.sure_receivers.specs.Sure.{sure_locals}
-use Rattle.built_forms.specs.Built.{yields_boxed, is_built, is_built_method, is_built_body, is_static, has_built_body, not_built}
+use Rattle.built_forms.specs.Built.{yields_boxed, is_built, is_built_body, is_static, has_built_body, not_built}
 use Rattle.sj_world.specs.Known.{Classes}
 use Rattle.worklist.proofs.Inserted.{nothing_in}
 use Rattle.worklist.specs.Paths.{stay, on}
@@ -110,11 +110,11 @@ module _ (w : Classes) (entries : List EntryPoint) (all fs : List EmittedMethod)
     reached : (m : Member) → Contains used (function_binding m) → Reached m
     reached m h = let r : Reached e.member = ((written.exact e).0 i).1 in record { entry = r.entry; among = r.among; walk = on e.member.class m.class r.walk (refers m h) }
 
-    closed : is_built_body e.definition e.its_body ≡ true → is_built_method (functions_of fs) (may_check (functions_of fs) (sure_locals e.its_body)) e.definition e.its_body ≡ true
+    closed : is_built_body e.definition e.its_body ≡ true → is_built_with (functions_of fs) e.definition e.its_body ≡ true
     closed k =
         let q = and_parts (not (yields_boxed e.definition.result e.its_body)) (is_built (functions_of all) (may_check (functions_of all) (sure_locals e.its_body)) [] e.its_body) (calls_among w entries all e bodies listed k) in
         let body = (desugared e.definition e.its_body).body in
-        and_from (not (yields_boxed e.definition.result e.its_body)) (is_built (functions_of fs) (may_check (functions_of fs) (sure_locals e.its_body)) [] e.its_body) q.0 (tree (Contains used) (has_function all) (may_check (functions_of all) (sure_locals e.its_body)) (functions_of fs) (may_check (functions_of fs) (sure_locals e.its_body)) (sure_locals e.its_body) (λ m h u. has_written m h (reached m u)) (is_mutable_in e.definition e.its_body) e.its_body [] (result_destination e.definition.result) 1 [] q.1 (all_from (Contains used) (uses_of_all body) (in_uses body)))
+        and_from (not (yields_boxed e.definition.result e.its_body)) (is_built (functions_of fs) (may_check (functions_of fs) (sure_locals e.its_body)) [] e.its_body) q.0 (tree (Contains used) (has_function all) (has_function fs) (may_check (functions_of all) (sure_locals e.its_body)) (may_check (functions_of fs) (sure_locals e.its_body)) (sure_locals e.its_body) (λ m h u. has_written m h (reached m u)) (is_mutable_in e.definition e.its_body) e.its_body [] (result_destination e.definition.result) 1 [] q.1 (all_from (Contains used) (uses_of_all body) (in_uses body)))
 
   starts : (id : List ℕ) → have_functions fs (initializers entries id) ≡ true
   starts id = initializers_all fs id entries (λ e i. has_written (initializer_member e) (entry w entries all bodies e i) (record { entry = e; among = i; walk = stay }))

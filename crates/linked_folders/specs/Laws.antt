@@ -10,9 +10,8 @@ use Rattle.sj_names.specs.declared.counters.Meter.{Meter}
 use Rattle.sj_names.specs.declared.entry_points.EntryPoint.{EntryPoint}
 use Rattle.sj_names.specs.declared.folders.SourceFile.{SourceFile}
 use Rattle.sj_sound.specs.Linked.{functions_of, have_functions}
-use Rattle.body_rules.specs.Typing.{may_check}
-use Rattle.built_forms.specs.Built.{is_built_body, is_built_method}
-use Rattle.sure_receivers.specs.Sure.{sure_locals}
+use Rattle.built_forms.specs.Built.{is_built_body}
+use Rattle.body_rules.specs.Typing.{is_built_with}
 use Rattle.sj_world.specs.Known.{Classes}
 use Rattle.folder_verdicts.specs.Verdicts.{Verdict}
 use Rattle.accepted_folders.specs.Accepted.{IsAccepted}
@@ -22,7 +21,7 @@ use Rattle.linked_folders.specs.Edits.{AreBuilt, HaveOneModule, IsEditVerdict, I
 
 -- what a written body calls is written, but for calls in a case without keys, which isn't written itself
 abbrev pub WrittenBodiesAreClosed : Type 0
-WrittenBodiesAreClosed = (w : Classes) (entries : List EntryPoint) (all fs : List EmittedMethod) (e : EmittedMethod) → AreBodies w entries all → AreWritten entries all fs → Contains fs e → is_built_body e.definition e.its_body ≡ true → is_built_method (functions_of fs) (may_check (functions_of fs) (sure_locals e.its_body)) e.definition e.its_body ≡ true
+WrittenBodiesAreClosed = (w : Classes) (entries : List EntryPoint) (all fs : List EmittedMethod) (e : EmittedMethod) → AreBodies w entries all → AreWritten entries all fs → Contains fs e → is_built_body e.definition e.its_body ≡ true → is_built_with (functions_of fs) e.definition e.its_body ≡ true
 
 -- the method of each initializer is written
 abbrev pub InitializersAreWritten : Type 0

@@ -49,38 +49,22 @@ pub record Undeclared (c : Context) (ss : core.Statements) : Type 0 where
   pub kept : (y : core.Variable) → c.kept y → Declares ss y → ⊥
   pub receiver : Declares ss core.receiver → ⊥
 
-<<<<<<< HEAD
 outside-writable : (c : Context) (own : List ℕ → Type 0) (j : ℕ) → Outside c own → Ahead c j → (n : ℕ) (y : core.Variable) → IsIn own j n y → c.writable y → ⊥
 outside-writable c own j out ahead n (core.named x) i h = out.writable x i h
 outside-writable c own j out ahead n (core.numbered k) i h = ahead.writable k i.0 h
+outside-writable c own j out ahead n core.receiver i h = absurd i
 
 outside-kept : (c : Context) (own : List ℕ → Type 0) (j : ℕ) → Outside c own → Ahead c j → (n : ℕ) (y : core.Variable) → IsIn own j n y → c.kept y → ⊥
 outside-kept c own j out ahead n (core.named x) i h = out.kept x i h
 outside-kept c own j out ahead n (core.numbered k) i h = ahead.kept k i.0 h
+outside-kept c own j out ahead n core.receiver i h = absurd i
 
 pub undeclared : (c : Context) (own : List ℕ → Type 0) (j : ℕ) (code : Code) {labels : List (List ℕ)} {inside : Bool} → Outside c own → Ahead c j → Good own labels inside j code → Undeclared c code.statements
 undeclared c own j code out ahead g = record {
   scope = λ x t i d. out.scope x t (g.fresh (core.named x) d) i;
   writable = λ y i d. outside-writable c own j out ahead code.next y (g.fresh y d) i;
   kept = λ y i d. outside-kept c own j out ahead code.next y (g.fresh y d) i;
-=======
-outside-writable : (c : Context) (own : List ℕ → Type 0) (j : ℕ) → Outside c own → Ahead c j → (y : core.Variable) → IsNew own j y → c.writable y → ⊥
-outside-writable c own j out ahead (core.named x) n h = out.writable x n h
-outside-writable c own j out ahead (core.numbered k) n h = ahead.writable k n h
-outside-writable c own j out ahead core.receiver n h = n
-
-outside-kept : (c : Context) (own : List ℕ → Type 0) (j : ℕ) → Outside c own → Ahead c j → (y : core.Variable) → IsNew own j y → c.kept y → ⊥
-outside-kept c own j out ahead (core.named x) n h = out.kept x n h
-outside-kept c own j out ahead (core.numbered k) n h = ahead.kept k n h
-outside-kept c own j out ahead core.receiver n h = n
-
-pub undeclared : (c : Context) (own : List ℕ → Type 0) (j : ℕ) (ss : core.Statements) → Outside c own → Ahead c j → ((y : core.Variable) → Declares ss y → IsNew own j y) → Undeclared c ss
-undeclared c own j ss out ahead h = record {
-  scope = λ x t i d. out.scope x t (h (core.named x) d) i;
-  writable = λ y i d. outside-writable c own j out ahead y (h y d) i;
-  kept = λ y i d. outside-kept c own j out ahead y (h y d) i;
-  receiver = λ d. h core.receiver d;
->>>>>>> 6a46694
+  receiver = λ d. g.fresh core.receiver d;
 }
 
 module _ (z : Setting) (lawful : Lawful z) (c : Context) (ss : core.Statements) (free : Undeclared c ss) where
@@ -110,13 +94,13 @@ module _ (z : Setting) (lawful : Lawful z) (c : Context) (ss : core.Statements) 
 
   enter-ready : (w : World) (env : ir.Env) (sc : js.Scope) → Ready z.place z.code c.scope c.writable w env sc → Ready z.place z.code c.scope c.writable w env (js_meaning.enter shown_statements sc)
   enter-ready w env sc r = record {
-    sees = record { inside = record { file = r.sees.inside.file; free = λ x none. entered sc x (not_among x none) ∙ r.sees.inside.free x none }; this = subst (Receiving w env.this_value) (sym (entered sc (z.place.name core.receiver) (not_declared core.receiver free.receiver))) r.sees.this; sure = r.sees.sure; locals = λ x t i. subst (Holding w t (env.locals x)) (sym (entered sc (z.place.name (core.named x)) (not_declared (core.named x) (free.scope x t i)))) (r.sees.locals x t i) };
+    sees = record { inside = record { file = r.sees.inside.file; free = λ x none. entered sc x (not_among x none) ∙ r.sees.inside.free x none }; this = subst (Receiving w z.code.owner env.this_value) (sym (entered sc (z.place.name core.receiver) (not_declared core.receiver free.receiver))) r.sees.this; sure = r.sees.sure; locals = λ x t i. subst (Holding w t (env.locals x)) (sym (entered sc (z.place.name (core.named x)) (not_declared (core.named x) (free.scope x t i)))) (r.sees.locals x t i) };
     «open» = λ y i. record { value = (r.«open» y i).value; is = entered sc (z.place.name y) (not_declared y (free.writable y i)) ∙ (r.«open» y i).is };
   }
 
   leave-ready : (w : World) (env : ir.Env) (outer inner : js.Scope) → Ready z.place z.code c.scope c.writable w env inner → Ready z.place z.code c.scope c.writable w env (js_meaning.leave shown_statements outer inner)
   leave-ready w env outer inner r = record {
-    sees = record { inside = record { file = r.sees.inside.file; free = λ x none. behind_block outer inner x (not_among x none) ∙ r.sees.inside.free x none }; this = subst (Receiving w env.this_value) (sym (behind_block outer inner (z.place.name core.receiver) (not_declared core.receiver free.receiver))) r.sees.this; sure = r.sees.sure; locals = λ x t i. subst (Holding w t (env.locals x)) (sym (behind_block outer inner (z.place.name (core.named x)) (not_declared (core.named x) (free.scope x t i)))) (r.sees.locals x t i) };
+    sees = record { inside = record { file = r.sees.inside.file; free = λ x none. behind_block outer inner x (not_among x none) ∙ r.sees.inside.free x none }; this = subst (Receiving w z.code.owner env.this_value) (sym (behind_block outer inner (z.place.name core.receiver) (not_declared core.receiver free.receiver))) r.sees.this; sure = r.sees.sure; locals = λ x t i. subst (Holding w t (env.locals x)) (sym (behind_block outer inner (z.place.name (core.named x)) (not_declared (core.named x) (free.scope x t i)))) (r.sees.locals x t i) };
     «open» = λ y i. record { value = (r.«open» y i).value; is = behind_block outer inner (z.place.name y) (not_declared y (free.writable y i)) ∙ (r.«open» y i).is };
   }
 

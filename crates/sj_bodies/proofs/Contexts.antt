@@ -3,7 +3,6 @@ use Rattle.std.proofs.Common.{◌≡◌, ℕ, ◌≤◌, Bool, true, false, List
 use Rattle.ir_mean.specs.States as ir
 use Rattle.js_mean.specs.Meaning as js_meaning
 use Rattle.js_mean.specs.States as js
-use Rattle.js_tree.specs.Terms.{Name}
 use Rattle.sj_bodies.specs.Fine.{Around}
 use Rattle.body_rules.proofs.Equal.{differs, equals}
 use Rattle.sj_core.specs.Terms as core
@@ -11,13 +10,8 @@ use Rattle.sj_desugar.specs.Desugar.{Targets, target_of}
 use Rattle.sj_desugar.specs.Spill.{Destination, discard, to_variable, to_result}
 use Rattle.sj_trees.specs.declared.types.IrType.{IrType}
 use Rattle.sj_trees.specs.declared.types.IrType.TheVariants.{Any}
-<<<<<<< HEAD
 use Rattle.body_rules.specs.Locals.{Scope}
-use Rattle.sj_plain.specs.Settings.{Place, Setting, SameState, Inside, Lawful, Holding, Sees}
-=======
-use Rattle.sj_plain.specs.Conditions.{Scope}
 use Rattle.sj_plain.specs.Settings.{Place, Code, Receiving, Setting, SameState, Inside, Lawful, Holding, Sees}
->>>>>>> 6a46694
 use Rattle.sj_plain.proofs.Plain.{sees-lift}
 use Rattle.sj_plain.proofs.Worlds.{World, Grows, SameValue}
 
@@ -125,7 +119,7 @@ module _ (z : Setting) (lawful : Lawful z) where
   -- a binding that is no local in scope and may not be written otherwise
   pub started-ready : (scope : Scope) (q : core.Variable → Type 0) (const : Bool) (y : core.Variable) (v : js.Value) (w : World) (env : ir.Env) (sc : js.Scope) → ((x : List ℕ) (t : IrType) → scope x t → core.named x ≡ y → ⊥) → ((x : core.Variable) → q x → x ≡ y → ⊥) → (core.receiver ≡ y → ⊥) → Ready z.place z.code scope q w env sc → Ready z.place z.code scope q w env (js_meaning.start const (z.place.name y) v sc)
   started-ready scope q const y v w env sc out unwritten apart r = record {
-    sees = record { inside = started-inside const y v sc r.sees.inside; this = subst (Receiving w env.this_value) (sym (started-other const y core.receiver v sc apart)) r.sees.this; sure = r.sees.sure; locals = λ x t i. subst (Holding w t (env.locals x)) (sym (started-other const y (core.named x) v sc (out x t i))) (r.sees.locals x t i) };
+    sees = record { inside = started-inside const y v sc r.sees.inside; this = subst (Receiving w z.code.owner env.this_value) (sym (started-other const y core.receiver v sc apart)) r.sees.this; sure = r.sees.sure; locals = λ x t i. subst (Holding w t (env.locals x)) (sym (started-other const y (core.named x) v sc (out x t i))) (r.sees.locals x t i) };
     «open» = λ x i. record { value = (r.«open» x i).value; is = started-other const y x v sc (unwritten x i) ∙ (r.«open» x i).is };
   }
 

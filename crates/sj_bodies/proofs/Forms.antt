@@ -11,7 +11,7 @@ use Rattle.ir_mean.specs.States as ir
 use Rattle.js_mean.specs.Meaning as js_meaning
 use Rattle.js_mean.specs.States as js
 use Rattle.sj_core.specs.Terms as core
-use Rattle.sj_desugar.specs.Coercions.{coerced}
+use Rattle.sj_desugar.specs.Coercions.{is_char, coerced}
 use Rattle.sj_desugar.specs.Desugar.{target_of, first_of, finish, operand, branches}
 use Rattle.sj_desugar.specs.Spill.{Destination, discard, to_variable, to_result, Code, one, put_first, then_use, spill}
 use Rattle.sj_emit_expr.specs.Templates.{statement_templates}
@@ -20,13 +20,8 @@ use Rattle.sj_trees.specs.declared.types.IrType.{IrType}
 use Rattle.body_rules.specs.Locals.{Scope, with_local}
 use Rattle.body_rules.specs.Standing.{Fits}
 use Rattle.sj_trees.specs.declared.types.IrType.TheVariants.{NoType}
-<<<<<<< HEAD
-use Rattle.sj_plain.specs.Settings.{Setting, shown, run, SameState, Valued, valued, Lawful, Holding, holding, Sees}
-use Rattle.body_rules.proofs.Standing.{coerced-same}
-=======
 use Rattle.sj_plain.specs.Settings.{Receiving, Setting, shown, run, SameState, Valued, valued, Lawful, Holding, holding, Sees}
-use Rattle.sj_plain.proofs.Standing.{coerced-same}
->>>>>>> 6a46694
+use Rattle.body_rules.proofs.Standing.{coerced-same}
 use Rattle.sj_bodies.proofs.Blocks.{Outside, Undeclared, block_alike}
 use Rattle.sj_bodies.proofs.Contexts.{Context, Writes, Sound, Ahead, IsOpen, Ready, ready-lift, Keeps, Goes, Less, keeps-less, less-trans, keeps-fewer, keeps-refl, keeps-trans, Arrives, let_go, stored, Came, gave, left, threw, stopped, started-here, started-other, started-inside, started-ready, started-keeps}
 use Rattle.body_rules.proofs.Equal.{equals, is-equal}
@@ -123,7 +118,7 @@ module _ (z : Setting) (lawful : Lawful z) where
   -- a local is written, and is in scope from here on
   pub set-ready : (scope : Scope) (q : core.Variable → Type 0) (x : List ℕ) (t : IrType) (w : World) (v : ir.Value) (j : js.Value) (env : ir.Env) (sc : js.Scope) → SameValue w t v j → Ready z.place z.code scope q w env sc → Ready z.place z.code (with_local x t scope) q w (ir_meaning.set_local x v env) (js_meaning.start false (z.place.name (core.named x)) j sc)
   set-ready scope q x t w v j env sc a r = record {
-    sees = record { inside = started-inside z lawful false (core.named x) j sc r.sees.inside; this = subst (Receiving w env.this_value) (sym (started-other z lawful false (core.named x) core.receiver j sc (receiver-named x))) r.sees.this; sure = r.sees.sure; locals = set-locals scope x t w v j env (js_meaning.start false (z.place.name (core.named x)) j sc) a (λ y i h g. subst (Holding w i (env.locals y)) (sym (started-other z lawful false (core.named x) (core.named y) j sc (named-apart x y h))) (r.sees.locals y i g)) (started-here z lawful false (core.named x) j sc) };
+    sees = record { inside = started-inside z lawful false (core.named x) j sc r.sees.inside; this = subst (Receiving w z.code.owner env.this_value) (sym (started-other z lawful false (core.named x) core.receiver j sc (receiver-named x))) r.sees.this; sure = r.sees.sure; locals = set-locals scope x t w v j env (js_meaning.start false (z.place.name (core.named x)) j sc) a (λ y i h g. subst (Holding w i (env.locals y)) (sym (started-other z lawful false (core.named x) (core.named y) j sc (named-apart x y h))) (r.sees.locals y i g)) (started-here z lawful false (core.named x) j sc) };
     «open» = λ y i. started-open z lawful (core.named x) y j sc (r.«open» y i);
   }
 
@@ -164,7 +159,7 @@ module _ (z : Setting) (lawful : Lawful z) where
   log_acts : (w : World) (env : ir.Env) (sc : js.Scope) (own : IrType) → ActsAlike z w w env (own ∷ []) NoType ir_meaning.log js_meaning.log sc
   log_acts w env sc own y _ _ s u g (one_more _ v x _ _ _ a no_values) same = by v x a.stands
     where
-      by : (v : ir.Value) (x : js.Value) → Stands y v x → Sim z.direction (Valued z.place w env NoType) (ir_meaning.log (v ∷ []) env s) (js_meaning.log (x ∷ []) sc u)
+      by : (v : ir.Value) (x : js.Value) → Stands y (is_char own) v x → Sim z.direction (Valued z.place w env NoType) (ir_meaning.log (v ∷ []) env s) (js_meaning.log (x ∷ []) sc u)
       by _ _ (same_text us) = sim_says z.direction (Valued z.place w env NoType) us (ir.ends (ir.gives ir.undefined) env s) (js.gives js.undefined u) (valued y ir.undefined js.undefined s u g (record { stands = same_undefined; suits = refl }) same)
       by _ _ _ = sim_wrong z.direction (Valued z.place w env NoType) _
 
@@ -205,7 +200,7 @@ module _ (z : Setting) (lawful : Lawful z) where
       behind : Ahead c (a i).next
       behind = ahead-later c i (a i).next (up i l) ahead
 
-      goes : (y : World) (v : ir.Value) (x : js.Value) (s : ir.State) (u : js.State) → Grows w y → Stands y v x → SameState z.place y s u → Sim z.direction (Came z.place z.code c c.scope k from before) (ir_meaning.branch first second (v ∷ []) env s) (js_meaning.taken (js_meaning.in_block (statement_templates z.place.name z.place.label (a i).statements) (run z (a i).statements)) (js_meaning.in_block (statement_templates z.place.name z.place.label (b (a i).next).statements) (run z (b (a i).next).statements)) x sc u)
+      goes : (y : World) (v : ir.Value) (x : js.Value) (s : ir.State) (u : js.State) → Grows w y → Stands y (is_char own) v x → SameState z.place y s u → Sim z.direction (Came z.place z.code c c.scope k from before) (ir_meaning.branch first second (v ∷ []) env s) (js_meaning.taken (js_meaning.in_block (statement_templates z.place.name z.place.label (a i).statements) (run z (a i).statements)) (js_meaning.in_block (statement_templates z.place.name z.place.label (b (a i).next).statements) (run z (b (a i).next).statements)) x sc u)
       goes y _ _ s u h (same_boolean true) same = rebased c c.scope k from y before sc (first env s) (js_meaning.in_block (statement_templates z.place.name z.place.label (a i).statements) (run z (a i).statements) sc u) (grows-trans from w y g h) ks (block_alike z lawful c (a i).statements (free_a i l ahead) k y env sc u (first env s) sound wr (ready-lift z c.scope c.writable w y env sc h ready) (λ inner. does_a i l ahead y env s (js_meaning.enter (statement_templates z.place.name z.place.label (a i).statements) sc) u inner same))
       goes y _ _ s u h (same_boolean false) same = rebased c c.scope k from y before sc (second env s) (js_meaning.in_block (statement_templates z.place.name z.place.label (b (a i).next).statements) (run z (b (a i).next).statements) sc u) (grows-trans from w y g h) ks (block_alike z lawful c (b (a i).next).statements (free_b (a i).next later behind) k y env sc u (second env s) sound wr (ready-lift z c.scope c.writable w y env sc h ready) (λ inner. does_b (a i).next later behind y env s (js_meaning.enter (statement_templates z.place.name z.place.label (b (a i).next).statements) sc) u inner same))
       goes y _ _ s u h _ same = sim_wrong z.direction (Came z.place z.code c c.scope k from before) _

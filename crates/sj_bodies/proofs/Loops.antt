@@ -9,6 +9,7 @@ use Rattle.ir_mean.specs.States as ir
 use Rattle.js_mean.specs.Meaning as js_meaning
 use Rattle.js_mean.specs.States as js
 use Rattle.sj_core.specs.Terms as core
+use Rattle.sj_desugar.specs.Coercions.{is_char}
 use Rattle.sj_desugar.specs.Desugar.{target_of, first_of, wrapped, break_unless}
 use Rattle.sj_desugar.specs.Spill.{Destination, discard, Code, put_first}
 use Rattle.sj_emit_expr.specs.Templates.{statement_templates}
@@ -74,7 +75,7 @@ module _ (z : Setting) (lawful : Lawful z) where
       alike_low : Alike c discard next low_js
       alike_low w env s sc u ready same = subst (λ o. Sim z.direction (Came z.place z.code c c.scope discard w sc) (next env s) o) (is sc u) (low w env s sc u ready same)
 
-      goes : (y : World) (v : ir.Value) (x : js.Value) (s : ir.State) (u : js.State) → Grows w y → Stands y v x → SameState z.place y s u → Sim z.direction (Came z.place z.code c c.scope discard w sc) (then_do (ir_meaning.branch body stop (v ∷ []) env s) (ir_meaning.after_turn next)) (js_meaning.taken (λ sc s. then_do (js_meaning.in_block (statement_templates z.place.name z.place.label code.statements) (run z code.statements) sc s) (js_meaning.next_turn low_js)) js_meaning.nothing x sc u)
+      goes : (y : World) (v : ir.Value) (x : js.Value) (s : ir.State) (u : js.State) → Grows w y → Stands y (is_char own) v x → SameState z.place y s u → Sim z.direction (Came z.place z.code c c.scope discard w sc) (then_do (ir_meaning.branch body stop (v ∷ []) env s) (ir_meaning.after_turn next)) (js_meaning.taken (λ sc s. then_do (js_meaning.in_block (statement_templates z.place.name z.place.label code.statements) (run z code.statements) sc s) (js_meaning.next_turn low_js)) js_meaning.nothing x sc u)
       goes y _ _ s u g (same_boolean true) same = rebased z lawful c c.scope discard w y sc sc (then_do (body env s) (ir_meaning.after_turn next)) (then_do (js_meaning.in_block (statement_templates z.place.name z.place.label code.statements) (run z code.statements) sc u) (js_meaning.next_turn low_js)) g (keeps-refl z c.kept sc) (turn_alike c discard body next code.statements low_js sound free does alike_low y env s sc u (ready-lift z c.scope c.writable w y env sc g ready) same)
       goes y _ _ s u g (same_boolean false) same = stops_here c discard is_discard w y env s sc sc u g (ready-lift z c.scope c.writable w y env sc g ready) (keeps-refl z c.kept sc) same
       goes y _ _ s u g _ same = sim_wrong z.direction (Came z.place z.code c c.scope discard w sc) _
@@ -106,7 +107,7 @@ module _ (z : Setting) (lawful : Lawful z) where
       regrouped : then_do (then_do (then_do (shown z e sc u) (js.with_value (negates sc))) (js.in_statement sc (breaks_if sc))) (js.next_statement rest) ≡ then_do (shown z e sc u) (λ b. then_do (then_do (js.with_value (negates sc) b) (js.in_statement sc (breaks_if sc))) (js.next_statement rest))
       regrouped = ap (λ o. then_do o (js.next_statement rest)) (then_do-associative (shown z e sc u) (js.with_value (negates sc)) (js.in_statement sc (breaks_if sc))) ∙ then_do-associative (shown z e sc u) (λ b. then_do (js.with_value (negates sc) b) (js.in_statement sc (breaks_if sc))) (js.next_statement rest)
 
-      goes : (y : World) (v : ir.Value) (x : js.Value) (s : ir.State) (u : js.State) → Grows w y → Stands y v x → SameState z.place y s u → Sim z.direction (Came z.place z.code (in_turn c k) c.scope discard from before) (ir_meaning.branch first stop (v ∷ []) env s) (then_do (then_do (negates sc x u) (js.in_statement sc (breaks_if sc))) (js.next_statement rest))
+      goes : (y : World) (v : ir.Value) (x : js.Value) (s : ir.State) (u : js.State) → Grows w y → Stands y (is_char own) v x → SameState z.place y s u → Sim z.direction (Came z.place z.code (in_turn c k) c.scope discard from before) (ir_meaning.branch first stop (v ∷ []) env s) (then_do (then_do (negates sc x u) (js.in_statement sc (breaks_if sc))) (js.next_statement rest))
       goes y _ _ s u h (same_boolean true) same = rebased z lawful (in_turn c k) c.scope discard from y before sc (first env s) (rest sc u) (grows-trans from w y g h) ks (does i l ahead y env s sc u (ready-lift z c.scope c.writable w y env sc h ready) same)
       goes y _ _ s u h (same_boolean false) same = sim_done z.direction (Came z.place z.code (in_turn c k) c.scope discard from before) (ir.ends ir.stops env s) (js.ends js.breaks_nearest sc u) (stopped y env s sc u stops (grows-trans from w y g h) (ready-lift z c.scope c.writable w y env sc h ready) ks same)
       goes y _ _ s u h _ same = sim_wrong z.direction (Came z.place z.code (in_turn c k) c.scope discard from before) _

@@ -15,6 +15,7 @@ use Rattle.js_mean.specs.States as js
 use Rattle.js_tree.specs.Terms as tree
 use Rattle.sj_core.specs.Terms as core
 use Rattle.sj_core.specs.Terms.{followed}
+use Rattle.sj_desugar.specs.Coercions.{is_char}
 use Rattle.sj_desugar.specs.Desugar.{target_of, first_of, Branches, switch_code}
 use Rattle.sj_desugar.specs.Spill.{Destination, discard, to_variable, to_result, Code}
 use Rattle.sj_emit_expr.specs.Templates.{statement_templates, case_templates}
@@ -140,6 +141,6 @@ module _ (z : Setting) (lawful : Lawful z) where
       behind : Ahead c (made i).next
       behind = ahead-later z lawful c i (made i).next (up i l) ahead
 
-      goes : (y : World) (v : ir.Value) (x : js.Value) (s : ir.State) (u : js.State) → Grows w y → Stands y v x → SameState z.place y s u → Sim z.direction (Came z.place z.code c c.scope k from before) (ir_meaning.choose bs r (v ∷ []) env s) (then_do (js_meaning.from_case (clauses_in (made i).cases) (block_in (other (made i).next).statements (other (made i).next).statements) x sc u) js_meaning.behind_switch)
+      goes : (y : World) (v : ir.Value) (x : js.Value) (s : ir.State) (u : js.State) → Grows w y → Stands y (is_char own) v x → SameState z.place y s u → Sim z.direction (Came z.place z.code c c.scope k from before) (ir_meaning.choose bs r (v ∷ []) env s) (then_do (js_meaning.from_case (clauses_in (made i).cases) (block_in (other (made i).next).statements (other (made i).next).statements) x sc u) js_meaning.behind_switch)
       goes y _ _ s u h (same_number n f) same = rebased z lawful c c.scope k from y before sc (ir_meaning.branch_of bs r n env s) (then_do (js_meaning.from_case (clauses_in (made i).cases) (block_in (other (made i).next).statements (other (made i).next).statements) (js.number n) sc u) js_meaning.behind_switch) (grows-trans from w y g h) ks (chosen_alike c k bs (made i).cases r (other (made i).next).statements (cases_do i l ahead) (free (made i).next later behind) sound wr (does (made i).next later behind) n y env s sc u (ready-lift z c.scope c.writable w y env sc h ready) same)
       goes y _ _ s u h _ same = sim_wrong z.direction (Came z.place z.code c c.scope k from before) _

@@ -1,7 +1,6 @@
 -- Trees of objects, and their statements: This, new objects, fields, throws and calls on receivers, by what is known of their operands.
-use Rattle.std.proofs.Common.{◌≡◌, ℕ, suc, Bool, true, false, List, [], ◌∷◌, Some, None, Option, refl, sym, ap, ◌∙◌, subst, ◌⊎◌, inl, inr, ⊎_elim}
-use Rattle.std.specs.Prelude.{codes}
-use Rattle.outcomes.specs.Outcome.{Out, done, then_do}
+use Rattle.std.proofs.Common.{◌≡◌, ℕ, suc, ◌≤◌, Bool, true, false, ◌&&◌, arith, List, [], ◌∷◌, Some, Option, refl, sym, ap, subst, ◌⊎◌, inl, inr}
+use Rattle.outcomes.specs.Outcome.{done, then_do}
 use Rattle.outcomes.specs.Agreement.{Sim}
 use Rattle.outcomes.proofs.Sequence.{then_do-right}
 use Rattle.outcomes.proofs.Simulation.{sim_done, sim_wrong, sim_then}
@@ -9,15 +8,13 @@ use Rattle.sj_plain.proofs.Runs.{Ran, ran, ran_out, constructor_runs}
 use Rattle.ir_mean.specs.Meaning as ir_meaning
 use Rattle.ir_mean.specs.States as ir
 use Rattle.ir_mean.specs.World as ir_world
-use Rattle.js_mean.specs.Files.{owner}
 use Rattle.js_mean.specs.Meaning as js_meaning
 use Rattle.js_mean.specs.States as js
 use Rattle.sj_core.specs.Terms as core
 use Rattle.sj_core.specs.Views.{expressions_of}
 use Rattle.sj_desugar.specs.Coercions.{coerced, coerced_arguments, coerced_receiver}
-use Rattle.sj_desugar.specs.Desugar.{Targets, into, operands, operand, receiver, received, expression_of, first_of, rest_of, finish, member, types_of, position_of, has_no_value}
-use Rattle.sj_desugar.specs.Plain.{is_plain, is_fixed}
-use Rattle.sj_desugar.specs.Spill.{Destination, discard, to_variable, to_result, Code, one, Operand, spill, then_use}
+use Rattle.sj_desugar.specs.Desugar.{Targets, into, operand, receiver, received, expression_of, first_of, rest_of, finish, member, types_of, position_of, has_no_value}
+use Rattle.sj_desugar.specs.Spill.{Destination, discard, to_variable, one, Operand, spill, spill_case, then_use}
 use Rattle.sj_emit_expr.specs.Templates.{check_name}
 use Rattle.sj_names.proofs.Same.{impossible}
 use Rattle.sj_names.specs.declared.method_names.MethodName.{MethodName}
@@ -27,30 +24,42 @@ use Rattle.sj_trees.specs.TypeOf.{type_of_term}
 use Rattle.sj_trees.specs.Types.{class_type}
 use Rattle.sj_trees.specs.declared.positions.Position.{Position}
 use Rattle.sj_trees.specs.declared.types.IrType.{IrType}
-use Rattle.sj_trees.specs.declared.types.IrType.TheVariants.{Any, Class}
+use Rattle.sj_trees.specs.declared.types.IrType.TheVariants.{Any}
 use Rattle.sure_receivers.specs.Sure.{is_sure}
-use Rattle.sj_plain.specs.Standing.{is_bare, Fits, FitAll, types_referred, call_type}
-use Rattle.sj_plain.specs.Settings.{Setting, shown, SameState, Valued, valued, Lawful, Inside, Receiving, no_receiver, on_receiver, Sees, usable}
+use Rattle.body_rules.specs.Standing.{is_bare, Fits, FitAll, NoBox, types_referred, call_type}
+use Rattle.sj_plain.specs.Settings.{Setting, shown, SameState, Valued, Lawful, Inside, Receiving, no_receiver, on_receiver, Sees, usable}
 use Rattle.sj_plain.proofs.Objects.{null_act, select_alike, new_alike, received_call_alike, checked_alike}
-use Rattle.sj_plain.proofs.Orders.{OperandAlike, OperandsAlike, no_operands, more_operands}
-use Rattle.sj_plain.proofs.Standing.{coerced-same, arguments-same, fits-character, fits-same}
+use Rattle.sj_plain.proofs.Orders.{OperandsAlike, no_operands, more_operands}
+use Rattle.body_rules.proofs.Standing.{coerced-same, arguments-same, fits-same}
 use Rattle.sj_plain.proofs.Worlds.{World, Grows, grows-refl, grows-trans, SameValue, value-fits}
 use Rattle.sj_bodies.specs.Fine.{FitsIn, FineOperand}
-use Rattle.sj_plain.specs.Conditions.{MayBeChecked, Scope}
+use Rattle.sj_plain.specs.Conditions.{Plain}
+use Rattle.body_rules.specs.Locals.{Scope}
 use Rattle.sj_bodies.proofs.Blocks.{Outside}
-use Rattle.sj_bodies.proofs.Declared.{Own}
-use Rattle.sj_plain.proofs.Plain.{plain_alike, plain_tells, as_operand}
+use Rattle.body_rules.specs.Locals.{Own}
+use Rattle.sj_plain.proofs.Plain.{plain_alike, as_operand}
+use Rattle.sj_plain.proofs.Received.{receiver-same}
 use Rattle.sj_bodies.proofs.Contexts.{Context, Writes, Sound, Ahead, Ready, ready-lift, keeps-less, let_go, Came, gave, threw}
 use Rattle.sj_bodies.proofs.Forms.{sound-writing, ahead-writing, outside-writing, of_operands, one_final, quiet_alike, OneFinal}
-use Rattle.sj_bodies.proofs.Numbers.{onward, received-onward}
-use Rattle.sj_bodies.proofs.Spills.{keeping, writing, Does, Final, Piece, PieceDoes, Onward, OperandDoes, OperandsDo, runs, operands_in, types}
+use Rattle.sj_proper.proofs.Good.{no_name, finish-good}
+use Rattle.sj_bodies.proofs.Spills.{keeping, writing, Does, Final, Piece, OperandDoes, OperandsDo, runs, operands_in, types}
 use Rattle.sj_bodies.proofs.Statements.{finish_alike, valued_then, throws-on, ends-one, Ends}
-use Rattle.sj_bodies.proofs.Trees.{LowAlike, TreeDoes, FineHere, piece, operand_does, list_of, operands-list, runs-list, types-list}
+use Rattle.sj_bodies.proofs.Trees.{written, LowAlike, TreeDoes, FineHere, piece, operand_does, list_of, operands-list, runs-list, types-list}
 
 -- a receiver is of its type, checked or not
 received-type : (b : Bool) (o : Operand) → (received b o).tpe ≡ o.tpe
 received-type true o = refl
 received-type false o = refl
+
+-- one operand that is spilled goes on, and so does a receiver with its check
+spilled-onward : (a f b : Bool) (o : Operand) (j : ℕ) → ((k : Destination) (j : ℕ) → j ≤ (o.code k j).next) → j ≤ (spill_case a f b o [] (spill []) j).next
+spilled-onward true f b o j h = omega arith
+spilled-onward false true b o j h = omega arith
+spilled-onward false false true o j h = omega arith
+spilled-onward false false false o j h = let k = h (to_variable (core.numbered j) o.tpe) (suc j) in omega arith
+
+received-onward : (o : Operand) → ((k : Destination) (j : ℕ) → j ≤ (o.code k j).next) → (k : Destination) (j : ℕ) → j ≤ ((received false o).code k j).next
+received-onward o h k j = let l = spilled-onward (o.plain && true) o.fixed o.plain o j h in let g = (finish-good no_name [] true k o.at o.tpe false (core.checked_value (first_of (spill (o ∷ []) j).expressions)) (spill (o ∷ []) j).next).onward in omega (arith, l, g)
 
 module _ (z : Setting) (lawful : Lawful z) (low : LowAlike z) where
   -- operands, and behind them an expression of their values
@@ -68,16 +77,16 @@ module _ (z : Setting) (lawful : Lawful z) (low : LowAlike z) where
   check_given t has _ _ w env s sc u inside (more_operands _ r e _ _ _ told one no_operands) same = checked_alike z lawful t w env sc r e has inside (more_operands t r e [] [] [] told one no_operands) w s u (grows-refl w) same
 
   abbrev FineAt : Context → Term → Type 0
-  FineAt c e = FineOperand z.is_mutable (usable z) z.code.sure c.scope e (λ y. FineHere z lawful low c (to_variable y (type_of_term e)) e)
+  FineAt c e = FineOperand z.place.classes z.is_mutable (usable z) z.code c.scope e (λ y. FineHere z lawful low c (to_variable y (type_of_term e)) e)
 
   -- a receiver as an operand: where it has its check and isn't plain, it is spilled by itself
   receiver_by : (b : Bool) (c : Context) (j : ℕ) (e : Term) → TreeDoes z lawful low e → Outside c (Own e) → FineAt c e → (b ≡ true) ⊎ ((usable z).helper check_name ≡ true) → has_no_value (type_of_term e) ≡ false → OperandDoes z lawful c j (record { run = ir_meaning.receiving z.place.classes b z.low (ir_meaning.step z.place.classes z.low e); here = received b (operand z.is_mutable z.code.sure e (λ k j. into z.is_mutable z.code.sure c.targets k j e)) })
   receiver_by true c j e does out fine may value = operand_does z lawful low c j e does out fine
   receiver_by false c j e does out fine (inl i) value = absurd (impossible i)
-  receiver_by false c j e does out (inl h) (inr has) value = inl (h.0, record { alike = λ w env sc sees. checked_alike z lawful (type_of_term e) w env sc (ir_meaning.step z.place.classes z.low e) (expression_of z.code.sure e) has sees.inside (more_operands (type_of_term e) (ir_meaning.step z.place.classes z.low e) (expression_of z.code.sure e) [] [] [] (plain_tells z lawful c.scope e h.1) (as_operand z lawful c.scope e (plain_alike z lawful c.scope e h.1) w env sc sees) no_operands); told = refl; fixes = λ i p sound w env sc sees. impossible i })
-  receiver_by false c j e does out (inr h) (inr has) value = inr (h.0, refl, received-onward false (operand z.is_mutable z.code.sure e (λ k j. into z.is_mutable z.code.sure c.targets k j e)) (onward z.is_mutable z.code.sure c.targets e), λ p i l ext sound ahead. expression_does (writing (keeping c p) (core.numbered i)) (to_variable (core.numbered i) (type_of_term e)) (suc i) (piece z lawful low c.targets e ∷ []) (type_of_term e) (position_of e) (null_act z) (λ es. core.checked_value (first_of es)) (sound-writing z lawful (keeping c p) i sound ahead) (ahead-writing z lawful (keeping c p) i ahead) (inl refl) (value, fits-same (type_of_term e)) (operand_does z lawful low (writing (keeping c p) (core.numbered i)) (suc i) e does (outside-writing z lawful c p i (Own e) ext out) (inr h), tt) (check_given (type_of_term e) has))
+  receiver_by false c j e does out (inl h) (inr has) value = inl (h.plain, record { alike = λ w env sc sees. checked_alike z lawful (type_of_term e) w env sc (ir_meaning.step z.place.classes z.low e) (expression_of z.code.sure e) has sees.inside (more_operands (type_of_term e) (ir_meaning.step z.place.classes z.low e) (expression_of z.code.sure e) [] [] [] (plain_alike z lawful c.scope e h).told (as_operand z lawful c.scope e (plain_alike z lawful c.scope e h).alike w env sc sees) no_operands); told = refl; fixes = λ i p sound w env sc sees. impossible i })
+  receiver_by false c j e does out (inr h) (inr has) value = inr (h.0, refl, received-onward (operand z.is_mutable z.code.sure e (λ k j. into z.is_mutable z.code.sure c.targets k j e)) (λ k i. (written z.is_mutable z.code.sure c.targets e k i (h.2 (core.numbered j)).once).onward), λ p i l ext sound ahead. expression_does (writing (keeping c p) (core.numbered i)) (to_variable (core.numbered i) (type_of_term e)) (suc i) (piece z lawful low c.targets e ∷ []) (type_of_term e) (position_of e) (null_act z) (λ es. core.checked_value (first_of es)) (sound-writing z lawful (keeping c p) i sound ahead) (ahead-writing z lawful (keeping c p) i ahead) (inl refl) (value, fits-same (type_of_term e)) (operand_does z lawful low (writing (keeping c p) (core.numbered i)) (suc i) e does (outside-writing z lawful c p i (Own e) ext out) (inr h), tt) (check_given (type_of_term e) has))
 
-  pub receiver_does : (c : Context) (j : ℕ) (e : Term) → TreeDoes z lawful low e → Outside c (Own e) → FineAt c e → MayBeChecked (usable z) z.code.sure c.scope e → has_no_value (type_of_term e) ≡ false → OperandDoes z lawful c j (receiver_piece c.targets e)
+  pub receiver_does : (c : Context) (j : ℕ) (e : Term) → TreeDoes z lawful low e → Outside c (Own e) → FineAt c e → (is_sure z.code.sure e ≡ true) ⊎ ((usable z).helper check_name ≡ true) → has_no_value (type_of_term e) ≡ false → OperandDoes z lawful c j (receiver_piece c.targets e)
   receiver_does c j e = receiver_by (is_sure z.code.sure e) c j e
 
   -- the receivers that the IR takes for sure are those of the code
@@ -105,12 +114,12 @@ module _ (z : Setting) (lawful : Lawful z) (low : LowAlike z) where
       given rs es w env s sc u inside alike same = new_alike z lawful.base d m (types_of ts) rs (coerced_arguments m.params (types_of ts) es) es (arguments-same m.params (types_of ts) es fit) built made bare fit w env s sc u inside (subst (λ is. OperandsAlike z w env sc is rs es) (sym (types-list z lawful low c.targets ts)) alike) same
 
   -- This, where there is one
-  pub this_does : (p : Position) (c : Context) (k : Destination) (j : ℕ) (t : IrType) → Sound z.is_mutable c → Writes c.writable k → FitsIn k t → Fits t Any → Does z lawful c k j (this_ref p t)
-  this_does p c k j t sound wr fits any w env s sc u r same = by env.this_value (sc.bindings (z.place.name core.receiver)) r.sees.this refl
+  pub this_does : (p : Position) (c : Context) (k : Destination) (j : ℕ) (t : IrType) → Sound z.is_mutable c → Writes c.writable k → FitsIn k t → Plain z.place.classes (usable z) z.code c.scope (this_ref p t) → Does z lawful c k j (this_ref p t)
+  this_does p c k j t sound wr fits plain w env s sc u r same = by env.this_value (sc.bindings (z.place.name core.receiver)) r.sees.this refl
     where
-      by : (o : Option ir.Value) (cell : js.Cell) → Receiving w o cell → env.this_value ≡ o → Ends z lawful c c.scope k w sc (ir_meaning.local_value env.this_value env s) (finish k p t true (core.variable_use core.receiver) j).statements sc u
+      by : (o : Option ir.Value) (cell : js.Cell) → Receiving w z.code.owner o cell → env.this_value ≡ o → Ends z lawful c c.scope k w sc (ir_meaning.local_value env.this_value env s) (finish k p t true (core.variable_use core.receiver) j).statements sc u
       by _ _ (no_receiver cell) e = subst (λ (o : Option ir.Value). Ends z lawful c c.scope k w sc (ir_meaning.local_value o env s) (finish k p t true (core.variable_use core.receiver) j).statements sc u) (sym e) (sim_wrong z.direction (Came z.place z.code c c.scope k w sc) _)
-      by _ _ (on_receiver v x a) e = quiet_alike z lawful c k p t (core.variable_use core.receiver) j sound wr fits w env s sc u (ir_meaning.local_value env.this_value env s) v (ap (λ (o : Option ir.Value). ir_meaning.local_value o env s) e) r same (plain_alike z lawful c.scope (this_ref p t) any w env s sc u r.sees same)
+      by _ _ (on_receiver v x a) e = quiet_alike z lawful c k p t (core.variable_use core.receiver) j sound wr fits w env s sc u (ir_meaning.local_value env.this_value env s) v (ap (λ (o : Option ir.Value). ir_meaning.local_value o env s) e) r same ((plain_alike z lawful c.scope (this_ref p t) plain).alike w env s sc u r.sees same)
 
   -- a throw: whatever its destination is
   throw_final : (c : Context) (k : Destination) (p : Position) (j : ℕ) (own : IrType) → Fits Any own → (w : World) (sc : js.Scope) → OneFinal z lawful c k w sc j own ir_meaning.throw_value (λ es. one (core.throw_of (Some p) (coerced Any own (first_of es))))
@@ -123,8 +132,8 @@ module _ (z : Setting) (lawful : Lawful z) (low : LowAlike z) where
   throw_does p c k j e sound ahead any operand = of_operands z lawful c k (piece z lawful low c.targets e ∷ []) j ir_meaning.throw_value (λ es. one (core.throw_of (Some p) (coerced Any (type_of_term e) (first_of es)))) sound ahead (operand, tt) (one_final z lawful c k j (type_of_term e) ir_meaning.throw_value (λ es. one (core.throw_of (Some p) (coerced Any (type_of_term e) (first_of es)))) (throw_final c k p j (type_of_term e) any))
 
   -- a call of a private member on a receiver
-  pub receive_does : (p : Position) (c : Context) (k : Destination) (j : ℕ) (e : Term) (d : List ℕ) (m : MethodName) (ts : Terms) (t : IrType) → Sound z.is_mutable c → Ahead c j → Writes c.writable k → FitsIn k t → (usable z).received (member d Private m) ≡ true → t ≡ call_type m.result → Fits Any (type_of_term e) → FitAll (types_referred m.params) (types_of ts) → OperandsDo z lawful c j (receiver_piece c.targets e ∷ list_of z lawful low c.targets ts) → Does z lawful c k j (apply_statically p e d Private m ts t)
-  receive_does p c k j e d m ts t sound ahead wr fits there is any fit ds w env s sc u r same = subst (λ o. Ends z lawful c c.scope k w sc o (into z.is_mutable z.code.sure c.targets k j (apply_statically p e d Private m ts t)).statements sc u) (sym (sure_run e act (ir_meaning.operands z.place.classes z.low ts) w env s sc c.scope r.sees)) (subst (λ os. Ends z lawful c c.scope k w sc (ir_meaning.in_order ((receiver_piece c.targets e).run ∷ ir_meaning.operands z.place.classes z.low ts) act env s) (then_use (spill ((receiver_piece c.targets e).here ∷ os) j) (λ es. finish k p t false (text es))).statements sc u) (sym (operands-list z lawful low c.targets ts)) (subst (λ rs. Ends z lawful c c.scope k w sc (ir_meaning.in_order ((receiver_piece c.targets e).run ∷ rs) act env s) (then_use (spill (operands_in z lawful (receiver_piece c.targets e ∷ list_of z lawful low c.targets ts)) j) (λ es. finish k p t false (text es))).statements sc u) (sym (runs-list z lawful low c.targets ts)) (expression_does c k j (receiver_piece c.targets e ∷ list_of z lawful low c.targets ts) t p act text sound ahead wr fits ds given w env s sc u r same)))
+  pub receive_does : (p : Position) (c : Context) (k : Destination) (j : ℕ) (e : Term) (d : List ℕ) (m : MethodName) (ts : Terms) (t : IrType) → Sound z.is_mutable c → Ahead c j → Writes c.writable k → FitsIn k t → (usable z).received (member d Private m) ≡ true → t ≡ call_type m.result → NoBox Any (type_of_term e) → Fits (class_type d) (type_of_term e) → FitAll (types_referred m.params) (types_of ts) → OperandsDo z lawful c j (receiver_piece c.targets e ∷ list_of z lawful low c.targets ts) → Does z lawful c k j (apply_statically p e d Private m ts t)
+  receive_does p c k j e d m ts t sound ahead wr fits there is unboxed on fit ds w env s sc u r same = subst (λ o. Ends z lawful c c.scope k w sc o (into z.is_mutable z.code.sure c.targets k j (apply_statically p e d Private m ts t)).statements sc u) (sym (sure_run e act (ir_meaning.operands z.place.classes z.low ts) w env s sc c.scope r.sees)) (subst (λ os. Ends z lawful c c.scope k w sc (ir_meaning.in_order ((receiver_piece c.targets e).run ∷ ir_meaning.operands z.place.classes z.low ts) act env s) (then_use (spill ((receiver_piece c.targets e).here ∷ os) j) (λ es. finish k p t false (text es))).statements sc u) (sym (operands-list z lawful low c.targets ts)) (subst (λ rs. Ends z lawful c c.scope k w sc (ir_meaning.in_order ((receiver_piece c.targets e).run ∷ rs) act env s) (then_use (spill (operands_in z lawful (receiver_piece c.targets e ∷ list_of z lawful low c.targets ts)) j) (λ es. finish k p t false (text es))).statements sc u) (sym (runs-list z lawful low c.targets ts)) (expression_does c k j (receiver_piece c.targets e ∷ list_of z lawful low c.targets ts) t p act text sound ahead wr fits ds given w env s sc u r same)))
     where
       act : List ir.Value → ir.Run
       act = ir_meaning.call_on z.place.classes z.low (ir_world.member_of z.place.classes d Private m)
@@ -133,14 +142,14 @@ module _ (z : Setting) (lawful : Lawful z) (low : LowAlike z) where
       text es = core.receiver_call (member d Private m) (coerced_receiver (type_of_term e) (first_of es)) (expressions_of (coerced_arguments m.params (types_of ts) (rest_of es)))
 
       text_is : (g : core.Expression) (gs : List core.Expression) → text (g ∷ gs) ≡ core.receiver_call (member d Private m) g (expressions_of gs)
-      text_is g gs = λ i. core.receiver_call (member d Private m) (coerced-same (Class (codes "java.lang.Character")) (type_of_term e) g (fits-character (type_of_term e) any) i) (expressions_of (arguments-same m.params (types_of ts) gs fit i))
+      text_is g gs = λ i. core.receiver_call (member d Private m) (receiver-same (type_of_term e) g unboxed i) (expressions_of (arguments-same m.params (types_of ts) gs fit i))
 
       given : (rs : List ir.Run) (es : List core.Expression) (w : World) (env : ir.Env) (s : ir.State) (sc : js.Scope) (u : js.State) → Inside z.place z.code sc → OperandsAlike z w env sc ((receiver_piece c.targets e).here.tpe ∷ types z lawful (list_of z lawful low c.targets ts)) rs es → SameState z.place w s u → Sim z.direction (Valued z.place w env t) (ir_meaning.in_order rs act env s) (shown z (text es) sc u)
-      given _ _ w env s sc u inside (more_operands own q g _ qs gs told one others) same = subst (λ o. Sim z.direction (Valued z.place w env t) (ir_meaning.in_order (q ∷ qs) act env s) (shown z o sc u)) (sym (text_is g gs)) (subst (λ i. Sim z.direction (Valued z.place w env i) (ir_meaning.in_order (q ∷ qs) act env s) (shown z (core.receiver_call (member d Private m) g (expressions_of gs)) sc u)) (sym is) (received_call_alike z lawful.base (member d Private m) own (types_of ts) q qs g gs there (subst (Fits Any) (sym (received-type (is_sure z.code.sure e) (operand z.is_mutable z.code.sure e (λ k j. into z.is_mutable z.code.sure c.targets k j e)))) any) fit w env s sc u inside (more_operands own q g (types_of ts) qs gs told one (subst (λ is. OperandsAlike z w env sc is qs gs) (sym (types-list z lawful low c.targets ts)) others)) same))
+      given _ _ w env s sc u inside (more_operands own q g _ qs gs told one others) same = subst (λ o. Sim z.direction (Valued z.place w env t) (ir_meaning.in_order (q ∷ qs) act env s) (shown z o sc u)) (sym (text_is g gs)) (subst (λ i. Sim z.direction (Valued z.place w env i) (ir_meaning.in_order (q ∷ qs) act env s) (shown z (core.receiver_call (member d Private m) g (expressions_of gs)) sc u)) (sym is) (received_call_alike z lawful.base (member d Private m) own (types_of ts) q qs g gs there (subst (Fits (class_type d)) (sym (received-type (is_sure z.code.sure e) (operand z.is_mutable z.code.sure e (λ k j. into z.is_mutable z.code.sure c.targets k j e)))) on) fit w env s sc u inside (more_operands own q g (types_of ts) qs gs told one (subst (λ is. OperandsAlike z w env sc is qs gs) (sym (types-list z lawful low c.targets ts)) others)) same))
 
   -- a call of a constructor on a receiver, which is given up: it gives nothing by the IR, and the object by its function
-  pub construct_does : (p : Position) (c : Context) (j : ℕ) (e : Term) (d : List ℕ) (m : MethodName) (ts : Terms) (t : IrType) → Sound z.is_mutable c → Ahead c j → (usable z).built (member d Constructor m) ≡ true → Fits Any (type_of_term e) → FitAll (types_referred m.params) (types_of ts) → OperandsDo z lawful c j (receiver_piece c.targets e ∷ list_of z lawful low c.targets ts) → Does z lawful c discard j (apply_statically p e d Constructor m ts t)
-  construct_does p c j e d m ts t sound ahead there any fit ds w env s sc u r same = subst (λ o. Ends z lawful c c.scope discard w sc o (into z.is_mutable z.code.sure c.targets discard j (apply_statically p e d Constructor m ts t)).statements sc u) (sym (sure_run e act (ir_meaning.operands z.place.classes z.low ts) w env s sc c.scope r.sees)) (subst (λ os. Ends z lawful c c.scope discard w sc (ir_meaning.in_order ((receiver_piece c.targets e).run ∷ ir_meaning.operands z.place.classes z.low ts) act env s) (then_use (spill ((receiver_piece c.targets e).here ∷ os) j) (λ es. finish discard p t false (text es))).statements sc u) (sym (operands-list z lawful low c.targets ts)) (subst (λ rs. Ends z lawful c c.scope discard w sc (ir_meaning.in_order ((receiver_piece c.targets e).run ∷ rs) act env s) (then_use (spill (operands_in z lawful (receiver_piece c.targets e ∷ list_of z lawful low c.targets ts)) j) (λ es. finish discard p t false (text es))).statements sc u) (sym (runs-list z lawful low c.targets ts)) (of_operands z lawful c discard (receiver_piece c.targets e ∷ list_of z lawful low c.targets ts) j act (λ es. finish discard p t false (text es)) sound ahead ds final w env s sc u r same)))
+  pub construct_does : (p : Position) (c : Context) (j : ℕ) (e : Term) (d : List ℕ) (m : MethodName) (ts : Terms) (t : IrType) → Sound z.is_mutable c → Ahead c j → (usable z).built (member d Constructor m) ≡ true → NoBox Any (type_of_term e) → Fits (class_type d) (type_of_term e) → FitAll (types_referred m.params) (types_of ts) → OperandsDo z lawful c j (receiver_piece c.targets e ∷ list_of z lawful low c.targets ts) → Does z lawful c discard j (apply_statically p e d Constructor m ts t)
+  construct_does p c j e d m ts t sound ahead there unboxed on fit ds w env s sc u r same = subst (λ o. Ends z lawful c c.scope discard w sc o (into z.is_mutable z.code.sure c.targets discard j (apply_statically p e d Constructor m ts t)).statements sc u) (sym (sure_run e act (ir_meaning.operands z.place.classes z.low ts) w env s sc c.scope r.sees)) (subst (λ os. Ends z lawful c c.scope discard w sc (ir_meaning.in_order ((receiver_piece c.targets e).run ∷ ir_meaning.operands z.place.classes z.low ts) act env s) (then_use (spill ((receiver_piece c.targets e).here ∷ os) j) (λ es. finish discard p t false (text es))).statements sc u) (sym (operands-list z lawful low c.targets ts)) (subst (λ rs. Ends z lawful c c.scope discard w sc (ir_meaning.in_order ((receiver_piece c.targets e).run ∷ rs) act env s) (then_use (spill (operands_in z lawful (receiver_piece c.targets e ∷ list_of z lawful low c.targets ts)) j) (λ es. finish discard p t false (text es))).statements sc u) (sym (runs-list z lawful low c.targets ts)) (of_operands z lawful c discard (receiver_piece c.targets e ∷ list_of z lawful low c.targets ts) j act (λ es. finish discard p t false (text es)) sound ahead ds final w env s sc u r same)))
     where
       act : List ir.Value → ir.Run
       act = ir_meaning.call_on z.place.classes z.low (ir_world.member_of z.place.classes d Constructor m)
@@ -149,10 +158,10 @@ module _ (z : Setting) (lawful : Lawful z) (low : LowAlike z) where
       text es = core.receiver_call (member d Constructor m) (coerced_receiver (type_of_term e) (first_of es)) (expressions_of (coerced_arguments m.params (types_of ts) (rest_of es)))
 
       text_is : (g : core.Expression) (gs : List core.Expression) → text (g ∷ gs) ≡ core.receiver_call (member d Constructor m) g (expressions_of gs)
-      text_is g gs = λ i. core.receiver_call (member d Constructor m) (coerced-same (Class (codes "java.lang.Character")) (type_of_term e) g (fits-character (type_of_term e) any) i) (expressions_of (arguments-same m.params (types_of ts) gs fit i))
+      text_is g gs = λ i. core.receiver_call (member d Constructor m) (receiver-same (type_of_term e) g unboxed i) (expressions_of (arguments-same m.params (types_of ts) gs fit i))
 
       final : (w : World) (sc : js.Scope) → Final z lawful c discard w sc c.kept j sc w (types z lawful (receiver_piece c.targets e ∷ list_of z lawful low c.targets ts)) act (λ es. finish discard p t false (text es))
-      final from before q i _ _ w env s sc u more so ah l g ready kb ks same (more_operands own a f _ qs gs told one others) = subst (λ o. Ends z lawful c c.scope discard from before (ir_meaning.in_order (a ∷ qs) act env s) (core.statement (core.evaluate_of (Some p) o) core.no_statements) sc u) (sym (text_is f gs)) (ends-one z lawful c c.scope discard from before (ir_meaning.in_order (a ∷ qs) act env s) (core.evaluate_of (Some p) (core.receiver_call (member d Constructor m) f (expressions_of gs))) sc u (subst (λ o. Sim z.direction (Came z.place z.code c c.scope discard from before) o (then_do (shown z (core.receiver_call (member d Constructor m) f (expressions_of gs)) sc u) (js.in_statement sc (λ v. js_meaning.nothing sc)))) (then_do-right (ir_meaning.in_order (a ∷ qs) act env s)) (sim_then z.direction (Ran z.place w env) (Came z.place z.code c c.scope discard from before) (ir_meaning.in_order (a ∷ qs) act env s) (shown z (core.receiver_call (member d Constructor m) f (expressions_of gs)) sc u) done (js.in_statement sc (λ v. js_meaning.nothing sc)) (constructor_runs z lawful.base (member d Constructor m) own (types_of ts) a qs f gs there (subst (Fits Any) (sym (received-type (is_sure z.code.sure e) (operand z.is_mutable z.code.sure e (λ k j. into z.is_mutable z.code.sure c.targets k j e)))) any) fit w env s sc u ready.sees.inside (more_operands own a f (types_of ts) qs gs told one (subst (λ is. OperandsAlike z w env sc is qs gs) (sym (types-list z lawful low c.targets ts)) others)) same) each)))
+      final from before q i _ _ w env s sc u more so ah l g ready kb ks same (more_operands own a f _ qs gs told one others) = subst (λ o. Ends z lawful c c.scope discard from before (ir_meaning.in_order (a ∷ qs) act env s) (core.statement (core.evaluate_of (Some p) o) core.no_statements) sc u) (sym (text_is f gs)) (ends-one z lawful c c.scope discard from before (ir_meaning.in_order (a ∷ qs) act env s) (core.evaluate_of (Some p) (core.receiver_call (member d Constructor m) f (expressions_of gs))) sc u (subst (λ o. Sim z.direction (Came z.place z.code c c.scope discard from before) o (then_do (shown z (core.receiver_call (member d Constructor m) f (expressions_of gs)) sc u) (js.in_statement sc (λ v. js_meaning.nothing sc)))) (then_do-right (ir_meaning.in_order (a ∷ qs) act env s)) (sim_then z.direction (Ran z.place w env) (Came z.place z.code c c.scope discard from before) (ir_meaning.in_order (a ∷ qs) act env s) (shown z (core.receiver_call (member d Constructor m) f (expressions_of gs)) sc u) done (js.in_statement sc (λ v. js_meaning.nothing sc)) (constructor_runs z lawful.base (member d Constructor m) own (types_of ts) a qs f gs there (subst (Fits (class_type d)) (sym (received-type (is_sure z.code.sure e) (operand z.is_mutable z.code.sure e (λ k j. into z.is_mutable z.code.sure c.targets k j e)))) on) fit w env s sc u ready.sees.inside (more_operands own a f (types_of ts) qs gs told one (subst (λ is. OperandsAlike z w env sc is qs gs) (sym (types-list z lawful low c.targets ts)) others)) same) each)))
         where
           each : (a : ir.Ended) (b : js.ExpressionEnd) → Ran z.place w env a b → Sim z.direction (Came z.place z.code c c.scope discard from before) (done a) (js.in_statement sc (λ v. js_meaning.nothing sc) b)
           each _ _ (ran y v x s u h states) = sim_done z.direction (Came z.place z.code c c.scope discard from before) (ir.ends (ir.gives v) env s) (js.ends js.normally sc u) (gave y v env s sc u js.normally (grows-trans from w y g h) let_go (ready-lift z c.scope c.writable w y env sc h ready) (keeps-less z c.kept discard before sc kb) states)

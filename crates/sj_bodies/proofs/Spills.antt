@@ -13,33 +13,27 @@ use Rattle.js_mean.specs.Meaning as js_meaning
 use Rattle.js_mean.specs.States as js
 use Rattle.sj_core.specs.Terms as core
 use Rattle.sj_core.specs.Terms.{followed}
+use Rattle.sj_desugar.specs.Coercions.{is_char}
 use Rattle.sj_desugar.specs.Desugar.{into, operands, expression_of, target_of}
 use Rattle.sj_desugar.specs.Plain.{is_fixed}
 use Rattle.sj_desugar.specs.Spill.{Destination, to_variable, Code, Operand, all_plain, texts, spill, spill_case, then_use}
-<<<<<<< HEAD
 use Rattle.sj_trees.specs.Term.{Term, undefined_literal, null_literal, boolean_literal, char_literal, byte_literal, short_literal, int_literal, long_literal, string_literal, var_ref, this_ref}
 use Rattle.sj_trees.specs.declared.positions.Position.{Position}
 use Rattle.sj_trees.specs.declared.types.IrType.{IrType}
 use Rattle.body_rules.proofs.Locals.{there}
-=======
-use Rattle.sj_trees.specs.Term.{Term, if_then, apply_statically, new_object, select, this_ref, apply_static, unary_op, binary_op, undefined_literal, null_literal, boolean_literal, char_literal, byte_literal, short_literal, int_literal, long_literal, string_literal, var_ref}
-use Rattle.sj_trees.specs.declared.positions.Position.{Position}
-use Rattle.sj_trees.specs.declared.types.IrType.{IrType}
-use Rattle.sj_trees.specs.declared.types.IrType.TheVariants.{Any}
-use Rattle.sj_names.specs.declared.method_names.Namespace.TheVariants.{Private}
->>>>>>> 6a46694
+use Rattle.sj_trees.specs.Types.{class_type}
 use Rattle.sj_plain.specs.Conditions.{Plain}
 use Rattle.sj_plain.specs.Settings.{Receiving, no_receiver, on_receiver, Setting, shown, run, SameState, Valued, valued, thrown, Lawful, Holding, holding, Sees, usable}
 use Rattle.sj_names.proofs.Same.{impossible}
 use Rattle.sj_plain.proofs.Templates.{fits-exact, unit_is_int}
 use Rattle.sj_plain.proofs.Told.{tells}
-use Rattle.sj_plain.specs.Standing.{suits, Fits}
+use Rattle.sj_plain.specs.Standing.{suits}
 use Rattle.int_arithmetic.proofs.Longs.{in_range-fits}
 use Rattle.sj_trees.specs.TypeOf.{type_of_term}
 use Rattle.sj_plain.proofs.Orders.{text_of, OperandAlike, OperandsAlike, no_operands, more_operands}
 use Rattle.sj_bodies.proofs.Contexts.{Context, Sound, Ahead, IsOpen, Ready, ready-lift, Keeps, Less, less-trans, keeps-refl, keeps-trans, keeps-fewer, stored, Came, gave, left, threw, stopped, started-here, started-ready, started-keeps}
 use Rattle.sj_bodies.proofs.Statements.{run-followed, leaves_on, ThrowsOn, throws-on, Ends}
-use Rattle.sj_plain.proofs.Worlds.{World, Grows, grows-refl, grows-trans, SameValue, Stands, same_undefined, same_null, same_boolean, same_char, same_number, same_long, same_text, value-lift, value-fits}
+use Rattle.sj_plain.proofs.Worlds.{World, Grows, grows-refl, grows-trans, SameValue, Stands, same_undefined, same_null, same_boolean, same_char, same_number, same_long, same_text, value-lift}
 
 -- a context in which further variables keep what they hold, and one in which one more may be written
 abbrev pub keeping : Context → (core.Variable → Type 0) → Context
@@ -96,62 +90,39 @@ module _ (z : Setting) (lawful : Lawful z) where
   not_mutable true h = impossible h
   not_mutable false h = refl
 
-  value_fixed : (p : core.Variable → Type 0) (w : World) (env : ir.Env) (sc : js.Scope) (t : Term) (v : ir.Value) (x : js.Value) → Stands w v x → suits (type_of_term t) v ≡ true → ((s : ir.State) → ir_meaning.step z.place.classes z.low t env s ≡ done (ir.ends (ir.gives v) env s)) → ((later : js.Scope) (u : js.State) → shown z (expression_of z.code.sure t) later u ≡ done (js.gives x u)) → FixedTree p w env sc t
+  value_fixed : (p : core.Variable → Type 0) (w : World) (env : ir.Env) (sc : js.Scope) (t : Term) (v : ir.Value) (x : js.Value) → Stands w (is_char (type_of_term t)) v x → suits (type_of_term t) v ≡ true → ((s : ir.State) → ir_meaning.step z.place.classes z.low t env s ≡ done (ir.ends (ir.gives v) env s)) → ((later : js.Scope) (u : js.State) → shown z (expression_of z.code.sure t) later u ≡ done (js.gives x u)) → FixedTree p w env sc t
   value_fixed p w env sc t v x a k g h = record { value = v; js_value = x; gives = g; alike = record { stands = a; suits = k }; goes_on = λ later u ks. h later u }
 
-  number_fixed : (p : core.Variable → Type 0) (w : World) (env : ir.Env) (sc : js.Scope) (t : Term) (v : ir.Value) (n : ℤ) → FitsSigned w32 n → Stands w v (js.number n) → suits (type_of_term t) v ≡ true → ((s : ir.State) → ir_meaning.step z.place.classes z.low t env s ≡ done (ir.ends (ir.gives v) env s)) → ((later : js.Scope) (u : js.State) → shown z (expression_of z.code.sure t) later u ≡ js_meaning.literal n later u) → FixedTree p w env sc t
+  number_fixed : (p : core.Variable → Type 0) (w : World) (env : ir.Env) (sc : js.Scope) (t : Term) (v : ir.Value) (n : ℤ) → FitsSigned w32 n → Stands w (is_char (type_of_term t)) v (js.number n) → suits (type_of_term t) v ≡ true → ((s : ir.State) → ir_meaning.step z.place.classes z.low t env s ≡ done (ir.ends (ir.gives v) env s)) → ((later : js.Scope) (u : js.State) → shown z (expression_of z.code.sure t) later u ≡ js_meaning.literal n later u) → FixedTree p w env sc t
   number_fixed p w env sc t v n f a k g h = value_fixed p w env sc t v (js.number n) a k g (λ later u. h later u ∙ ap (λ (b : Bool). if b then done (js.gives (js.number n) u) else wrong) (fits-exact n f))
 
-<<<<<<< HEAD
-  pub fixed_run : (c : Context) (p : core.Variable → Type 0) (t : Term) → Sound z.is_mutable (keeping c p) → is_fixed z.is_mutable t ≡ true → Plain z.place.classes (usable z) c.scope t → (w : World) (env : ir.Env) (sc : js.Scope) → Sees z.place z.file c.scope w env sc → FixedTree p w env sc t
-  fixed_run c p (undefined_literal q) sound e h w env sc sees = value_fixed p w env sc (undefined_literal q) ir.undefined js.undefined same_undefined refl (λ s. refl) (λ later u. refl)
-  fixed_run c p (null_literal q) sound e h w env sc sees = value_fixed p w env sc (null_literal q) ir.null js.null same_null refl (λ s. refl) (λ later u. refl)
-  fixed_run c p (boolean_literal q b) sound e h w env sc sees = value_fixed p w env sc (boolean_literal q b) (ir.boolean b) (js.boolean b) (same_boolean b) refl (λ s. refl) (λ later u. refl)
-  fixed_run c p (string_literal q us) sound e h w env sc sees = value_fixed p w env sc (string_literal q us) (ir.text us) (js.text us) (same_text us) refl (λ s. refl) (λ later u. refl)
-  fixed_run c p (char_literal q n) sound e h w env sc sees = number_fixed p w env sc (char_literal q n) (ir.char n) (pos n) (unit_is_int n h.typed.finds) (same_char n h.typed.finds) refl (λ s. refl) (λ later u. refl)
-  fixed_run c p (byte_literal q n) sound e h w env sc sees = number_fixed p w env sc (byte_literal q n) (ir.number n) n h.typed.finds (same_number n h.typed.finds) refl (λ s. refl) (λ later u. refl)
-  fixed_run c p (short_literal q n) sound e h w env sc sees = number_fixed p w env sc (short_literal q n) (ir.number n) n h.typed.finds (same_number n h.typed.finds) refl (λ s. refl) (λ later u. refl)
-  fixed_run c p (int_literal q n) sound e h w env sc sees = number_fixed p w env sc (int_literal q n) (ir.number n) n h.typed.finds (same_number n h.typed.finds) refl (λ s. refl) (λ later u. refl)
-  fixed_run c p (long_literal q n) sound e h w env sc sees = value_fixed p w env sc (long_literal q n) (ir.long n) (js.big_int n) (same_long n h.typed.finds) refl (λ s. refl) (λ later u. ap (λ (b : Bool). if b then done (js.gives (js.big_int n) u) else wrong) (in_range-fits n h.typed.finds))
-  fixed_run c p (var_ref q x t) sound e h w env sc sees = local_fixed p w env sc q x t (sound.constant x t (h.seen x t (there h.scene x t h.typed.finds)) (not_mutable (z.is_mutable x) e)) (env.locals x) (sc.bindings (z.place.name (core.named x))) (sees.locals x t (h.seen x t (there h.scene x t h.typed.finds))) refl refl
-  fixed_run c p (this_ref q t) sound e h w env sc sees = impossible h.typed.built
-  fixed_run c p _ sound e h w env sc sees = impossible e
-=======
   -- or it is wrong
   abbrev pub FixedOrWrong : (p : core.Variable → Type 0) (w : World) (env : ir.Env) (sc : js.Scope) (t : IrType) (r : ir.Run) (e : core.Expression) → Type 0
   FixedOrWrong p w env sc t r e = FixedRun p w env sc t r e ⊎ ((s : ir.State) → r env s ≡ wrong)
 
-  this_fixed : (p : core.Variable → Type 0) (w : World) (env : ir.Env) (sc : js.Scope) (q : Position) (t : IrType) → Fits t Any → p core.receiver → (o : Option ir.Value) (cell : js.Cell) → Receiving w o cell → env.this_value ≡ o → sc.bindings (z.place.name core.receiver) ≡ cell → FixedOrWrong p w env sc t (ir_meaning.step z.place.classes z.low (this_ref q t)) (core.variable_use core.receiver)
+  this_fixed : (p : core.Variable → Type 0) (w : World) (env : ir.Env) (sc : js.Scope) (q : Position) (t : IrType) → t ≡ class_type z.code.owner → p core.receiver → (o : Option ir.Value) (cell : js.Cell) → Receiving w z.code.owner o cell → env.this_value ≡ o → sc.bindings (z.place.name core.receiver) ≡ cell → FixedOrWrong p w env sc t (ir_meaning.step z.place.classes z.low (this_ref q t)) (core.variable_use core.receiver)
   this_fixed p w env sc q t f kept _ _ (no_receiver cell) e h = inr (λ s. ap (λ (o : Option ir.Value). ir_meaning.local_value o env s) e)
   this_fixed p w env sc q t f kept _ _ (on_receiver v j a) e h = inl (record {
     value = v;
     js_value = j;
     gives = λ s. ap (λ (o : Option ir.Value). ir_meaning.local_value o env s) e;
-    alike = value-fits w t Any v j f a.stands;
+    alike = subst (λ i. SameValue w i v j) (sym f) a.stands;
     goes_on = λ later u ks. ap (λ (cell : js.Cell). js_meaning.cell_value (js_meaning.or_outer cell (js_meaning.top_cell (owner z.place.program later.file (z.place.name core.receiver)) (z.place.name core.receiver) u)) u) (ks.same core.receiver kept ∙ h);
   })
 
-  pub fixed_run : (c : Context) (p : core.Variable → Type 0) (t : Term) → Sound z.is_mutable (keeping c p) → is_fixed z.is_mutable t ≡ true → Plain (usable z) z.code.sure c.scope t → (w : World) (env : ir.Env) (sc : js.Scope) → Sees z.place z.code c.scope w env sc → FixedOrWrong p w env sc (type_of_term t) (ir_meaning.step z.place.classes z.low t) (expression_of z.code.sure t)
+  pub fixed_run : (c : Context) (p : core.Variable → Type 0) (t : Term) → Sound z.is_mutable (keeping c p) → is_fixed z.is_mutable t ≡ true → Plain z.place.classes (usable z) z.code c.scope t → (w : World) (env : ir.Env) (sc : js.Scope) → Sees z.place z.code c.scope w env sc → FixedOrWrong p w env sc (type_of_term t) (ir_meaning.step z.place.classes z.low t) (expression_of z.code.sure t)
   fixed_run c p (undefined_literal q) sound e h w env sc sees = inl (value_fixed p w env sc (undefined_literal q) ir.undefined js.undefined same_undefined refl (λ s. refl) (λ later u. refl))
   fixed_run c p (null_literal q) sound e h w env sc sees = inl (value_fixed p w env sc (null_literal q) ir.null js.null same_null refl (λ s. refl) (λ later u. refl))
   fixed_run c p (boolean_literal q b) sound e h w env sc sees = inl (value_fixed p w env sc (boolean_literal q b) (ir.boolean b) (js.boolean b) (same_boolean b) refl (λ s. refl) (λ later u. refl))
   fixed_run c p (string_literal q us) sound e h w env sc sees = inl (value_fixed p w env sc (string_literal q us) (ir.text us) (js.text us) (same_text us) refl (λ s. refl) (λ later u. refl))
-  fixed_run c p (char_literal q n) sound e h w env sc sees = inl (number_fixed p w env sc (char_literal q n) (ir.char n) (pos n) (unit_is_int n h) (same_char n h) refl (λ s. refl) (λ later u. refl))
-  fixed_run c p (byte_literal q n) sound e h w env sc sees = inl (number_fixed p w env sc (byte_literal q n) (ir.number n) n h (same_number n h) refl (λ s. refl) (λ later u. refl))
-  fixed_run c p (short_literal q n) sound e h w env sc sees = inl (number_fixed p w env sc (short_literal q n) (ir.number n) n h (same_number n h) refl (λ s. refl) (λ later u. refl))
-  fixed_run c p (int_literal q n) sound e h w env sc sees = inl (number_fixed p w env sc (int_literal q n) (ir.number n) n h (same_number n h) refl (λ s. refl) (λ later u. refl))
-  fixed_run c p (long_literal q n) sound e h w env sc sees = inl (value_fixed p w env sc (long_literal q n) (ir.long n) (js.big_int n) (same_long n h) refl (λ s. refl) (λ later u. ap (λ (b : Bool). if b then done (js.gives (js.big_int n) u) else wrong) (in_range-fits n h)))
-  fixed_run c p (var_ref q x t) sound e h w env sc sees = inl (local_fixed p w env sc q x t (sound.constant x t h (not_mutable (z.is_mutable x) e)) (env.locals x) (sc.bindings (z.place.name (core.named x))) (sees.locals x t h) refl refl)
-  fixed_run c p (this_ref q t) sound e h w env sc sees = this_fixed p w env sc q t h sound.receiver env.this_value (sc.bindings (z.place.name core.receiver)) sees.this refl refl
-  fixed_run c p (if_then q a b d t) sound e h w env sc sees = impossible e
-  fixed_run c p (apply_static q x n m ts t) sound e h w env sc sees = impossible e
-  fixed_run c p (apply_statically q x d Private m ts t) sound e h w env sc sees = impossible e
-  fixed_run c p (new_object q x m ts) sound e h w env sc sees = impossible e
-  fixed_run c p (select q x d f t) sound e h w env sc sees = impossible e
-  fixed_run c p (unary_op q o a) sound e h w env sc sees = impossible e
-  fixed_run c p (binary_op q o a b) sound e h w env sc sees = impossible e
-  fixed_run c p _ sound e h w env sc sees = absurd h
->>>>>>> 6a46694
+  fixed_run c p (char_literal q n) sound e h w env sc sees = inl (number_fixed p w env sc (char_literal q n) (ir.char n) (pos n) (unit_is_int n h.typed.finds) (same_char refl n h.typed.finds) refl (λ s. refl) (λ later u. refl))
+  fixed_run c p (byte_literal q n) sound e h w env sc sees = inl (number_fixed p w env sc (byte_literal q n) (ir.number n) n h.typed.finds (same_number n h.typed.finds) refl (λ s. refl) (λ later u. refl))
+  fixed_run c p (short_literal q n) sound e h w env sc sees = inl (number_fixed p w env sc (short_literal q n) (ir.number n) n h.typed.finds (same_number n h.typed.finds) refl (λ s. refl) (λ later u. refl))
+  fixed_run c p (int_literal q n) sound e h w env sc sees = inl (number_fixed p w env sc (int_literal q n) (ir.number n) n h.typed.finds (same_number n h.typed.finds) refl (λ s. refl) (λ later u. refl))
+  fixed_run c p (long_literal q n) sound e h w env sc sees = inl (value_fixed p w env sc (long_literal q n) (ir.long n) (js.big_int n) (same_long n h.typed.finds) refl (λ s. refl) (λ later u. ap (λ (b : Bool). if b then done (js.gives (js.big_int n) u) else wrong) (in_range-fits n h.typed.finds)))
+  fixed_run c p (var_ref q x t) sound e h w env sc sees = inl (local_fixed p w env sc q x t (sound.constant x t (h.seen x t (there h.scene x t h.typed.finds)) (not_mutable (z.is_mutable x) e)) (env.locals x) (sc.bindings (z.place.name (core.named x))) (sees.locals x t (h.seen x t (there h.scene x t h.typed.finds))) refl refl)
+  fixed_run c p (this_ref q t) sound e h w env sc sees = this_fixed p w env sc q t (h.typed.finds.1 ∙ ap class_type h.owned) sound.receiver env.this_value (sc.bindings (z.place.name core.receiver)) sees.this refl refl
+  fixed_run c p _ sound e h w env sc sees = impossible e
 
   -- what is known of a plain one
   pub record Plainly (c : Context) (t : Piece) : Type 1 where

@@ -21,13 +21,8 @@ use Rattle.sj_trees.specs.declared.types.IrType.{IrType}
 use Rattle.body_rules.specs.Locals.{Scope}
 use Rattle.sj_bodies.specs.Fine.{FitsIn}
 use Rattle.sj_trees.specs.declared.types.IrType.TheVariants.{Any}
-<<<<<<< HEAD
-use Rattle.sj_plain.specs.Settings.{Setting, shown, run, SameState, Valued, valued, thrown, Lawful, Holding, Sees}
-use Rattle.body_rules.proofs.Standing.{coerced-same}
-=======
 use Rattle.sj_plain.specs.Settings.{Receiving, Setting, shown, run, SameState, Valued, valued, thrown, Lawful, Holding, Sees}
-use Rattle.sj_plain.proofs.Standing.{coerced-same}
->>>>>>> 6a46694
+use Rattle.body_rules.proofs.Standing.{coerced-same}
 use Rattle.sj_bodies.proofs.Contexts.{Context, Writes, Sound, IsOpen, Ready, ready-lift, Keeps, Less, keeps-less, keeps-all, less-trans, Arrives, let_go, stored, returned, Came, gave, left, threw, stopped, started-here, started-other, started-inside, started-less}
 use Rattle.sj_plain.proofs.Worlds.{World, Grows, grows-trans, SameValue, value-fits}
 
@@ -112,7 +107,7 @@ module _ (z : Setting) (lawful : Lawful z) where
   stores c x i w before sound wr y v j env s sc u g alike r ks same = gave y v env s (js_meaning.start false (z.place.name x) j sc) u js.normally g (stored x i j alike (started-here z lawful false x j sc)) (record { sees = sees_still; «open» = λ q h. started-open x q j sc (r.«open» q h) }) (less-trans z c.kept (to_variable x i) before sc (js_meaning.start false (z.place.name x) j sc) ks (started-less z lawful c.kept false x i j sc)) same
     where
       sees_still : Sees z.place z.code c.scope y env (js_meaning.start false (z.place.name x) j sc)
-      sees_still = record { inside = started-inside z lawful false x j sc r.sees.inside; this = subst (Receiving y env.this_value) (sym (started-other z lawful false x core.receiver j sc (λ e. sound.received (subst c.writable (sym e) wr)))) r.sees.this; sure = r.sees.sure; locals = λ q t h. subst (Holding y t (env.locals q)) (sym (started-other z lawful false x (core.named q) j sc (λ e. sound.hidden q t (subst c.writable (sym e) wr) h))) (r.sees.locals q t h) }
+      sees_still = record { inside = started-inside z lawful false x j sc r.sees.inside; this = subst (Receiving y z.code.owner env.this_value) (sym (started-other z lawful false x core.receiver j sc (λ e. sound.received (subst c.writable (sym e) wr)))) r.sees.this; sure = r.sees.sure; locals = λ q t h. subst (Holding y t (env.locals q)) (sym (started-other z lawful false x (core.named q) j sc (λ e. sound.hidden q t (subst c.writable (sym e) wr) h))) (r.sees.locals q t h) }
 
   pub finish_alike : (c : Context) (k : Destination) (p : Position) (t : IrType) (e : core.Expression) (i : ℕ) → Sound z.is_mutable c → Writes c.writable k → FitsIn k t → (w from : World) (before : js.Scope) (env : ir.Env) (o : Out ir.Ended) (sc : js.Scope) (u : js.State) → Grows from w → Keeps z.place c.kept before sc → Ready z.place z.code c.scope c.writable w env sc → Sim z.direction (Valued z.place w env t) o (shown z e sc u) → Ends c c.scope k from before o (finish k p t false e i).statements sc u
   finish_alike c discard p t e i sound wr fits w from before env o sc u g ks r alike = ends-one c c.scope discard from before o (core.evaluate_of (Some p) e) sc u (value_statement (Came z.place z.code c c.scope discard from before) w env t sc u o e (λ v. js_meaning.nothing sc) alike (throws-on c c.scope discard from w before env sc g ks r) (λ y v x s u h a same. sim_done z.direction (Came z.place z.code c c.scope discard from before) (ir.ends (ir.gives v) env s) (js.ends js.normally sc u) (gave y v env s sc u js.normally (grows-trans from w y g h) let_go (ready-lift z c.scope c.writable w y env sc h r) (keeps-less z c.kept discard before sc ks) same)))

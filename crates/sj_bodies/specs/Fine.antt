@@ -10,6 +10,7 @@ use Rattle.sj_trees.specs.TypeOf.{type_of_term}
 use Rattle.sj_trees.specs.declared.types.IrType.{IrType}
 use Rattle.sj_trees.specs.declared.types.IrType.TheVariants.{NoType}
 use Rattle.sj_plain.specs.Conditions.{InScope, Plain}
+use Rattle.sj_plain.specs.Settings.{Code}
 use Rattle.sj_proper.specs.Once.{Once}
 use Rattle.body_rules.specs.Locals.{HaveValues, AreMutable, Mutable, Scope}
 use Rattle.body_rules.specs.Standing.{NoBox, Fits}
@@ -47,24 +48,21 @@ Asks w discard t = Unit {0}
 Asks w (to_variable x i) t = (IsSub w t i × NoBox i t) × (i ≡ NoType → ⊥)
 Asks w (to_result i) t = (IsSub w t i × NoBox i t) × (i ≡ NoType → ⊥)
 
--- what is around a tree is what its scene says: the locals of the scene are in scope, have values, and are taken for mutable where they
+-- what is around a tree is what its scene says: its method is that of the code at hand; the locals of the scene are in scope, have values, and are taken for mutable where they
 -- are; and the values that leave to a label go where they are of its type
-pub record Amid (w : Classes) (is_mutable : List ℕ → Bool) (g : Scope) (ls : Around) (s : Scene) : Type 0 where
+pub record Amid (w : Classes) (is_mutable : List ℕ → Bool) (here : Code) (g : Scope) (ls : Around) (s : Scene) : Type 0 where
+  pub surely : s.sure ≡ here.sure
+  pub owned : s.owner ≡ here.owner
   pub seen : InScope s g
   pub values : HaveValues s.locals
   pub changing : AreMutable is_mutable s.locals
   pub targets : (l : List ℕ) (t : IrType) → type_of_label s.labels l ≡ Some t → Asks w (target_of ls.targets l) t
   pub reaches : (l : List ℕ) → ls.reaches l
 
-<<<<<<< HEAD
 -- a tree that keeps the rules where it is written, defines each local once, and may be brought to its destination
-pub record Fine (w : Classes) (is_mutable : List ℕ → Bool) (has : Usable) (g : Scope) (ls : Around) (k : Destination) (t : Term) : Type 0 where
-=======
--- a tree that keeps the rules where it is written, and may be brought to its destination
-pub record Fine (w : Classes) (is_mutable : List ℕ → Bool) (has : Usable) (sure : List ℕ → Bool) (g : Scope) (ls : Around) (k : Destination) (t : Term) : Type 0 where
->>>>>>> 6a46694
+pub record Fine (w : Classes) (is_mutable : List ℕ → Bool) (has : Usable) (here : Code) (g : Scope) (ls : Around) (k : Destination) (t : Term) : Type 0 where
   pub scene : Scene
-  pub amid : Amid w is_mutable g ls scene
+  pub amid : Amid w is_mutable here g ls scene
   pub around : List (List ℕ)
   pub once : Once around t
   pub written : Mutable is_mutable (mutable_in t)
@@ -72,10 +70,5 @@ pub record Fine (w : Classes) (is_mutable : List ℕ → Bool) (has : Usable) (s
   pub typed : Typed w has scene t
 
 -- an operand is plain, or it may be brought to any variable of its type
-<<<<<<< HEAD
-abbrev pub FineOperand : Classes → (List ℕ → Bool) → Usable → Scope → Term → (core.Variable → Type 0) → Type 0
-FineOperand w is_mutable has scope t fine = Plain w has scope t ⊎ ((is_plain t ≡ false) × (is_fixed is_mutable t ≡ false) × ((y : core.Variable) → fine y))
-=======
-abbrev pub FineOperand : (List ℕ → Bool) → Usable → (List ℕ → Bool) → Scope → Term → (core.Variable → Type 0) → Type 0
-FineOperand is_mutable has sure scope t fine = ((is_plain t ≡ true) × Plain has sure scope t) ⊎ ((is_plain t ≡ false) × (is_fixed is_mutable t ≡ false) × ((y : core.Variable) → fine y))
->>>>>>> 6a46694
+abbrev pub FineOperand : Classes → (List ℕ → Bool) → Usable → Code → Scope → Term → (core.Variable → Type 0) → Type 0
+FineOperand w is_mutable has here scope t fine = Plain w has here scope t ⊎ ((is_plain t ≡ false) × (is_fixed is_mutable t ≡ false) × ((y : core.Variable) → fine y))

@@ -22,13 +22,8 @@ use Rattle.sj_names.specs.declared.method_names.Member.{Member}
 use Rattle.sj_trees.specs.declared.classes.ParamDef.{ParamDef}
 use Rattle.sj_trees.specs.declared.types.IrType.{IrType}
 use Rattle.sj_trees.specs.declared.types.IrType.TheVariants.{NoType}
-<<<<<<< HEAD
 use Rattle.body_rules.specs.Locals.{Own, IsParameter, parameters_of, with_local, Scope}
-use Rattle.sj_plain.specs.Settings.{Place, Setting, SameState, Valued, valued, thrown, NamesDiffer, OfNoVariable, Holding, holding, a_function, function_call}
-=======
-use Rattle.sj_bodies.specs.Locals.{Own}
 use Rattle.sj_plain.specs.Settings.{Place, Code, no_receiver, Setting, SameState, Valued, valued, thrown, NamesDiffer, OfNoVariable, Holding, holding, a_function, function_call}
->>>>>>> 6a46694
 use Rattle.sj_bodies.proofs.Blocks.{Outside, bind-undeclared}
 use Rattle.sj_bodies.proofs.Contexts.{Context, Writes, Sound, Ahead, Ready, let_go, returned, Came, gave, left, threw, stopped}
 use Rattle.body_rules.proofs.Equal.{differs, equals, is-equal}
@@ -113,12 +108,12 @@ asks-result w e _ _ (hands_on t h) (inr f) = (f, λ none. impossible (sym h ∙ 
 no_type : {A : Type 0} {t : IrType} → ◌≡◌ {A = Option IrType} None (Some t) → A
 no_type e = impossible (cc)
 
-body-fine : (w : Classes) (has : Usable) (d : MethodDef) (e : Term) → KeepsRules w has d e → Fine w (is_mutable_in d e) has (parameters_of d.params) no_labels (result_destination d.result) e
-body-fine w has d e r = record {
-  scene = scene_of d;
+pub body-fine : (w : Classes) (has : Usable) (file : Name) (c : List ℕ) (d : MethodDef) (e : Term) → KeepsRules w has c d e → Fine w (is_mutable_in d e) has (record { file = file; owner = c; sure = sure_locals e }) (parameters_of d.params) no_labels (result_destination d.result) e
+body-fine w has file c d e r = record {
+  scene = scene_of c d e;
   around = [];
   once = r.once.once;
-  amid = record { seen = λ x t h. h; values = r.values; changing = λ x p i m. parameter-known d e x p i m; targets = λ l t e. no_type e; reaches = λ l. tt };
+  amid = record { surely = refl; owned = refl; seen = λ x t h. h; values = r.values; changing = λ x p i m. parameter-known d e x p i m; targets = λ l t e. no_type e; reaches = λ l. tt };
   written = mutable-known d e;
   asks = asks-result w e d.result (result_destination d.result) (way d.result) (yields_there w e d.result r.unboxed r.yields);
   typed = r.typed;
@@ -182,17 +177,17 @@ module _ (p : Place) (names : NamesDiffer p) where
       go true e = let n = declared-named p.name p.label ss y e in absurd (none n.variable n.name)
 
   -- calls of a member and of its function are alike where the levels below are
-  pub call_alike : (d : Direction) (low : ir_meaning.Low) (js_low : js_meaning.Low) (m : Member) (l : Linked p m) → LowAlike (record { place = p; code = record { file = p.home (a_function m); sure = sure_locals l.its_body }; direction = d; is_mutable = is_mutable_in l.definition l.its_body; low = low; js_low = js_low }) → (w : World) (vs : List ir.Value) (xs : List js.Value) (env : ir.Env) (s : ir.State) (u : js.State) → SameValues w (types_referred m.method.params) vs xs → SameState p w s u → Sim d (Valued p w env (call_type m.method.result)) (ir_meaning.call low (member_of p.classes m.class m.namespace m.method) None vs env s) (function_call p js_low m xs u)
+  pub call_alike : (d : Direction) (low : ir_meaning.Low) (js_low : js_meaning.Low) (m : Member) (l : Linked p m) → LowAlike (record { place = p; code = record { file = p.home (a_function m); owner = m.class; sure = sure_locals l.its_body }; direction = d; is_mutable = is_mutable_in l.definition l.its_body; low = low; js_low = js_low }) → (w : World) (vs : List ir.Value) (xs : List js.Value) (env : ir.Env) (s : ir.State) (u : js.State) → SameValues w (types_referred m.method.params) vs xs → SameState p w s u → Sim d (Valued p w env (call_type m.method.result)) (ir_meaning.call low (member_of p.classes m.class m.namespace m.method) None vs env s) (function_call p js_low m xs u)
   call_alike d low js_low m l below w vs xs env s u values same = subst (λ t. Sim d (Valued p w env t) (ir_meaning.call low (member_of p.classes m.class m.namespace m.method) None vs env s) (function_call p js_low m xs u)) l.result_is (subst (λ o. Sim d (Valued p w env l.definition.result) o (function_call p js_low m xs u)) (sym ir_is) (subst (λ o. Sim d (Valued p w env l.definition.result) (ir_meaning.body_call low l.definition.result (Some l.its_body) None (ir_meaning.parameters l.definition.params vs) env s) o) (sym js_is) (locals (bound w l.definition.params m.method.params vs xs names_declared l.parameters values))))
     where
       is_mutable : List ℕ → Bool
       is_mutable = is_mutable_in l.definition l.its_body
 
       z : Setting
-      z = record { place = p; code = record { file = p.home (a_function m); sure = sure_locals l.its_body }; direction = d; is_mutable = is_mutable; low = low; js_low = js_low }
+      z = record { place = p; code = record { file = p.home (a_function m); owner = m.class; sure = sure_locals l.its_body }; direction = d; is_mutable = is_mutable; low = low; js_low = js_low }
 
       here : Code
-      here = record { file = p.home (a_function m); sure = sure_locals l.its_body }
+      here = record { file = p.home (a_function m); owner = m.class; sure = sure_locals l.its_body }
 
       scope : Scope
       scope = parameters_of l.definition.params
@@ -219,19 +214,10 @@ module _ (p : Place) (names : NamesDiffer p) where
       js_is = ap (λ o. js_meaning.code_call js_low (p.home (a_function m)) o xs u) l.emitted
 
       locals : Bound p w l.definition.params vs xs names_declared → Sim d (Valued p w env l.definition.result) (ir_meaning.body_call low l.definition.result (Some l.its_body) None (ir_meaning.parameters l.definition.params vs) env s) js_body
-<<<<<<< HEAD
-      locals h = subst (λ o. Sim d (Valued p w env l.definition.result) (ir_meaning.body_call low l.definition.result (Some l.its_body) None o env s) js_body) (sym h.are) (sim_then d (Came p (p.home (a_function m)) (start is_mutable l.definition.params) scope k w sc) (Valued p w env l.definition.result) (low l.its_body inner s) (js_low code.body sc u) (ir_meaning.returned l.definition.result env) js_meaning.returned (below (start is_mutable l.definition.params) k 1 l.its_body (sound-start is_mutable l.definition.params) (ahead-start is_mutable l.definition.params) (outside-start is_mutable l.definition.params (Own l.its_body) l.rules.once.fresh) (writes-nothing (λ y. ⊥) l.definition.result k (way l.definition.result)) (body-fine p.classes (p.has (p.home (a_function m))) l.definition l.its_body l.rules) w inner s sc u ready same) (comes_back d p (p.home (a_function m)) l.definition.result k (way l.definition.result) (start is_mutable l.definition.params) scope w sc env))
-=======
-      locals h = subst (λ o. Sim d (Valued p w env l.definition.result) (ir_meaning.body_call low l.definition.result (Some l.its_body) None o env s) js_body) (sym h.are) (sim_then d (Came p here (start is_mutable l.definition.params) scope k w sc) (Valued p w env l.definition.result) (low l.its_body inner s) (js_low code.body sc u) (ir_meaning.returned l.definition.result env) js_meaning.returned (below (start is_mutable l.definition.params) k 1 l.its_body (sound-start is_mutable l.definition.params) (ahead-start is_mutable l.definition.params) (outside-start is_mutable l.definition.params (Own l.its_body) l.fine.fresh) (writes-nothing (λ y. ⊥) l.definition.result k (way l.definition.result)) l.fine.fine w inner s sc u ready same) (comes_back d p here l.definition.result k (way l.definition.result) (start is_mutable l.definition.params) scope w sc env))
->>>>>>> 6a46694
+      locals h = subst (λ o. Sim d (Valued p w env l.definition.result) (ir_meaning.body_call low l.definition.result (Some l.its_body) None o env s) js_body) (sym h.are) (sim_then d (Came p here (start is_mutable l.definition.params) scope k w sc) (Valued p w env l.definition.result) (low l.its_body inner s) (js_low code.body sc u) (ir_meaning.returned l.definition.result env) js_meaning.returned (below (start is_mutable l.definition.params) k 1 l.its_body (sound-start is_mutable l.definition.params) (ahead-start is_mutable l.definition.params) (outside-start is_mutable l.definition.params (Own l.its_body) l.rules.once.fresh) (writes-nothing (λ y. ⊥) l.definition.result k (way l.definition.result)) (body-fine p.classes (p.has here.file) here.file m.class l.definition l.its_body l.rules) w inner s sc u ready same) (comes_back d p here l.definition.result k (way l.definition.result) (start is_mutable l.definition.params) scope w sc env))
         where
           inner : ir.Env
           inner = record { this_value = None; locals = h.locals; sure = sure_locals l.its_body }
 
-<<<<<<< HEAD
-          ready : Ready p (p.home (a_function m)) scope (λ y. ⊥) w inner sc
-          ready = record { sees = record { inside = record { file = refl; free = λ y none. parameters-free (names_of l.definition.params) xs names_declared y none (body-free (desugared l.definition l.its_body).body y none) }; locals = h.hold }; «open» = λ y wr. absurd wr }
-=======
           ready : Ready p here scope (λ y. ⊥) w inner sc
-          ready = record { sees = record { inside = record { file = refl; free = λ y none. parameters-free (names_of l.definition.params) xs names_declared y none (body-free z refl (desugared l.definition l.its_body).body y none) }; this = no_receiver (sc.bindings (p.name core.receiver)); sure = refl; locals = h.hold }; «open» = λ y wr. absurd wr }
->>>>>>> 6a46694
+          ready = record { sees = record { inside = record { file = refl; free = λ y none. parameters-free (names_of l.definition.params) xs names_declared y none (body-free (desugared l.definition l.its_body).body y none) }; this = no_receiver (sc.bindings (p.name core.receiver)); sure = refl; locals = h.hold }; «open» = λ y wr. absurd wr }

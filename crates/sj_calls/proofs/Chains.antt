@@ -1,5 +1,5 @@
 -- Where the classes of a chain stand in the program, their constructors make an object that leads to the constants of its class.
-use Rattle.std.proofs.Common.{◌≡◌, ℕ, true, List, [], ◌∷◌, Option, Some, None, refl, sym, ap, ◌∙◌}
+use Rattle.std.proofs.Common.{◌≡◌, true, List, [], ◌∷◌, Option, Some, None, refl, ap, ◌∙◌}
 use Rattle.std.specs.Prelude.{codes}
 use Rattle.helper_rules.specs.Words.{constants_name}
 use Rattle.ir_mean.specs.States as ir
@@ -13,7 +13,7 @@ use Rattle.sj_plain.specs.Settings.{Place, SameState, HoldsConstants, TellsClass
 use Rattle.sj_plain.specs.Worlds.{World}
 use Rattle.sj_trees.specs.declared.classes.FieldDef.{FieldDef}
 use Rattle.sj_calls.specs.Chains.{ClassStands, ChainStands, extends_none, extends_one, MadeBy}
-use Rattle.sj_calls.specs.Made.{zero_value, with_fields, started, MakerStands, Makers, makes_top, makes_more}
+use Rattle.sj_calls.specs.Made.{zero_value, with_fields, started, MakerStands, makes_top, makes_more}
 
 -- the fields leave the way to the constants alone
 constants_kept : (c : Name) (fs : List FieldDef) (own : Name → Option js.Value) → with_fields c fs own (codes "k") ≡ own (codes "k")

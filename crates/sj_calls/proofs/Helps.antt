@@ -1,10 +1,10 @@
 -- Helpers that fail: an exception is made and thrown on both sides; and the null check.
-use Rattle.std.proofs.Common.{◌≡◌, ℕ, zero, suc, Bool, true, false, List, [], ◌∷◌, Some, None, Option, refl, sym, ap, ◌∙◌, subst}
+use Rattle.std.proofs.Common.{◌≡◌, ℕ, suc, Bool, true, false, List, [], ◌∷◌, Some, Option, refl, sym, ap, ◌∙◌, subst}
 use Rattle.std.specs.Prelude.{codes}
 use Rattle.outcomes.specs.Outcome.{Out, done, then_do}
 use Rattle.outcomes.specs.Agreement.{Direction, Sim}
 use Rattle.outcomes.proofs.Sequence.{then_do-associative, then_do-right}
-use Rattle.outcomes.proofs.Simulation.{sim_done, sim_wrong, sim_then}
+use Rattle.outcomes.proofs.Simulation.{sim_done, sim_then}
 use Rattle.ir_mean.specs.Meaning as ir_meaning
 use Rattle.ir_mean.specs.States as ir
 use Rattle.js_mean.specs.Meaning as js_meaning
@@ -17,6 +17,7 @@ use Rattle.helper_rules.specs.Helpers.{helper_name, does, calls}
 use Rattle.helper_rules.specs.Words.{x}
 use Rattle.sj_core.specs.Terms as core
 use Rattle.sj_core.specs.Views.{expressions_of}
+use Rattle.sj_desugar.specs.Coercions.{is_char}
 use Rattle.sj_desugar.specs.Desugar.{member}
 use Rattle.sj_names.specs.declared.method_names.Namespace.TheVariants.{Constructor}
 use Rattle.sj_trees.specs.Types.{class_type}
@@ -25,16 +26,17 @@ use Rattle.sj_trees.specs.declared.types.IrType.TheVariants.{Any, String}
 use Rattle.helper_rules.specs.declared.kinds.Helper.{Helper}
 use Rattle.helper_rules.specs.declared.kinds.Helper.TheVariants.{NotNull, Throws}
 use Rattle.helper_rules.specs.declared.kinds.Failure.TheVariants.{NullReceiver}
-use Rattle.sj_plain.specs.Settings.{Place, Code, Setting, usable, shown, SameState, Valued, valued, thrown, Based, Inside, a_helper, top_function, top_call}
-use Rattle.sj_plain.specs.Standing.{is_bare, suits, Fits}
+use Rattle.sj_plain.specs.Settings.{Place, Code, Setting, usable, shown, SameState, Valued, valued, thrown, Based, a_helper, top_function, top_call}
+use Rattle.sj_plain.specs.Standing.{suits}
+use Rattle.body_rules.specs.Standing.{is_bare, Fits}
 use Rattle.sj_plain.proofs.Objects.{new_alike}
 use Rattle.sj_plain.proofs.Orders.{OperandsAlike, no_operands, more_operands}
-use Rattle.sj_plain.proofs.Worlds.{World, Grows, grows-refl, SameValue, Stands, same_undefined, same_null, same_boolean, same_char, same_number, same_long, same_text, same_reference, value-fits}
+use Rattle.sj_plain.proofs.Worlds.{World, grows-refl, SameValue, Stands, same_undefined, same_null, same_boolean, same_char, same_box, same_number, same_long, same_text, same_reference, value-fits}
 use Rattle.sj_calls.specs.Helpers.{failing_code, checking_code, HelperStands, Failed, failed_so}
 
 -- in a file of helpers no local is in scope
 abbrev pub in_helper : Place → Helper → Code
-in_helper p h = record { file = p.home (a_helper h); sure = λ x. false }
+in_helper p h = record { file = p.home (a_helper h); owner = codes "java.lang.Object"; sure = λ x. false }
 
 module _ (d : Direction) (p : Place) (h : Helper) (low : ir_meaning.Low) (n : ℕ) (e message : List ℕ) where
   -- where the code of the helper runs, with a unit less
@@ -95,14 +97,15 @@ module _ (p : Place) where
   check_scope x = js_meaning.function_scope (p.home (a_helper NotNull)) checking_code (x ∷ [])
 
   -- a value that isn't null is handed on
-  hands_on : (m : ℕ) (w : World) (v : ir.Value) (x : js.Value) (u : js.State) → HelperStands p NotNull checking_code → Stands w v x → (v ≡ ir.null → ⊥) → top_call p (js_meaning.below p.program (suc m)) (a_helper NotNull) (x ∷ []) u ≡ done (js.gives x u)
-  hands_on m w v x u stands a there = ap (λ o. js_meaning.code_call (js_meaning.below p.program (suc m)) (p.home (a_helper NotNull)) o (x ∷ []) u) stands ∙ by v x a there
+  hands_on : (m : ℕ) (w : World) (r : Bool) (v : ir.Value) (x : js.Value) (u : js.State) → HelperStands p NotNull checking_code → Stands w r v x → (v ≡ ir.null → ⊥) → top_call p (js_meaning.below p.program (suc m)) (a_helper NotNull) (x ∷ []) u ≡ done (js.gives x u)
+  hands_on m w r v x u stands a there = ap (λ o. js_meaning.code_call (js_meaning.below p.program (suc m)) (p.home (a_helper NotNull)) o (x ∷ []) u) stands ∙ by v x a there
     where
-      by : (v : ir.Value) (x : js.Value) → Stands w v x → (v ≡ ir.null → ⊥) → js_meaning.code_call (js_meaning.below p.program (suc m)) (p.home (a_helper NotNull)) (Some checking_code) (x ∷ []) u ≡ done (js.gives x u)
+      by : (v : ir.Value) (x : js.Value) → Stands w r v x → (v ≡ ir.null → ⊥) → js_meaning.code_call (js_meaning.below p.program (suc m)) (p.home (a_helper NotNull)) (Some checking_code) (x ∷ []) u ≡ done (js.gives x u)
       by _ _ same_null there = absurd (there refl)
       by _ _ same_undefined there = refl
       by _ _ (same_boolean b) there = refl
-      by _ _ (same_char c f) there = refl
+      by _ _ (same_char q c f) there = refl
+      by _ _ (same_box q c a f i) there = refl
       by _ _ (same_number n f) there = refl
       by _ _ (same_long n f) there = refl
       by _ _ (same_text us) there = refl
@@ -131,17 +134,18 @@ module _ (d : Direction) (p : Place) (low : ir_meaning.Low) (m : ℕ) (stands : 
   pub checks_alike : (held : (w : World) (s : ir.State) (u : js.State) → SameState p w s u → u.tops (p.home (a_helper (Throws NullReceiver))) (helper_name (Throws NullReceiver)) ≡ js.holds false (top_function p (a_helper (Throws NullReceiver)))) (t : IrType) (w : World) (v : ir.Value) (x : js.Value) (env : ir.Env) (s : ir.State) (u : js.State) → SameValue w t v x → SameState p w s u → Sim d (Valued p w env t) (ir_meaning.answered p.classes low (ir_meaning.not_null p.classes v) env s) (top_call p (js_meaning.below p.program (suc m)) (a_helper NotNull) (x ∷ []) u)
   checks_alike held t w v x env s u a same = by v x a.stands a.suits
     where
-      given : (v : ir.Value) (x : js.Value) → Stands w v x → suits t v ≡ true → (v ≡ ir.null → ⊥) → Sim d (Valued p w env t) (done (ir.ends (ir.gives v) env s)) (top_call p (js_meaning.below p.program (suc m)) (a_helper NotNull) (x ∷ []) u)
-      given v x a k there = subst (λ o. Sim d (Valued p w env t) (done (ir.ends (ir.gives v) env s)) o) (sym (hands_on p m w v x u stands a there)) (sim_done d (Valued p w env t) (ir.ends (ir.gives v) env s) (js.gives x u) (valued w v x s u (grows-refl w) (record { stands = a; suits = k }) same))
+      given : (v : ir.Value) (x : js.Value) → Stands w (is_char t) v x → suits t v ≡ true → (v ≡ ir.null → ⊥) → Sim d (Valued p w env t) (done (ir.ends (ir.gives v) env s)) (top_call p (js_meaning.below p.program (suc m)) (a_helper NotNull) (x ∷ []) u)
+      given v x a k there = subst (λ o. Sim d (Valued p w env t) (done (ir.ends (ir.gives v) env s)) o) (sym (hands_on p m w (is_char t) v x u stands a there)) (sim_done d (Valued p w env t) (ir.ends (ir.gives v) env s) (js.gives x u) (valued w v x s u (grows-refl w) (record { stands = a; suits = k }) same))
 
       each : (a : ir.Ended) (b : js.ExpressionEnd) → Failed p w env a b → Sim d (Valued p w env t) (done a) (behind_failure p (js_meaning.below p.program m) b)
       each _ _ (failed_so y v q s u g k same) = sim_done d (Valued p w env t) (ir.ends (ir.throws v) env s) (js.throws q u) (thrown y v q s u g k same)
 
-      by : (v : ir.Value) (x : js.Value) → Stands w v x → suits t v ≡ true → Sim d (Valued p w env t) (ir_meaning.answered p.classes low (ir_meaning.not_null p.classes v) env s) (top_call p (js_meaning.below p.program (suc m)) (a_helper NotNull) (x ∷ []) u)
+      by : (v : ir.Value) (x : js.Value) → Stands w (is_char t) v x → suits t v ≡ true → Sim d (Valued p w env t) (ir_meaning.answered p.classes low (ir_meaning.not_null p.classes v) env s) (top_call p (js_meaning.below p.program (suc m)) (a_helper NotNull) (x ∷ []) u)
       by _ _ same_null k = subst (λ o. Sim d (Valued p w env t) (ir_meaning.raise p.classes low (codes "java.lang.NullPointerException") (codes "null") env s) o) (sym (null_fails p m u stands owned (held w s u same))) (subst (λ o. Sim d (Valued p w env t) o (then_do (top_call p (js_meaning.below p.program m) (a_helper (Throws NullReceiver)) [] u) (behind_failure p (js_meaning.below p.program m)))) (then_do-right (ir_meaning.raise p.classes low (codes "java.lang.NullPointerException") (codes "null") env s)) (sim_then d (Failed p w env) (Valued p w env t) (ir_meaning.raise p.classes low (codes "java.lang.NullPointerException") (codes "null") env s) (top_call p (js_meaning.below p.program m) (a_helper (Throws NullReceiver)) [] u) done (behind_failure p (js_meaning.below p.program m)) (fails w env s u same) each))
       by _ _ same_undefined k = given _ _ same_undefined k (λ e. cc)
       by _ _ (same_boolean b) k = given _ _ (same_boolean b) k (λ e. cc)
-      by _ _ (same_char c f) k = given _ _ (same_char c f) k (λ e. cc)
+      by _ _ (same_char q c f) k = given _ _ (same_char q c f) k (λ e. cc)
+      by _ _ (same_box q c b f i) k = given _ _ (same_box q c b f i) k (λ e. cc)
       by _ _ (same_number n f) k = given _ _ (same_number n f) k (λ e. cc)
       by _ _ (same_long n f) k = given _ _ (same_long n f) k (λ e. cc)
       by _ _ (same_text us) k = given _ _ (same_text us) k (λ e. cc)

@@ -3,7 +3,7 @@
 use Rattle.std.specs.Prelude.{◌+◌, ◌*◌}
 use Rattle.std.proofs.Common.{◌≡◌, ℕ, zero, suc, Bool, true, List, arith, sym, ◌∙◌}
 use Rattle.sj_names.proofs.Same.{impossible}
-use Rattle.sj_emit_expr.specs.Templates.{check_name}
+use Rattle.sj_emit_expr.specs.Templates.{check_name, statement_templates}
 use Rattle.sure_receivers.specs.Sure.{sure_locals}
 use Rattle.outcomes.specs.Agreement.{Direction, forward, backward, Enough, Sim}
 use Rattle.outcomes.proofs.Simulation.{sim_over, sim_going}
@@ -13,29 +13,19 @@ use Rattle.js_mean.specs.Meaning as js_meaning
 use Rattle.js_mean.specs.States as js
 use Rattle.js_tree.specs.Terms.{Name}
 use Rattle.sj_desugar.specs.Desugar.{into, is_mutable_in}
-use Rattle.sj_emit_expr.specs.Templates.{statement_templates}
 use Rattle.sj_names.specs.declared.method_names.Member.{Member}
 use Rattle.sj_plain.specs.Settings.{Place, Code, a_function, Setting, SameState, Valued, NamesDiffer, Reaches, Based, Lawful}
 use Rattle.sj_bodies.proofs.Contexts.{Came}
 use Rattle.sj_bodies.proofs.Main.{does}
 use Rattle.sj_bodies.proofs.Trees.{LowAlike}
 use Rattle.sj_plain.proofs.Worlds.{World, SameValues}
-<<<<<<< HEAD
 use Rattle.body_rules.specs.Standing.{types_referred, call_type}
-use Rattle.sj_calls.specs.Methods.{Linked, CallsAgree, ir_call, js_call}
-=======
-use Rattle.sj_plain.specs.Standing.{types_referred, call_type}
 use Rattle.sj_calls.specs.Methods.{Linked, CallsAlone, CallsAgree, ir_call, js_call}
->>>>>>> 6a46694
 use Rattle.sj_calls.proofs.Calls.{call_alike}
 use Rattle.body_rules.specs.Subtyping.{IsSubtyping}
 use Rattle.sj_world.specs.Subtypes.{IsSub}
 
-<<<<<<< HEAD
-module _ (p : Place) (ordered : IsSubtyping (IsSub p.classes)) (names : NamesDiffer p) (linked : (f : Name) (m : Member) → (p.has f).linked m ≡ true → Linked p m) where
-=======
-module _ (p : Place) (names : NamesDiffer p) (linked : (f : Name) (m : Member) → (p.has f).linked m ≡ true → Linked p m) (alone : CallsAlone p) where
->>>>>>> 6a46694
+module _ (p : Place) (ordered : IsSubtyping (IsSub p.classes)) (names : NamesDiffer p) (linked : (f : Name) (m : Member) → (p.has f).linked m ≡ true → Linked p m) (alone : CallsAlone p) where
   -- a body in a file of the place, with what the levels of these bounds give
   abbrev within : Code → Direction → (List ℕ → Bool) → ℕ → ℕ → Setting
   within f d is_mutable n k = record { place = p; code = f; direction = d; is_mutable = is_mutable; low = ir_meaning.below p.classes n; js_low = js_meaning.below p.program k }
@@ -61,14 +51,11 @@ module _ (p : Place) (names : NamesDiffer p) (linked : (f : Name) (m : Member) �
 
   -- a member that the code of some file can use
   member_alike : (d : Direction) (n k : ℕ) → Level d n k → (m : Member) → Linked p m → (w : World) (vs : List ir.Value) (xs : List js.Value) (env : ir.Env) (s : ir.State) (u : js.State) → SameValues w (types_referred m.method.params) vs xs → SameState p w s u → Sim d (Valued p w env (call_type m.method.result)) (ir_call p m vs env s n) (js_call p m xs u k)
-  member_alike d n k level m l = call_alike p names d (ir_meaning.below p.classes n) (js_meaning.below p.program k) m l (level (record { file = p.home (a_function m); sure = sure_locals l.its_body }) l.reaches (is_mutable_in l.definition l.its_body))
+  member_alike d n k level m l = call_alike p names d (ir_meaning.below p.classes n) (js_meaning.below p.program k) m l (level (record { file = p.home (a_function m); owner = m.class; sure = sure_locals l.its_body }) l.reaches (is_mutable_in l.definition l.its_body))
 
-<<<<<<< HEAD
-  based : (d : Direction) (n k : ℕ) → Levels d n → Enough p.room 0 d n k → (f : Name) → Reaches p f → (is_mutable : List ℕ → Bool) → Based (within f d is_mutable n k)
-  based d n k levels h f reaches is_mutable = record { ordered = ordered; names = names; reaches = reaches; calls = λ m l. member_alike d n k (levels k h) m (linked f m l) }
-=======
   based : (d : Direction) (n k : ℕ) → Levels d n → Enough p.room 0 d n k → (f : Code) → Reaches p f.file → (is_mutable : List ℕ → Bool) → Based (within f d is_mutable n k)
   based d n k levels h f reaches is_mutable = record {
+    ordered = ordered;
     names = names;
     reaches = reaches;
     fields = λ c g t i. impossible (sym (alone.field f.file c g t) ∙ i);
@@ -76,8 +63,8 @@ module _ (p : Place) (names : NamesDiffer p) (linked : (f : Name) (m : Member) �
     receives = λ m l. impossible (sym (alone.received f.file m) ∙ l);
     builds = λ m l. impossible (sym (alone.built f.file m) ∙ l);
     makes = λ c l. impossible (sym (alone.made f.file c) ∙ l);
+    objects = λ c l. impossible (sym (alone.made f.file c) ∙ l);
   }
->>>>>>> 6a46694
 
   lawful : (d : Direction) (n k : ℕ) → Levels d n → Enough p.room p.room.each d n k → (f : Code) → Reaches p f.file → (is_mutable : List ℕ → Bool) → Lawful (within f d is_mutable n k)
   lawful d n k levels h f reaches is_mutable = record { base = based d n k levels (fewer d p.room.each n k h) f reaches is_mutable; checks = λ i. impossible (sym (alone.helper f.file check_name) ∙ i) }

@@ -1,20 +1,19 @@
 -- Constructors of a chain make one object.
-use Rattle.std.proofs.Common.{◌≡◌, ℕ, zero, suc, ◌+◌, ◌<◌, Bool, true, false, List, [], ◌∷◌, ◌++◌, length, map, slice_get, set, Option, Some, None, refl, sym, ap, ◌∙◌, subst, if◌then◌else◌, arith}
-use Rattle.std.specs.Prelude.{codes, pos}
+use Rattle.std.proofs.Common.{◌≡◌, ℕ, zero, suc, ◌+◌, ◌<◌, Bool, true, false, List, [], ◌∷◌, ◌++◌, length, map, set, Option, Some, None, refl, ap, ◌∙◌, if◌then◌else◌, arith}
+use Rattle.std.specs.Prelude.{codes}
 use Rattle.js_tree.specs.Names.{is_same_text}
-use Rattle.js_tree.specs.Terms.{Name, Member, Expression, this_use, name_use, Statement, assign_property, super_call, Statements, no_statements, statement, constructor_of}
+use Rattle.js_tree.specs.Terms.{Name, Member, Expression, this_use, name_use, assign_property}
 use Rattle.js_tree.specs.Views.{statements_of}
-use Rattle.outcomes.specs.Outcome.{Out, done, going, wrong, then_do}
+use Rattle.outcomes.specs.Outcome.{Out, done, going, then_do}
 use Rattle.sj_mangling.specs.Bindings.{field_binding}
 use Rattle.sj_mangling.specs.declared.bindings.FieldBinding.TheVariants.{Property}
 use Rattle.sj_trees.specs.declared.classes.FieldDef.{FieldDef}
 use Rattle.sj_trees.specs.declared.types.IrType.{IrType}
 use Rattle.sj_trees.specs.declared.types.IrType.TheVariants as Types
-use Rattle.js_mean.specs.Classes.{members_of}
 use Rattle.js_mean.specs.Files.{owner}
 use Rattle.js_mean.specs.Objects.{no_properties, with_property, allocated, next_address, set_stored, set_property, with_heap}
-use Rattle.js_mean.specs.States.{Value, object, class, ClassLink, Making, This, making, Cell, absent, holds, Stored, plain, Scope, State, ExpressionEnd, gives, StatementEnd, ends, normally, with_value, in_statement, next_statement, Program}
-use Rattle.js_mean.specs.Meaning.{Low, Code, below, binding, bind_declared, class_bindings, member_scope, or_outer, cell_value, top_cell, name_value, evaluate, execute, execute_all, unless_missing, with_expression, with_state, this_of, with_this, construct, construct_by, made}
+use Rattle.js_mean.specs.States.{Value, object, class, ClassLink, Making, This, making, Cell, absent, holds, Stored, plain, Scope, State, ExpressionEnd, gives, StatementEnd, ends, normally, in_statement, next_statement, Program}
+use Rattle.js_mean.specs.Meaning.{Low, below, binding, bind_declared, class_bindings, member_scope, or_outer, cell_value, top_cell, name_value, evaluate, execute, execute_all, unless_missing, with_expression, with_state, this_of, with_this, construct, construct_by, made}
 use Rattle.piece_rules.specs.Pieces.{constructor_body, field_start, zero_of}
 use Rattle.helper_rules.specs.Words.{class_name, constants_name}
 use Rattle.sj_plain.proofs.Heaps.{get-end, set-end}

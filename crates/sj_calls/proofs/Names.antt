@@ -1,27 +1,16 @@
 -- The names of the emitted code differ.
-<<<<<<< HEAD
-use Rattle.std.proofs.Common.{◌≡◌, ◌≤◌, ℕ, List, ◌∷◌, ap, arith}
-=======
-use Rattle.std.proofs.Common.{◌≡◌, ◌≤◌, ℕ, zero, suc, List, [], ◌∷◌, map, refl, ap, sym, ◌∙◌, arith}
-use Rattle.std.specs.Prelude.{codes, ◌+◌}
-use Rattle.std.specs.Int.Digits.{digits_of, AllBelowBase}
-use Rattle.std.proofs.lemmas.Int.Digits.{all_below_base_digits_of}
+use Rattle.std.proofs.Common.{◌≡◌, ◌≤◌, ℕ, List, ◌∷◌, refl, ap, sym, ◌∙◌, arith}
+use Rattle.std.specs.Prelude.{codes}
 use Rattle.helper_rules.specs.Helpers.{helper_name}
 use Rattle.helper_rules.specs.declared.kinds.Helper.{Helper}
 use Rattle.helper_rules.specs.declared.kinds.Helper.TheVariants as helpers
 use Rattle.helper_rules.specs.declared.kinds.Failure.TheVariants as failures
->>>>>>> 6a46694
 use Rattle.outcomes.specs.Agreement.{Room}
 use Rattle.ir_mean.specs.World as ir_world
 use Rattle.js_mean.specs.States as js
 use Rattle.js_tree.specs.Terms.{Name}
-<<<<<<< HEAD
-use Rattle.sj_core.specs.Terms.{Variable, named, numbered}
-use Rattle.sj_emit_expr.specs.Names.{variable_name}
-=======
 use Rattle.sj_core.specs.Terms.{Variable, named, numbered, receiver}
-use Rattle.sj_emit_expr.specs.Names.{variable_name, label_name}
->>>>>>> 6a46694
+use Rattle.sj_emit_expr.specs.Names.{variable_name}
 use Rattle.sj_emit_expr.specs.Templates.{member_name}
 use Rattle.sj_mangling.specs.Bindings.{function_name, class_binding}
 use Rattle.sj_mangling.specs.declared.bindings.ClassBinding.TheVariants.{Class, Constants}
@@ -31,59 +20,10 @@ use Rattle.sj_names.specs.declared.method_names.Member.{Member}
 use Rattle.sj_names.specs.declared.method_names.MethodName.{MethodName}
 use Rattle.sj_names.specs.declared.method_names.Namespace.{Namespace}
 use Rattle.sj_names.specs.declared.method_names.Namespace.TheVariants.{Public, PublicStatic, Private, PrivateStatic, Constructor}
-<<<<<<< HEAD
-use Rattle.sj_plain.specs.Settings.{Top, a_function, a_class, top_name, NamesDiffer}
-use Rattle.sj_proper.proofs.Names.{first, variables-differ, labels-differ}
+use Rattle.sj_plain.specs.Settings.{Top, a_function, a_method, a_constructor, a_class, some_constants, a_helper, top_name, NamesDiffer}
+use Rattle.sj_proper.proofs.Names.{first, heads, tails, low-numeral, variables-differ, labels-differ}
 use Rattle.sj_calls.specs.Names.{emitted_in}
 use Rattle.built_forms.specs.Built.{Usable}
-=======
-use Rattle.sj_plain.specs.Settings.{Top, a_function, a_method, a_constructor, a_class, some_constants, a_helper, top_name, NamesDiffer}
-use Rattle.sj_calls.specs.Names.{emitted_in}
-use Rattle.sj_plain.specs.Conditions.{Usable}
-
-abbrev first : List ℕ → ℕ
-first [] = 0
-first (a ∷ rest) = a
-
-abbrev behind : List ℕ → List ℕ
-behind [] = []
-behind (a ∷ rest) = rest
-
-heads : (a b : ℕ) (xs ys : List ℕ) → a ∷ xs ≡ b ∷ ys → a ≡ b
-heads a b xs ys e = ap first e
-
-tails : (a b : ℕ) (xs ys : List ℕ) → a ∷ xs ≡ b ∷ ys → xs ≡ ys
-tails a b xs ys e = ap behind e
-
-apart : (x : List ℕ) (n : ℕ) → variable_name (named x) ≡ variable_name (numbered n) → ⊥
-apart x n e = let h : ◌≡◌ {A = ℕ} 118 36 = heads 118 36 (95 ∷ mangled x) (number_text n) e in absurd (omega arith)
-
-this-named : (x : List ℕ) → variable_name receiver ≡ variable_name (named x) → ⊥
-this-named x e = let h : ◌≡◌ {A = ℕ} 36 118 = heads 36 118 (codes "this") (95 ∷ mangled x) e in absurd (omega arith)
-
--- a numeral begins with a digit
-low-digit : (ds : List ℕ) (a : ℕ) (rest : List ℕ) → AllBelowBase 10 ds → a ∷ rest ≡ map (λ d. 48 + d) ds → 58 ≤ a → ⊥
-low-digit [] a rest all e h = absurd (cc)
-low-digit (d ∷ ds) a rest all e h = let k : a ≡ 48 + d = heads a (48 + d) rest (map (λ d. 48 + d) ds) e in omega (arith, k, all.0, h)
-
-low-numeral : (n : ℕ) (a : ℕ) (rest : List ℕ) → a ∷ rest ≡ number_text n → 58 ≤ a → ⊥
-low-numeral zero a rest e h = let k : a ≡ 48 = heads a 48 rest [] e in omega (arith, k, h)
-low-numeral (suc n) a rest e h = low-digit (digits_of 10 (suc n)) a rest (all_below_base_digits_of 10 (suc n) (omega arith)) e h
-
-pub variables-differ : (x y : Variable) → variable_name x ≡ variable_name y → x ≡ y
-variables-differ (named x) (named y) e = ap named (mangled_texts_differ x y (tails 95 95 (mangled x) (mangled y) (tails 118 118 (95 ∷ mangled x) (95 ∷ mangled y) e)))
-variables-differ (named x) (numbered n) e = absurd (apart x n e)
-variables-differ receiver receiver e = refl
-variables-differ receiver (named x) e = absurd (this-named x e)
-variables-differ (named x) receiver e = absurd (this-named x (sym e))
-variables-differ receiver (numbered n) e = absurd (low-numeral n 116 (codes "his") (tails 36 36 (codes "this") (number_text n) e) (omega arith))
-variables-differ (numbered n) receiver e = absurd (low-numeral n 116 (codes "his") (tails 36 36 (codes "this") (number_text n) (sym e)) (omega arith))
-variables-differ (numbered n) (named x) e = absurd (apart x n (sym e))
-variables-differ (numbered n) (numbered k) e = ap numbered (numerals_differ n k (tails 36 36 (number_text n) (number_text k) e))
-
-pub labels-differ : (l m : List ℕ) → label_name l ≡ label_name m → l ≡ m
-labels-differ l m e = mangled_texts_differ l m (tails 95 95 (mangled l) (mangled m) (tails 108 108 (95 ∷ mangled l) (95 ∷ mangled m) e))
->>>>>>> 6a46694
 
 -- the name of a function begins with `f`, `s`, `p` or `c`
 begins : (n : Namespace) (c : List ℕ) (k : MethodName) (a : ℕ) (rest : List ℕ) → a ∷ rest ≡ function_name n c k → (99 ≤ a) × (a ≤ 115)

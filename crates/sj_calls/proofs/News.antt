@@ -1,7 +1,7 @@
 -- `new` of a class: where its chain stands in the program, it makes the object that the IR makes.
 use Rattle.std.specs.Prelude.{◌+◌, ◌≤◌, ◌<◌}
-use Rattle.std.proofs.Common.{◌≡◌, ℕ, zero, suc, List, [], ◌∷◌, ◌++◌, length, map, Option, Some, None, refl, sym, ap, ◌∙◌, subst, ◌⊎◌, inl, inr, ⊎_elim, arith}
-use Rattle.outcomes.specs.Outcome.{Out, done}
+use Rattle.std.proofs.Common.{◌≡◌, ℕ, zero, suc, List, [], length, refl, sym, subst, ◌⊎◌, inl, inr, ⊎_elim, arith}
+use Rattle.outcomes.specs.Outcome.{done}
 use Rattle.outcomes.specs.Agreement.{Direction, forward, backward, Sim}
 use Rattle.outcomes.proofs.Simulation.{sim_done, sim_going}
 use Rattle.ir_mean.specs.Dispatch.{chain_of}
@@ -9,8 +9,7 @@ use Rattle.ir_mean.specs.States as ir
 use Rattle.js_mean.specs.Meaning as js_meaning
 use Rattle.js_mean.specs.Objects.{allocated}
 use Rattle.js_mean.specs.States as js
-use Rattle.js_tree.specs.Terms.{Name}
-use Rattle.sj_plain.specs.Settings.{Place, SameStored, SameState, Makes, makes, link_of, links_of, zeroed}
+use Rattle.sj_plain.specs.Settings.{Place, SameState, Makes, makes, link_of, links_of}
 use Rattle.sj_plain.proofs.Heaps.{pends, unpending}
 use Rattle.sj_plain.proofs.Worlds.{World}
 use Rattle.sj_calls.specs.Worlds.{Stands}

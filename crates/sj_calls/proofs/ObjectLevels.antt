@@ -1,7 +1,6 @@
 -- All levels, where code makes objects and uses them: trees and calls are alike at bounds that stand to each other as the direction says.
 use Rattle.std.specs.Prelude.{◌+◌, ◌*◌, ◌≤◌, codes}
-use Rattle.std.proofs.Common.{◌≡◌, ℕ, zero, suc, Bool, true, false, List, [], ◌∷◌, Some, None, length, refl, sym, ap, ◌∙◌, subst, arith}
-use Rattle.outcomes.specs.Outcome.{Out, going}
+use Rattle.std.proofs.Common.{◌≡◌, ℕ, zero, suc, Bool, true, false, List, [], ◌∷◌, Some, length, refl, sym, ap, subst, arith}
 use Rattle.outcomes.specs.Agreement.{Direction, forward, backward, Enough, Sim}
 use Rattle.outcomes.proofs.Simulation.{sim_over, sim_going}
 use Rattle.helper_rules.specs.declared.kinds.Failure.TheVariants.{NullReceiver}
@@ -14,15 +13,17 @@ use Rattle.js_mean.specs.Meaning as js_meaning
 use Rattle.js_mean.specs.States as js
 use Rattle.js_tree.specs.Terms.{Name}
 use Rattle.sj_desugar.specs.Desugar.{into, is_mutable_in}
-use Rattle.sj_emit_expr.specs.Templates.{check_name, statement_templates}
+use Rattle.sj_emit_expr.specs.Templates.{statement_templates}
 use Rattle.sj_names.specs.declared.method_names.Member.{Member}
 use Rattle.sure_receivers.specs.Sure.{sure_locals}
-use Rattle.sj_plain.specs.Settings.{Place, Code, a_function, a_method, a_constructor, a_helper, top_call, Setting, SameState, Valued, Built, NamesDiffer, Reaches, Based, Lawful, BuildsAlike, ReceivesAlike, ChecksAlike, IsReceiver}
-use Rattle.sj_plain.specs.Standing.{types_referred, call_type}
-use Rattle.sj_plain.proofs.Worlds.{World, SameValue, SameValues}
+use Rattle.sj_plain.specs.Settings.{Place, Code, a_function, a_method, a_constructor, a_helper, Setting, SameState, Valued, Built, NamesDiffer, Reaches, Based, Lawful, BuildsAlike, ReceivesAlike, ChecksAlike}
+use Rattle.body_rules.specs.Standing.{types_referred, call_type}
+use Rattle.sj_plain.proofs.Worlds.{World, SameValues}
 use Rattle.sj_bodies.proofs.Contexts.{Came}
 use Rattle.sj_bodies.proofs.Main.{does}
 use Rattle.sj_bodies.proofs.Trees.{LowAlike}
+use Rattle.body_rules.specs.Subtyping.{IsSubtyping}
+use Rattle.sj_world.specs.Subtypes.{IsSub}
 use Rattle.sj_calls.specs.Helpers.{Failed}
 use Rattle.sj_calls.specs.Methods.{Linked, CallsAgree, ir_call, js_call}
 use Rattle.sj_calls.specs.Objects.{RunsOn, Constructs}
@@ -32,7 +33,7 @@ use Rattle.sj_calls.proofs.Helps.{FailsAt, fails_alike, checks_alike, in_helper}
 use Rattle.sj_calls.proofs.News.{made_alike}
 use Rattle.sj_calls.proofs.Receivers.{receive_alike, build_alike}
 
-module _ (p : Place) (names : NamesDiffer p) (has : HasObjects p) where
+module _ (p : Place) (ordered : IsSubtyping (IsSub p.classes)) (names : NamesDiffer p) (has : HasObjects p) where
   -- a body in a file of the place, with what the levels of these bounds give
   abbrev within : Code → Direction → (List ℕ → Bool) → ℕ → ℕ → Setting
   within f d is_mutable n k = record { place = p; code = f; direction = d; is_mutable = is_mutable; low = ir_meaning.below p.classes n; js_low = js_meaning.below p.program k }
@@ -61,13 +62,13 @@ module _ (p : Place) (names : NamesDiffer p) (has : HasObjects p) where
   spent backward n k h = omega arith
 
   member_alike : (d : Direction) (n k : ℕ) → Level d n k → (m : Member) → Linked p m → (w : World) (vs : List ir.Value) (xs : List js.Value) (env : ir.Env) (s : ir.State) (u : js.State) → SameValues w (types_referred m.method.params) vs xs → SameState p w s u → Sim d (Valued p w env (call_type m.method.result)) (ir_call p m vs env s n) (js_call p m xs u k)
-  member_alike d n k level m l = call_alike p names d (ir_meaning.below p.classes n) (js_meaning.below p.program k) m l (level (record { file = p.home (a_function m); sure = sure_locals l.its_body }) l.reaches (is_mutable_in l.definition l.its_body))
+  member_alike d n k level m l = call_alike p names d (ir_meaning.below p.classes n) (js_meaning.below p.program k) m l (level (record { file = p.home (a_function m); owner = m.class; sure = sure_locals l.its_body }) l.reaches (is_mutable_in l.definition l.its_body))
 
   method_alike : (f : Code) (is_mutable : List ℕ → Bool) (d : Direction) (n k : ℕ) → Level d n k → (m : Member) → RunsOn p m → ReceivesAlike (within f d is_mutable n k) m
-  method_alike f is_mutable d n k level m l = receive_alike p names d (ir_meaning.below p.classes n) (js_meaning.below p.program k) m l (level (record { file = p.home (a_method m); sure = sure_locals l.its_body }) l.reaches (is_mutable_in l.definition l.its_body))
+  method_alike f is_mutable d n k level m l = receive_alike p names d (ir_meaning.below p.classes n) (js_meaning.below p.program k) m l (level (record { file = p.home (a_method m); owner = m.class; sure = sure_locals l.its_body }) l.reaches (is_mutable_in l.definition l.its_body))
 
   constructor_alike : (f : Code) (is_mutable : List ℕ → Bool) (d : Direction) (n k : ℕ) → Enough p.room 0 d n k → Level d n k → (m : Member) → Constructs p m → BuildsAlike (within f d is_mutable n k) m
-  constructor_alike f is_mutable d n (suc k) h level m l = build_alike p names d (ir_meaning.below p.classes n) k m l (level (record { file = p.home (a_constructor m); sure = sure_locals l.its_body }) l.reaches (is_mutable_in l.definition l.its_body))
+  constructor_alike f is_mutable d n (suc k) h level m l = build_alike p names d (ir_meaning.below p.classes n) k m l (level (record { file = p.home (a_constructor m); owner = m.class; sure = sure_locals l.its_body }) l.reaches (is_mutable_in l.definition l.its_body))
   constructor_alike f is_mutable forward n zero h level m l = let e = has.beyond in absurd (omega (arith, e, h))
   constructor_alike f is_mutable backward n zero h level m l = λ w v x vs xs env s u this values same. subst (λ o. Sim backward (Built p w env x) (ir_meaning.call (ir_meaning.below p.classes n) (member_of p.classes m.class m.namespace m.method) (Some v) vs env s) o) (sym (ap (λ o. js_meaning.code_call (js_meaning.below p.program 0) (p.home (a_constructor m)) o (x ∷ xs) u) l.emitted)) (sim_going (Built p w env x) (ir_meaning.call (ir_meaning.below p.classes n) (member_of p.classes m.class m.namespace m.method) (Some v) vs env s))
 
@@ -77,8 +78,10 @@ module _ (p : Place) (names : NamesDiffer p) (has : HasObjects p) where
 
   based : (d : Direction) (n k : ℕ) → Levels d n → Enough p.room 0 d n k → (f : Code) → Reaches p f.file → (is_mutable : List ℕ → Bool) → Based (within f d is_mutable n k)
   based d n k levels h f reaches is_mutable = record {
+    ordered = ordered;
     names = names;
     reaches = reaches;
+    objects = has.objects f.file;
     fields = has.field f.file;
     calls = λ m l. member_alike d n k (levels k h) m (has.linked f.file m l);
     receives = λ m l. method_alike f is_mutable d n k (levels k h) m (has.received f.file m l);

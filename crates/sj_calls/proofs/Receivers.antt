@@ -1,7 +1,5 @@
 -- A call on a receiver: the receiver is the first parameter of the function, and This of the body. A constructor gives the object that it ran on.
-use Rattle.std.proofs.Common.{◌≡◌, ℕ, suc, Bool, true, false, List, [], ◌∷◌, Some, None, Option, refl, sym, ap, ◌∙◌, subst, if◌then◌else◌}
-use Rattle.std.specs.Prelude.{nat_eq}
-use Rattle.std.specs.Cmp.Lexicographic.{pointwise}
+use Rattle.std.proofs.Common.{◌≡◌, ℕ, suc, Bool, false, List, [], ◌∷◌, Some, None, refl, sym, ap, ◌∙◌, subst, if◌then◌else◌}
 use Rattle.outcomes.specs.Outcome.{Out, done, then_do}
 use Rattle.outcomes.specs.Agreement.{Direction, Sim}
 use Rattle.outcomes.proofs.Simulation.{sim_done, sim_wrong, sim_then}
@@ -19,18 +17,18 @@ use Rattle.sj_desugar.specs.Spill.{Destination, discard}
 use Rattle.sj_emit_expr.specs.Templates.{statement_templates}
 use Rattle.sj_names.specs.declared.method_names.Member.{Member}
 use Rattle.sj_trees.specs.declared.types.IrType.{IrType}
-use Rattle.sj_bodies.specs.Fine.{parameters_of}
-use Rattle.sj_bodies.specs.Locals.{Own}
-use Rattle.sj_plain.specs.Settings.{Place, Code, Receiving, on_receiver, IsReceiver, Setting, SameState, Valued, Built, built, failed, run, NamesDiffer, OfNoVariable, Holding, holding, a_method, a_constructor, top_call, Top}
-use Rattle.sj_bodies.proofs.Contexts.{Context, Ready, Keeps, let_go, Came, gave, left, threw, stopped, differs, equals}
-use Rattle.sj_bodies.proofs.Statements.{run-followed, run-one}
+use Rattle.body_rules.specs.Locals.{parameters_of, Own, Scope}
+use Rattle.sj_plain.specs.Settings.{Place, Code, Receiving, on_receiver, IsReceiver, Setting, SameState, Valued, Built, built, failed, run, NamesDiffer, OfNoVariable, Holding, a_method, a_constructor, top_call}
+use Rattle.sj_bodies.proofs.Contexts.{Context, Ready, let_go, Came, gave, left, threw, stopped}
+use Rattle.body_rules.proofs.Equal.{differs, equals}
+use Rattle.sj_bodies.proofs.Statements.{run-followed}
 use Rattle.sj_bodies.proofs.Trees.{LowAlike}
-use Rattle.sj_plain.proofs.Worlds.{World, SameValue, SameValues}
+use Rattle.sj_plain.proofs.Worlds.{World, SameValues}
 use Rattle.sj_calls.specs.Methods.{parameters_in}
 use Rattle.sj_calls.specs.Objects.{function_on, body_of, constructor_body, RunsOn, Constructs}
-use Rattle.sj_calls.proofs.Calls.{start, sound-start, ahead-start, outside-start, way, writes-nothing, comes_back, Bound, bound, parameters-free, body-free}
-use Rattle.sj_plain.specs.Conditions.{Scope}
-use Rattle.sj_plain.specs.Standing.{types_referred, call_type}
+use Rattle.sj_calls.proofs.Calls.{start, sound-start, ahead-start, outside-start, way, writes-nothing, body-fine, comes_back, Bound, bound, parameters-free, body-free}
+use Rattle.sj_bodies.specs.Fine.{Fine, no_labels}
+use Rattle.body_rules.specs.Standing.{types_referred, call_type}
 use Rattle.sure_receivers.specs.Sure.{sure_locals}
 
 receiver-named : (x : List ℕ) → core.named x ≡ core.receiver → ⊥
@@ -51,14 +49,14 @@ module _ (p : Place) (names : NamesDiffer p) where
   free_there x b y none = ap (λ (t : Bool). if t then js.holds false x else b y) (differs y (p.name core.receiver) (λ e. none core.receiver (sym e)))
 
   -- a call of a member that runs on a receiver, and of its function, are alike where the levels below are
-  pub receive_alike : (d : Direction) (low : ir_meaning.Low) (js_low : js_meaning.Low) (m : Member) (l : RunsOn p m) → LowAlike (record { place = p; code = record { file = p.home (a_method m); sure = sure_locals l.its_body }; direction = d; is_mutable = is_mutable_in l.definition l.its_body; low = low; js_low = js_low }) → (w : World) (v : ir.Value) (x : js.Value) (vs : List ir.Value) (xs : List js.Value) (env : ir.Env) (s : ir.State) (u : js.State) → IsReceiver w v x → SameValues w (types_referred m.method.params) vs xs → SameState p w s u → Sim d (Valued p w env (call_type m.method.result)) (ir_meaning.call low (member_of p.classes m.class m.namespace m.method) (Some v) vs env s) (top_call p js_low (a_method m) (x ∷ xs) u)
+  pub receive_alike : (d : Direction) (low : ir_meaning.Low) (js_low : js_meaning.Low) (m : Member) (l : RunsOn p m) → LowAlike (record { place = p; code = record { file = p.home (a_method m); owner = m.class; sure = sure_locals l.its_body }; direction = d; is_mutable = is_mutable_in l.definition l.its_body; low = low; js_low = js_low }) → (w : World) (v : ir.Value) (x : js.Value) (vs : List ir.Value) (xs : List js.Value) (env : ir.Env) (s : ir.State) (u : js.State) → IsReceiver w m.class v x → SameValues w (types_referred m.method.params) vs xs → SameState p w s u → Sim d (Valued p w env (call_type m.method.result)) (ir_meaning.call low (member_of p.classes m.class m.namespace m.method) (Some v) vs env s) (top_call p js_low (a_method m) (x ∷ xs) u)
   receive_alike d low js_low m l below w v x vs xs env s u this values same = subst (λ t. Sim d (Valued p w env t) (ir_meaning.call low (member_of p.classes m.class m.namespace m.method) (Some v) vs env s) (top_call p js_low (a_method m) (x ∷ xs) u)) l.result_is (subst (λ o. Sim d (Valued p w env l.definition.result) o (top_call p js_low (a_method m) (x ∷ xs) u)) (sym ir_is) (subst (λ o. Sim d (Valued p w env l.definition.result) (ir_meaning.body_call low l.definition.result (Some l.its_body) (Some v) (ir_meaning.parameters l.definition.params vs) env s) o) (sym js_is) (locals (bound p names w l.definition.params m.method.params vs xs names_declared l.parameters values))))
     where
       is_mutable : List ℕ → Bool
       is_mutable = is_mutable_in l.definition l.its_body
 
       here : Code
-      here = record { file = p.home (a_method m); sure = sure_locals l.its_body }
+      here = record { file = p.home (a_method m); owner = m.class; sure = sure_locals l.its_body }
 
       z : Setting
       z = record { place = p; code = here; direction = d; is_mutable = is_mutable; low = low; js_low = js_low }
@@ -88,7 +86,7 @@ module _ (p : Place) (names : NamesDiffer p) where
       js_is = ap (λ o. js_meaning.code_call js_low (p.home (a_method m)) o (x ∷ xs) u) l.emitted
 
       locals : Bound p w l.definition.params vs xs names_declared → Sim d (Valued p w env l.definition.result) (ir_meaning.body_call low l.definition.result (Some l.its_body) (Some v) (ir_meaning.parameters l.definition.params vs) env s) js_body
-      locals h = subst (λ o. Sim d (Valued p w env l.definition.result) (ir_meaning.body_call low l.definition.result (Some l.its_body) (Some v) o env s) js_body) (sym h.are) (sim_then d (Came p here (start is_mutable l.definition.params) scope k w sc) (Valued p w env l.definition.result) (low l.its_body inner s) (js_low code.body sc u) (ir_meaning.returned l.definition.result env) js_meaning.returned (below (start is_mutable l.definition.params) k 1 l.its_body (sound-start is_mutable l.definition.params) (ahead-start is_mutable l.definition.params) (outside-start is_mutable l.definition.params (Own l.its_body) l.fine.fresh) (writes-nothing (λ y. ⊥) l.definition.result k (way l.definition.result)) l.fine.fine w inner s sc u ready same) (comes_back d p here l.definition.result k (way l.definition.result) (start is_mutable l.definition.params) scope w sc env))
+      locals h = subst (λ o. Sim d (Valued p w env l.definition.result) (ir_meaning.body_call low l.definition.result (Some l.its_body) (Some v) o env s) js_body) (sym h.are) (sim_then d (Came p here (start is_mutable l.definition.params) scope k w sc) (Valued p w env l.definition.result) (low l.its_body inner s) (js_low code.body sc u) (ir_meaning.returned l.definition.result env) js_meaning.returned (below (start is_mutable l.definition.params) k 1 l.its_body (sound-start is_mutable l.definition.params) (ahead-start is_mutable l.definition.params) (outside-start is_mutable l.definition.params (Own l.its_body) l.rules.once.fresh) (writes-nothing (λ y. ⊥) l.definition.result k (way l.definition.result)) (body-fine p.classes (p.has here.file) here.file m.class l.definition l.its_body l.rules) w inner s sc u ready same) (comes_back d p here l.definition.result k (way l.definition.result) (start is_mutable l.definition.params) scope w sc env))
         where
           outer : Name → js.Cell
           outer = js_meaning.bind_parameters (parameters_in p (names_of l.definition.params)) xs names_declared
@@ -97,7 +95,7 @@ module _ (p : Place) (names : NamesDiffer p) where
           inner = record { this_value = Some v; locals = h.locals; sure = sure_locals l.its_body }
 
           ready : Ready p here scope (λ y. ⊥) w inner sc
-          ready = record { sees = record { inside = record { file = refl; free = λ y none. free_there x outer y none ∙ parameters-free p names (names_of l.definition.params) xs names_declared y none (body-free p names z refl (body_of l.definition l.its_body) y none) }; this = subst (Receiving w (Some v)) (sym (receiver_here x outer)) (on_receiver v x this); sure = refl; locals = λ y t i. subst (Holding w t (h.locals y)) (sym (local_there x outer y)) (h.hold y t i) }; «open» = λ y wr. absurd wr }
+          ready = record { sees = record { inside = record { file = refl; free = λ y none. free_there x outer y none ∙ parameters-free p names (names_of l.definition.params) xs names_declared y none (body-free p names (body_of l.definition l.its_body) y none) }; this = subst (Receiving w m.class (Some v)) (sym (receiver_here x outer)) (on_receiver v x this); sure = refl; locals = λ y t i. subst (Holding w t (h.locals y)) (sym (local_there x outer y)) (h.hold y t i) }; «open» = λ y wr. absurd wr }
 
   -- behind the body of a constructor its function gives the object that it ran on
   comes_out : (d : Direction) (js_low : js_meaning.Low) (c : Context) (scope : Scope) (here : Code) (w : World) (before : js.Scope) (x : js.Value) (t : IrType) (env : ir.Env) → c.kept core.receiver → before.bindings (p.name core.receiver) ≡ js.holds false x → (a : ir.Ended) (b : js.StatementEnd) → Came p here c scope discard w before a b → Sim d (Built p w env x) (ir_meaning.returned t env a) (then_do (js.next_statement (js_meaning.execute_all p.program js_low (statement_templates p.name p.label (core.statement (core.return_of None (core.variable_use core.receiver)) core.no_statements))) b) js_meaning.returned)
@@ -107,7 +105,7 @@ module _ (p : Place) (names : NamesDiffer p) where
   comes_out d js_low c scope here w before x t env kept held _ _ (stopped y inner s sc u q g r ks same) = sim_wrong d (Built p w env x) _
 
   -- a call of a constructor, and of its function, whose body runs with a unit less than this bound
-  pub build_alike : (d : Direction) (low : ir_meaning.Low) (n : ℕ) (m : Member) (l : Constructs p m) → LowAlike (record { place = p; code = record { file = p.home (a_constructor m); sure = sure_locals l.its_body }; direction = d; is_mutable = is_mutable_in l.definition l.its_body; low = low; js_low = js_meaning.below p.program (suc n) }) → (w : World) (v : ir.Value) (x : js.Value) (vs : List ir.Value) (xs : List js.Value) (env : ir.Env) (s : ir.State) (u : js.State) → IsReceiver w v x → SameValues w (types_referred m.method.params) vs xs → SameState p w s u → Sim d (Built p w env x) (ir_meaning.call low (member_of p.classes m.class m.namespace m.method) (Some v) vs env s) (top_call p (js_meaning.below p.program (suc n)) (a_constructor m) (x ∷ xs) u)
+  pub build_alike : (d : Direction) (low : ir_meaning.Low) (n : ℕ) (m : Member) (l : Constructs p m) → LowAlike (record { place = p; code = record { file = p.home (a_constructor m); owner = m.class; sure = sure_locals l.its_body }; direction = d; is_mutable = is_mutable_in l.definition l.its_body; low = low; js_low = js_meaning.below p.program (suc n) }) → (w : World) (v : ir.Value) (x : js.Value) (vs : List ir.Value) (xs : List js.Value) (env : ir.Env) (s : ir.State) (u : js.State) → IsReceiver w m.class v x → SameValues w (types_referred m.method.params) vs xs → SameState p w s u → Sim d (Built p w env x) (ir_meaning.call low (member_of p.classes m.class m.namespace m.method) (Some v) vs env s) (top_call p (js_meaning.below p.program (suc n)) (a_constructor m) (x ∷ xs) u)
   build_alike d low n m l below w v x vs xs env s u this values same = subst (λ o. Sim d (Built p w env x) o (top_call p js_low (a_constructor m) (x ∷ xs) u)) (sym ir_is) (subst (λ o. Sim d (Built p w env x) (ir_meaning.body_call low l.definition.result (Some l.its_body) (Some v) (ir_meaning.parameters l.definition.params vs) env s) o) (sym js_is) (locals (bound p names w l.definition.params m.method.params vs xs names_declared l.parameters values)))
     where
       js_low : js_meaning.Low
@@ -117,7 +115,7 @@ module _ (p : Place) (names : NamesDiffer p) where
       is_mutable = is_mutable_in l.definition l.its_body
 
       here : Code
-      here = record { file = p.home (a_constructor m); sure = sure_locals l.its_body }
+      here = record { file = p.home (a_constructor m); owner = m.class; sure = sure_locals l.its_body }
 
       z : Setting
       z = record { place = p; code = here; direction = d; is_mutable = is_mutable; low = low; js_low = js_meaning.below p.program n }
@@ -159,7 +157,13 @@ module _ (p : Place) (names : NamesDiffer p) where
           inner = record { this_value = Some v; locals = h.locals; sure = sure_locals l.its_body }
 
           ready : Ready p here scope (λ y. ⊥) w inner sc
-          ready = record { sees = record { inside = record { file = refl; free = λ y none. free_there x outer y none ∙ parameters-free p names (names_of l.definition.params) xs names_declared y none (body-free p names z refl (constructor_body l.definition l.its_body) y none) }; this = subst (Receiving w (Some v)) (sym (receiver_here x outer)) (on_receiver v x this); sure = refl; locals = λ y t i. subst (Holding w t (h.locals y)) (sym (local_there x outer y)) (h.hold y t i) }; «open» = λ y wr. absurd wr }
+          ready = record { sees = record { inside = record { file = refl; free = λ y none. free_there x outer y none ∙ parameters-free p names (names_of l.definition.params) xs names_declared y none (body-free p names (constructor_body l.definition l.its_body) y none) }; this = subst (Receiving w m.class (Some v)) (sym (receiver_here x outer)) (on_receiver v x this); sure = refl; locals = λ y t i. subst (Holding w t (h.locals y)) (sym (local_there x outer y)) (h.hold y t i) }; «open» = λ y wr. absurd wr }
+
+          gone : result_destination l.definition.result ≡ discard
+          gone = ap result_destination l.result_is
+
+          fine : Fine p.classes is_mutable (p.has here.file) here (parameters_of l.definition.params) no_labels discard l.its_body
+          fine = subst (λ k. Fine p.classes is_mutable (p.has here.file) here (parameters_of l.definition.params) no_labels k l.its_body) gone (body-fine p.classes (p.has here.file) here.file m.class l.definition l.its_body l.rules)
 
           came : Sim d (Came p here (start is_mutable l.definition.params) scope discard w sc) (low l.its_body inner s) (run z own sc u)
-          came = subst (λ k. Sim d (Came p here (start is_mutable l.definition.params) scope discard w sc) (low l.its_body inner s) (run z (into is_mutable (sure_locals l.its_body) [] k 1 l.its_body).statements sc u)) (sym l.result_is) (below (start is_mutable l.definition.params) discard 1 l.its_body (sound-start is_mutable l.definition.params) (ahead-start is_mutable l.definition.params) (outside-start is_mutable l.definition.params (Own l.its_body) l.fresh) tt l.fine w inner s sc u ready same)
+          came = subst (λ k. Sim d (Came p here (start is_mutable l.definition.params) scope discard w sc) (low l.its_body inner s) (run z (into is_mutable (sure_locals l.its_body) [] k 1 l.its_body).statements sc u)) (sym gone) (below (start is_mutable l.definition.params) discard 1 l.its_body (sound-start is_mutable l.definition.params) (ahead-start is_mutable l.definition.params) (outside-start is_mutable l.definition.params (Own l.its_body) l.rules.once.fresh) tt fine w inner s sc u ready same)

@@ -1,5 +1,5 @@
 -- A new object of the emitted code stands for one of the IR, where the classes of its chain stand in the program.
-use Rattle.std.proofs.Common.{◌≡◌, ℕ, Bool, true, false, List, [], ◌∷◌, Option, Some, None, refl, sym, ap, ◌∙◌, subst, if◌then◌else◌}
+use Rattle.std.proofs.Common.{◌≡◌, Bool, true, false, List, [], ◌∷◌, Some, None, refl, sym, ap, ◌∙◌, subst, if◌then◌else◌, arith}
 use Rattle.std.specs.List.{list_any}
 use Rattle.std.specs.Prelude.{pos}
 use Rattle.ir_mean.specs.Dispatch.{chain_of}
@@ -10,24 +10,20 @@ use Rattle.js_tree.specs.Terms.{Name}
 use Rattle.sj_mangling.specs.Bindings.{field_binding}
 use Rattle.sj_mangling.specs.declared.bindings.FieldBinding.TheVariants.{Property}
 use Rattle.sj_names.specs.Same.{is_same_text}
-use Rattle.sj_plain.specs.Settings.{Place, IsField, FieldsDiffer, SameState, SameField, same_field, no_field, SameStored, same_object, zeroed, link_of, links_of}
-use Rattle.sj_plain.specs.Standing.{suits}
+use Rattle.sj_plain.specs.Settings.{Place, IsField, FieldsDiffer, SameState, SameField, same_field, no_field, same_object, link_of}
 use Rattle.sj_plain.specs.Worlds.{World, SameValue, same_undefined, same_null, same_boolean, same_char, same_number, same_long, same_text}
-use Rattle.sj_plain.proofs.Templates.{fits-exact}
 use Rattle.sj_trees.specs.declared.types.IrType.{IrType}
 use Rattle.sj_trees.specs.declared.types.IrType.TheVariants as Types
-use Rattle.sj_calls.specs.Chains.{ChainStands, MadeBy}
+use Rattle.sj_calls.specs.Chains.{ChainStands, MadeBy, ChainFields, BeginsAtZero}
 use Rattle.sj_calls.specs.Made.{zero_value, Makers}
 use Rattle.sj_calls.specs.Worlds.{Stands}
 use Rattle.sj_calls.proofs.Chains.{made_by}
-use Rattle.sj_calls.proofs.Zeros.{ChainFields, zeros}
-use Rattle.std.specs.Prelude.{FitsSigned, ◌<◌, ◌^◌}
-use Rattle.std.proofs.Common.{arith}
+use Rattle.sj_calls.proofs.Zeros.{zeros}
 
 -- the zero of a type of which there are values
 zero_alike : (w : World) (t : IrType) → (t ≡ Types.Nothing → ⊥) → SameValue w t (ir_world.zero_of t) (zero_value t)
 zero_alike w Types.Boolean h = record { stands = same_boolean false; suits = refl }
-zero_alike w Types.Char h = record { stands = same_char 0 (omega arith); suits = refl }
+zero_alike w Types.Char h = record { stands = same_char refl 0 (omega arith); suits = refl }
 zero_alike w Types.Byte h = record { stands = same_number (pos 0) (record { sfits = omega arith }); suits = refl }
 zero_alike w Types.Short h = record { stands = same_number (pos 0) (record { sfits = omega arith }); suits = refl }
 zero_alike w Types.Int h = record { stands = same_number (pos 0) (record { sfits = omega arith }); suits = refl }
@@ -40,11 +36,6 @@ zero_alike w (Types.Class c) h = record { stands = same_null; suits = refl }
 zero_alike w Types.Null h = record { stands = same_null; suits = refl }
 zero_alike w (Types.Array r) h = record { stands = same_null; suits = refl }
 zero_alike w Types.NoType h = record { stands = same_null; suits = refl }
-
--- a field of the IR begins at the zero of its type, of which there are values
-pub record BeginsAtZero (p : Place) (d g : Name) (t : IrType) : Type 0 where
-  pub zero : ir_world.zeros_in (ir_world.class_of p.classes d) g ≡ Some (ir_world.zero_of t)
-  pub values : t ≡ Types.Nothing → ⊥
 
 -- `new` of the class can be told in each state
 pub stands_there : (p : Place) → FieldsDiffer p → ((d g : Name) (t : IrType) → IsField p.classes d g t → BeginsAtZero p d g t) → (c : Name) (cs : List Name) (st : ChainStands p (c ∷ cs)) → ChainFields p (c ∷ cs) st → chain_of p.classes c ≡ c ∷ cs → (w : World) (s : ir.State) (u : js.State) → SameState p w s u → Stands p c w u

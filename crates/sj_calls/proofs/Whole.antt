@@ -1,7 +1,7 @@
 -- A file that has the functions of methods and calls initializers shows what these show.
 use Rattle.std.proofs.Common.{◌≡◌, ℕ, Bool, true, false, List, [], ◌∷◌, ◌++◌, ◌&&◌, map, refl, sym, ap, ◌∙◌, subst, Contains, Option, Some, None, if◌then◌else◌, slice_get, length, ◌<◌, ◌^◌, arith}
 use Rattle.std.specs.Int.{w32, w64}
-use Rattle.std.specs.Prelude.{ℤ, pos, negsuc, codes, FitsSigned}
+use Rattle.std.specs.Prelude.{ℤ, pos, negsuc, codes, FitsSigned, nat_lt}
 use Rattle.std.specs.List.{list_all}
 use Rattle.std.proofs.lemmas.Bool.{and_parts}
 use Rattle.std.proofs.lemmas.List.Elements.{Contains-append_left, Contains-append_right, Contains-push}
@@ -29,33 +29,21 @@ use Rattle.sj_emit_expr.specs.Templates.{member_name, parameter_names}
 use Rattle.sj_names.specs.declared.entry_points.EntryPoint.{EntryPoint}
 use Rattle.sj_names.specs.declared.method_names.Member.{Member}
 use Rattle.sj_plain.specs.Settings.{some_constants, links_of, SameStored, same_object, a_method, a_constructor, a_helper, Place, Top, a_function, a_class, top_name, is_usable, TopHolds, SameHeap, SameState, Valued, valued, thrown, NamesDiffer}
-use Rattle.sj_plain.specs.Worlds.{World, nothing_made, Stands, same_undefined, same_null, same_boolean, same_char, same_number, same_long, same_text, same_reference, no_values}
+use Rattle.sj_plain.specs.Worlds.{World, nothing_made, Stands, same_undefined, same_null, same_boolean, same_char, same_box, IsBox, same_number, same_long, same_text, same_reference, no_values}
 use Rattle.sj_plain.specs.Standing.{suits}
 use Rattle.sj_names.proofs.Same.{impossible}
 use Rattle.sj_trees.specs.declared.types.IrType.TheVariants.{Any, NoType}
-<<<<<<< HEAD
 use Rattle.body_rules.proofs.Equal.{equals}
 use Rattle.sj_proper.specs.Emitted.{EmittedMethod, function_item_of, initializer_member, call_item_of, module_with}
 use Rattle.sj_calls.specs.Files.{program_with, IsEmitted, HasFunction}
-use Rattle.sj_calls.specs.Methods.{parameters_in, function_of, Linked, ir_call, js_call}
-=======
-use Rattle.sj_bodies.proofs.Contexts.{equals}
-use Rattle.sj_calls.specs.Files.{EmittedMethod, function_item_of, initializer_member, call_item_of, module_with, program_with, IsEmitted, HasFunction}
 use Rattle.sj_calls.specs.Methods.{CallsAlone, parameters_in, function_of, Linked, ir_call, js_call}
->>>>>>> 6a46694
 use Rattle.sj_calls.specs.Names.{emitted_in}
 use Rattle.sj_calls.proofs.Items.{code_with, code_found, cell_found}
 use Rattle.body_rules.proofs.InWorld.{in_world}
 use Rattle.sj_calls.proofs.Levels.{calls_agree}
-use Rattle.sj_world.specs.Laws.{IsTopped}
+use Rattle.sj_world.specs.Laws.{IsPlain}
 use Rattle.sj_calls.proofs.Names.{emitted_names_differ}
-<<<<<<< HEAD
-use Rattle.built_forms.specs.Built.{Usable}
-=======
-use Rattle.sj_plain.specs.Conditions.{Usable}
-use Rattle.built_forms.specs.Built.{members_alone}
-use Rattle.sj_names.specs.declared.method_names.Member.{Member}
->>>>>>> 6a46694
+use Rattle.built_forms.specs.Built.{Usable, members_alone}
 
 -- a program of one file, and what is found in it
 abbrev alone : Name → Module → js.Program
@@ -111,11 +99,38 @@ stored_alike p q d w s u heaps _ _ (same_object c fields properties told fs) = s
     is : js_showing.object_shown (js_showing.class_shown (js_showing.marker_in q u (js_objects.stored_property q (Some (js.plain ls properties)) (codes "k")))) char ≡ Some (shown.object_of c)
     is = ap (λ m. js_showing.object_shown (js_showing.class_shown m) char) marker_is ∙ told.known char
 
-uncaught_alike : (place : Place) (p : js.Program) (d : Direction) (w : World) (v : ir.Value) (x : js.Value) (s : ir.State) (u : js.State) → SameState place w s u → Stands w v x → suits Any v ≡ true → Sim d ◌≡◌ (ir_showing.uncaught_or_wrong (ir_showing.thrown s v)) (js_showing.uncaught_or_wrong (js_showing.thrown p u x))
+-- an object that holds a char is shown as the char
+char_below : (n : ℕ) → n < 2 ^ 16 → nat_lt n (2 ^ 16) ≡ true
+char_below n h = grind arith
+
+box_alike : (p : Place) (q : js.Program) (d : Direction) (w : World) (s : List ir.Stored) (u : js.State) (n a : ℕ) → SameHeap p w s u.heap → n < 2 ^ 16 → IsBox w n a → Sim d ◌≡◌ (done (uncaught (shown.char n))) (js_showing.uncaught_or_wrong (js_showing.thrown q u (js.object a)))
+box_alike p q d w s u n a heaps below box = subst (λ o. Sim d ◌≡◌ (done (uncaught (shown.char n))) (js_showing.uncaught_or_wrong o)) (sym is) (sim_done d ◌≡◌ (uncaught (shown.char n)) (uncaught (shown.char n)) refl)
+  where
+    by_stored : Option js.Stored → Option shown.Thrown
+    by_stored o = js_showing.object_shown (js_showing.class_shown (js_showing.marker_in q u (js_objects.stored_property q o (codes "k")))) (js_objects.stored_property q o (codes "c"))
+
+    -- a property of the object itself
+    own : Option js.Value → Name → Option js.Value
+    own v x = js_objects.value_on (js_objects.or_value v (js_objects.method_on q box.links x)) x
+
+    by_constants : Option js.Stored → Option js.Value
+    by_constants o = js_objects.stored_property q o (codes "s")
+
+    by_marker : Option js.Value → Option js.Value
+    by_marker m = js_objects.value_on (js_objects.or_value m (js_objects.method_on q [] (codes "s"))) (codes "s")
+
+    marker_is : js_showing.marker_in q u (own (box.properties (codes "k")) (codes "k")) ≡ Some (js.text (class_binding Marker (codes "java.lang.Character")))
+    marker_is = ap (λ v. js_showing.marker_in q u (own v (codes "k"))) box.held ∙ ap by_constants (heaps.owned box.address (js.plain [] box.constants) box.constants_owned) ∙ ap by_marker box.marked
+
+    is : js_showing.thrown q u (js.object a) ≡ Some (shown.char n)
+    is = ap by_stored (heaps.owned a (js.plain box.links box.properties) box.owned) ∙ ap (λ m. js_showing.object_shown (js_showing.class_shown m) (own (box.properties (codes "c")) (codes "c"))) marker_is ∙ ap (λ v. js_showing.char_shown (own v (codes "c"))) box.char ∙ ap (λ (t : Bool). if t then Some (shown.char n) else None) (char_below n below)
+
+uncaught_alike : (place : Place) (p : js.Program) (d : Direction) (w : World) (v : ir.Value) (x : js.Value) (s : ir.State) (u : js.State) → SameState place w s u → Stands w false v x → suits Any v ≡ true → Sim d ◌≡◌ (ir_showing.uncaught_or_wrong (ir_showing.thrown s v)) (js_showing.uncaught_or_wrong (js_showing.thrown p u x))
 uncaught_alike place p d w _ _ s u same same_undefined h = sim_done d ◌≡◌ (uncaught shown.undefined) (uncaught shown.undefined) refl
 uncaught_alike place p d w _ _ s u same same_null h = sim_done d ◌≡◌ (uncaught shown.null) (uncaught shown.null) refl
 uncaught_alike place p d w _ _ s u same (same_boolean b) h = sim_done d ◌≡◌ (uncaught (shown.boolean b)) (uncaught (shown.boolean b)) refl
-uncaught_alike place p d w _ _ s u same (same_char n f) h = impossible h
+uncaught_alike place p d w _ _ s u same (same_char r n f) h = impossible r
+uncaught_alike place p d w _ _ s u same (same_box r n a f b) h = box_alike place p d w s.heap u n a same.heaps f b
 uncaught_alike place p d w _ _ s u same (same_number n f) h = subst (λ (b : Bool). Sim d ◌≡◌ (done (uncaught (shown.number n))) (js_showing.uncaught_or_wrong (if b then Some (shown.number n) else None))) (sym (number_shown n f)) (sim_done d ◌≡◌ (uncaught (shown.number n)) (uncaught (shown.number n)) refl)
 uncaught_alike place p d w _ _ s u same (same_long n f) h = subst (λ (b : Bool). Sim d ◌≡◌ (done (uncaught (shown.long n))) (js_showing.uncaught_or_wrong (if b then Some (shown.long n) else None))) (sym (long_shown n f)) (sim_done d ◌≡◌ (uncaught (shown.long n)) (uncaught (shown.long n)) refl)
 uncaught_alike place p d w _ _ s u same (same_text us) h = sim_done d ◌≡◌ (uncaught (shown.text us)) (uncaught (shown.text us)) refl
@@ -180,7 +195,7 @@ module _ (w : ir_world.World) (id : List ℕ) (fs : List EmittedMethod) (es : Li
       distinct : are_distinct (item_names (map function_item_of fs ++ map call_item_of es)) ≡ true
       distinct = (and_parts names true (and_parts (names && true) true (and_parts (names && true && true) (list_all is_proper_item (map function_item_of fs ++ map call_item_of es)) proper).0).0).0
 
-  module _ (topped : IsTopped w) (proper : is_proper_module (module_with fs es) ≡ true) (emitted : (e : EmittedMethod) → Contains fs e → IsEmitted w has e) (functions : (m : Member) → has.linked m ≡ true → HasFunction fs m) where
+  module _ (plain : IsPlain w) (proper : is_proper_module (module_with fs es) ≡ true) (emitted : (e : EmittedMethod) → Contains fs e → IsEmitted w has e) (functions : (m : Member) → has.linked m ≡ true → HasFunction fs m) where
     linked : (m : Member) → has.linked m ≡ true → Linked place m
     linked m l = let h = functions m l in subst (Linked place) h.is (linked_by proper h.method h.listed (emitted h.method h.listed))
 
@@ -215,13 +230,8 @@ module _ (w : ir_world.World) (id : List ℕ) (fs : List EmittedMethod) (es : Li
         called cell = then_do (js_meaning.cell_value cell u) (js.with_value (λ g. js_meaning.in_order [] (js_meaning.call program (js_meaning.below program k) g) (js_meaning.top_scope program file)))
 
     item_alike : (d : Direction) (n k : ℕ) → Enough place.room 0 d n k → (e : EntryPoint) → has.linked (initializer_member e) ≡ true → (y : World) (s : ir.State) (u : js.State) → SameState place y s u → Sim d (Valued place y ir_showing.outside NoType) (ir_call place (initializer_member e) [] ir_showing.outside s n) (item_run e k u)
-<<<<<<< HEAD
-    item_alike forward n k h e l y s u same = subst (λ o. Sim forward (Valued place y ir_showing.outside NoType) (ir_call place (initializer_member e) [] ir_showing.outside s n) o) (sym (item_is e k y s u l same)) ((calls_agree place (in_world w topped) names (λ f m l. linked m l) file (initializer_member e) l y [] [] ir_showing.outside s u no_values same).there n k h)
-    item_alike backward n k h e l y s u same = subst (λ o. Sim backward (Valued place y ir_showing.outside NoType) (ir_call place (initializer_member e) [] ir_showing.outside s n) o) (sym (item_is e k y s u l same)) ((calls_agree place (in_world w topped) names (λ f m l. linked m l) file (initializer_member e) l y [] [] ir_showing.outside s u no_values same).back n k h)
-=======
-    item_alike forward n k h e l y s u same = subst (λ o. Sim forward (Valued place y ir_showing.outside NoType) (ir_call place (initializer_member e) [] ir_showing.outside s n) o) (sym (item_is e k y s u l same)) ((calls_agree place names (λ f m l. linked m l) no_objects file (initializer_member e) l y [] [] ir_showing.outside s u no_values same).there n k h)
-    item_alike backward n k h e l y s u same = subst (λ o. Sim backward (Valued place y ir_showing.outside NoType) (ir_call place (initializer_member e) [] ir_showing.outside s n) o) (sym (item_is e k y s u l same)) ((calls_agree place names (λ f m l. linked m l) no_objects file (initializer_member e) l y [] [] ir_showing.outside s u no_values same).back n k h)
->>>>>>> 6a46694
+    item_alike forward n k h e l y s u same = subst (λ o. Sim forward (Valued place y ir_showing.outside NoType) (ir_call place (initializer_member e) [] ir_showing.outside s n) o) (sym (item_is e k y s u l same)) ((calls_agree place (in_world w plain) names (λ f m l. linked m l) no_objects file (initializer_member e) l y [] [] ir_showing.outside s u no_values same).there n k h)
+    item_alike backward n k h e l y s u same = subst (λ o. Sim backward (Valued place y ir_showing.outside NoType) (ir_call place (initializer_member e) [] ir_showing.outside s n) o) (sym (item_is e k y s u l same)) ((calls_agree place (in_world w plain) names (λ f m l. linked m l) no_objects file (initializer_member e) l y [] [] ir_showing.outside s u no_values same).back n k h)
 
     -- the end of the file
     abbrev ended : ℕ → Out js.ExpressionEnd → Shown
@@ -263,10 +273,5 @@ module _ (w : ir_world.World) (id : List ℕ) (fs : List EmittedMethod) (es : Li
     pub shows_alike : ((e : EntryPoint) → Contains es e → has.linked (initializer_member e) ≡ true) → (d : Direction) (n k : ℕ) → Enough place.room 0 d n k → Sim d ◌≡◌ (ir_showing.all_show w n es (ir_world.opening w)) (js_showing.js_shows program id k)
     shows_alike all d n k h = subst (λ o. Sim d ◌≡◌ (ir_showing.all_show w n es (ir_world.opening w)) o) (sym (js_is k)) (calls_alike d n k h es all nothing_made (ir_world.opening w) (js_meaning.opening program) opening_same)
 
-<<<<<<< HEAD
-pub file_agrees : (w : ir_world.World) → IsTopped w → (entries : List EntryPoint) (id : List ℕ) (fs : List EmittedMethod) (has : Usable) → is_proper_module (module_with fs (ir_showing.initializers entries id)) ≡ true → ((e : EmittedMethod) → Contains fs e → IsEmitted w has e) → ((m : Member) → has.linked m ≡ true → HasFunction fs m) → ((e : EntryPoint) → Contains (ir_showing.initializers entries id) e → has.linked (initializer_member e) ≡ true) → ((n : ℕ) → IsNotWrong (ir_showing.ir_shows w entries id n).end) → Agree (ir_showing.ir_shows w entries id) (js_showing.js_shows (program_with id fs (ir_showing.initializers entries id)) id)
-file_agrees w topped entries id fs has proper emitted functions all right = agree-from_sim no_room (ir_showing.ir_shows w entries id) (js_showing.js_shows (program_with id fs (ir_showing.initializers entries id)) id) (shows_alike w id fs (ir_showing.initializers entries id) has topped proper emitted functions all) right
-=======
-pub file_agrees : (w : ir_world.World) (entries : List EntryPoint) (id : List ℕ) (fs : List EmittedMethod) (linked_here : Member → Bool) → is_proper_module (module_with fs (ir_showing.initializers entries id)) ≡ true → ((e : EmittedMethod) → Contains fs e → IsEmitted w (members_alone linked_here) e) → ((m : Member) → linked_here m ≡ true → HasFunction fs m) → ((e : EntryPoint) → Contains (ir_showing.initializers entries id) e → linked_here (initializer_member e) ≡ true) → ((n : ℕ) → IsNotWrong (ir_showing.ir_shows w entries id n).end) → Agree (ir_showing.ir_shows w entries id) (js_showing.js_shows (program_with id fs (ir_showing.initializers entries id)) id)
-file_agrees w entries id fs linked_here proper emitted functions all right = agree-from_sim no_room (ir_showing.ir_shows w entries id) (js_showing.js_shows (program_with id fs (ir_showing.initializers entries id)) id) (shows_alike w id fs (ir_showing.initializers entries id) linked_here proper emitted functions all) right
->>>>>>> 6a46694
+pub file_agrees : (w : ir_world.World) → IsPlain w → (entries : List EntryPoint) (id : List ℕ) (fs : List EmittedMethod) (linked_here : Member → Bool) → is_proper_module (module_with fs (ir_showing.initializers entries id)) ≡ true → ((e : EmittedMethod) → Contains fs e → IsEmitted w (members_alone linked_here) e) → ((m : Member) → linked_here m ≡ true → HasFunction fs m) → ((e : EntryPoint) → Contains (ir_showing.initializers entries id) e → linked_here (initializer_member e) ≡ true) → ((n : ℕ) → IsNotWrong (ir_showing.ir_shows w entries id n).end) → Agree (ir_showing.ir_shows w entries id) (js_showing.js_shows (program_with id fs (ir_showing.initializers entries id)) id)
+file_agrees w plain entries id fs linked_here proper emitted functions all right = agree-from_sim no_room (ir_showing.ir_shows w entries id) (js_showing.js_shows (program_with id fs (ir_showing.initializers entries id)) id) (shows_alike w id fs (ir_showing.initializers entries id) linked_here plain proper emitted functions all) right

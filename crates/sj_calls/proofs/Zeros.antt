@@ -1,8 +1,7 @@
 -- The properties of a new object: each field of each class of its chain at the zero of its type.
-use Rattle.std.proofs.Common.{◌≡◌, ℕ, Bool, true, false, List, [], ◌∷◌, ◌&&◌, Option, Some, None, refl, sym, ap, ◌∙◌, subst, ◌⊎◌, inl, inr, ⊎_elim, if◌then◌else◌}
-use Rattle.std.specs.Prelude.{codes, ◌||◌, nat_eq}
+use Rattle.std.proofs.Common.{◌≡◌, Bool, true, false, List, [], ◌∷◌, ◌&&◌, Option, Some, refl, sym, ap, ◌∙◌, subst, ◌⊎◌, inl, inr, if◌then◌else◌}
+use Rattle.std.specs.Prelude.{◌||◌}
 use Rattle.std.specs.List.{list_any}
-use Rattle.std.specs.Cmp.Lexicographic.{pointwise}
 use Rattle.std.proofs.lemmas.Slice.Eq.{bytes_eq-Decides}
 use Rattle.ir_mean.specs.States as ir
 use Rattle.js_mean.specs.Objects.{with_property}
@@ -16,23 +15,9 @@ use Rattle.sj_plain.specs.Settings.{Place, IsField, FieldsDiffer, SameState}
 use Rattle.sj_plain.specs.Worlds.{World}
 use Rattle.sj_trees.specs.declared.classes.FieldDef.{FieldDef}
 use Rattle.sj_trees.specs.declared.types.IrType.{IrType}
-use Rattle.sj_calls.specs.Chains.{ClassStands, ChainStands, extends_none, extends_one, MadeBy}
-use Rattle.sj_calls.specs.Made.{zero_value, with_fields, started}
+use Rattle.sj_calls.specs.Chains.{ChainStands, extends_none, extends_one, AllFields, HasAmong, ChainFields}
+use Rattle.sj_calls.specs.Made.{zero_value, with_fields}
 use Rattle.sj_calls.proofs.Chains.{made_by}
-
--- each of these is a field of the class, and a field of this name and type is among them
-abbrev pub AllFields : Place → Name → List FieldDef → Type 0
-AllFields p c [] = Unit {0}
-AllFields p c (f ∷ fs) = IsField p.classes c f.name f.tpe × AllFields p c fs
-
-abbrev pub HasAmong : List FieldDef → Name → IrType → Type 0
-HasAmong [] g t = ⊥
-HasAmong (f ∷ fs) g t = ((f.name ≡ g) × (f.tpe ≡ t)) ⊎ HasAmong fs g t
-
--- the fields of each class of a chain are those that its constructor sets
-abbrev pub ChainFields : (p : Place) (cs : List Name) → ChainStands p cs → Type 0
-ChainFields p _ (extends_none c fields st) = AllFields p c fields × ((g : Name) (t : IrType) → IsField p.classes c g t → HasAmong fields g t)
-ChainFields p _ (extends_one c d ds fields st rest) = AllFields p c fields × ((g : Name) (t : IrType) → IsField p.classes c g t → HasAmong fields g t) × ChainFields p (d ∷ ds) rest
 
 same : (a : Name) → is_same_text a a ≡ true
 same a = (bytes_eq-Decides a a).1 refl

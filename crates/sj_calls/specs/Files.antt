@@ -21,7 +21,7 @@ pub record IsEmitted (w : World) (has : Usable) (e : EmittedMethod) : Type 0 whe
   pub has_body : e.definition.body ≡ Some e.its_body
   pub parameters : HaveTypes e.definition.params e.member.method.params
   pub result_is : e.definition.result ≡ call_type e.member.method.result
-  pub rules : KeepsRules w has e.definition e.its_body
+  pub rules : KeepsRules w has e.member.class e.definition e.its_body
 
 -- one of these methods is that of the member
 pub record HasFunction (fs : List EmittedMethod) (m : Member) : Type 0 where

@@ -1,7 +1,5 @@
 -- Helpers that fail: what each does, and its function.
 use Rattle.std.specs.Prelude.{◌≡◌, ℕ, List, [], ◌∷◌, Some, codes}
-use Rattle.outcomes.specs.Agreement.{Sim}
-use Rattle.ir_mean.specs.Meaning as ir_meaning
 use Rattle.ir_mean.specs.States as ir
 use Rattle.js_mean.specs.Meaning as js_meaning
 use Rattle.js_mean.specs.States as js
@@ -9,11 +7,10 @@ use Rattle.js_tree.specs.Terms.{throw_of, return_of, text_literal}
 use Rattle.js_tree.specs.Views.{statements_of}
 use Rattle.helper_rules.specs.Helpers.{raise, when, does, calls, helper_name}
 use Rattle.helper_rules.specs.Words.{x, is_null}
-use Rattle.helper_rules.specs.declared.kinds.Failure.{Failure}
 use Rattle.helper_rules.specs.declared.kinds.Failure.TheVariants.{NullReceiver}
 use Rattle.helper_rules.specs.declared.kinds.Helper.{Helper}
-use Rattle.helper_rules.specs.declared.kinds.Helper.TheVariants.{NotNull, Throws}
-use Rattle.sj_plain.specs.Settings.{Place, a_helper, top_call, SameState, Setting}
+use Rattle.helper_rules.specs.declared.kinds.Helper.TheVariants.{Throws}
+use Rattle.sj_plain.specs.Settings.{Place, a_helper, SameState}
 use Rattle.sj_plain.specs.Worlds.{World, Grows, SameValue}
 use Rattle.sj_trees.specs.declared.types.IrType.TheVariants.{Any}
 

@@ -1,13 +1,13 @@
 -- `new` of a class makes an object with the fields of its chain.
-use Rattle.std.specs.Prelude.{◌≡◌, ℕ, suc, ◌+◌, ◌<◌, Bool, false, List, [], ◌∷◌, length, map, pos, Option, Some, None, codes}
+use Rattle.std.specs.Prelude.{◌≡◌, ℕ, ◌+◌, ◌<◌, Bool, false, List, [], ◌∷◌, length, map, pos, Option, Some, None, codes}
 use Rattle.js_tree.specs.Terms.{Name, Member, constructor_of}
 use Rattle.js_tree.specs.Views.{statements_of}
-use Rattle.outcomes.specs.Outcome.{Out, done, going}
+use Rattle.outcomes.specs.Outcome.{done, going}
 use Rattle.js_mean.specs.Classes.{members_of}
 use Rattle.js_mean.specs.Files.{owner}
 use Rattle.js_mean.specs.Meaning.{below, top_cell, construct}
 use Rattle.js_mean.specs.Objects.{no_properties, with_property, allocated, next_address}
-use Rattle.js_mean.specs.States.{Value, undefined, null, boolean, number, big_int, text, object, ClassLink, Cell, holds, State, ExpressionEnd, gives, Program}
+use Rattle.js_mean.specs.States.{Value, undefined, null, boolean, number, big_int, text, object, ClassLink, holds, State, gives, Program}
 use Rattle.piece_rules.specs.Pieces.{constructor_body}
 use Rattle.helper_rules.specs.Words.{class_name, constants_name}
 use Rattle.sj_mangling.specs.Bindings.{field_binding}

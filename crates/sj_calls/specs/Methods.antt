@@ -20,15 +20,7 @@ pub use Rattle.body_rules.specs.Locals.{IsParameter}
 use Rattle.sj_proper.specs.Methods.{KeepsRules, HaveTypes}
 use Rattle.sj_plain.specs.Settings.{Place, a_function, function_call, Reaches, Valued}
 use Rattle.sj_plain.specs.Worlds.{World}
-<<<<<<< HEAD
 use Rattle.body_rules.specs.Standing.{call_type}
-=======
-use Rattle.sj_plain.specs.Conditions.{Usable}
-use Rattle.sj_plain.specs.Standing.{call_type}
-use Rattle.sj_names.specs.declared.references.TypeRef.{TypeRef}
-use Rattle.sj_trees.specs.Types.{reference_type}
-use Rattle.sure_receivers.specs.Sure.{sure_locals}
->>>>>>> 6a46694
 
 -- the parameters of a function
 abbrev pub parameters_in : Place → List (List ℕ) → List Name
@@ -39,24 +31,8 @@ parameters_in p (x ∷ xs) = p.name (named x) ∷ parameters_in p xs
 abbrev pub function_of : Place → MethodDef → Term → js_meaning.Code
 function_of p d e = record { parameters = parameters_in p (desugared d e).params; body = statement_templates p.name p.label (desugared d e).body }
 
-<<<<<<< HEAD
 -- a member of the classes with the types that its name tells and a body that keeps the rules by what the code of its file can use, whose function stands
 -- in that file; and what can be used there is reached there
-=======
--- the types of parameters are those of the references in the name
-abbrev pub HaveTypes : List ParamDef → List TypeRef → Type 0
-HaveTypes [] [] = Unit {0}
-HaveTypes (d ∷ ds) (r ∷ rs) = (d.tpe ≡ reference_type r) × HaveTypes ds rs
-HaveTypes _ _ = ⊥
-
--- the body is fine where it brings its value out of the method, with the parameters in scope, and it defines no parameter again
-pub record FineMethod (w : Classes) (has : Usable) (d : MethodDef) (e : Term) : Type 0 where
-  pub fine : Fine w (is_mutable_in d e) has (sure_locals e) (parameters_of d.params) no_labels (result_destination d.result) e
-  pub fresh : (x : List ℕ) → Own e x → IsParameter d.params x → ⊥
-
--- a member of the classes with the types that its name tells and a body that is fine by what the code of its file can use, whose function stands in that
--- file; and what can be used there is reached there
->>>>>>> 6a46694
 pub record Linked (p : Place) (m : Member) : Type 0 where
   pub definition : MethodDef
   pub its_body : Term
@@ -65,7 +41,7 @@ pub record Linked (p : Place) (m : Member) : Type 0 where
   pub parameters : HaveTypes definition.params m.method.params
   pub result_is : definition.result ≡ call_type m.method.result
   pub emitted : js_meaning.code_of p.program (p.home (a_function m)) (member_name m) ≡ Some (function_of p definition its_body)
-  pub rules : KeepsRules p.classes (p.has (p.home (a_function m))) definition its_body
+  pub rules : KeepsRules p.classes (p.has (p.home (a_function m))) m.class definition its_body
   pub reaches : Reaches p (p.home (a_function m))
 
 -- a call of a member by the IR, and a call of its function, with a bound on what its body does

@@ -1,21 +1,18 @@
 -- Members that run on receivers, and constructors: what is asked of each, so that a call of it and of its function are alike.
-use Rattle.std.specs.Prelude.{◌≡◌, ℕ, List, ◌∷◌, Some, None}
+use Rattle.std.specs.Prelude.{◌≡◌, ◌∷◌, Some, None}
 use Rattle.ir_mean.specs.World.{member_of}
 use Rattle.js_mean.specs.Meaning as js_meaning
 use Rattle.sj_core.specs.Terms as core
-use Rattle.sj_desugar.specs.Desugar.{desugared_member, is_mutable_in, names_of, result_destination, body_code}
-use Rattle.sj_desugar.specs.Spill.{discard}
+use Rattle.sj_desugar.specs.Desugar.{is_mutable_in, names_of, body_code}
 use Rattle.sj_emit_expr.specs.Templates.{member_name, statement_templates}
 use Rattle.sj_names.specs.declared.method_names.Member.{Member}
-use Rattle.sj_names.specs.declared.method_names.Namespace.TheVariants.{Constructor}
 use Rattle.sj_trees.specs.Term.{Term}
 use Rattle.sj_trees.specs.declared.classes.MethodDef.{MethodDef}
-use Rattle.sj_bodies.specs.Fine.{Fine, no_labels}
-use Rattle.sj_bodies.specs.Locals.{Own, IsParameter}
-use Rattle.sj_plain.specs.Settings.{Place, Top, top_name, a_method, a_constructor, Reaches}
-use Rattle.sj_plain.specs.Standing.{call_type}
-use Rattle.sj_calls.specs.Methods.{parameters_in, parameters_of, HaveTypes, FineMethod}
-use Rattle.sure_receivers.specs.Sure.{sure_locals}
+use Rattle.sj_proper.specs.Methods.{HaveTypes, KeepsRules}
+use Rattle.sj_plain.specs.Settings.{Place, a_method, a_constructor, Reaches}
+use Rattle.body_rules.specs.Standing.{call_type}
+use Rattle.sj_calls.specs.Methods.{parameters_in}
+use Rattle.sj_trees.specs.declared.types.IrType.TheVariants.{NoType}
 
 -- the emitted function of a method that runs on a receiver, with this body: the receiver is its first parameter
 abbrev pub function_on : Place → MethodDef → core.Statements → js_meaning.Code
@@ -28,7 +25,7 @@ body_of d e = body_code (is_mutable_in d e) d.result e
 abbrev pub constructor_body : MethodDef → Term → core.Statements
 constructor_body d e = core.followed (body_code (is_mutable_in d e) d.result e) (core.statement (core.return_of None (core.variable_use core.receiver)) core.no_statements)
 
--- a member that runs on a receiver, with a body that is fine, whose function stands in its file
+-- a member that runs on a receiver, with a body that keeps the rules, whose function stands in its file
 pub record RunsOn (p : Place) (m : Member) : Type 0 where
   pub definition : MethodDef
   pub its_body : Term
@@ -37,7 +34,7 @@ pub record RunsOn (p : Place) (m : Member) : Type 0 where
   pub parameters : HaveTypes definition.params m.method.params
   pub result_is : definition.result ≡ call_type m.method.result
   pub emitted : js_meaning.code_of p.program (p.home (a_method m)) (member_name m) ≡ Some (function_on p definition (body_of definition its_body))
-  pub fine : FineMethod p.classes (p.has (p.home (a_method m))) definition its_body
+  pub rules : KeepsRules p.classes (p.has (p.home (a_method m))) m.class definition its_body
   pub reaches : Reaches p (p.home (a_method m))
 
 -- a constructor: its body's value is given up
@@ -47,8 +44,7 @@ pub record Constructs (p : Place) (m : Member) : Type 0 where
   pub found : member_of p.classes m.class m.namespace m.method ≡ Some definition
   pub has_body : definition.body ≡ Some its_body
   pub parameters : HaveTypes definition.params m.method.params
-  pub result_is : result_destination definition.result ≡ discard
+  pub result_is : definition.result ≡ NoType
   pub emitted : js_meaning.code_of p.program (p.home (a_constructor m)) (member_name m) ≡ Some (function_on p definition (constructor_body definition its_body))
-  pub fine : Fine p.classes (is_mutable_in definition its_body) (p.has (p.home (a_constructor m))) (sure_locals its_body) (parameters_of definition.params) no_labels discard its_body
-  pub fresh : (x : List ℕ) → Own its_body x → IsParameter definition.params x → ⊥
+  pub rules : KeepsRules p.classes (p.has (p.home (a_constructor m))) m.class definition its_body
   pub reaches : Reaches p (p.home (a_constructor m))

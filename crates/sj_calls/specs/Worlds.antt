@@ -15,7 +15,9 @@ use Rattle.sj_names.specs.declared.method_names.Member.{Member}
 use Rattle.sj_names.specs.declared.method_names.Namespace.TheVariants.{Constructor}
 use Rattle.sj_trees.specs.declared.types.IrType.{IrType}
 use Rattle.sj_plain.specs.Settings.{Place, SameState, SameStored, HasField, Reaches, a_helper, top_function, link_of, links_of, zeroed}
+use Rattle.body_rules.specs.Standing.{is_bare}
 use Rattle.sj_plain.specs.Worlds.{World}
+use Rattle.sj_trees.specs.Types.{class_type}
 use Rattle.sj_calls.specs.Helpers.{HelperStands, failing_code, checking_code}
 use Rattle.sj_calls.specs.Made.{Makers}
 use Rattle.sj_calls.specs.Methods.{Linked}
@@ -42,12 +44,13 @@ pub record CanCheck (p : Place) : Type 0 where
   pub built : (p.has (p.home (a_helper (Throws NullReceiver)))).built (member (codes "java.lang.NullPointerException") Constructor with_message) ≡ true
   pub made : (p.has (p.home (a_helper (Throws NullReceiver)))).made (codes "java.lang.NullPointerException") ≡ true
 
--- what the code of any file can use is there; and around a call there are two units for a helper, and one beyond those of the IR
+-- what the code of any file can use is there; an object stands at its class; and around a call there are two units for a helper, and one beyond those of the IR
 pub record HasObjects (p : Place) : Type 0 where
   pub linked : (f : Name) (m : Member) → (p.has f).linked m ≡ true → Linked p m
   pub received : (f : Name) (m : Member) → (p.has f).received m ≡ true → RunsOn p m
   pub built : (f : Name) (m : Member) → (p.has f).built m ≡ true → Constructs p m
   pub made : (f : Name) (c : List ℕ) → (p.has f).made c ≡ true → IsMade p c
+  pub objects : (f : Name) (c : List ℕ) → (p.has f).made c ≡ true → is_bare (class_type c) ≡ false
   pub field : (f : Name) (c g : List ℕ) (t : IrType) → (p.has f).field c g t ≡ true → HasField p c g t
   pub checked : (f : Name) → (p.has f).helper check_name ≡ true → CanCheck p
   pub each : 2 ≤ p.room.each

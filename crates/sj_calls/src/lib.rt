@@ -5,13 +5,10 @@
 //! their clauses are theorems.
 #![tactic(auto)]
 
-<<<<<<< HEAD
-ghost use Rattle.std.specs.Prelude.{◌≡◌, ℕ, true, List};
-=======
-ghost use Rattle.std.specs.Prelude.{◌≡◌, ℕ, Bool, true, List, Some};
->>>>>>> 6a46694
+ghost use Rattle.std.specs.Prelude.{◌≡◌, ℕ, Bool, true, List, ◌∷◌};
 ghost use Rattle.std.specs.List.{Contains};
 ghost use Rattle.outcomes.specs.Agreement.{IsNotWrong, Agree, Room};
+ghost use Rattle.ir_mean.specs.Dispatch.{chain_of};
 ghost use Rattle.ir_mean.specs.Shows.{initializers, ir_shows};
 ghost use Rattle.ir_mean.specs.States as ir;
 ghost use Rattle.ir_mean.specs.World as ir_world;
@@ -22,36 +19,45 @@ ghost use Rattle.js_tree.specs.Terms.{Name};
 ghost use Rattle.sj_names.specs.declared.entry_points.EntryPoint.{EntryPoint};
 ghost use Rattle.sj_names.specs.declared.method_names.Member.{Member};
 ghost use Rattle.body_rules.specs.Standing.{types_referred};
-ghost use Rattle.sj_world.specs.Laws.{IsTopped};
-ghost use Rattle.sj_plain.specs.Settings.{Place, Top, SameState, NamesDiffer};
+ghost use Rattle.sj_world.specs.Laws.{IsPlain};
+ghost use Rattle.sj_plain.specs.Settings.{Place, Top, IsField, FieldsDiffer, SameState, NamesDiffer};
 ghost use Rattle.sj_plain.specs.Worlds.{World, SameValues};
-<<<<<<< HEAD
 ghost use Rattle.sj_proper.specs.Emitted.{EmittedMethod, initializer_member, module_with};
+ghost use Rattle.sj_trees.specs.declared.types.IrType.{IrType};
+ghost use Rattle.sj_calls.specs.Chains.{ChainStands, ChainFields, BeginsAtZero};
 ghost use Rattle.sj_calls.specs.Files.{program_with, IsEmitted, HasFunction};
-ghost use Rattle.sj_calls.specs.Methods.{Linked, CallsAgree};
+ghost use Rattle.sj_calls.specs.Methods.{CallsAlone, Linked, CallsAgree};
+ghost use Rattle.sj_calls.specs.Made.{ChainsMake, ShortBoundsGo};
 ghost use Rattle.sj_calls.specs.Names.{emitted_in};
-ghost use Rattle.built_forms.specs.Built.{Usable};
+ghost use Rattle.sj_calls.specs.Worlds.{HasObjects, Stands};
+ghost use Rattle.built_forms.specs.Built.{Usable, members_alone};
 
 /// The theorem on calls, for any names of variables and labels that differ and any files of functions: let each member that the code of a file can use
 /// be a method of the classes with the types that its name tells, whose body keeps the rules by what the code of its own file can use and reaches by name there, and whose emitted function
-/// stands in that file; and let nothing stand above `java.lang.Object`. Then a call of such a member by the IR and a call of its function agree where the arguments, of the types that the name tells, and the states stand for each
+/// stands in that file; let no code make objects or use them, let no class write a hijacked class, and let none stand above `java.lang.Object`. Then a call of such a member by the IR and a call of its function agree where the arguments, of the types that the name tells, and the states stand for each
 /// other: what the one shows within a bound, the other shows within each bound that is enough for it by the room of the place, and with no room within each that isn't less.
 pub fn calls_agree()
-    ensures { (p : Place) → IsTopped p.classes → NamesDiffer p → ((f : Name) (m : Member) → (p.has f).linked m ≡ true → Linked p m) → (f : Name) (m : Member) → (p.has f).linked m ≡ true → (w : World) (vs : List ir.Value) (xs : List js.Value) (env : ir.Env) (s : ir.State) (u : js.State) → SameValues w (types_referred m.method.params) vs xs → SameState p w s u → CallsAgree p m w vs xs env s u }
-=======
-ghost use Rattle.sj_calls.specs.Files.{EmittedMethod, initializer_member, module_with, program_with, IsEmitted, HasFunction};
-ghost use Rattle.sj_calls.specs.Methods.{CallsAlone, Linked, CallsAgree};
-ghost use Rattle.sj_calls.specs.Names.{emitted_in};
-ghost use Rattle.sj_plain.specs.Conditions.{Usable};
-ghost use Rattle.built_forms.specs.Built.{members_alone};
+    ensures { (p : Place) → IsPlain p.classes → NamesDiffer p → ((f : Name) (m : Member) → (p.has f).linked m ≡ true → Linked p m) → CallsAlone p → (f : Name) (m : Member) → (p.has f).linked m ≡ true → (w : World) (vs : List ir.Value) (xs : List js.Value) (env : ir.Env) (s : ir.State) (u : js.State) → SameValues w (types_referred m.method.params) vs xs → SameState p w s u → CallsAgree p m w vs xs env s u }
+{}
 
-/// The theorem on calls, for any names of variables and labels that differ and any files of functions: let each member that the code of a file can use
-/// be a method of the classes with the types that its name tells, whose body is fine by what the code of its own file can use and reaches by name there, and whose emitted function
-/// stands in that file; and let no code make objects or use them. Then a call of such a member by the IR and a call of its function agree where the arguments, of the types that the name tells, and the states stand for each
-/// other: what the one shows within a bound, the other shows within each bound that is enough for it by the room of the place, and with no room within each that isn't less.
-pub fn calls_agree()
-    ensures { (p : Place) → NamesDiffer p → ((f : Name) (m : Member) → (p.has f).linked m ≡ true → Linked p m) → CallsAlone p → (f : Name) (m : Member) → (p.has f).linked m ≡ true → (w : World) (vs : List ir.Value) (xs : List js.Value) (env : ir.Env) (s : ir.State) (u : js.State) → SameValues w (types_referred m.method.params) vs xs → SameState p w s u → CallsAgree p m w vs xs env s u }
->>>>>>> 6a46694
+/// The same where code makes objects and uses them: let what the code of each file can use be there, each with the conditions that its kind asks for,
+/// and let a call have the units that a null check and the constructors of a chain take beyond those of the IR. Then a call of a static member by
+/// the IR and a call of its function agree: the objects that they make stand for each other, and so does what they answer, throw and print.
+pub fn calls_with_objects_agree()
+    ensures { (p : Place) → IsPlain p.classes → NamesDiffer p → HasObjects p → (f : Name) (m : Member) → (p.has f).linked m ≡ true → (w : World) (vs : List ir.Value) (xs : List js.Value) (env : ir.Env) (s : ir.State) (u : js.State) → SameValues w (types_referred m.method.params) vs xs → SameState p w s u → CallsAgree p m w vs xs env s u }
+{}
+
+/// `new` of a class of the emitted code makes one object and nothing else: its properties are those that lead to the constants of the first class of the chain,
+/// and each field of each class of the chain at the zero of its type. It takes a unit for each class of the chain, and with fewer it is going.
+pub fn constructors_make_one_object()
+    ensures enough { ChainsMake }
+    ensures short { ShortBoundsGo }
+{}
+
+/// A new object of the emitted code stands for the new object of the IR: let no two fields have one property, let each field begin at the zero of its
+/// type, let the classes of the chain stand in the program, and let their constructors set the fields that they have.
+pub fn new_objects_stand()
+    ensures { (p : Place) → FieldsDiffer p → ((d g : Name) (t : IrType) → IsField p.classes d g t → BeginsAtZero p d g t) → (c : Name) (cs : List Name) (st : ChainStands p (c ∷ cs)) → ChainFields p (c ∷ cs) st → chain_of p.classes c ≡ c ∷ cs → (w : World) (s : ir.State) (u : js.State) → SameState p w s u → Stands p c w u }
 {}
 
 /// The names of the emitted code differ: no two variables have one name, whatever numbers a name is made of, no two labels, and no variable has
@@ -61,13 +67,9 @@ pub fn emitted_names_differ()
 {}
 
 /// The theorem on files: take a module that has the functions of these methods in this order and then calls the initializers of a public module,
-/// and that has no early error. Let each method be that of its member in the classes, with the types that its name tells and a body that keeps the rules, let nothing stand above `java.lang.Object`, let each member that is
+/// and that has no early error. Let each method be that of its member in the classes, with the types that its name tells and a body that keeps the rules, let no class write a hijacked class, let none stand above `java.lang.Object`, let each member that is
 /// called have one of the functions, and let the initializers be among them. Then the file shows of the public module what the classes show,
 /// unless the classes are wrong at some bound: what the one shows within any bound the other shows within some bound, and the other way round.
 pub fn file_of_functions_agrees()
-<<<<<<< HEAD
-    ensures { (w : ir_world.World) → IsTopped w → (entries : List EntryPoint) (id : List ℕ) (fs : List EmittedMethod) (has : Usable) → is_proper_module (module_with fs (initializers entries id)) ≡ true → ((e : EmittedMethod) → Contains fs e → IsEmitted w has e) → ((m : Member) → has.linked m ≡ true → HasFunction fs m) → ((e : EntryPoint) → Contains (initializers entries id) e → has.linked (initializer_member e) ≡ true) → ((n : ℕ) → IsNotWrong (ir_shows w entries id n).end) → Agree (ir_shows w entries id) (js_shows (program_with id fs (initializers entries id)) id) }
-=======
-    ensures { (w : ir_world.World) (entries : List EntryPoint) (id : List ℕ) (fs : List EmittedMethod) (linked : Member → Bool) → is_proper_module (module_with fs (initializers entries id)) ≡ true → ((e : EmittedMethod) → Contains fs e → IsEmitted w (members_alone linked) e) → ((m : Member) → linked m ≡ true → HasFunction fs m) → ((e : EntryPoint) → Contains (initializers entries id) e → linked (initializer_member e) ≡ true) → ((n : ℕ) → IsNotWrong (ir_shows w entries id n).end) → Agree (ir_shows w entries id) (js_shows (program_with id fs (initializers entries id)) id) }
->>>>>>> 6a46694
+    ensures { (w : ir_world.World) → IsPlain w → (entries : List EntryPoint) (id : List ℕ) (fs : List EmittedMethod) (linked : Member → Bool) → is_proper_module (module_with fs (initializers entries id)) ≡ true → ((e : EmittedMethod) → Contains fs e → IsEmitted w (members_alone linked) e) → ((m : Member) → linked m ≡ true → HasFunction fs m) → ((e : EntryPoint) → Contains (initializers entries id) e → linked (initializer_member e) ≡ true) → ((n : ℕ) → IsNotWrong (ir_shows w entries id n).end) → Agree (ir_shows w entries id) (js_shows (program_with id fs (initializers entries id)) id) }
 {}

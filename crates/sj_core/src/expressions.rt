@@ -1,15 +1,17 @@
 // Expressions of the core.
-use sj_names::{LocalName, Member};
+use sj_names::{ClassName, FieldName, LocalName, Member};
 use sj_trees::{BinaryOp, UnaryOp};
 use sj_units::Units;
 
-/// A variable of a method: one of the IR, or one that holds an operand.
+/// A variable of a method: one of the IR, one that holds an operand, or the one that holds This.
 #[derive(Drop)]
 pub enum CoreVariable {
     /// A local variable or a parameter of the IR.
     Local(LocalName),
     /// The variable of this number, which holds the value of an operand. They count from 1.
     Numbered(u64),
+    /// The receiver of the method.
+    Receiver,
 }
 
 /// An expression. A contract sees the term that it stands for, `expression_view`.
@@ -33,6 +35,16 @@ pub enum CoreExpression {
     Choice(Box<CoreExpression>, Box<CoreExpression>, Box<CoreExpression>),
     /// A call of a static method with its arguments.
     StaticCall(Member, Vec<CoreExpression>),
+    /// A field of an object.
+    Field(Box<CoreExpression>, ClassName, FieldName),
+    /// A static field.
+    StaticField(ClassName, FieldName),
+    /// A value that is checked not to be null.
+    Checked(Box<CoreExpression>),
+    /// A new object of the member's class, on which the member, a constructor, runs with these arguments.
+    Made(Member, Vec<CoreExpression>),
+    /// A call of the member on a receiver, with these arguments.
+    ReceiverCall(Member, Box<CoreExpression>, Vec<CoreExpression>),
     Unary(UnaryOp, Box<CoreExpression>),
     Binary(BinaryOp, Box<CoreExpression>, Box<CoreExpression>),
 }
@@ -53,6 +65,11 @@ impl Drop for CoreExpression {
             CoreExpression::ValueText(_one) => {}
             CoreExpression::Choice(_one, _two, _three) => {}
             CoreExpression::StaticCall(_one, _two) => {}
+            CoreExpression::Field(_one, _two, _three) => {}
+            CoreExpression::StaticField(_one, _two) => {}
+            CoreExpression::Checked(_one) => {}
+            CoreExpression::Made(_one, _two) => {}
+            CoreExpression::ReceiverCall(_one, _two, _three) => {}
             CoreExpression::Unary(_, _one) => {}
             CoreExpression::Binary(_, _one, _two) => {}
         }

@@ -1,6 +1,6 @@
 // Statements of the core.
 use crate::{CoreExpression, CoreVariable};
-use sj_names::{Items, LabelName};
+use sj_names::{ClassName, FieldName, Items, LabelName};
 use sj_trees::Position;
 
 /// A statement: first the position of the tree that it was written for, if its line has one. A contract sees the term that it stands for,
@@ -19,6 +19,17 @@ pub enum CoreStatement {
     Return(Option<Position>, CoreExpression),
     /// A text is logged as a line.
     Log(Option<Position>, CoreExpression),
+    /// A field of an object is set: the object, the class and the name of the field, and the value.
+    AssignField(
+        Option<Position>,
+        CoreExpression,
+        ClassName,
+        FieldName,
+        CoreExpression,
+    ),
+    /// A static field is set.
+    AssignStatic(Option<Position>, ClassName, FieldName, CoreExpression),
+    Throw(Option<Position>, CoreExpression),
     /// The labelled block ends.
     Leave(Option<Position>, LabelName),
     /// The nearest loop or switch ends.
@@ -46,6 +57,9 @@ impl Drop for CoreStatement {
             CoreStatement::Evaluate(_, _one) => {}
             CoreStatement::Return(_, _one) => {}
             CoreStatement::Log(_, _one) => {}
+            CoreStatement::AssignField(_, _one, _two, _three, _four) => {}
+            CoreStatement::AssignStatic(_, _one, _two, _three) => {}
+            CoreStatement::Throw(_, _one) => {}
             CoreStatement::Leave(_, _one) => {}
             CoreStatement::Break(_) => {}
             CoreStatement::If(_, _one, _two, _three) => {}

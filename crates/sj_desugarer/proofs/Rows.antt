@@ -1,97 +1,141 @@
 -- What is written for each form, by what its operands come to.
-use Rattle.std.proofs.Common.{◌≡◌, ◌∙◌, ℕ, Bool, true, false, List, [], ◌∷◌, ap, sym, Some}
+use Rattle.std.proofs.Common.{◌≡◌, ◌∙◌, ℕ, suc, Bool, true, false, ◌&&◌, List, [], ◌∷◌, ap, sym, refl, Some}
 use Rattle.sj_core.specs.Terms.{named, assign_to, log_of, while_of, loop_of, boolean_value}
 use Rattle.sj_core.specs.Terms as core
-use Rattle.sj_desugar.specs.Coercions.{coerced}
+use Rattle.sj_desugar.specs.Coercions.{coerced, coerced_arguments, coerced_receiver}
 use Rattle.sj_core.specs.Views.{expressions_of}
-use Rattle.sj_desugar.specs.Desugar.{Targets, into, expression_of, cases, member, types_of, operand, operands, branched, wrapped, break_unless, switched, finish, first_of, second_of, branches, switch_code, Branches}
-use Rattle.sj_desugar.specs.Plain.{is_plain}
-use Rattle.sj_desugar.specs.Spill.{Destination, discard, Code, one, put_first, joined, Spilled, spill, then_use}
+use Rattle.sj_desugar.specs.Desugar.{Targets, into, expression_of, cases, member, types_of, operand, operands, branched, wrapped, break_unless, switched, finish, first_of, second_of, rest_of, received, receiver, position_of, branches, switch_code, Branches}
+use Rattle.sj_desugar.specs.Plain.{is_plain, are_plain}
+use Rattle.sj_desugar.specs.Spill.{Destination, discard, to_variable, Code, one, put_first, joined, Spilled, spill, then_use}
 use Rattle.sj_desugar.specs.Texts.{operand_of}
 use Rattle.sj_desugaring.specs.Arguments.{with_arguments}
 use Rattle.sj_desugaring.specs.Forms.{behind}
-use Rattle.sj_desugarer.specs.Operands.{comes_to}
-use Rattle.sj_desugaring.specs.Placing.{Placed}
-use Rattle.sj_desugarer.proofs.Spilling.{use-one, use-two}
+use Rattle.sj_desugarer.specs.Operands.{comes_to, comes_received, owner_place, assigned_code}
+use Rattle.sj_desugaring.specs.Placing.{Placed, placed, placed_case, brought}
+use Rattle.sj_desugarer.proofs.Spilling.{use-one, use-two, use-first}
+use Rattle.sj_desugarer.proofs.Runs.{operands-plain}
 use Rattle.sj_names.specs.declared.method_names.MethodName.{MethodName}
 use Rattle.sj_names.specs.declared.method_names.Namespace.{Namespace}
-use Rattle.sj_trees.specs.Term.{Term, Terms, Cases, apply_static, assign, var_ref, if_then, while_loop, do_while, match_on, unary_op, binary_op, log_line}
+use Rattle.sj_trees.specs.Term.{Term, Terms, Cases, apply_static, apply_statically, throw, select, select_static, assign, var_ref, if_then, while_loop, do_while, match_on, unary_op, binary_op, log_line}
 use Rattle.sj_trees.specs.TypeOf.{type_of_term, unary_result, binary_result}
 use Rattle.sj_trees.specs.declared.operators.BinaryOp.{BinaryOp}
 use Rattle.sj_trees.specs.declared.operators.UnaryOp.{UnaryOp}
 use Rattle.sj_trees.specs.declared.positions.Position.{Position}
 use Rattle.sj_trees.specs.declared.types.IrType.{IrType}
+use Rattle.sj_trees.specs.declared.types.IrType.TheVariants.{Any}
+use Rattle.sure_receivers.specs.Sure.{is_sure}
 
-module _ (m : List ℕ → Bool) (ls : Targets) (k : Destination) (j : ℕ) (p : Position) where
-  pub assign-row : (q : Position) (x : List ℕ) (t : IrType) (e : Term) → into m ls k j (assign p (var_ref q x t) e) ≡ behind (comes_to m ls true j e) (λ g. one (assign_to (Some p) (named x) (coerced t (type_of_term e) g)))
+module _ (m s : List ℕ → Bool) (ls : Targets) (k : Destination) (j : ℕ) (p : Position) where
+  assign-row : (q : Position) (x : List ℕ) (t : IrType) (e : Term) → into m s ls k j (assign p (var_ref q x t) e) ≡ behind (comes_to m s ls true j e) (λ g. one (assign_to (Some p) (named x) (coerced t (type_of_term e) g)))
   unfolding comes_to
-  assign-row q x t e = use-one (operand m e (λ k j. into m ls k j e)) j (λ es. one (assign_to (Some p) (named x) (coerced t (type_of_term e) (first_of es))))
+  assign-row q x t e = use-one (operand m s e (λ k j. into m s ls k j e)) j (λ es. one (assign_to (Some p) (named x) (coerced t (type_of_term e) (first_of es))))
 
-  pub if-row : (c a b : Term) (t : IrType) → into m ls k j (if_then p c a b t) ≡ behind (comes_to m ls true j c) (λ g i. branched p g (into m ls k i a) (into m ls k (into m ls k i a).next b))
+  pub if-row : (c a b : Term) (t : IrType) → into m s ls k j (if_then p c a b t) ≡ behind (comes_to m s ls true j c) (λ g i. branched p g (into m s ls k i a) (into m s ls k (into m s ls k i a).next b))
   unfolding comes_to
-  if-row c a b t = use-one (operand m c (λ k j. into m ls k j c)) j (λ es i. branches p (first_of es) (into m ls k i a) (λ i. into m ls k i b))
+  if-row c a b t = use-one (operand m s c (λ k j. into m s ls k j c)) j (λ es i. branches p (first_of es) (into m s ls k i a) (λ i. into m s ls k i b))
 
-  pub log-row : (e : Term) → into m ls k j (log_line p e) ≡ behind (comes_to m ls true j e) (λ g. one (log_of (Some p) g))
+  pub log-row : (e : Term) → into m s ls k j (log_line p e) ≡ behind (comes_to m s ls true j e) (λ g. one (log_of (Some p) g))
   unfolding comes_to
-  log-row e = use-one (operand m e (λ k j. into m ls k j e)) j (λ es. one (log_of (Some p) (first_of es)))
+  log-row e = use-one (operand m s e (λ k j. into m s ls k j e)) j (λ es. one (log_of (Some p) (first_of es)))
 
-  pub unary-row : (o : UnaryOp) (e : Term) → into m ls k j (unary_op p o e) ≡ behind (comes_to m ls true j e) (λ g. finish k p (unary_result o) false (core.unary_of o g))
+  pub unary-row : (o : UnaryOp) (e : Term) → into m s ls k j (unary_op p o e) ≡ behind (comes_to m s ls true j e) (λ g. finish k p (unary_result o) false (core.unary_of o g))
   unfolding comes_to
-  unary-row o e = use-one (operand m e (λ k j. into m ls k j e)) j (λ es. finish k p (unary_result o) false (core.unary_of o (first_of es)))
+  unary-row o e = use-one (operand m s e (λ k j. into m s ls k j e)) j (λ es. finish k p (unary_result o) false (core.unary_of o (first_of es)))
 
-  pub binary-row : (o : BinaryOp) (e d : Term) → into m ls k j (binary_op p o e d) ≡ behind (comes_to m ls (is_plain d) j e) (λ g i. behind (comes_to m ls true i d) (λ h. finish k p (binary_result o) false (core.binary_of o (operand_of o (type_of_term e) g) (operand_of o (type_of_term d) h))))
+  pub binary-row : (o : BinaryOp) (e d : Term) → into m s ls k j (binary_op p o e d) ≡ behind (comes_to m s ls (is_plain d) j e) (λ g i. behind (comes_to m s ls true i d) (λ h. finish k p (binary_result o) false (core.binary_of o (operand_of o (type_of_term e) g) (operand_of o (type_of_term d) h))))
   unfolding comes_to
-  binary-row o e d = use-two (operand m e (λ k j. into m ls k j e)) (operand m d (λ k j. into m ls k j d)) j (λ es. finish k p (binary_result o) false (core.binary_of o (operand_of o (type_of_term e) (first_of es)) (operand_of o (type_of_term d) (second_of es))))
+  binary-row o e d = use-two (operand m s e (λ k j. into m s ls k j e)) (operand m s d (λ k j. into m s ls k j d)) j (λ es. finish k p (binary_result o) false (core.binary_of o (operand_of o (type_of_term e) (first_of es)) (operand_of o (type_of_term d) (second_of es))))
 
-  pub match-row : (e : Term) (cs : Cases) (d : Term) (t : IrType) → into m ls k j (match_on p e cs d t) ≡ behind (comes_to m ls true j e) (λ g i. switched p g (cases m ls k i cs) (into m ls k (cases m ls k i cs).next d))
+  pub match-row : (e : Term) (cs : Cases) (d : Term) (t : IrType) → into m s ls k j (match_on p e cs d t) ≡ behind (comes_to m s ls true j e) (λ g i. switched p g (cases m s ls k i cs) (into m s ls k (cases m s ls k i cs).next d))
   unfolding comes_to
-  match-row e cs d t = use-one (operand m e (λ k j. into m ls k j e)) j (λ es i. switch_code p (first_of es) (cases m ls k i cs) (λ i. into m ls k i d))
+  match-row e cs d t = use-one (operand m s e (λ k j. into m s ls k j e)) j (λ es i. switch_code p (first_of es) (cases m s ls k i cs) (λ i. into m s ls k i d))
 
-  pub turn-row : (c b : Term) → is_plain c ≡ false → into m ls k j (while_loop p c b) ≡ wrapped (while_of (Some p) (boolean_value true)) (behind (comes_to m ls true j c) (λ g i. put_first (break_unless g) (into m ls discard i b)))
+  pub turn-row : (c b : Term) → is_plain c ≡ false → into m s ls k j (while_loop p c b) ≡ wrapped (while_of (Some p) (boolean_value true)) (behind (comes_to m s ls true j c) (λ g i. put_first (break_unless g) (into m s ls discard i b)))
   unfolding comes_to
-  turn-row c b h = ap (λ (plain : Bool). elim plain [ true ↦ wrapped (while_of (Some p) (expression_of c)) (into m ls discard j b) | false ↦ wrapped (while_of (Some p) (boolean_value true)) (then_use (spill (operand m c (λ k j. into m ls k j c) ∷ []) j) (λ es i. put_first (break_unless (first_of es)) (into m ls discard i b))) ]) h ∙ ap (wrapped (while_of (Some p) (boolean_value true))) (use-one (operand m c (λ k j. into m ls k j c)) j (λ es i. put_first (break_unless (first_of es)) (into m ls discard i b)))
+  turn-row c b h = ap (λ (plain : Bool). elim plain [ true ↦ wrapped (while_of (Some p) (expression_of s c)) (into m s ls discard j b) | false ↦ wrapped (while_of (Some p) (boolean_value true)) (then_use (spill (operand m s c (λ k j. into m s ls k j c) ∷ []) j) (λ es i. put_first (break_unless (first_of es)) (into m s ls discard i b))) ]) h ∙ ap (wrapped (while_of (Some p) (boolean_value true))) (use-one (operand m s c (λ k j. into m s ls k j c)) j (λ es i. put_first (break_unless (first_of es)) (into m s ls discard i b)))
 
-  pub loop-row : (b c : Term) → into m ls k j (do_while p b c) ≡ wrapped (loop_of (Some p)) (joined (into m ls discard j b) (behind (comes_to m ls true (into m ls discard j b).next c) (λ g. one (break_unless g))))
+  pub loop-row : (b c : Term) → into m s ls k j (do_while p b c) ≡ wrapped (loop_of (Some p)) (joined (into m s ls discard j b) (behind (comes_to m s ls true (into m s ls discard j b).next c) (λ g. one (break_unless g))))
   unfolding comes_to
-  loop-row b c = ap (λ d. wrapped (loop_of (Some p)) (joined (into m ls discard j b) d)) (use-one (operand m c (λ k j. into m ls k j c)) (into m ls discard j b).next (λ es. one (break_unless (first_of es))))
+  loop-row b c = ap (λ d. wrapped (loop_of (Some p)) (joined (into m s ls discard j b) d)) (use-one (operand m s c (λ k j. into m s ls k j c)) (into m s ls discard j b).next (λ es. one (break_unless (first_of es))))
 
   -- the same where the parts are known by other names
-  pub assign-joins : (o : Placed) (q : Position) (x : List ℕ) (t : IrType) (e : Term) → o ≡ comes_to m ls true j e → into m ls k j (assign p (var_ref q x t) e) ≡ behind o (λ g. one (assign_to (Some p) (named x) (coerced t (type_of_term e) g)))
-  assign-joins o q x t e h = assign-row q x t e ∙ (λ i. behind (sym h i) (λ g. one (assign_to (Some p) (named x) (coerced t (type_of_term e) g))))
-
-  pub if-joins : (o : Placed) (u v : Code) (c a b : Term) (t : IrType) → o ≡ comes_to m ls true j c → u ≡ into m ls k o.next a → v ≡ into m ls k u.next b → into m ls k j (if_then p c a b t) ≡ behind o (λ g i. branched p g u v)
+  pub if-joins : (o : Placed) (u v : Code) (c a b : Term) (t : IrType) → o ≡ comes_to m s ls true j c → u ≡ into m s ls k o.next a → v ≡ into m s ls k u.next b → into m s ls k j (if_then p c a b t) ≡ behind o (λ g i. branched p g u v)
   if-joins o u v c a b t h hy hn =
-      let e1 : into m ls k (comes_to m ls true j c).next a ≡ u = ap (λ (r : Placed). into m ls k r.next a) (sym h) ∙ sym hy in
-      let e2 : into m ls k (into m ls k (comes_to m ls true j c).next a).next b ≡ v = ap (λ (r : Code). into m ls k r.next b) e1 ∙ sym hn in
+      let e1 : into m s ls k (comes_to m s ls true j c).next a ≡ u = ap (λ (r : Placed). into m s ls k r.next a) (sym h) ∙ sym hy in
+      let e2 : into m s ls k (into m s ls k (comes_to m s ls true j c).next a).next b ≡ v = ap (λ (r : Code). into m s ls k r.next b) e1 ∙ sym hn in
       if-row c a b t ∙ (λ i. behind (sym h i) (λ g x. branched p g (e1 i) (e2 i)))
 
-  pub log-joins : (o : Placed) (e : Term) → o ≡ comes_to m ls true j e → into m ls k j (log_line p e) ≡ behind o (λ g. one (log_of (Some p) g))
+  pub log-joins : (o : Placed) (e : Term) → o ≡ comes_to m s ls true j e → into m s ls k j (log_line p e) ≡ behind o (λ g. one (log_of (Some p) g))
   log-joins o e h = log-row e ∙ (λ i. behind (sym h i) (λ g. one (log_of (Some p) g)))
 
-  pub unary-joins : (o : Placed) (u : UnaryOp) (e : Term) → o ≡ comes_to m ls true j e → into m ls k j (unary_op p u e) ≡ behind o (λ g. finish k p (unary_result u) false (core.unary_of u g))
+  pub unary-joins : (o : Placed) (u : UnaryOp) (e : Term) → o ≡ comes_to m s ls true j e → into m s ls k j (unary_op p u e) ≡ behind o (λ g. finish k p (unary_result u) false (core.unary_of u g))
   unary-joins o u e h = unary-row u e ∙ (λ i. behind (sym h i) (λ g. finish k p (unary_result u) false (core.unary_of u g)))
 
-  pub binary-joins : (o r : Placed) (u : BinaryOp) (e d : Term) (rest : Bool) → rest ≡ is_plain d → o ≡ comes_to m ls rest j e → r ≡ comes_to m ls true o.next d → into m ls k j (binary_op p u e d) ≡ behind o (λ g i. behind r (λ h. finish k p (binary_result u) false (core.binary_of u (operand_of u (type_of_term e) g) (operand_of u (type_of_term d) h))))
+  pub binary-joins : (o r : Placed) (u : BinaryOp) (e d : Term) (rest : Bool) → rest ≡ is_plain d → o ≡ comes_to m s ls rest j e → r ≡ comes_to m s ls true o.next d → into m s ls k j (binary_op p u e d) ≡ behind o (λ g i. behind r (λ h. finish k p (binary_result u) false (core.binary_of u (operand_of u (type_of_term e) g) (operand_of u (type_of_term d) h))))
   binary-joins o r u e d rest hr h hd =
-      let e1 : comes_to m ls (is_plain d) j e ≡ o = ap (λ b. comes_to m ls b j e) (sym hr) ∙ sym h in
-      let e2 : comes_to m ls true (comes_to m ls (is_plain d) j e).next d ≡ r = ap (λ (x : Placed). comes_to m ls true x.next d) e1 ∙ sym hd in
+      let e1 : comes_to m s ls (is_plain d) j e ≡ o = ap (λ b. comes_to m s ls b j e) (sym hr) ∙ sym h in
+      let e2 : comes_to m s ls true (comes_to m s ls (is_plain d) j e).next d ≡ r = ap (λ (x : Placed). comes_to m s ls true x.next d) e1 ∙ sym hd in
       binary-row u e d ∙ (λ i. behind (e1 i) (λ g x. behind (e2 i) (λ h. finish k p (binary_result u) false (core.binary_of u (operand_of u (type_of_term e) g) (operand_of u (type_of_term d) h)))))
 
-  pub match-joins : (o : Placed) (bs : Branches) (d : Code) (e : Term) (cs : Cases) (t : Term) (tpe : IrType) → o ≡ comes_to m ls true j e → bs ≡ cases m ls k o.next cs → d ≡ into m ls k bs.next t → into m ls k j (match_on p e cs t tpe) ≡ behind o (λ g i. switched p g bs d)
+  pub match-joins : (o : Placed) (bs : Branches) (d : Code) (e : Term) (cs : Cases) (t : Term) (tpe : IrType) → o ≡ comes_to m s ls true j e → bs ≡ cases m s ls k o.next cs → d ≡ into m s ls k bs.next t → into m s ls k j (match_on p e cs t tpe) ≡ behind o (λ g i. switched p g bs d)
   match-joins o bs d e cs t tpe h hb hd =
-      let e1 : cases m ls k (comes_to m ls true j e).next cs ≡ bs = ap (λ (r : Placed). cases m ls k r.next cs) (sym h) ∙ sym hb in
-      let e2 : into m ls k (cases m ls k (comes_to m ls true j e).next cs).next t ≡ d = ap (λ (r : Branches). into m ls k r.next t) e1 ∙ sym hd in
+      let e1 : cases m s ls k (comes_to m s ls true j e).next cs ≡ bs = ap (λ (r : Placed). cases m s ls k r.next cs) (sym h) ∙ sym hb in
+      let e2 : into m s ls k (cases m s ls k (comes_to m s ls true j e).next cs).next t ≡ d = ap (λ (r : Branches). into m s ls k r.next t) e1 ∙ sym hd in
       match-row e cs t tpe ∙ (λ i. behind (sym h i) (λ g x. switched p g (e1 i) (e2 i)))
 
-  pub turn-joins : (o : Placed) (w u : Code) (c b : Term) → is_plain c ≡ false → o ≡ comes_to m ls true j c → w ≡ into m ls discard o.next b → u ≡ behind o (λ g i. put_first (break_unless g) w) → into m ls k j (while_loop p c b) ≡ wrapped (while_of (Some p) (boolean_value true)) u
+  pub turn-joins : (o : Placed) (w u : Code) (c b : Term) → is_plain c ≡ false → o ≡ comes_to m s ls true j c → w ≡ into m s ls discard o.next b → u ≡ behind o (λ g i. put_first (break_unless g) w) → into m s ls k j (while_loop p c b) ≡ wrapped (while_of (Some p) (boolean_value true)) u
   turn-joins o w u c b f h hw hu =
-      let e1 : into m ls discard (comes_to m ls true j c).next b ≡ w = ap (λ (r : Placed). into m ls discard r.next b) (sym h) ∙ sym hw in
+      let e1 : into m s ls discard (comes_to m s ls true j c).next b ≡ w = ap (λ (r : Placed). into m s ls discard r.next b) (sym h) ∙ sym hw in
       turn-row c b f ∙ (λ i. wrapped (while_of (Some p) (boolean_value true)) (behind (sym h i) (λ g x. put_first (break_unless g) (e1 i)))) ∙ ap (wrapped (while_of (Some p) (boolean_value true))) (sym hu)
 
-  pub loop-joins : (w : Code) (o : Placed) (b c : Term) → w ≡ into m ls discard j b → o ≡ comes_to m ls true w.next c → into m ls k j (do_while p b c) ≡ wrapped (loop_of (Some p)) (joined w (behind o (λ g. one (break_unless g))))
+  pub loop-joins : (w : Code) (o : Placed) (b c : Term) → w ≡ into m s ls discard j b → o ≡ comes_to m s ls true w.next c → into m s ls k j (do_while p b c) ≡ wrapped (loop_of (Some p)) (joined w (behind o (λ g. one (break_unless g))))
   loop-joins w o b c hw h =
-      let e1 : comes_to m ls true (into m ls discard j b).next c ≡ o = ap (λ (r : Code). comes_to m ls true r.next c) (sym hw) ∙ sym h in
+      let e1 : comes_to m s ls true (into m s ls discard j b).next c ≡ o = ap (λ (r : Code). comes_to m s ls true r.next c) (sym hw) ∙ sym h in
       loop-row b c ∙ (λ i. wrapped (loop_of (Some p)) (joined (sym hw i) (behind (e1 i) (λ g. one (break_unless g)))))
 
-  pub call-joins : (r : Spilled) (c : List ℕ) (n : Namespace) (f : MethodName) (ts : Terms) (t : IrType) → r ≡ with_arguments f.params (types_of ts) (spill (operands m ls ts) j) → into m ls k j (apply_static p c n f ts t) ≡ then_use r (λ es. finish k p t false (core.static_call (member c n f) (expressions_of es)))
+  pub call-joins : (r : Spilled) (c : List ℕ) (n : Namespace) (f : MethodName) (ts : Terms) (t : IrType) → r ≡ with_arguments f.params (types_of ts) (spill (operands m s ls ts) j) → into m s ls k j (apply_static p c n f ts t) ≡ then_use r (λ es. finish k p t false (core.static_call (member c n f) (expressions_of es)))
   call-joins r c n f ts t h = ap (λ (x : Spilled). then_use x (λ es. finish k p t false (core.static_call (member c n f) (expressions_of es)))) (sym h)
+
+  -- receivers
+  pub received-sure : (rest : Bool) (t : Term) → is_sure s t ≡ true → comes_to m s ls rest j t ≡ comes_received m s ls rest j t
+  unfolding comes_to comes_received
+  received-sure rest t h = ap (λ b. placed rest (received b (operand m s t (λ k j. into m s ls k j t))) j) (sym h)
+
+  pub received-checked : (rest : Bool) (t : Term) → is_sure s t ≡ false → placed rest (received false (operand m s t (λ k j. into m s ls k j t))) j ≡ comes_received m s ls rest j t
+  unfolding comes_received
+  received-checked rest t h = ap (λ b. placed rest (received b (operand m s t (λ k j. into m s ls k j t))) j) (sym h)
+
+  pub checked-brought : (rest : Bool) (t : Term) → is_plain t ≡ false → placed rest (received false (operand m s t (λ k j. into m s ls k j t))) j ≡ brought (position_of t) j (behind (comes_to m s ls true (suc j) t) (λ e. finish (to_variable (core.numbered j) (type_of_term t)) (position_of t) (type_of_term t) false (core.checked_value e)))
+  unfolding comes_to
+  checked-brought rest t h = ap (λ b. placed_case (b && rest) false b (received false (operand m s t (λ k j. into m s ls k j t))) j) h ∙ ap (brought (position_of t) j) (use-one (operand m s t (λ k j. into m s ls k j t)) (suc j) (λ es. finish (to_variable (core.numbered j) (type_of_term t)) (position_of t) (type_of_term t) false (core.checked_value (first_of es))))
+
+  pub throw-joins : (o : Placed) (e : Term) → o ≡ comes_to m s ls true j e → into m s ls k j (throw p e) ≡ behind o (λ g. one (core.throw_of (Some p) (coerced Any (type_of_term e) g)))
+  unfolding comes_to
+  throw-joins o e h = use-one (operand m s e (λ k j. into m s ls k j e)) j (λ es. one (core.throw_of (Some p) (coerced Any (type_of_term e) (first_of es)))) ∙ (λ i. behind (sym h i) (λ g. one (core.throw_of (Some p) (coerced Any (type_of_term e) g))))
+
+  pub field-joins : (o : Placed) (e : Term) (c f : List ℕ) (t : IrType) → o ≡ comes_received m s ls true j e → into m s ls k j (select p e c f t) ≡ behind o (λ g. finish k p t false (core.field_of g c f))
+  unfolding comes_received
+  field-joins o e c f t h = use-one (receiver m s e (λ k j. into m s ls k j e)) j (λ es. finish k p t false (core.field_of (first_of es) c f)) ∙ (λ i. behind (sym h i) (λ g. finish k p t false (core.field_of g c f)))
+
+  static-row : (q : Position) (c f : List ℕ) (t : IrType) (e : Term) → into m s ls k j (assign p (select_static q c f t) e) ≡ behind (comes_to m s ls true j e) (λ g. one (core.assign_static (Some p) c f (coerced t (type_of_term e) g)))
+  unfolding comes_to
+  static-row q c f t e = use-one (operand m s e (λ k j. into m s ls k j e)) j (λ es. one (core.assign_static (Some p) c f (coerced t (type_of_term e) (first_of es))))
+
+  set-row : (q : Position) (d : Term) (c f : List ℕ) (t : IrType) (e : Term) → into m s ls k j (assign p (select q d c f t) e) ≡ behind (comes_received m s ls (is_plain e) j d) (λ g i. behind (comes_to m s ls true i e) (λ h. one (core.assign_field (Some p) g c f (coerced t (type_of_term e) h))))
+  unfolding comes_to comes_received
+  set-row q d c f t e = use-two (receiver m s d (λ k j. into m s ls k j d)) (operand m s e (λ k j. into m s ls k j e)) j (λ es. one (core.assign_field (Some p) (first_of es) c f (coerced t (type_of_term e) (second_of es))))
+
+  pub assignment-row : (t e : Term) → into m s ls k j (assign p t e) ≡ assigned_code m s ls j p t e (owner_place m s ls (is_plain e) j t)
+  assignment-row (var_ref q x t) e = assign-row q x t e
+  assignment-row (select q d c f t) e = set-row q d c f t e
+  assignment-row (select_static q c f t) e = static-row q c f t e
+  assignment-row _ e = refl
+
+  receive-row : (e : Term) (c : List ℕ) (n : Namespace) (f : MethodName) (ts : Terms) (t : IrType) → into m s ls k j (apply_statically p e c n f ts t) ≡ behind (comes_received m s ls (are_plain ts) j e) (λ g i. then_use (spill (operands m s ls ts) i) (λ es. finish k p t false (core.receiver_call (member c n f) (coerced_receiver (type_of_term e) g) (expressions_of (coerced_arguments f.params (types_of ts) es)))))
+  unfolding comes_received
+  receive-row e c n f ts t = use-first (receiver m s e (λ k j. into m s ls k j e)) (operands m s ls ts) j (λ es. finish k p t false (core.receiver_call (member c n f) (coerced_receiver (type_of_term e) (first_of es)) (expressions_of (coerced_arguments f.params (types_of ts) (rest_of es))))) ∙ ap (λ b. behind (placed b (receiver m s e (λ k j. into m s ls k j e)) j) (λ g i. then_use (spill (operands m s ls ts) i) (λ es. finish k p t false (core.receiver_call (member c n f) (coerced_receiver (type_of_term e) g) (expressions_of (coerced_arguments f.params (types_of ts) es)))))) (operands-plain m s ls ts)
+
+  pub receive-joins : (o : Placed) (r : Spilled) (e : Term) (c : List ℕ) (n : Namespace) (f : MethodName) (ts : Terms) (t : IrType) (rest : Bool) → rest ≡ are_plain ts → o ≡ comes_received m s ls rest j e → r ≡ with_arguments f.params (types_of ts) (spill (operands m s ls ts) o.next) → into m s ls k j (apply_statically p e c n f ts t) ≡ behind o (λ g i. then_use r (λ es. finish k p t false (core.receiver_call (member c n f) (coerced_receiver (type_of_term e) g) (expressions_of es))))
+  receive-joins o r e c n f ts t rest hr h ha =
+      let e1 : comes_received m s ls (are_plain ts) j e ≡ o = ap (λ b. comes_received m s ls b j e) (sym hr) ∙ sym h in
+      receive-row e c n f ts t ∙ ap (λ (x : Placed). behind x (λ g i. then_use (with_arguments f.params (types_of ts) (spill (operands m s ls ts) i)) (λ es. finish k p t false (core.receiver_call (member c n f) (coerced_receiver (type_of_term e) g) (expressions_of es))))) e1 ∙ ap (λ (x : Spilled). behind o (λ g i. then_use x (λ es. finish k p t false (core.receiver_call (member c n f) (coerced_receiver (type_of_term e) g) (expressions_of es))))) (sym ha)

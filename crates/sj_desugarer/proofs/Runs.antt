@@ -41,27 +41,27 @@ case-onto : (cs : List core.Case) (c : core.Case) (bs : Branches) → branches_o
 case-onto [] c bs = refl
 case-onto (x ∷ cs) c bs = ap (λ (b : Branches). record { cases = switch_case x.0 x.1 b.cases; next = b.next }) (case-onto cs c bs)
 
-module _ (m : List ℕ → Bool) (ls : Targets) where
-  pub operands-plain : (ts : Terms) → all_plain (operands m ls ts) ≡ are_plain ts
+module _ (m s : List ℕ → Bool) (ls : Targets) where
+  pub operands-plain : (ts : Terms) → all_plain (operands m s ls ts) ≡ are_plain ts
   operands-plain no_terms = refl
   operands-plain (more_terms t ts) = ap (λ b. is_plain t && b) (operands-plain ts)
 
   -- a tree of a block behind what was written, the last one and any other
-  pub block-last : (w : Code) (k : Destination) (t : Term) → joined w (block m ls k w.next (more_terms t no_terms)) ≡ joined (joined w (into m ls k w.next t)) (block m ls k (into m ls k w.next t).next no_terms)
-  block-last w k t = sym (joined-nothing (joined w (into m ls k w.next t)))
+  pub block-last : (w : Code) (k : Destination) (t : Term) → joined w (block m s ls k w.next (more_terms t no_terms)) ≡ joined (joined w (into m s ls k w.next t)) (block m s ls k (into m s ls k w.next t).next no_terms)
+  block-last w k t = sym (joined-nothing (joined w (into m s ls k w.next t)))
 
-  pub block-more : (w : Code) (k : Destination) (t u : Term) (us : Terms) → joined w (block m ls k w.next (more_terms t (more_terms u us))) ≡ joined (joined w (into m ls discard w.next t)) (block m ls k (into m ls discard w.next t).next (more_terms u us))
-  block-more w k t u us = sym (joined-assoc w (into m ls discard w.next t) (block m ls k (into m ls discard w.next t).next (more_terms u us)))
+  pub block-more : (w : Code) (k : Destination) (t u : Term) (us : Terms) → joined w (block m s ls k w.next (more_terms t (more_terms u us))) ≡ joined (joined w (into m s ls discard w.next t)) (block m s ls k (into m s ls discard w.next t).next (more_terms u us))
+  block-more w k t u us = sym (joined-assoc w (into m s ls discard w.next t) (block m s ls k (into m s ls discard w.next t).next (more_terms u us)))
 
   -- an argument behind those that were written
-  pub argument-more : (w : Code) (es : List Expression) (rs : List TypeRef) (t : Term) (ts : Terms) → arguments_onto w es (with_arguments rs (types_of (more_terms t ts)) (spill (operands m ls (more_terms t ts)) w.next)) ≡ (let p = placed (are_plain ts) (operand m t (λ k j. into m ls k j t)) w.next in arguments_onto (joined w (record { statements = p.statements; next = p.next })) (es ++ coerced_argument rs (type_of_term t) p.expression ∷ []) (with_arguments (without_first rs) (types_of ts) (spill (operands m ls ts) p.next)))
+  pub argument-more : (w : Code) (es : List Expression) (rs : List TypeRef) (t : Term) (ts : Terms) → arguments_onto w es (with_arguments rs (types_of (more_terms t ts)) (spill (operands m s ls (more_terms t ts)) w.next)) ≡ (let p = placed (are_plain ts) (operand m s t (λ k j. into m s ls k j t)) w.next in arguments_onto (joined w (record { statements = p.statements; next = p.next })) (es ++ coerced_argument rs (type_of_term t) p.expression ∷ []) (with_arguments (without_first rs) (types_of ts) (spill (operands m s ls ts) p.next)))
   argument-more w es rs t ts =
-      let o = operand m t (λ k j. into m ls k j t) in
-      ap (λ r. arguments_onto w es (with_arguments rs (types_of (more_terms t ts)) r)) (spill-more o (operands m ls ts) w.next) ∙ ap (λ b. arguments_onto w es (with_arguments rs (types_of (more_terms t ts)) (in_front (placed b o w.next) (spill (operands m ls ts))))) (operands-plain ts) ∙ step (placed (are_plain ts) o w.next)
+      let o = operand m s t (λ k j. into m s ls k j t) in
+      ap (λ r. arguments_onto w es (with_arguments rs (types_of (more_terms t ts)) r)) (spill-more o (operands m s ls ts) w.next) ∙ ap (λ b. arguments_onto w es (with_arguments rs (types_of (more_terms t ts)) (in_front (placed b o w.next) (spill (operands m s ls ts))))) (operands-plain ts) ∙ step (placed (are_plain ts) o w.next)
     where
-      step : (p : Placed) → arguments_onto w es (with_arguments rs (types_of (more_terms t ts)) (in_front p (spill (operands m ls ts)))) ≡ arguments_onto (joined w (record { statements = p.statements; next = p.next })) (es ++ coerced_argument rs (type_of_term t) p.expression ∷ []) (with_arguments (without_first rs) (types_of ts) (spill (operands m ls ts) p.next))
+      step : (p : Placed) → arguments_onto w es (with_arguments rs (types_of (more_terms t ts)) (in_front p (spill (operands m s ls ts)))) ≡ arguments_onto (joined w (record { statements = p.statements; next = p.next })) (es ++ coerced_argument rs (type_of_term t) p.expression ∷ []) (with_arguments (without_first rs) (types_of ts) (spill (operands m s ls ts) p.next))
       step p =
-          let r = spill (operands m ls ts) p.next in
+          let r = spill (operands m s ls ts) p.next in
           λ i. record {
             statements = sym (followed-assoc w.statements p.statements r.statements) i;
             expressions = (ap (λ xs. es ++ xs) (arguments-first rs (type_of_term t) (types_of ts) p.expression r.expressions) ∙ sym (append_assoc es (coerced_argument rs (type_of_term t) p.expression ∷ []) (coerced_arguments (without_first rs) (types_of ts) r.expressions))) i;
@@ -69,38 +69,38 @@ module _ (m : List ℕ → Bool) (ls : Targets) where
           }
 
   -- the steps of the loops over trees, arguments and cases
-  block-rest : (w : Code) (k : Destination) (t : Tree) (us : List Tree) → joined (joined w (into m ls (for_last us k discard) w.next (view t))) (block m ls k (into m ls (for_last us k discard) w.next (view t)).next (terms_view us)) ≡ joined w (block m ls k w.next (terms_view (t ∷ us)))
+  block-rest : (w : Code) (k : Destination) (t : Tree) (us : List Tree) → joined (joined w (into m s ls (for_last us k discard) w.next (view t))) (block m s ls k (into m s ls (for_last us k discard) w.next (view t)).next (terms_view us)) ≡ joined w (block m s ls k w.next (terms_view (t ∷ us)))
   block-rest w k t [] = sym (block-last w k (view t))
   block-rest w k t (u ∷ us) = sym (block-more w k (view t) (view u) (terms_view us))
 
-  pub block-step : (ts : List Tree) (n : ℕ) (t : Tree) (k d : Destination) (w c v : Code) → n < length ts → t ≡ get_or ts n t → d ≡ for_last (drop (n + 1) ts) k discard → c ≡ into m ls d w.next (view t) → v ≡ joined w c → joined v (block m ls k v.next (terms_view (drop (n + 1) ts))) ≡ joined w (block m ls k w.next (terms_view (drop n ts)))
+  pub block-step : (ts : List Tree) (n : ℕ) (t : Tree) (k d : Destination) (w c v : Code) → n < length ts → t ≡ get_or ts n t → d ≡ for_last (drop (n + 1) ts) k discard → c ≡ into m s ls d w.next (view t) → v ≡ joined w c → joined v (block m s ls k v.next (terms_view (drop (n + 1) ts))) ≡ joined w (block m s ls k w.next (terms_view (drop n ts)))
   block-step ts n t k d w c v h e hd hc hv =
-      let written : v ≡ joined w (into m ls (for_last (drop (n + 1) ts) k discard) w.next (view t)) = hv ∙ ap (joined w) (hc ∙ ap (λ x. into m ls x w.next (view t)) hd) in
-      (λ i. joined (written i) (block m ls k (written i).next (terms_view (drop (n + 1) ts)))) ∙ block-rest w k t (drop (n + 1) ts) ∙ ap (λ us. joined w (block m ls k w.next (terms_view us))) (sym (taken ts n t h e))
+      let written : v ≡ joined w (into m s ls (for_last (drop (n + 1) ts) k discard) w.next (view t)) = hv ∙ ap (joined w) (hc ∙ ap (λ x. into m s ls x w.next (view t)) hd) in
+      (λ i. joined (written i) (block m s ls k (written i).next (terms_view (drop (n + 1) ts)))) ∙ block-rest w k t (drop (n + 1) ts) ∙ ap (λ us. joined w (block m s ls k w.next (terms_view us))) (sym (taken ts n t h e))
 
-  pub arguments-step : (ts : List Tree) (n : ℕ) (t : Tree) (w v : Code) (o : Placed) (es fs : List Expression) (rs ss : List TypeRef) (rest : Bool) → n < length ts → t ≡ get_or ts n t → rest ≡ are_plain (terms_view (drop (n + 1) ts)) → o ≡ comes_to m ls rest w.next (view t) → v ≡ joined w (record { statements = o.statements; next = o.next }) → fs ≡ es ++ coerced_argument rs (type_of_term (view t)) o.expression ∷ [] → ss ≡ without_first rs → arguments_onto v fs (with_arguments ss (types_of (terms_view (drop (n + 1) ts))) (spill (operands m ls (terms_view (drop (n + 1) ts))) v.next)) ≡ arguments_onto w es (with_arguments rs (types_of (terms_view (drop n ts))) (spill (operands m ls (terms_view (drop n ts))) w.next))
+  pub arguments-step : (ts : List Tree) (n : ℕ) (t : Tree) (w v : Code) (o : Placed) (es fs : List Expression) (rs ss : List TypeRef) (rest : Bool) → n < length ts → t ≡ get_or ts n t → rest ≡ are_plain (terms_view (drop (n + 1) ts)) → o ≡ comes_to m s ls rest w.next (view t) → v ≡ joined w (record { statements = o.statements; next = o.next }) → fs ≡ es ++ coerced_argument rs (type_of_term (view t)) o.expression ∷ [] → ss ≡ without_first rs → arguments_onto v fs (with_arguments ss (types_of (terms_view (drop (n + 1) ts))) (spill (operands m s ls (terms_view (drop (n + 1) ts))) v.next)) ≡ arguments_onto w es (with_arguments rs (types_of (terms_view (drop n ts))) (spill (operands m s ls (terms_view (drop n ts))) w.next))
   unfolding comes_to
   arguments-step ts n t w v o es fs rs ss rest h e hr ho hv hf hs =
       let us = terms_view (drop (n + 1) ts) in
-      let placing : o ≡ placed (are_plain us) (operand m (view t) (λ k j. into m ls k j (view t))) w.next = ho ∙ ap (λ b. placed b (operand m (view t) (λ k j. into m ls k j (view t))) w.next) hr in
-      let written : v ≡ joined w (record { statements = (placed (are_plain us) (operand m (view t) (λ k j. into m ls k j (view t))) w.next).statements; next = (placed (are_plain us) (operand m (view t) (λ k j. into m ls k j (view t))) w.next).next }) = hv ∙ ap (λ (x : Placed). joined w (record { statements = x.statements; next = x.next })) placing in
-      let brought : fs ≡ es ++ coerced_argument rs (type_of_term (view t)) (placed (are_plain us) (operand m (view t) (λ k j. into m ls k j (view t))) w.next).expression ∷ [] = hf ∙ ap (λ (x : Placed). es ++ coerced_argument rs (type_of_term (view t)) x.expression ∷ []) placing in
-      (λ i. arguments_onto (written i) (brought i) (with_arguments (hs i) (types_of us) (spill (operands m ls us) (written i).next))) ∙ sym (argument-more w es rs (view t) us) ∙ ap (λ xs. arguments_onto w es (with_arguments rs (types_of (terms_view xs)) (spill (operands m ls (terms_view xs)) w.next))) (sym (taken ts n t h e))
+      let placing : o ≡ placed (are_plain us) (operand m s (view t) (λ k j. into m s ls k j (view t))) w.next = ho ∙ ap (λ b. placed b (operand m s (view t) (λ k j. into m s ls k j (view t))) w.next) hr in
+      let written : v ≡ joined w (record { statements = (placed (are_plain us) (operand m s (view t) (λ k j. into m s ls k j (view t))) w.next).statements; next = (placed (are_plain us) (operand m s (view t) (λ k j. into m s ls k j (view t))) w.next).next }) = hv ∙ ap (λ (x : Placed). joined w (record { statements = x.statements; next = x.next })) placing in
+      let brought : fs ≡ es ++ coerced_argument rs (type_of_term (view t)) (placed (are_plain us) (operand m s (view t) (λ k j. into m s ls k j (view t))) w.next).expression ∷ [] = hf ∙ ap (λ (x : Placed). es ++ coerced_argument rs (type_of_term (view t)) x.expression ∷ []) placing in
+      (λ i. arguments_onto (written i) (brought i) (with_arguments (hs i) (types_of us) (spill (operands m s ls us) (written i).next))) ∙ sym (argument-more w es rs (view t) us) ∙ ap (λ xs. arguments_onto w es (with_arguments rs (types_of (terms_view xs)) (spill (operands m s ls (terms_view xs)) w.next))) (sym (taken ts n t h e))
 
-  cases-rest : (k : Destination) (j : ℕ) (c : MatchCase) (cs : List MatchCase) (out : List core.Case) (w : Code) (z : ℤ) (zs : List ℤ) → (view_case c).0 ≡ z ∷ zs → w ≡ into m ls k j (view_case c).1 → branches_onto (out ++ ((view_case c).0, followed w.statements (statement (break_nearest None) no_statements)) ∷ []) (cases m ls k w.next (cases_view cs)) ≡ branches_onto out (cases m ls k j (cases_view (c ∷ cs)))
+  cases-rest : (k : Destination) (j : ℕ) (c : MatchCase) (cs : List MatchCase) (out : List core.Case) (w : Code) (z : ℤ) (zs : List ℤ) → (view_case c).0 ≡ z ∷ zs → w ≡ into m s ls k j (view_case c).1 → branches_onto (out ++ ((view_case c).0, followed w.statements (statement (break_nearest None) no_statements)) ∷ []) (cases m s ls k w.next (cases_view cs)) ≡ branches_onto out (cases m s ls k j (cases_view (c ∷ cs)))
   cases-rest k j c cs out w z zs hz hw =
-      (λ i. branches_onto (out ++ (hz i, followed (hw i).statements (statement (break_nearest None) no_statements)) ∷ []) (cases m ls k (hw i).next (cases_view cs))) ∙ case-onto out (z ∷ zs, followed (into m ls k j (view_case c).1).statements (statement (break_nearest None) no_statements)) (cases m ls k (into m ls k j (view_case c).1).next (cases_view cs)) ∙ (λ i. branches_onto out (cases m ls k j (more_cases (sym hz i) (view_case c).1 (cases_view cs))))
+      (λ i. branches_onto (out ++ (hz i, followed (hw i).statements (statement (break_nearest None) no_statements)) ∷ []) (cases m s ls k (hw i).next (cases_view cs))) ∙ case-onto out (z ∷ zs, followed (into m s ls k j (view_case c).1).statements (statement (break_nearest None) no_statements)) (cases m s ls k (into m s ls k j (view_case c).1).next (cases_view cs)) ∙ (λ i. branches_onto out (cases m s ls k j (more_cases (sym hz i) (view_case c).1 (cases_view cs))))
 
-  pub cases-take : (cs : List MatchCase) (n : ℕ) (c : MatchCase) (k : Destination) (j : ℕ) (out put : List core.Case) (w : Code) → n < length cs → c ≡ get_or cs n c → 0 < length (view_case c).0 → w ≡ into m ls k j (view_case c).1 → put ≡ out ++ ((view_case c).0, followed w.statements (statement (break_nearest None) no_statements)) ∷ [] → branches_onto put (cases m ls k w.next (cases_view (drop (n + 1) cs))) ≡ branches_onto out (cases m ls k j (cases_view (drop n cs)))
+  pub cases-take : (cs : List MatchCase) (n : ℕ) (c : MatchCase) (k : Destination) (j : ℕ) (out put : List core.Case) (w : Code) → n < length cs → c ≡ get_or cs n c → 0 < length (view_case c).0 → w ≡ into m s ls k j (view_case c).1 → put ≡ out ++ ((view_case c).0, followed w.statements (statement (break_nearest None) no_statements)) ∷ [] → branches_onto put (cases m s ls k w.next (cases_view (drop (n + 1) cs))) ≡ branches_onto out (cases m s ls k j (cases_view (drop n cs)))
   cases-take cs n c k j out put w h e hk hw hp =
-      ap (λ xs. branches_onto xs (cases m ls k w.next (cases_view (drop (n + 1) cs)))) hp ∙ by_keys (view_case c).0 refl hk ∙ ap (λ xs. branches_onto out (cases m ls k j (cases_view xs))) (sym (taken cs n c h e))
+      ap (λ xs. branches_onto xs (cases m s ls k w.next (cases_view (drop (n + 1) cs)))) hp ∙ by_keys (view_case c).0 refl hk ∙ ap (λ xs. branches_onto out (cases m s ls k j (cases_view xs))) (sym (taken cs n c h e))
     where
-      by_keys : (ks : List ℤ) → (view_case c).0 ≡ ks → 0 < length ks → branches_onto (out ++ ((view_case c).0, followed w.statements (statement (break_nearest None) no_statements)) ∷ []) (cases m ls k w.next (cases_view (drop (n + 1) cs))) ≡ branches_onto out (cases m ls k j (cases_view (c ∷ drop (n + 1) cs)))
+      by_keys : (ks : List ℤ) → (view_case c).0 ≡ ks → 0 < length ks → branches_onto (out ++ ((view_case c).0, followed w.statements (statement (break_nearest None) no_statements)) ∷ []) (cases m s ls k w.next (cases_view (drop (n + 1) cs))) ≡ branches_onto out (cases m s ls k j (cases_view (c ∷ drop (n + 1) cs)))
       by_keys [] q l = absurd (omega arith)
       by_keys (z ∷ zs) q l = cases-rest k j c (drop (n + 1) cs) out w z zs q hw
 
-  pub cases-skip : (cs : List MatchCase) (n : ℕ) (c : MatchCase) (k : Destination) (j : ℕ) (out : List core.Case) → n < length cs → c ≡ get_or cs n c → (view_case c).0 ≡ [] → branches_onto out (cases m ls k j (cases_view (drop (n + 1) cs))) ≡ branches_onto out (cases m ls k j (cases_view (drop n cs)))
+  pub cases-skip : (cs : List MatchCase) (n : ℕ) (c : MatchCase) (k : Destination) (j : ℕ) (out : List core.Case) → n < length cs → c ≡ get_or cs n c → (view_case c).0 ≡ [] → branches_onto out (cases m s ls k j (cases_view (drop (n + 1) cs))) ≡ branches_onto out (cases m s ls k j (cases_view (drop n cs)))
   cases-skip cs n c k j out h e hk =
-      (λ i. branches_onto out (cases m ls k j (more_cases (sym hk i) (view_case c).1 (cases_view (drop (n + 1) cs))))) ∙ ap (λ xs. branches_onto out (cases m ls k j (cases_view xs))) (sym (taken cs n c h e))
+      (λ i. branches_onto out (cases m s ls k j (more_cases (sym hk i) (view_case c).1 (cases_view (drop (n + 1) cs))))) ∙ ap (λ xs. branches_onto out (cases m s ls k j (cases_view xs))) (sym (taken cs n c h e))
 
 pub ruleset ends = (followed-nil, arguments-none, append-nil)

@@ -38,3 +38,12 @@ use-two o u j f = ap (λ r. then_use r f) (spill-more o (u ∷ []) j) ∙ ap (λ
     second p =
         let q = placed true u p.next in
         ap (λ r. then_use (with_statements p.statements (with_expression p.expression r)) f) (spill-more u [] p.next) ∙ ap (λ ss. joined (record { statements = followed p.statements ss; next = q.next }) (f (p.expression ∷ q.expression ∷ []) q.next)) (followed-nil q.statements) ∙ ap (λ ss. record { statements = ss; next = (f (p.expression ∷ q.expression ∷ []) q.next).next }) (followed-assoc p.statements q.statements (f (p.expression ∷ q.expression ∷ []) q.next).statements)
+
+pub use-first : (o : Operand) (os : List Operand) (j : ℕ) (f : List Expression → ℕ → Code) → then_use (spill (o ∷ os) j) f ≡ behind (placed (all_plain os) o j) (λ e i. then_use (spill os i) (λ es. f (e ∷ es)))
+use-first o os j f = ap (λ r. then_use r f) (spill-more o os j) ∙ first (placed (all_plain os) o j)
+  where
+    first : (p : Placed) → then_use (in_front p (spill os)) f ≡ behind p (λ e i. then_use (spill os i) (λ es. f (e ∷ es)))
+    first p =
+        let r = spill os p.next in
+        let c = f (p.expression ∷ r.expressions) r.next in
+        ap (λ ss. record { statements = ss; next = c.next }) (followed-assoc p.statements r.statements c.statements)

@@ -7,9 +7,9 @@ ghost use Rattle.sj_desugaring.specs.Views.{destination_view};
 ghost use Rattle.sj_desugarer.specs.Methods.{method_desugared};
 ghost use Rattle.sj_trees.specs.View.{view};
 
-use crate::trees::statements_of;
+use crate::trees::{Locals, statements_of};
 use sj_core::{CoreMethod, CoreStatement};
-use sj_desugaring::{Destination, is_no_type, mutable_locals};
+use sj_desugaring::{Destination, is_no_type, mutable_locals, sure_locals};
 use sj_names::{Items, LocalName, NoMemory};
 use sj_trees::{IrType, MethodDef, ParamDef, Tree};
 use std::alloc::Global;
@@ -44,8 +44,13 @@ fn statements_of_body(
     ensures { IfOk result (λ ss. statements_view ss.items ≡ body_code (is_mutable_in m.now (view tree.now)) m.now.result (view tree.now)) }
 {
     let mutable = mutable_locals(alloc, m.params.as_slice(), tree)?;
+    let sure = sure_locals(alloc, tree)?;
     let destination = destination_of(&m.result)?;
-    let written = statements_of(alloc, &mutable, &[], &destination, 1, tree)?;
+    let locals = Locals {
+        mutable: &mutable,
+        sure: &sure,
+    };
+    let written = statements_of(alloc, &locals, &[], &destination, 1, tree)?;
     Ok(written.statements)
 }
 

@@ -1,96 +1,106 @@
 // Trees as statements.
-ghost use Rattle.std.specs.Prelude.{◌≡◌, ◌&&◌, IfOk, map};
+ghost use Rattle.std.specs.Prelude.{◌≡◌, ◌&&◌, false, IfOk, map};
 ghost use Rattle.sj_desugar.specs.Desugar as desugar;
 ghost use Rattle.sj_desugar.specs.Plain.{is_among};
 ghost use Rattle.sj_desugar.specs.Spill.{spill};
 ghost use Rattle.sj_desugaring.specs.Arguments.{with_arguments};
 ghost use Rattle.sj_desugaring.specs.Forms as forms;
-ghost use Rattle.sj_desugarer.specs.Operands.{comes_to};
+ghost use Rattle.sj_desugarer.specs.Operands.{comes_to, comes_received, owner_place, assigned_code};
+ghost use Rattle.sj_desugaring.specs.Placing.{placed};
 ghost use Rattle.sj_desugaring.specs.Views.{destination_view, target_view, code_view, placed_view, all_view, branches_view};
 ghost use Rattle.sj_trees.specs.View.{view, terms_view, cases_view};
 
+use sj_core::CoreExpression;
 use sj_desugaring::{
-    Callee, Destination, Operation, Placed, PlacedAll, SwitchCases, Target, Written, are_plain,
-    assigned, binary_value, branched, brought, call_value, case_of, coerced_argument, declared,
-    defined, expression_of, in_place, is_fixed, is_plain, joined, kept, labeled, leaving,
-    local_destination, logged, looped, looped_behind, nothing, number_behind, operand_destination,
-    position_of, switched, target_of, tested_loop, unary_value, value_of, with_label,
-    without_first,
+    Callee, Destination, FieldPlace, Operation, Placed, PlacedAll, SwitchCases, Target, Written,
+    are_plain, assigned, binary_value, branched, brought, call_value, case_of, checked,
+    checked_operand, coerced_argument, declared, defined, expression_of, field_set, field_value,
+    in_place, is_fixed, is_plain, is_sure, joined, kept, labeled, leaving, local_destination,
+    logged, looped, looped_behind, made_value, nothing, number_behind, operand_destination,
+    position_of, receiver_value, static_set, switched, target_of, tested_loop, thrown, unary_value,
+    value_of, with_label, without_first,
 };
 use sj_names::{LocalName, NoMemory, TypeRef};
-use sj_trees::{MatchCase, Tree, type_of};
+use sj_trees::{MatchCase, Position, Tree, type_of};
 use std::alloc::Global;
 
-/// A tree as statements that bring its value to a destination, in a method with these mutable locals, inside of these labels, with variables
+/// The locals of a body that are mutable, and those that are never null.
+#[derive(Clone, Copy)]
+pub struct Locals<'l> {
+    pub mutable: &'l [LocalName],
+    pub sure: &'l [LocalName],
+}
+
+/// A tree as statements that bring its value to a destination, in a method with these locals, inside of these labels, with variables
 /// for operands from the number `next` on. A form that isn't built writes nothing.
 #[cycle(trees)]
 pub fn statements_of(
     alloc: Global,
-    mutable: &[LocalName],
+    locals: &Locals<'_>,
     targets: &[Target],
     destination: &Destination,
     next: u64,
     tree: &Tree,
 ) -> Result<Written, NoMemory>
-    ensures { IfOk result (λ w. code_view w ≡ desugar.into (is_among mutable.now) (map target_view targets.now) (destination_view destination.now) next (view tree.now)) }
+    ensures { IfOk result (λ w. code_view w ≡ desugar.into (is_among locals.now.mutable.now) (is_among locals.now.sure.now) (map target_view targets.now) (destination_view destination.now) next (view tree.now)) }
 {
     match tree {
         Tree::VarDef(position, name, tpe, _, value) => {
             let simple = is_plain(value);
             if simple {
-                defined(alloc, *position, name, tpe, value, next)
+                defined(alloc, locals.sure, *position, name, tpe, value, next)
             } else {
                 let local = local_destination(name, tpe)?;
-                let value_code = statements_of(alloc, mutable, targets, &local, next, value)?;
+                let value_code = statements_of(alloc, locals, targets, &local, next, value)?;
                 declared(alloc, *position, name, value_code)
             }
         }
-        Tree::Block(_, trees) => block_of(alloc, mutable, targets, destination, next, trees),
+        Tree::Block(_, trees) => block_of(alloc, locals, targets, destination, next, trees),
         Tree::Labeled(position, label, _, body) => {
             let inner = with_label(alloc, label, destination, targets)?;
-            let body_code = statements_of(alloc, mutable, &inner, destination, next, body)?;
+            let body_code = statements_of(alloc, locals, &inner, destination, next, body)?;
             labeled(alloc, destination, *position, label, body_code)
         }
-        Tree::Assign(position, target, value) => match &**target {
-            Tree::VarRef(_, name, tpe) => {
-                let new_value = operand_of(alloc, mutable, targets, true, next, value)?;
-                assigned(alloc, *position, name, tpe, value, new_value)
-            }
-            _ => Ok(nothing(alloc, next)),
-        },
+        Tree::Assign(position, target, value) => {
+            let value_plain = is_plain(value);
+            let owner = owner_of(alloc, locals, targets, value_plain, next, target)?;
+            assignment_of(
+                alloc, locals, targets, next, *position, value, target, owner,
+            )
+        }
         Tree::Return(position, value, label) => {
             let goes_to = target_of(targets, label)?;
-            let left = statements_of(alloc, mutable, targets, &goes_to, next, value)?;
+            let left = statements_of(alloc, locals, targets, &goes_to, next, value)?;
             leaving(alloc, &goes_to, *position, label, left)
         }
         Tree::If(position, condition, yes, no, _) => {
-            let test = operand_of(alloc, mutable, targets, true, next, condition)?;
-            let first = statements_of(alloc, mutable, targets, destination, test.next, yes)?;
-            let second = statements_of(alloc, mutable, targets, destination, first.next, no)?;
+            let test = operand_of(alloc, locals, targets, true, next, condition)?;
+            let first = statements_of(alloc, locals, targets, destination, test.next, yes)?;
+            let second = statements_of(alloc, locals, targets, destination, first.next, no)?;
             branched(alloc, *position, test, first, second)
         }
         Tree::While(position, condition, body) => {
             let nowhere = Destination::Discard;
             let repeated = is_plain(condition);
             if repeated {
-                let turn = statements_of(alloc, mutable, targets, &nowhere, next, body)?;
-                looped(alloc, *position, condition, turn)
+                let turn = statements_of(alloc, locals, targets, &nowhere, next, body)?;
+                looped(alloc, locals.sure, *position, condition, turn)
             } else {
-                let front = operand_of(alloc, mutable, targets, true, next, condition)?;
-                let rest = statements_of(alloc, mutable, targets, &nowhere, front.next, body)?;
+                let front = operand_of(alloc, locals, targets, true, next, condition)?;
+                let rest = statements_of(alloc, locals, targets, &nowhere, front.next, body)?;
                 tested_loop(alloc, *position, front, rest)
             }
         }
         Tree::DoWhile(position, body, condition) => {
             let nowhere = Destination::Discard;
-            let whole = statements_of(alloc, mutable, targets, &nowhere, next, body)?;
-            let back = operand_of(alloc, mutable, targets, true, whole.next, condition)?;
+            let whole = statements_of(alloc, locals, targets, &nowhere, next, body)?;
+            let back = operand_of(alloc, locals, targets, true, whole.next, condition)?;
             looped_behind(alloc, *position, whole, back)
         }
         Tree::Match(position, selector, cases, default, _) => {
-            let selected = operand_of(alloc, mutable, targets, true, next, selector)?;
-            let branches = cases_of(alloc, mutable, targets, destination, selected.next, cases)?;
-            let last = statements_of(alloc, mutable, targets, destination, branches.next, default)?;
+            let selected = operand_of(alloc, locals, targets, true, next, selector)?;
+            let branches = cases_of(alloc, locals, targets, destination, selected.next, cases)?;
+            let last = statements_of(alloc, locals, targets, destination, branches.next, default)?;
             switched(alloc, *position, selected, branches, last)
         }
         Tree::ApplyStatic(position, class, namespace, method, trees, tpe) => {
@@ -100,17 +110,52 @@ pub fn statements_of(
                 method,
             };
             let params = method.params.as_slice();
-            let arguments = arguments_of(alloc, mutable, targets, params, next, trees)?;
+            let arguments = arguments_of(alloc, locals, targets, params, next, trees)?;
             call_value(alloc, destination, *position, &callee, tpe, arguments)
         }
+        Tree::ApplyStatically(position, object, class, namespace, method, trees, tpe) => {
+            let callee = Callee {
+                class,
+                namespace: *namespace,
+                method,
+            };
+            let all_plain = are_plain(trees);
+            let owner = receiver_of(alloc, locals, targets, all_plain, next, object)?;
+            let params = method.params.as_slice();
+            let arguments = arguments_of(alloc, locals, targets, params, owner.next, trees)?;
+            receiver_value(
+                alloc,
+                destination,
+                *position,
+                &callee,
+                tpe,
+                object,
+                owner,
+                arguments,
+            )
+        }
+        Tree::New(position, class, method, trees) => {
+            let params = method.params.as_slice();
+            let arguments = arguments_of(alloc, locals, targets, params, next, trees)?;
+            made_value(alloc, destination, *position, class, method, arguments)
+        }
+        Tree::Select(position, object, class, name, tpe) => {
+            let owner = receiver_of(alloc, locals, targets, true, next, object)?;
+            let place = FieldPlace { class, name, tpe };
+            field_value(alloc, destination, *position, &place, owner)
+        }
+        Tree::Throw(position, value) => {
+            let object = operand_of(alloc, locals, targets, true, next, value)?;
+            thrown(alloc, *position, value, object)
+        }
         Tree::UnaryOp(position, op, value) => {
-            let operand = operand_of(alloc, mutable, targets, true, next, value)?;
+            let operand = operand_of(alloc, locals, targets, true, next, value)?;
             unary_value(alloc, destination, *position, *op, operand)
         }
         Tree::BinaryOp(position, op, left, right) => {
             let second_plain = is_plain(right);
-            let one = operand_of(alloc, mutable, targets, second_plain, next, left)?;
-            let other = operand_of(alloc, mutable, targets, true, one.next, right)?;
+            let one = operand_of(alloc, locals, targets, second_plain, next, left)?;
+            let other = operand_of(alloc, locals, targets, true, one.next, right)?;
             let operation = Operation {
                 op: *op,
                 left,
@@ -119,7 +164,7 @@ pub fn statements_of(
             binary_value(alloc, destination, *position, &operation, one, other)
         }
         Tree::Log(position, text) => {
-            let line = operand_of(alloc, mutable, targets, true, next, text)?;
+            let line = operand_of(alloc, locals, targets, true, next, text)?;
             logged(alloc, *position, line)
         }
         Tree::Undefined(_)
@@ -131,25 +176,150 @@ pub fn statements_of(
         | Tree::IntLiteral(_, _)
         | Tree::LongLiteral(_, _)
         | Tree::StringLiteral(_, _)
-        | Tree::VarRef(_, _, _) => value_of(alloc, destination, next, tree),
+        | Tree::VarRef(_, _, _)
+        | Tree::This(_, _)
+        | Tree::SelectStatic(_, _, _, _) => value_of(alloc, destination, next, tree),
         Tree::Skip(_)
         | Tree::TryCatch(_, _, _, _, _)
         | Tree::TryFinally(_, _, _)
+        | Tree::LoadModule(_, _)
+        | Tree::StoreModule(_, _, _)
+        | Tree::Apply(_, _, _, _, _)
+        | Tree::NewArray(_, _, _)
+        | Tree::ArrayValue(_, _, _)
+        | Tree::ArrayLength(_, _)
+        | Tree::ArraySelect(_, _, _, _)
+        | Tree::IsInstanceOf(_, _, _)
+        | Tree::AsInstanceOf(_, _, _) => Ok(nothing(alloc, next)),
+    }
+}
+
+// The object of the field that a tree names as an operand. A tree that names no field writes nothing.
+#[cycle(trees)]
+fn owner_of(
+    alloc: Global,
+    locals: &Locals<'_>,
+    targets: &[Target],
+    rest_is_plain: bool,
+    next: u64,
+    target: &Tree,
+) -> Result<Placed, NoMemory>
+    ensures { IfOk result (λ p. placed_view p ≡ owner_place (is_among locals.now.mutable.now) (is_among locals.now.sure.now) (map target_view targets.now) rest_is_plain next (view target.now)) }
+{
+    match target {
+        Tree::Select(_, object, _, _, _) => {
+            receiver_of(alloc, locals, targets, rest_is_plain, next, object)
+        }
+        Tree::VarDef(_, _, _, _, _)
+        | Tree::Skip(_)
+        | Tree::Block(_, _)
+        | Tree::Labeled(_, _, _, _)
+        | Tree::Assign(_, _, _)
+        | Tree::Return(_, _, _)
+        | Tree::If(_, _, _, _, _)
+        | Tree::While(_, _, _)
+        | Tree::DoWhile(_, _, _)
+        | Tree::TryCatch(_, _, _, _, _)
+        | Tree::TryFinally(_, _, _)
         | Tree::Throw(_, _)
+        | Tree::Match(_, _, _, _, _)
         | Tree::New(_, _, _, _)
         | Tree::LoadModule(_, _)
         | Tree::StoreModule(_, _, _)
-        | Tree::Select(_, _, _, _, _)
-        | Tree::SelectStatic(_, _, _, _)
         | Tree::Apply(_, _, _, _, _)
         | Tree::ApplyStatically(_, _, _, _, _, _, _)
+        | Tree::ApplyStatic(_, _, _, _, _, _)
+        | Tree::UnaryOp(_, _, _)
+        | Tree::BinaryOp(_, _, _, _)
         | Tree::NewArray(_, _, _)
         | Tree::ArrayValue(_, _, _)
         | Tree::ArrayLength(_, _)
         | Tree::ArraySelect(_, _, _, _)
         | Tree::IsInstanceOf(_, _, _)
         | Tree::AsInstanceOf(_, _, _)
-        | Tree::This(_, _) => Ok(nothing(alloc, next)),
+        | Tree::Undefined(_)
+        | Tree::Null(_)
+        | Tree::BooleanLiteral(_, _)
+        | Tree::CharLiteral(_, _)
+        | Tree::ByteLiteral(_, _)
+        | Tree::ShortLiteral(_, _)
+        | Tree::IntLiteral(_, _)
+        | Tree::LongLiteral(_, _)
+        | Tree::StringLiteral(_, _)
+        | Tree::This(_, _)
+        | Tree::Log(_, _)
+        | Tree::VarRef(_, _, _)
+        | Tree::SelectStatic(_, _, _, _) => Ok(in_place(alloc, CoreExpression::Undefined, next)),
+    }
+}
+
+// An assignment of what the one tree comes to, to what the other names, behind the object of a field. A tree that names nothing writes nothing.
+#[cycle(trees)]
+fn assignment_of(
+    alloc: Global,
+    locals: &Locals<'_>,
+    targets: &[Target],
+    next: u64,
+    position: Position,
+    value: &Tree,
+    target: &Tree,
+    owner: Placed,
+) -> Result<Written, NoMemory>
+    ensures { IfOk result (λ w. code_view w ≡ assigned_code (is_among locals.now.mutable.now) (is_among locals.now.sure.now) (map target_view targets.now) next position (view target.now) (view value.now) (placed_view owner)) }
+{
+    match target {
+        Tree::VarRef(_, name, tpe) => {
+            let new_value = operand_of(alloc, locals, targets, true, next, value)?;
+            assigned(alloc, position, name, tpe, value, new_value)
+        }
+        Tree::Select(_, _, class, name, tpe) => {
+            let new_value = operand_of(alloc, locals, targets, true, owner.next, value)?;
+            let place = FieldPlace { class, name, tpe };
+            field_set(alloc, position, &place, value, owner, new_value)
+        }
+        Tree::SelectStatic(_, class, name, tpe) => {
+            let new_value = operand_of(alloc, locals, targets, true, next, value)?;
+            let place = FieldPlace { class, name, tpe };
+            static_set(alloc, position, &place, value, new_value)
+        }
+        Tree::VarDef(_, _, _, _, _)
+        | Tree::Skip(_)
+        | Tree::Block(_, _)
+        | Tree::Labeled(_, _, _, _)
+        | Tree::Assign(_, _, _)
+        | Tree::Return(_, _, _)
+        | Tree::If(_, _, _, _, _)
+        | Tree::While(_, _, _)
+        | Tree::DoWhile(_, _, _)
+        | Tree::TryCatch(_, _, _, _, _)
+        | Tree::TryFinally(_, _, _)
+        | Tree::Throw(_, _)
+        | Tree::Match(_, _, _, _, _)
+        | Tree::New(_, _, _, _)
+        | Tree::LoadModule(_, _)
+        | Tree::StoreModule(_, _, _)
+        | Tree::Apply(_, _, _, _, _)
+        | Tree::ApplyStatically(_, _, _, _, _, _, _)
+        | Tree::ApplyStatic(_, _, _, _, _, _)
+        | Tree::UnaryOp(_, _, _)
+        | Tree::BinaryOp(_, _, _, _)
+        | Tree::NewArray(_, _, _)
+        | Tree::ArrayValue(_, _, _)
+        | Tree::ArrayLength(_, _)
+        | Tree::ArraySelect(_, _, _, _)
+        | Tree::IsInstanceOf(_, _, _)
+        | Tree::AsInstanceOf(_, _, _)
+        | Tree::Undefined(_)
+        | Tree::Null(_)
+        | Tree::BooleanLiteral(_, _)
+        | Tree::CharLiteral(_, _)
+        | Tree::ByteLiteral(_, _)
+        | Tree::ShortLiteral(_, _)
+        | Tree::IntLiteral(_, _)
+        | Tree::LongLiteral(_, _)
+        | Tree::StringLiteral(_, _)
+        | Tree::This(_, _)
+        | Tree::Log(_, _) => Ok(nothing(alloc, next)),
     }
 }
 
@@ -158,26 +328,75 @@ pub fn statements_of(
 #[tactic(auto, unfolding(crate::specs::Operands::comes_to))]
 fn operand_of(
     alloc: Global,
-    mutable: &[LocalName],
+    locals: &Locals<'_>,
     targets: &[Target],
     rest_is_plain: bool,
     next: u64,
     tree: &Tree,
 ) -> Result<Placed, NoMemory>
-    ensures { IfOk result (λ p. placed_view p ≡ comes_to (is_among mutable.now) (map target_view targets.now) rest_is_plain next (view tree.now)) }
+    ensures { IfOk result (λ p. placed_view p ≡ comes_to (is_among locals.now.mutable.now) (is_among locals.now.sure.now) (map target_view targets.now) rest_is_plain next (view tree.now)) }
 {
     let plain = is_plain(tree);
     if are_both(plain, rest_is_plain) {
-        Ok(in_place(alloc, expression_of(alloc, tree)?, next))
-    } else if is_fixed(mutable, tree) {
-        Ok(in_place(alloc, expression_of(alloc, tree)?, next))
+        Ok(in_place(alloc, expression_of(alloc, locals.sure, tree)?, next))
+    } else if is_fixed(locals.mutable, tree) {
+        Ok(in_place(alloc, expression_of(alloc, locals.sure, tree)?, next))
     } else if plain {
-        let value = expression_of(alloc, tree)?;
+        let value = expression_of(alloc, locals.sure, tree)?;
         kept(alloc, position_of(tree), value, next)
     } else {
         let variable = operand_destination(alloc, next, tree)?;
         let behind = number_behind(next)?;
-        let code = statements_of(alloc, mutable, targets, &variable, behind, tree)?;
+        let code = statements_of(alloc, locals, targets, &variable, behind, tree)?;
+        brought(alloc, position_of(tree), next, code)
+    }
+}
+
+// A receiver as an operand, with its null check unless it is sure.
+#[cycle(trees)]
+#[tactic(auto, unfolding(crate::specs::Operands::comes_received))]
+fn receiver_of(
+    alloc: Global,
+    locals: &Locals<'_>,
+    targets: &[Target],
+    rest_is_plain: bool,
+    next: u64,
+    tree: &Tree,
+) -> Result<Placed, NoMemory>
+    ensures { IfOk result (λ p. placed_view p ≡ comes_received (is_among locals.now.mutable.now) (is_among locals.now.sure.now) (map target_view targets.now) rest_is_plain next (view tree.now)) }
+{
+    let never_null = is_sure(alloc, locals.sure, tree)?;
+    if never_null {
+        operand_of(alloc, locals, targets, rest_is_plain, next, tree)
+    } else {
+        checked_receiver(alloc, locals, targets, rest_is_plain, next, tree)
+    }
+}
+
+// A receiver with its null check as an operand.
+#[cycle(trees)]
+fn checked_receiver(
+    alloc: Global,
+    locals: &Locals<'_>,
+    targets: &[Target],
+    rest_is_plain: bool,
+    next: u64,
+    tree: &Tree,
+) -> Result<Placed, NoMemory>
+    ensures { IfOk result (λ p. placed_view p ≡ placed rest_is_plain (desugar.received false (desugar.operand (is_among locals.now.mutable.now) (is_among locals.now.sure.now) (view tree.now) (λ k j. desugar.into (is_among locals.now.mutable.now) (is_among locals.now.sure.now) (map target_view targets.now) k j (view tree.now)))) next) }
+{
+    let plain = is_plain(tree);
+    if are_both(plain, rest_is_plain) {
+        let value = expression_of(alloc, locals.sure, tree)?;
+        Ok(in_place(alloc, checked(alloc, value)?, next))
+    } else if plain {
+        let value = expression_of(alloc, locals.sure, tree)?;
+        kept(alloc, position_of(tree), checked(alloc, value)?, next)
+    } else {
+        let variable = operand_destination(alloc, next, tree)?;
+        let behind = number_behind(next)?;
+        let inner = operand_of(alloc, locals, targets, true, behind, tree)?;
+        let code = checked_operand(alloc, &variable, tree, inner)?;
         brought(alloc, position_of(tree), next, code)
     }
 }
@@ -193,19 +412,19 @@ fn are_both(one: bool, other: bool) -> bool
 #[tactic(auto, using(std::proofs::lemmas::Grind::common_steps, crate::proofs::Runs::ends))]
 fn block_of(
     alloc: Global,
-    mutable: &[LocalName],
+    locals: &Locals<'_>,
     targets: &[Target],
     destination: &Destination,
     next: u64,
     trees: &[Tree],
 ) -> Result<Written, NoMemory>
-    ensures { IfOk result (λ w. code_view w ≡ desugar.block (is_among mutable.now) (map target_view targets.now) (destination_view destination.now) next (terms_view trees.now)) }
+    ensures { IfOk result (λ w. code_view w ≡ desugar.block (is_among locals.now.mutable.now) (is_among locals.now.sure.now) (map target_view targets.now) (destination_view destination.now) next (terms_view trees.now)) }
 {
     let mut written = nothing(alloc, next);
     for (index, each) in trees.iter().enumerate() {
         let nowhere = Destination::Discard;
         let goes_to = for_last(&trees[index + 1..], destination, &nowhere);
-        let code = statements_of(alloc, mutable, targets, goes_to, written.next, each)?;
+        let code = statements_of(alloc, locals, targets, goes_to, written.next, each)?;
         written = joined(written, code)?;
     }
     Ok(written)
@@ -226,20 +445,20 @@ fn for_last<'d>(others: &[Tree], last: &'d Destination, other: &'d Destination) 
 #[tactic(auto, using(std::proofs::lemmas::Grind::common_steps, crate::proofs::Runs::ends))]
 fn arguments_of(
     alloc: Global,
-    mutable: &[LocalName],
+    locals: &Locals<'_>,
     targets: &[Target],
     params: &[TypeRef],
     next: u64,
     trees: &[Tree],
 ) -> Result<PlacedAll, NoMemory>
-    ensures { IfOk result (λ r. all_view r ≡ with_arguments params.now (desugar.types_of (terms_view trees.now)) (spill (desugar.operands (is_among mutable.now) (map target_view targets.now) (terms_view trees.now)) next)) }
+    ensures { IfOk result (λ r. all_view r ≡ with_arguments params.now (desugar.types_of (terms_view trees.now)) (spill (desugar.operands (is_among locals.now.mutable.now) (is_among locals.now.sure.now) (map target_view targets.now) (terms_view trees.now)) next)) }
 {
     let mut written = nothing(alloc, next);
     let mut expressions = Vec::new(alloc);
     let mut left = params;
     for (index, each) in trees.iter().enumerate() {
         let rest_is_plain = are_plain(&trees[index + 1..]);
-        let operand = operand_of(alloc, mutable, targets, rest_is_plain, written.next, each)?;
+        let operand = operand_of(alloc, locals, targets, rest_is_plain, written.next, each)?;
         let front = Written {
             statements: operand.statements,
             next: operand.next,
@@ -260,13 +479,13 @@ fn arguments_of(
 #[cycle(trees)]
 fn cases_of(
     alloc: Global,
-    mutable: &[LocalName],
+    locals: &Locals<'_>,
     targets: &[Target],
     destination: &Destination,
     next: u64,
     cases: &[MatchCase],
 ) -> Result<SwitchCases, NoMemory>
-    ensures { IfOk result (λ b. branches_view b ≡ desugar.cases (is_among mutable.now) (map target_view targets.now) (destination_view destination.now) next (cases_view cases.now)) }
+    ensures { IfOk result (λ b. branches_view b ≡ desugar.cases (is_among locals.now.mutable.now) (is_among locals.now.sure.now) (map target_view targets.now) (destination_view destination.now) next (cases_view cases.now)) }
 {
     let mut number = next;
     let mut switched = Vec::new(alloc);
@@ -275,7 +494,7 @@ fn cases_of(
         if keys.is_empty() {
             continue;
         }
-        let code = statements_of(alloc, mutable, targets, destination, number, &each.body)?;
+        let code = statements_of(alloc, locals, targets, destination, number, &each.body)?;
         number = code.next;
         switched.push(case_of(alloc, keys, code)?)?;
     }

@@ -1,3 +1,4 @@
 pub mod Arguments
 pub mod Lists
 pub mod Names
+pub mod Sures

@@ -1,4 +1,5 @@
 pub mod Arguments
+pub mod Definitions
 pub mod Forms
 pub mod Placing
 pub mod Views

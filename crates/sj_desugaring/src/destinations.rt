@@ -34,6 +34,7 @@ pub fn copied_variable(variable: &CoreVariable) -> Result<CoreVariable, NoMemory
     match variable {
         CoreVariable::Local(name) => Ok(CoreVariable::Local(name.copied()?)),
         CoreVariable::Numbered(number) => Ok(CoreVariable::Numbered(*number)),
+        CoreVariable::Receiver => Ok(CoreVariable::Receiver),
     }
 }
 

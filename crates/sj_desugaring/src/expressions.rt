@@ -3,42 +3,65 @@ ghost use Rattle.std.specs.Prelude.{◌≡◌, IfOk, map};
 ghost use Rattle.sj_core.specs.Views.{expression_view};
 ghost use Rattle.sj_desugar.specs.Coercions as coercions;
 ghost use Rattle.sj_desugar.specs.Desugar as desugar;
+ghost use Rattle.sj_desugar.specs.Plain as plain;
 ghost use Rattle.sj_desugar.specs.Texts as texts;
 ghost use Rattle.sj_desugaring.specs.Arguments as arguments;
 ghost use Rattle.sj_trees.specs.TypeOf.{type_of_term};
 ghost use Rattle.sj_trees.specs.View.{view, terms_view};
 ghost use Rattle.sj_core.specs.Terms as terms;
 ghost use Rattle.sj_core.specs.Views as core;
+ghost use Rattle.sj_names.specs.declared.method_names.Namespace.TheVariants.{Constructor};
+ghost use Rattle.sure_receivers.specs.Sure as receivers;
 
 use crate::coercions::{coerced, coerced_argument};
+use crate::sure::is_sure;
 use crate::texts::operand_of;
 use sj_core::{CoreExpression, CoreVariable};
-use sj_names::{ClassName, LocalName, Member, MethodName, Namespace, NoMemory, TypeRef};
+use sj_names::{ClassName, FieldName, LocalName, Member, MethodName, Namespace, NoMemory, TypeRef};
 use sj_trees::{BinaryOp, IrType, Tree, type_of};
 use std::alloc::Global;
 
-/// A plain tree as an expression. A form that isn't built stands as undefined.
+/// A plain tree as an expression, in a body whose locals `sure` are never null. A form that isn't built stands as undefined.
 #[cycle(expression)]
-pub fn expression_of(alloc: Global, tree: &Tree) -> Result<CoreExpression, NoMemory>
-    ensures { IfOk result (λ e. expression_view e ≡ desugar.expression_of (view tree.now)) }
+pub fn expression_of(
+    alloc: Global,
+    sure: &[LocalName],
+    tree: &Tree,
+) -> Result<CoreExpression, NoMemory>
+    ensures { IfOk result (λ e. expression_view e ≡ desugar.expression_of (plain.is_among sure.now) (view tree.now)) }
 {
     match tree {
         Tree::If(_, condition, yes, no, tpe) => {
-            let condition = boxed_expression(alloc, condition)?;
-            let yes = branch(alloc, tpe, yes)?;
-            let no = branch(alloc, tpe, no)?;
+            let condition = boxed_expression(alloc, sure, condition)?;
+            let yes = branch(alloc, sure, tpe, yes)?;
+            let no = branch(alloc, sure, tpe, no)?;
             Ok(CoreExpression::Choice(condition, yes, no))
         }
         Tree::ApplyStatic(_, class, namespace, method, trees, _) => {
-            let arguments = arguments_of(alloc, method.params.as_slice(), trees)?;
+            let arguments = arguments_of(alloc, sure, method.params.as_slice(), trees)?;
             static_call(class, *namespace, method, arguments)
         }
+        Tree::ApplyStatically(_, receiver, class, namespace, method, trees, _) => {
+            let receiver = called(alloc, sure, receiver)?;
+            let arguments = arguments_of(alloc, sure, method.params.as_slice(), trees)?;
+            receiver_call(class, *namespace, method, receiver, arguments)
+        }
+        Tree::This(_, _) => Ok(CoreExpression::Variable(CoreVariable::Receiver)),
+        Tree::New(_, class, method, trees) => {
+            let arguments = arguments_of(alloc, sure, method.params.as_slice(), trees)?;
+            made(class, method, arguments)
+        }
+        Tree::Select(_, object, class, field, _) => {
+            let object = received(alloc, sure, object)?;
+            field_of(alloc, object, class, field)
+        }
+        Tree::SelectStatic(_, class, field, _) => static_field(class, field),
         Tree::UnaryOp(_, op, operand) => {
-            Ok(CoreExpression::Unary(*op, boxed_expression(alloc, operand)?))
+            Ok(CoreExpression::Unary(*op, boxed_expression(alloc, sure, operand)?))
         }
         Tree::BinaryOp(_, op, left, right) => {
-            let left = operand(alloc, *op, left)?;
-            let right = operand(alloc, *op, right)?;
+            let left = operand(alloc, sure, *op, left)?;
+            let right = operand(alloc, sure, *op, right)?;
             Ok(CoreExpression::Binary(*op, left, right))
         }
         Tree::Null(_) => Ok(CoreExpression::Null),
@@ -50,33 +73,97 @@ pub fn expression_of(alloc: Global, tree: &Tree) -> Result<CoreExpression, NoMem
         Tree::LongLiteral(_, value) => Ok(CoreExpression::Long(*value)),
         Tree::StringLiteral(_, units) => Ok(CoreExpression::Text(units.copied()?)),
         Tree::VarRef(_, name, _) => local_use(name),
-        _ => Ok(CoreExpression::Undefined),
+        Tree::VarDef(_, _, _, _, _)
+        | Tree::Skip(_)
+        | Tree::Block(_, _)
+        | Tree::Labeled(_, _, _, _)
+        | Tree::Assign(_, _, _)
+        | Tree::Return(_, _, _)
+        | Tree::While(_, _, _)
+        | Tree::DoWhile(_, _, _)
+        | Tree::TryCatch(_, _, _, _, _)
+        | Tree::TryFinally(_, _, _)
+        | Tree::Throw(_, _)
+        | Tree::Match(_, _, _, _, _)
+        | Tree::LoadModule(_, _)
+        | Tree::StoreModule(_, _, _)
+        | Tree::Apply(_, _, _, _, _)
+        | Tree::NewArray(_, _, _)
+        | Tree::ArrayValue(_, _, _)
+        | Tree::ArrayLength(_, _)
+        | Tree::ArraySelect(_, _, _, _)
+        | Tree::IsInstanceOf(_, _, _)
+        | Tree::AsInstanceOf(_, _, _)
+        | Tree::Undefined(_)
+        | Tree::Log(_, _) => Ok(CoreExpression::Undefined),
     }
 }
 
 #[cycle(expression)]
-fn boxed_expression(alloc: Global, tree: &Tree) -> Result<Box<CoreExpression>, NoMemory>
-    ensures { IfOk result (λ e. expression_view e.value ≡ desugar.expression_of (view tree.now)) }
+fn boxed_expression(
+    alloc: Global,
+    sure: &[LocalName],
+    tree: &Tree,
+) -> Result<Box<CoreExpression>, NoMemory>
+    ensures { IfOk result (λ e. expression_view e.value ≡ desugar.expression_of (plain.is_among sure.now) (view tree.now)) }
 {
-    Ok(Box::new(alloc, expression_of(alloc, tree)?)?)
+    Ok(Box::new(alloc, expression_of(alloc, sure, tree)?)?)
 }
 
 // An operand of an operator.
 #[cycle(expression)]
-fn operand(alloc: Global, op: BinaryOp, tree: &Tree) -> Result<Box<CoreExpression>, NoMemory>
-    ensures { IfOk result (λ e. expression_view e.value ≡ texts.operand_of op (type_of_term (view tree.now)) (desugar.expression_of (view tree.now))) }
+fn operand(
+    alloc: Global,
+    sure: &[LocalName],
+    op: BinaryOp,
+    tree: &Tree,
+) -> Result<Box<CoreExpression>, NoMemory>
+    ensures { IfOk result (λ e. expression_view e.value ≡ texts.operand_of op (type_of_term (view tree.now)) (desugar.expression_of (plain.is_among sure.now) (view tree.now))) }
 {
-    let expression = expression_of(alloc, tree)?;
+    let expression = expression_of(alloc, sure, tree)?;
     operand_of(alloc, op, tree, expression)
+}
+
+// A receiver, with its null check unless it is sure.
+#[cycle(expression)]
+fn received(
+    alloc: Global,
+    sure: &[LocalName],
+    tree: &Tree,
+) -> Result<CoreExpression, NoMemory>
+    ensures { IfOk result (λ e. expression_view e ≡ desugar.received_text (receivers.is_sure (plain.is_among sure.now) (view tree.now)) (desugar.expression_of (plain.is_among sure.now) (view tree.now))) }
+{
+    let never_null = is_sure(alloc, sure, tree)?;
+    let value = expression_of(alloc, sure, tree)?;
+    received_text(alloc, never_null, value)
+}
+
+// The receiver of a call: a char is called as an object that holds it.
+#[cycle(expression)]
+fn called(
+    alloc: Global,
+    sure: &[LocalName],
+    tree: &Tree,
+) -> Result<Box<CoreExpression>, NoMemory>
+    ensures { IfOk result (λ e. expression_view e.value ≡ coercions.coerced_receiver (type_of_term (view tree.now)) (desugar.received_text (receivers.is_sure (plain.is_among sure.now) (view tree.now)) (desugar.expression_of (plain.is_among sure.now) (view tree.now)))) }
+{
+    let own = type_of(alloc, tree)?;
+    let value = received(alloc, sure, tree)?;
+    coerced_receiver(alloc, &own, value)
 }
 
 // A branch of a choice of this type.
 #[cycle(expression)]
-fn branch(alloc: Global, tpe: &IrType, tree: &Tree) -> Result<Box<CoreExpression>, NoMemory>
-    ensures { IfOk result (λ e. expression_view e.value ≡ coercions.coerced tpe.now (type_of_term (view tree.now)) (desugar.expression_of (view tree.now))) }
+fn branch(
+    alloc: Global,
+    sure: &[LocalName],
+    tpe: &IrType,
+    tree: &Tree,
+) -> Result<Box<CoreExpression>, NoMemory>
+    ensures { IfOk result (λ e. expression_view e.value ≡ coercions.coerced tpe.now (type_of_term (view tree.now)) (desugar.expression_of (plain.is_among sure.now) (view tree.now))) }
 {
     let own = type_of(alloc, tree)?;
-    let expression = expression_of(alloc, tree)?;
+    let expression = expression_of(alloc, sure, tree)?;
     Ok(Box::new(alloc, coerced(alloc, tpe, &own, expression)?)?)
 }
 
@@ -85,15 +172,16 @@ fn branch(alloc: Global, tpe: &IrType, tree: &Tree) -> Result<Box<CoreExpression
 #[tactic(auto, using(std::proofs::lemmas::Grind::common_steps, crate::proofs::Arguments::arguments))]
 fn arguments_of(
     alloc: Global,
+    sure: &[LocalName],
     params: &[TypeRef],
     trees: &[Tree],
 ) -> Result<Vec<CoreExpression>, NoMemory>
-    ensures { IfOk result (λ es. map expression_view es.items ≡ coercions.coerced_arguments params.now (desugar.types_of (terms_view trees.now)) (desugar.all_expressions (terms_view trees.now))) }
+    ensures { IfOk result (λ es. map expression_view es.items ≡ coercions.coerced_arguments params.now (desugar.types_of (terms_view trees.now)) (desugar.all_expressions (plain.is_among sure.now) (terms_view trees.now))) }
 {
     let mut arguments = Vec::new(alloc);
     let mut left = params;
     for each in trees {
-        arguments.push(argument_of(alloc, left, each)?)?;
+        arguments.push(argument_of(alloc, sure, left, each)?)?;
         left = without_first(left);
     }
     Ok(arguments)
@@ -101,11 +189,16 @@ fn arguments_of(
 
 // An argument for the first of these parameters.
 #[cycle(expression)]
-fn argument_of(alloc: Global, params: &[TypeRef], tree: &Tree) -> Result<CoreExpression, NoMemory>
-    ensures { IfOk result (λ e. expression_view e ≡ arguments.coerced_argument params.now (type_of_term (view tree.now)) (desugar.expression_of (view tree.now))) }
+fn argument_of(
+    alloc: Global,
+    sure: &[LocalName],
+    params: &[TypeRef],
+    tree: &Tree,
+) -> Result<CoreExpression, NoMemory>
+    ensures { IfOk result (λ e. expression_view e ≡ arguments.coerced_argument params.now (type_of_term (view tree.now)) (desugar.expression_of (plain.is_among sure.now) (view tree.now))) }
 {
     let own = type_of(alloc, tree)?;
-    let expression = expression_of(alloc, tree)?;
+    let expression = expression_of(alloc, sure, tree)?;
     coerced_argument(alloc, params, &own, expression)
 }
 
@@ -138,6 +231,108 @@ pub fn static_call(
         },
         arguments,
     ))
+}
+
+/// A receiver with its null check, unless it is never null.
+fn received_text(
+    alloc: Global,
+    never_null: bool,
+    value: CoreExpression,
+) -> Result<CoreExpression, NoMemory>
+    ensures { IfOk result (λ e. expression_view e ≡ desugar.received_text never_null (expression_view value)) }
+{
+    if never_null {
+        Ok(value)
+    } else {
+        checked(alloc, value)
+    }
+}
+
+/// A value with its null check.
+pub fn checked(alloc: Global, value: CoreExpression) -> Result<CoreExpression, NoMemory>
+    ensures { IfOk result (λ e. expression_view e ≡ terms.checked_value (expression_view value)) }
+{
+    Ok(CoreExpression::Checked(Box::new(alloc, value)?))
+}
+
+/// The receiver of a call that has this type: a char is called as an object that holds it.
+pub fn coerced_receiver(
+    alloc: Global,
+    own: &IrType,
+    value: CoreExpression,
+) -> Result<Box<CoreExpression>, NoMemory>
+    ensures { IfOk result (λ e. expression_view e.value ≡ coercions.coerced_receiver own.now (expression_view value)) }
+{
+    let value = Box::new(alloc, value)?;
+    match own {
+        IrType::Char => Ok(Box::new(alloc, CoreExpression::Boxed(value))?),
+        _ => Ok(value),
+    }
+}
+
+/// A call of a member on a receiver.
+pub fn receiver_call(
+    class: &ClassName,
+    namespace: Namespace,
+    method: &MethodName,
+    receiver: Box<CoreExpression>,
+    arguments: Vec<CoreExpression>,
+) -> Result<CoreExpression, NoMemory>
+    ensures { IfOk result (λ e. expression_view e ≡ terms.receiver_call (desugar.member class.now namespace method.now) (expression_view receiver.value) (core.expressions_view arguments.items)) }
+{
+    let class = class.copied()?;
+    let method = method.copied()?;
+    Ok(CoreExpression::ReceiverCall(
+        Member {
+            class,
+            namespace,
+            method,
+        },
+        receiver,
+        arguments,
+    ))
+}
+
+/// A new object of the class, on which this constructor of it runs.
+pub fn made(
+    class: &ClassName,
+    method: &MethodName,
+    arguments: Vec<CoreExpression>,
+) -> Result<CoreExpression, NoMemory>
+    ensures { IfOk result (λ e. expression_view e ≡ terms.made_of (desugar.member class.now Constructor method.now) (core.expressions_view arguments.items)) }
+{
+    let class = class.copied()?;
+    let method = method.copied()?;
+    Ok(CoreExpression::Made(
+        Member {
+            class,
+            namespace: Namespace::Constructor,
+            method,
+        },
+        arguments,
+    ))
+}
+
+/// A field of an object.
+pub fn field_of(
+    alloc: Global,
+    object: CoreExpression,
+    class: &ClassName,
+    field: &FieldName,
+) -> Result<CoreExpression, NoMemory>
+    ensures { IfOk result (λ e. expression_view e ≡ terms.field_of (expression_view object) class.now field.now) }
+{
+    let object = Box::new(alloc, object)?;
+    let class = class.copied()?;
+    Ok(CoreExpression::Field(object, class, field.copied()?))
+}
+
+/// A static field.
+pub fn static_field(class: &ClassName, field: &FieldName) -> Result<CoreExpression, NoMemory>
+    ensures { IfOk result (λ e. expression_view e ≡ terms.static_of class.now field.now) }
+{
+    let class = class.copied()?;
+    Ok(CoreExpression::StaticField(class, field.copied()?))
 }
 
 /// A local by its name.

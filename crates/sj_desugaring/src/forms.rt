@@ -4,6 +4,7 @@ ghost use Rattle.sj_core.specs.Terms as terms;
 ghost use Rattle.sj_core.specs.Views.{expression_view, expressions_of, statement_view, statements_view, case_view};
 ghost use Rattle.sj_desugar.specs.Coercions as coercions;
 ghost use Rattle.sj_desugar.specs.Desugar as desugar;
+ghost use Rattle.sj_desugar.specs.Plain.{is_among};
 ghost use Rattle.sj_desugar.specs.Spill as spill;
 ghost use Rattle.sj_desugar.specs.Texts as texts;
 ghost use Rattle.sj_desugaring.specs.Forms.{behind};
@@ -87,15 +88,16 @@ pub fn finish(
 /// A definition of a local of this type with a plain value.
 pub fn defined(
     alloc: Global,
+    sure: &[LocalName],
     position: Position,
     name: &LocalName,
     tpe: &IrType,
     value: &Tree,
     next: u64,
 ) -> Result<Written, NoMemory>
-    ensures { IfOk result (λ w. code_view w ≡ spill.one (terms.define_of (Some position) (terms.named name.now) (coercions.coerced tpe.now (type_of_term (view value.now)) (desugar.expression_of (view value.now)))) next) }
+    ensures { IfOk result (λ w. code_view w ≡ spill.one (terms.define_of (Some position) (terms.named name.now) (coercions.coerced tpe.now (type_of_term (view value.now)) (desugar.expression_of (is_among sure.now) (view value.now)))) next) }
 {
-    let value = value_as(alloc, tpe, value)?;
+    let value = value_as(alloc, sure, tpe, value)?;
     let variable = CoreVariable::Local(name.copied()?);
     one(
         alloc,
@@ -105,11 +107,16 @@ pub fn defined(
 }
 
 // A plain value where this type is expected.
-fn value_as(alloc: Global, expected: &IrType, value: &Tree) -> Result<CoreExpression, NoMemory>
-    ensures { IfOk result (λ e. expression_view e ≡ coercions.coerced expected.now (type_of_term (view value.now)) (desugar.expression_of (view value.now))) }
+fn value_as(
+    alloc: Global,
+    sure: &[LocalName],
+    expected: &IrType,
+    value: &Tree,
+) -> Result<CoreExpression, NoMemory>
+    ensures { IfOk result (λ e. expression_view e ≡ coercions.coerced expected.now (type_of_term (view value.now)) (desugar.expression_of (is_among sure.now) (view value.now))) }
 {
     let own = type_of(alloc, value)?;
-    let expression = expression_of(alloc, value)?;
+    let expression = expression_of(alloc, sure, value)?;
     coerced(alloc, expected, &own, expression)
 }
 
@@ -229,13 +236,14 @@ fn break_unless(alloc: Global, condition: CoreExpression) -> Result<CoreStatemen
 /// A loop with a plain condition.
 pub fn looped(
     alloc: Global,
+    sure: &[LocalName],
     position: Position,
     condition: &Tree,
     body: Written,
 ) -> Result<Written, NoMemory>
-    ensures { IfOk result (λ w. code_view w ≡ desugar.wrapped (terms.while_of (Some position) (desugar.expression_of (view condition.now))) (code_view body)) }
+    ensures { IfOk result (λ w. code_view w ≡ desugar.wrapped (terms.while_of (Some position) (desugar.expression_of (is_among sure.now) (view condition.now))) (code_view body)) }
 {
-    let test = expression_of(alloc, condition)?;
+    let test = expression_of(alloc, sure, condition)?;
     while_code(alloc, position, test, body)
 }
 

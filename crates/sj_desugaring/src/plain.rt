@@ -84,8 +84,8 @@ pub fn are_plain(trees: &[Tree]) -> bool
     true
 }
 
-/// Whether a name is among others.
-fn is_among(names: &[LocalName], name: &LocalName) -> bool
+//// Whether a name is among others.
+pub fn is_among(names: &[LocalName], name: &LocalName) -> bool
     ensures { result ≡ plain.is_among names.now name.now }
 {
     names.iter().any(|each| name.is_same(each))

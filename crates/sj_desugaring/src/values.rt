@@ -1,4 +1,4 @@
-// Literals and locals as statements.
+// Literals, locals, This and static fields as statements.
 ghost use Rattle.std.specs.Prelude.{◌≡◌, true, IfOk};
 ghost use Rattle.sj_core.specs.Terms as terms;
 ghost use Rattle.sj_desugar.specs.Desugar as desugar;
@@ -8,16 +8,16 @@ ghost use Rattle.sj_trees.specs.View.{view};
 ghost use Rattle.sj_trees.specs.declared.types.IrType.TheVariants.{String};
 
 use crate::destinations::Destination;
-use crate::expressions::local_use;
+use crate::expressions::{local_use, static_field};
 use crate::forms::finish;
 use crate::writing::{Written, nothing};
-use sj_core::CoreExpression;
+use sj_core::{CoreExpression, CoreVariable};
 use sj_names::{LocalName, NoMemory};
 use sj_trees::{IrType, Position, Tree};
 use sj_units::Units;
 use std::alloc::Global;
 
-/// The statements that bring the value of a literal or a local to a destination. No statements for any other tree.
+/// The statements that bring the value of a literal, a local, This or a static field to a destination. No statements for any other tree.
 pub fn value_of(
     alloc: Global,
     destination: &Destination,
@@ -128,6 +128,14 @@ pub fn value_of(
         }
         Tree::VarRef(position, name, tpe) => {
             local_value(alloc, destination, next, *position, name, tpe)
+        }
+        Tree::This(position, tpe) => {
+            let value = CoreExpression::Variable(CoreVariable::Receiver);
+            finish(alloc, destination, *position, tpe, true, value, next)
+        }
+        Tree::SelectStatic(position, class, field, tpe) => {
+            let value = static_field(class, field)?;
+            finish(alloc, destination, *position, tpe, false, value, next)
         }
         _ => Ok(nothing(alloc, next)),
     }

@@ -5,14 +5,15 @@ ghost use Rattle.sj_core.specs.Views as core;
 ghost use Rattle.sj_emit_expr.specs.Names.{variable_name, label_name};
 ghost use Rattle.sj_emit_expr.specs.Templates as templates;
 
+use crate::calls::{call_of_one, call_on, new_object};
 use crate::names::variable_name;
 use crate::operators::{
     as_text, binary_template, boxed_char, host_call, is_nonzero_literal, unary_template,
 };
 use js_tree::{HostFunction, JsExpr};
 use sj_core::CoreExpression;
-use sj_mangling::function_name;
-use sj_names::NoMemory;
+use sj_mangling::{ClassBinding, FieldBinding, class_binding, field_binding, function_name};
+use sj_names::{NoMemory, Text};
 use std::alloc::Global;
 
 /// The expression that an expression of the core is emitted as.
@@ -53,6 +54,34 @@ pub fn emit_expression(alloc: Global, expression: &CoreExpression) -> Result<JsE
                 function,
                 arguments,
             })
+        }
+        CoreExpression::Field(object, class, field) => {
+            let property = field_binding(alloc, FieldBinding::Property, class, field)?;
+            let object = emit_boxed(alloc, object)?;
+            Ok(JsExpr::Property { object, property })
+        }
+        CoreExpression::StaticField(class, field) => Ok(JsExpr::Name(field_binding(
+            alloc,
+            FieldBinding::Variable,
+            class,
+            field,
+        )?)),
+        CoreExpression::Checked(operand) => {
+            let check = Text::from_str(alloc, "$nn")?;
+            let operand = emit_expression(alloc, operand)?;
+            call_of_one(alloc, check, operand)
+        }
+        CoreExpression::Made(member, arguments) => {
+            let constructor = function_name(alloc, member)?;
+            let class = class_binding(alloc, ClassBinding::Class, &member.class)?;
+            let arguments = emit_expressions(alloc, arguments)?;
+            call_on(alloc, constructor, new_object(alloc, class), arguments)
+        }
+        CoreExpression::ReceiverCall(member, receiver, arguments) => {
+            let function = function_name(alloc, member)?;
+            let receiver = emit_expression(alloc, receiver)?;
+            let arguments = emit_expressions(alloc, arguments)?;
+            call_on(alloc, function, receiver, arguments)
         }
         CoreExpression::Unary(op, operand) => {
             let operand = emit_expression(alloc, operand)?;

@@ -3,6 +3,7 @@
 //! `sj_emit_expr` defines it, a template for each expression and statement and the bindings that they use.
 #![tactic(auto)]
 
+mod calls;
 mod expressions;
 mod members;
 mod names;

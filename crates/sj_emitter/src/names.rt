@@ -10,13 +10,14 @@ use sj_mangling::{LocalBinding, local_binding};
 use sj_names::{Items, LabelName, LocalName, NoMemory, Text};
 use std::alloc::Global;
 
-/// The name of a variable: `v_x` for a local of the IR, `$k` for the k-th that holds an operand.
+/// The name of a variable: `v_x` for a local of the IR, `$k` for the k-th that holds an operand, `$this` for This.
 pub fn variable_name(alloc: Global, variable: &CoreVariable) -> Result<Text, NoMemory>
     ensures { IfOk result (λ name. name ≡ names.variable_name (variable_view variable.now)) }
 {
     match variable {
         CoreVariable::Local(name) => local_name(alloc, name),
         CoreVariable::Numbered(number) => numbered_name(alloc, *number),
+        CoreVariable::Receiver => Ok(Text::from_str(alloc, "$this")?),
     }
 }
 

@@ -7,11 +7,13 @@ ghost use Rattle.sj_emit_expr.specs.Names as names;
 ghost use Rattle.sj_emit_expr.specs.Templates as templates;
 ghost use Rattle.sj_emitter.specs.Cases.{case_template};
 
+use crate::calls::call_of_one;
 use crate::expressions::emit_expression;
 use crate::names::{label_name, variable_name};
 use crate::operators::host_call;
 use js_tree::{HostFunction, JsExpr, JsStmt, SwitchCase};
 use sj_core::{CoreCase, CoreExpression, CoreStatement, CoreVariable};
+use sj_mangling::{FieldBinding, field_binding};
 use sj_names::{Items, NoMemory, Text};
 use std::alloc::Global;
 
@@ -69,6 +71,22 @@ fn emit_statement(alloc: Global, statement: &CoreStatement) -> Result<JsStmt, No
             let call = host_call(alloc, HostFunction::ConsoleLog, text)?;
             Ok(JsStmt::Expression(call))
         }
+        CoreStatement::AssignField(_, object, class, field, value) => {
+            let property = field_binding(alloc, FieldBinding::Property, class, field)?;
+            let object = emit_expression(alloc, object)?;
+            let value = emit_expression(alloc, value)?;
+            Ok(JsStmt::AssignProperty {
+                object,
+                property,
+                value,
+            })
+        }
+        CoreStatement::AssignStatic(_, class, field, value) => {
+            let setter = field_binding(alloc, FieldBinding::Setter, class, field)?;
+            let value = emit_expression(alloc, value)?;
+            Ok(JsStmt::Expression(call_of_one(alloc, setter, value)?))
+        }
+        CoreStatement::Throw(_, value) => Ok(JsStmt::Throw(emit_expression(alloc, value)?)),
         CoreStatement::Leave(_, label) => Ok(JsStmt::BreakTo(label_name(alloc, label)?)),
         CoreStatement::Break(_) => Ok(JsStmt::Break),
         CoreStatement::If(_, test, yes, no) => {

@@ -8,8 +8,8 @@ ghost use Rattle.sj_emitter.specs.Collecting.{with_use, with_uses};
 use crate::operators::is_nonzero_literal;
 use js_tree::Binding;
 use sj_core::{CoreCase, CoreExpression, CoreStatement};
-use sj_mangling::function_name;
-use sj_names::{ClassName, Items, Member, NoMemory, Text};
+use sj_mangling::{ClassBinding, FieldBinding, class_binding, field_binding, function_name};
+use sj_names::{ClassName, FieldName, Items, Member, NoMemory, Text};
 use sj_trees::BinaryOp;
 use std::alloc::Global;
 
@@ -57,6 +57,30 @@ fn function_binding(alloc: Global, member: &Member) -> Result<Binding, NoMemory>
     Ok(Binding { owner, name })
 }
 
+fn class_use(alloc: Global, class: &ClassName) -> Result<Binding, NoMemory>
+    ensures { IfOk result (λ b. b ≡ uses.class_use class.now) }
+{
+    let name = class_binding(alloc, ClassBinding::Class, class)?;
+    let owner = class.copied()?;
+    Ok(Binding { owner, name })
+}
+
+fn static_use(alloc: Global, class: &ClassName, field: &FieldName) -> Result<Binding, NoMemory>
+    ensures { IfOk result (λ b. b ≡ uses.static_use class.now field.now) }
+{
+    let name = field_binding(alloc, FieldBinding::Variable, class, field)?;
+    let owner = class.copied()?;
+    Ok(Binding { owner, name })
+}
+
+fn setter_use(alloc: Global, class: &ClassName, field: &FieldName) -> Result<Binding, NoMemory>
+    ensures { IfOk result (λ b. b ≡ uses.setter_use class.now field.now) }
+{
+    let name = field_binding(alloc, FieldBinding::Setter, class, field)?;
+    let owner = class.copied()?;
+    Ok(Binding { owner, name })
+}
+
 // Adds the helper that an operator calls.
 fn add_helper(
     alloc: Global,
@@ -98,7 +122,26 @@ fn add_uses_in(
             add(bindings, function_binding(alloc, member)?)?;
             add_all_uses_in(alloc, arguments, bindings)
         }
+        CoreExpression::StaticField(class, field) => {
+            add(bindings, static_use(alloc, class, field)?)
+        }
+        CoreExpression::Checked(operand) => {
+            add(bindings, object_binding(alloc, "$nn")?)?;
+            add_uses_in(alloc, operand, bindings)
+        }
+        CoreExpression::Made(member, arguments) => {
+            add(bindings, function_binding(alloc, member)?)?;
+            add(bindings, class_use(alloc, &member.class)?)?;
+            add_all_uses_in(alloc, arguments, bindings)
+        }
+        CoreExpression::ReceiverCall(member, receiver, arguments) => {
+            let function = function_binding(alloc, member)?;
+            add(bindings, function)?;
+            add_uses_in(alloc, receiver, bindings)?;
+            add_all_uses_in(alloc, arguments, bindings)
+        }
         CoreExpression::CharText(operand)
+        | CoreExpression::Field(operand, _, _)
         | CoreExpression::ValueText(operand)
         | CoreExpression::Unary(_, operand) => add_uses_in(alloc, operand, bindings),
         CoreExpression::Binary(op, left, right) => {
@@ -146,9 +189,18 @@ fn add_uses_of(
         | CoreStatement::Assign(_, _, value)
         | CoreStatement::Evaluate(_, value)
         | CoreStatement::Return(_, value)
+        | CoreStatement::Throw(_, value)
         | CoreStatement::Log(_, value) => add_uses_in(alloc, value, bindings),
         CoreStatement::Declare(_, _) | CoreStatement::Leave(_, _) | CoreStatement::Break(_) => {
             Ok(())
+        }
+        CoreStatement::AssignField(_, object, _, _, value) => {
+            add_uses_in(alloc, object, bindings)?;
+            add_uses_in(alloc, value, bindings)
+        }
+        CoreStatement::AssignStatic(_, class, field, value) => {
+            add(bindings, setter_use(alloc, class, field)?)?;
+            add_uses_in(alloc, value, bindings)
         }
         CoreStatement::If(_, test, yes, no) => {
             add_uses_in(alloc, test, bindings)?;

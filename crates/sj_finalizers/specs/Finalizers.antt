@@ -3,7 +3,7 @@ use Rattle.std.specs.Prelude.{ℕ, suc, Bool, true, false, ◌||◌, ◌==◌, L
 use Rattle.std.specs.Cmp.Lexicographic.{pointwise}
 use Rattle.std.specs.List.{list_any}
 use Rattle.sj_trees.specs.Term.{Term, Terms, no_terms, more_terms, Cases, no_cases, more_cases, var_def, block_of, labeled, assign, return_to, if_then, while_loop, do_while, try_catch, try_finally, throw, match_on, new_object, store_module, select, apply, apply_statically, apply_static, unary_op, binary_op, new_array, array_value, array_length, array_select, is_instance_of, as_instance_of, log_line}
-use Rattle.sj_core.specs.Terms.{Variable, named, numbered, variable_use, constant_of, assign_to}
+use Rattle.sj_core.specs.Terms.{Variable, named, numbered, receiver, variable_use, constant_of, assign_to}
 use Rattle.sj_desugar.specs.Desugar.{Targets, target_of}
 use Rattle.sj_desugar.specs.Plain.{is_among}
 use Rattle.sj_desugar.specs.Spill.{Destination, discard, to_variable, to_result, Code, no_code, put_first, then_code}
@@ -96,6 +96,7 @@ abbrev mutual
 abbrev pub is_same_variable : Variable → Variable → Bool
 is_same_variable (named x) (named y) = pointwise nat_eq x y
 is_same_variable (numbered i) (numbered j) = i == j
+is_same_variable receiver receiver = true
 is_same_variable _ _ = false
 
 -- the variable of a destination in front of others, where it is one and isn't among those seen

@@ -24,3 +24,6 @@ jumps_within_itself = labeled nowhere (codes "l") NoType (try_finally nowhere (r
 
 abbrev pub no_local_is_mutable : List ℕ → Bool
 no_local_is_mutable x = false
+
+abbrev pub no_local_is_sure : List ℕ → Bool
+no_local_is_sure x = false

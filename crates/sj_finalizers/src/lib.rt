@@ -10,7 +10,7 @@ ghost use Rattle.sj_core.specs.Terms.{named, numbered, variable_use, constant_of
 ghost use Rattle.sj_desugar.specs.Desugar.{into};
 ghost use Rattle.sj_desugar.specs.Spill.{discard};
 ghost use Rattle.sj_finalizers.specs.Finalizers.{kept, finalizer_code};
-ghost use Rattle.sj_finalizers.specs.Rows.{labels_around, gives_its_jump_up, jumps_to_itself, jumps_within_itself, no_local_is_mutable};
+ghost use Rattle.sj_finalizers.specs.Rows.{labels_around, gives_its_jump_up, jumps_to_itself, jumps_within_itself, no_local_is_mutable, no_local_is_sure};
 
 /// A worked finalizer: in `x = l: { try { leave l with 1 } finally { m: { try { leave l with 2 } finally { leave m } } } }` the inner try may write
 /// `x` before its jump is given up, so `x` is kept in `$1` and given back. A finalizer whose jumps are to labels in it keeps nothing,
@@ -20,5 +20,5 @@ pub fn worked_finalizer()
     ensures code { (finalizer_code labels_around gives_its_jump_up 1 (λ j. record { statements = no_statements; next = j })).statements ≡ statement (constant_of None (numbered 1) (variable_use (named (codes "x")))) (statement (assign_to None (named (codes "x")) (variable_use (numbered 1))) no_statements) }
     ensures none { kept labels_around jumps_to_itself ≡ [] }
     ensures within { kept labels_around jumps_within_itself ≡ [] }
-    ensures as_before { finalizer_code labels_around jumps_to_itself 1 (λ j. into no_local_is_mutable labels_around discard j jumps_to_itself) ≡ into no_local_is_mutable labels_around discard 1 jumps_to_itself }
+    ensures as_before { finalizer_code labels_around jumps_to_itself 1 (λ j. into no_local_is_mutable no_local_is_sure labels_around discard j jumps_to_itself) ≡ into no_local_is_mutable no_local_is_sure labels_around discard 1 jumps_to_itself }
 {}

@@ -10,7 +10,7 @@ use Rattle.sj_proper.specs.Emitted.{EmittedMethod, HaveOwnMembers}
 use Rattle.sj_calls.specs.Files.{program_with}
 use Rattle.sj_sound.specs.Linked.{have_functions, IsRight, IsWhole}
 use Rattle.sj_proper.specs.Methods.{HaveTypes}
-use Rattle.sj_world.specs.Laws.{IsTopped}
+use Rattle.sj_world.specs.Laws.{IsPlain}
 use Rattle.body_rules.specs.Standing.{call_type}
 use Rattle.sj_sound.proofs.Whole.{linked_agrees}
 use Rattle.sj_judged.specs.Programs.{IsAccepted}
@@ -32,5 +32,5 @@ module _ (w : World) (fs : List EmittedMethod) (e : EmittedMethod) (h : IsAccept
   pub whole : IsWhole w fs e
   whole = record { right = right; class_name = h.class_name; method_name = h.method_name }
 
-pub classes_agree : (w : World) → IsTopped w → (entries : List EntryPoint) (id : List ℕ) (fs : List EmittedMethod) → ((e : EmittedMethod) → Contains fs e → IsAccepted w fs e) → HaveOwnMembers fs → have_functions fs (initializers entries id) ≡ true → Agree (ir_shows w entries id) (js_shows (program_with id fs (initializers entries id)) id)
-classes_agree w topped entries id fs all own called = linked_agrees w topped entries id fs (λ e i. whole w fs e (all e i)) own called
+pub classes_agree : (w : World) → IsPlain w → (entries : List EntryPoint) (id : List ℕ) (fs : List EmittedMethod) → ((e : EmittedMethod) → Contains fs e → IsAccepted w fs e) → HaveOwnMembers fs → have_functions fs (initializers entries id) ≡ true → Agree (ir_shows w entries id) (js_shows (program_with id fs (initializers entries id)) id)
+classes_agree w plain entries id fs all own called = linked_agrees w plain entries id fs (λ e i. whole w fs e (all e i)) own called

@@ -8,7 +8,7 @@ use Rattle.sj_trees.specs.declared.classes.ClassDef.{ClassDef}
 use Rattle.sj_proper.specs.Emitted.{EmittedMethod}
 use Rattle.sj_sound.specs.Linked.{functions_of}
 use Rattle.typing_rules.specs.Typed.{IsTyped}
-use Rattle.built_forms.specs.Built.{is_built_method}
+use Rattle.body_rules.specs.Typing.{is_built_with}
 
 -- the class was read from a file, and breaks none of the local rules
 pub record IsJudgedClass (c : ClassDef) : Type 0 where
@@ -23,4 +23,4 @@ pub record IsJudgedMethod (w : World) (fs : List EmittedMethod) (e : EmittedMeth
   pub found : member_of w e.member.class e.member.namespace e.member.method ≡ Some e.definition
   pub has_body : e.definition.body ≡ Some e.its_body
   pub typed : IsTyped w e.definition
-  pub built : is_built_method (functions_of fs) e.definition e.its_body ≡ true
+  pub built : is_built_with (functions_of fs) e.definition e.its_body ≡ true

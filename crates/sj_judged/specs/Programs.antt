@@ -19,6 +19,6 @@ pub record IsAccepted (w : World) (fs : List EmittedMethod) (e : EmittedMethod) 
   pub named : e.definition.name ≡ e.member.method
   pub found : member_of w e.member.class e.member.namespace e.member.method ≡ Some e.definition
   pub has_body : e.definition.body ≡ Some e.its_body
-  pub rules : KeepsRules w (functions_of fs) e.definition e.its_body
+  pub rules : KeepsRules w (functions_of fs) e.member.class e.definition e.its_body
   pub class_name : IsTrue (is_class_name e.member.class)
   pub method_name : IsMethodName e.member.method

@@ -20,16 +20,16 @@ ghost use Rattle.sj_proper.specs.Emitted.{EmittedMethod, piece_of_method, module
 ghost use Rattle.sj_calls.specs.Files.{program_with};
 ghost use Rattle.sj_sound.specs.Linked.{have_functions};
 ghost use Rattle.sj_judged.specs.Programs.{IsAccepted};
-ghost use Rattle.sj_world.specs.Laws.{IsTopped};
+ghost use Rattle.sj_world.specs.Laws.{IsPlain};
 ghost use Rattle.sj_judged.specs.Judged.{IsJudgedClass, IsJudgedMethod};
 ghost use Rattle.sj_judged.specs.Written.{items_with};
 
 /// The theorem on classes with bodies that keep the rules: take methods, no two of one member, each of a class that breaks none of the local rules, with a body that keeps
-/// the rules; let the initializers of a public module be among them, and let nothing stand above `java.lang.Object`. Then the
+/// the rules; let the initializers of a public module be among them, and let no class write a hijacked class or stand above `java.lang.Object`. Then the
 /// file that has their functions in this order and behind them the calls of the initializers shows of the public module what the classes
 /// show: what the one shows within any bound the other shows within some bound, and the other way round, and neither is wrong at any bound.
 pub fn typed_classes_agree()
-    ensures { (w : World) → IsTopped w → (entries : List EntryPoint) (id : List ℕ) (fs : List EmittedMethod) → ((e : EmittedMethod) → Contains fs e → IsAccepted w fs e) → HaveOwnMembers fs → have_functions fs (initializers entries id) ≡ true → Agree (ir_shows w entries id) (js_shows (program_with id fs (initializers entries id)) id) }
+    ensures { (w : World) → IsPlain w → (entries : List EntryPoint) (id : List ℕ) (fs : List EmittedMethod) → ((e : EmittedMethod) → Contains fs e → IsAccepted w fs e) → HaveOwnMembers fs → have_functions fs (initializers entries id) ≡ true → Agree (ir_shows w entries id) (js_shows (program_with id fs (initializers entries id)) id) }
 {}
 
 /// Take classes that were read from files and break none of the local rules, and methods of theirs, no two of one member and the initializers of a

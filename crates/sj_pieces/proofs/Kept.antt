@@ -14,8 +14,9 @@ use Rattle.sj_trees.specs.declared.operators.UnaryOp.{UnaryOp}
 use Rattle.sj_trees.specs.declared.operators.UnaryOp.TheVariants.{BooleanNot, CharToInt, ByteToInt, ShortToInt, IntToLong, IntToChar, IntToByte, IntToShort, LongToInt}
 use Rattle.sj_pieces.specs.Keys.{IsKeyed, AreKeyed, HaveKeys, HasKeys}
 use Rattle.sj_emit_expr.specs.Pieces.{piece_of}
+use Rattle.sj_pieces.specs.Owners.{HasOwners, HaveOwners, IsOwned, AreOwned, CasesOwned, FieldsHaveOwners}
 use Rattle.sj_pieces.specs.Ranges.{AreBytes, FitsMember, FitsExpression, FitExpressions, FitsStatement, FitStatements, FitCases, FitsMethod}
-use Rattle.sj_pieces.proofs.Names.{variable-named, label-named, member-named}
+use Rattle.sj_pieces.proofs.Names.{variable-named, label-named, member-named, class-named, property-named, static-named, setter-named}
 use Rattle.sj_pieces.proofs.Uses.{uses-named}
 
 unary-kept : (o : UnaryOp) (e : js.Expression) → IsExpression e → IsExpression (unary_template o e)
@@ -80,52 +81,60 @@ choice-kept c ss js.no_statements h k l = (h, k)
 choice-kept c ss (js.statement t ts) h k l = (h, k, l)
 
 mutual
-  expression-kept : (e : core.Expression) → FitsExpression e → IsExpression (expression_template variable_name label_name e)
-  expression-kept (core.number_value z) h = h
-  expression-kept (core.long_value z) h = h
-  expression-kept (core.text_value us) h = h
-  expression-kept (core.variable_use x) h = variable-named x h
-  expression-kept (core.boxed_char e) h = (refl, (expression-kept e h, tt))
-  expression-kept (core.char_text e) h = expression-kept e h
-  expression-kept (core.value_text e) h = (All-nil IsUnit, expression-kept e h)
-  expression-kept (core.choice_of c e g) h = (expression-kept c h.0, expression-kept e h.1, expression-kept g h.2)
-  expression-kept (core.static_call m es) h = (member-named m h.0, expressions-kept es h.1)
-  expression-kept (core.unary_of o e) h = unary-kept o (expression_template variable_name label_name e) (expression-kept e h)
-  expression-kept (core.binary_of o e g) h = binary-kept (is_nonzero_literal g) o (expression_template variable_name label_name e) (expression_template variable_name label_name g) (expression-kept e h.0) (expression-kept g h.1)
-  expression-kept _ h = tt
+  expression-kept : (e : core.Expression) → FitsExpression e → HasOwners e → IsExpression (expression_template variable_name label_name e)
+  expression-kept (core.number_value z) h o = h
+  expression-kept (core.long_value z) h o = h
+  expression-kept (core.text_value us) h o = h
+  expression-kept (core.variable_use x) h o = variable-named x h
+  expression-kept (core.boxed_char e) h o = (refl, (expression-kept e h o, tt))
+  expression-kept (core.char_text e) h o = expression-kept e h o
+  expression-kept (core.value_text e) h o = (All-nil IsUnit, expression-kept e h o)
+  expression-kept (core.choice_of c e g) h o = (expression-kept c h.0 o.0, expression-kept e h.1 o.1, expression-kept g h.2 o.2)
+  expression-kept (core.static_call m es) h o = (member-named m h.0, expressions-kept es h.1 o)
+  expression-kept (core.field_of e c f) h o = (o.0, expression-kept e h.0 o.1, property-named c f h.1 h.2)
+  expression-kept (core.static_of c f) h o = static-named c f h.0 h.1
+  expression-kept (core.checked_value e) h o = (refl, (expression-kept e h o, tt))
+  expression-kept (core.made_of m es) h o = (member-named m h.0, ((class-named m.class h.0.0, tt), expressions-kept es h.1 o))
+  expression-kept (core.receiver_call m e es) h o = (member-named m h.0, (expression-kept e h.1 o.0, expressions-kept es h.2 o.1))
+  expression-kept (core.unary_of u e) h o = unary-kept u (expression_template variable_name label_name e) (expression-kept e h o)
+  expression-kept (core.binary_of b e g) h o = binary-kept (is_nonzero_literal g) b (expression_template variable_name label_name e) (expression_template variable_name label_name g) (expression-kept e h.0 o.0) (expression-kept g h.1 o.1)
+  expression-kept _ h o = tt
 
-  expressions-kept : (es : core.Expressions) → FitExpressions es → IsExpressions (expression_templates variable_name label_name es)
-  expressions-kept core.no_expressions h = tt
-  expressions-kept (core.expression e es) h = (expression-kept e h.0, expressions-kept es h.1)
+  expressions-kept : (es : core.Expressions) → FitExpressions es → HaveOwners es → IsExpressions (expression_templates variable_name label_name es)
+  expressions-kept core.no_expressions h o = tt
+  expressions-kept (core.expression e es) h o = (expression-kept e h.0 o.0, expressions-kept es h.1 o.1)
 
 mutual
-  statement-kept : (s : core.Statement) → FitsStatement s → IsKeyed s → IsStatement (statement_template variable_name label_name s)
-  statement-kept (core.constant_of p x e) h k = (variable-named x h.0, expression-kept e h.1)
-  statement-kept (core.define_of p x e) h k = (variable-named x h.0, expression-kept e h.1)
-  statement-kept (core.declare_of p x) h k = variable-named x h
-  statement-kept (core.assign_to p x e) h k = (variable-named x h.0, expression-kept e h.1)
-  statement-kept (core.evaluate_of p e) h k = expression-kept e h
-  statement-kept (core.return_of p e) h k = expression-kept e h
-  statement-kept (core.log_of p e) h k = expression-kept e h
-  statement-kept (core.leave_label p l) h k = label-named l h
-  statement-kept (core.break_nearest p) h k = tt
-  statement-kept (core.if_of p c ss ts) h k = choice-kept (expression_template variable_name label_name c) (statement_templates variable_name label_name ss) (statement_templates variable_name label_name ts) (expression-kept c h.0) (statements-kept ss h.1 k.0) (statements-kept ts h.2 k.1)
-  statement-kept (core.while_of p c ss) h k = (expression-kept c h.0, statements-kept ss h.1 k)
-  statement-kept (core.loop_of p ss) h k = statements-kept ss h k
-  statement-kept (core.labeled_of p l ss) h k = (label-named l h.0, statements-kept ss h.1 k)
-  statement-kept (core.switch_of p e cs ss) h k = (expression-kept e h.0, cases-kept cs h.1 k.0, statements-kept ss h.2 k.1)
+  statement-kept : (s : core.Statement) → FitsStatement s → IsKeyed s → IsOwned s → IsStatement (statement_template variable_name label_name s)
+  statement-kept (core.constant_of p x e) h k o = (variable-named x h.0, expression-kept e h.1 o)
+  statement-kept (core.define_of p x e) h k o = (variable-named x h.0, expression-kept e h.1 o)
+  statement-kept (core.declare_of p x) h k o = variable-named x h
+  statement-kept (core.assign_to p x e) h k o = (variable-named x h.0, expression-kept e h.1 o)
+  statement-kept (core.evaluate_of p e) h k o = expression-kept e h o
+  statement-kept (core.return_of p e) h k o = expression-kept e h o
+  statement-kept (core.log_of p e) h k o = expression-kept e h o
+  statement-kept (core.assign_field p e c f g) h k o = (o.0, expression-kept e h.0 o.1, property-named c f h.1 h.2, expression-kept g h.3 o.2)
+  statement-kept (core.assign_static p c f e) h k o = (setter-named c f h.0 h.1, (expression-kept e h.2 o, tt))
+  statement-kept (core.throw_of p e) h k o = expression-kept e h o
+  statement-kept (core.leave_label p l) h k o = label-named l h
+  statement-kept (core.break_nearest p) h k o = tt
+  statement-kept (core.if_of p c ss ts) h k o = choice-kept (expression_template variable_name label_name c) (statement_templates variable_name label_name ss) (statement_templates variable_name label_name ts) (expression-kept c h.0 o.0) (statements-kept ss h.1 k.0 o.1) (statements-kept ts h.2 k.1 o.2)
+  statement-kept (core.while_of p c ss) h k o = (expression-kept c h.0 o.0, statements-kept ss h.1 k o.1)
+  statement-kept (core.loop_of p ss) h k o = statements-kept ss h k o
+  statement-kept (core.labeled_of p l ss) h k o = (label-named l h.0, statements-kept ss h.1 k o)
+  statement-kept (core.switch_of p e cs ss) h k o = (expression-kept e h.0 o.0, cases-kept cs h.1 k.0 o.1, statements-kept ss h.2 k.1 o.2)
 
-  statements-kept : (ss : core.Statements) → FitStatements ss → AreKeyed ss → AreStatements (statement_templates variable_name label_name ss)
-  statements-kept core.no_statements h k = tt
-  statements-kept (core.statement s ss) h k = (statement-kept s h.0 k.0, statements-kept ss h.1 k.1)
+  statements-kept : (ss : core.Statements) → FitStatements ss → AreKeyed ss → AreOwned ss → AreStatements (statement_templates variable_name label_name ss)
+  statements-kept core.no_statements h k o = tt
+  statements-kept (core.statement s ss) h k o = (statement-kept s h.0 k.0 o.0, statements-kept ss h.1 k.1 o.1)
 
-  cases-kept : (cs : core.Cases) → FitCases cs → HaveKeys cs → AreCases (case_templates variable_name label_name cs)
-  cases-kept core.no_cases h k = tt
-  cases-kept (core.switch_case ks ss cs) h k = ((k.0, h.0), statements-kept ss h.1 k.1, cases-kept cs h.2 k.2)
+  cases-kept : (cs : core.Cases) → FitCases cs → HaveKeys cs → CasesOwned cs → AreCases (case_templates variable_name label_name cs)
+  cases-kept core.no_cases h k o = tt
+  cases-kept (core.switch_case ks ss cs) h k o = ((k.0, h.0), statements-kept ss h.1 k.1 o.0, cases-kept cs h.2 k.2 o.1)
 
 parameters-kept : (xs : List (List ℕ)) → All AreBytes xs → All IsName (parameter_names xs)
 parameters-kept [] h = All-nil IsName
 parameters-kept (x ∷ xs) h = All-cons IsName (variable_name (core.named x)) (parameter_names xs) (variable-named (core.named x) (All-head AreBytes x xs h)) (parameters-kept xs (All-tail AreBytes x xs h))
 
-pub piece-kept : (m : Member) (c : core.Method) → FitsMember m → FitsMethod c → HasKeys c → IsPiece (piece_of m c)
-piece-kept m c own fits keys = (member-named m own, uses-named c.body fits.1, (member-named m own, parameters-kept c.params fits.0, statements-kept c.body fits.1 keys))
+pub piece-kept : (m : Member) (c : core.Method) → FitsMember m → FitsMethod c → HasKeys c → FieldsHaveOwners c → IsPiece (piece_of m c)
+piece-kept m c own fits keys owners = (member-named m own, uses-named c.body fits.1, (member-named m own, parameters-kept c.params fits.0, statements-kept c.body fits.1 keys owners))

@@ -2,4 +2,5 @@ pub mod Keyed
 pub mod Kept
 pub mod Lists
 pub mod Names
+pub mod Owned
 pub mod Uses

@@ -9,10 +9,10 @@ use Rattle.std.proofs.lemmas.Int.Digits.{all_below_base_digits_of}
 use Rattle.std.proofs.lemmas.List.Elements.{All-nil, All-cons, All-head, All-tail, All-append}
 use Rattle.std.proofs.lemmas.List.Folds.{list_all-append}
 use Rattle.js_tree.specs.Names.{is_name_character}
-use Rattle.js_tree.specs.Rules.{IsName}
-use Rattle.sj_core.specs.Terms.{Variable, named, numbered}
+use Rattle.js_tree.specs.Rules.{IsName, IsProperty}
+use Rattle.sj_core.specs.Terms.{Variable, named, numbered, receiver}
 use Rattle.sj_emit_expr.specs.Names.{variable_name, label_name}
-use Rattle.sj_emit_expr.specs.Templates.{member_name}
+use Rattle.sj_emit_expr.specs.Templates.{member_name, class_name, property_name, static_name, setter_name}
 use Rattle.sj_mangling.specs.Bindings.{function_name}
 use Rattle.sj_mangling.specs.Mangling.{is_alphanumeric, mangled_byte, mangled}
 use Rattle.sj_mangling.specs.Numerals.{number_text}
@@ -113,6 +113,7 @@ numeral-characters (suc n) = digits-characters (digits_of 10 (suc n)) (all_below
 pub variable-named : (x : Variable) → FitsVariable x → IsName (variable_name x)
 variable-named (named x) bytes = rw (mangled-characters x bytes) refl
 variable-named (numbered n) bytes = rw (numeral-characters n) refl
+variable-named receiver bytes = refl
 
 pub label-named : (l : List ℕ) → AreBytes l → IsName (label_name l)
 label-named l bytes = rw (mangled-characters l bytes) refl
@@ -126,6 +127,21 @@ function-named PublicStatic class method bytes others = rw (function-rest class 
 function-named Private class method bytes others = rw (function-rest class method bytes others) refl
 function-named PrivateStatic class method bytes others = rw (function-rest class method bytes others) refl
 function-named Constructor class method bytes others = rw (function-rest class method bytes others) refl
+
+pub class-named : (c : List ℕ) → AreBytes c → IsName (class_name c)
+class-named c bytes = rw (mangled-characters c bytes) refl
+
+field-rest : (c f : List ℕ) → AreBytes c → AreBytes f → AreCharacters ((mangled c ++ codes "__") ++ mangled f)
+field-rest c f bytes others = both (mangled c ++ codes "__") (mangled f) (both (mangled c) (codes "__") (mangled-characters c bytes) refl) (mangled-characters f others)
+
+pub property-named : (c f : List ℕ) → AreBytes c → AreBytes f → IsProperty (property_name c f)
+property-named c f bytes others = rw (field-rest c f bytes others) refl
+
+pub static-named : (c f : List ℕ) → AreBytes c → AreBytes f → IsName (static_name c f)
+static-named c f bytes others = rw (field-rest c f bytes others) refl
+
+pub setter-named : (c f : List ℕ) → AreBytes c → AreBytes f → IsName (setter_name c f)
+setter-named c f bytes others = rw (field-rest c f bytes others) refl
 
 pub member-named : (m : Member) → FitsMember m → IsName (member_name m)
 member-named m h = function-named m.namespace m.class m.method h.0 (spelled-bytes m.method h.1)

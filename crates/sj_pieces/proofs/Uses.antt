@@ -6,12 +6,12 @@ use Rattle.std.proofs.lemmas.List.Elements.{All-nil, All-cons, All-head, All-tai
 use Rattle.js_tree.specs.Rules.{IsBinding}
 use Rattle.js_tree.specs.declared.items.Binding.{Binding}
 use Rattle.sj_core.specs.Terms as core
-use Rattle.sj_emit_expr.specs.Templates.{is_nonzero_literal}
-use Rattle.sj_emit_expr.specs.Uses.{object_binding, function_binding, helper_of, uses_in, uses_in_all, uses_of, uses_of_all, uses_of_cases, is_same_binding, once_each, uses}
+use Rattle.sj_emit_expr.specs.Templates.{check_name, is_nonzero_literal}
+use Rattle.sj_emit_expr.specs.Uses.{object_binding, function_binding, class_use, static_use, setter_use, helper_of, uses_in, uses_in_all, uses_of, uses_of_all, uses_of_cases, is_same_binding, once_each, uses}
 use Rattle.sj_trees.specs.declared.operators.BinaryOp.{BinaryOp}
 use Rattle.sj_trees.specs.declared.operators.BinaryOp.TheVariants.{IntDivide, IntRemainder, LongDivide, LongRemainder}
 use Rattle.sj_pieces.specs.Ranges.{FitsExpression, FitExpressions, FitsStatement, FitStatements, FitCases}
-use Rattle.sj_pieces.proofs.Names.{member-named}
+use Rattle.sj_pieces.proofs.Names.{member-named, class-named, static-named, setter-named}
 
 abbrev Named : List Binding → Type 0
 Named bs = All IsBinding bs
@@ -36,6 +36,11 @@ mutual
   in-named (core.value_text e) h = in-named e h
   in-named (core.choice_of c e g) h = after (uses_in c ++ uses_in e) (uses_in g) (after (uses_in c) (uses_in e) (in-named c h.0) (in-named e h.1)) (in-named g h.2)
   in-named (core.static_call m es) h = All-cons IsBinding (function_binding m) (uses_in_all es) (member-named m h.0) (all-named es h.1)
+  in-named (core.field_of e c f) h = in-named e h.0
+  in-named (core.static_of c f) h = All-cons IsBinding (static_use c f) [] (static-named c f h.0 h.1) none
+  in-named (core.checked_value e) h = All-cons IsBinding (object_binding check_name) (uses_in e) refl (in-named e h)
+  in-named (core.made_of m es) h = All-cons IsBinding (function_binding m) (class_use m.class ∷ uses_in_all es) (member-named m h.0) (All-cons IsBinding (class_use m.class) (uses_in_all es) (class-named m.class h.0.0) (all-named es h.1))
+  in-named (core.receiver_call m e es) h = All-cons IsBinding (function_binding m) (uses_in e ++ uses_in_all es) (member-named m h.0) (after (uses_in e) (uses_in_all es) (in-named e h.1) (all-named es h.2))
   in-named (core.unary_of o e) h = in-named e h
   in-named (core.binary_of o e g) h = after (helper_of (is_nonzero_literal g) o ++ uses_in e) (uses_in g) (after (helper_of (is_nonzero_literal g) o) (uses_in e) (helper-named (is_nonzero_literal g) o) (in-named e h.0)) (in-named g h.1)
   in-named _ h = none
@@ -53,6 +58,9 @@ mutual
   of-named (core.evaluate_of p e) h = in-named e h
   of-named (core.return_of p e) h = in-named e h
   of-named (core.log_of p e) h = in-named e h
+  of-named (core.assign_field p e c f g) h = after (uses_in e) (uses_in g) (in-named e h.0) (in-named g h.3)
+  of-named (core.assign_static p c f e) h = All-cons IsBinding (setter_use c f) (uses_in e) (setter-named c f h.0 h.1) (in-named e h.2)
+  of-named (core.throw_of p e) h = in-named e h
   of-named (core.leave_label p l) h = none
   of-named (core.break_nearest p) h = none
   of-named (core.if_of p c ss ts) h = after (uses_in c ++ uses_of_all ss) (uses_of_all ts) (after (uses_in c) (uses_of_all ss) (in-named c h.0) (of-all-named ss h.1)) (of-all-named ts h.2)

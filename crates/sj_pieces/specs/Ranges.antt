@@ -1,7 +1,7 @@
 -- What the types of the parts of a method say: names are texts of bytes, numbers have 32 bits, longs 64 and units 16.
 use Rattle.std.specs.Prelude.{◌<◌, ◌^◌, ℕ, List, All, IfSome}
 use Rattle.js_tree.specs.Rules.{IsNumber, IsBig, IsUnit}
-use Rattle.sj_core.specs.Terms.{Variable, named, numbered, Expression, number_value, long_value, text_value, variable_use, boxed_char, char_text, value_text, choice_of, static_call, unary_of, binary_of, Expressions, no_expressions, expression, Statement, constant_of, define_of, declare_of, assign_to, evaluate_of, return_of, log_of, leave_label, break_nearest, if_of, while_of, loop_of, labeled_of, switch_of, Statements, no_statements, statement, Cases, no_cases, switch_case, Method}
+use Rattle.sj_core.specs.Terms.{Variable, named, numbered, receiver, Expression, number_value, long_value, text_value, variable_use, boxed_char, char_text, value_text, choice_of, static_call, field_of, static_of, checked_value, made_of, receiver_call, unary_of, binary_of, Expressions, no_expressions, expression, Statement, constant_of, define_of, declare_of, assign_to, evaluate_of, return_of, log_of, assign_field, assign_static, throw_of, leave_label, break_nearest, if_of, while_of, loop_of, labeled_of, switch_of, Statements, no_statements, statement, Cases, no_cases, switch_case, Method}
 use Rattle.sj_names.specs.declared.method_names.Member.{Member}
 use Rattle.sj_names.specs.declared.method_names.MethodName.{MethodName}
 use Rattle.sj_names.specs.declared.references.BaseRef.{BaseRef}
@@ -30,6 +30,7 @@ FitsMember m = AreBytes m.class × FitsMethodName m.method
 abbrev pub FitsVariable : Variable → Type 0
 FitsVariable (named x) = AreBytes x
 FitsVariable (numbered n) = Unit {0}
+FitsVariable receiver = Unit {0}
 
 abbrev mutual
   pub FitsExpression : Expression → Type 0
@@ -42,6 +43,11 @@ abbrev mutual
   FitsExpression (value_text e) = FitsExpression e
   FitsExpression (choice_of c e g) = FitsExpression c × FitsExpression e × FitsExpression g
   FitsExpression (static_call m es) = FitsMember m × FitExpressions es
+  FitsExpression (field_of e c f) = FitsExpression e × AreBytes c × AreBytes f
+  FitsExpression (static_of c f) = AreBytes c × AreBytes f
+  FitsExpression (checked_value e) = FitsExpression e
+  FitsExpression (made_of m es) = FitsMember m × FitExpressions es
+  FitsExpression (receiver_call m e es) = FitsMember m × FitsExpression e × FitExpressions es
   FitsExpression (unary_of o e) = FitsExpression e
   FitsExpression (binary_of o e g) = FitsExpression e × FitsExpression g
   FitsExpression _ = Unit {0}
@@ -59,6 +65,9 @@ abbrev mutual
   FitsStatement (evaluate_of p e) = FitsExpression e
   FitsStatement (return_of p e) = FitsExpression e
   FitsStatement (log_of p e) = FitsExpression e
+  FitsStatement (assign_field p e c f g) = FitsExpression e × AreBytes c × AreBytes f × FitsExpression g
+  FitsStatement (assign_static p c f e) = AreBytes c × AreBytes f × FitsExpression e
+  FitsStatement (throw_of p e) = FitsExpression e
   FitsStatement (leave_label p l) = AreBytes l
   FitsStatement (break_nearest p) = Unit {0}
   FitsStatement (if_of p c ss ts) = FitsExpression c × FitStatements ss × FitStatements ts

@@ -1,13 +1,15 @@
 //! Pieces: the emitted function of a method without a receiver, as the class of the method owns it. It keeps the rules of printing.
 //!
 //! `specs/` has the piece of a method, what the types of a method's parts say of their values, and when each case of a switch has a key, as
-//! each has in what desugaring gives.
+//! each has in what desugaring gives. It has too of which expressions fields are read and set, and which bodies are desugared to such alone.
 #![tactic(auto)]
 
 mod laws;
 mod pieces;
 mod ranges;
 
-pub use laws::desugared_methods_have_keys;
+pub use laws::{
+    desugared_fields_have_owners, desugared_members_have_keys, desugared_methods_have_keys,
+};
 pub use pieces::member_piece;
 pub use ranges::{member_fits, method_name_fits};

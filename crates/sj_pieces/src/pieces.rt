@@ -4,6 +4,7 @@ ghost use Rattle.js_tree.specs.Rules.{IsPiece};
 ghost use Rattle.js_tree.specs.Views.{body_view, piece_view};
 ghost use Rattle.sj_core.specs.Views.{method_view};
 ghost use Rattle.sj_pieces.specs.Keys.{HasKeys};
+ghost use Rattle.sj_pieces.specs.Owners.{FieldsHaveOwners};
 ghost use Rattle.sj_emit_expr.specs.Pieces as pieces;
 ghost use Rattle.sj_emit_expr.specs.Pieces.{piece_of};
 ghost use Rattle.sj_emit_expr.specs.Templates.{parameter_names, body_template};
@@ -18,7 +19,8 @@ use std::alloc::Global;
 use std::rc::Rc;
 
 /// The piece of a method without a receiver, of which this is the emitted function: the function, under the name of the member, which the member's
-/// class owns. Where each case of a switch has a key the piece keeps the rules of printing. Want of memory is the only error.
+/// class owns. Where each case of a switch has a key, and each field is one of what may stand before `.`, the piece keeps the rules of printing. Want
+/// of memory is the only error.
 pub fn member_piece(
     alloc: Global,
     member: &Member,
@@ -29,7 +31,7 @@ pub fn member_piece(
     requires body { body_view emitted.body ≡ body_template (method_view m.now) }
     requires used { emitted.uses ≡ uses (method_view m.now).body }
     ensures piece { IfOk result (λ p. piece_view p ≡ piece_of member.now (method_view m.now)) }
-    ensures rules { HasKeys (method_view m.now) → IfOk result (λ p. IsPiece (piece_view p)) }
+    ensures rules { HasKeys (method_view m.now) → FieldsHaveOwners (method_view m.now) → IfOk result (λ p. IsPiece (piece_view p)) }
 {
     member_fits(member);
     method_fits(m);

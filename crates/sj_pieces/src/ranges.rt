@@ -92,14 +92,29 @@ fn expression_fits(expression: &CoreExpression)
         CoreExpression::Boxed(operand)
         | CoreExpression::CharText(operand)
         | CoreExpression::ValueText(operand)
+        | CoreExpression::Checked(operand)
         | CoreExpression::Unary(_, operand) => expression_fits(operand),
         CoreExpression::Choice(test, yes, no) => {
             expression_fits(test);
             expression_fits(yes);
             expression_fits(no);
         }
-        CoreExpression::StaticCall(member, arguments) => {
+        CoreExpression::StaticCall(member, arguments) | CoreExpression::Made(member, arguments) => {
             member_fits(member);
+            expressions_fit(arguments);
+        }
+        CoreExpression::Field(object, class, name) => {
+            expression_fits(object);
+            text_fits(class.text());
+            text_fits(name.text());
+        }
+        CoreExpression::StaticField(class, name) => {
+            text_fits(class.text());
+            text_fits(name.text());
+        }
+        CoreExpression::ReceiverCall(member, object, arguments) => {
+            member_fits(member);
+            expression_fits(object);
             expressions_fit(arguments);
         }
         CoreExpression::Binary(_, left, right) => {
@@ -141,7 +156,19 @@ fn statement_fits(statement: &CoreStatement)
         CoreStatement::Declare(_, variable) => variable_fits(variable),
         CoreStatement::Evaluate(_, value)
         | CoreStatement::Return(_, value)
-        | CoreStatement::Log(_, value) => expression_fits(value),
+        | CoreStatement::Log(_, value)
+        | CoreStatement::Throw(_, value) => expression_fits(value),
+        CoreStatement::AssignField(_, object, class, name, value) => {
+            expression_fits(object);
+            text_fits(class.text());
+            text_fits(name.text());
+            expression_fits(value);
+        }
+        CoreStatement::AssignStatic(_, class, name, value) => {
+            text_fits(class.text());
+            text_fits(name.text());
+            expression_fits(value);
+        }
         CoreStatement::Leave(_, label) => text_fits(label.text()),
         CoreStatement::Break(_) => {}
         CoreStatement::If(_, test, yes, no) => {

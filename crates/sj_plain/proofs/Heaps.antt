@@ -48,15 +48,15 @@ pub numbers-apart : (a b : ℕ) → (a == b) ≡ false → a ≡ b → ⊥
 numbers-apart a b f e = grind arith
 
 -- what stands for a field, an object or its class in a world does so in one that has what that one has
-pub field-carry : (w y : World) (t : IrType) → ((i a : ℕ) → w.place i ≡ Some a → y.place i ≡ Some a) → (o : Option ir.Value) (q : Option js.Value) → SameField w t o q → SameField y t o q
-field-carry w y t g _ _ (same_field v x a) = same_field v x (value-carry w y t v x g a)
-field-carry w y t g _ _ (no_field x) = no_field x
+pub field-carry : (w y : World) (t : IrType) → ((i a : ℕ) → w.place i ≡ Some a → y.place i ≡ Some a) → ((a : ℕ) (o : js.Stored) → w.owned a ≡ Some o → y.owned a ≡ Some o) → (o : Option ir.Value) (q : Option js.Value) → SameField w t o q → SameField y t o q
+field-carry w y t g h _ _ (same_field v x a) = same_field v x (value-carry w y t v x g h a)
+field-carry w y t g h _ _ (no_field x) = no_field x
 
 tells-carry : (w y : World) (c : List ℕ) (properties : Name → Option js.Value) → ((a : ℕ) (o : js.Stored) → w.owned a ≡ Some o → y.owned a ≡ Some o) → TellsClass w c properties → TellsClass y c properties
 tells-carry w y c properties g h = record { address = h.address; constants = h.constants; held = h.held; owned = g h.address (js.plain [] h.constants) h.owned; marked = h.marked; known = h.known }
 
 pub stored-carry : (p : Place) (w y : World) → ((i a : ℕ) → w.place i ≡ Some a → y.place i ≡ Some a) → ((a : ℕ) (o : js.Stored) → w.owned a ≡ Some o → y.owned a ≡ Some o) → (o : Option ir.Stored) (q : Option js.Stored) → SameStored p w o q → SameStored p y o q
-stored-carry p w y g h _ _ (same_object c fields properties k f) = same_object c fields properties (tells-carry w y c properties h k) (λ d n t i. field-carry w y t g (fields d n) (properties (field_binding Property d n)) (f d n t i))
+stored-carry p w y g h _ _ (same_object c fields properties k f) = same_object c fields properties (tells-carry w y c properties h k) (λ d n t i. field-carry w y t g h (fields d n) (properties (field_binding Property d n)) (f d n t i))
 
 pub record There {A : Type 0} (o : Option A) : Type 0 where
   pub what : A

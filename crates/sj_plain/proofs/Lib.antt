@@ -9,5 +9,6 @@ pub mod Shifts
 pub mod Divisions
 pub mod Tops
 pub mod Objects
+pub mod Received
 pub mod Plain
 pub mod Runs

@@ -1,7 +1,6 @@
 -- Fields, and objects that are made: what the acts of the IR come to, the expressions come to.
-use Rattle.std.specs.Prelude.{codes, nat_eq, ◌==◌}
-use Rattle.std.specs.Cmp.Lexicographic.{pointwise}
-use Rattle.std.proofs.lemmas.Bool.{eq-eqb}
+use Rattle.std.specs.Prelude.{◌==◌}
+use Rattle.std.proofs.lemmas.Bool.{eq-eqb, and_parts}
 use Rattle.std.proofs.Common.{◌≡◌, ℕ, Bool, true, false, List, [], ◌∷◌, ◌&&◌, slice_get, length, Some, None, Option, refl, sym, ap, ◌∙◌, subst, if◌then◌else◌}
 use Rattle.outcomes.specs.Outcome.{Out, done, wrong, then_do}
 use Rattle.outcomes.specs.Agreement.{Sim}
@@ -18,9 +17,10 @@ use Rattle.js_tree.specs.Terms as tree
 use Rattle.sj_core.specs.Terms as core
 use Rattle.sj_core.specs.Views.{expressions_of}
 use Rattle.sj_desugar.specs.Desugar.{member}
-use Rattle.sj_emit_expr.specs.Templates.{check_name, property_name, class_name, member_name, expression_templates}
+use Rattle.sj_emit_expr.specs.Templates.{check_name, property_name, class_name, expression_templates}
 use Rattle.sj_mangling.specs.Bindings.{field_binding}
 use Rattle.sj_mangling.specs.declared.bindings.FieldBinding.TheVariants.{Property}
+use Rattle.sj_desugar.specs.Coercions.{is_char}
 use Rattle.sj_names.specs.Same.{is_same_text}
 use Rattle.helper_rules.specs.declared.kinds.Helper.TheVariants.{NotNull}
 use Rattle.sj_names.specs.declared.method_names.Member.{Member}
@@ -28,17 +28,15 @@ use Rattle.sj_names.specs.declared.method_names.MethodName.{MethodName}
 use Rattle.sj_names.specs.declared.method_names.Namespace.TheVariants.{Constructor}
 use Rattle.sj_trees.specs.Types.{class_type}
 use Rattle.sj_trees.specs.declared.types.IrType.{IrType}
-use Rattle.sj_trees.specs.declared.types.IrType.TheVariants.{Any, Undefined, Class}
-use Rattle.sj_plain.specs.Settings.{Place, Setting, shown, usable, IsField, FieldsDiffer, SameField, same_field, no_field, SameStored, same_object, TellsClass, SameHeap, SameState, Valued, valued, thrown, Based, Lawful, a_constructor, a_class, a_method, a_helper, top_name, top_function, top_call, links_of, Inside, Makes, makes, Built, built, failed, zeroed, IsReceiver}
-use Rattle.sj_plain.specs.Standing.{is_bare, suits, Fits, FitAll, types_referred, call_type}
+use Rattle.sj_plain.specs.Settings.{Setting, shown, usable, IsField, FieldsDiffer, SameField, same_field, no_field, SameStored, same_object, SameHeap, SameState, Valued, valued, thrown, Based, Lawful, a_constructor, a_class, a_method, a_helper, top_function, top_call, links_of, Inside, Makes, makes, Built, built, failed, zeroed, IsReceiver}
+use Rattle.body_rules.specs.Standing.{is_bare, Fits, FitAll, types_referred, call_type}
 use Rattle.sj_plain.specs.Worlds.{with_pending, with_born}
 use Rattle.sj_plain.proofs.Heaps.{writes, births, stored-carry, numbers-same, place-there}
-use Rattle.sj_plain.proofs.Orders.{ActsAlike, OperandAlike, OperandsAlike, no_operands, more_operands, all_shown, in_order_alike, valued-weaken}
+use Rattle.sj_plain.proofs.Orders.{ActsAlike, OperandAlike, OperandsAlike, all_shown, in_order_alike, valued-weaken}
 use Rattle.sj_plain.proofs.Standing.{open-refers}
 use Rattle.sj_plain.proofs.Tops.{row_shown, top_seen}
-use Rattle.std.proofs.lemmas.Bool.{and_parts}
 use Rattle.std.proofs.lemmas.Slice.Eq.{bytes_eq-Decides}
-use Rattle.sj_plain.proofs.Worlds.{World, Grows, grows-refl, grows-trans, SameValue, Stands, same_undefined, same_null, same_boolean, same_char, same_number, same_long, same_text, same_reference, value-fits, value-lift, value-carry, values-lift, values-fit, SameValues, no_values, one_more}
+use Rattle.sj_plain.proofs.Worlds.{World, Grows, grows-refl, grows-trans, SameValue, Stands, same_undefined, same_null, same_boolean, same_char, same_box, same_number, same_long, same_text, same_reference, value-fits, value-carry, values-fit, SameValues, no_values, one_more}
 
 -- two texts that are the same by their test
 same-class : (d c : List ℕ) (b : Bool) → (is_same_text d c && b) ≡ true → d ≡ c
@@ -59,7 +57,7 @@ module _ (z : Setting) (law : Based z) where
   pub select_acts : (base : World) (env : ir.Env) (sc : js.Scope) (own : IrType) (c f : List ℕ) (t : IrType) → IsField z.place.classes c f t → ActsAlike z base base env (own ∷ []) t (ir_meaning.select_field c f) (js_meaning.read_property z.place.program (property_name c f)) sc
   select_acts base env sc own c f t has y _ _ s u g (one_more _ v x _ _ _ a no_values) same = by v x a.stands
     where
-      by : (v : ir.Value) (x : js.Value) → Stands y v x → Sim z.direction (Valued z.place base env t) (ir_meaning.select_field c f (v ∷ []) env s) (js_meaning.read_property z.place.program (property_name c f) (x ∷ []) sc u)
+      by : (v : ir.Value) (x : js.Value) → Stands y (is_char own) v x → Sim z.direction (Valued z.place base env t) (ir_meaning.select_field c f (v ∷ []) env s) (js_meaning.read_property z.place.program (property_name c f) (x ∷ []) sc u)
       by _ _ (same_reference i a e) = selected base y env sc s u c f t (slice_get s.heap i) (slice_get u.heap a) has g same (same.heaps.objects i a e)
       by _ _ _ = sim_wrong z.direction (Valued z.place base env t) _
 
@@ -89,7 +87,7 @@ module _ (z : Setting) (law : Based z) where
   pub field_written : FieldsDiffer z.place → (F : ir.Ended → js.StatementEnd → Type 0) (y : World) (env : ir.Env) (sc : js.Scope) (s : ir.State) (u : js.State) (own : IrType) (r v : ir.Value) (q x : js.Value) (c f : List ℕ) (t : IrType) → IsField z.place.classes c f t → SameValue y own r q → SameValue y t v x → SameState z.place y s u → ((s : ir.State) (u : js.State) → SameState z.place y s u → F (ir.ends (ir.gives ir.undefined) env s) (js.ends js.normally sc u)) → Sim z.direction F (ir_meaning.assign_field c f (r ∷ v ∷ []) env s) (js_meaning.with_state (js_objects.set_property q (property_name c f) x u) sc u)
   field_written differ F y env sc s u own r v q x c f t has object alike same goes = by r q object.stands
     where
-      by : (r : ir.Value) (q : js.Value) → Stands y r q → Sim z.direction F (ir_meaning.assign_field c f (r ∷ v ∷ []) env s) (js_meaning.with_state (js_objects.set_property q (property_name c f) x u) sc u)
+      by : (r : ir.Value) (q : js.Value) → Stands y (is_char own) r q → Sim z.direction F (ir_meaning.assign_field c f (r ∷ v ∷ []) env s) (js_meaning.with_state (js_objects.set_property q (property_name c f) x u) sc u)
       by _ _ (same_reference i a e) = written_there differ F y env sc s u i a v x c f t (slice_get s.heap i) (slice_get u.heap a) has e alike same goes (same.heaps.objects i a e)
       by _ _ _ = sim_wrong z.direction F _
 
@@ -108,13 +106,13 @@ module _ (z : Setting) (law : Based z) where
   placed-still y s u h i b a e true k = absurd (place-there z.place y s u h i b e (numbers-same i (length s) k))
   placed-still y s u h i b a e false k = e
 
-  values-carry : (u w : World) (ts : List IrType) (vs : List ir.Value) (xs : List js.Value) → ((i a : ℕ) → u.place i ≡ Some a → w.place i ≡ Some a) → SameValues u ts vs xs → SameValues w ts vs xs
-  values-carry u w _ _ _ g no_values = no_values
-  values-carry u w _ _ _ g (one_more t v x ts vs xs a others) = one_more t v x ts vs xs (value-carry u w t v x g a) (values-carry u w ts vs xs g others)
+  values-carry : (u w : World) (ts : List IrType) (vs : List ir.Value) (xs : List js.Value) → ((i a : ℕ) → u.place i ≡ Some a → w.place i ≡ Some a) → ((a : ℕ) (o : js.Stored) → u.owned a ≡ Some o → w.owned a ≡ Some o) → SameValues u ts vs xs → SameValues w ts vs xs
+  values-carry u w _ _ _ g h no_values = no_values
+  values-carry u w _ _ _ g h (one_more t v x ts vs xs a others) = one_more t v x ts vs xs (value-carry u w t v x g h a) (values-carry u w ts vs xs g h others)
 
   -- the constructor runs on the object that the emitted code has made before the arguments, and the IR behind them
   construct_acts : (c : List ℕ) (m : MethodName) (ts : List IrType) (w : World) (env : ir.Env) (sc : js.Scope) (a : ℕ) (o : js.Stored) → (usable z).built (member c Constructor m) ≡ true → is_bare (class_type c) ≡ false → FitAll (types_referred m.params) ts → ((b : js.Stored) → w.pending a ≡ Some b → ⊥) → SameStored z.place w (Some (zeroed z.place c)) (Some o) → ActsAlike z w (with_pending a o w) env ts (class_type c) (ir_meaning.construct z.place.classes z.low c m) (λ xs. js_meaning.call z.place.program z.js_low (top_function z.place (a_constructor (member c Constructor m))) (js.object a ∷ xs)) sc
-  construct_acts c m ts w env sc a o linked bare fit fresh shape y vs xs s u g alike same = subst (λ q. Sim z.direction (Valued z.place w env (class_type c)) (ir_meaning.construct z.place.classes z.low c m vs env s) q) (then_do-right (js_call u)) (sim_then z.direction (Built z.place born env (js.object a)) (Valued z.place w env (class_type c)) (ir_meaning.call z.low (ir_world.member_of z.place.classes c Constructor m) (Some (ir.reference i)) vs env (ir.with_stored (zeroed z.place c) s)) (js_call u) (ir.onward (λ v. ir.given (ir.reference i))) done (law.builds (member c Constructor m) linked born (ir.reference i) (js.object a) vs xs env (ir.with_stored (zeroed z.place c) s) u (record { stands = record { stands = same_reference i a (here-some i a (y.place i)); suits = refl }; there = λ e. cc }) (values-carry y born (types_referred m.params) vs xs placed (values-fit y (types_referred m.params) ts vs xs fit alike)) states) each)
+  construct_acts c m ts w env sc a o linked bare fit fresh shape y vs xs s u g alike same = subst (λ q. Sim z.direction (Valued z.place w env (class_type c)) (ir_meaning.construct z.place.classes z.low c m vs env s) q) (then_do-right (js_call u)) (sim_then z.direction (Built z.place born env (js.object a)) (Valued z.place w env (class_type c)) (ir_meaning.call z.low (ir_world.member_of z.place.classes c Constructor m) (Some (ir.reference i)) vs env (ir.with_stored (zeroed z.place c) s)) (js_call u) (ir.onward (λ v. ir.given (ir.reference i))) done (law.builds (member c Constructor m) linked born (ir.reference i) (js.object a) vs xs env (ir.with_stored (zeroed z.place c) s) u (record { stands = record { stands = same_reference i a (here-some i a (y.place i)); suits = open-refers (class_type c) i bare }; there = λ e. cc }) (values-carry y born (types_referred m.params) vs xs placed (λ b d e. e) (values-fit y (types_referred m.params) ts vs xs fit alike)) states) each)
     where
       i : ℕ
       i = ir.next_address s
@@ -167,23 +165,24 @@ module _ (z : Setting) (law : Based z) where
           grown a o fresh = record { places = λ j b e. e; owns = λ b d e. e; pends = λ b d e. pending-kept w a b o d fresh e (b == a) refl }
 
   -- a member runs on a receiver
-  receive_acts : (m : Member) (own : IrType) (ts : List IrType) (w : World) (env : ir.Env) (sc : js.Scope) → (usable z).received m ≡ true → Fits Any own → FitAll (types_referred m.method.params) ts → ActsAlike z w w env (own ∷ ts) (call_type m.method.result) (ir_meaning.call_on z.place.classes z.low (ir_world.member_of z.place.classes m.class m.namespace m.method)) (js_meaning.call z.place.program z.js_low (top_function z.place (a_method m))) sc
-  receive_acts m own ts w env sc there f fit y _ _ s u g (one_more _ v x _ vs xs a others) same = by v x a.stands (value-fits y Any own v x f a)
+  receive_acts : (m : Member) (own : IrType) (ts : List IrType) (w : World) (env : ir.Env) (sc : js.Scope) → (usable z).received m ≡ true → Fits (class_type m.class) own → FitAll (types_referred m.method.params) ts → ActsAlike z w w env (own ∷ ts) (call_type m.method.result) (ir_meaning.call_on z.place.classes z.low (ir_world.member_of z.place.classes m.class m.namespace m.method)) (js_meaning.call z.place.program z.js_low (top_function z.place (a_method m))) sc
+  receive_acts m own ts w env sc there f fit y _ _ s u g (one_more _ v x _ vs xs a others) same = by v x a.stands (value-fits y (class_type m.class) own v x f a)
     where
-      goes : (v : ir.Value) (x : js.Value) → IsReceiver y v x → Sim z.direction (Valued z.place w env (call_type m.method.result)) (ir_meaning.call z.low (ir_world.member_of z.place.classes m.class m.namespace m.method) (Some v) vs env s) (top_call z.place z.js_low (a_method m) (x ∷ xs) u)
+      goes : (v : ir.Value) (x : js.Value) → IsReceiver y m.class v x → Sim z.direction (Valued z.place w env (call_type m.method.result)) (ir_meaning.call z.low (ir_world.member_of z.place.classes m.class m.namespace m.method) (Some v) vs env s) (top_call z.place z.js_low (a_method m) (x ∷ xs) u)
       goes v x r = sim_weaken z.direction (Valued z.place y env (call_type m.method.result)) (Valued z.place w env (call_type m.method.result)) _ _ (λ a b. valued-weaken z w y env (call_type m.method.result) a b g) (law.receives m there y v x vs xs env s u r (values-fit y (types_referred m.method.params) ts vs xs fit others) same)
 
-      by : (v : ir.Value) (x : js.Value) → Stands y v x → SameValue y Any v x → Sim z.direction (Valued z.place w env (call_type m.method.result)) (ir_meaning.call_on z.place.classes z.low (ir_world.member_of z.place.classes m.class m.namespace m.method) (v ∷ vs) env s) (top_call z.place z.js_low (a_method m) (x ∷ xs) u)
+      by : (v : ir.Value) (x : js.Value) → Stands y (is_char own) v x → SameValue y (class_type m.class) v x → Sim z.direction (Valued z.place w env (call_type m.method.result)) (ir_meaning.call_on z.place.classes z.low (ir_world.member_of z.place.classes m.class m.namespace m.method) (v ∷ vs) env s) (top_call z.place z.js_low (a_method m) (x ∷ xs) u)
       by _ _ same_null k = sim_wrong z.direction (Valued z.place w env (call_type m.method.result)) _
       by _ _ same_undefined k = goes _ _ (record { stands = k; there = λ e. cc })
       by _ _ (same_boolean b) k = goes _ _ (record { stands = k; there = λ e. cc })
-      by _ _ (same_char c h) k = goes _ _ (record { stands = k; there = λ e. cc })
+      by _ _ (same_char r c h) k = goes _ _ (record { stands = k; there = λ e. cc })
+      by _ _ (same_box r c b h i) k = goes _ _ (record { stands = k; there = λ e. cc })
       by _ _ (same_number n h) k = goes _ _ (record { stands = k; there = λ e. cc })
       by _ _ (same_long n h) k = goes _ _ (record { stands = k; there = λ e. cc })
       by _ _ (same_text us) k = goes _ _ (record { stands = k; there = λ e. cc })
       by _ _ (same_reference i a e) k = goes _ _ (record { stands = k; there = λ e. cc })
 
-  pub received_call_alike : (m : Member) (own : IrType) (ts : List IrType) (r : ir.Run) (rs : List ir.Run) (e : core.Expression) (es : List core.Expression) → (usable z).received m ≡ true → Fits Any own → FitAll (types_referred m.method.params) ts → (w : World) (env : ir.Env) (s : ir.State) (sc : js.Scope) (u : js.State) → Inside z.place z.code sc → OperandsAlike z w env sc (own ∷ ts) (r ∷ rs) (e ∷ es) → SameState z.place w s u → Sim z.direction (Valued z.place w env (call_type m.method.result)) (ir_meaning.in_order (r ∷ rs) (ir_meaning.call_on z.place.classes z.low (ir_world.member_of z.place.classes m.class m.namespace m.method)) env s) (shown z (core.receiver_call m e (expressions_of es)) sc u)
+  pub received_call_alike : (m : Member) (own : IrType) (ts : List IrType) (r : ir.Run) (rs : List ir.Run) (e : core.Expression) (es : List core.Expression) → (usable z).received m ≡ true → Fits (class_type m.class) own → FitAll (types_referred m.method.params) ts → (w : World) (env : ir.Env) (s : ir.State) (sc : js.Scope) (u : js.State) → Inside z.place z.code sc → OperandsAlike z w env sc (own ∷ ts) (r ∷ rs) (e ∷ es) → SameState z.place w s u → Sim z.direction (Valued z.place w env (call_type m.method.result)) (ir_meaning.in_order (r ∷ rs) (ir_meaning.call_on z.place.classes z.low (ir_world.member_of z.place.classes m.class m.namespace m.method)) env s) (shown z (core.receiver_call m e (expressions_of es)) sc u)
   received_call_alike m own ts r rs e es there f fit w env s sc u inside operands same = subst (λ q. Sim z.direction (Valued z.place w env (call_type m.method.result)) (ir_meaning.in_order (r ∷ rs) (ir_meaning.call_on z.place.classes z.low (ir_world.member_of z.place.classes m.class m.namespace m.method)) env s) q) (sym js_is) (in_order_alike z w w env sc w (own ∷ ts) (call_type m.method.result) (r ∷ rs) (e ∷ es) (ir_meaning.call_on z.place.classes z.low (ir_world.member_of z.place.classes m.class m.namespace m.method)) (js_meaning.call z.place.program z.js_low fun) operands (receive_acts m own ts w env sc there f fit) w s u (grows-refl w) (grows-refl w) (grows-refl w) same)
     where
       fun : js.Value

@@ -228,9 +228,9 @@ shift_alike w t LongShiftRightArithmetic a b o h = impossible h
 shift_alike w t _ a b o h = tt
 
 -- the operators but for division, shifts of longs and joins
-pub values_alike : (w : World) (op : BinaryOp) (v1 v2 : ir.Value) (x1 x2 : js.Value) → is_direct op ≡ true → Stands w v1 x1 → Stands w v2 x2 → GivenIf w (binary_result op) (ir_operators.binary_value op v1 v2) (template_value op x1 x2)
-values_alike w op _ _ _ _ h (same_boolean a) (same_boolean b) = booleans_alike w op a b h
-values_alike w op _ _ _ _ h (same_number a f) (same_number b g) = numbers_alike w op a b f g h
-values_alike w op _ _ _ _ h (same_long a f) (same_long b g) = longs_alike w op a b f g h
-values_alike w op _ _ _ _ h (same_long a f) (same_number b g) = shift_alike w (binary_result op) op a b _ h
-values_alike w op v1 v2 x1 x2 h _ _ = others_alike w (binary_result op) op v1 v2 (template_value op x1 x2) h
+pub values_alike : (w : World) (r q : Bool) (op : BinaryOp) (v1 v2 : ir.Value) (x1 x2 : js.Value) → is_direct op ≡ true → Stands w r v1 x1 → Stands w q v2 x2 → GivenIf w (binary_result op) (ir_operators.binary_value op v1 v2) (template_value op x1 x2)
+values_alike w r q op _ _ _ _ h (same_boolean a) (same_boolean b) = booleans_alike w op a b h
+values_alike w r q op _ _ _ _ h (same_number a f) (same_number b g) = numbers_alike w op a b f g h
+values_alike w r q op _ _ _ _ h (same_long a f) (same_long b g) = longs_alike w op a b f g h
+values_alike w r q op _ _ _ _ h (same_long a f) (same_number b g) = shift_alike w (binary_result op) op a b _ h
+values_alike w r q op v1 v2 x1 x2 h _ _ = others_alike w (binary_result op) op v1 v2 (template_value op x1 x2) h

@@ -1,21 +1,17 @@
 -- A plain tree and its expression are alike.
-<<<<<<< HEAD
-use Rattle.std.proofs.Common.{◌≡◌, zero, suc, Bool, true, false, List, [], ◌∷◌, None, Option, refl, sym, ap, ◌∙◌, subst, if◌then◌else◌, ⊎_elim}
-use Rattle.std.specs.Prelude.{ℤ, pos, negsuc, FitsSigned, ℕ, ◌&&◌, not}
+use Rattle.std.proofs.Common.{◌≡◌, zero, suc, Bool, true, false, List, [], ◌∷◌, None, Option, refl, sym, ap, ◌∙◌, subst, inl, inr, if◌then◌else◌, ⊎_elim}
+use Rattle.std.specs.Prelude.{ℤ, pos, negsuc, FitsSigned, ℕ, ◌&&◌, ◌⊎◌, not}
 use Rattle.std.proofs.lemmas.Bool.{and_parts}
-use Rattle.body_rules.proofs.Fitting.{yield-fits, fit-all, fits-unary, fits-dividend, operates}
+use Rattle.body_rules.proofs.Fitting.{yield-fits, fit-all, fits-unary, fits-dividend, operates, not_no_type, unary-operand-value, left-operand-value, right-operand-value}
 use Rattle.body_rules.proofs.Locals.{there}
-use Rattle.body_rules.proofs.RulesGive.{when_not, one_yields, other_yields, arguments_there, is_linked, operation}
+use Rattle.body_rules.proofs.RulesGive.{when_not, Yields, ArgumentsFit, Takes, its_types, texts, one_yields, other_yields, arguments_there, is_linked, operation}
 use Rattle.body_rules.specs.Subtyping.{IsSubtyping}
-use Rattle.body_rules.specs.Typing.{Scene, Typed, TypedAll}
+use Rattle.body_rules.specs.Typing.{Scene, Typed, TypedAll, may_check}
+use Rattle.built_forms.specs.Built.{any_is_boxed}
 use Rattle.sj_desugar.specs.Plain.{is_plain, are_plain, is_no_type}
 use Rattle.sj_names.specs.declared.method_names.Namespace.{Namespace}
 use Rattle.sj_names.specs.declared.method_names.MethodName.{MethodName}
 use Rattle.sj_world.specs.Subtypes.{IsSub}
-=======
-use Rattle.std.proofs.Common.{◌≡◌, zero, suc, Bool, true, false, List, [], ◌∷◌, None, Option, refl, sym, ap, ◌∙◌, subst, inl, inr, if◌then◌else◌}
-use Rattle.std.specs.Prelude.{ℤ, pos, negsuc, codes, ◌⊎◌, FitsSigned}
->>>>>>> 6a46694
 use Rattle.std.specs.Int.{w32, w64}
 use Rattle.int_arithmetic.proofs.Longs.{in_range-fits}
 use Rattle.outcomes.specs.Outcome.{Out, done, wrong, then_do}
@@ -30,17 +26,14 @@ use Rattle.js_mean.specs.States as js
 use Rattle.js_tree.specs.Terms as tree
 use Rattle.sj_core.specs.Terms as core
 use Rattle.sj_core.specs.Views.{expressions_of}
-use Rattle.sj_desugar.specs.Coercions.{coerced, coerced_arguments}
+use Rattle.sj_desugar.specs.Coercions.{is_char, coerced, coerced_arguments}
+use Rattle.sj_names.specs.declared.references.TypeRef.{TypeRef}
 use Rattle.sj_desugar.specs.Desugar.{member, types_of, received_text, expression_of, all_expressions}
 use Rattle.sj_desugar.specs.Texts.{operand_of}
 use Rattle.sj_emit_expr.specs.Templates.{check_name, member_name, expression_template, expression_templates, binary_template, unary_template, is_nonzero_literal}
 use Rattle.sj_names.proofs.Same.{impossible}
 use Rattle.sj_names.specs.declared.method_names.Member.{Member}
-<<<<<<< HEAD
-use Rattle.sj_trees.specs.Term.{Term, Terms, no_terms, more_terms, var_def, skip, block_of, labeled, assign, return_to, if_then, while_loop, do_while, match_on, apply_static, unary_op, binary_op, log_line, undefined_literal, null_literal, boolean_literal, char_literal, byte_literal, short_literal, int_literal, long_literal, string_literal, var_ref}
-=======
-use Rattle.sj_trees.specs.Term.{Term, Terms, no_terms, more_terms, if_then, new_object, select, apply_statically, this_ref, apply_static, unary_op, binary_op, undefined_literal, null_literal, boolean_literal, char_literal, byte_literal, short_literal, int_literal, long_literal, string_literal, var_ref}
->>>>>>> 6a46694
+use Rattle.sj_trees.specs.Term.{Term, Terms, no_terms, more_terms, var_def, skip, block_of, labeled, assign, return_to, if_then, while_loop, do_while, throw, match_on, new_object, select, apply_statically, this_ref, apply_static, unary_op, binary_op, log_line, undefined_literal, null_literal, boolean_literal, char_literal, byte_literal, short_literal, int_literal, long_literal, string_literal, var_ref}
 use Rattle.sj_trees.specs.TypeOf.{type_of_term, unary_result, binary_result}
 use Rattle.sj_trees.specs.declared.operators.BinaryOp.{BinaryOp}
 use Rattle.sj_trees.specs.declared.operators.BinaryOp.TheVariants.{StrictEqual, StrictNotEqual, StringConcatenate, IntDivide, IntRemainder, LongDivide, LongRemainder, LongShiftLeft, LongShiftRightLogical, LongShiftRightArithmetic}
@@ -48,55 +41,46 @@ use Rattle.sj_trees.specs.declared.operators.UnaryOp.{UnaryOp}
 use Rattle.sj_trees.specs.declared.operators.UnaryOp.TheVariants.{CharToInt, ByteToInt, ShortToInt}
 use Rattle.sj_trees.specs.declared.positions.Position.{Position}
 use Rattle.sj_trees.specs.declared.types.IrType.{IrType}
-<<<<<<< HEAD
+use Rattle.sj_trees.specs.Types.{class_type, reference_type}
 use Rattle.sj_trees.specs.declared.types.IrType.TheVariants.{Undefined, Null, Boolean, Char, Byte, Short, Int, Long, String}
 use Rattle.body_rules.specs.Operators.{is_simple, Operates, of_its_types, joins, a_quotient, a_remainder, a_long_quotient, a_long_remainder, DividesBy, by_int, by_long}
 use Rattle.typing_rules.specs.Rules.{left_operand, right_operand, unary_operand}
-use Rattle.sj_plain.specs.Conditions.{InScope, Plain}
+use Rattle.sj_plain.specs.Conditions.{InScope, IsNoConstruction, Plain}
 use Rattle.body_rules.specs.Locals.{Scope}
-use Rattle.sj_plain.specs.Settings.{Setting, shown, SameState, Inside, Valued, valued, Lawful, Holding, holding, Sees, usable, a_function, function_of_member, function_call}
+use Rattle.sj_plain.specs.Settings.{Setting, shown, SameState, Inside, Valued, valued, Lawful, Holding, holding, Sees, Receiving, no_receiver, on_receiver, usable, a_function, function_of_member, function_call}
 use Rattle.sj_plain.specs.Standing.{suits}
 use Rattle.body_rules.specs.Standing.{Fits, FitAll, types_referred, call_type}
-=======
-use Rattle.sj_trees.specs.declared.types.IrType.TheVariants.{Any, Undefined, Null, Boolean, Char, Byte, Short, Int, Long, String, Class}
-use Rattle.sj_plain.specs.Conditions.{is_simple, left_operand, right_operand, unary_operand, MayBeChecked, Operates, of_its_types, joins, a_quotient, a_remainder, a_long_quotient, a_long_remainder, DividesBy, by_int, by_long, Plain, AllPlain, Scope}
-use Rattle.sj_plain.specs.Settings.{Setting, shown, SameState, Inside, Valued, valued, Lawful, Holding, holding, Sees, Receiving, no_receiver, on_receiver, usable, a_function, function_of_member, function_call}
-use Rattle.sj_plain.specs.Standing.{suits, Fits, FitAll, types_referred, call_type}
->>>>>>> 6a46694
 use Rattle.sj_plain.proofs.Divisions.{division_alike, dividend_alone}
 use Rattle.sj_plain.proofs.Operators.{template_value, is_direct}
 use Rattle.sj_plain.proofs.Objects.{select_alike, new_alike, received_call_alike, checked_alike}
 use Rattle.sure_receivers.specs.Sure.{is_sure}
-use Rattle.sj_names.specs.declared.method_names.Namespace.TheVariants.{Private}
+use Rattle.sj_names.specs.declared.method_names.Namespace.TheVariants.{Private, Constructor}
+use Rattle.sj_plain.proofs.Received.{value_none, not_none, class_value, value_below, value_apart, may_be_checked, receiver-same, Received, received}
 use Rattle.sj_plain.proofs.Orders.{ActsAlike, OperandAlike, OperandsAlike, no_operands, more_operands, all_shown, valued-weaken, valued-fits, in_order_alike}
 use Rattle.sj_plain.proofs.Shifts.{left_shift_alike, right_shift_alike, zero_shift_alike, joined_alike}
-<<<<<<< HEAD
 use Rattle.body_rules.proofs.Standing.{coerced-same, arguments-same}
-=======
-use Rattle.sj_plain.proofs.Standing.{coerced-same, arguments-same, fits-character}
->>>>>>> 6a46694
 use Rattle.sj_plain.proofs.Templates.{fits-exact, unit_is_int, by_value, by_one_value, one_template_value, binary_shown, binary_acts, unary_shown, unary_acts}
 use Rattle.sj_plain.proofs.Told.{is_long, is_narrow, tells, tells-narrow, no_ratio}
-use Rattle.sj_plain.proofs.Worlds.{World, Grows, grows-refl, SameValue, Stands, same_undefined, same_null, same_boolean, same_char, same_number, same_long, same_text, value-lift, value-fits, values-fit, no_values, one_more}
+use Rattle.sj_plain.proofs.Worlds.{World, Grows, grows-refl, SameValue, Stands, same_undefined, same_null, same_boolean, same_char, same_number, same_long, same_text, value-lift, values-fit, no_values, one_more}
 
 pub holding-lift : (u w : World) (t : IrType) (o : Option ir.Value) (cell : js.Cell) → Grows u w → Holding u t o cell → Holding w t o cell
 holding-lift u w t _ _ g (holding v x a) = holding v x (value-lift u w t v x g a)
 
-pub receiving-lift : (u w : World) (o : Option ir.Value) (cell : js.Cell) → Grows u w → Receiving u o cell → Receiving w o cell
-receiving-lift u w _ _ g (no_receiver cell) = no_receiver cell
-receiving-lift u w _ _ g (on_receiver v x a) = on_receiver v x (record { stands = value-lift u w Any v x g a.stands; there = a.there })
+pub receiving-lift : (u w : World) (c : List ℕ) (o : Option ir.Value) (cell : js.Cell) → Grows u w → Receiving u c o cell → Receiving w c o cell
+receiving-lift u w c _ _ g (no_receiver cell) = no_receiver cell
+receiving-lift u w c _ _ g (on_receiver v x a) = on_receiver v x (record { stands = value-lift u w (class_type c) v x g a.stands; there = a.there })
 
 pub sees-lift : (z : Setting) (scope : Scope) (u w : World) (env : ir.Env) (sc : js.Scope) → Grows u w → Sees z.place z.code scope u env sc → Sees z.place z.code scope w env sc
-sees-lift z scope u w env sc g h = record { inside = h.inside; this = receiving-lift u w env.this_value (sc.bindings (z.place.name core.receiver)) g h.this; sure = h.sure; locals = λ x t i. holding-lift u w t (env.locals x) (sc.bindings (z.place.name (core.named x))) g (h.locals x t i) }
+sees-lift z scope u w env sc g h = record { inside = h.inside; this = receiving-lift u w z.code.owner env.this_value (sc.bindings (z.place.name core.receiver)) g h.this; sure = h.sure; locals = λ x t i. holding-lift u w t (env.locals x) (sc.bindings (z.place.name (core.named x))) g (h.locals x t i) }
 
 module _ (z : Setting) (lawful : Lawful z) (scope : Scope) where
   gives_alike : (w : World) (env : ir.Env) (t : IrType) (s : ir.State) (u : js.State) (v : ir.Value) (x : js.Value) → SameValue w t v x → SameState z.place w s u → Sim z.direction (Valued z.place w env t) (done (ir.ends (ir.gives v) env s)) (done (js.gives x u))
   gives_alike w env t s u v x a same = sim_done z.direction (Valued z.place w env t) (ir.ends (ir.gives v) env s) (js.gives x u) (valued w v x s u (grows-refl w) a same)
 
-  literal_alike : (w : World) (env : ir.Env) (t : IrType) (s : ir.State) (u : js.State) (v : ir.Value) (x : js.Value) → Stands w v x → suits t v ≡ true → SameState z.place w s u → Sim z.direction (Valued z.place w env t) (done (ir.ends (ir.gives v) env s)) (done (js.gives x u))
+  literal_alike : (w : World) (env : ir.Env) (t : IrType) (s : ir.State) (u : js.State) (v : ir.Value) (x : js.Value) → Stands w (is_char t) v x → suits t v ≡ true → SameState z.place w s u → Sim z.direction (Valued z.place w env t) (done (ir.ends (ir.gives v) env s)) (done (js.gives x u))
   literal_alike w env t s u v x a k same = gives_alike w env t s u v x (record { stands = a; suits = k }) same
 
-  number_alike : (w : World) (env : ir.Env) (t : IrType) (s : ir.State) (sc : js.Scope) (u : js.State) (v : ir.Value) (n : ℤ) → FitsSigned w32 n → Stands w v (js.number n) → suits t v ≡ true → SameState z.place w s u → Sim z.direction (Valued z.place w env t) (done (ir.ends (ir.gives v) env s)) (js_meaning.literal n sc u)
+  number_alike : (w : World) (env : ir.Env) (t : IrType) (s : ir.State) (sc : js.Scope) (u : js.State) (v : ir.Value) (n : ℤ) → FitsSigned w32 n → Stands w (is_char t) v (js.number n) → suits t v ≡ true → SameState z.place w s u → Sim z.direction (Valued z.place w env t) (done (ir.ends (ir.gives v) env s)) (js_meaning.literal n sc u)
   number_alike w env t s sc u v n f a k same = subst (λ (b : Bool). Sim z.direction (Valued z.place w env t) (done (ir.ends (ir.gives v) env s)) (if b then done (js.gives (js.number n) u) else wrong)) (sym (fits-exact n f)) (literal_alike w env t s u v (js.number n) a k same)
 
   long_alike : (w : World) (env : ir.Env) (s : ir.State) (sc : js.Scope) (u : js.State) (n : ℤ) → FitsSigned w64 n → SameState z.place w s u → Sim z.direction (Valued z.place w env Long) (done (ir.ends (ir.gives (ir.long n)) env s)) (js_meaning.literal_of_big n sc u)
@@ -105,10 +89,10 @@ module _ (z : Setting) (lawful : Lawful z) (scope : Scope) where
   local_alike : (w : World) (env : ir.Env) (t : IrType) (s : ir.State) (u : js.State) (o : Option ir.Value) (cell outer : js.Cell) → Holding w t o cell → SameState z.place w s u → Sim z.direction (Valued z.place w env t) (ir_meaning.local_value o env s) (js_meaning.cell_value (js_meaning.or_outer cell outer) u)
   local_alike w env t s u _ _ outer (holding v x a) same = gives_alike w env t s u v x a same
 
-  -- This, where the type is one at which a reference may stand
-  this_alike : (w : World) (env : ir.Env) (t : IrType) (s : ir.State) (u : js.State) (o : Option ir.Value) (cell outer : js.Cell) → Fits t Any → Receiving w o cell → SameState z.place w s u → Sim z.direction (Valued z.place w env t) (ir_meaning.local_value o env s) (js_meaning.cell_value (js_meaning.or_outer cell outer) u)
+  -- This, of the type of its class
+  this_alike : (w : World) (env : ir.Env) (t : IrType) (s : ir.State) (u : js.State) (o : Option ir.Value) (cell outer : js.Cell) → t ≡ class_type z.code.owner → Receiving w z.code.owner o cell → SameState z.place w s u → Sim z.direction (Valued z.place w env t) (ir_meaning.local_value o env s) (js_meaning.cell_value (js_meaning.or_outer cell outer) u)
   this_alike w env t s u _ _ outer f (no_receiver cell) same = sim_wrong z.direction (Valued z.place w env t) _
-  this_alike w env t s u _ _ outer f (on_receiver v x a) same = gives_alike w env t s u v x (value-fits w t Any v x f a.stands) same
+  this_alike w env t s u _ _ outer f (on_receiver v x a) same = gives_alike w env t s u v x (subst (λ k. SameValue w k v x) (sym f) a.stands) same
 
   -- a call: the name stands for the function, the arguments are evaluated, and the bodies are alike
   name_shown : (m : Member) (w : World) (s : ir.State) (sc : js.Scope) (u : js.State) → (usable z).linked m ≡ true → Inside z.place z.code sc → SameState z.place w s u → js_meaning.name_value z.place.program (member_name m) sc u ≡ done (js.gives (function_of_member z.place m) u)
@@ -126,7 +110,7 @@ module _ (z : Setting) (lawful : Lawful z) (scope : Scope) where
   branch_acts : (w : World) (env : ir.Env) (sc : js.Scope) (own t : IrType) (first second : ir.Run) (one other : js.Evaluation) → OperandAlike z w env sc t first one → OperandAlike z w env sc t second other → ActsAlike z w w env (own ∷ []) t (ir_meaning.branch first second) (js_meaning.chosen one other) sc
   branch_acts w env sc own t first second one other f g y _ _ s u h (one_more _ v x _ _ _ a no_values) same = by v x a.stands
     where
-      by : (v : ir.Value) (x : js.Value) → Stands y v x → Sim z.direction (Valued z.place w env t) (ir_meaning.branch first second (v ∷ []) env s) (js_meaning.chosen one other (x ∷ []) sc u)
+      by : (v : ir.Value) (x : js.Value) → Stands y (is_char own) v x → Sim z.direction (Valued z.place w env t) (ir_meaning.branch first second (v ∷ []) env s) (js_meaning.chosen one other (x ∷ []) sc u)
       by _ _ (same_boolean true) = weaker w y env t (first env s) (one sc u) h (f y s u h same)
       by _ _ (same_boolean false) = weaker w y env t (second env s) (other sc u) h (g y s u h same)
       by _ _ _ = sim_wrong z.direction (Valued z.place w env t) _
@@ -154,8 +138,8 @@ module _ (z : Setting) (lawful : Lawful z) (scope : Scope) where
   pub call_alike : (m : Member) (ts : List IrType) (rs : List ir.Run) (es es' : List core.Expression) → es ≡ es' → (usable z).linked m ≡ true → FitAll (types_referred m.method.params) ts → (w : World) (env : ir.Env) (s : ir.State) (sc : js.Scope) (u : js.State) → Inside z.place z.code sc → OperandsAlike z w env sc ts rs es' → SameState z.place w s u → Sim z.direction (Valued z.place w env (call_type m.method.result)) (ir_meaning.in_order rs (ir_meaning.call z.low (ir_world.member_of z.place.classes m.class m.namespace m.method) None) env s) (shown z (core.static_call m (expressions_of es)) sc u)
   call_alike m ts rs es es' e linked fit w env s sc u inside operands same = by_equal w env (call_type m.method.result) _ _ _ _ refl (ap (λ o. then_do o (js.with_value (λ f. js_meaning.in_order (js_meaning.arguments z.place.program z.js_low (expression_templates z.place.name z.place.label (expressions_of es))) (js_meaning.call z.place.program z.js_low f) sc))) (name_shown m w s sc u linked inside same) ∙ ap (λ args. js_meaning.in_order args (js_meaning.call z.place.program z.js_low (function_of_member z.place m)) sc u) (arguments_shown es ∙ ap (all_shown z) e)) (in_order_alike z w w env sc w ts (call_type m.method.result) rs es' (ir_meaning.call z.low (ir_world.member_of z.place.classes m.class m.namespace m.method) None) (js_meaning.call z.place.program z.js_low (function_of_member z.place m)) operands (call_acts m ts w env sc linked fit) w s u (grows-refl w) (grows-refl w) (grows-refl w) same)
 
-  pub unary_alike : (o : UnaryOp) (own : IrType) (r : ir.Run) (e : core.Expression) → (w : World) (env : ir.Env) (s : ir.State) (sc : js.Scope) (u : js.State) → OperandsAlike z w env sc (own ∷ []) (r ∷ []) (e ∷ []) → SameState z.place w s u → Sim z.direction (Valued z.place w env (unary_result o)) (ir_meaning.in_order (r ∷ []) (ir_meaning.unary z.place.classes z.low o) env s) (shown z (core.unary_of o e) sc u)
-  unary_alike o own r e w env s sc u operand same = by_equal w env (unary_result o) _ _ _ _ refl (unary_shown z.place.program z.js_low (expression_template z.place.name z.place.label e) sc u o) (in_order_alike z w w env sc w (own ∷ []) (unary_result o) (r ∷ []) (e ∷ []) (ir_meaning.unary z.place.classes z.low o) (by_one_value (one_template_value o)) operand (unary_acts z w env sc o own) w s u (grows-refl w) (grows-refl w) (grows-refl w) same)
+  pub unary_alike : (o : UnaryOp) (own : IrType) (r : ir.Run) (e : core.Expression) → Fits (unary_operand o) own → (w : World) (env : ir.Env) (s : ir.State) (sc : js.Scope) (u : js.State) → OperandsAlike z w env sc (own ∷ []) (r ∷ []) (e ∷ []) → SameState z.place w s u → Sim z.direction (Valued z.place w env (unary_result o)) (ir_meaning.in_order (r ∷ []) (ir_meaning.unary z.place.classes z.low o) env s) (shown z (core.unary_of o e) sc u)
+  unary_alike o own r e fit w env s sc u operand same = by_equal w env (unary_result o) _ _ _ _ refl (unary_shown z.place.program z.js_low (expression_template z.place.name z.place.label e) sc u o) (in_order_alike z w w env sc w (own ∷ []) (unary_result o) (r ∷ []) (e ∷ []) (ir_meaning.unary z.place.classes z.low o) (by_one_value (one_template_value o)) operand (unary_acts z w env sc o own fit) w s u (grows-refl w) (grows-refl w) (grows-refl w) same)
 
   -- an operator whose template takes the operands' values as they are
   direct_alike : (o : BinaryOp) (left right : IrType) (r q : ir.Run) (e d : core.Expression) → is_direct o ≡ true → Fits (left_operand o) left → Fits (right_operand o) right → (w : World) (env : ir.Env) (s : ir.State) (sc : js.Scope) (u : js.State) → OperandsAlike z w env sc (left ∷ right ∷ []) (r ∷ q ∷ []) (e ∷ d ∷ []) → SameState z.place w s u → Sim z.direction (Valued z.place w env (binary_result o)) (ir_meaning.in_order (r ∷ q ∷ []) (ir_meaning.binary z.place.classes z.low o) env s) (shown z (core.binary_of o e d) sc u)
@@ -233,62 +217,32 @@ module _ (z : Setting) (lawful : Lawful z) (scope : Scope) where
   pub division_same : (o : BinaryOp) (d : Term) → DividesBy o d → (s t : IrType) (e g : core.Expression) → core.binary_of o (operand_of o s e) (operand_of o t g) ≡ core.binary_of o e g
   division_same o d by s t e g = λ i. core.binary_of o (operand_same o d by s e i) (operand_same o d by t g i)
 
-<<<<<<< HEAD
   -- a plain tree and its expression: they are alike, and the text tells of its type
   pub record TreeAlike (t : Term) : Type 0 where
     pub alike : PlainAlike t
     pub told : tells (type_of_term t) (text_of_tree t) ≡ true
 
   -- it as the one operand, or the first of several
-  with_tree : (t : Term) → TreeAlike t → (w : World) (env : ir.Env) (sc : js.Scope) → Sees z.place z.file scope w env sc → (ts : List IrType) (rs : List ir.Run) (es : List core.Expression) → OperandsAlike z w env sc ts rs es → OperandsAlike z w env sc (type_of_term t ∷ ts) (ir_meaning.step z.place.classes z.low t ∷ rs) (expression_of t ∷ es)
-  with_tree t h w env sc sees ts rs es others = more_operands (type_of_term t) (ir_meaning.step z.place.classes z.low t) (expression_of t) ts rs es h.told (as_operand t h.alike w env sc sees) others
+  with_tree : (t : Term) → TreeAlike t → (w : World) (env : ir.Env) (sc : js.Scope) → Sees z.place z.code scope w env sc → (ts : List IrType) (rs : List ir.Run) (es : List core.Expression) → OperandsAlike z w env sc ts rs es → OperandsAlike z w env sc (type_of_term t ∷ ts) (ir_meaning.step z.place.classes z.low t ∷ rs) (expression_of z.code.sure t ∷ es)
+  with_tree t h w env sc sees ts rs es others = more_operands (type_of_term t) (ir_meaning.step z.place.classes z.low t) (expression_of z.code.sure t) ts rs es h.told (as_operand t h.alike w env sc sees) others
 
   unary_tree : (p : Position) (o : UnaryOp) (e : Term) → Fits (unary_operand o) (type_of_term e) → TreeAlike e → TreeAlike (unary_op p o e)
   unary_tree p o e fit h = record {
-    alike = λ w env s sc u sees same. unary_alike o (type_of_term e) (ir_meaning.step z.place.classes z.low e) (expression_of e) w env s sc u (with_tree e h w env sc sees [] [] [] no_operands) same;
+    alike = λ w env s sc u sees same. unary_alike o (type_of_term e) (ir_meaning.step z.place.classes z.low e) (expression_of z.code.sure e) fit w env s sc u (with_tree e h w env sc sees [] [] [] no_operands) same;
     told = unary_tells o (type_of_term e) (text_of_tree e) fit h.told;
   }
 
   binary_tree : (p : Position) (o : BinaryOp) (e d : Term) → Operates o (type_of_term e) (type_of_term d) → TreeAlike e → TreeAlike d → TreeAlike (binary_op p o e d)
   binary_tree p o e d operates h k = record {
-    alike = λ w env s sc u sees same. binary_alike o (type_of_term e) (type_of_term d) (ir_meaning.step z.place.classes z.low e) (ir_meaning.step z.place.classes z.low d) (expression_of e) (expression_of d) operates w env s sc u (with_tree e h w env sc sees _ _ _ (with_tree d k w env sc sees [] [] [] no_operands)) same;
+    alike = λ w env s sc u sees same. binary_alike o (type_of_term e) (type_of_term d) (ir_meaning.step z.place.classes z.low e) (ir_meaning.step z.place.classes z.low d) (expression_of z.code.sure e) (expression_of z.code.sure d) operates w env s sc u (with_tree e h w env sc sees _ _ _ (with_tree d k w env sc sees [] [] [] no_operands)) same;
     told = binary_tells o (type_of_term e) (type_of_term d) operates _ _ _;
   }
 
   division_tree : (p : Position) (o : BinaryOp) (e d : Term) → DividesBy o d → Fits (left_operand o) (type_of_term e) → TreeAlike e → TreeAlike (binary_op p o e d)
   division_tree p o e d by fit h = record {
-    alike = λ w env s sc u sees same. by_equal w env (binary_result o) _ _ _ _ (dividend_alone z o d by (ir_meaning.step z.place.classes z.low e) env s) (λ i. shown z (division_same o d by (type_of_term e) (type_of_term d) (expression_of e) (expression_of d) i) sc u) (division_alike z o d by (type_of_term e) fit (ir_meaning.step z.place.classes z.low e) (expression_of e) w env s sc u (with_tree e h w env sc sees [] [] [] no_operands) same);
-    told = subst (λ x. tells (binary_result o) (expression_template z.place.name z.place.label x) ≡ true) (sym (division_same o d by (type_of_term e) (type_of_term d) (expression_of e) (expression_of d))) (division_tells o d by (text_of_tree e));
+    alike = λ w env s sc u sees same. by_equal w env (binary_result o) _ _ _ _ (dividend_alone z o d by (ir_meaning.step z.place.classes z.low e) env s) (λ i. shown z (division_same o d by (type_of_term e) (type_of_term d) (expression_of z.code.sure e) (expression_of z.code.sure d) i) sc u) (division_alike z o d by (type_of_term e) fit (ir_meaning.step z.place.classes z.low e) (expression_of z.code.sure e) w env s sc u (with_tree e h w env sc sees [] [] [] no_operands) same);
+    told = subst (λ x. tells (binary_result o) (expression_template z.place.name z.place.label x) ≡ true) (sym (division_same o d by (type_of_term e) (type_of_term d) (expression_of z.code.sure e) (expression_of z.code.sure d))) (division_tells o d by (text_of_tree e));
   }
-=======
-  pub plain_tells : (t : Term) → Plain (usable z) z.code.sure scope t → tells (type_of_term t) (text_of_tree t) ≡ true
-  plain_tells (if_then p c a b t) h = refl
-  plain_tells (apply_static p c n m ts t) h = refl
-  plain_tells (apply_statically p e c Private m ts t) h = refl
-  plain_tells (new_object p c m ts) h = refl
-  plain_tells (select p e c f t) h = refl
-  plain_tells (this_ref p t) h = refl
-  plain_tells (unary_op p o e) h = unary_tells o (type_of_term e) (text_of_tree e) h.0 (plain_tells e h.1)
-  plain_tells (binary_op p o e d) (inl h) = binary_tells o (type_of_term e) (type_of_term d) h.0 _ _ _
-  plain_tells (binary_op p o e d) (inr h) = subst (λ x. tells (binary_result o) (expression_template z.place.name z.place.label x) ≡ true) (sym (division_same o d h.0 (type_of_term e) (type_of_term d) (expression_of z.code.sure e) (expression_of z.code.sure d))) (division_tells o d h.0 (text_of_tree e))
-  plain_tells (undefined_literal p) h = refl
-  plain_tells (null_literal p) h = refl
-  plain_tells (boolean_literal p b) h = refl
-  plain_tells (char_literal p u) h = refl
-  plain_tells (byte_literal p n) h = refl
-  plain_tells (short_literal p n) h = refl
-  plain_tells (int_literal p n) h = refl
-  plain_tells (long_literal p n) h = refl
-  plain_tells (string_literal p us) h = refl
-  plain_tells (var_ref p x t) h = refl
-  plain_tells _ h = absurd h
-
-  -- a plain tree as the one operand, or the first of several
-  with_tree : (t : Term) → Plain (usable z) z.code.sure scope t → PlainAlike t → (w : World) (env : ir.Env) (sc : js.Scope) → Sees z.place z.code scope w env sc → (ts : List IrType) (rs : List ir.Run) (es : List core.Expression) → OperandsAlike z w env sc ts rs es → OperandsAlike z w env sc (type_of_term t ∷ ts) (ir_meaning.step z.place.classes z.low t ∷ rs) (expression_of z.code.sure t ∷ es)
-  with_tree t h alike w env sc sees ts rs es others = more_operands (type_of_term t) (ir_meaning.step z.place.classes z.low t) (expression_of z.code.sure t) ts rs es (plain_tells t h) (as_operand t alike w env sc sees) others
-
-  division_plain : (q : Position) (o : BinaryOp) (e d : Term) → Plain (usable z) z.code.sure scope e → PlainAlike e → DividesBy o d → Fits (left_operand o) (type_of_term e) → PlainAlike (binary_op q o e d)
-  division_plain q o e d h alike by f w env s sc u sees same = by_equal w env (binary_result o) _ _ _ _ (dividend_alone z o d by (ir_meaning.step z.place.classes z.low e) env s) (λ i. shown z (division_same o d by (type_of_term e) (type_of_term d) (expression_of z.code.sure e) (expression_of z.code.sure d) i) sc u) (division_alike z o d by (type_of_term e) f (ir_meaning.step z.place.classes z.low e) (expression_of z.code.sure e) w env s sc u (with_tree e h alike w env sc sees [] [] [] no_operands) same)
 
   call_plain : (p : Position) (m : Member) (ts : Terms) (t : IrType) → t ≡ call_type m.method.result → (usable z).linked m ≡ true → FitAll (types_referred m.method.params) (types_of ts) → (w : World) (env : ir.Env) (s : ir.State) (sc : js.Scope) (u : js.State) → Sees z.place z.code scope w env sc → OperandsAlike z w env sc (types_of ts) (ir_meaning.operands z.place.classes z.low ts) (all_expressions z.code.sure ts) → SameState z.place w s u → Sim z.direction (Valued z.place w env t) (ir_meaning.in_order (ir_meaning.operands z.place.classes z.low ts) (ir_meaning.call z.low (ir_world.member_of z.place.classes m.class m.namespace m.method) None) env s) (shown z (core.static_call m (expressions_of (coerced_arguments m.method.params (types_of ts) (all_expressions z.code.sure ts)))) sc u)
   call_plain p m ts t is linked fit w env s sc u sees operands same = subst (λ i. Sim z.direction (Valued z.place w env i) (ir_meaning.in_order (ir_meaning.operands z.place.classes z.low ts) (ir_meaning.call z.low (ir_world.member_of z.place.classes m.class m.namespace m.method) None) env s) (shown z (core.static_call m (expressions_of (coerced_arguments m.method.params (types_of ts) (all_expressions z.code.sure ts)))) sc u)) (sym is) (call_alike m (types_of ts) (ir_meaning.operands z.place.classes z.low ts) (coerced_arguments m.method.params (types_of ts) (all_expressions z.code.sure ts)) (all_expressions z.code.sure ts) (arguments-same m.method.params (types_of ts) (all_expressions z.code.sure ts) fit) linked fit w env s sc u sees.inside operands same)
@@ -299,25 +253,27 @@ module _ (z : Setting) (lawful : Lawful z) (scope : Scope) where
   received_alike false t w env sc r e (inl i) inside h = impossible i
   received_alike false t w env sc r e (inr i) inside h = more_operands t (ir_meaning.checked z.place.classes z.low r) (core.checked_value e) [] [] [] refl (checked_alike z lawful t w env sc r e i inside h) no_operands
 
-  receiver_plain : (e : Term) → Plain (usable z) z.code.sure scope e → PlainAlike e → MayBeChecked (usable z) z.code.sure scope e → (w : World) (env : ir.Env) (sc : js.Scope) → Sees z.place z.code scope w env sc → OperandsAlike z w env sc (type_of_term e ∷ []) (ir_meaning.receiving z.place.classes (is_sure env.sure e) z.low (ir_meaning.step z.place.classes z.low e) ∷ []) (received_text (is_sure z.code.sure e) (expression_of z.code.sure e) ∷ [])
-  receiver_plain e h alike may w env sc sees = subst (λ q. OperandsAlike z w env sc (type_of_term e ∷ []) (ir_meaning.receiving z.place.classes (is_sure q e) z.low (ir_meaning.step z.place.classes z.low e) ∷ []) (received_text (is_sure z.code.sure e) (expression_of z.code.sure e) ∷ [])) (sym sees.sure) (received_alike (is_sure z.code.sure e) (type_of_term e) w env sc (ir_meaning.step z.place.classes z.low e) (expression_of z.code.sure e) may sees.inside (with_tree e h alike w env sc sees [] [] [] no_operands))
->>>>>>> 6a46694
-
   -- one operand in front of others
   in_front : (t : IrType) (r : ir.Run) (e : core.Expression) (w : World) (env : ir.Env) (sc : js.Scope) (ts : List IrType) (rs : List ir.Run) (es : List core.Expression) → OperandsAlike z w env sc (t ∷ []) (r ∷ []) (e ∷ []) → OperandsAlike z w env sc ts rs es → OperandsAlike z w env sc (t ∷ ts) (r ∷ rs) (e ∷ es)
   in_front _ _ _ w env sc ts rs es (more_operands t r e _ _ _ told one no_operands) others = more_operands t r e ts rs es told one others
 
-<<<<<<< HEAD
-  module _ (scene : Scene) (seen : InScope scene scope) where
+  module _ (scene : Scene) (seen : InScope scene scope) (surely : scene.sure ≡ z.code.sure) (owned : scene.owner ≡ z.code.owner) where
     abbrev law : IsSubtyping (IsSub z.place.classes)
     law = lawful.base.ordered
 
     abbrev Kept : Term → Type 0
     Kept t = Typed z.place.classes (usable z) scene t
 
+    abbrev IsValue : Term → Type 0
+    IsValue t = is_no_type (type_of_term t) ≡ false
+
+    value_yielded : (e : Term) (t : IrType) → is_no_type t ≡ false → Yields z.place.classes e t → IsValue e
+    value_yielded e t n (inl i) = impossible (sym n ∙ ap is_no_type i)
+    value_yielded e t n (inr f) = value_below z.place.classes law (type_of_term e) t f.0 n
+
     if_tree : (p : Position) (c a b : Term) (t : IrType) → Kept (if_then p c a b t) → is_no_type t ≡ false → TreeAlike c → TreeAlike a → TreeAlike b → TreeAlike (if_then p c a b t)
     if_tree p c a b t h value hc ha hb = record {
-      alike = λ w env s sc u sees same. if_alike c a b t (coerced t (type_of_term a) (expression_of a)) (coerced t (type_of_term b) (expression_of b)) hc.alike ha.alike hb.alike fit fit_other (coerced-same t (type_of_term a) (expression_of a) fit) (coerced-same t (type_of_term b) (expression_of b) fit_other) hc.told w env s sc u sees same;
+      alike = λ w env s sc u sees same. if_alike c a b t (coerced t (type_of_term a) (expression_of z.code.sure a)) (coerced t (type_of_term b) (expression_of z.code.sure b)) hc.alike ha.alike hb.alike fit fit_other (coerced-same t (type_of_term a) (expression_of z.code.sure a) fit) (coerced-same t (type_of_term b) (expression_of z.code.sure b) fit_other) hc.told w env s sc u sees same;
       told = refl;
     }
       where
@@ -327,80 +283,112 @@ module _ (z : Setting) (lawful : Lawful z) (scope : Scope) where
         fit_other : Fits t (type_of_term b)
         fit_other = yield-fits z.place.classes law t b value (other_yields z.place.classes a b t h.0.built h.0.meets.2)
 
-    call_tree : (p : Position) (c : List ℕ) (n : Namespace) (m : MethodName) (ts : Terms) (t : IrType) → Kept (apply_static p c n m ts t) → ((w : World) (env : ir.Env) (sc : js.Scope) → Sees z.place z.file scope w env sc → OperandsAlike z w env sc (types_of ts) (ir_meaning.operands z.place.classes z.low ts) (all_expressions ts)) → TreeAlike (apply_static p c n m ts t)
+    abbrev RowAlike : Terms → Type 0
+    RowAlike ts = (w : World) (env : ir.Env) (sc : js.Scope) → Sees z.place z.code scope w env sc → OperandsAlike z w env sc (types_of ts) (ir_meaning.operands z.place.classes z.low ts) (all_expressions z.code.sure ts)
+
+    call_tree : (p : Position) (c : List ℕ) (n : Namespace) (m : MethodName) (ts : Terms) (t : IrType) → Kept (apply_static p c n m ts t) → RowAlike ts → TreeAlike (apply_static p c n m ts t)
     call_tree p c n m ts t h operands = record {
       alike = λ w env s sc u sees same. call_plain p (member c n m) ts t h.0.meets.1 (is_linked z.place.classes ((usable z).linked (member c n m)) ts m.params h.0.built) (fit-all z.place.classes law ts m.params (arguments_there z.place.classes ((usable z).linked (member c n m)) ts m.params h.0.built h.0.finds h.0.meets.2)) w env s sc u sees (operands w env sc sees) same;
       told = refl;
     }
 
-    operation_tree : (p : Position) (o : BinaryOp) (e d : Term) → Kept (binary_op p o e d) → TreeAlike e → TreeAlike d → TreeAlike (binary_op p o e d)
-    operation_tree p o e d h one other = ⊎_elim (λ takes. binary_tree p o e d (operates z.place.classes law o e d takes) one other) (λ divides. division_tree p o e d divides.0 (fits-dividend z.place.classes law o d (type_of_term e) divides.0 divides.1) one) (operation z.place.classes (usable z) scene o e d h.0.built h.2 h.0.meets)
+    -- a receiver that is never null, or whose check can be used
+    receiver_alike : (e : Term) → TreeAlike e → may_check (usable z) scene.sure e ≡ true → (w : World) (env : ir.Env) (sc : js.Scope) → Sees z.place z.code scope w env sc → OperandsAlike z w env sc (type_of_term e ∷ []) (ir_meaning.receiving z.place.classes (is_sure env.sure e) z.low (ir_meaning.step z.place.classes z.low e) ∷ []) (received_text (is_sure z.code.sure e) (expression_of z.code.sure e) ∷ [])
+    receiver_alike e h may w env sc sees = subst (λ q. OperandsAlike z w env sc (type_of_term e ∷ []) (ir_meaning.receiving z.place.classes (is_sure q e) z.low (ir_meaning.step z.place.classes z.low e) ∷ []) (received_text (is_sure z.code.sure e) (expression_of z.code.sure e) ∷ [])) (sym sees.sure) (received_alike (is_sure z.code.sure e) (type_of_term e) w env sc (ir_meaning.step z.place.classes z.low e) (expression_of z.code.sure e) (may_be_checked (usable z) z.code.sure e (subst (λ (q : List ℕ → Bool). may_check (usable z) q e ≡ true) surely may)).0 sees.inside (with_tree e h w env sc sees [] [] [] no_operands))
+
+    select_tree : (p : Position) (e : Term) (c f : List ℕ) (t : IrType) → Kept (select p e c f t) → TreeAlike e → TreeAlike (select p e c f t)
+    select_tree p e c f t h one = record {
+      alike = λ w env s sc u sees same. select_alike z lawful.base w env s sc u (type_of_term e) (ir_meaning.receiving z.place.classes (is_sure env.sure e) z.low (ir_meaning.step z.place.classes z.low e)) (received_text (is_sure z.code.sure e) (expression_of z.code.sure e)) c f t (lawful.base.fields c f t (and_parts ((usable z).field c f t) (may_check (usable z) scene.sure e) h.0.built).0).field (receiver_alike e one (and_parts ((usable z).field c f t) (may_check (usable z) scene.sure e) h.0.built).1 w env sc sees) same;
+      told = refl;
+    }
+
+    new_tree : (p : Position) (c : List ℕ) (m : MethodName) (ts : Terms) → Kept (new_object p c m ts) → RowAlike ts → TreeAlike (new_object p c m ts)
+    new_tree p c m ts h operands = record {
+      alike = λ w env s sc u sees same. new_alike z lawful.base c m (types_of ts) (ir_meaning.operands z.place.classes z.low ts) (coerced_arguments m.params (types_of ts) (all_expressions z.code.sure ts)) (all_expressions z.code.sure ts) (arguments-same m.params (types_of ts) (all_expressions z.code.sure ts) fit) (is_linked z.place.classes ((usable z).built (member c Constructor m)) ts m.params its.1) its.0 (lawful.base.objects c its.0) fit w env s sc u sees.inside (operands w env sc sees) same;
+      told = refl;
+    }
+      where
+        its : ((usable z).made c ≡ true) × (((usable z).built (member c Constructor m) && not (any_is_boxed m.params ts)) ≡ true)
+        its = and_parts ((usable z).made c) ((usable z).built (member c Constructor m) && not (any_is_boxed m.params ts)) h.0.built
+
+        fit : FitAll (types_referred m.params) (types_of ts)
+        fit = fit-all z.place.classes law ts m.params (arguments_there z.place.classes ((usable z).built (member c Constructor m)) ts m.params its.1 h.0.finds h.0.meets.1)
+
+    receive_tree : (p : Position) (e : Term) (c : List ℕ) (m : MethodName) (ts : Terms) (t : IrType) → Kept (apply_statically p e c Private m ts t) → TreeAlike e → RowAlike ts → TreeAlike (apply_statically p e c Private m ts t)
+    receive_tree p e c m ts t h one operands = record {
+      alike = λ w env s sc u sees same. by_equal w env t _ _ _ _ refl (λ i. shown z (core.receiver_call (member c Private m) (receiver-same (type_of_term e) (received_text (is_sure z.code.sure e) (expression_of z.code.sure e)) its.unboxed i) (expressions_of (arguments-same m.params (types_of ts) (all_expressions z.code.sure ts) its.fit i))) sc u) (subst (λ k. Sim z.direction (Valued z.place w env k) (ir_meaning.step z.place.classes z.low (apply_statically p e c Private m ts t) env s) (shown z (core.receiver_call (member c Private m) (received_text (is_sure z.code.sure e) (expression_of z.code.sure e)) (expressions_of (all_expressions z.code.sure ts))) sc u)) (sym h.0.meets.1) (received_call_alike z lawful.base (member c Private m) (type_of_term e) (types_of ts) (ir_meaning.receiving z.place.classes (is_sure env.sure e) z.low (ir_meaning.step z.place.classes z.low e)) (ir_meaning.operands z.place.classes z.low ts) (received_text (is_sure z.code.sure e) (expression_of z.code.sure e)) (all_expressions z.code.sure ts) its.there its.on_class its.fit w env s sc u sees.inside (in_front _ _ _ w env sc _ _ _ (receiver_alike e one its.may_be w env sc sees) (operands w env sc sees)) same));
+      told = refl;
+    }
+      where
+        its : Received z.place.classes (usable z) (may_check (usable z) scene.sure) e c m ts
+        its = received z.place.classes law (usable z) (may_check (usable z) scene.sure) e c m ts h.0.built h.0.finds h.0.meets.2 h.0.meets.3
+
+    this_tree : (p : Position) (t : IrType) → Kept (this_ref p t) → TreeAlike (this_ref p t)
+    this_tree p t h = record {
+      alike = λ w env s sc u sees same. this_alike w env t s u env.this_value (sc.bindings (z.place.name core.receiver)) (js_meaning.top_cell (owner z.place.program sc.file (z.place.name core.receiver)) (z.place.name core.receiver) u) (h.finds.1 ∙ ap class_type owned) sees.this same;
+      told = refl;
+    }
+
+    -- both operands of an operator, where it takes them, have values
+    operation_tree : (p : Position) (o : BinaryOp) (e d : Term) → Kept (binary_op p o e d) → (IsValue e → TreeAlike e) → (IsValue d → TreeAlike d) → TreeAlike (binary_op p o e d)
+    operation_tree p o e d h one other = ⊎_elim (λ takes. binary_tree p o e d (operates z.place.classes law o e d takes) (one (left_value takes)) (other (right_value takes))) (λ divides. division_tree p o e d divides.0 (fits-dividend z.place.classes law o d (type_of_term e) divides.0 divides.1) (one (value_below z.place.classes law (type_of_term e) (left_operand o) divides.1 (value_none (left_operand o) (left-operand-value o))))) (operation z.place.classes (usable z) scene o e d h.0.built h.2 h.0.meets)
+      where
+        left_value : Takes z.place.classes o e d → IsValue e
+        left_value (its_types simple f g) = value_below z.place.classes law (type_of_term e) (left_operand o) f (value_none (left_operand o) (left-operand-value o))
+        left_value (texts is f g) = not_none (type_of_term e) (not_no_type (type_of_term e) f)
+
+        right_value : Takes z.place.classes o e d → IsValue d
+        right_value (its_types simple f g) = value_below z.place.classes law (type_of_term d) (right_operand o) g (value_none (right_operand o) (right-operand-value o))
+        right_value (texts is f g) = not_none (type_of_term d) (not_no_type (type_of_term d) g)
+
+    -- a call on a receiver: of a private member, as that of a constructor has no value
+    receiving_tree : (p : Position) (e : Term) (c : List ℕ) (n : Namespace) (m : MethodName) (ts : Terms) (t : IrType) → Kept (apply_statically p e c n m ts t) → IsNoConstruction (apply_statically p e c n m ts t) → TreeAlike e → (ArgumentsFit z.place.classes ts m.params → RowAlike ts) → TreeAlike (apply_statically p e c n m ts t)
+    receiving_tree p e c Private m ts t h v one others = receive_tree p e c m ts t h one (others (received z.place.classes law (usable z) (may_check (usable z) scene.sure) e c m ts h.0.built h.0.finds h.0.meets.2 h.0.meets.3).arguments)
+    receiving_tree p e c Constructor m ts t h v one others = absurd v
+    receiving_tree p e c n m ts t h v one others = impossible h.0.built
 
     mutual
       -- both directions at once: what a plain tree comes to, its expression comes to
-      tree_alike : (t : Term) → Kept t → is_plain t ≡ true → TreeAlike t
-      tree_alike (if_then p c a b t) h k =
+      tree_alike : (t : Term) → Kept t → is_plain t ≡ true → IsNoConstruction t → TreeAlike t
+      tree_alike (if_then p c a b t) h k v =
           let x = and_parts (not (is_no_type t) && is_plain c && is_plain a) (is_plain b) k in
           let y = and_parts (not (is_no_type t) && is_plain c) (is_plain a) x.0 in
-          let v = and_parts (not (is_no_type t)) (is_plain c) y.0 in
-          if_tree p c a b t h (when_not (is_no_type t) v.0) (tree_alike c h.1 v.1) (tree_alike a h.2 y.1) (tree_alike b h.3 x.1)
-      tree_alike (apply_static p c n m ts t) h k = call_tree p c n m ts t h (trees_alike ts h.1 k)
-      tree_alike (unary_op p o e) h k = unary_tree p o e (fits-unary z.place.classes law o (type_of_term e) h.0.meets) (tree_alike e h.1 k)
-      tree_alike (binary_op p o e d) h k = let x = and_parts (is_plain e) (is_plain d) k in operation_tree p o e d h (tree_alike e h.1 x.0) (tree_alike d h.2 x.1)
-      tree_alike (undefined_literal p) h k = record { alike = λ w env s sc u sees same. literal_alike w env Undefined s u ir.undefined js.undefined same_undefined refl same; told = refl }
-      tree_alike (null_literal p) h k = record { alike = λ w env s sc u sees same. literal_alike w env Null s u ir.null js.null same_null refl same; told = refl }
-      tree_alike (boolean_literal p b) h k = record { alike = λ w env s sc u sees same. literal_alike w env Boolean s u (ir.boolean b) (js.boolean b) (same_boolean b) refl same; told = refl }
-      tree_alike (char_literal p n) h k = record { alike = λ w env s sc u sees same. number_alike w env Char s sc u (ir.char n) (pos n) (unit_is_int n h.finds) (same_char n h.finds) refl same; told = refl }
-      tree_alike (byte_literal p n) h k = record { alike = λ w env s sc u sees same. number_alike w env Byte s sc u (ir.number n) n h.finds (same_number n h.finds) refl same; told = refl }
-      tree_alike (short_literal p n) h k = record { alike = λ w env s sc u sees same. number_alike w env Short s sc u (ir.number n) n h.finds (same_number n h.finds) refl same; told = refl }
-      tree_alike (int_literal p n) h k = record { alike = λ w env s sc u sees same. number_alike w env Int s sc u (ir.number n) n h.finds (same_number n h.finds) refl same; told = refl }
-      tree_alike (long_literal p n) h k = record { alike = λ w env s sc u sees same. long_alike w env s sc u n h.finds same; told = refl }
-      tree_alike (string_literal p us) h k = record { alike = λ w env s sc u sees same. literal_alike w env String s u (ir.text us) (js.text us) (same_text us) refl same; told = refl }
-      tree_alike (var_ref p x t) h k = record { alike = λ w env s sc u sees same. local_alike w env t s u (env.locals x) (sc.bindings (z.place.name (core.named x))) (js_meaning.top_cell (owner z.place.program sc.file (z.place.name (core.named x))) (z.place.name (core.named x)) u) (sees.locals x t (seen x t (there scene x t h.finds))) same; told = refl }
-      tree_alike (var_def p x t b e) h k = impossible k
-      tree_alike (skip p) h k = impossible k
-      tree_alike (block_of p ts) h k = impossible k
-      tree_alike (labeled p l t e) h k = impossible k
-      tree_alike (assign p e d) h k = impossible k
-      tree_alike (return_to p e l) h k = impossible k
-      tree_alike (while_loop p c b) h k = impossible k
-      tree_alike (do_while p b c) h k = impossible k
-      tree_alike (match_on p e cs d t) h k = impossible k
-      tree_alike (log_line p e) h k = impossible k
-      tree_alike _ h k = impossible h.built
+          let q = and_parts (not (is_no_type t)) (is_plain c) y.0 in
+          if_tree p c a b t h (when_not (is_no_type t) q.0) (tree_alike c h.1 q.1 (value_apart z.place.classes (usable z) scene c h.1 (value_below z.place.classes law (type_of_term c) Boolean h.0.meets.0 refl))) (tree_alike a h.2 y.1 (value_apart z.place.classes (usable z) scene a h.2 (value_yielded a t (when_not (is_no_type t) q.0) (one_yields z.place.classes a b t h.0.built h.0.meets.1)))) (tree_alike b h.3 x.1 (value_apart z.place.classes (usable z) scene b h.3 (value_yielded b t (when_not (is_no_type t) q.0) (other_yields z.place.classes a b t h.0.built h.0.meets.2))))
+      tree_alike (new_object p c m ts) h k v = let x = and_parts ((usable z).made c) ((usable z).built (member c Constructor m) && not (any_is_boxed m.params ts)) h.0.built in new_tree p c m ts h (trees_alike ts m.params h.1 k (arguments_there z.place.classes ((usable z).built (member c Constructor m)) ts m.params x.1 h.0.finds h.0.meets.1))
+      tree_alike (select p e c f t) h k v = select_tree p e c f t h (tree_alike e h.1 k (value_apart z.place.classes (usable z) scene e h.1 (value_below z.place.classes law (type_of_term e) (class_type c) h.0.meets.0 (class_value c))))
+      tree_alike (apply_statically p e c n m ts t) h k v = let x = and_parts (is_plain e) (are_plain ts) k in receiving_tree p e c n m ts t h v (tree_alike e h.1 x.0 (value_apart z.place.classes (usable z) scene e h.1 (value_below z.place.classes law (type_of_term e) (class_type c) h.0.meets.2 (class_value c)))) (trees_alike ts m.params h.2 x.1)
+      tree_alike (this_ref p t) h k v = this_tree p t h
+      tree_alike (apply_static p c n m ts t) h k v = call_tree p c n m ts t h (trees_alike ts m.params h.1 k (arguments_there z.place.classes ((usable z).linked (member c n m)) ts m.params h.0.built h.0.finds h.0.meets.2))
+      tree_alike (unary_op p o e) h k v = unary_tree p o e (fits-unary z.place.classes law o (type_of_term e) h.0.meets) (tree_alike e h.1 k (value_apart z.place.classes (usable z) scene e h.1 (value_below z.place.classes law (type_of_term e) (unary_operand o) h.0.meets (value_none (unary_operand o) (unary-operand-value o)))))
+      tree_alike (binary_op p o e d) h k v = let x = and_parts (is_plain e) (is_plain d) k in operation_tree p o e d h (λ v. tree_alike e h.1 x.0 (value_apart z.place.classes (usable z) scene e h.1 v)) (λ v. tree_alike d h.2 x.1 (value_apart z.place.classes (usable z) scene d h.2 v))
+      tree_alike (undefined_literal p) h k v = record { alike = λ w env s sc u sees same. literal_alike w env Undefined s u ir.undefined js.undefined same_undefined refl same; told = refl }
+      tree_alike (null_literal p) h k v = record { alike = λ w env s sc u sees same. literal_alike w env Null s u ir.null js.null same_null refl same; told = refl }
+      tree_alike (boolean_literal p b) h k v = record { alike = λ w env s sc u sees same. literal_alike w env Boolean s u (ir.boolean b) (js.boolean b) (same_boolean b) refl same; told = refl }
+      tree_alike (char_literal p n) h k v = record { alike = λ w env s sc u sees same. number_alike w env Char s sc u (ir.char n) (pos n) (unit_is_int n h.finds) (same_char refl n h.finds) refl same; told = refl }
+      tree_alike (byte_literal p n) h k v = record { alike = λ w env s sc u sees same. number_alike w env Byte s sc u (ir.number n) n h.finds (same_number n h.finds) refl same; told = refl }
+      tree_alike (short_literal p n) h k v = record { alike = λ w env s sc u sees same. number_alike w env Short s sc u (ir.number n) n h.finds (same_number n h.finds) refl same; told = refl }
+      tree_alike (int_literal p n) h k v = record { alike = λ w env s sc u sees same. number_alike w env Int s sc u (ir.number n) n h.finds (same_number n h.finds) refl same; told = refl }
+      tree_alike (long_literal p n) h k v = record { alike = λ w env s sc u sees same. long_alike w env s sc u n h.finds same; told = refl }
+      tree_alike (string_literal p us) h k v = record { alike = λ w env s sc u sees same. literal_alike w env String s u (ir.text us) (js.text us) (same_text us) refl same; told = refl }
+      tree_alike (var_ref p x t) h k v = record { alike = λ w env s sc u sees same. local_alike w env t s u (env.locals x) (sc.bindings (z.place.name (core.named x))) (js_meaning.top_cell (owner z.place.program sc.file (z.place.name (core.named x))) (z.place.name (core.named x)) u) (sees.locals x t (seen x t (there scene x t h.finds))) same; told = refl }
+      tree_alike (var_def p x t b e) h k v = impossible k
+      tree_alike (skip p) h k v = impossible k
+      tree_alike (block_of p ts) h k v = impossible k
+      tree_alike (labeled p l t e) h k v = impossible k
+      tree_alike (assign p e d) h k v = impossible k
+      tree_alike (return_to p e l) h k v = impossible k
+      tree_alike (while_loop p c b) h k v = impossible k
+      tree_alike (do_while p b c) h k v = impossible k
+      tree_alike (throw p e) h k v = impossible k
+      tree_alike (match_on p e cs d t) h k v = impossible k
+      tree_alike (log_line p e) h k v = impossible k
+      tree_alike _ h k v = impossible h.built
 
-      trees_alike : (ts : Terms) → TypedAll z.place.classes (usable z) scene ts → are_plain ts ≡ true → (w : World) (env : ir.Env) (sc : js.Scope) → Sees z.place z.file scope w env sc → OperandsAlike z w env sc (types_of ts) (ir_meaning.operands z.place.classes z.low ts) (all_expressions ts)
-      trees_alike no_terms h k w env sc sees = no_operands
-      trees_alike (more_terms t ts) h k w env sc sees = let x = and_parts (is_plain t) (are_plain ts) k in with_tree t (tree_alike t h.0 x.0) w env sc sees _ _ _ (trees_alike ts h.1 x.1 w env sc sees)
+      trees_alike : (ts : Terms) (rs : List TypeRef) → TypedAll z.place.classes (usable z) scene ts → are_plain ts ≡ true → ArgumentsFit z.place.classes ts rs → RowAlike ts
+      trees_alike no_terms rs h k fit w env sc sees = no_operands
+      trees_alike (more_terms t ts) [] h k fit w env sc sees = absurd fit
+      trees_alike (more_terms t ts) (r ∷ rs) h k fit w env sc sees = let x = and_parts (is_plain t) (are_plain ts) k in with_tree t (tree_alike t h.0 x.0 (value_apart z.place.classes (usable z) scene t h.0 (value_below z.place.classes law (type_of_term t) (reference_type r) fit.0.0 (value_none (reference_type r) fit.1)))) w env sc sees _ _ _ (trees_alike ts rs h.1 x.1 fit.2 w env sc sees)
 
-  pub plain_alike : (t : Term) → Plain z.place.classes (usable z) scope t → TreeAlike t
-  plain_alike t p = tree_alike p.scene p.seen t p.typed p.plain
-=======
-  mutual
-    -- both directions at once: what a plain tree comes to, its expression comes to
-    pub plain_alike : (t : Term) → Plain (usable z) z.code.sure scope t → PlainAlike t
-    plain_alike (if_then p c a b t) h w env s sc u sees same = if_alike c a b t (coerced t (type_of_term a) (expression_of z.code.sure a)) (coerced t (type_of_term b) (expression_of z.code.sure b)) (plain_alike c h.0) (plain_alike a h.1) (plain_alike b h.2) h.3 h.4 (coerced-same t (type_of_term a) (expression_of z.code.sure a) h.3) (coerced-same t (type_of_term b) (expression_of z.code.sure b) h.4) (plain_tells c h.0) w env s sc u sees same
-    plain_alike (apply_static p c n m ts t) h w env s sc u sees same = call_plain p (member c n m) ts t h.1 h.0 h.2 w env s sc u sees (all_alike ts h.3 w env sc sees) same
-    plain_alike (apply_statically p e c Private m ts t) h w env s sc u sees same = by_equal w env t _ _ _ _ refl (λ i. shown z (core.receiver_call (member c Private m) (coerced-same (Class (codes "java.lang.Character")) (type_of_term e) (received_text (is_sure z.code.sure e) (expression_of z.code.sure e)) (fits-character (type_of_term e) h.4) i) (expressions_of (arguments-same m.params (types_of ts) (all_expressions z.code.sure ts) h.2 i))) sc u) (subst (λ k. Sim z.direction (Valued z.place w env k) (ir_meaning.step z.place.classes z.low (apply_statically p e c Private m ts t) env s) (shown z (core.receiver_call (member c Private m) (received_text (is_sure z.code.sure e) (expression_of z.code.sure e)) (expressions_of (all_expressions z.code.sure ts))) sc u)) (sym h.1) (received_call_alike z lawful.base (member c Private m) (type_of_term e) (types_of ts) (ir_meaning.receiving z.place.classes (is_sure env.sure e) z.low (ir_meaning.step z.place.classes z.low e)) (ir_meaning.operands z.place.classes z.low ts) (received_text (is_sure z.code.sure e) (expression_of z.code.sure e)) (all_expressions z.code.sure ts) h.0 h.4 h.2 w env s sc u sees.inside (in_front _ _ _ w env sc _ _ _ (receiver_plain e h.6 (plain_alike e h.6) h.5 w env sc sees) (all_alike ts h.3 w env sc sees)) same))
-    plain_alike (new_object p c m ts) h w env s sc u sees same = new_alike z lawful.base c m (types_of ts) (ir_meaning.operands z.place.classes z.low ts) (coerced_arguments m.params (types_of ts) (all_expressions z.code.sure ts)) (all_expressions z.code.sure ts) (arguments-same m.params (types_of ts) (all_expressions z.code.sure ts) h.3) h.0 h.1 h.2 h.3 w env s sc u sees.inside (all_alike ts h.4 w env sc sees) same
-    plain_alike (select p e c f t) h w env s sc u sees same = select_alike z lawful.base w env s sc u (type_of_term e) (ir_meaning.receiving z.place.classes (is_sure env.sure e) z.low (ir_meaning.step z.place.classes z.low e)) (received_text (is_sure z.code.sure e) (expression_of z.code.sure e)) c f t (lawful.base.fields c f t h.0).field (receiver_plain e h.2 (plain_alike e h.2) h.1 w env sc sees) same
-    plain_alike (this_ref p t) h w env s sc u sees same = this_alike w env t s u env.this_value (sc.bindings (z.place.name core.receiver)) (js_meaning.top_cell (owner z.place.program sc.file (z.place.name core.receiver)) (z.place.name core.receiver) u) h sees.this same
-    plain_alike (unary_op p o e) h w env s sc u sees same = unary_alike o (type_of_term e) (ir_meaning.step z.place.classes z.low e) (expression_of z.code.sure e) w env s sc u (with_tree e h.1 (plain_alike e h.1) w env sc sees [] [] [] no_operands) same
-    plain_alike (binary_op p o e d) (inl h) w env s sc u sees same = binary_alike o (type_of_term e) (type_of_term d) (ir_meaning.step z.place.classes z.low e) (ir_meaning.step z.place.classes z.low d) (expression_of z.code.sure e) (expression_of z.code.sure d) h.0 w env s sc u (with_tree e h.1 (plain_alike e h.1) w env sc sees _ _ _ (with_tree d h.2 (plain_alike d h.2) w env sc sees [] [] [] no_operands)) same
-    plain_alike (binary_op p o e d) (inr h) w env s sc u sees same = division_plain p o e d h.2 (plain_alike e h.2) h.0 h.1 w env s sc u sees same
-    plain_alike (undefined_literal p) h w env s sc u sees same = literal_alike w env Undefined s u ir.undefined js.undefined same_undefined refl same
-    plain_alike (null_literal p) h w env s sc u sees same = literal_alike w env Null s u ir.null js.null same_null refl same
-    plain_alike (boolean_literal p b) h w env s sc u sees same = literal_alike w env Boolean s u (ir.boolean b) (js.boolean b) (same_boolean b) refl same
-    plain_alike (char_literal p n) h w env s sc u sees same = number_alike w env Char s sc u (ir.char n) (pos n) (unit_is_int n h) (same_char n h) refl same
-    plain_alike (byte_literal p n) h w env s sc u sees same = number_alike w env Byte s sc u (ir.number n) n h (same_number n h) refl same
-    plain_alike (short_literal p n) h w env s sc u sees same = number_alike w env Short s sc u (ir.number n) n h (same_number n h) refl same
-    plain_alike (int_literal p n) h w env s sc u sees same = number_alike w env Int s sc u (ir.number n) n h (same_number n h) refl same
-    plain_alike (long_literal p n) h w env s sc u sees same = long_alike w env s sc u n h same
-    plain_alike (string_literal p us) h w env s sc u sees same = literal_alike w env String s u (ir.text us) (js.text us) (same_text us) refl same
-    plain_alike (var_ref p x t) h w env s sc u sees same = local_alike w env t s u (env.locals x) (sc.bindings (z.place.name (core.named x))) (js_meaning.top_cell (owner z.place.program sc.file (z.place.name (core.named x))) (z.place.name (core.named x)) u) (sees.locals x t h) same
-    plain_alike _ h w env s sc u sees same = absurd h
-
-    pub all_alike : (ts : Terms) → AllPlain (usable z) z.code.sure scope ts → (w : World) (env : ir.Env) (sc : js.Scope) → Sees z.place z.code scope w env sc → OperandsAlike z w env sc (types_of ts) (ir_meaning.operands z.place.classes z.low ts) (all_expressions z.code.sure ts)
-    all_alike no_terms h w env sc sees = no_operands
-    all_alike (more_terms t ts) h w env sc sees = with_tree t h.0 (plain_alike t h.0) w env sc sees _ _ _ (all_alike ts h.1 w env sc sees)
->>>>>>> 6a46694
+  pub plain_alike : (t : Term) → Plain z.place.classes (usable z) z.code scope t → TreeAlike t
+  plain_alike t p = tree_alike p.scene p.seen p.surely p.owned t p.typed p.plain p.apart

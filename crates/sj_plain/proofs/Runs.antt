@@ -1,5 +1,5 @@
 -- A constructor on a receiver, whatever it gives: operands in order, and then a relation of its own.
-use Rattle.std.proofs.Common.{◌≡◌, true, List, [], ◌∷◌, Some, refl, sym, ap, ◌∙◌, subst}
+use Rattle.std.proofs.Common.{◌≡◌, true, List, [], ◌∷◌, Some, sym, ap, ◌∙◌, subst}
 use Rattle.outcomes.specs.Outcome.{Out, then_do}
 use Rattle.outcomes.specs.Agreement.{Sim}
 use Rattle.outcomes.proofs.Simulation.{sim_done, sim_wrong, sim_then, sim_weaken}
@@ -10,15 +10,17 @@ use Rattle.js_mean.specs.Meaning as js_meaning
 use Rattle.js_mean.specs.States as js
 use Rattle.sj_core.specs.Terms as core
 use Rattle.sj_core.specs.Views.{expressions_of}
+use Rattle.sj_desugar.specs.Coercions.{is_char}
 use Rattle.sj_emit_expr.specs.Templates.{expression_templates}
 use Rattle.sj_names.specs.declared.method_names.Member.{Member}
+use Rattle.sj_trees.specs.Types.{class_type}
 use Rattle.sj_trees.specs.declared.types.IrType.{IrType}
 use Rattle.sj_trees.specs.declared.types.IrType.TheVariants.{Any}
 use Rattle.sj_plain.specs.Settings.{Place, Setting, shown, usable, SameState, Valued, valued, thrown, Based, a_constructor, top_function, top_call, Inside, Built, built, failed, IsReceiver}
-use Rattle.sj_plain.specs.Standing.{Fits, FitAll, types_referred}
+use Rattle.body_rules.specs.Standing.{Fits, FitAll, types_referred}
 use Rattle.sj_plain.proofs.Orders.{OperandsAlike, no_operands, more_operands, all_shown}
 use Rattle.sj_plain.proofs.Tops.{row_shown, top_seen}
-use Rattle.sj_plain.proofs.Worlds.{World, Grows, grows-refl, grows-trans, SameValue, Stands, same_undefined, same_null, same_boolean, same_char, same_number, same_long, same_text, same_reference, value-fits, value-lift, values-fit, SameValues, no_values, one_more}
+use Rattle.sj_plain.proofs.Worlds.{World, Grows, grows-refl, grows-trans, SameValue, Stands, same_undefined, same_null, same_boolean, same_char, same_box, same_number, same_long, same_text, same_reference, value-fits, value-lift, values-fit, SameValues, no_values, one_more}
 
 -- both sides gave something that isn't used, or threw
 pub data Ran (p : Place) (from : World) (env : ir.Env) : ir.Ended → js.ExpressionEnd → Type 0 where
@@ -35,28 +37,29 @@ in_order_runs z base from env sc at _ _ _ act jact (more_operands own r e owns r
 
 module _ (z : Setting) (law : Based z) where
   -- a constructor runs on a receiver
-  construct_acts : (m : Member) (own : IrType) (ts : List IrType) (w : World) (env : ir.Env) (sc : js.Scope) → (usable z).built m ≡ true → Fits Any own → FitAll (types_referred m.method.params) ts → (y : World) (vs : List ir.Value) (xs : List js.Value) (s : ir.State) (u : js.State) → Grows w y → SameValues y (own ∷ ts) vs xs → SameState z.place y s u → Sim z.direction (Ran z.place w env) (ir_meaning.call_on z.place.classes z.low (ir_world.member_of z.place.classes m.class m.namespace m.method) vs env s) (js_meaning.call z.place.program z.js_low (top_function z.place (a_constructor m)) xs sc u)
-  construct_acts m own ts w env sc there f fit y _ _ s u g (one_more _ v x _ vs xs a others) same = by v x a.stands (value-fits y Any own v x f a)
+  construct_acts : (m : Member) (own : IrType) (ts : List IrType) (w : World) (env : ir.Env) (sc : js.Scope) → (usable z).built m ≡ true → Fits (class_type m.class) own → FitAll (types_referred m.method.params) ts → (y : World) (vs : List ir.Value) (xs : List js.Value) (s : ir.State) (u : js.State) → Grows w y → SameValues y (own ∷ ts) vs xs → SameState z.place y s u → Sim z.direction (Ran z.place w env) (ir_meaning.call_on z.place.classes z.low (ir_world.member_of z.place.classes m.class m.namespace m.method) vs env s) (js_meaning.call z.place.program z.js_low (top_function z.place (a_constructor m)) xs sc u)
+  construct_acts m own ts w env sc there f fit y _ _ s u g (one_more _ v x _ vs xs a others) same = by v x a.stands (value-fits y (class_type m.class) own v x f a)
     where
       each : (x : js.Value) (e : ir.Ended) (b : js.ExpressionEnd) → Built z.place y env x e b → Ran z.place w env e b
       each x _ _ (built k v s u h states) = ran k v x s u (grows-trans w y k g h) states
       each x _ _ (failed k v q s u h c states) = ran_out k v q s u (grows-trans w y k g h) c states
 
-      goes : (v : ir.Value) (x : js.Value) → IsReceiver y v x → Sim z.direction (Ran z.place w env) (ir_meaning.call z.low (ir_world.member_of z.place.classes m.class m.namespace m.method) (Some v) vs env s) (top_call z.place z.js_low (a_constructor m) (x ∷ xs) u)
+      goes : (v : ir.Value) (x : js.Value) → IsReceiver y m.class v x → Sim z.direction (Ran z.place w env) (ir_meaning.call z.low (ir_world.member_of z.place.classes m.class m.namespace m.method) (Some v) vs env s) (top_call z.place z.js_low (a_constructor m) (x ∷ xs) u)
       goes v x r = sim_weaken z.direction (Built z.place y env x) (Ran z.place w env) _ _ (each x) (law.builds m there y v x vs xs env s u r (values-fit y (types_referred m.method.params) ts vs xs fit others) same)
 
-      by : (v : ir.Value) (x : js.Value) → Stands y v x → SameValue y Any v x → Sim z.direction (Ran z.place w env) (ir_meaning.call_on z.place.classes z.low (ir_world.member_of z.place.classes m.class m.namespace m.method) (v ∷ vs) env s) (top_call z.place z.js_low (a_constructor m) (x ∷ xs) u)
+      by : (v : ir.Value) (x : js.Value) → Stands y (is_char own) v x → SameValue y (class_type m.class) v x → Sim z.direction (Ran z.place w env) (ir_meaning.call_on z.place.classes z.low (ir_world.member_of z.place.classes m.class m.namespace m.method) (v ∷ vs) env s) (top_call z.place z.js_low (a_constructor m) (x ∷ xs) u)
       by _ _ same_null k = sim_wrong z.direction (Ran z.place w env) _
       by _ _ same_undefined k = goes _ _ (record { stands = k; there = λ e. cc })
       by _ _ (same_boolean b) k = goes _ _ (record { stands = k; there = λ e. cc })
-      by _ _ (same_char c h) k = goes _ _ (record { stands = k; there = λ e. cc })
+      by _ _ (same_char r c h) k = goes _ _ (record { stands = k; there = λ e. cc })
+      by _ _ (same_box r c b h i) k = goes _ _ (record { stands = k; there = λ e. cc })
       by _ _ (same_number n h) k = goes _ _ (record { stands = k; there = λ e. cc })
       by _ _ (same_long n h) k = goes _ _ (record { stands = k; there = λ e. cc })
       by _ _ (same_text us) k = goes _ _ (record { stands = k; there = λ e. cc })
       by _ _ (same_reference i a e) k = goes _ _ (record { stands = k; there = λ e. cc })
 
   -- a call of a constructor on a receiver
-  pub constructor_runs : (m : Member) (own : IrType) (ts : List IrType) (r : ir.Run) (rs : List ir.Run) (e : core.Expression) (es : List core.Expression) → (usable z).built m ≡ true → Fits Any own → FitAll (types_referred m.method.params) ts → (w : World) (env : ir.Env) (s : ir.State) (sc : js.Scope) (u : js.State) → Inside z.place z.code sc → OperandsAlike z w env sc (own ∷ ts) (r ∷ rs) (e ∷ es) → SameState z.place w s u → Sim z.direction (Ran z.place w env) (ir_meaning.in_order (r ∷ rs) (ir_meaning.call_on z.place.classes z.low (ir_world.member_of z.place.classes m.class m.namespace m.method)) env s) (shown z (core.receiver_call m e (expressions_of es)) sc u)
+  pub constructor_runs : (m : Member) (own : IrType) (ts : List IrType) (r : ir.Run) (rs : List ir.Run) (e : core.Expression) (es : List core.Expression) → (usable z).built m ≡ true → Fits (class_type m.class) own → FitAll (types_referred m.method.params) ts → (w : World) (env : ir.Env) (s : ir.State) (sc : js.Scope) (u : js.State) → Inside z.place z.code sc → OperandsAlike z w env sc (own ∷ ts) (r ∷ rs) (e ∷ es) → SameState z.place w s u → Sim z.direction (Ran z.place w env) (ir_meaning.in_order (r ∷ rs) (ir_meaning.call_on z.place.classes z.low (ir_world.member_of z.place.classes m.class m.namespace m.method)) env s) (shown z (core.receiver_call m e (expressions_of es)) sc u)
   constructor_runs m own ts r rs e es there f fit w env s sc u inside operands same = subst (λ q. Sim z.direction (Ran z.place w env) (ir_meaning.in_order (r ∷ rs) (ir_meaning.call_on z.place.classes z.low (ir_world.member_of z.place.classes m.class m.namespace m.method)) env s) q) (sym js_is) (in_order_runs z w w env sc w (own ∷ ts) (r ∷ rs) (e ∷ es) (ir_meaning.call_on z.place.classes z.low (ir_world.member_of z.place.classes m.class m.namespace m.method)) (js_meaning.call z.place.program z.js_low fun) operands (construct_acts m own ts w env sc there f fit) w s u (grows-refl w) (grows-refl w) (grows-refl w) same)
     where
       fun : js.Value

@@ -1,5 +1,5 @@
 -- Shifts of longs and joins of texts: operators whose templates convert their operands first.
-use Rattle.std.proofs.Common.{◌≡◌, ℕ, ◌<◌, ◌^◌, ◌%◌, ◌++◌, true, false, List, [], ◌∷◌, Some, None, Option, refl, sym, ap, ◌∙◌, subst, arith}
+use Rattle.std.proofs.Common.{◌≡◌, Bool, ℕ, ◌<◌, ◌^◌, ◌%◌, ◌++◌, true, false, List, [], ◌∷◌, Some, None, Option, refl, sym, ap, ◌∙◌, subst, arith}
 use Rattle.std.specs.Prelude.{ℤ, pos, ◌*ℤ◌, FitsSigned}
 use Rattle.std.specs.Int.{cast_unsigned, w32, w64}
 use mathlib.Core.Path.{fun_ext}
@@ -21,21 +21,18 @@ use Rattle.sj_emit_expr.specs.Templates.{expression_template, places}
 use Rattle.sj_trees.specs.declared.operators.BinaryOp.{BinaryOp}
 use Rattle.sj_trees.specs.declared.operators.BinaryOp.TheVariants.{StringConcatenate, LongShiftLeft, LongShiftRightLogical, LongShiftRightArithmetic}
 use Rattle.js_tree.specs.declared.operators.HostOperation.TheVariants.{BigIntAsUintN}
+use Rattle.sj_desugar.specs.Coercions.{is_char}
 use Rattle.sj_names.proofs.Same.{impossible}
 use Rattle.sj_trees.specs.declared.types.IrType.{IrType}
 use Rattle.sj_trees.specs.declared.types.IrType.TheVariants.{Char, Int, Long, String}
 use Rattle.sj_plain.specs.Settings.{Setting, shown, SameState, Valued}
-<<<<<<< HEAD
 use Rattle.sj_plain.specs.Standing.{suits}
-use Rattle.body_rules.specs.Standing.{Fits}
-=======
-use Rattle.sj_plain.specs.Standing.{is_bare, suits, Fits}
->>>>>>> 6a46694
+use Rattle.body_rules.specs.Standing.{is_bare, Fits}
 use Rattle.sj_plain.proofs.Orders.{OperandAlike, converted, two_converted, in_order-then}
 use Rattle.sj_plain.proofs.Operators.{wrapped_value, long_given, GivenIf}
-use Rattle.sj_plain.proofs.Standing.{fits-suits, bare-refers}
+use Rattle.sj_plain.proofs.Standing.{fits-suits, bare-refers, bare-chars}
 use Rattle.sj_plain.proofs.Templates.{alone_shown, value_alike, wrapped_shown, by_value, binary-act, same_act}
-use Rattle.sj_plain.proofs.Worlds.{World, Stands, same_undefined, same_null, same_boolean, same_char, same_number, same_long, same_text, same_reference, SameValue}
+use Rattle.sj_plain.proofs.Worlds.{World, Stands, same_undefined, same_null, same_boolean, same_char, same_box, same_number, same_long, same_text, same_reference, SameValue}
 
 -- a value of a type for which Long is expected, and one for which Int is
 pub data IsLong (w : World) : ir.Value → js.Value → Type 0 where
@@ -44,31 +41,33 @@ pub data IsLong (w : World) : ir.Value → js.Value → Type 0 where
 pub data IsInt (w : World) : ir.Value → js.Value → Type 0 where
   an_int : (z : ℤ) → FitsSigned w32 z → IsInt w (ir.number z) (js.number z)
 
-long_of : (w : World) (v : ir.Value) (x : js.Value) → Stands w v x → suits Long v ≡ true → IsLong w v x
-long_of w _ _ (same_long z f) h = a_long z f
-long_of w _ _ same_undefined h = impossible h
-long_of w _ _ same_null h = impossible h
-long_of w _ _ (same_boolean b) h = impossible h
-long_of w _ _ (same_char u f) h = impossible h
-long_of w _ _ (same_number z f) h = impossible h
-long_of w _ _ (same_text us) h = impossible h
-long_of w _ _ (same_reference i a e) h = impossible h
+long_of : (w : World) (r : Bool) (v : ir.Value) (x : js.Value) → Stands w r v x → suits Long v ≡ true → IsLong w v x
+long_of w r _ _ (same_long z f) h = a_long z f
+long_of w r _ _ same_undefined h = impossible h
+long_of w r _ _ same_null h = impossible h
+long_of w r _ _ (same_boolean b) h = impossible h
+long_of w r _ _ (same_char q u f) h = impossible h
+long_of w r _ _ (same_box q u a f b) h = impossible h
+long_of w r _ _ (same_number z f) h = impossible h
+long_of w r _ _ (same_text us) h = impossible h
+long_of w r _ _ (same_reference i a e) h = impossible h
 
-int_of : (w : World) (v : ir.Value) (x : js.Value) → Stands w v x → suits Int v ≡ true → IsInt w v x
-int_of w _ _ (same_number z f) h = an_int z f
-int_of w _ _ same_undefined h = impossible h
-int_of w _ _ same_null h = impossible h
-int_of w _ _ (same_boolean b) h = impossible h
-int_of w _ _ (same_char u f) h = impossible h
-int_of w _ _ (same_long z f) h = impossible h
-int_of w _ _ (same_text us) h = impossible h
-int_of w _ _ (same_reference i a e) h = impossible h
+int_of : (w : World) (r : Bool) (v : ir.Value) (x : js.Value) → Stands w r v x → suits Int v ≡ true → IsInt w v x
+int_of w r _ _ (same_number z f) h = an_int z f
+int_of w r _ _ same_undefined h = impossible h
+int_of w r _ _ same_null h = impossible h
+int_of w r _ _ (same_boolean b) h = impossible h
+int_of w r _ _ (same_char q u f) h = impossible h
+int_of w r _ _ (same_box q u a f b) h = impossible h
+int_of w r _ _ (same_long z f) h = impossible h
+int_of w r _ _ (same_text us) h = impossible h
+int_of w r _ _ (same_reference i a e) h = impossible h
 
 pub as_long : (w : World) (t : IrType) (v : ir.Value) (x : js.Value) → Fits Long t → SameValue w t v x → IsLong w v x
-as_long w t v x f a = long_of w v x a.stands (fits-suits Long t v f a.suits)
+as_long w t v x f a = long_of w (is_char t) v x a.stands (fits-suits Long t v f a.suits)
 
 pub as_int : (w : World) (t : IrType) (v : ir.Value) (x : js.Value) → Fits Int t → SameValue w t v x → IsInt w v x
-as_int w t v x f a = int_of w v x a.stands (fits-suits Int t v f a.suits)
+as_int w t v x f a = int_of w (is_char t) v x a.stands (fits-suits Int t v f a.suits)
 
 -- the conversions, and what they make of the IR's values
 abbrev big_after : Option js.Value → Option js.Value
@@ -120,19 +119,21 @@ small_unit : (u : ℕ) → u < 2 ^ 16 → u % 2 ^ 16 ≡ u
 small_unit u h = omega arith
 
 -- no value of a type other than char is one
-value_texts : (w : World) (t : IrType) → is_bare t ≡ true → (v : ir.Value) (x : js.Value) → Stands w v x → ((u : ℕ) → suits t (ir.char u) ≡ false) → suits t v ≡ true → Texts v (js_operators.binary_value Op.Add (js.text []) x)
+value_texts : (w : World) (t : IrType) → is_bare t ≡ true → (v : ir.Value) (x : js.Value) → Stands w (is_char t) v x → ((u : ℕ) → suits t (ir.char u) ≡ false) → suits t v ≡ true → Texts v (js_operators.binary_value Op.Add (js.text []) x)
 value_texts w t b _ _ same_undefined h k = record { of_value = refl; is = refl }
 value_texts w t b _ _ same_null h k = record { of_value = refl; is = refl }
 value_texts w t b _ _ (same_boolean true) h k = record { of_value = refl; is = refl }
 value_texts w t b _ _ (same_boolean false) h k = record { of_value = refl; is = refl }
-value_texts w t b _ _ (same_char u f) h k = impossible (sym (h u) ∙ k)
+value_texts w t b _ _ (same_char r u f) h k = impossible (sym (h u) ∙ k)
+value_texts w t b _ _ (same_box r u a f i) h k = impossible (sym (h u) ∙ k)
 value_texts w t b _ _ (same_number z f) h k = record { of_value = refl; is = refl }
 value_texts w t b _ _ (same_long z f) h k = record { of_value = refl; is = refl }
 value_texts w t b _ _ (same_text us) h k = record { of_value = refl; is = refl }
 value_texts w t b _ _ (same_reference i a e) h k = impossible (sym (bare-refers t i b) ∙ k)
 
-char_texts : (w : World) (v : ir.Value) (x : js.Value) → Stands w v x → suits Char v ≡ true → Texts v (text_value Char x)
-char_texts w _ _ (same_char u f) k = record { of_value = refl; is = ap (λ (n : ℕ). Some (js.text (n ∷ []))) (small_unit u f) }
+char_texts : (w : World) (v : ir.Value) (x : js.Value) → Stands w true v x → suits Char v ≡ true → Texts v (text_value Char x)
+char_texts w _ _ (same_box r u a f i) k = impossible (sym r)
+char_texts w _ _ (same_char r u f) k = record { of_value = refl; is = ap (λ (n : ℕ). Some (js.text (n ∷ []))) (small_unit u f) }
 char_texts w _ _ same_undefined k = impossible k
 char_texts w _ _ same_null k = impossible k
 char_texts w _ _ (same_boolean b) k = impossible k
@@ -141,20 +142,21 @@ char_texts w _ _ (same_long z f) k = impossible k
 char_texts w _ _ (same_text us) k = impossible k
 char_texts w _ _ (same_reference i a e) k = impossible k
 
-string_texts : (w : World) (v : ir.Value) (x : js.Value) → Stands w v x → suits String v ≡ true → Texts v (Some x)
+string_texts : (w : World) (v : ir.Value) (x : js.Value) → Stands w false v x → suits String v ≡ true → Texts v (Some x)
 string_texts w _ _ (same_text us) k = record { of_value = refl; is = refl }
 string_texts w _ _ same_undefined k = impossible k
 string_texts w _ _ same_null k = impossible k
 string_texts w _ _ (same_boolean b) k = impossible k
-string_texts w _ _ (same_char u f) k = impossible k
+string_texts w _ _ (same_char r u f) k = impossible k
+string_texts w _ _ (same_box r u a f i) k = impossible k
 string_texts w _ _ (same_number z f) k = impossible k
 string_texts w _ _ (same_long z f) k = impossible k
 string_texts w _ _ (same_reference i a e) k = impossible k
 
-pub texts : (w : World) (t : IrType) → is_bare t ≡ true → (v : ir.Value) (x : js.Value) → Stands w v x → suits t v ≡ true → Texts v (text_value t x)
+pub texts : (w : World) (t : IrType) → is_bare t ≡ true → (v : ir.Value) (x : js.Value) → Stands w (is_char t) v x → suits t v ≡ true → Texts v (text_value t x)
 texts w String b v x a k = string_texts w v x a k
 texts w Char b v x a k = char_texts w v x a k
-texts w t b v x a k = value_texts w t b v x a (λ u. refl) k
+texts w t b v x a k = value_texts w t b v x a (λ u. bare-chars t u b refl) k
 
 pub join_is : (v v' : ir.Value) → ir_operators.binary_value StringConcatenate v v' ≡ ir_operators.any_value StringConcatenate v v'
 join_is (ir.boolean a) (ir.boolean b) = refl

@@ -1,19 +1,13 @@
 -- A value that suits a type suits each type for which that one may stand.
-<<<<<<< HEAD
-use Rattle.std.proofs.Common.{◌≡◌, true, refl}
-=======
-use Rattle.std.proofs.Common.{◌≡◌, ℕ, Bool, true, false, ◌&&◌, List, [], ◌∷◌, refl, ap, sym, ◌∙◌}
-use Rattle.std.specs.Prelude.{not, ◌||◌, codes, if◌then◌else◌}
->>>>>>> 6a46694
+use Rattle.std.proofs.Common.{◌≡◌, ℕ, Bool, true, false, refl, ap, sym, ◌∙◌}
+use Rattle.std.specs.Prelude.{not, ◌||◌}
 use Rattle.ir_mean.specs.States as ir
+use Rattle.sj_desugar.specs.Coercions.{is_char}
 use Rattle.sj_names.proofs.Same.{impossible}
 use Rattle.sj_trees.specs.declared.types.IrType.{IrType}
 use Rattle.sj_trees.specs.declared.types.IrType.TheVariants.{Any, Nothing, Undefined, Boolean, Char, Byte, Short, Int, Long, String, Class, Null, Array, NoType}
-<<<<<<< HEAD
 use Rattle.sj_plain.specs.Standing.{suits}
-use Rattle.body_rules.specs.Standing.{Fits}
-=======
-use Rattle.sj_plain.specs.Standing.{is_bare, suits, Fits, FitAll, types_referred}
+use Rattle.body_rules.specs.Standing.{is_bare, Fits}
 
 not-true : (b : Bool) → not b ≡ true → b ≡ false
 not-true true h = impossible h
@@ -40,31 +34,73 @@ either_way : (a b : Bool) → (a || b) ≡ true → b ≡ false → a ≡ true
 either_way true b h k = refl
 either_way false b h k = impossible (sym k ∙ h)
 
--- where the second stands for the first, and a reference suits the second, the first isn't bare
-refers-suits : (expected own : IrType) (i : ℕ) → Fits expected own → suits own (ir.reference i) ≡ true → not (is_bare expected) ≡ true
-refers-suits Any own i f h = refl
-refers-suits (Array r) own i f h = refl
-refers-suits (Class c) Any i f h = either_way (not (is_bare (Class c))) false f refl
-refers-suits (Class c) (Array r) i f h = either_way (not (is_bare (Class c))) false f refl
-refers-suits (Class c) (Class d) i f h = either_way (not (is_bare (Class c))) (is_bare (Class d)) f (not_bare (Class d) i h)
-refers-suits expected Null i f h = impossible h
-refers-suits expected NoType i f h = impossible h
-refers-suits expected Nothing i f h = impossible h
-refers-suits expected Undefined i f h = impossible h
-refers-suits expected Boolean i f h = impossible h
-refers-suits expected Char i f h = impossible h
-refers-suits expected Byte i f h = impossible h
-refers-suits expected Short i f h = impossible h
-refers-suits expected Int i f h = impossible h
-refers-suits expected Long i f h = impossible h
-refers-suits expected String i f h = impossible h
-refers-suits Null (Class d) i f h = impossible (sym (not_bare (Class d) i h) ∙ f)
-refers-suits NoType (Class d) i f h = impossible (sym (not_bare (Class d) i h) ∙ f)
-refers-suits expected own i f h = impossible f
->>>>>>> 6a46694
+-- where the second stands for the first, and objects stand at the second, they do at the first
+open-fits : (expected own : IrType) → Fits expected own → is_bare own ≡ false → not (is_bare expected) ≡ true
+open-fits Any own f b = refl
+open-fits (Array r) own f b = refl
+open-fits (Class c) Any f b = either_way (not (is_bare (Class c))) false f refl
+open-fits (Class c) (Array r) f b = either_way (not (is_bare (Class c))) false f refl
+open-fits (Class c) (Class d) f b = either_way (not (is_bare (Class c))) (is_bare (Class d)) f b
+open-fits expected Null f b = impossible (sym b)
+open-fits expected NoType f b = impossible (sym b)
+open-fits expected Nothing f b = impossible (sym b)
+open-fits expected Undefined f b = impossible (sym b)
+open-fits expected Boolean f b = impossible (sym b)
+open-fits expected Char f b = impossible (sym b)
+open-fits expected Byte f b = impossible (sym b)
+open-fits expected Short f b = impossible (sym b)
+open-fits expected Int f b = impossible (sym b)
+open-fits expected Long f b = impossible (sym b)
+open-fits expected String f b = impossible (sym b)
+open-fits Null (Class d) f b = impossible (sym b ∙ f)
+open-fits NoType (Class d) f b = impossible (sym b ∙ f)
+open-fits expected own f b = impossible f
+
+-- a char suits each type at which objects stand
+suits_open : (t : IrType) (u : ℕ) → not (is_bare t) ≡ true → suits t (ir.char u) ≡ true
+suits_open Any u h = refl
+suits_open (Class c) u h = h
+suits_open (Array r) u h = refl
+suits_open Char u h = refl
+suits_open Null u h = impossible h
+suits_open NoType u h = impossible h
+suits_open Nothing u h = impossible h
+suits_open Undefined u h = impossible h
+suits_open Boolean u h = impossible h
+suits_open Byte u h = impossible h
+suits_open Short u h = impossible h
+suits_open Int u h = impossible h
+suits_open Long u h = impossible h
+suits_open String u h = impossible h
+
+refers_open : (t : IrType) (i : ℕ) → not (is_bare t) ≡ true → suits t (ir.reference i) ≡ true
+refers_open Any i h = refl
+refers_open (Class c) i h = h
+refers_open (Array r) i h = refl
+refers_open Char i h = impossible h
+refers_open Null i h = impossible h
+refers_open NoType i h = impossible h
+refers_open Nothing i h = impossible h
+refers_open Undefined i h = impossible h
+refers_open Boolean i h = impossible h
+refers_open Byte i h = impossible h
+refers_open Short i h = impossible h
+refers_open Int i h = impossible h
+refers_open Long i h = impossible h
+refers_open String i h = impossible h
+
+char-suits : (expected own : IrType) (u : ℕ) → Fits expected own → suits own (ir.char u) ≡ true → suits expected (ir.char u) ≡ true
+char-suits Char Char u f h = refl
+char-suits expected Char u f h = impossible f
+char-suits expected Any u f h = suits_open expected u (open-fits expected Any f refl)
+char-suits expected (Class d) u f h = suits_open expected u (open-fits expected (Class d) f (not-true (is_bare (Class d)) h))
+char-suits expected (Array r) u f h = suits_open expected u (open-fits expected (Array r) f refl)
+char-suits expected own u f h = impossible h
 
 pub fits-suits : (expected own : IrType) (v : ir.Value) → Fits expected own → suits own v ≡ true → suits expected v ≡ true
 fits-suits expected Nothing v f h = impossible h
+fits-suits expected own (ir.char u) f h = char-suits expected own u f h
+fits-suits expected own (ir.reference i) f h = refers_open expected i (open-fits expected own f (not_bare own i h))
 fits-suits Nothing own v f h = impossible f
 fits-suits Undefined Undefined v f h = h
 fits-suits Undefined own v f h = impossible f
@@ -83,79 +119,15 @@ fits-suits Long own v f h = impossible f
 fits-suits String String v f h = h
 fits-suits String own v f h = impossible f
 fits-suits Any Char v f h = impossible f
-fits-suits Any own (ir.char u) f h = impossible h
-fits-suits Any own (ir.reference i) f h = refers-suits Any own i f h
 fits-suits Any own v f h = refl
 fits-suits (Class c) Char v f h = impossible f
-fits-suits (Class c) own (ir.char u) f h = impossible h
-fits-suits (Class c) own (ir.reference i) f h = refers-suits (Class c) own i f h
 fits-suits (Class c) own v f h = refl
 fits-suits Null Char v f h = impossible f
-fits-suits Null own (ir.char u) f h = impossible h
-fits-suits Null own (ir.reference i) f h = refers-suits Null own i f h
 fits-suits Null own v f h = refl
 fits-suits (Array r) Char v f h = impossible f
-fits-suits (Array r) own (ir.char u) f h = impossible h
-fits-suits (Array r) own (ir.reference i) f h = refers-suits (Array r) own i f h
 fits-suits (Array r) own v f h = refl
 fits-suits NoType Char v f h = impossible f
-fits-suits NoType own (ir.char u) f h = impossible h
-fits-suits NoType own (ir.reference i) f h = refers-suits NoType own i f h
 fits-suits NoType own v f h = refl
-<<<<<<< HEAD
-=======
-
-no_box : (expected own : IrType) → Fits expected own → (is_char own && not (is_char expected)) ≡ false
-no_box Char Char f = refl
-no_box expected Char f = impossible f
-no_box expected own f = refl
-
--- what stands for its type isn't coerced
-pub coerced-same : (expected own : IrType) (e : core.Expression) → Fits expected own → coerced expected own e ≡ e
-coerced-same expected own e f = ap (λ (b : Bool). if b then core.boxed_char e else e) (no_box expected own f)
-
-pub arguments-same : (rs : List TypeRef) (ts : List IrType) (es : List core.Expression) → FitAll (types_referred rs) ts → coerced_arguments rs ts es ≡ es
-arguments-same [] ts es f = refl
-arguments-same (r ∷ rs) [] es f = refl
-arguments-same (r ∷ rs) (t ∷ ts) [] f = refl
-arguments-same (r ∷ rs) (t ∷ ts) (e ∷ es) f = λ i. coerced-same (reference_type r) t e f.0 i ∷ arguments-same rs ts es f.1 i
-
-excluded : (b : Bool) → (not b || b) ≡ true
-excluded true = refl
-excluded false = refl
-
-pub fits-same : (t : IrType) → Fits t t
-fits-same Any = refl
-fits-same Nothing = refl
-fits-same Undefined = refl
-fits-same Boolean = refl
-fits-same Char = refl
-fits-same Byte = refl
-fits-same Short = refl
-fits-same Int = refl
-fits-same Long = refl
-fits-same String = refl
-fits-same (Class c) = excluded (is_bare (Class c))
-fits-same Null = refl
-fits-same (Array r) = refl
-fits-same NoType = refl
-
--- what stands at any type that isn't primitive stands at a class
-pub fits-character : (t : IrType) → Fits Any t → Fits (Class (codes "java.lang.Character")) t
-fits-character Nothing f = refl
-fits-character Char f = impossible f
-fits-character Any f = refl
-fits-character Undefined f = refl
-fits-character Boolean f = refl
-fits-character Byte f = refl
-fits-character Short f = refl
-fits-character Int f = refl
-fits-character Long f = refl
-fits-character String f = refl
-fits-character (Class c) f = refl
-fits-character Null f = refl
-fits-character (Array r) f = refl
-fits-character NoType f = refl
 
 -- no reference suits a bare type
 pub bare-refers : (t : IrType) (i : ℕ) → is_bare t ≡ true → suits t (ir.reference i) ≡ false
@@ -190,4 +162,19 @@ open-refers Short i b = impossible (sym b)
 open-refers Int i b = impossible (sym b)
 open-refers Long i b = impossible (sym b)
 open-refers String i b = impossible (sym b)
->>>>>>> 6a46694
+
+-- no char suits a bare type but that of chars
+pub bare-chars : (t : IrType) (u : ℕ) → is_bare t ≡ true → is_char t ≡ false → suits t (ir.char u) ≡ false
+bare-chars (Class c) u b n = ap not b
+bare-chars Any u b n = impossible b
+bare-chars (Array r) u b n = impossible b
+bare-chars Char u b n = impossible (sym n)
+bare-chars _ u b n = refl
+
+-- a value is raw where the one type is expected as it is where the other is
+pub fits-raw : (expected own : IrType) (v : ir.Value) → Fits expected own → suits own v ≡ true → is_char own ≡ is_char expected
+fits-raw Char Char v f h = refl
+fits-raw expected Char v f h = impossible f
+fits-raw expected Nothing v f h = impossible h
+fits-raw Char own v f h = impossible f
+fits-raw expected own v f h = refl

@@ -31,8 +31,11 @@ use Rattle.sj_trees.specs.declared.operators.UnaryOp.TheVariants.{BooleanNot, Ch
 use Rattle.sj_trees.specs.TypeOf.{unary_result, binary_result}
 use Rattle.sj_trees.specs.declared.types.IrType.{IrType}
 use Rattle.sj_trees.specs.declared.types.IrType.TheVariants.{Byte, Short, Int}
-use Rattle.sj_plain.proofs.Worlds.{World, Grows, Stands, same_boolean, same_char, same_number, same_long, one_more, no_values}
+use Rattle.sj_plain.proofs.Worlds.{World, Grows, Stands, same_boolean, same_char, same_box, same_number, same_long, one_more, no_values, value-fits}
 use Rattle.sj_names.proofs.Same.{impossible}
+use Rattle.sj_desugar.specs.Coercions.{is_char}
+use Rattle.body_rules.specs.Standing.{Fits}
+use Rattle.typing_rules.specs.Rules.{unary_operand}
 use Rattle.sj_plain.proofs.Operators.{template_value, or_zero_value, boolean_of, wrapped_value, is_direct, number_given, long_given, GivenIf, values_alike}
 use Rattle.sj_plain.proofs.Orders.{ActsAlike, in_order-then}
 use Rattle.sj_plain.specs.Settings.{Setting, SameState, Valued, valued}
@@ -159,7 +162,7 @@ value_alike z base w env t sc s u (ir_operators.answers v) q h g same = subst (�
 
 -- the act of an operator, and that of its template
 pub binary_acts : (z : Setting) (base : World) (env : ir.Env) (sc : js.Scope) (o : BinaryOp) (left right : IrType) → is_direct o ≡ true → ActsAlike z base base env (left ∷ right ∷ []) (binary_result o) (ir_meaning.binary z.place.classes z.low o) (by_value (template_value o)) sc
-binary_acts z base env sc o left right h w _ _ s u g (one_more _ v1 x1 _ _ _ a (one_more _ v2 x2 _ _ _ b no_values)) same = value_alike z base w env (binary_result o) sc s u (ir_operators.binary_value o v1 v2) (template_value o x1 x2) (values_alike w o v1 v2 x1 x2 h a.stands b.stands) g same
+binary_acts z base env sc o left right h w _ _ s u g (one_more _ v1 x1 _ _ _ a (one_more _ v2 x2 _ _ _ b no_values)) same = value_alike z base w env (binary_result o) sc s u (ir_operators.binary_value o v1 v2) (template_value o x1 x2) (values_alike w (is_char left) (is_char right) o v1 v2 x1 x2 h a.stands b.stands) g same
 
 -- `>>` behind a value
 abbrev pub shifted_back : ℤ → Option js.Value → Option js.Value
@@ -197,13 +200,14 @@ fits-exact (negsuc n) f = let h : n < 2 ^ 31 = f.sfits in grind arith
 exact_number : (n : ℤ) → FitsSigned w32 n → js_operators.exact n ≡ Some (js.number n)
 exact_number n f = ap (λ (b : Bool). if b then Some (js.number n) else None) (fits-exact n f)
 
-one_value_alike : (w : World) (o : UnaryOp) (v : ir.Value) (x : js.Value) → Stands w v x → GivenIf w (unary_result o) (ir_operators.unary_value o v) (one_template_value o x)
+one_value_alike : (w : World) (o : UnaryOp) (v : ir.Value) (x : js.Value) → Stands w (is_char (unary_operand o)) v x → GivenIf w (unary_result o) (ir_operators.unary_value o v) (one_template_value o x)
 one_value_alike w BooleanNot _ _ (same_boolean b) = record { value = js.boolean (not b); is = refl; alike = record { stands = same_boolean (not b); suits = refl } }
-one_value_alike w CharToInt _ _ (same_char u f) = number_given w Int (pos u) _ refl (unit_is_int u f) refl
+one_value_alike w CharToInt _ _ (same_box r u a f b) = impossible (sym r)
+one_value_alike w CharToInt _ _ (same_char r u f) = number_given w Int (pos u) _ refl (unit_is_int u f) refl
 one_value_alike w ByteToInt _ _ (same_number a f) = number_given w Int a _ refl f refl
 one_value_alike w ShortToInt _ _ (same_number a f) = number_given w Int a _ refl f refl
 one_value_alike w IntToLong _ _ (same_number a f) = long_given w a _ refl (int_is_long a f)
-one_value_alike w IntToChar _ _ (same_number a f) = record { value = js.number (pos (modulo a (2 ^ 16))); is = ap (λ (b : ℤ). Some (js.number b)) (to_unit-is a); alike = record { stands = same_char (modulo a (2 ^ 16)) (unit-below a); suits = refl } }
+one_value_alike w IntToChar _ _ (same_number a f) = record { value = js.number (pos (modulo a (2 ^ 16))); is = ap (λ (b : ℤ). Some (js.number b)) (to_unit-is a); alike = record { stands = same_char refl (modulo a (2 ^ 16)) (unit-below a); suits = refl } }
 one_value_alike w IntToByte _ _ (same_number a f) = number_given w Byte (signed.wrapped_to_byte a) _ (ap (λ (b : ℤ). Some (js.number b)) (to_byte-is a)) (byte-fits a) refl
 one_value_alike w IntToShort _ _ (same_number a f) = number_given w Short (signed.wrapped_to_short a) _ (ap (λ (b : ℤ). Some (js.number b)) (to_short-is a)) (short-fits a) refl
 one_value_alike w LongToInt _ _ (same_long a f) = number_given w Int (signed.wrapped a) _ (ap js_operators.exact (to_int-is a) ∙ exact_number (signed.wrapped a) (wrapped-fits a)) (wrapped-fits a) refl
@@ -217,8 +221,8 @@ one_value_alike w IntToByte _ _ _ = tt
 one_value_alike w IntToShort _ _ _ = tt
 one_value_alike w LongToInt _ _ _ = tt
 
-pub unary_acts : (z : Setting) (base : World) (env : ir.Env) (sc : js.Scope) (o : UnaryOp) (own : IrType) → ActsAlike z base base env (own ∷ []) (unary_result o) (ir_meaning.unary z.place.classes z.low o) (by_one_value (one_template_value o)) sc
-unary_acts z base env sc o own w _ _ s u g (one_more _ v x _ _ _ a no_values) same = value_alike z base w env (unary_result o) sc s u (ir_operators.unary_value o v) (one_template_value o x) (one_value_alike w o v x a.stands) g same
+pub unary_acts : (z : Setting) (base : World) (env : ir.Env) (sc : js.Scope) (o : UnaryOp) (own : IrType) → Fits (unary_operand o) own → ActsAlike z base base env (own ∷ []) (unary_result o) (ir_meaning.unary z.place.classes z.low o) (by_one_value (one_template_value o)) sc
+unary_acts z base env sc o own fit w _ _ s u g (one_more _ v x _ _ _ a no_values) same = value_alike z base w env (unary_result o) sc s u (ir_operators.unary_value o v) (one_template_value o x) (one_value_alike w o v x (value-fits w (unary_operand o) own v x fit a).stands) g same
 
 negated_one : (xs : List js.Value) (sc : js.Scope) (u : js.State) → js_meaning.negated xs sc u ≡ by_one_value (one_template_value BooleanNot) xs sc u
 negated_one [] sc u = refl

@@ -22,22 +22,17 @@ use Rattle.sj_emit_expr.specs.Templates.{check_name, member_name, expression_tem
 use Rattle.sj_mangling.specs.Bindings.{class_binding, field_binding}
 use Rattle.sj_mangling.specs.declared.bindings.ClassBinding.TheVariants.{Class, Constants, Marker}
 use Rattle.sj_mangling.specs.declared.bindings.FieldBinding.TheVariants.{Property}
+use Rattle.sj_names.specs.Same.{is_same_text}
 use Rattle.sj_names.specs.declared.method_names.Member.{Member}
-<<<<<<< HEAD
 use Rattle.body_rules.specs.Subtyping.{IsSubtyping}
-use Rattle.sj_plain.specs.Worlds.{World, Grows, SameValue, SameValues}
+use Rattle.sj_plain.specs.Worlds.{World, with_pending, Grows, SameValue, SameValues}
 use Rattle.sj_world.specs.Subtypes.{IsSub}
 use Rattle.built_forms.specs.Built.{Usable}
-use Rattle.body_rules.specs.Locals.{Scope}
-use Rattle.body_rules.specs.Standing.{types_referred, call_type}
-=======
-use Rattle.sj_names.specs.Same.{is_same_text}
-use Rattle.sj_plain.specs.Worlds.{World, with_pending, Grows, SameValue, SameValues}
-use Rattle.sj_plain.specs.Conditions.{Usable, Scope}
-use Rattle.sj_plain.specs.Standing.{types_referred, call_type}
->>>>>>> 6a46694
+use Rattle.body_rules.specs.Locals.{Scope, HasValue}
+use Rattle.body_rules.specs.Standing.{is_bare, types_referred, call_type}
 use Rattle.sj_trees.specs.declared.classes.ClassDef.{ClassDef}
 use Rattle.sj_trees.specs.declared.classes.FieldDef.{FieldDef}
+use Rattle.sj_trees.specs.Types.{class_type}
 use Rattle.sj_trees.specs.declared.types.IrType.{IrType}
 use Rattle.sj_trees.specs.declared.types.IrType.TheVariants.{Any}
 
@@ -94,9 +89,10 @@ top_call p low t = js_meaning.code_call low (p.home t) (js_meaning.code_of p.pro
 abbrev pub function_call : Place → js_meaning.Low → Member → List js.Value → js.State → Out js.ExpressionEnd
 function_call p low m = top_call p low (a_function m)
 
--- the code at hand: the file that it stands in, and the locals of its body that are never null
+-- the code at hand: the file that it stands in, the class of its method, and the locals of its body that are never null
 pub record Code : Type 0 where
   pub file : Name
+  pub owner : List ℕ
   pub sure : List ℕ → Bool
 
 -- a place, the code at hand, the half of the agreement that is spoken of, the mutable locals of the body, and what the levels below give
@@ -218,9 +214,6 @@ pub record NamesDiffer (p : Place) : Type 0 where
 abbrev pub Reaches : Place → Name → Type 0
 Reaches p f = (t : Top) → is_usable (p.has f) t ≡ true → owner p.program f (top_name t) ≡ Some (p.home t)
 
-<<<<<<< HEAD
--- subtyping is ordered, and what the levels below give of what is called
-=======
 -- an object of the class with its fields at the zeros of their types
 abbrev pub zeroed : Place → List ℕ → ir.Stored
 zeroed p c = ir.object c (ir_world.new_fields p.classes c)
@@ -237,31 +230,31 @@ pub data Built (p : Place) (from : World) (env : ir.Env) (this : js.Value) : ir.
   built : (w : World) (v : ir.Value) (s : ir.State) (u : js.State) → Grows from w → SameState p w s u → Built p from env this (ir.ends (ir.gives v) env s) (js.gives this u)
   failed : (w : World) (v : ir.Value) (x : js.Value) (s : ir.State) (u : js.State) → Grows from w → SameValue w Any v x → SameState p w s u → Built p from env this (ir.ends (ir.throws v) env s) (js.throws x u)
 
--- a value that a member may run on, and the one that stands for it: any but null and a char
-pub record IsReceiver (w : World) (v : ir.Value) (x : js.Value) : Type 0 where
-  pub stands : SameValue w Any v x
+-- a value that a member of the class may run on, and the one that stands for it: any at the type of the class but null
+pub record IsReceiver (w : World) (c : List ℕ) (v : ir.Value) (x : js.Value) : Type 0 where
+  pub stands : SameValue w (class_type c) v x
   pub there : v ≡ ir.null → ⊥
 
 -- a constructor on a receiver, and its function
 abbrev pub BuildsAlike : Setting → Member → Type 0
-BuildsAlike z m = (w : World) (v : ir.Value) (x : js.Value) (vs : List ir.Value) (xs : List js.Value) (env : ir.Env) (s : ir.State) (u : js.State) → IsReceiver w v x → SameValues w (types_referred m.method.params) vs xs → SameState z.place w s u → Sim z.direction (Built z.place w env x) (ir_meaning.call z.low (ir_world.member_of z.place.classes m.class m.namespace m.method) (Some v) vs env s) (top_call z.place z.js_low (a_constructor m) (x ∷ xs) u)
+BuildsAlike z m = (w : World) (v : ir.Value) (x : js.Value) (vs : List ir.Value) (xs : List js.Value) (env : ir.Env) (s : ir.State) (u : js.State) → IsReceiver w m.class v x → SameValues w (types_referred m.method.params) vs xs → SameState z.place w s u → Sim z.direction (Built z.place w env x) (ir_meaning.call z.low (ir_world.member_of z.place.classes m.class m.namespace m.method) (Some v) vs env s) (top_call z.place z.js_low (a_constructor m) (x ∷ xs) u)
 
 -- a member on a receiver, and its function
 abbrev pub ReceivesAlike : Setting → Member → Type 0
-ReceivesAlike z m = (w : World) (v : ir.Value) (x : js.Value) (vs : List ir.Value) (xs : List js.Value) (env : ir.Env) (s : ir.State) (u : js.State) → IsReceiver w v x → SameValues w (types_referred m.method.params) vs xs → SameState z.place w s u → Sim z.direction (Valued z.place w env (call_type m.method.result)) (ir_meaning.call z.low (ir_world.member_of z.place.classes m.class m.namespace m.method) (Some v) vs env s) (top_call z.place z.js_low (a_method m) (x ∷ xs) u)
+ReceivesAlike z m = (w : World) (v : ir.Value) (x : js.Value) (vs : List ir.Value) (xs : List js.Value) (env : ir.Env) (s : ir.State) (u : js.State) → IsReceiver w m.class v x → SameValues w (types_referred m.method.params) vs xs → SameState z.place w s u → Sim z.direction (Valued z.place w env (call_type m.method.result)) (ir_meaning.call z.low (ir_world.member_of z.place.classes m.class m.namespace m.method) (Some v) vs env s) (top_call z.place z.js_low (a_method m) (x ∷ xs) u)
 
 -- two fields of the classes have two properties, and a field has one type
 pub record FieldsDiffer (p : Place) : Type 0 where
   pub properties : (c f d g : List ℕ) (s t : IrType) → IsField p.classes c f s → IsField p.classes d g t → pointwise nat_eq (field_binding Property d g) (field_binding Property c f) ≡ (is_same_text d c && is_same_text g f)
   pub types : (c f : List ℕ) (s t : IrType) → IsField p.classes c f s → IsField p.classes c f t → s ≡ t
 
--- the class has the field, and fields differ
+-- the class has the field, of a type with values, and fields differ
 pub record HasField (p : Place) (c f : List ℕ) (t : IrType) : Type 0 where
   pub field : IsField p.classes c f t
+  pub value : HasValue t
   pub differ : FieldsDiffer p
 
--- what the levels below give of what is called and made
->>>>>>> 6a46694
+-- subtyping is ordered, and what the levels below give of what is called and made; an object stands at its class
 pub record Based (z : Setting) : Type 0 where
   pub ordered : IsSubtyping (IsSub z.place.classes)
   pub names : NamesDiffer z.place
@@ -271,6 +264,7 @@ pub record Based (z : Setting) : Type 0 where
   pub receives : (m : Member) → (usable z).received m ≡ true → ReceivesAlike z m
   pub builds : (m : Member) → (usable z).built m ≡ true → BuildsAlike z m
   pub makes : (c : List ℕ) → (usable z).made c ≡ true → MakesAlike z c
+  pub objects : (c : List ℕ) → (usable z).made c ≡ true → is_bare (class_type c) ≡ false
 
 -- the null check of a value, and its helper
 abbrev pub ChecksAlike : Setting → Type 0
@@ -285,14 +279,14 @@ pub record Lawful (z : Setting) : Type 0 where
 pub data Holding (w : World) (t : IrType) : Option ir.Value → js.Cell → Type 0 where
   holding : (v : ir.Value) (x : js.Value) → SameValue w t v x → Holding w t (Some v) (js.holds false x)
 
--- This, if there is one, and the binding that stands for it
-pub data Receiving (w : World) : Option ir.Value → js.Cell → Type 0 where
-  no_receiver : (cell : js.Cell) → Receiving w None cell
-  on_receiver : (v : ir.Value) (x : js.Value) → IsReceiver w v x → Receiving w (Some v) (js.holds false x)
+-- This, in a method of the class, if there is one, and the binding that stands for it
+pub data Receiving (w : World) (c : List ℕ) : Option ir.Value → js.Cell → Type 0 where
+  no_receiver : (cell : js.Cell) → Receiving w c None cell
+  on_receiver : (v : ir.Value) (x : js.Value) → IsReceiver w c v x → Receiving w c (Some v) (js.holds false x)
 
 -- the locals in scope stand for each other, and so does This; and the locals that are taken to be never null are those of the body
 pub record Sees (p : Place) (here : Code) (scope : Scope) (w : World) (env : ir.Env) (sc : js.Scope) : Type 0 where
   pub inside : Inside p here sc
-  pub this : Receiving w env.this_value (sc.bindings (p.name core.receiver))
+  pub this : Receiving w here.owner env.this_value (sc.bindings (p.name core.receiver))
   pub sure : env.sure ≡ here.sure
   pub locals : (x : List ℕ) (t : IrType) → scope x t → Holding w t (env.locals x) (sc.bindings (p.name (core.named x)))

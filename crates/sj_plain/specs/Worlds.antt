@@ -1,12 +1,17 @@
 -- When a value of the IR and one of the emitted code stand for each other.
-use Rattle.std.specs.Prelude.{◌≡◌, ℕ, ◌^◌, ◌<◌, Bool, true, List, [], ◌∷◌, Option, Some, None, ◌==◌, if◌then◌else◌, ℤ, pos, FitsSigned}
+use Rattle.std.specs.Prelude.{◌≡◌, ℕ, ◌^◌, ◌<◌, Bool, true, false, codes, List, [], ◌∷◌, Option, Some, None, ◌==◌, if◌then◌else◌, ℤ, pos, FitsSigned}
 use Rattle.std.specs.Int.{w32, w64}
 use Rattle.ir_mean.specs.States as ir
 use Rattle.js_mean.specs.States as js
+use Rattle.js_tree.specs.Terms.{Name}
+use Rattle.sj_desugar.specs.Coercions.{is_char}
+use Rattle.sj_mangling.specs.Bindings.{class_binding}
+use Rattle.sj_mangling.specs.declared.bindings.ClassBinding.TheVariants.{Marker}
 use Rattle.sj_plain.specs.Standing.{suits}
 use Rattle.sj_trees.specs.declared.types.IrType.{IrType}
 
--- the address that the emitted code has for each address of the IR; what it has for itself at other addresses, which stays as it is; and the objects
+-- the address that the emitted code has for each address of the IR; what it has for itself at other addresses (constants of classes, and objects that hold
+-- chars), which stays as it is; and the objects
 -- that it has already made and the IR hasn't yet, as they stand.
 pub record World : Type 0 where
   pub place : ℕ → Option ℕ
@@ -30,20 +35,35 @@ pub record Grows (old new : World) : Type 0 where
   pub owns : (a : ℕ) (o : js.Stored) → old.owned a ≡ Some o → new.owned a ≡ Some o
   pub pends : (a : ℕ) (o : js.Stored) → old.pending a ≡ Some o → new.pending a ≡ Some o
 
--- a value, and the value of the emitted code that stands for it, a char being a Number, and a reference the address that it has in the world
-pub data Stands (w : World) : ir.Value → js.Value → Type 0 where
-  same_undefined : Stands w ir.undefined js.undefined
-  same_null : Stands w ir.null js.null
-  same_boolean : (b : Bool) → Stands w (ir.boolean b) (js.boolean b)
-  same_char : (u : ℕ) → u < 2 ^ 16 → Stands w (ir.char u) (js.number (pos u))
-  same_number : (z : ℤ) → FitsSigned w32 z → Stands w (ir.number z) (js.number z)
-  same_long : (z : ℤ) → FitsSigned w64 z → Stands w (ir.long z) (js.big_int z)
-  same_text : (us : List ℕ) → Stands w (ir.text us) (js.text us)
-  same_reference : (i a : ℕ) → w.place i ≡ Some a → Stands w (ir.reference i) (js.object a)
+-- an object that holds a char, as the emitted code has it for itself and never changes it: its property `c` is the char, and its constants have the marker of
+-- `java.lang.Character`
+pub record IsBox (w : World) (u a : ℕ) : Type 0 where
+  pub links : List js.ClassLink
+  pub properties : Name → Option js.Value
+  pub address : ℕ
+  pub constants : Name → Option js.Value
+  pub owned : w.owned a ≡ Some (js.plain links properties)
+  pub char : properties (codes "c") ≡ Some (js.number (pos u))
+  pub held : properties (codes "k") ≡ Some (js.object address)
+  pub constants_owned : w.owned address ≡ Some (js.plain [] constants)
+  pub marked : constants (codes "s") ≡ Some (js.text (class_binding Marker (codes "java.lang.Character")))
 
--- and the value is of the kind of this type
+-- a value, and the value of the emitted code that stands for it: of a reference the address that it has in the world, of a char a Number where it is raw,
+-- and else an object that holds it
+pub data Stands (w : World) (raw : Bool) : ir.Value → js.Value → Type 0 where
+  same_undefined : Stands w raw ir.undefined js.undefined
+  same_null : Stands w raw ir.null js.null
+  same_boolean : (b : Bool) → Stands w raw (ir.boolean b) (js.boolean b)
+  same_char : raw ≡ true → (u : ℕ) → u < 2 ^ 16 → Stands w raw (ir.char u) (js.number (pos u))
+  same_box : raw ≡ false → (u a : ℕ) → u < 2 ^ 16 → IsBox w u a → Stands w raw (ir.char u) (js.object a)
+  same_number : (z : ℤ) → FitsSigned w32 z → Stands w raw (ir.number z) (js.number z)
+  same_long : (z : ℤ) → FitsSigned w64 z → Stands w raw (ir.long z) (js.big_int z)
+  same_text : (us : List ℕ) → Stands w raw (ir.text us) (js.text us)
+  same_reference : (i a : ℕ) → w.place i ≡ Some a → Stands w raw (ir.reference i) (js.object a)
+
+-- the value is of the kind of this type, and the other stands for it, a char being raw where the type is char and nowhere else
 pub record SameValue (w : World) (t : IrType) (v : ir.Value) (x : js.Value) : Type 0 where
-  pub stands : Stands w v x
+  pub stands : Stands w (is_char t) v x
   pub suits : suits t v ≡ true
 
 pub data SameValues (w : World) : List IrType → List ir.Value → List js.Value → Type 0 where

@@ -12,7 +12,7 @@ use Rattle.sj_proper.specs.Emitted.{EmittedMethod, HaveOwnMembers}
 use Rattle.sj_calls.specs.Files.{program_with}
 use Rattle.body_rules.proofs.Lists.{nothing_in, in_front_or_behind}
 use Rattle.sj_sound.specs.Worked.{tests_it, main_method, tripling_method, worked_world, emitted, worked_methods}
-use Rattle.sj_sound.proofs.Worked.{main_right, tripling_right, worked_topped}
+use Rattle.sj_sound.proofs.Worked.{main_right, tripling_right, worked_plain}
 use Rattle.sj_sound.specs.Linked.{IsWhole}
 use Rattle.sj_sound.proofs.Whole.{linked_agrees}
 
@@ -43,4 +43,4 @@ own_members : HaveOwnMembers worked_methods
 own_members = (other, ((λ o h e. nothing_in o h), tt))
 
 pub worked_agrees : Agree (ir_shows worked_world once (codes "main")) (js_shows (program_with (codes "main") worked_methods once) (codes "main"))
-worked_agrees = linked_agrees worked_world worked_topped once (codes "main") worked_methods each_whole own_members refl
+worked_agrees = linked_agrees worked_world worked_plain once (codes "main") worked_methods each_whole own_members refl

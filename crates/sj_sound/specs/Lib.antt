@@ -1,3 +1,2 @@
 pub mod Linked
-pub mod Rules
 pub mod Worked

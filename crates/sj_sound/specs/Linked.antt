@@ -9,7 +9,7 @@ use Rattle.sj_names.specs.declared.entry_points.EntryPoint.{EntryPoint}
 use Rattle.sj_names.specs.declared.method_names.Member.{Member}
 use Rattle.sj_proper.specs.Emitted.{EmittedMethod, initializer_member}
 use Rattle.sj_calls.specs.Files.{IsEmitted}
-use Rattle.built_forms.specs.Built.{Usable}
+use Rattle.built_forms.specs.Built.{Usable, members_alone}
 
 abbrev pub is_same_member : Member → Member → Bool
 is_same_member m k = is_same_text m.class k.class && is_same_namespace m.namespace k.namespace && is_same_method m.method k.method
@@ -20,7 +20,7 @@ has_function fs m = list_any (λ (e : EmittedMethod). is_same_member m e.member)
 
 -- what there is where just these functions are
 abbrev pub functions_of : List EmittedMethod → Usable
-functions_of fs = record { linked = has_function fs }
+functions_of fs = members_alone (has_function fs)
 
 -- each of these initializers calls one of these methods
 abbrev pub have_functions : List EmittedMethod → List EntryPoint → Bool

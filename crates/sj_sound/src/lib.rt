@@ -18,16 +18,16 @@ ghost use Rattle.sj_names.specs.declared.entry_points.EntryPoint.{EntryPoint};
 ghost use Rattle.sj_proper.specs.Emitted.{EmittedMethod, module_with, HaveOwnMembers};
 ghost use Rattle.sj_calls.specs.Files.{program_with};
 ghost use Rattle.sj_sound.specs.Linked.{have_functions, IsRight, IsWhole};
-ghost use Rattle.sj_world.specs.Laws.{IsTopped};
+ghost use Rattle.sj_world.specs.Laws.{IsPlain};
 ghost use Rattle.sj_sound.specs.Worked.{worked_world, worked_methods};
 
 /// The theorem on programs of methods whose bodies keep the rules: take a module that has the functions of these methods in this order and then calls the initializers
-/// of a public module, and that has no early error, and let nothing stand above `java.lang.Object`. Let each method be that of its member in the classes, with the types that its name
+/// of a public module, and that has no early error, and let no class write a hijacked class or stand above `java.lang.Object`. Let each method be that of its member in the classes, with the types that its name
 /// tells, with a body that keeps the rules and calls these methods alone; and let the initializers be among them. Then
 /// the file shows of the public module what the classes show: what the one shows within any bound the other shows within some bound, and the
 /// other way round, and neither is wrong at any bound.
 pub fn program_of_bodies_agrees()
-    ensures { (w : World) → IsTopped w → (entries : List EntryPoint) (id : List ℕ) (fs : List EmittedMethod) → is_proper_module (module_with fs (initializers entries id)) ≡ true → ((e : EmittedMethod) → Contains fs e → IsRight w fs e) → have_functions fs (initializers entries id) ≡ true → Agree (ir_shows w entries id) (js_shows (program_with id fs (initializers entries id)) id) }
+    ensures { (w : World) → IsPlain w → (entries : List EntryPoint) (id : List ℕ) (fs : List EmittedMethod) → is_proper_module (module_with fs (initializers entries id)) ≡ true → ((e : EmittedMethod) → Contains fs e → IsRight w fs e) → have_functions fs (initializers entries id) ≡ true → Agree (ir_shows w entries id) (js_shows (program_with id fs (initializers entries id)) id) }
 {}
 
 /// The premises of the theorem on programs can be met: `main` tests whether `f`, which triples in a loop, gives 27 for 1. The class and its
@@ -42,11 +42,11 @@ pub fn worked_program_agrees()
 
 /// The theorem on programs without a premise on the file: take methods, no two of one member, each of which is that of its member in the classes, with the
 /// types that its name tells, with a body that keeps the rules and calls these methods alone; and let the
-/// initializers of a public module be among them; and let nothing stand above `java.lang.Object`. Then the file that has their functions in this order and behind them the calls of the
+/// initializers of a public module be among them; and let no class write a hijacked class or stand above `java.lang.Object`. Then the file that has their functions in this order and behind them the calls of the
 /// initializers shows of the public module what the classes show: what the one shows within any bound the other shows within some bound, and
 /// the other way round, and neither is wrong at any bound.
 pub fn linked_bodies_agree()
-    ensures { (w : World) → IsTopped w → (entries : List EntryPoint) (id : List ℕ) (fs : List EmittedMethod) → ((e : EmittedMethod) → Contains fs e → IsWhole w fs e) → HaveOwnMembers fs → have_functions fs (initializers entries id) ≡ true → Agree (ir_shows w entries id) (js_shows (program_with id fs (initializers entries id)) id) }
+    ensures { (w : World) → IsPlain w → (entries : List EntryPoint) (id : List ℕ) (fs : List EmittedMethod) → ((e : EmittedMethod) → Contains fs e → IsWhole w fs e) → HaveOwnMembers fs → have_functions fs (initializers entries id) ≡ true → Agree (ir_shows w entries id) (js_shows (program_with id fs (initializers entries id)) id) }
 {}
 
 /// Its premises can be met: by the two methods of the worked program.

@@ -1,4 +1,4 @@
-use Rattle.body_soundness.proofs.Calls.{nothing_asked}
+use Rattle.body_soundness.proofs.Modules.{nothing_asked}
 use Rattle.body_soundness.proofs.members_alone_ask_nothing.Goals as goal
 
 pub returns : goal.returns

@@ -3,4 +3,4 @@ use Rattle.sj_calls.proofs.Levels as levels
 use Rattle.sj_calls.proofs.calls_agree.Goals as goal
 
 pub returns : goal.returns
-returns c p topped = levels.calls_agree p (in_world p.classes topped)
+returns c p plain = levels.calls_agree p (in_world p.classes plain)

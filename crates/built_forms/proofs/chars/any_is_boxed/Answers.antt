@@ -1,4 +1,4 @@
-use Rattle.std.proofs.Common.{◌≡◌, ◌≤◌, ◌∙◌, ap, sym, arith, length, min}
+use Rattle.std.proofs.Common.{◌≡◌, ◌∙◌, ap, sym, arith, length, min}
 use Rattle.std.proofs.lemmas.Slice.Zip.{zip_end}
 use Rattle.built_forms.proofs.Arguments.{none_left}
 use Rattle.built_forms.proofs.chars.any_is_boxed.Goals as goal

@@ -1,5 +1,5 @@
 use Rattle.std.proofs.Common.{◌≡◌, ◌∙◌, ap, sym, arith}
-use Rattle.std.specs.Prelude.{Bool, true, false, ◌&&◌, not}
+use Rattle.std.specs.Prelude.{true, false, ◌&&◌, not}
 use Rattle.built_forms.specs.Built.{anything, is_boxed, is_built}
 use Rattle.built_forms.specs.Labels.{labels_view}
 use Rattle.built_forms.proofs.Cases.{case_then}

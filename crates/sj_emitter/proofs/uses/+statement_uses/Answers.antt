@@ -1,9 +1,9 @@
 use Rattle.std.proofs.Common.{◌≡◌, ◌∙◌, ◌++◌, ap, sym, refl}
-use Rattle.sj_core.specs.Terms.{Statement, if_of, while_of, switch_of}
+use Rattle.sj_core.specs.Terms.{Statement, assign_field, if_of, while_of, switch_of}
 use Rattle.sj_core.specs.Views.{expression_view, statement_view, statements_view, cases_view, statement_step, case_step, Case}
 use Rattle.sj_core.specs.declared.statements.CoreStatement.TheFolds.{fold-roll-CoreStatement}
 use Rattle.sj_core.specs.declared.statements.CoreStatement.TheOpen.{CoreStatement-F}
-use Rattle.sj_core.specs.declared.statements.CoreStatement.TheVariants.{rolls-If, rolls-While, rolls-Switch}
+use Rattle.sj_core.specs.declared.statements.CoreStatement.TheVariants.{rolls-AssignField, rolls-If, rolls-While, rolls-Switch}
 use Rattle.sj_emit_expr.specs.Uses.{uses_in, uses_of, uses_of_all, uses_of_cases}
 use Rattle.sj_emitter.proofs.Collected.{more-uses, case-step}
 use Rattle.sj_emitter.proofs.uses.+statement_uses.Goals as goal
@@ -39,3 +39,12 @@ add_uses_of-returns-in_ok-add_uses_of_cases-in-Switch t c =
 
 pub add_uses_of_cases-loop-each-preserved : goal.add_uses_of_cases-loop-each-preserved
 add_uses_of_cases-loop-each-preserved t c = case-step c.args.cases.now c.loop-each.each-index c.each-item.result _ _ c.loop-each-test.true c.each-item.is c.in_ok-add_uses_of_case.ensures ∙ c.loop-each.invariant
+
+pub add_uses_of-returns-in_ok-add_uses_in-in-AssignField : goal.add_uses_of-returns-in_ok-add_uses_in-in-AssignField
+add_uses_of-returns-in_ok-add_uses_in-in-AssignField t c =
+    let n = c.in-AssignField in
+    let v : statement_view c.args.statement.now ≡ assign_field n.field-0 (expression_view n.object) n.field-2 n.field-3 (expression_view n.value) = ap statement_view (n.is ∙ sym (rolls-AssignField n.field-0 n.object n.field-2 n.field-3 n.value)) ∙ fold-roll-CoreStatement Statement Case statement_step case_step (CoreStatement-F.AssignField n.field-0 n.object n.field-2 n.field-3 n.value) in
+    let first = uses_in (expression_view n.object) in
+    let second = uses_in (expression_view n.value) in
+    let parts : first ++ second ≡ uses_of (statement_view c.args.statement.now) = rw (v) refl in
+    rw (← more-uses _ _ first second _ c.in_ok-add_uses_in-in-AssignField.ensures parts) c.add_uses_in-in-AssignField.ensures

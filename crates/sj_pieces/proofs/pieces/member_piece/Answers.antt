@@ -15,8 +15,8 @@ returns-clause-piece c =
     IfOk-weaker c.function_piece.result _ _ (λ p h. h ∙ same) c.function_piece.ensures
 
 pub returns-clause-rules : goal.returns-clause-rules
-returns-clause-rules c keys =
+returns-clause-rules c keys owners =
     let m = c.args.member.now in
     let r = c.requires in
     let same : function_piece m c.args.emitted.params (body_view c.args.emitted.body) c.args.emitted.uses ≡ piece_of m (method_view c.args.m.now) = λ i. function_piece m (r.params i) (r.body i) (r.used i) in
-    IfOk-weaker c.function_piece.result _ _ (λ p h. subst IsPiece (sym (h ∙ same)) (piece-kept m (method_view c.args.m.now) c.member_fits.ensures c.method_fits.ensures keys)) c.function_piece.ensures
+    IfOk-weaker c.function_piece.result _ _ (λ p h. subst IsPiece (sym (h ∙ same)) (piece-kept m (method_view c.args.m.now) c.member_fits.ensures c.method_fits.ensures keys owners)) c.function_piece.ensures

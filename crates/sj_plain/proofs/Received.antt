@@ -1,0 +1,159 @@
+-- What the rules give: which trees have a value, and what holds of a call on a receiver.
+use Rattle.std.proofs.Common.{◌≡◌, ℕ, Bool, true, false, ◌&&◌, codes, ◌⊎◌, inl, inr, List, refl, sym, ap, ◌∙◌, subst, if◌then◌else◌}
+use Rattle.std.specs.Prelude.{not, ◌||◌, nat_eq}
+use Rattle.std.specs.Cmp.Lexicographic.{pointwise}
+use Rattle.std.proofs.lemmas.Bool.{and_parts}
+use Rattle.body_rules.proofs.Fitting.{fits-sub, fit-all}
+use Rattle.body_rules.proofs.RulesGive.{when_not, class_has_value, ArgumentsFit, arguments_there}
+use Rattle.body_rules.specs.Standing.{Fits, FitAll, NoBox, types_referred}
+use Rattle.body_rules.specs.Subtyping.{IsSubtyping}
+use Rattle.body_rules.specs.Typing.{Scene, Typed, AllHaveValues, may_check}
+use Rattle.body_rules.specs.Locals.{HasValue}
+use Rattle.sj_emit_expr.specs.Templates.{check_name}
+use Rattle.sure_receivers.specs.Sure.{is_sure}
+use Rattle.built_forms.specs.Built.{Usable, is_boxed, any_is_boxed}
+use Rattle.sj_core.specs.Terms as core
+use Rattle.sj_desugar.specs.Coercions.{is_char, coerced_receiver}
+use Rattle.sj_desugar.specs.Desugar.{has_no_value, member, types_of}
+use Rattle.sj_desugar.specs.Plain.{is_no_type}
+use Rattle.sj_names.proofs.Same.{impossible}
+use Rattle.sj_names.specs.declared.method_names.MethodName.{MethodName}
+use Rattle.sj_names.specs.declared.method_names.Namespace.{Namespace}
+use Rattle.sj_names.specs.declared.method_names.Namespace.TheVariants.{Private, Constructor}
+use Rattle.sj_plain.specs.Conditions.{IsNoConstruction}
+use Rattle.sj_trees.specs.Term.{Term, Terms, apply_statically, this_ref}
+use Rattle.sj_trees.specs.TypeOf.{type_of_term}
+use Rattle.sj_trees.specs.Types.{class_type}
+use Rattle.sj_trees.specs.declared.types.IrType.{IrType}
+use Rattle.sj_trees.specs.declared.types.IrType.TheVariants.{Any, Class, NoType}
+use Rattle.sj_trees.specs.declared.positions.Position.{Position}
+use Rattle.sj_world.specs.Known.{Classes}
+use Rattle.sj_world.specs.Subtypes.{IsSub}
+use Rattle.typing_rules.specs.Rules as rules
+
+pub value_none : (t : IrType) → has_no_value t ≡ false → is_no_type t ≡ false
+value_none NoType h = impossible (sym h)
+value_none _ h = refl
+
+pub not_none : (t : IrType) → (t ≡ NoType → ⊥) → is_no_type t ≡ false
+not_none NoType h = absurd (h refl)
+not_none _ h = refl
+
+pub class_value : (c : List ℕ) → is_no_type (class_type c) ≡ false
+class_value c = value_none (class_type c) (class_has_value c)
+
+-- what stands where there is a value has one
+pub value_below : (w : Classes) (law : IsSubtyping (IsSub w)) (own t : IrType) → IsSub w own t → is_no_type t ≡ false → is_no_type own ≡ false
+value_below w law own t f n = not_none own (λ i. impossible (sym n ∙ ap is_no_type (law.from_none t (subst (λ s. IsSub w s t) i f))))
+
+-- the call of a constructor has no value
+pub value_apart : (w : Classes) (has : Usable) (s : Scene) (t : Term) → Typed w has s t → is_no_type (type_of_term t) ≡ false → IsNoConstruction t
+value_apart w has s (apply_statically p e c n m ts t) h v = by n h
+  where
+    by : (n : Namespace) → Typed w has s (apply_statically p e c n m ts t) → IsNoConstruction (apply_statically p e c n m ts t)
+    by Constructor h = impossible (sym v ∙ (and_parts (is_no_type t) (not (any_is_boxed m.params ts)) (and_parts (has.built (member c Constructor m)) (is_no_type t && not (any_is_boxed m.params ts)) h.0.built).1).0)
+    by _ h = tt
+value_apart w has s _ h v = tt
+
+-- what is no char for any type is none for another
+no_char : (own t : IrType) → NoBox Any own → NoBox t own
+no_char own t n = go (is_char own) n
+  where
+    go : (b : Bool) → (b && true) ≡ false → (b && not (is_char t)) ≡ false
+    go true h = impossible (sym h)
+    go false h = refl
+
+-- a receiver that is no char is called as it is
+pub receiver-same : (own : IrType) (e : core.Expression) → NoBox Any own → coerced_receiver own e ≡ e
+receiver-same own e n = ap (λ (b : Bool). if b then core.boxed_char e else e) n
+
+pub record Received (w : Classes) (has : Usable) (checked : Term → Bool) (e : Term) (c : List ℕ) (m : MethodName) (ts : Terms) : Type 0 where
+  pub there : has.received (member c Private m) ≡ true
+  pub may_be : checked e ≡ true
+  pub unboxed : NoBox Any (type_of_term e)
+  pub on_class : Fits (class_type c) (type_of_term e)
+  pub arguments : ArgumentsFit w ts m.params
+  pub fit : FitAll (types_referred m.params) (types_of ts)
+
+pub received : (w : Classes) (law : IsSubtyping (IsSub w)) (has : Usable) (checked : Term → Bool) (e : Term) (c : List ℕ) (m : MethodName) (ts : Terms) → (has.received (member c Private m) && (checked e && (not (is_boxed Any e) && not (any_is_boxed m.params ts)))) ≡ true → AllHaveValues m.params → rules.Fits w e (class_type c) → rules.ArgumentsFit w ts m.params → Received w has checked e c m ts
+received w law has checked e c m ts built values on fits = record {
+  there = its.0;
+  may_be = others.0;
+  unboxed = unboxed;
+  on_class = fits-sub w law (class_type c) (type_of_term e) on (no_char (type_of_term e) (class_type c) unboxed);
+  arguments = arguments;
+  fit = fit-all w law ts m.params arguments;
+}
+  where
+    its : (has.received (member c Private m) ≡ true) × ((checked e && (not (is_boxed Any e) && not (any_is_boxed m.params ts))) ≡ true)
+    its = and_parts (has.received (member c Private m)) (checked e && (not (is_boxed Any e) && not (any_is_boxed m.params ts))) built
+
+    others : (checked e ≡ true) × ((not (is_boxed Any e) && not (any_is_boxed m.params ts)) ≡ true)
+    others = and_parts (checked e) (not (is_boxed Any e) && not (any_is_boxed m.params ts)) its.1
+
+    unboxed : NoBox Any (type_of_term e)
+    unboxed = when_not (is_boxed Any e) (and_parts (not (is_boxed Any e)) (not (any_is_boxed m.params ts)) others.1).0
+
+    arguments : ArgumentsFit w ts m.params
+    arguments = arguments_there w (not (is_boxed Any e)) ts m.params others.1 values fits
+
+-- a receiver that may be checked is never null, or its check is there; and it has a value
+pub may_be_checked : (has : Usable) (sure : List ℕ → Bool) (e : Term) → may_check has sure e ≡ true → ((is_sure sure e ≡ true) ⊎ (has.helper check_name ≡ true)) × (has_no_value (type_of_term e) ≡ false)
+may_be_checked has sure e h = let x = and_parts (not (has_no_value (type_of_term e))) (is_sure sure e || has.helper check_name) h in (either_true (is_sure sure e) (has.helper check_name) x.1, when_not (has_no_value (type_of_term e)) x.0)
+  where
+    either_true : (a b : Bool) → (a || b) ≡ true → (a ≡ true) ⊎ (b ≡ true)
+    either_true true b h = inl refl
+    either_true false b h = inr h
+
+-- what the rules give of a call of a constructor on This
+pub record Constructed (w : Classes) (has : Usable) (s : Scene) (e : Term) (c : List ℕ) (m : MethodName) (ts : Terms) (t : IrType) : Type 0 where
+  pub there : has.built (member c Constructor m) ≡ true
+  pub none : t ≡ NoType
+  pub surely : is_sure s.sure e ≡ true
+  pub value : has_no_value (type_of_term e) ≡ false
+  pub unboxed : NoBox Any (type_of_term e)
+  pub on_class : Fits (class_type c) (type_of_term e)
+  pub arguments : ArgumentsFit w ts m.params
+  pub fit : FitAll (types_referred m.params) (types_of ts)
+
+class_unboxed : (c : List ℕ) → NoBox Any (class_type c)
+class_unboxed c = go (pointwise nat_eq c (codes "java.lang.Object"))
+  where
+    go : (b : Bool) → NoBox Any (if b then Any else Class c)
+    go true = refl
+    go false = refl
+
+on_this : (w : Classes) (has : Usable) (s : Scene) (e : Term) → rules.IsReceiver Constructor e → Typed w has s e → (is_sure s.sure e ≡ true) × (type_of_term e ≡ class_type s.owner)
+on_this w has s (this_ref q i) r h = (refl, h.finds.1)
+on_this w has s _ r h = absurd r
+
+is_none : (t : IrType) → is_no_type t ≡ true → t ≡ NoType
+is_none NoType h = refl
+is_none _ h = impossible h
+
+pub constructed : (w : Classes) (law : IsSubtyping (IsSub w)) (has : Usable) (s : Scene) (p : Position) (e : Term) (c : List ℕ) (m : MethodName) (ts : Terms) (t : IrType) → Typed w has s (apply_statically p e c Constructor m ts t) → Constructed w has s e c m ts t
+constructed w law has s p e c m ts t h = record {
+  there = its.0;
+  none = is_none t others.0;
+  surely = this.0;
+  value = subst HasValue (sym this.1) (class_has_value s.owner);
+  unboxed = unboxed;
+  on_class = fits-sub w law (class_type c) (type_of_term e) h.0.meets.2 (no_char (type_of_term e) (class_type c) unboxed);
+  arguments = arguments;
+  fit = fit-all w law ts m.params arguments;
+}
+  where
+    its : (has.built (member c Constructor m) ≡ true) × ((is_no_type t && not (any_is_boxed m.params ts)) ≡ true)
+    its = and_parts (has.built (member c Constructor m)) (is_no_type t && not (any_is_boxed m.params ts)) h.0.built
+
+    others : (is_no_type t ≡ true) × (not (any_is_boxed m.params ts) ≡ true)
+    others = and_parts (is_no_type t) (not (any_is_boxed m.params ts)) its.1
+
+    this : (is_sure s.sure e ≡ true) × (type_of_term e ≡ class_type s.owner)
+    this = on_this w has s e h.0.meets.0 h.1
+
+    unboxed : NoBox Any (type_of_term e)
+    unboxed = subst (NoBox Any) (sym this.1) (class_unboxed s.owner)
+
+    arguments : ArgumentsFit w ts m.params
+    arguments = arguments_there w (is_no_type t) ts m.params its.1 h.0.finds h.0.meets.3
