@@ -9,11 +9,13 @@ use Rattle.body_rules.proofs.Plain.{class_found, plain_world}
 use Rattle.body_rules.proofs.Topped.{absent_above}
 use Rattle.body_soundness.specs.Worlds.{AreClassesKept, HasFields, WritesInterfaces}
 use Rattle.sj_local.specs.ClassRules.{is_empty, is_class, is_interface, is_hijacked_kind, is_rightly_hijacked, is_right_number, keeps_superclass, keeps_hijacked}
-use Rattle.sj_local.specs.Names.{is_some_name}
+use Rattle.sj_local.specs.MemberRules.{has_no_fields, breaks_field}
+use Rattle.sj_local.specs.Names.{is_some_name, is_empty_type}
 use Rattle.sj_names.proofs.Same.{impossible, text-same}
 use Rattle.sj_names.specs.WellKnown.{is_object, is_number}
 use Rattle.sj_trees.specs.Types.{class_type}
 use Rattle.sj_trees.specs.declared.classes.ClassDef.{ClassDef}
+use Rattle.sj_trees.specs.declared.classes.FieldDef.{FieldDef}
 use Rattle.sj_trees.specs.declared.types.IrType.{IrType}
 use Rattle.sj_trees.specs.declared.types.IrType.TheVariants.{Any, Nothing, Null, Array, Class}
 use Rattle.sj_world.specs.Ancestors.{listed, superclass_in, above_in, written_in, directly_above, IsParent, Way, by_path, is_object as is_top, IsOnChain}
@@ -34,7 +36,7 @@ byte_not b free n h = go (is_same b n) refl
     go false e = e
     go true e = impossible (sym free ∙ subst (λ (m : Name). is_hijacked m ≡ true) (sym (text-same b n e)) h)
 
-stands_itself : (b : Name) → is_hijacked b ≡ false → stands_as b ≡ b
+pub stands_itself : (b : Name) → is_hijacked b ≡ false → stands_as b ≡ b
 stands_itself b free = (λ i. if (byte_not b free (codes "java.lang.Byte") refl i || byte_not b free (codes "java.lang.Short") refl i) then integer else b)
 
 only_listed : (s : Option Name) (c : Name) → Contains (listed s) c → s ≡ Some c
@@ -49,6 +51,33 @@ has_superclass k c h s = go (is_object k.name) refl (is_interface k.kind) refl (
     go true e b f q = impossible (and_parts (is_class k.kind) false (and_parts (is_class k.kind && false) (is_empty k.interfaces) q).0).1
     go false e true f q = impossible q
     go false e false f q = (f, e)
+
+both_false : (a b : Bool) → (a || b) ≡ false → (a ≡ false) × (b ≡ false)
+both_false true b h = impossible (sym h)
+both_false false b h = (refl, h)
+
+-- a class with an instance field, by the local rules
+pub has_fields : (w : Classes) (c : ClassDef) (f : FieldDef) → class_of w c.name ≡ Some c → keeps_hijacked c ≡ true → breaks_field c f ≡ false → f.is_static ≡ false → HasFields w c.name
+has_fields w c f there k field instance = record { class = c; found = there; no_interface = second.0; no_object = first.1; no_number = parts.1; no_hijacked = free (is_hijacked c.name) refl rightly }
+  where
+    none : has_no_fields c ≡ false
+    none = subst (λ (b : Bool). (not b && has_no_fields c) ≡ false) instance (both_false (is_empty_type f.tpe) (not f.is_static && has_no_fields c) field).1
+
+    parts : ((is_interface c.kind || is_hijacked_kind c.kind || is_object c.name) ≡ false) × (is_number c.name ≡ false)
+    parts = both_false (is_interface c.kind || is_hijacked_kind c.kind || is_object c.name) (is_number c.name) none
+
+    first : ((is_interface c.kind || is_hijacked_kind c.kind) ≡ false) × (is_object c.name ≡ false)
+    first = both_false (is_interface c.kind || is_hijacked_kind c.kind) (is_object c.name) parts.0
+
+    second : (is_interface c.kind ≡ false) × (is_hijacked_kind c.kind ≡ false)
+    second = both_false (is_interface c.kind) (is_hijacked_kind c.kind) first.0
+
+    rightly : is_rightly_hijacked c ≡ true
+    rightly = (and_parts (is_rightly_hijacked c) (is_right_number c) (and_parts (is_rightly_hijacked c && is_right_number c) (not (is_some_name is_hijacked c.superclass)) (and_parts (is_rightly_hijacked c && is_right_number c && not (is_some_name is_hijacked c.superclass)) (not (list_any is_hijacked c.interfaces)) k).0).0).0
+
+    free : (b : Bool) → is_hijacked c.name ≡ b → (if b then is_hijacked_kind c.kind && is_some_name (λ d. is_object d || is_number d) c.superclass else not (is_hijacked_kind c.kind)) ≡ true → is_hijacked c.name ≡ false
+    free false e h = e
+    free true e h = impossible (sym second.1 ∙ (and_parts (is_hijacked_kind c.kind) (is_some_name (λ d. is_object d || is_number d) c.superclass) h).0)
 
 name_is : (c d : Name) → ◌≡◌ {A = Option Name} (Some c) (Some d) → c ≡ d
 name_is c d e = cc

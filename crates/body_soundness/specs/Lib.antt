@@ -1,3 +1,4 @@
 pub mod Laws
 pub mod Rules
+pub mod Worked
 pub mod Worlds

@@ -1,0 +1,175 @@
+-- The worked world with objects has what soundness asks.
+use Rattle.std.proofs.Common.{◌≡◌, codes, ◌<◌, ℕ, Bool, true, false, ◌&&◌, List, [], ◌∷◌, Some, None, Option, Contains, refl, sym, ◌∙◌, subst, inl, inr, ⊎_elim, arith, if◌then◌else◌}
+use Rattle.std.specs.List.{list_any}
+use Rattle.std.proofs.lemmas.Bool.{and_parts}
+use Rattle.body_rules.proofs.Lists.{nothing_in, in_front_or_behind, at_front, further_on}
+use Rattle.body_rules.proofs.Plain.{class_found, plain_world}
+use Rattle.body_rules.specs.Locals.{HasValue}
+use Rattle.body_rules.specs.Standing.{is_bare}
+use Rattle.body_soundness.proofs.Modules.{never_wrong}
+use Rattle.body_soundness.proofs.Chains.{no_primitive}
+use Rattle.body_soundness.specs.Laws.{ObjectLaws}
+use Rattle.body_soundness.specs.Rules.{RightMember}
+use Rattle.body_soundness.specs.Worked.{class_name, field_name, init_name, get_name, gets_field, gets, init_method, get_method, main_method, its_field, its_class, object_world, main_member, is_member, object_use}
+use Rattle.body_soundness.specs.Worlds.{AreClassesKept, HasFields, WritesInterfaces}
+use Rattle.ir_mean.specs.Dispatch.{chain_of}
+use Rattle.ir_mean.specs.Rows.{nowhere, object_name, object_with, main_entry, once}
+use Rattle.ir_mean.specs.Shows.{initializers, ir_shows}
+use Rattle.ir_mean.specs.World.{World, member_of, method_among, method_in, opening, zeros_in, zero_of}
+use Rattle.ir_mean.specs.World as ir_world
+use Rattle.outcomes.specs.Agreement.{IsNotWrong}
+use Rattle.sj_desugar.specs.Desugar.{member}
+use Rattle.sj_local.specs.ClassRules.{keeps_superclass, keeps_hijacked}
+use Rattle.sj_names.proofs.Same.{impossible, text-same, method-same, namespace-same}
+use Rattle.sj_names.specs.Same.{is_same_text, is_same_namespace, is_same_method}
+use Rattle.sj_names.specs.declared.method_names.Member.{Member}
+use Rattle.sj_names.specs.declared.method_names.MethodName.{MethodName}
+use Rattle.sj_names.specs.declared.method_names.Namespace.{Namespace}
+use Rattle.sj_names.specs.declared.method_names.Namespace.TheVariants.{Private, Constructor}
+use Rattle.sj_names.specs.declared.entry_points.EntryPoint.{EntryPoint}
+use Rattle.sj_proper.specs.Emitted.{initializer_member}
+use Rattle.sj_proper.specs.Methods.{KeepsRules}
+use Rattle.sj_proper.specs.Once.{NamesOnce}
+use Rattle.sj_trees.proofs.SameTypes.{type-same}
+use Rattle.sj_trees.specs.SameTypes.{is_same_type}
+use Rattle.sj_trees.specs.Term.{Term, skip}
+use Rattle.sj_trees.specs.Types.{class_type}
+use Rattle.sj_trees.specs.declared.classes.ClassDef.{ClassDef}
+use Rattle.sj_trees.specs.declared.classes.MethodDef.{MethodDef}
+use Rattle.sj_trees.specs.declared.types.IrType.{IrType}
+use Rattle.sj_trees.specs.declared.types.IrType.TheVariants.{Class, Int}
+use Rattle.sj_world.specs.Known.{Name, stands_as}
+use Rattle.sj_world.specs.Laws.{IsPlain}
+use Rattle.sj_world.specs.Subtypes.{hijacked_class, IsSub, equal}
+use Rattle.typing_rules.specs.Rules.{nothing_wanted, fitting, HasFieldType}
+
+member-same : (m k : Member) → is_member k m ≡ true → m ≡ k
+member-same m k h =
+    let p = and_parts (is_same_text m.class k.class) (is_same_namespace m.namespace k.namespace && is_same_method m.method k.method) h in
+    let q = and_parts (is_same_namespace m.namespace k.namespace) (is_same_method m.method k.method) p.1 in
+    let e = text-same m.class k.class p.0 in
+    let f = namespace-same m.namespace k.namespace q.0 in
+    let g = method-same m.method k.method q.1 in
+    λ i. record { class = e i; namespace = f i; method = g i }
+
+no_place : (i : ℕ) → i < 0 → ⊥
+no_place i h = omega (arith, h)
+
+field_type : HasFieldType object_world class_name field_name false Int
+field_type = record { field = its_field; is_field = record { class = its_class; is_class = refl; first = record { place = 0; stands = refl; has = record { name_is = refl; mark_is = refl }; none_before = λ i y h s k. no_place i h } }; type_is = refl }
+
+init_rules : KeepsRules object_world object_use class_name init_method (skip nowhere)
+init_rules = record { typed = record { meets = tt; built = refl; finds = tt }; yields = nothing_wanted refl; unboxed = refl; result = inl refl; values = λ x p e. impossible (cc); once = record { once = tt; parameters = tt; fresh = λ x o i. i } }
+
+get_rules : KeepsRules object_world object_use class_name get_method gets_field
+get_rules = record { typed = (record { meets = (equal refl, field_type); built = refl; finds = tt }, record { meets = tt; built = refl; finds = (tt, refl) }); yields = fitting (equal refl); unboxed = refl; result = inr refl; values = λ x p e. impossible (cc); once = record { once = tt; parameters = tt; fresh = λ x o i. i } }
+
+main_rules : KeepsRules object_world object_use object_name main_method gets
+main_rules = record { typed = (record { meets = (tt, refl, equal refl, tt); built = refl; finds = tt }, (record { meets = (refl, tt); built = refl; finds = tt }, tt), tt); yields = nothing_wanted refl; unboxed = refl; result = inl refl; values = λ x p e. impossible (cc); once = record { once = (tt, tt, λ x o i. i); parameters = tt; fresh = λ x o i. i } }
+
+linked_right : (m : Member) → object_use.linked m ≡ true → RightMember object_world object_use m
+linked_right m h = subst (RightMember object_world object_use) (sym (member-same m main_member h)) (record { definition = main_method; its_body = gets; found = refl; has_body = refl; rules = main_rules; parameters = tt; result_is = refl })
+
+received_right : (m : Member) → object_use.received m ≡ true → RightMember object_world object_use m
+received_right m h = subst (RightMember object_world object_use) (sym (member-same m (member class_name Private get_name) h)) (record { definition = get_method; its_body = gets_field; found = refl; has_body = refl; rules = get_rules; parameters = tt; result_is = refl })
+
+built_right : (m : Member) → object_use.built m ≡ true → RightMember object_world object_use m
+built_right m h = subst (RightMember object_world object_use) (sym (member-same m (member class_name Constructor init_name) h)) (record { definition = init_method; its_body = skip nowhere; found = refl; has_body = refl; rules = init_rules; parameters = tt; result_is = refl })
+
+-- a class of the world is one of the two
+each_class : (P : ClassDef → Type 0) → P (object_with (main_method ∷ [])) → P its_class → (c : ClassDef) → Contains object_world c → P c
+each_class P first second c i = ⊎_elim (λ same. subst P same first) (λ later. ⊎_elim (λ same. subst P same second) (λ none. nothing_in c none) (in_front_or_behind its_class [] c later)) (in_front_or_behind (object_with (main_method ∷ [])) (its_class ∷ []) c i)
+
+kept : AreClassesKept object_world
+kept = record { superclass = each_class (λ c. keeps_superclass c ≡ true) refl refl; hijacked = each_class (λ c. keeps_hijacked c ≡ true) refl refl }
+
+plain : IsPlain object_world
+plain = plain_world object_world kept.superclass kept.hijacked
+
+-- no class writes an interface
+pub data OneField (c f : List ℕ) (t : IrType) : Type 0 where
+  the_field : c ≡ class_name → f ≡ field_name → t ≡ Int → OneField c f t
+
+field_is : (c f : List ℕ) (t : IrType) → object_use.field c f t ≡ true → OneField c f t
+field_is c f t h = let p = and_parts (is_same_text c class_name) (is_same_text f field_name && is_same_type t Int) h in let q = and_parts (is_same_text f field_name) (is_same_type t Int) p.1 in the_field (text-same c class_name p.0) (text-same f field_name q.0) (type-same t Int q.1)
+
+no_faces : (d : Name) → WritesInterfaces object_world d
+no_faces d b path class found i face among there = nothing_in i (subst (λ (xs : List Name). Contains xs i) (each_class (λ (c : ClassDef). c.interfaces ≡ []) refl refl class (class_found object_world (stands_as b) class found).0) among)
+
+has_fields : HasFields object_world class_name
+has_fields = record { class = its_class; found = refl; no_interface = refl; no_object = refl; no_number = refl; no_hijacked = refl }
+
+zeros : (c f : List ℕ) (t : IrType) → OneField c f t → HasValue t × (zeros_in (ir_world.class_of object_world c) f ≡ Some (zero_of t))
+zeros c f t (the_field e g h) = (subst HasValue (sym h) refl, (λ i. zeros_in (ir_world.class_of object_world (e i)) (g i)) ∙ (λ i. Some (zero_of (sym h i))))
+
+same_types : (c f : List ℕ) (s t : IrType) → OneField c f s → OneField c f t → s ≡ t
+same_types c f s t (the_field d e g) (the_field h i j) = g ∙ sym j
+
+on_chain : (c f : List ℕ) (t : IrType) (d : List ℕ) → OneField c f t → d ≡ class_name → list_any (is_same_text c) (chain_of object_world d) ≡ true
+on_chain c f t d (the_field e g h) k = (λ i. list_any (is_same_text (e i)) (chain_of object_world (k i)))
+
+none_below : (c f : List ℕ) (t : IrType) (o : IrType) (h : List ℕ) → OneField c f t → hijacked_class o ≡ Some h → IsSub object_world o (class_type c) → ⊥
+none_below c f t o h (the_field e g i) its sub = no_primitive object_world kept class_name o h has_fields its (no_faces h) (subst (λ (n : List ℕ). IsSub object_world o (class_type n)) e sub)
+
+method_listed : (ds : List MethodDef) (n : Namespace) (m : MethodName) (d : MethodDef) → method_among ds n m ≡ Some d → Contains ds d
+method_listed [] n m d e = impossible (cc)
+method_listed (x ∷ xs) n m d e = go (is_same_namespace n x.namespace && is_same_method m x.name) e (method_listed xs n m d)
+  where
+    go : (b : Bool) → (if b then Some x else method_among xs n m) ≡ Some d → (method_among xs n m ≡ Some d → Contains xs d) → Contains (x ∷ xs) d
+    go true k later = let same : x ≡ d = cc in subst (Contains (x ∷ xs)) same (at_front x xs)
+    go false k later = further_on x xs d (later k)
+
+class_listed : (w : World) (n : List ℕ) (c : ClassDef) → ir_world.class_of w n ≡ Some c → Contains w c
+class_listed [] n c e = impossible (cc)
+class_listed (x ∷ xs) n c e = go (is_same_text n x.name) e (class_listed xs n c)
+  where
+    go : (b : Bool) → (if b then Some x else ir_world.class_of xs n) ≡ Some c → (ir_world.class_of xs n ≡ Some c → Contains xs c) → Contains (x ∷ xs) c
+    go true k later = let same : x ≡ c = cc in subst (Contains (x ∷ xs)) same (at_front x xs)
+    go false k later = further_on x xs c (later k)
+
+abbrev HasNames : MethodDef → Type 0
+HasNames d = (e : Term) → d.body ≡ Some e → NamesOnce d e
+
+one_body : (a b : Term) → ◌≡◌ {A = Option Term} (Some a) (Some b) → a ≡ b
+one_body a b e = cc
+
+main_names : HasNames main_method
+main_names e is = subst (NamesOnce main_method) (one_body gets e is) (record { once = tt; fresh = λ x n i. n })
+
+init_names : HasNames init_method
+init_names e is = subst (NamesOnce init_method) (one_body (skip nowhere) e is) (record { once = tt; fresh = λ x n i. n })
+
+get_names : HasNames get_method
+get_names e is = subst (NamesOnce get_method) (one_body gets_field e is) (record { once = tt; fresh = λ x n i. n })
+
+main_listed : (d : MethodDef) → Contains (main_method ∷ []) d → HasNames d
+main_listed d i = ⊎_elim (λ same. subst HasNames same main_names) (λ none. nothing_in d none) (in_front_or_behind main_method [] d i)
+
+its_listed : (d : MethodDef) → Contains (init_method ∷ get_method ∷ []) d → HasNames d
+its_listed d i = ⊎_elim (λ same. subst HasNames same init_names) (λ later. ⊎_elim (λ same. subst HasNames same get_names) (λ none. nothing_in d none) (in_front_or_behind get_method [] d later)) (in_front_or_behind init_method (get_method ∷ []) d i)
+
+names : (m : Member) (d : MethodDef) (e : Term) → member_of object_world m.class m.namespace m.method ≡ Some d → d.body ≡ Some e → NamesOnce d e
+names m d e found body = go (ir_world.class_of object_world m.class) refl found
+  where
+    go : (o : Option ClassDef) → ir_world.class_of object_world m.class ≡ o → method_in o m.namespace m.method ≡ Some d → NamesOnce d e
+    go None k f = impossible (cc)
+    go (Some c) k f = each_class (λ (c : ClassDef). (d : MethodDef) → Contains c.methods d → HasNames d) main_listed its_listed c (class_listed object_world m.class c k) d (method_listed c.methods m.namespace m.method d f) e body
+
+pub object_laws : ObjectLaws object_world object_use
+object_laws = record {
+  received = received_right;
+  built = built_right;
+  once = λ r m d e found body. names m d e found body;
+  made = λ c h. subst (λ (n : List ℕ). is_bare (Class n) ≡ false) (sym (text-same c class_name h)) refl;
+  fields = λ c f t h. zeros c f t (field_is c f t h);
+  one_type = λ c f s t h k. same_types c f s t (field_is c f s h) (field_is c f t k);
+  holders = λ c f t h d m sub. on_chain c f t d (field_is c f t h) (text-same d class_name m);
+  strangers = λ c f t h o n its sub. none_below c f t o n (field_is c f t h) its sub;
+  exceptions = λ h. impossible h;
+}
+
+initializer_linked : (e : EntryPoint) → Contains (initializers once (codes "main")) e → object_use.linked (initializer_member e) ≡ true
+initializer_linked e i = ⊎_elim (λ same. subst (λ (x : EntryPoint). object_use.linked (initializer_member x) ≡ true) same refl) (λ none. nothing_in e none) (in_front_or_behind main_entry [] e i)
+
+pub gets_right : (n : ℕ) → IsNotWrong (ir_shows object_world once (codes "main") n).end
+gets_right = never_wrong object_world plain object_use object_laws linked_right once (codes "main") initializer_linked
