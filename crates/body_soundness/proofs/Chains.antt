@@ -189,7 +189,7 @@ module _ (w : Classes) (kept : AreClassesKept w) where
   none_there : {A : Type 0} (o t : IrType) (h : Name) → o ≡ t → hijacked_class t ≡ None → hijacked_class o ≡ Some h → A
   none_there o t h e n k = let both : ◌≡◌ {A = Option Name} None (Some h) = sym n ∙ sym (ap hijacked_class e) ∙ k in absurd (cc)
 
-  class_hijacked : (o : IrType) (h : Name) → hijacked_class o ≡ Some h → is_hijacked h ≡ true
+  pub class_hijacked : (o : IrType) (h : Name) → hijacked_class o ≡ Some h → is_hijacked h ≡ true
   class_hijacked IrType.Undefined h e = subst (λ (n : Name). is_hijacked n ≡ true) (name_is (codes "java.lang.Void") h e) refl
   class_hijacked IrType.Boolean h e = subst (λ (n : Name). is_hijacked n ≡ true) (name_is (codes "java.lang.Boolean") h e) refl
   class_hijacked IrType.Char h e = subst (λ (n : Name). is_hijacked n ≡ true) (name_is (codes "java.lang.Character") h e) refl

@@ -1,3 +1,4 @@
+pub mod Assembled
 pub mod Chains
 pub mod Heaps
 pub mod Lengths

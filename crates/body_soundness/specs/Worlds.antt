@@ -1,6 +1,22 @@
 -- Worlds in which what stands below a class with fields has it on its chain of superclasses.
 use Rattle.std.specs.Prelude.{◌≡◌, true, false, Some}
 use Rattle.std.specs.List.{Contains}
+use Rattle.body_rules.specs.Locals.{HasValue}
+use Rattle.body_soundness.specs.Laws.{HasReceivers, null_pointer}
+use Rattle.body_soundness.specs.Rules.{RightMember}
+use Rattle.built_forms.specs.Built.{Usable}
+use Rattle.ir_mean.specs.Meaning.{with_message}
+use Rattle.ir_mean.specs.World.{member_of, zeros_in, zero_of}
+use Rattle.ir_mean.specs.World as ir_world
+use Rattle.sj_desugar.specs.Desugar.{member}
+use Rattle.sj_emit_expr.specs.Templates.{check_name}
+use Rattle.sj_names.specs.declared.method_names.Member.{Member}
+use Rattle.sj_names.specs.declared.method_names.Namespace.TheVariants.{Constructor}
+use Rattle.sj_proper.specs.Once.{NamesOnce}
+use Rattle.sj_trees.specs.Term.{Term}
+use Rattle.sj_trees.specs.declared.classes.MethodDef.{MethodDef}
+use Rattle.sj_trees.specs.declared.types.IrType.{IrType}
+use Rattle.sj_world.specs.Refusals.{HasNoCycle}
 use Rattle.sj_local.specs.ClassRules.{is_interface, keeps_superclass, keeps_hijacked}
 use Rattle.sj_names.specs.WellKnown.{is_object, is_number, is_hijacked}
 use Rattle.sj_trees.specs.declared.classes.ClassDef.{ClassDef}
@@ -25,3 +41,17 @@ pub record HasFields (w : Classes) (c : Name) : Type 0 where
 -- whatever is written as an interface by a class, or by one above it, is one
 abbrev pub WritesInterfaces : Classes → Name → Type 0
 WritesInterfaces w d = (b : Name) → Path (IsParent w) d b → (class : ClassDef) → class_of w (stands_as b) ≡ Some class → (i : Name) (face : ClassDef) → Contains class.interfaces i → class_of w i ≡ Some face → is_interface face.kind ≡ true
+
+-- what is asked of a world, and of what bodies use there, by the rules of its classes: the members that can be called keep the rules; what is made isn't hijacked;
+-- what can be read is a field of a class with fields; and whatever is written as an interface above these and above the hijacked classes is one
+pub record ObjectWorld (w : Classes) (has : Usable) : Type 0 where
+  pub kept : AreClassesKept w
+  pub acyclic : HasNoCycle w
+  pub received : (m : Member) → has.received m ≡ true → RightMember w has m
+  pub built : (m : Member) → has.built m ≡ true → RightMember w has m
+  pub once : HasReceivers has → (m : Member) (d : MethodDef) (e : Term) → member_of w m.class m.namespace m.method ≡ Some d → d.body ≡ Some e → NamesOnce d e
+  pub made : (c : Name) → has.made c ≡ true → (is_hijacked c ≡ false) × WritesInterfaces w c
+  pub primitives : (h : Name) → is_hijacked h ≡ true → WritesInterfaces w h
+  pub fields : (c f : Name) (t : IrType) → has.field c f t ≡ true → HasFields w c × HasValue t × (zeros_in (ir_world.class_of w c) f ≡ Some (zero_of t))
+  pub one_type : (c f : Name) (s t : IrType) → has.field c f s ≡ true → has.field c f t ≡ true → s ≡ t
+  pub exceptions : has.helper check_name ≡ true → (has.made null_pointer ≡ true) × (has.built (member null_pointer Constructor with_message) ≡ true)

@@ -10,7 +10,7 @@ ghost use Rattle.std.specs.List.{Contains, list_any};
 ghost use Rattle.body_soundness.specs.Laws.{ObjectLaws};
 ghost use Rattle.body_soundness.specs.Rules.{RightMember};
 ghost use Rattle.body_soundness.specs.Worked.{object_world, object_use};
-ghost use Rattle.body_soundness.specs.Worlds.{AreClassesKept, HasFields, WritesInterfaces};
+ghost use Rattle.body_soundness.specs.Worlds.{AreClassesKept, HasFields, WritesInterfaces, ObjectWorld};
 ghost use Rattle.built_forms.specs.Built.{Usable, members_alone};
 ghost use Rattle.ir_mean.specs.Dispatch.{chain_of};
 ghost use Rattle.ir_mean.specs.Rows.{once};
@@ -56,6 +56,12 @@ pub fn classes_with_fields_are_on_chains()
 /// A class of the world that has an instance field, and keeps the rules on hijacked classes and on fields, is one whose instances may have fields.
 pub fn classes_with_an_instance_field_have_fields()
     ensures { (w : Classes) (c : ClassDef) (f : FieldDef) → class_of w c.name ≡ Some c → keeps_hijacked c ≡ true → breaks_field c f ≡ false → f.is_static ≡ false → HasFields w c.name }
+{}
+
+/// The laws on objects hold in a world whose classes keep the local rules and stand on no cycle, where what is made isn't hijacked, what can be read is a field
+/// of a class with fields, and whatever is written as an interface above these and above the hijacked classes is one.
+pub fn object_worlds_have_the_laws()
+    ensures { (w : Classes) (has : Usable) → ObjectWorld w has → ObjectLaws w has }
 {}
 
 /// The premises can be met where objects are used: by a world whose `main` makes an object and calls a method on it that gives its field. What it shows is wrong at
