@@ -4,7 +4,7 @@
 //! run, and their clauses are theorems.
 #![tactic(auto)]
 
-ghost use Rattle.accepted_folders.specs.Laws.{AcceptedFoldersHaveAWorld, AcceptedFoldersHaveBodies, CallsAreAmongBodies, InitializersAreAmongBodies, AcceptedFilesAgree};
+ghost use Rattle.accepted_folders.specs.Laws.{AcceptedFoldersHaveAWorld, AcceptedFoldersHaveBodies, CallsAreAmongBodies, InitializersAreAmongBodies, AcceptedFilesAgree, AcceptedWorldsAreKept, AcceptedWorldsWriteInterfaces};
 
 /// A folder is accepted just where its files are read as classes that keep the local rules and make a world in which what is reachable resolves and
 /// is typed.
@@ -25,6 +25,13 @@ pub fn calls_are_among_bodies()
 /// The methods of the initializers are among those of the bodies that are needed.
 pub fn initializers_are_among_bodies()
     ensures { InitializersAreAmongBodies }
+{}
+
+/// The classes of an accepted folder have what the laws on objects ask of a world: they keep the rules on superclasses and on hijacked classes, and what is written as an
+/// interface by a class that is needed, by a hijacked class, or by one above it, is one.
+pub fn accepted_worlds_carry_objects()
+    ensures kept { AcceptedWorldsAreKept }
+    ensures interfaces { AcceptedWorldsWriteInterfaces }
 {}
 
 /// Take a folder that is accepted, of files of bytes, and the methods of all bodies that are needed, each of the forms that are built. Each file that
