@@ -20,13 +20,7 @@ pub enum CoreStatement {
     /// A text is logged as a line.
     Log(Option<Position>, CoreExpression),
     /// A field of an object is set: the object, the class and the name of the field, and the value.
-    AssignField(
-        Option<Position>,
-        CoreExpression,
-        ClassName,
-        FieldName,
-        CoreExpression,
-    ),
+    AssignField(Option<Position>, CoreExpression, ClassName, FieldName, CoreExpression),
     /// A static field is set.
     AssignStatic(Option<Position>, ClassName, FieldName, CoreExpression),
     Throw(Option<Position>, CoreExpression),

@@ -132,4 +132,3 @@ pub sure-listed : (t : Term) → is_among (sure_in t []) ≡ sure_locals t
 sure-listed t = ap is_among (in_one t []) ∙ listed [] (definitions t)
 
 pub ruleset rows = (all-end, all-step, cases-end, cases-step)
-

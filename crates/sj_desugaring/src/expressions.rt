@@ -126,11 +126,7 @@ fn operand(
 
 // A receiver, with its null check unless it is sure.
 #[cycle(expression)]
-fn received(
-    alloc: Global,
-    sure: &[LocalName],
-    tree: &Tree,
-) -> Result<CoreExpression, NoMemory>
+fn received(alloc: Global, sure: &[LocalName], tree: &Tree) -> Result<CoreExpression, NoMemory>
     ensures { IfOk result (λ e. expression_view e ≡ desugar.received_text (receivers.is_sure (plain.is_among sure.now) (view tree.now)) (desugar.expression_of (plain.is_among sure.now) (view tree.now))) }
 {
     let never_null = is_sure(alloc, sure, tree)?;
@@ -140,11 +136,7 @@ fn received(
 
 // The receiver of a call: a char is called as an object that holds it.
 #[cycle(expression)]
-fn called(
-    alloc: Global,
-    sure: &[LocalName],
-    tree: &Tree,
-) -> Result<Box<CoreExpression>, NoMemory>
+fn called(alloc: Global, sure: &[LocalName], tree: &Tree) -> Result<Box<CoreExpression>, NoMemory>
     ensures { IfOk result (λ e. expression_view e.value ≡ coercions.coerced_receiver (type_of_term (view tree.now)) (desugar.received_text (receivers.is_sure (plain.is_among sure.now) (view tree.now)) (desugar.expression_of (plain.is_among sure.now) (view tree.now)))) }
 {
     let own = type_of(alloc, tree)?;

@@ -127,7 +127,15 @@ pub fn field_value(
     ensures { IfOk result (λ w. code_view w ≡ behind (placed_view object) (λ e. desugar.finish (destination_view destination.now) position place.now.tpe.now false (terms.field_of e place.now.class.now place.now.name.now))) }
 {
     let value = field_of(alloc, object.expression, place.class, place.name)?;
-    let back = finish(alloc, destination, position, place.tpe, false, value, object.next)?;
+    let back = finish(
+        alloc,
+        destination,
+        position,
+        place.tpe,
+        false,
+        value,
+        object.next,
+    )?;
     let front = Written {
         statements: object.statements,
         next: object.next,
@@ -148,7 +156,15 @@ pub fn made_value(
 {
     let value = made(class, method, arguments.expressions)?;
     let tpe = IrType::of_class(class.copied()?);
-    let back = finish(alloc, destination, position, &tpe, false, value, arguments.next)?;
+    let back = finish(
+        alloc,
+        destination,
+        position,
+        &tpe,
+        false,
+        value,
+        arguments.next,
+    )?;
     let front = Written {
         statements: arguments.statements,
         next: arguments.next,
@@ -178,7 +194,15 @@ pub fn receiver_value(
         called,
         arguments.expressions,
     )?;
-    let back = finish(alloc, destination, position, tpe, false, value, arguments.next)?;
+    let back = finish(
+        alloc,
+        destination,
+        position,
+        tpe,
+        false,
+        value,
+        arguments.next,
+    )?;
     let first = Written {
         statements: receiver.statements,
         next: receiver.next,
@@ -202,7 +226,15 @@ pub fn checked_operand(
     let own = type_of(alloc, tree)?;
     let value = checked(alloc, operand.expression)?;
     let position = position_of(tree);
-    let back = finish(alloc, destination, position, &own, false, value, operand.next)?;
+    let back = finish(
+        alloc,
+        destination,
+        position,
+        &own,
+        false,
+        value,
+        operand.next,
+    )?;
     let front = Written {
         statements: operand.statements,
         next: operand.next,

@@ -8,11 +8,7 @@ use sj_names::{NoMemory, Text};
 use std::alloc::Global;
 
 // The first value, and behind it the others.
-fn in_front(
-    alloc: Global,
-    first: JsExpr,
-    others: Vec<JsExpr>,
-) -> Result<Vec<JsExpr>, NoMemory>
+fn in_front(alloc: Global, first: JsExpr, others: Vec<JsExpr>) -> Result<Vec<JsExpr>, NoMemory>
     ensures { IfOk result (λ all. all.items ≡ first ∷ others.items) }
 {
     let mut all = Vec::new(alloc);
@@ -39,11 +35,7 @@ pub fn call_on(
 }
 
 /// A call of a function of one argument.
-pub fn call_of_one(
-    alloc: Global,
-    function: Text,
-    argument: JsExpr,
-) -> Result<JsExpr, NoMemory>
+pub fn call_of_one(alloc: Global, function: Text, argument: JsExpr) -> Result<JsExpr, NoMemory>
     ensures { IfOk result (λ e. expression_view e ≡ js.call_of function (js.expression (expression_view argument) js.no_expressions)) }
 {
     let mut arguments = Vec::new(alloc);
