@@ -1,6 +1,6 @@
 -- `new $C` of a char: where the class stands in the program, it makes an object that holds the char.
 use Rattle.std.specs.Prelude.{◌≤◌, ◌<◌, ◌^◌, codes, pos}
-use Rattle.std.proofs.Common.{◌≡◌, ℕ, zero, suc, Bool, true, false, List, [], ◌∷◌, length, Option, Some, refl, sym, ap, ◌∙◌, subst, arith}
+use Rattle.std.proofs.Common.{◌≡◌, ℕ, zero, suc, Bool, true, false, List, [], ◌∷◌, Option, Some, refl, sym, ap, ◌∙◌, subst, arith}
 use Rattle.helper_rules.specs.Helpers.{helper_name, box_constructor, set_from}
 use Rattle.helper_rules.specs.declared.kinds.Helper.TheVariants.{BoxedChar, ConstantsOf}
 use Rattle.helper_rules.specs.declared.kinds.Kind.TheVariants as kinds
