@@ -1,3 +1,4 @@
+pub mod Boxing
 pub mod Calls
 pub mod Chains
 pub mod Items

@@ -42,12 +42,12 @@ property_set target own s y v plainly =
     ∙ ap (λ (b : Bool). if b then None else Some (with_heap (set (s.heap ++ plain target own ∷ []) (next_address s) (plain target (with_property y v own))) s)) plainly
     ∙ ap (λ (h : List Stored). Some (with_heap h s)) (set-end s.heap (plain target own) (plain target (with_property y v own)))
 
-same_top : (o : Option Name) (y : Name) (target : List ClassLink) (own : Name → Option Value) (s : State) → top_cell o y (allocated target own s) ≡ top_cell o y s
+pub same_top : (o : Option Name) (y : Name) (target : List ClassLink) (own : Name → Option Value) (s : State) → top_cell o y (allocated target own s) ≡ top_cell o y s
 same_top None y target own s = refl
 same_top (Some f) y target own s = refl
 
 -- a name that is bound at the top alone
-name_at_top : (p : Program) (y : Name) (const : Bool) (v : Value) (sc : Scope) (s : State) → sc.bindings y ≡ absent → top_cell (owner p sc.file y) y s ≡ holds const v → name_value p y sc s ≡ done (gives v s)
+pub name_at_top : (p : Program) (y : Name) (const : Bool) (v : Value) (sc : Scope) (s : State) → sc.bindings y ≡ absent → top_cell (owner p sc.file y) y s ≡ holds const v → name_value p y sc s ≡ done (gives v s)
 name_at_top p y const v sc s free held = ap (λ (cell : Cell). cell_value (or_outer cell (top_cell (owner p sc.file y) y s)) s) free ∙ ap (λ (cell : Cell). cell_value cell s) held
 
 -- what sets properties declares nothing
@@ -60,14 +60,14 @@ body_declares c None fs bs = fields_declare c fs bs
 body_declares c (Some d) fs bs = fields_declare c fs bs
 
 module _ (p : Program) (target : List ClassLink) (s : State) where
-  abbrev at : (Name → Option Value) → State
+  abbrev pub at : (Name → Option Value) → State
   at own = allocated target own s
 
-  abbrev this_object : Value
+  abbrev pub this_object : Value
   this_object = object (next_address s)
 
   -- one property of the object that is made
-  sets : (low : Low) (sc : Scope) (m : Making) (y : Name) (e : Expression) (v : Value) (own : Name → Option Value) → is_same_text y (codes "__proto__") ≡ false → sc.this_value ≡ making m (Some this_object) → evaluate p low e sc (at own) ≡ done (gives v (at own)) → execute p low (assign_property this_use y e) sc (at own) ≡ done (ends normally sc (at (with_property y v own)))
+  pub sets : (low : Low) (sc : Scope) (m : Making) (y : Name) (e : Expression) (v : Value) (own : Name → Option Value) → is_same_text y (codes "__proto__") ≡ false → sc.this_value ≡ making m (Some this_object) → evaluate p low e sc (at own) ≡ done (gives v (at own)) → execute p low (assign_property this_use y e) sc (at own) ≡ done (ends normally sc (at (with_property y v own)))
   sets low sc m y e v own plainly this given =
       ap (λ (t : This). then_do (this_of t (at own)) (in_statement sc (λ u. unless_missing u (with_expression p low e (λ w sc s. with_state (set_property u y w s) sc s)) sc))) this
       ∙ ap (λ (o : Out ExpressionEnd). then_do o (in_statement sc (λ w s. with_state (set_property this_object y w s) sc s))) given

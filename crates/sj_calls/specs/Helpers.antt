@@ -1,16 +1,20 @@
--- Helpers that fail: what each does, and its function.
-use Rattle.std.specs.Prelude.{◌≡◌, ℕ, List, [], ◌∷◌, Some, codes}
+-- Helpers that fail: what each does, and its function; and the class of objects that hold chars.
+use Rattle.std.specs.Prelude.{◌≡◌, ℕ, true, List, [], ◌∷◌, Option, Some, codes}
 use Rattle.ir_mean.specs.States as ir
+use Rattle.js_mean.specs.Classes.{members_of}
+use Rattle.js_mean.specs.Files.{owner}
 use Rattle.js_mean.specs.Meaning as js_meaning
+use Rattle.js_mean.specs.Objects.{no_properties, with_property}
 use Rattle.js_mean.specs.States as js
-use Rattle.js_tree.specs.Terms.{throw_of, return_of, text_literal}
+use Rattle.js_tree.specs.Terms.{Name, throw_of, return_of, text_literal}
 use Rattle.js_tree.specs.Views.{statements_of}
-use Rattle.helper_rules.specs.Helpers.{raise, when, does, calls, helper_name}
+use Rattle.helper_rules.specs.Helpers.{raise, when, does, calls, helper_name, box_constructor}
 use Rattle.helper_rules.specs.Words.{x, is_null}
 use Rattle.helper_rules.specs.declared.kinds.Failure.TheVariants.{NullReceiver}
 use Rattle.helper_rules.specs.declared.kinds.Helper.{Helper}
-use Rattle.helper_rules.specs.declared.kinds.Helper.TheVariants.{Throws}
-use Rattle.sj_plain.specs.Settings.{Place, a_helper, SameState}
+use Rattle.helper_rules.specs.declared.kinds.Helper.TheVariants.{BoxedChar, ConstantsOf, Throws}
+use Rattle.helper_rules.specs.declared.kinds.Kind.TheVariants as kinds
+use Rattle.sj_plain.specs.Settings.{Place, a_helper, box_link, SameState}
 use Rattle.sj_plain.specs.Worlds.{World, Grows, SameValue}
 use Rattle.sj_trees.specs.declared.types.IrType.TheVariants.{Any}
 
@@ -24,6 +28,18 @@ checking_code = record { parameters = codes "x" ∷ []; body = statements_of (wh
 -- the function of a helper stands in its file
 abbrev pub HelperStands : Place → Helper → js_meaning.Code → Type 0
 HelperStands p h code = js_meaning.code_of p.program (p.home (a_helper h)) (helper_name h) ≡ Some code
+
+-- the class of objects that hold chars stands in its file, with its constructor alone; its file reaches the constants of java.lang.Character; and the code
+-- of some file can use them
+pub record BoxStands (p : Place) : Type 0 where
+  pub members_are : members_of p.program (box_link p) ≡ Some (box_constructor ∷ [])
+  pub reached : owner p.program (p.home (a_helper BoxedChar)) (helper_name (ConstantsOf kinds.Char)) ≡ Some (p.home (a_helper (ConstantsOf kinds.Char)))
+  pub user : Name
+  pub usable : (p.has user).helper (helper_name (ConstantsOf kinds.Char)) ≡ true
+
+-- the properties of an object that holds this value, with its constants at this address
+abbrev pub box_properties : ℕ → js.Value → Name → Option js.Value
+box_properties k v = with_property (codes "c") v (with_property (codes "k") (js.object k) no_properties)
 
 -- a throw on both sides
 pub data Failed (p : Place) (from : World) (env : ir.Env) : ir.Ended → js.ExpressionEnd → Type 0 where

@@ -5,27 +5,35 @@
 //! their clauses are theorems.
 #![tactic(auto)]
 
-ghost use Rattle.std.specs.Prelude.{◌≡◌, ℕ, Bool, true, List, ◌∷◌};
+ghost use Rattle.std.specs.Prelude.{◌≡◌, ℕ, ◌≤◌, Bool, true, List, ◌∷◌};
 ghost use Rattle.std.specs.List.{Contains};
-ghost use Rattle.outcomes.specs.Agreement.{IsNotWrong, Agree, Room};
+ghost use Rattle.outcomes.specs.Agreement.{IsNotWrong, Agree, Room, forward, Sim};
+ghost use Rattle.outcomes.specs.Outcome.{Out};
 ghost use Rattle.ir_mean.specs.Dispatch.{chain_of};
 ghost use Rattle.ir_mean.specs.Shows.{initializers, ir_shows};
 ghost use Rattle.ir_mean.specs.States as ir;
 ghost use Rattle.ir_mean.specs.World as ir_world;
+ghost use Rattle.js_mean.specs.Meaning as js_meaning;
 ghost use Rattle.js_mean.specs.Proper.{is_proper_module};
 ghost use Rattle.js_mean.specs.Shows.{js_shows};
 ghost use Rattle.js_mean.specs.States as js;
 ghost use Rattle.js_tree.specs.Terms.{Name};
+ghost use Rattle.sj_core.specs.Terms as core;
+ghost use Rattle.sj_desugar.specs.Coercions.{coerced};
 ghost use Rattle.sj_names.specs.declared.entry_points.EntryPoint.{EntryPoint};
 ghost use Rattle.sj_names.specs.declared.method_names.Member.{Member};
 ghost use Rattle.body_rules.specs.Standing.{types_referred};
+ghost use Rattle.sj_world.specs.Known.{Classes};
 ghost use Rattle.sj_world.specs.Laws.{IsPlain};
-ghost use Rattle.sj_plain.specs.Settings.{Place, Top, IsField, FieldsDiffer, SameState, NamesDiffer};
+ghost use Rattle.sj_world.specs.Subtypes.{IsSub};
+ghost use Rattle.sj_plain.specs.Settings.{Place, Top, IsField, FieldsDiffer, SameState, NamesDiffer, Setting, Based, Inside, Valued, shown, BoxesAlike, MayBox};
+ghost use Rattle.sj_plain.specs.Standing.{Takes};
 ghost use Rattle.sj_plain.specs.Worlds.{World, SameValues};
 ghost use Rattle.sj_proper.specs.Emitted.{EmittedMethod, initializer_member, module_with};
 ghost use Rattle.sj_trees.specs.declared.types.IrType.{IrType};
 ghost use Rattle.sj_calls.specs.Chains.{ChainStands, ChainFields, BeginsAtZero};
 ghost use Rattle.sj_calls.specs.Files.{program_with, IsEmitted, HasFunction};
+ghost use Rattle.sj_calls.specs.Helpers.{BoxStands};
 ghost use Rattle.sj_calls.specs.Methods.{CallsAlone, Linked, CallsAgree};
 ghost use Rattle.sj_calls.specs.Made.{ChainsMake, ShortBoundsGo};
 ghost use Rattle.sj_calls.specs.Names.{emitted_in};
@@ -58,6 +66,18 @@ pub fn constructors_make_one_object()
 /// type, let the classes of the chain stand in the program, and let their constructors set the fields that they have.
 pub fn new_objects_stand()
     ensures { (p : Place) → FieldsDiffer p → ((d g : Name) (t : IrType) → IsField p.classes d g t → BeginsAtZero p d g t) → (c : Name) (cs : List Name) (st : ChainStands p (c ∷ cs)) → ChainFields p (c ∷ cs) st → chain_of p.classes c ≡ c ∷ cs → (w : World) (s : ir.State) (u : js.State) → SameState p w s u → Stands p c w u }
+{}
+
+/// A char becomes an object that holds it. Let the class `$C` stand in the program with its constructor, let its file reach the constants of
+/// `java.lang.Character`, and let the code of some file be able to use them: then `new $C` of a char makes an object that the emitted code has for
+/// itself and that stands for the char at each other type that chars suit, by the forward half within a unit or more, by the backward half within any.
+/// Let a tree and its expression be alike at the type of the tree, and let that type stand where another is expected: then the tree and its
+/// expression as it is coerced are alike at the type that is expected. And in a world where no class writes a hijacked class, a subtype stands
+/// wherever a supertype of it is expected.
+pub fn chars_become_objects()
+    ensures boxes { (z : Setting) (n : ℕ) → BoxStands z.place → z.js_low ≡ js_meaning.below z.place.program n → (z.direction ≡ forward → 1 ≤ n) → BoxesAlike z }
+    ensures coerces { (z : Setting) → Based z → (expected own : IrType) → Takes expected own → MayBox z expected own → (w : World) (env : ir.Env) (s : ir.State) (sc : js.Scope) (u : js.State) → Inside z.place z.code sc → SameState z.place w s u → (o : Out ir.Ended) (e : core.Expression) → Sim z.direction (Valued z.place w env own) o (shown z e sc u) → Sim z.direction (Valued z.place w env expected) o (shown z (coerced expected own e) sc u) }
+    ensures subtypes { (w : Classes) → IsPlain w → (expected own : IrType) → IsSub w own expected → Takes expected own }
 {}
 
 /// The names of the emitted code differ: no two variables have one name, whatever numbers a name is made of, no two labels, and no variable has

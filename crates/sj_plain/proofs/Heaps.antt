@@ -9,7 +9,7 @@ use Rattle.sj_mangling.specs.Bindings.{field_binding}
 use Rattle.sj_mangling.specs.declared.bindings.FieldBinding.TheVariants.{Property}
 use Rattle.sj_trees.specs.declared.types.IrType.{IrType}
 use Rattle.sj_plain.specs.Settings.{Place, link_of, TellsClass, SameField, same_field, no_field, SameStored, same_object, SameHeap}
-use Rattle.sj_plain.specs.Worlds.{with_pending, with_born}
+use Rattle.sj_plain.specs.Worlds.{with_pending, with_owned, with_born}
 use Rattle.sj_plain.proofs.Worlds.{World, value-carry}
 
 pub get-end : {A : Type 0} (xs : List A) (x : A) → slice_get (xs ++ x ∷ []) (length xs) ≡ Some x
@@ -102,6 +102,38 @@ module _ (p : Place) (w : World) (s : List ir.Stored) (u : List js.Stored) (h : 
 
   pub unpending : (b : js.Stored) → w.pending (length u) ≡ Some b → ⊥
   unpending b e = not-past u b (h.pending (length u) b e)
+
+  -- what the emitted code has for itself stays when it makes another object for itself
+  pub owned-still : (o : js.Stored) (a : ℕ) (b : js.Stored) → w.owned a ≡ Some b → (with_owned (length u) o w).owned a ≡ Some b
+  owned-still o a b e = go (a == length u) refl
+    where
+      go : (t : Bool) → (a == length u) ≡ t → (if (a == length u) then Some o else w.owned a) ≡ Some b
+      go true k = absurd (not-past u b (subst (λ x. slice_get u x ≡ Some b) (numbers-same a (length u) k) (h.owned a b e)))
+      go false k = ap (λ (t : Bool). if t then Some o else w.owned a) k ∙ e
+
+  -- an object that the emitted code makes for itself
+  pub owns : (o : js.Stored) → SameHeap p (with_owned (length u) o w) s (u ++ o ∷ [])
+  owns o = record {
+    objects = λ i a e. subst (λ q. SameStored p (with_owned (length u) o w) (slice_get s i) q) (sym (front-there i a o e)) (stored-carry p w (with_owned (length u) o w) (λ i a e. e) (owned-still o) (slice_get s i) (slice_get u a) (h.objects i a e));
+    differ = h.differ;
+    owned = λ a b e. here a b (a == length u) refl e;
+    pending = λ a b e. get-front u (o ∷ []) a b (h.pending a b e);
+    apart = λ i a b e k. away i a b e (a == length u) refl k;
+    unborn = h.unborn;
+    separate = λ a b d e k. waits a b d (a == length u) refl e k;
+  }
+    where
+      here : (a : ℕ) (b : js.Stored) (t : Bool) → (a == length u) ≡ t → (if t then Some o else w.owned a) ≡ Some b → slice_get (u ++ o ∷ []) a ≡ Some b
+      here a b true e k = subst (λ x. slice_get (u ++ o ∷ []) x ≡ Some b) (sym (numbers-same a (length u) e)) (get-end u o ∙ k)
+      here a b false e k = get-front u (o ∷ []) a b (h.owned a b k)
+
+      away : (i a : ℕ) (b : js.Stored) → w.place i ≡ Some a → (t : Bool) → (a == length u) ≡ t → (if t then Some o else w.owned a) ≡ Some b → ⊥
+      away i a b e true q k = address-there i a e (numbers-same a (length u) q)
+      away i a b e false q k = h.apart i a b e k
+
+      waits : (a : ℕ) (b d : js.Stored) (t : Bool) → (a == length u) ≡ t → (if t then Some o else w.owned a) ≡ Some b → w.pending a ≡ Some d → ⊥
+      waits a b d true q e k = unpending d (subst (λ x. w.pending x ≡ Some d) (numbers-same a (length u) q) k)
+      waits a b d false q e k = h.separate a b d e k
 
   -- the IR makes its object for one that is pending
   pub births : (a : ℕ) (o : js.Stored) (q : ir.Stored) → w.pending a ≡ Some o → SameStored p w (Some q) (Some o) → SameHeap p (with_born (length s) a w) (s ++ q ∷ []) u

@@ -12,3 +12,4 @@ pub mod Objects
 pub mod Received
 pub mod Plain
 pub mod Runs
+pub mod Boxes

@@ -57,7 +57,7 @@ open-fits NoType (Class d) f b = impossible (sym b ∙ f)
 open-fits expected own f b = impossible f
 
 -- a char suits each type at which objects stand
-suits_open : (t : IrType) (u : ℕ) → not (is_bare t) ≡ true → suits t (ir.char u) ≡ true
+pub suits_open : (t : IrType) (u : ℕ) → not (is_bare t) ≡ true → suits t (ir.char u) ≡ true
 suits_open Any u h = refl
 suits_open (Class c) u h = h
 suits_open (Array r) u h = refl

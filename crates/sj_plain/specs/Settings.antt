@@ -1,5 +1,5 @@
 -- What a body is compared in: the two programs, how things are named, and what the levels below give.
-use Rattle.std.specs.Prelude.{◌≡◌, ℕ, Bool, true, false, ◌&&◌, List, [], ◌∷◌, map, slice_get, codes, nat_eq, Option, Some, None}
+use Rattle.std.specs.Prelude.{◌≡◌, ℕ, ◌^◌, ◌<◌, Bool, true, false, ◌&&◌, not, List, [], ◌∷◌, map, slice_get, codes, nat_eq, pos, Option, Some, None}
 use Rattle.std.specs.Cmp.Lexicographic.{pointwise}
 use Rattle.std.specs.List.{Contains}
 use Rattle.js_tree.specs.Terms.{Name}
@@ -7,7 +7,8 @@ use Rattle.outcomes.specs.Agreement.{Direction, Room, Sim}
 use Rattle.outcomes.specs.Outcome.{Out, done}
 use Rattle.helper_rules.specs.Helpers.{helper_name}
 use Rattle.helper_rules.specs.declared.kinds.Helper.{Helper}
-use Rattle.helper_rules.specs.declared.kinds.Helper.TheVariants.{NotNull}
+use Rattle.helper_rules.specs.declared.kinds.Helper.TheVariants.{BoxedChar, ConstantsOf, NotNull}
+use Rattle.helper_rules.specs.declared.kinds.Kind.TheVariants as kinds
 use Rattle.ir_mean.specs.Dispatch.{chain_of}
 use Rattle.ir_mean.specs.Meaning as ir_meaning
 use Rattle.ir_mean.specs.States as ir
@@ -18,6 +19,7 @@ use Rattle.js_mean.specs.States as js
 use Rattle.js_mean.specs.Shows.{object_shown, class_marked}
 use Rattle.outcomes.specs.Shown as shown_ends
 use Rattle.sj_core.specs.Terms as core
+use Rattle.sj_desugar.specs.Coercions.{is_char}
 use Rattle.sj_emit_expr.specs.Templates.{check_name, member_name, expression_template, statement_templates}
 use Rattle.sj_mangling.specs.Bindings.{class_binding, field_binding}
 use Rattle.sj_mangling.specs.declared.bindings.ClassBinding.TheVariants.{Class, Constants, Marker}
@@ -25,6 +27,7 @@ use Rattle.sj_mangling.specs.declared.bindings.FieldBinding.TheVariants.{Propert
 use Rattle.sj_names.specs.Same.{is_same_text}
 use Rattle.sj_names.specs.declared.method_names.Member.{Member}
 use Rattle.body_rules.specs.Subtyping.{IsSubtyping}
+use Rattle.sj_plain.specs.Standing.{suits}
 use Rattle.sj_plain.specs.Worlds.{World, with_pending, Grows, SameValue, SameValues}
 use Rattle.sj_world.specs.Subtypes.{IsSub}
 use Rattle.built_forms.specs.Built.{Usable}
@@ -173,11 +176,25 @@ pub record HoldsConstants (owned : ℕ → Option js.Stored) (c : List ℕ) (cel
   pub marked : constants (codes "s") ≡ Some (js.text (class_binding Marker c))
   pub known : (v : Option js.Value) → object_shown (class_marked (class_binding Marker c)) v ≡ Some (shown_ends.object_of c)
 
+-- the constants of java.lang.Character; by their marker an object is shown as the char that it holds, and as an object of no class
+pub record HoldsCharConstants (owned : ℕ → Option js.Stored) (cell : js.Cell) : Type 0 where
+  pub address : ℕ
+  pub constants : Name → Option js.Value
+  pub held : cell ≡ js.holds true (js.object address)
+  pub owned_there : owned address ≡ Some (js.plain [] constants)
+  pub marked : constants (codes "s") ≡ Some (js.text (class_binding Marker (codes "java.lang.Character")))
+
+-- where the class of objects that hold chars is declared
+abbrev pub box_link : Place → js.ClassLink
+box_link p = record { file = p.home (a_helper BoxedChar); name = helper_name BoxedChar }
+
 -- what a binding at the top holds once its file has run, by what the emitted code has for itself
 abbrev pub TopHolds : Place → (ℕ → Option js.Stored) → Top → js.Cell → Type 0
 TopHolds p owned (a_function m) cell = cell ≡ js.holds false (function_of_member p m)
 TopHolds p owned (a_class c) cell = cell ≡ js.holds false (js.class (links_of p c))
 TopHolds p owned (some_constants c) cell = HoldsConstants owned c cell
+TopHolds p owned (a_helper BoxedChar) cell = cell ≡ js.holds false (js.class (box_link p ∷ []))
+TopHolds p owned (a_helper (ConstantsOf kinds.Char)) cell = HoldsCharConstants owned cell
 TopHolds p owned t cell = cell ≡ js.holds false (top_function p t)
 
 -- the states stand for each other: the heaps do, and what the code of some file can use holds what it is to hold
@@ -269,6 +286,14 @@ pub record Based (z : Setting) : Type 0 where
 -- the null check of a value, and its helper
 abbrev pub ChecksAlike : Setting → Type 0
 ChecksAlike z = (t : IrType) (w : World) (v : ir.Value) (x : js.Value) (env : ir.Env) (s : ir.State) (u : js.State) → SameValue w t v x → SameState z.place w s u → Sim z.direction (Valued z.place w env t) (ir_meaning.answered z.place.classes z.low (ir_meaning.not_null z.place.classes v) env s) (top_call z.place z.js_low (a_helper NotNull) (x ∷ []) u)
+
+-- `new $C` of a char: the emitted code makes an object that holds it, and the IR does nothing
+abbrev pub BoxesAlike : Setting → Type 0
+BoxesAlike z = (t : IrType) (c : ℕ) (w : World) (env : ir.Env) (s : ir.State) (u : js.State) → is_char t ≡ false → suits t (ir.char c) ≡ true → c < 2 ^ 16 → SameState z.place w s u → Sim z.direction (Valued z.place w env t) (done (ir.ends (ir.gives (ir.char c)) env s)) (js_meaning.construct z.place.program z.js_low (box_link z.place ∷ []) (box_link z.place ∷ []) (js.number (pos c) ∷ []) u)
+
+-- where the first type is expected and a tree is of the second, the code at hand can make objects that hold chars if it has to
+abbrev pub MayBox : Setting → IrType → IrType → Type 0
+MayBox z expected own = (is_char own && not (is_char expected)) ≡ true → ((usable z).helper (helper_name BoxedChar) ≡ true) × BoxesAlike z
 
 -- what the levels below give to trees, with what helpers do
 pub record Lawful (z : Setting) : Type 0 where

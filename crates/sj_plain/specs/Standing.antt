@@ -1,7 +1,8 @@
 -- Which values are of the kind of a type.
-use Rattle.std.specs.Prelude.{Bool, true, false, not}
+use Rattle.std.specs.Prelude.{◌≡◌, Bool, true, false, not, ◌⊎◌}
 use Rattle.ir_mean.specs.States as ir
-use Rattle.body_rules.specs.Standing.{is_bare}
+use Rattle.body_rules.specs.Standing.{is_bare, Fits}
+use Rattle.sj_desugar.specs.Coercions.{is_char}
 use Rattle.sj_trees.specs.declared.types.IrType.{IrType}
 use Rattle.sj_trees.specs.declared.types.IrType.TheVariants.{Nothing, Undefined, Boolean, Char, Byte, Short, Int, Long, String}
 
@@ -27,3 +28,7 @@ suits String v = false
 suits t (ir.char u) = not (is_bare t)
 suits t (ir.reference i) = not (is_bare t)
 suits t v = true
+
+-- a tree of the second type may stand where the first is expected, and a char where objects do, as one that holds it
+abbrev pub Takes : IrType → IrType → Type 0
+Takes expected own = Fits expected own ⊎ ((is_char own ≡ true) × (is_bare expected ≡ false))

@@ -26,6 +26,10 @@ nothing_made = record { place = λ i. None; owned = λ a. None; pending = λ a. 
 abbrev pub with_pending : ℕ → js.Stored → World → World
 with_pending a o w = record { place = w.place; owned = w.owned; pending = λ b. if b == a then Some o else w.pending b }
 
+-- the world in which the emitted code has made this object for itself at this address
+abbrev pub with_owned : ℕ → js.Stored → World → World
+with_owned a o w = record { place = w.place; owned = λ b. if b == a then Some o else w.owned b; pending = w.pending }
+
 -- the world in which the IR has made its own, at this address, for the one that was pending there
 abbrev pub with_born : ℕ → ℕ → World → World
 with_born i a w = record { place = λ j. if j == i then Some a else w.place j; owned = w.owned; pending = λ b. if b == a then None else w.pending b }

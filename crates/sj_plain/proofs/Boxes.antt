@@ -1,0 +1,137 @@
+-- Objects that hold chars: the emitted code makes one for itself, and where a tree is coerced, what it comes to stands at the type that is expected.
+use Rattle.std.proofs.lemmas.Bool.{eq-eqb, and_parts, not-true}
+use Rattle.std.proofs.Common.{◌≡◌, ℕ, Bool, true, false, ◌&&◌, inl, inr, [], ◌∷◌, Some, None, Option, refl, sym, ap, ◌∙◌, subst, if◌then◌else◌}
+use Rattle.std.specs.Prelude.{not, pos}
+use Rattle.outcomes.specs.Outcome.{Out, done, then_do}
+use Rattle.outcomes.specs.Agreement.{Sim}
+use Rattle.outcomes.proofs.Sequence.{then_do-right}
+use Rattle.outcomes.proofs.Simulation.{sim_done, sim_then, sim_weaken}
+use Rattle.body_rules.proofs.Fitting.{fits-sub}
+use Rattle.body_rules.proofs.InWorld.{in_world}
+use Rattle.body_rules.proofs.Standing.{coerced-same}
+use Rattle.body_rules.proofs.Topped.{string_class, string_alone}
+use Rattle.body_rules.specs.Standing.{is_bare}
+use Rattle.helper_rules.specs.Helpers.{helper_name}
+use Rattle.helper_rules.specs.declared.kinds.Helper.TheVariants.{BoxedChar, ConstantsOf}
+use Rattle.helper_rules.specs.declared.kinds.Kind.TheVariants as kinds
+use Rattle.ir_mean.specs.States as ir
+use Rattle.js_mean.specs.Meaning as js_meaning
+use Rattle.js_mean.specs.Objects as js_objects
+use Rattle.js_mean.specs.States as js
+use Rattle.js_tree.specs.Terms.{Name}
+use Rattle.sj_core.specs.Terms as core
+use Rattle.sj_desugar.specs.Coercions.{is_char, coerced}
+use Rattle.sj_names.proofs.Same.{impossible, text-same}
+use Rattle.sj_names.specs.Same.{is_same_text}
+use Rattle.sj_trees.specs.declared.types.IrType.{IrType}
+use Rattle.sj_trees.specs.declared.types.IrType.TheVariants.{Char, Class}
+use Rattle.sj_world.specs.Ancestors.{IsAncestor}
+use Rattle.sj_world.specs.Known.{Classes}
+use Rattle.sj_world.specs.Laws.{IsPlain}
+use Rattle.sj_world.specs.Subtypes.{hijacked_class, IsSub, equal, from_nothing, to_any, null_to_class, null_to_array, class_to_class, primitive_to_class, arrays_alike, arrays_of_arrays}
+use Rattle.sj_plain.specs.Settings.{Place, Setting, shown, usable, Top, a_helper, some_constants, TopHolds, top_name, box_link, SameState, Valued, valued, thrown, Based, Inside, BoxesAlike, MayBox}
+use Rattle.sj_plain.specs.Standing.{suits, Takes}
+use Rattle.sj_plain.specs.Worlds.{with_owned}
+use Rattle.sj_plain.proofs.Heaps.{owned-still, owns}
+use Rattle.sj_plain.proofs.Orders.{OperandAlike, valued-weaken, valued-fits}
+use Rattle.sj_plain.proofs.Standing.{suits_open}
+use Rattle.sj_plain.proofs.Tops.{top_seen}
+use Rattle.sj_plain.proofs.Worlds.{World, Grows, Stands, same_char, same_box}
+
+-- what a binding at the top holds it holds where the emitted code has more for itself
+pub top-carry : (p : Place) (owned more : ℕ → Option js.Stored) → ((a : ℕ) (o : js.Stored) → owned a ≡ Some o → more a ≡ Some o) → (t : Top) (cell : js.Cell) → TopHolds p owned t cell → TopHolds p more t cell
+top-carry p owned more g (some_constants c) cell h = record { address = h.address; constants = h.constants; held = h.held; owned_there = g h.address (js.plain [] h.constants) h.owned_there; marked = h.marked; known = h.known }
+top-carry p owned more g (a_helper (ConstantsOf kinds.Char)) cell h = record { address = h.address; constants = h.constants; held = h.held; owned_there = g h.address (js.plain [] h.constants) h.owned_there; marked = h.marked }
+top-carry p owned more g _ cell h = h
+
+module _ (p : Place) (w : World) (s : ir.State) (u : js.State) (same : SameState p w s u) (o : js.Stored) where
+  -- the world in which the emitted code has made this object for itself
+  abbrev pub more_owned : World
+  more_owned = with_owned (js_objects.next_address u) o w
+
+  pub state-owns : SameState p more_owned s (js_objects.with_stored o u)
+  state-owns = record { heaps = owns p w s.heap u.heap same.heaps o; tops = λ f t h. top-carry p w.owned more_owned.owned (owned-still p w s.heap u.heap same.heaps o) t (u.tops (p.home t) (top_name t)) (same.tops f t h) }
+
+  pub grows-owned : Grows w more_owned
+  grows-owned = record { places = λ i a e. e; owns = owned-still p w s.heap u.heap same.heaps o; pends = λ a b e. e }
+
+  pub owned-there : more_owned.owned (js_objects.next_address u) ≡ Some o
+  owned-there = ap (λ b. if b then Some o else w.owned (js_objects.next_address u)) (eq-eqb (js_objects.next_address u) (js_objects.next_address u) refl)
+
+char_type : (t : IrType) → is_char t ≡ true → t ≡ Char
+char_type Char h = refl
+char_type _ h = impossible h
+
+-- where objects stand no raw char does
+open-other : (t : IrType) → is_bare t ≡ false → is_char t ≡ false
+open-other Char b = impossible (sym b)
+open-other _ b = refl
+
+module _ (z : Setting) (law : Based z) where
+  -- `new $C` of a value
+  abbrev boxes_it : js.Value → js.State → Out js.ExpressionEnd
+  boxes_it x u = js_meaning.construct z.place.program z.js_low (box_link z.place ∷ []) (box_link z.place ∷ []) (x ∷ []) u
+
+  char_boxed : BoxesAlike z → (t : IrType) → is_bare t ≡ false → (w y : World) (env : ir.Env) (s : ir.State) (u : js.State) → Grows w y → SameState z.place y s u → (v : ir.Value) (x : js.Value) → Stands y true v x → suits Char v ≡ true → Sim z.direction (Valued z.place w env t) (done (ir.ends (ir.gives v) env s)) (boxes_it x u)
+  char_boxed boxes t wide w y env s u g same _ _ (same_char r c below) h = sim_weaken z.direction (Valued z.place y env t) (Valued z.place w env t) (done (ir.ends (ir.gives (ir.char c)) env s)) (boxes_it (js.number (pos c)) u) (λ a b. valued-weaken z w y env t a b g) (boxes t c y env s u (open-other t wide) (suits_open t c (ap not wide)) below same)
+  char_boxed boxes t wide w y env s u g same _ _ (same_box r c a below b) h = impossible (sym r)
+  char_boxed boxes t wide w y env s u g same _ _ _ h = impossible h
+
+  -- `new $C(e)`, where objects stand
+  boxed_alike : (usable z).helper (helper_name BoxedChar) ≡ true → BoxesAlike z → (t : IrType) → is_bare t ≡ false → (w : World) (env : ir.Env) (s : ir.State) (sc : js.Scope) (u : js.State) → Inside z.place z.code sc → SameState z.place w s u → (o : Out ir.Ended) (e : core.Expression) → Sim z.direction (Valued z.place w env Char) o (shown z e sc u) → Sim z.direction (Valued z.place w env t) o (shown z (core.boxed_char e) sc u)
+  boxed_alike has boxes t wide w env s sc u inside same o e alike = subst (λ q. Sim z.direction (Valued z.place w env t) q (shown z (core.boxed_char e) sc u)) (then_do-right o) (subst (λ q. Sim z.direction (Valued z.place w env t) (then_do o done) q) (sym js_is) (sim_then z.direction (Valued z.place w env Char) (Valued z.place w env t) o (shown z e sc u) done (js.with_value boxes_it) alike each))
+    where
+      js_is : shown z (core.boxed_char e) sc u ≡ then_do (shown z e sc u) (js.with_value boxes_it)
+      js_is = ap (λ q. then_do q (js.with_value (λ f. js_meaning.in_order (shown z e ∷ []) (js_meaning.construct_value z.place.program z.js_low f) sc))) (top_seen z law (a_helper BoxedChar) (js.class (box_link z.place ∷ [])) sc u has inside (same.tops z.code.file (a_helper BoxedChar) has))
+
+      each : (a : ir.Ended) (b : js.ExpressionEnd) → Valued z.place w env Char a b → Sim z.direction (Valued z.place w env t) (done a) (js.with_value boxes_it b)
+      each _ _ (valued y v x k q g a states) = char_boxed boxes t wide w y env k q g states v x a.stands a.suits
+      each _ _ (thrown y v x k q g a states) = sim_done z.direction (Valued z.place w env t) (ir.ends (ir.throws v) env k) (js.throws x q) (thrown y v x k q g a states)
+
+  -- a tree and its expression are alike at its own type: then its expression as it is coerced is alike to it at the type that is expected
+  pub coerced_alike : (expected own : IrType) → Takes expected own → MayBox z expected own → (w : World) (env : ir.Env) (s : ir.State) (sc : js.Scope) (u : js.State) → Inside z.place z.code sc → SameState z.place w s u → (o : Out ir.Ended) (e : core.Expression) → Sim z.direction (Valued z.place w env own) o (shown z e sc u) → Sim z.direction (Valued z.place w env expected) o (shown z (coerced expected own e) sc u)
+  coerced_alike expected own (inl f) may w env s sc u inside same o e alike = subst (λ c. Sim z.direction (Valued z.place w env expected) o (shown z c sc u)) (sym (coerced-same expected own e f)) (sim_weaken z.direction (Valued z.place w env own) (Valued z.place w env expected) o (shown z e sc u) (λ a b. valued-fits z w env expected own a b f) alike)
+  coerced_alike expected own (inr (c, wide)) may w env s sc u inside same o e alike = subst (λ x. Sim z.direction (Valued z.place w env expected) o (shown z x sc u)) (sym boxed) (boxed_alike has.0 has.1 expected wide w env s sc u inside same o e (subst (λ t. Sim z.direction (Valued z.place w env t) o (shown z e sc u)) (char_type own c) alike))
+    where
+      becomes : (is_char own && not (is_char expected)) ≡ true
+      becomes = λ i. c i && not (open-other expected wide i)
+
+      boxed : coerced expected own e ≡ core.boxed_char e
+      boxed = ap (λ (b : Bool). if b then core.boxed_char e else e) becomes
+
+      has : ((usable z).helper (helper_name BoxedChar) ≡ true) × BoxesAlike z
+      has = may becomes
+
+  -- the same of an operand, in each state
+  pub operand_coerced : (expected own : IrType) → Takes expected own → MayBox z expected own → (from : World) (env : ir.Env) (sc : js.Scope) → Inside z.place z.code sc → (r : ir.Run) (e : core.Expression) → OperandAlike z from env sc own r (shown z e) → OperandAlike z from env sc expected r (shown z (coerced expected own e))
+  operand_coerced expected own takes may from env sc inside r e alike w s u g same = coerced_alike expected own takes may w env s sc u inside same (r env s) e (alike w s u g same)
+
+-- the class of chars isn't that of texts
+abbrev is_string : Option Name → Bool
+is_string None = false
+is_string (Some c) = is_same_text c string_class
+
+module _ (w : Classes) (plain : IsPlain w) where
+  above_chars : (c d : Name) → hijacked_class Char ≡ Some c → IsAncestor w c d → (b : Bool) → is_bare (Class d) ≡ b → is_bare (Class d) ≡ false
+  above_chars c d e a false b = b
+  above_chars c d e a true b = impossible (ap is_string (e ∙ ap Some (string_alone w plain c (subst (λ (n : Name). IsAncestor w c n) (text-same d string_class b) a))))
+
+  -- of the types above that of chars objects stand at each other one
+  open_above : (t : IrType) → is_char t ≡ false → IsSub w Char t → is_bare t ≡ false
+  open_above t n (equal e) = impossible (sym n ∙ ap is_char (sym e))
+  open_above t n (from_nothing e) = absurd (cc)
+  open_above t n (to_any e k) = ap is_bare e
+  open_above t n (null_to_class d e f) = absurd (cc)
+  open_above t n (null_to_array b e f) = absurd (cc)
+  open_above t n (class_to_class c d e f a) = absurd (cc)
+  open_above t n (primitive_to_class c d e f a) = ap is_bare f ∙ above_chars c d e a (is_bare (Class d)) refl
+  open_above t n (arrays_alike a b e f g h) = absurd (cc)
+  open_above t n (arrays_of_arrays a b e f g h) = absurd (cc)
+
+  -- a tree of a subtype may stand where the type is expected, whether it is a char or not
+  pub takes-sub : (expected own : IrType) → IsSub w own expected → Takes expected own
+  takes-sub expected own f = go (is_char own && not (is_char expected)) refl
+    where
+      go : (b : Bool) → (is_char own && not (is_char expected)) ≡ b → Takes expected own
+      go false n = inl (fits-sub w (in_world w plain) expected own f n)
+      go true n = let q = and_parts (is_char own) (not (is_char expected)) n in inr (q.0, open_above expected (not-true (is_char expected) q.1) (subst (λ t. IsSub w t expected) (char_type own q.0) f))
