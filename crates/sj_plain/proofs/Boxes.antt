@@ -1,6 +1,6 @@
 -- Objects that hold chars: the emitted code makes one for itself, and where a tree is coerced, what it comes to stands at the type that is expected.
 use Rattle.std.proofs.lemmas.Bool.{eq-eqb, and_parts, not-true}
-use Rattle.std.proofs.Common.{◌≡◌, ℕ, Bool, true, false, ◌&&◌, inl, inr, [], ◌∷◌, Some, None, Option, refl, sym, ap, ◌∙◌, subst, if◌then◌else◌}
+use Rattle.std.proofs.Common.{◌≡◌, ℕ, Bool, true, false, ◌&&◌, inl, inr, List, [], ◌∷◌, Some, None, Option, refl, sym, ap, ◌∙◌, subst, if◌then◌else◌}
 use Rattle.std.specs.Prelude.{not, pos}
 use Rattle.outcomes.specs.Outcome.{Out, done, then_do}
 use Rattle.outcomes.specs.Agreement.{Sim}
@@ -8,9 +8,9 @@ use Rattle.outcomes.proofs.Sequence.{then_do-right}
 use Rattle.outcomes.proofs.Simulation.{sim_done, sim_then, sim_weaken}
 use Rattle.body_rules.proofs.Fitting.{fits-sub}
 use Rattle.body_rules.proofs.InWorld.{in_world}
-use Rattle.body_rules.proofs.Standing.{coerced-same}
+use Rattle.body_rules.proofs.Standing.{coerced-same, fits-same}
 use Rattle.body_rules.proofs.Topped.{string_class, string_alone}
-use Rattle.body_rules.specs.Standing.{is_bare}
+use Rattle.body_rules.specs.Standing.{is_bare, Fits, FitAll, types_referred}
 use Rattle.helper_rules.specs.Helpers.{helper_name}
 use Rattle.helper_rules.specs.declared.kinds.Helper.TheVariants.{BoxedChar, ConstantsOf}
 use Rattle.helper_rules.specs.declared.kinds.Kind.TheVariants as kinds
@@ -20,9 +20,11 @@ use Rattle.js_mean.specs.Objects as js_objects
 use Rattle.js_mean.specs.States as js
 use Rattle.js_tree.specs.Terms.{Name}
 use Rattle.sj_core.specs.Terms as core
-use Rattle.sj_desugar.specs.Coercions.{is_char, coerced}
+use Rattle.sj_desugar.specs.Coercions.{is_char, coerced, coerced_arguments}
 use Rattle.sj_names.proofs.Same.{impossible, text-same}
 use Rattle.sj_names.specs.Same.{is_same_text}
+use Rattle.sj_names.specs.declared.references.TypeRef.{TypeRef}
+use Rattle.sj_trees.specs.Types.{reference_type}
 use Rattle.sj_trees.specs.declared.types.IrType.{IrType}
 use Rattle.sj_trees.specs.declared.types.IrType.TheVariants.{Char, Class}
 use Rattle.sj_world.specs.Ancestors.{IsAncestor}
@@ -33,8 +35,9 @@ use Rattle.sj_plain.specs.Settings.{Place, Setting, shown, usable, Top, a_helper
 use Rattle.sj_plain.specs.Standing.{suits, Takes}
 use Rattle.sj_plain.specs.Worlds.{with_owned}
 use Rattle.sj_plain.proofs.Heaps.{owned-still, owns}
-use Rattle.sj_plain.proofs.Orders.{OperandAlike, valued-weaken, valued-fits}
+use Rattle.sj_plain.proofs.Orders.{OperandAlike, OperandsAlike, no_operands, more_operands, text_of, valued-weaken, valued-fits}
 use Rattle.sj_plain.proofs.Standing.{suits_open}
+use Rattle.sj_plain.proofs.Told.{tells}
 use Rattle.sj_plain.proofs.Tops.{top_seen}
 use Rattle.sj_plain.proofs.Worlds.{World, Grows, Stands, same_char, same_box}
 
@@ -67,6 +70,13 @@ open-other : (t : IrType) → is_bare t ≡ false → is_char t ≡ false
 open-other Char b = impossible (sym b)
 open-other _ b = refl
 
+-- a char becomes an object where objects stand, and `$C` is called
+becomes-object : (expected own : IrType) → (is_char own ≡ true) × (is_bare expected ≡ false) → (is_char own && not (is_char expected)) ≡ true
+becomes-object expected own h = λ i. h.0 i && not (open-other expected h.1 i)
+
+boxed-is : (expected own : IrType) (e : core.Expression) → (is_char own ≡ true) × (is_bare expected ≡ false) → coerced expected own e ≡ core.boxed_char e
+boxed-is expected own e h = ap (λ (b : Bool). if b then core.boxed_char e else e) (becomes-object expected own h)
+
 module _ (z : Setting) (law : Based z) where
   -- `new $C` of a value
   abbrev boxes_it : js.Value → js.State → Out js.ExpressionEnd
@@ -91,20 +101,61 @@ module _ (z : Setting) (law : Based z) where
   -- a tree and its expression are alike at its own type: then its expression as it is coerced is alike to it at the type that is expected
   pub coerced_alike : (expected own : IrType) → Takes expected own → MayBox z expected own → (w : World) (env : ir.Env) (s : ir.State) (sc : js.Scope) (u : js.State) → Inside z.place z.code sc → SameState z.place w s u → (o : Out ir.Ended) (e : core.Expression) → Sim z.direction (Valued z.place w env own) o (shown z e sc u) → Sim z.direction (Valued z.place w env expected) o (shown z (coerced expected own e) sc u)
   coerced_alike expected own (inl f) may w env s sc u inside same o e alike = subst (λ c. Sim z.direction (Valued z.place w env expected) o (shown z c sc u)) (sym (coerced-same expected own e f)) (sim_weaken z.direction (Valued z.place w env own) (Valued z.place w env expected) o (shown z e sc u) (λ a b. valued-fits z w env expected own a b f) alike)
-  coerced_alike expected own (inr (c, wide)) may w env s sc u inside same o e alike = subst (λ x. Sim z.direction (Valued z.place w env expected) o (shown z x sc u)) (sym boxed) (boxed_alike has.0 has.1 expected wide w env s sc u inside same o e (subst (λ t. Sim z.direction (Valued z.place w env t) o (shown z e sc u)) (char_type own c) alike))
+  coerced_alike expected own (inr h) may w env s sc u inside same o e alike = subst (λ x. Sim z.direction (Valued z.place w env expected) o (shown z x sc u)) (sym (boxed-is expected own e h)) (boxed_alike has.0 has.1 expected h.1 w env s sc u inside same o e (subst (λ t. Sim z.direction (Valued z.place w env t) o (shown z e sc u)) (char_type own h.0) alike))
     where
-      becomes : (is_char own && not (is_char expected)) ≡ true
-      becomes = λ i. c i && not (open-other expected wide i)
-
-      boxed : coerced expected own e ≡ core.boxed_char e
-      boxed = ap (λ (b : Bool). if b then core.boxed_char e else e) becomes
-
       has : ((usable z).helper (helper_name BoxedChar) ≡ true) × BoxesAlike z
-      has = may becomes
+      has = may (becomes-object expected own h)
 
   -- the same of an operand, in each state
   pub operand_coerced : (expected own : IrType) → Takes expected own → MayBox z expected own → (from : World) (env : ir.Env) (sc : js.Scope) → Inside z.place z.code sc → (r : ir.Run) (e : core.Expression) → OperandAlike z from env sc own r (shown z e) → OperandAlike z from env sc expected r (shown z (coerced expected own e))
   operand_coerced expected own takes may from env sc inside r e alike w s u g same = coerced_alike expected own takes may w env s sc u inside same (r env s) e (alike w s u g same)
+
+-- the type at which a tree stands as it is coerced: of a char that becomes an object the one that is expected, and else its own
+abbrev pub stood : (expected own : IrType) → Takes expected own → IrType
+stood expected own (inl f) = own
+stood expected own (inr h) = expected
+
+pub stood-fits : (expected own : IrType) (h : Takes expected own) → Fits expected (stood expected own h)
+stood-fits expected own (inl f) = f
+stood-fits expected own (inr h) = fits-same expected
+
+-- arguments are as many as the parameters, and may stand for them
+abbrev pub TakeAll : List IrType → List IrType → Type 0
+TakeAll [] [] = Unit {0}
+TakeAll (t ∷ ts) (own ∷ owns) = Takes t own × TakeAll ts owns
+TakeAll _ _ = ⊥
+
+abbrev pub all_stood : (ts owns : List IrType) → TakeAll ts owns → List IrType
+all_stood [] [] h = []
+all_stood (t ∷ ts) (own ∷ owns) h = stood t own h.0 ∷ all_stood ts owns h.1
+all_stood [] (own ∷ owns) h = absurd h
+all_stood (t ∷ ts) [] h = absurd h
+
+abbrev pub MayBoxAll : Setting → List IrType → List IrType → Type 0
+MayBoxAll z (t ∷ ts) (own ∷ owns) = MayBox z t own × MayBoxAll z ts owns
+MayBoxAll z _ _ = Unit {0}
+
+pub all-stood-fit : (ts owns : List IrType) (h : TakeAll ts owns) → FitAll ts (all_stood ts owns h)
+all-stood-fit [] [] h = tt
+all-stood-fit (t ∷ ts) (own ∷ owns) h = (stood-fits t own h.0, all-stood-fit ts owns h.1)
+all-stood-fit [] (own ∷ owns) h = absurd h
+all-stood-fit (t ∷ ts) [] h = absurd h
+
+module _ (z : Setting) (law : Based z) (from : World) (env : ir.Env) (sc : js.Scope) (inside : Inside z.place z.code sc) where
+  stood_alike : (expected own : IrType) (h : Takes expected own) → MayBox z expected own → (r : ir.Run) (e : core.Expression) → OperandAlike z from env sc own r (shown z e) → OperandAlike z from env sc (stood expected own h) r (shown z (coerced expected own e))
+  stood_alike expected own (inl f) may r e alike = subst (λ x. OperandAlike z from env sc own r (shown z x)) (sym (coerced-same expected own e f)) alike
+  stood_alike expected own (inr h) may r e alike = operand_coerced z law expected own (inr h) may from env sc inside r e alike
+
+  stood_told : (expected own : IrType) (h : Takes expected own) (e : core.Expression) → tells own (text_of z e) ≡ true → tells (stood expected own h) (text_of z (coerced expected own e)) ≡ true
+  stood_told expected own (inl f) e told = subst (λ x. tells own (text_of z x) ≡ true) (sym (coerced-same expected own e f)) told
+  stood_told expected own (inr h) e told = subst (λ x. tells expected (text_of z x) ≡ true) (sym (boxed-is expected own e h)) refl
+
+  -- arguments as they are coerced, each at a type that fits that of its parameter
+  pub operands_coerced : (rs : List TypeRef) (owns : List IrType) (runs : List ir.Run) (es : List core.Expression) (h : TakeAll (types_referred rs) owns) → MayBoxAll z (types_referred rs) owns → OperandsAlike z from env sc owns runs es → OperandsAlike z from env sc (all_stood (types_referred rs) owns h) runs (coerced_arguments rs owns es)
+  operands_coerced [] _ _ _ h may no_operands = no_operands
+  operands_coerced [] _ _ _ h may (more_operands own run e owns runs es told one others) = absurd h
+  operands_coerced (r ∷ rs) _ _ _ h may no_operands = absurd h
+  operands_coerced (r ∷ rs) _ _ _ h may (more_operands own run e owns runs es told one others) = more_operands (stood (reference_type r) own h.0) run (coerced (reference_type r) own e) (all_stood (types_referred rs) owns h.1) runs (coerced_arguments rs owns es) (stood_told (reference_type r) own h.0 e told) (stood_alike (reference_type r) own h.0 may.0 run e one) (operands_coerced rs owns runs es h.1 may.1 others)
 
 -- the class of chars isn't that of texts
 abbrev is_string : Option Name → Bool
