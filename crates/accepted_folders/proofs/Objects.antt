@@ -1,28 +1,25 @@
 -- The world of an accepted folder keeps the rules on superclasses and on hijacked classes, and what stands above needed and hijacked classes as an interface
 -- is one.
-use Rattle.std.proofs.Common.{◌≡◌, Bool, true, false, List, [], ◌∷◌, Option, Some, None, refl, sym, ap, ◌∙◌, subst, ⊎_elim, if◌then◌else◌, Contains}
+use Rattle.std.proofs.Common.{◌≡◌, Bool, true, false, List, [], Option, Some, None, refl, sym, subst, ⊎_elim, if◌then◌else◌, Contains}
 use Rattle.std.specs.Prelude.{codes, ◌||◌}
 use Rattle.body_rules.proofs.Lists.{nothing_in, in_front_or_behind, from_filter}
-use Rattle.body_soundness.specs.Worlds.{AreClassesKept, WritesInterfaces}
-use Rattle.file_listings.specs.Listed.{AreBytes}
+use Rattle.body_soundness.specs.Worlds.{WritesInterfaces}
 use Rattle.reach_rules.proofs.Derivations.{closed}
 use Rattle.reach_rules.specs.Reachable.{Reachable, Unresolved}
 use Rattle.reach_rules.specs.Refusals.{Refusal, wrong_kind, HasNeededParents, needed, hijacked, no_interface_above}
 use Rattle.reach_rules.specs.Rules.{the_object, above, above_hijacked}
 use Rattle.sj_kept.proofs.Classes.{keeps-superclass, keeps-hijacked}
 use Rattle.sj_local.specs.ClassRules.{is_interface}
-use Rattle.sj_names.proofs.Same.{impossible, text-same}
+use Rattle.sj_names.proofs.Same.{impossible}
 use Rattle.sj_names.specs.declared.entry_points.EntryPoint.{EntryPoint}
-use Rattle.sj_names.specs.declared.folders.SourceFile.{SourceFile}
 use Rattle.sj_trees.specs.declared.classes.ClassDef.{ClassDef}
 use Rattle.sj_trees.specs.declared.classes.ClassKind.{ClassKind}
 use Rattle.sj_trees.specs.declared.classes.ClassKind.TheVariants.{Interface}
-use Rattle.sj_world.specs.Ancestors.{directly_above, above_in, superclass_of_absent, listed, written, written_in, IsParent}
+use Rattle.sj_world.specs.Ancestors.{directly_above, above_in, listed, written, written_in, IsParent}
 use Rattle.sj_world.specs.Known.{Name, Classes, class_of, is_known, is_hijacked, is_same, stands_as, object, integer}
 use Rattle.sj_world.specs.Paths.{Path, stay, on}
 use Rattle.sj_world.specs.declared.facts.Fact.TheVariants.{Needed}
-use Rattle.accepted_folders.specs.Accepted.{IsAccepted}
-use Rattle.accepted_folders.specs.Laws.{AcceptedWorldsAreKept, AcceptedWorldsWriteInterfaces}
+use Rattle.accepted_folders.specs.Objects.{AcceptedWorldsAreKept, AcceptedWorldsWriteInterfaces}
 use Rattle.accepted_folders.proofs.Worlds.{judged}
 
 pub kept : AcceptedWorldsAreKept

@@ -12,10 +12,7 @@ use Rattle.sj_names.specs.declared.folders.SourceFile.{SourceFile}
 use Rattle.sj_sound.specs.Linked.{functions_of, have_functions}
 use Rattle.built_forms.specs.Built.{is_built_body}
 use Rattle.body_rules.specs.Typing.{is_built_with}
-use Rattle.sj_world.specs.Known.{Name, Classes}
-use Rattle.body_soundness.specs.Worlds.{AreClassesKept, WritesInterfaces}
-use Rattle.reach_rules.specs.Reachable.{Reachable}
-use Rattle.reach_rules.specs.Refusals.{HasNeededParents}
+use Rattle.sj_world.specs.Known.{Classes}
 use Rattle.folder_verdicts.specs.Verdicts.{IsVerdict, accepted}
 use Rattle.accepted_folders.specs.Accepted.{IsAccepted}
 use Rattle.accepted_folders.specs.Bodies.{AreBodies}
@@ -35,14 +32,6 @@ CallsAreAmongBodies = (w : Classes) (entries : List EntryPoint) (fs : List Emitt
 -- the method of each initializer is among the bodies
 abbrev pub InitializersAreAmongBodies : Type 0
 InitializersAreAmongBodies = (w : Classes) (entries : List EntryPoint) (fs : List EmittedMethod) (id : List ℕ) → AreBodies w entries fs → have_functions fs (initializers entries id) ≡ true
-
--- each class of an accepted folder of bytes keeps the rules on superclasses and on hijacked classes
-abbrev pub AcceptedWorldsAreKept : Type 0
-AcceptedWorldsAreKept = (entries : List EntryPoint) (files : List SourceFile) (w : Classes) → ((file : SourceFile) → Contains files file → AreBytes file.bytes) → IsAccepted entries files w → AreClassesKept w
-
--- whatever is written as an interface by a class that is needed, by a hijacked class, or by one above it, is one
-abbrev pub AcceptedWorldsWriteInterfaces : Type 0
-AcceptedWorldsWriteInterfaces = (entries : List EntryPoint) (files : List SourceFile) (w : Classes) → IsAccepted entries files w → (c : Name) → HasNeededParents w entries (Reachable w entries) c → WritesInterfaces w c
 
 -- a file that spells the module of the bodies that are needed, where each is of the forms that are built, shows of a public module of an accepted
 -- folder what the folder's classes show

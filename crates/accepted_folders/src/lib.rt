@@ -4,7 +4,8 @@
 //! run, and their clauses are theorems.
 #![tactic(auto)]
 
-ghost use Rattle.accepted_folders.specs.Laws.{AcceptedFoldersHaveAWorld, AcceptedFoldersHaveBodies, CallsAreAmongBodies, InitializersAreAmongBodies, AcceptedFilesAgree, AcceptedWorldsAreKept, AcceptedWorldsWriteInterfaces};
+ghost use Rattle.accepted_folders.specs.Laws.{AcceptedFoldersHaveAWorld, AcceptedFoldersHaveBodies, CallsAreAmongBodies, InitializersAreAmongBodies, AcceptedFilesAgree};
+ghost use Rattle.accepted_folders.specs.Objects.{AcceptedWorldsAreKept, AcceptedWorldsWriteInterfaces};
 
 /// A folder is accepted just where its files are read as classes that keep the local rules and make a world in which what is reachable resolves and
 /// is typed.
