@@ -82,6 +82,7 @@ module _ (has : Usable) (checked : Term → Bool) where
   stands ls (block_of p ts) = true
   stands ls (labeled p l t e) = not (yields_boxed t e)
   stands ls (assign p (var_ref q x t) e) = not (is_boxed t e)
+  stands ls (assign p (select q d c f t) e) = has.field c f t && (checked d && not (is_boxed t e))
   stands ls (return_to p e l) = not (leaves_boxed (type_of_label ls l) e)
   stands ls (if_then p c a b t) = not (yields_boxed t a) && not (yields_boxed t b)
   stands ls (while_loop p c b) = true
@@ -116,6 +117,7 @@ module _ (has : Usable) (checked : Term → Bool) where
     is_built ls (block_of p ts) = are_built ls ts
     is_built ls (labeled p l t e) = stands ls (labeled p l t e) && is_built (inside l t ls) e
     is_built ls (assign p (var_ref q x t) e) = stands ls (assign p (var_ref q x t) e) && is_built ls e
+    is_built ls (assign p (select q d c f t) e) = stands ls (assign p (select q d c f t) e) && (is_built ls d && is_built ls e)
     is_built ls (return_to p e l) = stands ls (return_to p e l) && is_built ls e
     is_built ls (if_then p c a b t) = stands ls (if_then p c a b t) && (is_built ls c && (is_built ls a && is_built ls b))
     is_built ls (while_loop p c b) = is_built ls c && is_built ls b
