@@ -867,6 +867,7 @@ module _ (w : World) (law : IsSubtyping (IsSub w)) (has : Usable) where
       tree_right (block_of p ts) = λ s v h fresh u at env st i. block_right ts s v h fresh u at env st i NoType
       tree_right (labeled p l t e) = λ s v h fresh u at env st i. comes_then (CameRight at (in_label l t s) s.locals (type_of_term e)) (CameRight at s s.locals t) (step e env st) (ir_meaning.arrive l) (tree_right e (in_label l t s) v h.1 fresh u at env st i) (arrives-right at s l e t (yields_there w e t h.0.built h.0.meets))
       tree_right (assign p (var_ref q x t) e) = λ s v h fresh u at env st i. operand_right e at s NoType t (ir_meaning.define x) env st (tree_right e s v h.1 fresh u at env st i) h.0.meets.1 (value-not t (subst HasValue h.0.finds.type_is (v.values x h.0.finds.local h.0.finds.is))) (λ y b a env st k i. here y s s.locals NoType ir.undefined (ir_meaning.set_local x a env) st (inl refl) (assign-ready y (frame_of s) s.locals x h.0.finds.local env st a h.0.finds.is (subst (HasType (IsSub w) law y a) (sym h.0.finds.type_is) k) (λ r q. impossible (sym (v.fixed r x h.0.finds.local h.0.finds.is q) ∙ h.0.finds.mutable)) i))
+      tree_right (assign p (select q d c f t) e) = λ s v h fresh u at env st i. let its = and_parts (has.field c f t) (may_check has s.sure d && not (is_boxed t e)) h.0.built in field_set_right p q d c f t e (tree_right d) (tree_right e) s v its.0 (and_parts (may_check has s.sure d) (not (is_boxed t e)) its.1).0 h.1.0.meets.0 h.0.meets.1 h.1.1 h.2 fresh u at env st i
       tree_right (return_to p e l) = λ s v h fresh u at env st i. one_right at s s.locals (type_of_term e) Nothing (step e) (ir_meaning.leave l) env st (tree_right e s v h.1 fresh u at env st i) (λ y b a env st g i. left y l a env st h.0.meets.tpe (adds-refl y) h.0.meets.is_type (gives-yield y a e h.0.meets.tpe g (leaves_there w s.labels l e h.0.built h.0.meets)) i)
       tree_right (if_then p c a b t) = λ s v h fresh u at env st i. operand_right c at s t Boolean (ir_meaning.branch (step a) (step b)) env st (tree_right c s v h.1 (λ x o. fresh x (inl o)) (sures-parts s (definitions c) (definitions a) (sures-parts s (definitions c ++ definitions a) (definitions b) u).0).0 at env st i) h.0.meets.0 boolean_not (λ y n q env st k i. branch_right y s t (step a) (step b) q env st (as_boolean (IsSub w) law y q k) (yields-right y s s.locals a t (step a env st).end (one_yields w a b t h.0.built h.0.meets.1) (tree_right a s v h.2 (λ x o. fresh x (inr (inl o))) (sures-parts s (definitions c) (definitions a) (sures-parts s (definitions c ++ definitions a) (definitions b) u).0).1 y env st i)) (yields-right y s s.locals b t (step b env st).end (other_yields w a b t h.0.built h.0.meets.2) (tree_right b s v h.3 (λ x o. fresh x (inr (inr o))) (sures-parts s (definitions c ++ definitions a) (definitions b) u).1 y env st i)))
       tree_right (while_loop p c b) = λ s v h fresh u at env st i. comes_then (Turned at s (loop_type c)) (CameRight at s s.locals (loop_type c)) (ir_meaning.in_order (step c ∷ []) (ir_meaning.branch (step b) (λ env s. record { lines = []; end = Done (ir.ends ir.stops env s) })) env st) (ir_meaning.after_turn (low (while_loop p c b))) (while_turn p c b (tree_right c) (tree_right b) s v h fresh u (true-or-none c) at env st i) (turn_right at s (loop_type c) (low (while_loop p c b)) (right (while_loop p c b) s v h fresh u))
