@@ -18,7 +18,7 @@ use Rattle.body_soundness.specs.Laws.{HasReceivers, reads, calls, null_pointer, 
 use Rattle.ir_mean.specs.World.{World, class_of, method_among, method_in, member_of, zeros_in, zero_of, new_fields}
 use Rattle.sj_desugar.specs.Desugar.{member, has_no_value}
 use Rattle.sj_emit_expr.specs.Templates.{check_name}
-use Rattle.sj_desugar.specs.Plain.{is_no_type}
+use Rattle.sj_desugar.specs.Plain.{is_no_type, is_plain}
 use Rattle.sj_names.specs.Same.{is_same_text, is_same_namespace, is_same_method}
 use Rattle.sj_names.specs.declared.method_names.MethodName.{MethodName}
 use Rattle.sj_names.specs.declared.method_names.Namespace.{Namespace}
@@ -779,7 +779,13 @@ module _ (w : World) (law : IsSubtyping (IsSub w)) (has : Usable) where
 
     -- an assignment to the field of a receiver
     pub field_set_right : (p q : Position) (d : Term) (c f : List ℕ) (t : IrType) (e : Term) → TreeRight d → TreeRight e → (s : Scene) → InScope (frame_of s) s.locals → has.field c f t ≡ true → may_check has s.sure d ≡ true → IsSub w (type_of_term d) (class_type c) → IsSub w (type_of_term e) t → Typed w has s d → Typed w has s e → Fresh s (Own (assign p (select q d c f t) e)) → Sures s (definitions (assign p (select q d c f t) e)) → (at : Classes) (env : ir.Env) (st : ir.State) → Ready at (frame_of s) s.locals env st → Right at s NoType (step (assign p (select q d c f t) e) env st)
-    field_set_right p q d c f t e first second s v is check own fits h k fresh u at env st i = let parts = sures-parts s (definitions d) (definitions e) u in go_on_both at s s.locals (type_of_term d) s.locals NoType Full (ir_meaning.receiving w (is_sure env.sure d) low (step d) env st) (λ a. ir_meaning.in_order (step e ∷ []) (λ vs. ir_meaning.assign_field c f (a ∷ vs))) (receiver_right (reads c f t is) d s h (check_there d s check) at env st i (first s v h (λ x o. fresh x (inl o)) parts.0 at env st i)) (λ y b a env st g n i. go_on_right y s s.locals (type_of_term e) s.locals NoType (step e env st) (λ x. ir_meaning.in_order [] (λ vs. ir_meaning.assign_field c f (a ∷ x ∷ vs))) (second s v k (λ x o. fresh x (inr o)) parts.1 y env st i) (λ z m x env st j i. set_right z s c f t a x env st is (type-lift (IsSub w) law y z m a (class_type c) (operand-type y a (type_of_term d) (class_type c) g own (value-not (class_type c) (class_has_value c)))) n (operand-type z x (type_of_term e) t j fits (value-not t (laws.fields c f t is).0)) i))
+    field_set_right p q d c f t e first second s v is check own fits h k fresh u at env st i = go_on_both at s s.locals (type_of_term d) s.locals NoType Full (ir_meaning.receiving w (is_sure env.sure d) low (step d) env st) (λ a. ir_meaning.assign_on c f (step e) (a ∷ [])) (receiver_right (reads c f t is) d s h (check_there d s check) at env st i (first s v h (λ x o. fresh x (inl o)) parts.0 at env st i)) (λ y b a env st g n i. let on = operand-type y a (type_of_term d) (class_type c) g own (value-not (class_type c) (class_has_value c)) in holder_right y c f t a st is on n i.heap (λ o b same known l. subst (λ (x : ir.Value). Right y s NoType (ir_meaning.assign_on c f (step e) (x ∷ []) env st)) (sym same) (behind y o env st (subst (λ (x : ir.Value). HasType (IsSub w) law y x (class_type c)) same on) (subst Full same n) i)))
+      where
+        parts : Sures s (definitions d) × Sures s (definitions e)
+        parts = sures-parts s (definitions d) (definitions e) u
+
+        behind : (y : Classes) (o : ℕ) (env : ir.Env) (st : ir.State) → HasType (IsSub w) law y (ir.reference o) (class_type c) → Full (ir.reference o) → Ready y (frame_of s) s.locals env st → Right y s NoType (ir_meaning.assign_on c f (step e) (ir.reference o ∷ []) env st)
+        behind y o env st on n i = go_on_right y s s.locals (type_of_term e) s.locals NoType (step e env st) (λ x. ir_meaning.assign_field c f (ir.reference o ∷ x ∷ [])) (second s v k (λ x o. fresh x (inr o)) parts.1 y env st i) (λ z m x env st j i. set_right z s c f t (ir.reference o) x env st is (type-lift (IsSub w) law y z m (ir.reference o) (class_type c) on) n (operand-type z x (type_of_term e) t j fits (value-not t (laws.fields c f t is).0)) i)
 
     called_on : (d : Option MethodDef) (v : ir.Value) (vs : List ir.Value) (env : ir.Env) (st : ir.State) → Full v → ir_meaning.call_on w low d (v ∷ vs) env st ≡ ir_meaning.call low d (Some v) vs env st
     called_on d ir.null vs env st n = absurd (n refl)
@@ -867,6 +873,7 @@ module _ (w : World) (law : IsSubtyping (IsSub w)) (has : Usable) where
       tree_right (block_of p ts) = λ s v h fresh u at env st i. block_right ts s v h fresh u at env st i NoType
       tree_right (labeled p l t e) = λ s v h fresh u at env st i. comes_then (CameRight at (in_label l t s) s.locals (type_of_term e)) (CameRight at s s.locals t) (step e env st) (ir_meaning.arrive l) (tree_right e (in_label l t s) v h.1 fresh u at env st i) (arrives-right at s l e t (yields_there w e t h.0.built h.0.meets))
       tree_right (assign p (var_ref q x t) e) = λ s v h fresh u at env st i. operand_right e at s NoType t (ir_meaning.define x) env st (tree_right e s v h.1 fresh u at env st i) h.0.meets.1 (value-not t (subst HasValue h.0.finds.type_is (v.values x h.0.finds.local h.0.finds.is))) (λ y b a env st k i. here y s s.locals NoType ir.undefined (ir_meaning.set_local x a env) st (inl refl) (assign-ready y (frame_of s) s.locals x h.0.finds.local env st a h.0.finds.is (subst (HasType (IsSub w) law y a) (sym h.0.finds.type_is) k) (λ r q. impossible (sym (v.fixed r x h.0.finds.local h.0.finds.is q) ∙ h.0.finds.mutable)) i))
+      tree_right (assign p (select q d c f t) e) = λ s v h fresh u at env st i. let its = and_parts (has.field c f t) (may_check has s.sure d && (is_plain e && not (is_boxed t e))) h.0.built in field_set_right p q d c f t e (tree_right d) (tree_right e) s v its.0 (and_parts (may_check has s.sure d) (is_plain e && not (is_boxed t e)) its.1).0 h.1.0.meets.0 h.0.meets.1 h.1.1 h.2 fresh u at env st i
       tree_right (return_to p e l) = λ s v h fresh u at env st i. one_right at s s.locals (type_of_term e) Nothing (step e) (ir_meaning.leave l) env st (tree_right e s v h.1 fresh u at env st i) (λ y b a env st g i. left y l a env st h.0.meets.tpe (adds-refl y) h.0.meets.is_type (gives-yield y a e h.0.meets.tpe g (leaves_there w s.labels l e h.0.built h.0.meets)) i)
       tree_right (if_then p c a b t) = λ s v h fresh u at env st i. operand_right c at s t Boolean (ir_meaning.branch (step a) (step b)) env st (tree_right c s v h.1 (λ x o. fresh x (inl o)) (sures-parts s (definitions c) (definitions a) (sures-parts s (definitions c ++ definitions a) (definitions b) u).0).0 at env st i) h.0.meets.0 boolean_not (λ y n q env st k i. branch_right y s t (step a) (step b) q env st (as_boolean (IsSub w) law y q k) (yields-right y s s.locals a t (step a env st).end (one_yields w a b t h.0.built h.0.meets.1) (tree_right a s v h.2 (λ x o. fresh x (inr (inl o))) (sures-parts s (definitions c) (definitions a) (sures-parts s (definitions c ++ definitions a) (definitions b) u).0).1 y env st i)) (yields-right y s s.locals b t (step b env st).end (other_yields w a b t h.0.built h.0.meets.2) (tree_right b s v h.3 (λ x o. fresh x (inr (inr o))) (sures-parts s (definitions c ++ definitions a) (definitions b) u).1 y env st i)))
       tree_right (while_loop p c b) = λ s v h fresh u at env st i. comes_then (Turned at s (loop_type c)) (CameRight at s s.locals (loop_type c)) (ir_meaning.in_order (step c ∷ []) (ir_meaning.branch (step b) (λ env s. record { lines = []; end = Done (ir.ends ir.stops env s) })) env st) (ir_meaning.after_turn (low (while_loop p c b))) (while_turn p c b (tree_right c) (tree_right b) s v h fresh u (true-or-none c) at env st i) (turn_right at s (loop_type c) (low (while_loop p c b)) (right (while_loop p c b) s v h fresh u))

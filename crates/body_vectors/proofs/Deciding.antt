@@ -343,6 +343,7 @@ module _ (w : Classes) (has : Usable) where
     typed ar s (unary_op p q e) o h = with_one ar ar s s (unary_op p q e) e o (typed ar s e) o h
     typed ar s (binary_op p q e d) o h = let k = and_parts (is_here has s (binary_op p q e d)) (is_typed has s e && is_typed has s d) h in let parts = and_parts (is_typed has s e) (is_typed has s d) k.1 in (here ar s (binary_op p q e d) o k.0, typed ar s e o.0 parts.0, typed ar s d o.1 parts.1)
     typed ar s (log_line p e) o h = with_one ar ar s s (log_line p e) e o (typed ar s e) o h
+    typed ar s (assign p (select q d c f t) e) o h = impossible h
     typed ar s (throw p e) o h = impossible h
     typed ar s (new_object p c m ts) o h = impossible h
     typed ar s (select p e c f t) o h = impossible h

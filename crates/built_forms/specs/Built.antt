@@ -3,7 +3,7 @@ use Rattle.std.specs.Prelude.{ℕ, pos, Bool, true, false, ◌&&◌, ◌||◌, n
 use Rattle.std.specs.Ordering.{int_eq}
 use Rattle.sj_desugar.specs.Coercions.{is_char}
 use Rattle.sj_desugar.specs.Desugar.{member}
-use Rattle.sj_desugar.specs.Plain.{is_no_type}
+use Rattle.sj_desugar.specs.Plain.{is_no_type, is_plain}
 use Rattle.sj_names.specs.declared.method_names.Namespace.{Namespace}
 use Rattle.sj_names.specs.declared.method_names.Namespace.TheVariants.{PublicStatic, Private, PrivateStatic, Constructor}
 use Rattle.sj_names.specs.declared.references.TypeRef.{TypeRef}
@@ -75,13 +75,14 @@ members_alone linked = record { linked = linked; received = λ m. false; built =
 -- what a body can use, and the receivers that are never null or whose null check can be used
 module _ (has : Usable) (checked : Term → Bool) where
   -- the tree is of the forms that are built, whatever the trees in it are: what it calls, makes and reads is there, its divisor is a literal, its receiver
-  -- is checked where it has to be, the call of a constructor has no value, and no char stands where another type is expected
+  -- is checked where it has to be, the call of a constructor has no value, what a field is set to is plain, and no char stands where another type is expected
   abbrev pub stands : List Label → Term → Bool
   stands ls (var_def p x t b e) = not (is_boxed t e)
   stands ls (skip p) = true
   stands ls (block_of p ts) = true
   stands ls (labeled p l t e) = not (yields_boxed t e)
   stands ls (assign p (var_ref q x t) e) = not (is_boxed t e)
+  stands ls (assign p (select q d c f t) e) = has.field c f t && (checked d && (is_plain e && not (is_boxed t e)))
   stands ls (return_to p e l) = not (leaves_boxed (type_of_label ls l) e)
   stands ls (if_then p c a b t) = not (yields_boxed t a) && not (yields_boxed t b)
   stands ls (while_loop p c b) = true
@@ -116,6 +117,7 @@ module _ (has : Usable) (checked : Term → Bool) where
     is_built ls (block_of p ts) = are_built ls ts
     is_built ls (labeled p l t e) = stands ls (labeled p l t e) && is_built (inside l t ls) e
     is_built ls (assign p (var_ref q x t) e) = stands ls (assign p (var_ref q x t) e) && is_built ls e
+    is_built ls (assign p (select q d c f t) e) = stands ls (assign p (select q d c f t) e) && (is_built ls d && is_built ls e)
     is_built ls (return_to p e l) = stands ls (return_to p e l) && is_built ls e
     is_built ls (if_then p c a b t) = stands ls (if_then p c a b t) && (is_built ls c && (is_built ls a && is_built ls b))
     is_built ls (while_loop p c b) = is_built ls c && is_built ls b

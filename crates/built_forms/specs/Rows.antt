@@ -11,7 +11,7 @@ use Rattle.sj_trees.specs.declared.operators.BinaryOp.{BinaryOp}
 use Rattle.sj_trees.specs.declared.operators.BinaryOp.TheVariants.{StrictEqual, IntDivide, LongRemainder}
 use Rattle.sj_trees.specs.declared.types.IrType.{IrType}
 use Rattle.sj_trees.specs.declared.types.IrType.TheVariants.{Any, Boolean, Char, Int, Long, NoType}
-use Rattle.built_forms.specs.Built.{not_built}
+use Rattle.built_forms.specs.Built.{Usable, is_built, not_built}
 
 abbrev pub method_name : TypeRef → MethodName
 method_name param = record { simple = codes "m"; params = param ∷ []; result = Some TypeRef.Void }
@@ -56,6 +56,14 @@ abbrev pub case : List ℕ → Term → Term
 case [] body = match_on nowhere (number 1) (more_cases [] body no_cases) nothing NoType
 case (k ∷ ks) body = match_on nowhere (number 1) (more_cases (pos k ∷ []) body no_cases) nothing NoType
 
+-- a field can be used, whatever its class, its name and its type are
+abbrev pub with_fields : Usable
+with_fields = record { linked = λ m. true; received = λ m. false; built = λ m. false; made = λ c. false; field = λ c f t. true; helper = λ x. false; objects = false }
+
+-- an assignment to a field of this type
+abbrev pub setting : IrType → Term → Term
+setting t value = assign nowhere (select nowhere (var_ref nowhere (codes "x") Any) (codes "A") (codes "f") t) value
+
 pub record WorkedForms : Type 0 where
   pub empty_method : not_built (static nothing) ≡ false
   pub private_method : not_built (method PrivateStatic NoType (Some nothing)) ≡ false
@@ -66,6 +74,9 @@ pub record WorkedForms : Type 0 where
   pub makes_an_object : not_built (static object) ≡ true
   pub makes_an_object_within : not_built (static (block_of nowhere (more_terms nothing (more_terms object no_terms)))) ≡ true
   pub sets_a_field : not_built (static (assign nowhere (select nowhere object (codes "A") (codes "f") Int) (number 1))) ≡ true
+  pub sets_a_field_it_can_use : is_built with_fields (λ e. true) [] (setting Int (number 1)) ≡ true
+  pub char_in_a_field : is_built with_fields (λ e. true) [] (setting Any letter) ≡ false
+  pub field_of_an_unchecked_object : is_built with_fields (λ e. false) [] (setting Int (number 1)) ≡ false
   pub identity : not_built (static (operation StrictEqual Any (number 1))) ≡ true
   pub by_two : not_built (static (operation IntDivide Int (number 2))) ≡ false
   pub by_zero : not_built (static (operation IntDivide Int (number 0))) ≡ true

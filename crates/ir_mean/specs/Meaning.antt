@@ -176,6 +176,11 @@ abbrev pub assign_field : List ℕ → List ℕ → List Value → Run
 assign_field c f (reference a ∷ v ∷ []) env s = assigned (set_field c f v a (slice_get s.heap a) s) env s
 assign_field c f _ env s = wrong
 
+-- the right side of an assignment to a field, and the assignment, where there is an object; what has no fields has no meaning here, whatever the right side is
+abbrev pub assign_on : List ℕ → List ℕ → Run → List Value → Run
+assign_on c f r (reference a ∷ []) env s = in_order (r ∷ []) (λ vs. assign_field c f (reference a ∷ vs)) env s
+assign_on c f r _ env s = wrong
+
 abbrev pub assign_static : List ℕ → List ℕ → List Value → Run
 assign_static c f (v ∷ []) env s = assigned (if_there (s.statics c f) (with_static c f v s)) env s
 assign_static c f _ env s = wrong
@@ -392,7 +397,7 @@ module _ (world : World) where
     step low (block_of p ts) env s = block low ts env s
     step low (labeled p l t e) env s = then_do (step low e env s) (arrive l)
     step low (assign p (var_ref q x t) e) env s = in_order (step low e ∷ []) (define x) env s
-    step low (assign p (select q d c f t) e) env s = in_order (receiving (is_sure env.sure d) low (step low d) ∷ step low e ∷ []) (assign_field c f) env s
+    step low (assign p (select q d c f t) e) env s = in_order (receiving (is_sure env.sure d) low (step low d) ∷ []) (assign_on c f (step low e)) env s
     step low (assign p (select_static q c f t) e) env s = in_order (step low e ∷ []) (assign_static c f) env s
     step low (assign p (array_select q d i t) e) env s = in_order (receiving (is_sure env.sure d) low (step low d) ∷ step low i ∷ step low e ∷ []) (assign_item low) env s
     step low (return_to p e l) env s = in_order (step low e ∷ []) (leave l) env s

@@ -52,7 +52,7 @@ use Rattle.sj_proper.specs.Once.{Once, OnceAll, OnceCases}
 use Rattle.sj_bodies.proofs.Trees.{written, written_cases, LowAlike, outside-part, behind, go_on-given, FineHere, TreeDoes, piece, operand_does, define_does, quiet, value_of, local_at, finish_one, list_of, call_does, division_does}
 use Rattle.sj_names.proofs.Same.{impossible}
 use Rattle.sj_plain.proofs.Plain.{unary_alike, binary_alike}
-use Rattle.sj_bodies.proofs.ObjectTrees.{receiver_piece, receiver_does, select_does, new_does, this_does, throw_does, receive_does, construct_does}
+use Rattle.sj_bodies.proofs.ObjectTrees.{receiver_piece, receiver_does, select_does, set_does, new_does, this_does, throw_does, receive_does, construct_does}
 use Rattle.sj_bodies.proofs.Spills.{Does, OperandDoes, OperandsDo, numbered-named}
 use Rattle.sj_bodies.proofs.Statements.{run-followed, came_then, finish_alike, Ends}
 use Rattle.sj_bodies.proofs.Turns.{while_does, do_does}
@@ -205,6 +205,25 @@ module _ (z : Setting) (lawful : Lawful z) (low : LowAlike z) where
       its : ((usable z).field d f t ≡ true) × (may_check (usable z) fine.scene.sure e ≡ true)
       its = and_parts ((usable z).field d f t) (may_check (usable z) fine.scene.sure e) fine.typed.0.built
 
+  set_by : (p q : Position) (o : Term) (d f : List ℕ) (t : IrType) (e : Term) → TreeDoes z lawful low o → (c : Context) (k : Destination) (j : ℕ) → Sound z.is_mutable c → Ahead c j → Outside c (Own (assign p (select q o d f t) e)) → FineHere z lawful low c k (assign p (select q o d f t) e) → IsDiscard k → Does z lawful c k j (assign p (select q o d f t) e)
+  set_by p q o d f t e does_o c _ j sound ahead out fine is_discard = set_does z lawful low p q c j o d f t e sound ahead there.0 (fits-sub z.place.classes lawful.base.ordered t (type_of_term e) own.0 own.1) right.0 (plainly (part_of c fine.scene fine.amid e (other_mutable z.is_mutable o e fine.written) t own.0 (lawful.base.fields d f t there.0).value fine.typed.2 fine.around fine.once.1)) (receiver_of c j o d (Own (assign p (select q o d f t) e)) (λ x i. inl i) does_o out fine.scene fine.amid (one_mutable z.is_mutable o e fine.written) fine.typed.1.0.meets.0 known.0 fine.typed.1.1 fine.around fine.once.0)
+    where
+      there : ((usable z).field d f t ≡ true) × ((may_check (usable z) fine.scene.sure o && (is_plain e && not (is_boxed t e))) ≡ true)
+      there = and_parts ((usable z).field d f t) (may_check (usable z) fine.scene.sure o && (is_plain e && not (is_boxed t e))) fine.typed.0.built
+
+      known : (may_check (usable z) fine.scene.sure o ≡ true) × ((is_plain e && not (is_boxed t e)) ≡ true)
+      known = and_parts (may_check (usable z) fine.scene.sure o) (is_plain e && not (is_boxed t e)) there.1
+
+      right : (is_plain e ≡ true) × (not (is_boxed t e) ≡ true)
+      right = and_parts (is_plain e) (not (is_boxed t e)) known.1
+
+      own : FitsType z.place.classes e t
+      own = fits_there z.place.classes e t right.1 fine.typed.0.meets.1
+
+      plainly : FineOperand z.place.classes z.is_mutable (usable z) z.code c.scope e (λ y. FineHere z lawful low c (to_variable y (type_of_term e)) e) → Plain z.place.classes (usable z) z.code c.scope e
+      plainly (inl h) = h
+      plainly (inr h) = absurd (impossible (sym h.0 ∙ right.0))
+
   new_by : (p : Position) (d : List ℕ) (m : MethodName) (ts : Terms) → OperandsFine ts → TreeDoes z lawful low (new_object p d m ts)
   new_by p d m ts do_all c k j sound ahead out wr fine = new_does z lawful low p c k j d m ts sound ahead wr (fits-value z.place.classes lawful.base.ordered k (class_type d) fine.asks (class_has_value d)) (is_linked z.place.classes ((usable z).built (member d Constructor m)) ts m.params its.1) its.0 (lawful.base.objects d its.0) (fit-all z.place.classes lawful.base.ordered ts m.params arguments) (do_all c j out fine.scene fine.amid fine.written m.params arguments fine.typed.1 fine.around fine.once)
     where
@@ -242,6 +261,7 @@ module _ (z : Setting) (lawful : Lawful z) (low : LowAlike z) where
     does (block_of p ts) = λ c k j sound ahead out wr fine. block_does ts c k j sound ahead out wr fine.scene fine.amid fine.written NoType fine.asks fine.typed fine.around fine.once
     does (labeled p l t e) = labeled_does p l t e (does e)
     does (assign p (var_ref q x t) e) = λ c k j sound ahead out wr fine. assign_by p q x t e (does e) c k j sound ahead out fine (given_up z.place.classes lawful.base.ordered k fine.asks)
+    does (assign p (select q o d f t) e) = λ c k j sound ahead out wr fine. set_by p q o d f t e (does o) c k j sound ahead out fine (given_up z.place.classes lawful.base.ordered k fine.asks)
     does (return_to p e l) = return_does p e l (does e)
     does (if_then p a b d t) = if_does p a b d t (does a) (does b) (does d)
     does (while_loop p a b) = while_does z lawful low p a b (does a) (does b)

@@ -9,17 +9,19 @@ use Rattle.ir_mean.specs.Meaning as ir_meaning
 use Rattle.ir_mean.specs.States as ir
 use Rattle.ir_mean.specs.World as ir_world
 use Rattle.js_mean.specs.Meaning as js_meaning
+use Rattle.js_mean.specs.Objects as js_objects
 use Rattle.js_mean.specs.States as js
 use Rattle.sj_core.specs.Terms as core
 use Rattle.sj_core.specs.Views.{expressions_of}
-use Rattle.sj_desugar.specs.Coercions.{coerced, coerced_arguments, coerced_receiver}
-use Rattle.sj_desugar.specs.Desugar.{Targets, into, operand, receiver, received, expression_of, first_of, rest_of, finish, member, types_of, position_of, has_no_value}
-use Rattle.sj_desugar.specs.Spill.{Destination, discard, to_variable, one, Operand, spill, spill_case, then_use}
-use Rattle.sj_emit_expr.specs.Templates.{check_name}
+use Rattle.sj_desugar.specs.Coercions.{coerced, coerced_arguments, coerced_receiver, is_char}
+use Rattle.sj_desugar.specs.Desugar.{Targets, into, operand, receiver, received, expression_of, first_of, second_of, rest_of, finish, member, types_of, position_of, has_no_value}
+use Rattle.sj_desugar.specs.Plain.{is_plain}
+use Rattle.sj_desugar.specs.Spill.{Destination, discard, to_variable, Code, one, Operand, spill, spill_case, then_use}
+use Rattle.sj_emit_expr.specs.Templates.{check_name, property_name}
 use Rattle.sj_names.proofs.Same.{impossible}
 use Rattle.sj_names.specs.declared.method_names.MethodName.{MethodName}
 use Rattle.sj_names.specs.declared.method_names.Namespace.TheVariants.{Private, Constructor}
-use Rattle.sj_trees.specs.Term.{Term, Terms, apply_statically, new_object, select, throw, this_ref}
+use Rattle.sj_trees.specs.Term.{Term, Terms, assign, apply_statically, new_object, select, throw, this_ref}
 use Rattle.sj_trees.specs.TypeOf.{type_of_term}
 use Rattle.sj_trees.specs.Types.{class_type}
 use Rattle.sj_trees.specs.declared.positions.Position.{Position}
@@ -28,10 +30,10 @@ use Rattle.sj_trees.specs.declared.types.IrType.TheVariants.{Any}
 use Rattle.sure_receivers.specs.Sure.{is_sure}
 use Rattle.body_rules.specs.Standing.{is_bare, Fits, FitAll, NoBox, types_referred, call_type}
 use Rattle.sj_plain.specs.Settings.{Setting, shown, SameState, Valued, Lawful, Inside, Receiving, no_receiver, on_receiver, Sees, usable}
-use Rattle.sj_plain.proofs.Objects.{null_act, select_alike, new_alike, received_call_alike, checked_alike}
-use Rattle.sj_plain.proofs.Orders.{OperandsAlike, no_operands, more_operands}
+use Rattle.sj_plain.proofs.Objects.{null_act, select_alike, field_written, new_alike, received_call_alike, checked_alike}
+use Rattle.sj_plain.proofs.Orders.{OperandsAlike, text_of, no_operands, more_operands}
 use Rattle.body_rules.proofs.Standing.{coerced-same, arguments-same, fits-same}
-use Rattle.sj_plain.proofs.Worlds.{World, Grows, grows-refl, grows-trans, SameValue, value-fits}
+use Rattle.sj_plain.proofs.Worlds.{World, Grows, grows-refl, grows-trans, SameValue, Stands, same_reference, value-lift, value-fits}
 use Rattle.sj_bodies.specs.Fine.{FitsIn, FineOperand}
 use Rattle.sj_plain.specs.Conditions.{Plain}
 use Rattle.body_rules.specs.Locals.{Scope}
@@ -40,7 +42,7 @@ use Rattle.body_rules.specs.Locals.{Own}
 use Rattle.sj_plain.proofs.Plain.{plain_alike, as_operand}
 use Rattle.sj_plain.proofs.Received.{receiver-same}
 use Rattle.sj_bodies.proofs.Contexts.{Context, Writes, Sound, Ahead, Ready, ready-lift, keeps-less, let_go, Came, gave, threw}
-use Rattle.sj_bodies.proofs.Forms.{sound-writing, ahead-writing, outside-writing, of_operands, one_final, quiet_alike, OneFinal}
+use Rattle.sj_bodies.proofs.Forms.{sound-writing, ahead-writing, outside-writing, of_operands, one_final, act_alike, quiet_alike, OneFinal}
 use Rattle.sj_proper.proofs.Good.{no_name, finish-good}
 use Rattle.sj_bodies.proofs.Spills.{keeping, writing, Does, Final, Piece, OperandDoes, OperandsDo, runs, operands_in, types}
 use Rattle.sj_bodies.proofs.Statements.{finish_alike, valued_then, throws-on, ends-one, Ends}
@@ -60,6 +62,17 @@ spilled-onward false false false o j h = let k = h (to_variable (core.numbered j
 
 received-onward : (o : Operand) → ((k : Destination) (j : ℕ) → j ≤ (o.code k j).next) → (k : Destination) (j : ℕ) → j ≤ ((received false o).code k j).next
 received-onward o h k j = let l = spilled-onward (o.plain && true) o.fixed o.plain o j h in let g = (finish-good no_name [] true k o.at o.tpe false (core.checked_value (first_of (spill (o ∷ []) j).expressions)) (spill (o ∷ []) j).next).onward in omega (arith, l, g)
+
+-- an operand in front of a plain one, which is written where it is used
+before_plain : (o d : Operand) (j : ℕ) (made : List core.Expression → ℕ → Code) → d.plain ≡ true → (o.plain ≡ true) ⊎ ((o.plain ≡ false) × (o.fixed ≡ false)) → then_use (spill (o ∷ d ∷ []) j) made ≡ then_use (spill (o ∷ []) j) (λ es. made (first_of es ∷ d.text ∷ []))
+before_plain o d j made = by o.plain o.fixed d.plain d.fixed
+  where
+    by : (b f e x : Bool) → e ≡ true → (b ≡ true) ⊎ ((b ≡ false) × (f ≡ false)) → then_use (spill_case (b && (e && true)) f b o (d ∷ []) (spill_case (e && true) x e d [] (spill [])) j) made ≡ then_use (spill_case (b && true) f b o [] (spill []) j) (λ es. made (first_of es ∷ d.text ∷ []))
+    by true f true x h k = refl
+    by false false true x h k = refl
+    by false true true x h (inl i) = absurd (impossible i)
+    by false true true x h (inr i) = absurd (impossible (sym i.1))
+    by b f false x h k = absurd (impossible h)
 
 module _ (z : Setting) (lawful : Lawful z) (low : LowAlike z) where
   -- operands, and behind them an expression of their values
@@ -130,6 +143,42 @@ module _ (z : Setting) (lawful : Lawful z) (low : LowAlike z) where
 
   pub throw_does : (p : Position) (c : Context) (k : Destination) (j : ℕ) (e : Term) → Sound z.is_mutable c → Ahead c j → Fits Any (type_of_term e) → OperandDoes z lawful c j (piece z lawful low c.targets e) → Does z lawful c k j (throw p e)
   throw_does p c k j e sound ahead any operand = of_operands z lawful c k (piece z lawful low c.targets e ∷ []) j ir_meaning.throw_value (λ es. one (core.throw_of (Some p) (coerced Any (type_of_term e) (first_of es)))) sound ahead (operand, tt) (one_final z lawful c k j (type_of_term e) ir_meaning.throw_value (λ es. one (core.throw_of (Some p) (coerced Any (type_of_term e) (first_of es)))) (throw_final c k p j (type_of_term e) any))
+
+  -- an assignment to a field of an object: behind the object its right side, which is plain, and then the field is written
+  set_final : (c : Context) (p : Position) (j : ℕ) (own : IrType) (d f : List ℕ) (t : IrType) (e : Term) → (usable z).field d f t ≡ true → Fits t (type_of_term e) → Plain z.place.classes (usable z) z.code c.scope e → (w : World) (sc : js.Scope) → OneFinal z lawful c discard w sc j own (ir_meaning.assign_on d f (ir_meaning.step z.place.classes z.low e)) (λ es. one (core.assign_field (Some p) (first_of es) d f (coerced t (type_of_term e) (expression_of z.code.sure e))))
+  set_final c p j own d f t e has fits plain from before n r x w env s sc u ahead l g ready ks same operand = subst (λ o. Ends z lawful c c.scope discard from before (ir_meaning.in_order (r ∷ []) act env s) (core.statement (core.assign_field (Some p) x d f o) core.no_statements) sc u) (sym (coerced-same t (type_of_term e) text fits)) (ends-one z lawful c c.scope discard from before (ir_meaning.in_order (r ∷ []) act env s) (core.assign_field (Some p) x d f text) sc u (act_alike z lawful F w env s sc u own r x act (λ v. js_meaning.unless_missing v (sets v) sc) operand same (throws-on z lawful c c.scope discard from w before env sc g ks ready) (λ y v q s u h a states. goes y v q s u h a.stands a states)))
+    where
+      F : ir.Ended → js.StatementEnd → Type 0
+      F = Came z.place z.code c c.scope discard from before
+
+      text : core.Expression
+      text = expression_of z.code.sure e
+
+      act : List ir.Value → ir.Run
+      act = ir_meaning.assign_on d f (ir_meaning.step z.place.classes z.low e)
+
+      sets : js.Value → js.Execution
+      sets v = js_meaning.with_expression z.place.program z.js_low (text_of z text) (λ q sc u. js_meaning.with_state (js_objects.set_property v (property_name d f) q u) sc u)
+
+      goes : (y : World) (v : ir.Value) (q : js.Value) (s : ir.State) (u : js.State) → Grows w y → Stands y (is_char own) v q → SameValue y own v q → SameState z.place y s u → Sim z.direction F (act (v ∷ []) env s) (js_meaning.unless_missing q (sets q) sc u)
+      goes y _ _ s u h (same_reference i a there) object states = act_alike z lawful F y env s sc u (type_of_term e) (ir_meaning.step z.place.classes z.low e) text (λ vs. ir_meaning.assign_field d f (ir.reference i ∷ vs)) (λ q u. js_meaning.with_state (js_objects.set_property (js.object a) (property_name d f) q u) sc u) (more_operands (type_of_term e) (ir_meaning.step z.place.classes z.low e) text [] [] [] (plain_alike z lawful c.scope e plain).told (as_operand z lawful c.scope e (plain_alike z lawful c.scope e plain).alike y env sc (ready-lift z c.scope c.writable w y env sc h ready).sees) no_operands) states (throws-on z lawful c c.scope discard from y before env sc (grows-trans from w y g h) ks (ready-lift z c.scope c.writable w y env sc h ready)) (λ k v q s u m one states. field_written z lawful.base (lawful.base.fields d f t has).differ F k env sc s u own (ir.reference i) v (js.object a) q d f t (lawful.base.fields d f t has).field (value-lift y k own (ir.reference i) (js.object a) m object) (value-fits k t (type_of_term e) v q fits one) states (λ s u states. gave k ir.undefined env s sc u js.normally (grows-trans from w k g (grows-trans w y k h m)) let_go (ready-lift z c.scope c.writable w k env sc (grows-trans w y k h m) ready) (keeps-less z c.kept discard before sc ks) states))
+      goes y _ _ s u h _ object states = sim_wrong z.direction F _
+
+  pub set_does : (p q : Position) (c : Context) (j : ℕ) (o : Term) (d f : List ℕ) (t : IrType) (e : Term) → Sound z.is_mutable c → Ahead c j → (usable z).field d f t ≡ true → Fits t (type_of_term e) → is_plain e ≡ true → Plain z.place.classes (usable z) z.code c.scope e → OperandDoes z lawful c j (receiver_piece c.targets o) → Does z lawful c discard j (assign p (select q o d f t) e)
+  set_does p q c j o d f t e sound ahead has fits i plain operand w env s sc u r same = subst (λ a. Ends z lawful c c.scope discard w sc a (into z.is_mutable z.code.sure c.targets discard j (assign p (select q o d f t) e)).statements sc u) (sym (sure_run o act [] w env s sc c.scope r.sees)) (subst (λ (a : Code). Ends z lawful c c.scope discard w sc (ir_meaning.in_order ((receiver_piece c.targets o).run ∷ []) act env s) a.statements sc u) (sym (before_plain (receiver_piece c.targets o).here (piece z lawful low c.targets e).here j both i (shape operand))) (of_operands z lawful c discard (receiver_piece c.targets o ∷ []) j act made sound ahead (operand, tt) (one_final z lawful c discard j (receiver_piece c.targets o).here.tpe act made (set_final c p j (receiver_piece c.targets o).here.tpe d f t e has fits plain)) w env s sc u r same))
+    where
+      act : List ir.Value → ir.Run
+      act = ir_meaning.assign_on d f (ir_meaning.step z.place.classes z.low e)
+
+      both : List core.Expression → ℕ → Code
+      both es = one (core.assign_field (Some p) (first_of es) d f (coerced t (type_of_term e) (second_of es)))
+
+      made : List core.Expression → ℕ → Code
+      made es = one (core.assign_field (Some p) (first_of es) d f (coerced t (type_of_term e) (expression_of z.code.sure e)))
+
+      shape : OperandDoes z lawful c j (receiver_piece c.targets o) → ((receiver_piece c.targets o).here.plain ≡ true) ⊎ (((receiver_piece c.targets o).here.plain ≡ false) × ((receiver_piece c.targets o).here.fixed ≡ false))
+      shape (inl h) = inl h.0
+      shape (inr h) = inr (h.0, h.1)
 
   -- a call of a private member on a receiver
   pub receive_does : (p : Position) (c : Context) (k : Destination) (j : ℕ) (e : Term) (d : List ℕ) (m : MethodName) (ts : Terms) (t : IrType) → Sound z.is_mutable c → Ahead c j → Writes c.writable k → FitsIn k t → (usable z).received (member d Private m) ≡ true → t ≡ call_type m.result → NoBox Any (type_of_term e) → Fits (class_type d) (type_of_term e) → FitAll (types_referred m.params) (types_of ts) → OperandsDo z lawful c j (receiver_piece c.targets e ∷ list_of z lawful low c.targets ts) → Does z lawful c k j (apply_statically p e d Private m ts t)
