@@ -4,7 +4,7 @@ use Rattle.std.specs.Prelude.{◌⊎◌, ◌≢◌, ◌&&◌, ◌||◌, ℤ, pos
 use Rattle.std.specs.Cmp.Lexicographic.{pointwise}
 use Rattle.std.specs.Ordering.{int_eq}
 use Rattle.std.proofs.lemmas.Bool.{and_parts}
-use Rattle.built_forms.specs.Built.{Usable, is_boxed, yields_boxed, leaves_boxed, any_is_boxed, is_nonzero_int, is_nonzero_long, is_operation}
+use Rattle.built_forms.specs.Built.{Usable, is_boxed, yields_boxed, leaves_boxed, any_is_boxed, is_nonzero_int, is_nonzero_long, divides, is_operation}
 use Rattle.sj_desugar.specs.Desugar.{has_no_value}
 use Rattle.sj_names.proofs.Same.{impossible}
 use Rattle.sj_names.specs.declared.references.TypeRef.{TypeRef}
@@ -26,10 +26,11 @@ use Rattle.typing_rules.specs.declared.labels.Label.{Label}
 use Rattle.typing_rules.specs.Labels.{type_of_label}
 use Rattle.typing_rules.specs.Rules as rules
 
--- the operands of an operator: of its own types, or texts that are joined
-pub data Takes (w : Classes) (o : BinaryOp) (e d : Term) : Type 0 where
-  its_types : is_simple o ≡ true → IsSub w (type_of_term e) (left_operand o) → IsSub w (type_of_term d) (right_operand o) → Takes w o e d
-  texts : o ≡ StringConcatenate → IsText (type_of_term e) → IsText (type_of_term d) → Takes w o e d
+-- the operands of an operator: of its own types, texts that are joined, or those of a division whose helper can be used
+pub data Takes (w : Classes) (has : Usable) (o : BinaryOp) (e d : Term) : Type 0 where
+  its_types : is_simple o ≡ true → IsSub w (type_of_term e) (left_operand o) → IsSub w (type_of_term d) (right_operand o) → Takes w has o e d
+  texts : o ≡ StringConcatenate → IsText (type_of_term e) → IsText (type_of_term d) → Takes w has o e d
+  of_division : divides has o ≡ true → IsSub w (type_of_term e) (left_operand o) → IsSub w (type_of_term d) (right_operand o) → Takes w has o e d
 
 pub when_not : (b : Bool) → not b ≡ true → b ≡ false
 when_not true h = impossible h
@@ -124,13 +125,24 @@ module _ (w : Classes) where
     long_divisor o (long_literal p z) i h typed = by_long o i p z typed.finds (not_zero z h)
     long_divisor o _ i h typed = impossible h
 
-    -- operands of an operator that is built: of its types, joined, or a dividend in front of a literal
-    pub operation : (o : BinaryOp) (a b : Term) → is_operation o b ≡ true → Typed w has s b → OperandsFit w o a b → Takes w o a b ⊎ (DividesBy o b × IsSub w (type_of_term a) (left_operand o))
+    abbrev Operated : BinaryOp → Term → Term → Type 0
+    Operated o a b = Takes w has o a b ⊎ (DividesBy o b × IsSub w (type_of_term a) (left_operand o))
+
+    -- a division, by whether its helper can be used
+    by_helper : (o : BinaryOp) (a b : Term) (literal : Bool) → (divides has o || literal) ≡ true → (literal ≡ true → DividesBy o b) → IsSub w (type_of_term a) (left_operand o) → IsSub w (type_of_term b) (right_operand o) → Operated o a b
+    by_helper o a b literal h by f g = go (divides has o) refl h
+      where
+        go : (q : Bool) → divides has o ≡ q → (q || literal) ≡ true → Operated o a b
+        go true e k = inl (of_division e f g)
+        go false e k = inr (by k, f)
+
+    -- operands of an operator that is built: of its types, joined, those of a division, or a dividend in front of a literal
+    pub operation : (o : BinaryOp) (a b : Term) → is_operation has o b ≡ true → Typed w has s b → OperandsFit w o a b → Operated o a b
     operation StrictEqual a b h typed fits = impossible h
     operation StrictNotEqual a b h typed fits = impossible h
-    operation IntDivide a b h typed fits = inr (int_divisor IntDivide b a_quotient h typed, fits.0)
-    operation IntRemainder a b h typed fits = inr (int_divisor IntRemainder b a_remainder h typed, fits.0)
-    operation LongDivide a b h typed fits = inr (long_divisor LongDivide b a_long_quotient h typed, fits.0)
-    operation LongRemainder a b h typed fits = inr (long_divisor LongRemainder b a_long_remainder h typed, fits.0)
+    operation IntDivide a b h typed fits = by_helper IntDivide a b (is_nonzero_int b) h (λ k. int_divisor IntDivide b a_quotient k typed) fits.0 fits.1
+    operation IntRemainder a b h typed fits = by_helper IntRemainder a b (is_nonzero_int b) h (λ k. int_divisor IntRemainder b a_remainder k typed) fits.0 fits.1
+    operation LongDivide a b h typed fits = by_helper LongDivide a b (is_nonzero_long b) h (λ k. long_divisor LongDivide b a_long_quotient k typed) fits.0 fits.1
+    operation LongRemainder a b h typed fits = by_helper LongRemainder a b (is_nonzero_long b) h (λ k. long_divisor LongRemainder b a_long_remainder k typed) fits.0 fits.1
     operation StringConcatenate a b h typed fits = inl (texts refl fits.0 fits.1)
     operation _ a b h typed fits = inl (its_types refl fits.0 fits.1)

@@ -96,4 +96,5 @@ nothing_asked w linked = record {
   holders = λ c f t h d m s. impossible h;
   strangers = λ c f t h o n i s. impossible h;
   exceptions = λ h. impossible h;
+  divisions = λ o h. impossible (sym (no_division o) ∙ h);
 }

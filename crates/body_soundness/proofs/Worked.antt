@@ -166,6 +166,7 @@ object_laws = record {
   holders = λ c f t h d m sub. on_chain c f t d (field_is c f t h) (text-same d class_name m);
   strangers = λ c f t h o n its sub. none_below c f t o n (field_is c f t h) its sub;
   exceptions = λ h. impossible h;
+  divisions = λ o h. impossible (sym (no_division o) ∙ h);
 }
 
 initializer_linked : (e : EntryPoint) → Contains (initializers once (codes "main")) e → object_use.linked (initializer_member e) ≡ true
