@@ -1,5 +1,5 @@
 -- What the rules of trees give where no char stands in place of another type.
-use Rattle.std.proofs.Common.{◌≡◌, ℕ, Bool, true, false, List, [], ◌∷◌, codes, Option, Some, None, refl, sym, subst, inl, inr, ⊎_elim, if◌then◌else◌}
+use Rattle.std.proofs.Common.{◌≡◌, ℕ, Bool, true, false, List, [], ◌∷◌, codes, Option, Some, None, refl, sym, ◌∙◌, subst, inl, inr, ⊎_elim, if◌then◌else◌}
 use Rattle.std.specs.Prelude.{◌⊎◌, ◌≢◌, ◌&&◌, ◌||◌, ℤ, pos, not, nat_eq}
 use Rattle.std.specs.Cmp.Lexicographic.{pointwise}
 use Rattle.std.specs.Ordering.{int_eq}
@@ -70,6 +70,14 @@ result_is o t is = subst IsResult (sym is) (result_value o)
 no_box_yielded : (t : IrType) (e : Term) → not (yields_boxed t e) ≡ true → (t ≡ NoType) ⊎ NoBox t (type_of_term e)
 no_box_yielded NoType e h = inl refl
 no_box_yielded t e h = inr (when_not (is_boxed t e) h)
+
+-- where no helper can be used, no division has one
+pub no_division : {A : Type 0} (has : Usable) → ((x : List ℕ) → has.helper x ≡ false) → (o : BinaryOp) → divides has o ≡ true → A
+no_division has none IntDivide h = impossible (sym (none (codes "$id")) ∙ h)
+no_division has none IntRemainder h = impossible (sym (none (codes "$im")) ∙ h)
+no_division has none LongDivide h = impossible (sym (none (codes "$ld")) ∙ h)
+no_division has none LongRemainder h = impossible (sym (none (codes "$lm")) ∙ h)
+no_division has none _ h = impossible h
 
 module _ (w : Classes) where
   -- the tree stands where the type is expected
