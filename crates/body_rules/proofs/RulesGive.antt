@@ -4,9 +4,10 @@ use Rattle.std.specs.Prelude.{◌⊎◌, ◌≢◌, ◌&&◌, ◌||◌, ℤ, pos
 use Rattle.std.specs.Cmp.Lexicographic.{pointwise}
 use Rattle.std.specs.Ordering.{int_eq}
 use Rattle.std.proofs.lemmas.Bool.{and_parts}
-use Rattle.built_forms.specs.Built.{Usable, is_boxed, yields_boxed, leaves_boxed, any_is_boxed, is_nonzero_int, is_nonzero_long, divides, is_operation}
+use Rattle.built_forms.specs.Built.{Usable, is_boxed, yields_boxed, leaves_boxed, any_is_boxed, is_nonzero_int, is_nonzero_long, divides, is_operation, members_alone}
 use Rattle.sj_desugar.specs.Desugar.{has_no_value}
 use Rattle.sj_names.proofs.Same.{impossible}
+use Rattle.sj_names.specs.declared.method_names.Member.{Member}
 use Rattle.sj_names.specs.declared.references.TypeRef.{TypeRef}
 use Rattle.body_rules.specs.Operators.{is_simple, IsDivision, a_quotient, a_remainder, IsLongDivision, a_long_quotient, a_long_remainder, DividesBy, by_int, by_long}
 use Rattle.typing_rules.specs.Rules.{left_operand, right_operand, call_type, IsText, OperandsFit, ReturnsTo}
@@ -78,6 +79,20 @@ no_division has none IntRemainder h = impossible (sym (none (codes "$im")) ∙ h
 no_division has none LongDivide h = impossible (sym (none (codes "$ld")) ∙ h)
 no_division has none LongRemainder h = impossible (sym (none (codes "$lm")) ∙ h)
 no_division has none _ h = impossible h
+
+or_true : (a b : Bool) → b ≡ true → (a || b) ≡ true
+or_true true b h = refl
+or_true false b h = h
+
+-- what is an operator for code that uses static members alone is one for other code
+pub operation_kept : (linked : Member → Bool) (has : Usable) (o : BinaryOp) (d : Term) → is_operation (members_alone linked) o d ≡ true → is_operation has o d ≡ true
+operation_kept linked has StrictEqual d h = impossible h
+operation_kept linked has StrictNotEqual d h = impossible h
+operation_kept linked has IntDivide d h = or_true (has.helper (codes "$id")) (is_nonzero_int d) h
+operation_kept linked has IntRemainder d h = or_true (has.helper (codes "$im")) (is_nonzero_int d) h
+operation_kept linked has LongDivide d h = or_true (has.helper (codes "$ld")) (is_nonzero_long d) h
+operation_kept linked has LongRemainder d h = or_true (has.helper (codes "$lm")) (is_nonzero_long d) h
+operation_kept linked has _ d h = refl
 
 module _ (w : Classes) where
   -- the tree stands where the type is expected
