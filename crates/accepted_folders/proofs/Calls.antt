@@ -24,6 +24,7 @@ use Rattle.typing_rules.specs.Nodes.{inside as inside_label}
 use Rattle.sj_trees.specs.Term.{Term, Terms, no_terms, more_terms, Cases, no_cases, more_cases, var_def, skip, block_of, labeled, assign, return_to, if_then, while_loop, do_while, match_on, apply_statically, apply_static, unary_op, binary_op, undefined_literal, null_literal, boolean_literal, char_literal, byte_literal, short_literal, int_literal, long_literal, string_literal, var_ref, log_line}
 use Rattle.sj_trees.specs.declared.types.IrType.{IrType}
 use Rattle.built_forms.specs.Built.{is_boxed, yields_boxed, leaves_boxed, any_is_boxed, is_operation, is_built, are_built, are_built_cases, anything, is_built_body}
+use Rattle.body_rules.proofs.RulesGive.{operation_kept}
 use Rattle.body_rules.specs.Typing.{may_check, is_built_with}
 use Rattle.sure_receivers.specs.Sure.{sure_locals}
 use Rattle.sj_names.specs.declared.method_names.MethodName.{MethodName}
@@ -99,10 +100,10 @@ module _ (has : Usable) (checked : Term → Bool) where
         and_from (has.linked (member c n m)) (not (any_is_boxed m.params ts) && are_built has checked ls ts) (All-head Calls (apply_static p c n m ts t) (all_below ts) h) (and_from (not (any_is_boxed m.params ts)) (are_built has checked ls ts) q.0 (all_built ts ls q.1 (inner (apply_static p c n m ts t) h)))
     built (unary_op p o e) ls k h = built e ls k (inner (unary_op p o e) h)
     built (binary_op p o e d) ls k h =
-        let q = and_parts (is_operation o d) (is_built anything (λ e. true) ls e && is_built anything (λ e. true) ls d) k in
+        let q = and_parts (is_operation anything o d) (is_built anything (λ e. true) ls e && is_built anything (λ e. true) ls d) k in
         let r = and_parts (is_built anything (λ e. true) ls e) (is_built anything (λ e. true) ls d) q.1 in
         let parts = two e d (inner (binary_op p o e d) h) in
-        and_from (is_operation o d) (is_built has checked ls e && is_built has checked ls d) q.0 (and_from (is_built has checked ls e) (is_built has checked ls d) (built e ls r.0 parts.0) (built d ls r.1 parts.1))
+        and_from (is_operation has o d) (is_built has checked ls e && is_built has checked ls d) (operation_kept (λ m. true) has o d q.0) (and_from (is_built has checked ls e) (is_built has checked ls d) (built e ls r.0 parts.0) (built d ls r.1 parts.1))
     built (undefined_literal p) ls k h = refl
     built (null_literal p) ls k h = refl
     built (boolean_literal p b) ls k h = refl

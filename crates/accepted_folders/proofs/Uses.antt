@@ -18,6 +18,7 @@ use Rattle.sj_emit_expr.specs.Uses.{function_binding, helper_of, uses_in, uses_i
 use Rattle.sj_names.proofs.Same.{impossible}
 use Rattle.sj_names.specs.declared.method_names.Member.{Member}
 use Rattle.sj_names.specs.declared.references.TypeRef.{TypeRef}
+use Rattle.body_rules.proofs.RulesGive.{operation_kept}
 use Rattle.built_forms.specs.Built.{Usable, members_alone}
 use Rattle.sj_names.specs.declared.method_names.MethodName.{MethodName}
 use Rattle.sj_names.specs.declared.method_names.Namespace.{Namespace}
@@ -217,13 +218,13 @@ module _ (U : Binding → Type 0) where
       plain (unary_op p o e) ls q k h = plain e ls q k h
       plain (binary_op p o e d) ls q k h =
           let q0 = and_parts (is_plain e) (is_plain d) q in
-          let k0 = and_parts (is_operation o d) (is_built from checked_from ls e && is_built from checked_from ls d) k in
+          let k0 = and_parts (is_operation from o d) (is_built from checked_from ls e && is_built from checked_from ls d) k in
           let k1 = and_parts (is_built from checked_from ls e) (is_built from checked_from ls d) k0.1 in
           let left = operand_of o (type_of_term e) (expression_of sure e) in
           let right = operand_of o (type_of_term d) (expression_of sure d) in
           let helper = helper_of (is_nonzero_literal right) o in
           let h0 = front (helper ++ uses_in left) (uses_in right) h in
-          and_from (is_operation o d) (is_built has checked_here ls e && is_built has checked_here ls d) k0.0 (and_from (is_built has checked_here ls e) (is_built has checked_here ls d) (plain e ls q0.0 k1.0 (operand_in o (type_of_term e) (expression_of sure e) (back helper (uses_in left) h0))) (plain d ls q0.1 k1.1 (operand_in o (type_of_term d) (expression_of sure d) (back (helper ++ uses_in left) (uses_in right) h))))
+          and_from (is_operation has o d) (is_built has checked_here ls e && is_built has checked_here ls d) (operation_kept linked_from has o d k0.0) (and_from (is_built has checked_here ls e) (is_built has checked_here ls d) (plain e ls q0.0 k1.0 (operand_in o (type_of_term e) (expression_of sure e) (back helper (uses_in left) h0))) (plain d ls q0.1 k1.1 (operand_in o (type_of_term d) (expression_of sure d) (back (helper ++ uses_in left) (uses_in right) h))))
       plain (undefined_literal p) ls q k h = refl
       plain (null_literal p) ls q k h = refl
       plain (boolean_literal p b) ls q k h = refl
@@ -350,7 +351,7 @@ module _ (U : Binding → Type 0) where
             let parts = followed_parts s.statements (finish k p (unary_result o) false (core.unary_of o (first_of s.expressions)) s.next).statements h in
             act e (tree e) ts ls j q parts.0 (finished k p (unary_result o) (core.unary_of o (first_of s.expressions)) s.next parts.1)
         tree (binary_op p o e d) ts k j ls q h =
-            let k0 = and_parts (is_operation o d) (is_built from checked_from ls e && is_built from checked_from ls d) q in
+            let k0 = and_parts (is_operation from o d) (is_built from checked_from ls e && is_built from checked_from ls d) q in
             let k1 = and_parts (is_built from checked_from ls e) (is_built from checked_from ls d) k0.1 in
             let os : List Operand = operand is_mutable sure e (λ k j. into is_mutable sure ts k j e) ∷ one_of ts d in
             let s : Spilled = spill os j in
@@ -361,7 +362,7 @@ module _ (U : Binding → Type 0) where
             let inside = finished k p (binary_result o) (core.binary_of o left right) s.next parts.1 in
             let head = front (helper ++ uses_in left) (uses_in right) inside in
             let written = spill_in os j parts.0 (two_in s.expressions (spill_count os j) (operand_in o (type_of_term e) (first_of s.expressions) (back helper (uses_in left) head)) (operand_in o (type_of_term d) (second_of s.expressions) (back (helper ++ uses_in left) (uses_in right) inside))) in
-            and_from (is_operation o d) (is_built has checked_here ls e && is_built has checked_here ls d) k0.0 (and_from (is_built has checked_here ls e) (is_built has checked_here ls d) (operand_built e (tree e) ts ls k1.0 written.0) (operand_built d (tree d) ts ls k1.1 written.1.0))
+            and_from (is_operation has o d) (is_built has checked_here ls e && is_built has checked_here ls d) (operation_kept linked_from has o d k0.0) (and_from (is_built has checked_here ls e) (is_built has checked_here ls d) (operand_built e (tree e) ts ls k1.0 written.0) (operand_built d (tree d) ts ls k1.1 written.1.0))
         tree (undefined_literal p) ts k j ls q h = refl
         tree (null_literal p) ts k j ls q h = refl
         tree (boolean_literal p b) ts k j ls q h = refl

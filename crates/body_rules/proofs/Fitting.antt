@@ -1,6 +1,7 @@
 -- A tree of the one type stands where the other is expected: what the rules say of types, as far as the kinds of values tell.
 use Rattle.std.proofs.Common.{◌≡◌, ℕ, Bool, true, false, ◌&&◌, List, [], ◌∷◌, codes, refl, sym, ap, ◌∙◌, subst, ◌⊎◌, inl, inr, ⊎_elim}
 use Rattle.std.specs.Prelude.{not, ◌||◌}
+use Rattle.built_forms.specs.Built.{Usable, divides}
 use Rattle.sj_desugar.specs.Coercions.{is_char}
 use Rattle.sj_desugar.specs.Desugar.{types_of, has_no_value}
 use Rattle.sj_desugar.specs.Plain.{is_no_type}
@@ -9,12 +10,12 @@ use Rattle.sj_trees.specs.Term.{Term, Terms, no_terms, more_terms, boolean_liter
 use Rattle.sj_trees.specs.TypeOf.{type_of_term, loop_type, unary_result, binary_result}
 use Rattle.sj_trees.specs.Types.{reference_type}
 use Rattle.sj_trees.specs.declared.operators.BinaryOp.{BinaryOp}
-use Rattle.sj_trees.specs.declared.operators.BinaryOp.TheVariants.{StrictEqual, StrictNotEqual, StringConcatenate, IntAdd}
+use Rattle.sj_trees.specs.declared.operators.BinaryOp.TheVariants.{StrictEqual, StrictNotEqual, StringConcatenate, IntAdd, IntDivide, IntRemainder, LongDivide, LongRemainder}
 use Rattle.sj_trees.specs.declared.operators.UnaryOp.{UnaryOp}
 use Rattle.sj_trees.specs.declared.operators.UnaryOp.TheVariants.{BooleanNot}
 use Rattle.sj_trees.specs.declared.types.IrType.{IrType}
 use Rattle.sj_trees.specs.declared.types.IrType.TheVariants.{Any, Nothing, Undefined, Boolean, Char, Byte, Short, Int, Long, String, Class, Null, Array, NoType}
-use Rattle.body_rules.specs.Operators.{is_simple, a_quotient, a_remainder, a_long_quotient, a_long_remainder, DividesBy, by_int, by_long, Operates, of_its_types, joins}
+use Rattle.body_rules.specs.Operators.{is_simple, a_quotient, a_remainder, a_long_quotient, a_long_remainder, DividesBy, by_int, by_long, Operates, of_its_types, joins, divided}
 use Rattle.typing_rules.specs.Rules.{unary_operand, left_operand, right_operand, IsText}
 use Rattle.body_rules.specs.Standing.{is_bare, Fits, FitAll, types_referred, NoBox}
 use Rattle.body_rules.proofs.Standing.{fits-same}
@@ -23,7 +24,7 @@ use Rattle.sj_names.proofs.Same.{impossible, text-refl}
 use Rattle.sj_names.specs.Same.{is_same_text}
 use Rattle.body_rules.specs.Subtyping.{is_lowest, IsSubtyping}
 use Rattle.body_rules.specs.Locals.{HasValue}
-use Rattle.body_rules.proofs.RulesGive.{Takes, its_types, texts, Yields, ArgumentsFit}
+use Rattle.body_rules.proofs.RulesGive.{Takes, its_types, texts, of_division, Yields, ArgumentsFit}
 use Rattle.sj_world.specs.Known.{Classes}
 use Rattle.sj_world.specs.Subtypes.{IsSub}
 
@@ -166,9 +167,17 @@ module _ (w : Classes) (law : IsSubtyping (IsSub w)) where
   pub fits-dividend : (o : BinaryOp) (d : Term) (own : IrType) → DividesBy o d → IsSub w own (left_operand o) → Fits (left_operand o) own
   fits-dividend o d own by f = fits-sub (left_operand o) own f (lowest-box (left_operand o) own (division_lowest o d by) f)
 
-  pub operates : (o : BinaryOp) (e d : Term) → Takes w o e d → Operates o (type_of_term e) (type_of_term d)
-  operates o e d (its_types h f g) = of_its_types o (type_of_term e) (type_of_term d) h (fits-sub (left_operand o) (type_of_term e) f (lowest-box (left_operand o) (type_of_term e) (left_lowest o h) f)) (fits-sub (right_operand o) (type_of_term d) g (lowest-box (right_operand o) (type_of_term d) (right_lowest o h) g))
-  operates o e d (texts is f g) = subst (λ p. Operates p (type_of_term e) (type_of_term d)) (sym is) (joins (type_of_term e) (type_of_term d) (text_bare (type_of_term e) f) (text_bare (type_of_term d) g))
+  divided_lowest : (has : Usable) (o : BinaryOp) → divides has o ≡ true → (is_lowest (left_operand o) ≡ true) × (is_lowest (right_operand o) ≡ true)
+  divided_lowest has IntDivide h = (refl, refl)
+  divided_lowest has IntRemainder h = (refl, refl)
+  divided_lowest has LongDivide h = (refl, refl)
+  divided_lowest has LongRemainder h = (refl, refl)
+  divided_lowest has _ h = impossible h
+
+  pub operates : (has : Usable) (o : BinaryOp) (e d : Term) → Takes w has o e d → Operates has o (type_of_term e) (type_of_term d)
+  operates has o e d (its_types h f g) = of_its_types o (type_of_term e) (type_of_term d) h (fits-sub (left_operand o) (type_of_term e) f (lowest-box (left_operand o) (type_of_term e) (left_lowest o h) f)) (fits-sub (right_operand o) (type_of_term d) g (lowest-box (right_operand o) (type_of_term d) (right_lowest o h) g))
+  operates has o e d (of_division h f g) = let own = divided_lowest has o h in divided o (type_of_term e) (type_of_term d) h (fits-sub (left_operand o) (type_of_term e) f (lowest-box (left_operand o) (type_of_term e) own.0 f)) (fits-sub (right_operand o) (type_of_term d) g (lowest-box (right_operand o) (type_of_term d) own.1 g))
+  operates has o e d (texts is f g) = subst (λ p. Operates has p (type_of_term e) (type_of_term d)) (sym is) (joins (type_of_term e) (type_of_term d) (text_bare (type_of_term e) f) (text_bare (type_of_term d) g))
 
   pub fit-all : (ts : Terms) (rs : List TypeRef) → ArgumentsFit w ts rs → FitAll (types_referred rs) (types_of ts)
   fit-all no_terms [] h = tt

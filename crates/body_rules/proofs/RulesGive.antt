@@ -1,12 +1,13 @@
 -- What the rules of trees give where no char stands in place of another type.
-use Rattle.std.proofs.Common.{◌≡◌, ℕ, Bool, true, false, List, [], ◌∷◌, codes, Option, Some, None, refl, sym, subst, inl, inr, ⊎_elim, if◌then◌else◌}
+use Rattle.std.proofs.Common.{◌≡◌, ℕ, Bool, true, false, List, [], ◌∷◌, codes, Option, Some, None, refl, sym, ◌∙◌, subst, inl, inr, ⊎_elim, if◌then◌else◌}
 use Rattle.std.specs.Prelude.{◌⊎◌, ◌≢◌, ◌&&◌, ◌||◌, ℤ, pos, not, nat_eq}
 use Rattle.std.specs.Cmp.Lexicographic.{pointwise}
 use Rattle.std.specs.Ordering.{int_eq}
 use Rattle.std.proofs.lemmas.Bool.{and_parts}
-use Rattle.built_forms.specs.Built.{Usable, is_boxed, yields_boxed, leaves_boxed, any_is_boxed, is_nonzero_int, is_nonzero_long, is_operation}
+use Rattle.built_forms.specs.Built.{Usable, is_boxed, yields_boxed, leaves_boxed, any_is_boxed, is_nonzero_int, is_nonzero_long, divides, is_operation, members_alone}
 use Rattle.sj_desugar.specs.Desugar.{has_no_value}
 use Rattle.sj_names.proofs.Same.{impossible}
+use Rattle.sj_names.specs.declared.method_names.Member.{Member}
 use Rattle.sj_names.specs.declared.references.TypeRef.{TypeRef}
 use Rattle.body_rules.specs.Operators.{is_simple, IsDivision, a_quotient, a_remainder, IsLongDivision, a_long_quotient, a_long_remainder, DividesBy, by_int, by_long}
 use Rattle.typing_rules.specs.Rules.{left_operand, right_operand, call_type, IsText, OperandsFit, ReturnsTo}
@@ -26,10 +27,11 @@ use Rattle.typing_rules.specs.declared.labels.Label.{Label}
 use Rattle.typing_rules.specs.Labels.{type_of_label}
 use Rattle.typing_rules.specs.Rules as rules
 
--- the operands of an operator: of its own types, or texts that are joined
-pub data Takes (w : Classes) (o : BinaryOp) (e d : Term) : Type 0 where
-  its_types : is_simple o ≡ true → IsSub w (type_of_term e) (left_operand o) → IsSub w (type_of_term d) (right_operand o) → Takes w o e d
-  texts : o ≡ StringConcatenate → IsText (type_of_term e) → IsText (type_of_term d) → Takes w o e d
+-- the operands of an operator: of its own types, texts that are joined, or those of a division whose helper can be used
+pub data Takes (w : Classes) (has : Usable) (o : BinaryOp) (e d : Term) : Type 0 where
+  its_types : is_simple o ≡ true → IsSub w (type_of_term e) (left_operand o) → IsSub w (type_of_term d) (right_operand o) → Takes w has o e d
+  texts : o ≡ StringConcatenate → IsText (type_of_term e) → IsText (type_of_term d) → Takes w has o e d
+  of_division : divides has o ≡ true → IsSub w (type_of_term e) (left_operand o) → IsSub w (type_of_term d) (right_operand o) → Takes w has o e d
 
 pub when_not : (b : Bool) → not b ≡ true → b ≡ false
 when_not true h = impossible h
@@ -69,6 +71,28 @@ result_is o t is = subst IsResult (sym is) (result_value o)
 no_box_yielded : (t : IrType) (e : Term) → not (yields_boxed t e) ≡ true → (t ≡ NoType) ⊎ NoBox t (type_of_term e)
 no_box_yielded NoType e h = inl refl
 no_box_yielded t e h = inr (when_not (is_boxed t e) h)
+
+-- where no helper can be used, no division has one
+pub no_division : {A : Type 0} (has : Usable) → ((x : List ℕ) → has.helper x ≡ false) → (o : BinaryOp) → divides has o ≡ true → A
+no_division has none IntDivide h = impossible (sym (none (codes "$id")) ∙ h)
+no_division has none IntRemainder h = impossible (sym (none (codes "$im")) ∙ h)
+no_division has none LongDivide h = impossible (sym (none (codes "$ld")) ∙ h)
+no_division has none LongRemainder h = impossible (sym (none (codes "$lm")) ∙ h)
+no_division has none _ h = impossible h
+
+or_true : (a b : Bool) → b ≡ true → (a || b) ≡ true
+or_true true b h = refl
+or_true false b h = h
+
+-- what is an operator for code that uses static members alone is one for other code
+pub operation_kept : (linked : Member → Bool) (has : Usable) (o : BinaryOp) (d : Term) → is_operation (members_alone linked) o d ≡ true → is_operation has o d ≡ true
+operation_kept linked has StrictEqual d h = impossible h
+operation_kept linked has StrictNotEqual d h = impossible h
+operation_kept linked has IntDivide d h = or_true (has.helper (codes "$id")) (is_nonzero_int d) h
+operation_kept linked has IntRemainder d h = or_true (has.helper (codes "$im")) (is_nonzero_int d) h
+operation_kept linked has LongDivide d h = or_true (has.helper (codes "$ld")) (is_nonzero_long d) h
+operation_kept linked has LongRemainder d h = or_true (has.helper (codes "$lm")) (is_nonzero_long d) h
+operation_kept linked has _ d h = refl
 
 module _ (w : Classes) where
   -- the tree stands where the type is expected
@@ -124,13 +148,24 @@ module _ (w : Classes) where
     long_divisor o (long_literal p z) i h typed = by_long o i p z typed.finds (not_zero z h)
     long_divisor o _ i h typed = impossible h
 
-    -- operands of an operator that is built: of its types, joined, or a dividend in front of a literal
-    pub operation : (o : BinaryOp) (a b : Term) → is_operation o b ≡ true → Typed w has s b → OperandsFit w o a b → Takes w o a b ⊎ (DividesBy o b × IsSub w (type_of_term a) (left_operand o))
+    abbrev Operated : BinaryOp → Term → Term → Type 0
+    Operated o a b = Takes w has o a b ⊎ (DividesBy o b × IsSub w (type_of_term a) (left_operand o))
+
+    -- a division, by whether its helper can be used
+    by_helper : (o : BinaryOp) (a b : Term) (literal : Bool) → (divides has o || literal) ≡ true → (literal ≡ true → DividesBy o b) → IsSub w (type_of_term a) (left_operand o) → IsSub w (type_of_term b) (right_operand o) → Operated o a b
+    by_helper o a b literal h by f g = go (divides has o) refl h
+      where
+        go : (q : Bool) → divides has o ≡ q → (q || literal) ≡ true → Operated o a b
+        go true e k = inl (of_division e f g)
+        go false e k = inr (by k, f)
+
+    -- operands of an operator that is built: of its types, joined, those of a division, or a dividend in front of a literal
+    pub operation : (o : BinaryOp) (a b : Term) → is_operation has o b ≡ true → Typed w has s b → OperandsFit w o a b → Operated o a b
     operation StrictEqual a b h typed fits = impossible h
     operation StrictNotEqual a b h typed fits = impossible h
-    operation IntDivide a b h typed fits = inr (int_divisor IntDivide b a_quotient h typed, fits.0)
-    operation IntRemainder a b h typed fits = inr (int_divisor IntRemainder b a_remainder h typed, fits.0)
-    operation LongDivide a b h typed fits = inr (long_divisor LongDivide b a_long_quotient h typed, fits.0)
-    operation LongRemainder a b h typed fits = inr (long_divisor LongRemainder b a_long_remainder h typed, fits.0)
+    operation IntDivide a b h typed fits = by_helper IntDivide a b (is_nonzero_int b) h (λ k. int_divisor IntDivide b a_quotient k typed) fits.0 fits.1
+    operation IntRemainder a b h typed fits = by_helper IntRemainder a b (is_nonzero_int b) h (λ k. int_divisor IntRemainder b a_remainder k typed) fits.0 fits.1
+    operation LongDivide a b h typed fits = by_helper LongDivide a b (is_nonzero_long b) h (λ k. long_divisor LongDivide b a_long_quotient k typed) fits.0 fits.1
+    operation LongRemainder a b h typed fits = by_helper LongRemainder a b (is_nonzero_long b) h (λ k. long_divisor LongRemainder b a_long_remainder k typed) fits.0 fits.1
     operation StringConcatenate a b h typed fits = inl (texts refl fits.0 fits.1)
     operation _ a b h typed fits = inl (its_types refl fits.0 fits.1)

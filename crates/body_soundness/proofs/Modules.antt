@@ -2,6 +2,7 @@
 use Rattle.std.proofs.Common.{◌≡◌, ℕ, Bool, true, false, List, [], ◌∷◌, Some, None, Option, slice_get, refl, Contains}
 use Rattle.body_rules.proofs.InWorld.{in_world}
 use Rattle.body_rules.proofs.Lists.{at_front, further_on}
+use Rattle.body_rules.proofs.RulesGive.{no_division}
 use Rattle.body_soundness.proofs.Right.{Comes, comes_then, CameRight, gave, left, threw, ObjectTyped, typed_object, HeapTyped, call_right, bodies_right, none_left, nothing_there, no_label, no_object, Ready}
 use Rattle.body_soundness.proofs.Values.{Classes, HasType, has_type, of_undefined, of_null, of_boolean, of_char, of_long, of_byte, of_short, of_int, of_text, of_object}
 use Rattle.body_soundness.specs.Laws.{ObjectLaws, HasReceivers, reads, calls}
@@ -96,4 +97,5 @@ nothing_asked w linked = record {
   holders = λ c f t h d m s. impossible h;
   strangers = λ c f t h o n i s. impossible h;
   exceptions = λ h. impossible h;
+  divisions = λ o h. no_division (members_alone linked) (λ x. refl) o h;
 }

@@ -14,7 +14,7 @@ use Rattle.ir_mean.specs.States as ir
 use Rattle.sure_receivers.specs.Sure.{is_sure_type, is_sure, Definition, definitions, definitions_in, definitions_of_cases, sure_locals}
 use Rattle.body_soundness.proofs.Heaps.{get-end, get-front, not-past, get-set, get-set_other}
 use Rattle.body_soundness.proofs.Sured.{Sured, sured-parts, sure-named, body-sured}
-use Rattle.body_soundness.specs.Laws.{HasReceivers, reads, calls, null_pointer, ObjectLaws}
+use Rattle.body_soundness.specs.Laws.{HasReceivers, reads, calls, null_pointer, arithmetic, ObjectLaws}
 use Rattle.ir_mean.specs.World.{World, class_of, method_among, method_in, member_of, zeros_in, zero_of, new_fields}
 use Rattle.sj_desugar.specs.Desugar.{member, has_no_value}
 use Rattle.sj_emit_expr.specs.Templates.{check_name}
@@ -47,7 +47,7 @@ use Rattle.body_soundness.specs.Rules.{RightMember}
 use Rattle.sj_proper.specs.Methods.{HaveTypes, scene_of}
 use Rattle.sj_proper.specs.Once.{NamesOnce}
 use Rattle.body_rules.specs.Subtyping.{IsSubtyping}
-use Rattle.body_rules.proofs.RulesGive.{class_has_value, Yields, ArgumentsFit, Takes, its_types, texts, yields_there, one_yields, other_yields, leaves_there, arguments_there, is_linked, operation}
+use Rattle.body_rules.proofs.RulesGive.{class_has_value, Yields, ArgumentsFit, Takes, its_types, texts, of_division, yields_there, one_yields, other_yields, leaves_there, arguments_there, is_linked, operation}
 use Rattle.built_forms.proofs.Around.{type_inside}
 use Rattle.sj_world.specs.Ancestors.{by_path}
 use Rattle.sj_world.specs.Known as known
@@ -57,7 +57,7 @@ use Rattle.body_rules.proofs.Topped.{string_class}
 use Rattle.typing_rules.specs.Labels.{type_of_label}
 use Rattle.body_rules.proofs.Locals.{local-there, values-behind}
 use Rattle.body_rules.proofs.Fitting.{value-not, true-or-none, unary-operand-value, left-operand-value, right-operand-value, not_no_type}
-use Rattle.body_soundness.proofs.Values.{Classes, Adds, adds-refl, adds-trans, type-lift, HasType, has_type, of_undefined, of_null, of_boolean, of_byte, of_short, of_int, of_text, IsBoolean, a_boolean, IsNumber, a_number, IsText, a_text, wider, as_boolean, as_int, as_text, Gives, some_of, unary_gives, binary_gives, division_gives, of_char, of_long, as_long, join_gives, long_division_gives, of_object, primitive_full, Sort, is_null, is_object, is_primitive, sort_of}
+use Rattle.body_soundness.proofs.Values.{Classes, Adds, adds-refl, adds-trans, type-lift, HasType, has_type, of_undefined, of_null, of_boolean, of_byte, of_short, of_int, of_text, IsBoolean, a_boolean, IsNumber, a_number, IsText, a_text, wider, as_boolean, as_int, as_text, Gives, some_of, unary_gives, binary_gives, division_gives, divided_gives, of_char, of_long, as_long, join_gives, long_division_gives, of_object, primitive_full, Sort, is_null, is_object, is_primitive, sort_of}
 
 -- not wrong, and where it is done, with what P says
 abbrev pub Comes : {A : Type 0} → (A → Type 0) → End A → Type 0
@@ -859,12 +859,16 @@ module _ (w : World) (law : IsSubtyping (IsSub w)) (has : Usable) where
     text-type at v t h (inl none) = absurd (not_no_type t h none)
     text-type at v t h (inr i) = i
 
-    two_right : (o : BinaryOp) (e d : Term) (at : Classes) → Takes w o e d → (v a : ir.Value) → GivesType at v (type_of_term e) → GivesType at a (type_of_term d) → Gives (IsSub w) law at (binary_result o) (binary_value o v a)
-    two_right o e d at (its_types h f g) v a i j = binary_gives (IsSub w) law at o h v a (operand-type at v (type_of_term e) (left_operand o) i f (value-not (left_operand o) (left-operand-value o))) (operand-type at a (type_of_term d) (right_operand o) j g (value-not (right_operand o) (right-operand-value o)))
-    two_right o e d at (texts is f g) v a i j = subst (λ p. Gives (IsSub w) law at (binary_result p) (binary_value p v a)) (sym is) (join_gives (IsSub w) law at v a (type_of_term e) (type_of_term d) f g (text-type at v (type_of_term e) f i) (text-type at a (type_of_term d) g j))
+    two_right : (o : BinaryOp) (e d : Term) (at : Classes) (s : Scene) → Takes w has o e d → (v a : ir.Value) → GivesType at v (type_of_term e) → GivesType at a (type_of_term d) → (env : ir.Env) (st : ir.State) → Ready at (frame_of s) s.locals env st → Right at s (binary_result o) (ir_meaning.answered w low (binary_value o v a) env st)
+    two_right o e d at s (its_types h f g) v a i j env st r = value_right at low s (binary_result o) (binary_value o v a) env st (binary_gives (IsSub w) law at o h v a (operand-type at v (type_of_term e) (left_operand o) i f (value-not (left_operand o) (left-operand-value o))) (operand-type at a (type_of_term d) (right_operand o) j g (value-not (right_operand o) (right-operand-value o)))) r
+    two_right o e d at s (texts is f g) v a i j env st r = value_right at low s (binary_result o) (binary_value o v a) env st (subst (λ p. Gives (IsSub w) law at (binary_result p) (binary_value p v a)) (sym is) (join_gives (IsSub w) law at v a (type_of_term e) (type_of_term d) f g (text-type at v (type_of_term e) f i) (text-type at a (type_of_term d) g j))) r
+    two_right o e d at s (of_division h f g) v a i j env st r = ⊎_elim (λ gives. value_right at low s (binary_result o) (binary_value o v a) env st gives r) (λ zero. subst (λ (q : Answer). Right at s (binary_result o) (ir_meaning.answered w low q env st)) (sym zero) thrown) (divided_gives (IsSub w) law at has o h v a (operand-type at v (type_of_term e) (left_operand o) i f (value-not (left_operand o) (left-operand-value o))) (operand-type at a (type_of_term d) (right_operand o) j g (value-not (right_operand o) (right-operand-value o))))
+      where
+        thrown : Right at s (binary_result o) (ir_meaning.raise w low arithmetic (codes "/ by zero") env st)
+        thrown = let there = laws.divisions o h in only_right (CameRight at s s.locals (binary_result o)) Full (ir_meaning.raise w low arithmetic (codes "/ by zero") env st).end (raise_right arithmetic (codes "/ by zero") there.0 there.1 s (binary_result o) at env st r)
 
-    binary_right : (o : BinaryOp) (e d : Term) (at : Classes) (s : Scene) → Takes w o e d → (env : ir.Env) (st : ir.State) → Right at s (type_of_term e) (step e env st) → ((k : Classes) (env : ir.Env) (st : ir.State) → Ready k (frame_of s) s.locals env st → Right k s (type_of_term d) (step d env st)) → Right at s (binary_result o) (ir_meaning.in_order (step e ∷ step d ∷ []) (ir_meaning.binary w low o) env st)
-    binary_right o e d at s takes env st first second = go_on_right at s s.locals (type_of_term e) s.locals (binary_result o) (step e env st) (λ a. ir_meaning.in_order (step d ∷ []) (λ vs. ir_meaning.binary w low o (a ∷ vs))) first (λ y f a env st g i. one_right y s s.locals (type_of_term d) (binary_result o) (step d) (λ vs. ir_meaning.binary w low o (a ∷ vs)) env st (second y env st i) (λ z n b env st k i. value_right z low s (binary_result o) (binary_value o a b) env st (two_right o e d z takes a b (gives-lift y z n a (type_of_term e) g) k) i))
+    binary_right : (o : BinaryOp) (e d : Term) (at : Classes) (s : Scene) → Takes w has o e d → (env : ir.Env) (st : ir.State) → Right at s (type_of_term e) (step e env st) → ((k : Classes) (env : ir.Env) (st : ir.State) → Ready k (frame_of s) s.locals env st → Right k s (type_of_term d) (step d env st)) → Right at s (binary_result o) (ir_meaning.in_order (step e ∷ step d ∷ []) (ir_meaning.binary w low o) env st)
+    binary_right o e d at s takes env st first second = go_on_right at s s.locals (type_of_term e) s.locals (binary_result o) (step e env st) (λ a. ir_meaning.in_order (step d ∷ []) (λ vs. ir_meaning.binary w low o (a ∷ vs))) first (λ y f a env st g i. one_right y s s.locals (type_of_term d) (binary_result o) (step d) (λ vs. ir_meaning.binary w low o (a ∷ vs)) env st (second y env st i) (λ z n b env st k i. two_right o e d z s takes a b (gives-lift y z n a (type_of_term e) g) k env st i))
 
     mutual
       pub tree_right : (t : Term) → TreeRight t

@@ -1,7 +1,7 @@
 -- Values of types, and what operators give on them.
-use Rattle.std.proofs.Common.{◌≡◌, ℕ, zero, suc, ◌++◌, Bool, true, false, List, Option, Some, refl, sym, ap, ◌∙◌, subst, ◌⊎◌, inl, inr}
+use Rattle.std.proofs.Common.{◌≡◌, ℕ, zero, suc, ◌++◌, Bool, true, false, List, Option, Some, codes, refl, sym, ap, ◌∙◌, subst, ◌⊎◌, inl, inr}
 use Rattle.std.specs.Prelude.{ℤ, pos, negsuc, ◌≢◌}
-use Rattle.ir_mean.specs.Operators.{Answer, answers, unary_value, binary_value, boolean_value, number_value, long_value, shift_value, any_value, text_of, joined}
+use Rattle.ir_mean.specs.Operators.{Answer, answers, raises, unary_value, binary_value, boolean_value, number_value, long_value, shift_value, any_value, text_of, joined}
 use Rattle.ir_mean.specs.States as ir
 use Rattle.sj_trees.specs.TypeOf.{unary_result, binary_result}
 use Rattle.sj_trees.specs.declared.operators.BinaryOp.{BinaryOp}
@@ -10,6 +10,8 @@ use Rattle.sj_trees.specs.declared.operators.UnaryOp.{UnaryOp}
 use Rattle.sj_trees.specs.declared.operators.UnaryOp.TheVariants.{BooleanNot, CharToInt, ByteToInt, ShortToInt, IntToLong, IntToChar, IntToByte, IntToShort, LongToInt}
 use Rattle.sj_trees.specs.declared.types.IrType.{IrType}
 use Rattle.sj_trees.specs.declared.types.IrType.TheVariants.{Undefined, Null, Boolean, Char, Byte, Short, Int, Long, String, Class, Nothing}
+use Rattle.body_soundness.specs.Laws.{arithmetic}
+use Rattle.built_forms.specs.Built.{Usable, divides}
 use Rattle.body_rules.specs.Operators.{is_simple, IsDivision, a_quotient, a_remainder, IsLongDivision, a_long_quotient, a_long_remainder}
 use Rattle.typing_rules.specs.Rules.{unary_operand, left_operand, right_operand, IsText as IsJoined}
 use Rattle.sj_names.proofs.Same.{impossible}
@@ -305,6 +307,29 @@ module _ (sub : IrType → IrType → Type 0) (law : IsSubtyping sub) (at : Clas
   long_division_gives _ a_long_remainder _ (a_long a) (pos zero) ne = absurd (ne refl)
   long_division_gives _ a_long_remainder _ (a_long a) (pos (suc n)) ne = long _
   long_division_gives _ a_long_remainder _ (a_long a) (negsuc n) ne = long _
+
+  -- by any divisor: by zero it is raised
+  abbrev pub Divided : BinaryOp → ir.Value → ir.Value → Type 0
+  Divided o v a = Gives (binary_result o) (binary_value o v a) ⊎ (binary_value o v a ≡ raises arithmetic (codes "/ by zero"))
+
+  int_divided : (o : BinaryOp) → IsDivision o → (v a : ir.Value) → IsNumber v → IsNumber a → Divided o v a
+  int_divided _ a_quotient _ _ (a_number b) (a_number (pos zero)) = inr refl
+  int_divided _ a_remainder _ _ (a_number b) (a_number (pos zero)) = inr refl
+  int_divided o d v _ i (a_number (pos (suc n))) = inl (division_gives o d v i (pos (suc n)) (λ e. cc))
+  int_divided o d v _ i (a_number (negsuc n)) = inl (division_gives o d v i (negsuc n) (λ e. cc))
+
+  long_divided : (o : BinaryOp) → IsLongDivision o → (v a : ir.Value) → IsLong v → IsLong a → Divided o v a
+  long_divided _ a_long_quotient _ _ (a_long b) (a_long (pos zero)) = inr refl
+  long_divided _ a_long_remainder _ _ (a_long b) (a_long (pos zero)) = inr refl
+  long_divided o d v _ i (a_long (pos (suc n))) = inl (long_division_gives o d v i (pos (suc n)) (λ e. cc))
+  long_divided o d v _ i (a_long (negsuc n)) = inl (long_division_gives o d v i (negsuc n) (λ e. cc))
+
+  pub divided_gives : (has : Usable) (o : BinaryOp) → divides has o ≡ true → (v a : ir.Value) → HasType v (left_operand o) → HasType a (right_operand o) → Divided o v a
+  divided_gives has IntDivide h v a i j = int_divided IntDivide a_quotient v a (as_int v i) (as_int a j)
+  divided_gives has IntRemainder h v a i j = int_divided IntRemainder a_remainder v a (as_int v i) (as_int a j)
+  divided_gives has LongDivide h v a i j = long_divided LongDivide a_long_quotient v a (as_long v i) (as_long a j)
+  divided_gives has LongRemainder h v a i j = long_divided LongRemainder a_long_remainder v a (as_long v i) (as_long a j)
+  divided_gives has _ h v a i j = impossible h
 
   null_is : (v : ir.Value) (o : IrType) → IsOf v o → v ≡ ir.null → o ≡ Null
   null_is _ _ of_null e = refl

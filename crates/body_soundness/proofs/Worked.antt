@@ -6,6 +6,7 @@ use Rattle.body_rules.proofs.Lists.{nothing_in, in_front_or_behind, at_front, fu
 use Rattle.body_rules.proofs.Plain.{class_found, plain_world}
 use Rattle.body_rules.specs.Locals.{HasValue}
 use Rattle.body_rules.specs.Standing.{is_bare}
+use Rattle.body_rules.proofs.RulesGive.{no_division}
 use Rattle.body_soundness.proofs.Modules.{never_wrong}
 use Rattle.body_soundness.proofs.Chains.{no_primitive}
 use Rattle.body_soundness.specs.Laws.{ObjectLaws}
@@ -166,6 +167,7 @@ object_laws = record {
   holders = λ c f t h d m sub. on_chain c f t d (field_is c f t h) (text-same d class_name m);
   strangers = λ c f t h o n its sub. none_below c f t o n (field_is c f t h) its sub;
   exceptions = λ h. impossible h;
+  divisions = λ o h. no_division object_use (λ x. refl) o h;
 }
 
 initializer_linked : (e : EntryPoint) → Contains (initializers once (codes "main")) e → object_use.linked (initializer_member e) ≡ true

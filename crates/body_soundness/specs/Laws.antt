@@ -4,7 +4,7 @@ use Rattle.std.specs.List.{list_any}
 use Rattle.body_rules.specs.Locals.{HasValue}
 use Rattle.body_rules.specs.Standing.{is_bare}
 use Rattle.body_soundness.specs.Rules.{RightMember}
-use Rattle.built_forms.specs.Built.{Usable}
+use Rattle.built_forms.specs.Built.{Usable, divides}
 use Rattle.ir_mean.specs.Dispatch.{chain_of}
 use Rattle.ir_mean.specs.Meaning.{with_message}
 use Rattle.ir_mean.specs.World.{World, class_of, member_of, zeros_in, zero_of}
@@ -17,6 +17,7 @@ use Rattle.sj_names.specs.Same.{is_same_text}
 use Rattle.sj_names.specs.declared.method_names.Member.{Member}
 use Rattle.sj_names.specs.declared.method_names.Namespace.TheVariants.{Constructor}
 use Rattle.sj_trees.specs.Types.{class_type}
+use Rattle.sj_trees.specs.declared.operators.BinaryOp.{BinaryOp}
 use Rattle.sj_trees.specs.declared.types.IrType.{IrType}
 use Rattle.sj_trees.specs.declared.types.IrType.TheVariants.{Class}
 use Rattle.sj_world.specs.Subtypes.{hijacked_class, IsSub}
@@ -29,9 +30,13 @@ pub data HasReceivers (has : Usable) : Type 0 where
 abbrev pub null_pointer : List ℕ
 null_pointer = codes "java.lang.NullPointerException"
 
+abbrev pub arithmetic : List ℕ
+arithmetic = codes "java.lang.ArithmeticException"
+
 -- Members that run on an object and constructors keep the rules; where there are receivers, bodies define no local twice; objects of a class that is made
 -- stand at no bare type. A field that can be read has one type, with values, and is an instance field of its class, which stands on the chain of
--- superclasses of each class that is made below it; no primitive type is below it. Where the null check can be used, its exception is made.
+-- superclasses of each class that is made below it; no primitive type is below it. Where the null check can be used, its exception is
+-- made, and so is that of a division whose helper can be used.
 pub record ObjectLaws (w : World) (has : Usable) : Type 0 where
   pub received : (m : Member) → has.received m ≡ true → RightMember w has m
   pub built : (m : Member) → has.built m ≡ true → RightMember w has m
@@ -42,3 +47,4 @@ pub record ObjectLaws (w : World) (has : Usable) : Type 0 where
   pub holders : (c f : List ℕ) (t : IrType) → has.field c f t ≡ true → (d : List ℕ) → has.made d ≡ true → IsSub w (Class d) (class_type c) → list_any (is_same_text c) (chain_of w d) ≡ true
   pub strangers : (c f : List ℕ) (t : IrType) → has.field c f t ≡ true → (o : IrType) (h : List ℕ) → hijacked_class o ≡ Some h → IsSub w o (class_type c) → ⊥
   pub exceptions : has.helper check_name ≡ true → (has.made null_pointer ≡ true) × (has.built (member null_pointer Constructor with_message) ≡ true)
+  pub divisions : (o : BinaryOp) → divides has o ≡ true → (has.made arithmetic ≡ true) × (has.built (member arithmetic Constructor with_message) ≡ true)

@@ -2,9 +2,9 @@
 use Rattle.std.specs.Prelude.{◌≡◌, true, false, Some}
 use Rattle.std.specs.List.{Contains}
 use Rattle.body_rules.specs.Locals.{HasValue}
-use Rattle.body_soundness.specs.Laws.{HasReceivers, null_pointer}
+use Rattle.body_soundness.specs.Laws.{HasReceivers, null_pointer, arithmetic}
 use Rattle.body_soundness.specs.Rules.{RightMember}
-use Rattle.built_forms.specs.Built.{Usable}
+use Rattle.built_forms.specs.Built.{Usable, divides}
 use Rattle.ir_mean.specs.Meaning.{with_message}
 use Rattle.ir_mean.specs.World.{member_of, zeros_in, zero_of}
 use Rattle.ir_mean.specs.World as ir_world
@@ -15,6 +15,7 @@ use Rattle.sj_names.specs.declared.method_names.Namespace.TheVariants.{Construct
 use Rattle.sj_proper.specs.Once.{NamesOnce}
 use Rattle.sj_trees.specs.Term.{Term}
 use Rattle.sj_trees.specs.declared.classes.MethodDef.{MethodDef}
+use Rattle.sj_trees.specs.declared.operators.BinaryOp.{BinaryOp}
 use Rattle.sj_trees.specs.declared.types.IrType.{IrType}
 use Rattle.sj_world.specs.Refusals.{HasNoCycle}
 use Rattle.sj_local.specs.ClassRules.{is_interface, keeps_superclass, keeps_hijacked}
@@ -55,3 +56,4 @@ pub record ObjectWorld (w : Classes) (has : Usable) : Type 0 where
   pub fields : (c f : Name) (t : IrType) → has.field c f t ≡ true → HasFields w c × HasValue t × (zeros_in (ir_world.class_of w c) f ≡ Some (zero_of t))
   pub one_type : (c f : Name) (s t : IrType) → has.field c f s ≡ true → has.field c f t ≡ true → s ≡ t
   pub exceptions : has.helper check_name ≡ true → (has.made null_pointer ≡ true) × (has.built (member null_pointer Constructor with_message) ≡ true)
+  pub divisions : (o : BinaryOp) → divides has o ≡ true → (has.made arithmetic ≡ true) × (has.built (member arithmetic Constructor with_message) ≡ true)

@@ -1,5 +1,5 @@
 -- The forms of bodies that are built: what is asked of a method beside its typing, so that the theorem on bodies covers it, one Boolean.
-use Rattle.std.specs.Prelude.{ℕ, pos, Bool, true, false, ◌&&◌, ◌||◌, not, List, [], ◌∷◌, Option, Some, None}
+use Rattle.std.specs.Prelude.{ℕ, pos, Bool, true, false, ◌&&◌, ◌||◌, not, List, [], ◌∷◌, Option, Some, None, codes}
 use Rattle.std.specs.Ordering.{int_eq}
 use Rattle.sj_desugar.specs.Coercions.{is_char}
 use Rattle.sj_desugar.specs.Desugar.{member}
@@ -47,16 +47,6 @@ abbrev pub is_nonzero_long : Term → Bool
 is_nonzero_long (long_literal p z) = not (int_eq z (pos 0))
 is_nonzero_long _ = false
 
--- an operator with this right operand: any but those of identity; a divisor is a literal other than zero
-abbrev pub is_operation : BinaryOp → Term → Bool
-is_operation StrictEqual d = false
-is_operation StrictNotEqual d = false
-is_operation IntDivide d = is_nonzero_int d
-is_operation IntRemainder d = is_nonzero_int d
-is_operation LongDivide d = is_nonzero_long d
-is_operation LongRemainder d = is_nonzero_long d
-is_operation _ d = true
-
 -- what a body can use: the static members that are linked, and those that run on a receiver; the constructors that are; the classes of which objects are
 -- made; their fields, with their types; helpers, by their names; and whether it can throw, and name the object that it runs on
 pub record Usable : Type 0 where
@@ -72,10 +62,28 @@ pub record Usable : Type 0 where
 abbrev pub members_alone : (Member → Bool) → Usable
 members_alone linked = record { linked = linked; received = λ m. false; built = λ m. false; made = λ c. false; field = λ c f t. false; helper = λ x. false; objects = false }
 
+-- the operator is a division whose helper can be used
+abbrev pub divides : Usable → BinaryOp → Bool
+divides has IntDivide = has.helper (codes "$id")
+divides has IntRemainder = has.helper (codes "$im")
+divides has LongDivide = has.helper (codes "$ld")
+divides has LongRemainder = has.helper (codes "$lm")
+divides has _ = false
+
+-- an operator with this right operand: any but those of identity; a divisor is a literal other than zero where the helper of the division can't be used
+abbrev pub is_operation : Usable → BinaryOp → Term → Bool
+is_operation has StrictEqual d = false
+is_operation has StrictNotEqual d = false
+is_operation has IntDivide d = divides has IntDivide || is_nonzero_int d
+is_operation has IntRemainder d = divides has IntRemainder || is_nonzero_int d
+is_operation has LongDivide d = divides has LongDivide || is_nonzero_long d
+is_operation has LongRemainder d = divides has LongRemainder || is_nonzero_long d
+is_operation has _ d = true
+
 -- what a body can use, and the receivers that are never null or whose null check can be used
 module _ (has : Usable) (checked : Term → Bool) where
-  -- the tree is of the forms that are built, whatever the trees in it are: what it calls, makes and reads is there, its divisor is a literal, its receiver
-  -- is checked where it has to be, the call of a constructor has no value, what a field is set to is plain, and no char stands where another type is expected
+  -- the tree is of the forms that are built, whatever the trees in it are: what it calls, makes and reads is there, so is the helper of its division or its divisor is a literal, its
+  -- receiver is checked where it has to be, the call of a constructor has no value, what a field is set to is plain, and no char stands where another type is expected
   abbrev pub stands : List Label → Term → Bool
   stands ls (var_def p x t b e) = not (is_boxed t e)
   stands ls (skip p) = true
@@ -95,7 +103,7 @@ module _ (has : Usable) (checked : Term → Bool) where
   stands ls (apply_statically p e c Constructor m ts t) = has.built (member c Constructor m) && (is_no_type t && not (any_is_boxed m.params ts))
   stands ls (apply_static p c n m ts t) = has.linked (member c n m) && not (any_is_boxed m.params ts)
   stands ls (unary_op p o e) = true
-  stands ls (binary_op p o e d) = is_operation o d
+  stands ls (binary_op p o e d) = is_operation has o d
   stands ls (undefined_literal p) = true
   stands ls (null_literal p) = true
   stands ls (boolean_literal p b) = true

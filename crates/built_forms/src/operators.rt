@@ -25,7 +25,7 @@ fn is_nonzero_long(tree: &Tree) -> bool
 
 /// Whether an operator is built with this right operand: each is but those of identity, and a divisor is a literal other than zero.
 pub fn is_operation(op: BinaryOp, right: &Tree) -> bool
-    ensures { result ≡ built.is_operation op (view right.now) }
+    ensures { result ≡ built.is_operation built.anything op (view right.now) }
 {
     match op {
         BinaryOp::StrictEqual | BinaryOp::StrictNotEqual => false,

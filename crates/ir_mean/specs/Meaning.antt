@@ -176,7 +176,8 @@ abbrev pub assign_field : List ℕ → List ℕ → List Value → Run
 assign_field c f (reference a ∷ v ∷ []) env s = assigned (set_field c f v a (slice_get s.heap a) s) env s
 assign_field c f _ env s = wrong
 
--- the right side of an assignment to a field, and the assignment, where there is an object; what has no fields has no meaning here, whatever the right side is
+-- the right side of an assignment to a field, and the assignment, where there is an object; what has no fields has no meaning here, whatever the right side is, and no typed body comes
+-- to it
 abbrev pub assign_on : List ℕ → List ℕ → Run → List Value → Run
 assign_on c f r (reference a ∷ []) env s = in_order (r ∷ []) (λ vs. assign_field c f (reference a ∷ vs)) env s
 assign_on c f r _ env s = wrong

@@ -133,8 +133,8 @@ module _ (z : Setting) (lawful : Lawful z) (low : LowAlike z) where
   unary_does : (p : Position) (o : UnaryOp) (e : Term) → TreeDoes z lawful low e → TreeDoes z lawful low (unary_op p o e)
   unary_does p o e does c k j sound ahead out wr fine = of_operands z lawful c k (piece z lawful low c.targets e ∷ []) j (ir_meaning.unary z.place.classes z.low o) (λ es. finish k p (unary_result o) false (core.unary_of o (first_of es))) sound ahead (operand_does z lawful low c j e does out (part_of c fine.scene fine.amid e fine.written (unary_operand o) fine.typed.0.meets (unary-operand-value o) fine.typed.1 fine.around fine.once), tt) (one_final z lawful c k j (type_of_term e) (ir_meaning.unary z.place.classes z.low o) (λ es. finish k p (unary_result o) false (core.unary_of o (first_of es))) (finish_one z lawful low c k p (type_of_term e) (unary_result o) (ir_meaning.unary z.place.classes z.low o) (core.unary_of o) j sound wr (fits-value z.place.classes lawful.base.ordered k (unary_result o) fine.asks (unary-value o)) (λ r x w env s sc u alike same. unary_alike z lawful c.scope o (type_of_term e) r x (fits-unary z.place.classes lawful.base.ordered o (type_of_term e) fine.typed.0.meets) w env s sc u alike same)))
 
-  binary_final : (p : Position) (o : BinaryOp) (s t : IrType) (c : Context) (k : Destination) (j : ℕ) → Operates o s t → Sound z.is_mutable c → Writes c.writable k → FitsIn k (binary_result o) → (w : World) (sc : js.Scope) → TwoFinal z lawful c k w sc j s t (ir_meaning.binary z.place.classes z.low o) (λ es. finish k p (binary_result o) false (core.binary_of o (operand_of o s (first_of es)) (operand_of o t (second_of es))))
-  binary_final p o m n c k j operates sound wr fits from before i r q e d w env s sc u ahead l g ready ks same operands = finish_alike z lawful c k p (binary_result o) (core.binary_of o (operand_of o m e) (operand_of o n d)) i sound wr fits w from before env (ir_meaning.in_order (r ∷ q ∷ []) (ir_meaning.binary z.place.classes z.low o) env s) sc u g ks ready (binary_alike z lawful c.scope o m n r q e d operates w env s sc u operands same)
+  binary_final : (p : Position) (o : BinaryOp) (s t : IrType) (c : Context) (k : Destination) (j : ℕ) → Operates (usable z) o s t → Sound z.is_mutable c → Writes c.writable k → FitsIn k (binary_result o) → (w : World) (sc : js.Scope) → TwoFinal z lawful c k w sc j s t (ir_meaning.binary z.place.classes z.low o) (λ es. finish k p (binary_result o) false (core.binary_of o (operand_of o s (first_of es)) (operand_of o t (second_of es))))
+  binary_final p o m n c k j operates sound wr fits from before i r q e d w env s sc u ahead l g ready ks same operands = finish_alike z lawful c k p (binary_result o) (core.binary_of o (operand_of o m e) (operand_of o n d)) i sound wr fits w from before env (ir_meaning.in_order (r ∷ q ∷ []) (ir_meaning.binary z.place.classes z.low o) env s) sc u g ks ready (binary_alike z lawful c.scope o m n r q e d operates w env s sc u ready.sees.inside operands same)
 
   binary_does : (p : Position) (o : BinaryOp) (e d : Term) → TreeDoes z lawful low e → TreeDoes z lawful low d → TreeDoes z lawful low (binary_op p o e d)
   binary_does p o e d does_e does_d c k j sound ahead out wr fine = by (operation z.place.classes (usable z) fine.scene o e d fine.typed.0.built fine.typed.2 fine.typed.0.meets)
@@ -148,8 +148,8 @@ module _ (z : Setting) (lawful : Lawful z) (low : LowAlike z) where
       fits_here : FitsIn k (binary_result o)
       fits_here = fits-value z.place.classes lawful.base.ordered k (binary_result o) fine.asks (binary-value o)
 
-      by : Takes z.place.classes o e d ⊎ (DividesBy o d × IsSub z.place.classes (type_of_term e) (left_operand o)) → Does z lawful c k j (binary_op p o e d)
-      by (inl h) = of_operands z lawful c k (piece z lawful low c.targets e ∷ piece z lawful low c.targets d ∷ []) j (ir_meaning.binary z.place.classes z.low o) (λ es. finish k p (binary_result o) false (core.binary_of o (operand_of o (type_of_term e) (first_of es)) (operand_of o (type_of_term d) (second_of es)))) sound ahead (operand_does z lawful low c j e does_e out_e (operand_by z.place.classes lawful.base.ordered z.is_mutable (usable z) z.code c.scope (around c) fine.scene fine.amid e (one_mutable z.is_mutable e d fine.written) (λ y. asks-left z.place.classes lawful.base.ordered y o e d h) fine.typed.1 fine.around fine.once.0), (operand_does z lawful low c j d does_d out_d (operand_by z.place.classes lawful.base.ordered z.is_mutable (usable z) z.code c.scope (around c) fine.scene fine.amid d (other_mutable z.is_mutable e d fine.written) (λ y. asks-right z.place.classes lawful.base.ordered y o e d h) fine.typed.2 fine.around fine.once.1), tt)) (two_final z lawful c k j (type_of_term e) (type_of_term d) (ir_meaning.binary z.place.classes z.low o) (λ es. finish k p (binary_result o) false (core.binary_of o (operand_of o (type_of_term e) (first_of es)) (operand_of o (type_of_term d) (second_of es)))) (binary_final p o (type_of_term e) (type_of_term d) c k j (operates z.place.classes lawful.base.ordered o e d h) sound wr fits_here))
+      by : Takes z.place.classes (usable z) o e d ⊎ (DividesBy o d × IsSub z.place.classes (type_of_term e) (left_operand o)) → Does z lawful c k j (binary_op p o e d)
+      by (inl h) = of_operands z lawful c k (piece z lawful low c.targets e ∷ piece z lawful low c.targets d ∷ []) j (ir_meaning.binary z.place.classes z.low o) (λ es. finish k p (binary_result o) false (core.binary_of o (operand_of o (type_of_term e) (first_of es)) (operand_of o (type_of_term d) (second_of es)))) sound ahead (operand_does z lawful low c j e does_e out_e (operand_by z.place.classes lawful.base.ordered z.is_mutable (usable z) z.code c.scope (around c) fine.scene fine.amid e (one_mutable z.is_mutable e d fine.written) (λ y. asks-left z.place.classes lawful.base.ordered (usable z) y o e d h) fine.typed.1 fine.around fine.once.0), (operand_does z lawful low c j d does_d out_d (operand_by z.place.classes lawful.base.ordered z.is_mutable (usable z) z.code c.scope (around c) fine.scene fine.amid d (other_mutable z.is_mutable e d fine.written) (λ y. asks-right z.place.classes lawful.base.ordered (usable z) y o e d h) fine.typed.2 fine.around fine.once.1), tt)) (two_final z lawful c k j (type_of_term e) (type_of_term d) (ir_meaning.binary z.place.classes z.low o) (λ es. finish k p (binary_result o) false (core.binary_of o (operand_of o (type_of_term e) (first_of es)) (operand_of o (type_of_term d) (second_of es)))) (binary_final p o (type_of_term e) (type_of_term d) c k j (operates z.place.classes lawful.base.ordered (usable z) o e d h) sound wr fits_here))
       by (inr h) = division_does z lawful low p c k j o e d h.0 (fits-dividend z.place.classes lawful.base.ordered o d (type_of_term e) h.0 h.1) sound ahead wr fits_here (operand_does z lawful low c j e does_e out_e (part_of c fine.scene fine.amid e (one_mutable z.is_mutable e d fine.written) (left_operand o) h.1 (left-operand-value o) fine.typed.1 fine.around fine.once.0))
 
   abbrev OperandsFine : Terms → Type 1

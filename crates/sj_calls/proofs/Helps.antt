@@ -79,7 +79,7 @@ two_grouped o a b = then_do-associative o a b
 three_grouped : {A B C D : Type 0} (o : Out A) (a : A → Out B) (b : B → Out C) (c : C → Out D) → then_do (then_do (then_do o a) b) c ≡ then_do o (λ x. then_do (then_do (a x) b) c)
 three_grouped o a b c = ap (λ q. then_do q c) (two_grouped o a b) ∙ two_grouped o (λ x. then_do (a x) b) c
 
-five_grouped : {A B C D E F : Type 0} (o : Out A) (a : A → Out B) (b : B → Out C) (c : C → Out D) (d : D → Out E) (e : E → Out F) → then_do (then_do (then_do (then_do (then_do o a) b) c) d) e ≡ then_do o (λ x. then_do (then_do (then_do (then_do (a x) b) c) d) e)
+pub five_grouped : {A B C D E F : Type 0} (o : Out A) (a : A → Out B) (b : B → Out C) (c : C → Out D) (d : D → Out E) (e : E → Out F) → then_do (then_do (then_do (then_do (then_do o a) b) c) d) e ≡ then_do o (λ x. then_do (then_do (then_do (then_do (a x) b) c) d) e)
 five_grouped o a b c d e = ap (λ q. then_do (then_do q d) e) (three_grouped o a b c) ∙ three_grouped o (λ x. then_do (then_do (a x) b) c) d e
 
 -- the call of the helper that fails, in a block of its own, and what comes behind that
@@ -126,10 +126,10 @@ module _ (p : Place) where
       around o = then_do (then_do (then_do (then_do (then_do (then_do o (js.with_value (λ f. js_meaning.in_order [] (js_meaning.call p.program (js_meaning.below p.program m) f) (js_meaning.enter failing_block (check_scope js.null))))) (js.in_statement (js_meaning.enter failing_block (check_scope js.null)) (λ v. js_meaning.nothing (js_meaning.enter failing_block (check_scope js.null))))) (js.next_statement js_meaning.nothing)) (js_meaning.leaving failing_block (check_scope js.null))) (js.next_statement (js_meaning.execute_all p.program (js_meaning.below p.program m) hands_back))) js_meaning.returned
 
 -- what the helper that fails does on both sides, where its function has this bound
-abbrev pub FailsAt : Direction → Place → ir_meaning.Low → ℕ → Type 0
-FailsAt d p low m = (w : World) (env : ir.Env) (s : ir.State) (u : js.State) → SameState p w s u → Sim d (Failed p w env) (ir_meaning.raise p.classes low (codes "java.lang.NullPointerException") (codes "null") env s) (top_call p (js_meaning.below p.program m) (a_helper (Throws NullReceiver)) [] u)
+abbrev pub FailsAt : Direction → Place → ir_meaning.Low → ℕ → Helper → List ℕ → List ℕ → Type 0
+FailsAt d p low m h e message = (w : World) (env : ir.Env) (s : ir.State) (u : js.State) → SameState p w s u → Sim d (Failed p w env) (ir_meaning.raise p.classes low e message env s) (top_call p (js_meaning.below p.program m) (a_helper h) [] u)
 
-module _ (d : Direction) (p : Place) (low : ir_meaning.Low) (m : ℕ) (stands : HelperStands p NotNull checking_code) (owned : owner p.program (p.home (a_helper NotNull)) (helper_name (Throws NullReceiver)) ≡ Some (p.home (a_helper (Throws NullReceiver)))) (fails : FailsAt d p low m) where
+module _ (d : Direction) (p : Place) (low : ir_meaning.Low) (m : ℕ) (stands : HelperStands p NotNull checking_code) (owned : owner p.program (p.home (a_helper NotNull)) (helper_name (Throws NullReceiver)) ≡ Some (p.home (a_helper (Throws NullReceiver)))) (fails : FailsAt d p low m (Throws NullReceiver) (codes "java.lang.NullPointerException") (codes "null")) where
   -- the null check of a value, and its helper
   pub checks_alike : (held : (w : World) (s : ir.State) (u : js.State) → SameState p w s u → u.tops (p.home (a_helper (Throws NullReceiver))) (helper_name (Throws NullReceiver)) ≡ js.holds false (top_function p (a_helper (Throws NullReceiver)))) (t : IrType) (w : World) (v : ir.Value) (x : js.Value) (env : ir.Env) (s : ir.State) (u : js.State) → SameValue w t v x → SameState p w s u → Sim d (Valued p w env t) (ir_meaning.answered p.classes low (ir_meaning.not_null p.classes v) env s) (top_call p (js_meaning.below p.program (suc m)) (a_helper NotNull) (x ∷ []) u)
   checks_alike held t w v x env s u a same = by v x a.stands a.suits

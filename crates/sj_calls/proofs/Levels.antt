@@ -22,6 +22,7 @@ use Rattle.sj_plain.proofs.Worlds.{World, SameValues}
 use Rattle.body_rules.specs.Standing.{types_referred, call_type}
 use Rattle.sj_calls.specs.Methods.{Linked, CallsAlone, CallsAgree, ir_call, js_call}
 use Rattle.sj_calls.proofs.Calls.{call_alike}
+use Rattle.body_rules.proofs.RulesGive.{no_division}
 use Rattle.body_rules.specs.Subtyping.{IsSubtyping}
 use Rattle.sj_world.specs.Subtypes.{IsSub}
 
@@ -67,7 +68,7 @@ module _ (p : Place) (ordered : IsSubtyping (IsSub p.classes)) (names : NamesDif
   }
 
   lawful : (d : Direction) (n k : ℕ) → Levels d n → Enough p.room p.room.each d n k → (f : Code) → Reaches p f.file → (is_mutable : List ℕ → Bool) → Lawful (within f d is_mutable n k)
-  lawful d n k levels h f reaches is_mutable = record { base = based d n k levels (fewer d p.room.each n k h) f reaches is_mutable; checks = λ i. impossible (sym (alone.helper f.file check_name) ∙ i) }
+  lawful d n k levels h f reaches is_mutable = record { base = based d n k levels (fewer d p.room.each n k h) f reaches is_mutable; checks = λ i. impossible (sym (alone.helper f.file check_name) ∙ i); divisions = λ o i. no_division (p.has f.file) (alone.helper f.file) o i }
 
   next : (d : Direction) (n k : ℕ) → Levels d n → Enough p.room p.room.each d n k → Level d (suc n) (suc k)
   next d n k levels h f reaches is_mutable c q j t sound ahead out wr fine w env s sc u ready same = does (within f d is_mutable n k) (lawful d n k levels h f reaches is_mutable) (levels k (fewer d p.room.each n k h) f reaches is_mutable) t c q j sound ahead out wr fine w env s sc u ready same

@@ -3,6 +3,7 @@ pub mod Calls
 pub mod Chains
 pub mod Items
 pub mod Helps
+pub mod Dividing
 pub mod Levels
 pub mod Making
 pub mod Names

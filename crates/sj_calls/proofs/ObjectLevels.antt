@@ -3,7 +3,8 @@ use Rattle.std.specs.Prelude.{◌+◌, ◌*◌, ◌≤◌, codes}
 use Rattle.std.proofs.Common.{◌≡◌, ℕ, zero, suc, Bool, true, false, List, [], ◌∷◌, Some, length, refl, sym, ap, subst, arith}
 use Rattle.outcomes.specs.Agreement.{Direction, forward, backward, Enough, Sim}
 use Rattle.outcomes.proofs.Simulation.{sim_over, sim_going}
-use Rattle.helper_rules.specs.declared.kinds.Failure.TheVariants.{NullReceiver}
+use Rattle.helper_rules.specs.declared.kinds.Failure.TheVariants.{NullReceiver, Division}
+use Rattle.helper_rules.specs.declared.kinds.Helper.{Helper}
 use Rattle.helper_rules.specs.declared.kinds.Helper.TheVariants.{NotNull, Throws}
 use Rattle.ir_mean.specs.Dispatch.{chain_of}
 use Rattle.ir_mean.specs.Meaning as ir_meaning
@@ -16,19 +17,28 @@ use Rattle.sj_desugar.specs.Desugar.{into, is_mutable_in}
 use Rattle.sj_emit_expr.specs.Templates.{statement_templates}
 use Rattle.sj_names.specs.declared.method_names.Member.{Member}
 use Rattle.sure_receivers.specs.Sure.{sure_locals}
-use Rattle.sj_plain.specs.Settings.{Place, Code, a_function, a_method, a_constructor, a_helper, Setting, SameState, Valued, Built, NamesDiffer, Reaches, Based, Lawful, BuildsAlike, ReceivesAlike, ChecksAlike}
-use Rattle.body_rules.specs.Standing.{types_referred, call_type}
+use Rattle.sj_plain.specs.Settings.{Place, Code, a_function, a_method, a_constructor, a_helper, division_helper, Setting, SameState, Valued, Built, NamesDiffer, Reaches, Based, Lawful, BuildsAlike, ReceivesAlike, ChecksAlike, DividesAlike}
+use Rattle.body_rules.specs.Standing.{is_bare, Fits, types_referred, call_type}
+use Rattle.built_forms.specs.Built.{divides}
+use Rattle.ir_mean.specs.Operators.{binary_value}
+use Rattle.sj_desugar.specs.Desugar.{member}
+use Rattle.sj_names.specs.declared.method_names.Namespace.TheVariants.{Constructor}
+use Rattle.sj_trees.specs.TypeOf.{binary_result}
+use Rattle.sj_trees.specs.Types.{class_type}
+use Rattle.sj_trees.specs.declared.operators.BinaryOp.{BinaryOp}
+use Rattle.sj_trees.specs.declared.types.IrType.TheVariants.{Any}
 use Rattle.sj_plain.proofs.Worlds.{World, SameValues}
 use Rattle.sj_bodies.proofs.Contexts.{Came}
 use Rattle.sj_bodies.proofs.Main.{does}
 use Rattle.sj_bodies.proofs.Trees.{LowAlike}
 use Rattle.body_rules.specs.Subtyping.{IsSubtyping}
 use Rattle.sj_world.specs.Subtypes.{IsSub}
-use Rattle.sj_calls.specs.Helpers.{Failed}
+use Rattle.sj_calls.specs.Helpers.{HelperStands, failing_code, Failed}
 use Rattle.sj_calls.specs.Methods.{Linked, CallsAgree, ir_call, js_call}
 use Rattle.sj_calls.specs.Objects.{RunsOn, Constructs}
-use Rattle.sj_calls.specs.Worlds.{IsMade, CanCheck, HasObjects}
+use Rattle.sj_calls.specs.Worlds.{IsMade, CanCheck, CanDivide, HasObjects}
 use Rattle.sj_calls.proofs.Calls.{call_alike}
+use Rattle.sj_calls.proofs.Dividing.{divides_alike}
 use Rattle.sj_calls.proofs.Helps.{FailsAt, fails_alike, checks_alike, in_helper}
 use Rattle.sj_calls.proofs.News.{made_alike}
 use Rattle.sj_calls.proofs.Receivers.{receive_alike, build_alike}
@@ -89,19 +99,24 @@ module _ (p : Place) (ordered : IsSubtyping (IsSub p.classes)) (names : NamesDif
     makes = λ c l w env s u same. let made = has.made f.file c l in made_alike d p c k (enough_for d n k c made h) w env s u (made.stands w s u same) same;
   }
 
-  -- the helper that fails, within what is left of the units around a call
-  fails_at : CanCheck p → (d : Direction) (n m : ℕ) → Levels d n → Enough p.room p.room.each d n (suc m) → FailsAt d p (ir_meaning.below p.classes n) m
-  fails_at can d n (suc q) levels h = fails_alike d p (Throws NullReceiver) (ir_meaning.below p.classes n) q (codes "java.lang.NullPointerException") (codes "null") (based d n q levels (two_fewer d n q h) (in_helper p (Throws NullReceiver)) can.reaches (λ x. false)) can.failure can.built can.made refl refl
-  fails_at can forward n zero levels h = let e = has.each in absurd (omega (arith, e, h))
-  fails_at can backward n zero levels h = λ w env s u same. subst (λ o. Sim backward (Failed p w env) (ir_meaning.raise p.classes (ir_meaning.below p.classes n) (codes "java.lang.NullPointerException") (codes "null") env s) o) (sym (ap (λ o. js_meaning.code_call (js_meaning.below p.program 0) (p.home (a_helper (Throws NullReceiver))) o [] u) can.failure)) (sim_going (Failed p w env) (ir_meaning.raise p.classes (ir_meaning.below p.classes n) (codes "java.lang.NullPointerException") (codes "null") env s))
+  -- a helper that fails, within what is left of the units around a call
+  fails_at : (h : Helper) (e message : List ℕ) → HelperStands p h (failing_code e message) → Reaches p (p.home (a_helper h)) → (p.has (p.home (a_helper h))).built (member e Constructor ir_meaning.with_message) ≡ true → (p.has (p.home (a_helper h))).made e ≡ true → is_bare (class_type e) ≡ false → Fits Any (class_type e) → (d : Direction) (n m : ℕ) → Levels d n → Enough p.room p.room.each d n (suc m) → FailsAt d p (ir_meaning.below p.classes n) m h e message
+  fails_at h e message stands reaches built made bare any d n (suc q) levels enough = fails_alike d p h (ir_meaning.below p.classes n) q e message (based d n q levels (two_fewer d n q enough) (in_helper p h) reaches (λ x. false)) stands built made bare any
+  fails_at h e message stands reaches built made bare any forward n zero levels enough = let k = has.each in absurd (omega (arith, k, enough))
+  fails_at h e message stands reaches built made bare any backward n zero levels enough = λ w env s u same. subst (λ o. Sim backward (Failed p w env) (ir_meaning.raise p.classes (ir_meaning.below p.classes n) e message env s) o) (sym (ap (λ o. js_meaning.code_call (js_meaning.below p.program 0) (p.home (a_helper h)) o [] u) stands)) (sim_going (Failed p w env) (ir_meaning.raise p.classes (ir_meaning.below p.classes n) e message env s))
 
   checks_at : CanCheck p → (f : Code) (is_mutable : List ℕ → Bool) (d : Direction) (n k : ℕ) → Levels d n → Enough p.room p.room.each d n k → ChecksAlike (within f d is_mutable n k)
-  checks_at can f is_mutable d n (suc m) levels h = checks_alike d p (ir_meaning.below p.classes n) m can.check can.owned (fails_at can d n m levels h) can.held
+  checks_at can f is_mutable d n (suc m) levels h = checks_alike d p (ir_meaning.below p.classes n) m can.check can.owned (fails_at (Throws NullReceiver) (codes "java.lang.NullPointerException") (codes "null") can.failure can.reaches can.built can.made refl refl d n m levels h) can.held
   checks_at can f is_mutable forward n zero levels h = let e = has.beyond in absurd (omega (arith, e, h))
   checks_at can f is_mutable backward n zero levels h = λ t w v x env s u a same. subst (λ o. Sim backward (Valued p w env t) (ir_meaning.answered p.classes (ir_meaning.below p.classes n) (ir_meaning.not_null p.classes v) env s) o) (sym (ap (λ o. js_meaning.code_call (js_meaning.below p.program 0) (p.home (a_helper NotNull)) o (x ∷ []) u) can.check)) (sim_going (Valued p w env t) (ir_meaning.answered p.classes (ir_meaning.below p.classes n) (ir_meaning.not_null p.classes v) env s))
 
+  divides_at : (f : Code) (is_mutable : List ℕ → Bool) (o : BinaryOp) → divides (p.has f.file) o ≡ true → CanDivide p o → (d : Direction) (n k : ℕ) → Levels d n → Enough p.room p.room.each d n k → DividesAlike (within f d is_mutable n k) o
+  divides_at f is_mutable o i can d n (suc m) levels h = λ w v v' x x' env s u a b same. divides_alike d p (ir_meaning.below p.classes n) m (fails_at (Throws Division) (codes "java.lang.ArithmeticException") (codes "/ by zero") can.failure can.reaches can.built can.made refl refl d n m levels h) w env s u same (p.has f.file) o i can v v' x x' a b
+  divides_at f is_mutable o i can forward n zero levels h = let e = has.beyond in absurd (omega (arith, e, h))
+  divides_at f is_mutable o i can backward n zero levels h = λ w v v' x x' env s u a b same. subst (λ q. Sim backward (Valued p w env (binary_result o)) (ir_meaning.answered p.classes (ir_meaning.below p.classes n) (binary_value o v v') env s) q) (sym (ap (λ c. js_meaning.code_call (js_meaning.below p.program 0) (p.home (a_helper (division_helper o))) c (x ∷ x' ∷ []) u) can.division)) (sim_going (Valued p w env (binary_result o)) (ir_meaning.answered p.classes (ir_meaning.below p.classes n) (binary_value o v v') env s))
+
   lawful : (d : Direction) (n k : ℕ) → Levels d n → Enough p.room p.room.each d n k → (f : Code) → Reaches p f.file → (is_mutable : List ℕ → Bool) → Lawful (within f d is_mutable n k)
-  lawful d n k levels h f reaches is_mutable = record { base = based d n k levels (fewer d p.room.each n k h) f reaches is_mutable; checks = λ i. checks_at (has.checked f.file i) f is_mutable d n k levels h }
+  lawful d n k levels h f reaches is_mutable = record { base = based d n k levels (fewer d p.room.each n k h) f reaches is_mutable; checks = λ i. checks_at (has.checked f.file i) f is_mutable d n k levels h; divisions = λ o i. divides_at f is_mutable o i (has.divided f.file o i) d n k levels h }
 
   next : (d : Direction) (n k : ℕ) → Levels d n → Enough p.room p.room.each d n k → Level d (suc n) (suc k)
   next d n k levels h f reaches is_mutable c q j t sound ahead out wr fine w env s sc u ready same = does (within f d is_mutable n k) (lawful d n k levels h f reaches is_mutable) (levels k (fewer d p.room.each n k h) f reaches is_mutable) t c q j sound ahead out wr fine w env s sc u ready same

@@ -1,7 +1,8 @@
--- What the code of a program has of objects: members that run on receivers, constructors, classes, fields and the null check, each where code can use it.
+-- What the code of a program has of objects: members that run on receivers, constructors, classes, fields, the null check and divisions, each where code can use it.
 use Rattle.std.specs.Prelude.{◌≡◌, ℕ, ◌≤◌, true, false, List, length, codes, Option, Some}
+use Rattle.built_forms.specs.Built.{divides}
 use Rattle.helper_rules.specs.Helpers.{helper_name}
-use Rattle.helper_rules.specs.declared.kinds.Failure.TheVariants.{NullReceiver}
+use Rattle.helper_rules.specs.declared.kinds.Failure.TheVariants.{NullReceiver, Division}
 use Rattle.helper_rules.specs.declared.kinds.Helper.TheVariants.{NotNull, Throws}
 use Rattle.ir_mean.specs.Dispatch.{chain_of}
 use Rattle.ir_mean.specs.Meaning.{with_message}
@@ -13,12 +14,13 @@ use Rattle.sj_desugar.specs.Desugar.{member}
 use Rattle.sj_emit_expr.specs.Templates.{check_name}
 use Rattle.sj_names.specs.declared.method_names.Member.{Member}
 use Rattle.sj_names.specs.declared.method_names.Namespace.TheVariants.{Constructor}
+use Rattle.sj_trees.specs.declared.operators.BinaryOp.{BinaryOp}
 use Rattle.sj_trees.specs.declared.types.IrType.{IrType}
-use Rattle.sj_plain.specs.Settings.{Place, SameState, SameStored, HasField, Reaches, a_helper, top_function, link_of, links_of, zeroed}
+use Rattle.sj_plain.specs.Settings.{Place, SameState, SameStored, HasField, Reaches, a_helper, division_helper, top_function, link_of, links_of, zeroed}
 use Rattle.body_rules.specs.Standing.{is_bare}
 use Rattle.sj_plain.specs.Worlds.{World}
 use Rattle.sj_trees.specs.Types.{class_type}
-use Rattle.sj_calls.specs.Helpers.{HelperStands, failing_code, checking_code}
+use Rattle.sj_calls.specs.Helpers.{HelperStands, failing_code, checking_code, division_code}
 use Rattle.sj_calls.specs.Made.{Makers}
 use Rattle.sj_calls.specs.Methods.{Linked}
 use Rattle.sj_calls.specs.Objects.{RunsOn, Constructs}
@@ -44,6 +46,16 @@ pub record CanCheck (p : Place) : Type 0 where
   pub built : (p.has (p.home (a_helper (Throws NullReceiver)))).built (member (codes "java.lang.NullPointerException") Constructor with_message) ≡ true
   pub made : (p.has (p.home (a_helper (Throws NullReceiver)))).made (codes "java.lang.NullPointerException") ≡ true
 
+-- the helper of a division stands in the program, and so does what it throws
+pub record CanDivide (p : Place) (o : BinaryOp) : Type 0 where
+  pub division : HelperStands p (division_helper o) (division_code o)
+  pub failure : HelperStands p (Throws Division) (failing_code (codes "java.lang.ArithmeticException") (codes "/ by zero"))
+  pub owned : owner p.program (p.home (a_helper (division_helper o))) (helper_name (Throws Division)) ≡ Some (p.home (a_helper (Throws Division)))
+  pub held : (w : World) (s : ir.State) (u : js.State) → SameState p w s u → u.tops (p.home (a_helper (Throws Division))) (helper_name (Throws Division)) ≡ js.holds false (top_function p (a_helper (Throws Division)))
+  pub reaches : Reaches p (p.home (a_helper (Throws Division)))
+  pub built : (p.has (p.home (a_helper (Throws Division)))).built (member (codes "java.lang.ArithmeticException") Constructor with_message) ≡ true
+  pub made : (p.has (p.home (a_helper (Throws Division)))).made (codes "java.lang.ArithmeticException") ≡ true
+
 -- what the code of any file can use is there; an object stands at its class; and around a call there are two units for a helper, and one beyond those of the IR
 pub record HasObjects (p : Place) : Type 0 where
   pub linked : (f : Name) (m : Member) → (p.has f).linked m ≡ true → Linked p m
@@ -53,5 +65,6 @@ pub record HasObjects (p : Place) : Type 0 where
   pub objects : (f : Name) (c : List ℕ) → (p.has f).made c ≡ true → is_bare (class_type c) ≡ false
   pub field : (f : Name) (c g : List ℕ) (t : IrType) → (p.has f).field c g t ≡ true → HasField p c g t
   pub checked : (f : Name) → (p.has f).helper check_name ≡ true → CanCheck p
+  pub divided : (f : Name) (o : BinaryOp) → divides (p.has f) o ≡ true → CanDivide p o
   pub each : 2 ≤ p.room.each
   pub beyond : 1 ≤ p.room.beyond

@@ -54,14 +54,14 @@ abbrev number_over : (ℤ → ℤ → ℤ) → Option ℤ → ℤ → Option js.
 number_over f None n = None
 number_over f (Some a) n = Some (js.number (f a n))
 
-abbrev over_int : BinaryOp → ℤ → js.Value → Option js.Value
+abbrev pub over_int : BinaryOp → ℤ → js.Value → Option js.Value
 over_int o n x = number_over (whole_of o) (js_operators.to_number x) n
 
-abbrev over_long : BinaryOp → ℤ → js.Value → Option js.Value
+abbrev pub over_long : BinaryOp → ℤ → js.Value → Option js.Value
 over_long LongDivide n x = wrapped_value (js_operators.binary_value Op.Divide x (js.big_int n))
 over_long _ n x = js_operators.binary_value Op.Remainder x (js.big_int n)
 
-divided_alike : (o : BinaryOp) → IsDivision o → (w : World) (a n : ℤ) → FitsSigned w32 a → FitsSigned w32 n → n ≢ pos 0 → GivenIf w (binary_result o) (ir_operators.binary_value o (ir.number a) (ir.number n)) (over_int o n (js.number a))
+pub divided_alike : (o : BinaryOp) → IsDivision o → (w : World) (a n : ℤ) → FitsSigned w32 a → FitsSigned w32 n → n ≢ pos 0 → GivenIf w (binary_result o) (ir_operators.binary_value o (ir.number a) (ir.number n)) (over_int o n (js.number a))
 divided_alike _ a_quotient w a (pos zero) f g ne = absurd (ne refl)
 divided_alike _ a_quotient w a (pos (suc n)) f g ne = number_given w Int (signed.quotient a (pos (suc n))) _ (ap (λ (x : ℤ). Some (js.number x)) (quotient-is a (pos (suc n)) ne)) (wrapped-fits _) refl
 divided_alike _ a_quotient w a (negsuc n) f g ne = number_given w Int (signed.quotient a (negsuc n)) _ (ap (λ (x : ℤ). Some (js.number x)) (quotient-is a (negsuc n) ne)) (wrapped-fits _) refl
@@ -72,7 +72,7 @@ divided_alike _ a_remainder w a (negsuc n) f g ne = number_given w Int (signed.r
 wrapped_quotient : (a n : ℤ) → FitsSigned w64 a → n ≢ pos 0 → wrapped_value (js_operators.binary_value Op.Divide (js.big_int a) (js.big_int n)) ≡ Some (js.big_int (longs.quotient a n))
 wrapped_quotient a n f ne = ap (λ o. wrapped_value (js_operators.big o)) (on_longs.quotient-is a n f ne) ∙ ap (λ z. Some (js.big_int z)) (on_longs.cut-is (int_div a n))
 
-long_divided_alike : (o : BinaryOp) → IsLongDivision o → (w : World) (a n : ℤ) → FitsSigned w64 a → n ≢ pos 0 → GivenIf w (binary_result o) (ir_operators.binary_value o (ir.long a) (ir.long n)) (over_long o n (js.big_int a))
+pub long_divided_alike : (o : BinaryOp) → IsLongDivision o → (w : World) (a n : ℤ) → FitsSigned w64 a → n ≢ pos 0 → GivenIf w (binary_result o) (ir_operators.binary_value o (ir.long a) (ir.long n)) (over_long o n (js.big_int a))
 long_divided_alike _ a_long_quotient w a (pos zero) f ne = absurd (ne refl)
 long_divided_alike _ a_long_quotient w a (pos (suc n)) f ne = long_given w (longs.quotient a (pos (suc n))) _ (wrapped_quotient a (pos (suc n)) f ne) (on_longs.wrapped-fits _)
 long_divided_alike _ a_long_quotient w a (negsuc n) f ne = long_given w (longs.quotient a (negsuc n)) _ (wrapped_quotient a (negsuc n) f ne) (on_longs.wrapped-fits _)

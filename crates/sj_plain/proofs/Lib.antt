@@ -8,6 +8,7 @@ pub mod Templates
 pub mod Shifts
 pub mod Divisions
 pub mod Tops
+pub mod Divided
 pub mod Objects
 pub mod Received
 pub mod Plain

@@ -53,7 +53,7 @@ pub valued-fits : (z : Setting) (w : World) (env : ir.Env) (expected own : IrTyp
 valued-fits z w env expected own _ _ f (valued y x j s u h same states) = valued y x j s u h (value-fits y expected own x j f same) states
 valued-fits z w env expected own _ _ f (thrown y x j s u h same states) = thrown y x j s u h same states
 
-first_then : (z : Setting) (base w : World) (env : ir.Env) (sc : js.Scope) (t own : IrType) (k : ir.Value → ir.Run) (f : js.Value → js.State → Out js.ExpressionEnd) → Grows base w → ((y : World) (v : ir.Value) (x : js.Value) (s : ir.State) (u : js.State) → Grows w y → SameValue y own v x → SameState z.place y s u → Sim z.direction (Valued z.place base env t) (k v env s) (f x u)) → (a : ir.Ended) (b : js.ExpressionEnd) → Valued z.place w env own a b → Sim z.direction (Valued z.place base env t) (ir.onward k a) (js.with_value f b)
+pub first_then : (z : Setting) (base w : World) (env : ir.Env) (sc : js.Scope) (t own : IrType) (k : ir.Value → ir.Run) (f : js.Value → js.State → Out js.ExpressionEnd) → Grows base w → ((y : World) (v : ir.Value) (x : js.Value) (s : ir.State) (u : js.State) → Grows w y → SameValue y own v x → SameState z.place y s u → Sim z.direction (Valued z.place base env t) (k v env s) (f x u)) → (a : ir.Ended) (b : js.ExpressionEnd) → Valued z.place w env own a b → Sim z.direction (Valued z.place base env t) (ir.onward k a) (js.with_value f b)
 first_then z base w env sc t own k f from goes _ _ (valued y v x s u g alike states) = goes y v x s u g alike states
 first_then z base w env sc t own k f from goes _ _ (thrown y v x s u g alike states) = sim_done z.direction (Valued z.place base env t) (ir.ends (ir.throws v) env s) (js.throws x u) (thrown y v x s u (grows-trans base w y from g) alike states)
 

@@ -4,10 +4,10 @@ use Rattle.std.specs.Prelude.{ℤ, pos, negsuc, FitsSigned, ℕ, ◌&&◌, ◌�
 use Rattle.std.proofs.lemmas.Bool.{and_parts}
 use Rattle.body_rules.proofs.Fitting.{yield-fits, fit-all, fits-unary, fits-dividend, operates, not_no_type, unary-operand-value, left-operand-value, right-operand-value}
 use Rattle.body_rules.proofs.Locals.{there}
-use Rattle.body_rules.proofs.RulesGive.{when_not, Yields, ArgumentsFit, Takes, its_types, texts, one_yields, other_yields, arguments_there, is_linked, operation}
+use Rattle.body_rules.proofs.RulesGive.{when_not, Yields, ArgumentsFit, Takes, its_types, texts, of_division, one_yields, other_yields, arguments_there, is_linked, operation}
 use Rattle.body_rules.specs.Subtyping.{IsSubtyping}
 use Rattle.body_rules.specs.Typing.{Scene, Typed, TypedAll, may_check}
-use Rattle.built_forms.specs.Built.{any_is_boxed}
+use Rattle.built_forms.specs.Built.{Usable, any_is_boxed, divides}
 use Rattle.sj_desugar.specs.Plain.{is_plain, are_plain, is_no_type}
 use Rattle.sj_names.specs.declared.method_names.Namespace.{Namespace}
 use Rattle.sj_names.specs.declared.method_names.MethodName.{MethodName}
@@ -43,13 +43,14 @@ use Rattle.sj_trees.specs.declared.positions.Position.{Position}
 use Rattle.sj_trees.specs.declared.types.IrType.{IrType}
 use Rattle.sj_trees.specs.Types.{class_type, reference_type}
 use Rattle.sj_trees.specs.declared.types.IrType.TheVariants.{Undefined, Null, Boolean, Char, Byte, Short, Int, Long, String}
-use Rattle.body_rules.specs.Operators.{is_simple, Operates, of_its_types, joins, a_quotient, a_remainder, a_long_quotient, a_long_remainder, DividesBy, by_int, by_long}
+use Rattle.body_rules.specs.Operators.{is_simple, Operates, of_its_types, joins, divided, a_quotient, a_remainder, a_long_quotient, a_long_remainder, DividesBy, by_int, by_long}
 use Rattle.typing_rules.specs.Rules.{left_operand, right_operand, unary_operand}
 use Rattle.sj_plain.specs.Conditions.{InScope, IsNoConstruction, Plain}
 use Rattle.body_rules.specs.Locals.{Scope}
 use Rattle.sj_plain.specs.Settings.{Setting, shown, SameState, Inside, Valued, valued, Lawful, Holding, holding, Sees, Receiving, no_receiver, on_receiver, usable, a_function, function_of_member, function_call}
 use Rattle.sj_plain.specs.Standing.{suits}
 use Rattle.body_rules.specs.Standing.{Fits, FitAll, types_referred, call_type}
+use Rattle.sj_plain.proofs.Divided.{divided_operands}
 use Rattle.sj_plain.proofs.Divisions.{division_alike, dividend_alone}
 use Rattle.sj_plain.proofs.Operators.{template_value, is_direct}
 use Rattle.sj_plain.proofs.Objects.{select_alike, new_alike, received_call_alike, checked_alike}
@@ -72,6 +73,14 @@ receiving-lift u w c _ _ g (on_receiver v x a) = on_receiver v x (record { stand
 
 pub sees-lift : (z : Setting) (scope : Scope) (u w : World) (env : ir.Env) (sc : js.Scope) → Grows u w → Sees z.place z.code scope u env sc → Sees z.place z.code scope w env sc
 sees-lift z scope u w env sc g h = record { inside = h.inside; this = receiving-lift u w z.code.owner env.this_value (sc.bindings (z.place.name core.receiver)) g h.this; sure = h.sure; locals = λ x t i. holding-lift u w t (env.locals x) (sc.bindings (z.place.name (core.named x))) g (h.locals x t i) }
+
+-- a division takes its operands as they are
+taken_as_they_are : (has : Usable) (o : BinaryOp) → divides has o ≡ true → (s t : IrType) (e g : core.Expression) → core.binary_of o (operand_of o s e) (operand_of o t g) ≡ core.binary_of o e g
+taken_as_they_are has IntDivide h s t e g = refl
+taken_as_they_are has IntRemainder h s t e g = refl
+taken_as_they_are has LongDivide h s t e g = refl
+taken_as_they_are has LongRemainder h s t e g = refl
+taken_as_they_are has _ h s t e g = impossible h
 
 module _ (z : Setting) (lawful : Lawful z) (scope : Scope) where
   gives_alike : (w : World) (env : ir.Env) (t : IrType) (s : ir.State) (u : js.State) (v : ir.Value) (x : js.Value) → SameValue w t v x → SameState z.place w s u → Sim z.direction (Valued z.place w env t) (done (ir.ends (ir.gives v) env s)) (done (js.gives x u))
@@ -159,9 +168,10 @@ module _ (z : Setting) (lawful : Lawful z) (scope : Scope) where
   simple_alike o left right r q e d simple f g w env s sc u operands same = direct_alike o left right r q e d simple f g w env s sc u operands same
 
   -- an operator that takes operands of these types, but for division
-  pub binary_alike : (o : BinaryOp) (left right : IrType) (r q : ir.Run) (e d : core.Expression) → Operates o left right → (w : World) (env : ir.Env) (s : ir.State) (sc : js.Scope) (u : js.State) → TwoAlike o left right e d r q (core.binary_of o (operand_of o left e) (operand_of o right d)) w env s sc u
-  binary_alike _ _ _ r q e d (of_its_types o left right is f g) w env s sc u operands same = simple_alike o left right r q e d is f g w env s sc u operands same
-  binary_alike _ _ _ r q e d (joins left right bare other_bare) w env s sc u (more_operands _ _ _ _ _ _ h one (more_operands _ _ _ _ _ _ k other no_operands)) same = joined_alike z w env sc left right r q e d one other s u same bare other_bare
+  pub binary_alike : (o : BinaryOp) (left right : IrType) (r q : ir.Run) (e d : core.Expression) → Operates (usable z) o left right → (w : World) (env : ir.Env) (s : ir.State) (sc : js.Scope) (u : js.State) → Inside z.place z.code sc → TwoAlike o left right e d r q (core.binary_of o (operand_of o left e) (operand_of o right d)) w env s sc u
+  binary_alike _ _ _ r q e d (of_its_types o left right is f g) w env s sc u inside operands same = simple_alike o left right r q e d is f g w env s sc u operands same
+  binary_alike _ _ _ r q e d (joins left right bare other_bare) w env s sc u inside (more_operands _ _ _ _ _ _ h one (more_operands _ _ _ _ _ _ k other no_operands)) same = joined_alike z w env sc left right r q e d one other s u same bare other_bare
+  binary_alike _ _ _ r q e d (divided o left right h f g) w env s sc u inside operands same = by_equal w env (binary_result o) _ _ _ _ refl (λ i. shown z (taken_as_they_are (usable z) o h left right e d i) sc u) (divided_operands z lawful o h left right r q e d f g w env s sc u inside operands same)
 
   abbrev text_of_tree : Term → tree.Expression
   text_of_tree t = expression_template z.place.name z.place.label (expression_of z.code.sure t)
@@ -191,9 +201,21 @@ module _ (z : Setting) (lawful : Lawful z) (scope : Scope) where
   simple_tells LongRemainder h b e g = impossible h
   simple_tells _ h b e g = refl
 
-  binary_tells : (o : BinaryOp) (left right : IrType) → Operates o left right → (b : Bool) (e g : tree.Expression) → tells (binary_result o) (binary_template b o e g) ≡ true
+  divided_tells : (o : BinaryOp) → divides (usable z) o ≡ true → (b : Bool) (e g : tree.Expression) → tells (binary_result o) (binary_template b o e g) ≡ true
+  divided_tells IntDivide h true e g = refl
+  divided_tells IntDivide h false e g = refl
+  divided_tells IntRemainder h true e g = refl
+  divided_tells IntRemainder h false e g = refl
+  divided_tells LongDivide h true e g = refl
+  divided_tells LongDivide h false e g = refl
+  divided_tells LongRemainder h true e g = refl
+  divided_tells LongRemainder h false e g = refl
+  divided_tells _ h b e g = impossible h
+
+  binary_tells : (o : BinaryOp) (left right : IrType) → Operates (usable z) o left right → (b : Bool) (e g : tree.Expression) → tells (binary_result o) (binary_template b o e g) ≡ true
   binary_tells _ _ _ (of_its_types o left right h f g) b e x = simple_tells o h b e x
   binary_tells _ _ _ (joins left right bare other) b e g = refl
+  binary_tells _ _ _ (divided o left right h f g) b e x = divided_tells o h b e x
 
   division_tells : (o : BinaryOp) (d : Term) → DividesBy o d → (e : tree.Expression) → tells (binary_result o) (binary_template (is_nonzero_literal (expression_of z.code.sure d)) o e (text_of_tree d)) ≡ true
   division_tells _ _ (by_int _ i p (pos zero) f ne) e = absurd (ne refl)
@@ -232,9 +254,9 @@ module _ (z : Setting) (lawful : Lawful z) (scope : Scope) where
     told = unary_tells o (type_of_term e) (text_of_tree e) fit h.told;
   }
 
-  binary_tree : (p : Position) (o : BinaryOp) (e d : Term) → Operates o (type_of_term e) (type_of_term d) → TreeAlike e → TreeAlike d → TreeAlike (binary_op p o e d)
+  binary_tree : (p : Position) (o : BinaryOp) (e d : Term) → Operates (usable z) o (type_of_term e) (type_of_term d) → TreeAlike e → TreeAlike d → TreeAlike (binary_op p o e d)
   binary_tree p o e d operates h k = record {
-    alike = λ w env s sc u sees same. binary_alike o (type_of_term e) (type_of_term d) (ir_meaning.step z.place.classes z.low e) (ir_meaning.step z.place.classes z.low d) (expression_of z.code.sure e) (expression_of z.code.sure d) operates w env s sc u (with_tree e h w env sc sees _ _ _ (with_tree d k w env sc sees [] [] [] no_operands)) same;
+    alike = λ w env s sc u sees same. binary_alike o (type_of_term e) (type_of_term d) (ir_meaning.step z.place.classes z.low e) (ir_meaning.step z.place.classes z.low d) (expression_of z.code.sure e) (expression_of z.code.sure d) operates w env s sc u sees.inside (with_tree e h w env sc sees _ _ _ (with_tree d k w env sc sees [] [] [] no_operands)) same;
     told = binary_tells o (type_of_term e) (type_of_term d) operates _ _ _;
   }
 
@@ -331,14 +353,16 @@ module _ (z : Setting) (lawful : Lawful z) (scope : Scope) where
 
     -- both operands of an operator, where it takes them, have values
     operation_tree : (p : Position) (o : BinaryOp) (e d : Term) → Kept (binary_op p o e d) → (IsValue e → TreeAlike e) → (IsValue d → TreeAlike d) → TreeAlike (binary_op p o e d)
-    operation_tree p o e d h one other = ⊎_elim (λ takes. binary_tree p o e d (operates z.place.classes law o e d takes) (one (left_value takes)) (other (right_value takes))) (λ divides. division_tree p o e d divides.0 (fits-dividend z.place.classes law o d (type_of_term e) divides.0 divides.1) (one (value_below z.place.classes law (type_of_term e) (left_operand o) divides.1 (value_none (left_operand o) (left-operand-value o))))) (operation z.place.classes (usable z) scene o e d h.0.built h.2 h.0.meets)
+    operation_tree p o e d h one other = ⊎_elim (λ takes. binary_tree p o e d (operates z.place.classes law (usable z) o e d takes) (one (left_value takes)) (other (right_value takes))) (λ divides. division_tree p o e d divides.0 (fits-dividend z.place.classes law o d (type_of_term e) divides.0 divides.1) (one (value_below z.place.classes law (type_of_term e) (left_operand o) divides.1 (value_none (left_operand o) (left-operand-value o))))) (operation z.place.classes (usable z) scene o e d h.0.built h.2 h.0.meets)
       where
-        left_value : Takes z.place.classes o e d → IsValue e
+        left_value : Takes z.place.classes (usable z) o e d → IsValue e
         left_value (its_types simple f g) = value_below z.place.classes law (type_of_term e) (left_operand o) f (value_none (left_operand o) (left-operand-value o))
+        left_value (of_division is f g) = value_below z.place.classes law (type_of_term e) (left_operand o) f (value_none (left_operand o) (left-operand-value o))
         left_value (texts is f g) = not_none (type_of_term e) (not_no_type (type_of_term e) f)
 
-        right_value : Takes z.place.classes o e d → IsValue d
+        right_value : Takes z.place.classes (usable z) o e d → IsValue d
         right_value (its_types simple f g) = value_below z.place.classes law (type_of_term d) (right_operand o) g (value_none (right_operand o) (right-operand-value o))
+        right_value (of_division is f g) = value_below z.place.classes law (type_of_term d) (right_operand o) g (value_none (right_operand o) (right-operand-value o))
         right_value (texts is f g) = not_none (type_of_term d) (not_no_type (type_of_term d) g)
 
     -- a call on a receiver: of a private member, as that of a constructor has no value

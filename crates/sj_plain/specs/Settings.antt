@@ -8,9 +8,11 @@ use Rattle.outcomes.specs.Outcome.{Out, done}
 use Rattle.helper_rules.specs.Helpers.{helper_name}
 use Rattle.helper_rules.specs.declared.kinds.Helper.{Helper}
 use Rattle.helper_rules.specs.declared.kinds.Helper.TheVariants.{BoxedChar, ConstantsOf, NotNull}
+use Rattle.helper_rules.specs.declared.kinds.Helper.TheVariants as helpers
 use Rattle.helper_rules.specs.declared.kinds.Kind.TheVariants as kinds
 use Rattle.ir_mean.specs.Dispatch.{chain_of}
 use Rattle.ir_mean.specs.Meaning as ir_meaning
+use Rattle.ir_mean.specs.Operators.{binary_value}
 use Rattle.ir_mean.specs.States as ir
 use Rattle.ir_mean.specs.World as ir_world
 use Rattle.js_mean.specs.Files.{owner}
@@ -30,12 +32,16 @@ use Rattle.body_rules.specs.Subtyping.{IsSubtyping}
 use Rattle.sj_plain.specs.Standing.{suits}
 use Rattle.sj_plain.specs.Worlds.{World, with_pending, Grows, SameValue, SameValues}
 use Rattle.sj_world.specs.Subtypes.{IsSub}
-use Rattle.built_forms.specs.Built.{Usable}
+use Rattle.built_forms.specs.Built.{Usable, divides}
 use Rattle.body_rules.specs.Locals.{Scope, HasValue}
 use Rattle.body_rules.specs.Standing.{is_bare, types_referred, call_type}
 use Rattle.sj_trees.specs.declared.classes.ClassDef.{ClassDef}
 use Rattle.sj_trees.specs.declared.classes.FieldDef.{FieldDef}
+use Rattle.sj_trees.specs.TypeOf.{binary_result}
 use Rattle.sj_trees.specs.Types.{class_type}
+use Rattle.sj_trees.specs.declared.operators.BinaryOp.{BinaryOp}
+use Rattle.sj_trees.specs.declared.operators.BinaryOp.TheVariants.{IntDivide, IntRemainder, LongDivide}
+use Rattle.typing_rules.specs.Rules.{left_operand, right_operand}
 use Rattle.sj_trees.specs.declared.types.IrType.{IrType}
 use Rattle.sj_trees.specs.declared.types.IrType.TheVariants.{Any}
 
@@ -287,6 +293,16 @@ pub record Based (z : Setting) : Type 0 where
 abbrev pub ChecksAlike : Setting → Type 0
 ChecksAlike z = (t : IrType) (w : World) (v : ir.Value) (x : js.Value) (env : ir.Env) (s : ir.State) (u : js.State) → SameValue w t v x → SameState z.place w s u → Sim z.direction (Valued z.place w env t) (ir_meaning.answered z.place.classes z.low (ir_meaning.not_null z.place.classes v) env s) (top_call z.place z.js_low (a_helper NotNull) (x ∷ []) u)
 
+-- the helper of a division, and what it does with its operands
+abbrev pub division_helper : BinaryOp → Helper
+division_helper IntDivide = helpers.IntQuotient
+division_helper IntRemainder = helpers.IntRemainder
+division_helper LongDivide = helpers.LongQuotient
+division_helper _ = helpers.LongRemainder
+
+abbrev pub DividesAlike : Setting → BinaryOp → Type 0
+DividesAlike z o = (w : World) (v v' : ir.Value) (x x' : js.Value) (env : ir.Env) (s : ir.State) (u : js.State) → SameValue w (left_operand o) v x → SameValue w (right_operand o) v' x' → SameState z.place w s u → Sim z.direction (Valued z.place w env (binary_result o)) (ir_meaning.answered z.place.classes z.low (binary_value o v v') env s) (top_call z.place z.js_low (a_helper (division_helper o)) (x ∷ x' ∷ []) u)
+
 -- `new $C` of a char: the emitted code makes an object that holds it, and the IR does nothing
 abbrev pub BoxesAlike : Setting → Type 0
 BoxesAlike z = (t : IrType) (c : ℕ) (w : World) (env : ir.Env) (s : ir.State) (u : js.State) → is_char t ≡ false → suits t (ir.char c) ≡ true → c < 2 ^ 16 → SameState z.place w s u → Sim z.direction (Valued z.place w env t) (done (ir.ends (ir.gives (ir.char c)) env s)) (js_meaning.construct z.place.program z.js_low (box_link z.place ∷ []) (box_link z.place ∷ []) (js.number (pos c) ∷ []) u)
@@ -299,6 +315,7 @@ MayBox z expected own = (is_char own && not (is_char expected)) ≡ true → ((u
 pub record Lawful (z : Setting) : Type 0 where
   pub base : Based z
   pub checks : (usable z).helper check_name ≡ true → ChecksAlike z
+  pub divisions : (o : BinaryOp) → divides (usable z) o ≡ true → DividesAlike z o
 
 -- what a local of this type holds, and the binding that stands for it
 pub data Holding (w : World) (t : IrType) : Option ir.Value → js.Cell → Type 0 where

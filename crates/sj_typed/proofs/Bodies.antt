@@ -154,7 +154,7 @@ module _ (w : Classes) (has : Usable) where
     typed (binary_op p op d e) x y s a n z c k h o built listed all =
         let met = inner s.space s.labels n (binary_op p op d e) all in
         let later = keep-behind s.owner s.space (At x d) (At x e) h in
-        let q = and_parts (is_operation op e) (is_built has (may_check has s.sure) s.labels d && is_built has (may_check has s.sure) s.labels e) built in
+        let q = and_parts (is_operation has op e) (is_built has (may_check has s.sure) s.labels d && is_built has (may_check has s.sure) s.labels e) built in
         let parts = and_parts (is_built has (may_check has s.sure) s.labels d) (is_built has (may_check has s.sure) s.labels e) q.1 in
         (record { meets = own s.space s.labels n (binary_op p op d e) all; built = q.0; finds = tt }, typed d x x s a (n + 1) refl c h.0 (keep-front s.owner s.space (below x d) (At x e) h.1) o.0 parts.0 listed.0 (one s.space s.labels (n + 1) d e met), typed e x x s a (n + 1 + size d) refl c later.0 later.1 o.1 parts.1 listed.1 (other s.space s.labels (n + 1) d e met))
     typed (undefined_literal p) x y s a n z c k h o built listed all = record { meets = tt; built = refl; finds = tt }
