@@ -1,0 +1,4 @@
+pub mod Order
+pub mod Pieces
+pub mod Laws
+pub mod Used

@@ -1,0 +1,50 @@
+-- What the code of a linked world can use, where the pieces of some of its classes are written.
+use Rattle.std.specs.Prelude.{Bool, true, false, ◌&&◌, not, List, Option, Some, None}
+use Rattle.std.specs.List.{list_any}
+use Rattle.built_forms.specs.Built.{Usable, is_static}
+use Rattle.helper_rules.specs.Helpers.{helper_name}
+use Rattle.helper_rules.specs.declared.kinds.Helper.{Helper}
+use Rattle.sj_names.specs.WellKnown.{object}
+use Rattle.sj_names.specs.Same.{is_same_text}
+use Rattle.sj_names.specs.declared.method_names.Namespace.{Namespace}
+use Rattle.sj_names.specs.declared.method_names.Namespace.TheVariants.{Public, Private, Constructor}
+use Rattle.sj_proper.specs.Emitted.{EmittedMethod}
+use Rattle.sj_sound.specs.Linked.{has_function}
+use Rattle.sj_trees.specs.SameTypes.{is_same_type}
+use Rattle.sj_trees.specs.declared.classes.ClassDef.{ClassDef}
+use Rattle.sj_trees.specs.declared.classes.FieldDef.{FieldDef}
+use Rattle.sj_trees.specs.declared.types.IrType.{IrType}
+use Rattle.sj_world.specs.Known.{Name, Classes, class_of}
+
+abbrev pub is_among : List Name → Name → Bool
+is_among names name = list_any (is_same_text name) names
+
+abbrev pub is_received : Namespace → Bool
+is_received Public = true
+is_received Private = true
+is_received _ = false
+
+abbrev pub is_constructor : Namespace → Bool
+is_constructor Constructor = true
+is_constructor _ = false
+
+-- an instance field of this name and type
+abbrev pub is_its_field : Name → IrType → FieldDef → Bool
+is_its_field f t d = not d.is_static && (is_same_text f d.name && is_same_type t d.tpe)
+
+abbrev pub has_field_in : Option ClassDef → Name → IrType → Bool
+has_field_in None f t = false
+has_field_in (Some c) f t = list_any (is_its_field f t) c.fields
+
+-- what the code can use, of a world with these methods, live classes and helpers, where the pieces of these classes are written: their members and
+-- their constructors, their objects, each instance field of the world, and the helpers
+abbrev pub used_of : Classes → List EmittedMethod → List Name → List Helper → List Name → Usable
+used_of w all live helpers written = record {
+  linked = λ m. is_static m.namespace && (is_among written m.class && has_function all m);
+  received = λ m. is_received m.namespace && (is_among written m.class && has_function all m);
+  built = λ m. is_constructor m.namespace && (is_among written m.class && has_function all m);
+  made = λ c. is_among written c && is_among live c;
+  field = λ c f t. has_field_in (class_of w c) f t;
+  helper = λ x. is_among written object && list_any (λ h. is_same_text x (helper_name h)) helpers;
+  objects = true;
+}
