@@ -7,6 +7,7 @@ use Rattle.std.specs.Cmp.Lexicographic.{pointwise}
 use Rattle.std.specs.List.{list_any}
 use Rattle.std.specs.Ordering.{int_eq}
 use Rattle.outcomes.specs.Outcome.{Lines, End, Done, Going, Wrong, Out, then_do, after}
+use Rattle.ir_mean.proofs.TargetsFound.{target_found}
 use Rattle.ir_mean.specs.Dispatch.{chain_of}
 use Rattle.ir_mean.specs.Meaning as ir_meaning
 use Rattle.ir_mean.specs.Operators.{Answer, unary_value, binary_value}
@@ -18,7 +19,7 @@ use Rattle.body_soundness.specs.Laws.{HasReceivers, reads, calls, null_pointer, 
 use Rattle.ir_mean.specs.World.{World, class_of, method_among, method_in, member_of, zeros_in, zero_of, new_fields}
 use Rattle.sj_desugar.specs.Desugar.{member, has_no_value}
 use Rattle.sj_emit_expr.specs.Templates.{check_name}
-use Rattle.sj_desugar.specs.Plain.{is_no_type, is_plain}
+use Rattle.sj_desugar.specs.Plain.{is_no_type}
 use Rattle.sj_names.specs.Same.{is_same_text, is_same_namespace, is_same_method}
 use Rattle.sj_names.specs.declared.method_names.MethodName.{MethodName}
 use Rattle.sj_names.specs.declared.method_names.Namespace.{Namespace}
@@ -491,9 +492,9 @@ module _ (w : World) (law : IsSubtyping (IsSub w)) (has : Usable) where
   new_parts : (c : List ℕ) (m : MethodName) (ts : Terms) → (has.made c && (has.built (member c Constructor m) && not (any_is_boxed m.params ts))) ≡ true → (has.made c ≡ true) × ((has.built (member c Constructor m) && not (any_is_boxed m.params ts)) ≡ true)
   new_parts c m ts h = and_parts (has.made c) (has.built (member c Constructor m) && not (any_is_boxed m.params ts)) h
 
-  private_parts : (e : Term) (c : List ℕ) (m : MethodName) (ts : Terms) (s : Scene) → (has.received (member c Namespace.Private m) && (may_check has s.sure e && (not (is_boxed Any e) && not (any_is_boxed m.params ts)))) ≡ true → (has.received (member c Namespace.Private m) ≡ true) × (may_check has s.sure e ≡ true) × (not (any_is_boxed m.params ts) ≡ true)
-  private_parts e c m ts s h =
-      let first = and_parts (has.received (member c Namespace.Private m)) (may_check has s.sure e && (not (is_boxed Any e) && not (any_is_boxed m.params ts))) h in
+  received_parts : (e : Term) (c : List ℕ) (n : Namespace) (m : MethodName) (ts : Terms) (s : Scene) → (has.received (member c n m) && (may_check has s.sure e && (not (is_boxed Any e) && not (any_is_boxed m.params ts)))) ≡ true → (has.received (member c n m) ≡ true) × (may_check has s.sure e ≡ true) × (not (any_is_boxed m.params ts) ≡ true)
+  received_parts e c n m ts s h =
+      let first = and_parts (has.received (member c n m)) (may_check has s.sure e && (not (is_boxed Any e) && not (any_is_boxed m.params ts))) h in
       let second = and_parts (may_check has s.sure e) (not (is_boxed Any e) && not (any_is_boxed m.params ts)) first.1 in
       (first.0, second.0, (and_parts (not (is_boxed Any e)) (not (any_is_boxed m.params ts)) second.1).1)
 
@@ -792,8 +793,8 @@ module _ (w : World) (law : IsSubtyping (IsSub w)) (has : Usable) where
     called_on d v vs env st n = refl
 
     -- a call on a receiver
-    received_right : (c : List ℕ) (n : Namespace) (m : MethodName) → RightMember w has (member c n m) → (s : Scene) (t own : IrType) → t ≡ call_type m.result → IsSub w own (class_type c) → (k : Classes) (v : ir.Value) → GivesType k v own → Full v → (y : Classes) → Adds k y → (vs : List ir.Value) (env : ir.Env) (st : ir.State) → ValuesFit y vs m.params → Ready y (frame_of s) s.locals env st → Right y s t (ir_meaning.call_on w low (member_of w c n m) (v ∷ vs) env st)
-    received_right c n m l s t own is sub k v g full y b vs env st q i = subst (λ (o : Out ir.Ended). Right y s t o) (sym (called_on (member_of w c n m) v vs env st full)) (call_right laws low right (member c n m) l s t is y vs q (Some v) (λ r. holds_object v c (type-lift (IsSub w) law k y b v (class_type c) (operand-type k v own (class_type c) g sub (value-not (class_type c) (class_has_value c)))) full) env st i)
+    received_right : (c : List ℕ) (n : Namespace) (m : MethodName) → RightMember w has (member c n m) → (s : Scene) (t own : IrType) → t ≡ call_type m.result → IsSub w own (class_type c) → (k : Classes) (v : ir.Value) → GivesType k v own → Full v → (y : Classes) → Adds k y → (vs : List ir.Value) (env : ir.Env) (st : ir.State) → ValuesFit y vs m.params → Ready y (frame_of s) s.locals env st → Right y s t (ir_meaning.call_on w low (ir_meaning.static_target w c n m) (v ∷ vs) env st)
+    received_right c n m l s t own is sub k v g full y b vs env st q i = subst (λ (o : Out ir.Ended). Right y s t o) (sym (ap (λ (d : Option MethodDef). ir_meaning.call_on w low d (v ∷ vs) env st) (target_found w c n m l.definition l.its_body l.has_body l.found) ∙ called_on (Some l.definition) v vs env st full ∙ ap (λ (d : Option MethodDef). ir_meaning.call low d (Some v) vs env st) (sym l.found))) (call_right laws low right (member c n m) l s t is y vs q (Some v) (λ r. holds_object v c (type-lift (IsSub w) law k y b v (class_type c) (operand-type k v own (class_type c) g sub (value-not (class_type c) (class_has_value c)))) full) env st i)
 
     -- a definition: the local is in scope behind it
     definition_right : (p : Position) (x : List ℕ) (t : IrType) (b : Bool) (e : Term) → TreeRight e → (s : Scene) → InScope (frame_of s) s.locals → Typed w has s (var_def p x t b e) → Fresh s (Own (var_def p x t b e)) → Sures s (definitions (var_def p x t b e)) → (at : Classes) (env : ir.Env) (st : ir.State) → Ready at (frame_of s) s.locals env st → Comes (CameRight at s (record { name = x; «mutable» = b; tpe = t } ∷ s.locals) NoType) (step (var_def p x t b e) env st).end
@@ -877,7 +878,7 @@ module _ (w : World) (law : IsSubtyping (IsSub w)) (has : Usable) where
       tree_right (block_of p ts) = λ s v h fresh u at env st i. block_right ts s v h fresh u at env st i NoType
       tree_right (labeled p l t e) = λ s v h fresh u at env st i. comes_then (CameRight at (in_label l t s) s.locals (type_of_term e)) (CameRight at s s.locals t) (step e env st) (ir_meaning.arrive l) (tree_right e (in_label l t s) v h.1 fresh u at env st i) (arrives-right at s l e t (yields_there w e t h.0.built h.0.meets))
       tree_right (assign p (var_ref q x t) e) = λ s v h fresh u at env st i. operand_right e at s NoType t (ir_meaning.define x) env st (tree_right e s v h.1 fresh u at env st i) h.0.meets.1 (value-not t (subst HasValue h.0.finds.type_is (v.values x h.0.finds.local h.0.finds.is))) (λ y b a env st k i. here y s s.locals NoType ir.undefined (ir_meaning.set_local x a env) st (inl refl) (assign-ready y (frame_of s) s.locals x h.0.finds.local env st a h.0.finds.is (subst (HasType (IsSub w) law y a) (sym h.0.finds.type_is) k) (λ r q. impossible (sym (v.fixed r x h.0.finds.local h.0.finds.is q) ∙ h.0.finds.mutable)) i))
-      tree_right (assign p (select q d c f t) e) = λ s v h fresh u at env st i. let its = and_parts (has.field c f t) (may_check has s.sure d && (is_plain e && not (is_boxed t e))) h.0.built in field_set_right p q d c f t e (tree_right d) (tree_right e) s v its.0 (and_parts (may_check has s.sure d) (is_plain e && not (is_boxed t e)) its.1).0 h.1.0.meets.0 h.0.meets.1 h.1.1 h.2 fresh u at env st i
+      tree_right (assign p (select q d c f t) e) = λ s v h fresh u at env st i. let its = and_parts (has.field c f t) (may_check has s.sure d && not (is_boxed t e)) h.0.built in field_set_right p q d c f t e (tree_right d) (tree_right e) s v its.0 (and_parts (may_check has s.sure d) (not (is_boxed t e)) its.1).0 h.1.0.meets.0 h.0.meets.1 h.1.1 h.2 fresh u at env st i
       tree_right (return_to p e l) = λ s v h fresh u at env st i. one_right at s s.locals (type_of_term e) Nothing (step e) (ir_meaning.leave l) env st (tree_right e s v h.1 fresh u at env st i) (λ y b a env st g i. left y l a env st h.0.meets.tpe (adds-refl y) h.0.meets.is_type (gives-yield y a e h.0.meets.tpe g (leaves_there w s.labels l e h.0.built h.0.meets)) i)
       tree_right (if_then p c a b t) = λ s v h fresh u at env st i. operand_right c at s t Boolean (ir_meaning.branch (step a) (step b)) env st (tree_right c s v h.1 (λ x o. fresh x (inl o)) (sures-parts s (definitions c) (definitions a) (sures-parts s (definitions c ++ definitions a) (definitions b) u).0).0 at env st i) h.0.meets.0 boolean_not (λ y n q env st k i. branch_right y s t (step a) (step b) q env st (as_boolean (IsSub w) law y q k) (yields-right y s s.locals a t (step a env st).end (one_yields w a b t h.0.built h.0.meets.1) (tree_right a s v h.2 (λ x o. fresh x (inr (inl o))) (sures-parts s (definitions c) (definitions a) (sures-parts s (definitions c ++ definitions a) (definitions b) u).0).1 y env st i)) (yields-right y s s.locals b t (step b env st).end (other_yields w a b t h.0.built h.0.meets.2) (tree_right b s v h.3 (λ x o. fresh x (inr (inr o))) (sures-parts s (definitions c ++ definitions a) (definitions b) u).1 y env st i)))
       tree_right (while_loop p c b) = λ s v h fresh u at env st i. comes_then (Turned at s (loop_type c)) (CameRight at s s.locals (loop_type c)) (ir_meaning.in_order (step c ∷ []) (ir_meaning.branch (step b) (λ env s. record { lines = []; end = Done (ir.ends ir.stops env s) })) env st) (ir_meaning.after_turn (low (while_loop p c b))) (while_turn p c b (tree_right c) (tree_right b) s v h fresh u (true-or-none c) at env st i) (turn_right at s (loop_type c) (low (while_loop p c b)) (right (while_loop p c b) s v h fresh u))
@@ -887,7 +888,8 @@ module _ (w : World) (law : IsSubtyping (IsSub w)) (has : Usable) where
       tree_right (throw p e) = λ s v h fresh u at env st i. operand_right e at s Nothing Any ir_meaning.throw_value env st (tree_right e s v h.1 fresh u at env st i) h.0.meets (value-not Any refl) (λ y b a env st k i. threw y a env st (adds-refl y) k i)
       tree_right (new_object p c m ts) = λ s v h fresh u at env st i. let its = new_parts c m ts h.0.built in arguments_right ts m.params s (class_type c) v (arguments_there w (has.built (member c Constructor m)) ts m.params its.1 h.0.finds h.0.meets.1) h.1 fresh u at (ir_meaning.construct w low c m) env st i (λ y b vs env st k i. construct_right c m its.0 (is_linked w (has.built (member c Constructor m)) ts m.params its.1) s y vs k env st i)
       tree_right (select p e c f t) = λ s v h fresh u at env st i. let its = and_parts (has.field c f t) (may_check has s.sure e) h.0.built in go_on_both at s s.locals (type_of_term e) s.locals t Full (ir_meaning.receiving w (is_sure env.sure e) low (step e) env st) (λ a. ir_meaning.in_order [] (λ vs. ir_meaning.select_field c f (a ∷ vs))) (receiver_right (reads c f t its.0) e s h.1 (check_there e s its.1) at env st i (tree_right e s v h.1 fresh u at env st i)) (λ y b a env st g n i. field_right y s c f t a env st its.0 (operand-type y a (type_of_term e) (class_type c) g h.0.meets.0 (value-not (class_type c) (class_has_value c))) n i)
-      tree_right (apply_statically p e c Namespace.Private m ts t) = λ s v h fresh u at env st i. let its = private_parts e c m ts s h.0.built in let parts = sures-parts s (definitions e) (definitions_in ts) u in go_on_both at s s.locals (type_of_term e) s.locals t Full (ir_meaning.receiving w (is_sure env.sure e) low (step e) env st) (λ a. ir_meaning.in_order (ir_meaning.operands w low ts) (λ vs. ir_meaning.call_on w low (member_of w c Namespace.Private m) (a ∷ vs))) (receiver_right (calls (member c Namespace.Private m) its.0) e s h.1 (check_there e s its.1) at env st i (tree_right e s v h.1 (λ x o. fresh x (inl o)) parts.0 at env st i)) (λ y b a env st g n i. arguments_right ts m.params s t v (arguments_there w true ts m.params its.2 h.0.finds h.0.meets.3) h.2 (λ x o. fresh x (inr o)) parts.1 y (λ vs. ir_meaning.call_on w low (member_of w c Namespace.Private m) (a ∷ vs)) env st i (λ z d vs env st k i. received_right c Namespace.Private m (laws.received (member c Namespace.Private m) its.0) s t (type_of_term e) h.0.meets.1 h.0.meets.2 y a g n z d vs env st k i))
+      tree_right (apply_statically p e c Namespace.Private m ts t) = λ s v h fresh u at env st i. let its = received_parts e c Namespace.Private m ts s h.0.built in let parts = sures-parts s (definitions e) (definitions_in ts) u in go_on_both at s s.locals (type_of_term e) s.locals t Full (ir_meaning.receiving w (is_sure env.sure e) low (step e) env st) (λ a. ir_meaning.in_order (ir_meaning.operands w low ts) (λ vs. ir_meaning.call_on w low (ir_meaning.static_target w c Namespace.Private m) (a ∷ vs))) (receiver_right (calls (member c Namespace.Private m) its.0) e s h.1 (check_there e s its.1) at env st i (tree_right e s v h.1 (λ x o. fresh x (inl o)) parts.0 at env st i)) (λ y b a env st g n i. arguments_right ts m.params s t v (arguments_there w true ts m.params its.2 h.0.finds h.0.meets.3) h.2 (λ x o. fresh x (inr o)) parts.1 y (λ vs. ir_meaning.call_on w low (ir_meaning.static_target w c Namespace.Private m) (a ∷ vs)) env st i (λ z d vs env st k i. received_right c Namespace.Private m (laws.received (member c Namespace.Private m) its.0) s t (type_of_term e) h.0.meets.1 h.0.meets.2 y a g n z d vs env st k i))
+      tree_right (apply_statically p e c Namespace.Public m ts t) = λ s v h fresh u at env st i. let its = received_parts e c Namespace.Public m ts s h.0.built in let parts = sures-parts s (definitions e) (definitions_in ts) u in go_on_both at s s.locals (type_of_term e) s.locals t Full (ir_meaning.receiving w (is_sure env.sure e) low (step e) env st) (λ a. ir_meaning.in_order (ir_meaning.operands w low ts) (λ vs. ir_meaning.call_on w low (ir_meaning.static_target w c Namespace.Public m) (a ∷ vs))) (receiver_right (calls (member c Namespace.Public m) its.0) e s h.1 (check_there e s its.1) at env st i (tree_right e s v h.1 (λ x o. fresh x (inl o)) parts.0 at env st i)) (λ y b a env st g n i. arguments_right ts m.params s t v (arguments_there w true ts m.params its.2 h.0.finds h.0.meets.3) h.2 (λ x o. fresh x (inr o)) parts.1 y (λ vs. ir_meaning.call_on w low (ir_meaning.static_target w c Namespace.Public m) (a ∷ vs)) env st i (λ z d vs env st k i. received_right c Namespace.Public m (laws.received (member c Namespace.Public m) its.0) s t (type_of_term e) h.0.meets.1 h.0.meets.2 y a g n z d vs env st k i))
       tree_right (apply_statically p e c Constructor m ts t) = λ s v h fresh u at env st i. let its = constructor_parts c m ts t h.0.built in let parts = sures-parts s (definitions e) (definitions_in ts) u in go_on_both at s s.locals (type_of_term e) s.locals t Full (ir_meaning.receiving w (is_sure env.sure e) low (step e) env st) (λ a. ir_meaning.in_order (ir_meaning.operands w low ts) (λ vs. ir_meaning.call_on w low (member_of w c Constructor m) (a ∷ vs))) (own_right e s h.0.meets.0 h.1 at env st i) (λ y b a env st g n i. arguments_right ts m.params s t v (arguments_there w true ts m.params its.1 h.0.finds h.0.meets.3) h.2 (λ x o. fresh x (inr o)) parts.1 y (λ vs. ir_meaning.call_on w low (member_of w c Constructor m) (a ∷ vs)) env st i (λ z d vs env st k i. received_right c Constructor m (laws.built (member c Constructor m) its.0) s t (type_of_term e) h.0.meets.1 h.0.meets.2 y a g n z d vs env st k i))
       tree_right (apply_statically p e c n m ts t) = λ s v h fresh u at env st i. impossible h.0.built
       tree_right (this_ref p t) = λ s v h fresh u at env st i. only_right (CameRight at s s.locals t) Full (ir_meaning.local_value env.this_value env st).end (this_right at s t s.owner env.this_value env st h.finds.1 (i.locals.this h.finds.0) i)

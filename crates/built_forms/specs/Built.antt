@@ -3,9 +3,9 @@ use Rattle.std.specs.Prelude.{ℕ, pos, Bool, true, false, ◌&&◌, ◌||◌, n
 use Rattle.std.specs.Ordering.{int_eq}
 use Rattle.sj_desugar.specs.Coercions.{is_char}
 use Rattle.sj_desugar.specs.Desugar.{member}
-use Rattle.sj_desugar.specs.Plain.{is_no_type, is_plain}
+use Rattle.sj_desugar.specs.Plain.{is_no_type}
 use Rattle.sj_names.specs.declared.method_names.Namespace.{Namespace}
-use Rattle.sj_names.specs.declared.method_names.Namespace.TheVariants.{PublicStatic, Private, PrivateStatic, Constructor}
+use Rattle.sj_names.specs.declared.method_names.Namespace.TheVariants.{Public, PublicStatic, Private, PrivateStatic, Constructor}
 use Rattle.sj_names.specs.declared.references.TypeRef.{TypeRef}
 use Rattle.sj_names.specs.declared.method_names.Member.{Member}
 use Rattle.typing_rules.specs.declared.labels.Label.{Label}
@@ -83,14 +83,14 @@ is_operation has _ d = true
 -- what a body can use, and the receivers that are never null or whose null check can be used
 module _ (has : Usable) (checked : Term → Bool) where
   -- the tree is of the forms that are built, whatever the trees in it are: what it calls, makes and reads is there, so is the helper of its division or its divisor is a literal, its
-  -- receiver is checked where it has to be, the call of a constructor has no value, what a field is set to is plain, and no char stands where another type is expected
+  -- receiver is checked where it has to be, the call of a constructor has no value, and no char stands where another type is expected
   abbrev pub stands : List Label → Term → Bool
   stands ls (var_def p x t b e) = not (is_boxed t e)
   stands ls (skip p) = true
   stands ls (block_of p ts) = true
   stands ls (labeled p l t e) = not (yields_boxed t e)
   stands ls (assign p (var_ref q x t) e) = not (is_boxed t e)
-  stands ls (assign p (select q d c f t) e) = has.field c f t && (checked d && (is_plain e && not (is_boxed t e)))
+  stands ls (assign p (select q d c f t) e) = has.field c f t && (checked d && not (is_boxed t e))
   stands ls (return_to p e l) = not (leaves_boxed (type_of_label ls l) e)
   stands ls (if_then p c a b t) = not (yields_boxed t a) && not (yields_boxed t b)
   stands ls (while_loop p c b) = true
@@ -100,6 +100,7 @@ module _ (has : Usable) (checked : Term → Bool) where
   stands ls (new_object p c m ts) = has.made c && (has.built (member c Constructor m) && not (any_is_boxed m.params ts))
   stands ls (select p e c f t) = has.field c f t && checked e
   stands ls (apply_statically p e c Private m ts t) = has.received (member c Private m) && (checked e && (not (is_boxed Any e) && not (any_is_boxed m.params ts)))
+  stands ls (apply_statically p e c Public m ts t) = has.received (member c Public m) && (checked e && (not (is_boxed Any e) && not (any_is_boxed m.params ts)))
   stands ls (apply_statically p e c Constructor m ts t) = has.built (member c Constructor m) && (is_no_type t && not (any_is_boxed m.params ts))
   stands ls (apply_static p c n m ts t) = has.linked (member c n m) && not (any_is_boxed m.params ts)
   stands ls (unary_op p o e) = true

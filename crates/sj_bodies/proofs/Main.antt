@@ -20,6 +20,7 @@ use Rattle.sj_trees.specs.declared.positions.Position.{Position}
 use Rattle.sj_trees.specs.declared.types.IrType.{IrType}
 use Rattle.typing_rules.specs.Rules.{left_operand, unary_operand}
 use Rattle.body_rules.specs.Operators.{Operates, DividesBy}
+use Rattle.body_rules.specs.Standing.{Fits}
 use Rattle.body_rules.specs.Locals.{Scope, Mutable, with_local, parameters_of, HasValue, Own, OwnAll, OwnCases}
 use Rattle.sj_desugar.specs.Texts.{operand_of}
 use Rattle.sj_plain.specs.Settings.{Setting, run, SameState, Lawful, usable}
@@ -32,7 +33,7 @@ use Rattle.std.proofs.lemmas.Bool.{and_parts}
 use Rattle.sure_receivers.specs.Sure.{is_sure}
 use Rattle.sj_names.specs.declared.method_names.MethodName.{MethodName}
 use Rattle.sj_names.specs.declared.method_names.Namespace.{Namespace}
-use Rattle.sj_names.specs.declared.method_names.Namespace.TheVariants.{Private, Constructor}
+use Rattle.sj_names.specs.declared.method_names.Namespace.TheVariants.{Public, Private, Constructor}
 use Rattle.body_rules.specs.Typing.{Scene, in_label, Typed, TypedBlock, TypedAll, TypedCases, may_check}
 use Rattle.body_rules.proofs.Mutable.{of_first, of_second, of_definition, front, front_cases}
 use Rattle.sj_plain.specs.Conditions.{IsNoConstruction, Plain}
@@ -52,7 +53,7 @@ use Rattle.sj_proper.specs.Once.{Once, OnceAll, OnceCases}
 use Rattle.sj_bodies.proofs.Trees.{written, written_cases, LowAlike, outside-part, behind, go_on-given, FineHere, TreeDoes, piece, operand_does, define_does, quiet, value_of, local_at, finish_one, list_of, call_does, division_does}
 use Rattle.sj_names.proofs.Same.{impossible}
 use Rattle.sj_plain.proofs.Plain.{unary_alike, binary_alike}
-use Rattle.sj_bodies.proofs.ObjectTrees.{receiver_piece, receiver_does, select_does, set_does, new_does, this_does, throw_does, receive_does, construct_does}
+use Rattle.sj_bodies.proofs.ObjectTrees.{receiver_piece, receiver_does, select_does, set_does, set_spilled, new_does, this_does, throw_does, receive_does, construct_does}
 use Rattle.sj_bodies.proofs.Spills.{Does, OperandDoes, OperandsDo, numbered-named}
 use Rattle.sj_bodies.proofs.Statements.{run-followed, came_then, finish_alike, Ends}
 use Rattle.sj_bodies.proofs.Turns.{while_does, do_does}
@@ -205,24 +206,27 @@ module _ (z : Setting) (lawful : Lawful z) (low : LowAlike z) where
       its : ((usable z).field d f t ≡ true) × (may_check (usable z) fine.scene.sure e ≡ true)
       its = and_parts ((usable z).field d f t) (may_check (usable z) fine.scene.sure e) fine.typed.0.built
 
-  set_by : (p q : Position) (o : Term) (d f : List ℕ) (t : IrType) (e : Term) → TreeDoes z lawful low o → (c : Context) (k : Destination) (j : ℕ) → Sound z.is_mutable c → Ahead c j → Outside c (Own (assign p (select q o d f t) e)) → FineHere z lawful low c k (assign p (select q o d f t) e) → IsDiscard k → Does z lawful c k j (assign p (select q o d f t) e)
-  set_by p q o d f t e does_o c _ j sound ahead out fine is_discard = set_does z lawful low p q c j o d f t e sound ahead there.0 (fits-sub z.place.classes lawful.base.ordered t (type_of_term e) own.0 own.1) right.0 (plainly (part_of c fine.scene fine.amid e (other_mutable z.is_mutable o e fine.written) t own.0 (lawful.base.fields d f t there.0).value fine.typed.2 fine.around fine.once.1)) (receiver_of c j o d (Own (assign p (select q o d f t) e)) (λ x i. inl i) does_o out fine.scene fine.amid (one_mutable z.is_mutable o e fine.written) fine.typed.1.0.meets.0 known.0 fine.typed.1.1 fine.around fine.once.0)
+  set_by : (p q : Position) (o : Term) (d f : List ℕ) (t : IrType) (e : Term) → TreeDoes z lawful low o → TreeDoes z lawful low e → (c : Context) (k : Destination) (j : ℕ) → Sound z.is_mutable c → Ahead c j → Outside c (Own (assign p (select q o d f t) e)) → FineHere z lawful low c k (assign p (select q o d f t) e) → IsDiscard k → Does z lawful c k j (assign p (select q o d f t) e)
+  set_by p q o d f t e does_o does_e c _ j sound ahead out fine is_discard = by (part_of c fine.scene fine.amid e (other_mutable z.is_mutable o e fine.written) t own.0 (lawful.base.fields d f t there.0).value fine.typed.2 fine.around fine.once.1)
     where
-      there : ((usable z).field d f t ≡ true) × ((may_check (usable z) fine.scene.sure o && (is_plain e && not (is_boxed t e))) ≡ true)
-      there = and_parts ((usable z).field d f t) (may_check (usable z) fine.scene.sure o && (is_plain e && not (is_boxed t e))) fine.typed.0.built
+      there : ((usable z).field d f t ≡ true) × ((may_check (usable z) fine.scene.sure o && not (is_boxed t e)) ≡ true)
+      there = and_parts ((usable z).field d f t) (may_check (usable z) fine.scene.sure o && not (is_boxed t e)) fine.typed.0.built
 
-      known : (may_check (usable z) fine.scene.sure o ≡ true) × ((is_plain e && not (is_boxed t e)) ≡ true)
-      known = and_parts (may_check (usable z) fine.scene.sure o) (is_plain e && not (is_boxed t e)) there.1
-
-      right : (is_plain e ≡ true) × (not (is_boxed t e) ≡ true)
-      right = and_parts (is_plain e) (not (is_boxed t e)) known.1
+      known : (may_check (usable z) fine.scene.sure o ≡ true) × (not (is_boxed t e) ≡ true)
+      known = and_parts (may_check (usable z) fine.scene.sure o) (not (is_boxed t e)) there.1
 
       own : FitsType z.place.classes e t
-      own = fits_there z.place.classes e t right.1 fine.typed.0.meets.1
+      own = fits_there z.place.classes e t known.1 fine.typed.0.meets.1
 
-      plainly : FineOperand z.place.classes z.is_mutable (usable z) z.code c.scope e (λ y. FineHere z lawful low c (to_variable y (type_of_term e)) e) → Plain z.place.classes (usable z) z.code c.scope e
-      plainly (inl h) = h
-      plainly (inr h) = absurd (impossible (sym h.0 ∙ right.0))
+      fit : Fits t (type_of_term e)
+      fit = fits-sub z.place.classes lawful.base.ordered t (type_of_term e) own.0 own.1
+
+      object : OperandDoes z lawful c j (receiver_piece z lawful low c.targets o)
+      object = receiver_of c j o d (Own (assign p (select q o d f t) e)) (λ x i. inl i) does_o out fine.scene fine.amid (one_mutable z.is_mutable o e fine.written) fine.typed.1.0.meets.0 known.0 fine.typed.1.1 fine.around fine.once.0
+
+      by : FineOperand z.place.classes z.is_mutable (usable z) z.code c.scope e (λ y. FineHere z lawful low c (to_variable y (type_of_term e)) e) → Does z lawful c discard j (assign p (select q o d f t) e)
+      by (inl h) = set_does z lawful low p q c j o d f t e sound ahead there.0 fit h.plain h object
+      by (inr h) = set_spilled z lawful low p q c j o d f t e sound ahead there.0 fit h.0 object (operand_does z lawful low c j e does_e (outside-part c (Own (assign p (select q o d f t) e)) (Own e) (λ x i. inr i) out) (inr h))
 
   new_by : (p : Position) (d : List ℕ) (m : MethodName) (ts : Terms) → OperandsFine ts → TreeDoes z lawful low (new_object p d m ts)
   new_by p d m ts do_all c k j sound ahead out wr fine = new_does z lawful low p c k j d m ts sound ahead wr (fits-value z.place.classes lawful.base.ordered k (class_type d) fine.asks (class_has_value d)) (is_linked z.place.classes ((usable z).built (member d Constructor m)) ts m.params its.1) its.0 (lawful.base.objects d its.0) (fit-all z.place.classes lawful.base.ordered ts m.params arguments) (do_all c j out fine.scene fine.amid fine.written m.params arguments fine.typed.1 fine.around fine.once)
@@ -242,15 +246,16 @@ module _ (z : Setting) (lawful : Lawful z) (low : LowAlike z) where
   this_by : (p : Position) (t : IrType) → TreeDoes z lawful low (this_ref p t)
   this_by p t c k j sound ahead out wr fine = this_does z lawful low p c k j t sound wr (fits-value z.place.classes lawful.base.ordered k t fine.asks (subst HasValue (sym fine.typed.finds.1) (class_has_value fine.scene.owner))) (plain_here c k fine refl tt)
 
-  -- a call on a receiver: of a private member, or of a constructor, which has no value
+  -- a call on a receiver: of a private or a public member, or of a constructor, which has no value
+  receive_by : (p : Position) (e : Term) (d : List ℕ) (n : Namespace) (m : MethodName) (ts : Terms) (t : IrType) → TreeDoes z lawful low e → OperandsFine ts → (c : Context) (k : Destination) (j : ℕ) → Sound z.is_mutable c → Ahead c j → Outside c (Own (apply_statically p e d n m ts t)) → Writes c.writable k → (fine : FineHere z lawful low c k (apply_statically p e d n m ts t)) → Received z.place.classes (usable z) (may_check (usable z) fine.scene.sure) e d n m ts → Does z lawful c k j (apply_statically p e d n m ts t)
+  receive_by p e d n m ts t does_e do_all c k j sound ahead out wr fine its = receive_does z lawful low p c k j e d n m ts t sound ahead wr (fits z.place.classes lawful.base.ordered k t fine.asks (result_is m.result t fine.typed.0.meets.1)) its.there fine.typed.0.meets.1 its.unboxed its.on_class its.fit (receiver_of c j e d (Own (apply_statically p e d n m ts t)) (λ x o. inl o) does_e out fine.scene fine.amid (of_first z.is_mutable (mutable_in e) (mutable_in_all ts) (front e) fine.written) fine.typed.0.meets.2 its.may_be fine.typed.1 fine.around fine.once.0, do_all c j (outside-part c (Own (apply_statically p e d n m ts t)) (OwnAll ts) (λ x o. inr o) out) fine.scene fine.amid (of_second z.is_mutable (mutable_in e) (mutable_in_all ts) (front e) fine.written) m.params its.arguments fine.typed.2 fine.around fine.once.1)
+
   construct_by : (p : Position) (e : Term) (d : List ℕ) (m : MethodName) (ts : Terms) (t : IrType) → TreeDoes z lawful low e → OperandsFine ts → (c : Context) (k : Destination) (j : ℕ) → Sound z.is_mutable c → Ahead c j → Outside c (Own (apply_statically p e d Constructor m ts t)) → (fine : FineHere z lawful low c k (apply_statically p e d Constructor m ts t)) → Constructed z.place.classes (usable z) fine.scene e d m ts t → IsDiscard k → Does z lawful c k j (apply_statically p e d Constructor m ts t)
   construct_by p e d m ts t does_e do_all c _ j sound ahead out fine its is_discard = construct_does z lawful low p c j e d m ts t sound ahead its.there its.unboxed its.on_class its.fit (receiver_does z lawful low c j e does_e (outside-part c (Own (apply_statically p e d Constructor m ts t)) (Own e) (λ x o. inl o) out) (part_of c fine.scene fine.amid e (of_first z.is_mutable (mutable_in e) (mutable_in_all ts) (front e) fine.written) (class_type d) fine.typed.0.meets.2 (class_has_value d) fine.typed.1 fine.around fine.once.0) (inl (subst (λ (q : List ℕ → Bool). is_sure q e ≡ true) fine.amid.surely its.surely)) its.value, do_all c j (outside-part c (Own (apply_statically p e d Constructor m ts t)) (OwnAll ts) (λ x o. inr o) out) fine.scene fine.amid (of_second z.is_mutable (mutable_in e) (mutable_in_all ts) (front e) fine.written) m.params its.arguments fine.typed.2 fine.around fine.once.1)
 
   statically_does : (p : Position) (e : Term) (d : List ℕ) (n : Namespace) (m : MethodName) (ts : Terms) (t : IrType) → TreeDoes z lawful low e → OperandsFine ts → TreeDoes z lawful low (apply_statically p e d n m ts t)
-  statically_does p e d Private m ts t does_e do_all c k j sound ahead out wr fine = receive_does z lawful low p c k j e d m ts t sound ahead wr (fits z.place.classes lawful.base.ordered k t fine.asks (result_is m.result t fine.typed.0.meets.1)) its.there fine.typed.0.meets.1 its.unboxed its.on_class its.fit (receiver_of c j e d (Own (apply_statically p e d Private m ts t)) (λ x o. inl o) does_e out fine.scene fine.amid (of_first z.is_mutable (mutable_in e) (mutable_in_all ts) (front e) fine.written) fine.typed.0.meets.2 its.may_be fine.typed.1 fine.around fine.once.0, do_all c j (outside-part c (Own (apply_statically p e d Private m ts t)) (OwnAll ts) (λ x o. inr o) out) fine.scene fine.amid (of_second z.is_mutable (mutable_in e) (mutable_in_all ts) (front e) fine.written) m.params its.arguments fine.typed.2 fine.around fine.once.1)
-    where
-      its : Received z.place.classes (usable z) (may_check (usable z) fine.scene.sure) e d m ts
-      its = received z.place.classes lawful.base.ordered (usable z) (may_check (usable z) fine.scene.sure) e d m ts fine.typed.0.built fine.typed.0.finds fine.typed.0.meets.2 fine.typed.0.meets.3
+  statically_does p e d Private m ts t does_e do_all c k j sound ahead out wr fine = receive_by p e d Private m ts t does_e do_all c k j sound ahead out wr fine (received z.place.classes lawful.base.ordered (usable z) (may_check (usable z) fine.scene.sure) e d Private m ts fine.typed.0.built fine.typed.0.finds fine.typed.0.meets.2 fine.typed.0.meets.3)
+  statically_does p e d Public m ts t does_e do_all c k j sound ahead out wr fine = receive_by p e d Public m ts t does_e do_all c k j sound ahead out wr fine (received z.place.classes lawful.base.ordered (usable z) (may_check (usable z) fine.scene.sure) e d Public m ts fine.typed.0.built fine.typed.0.finds fine.typed.0.meets.2 fine.typed.0.meets.3)
   statically_does p e d Constructor m ts t does_e do_all c k j sound ahead out wr fine = let its = constructed z.place.classes lawful.base.ordered (usable z) fine.scene p e d m ts t fine.typed in construct_by p e d m ts t does_e do_all c k j sound ahead out fine its (given_up z.place.classes lawful.base.ordered k (subst (Asks z.place.classes k) its.none fine.asks))
   statically_does p e d n m ts t does_e do_all c k j sound ahead out wr fine = impossible fine.typed.0.built
 
@@ -261,7 +266,7 @@ module _ (z : Setting) (lawful : Lawful z) (low : LowAlike z) where
     does (block_of p ts) = λ c k j sound ahead out wr fine. block_does ts c k j sound ahead out wr fine.scene fine.amid fine.written NoType fine.asks fine.typed fine.around fine.once
     does (labeled p l t e) = labeled_does p l t e (does e)
     does (assign p (var_ref q x t) e) = λ c k j sound ahead out wr fine. assign_by p q x t e (does e) c k j sound ahead out fine (given_up z.place.classes lawful.base.ordered k fine.asks)
-    does (assign p (select q o d f t) e) = λ c k j sound ahead out wr fine. set_by p q o d f t e (does o) c k j sound ahead out fine (given_up z.place.classes lawful.base.ordered k fine.asks)
+    does (assign p (select q o d f t) e) = λ c k j sound ahead out wr fine. set_by p q o d f t e (does o) (does e) c k j sound ahead out fine (given_up z.place.classes lawful.base.ordered k fine.asks)
     does (return_to p e l) = return_does p e l (does e)
     does (if_then p a b d t) = if_does p a b d t (does a) (does b) (does d)
     does (while_loop p a b) = while_does z lawful low p a b (does a) (does b)

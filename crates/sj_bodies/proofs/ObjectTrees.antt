@@ -1,5 +1,5 @@
 -- Trees of objects, and their statements: This, new objects, fields, throws and calls on receivers, by what is known of their operands.
-use Rattle.std.proofs.Common.{◌≡◌, ℕ, suc, ◌≤◌, Bool, true, false, ◌&&◌, arith, List, [], ◌∷◌, Some, Option, refl, sym, ap, subst, ◌⊎◌, inl, inr}
+use Rattle.std.proofs.Common.{◌≡◌, ℕ, suc, ◌≤◌, Bool, true, false, ◌&&◌, arith, List, [], ◌∷◌, Some, Option, refl, sym, ap, ◌∙◌, subst, ◌⊎◌, inl, inr}
 use Rattle.outcomes.specs.Outcome.{done, then_do}
 use Rattle.outcomes.specs.Agreement.{Sim}
 use Rattle.outcomes.proofs.Sequence.{then_do-right}
@@ -20,7 +20,8 @@ use Rattle.sj_desugar.specs.Spill.{Destination, discard, to_variable, Code, one,
 use Rattle.sj_emit_expr.specs.Templates.{check_name, property_name}
 use Rattle.sj_names.proofs.Same.{impossible}
 use Rattle.sj_names.specs.declared.method_names.MethodName.{MethodName}
-use Rattle.sj_names.specs.declared.method_names.Namespace.TheVariants.{Private, Constructor}
+use Rattle.sj_names.specs.declared.method_names.Namespace.{Namespace}
+use Rattle.sj_names.specs.declared.method_names.Namespace.TheVariants.{Constructor}
 use Rattle.sj_trees.specs.Term.{Term, Terms, assign, apply_statically, new_object, select, throw, this_ref}
 use Rattle.sj_trees.specs.TypeOf.{type_of_term}
 use Rattle.sj_trees.specs.Types.{class_type}
@@ -31,7 +32,8 @@ use Rattle.sure_receivers.specs.Sure.{is_sure}
 use Rattle.body_rules.specs.Standing.{is_bare, Fits, FitAll, NoBox, types_referred, call_type}
 use Rattle.sj_plain.specs.Settings.{Setting, shown, SameState, Valued, Lawful, Inside, Receiving, no_receiver, on_receiver, Sees, usable}
 use Rattle.sj_plain.proofs.Objects.{null_act, select_alike, field_written, new_alike, received_call_alike, checked_alike}
-use Rattle.sj_plain.proofs.Orders.{OperandsAlike, text_of, no_operands, more_operands}
+use Rattle.sj_plain.proofs.Told.{tells}
+use Rattle.sj_plain.proofs.Orders.{OperandAlike, OperandsAlike, text_of, no_operands, more_operands}
 use Rattle.body_rules.proofs.Standing.{coerced-same, arguments-same, fits-same}
 use Rattle.sj_plain.proofs.Worlds.{World, Grows, grows-refl, grows-trans, SameValue, Stands, same_reference, value-lift, value-fits}
 use Rattle.sj_bodies.specs.Fine.{FitsIn, FineOperand}
@@ -41,10 +43,10 @@ use Rattle.sj_bodies.proofs.Blocks.{Outside}
 use Rattle.body_rules.specs.Locals.{Own}
 use Rattle.sj_plain.proofs.Plain.{plain_alike, as_operand}
 use Rattle.sj_plain.proofs.Received.{receiver-same}
-use Rattle.sj_bodies.proofs.Contexts.{Context, Writes, Sound, Ahead, Ready, ready-lift, keeps-less, let_go, Came, gave, threw}
+use Rattle.sj_bodies.proofs.Contexts.{Context, Writes, Sound, Ahead, Ready, ready-lift, Keeps, keeps-refl, keeps-less, let_go, Came, gave, threw}
 use Rattle.sj_bodies.proofs.Forms.{sound-writing, ahead-writing, outside-writing, of_operands, one_final, act_alike, quiet_alike, OneFinal}
 use Rattle.sj_proper.proofs.Good.{no_name, finish-good}
-use Rattle.sj_bodies.proofs.Spills.{keeping, writing, Does, Final, Piece, OperandDoes, OperandsDo, runs, operands_in, types}
+use Rattle.sj_bodies.proofs.Spills.{keeping, writing, extends-refl, Does, Final, Piece, OperandDoes, OperandsDo, operands-later, runs, operands_in, types, Lasting, Onwards, first_code, first-is, first_does, spill_does}
 use Rattle.sj_bodies.proofs.Statements.{finish_alike, valued_then, throws-on, ends-one, Ends}
 use Rattle.sj_bodies.proofs.Trees.{written, LowAlike, TreeDoes, FineHere, piece, operand_does, list_of, operands-list, runs-list, types-list}
 
@@ -73,6 +75,11 @@ before_plain o d j made = by o.plain o.fixed d.plain d.fixed
     by false true true x h (inl i) = absurd (impossible i)
     by false true true x h (inr i) = absurd (impossible (sym i.1))
     by b f false x h k = absurd (impossible h)
+
+-- not all of two are plain where the second isn't
+not_all : (a b : Bool) → b ≡ false → (a && (b && true)) ≡ false
+not_all true b h = ap (λ (x : Bool). x && true) h
+not_all false b h = refl
 
 module _ (z : Setting) (lawful : Lawful z) (low : LowAlike z) where
   -- operands, and behind them an expression of their values
@@ -144,25 +151,26 @@ module _ (z : Setting) (lawful : Lawful z) (low : LowAlike z) where
   pub throw_does : (p : Position) (c : Context) (k : Destination) (j : ℕ) (e : Term) → Sound z.is_mutable c → Ahead c j → Fits Any (type_of_term e) → OperandDoes z lawful c j (piece z lawful low c.targets e) → Does z lawful c k j (throw p e)
   throw_does p c k j e sound ahead any operand = of_operands z lawful c k (piece z lawful low c.targets e ∷ []) j ir_meaning.throw_value (λ es. one (core.throw_of (Some p) (coerced Any (type_of_term e) (first_of es)))) sound ahead (operand, tt) (one_final z lawful c k j (type_of_term e) ir_meaning.throw_value (λ es. one (core.throw_of (Some p) (coerced Any (type_of_term e) (first_of es)))) (throw_final c k p j (type_of_term e) any))
 
-  -- an assignment to a field of an object: behind the object its right side, which is plain, and then the field is written
-  set_final : (c : Context) (p : Position) (j : ℕ) (own : IrType) (d f : List ℕ) (t : IrType) (e : Term) → (usable z).field d f t ≡ true → Fits t (type_of_term e) → Plain z.place.classes (usable z) z.code c.scope e → (w : World) (sc : js.Scope) → OneFinal z lawful c discard w sc j own (ir_meaning.assign_on d f (ir_meaning.step z.place.classes z.low e)) (λ es. one (core.assign_field (Some p) (first_of es) d f (coerced t (type_of_term e) (expression_of z.code.sure e))))
-  set_final c p j own d f t e has fits plain from before n r x w env s sc u ahead l g ready ks same operand = subst (λ o. Ends z lawful c c.scope discard from before (ir_meaning.in_order (r ∷ []) act env s) (core.statement (core.assign_field (Some p) x d f o) core.no_statements) sc u) (sym (coerced-same t (type_of_term e) text fits)) (ends-one z lawful c c.scope discard from before (ir_meaning.in_order (r ∷ []) act env s) (core.assign_field (Some p) x d f text) sc u (act_alike z lawful F w env s sc u own r x act (λ v. js_meaning.unless_missing v (sets v) sc) operand same (throws-on z lawful c c.scope discard from w before env sc g ks ready) (λ y v q s u h a states. goes y v q s u h a.stands a states)))
+  -- an assignment to a field of an object: behind the object its right side, and then the field is written
+  set_alike : (c : Context) (p : Position) (own : IrType) (d f : List ℕ) (t i : IrType) → (usable z).field d f t ≡ true → Fits t i → (from : World) (before : js.Scope) (w : World) (env : ir.Env) (s : ir.State) (sc : js.Scope) (u : js.State) → Grows from w → Ready z.place z.code c.scope c.writable w env sc → Keeps z.place c.kept before sc → SameState z.place w s u → (r q : ir.Run) (x g : core.Expression) → OperandsAlike z w env sc (own ∷ []) (r ∷ []) (x ∷ []) → tells i (text_of z g) ≡ true → OperandAlike z w env sc i q (shown z g) → Ends z lawful c c.scope discard from before (ir_meaning.in_order (r ∷ []) (ir_meaning.assign_on d f q) env s) (core.statement (core.assign_field (Some p) x d f g) core.no_statements) sc u
+  set_alike c p own d f t i has fits from before w env s sc u g ready ks same r q x e operand told alike = ends-one z lawful c c.scope discard from before (ir_meaning.in_order (r ∷ []) act env s) (core.assign_field (Some p) x d f e) sc u (act_alike z lawful F w env s sc u own r x act (λ v. js_meaning.unless_missing v (sets v) sc) operand same (throws-on z lawful c c.scope discard from w before env sc g ks ready) (λ y v q s u h a states. goes y v q s u h a.stands a states))
     where
       F : ir.Ended → js.StatementEnd → Type 0
       F = Came z.place z.code c c.scope discard from before
 
-      text : core.Expression
-      text = expression_of z.code.sure e
-
       act : List ir.Value → ir.Run
-      act = ir_meaning.assign_on d f (ir_meaning.step z.place.classes z.low e)
+      act = ir_meaning.assign_on d f q
 
       sets : js.Value → js.Execution
-      sets v = js_meaning.with_expression z.place.program z.js_low (text_of z text) (λ q sc u. js_meaning.with_state (js_objects.set_property v (property_name d f) q u) sc u)
+      sets v = js_meaning.with_expression z.place.program z.js_low (text_of z e) (λ q sc u. js_meaning.with_state (js_objects.set_property v (property_name d f) q u) sc u)
 
       goes : (y : World) (v : ir.Value) (q : js.Value) (s : ir.State) (u : js.State) → Grows w y → Stands y (is_char own) v q → SameValue y own v q → SameState z.place y s u → Sim z.direction F (act (v ∷ []) env s) (js_meaning.unless_missing q (sets q) sc u)
-      goes y _ _ s u h (same_reference i a there) object states = act_alike z lawful F y env s sc u (type_of_term e) (ir_meaning.step z.place.classes z.low e) text (λ vs. ir_meaning.assign_field d f (ir.reference i ∷ vs)) (λ q u. js_meaning.with_state (js_objects.set_property (js.object a) (property_name d f) q u) sc u) (more_operands (type_of_term e) (ir_meaning.step z.place.classes z.low e) text [] [] [] (plain_alike z lawful c.scope e plain).told (as_operand z lawful c.scope e (plain_alike z lawful c.scope e plain).alike y env sc (ready-lift z c.scope c.writable w y env sc h ready).sees) no_operands) states (throws-on z lawful c c.scope discard from y before env sc (grows-trans from w y g h) ks (ready-lift z c.scope c.writable w y env sc h ready)) (λ k v q s u m one states. field_written z lawful.base (lawful.base.fields d f t has).differ F k env sc s u own (ir.reference i) v (js.object a) q d f t (lawful.base.fields d f t has).field (value-lift y k own (ir.reference i) (js.object a) m object) (value-fits k t (type_of_term e) v q fits one) states (λ s u states. gave k ir.undefined env s sc u js.normally (grows-trans from w k g (grows-trans w y k h m)) let_go (ready-lift z c.scope c.writable w k env sc (grows-trans w y k h m) ready) (keeps-less z c.kept discard before sc ks) states))
+      goes y _ _ s u h (same_reference n a there) object states = act_alike z lawful F y env s sc u i q e (λ vs. ir_meaning.assign_field d f (ir.reference n ∷ vs)) (λ q u. js_meaning.with_state (js_objects.set_property (js.object a) (property_name d f) q u) sc u) (more_operands i q e [] [] [] told (λ k s u m states. alike k s u (grows-trans w y k h m) states) no_operands) states (throws-on z lawful c c.scope discard from y before env sc (grows-trans from w y g h) ks (ready-lift z c.scope c.writable w y env sc h ready)) (λ k v q s u m one states. field_written z lawful.base (lawful.base.fields d f t has).differ F k env sc s u own (ir.reference n) v (js.object a) q d f t (lawful.base.fields d f t has).field (value-lift y k own (ir.reference n) (js.object a) m object) (value-fits k t i v q fits one) states (λ s u states. gave k ir.undefined env s sc u js.normally (grows-trans from w k g (grows-trans w y k h m)) let_go (ready-lift z c.scope c.writable w k env sc (grows-trans w y k h m) ready) (keeps-less z c.kept discard before sc ks) states))
       goes y _ _ s u h _ object states = sim_wrong z.direction F _
+
+  -- where the right side is plain
+  set_final : (c : Context) (p : Position) (j : ℕ) (own : IrType) (d f : List ℕ) (t : IrType) (e : Term) → (usable z).field d f t ≡ true → Fits t (type_of_term e) → Plain z.place.classes (usable z) z.code c.scope e → (w : World) (sc : js.Scope) → OneFinal z lawful c discard w sc j own (ir_meaning.assign_on d f (ir_meaning.step z.place.classes z.low e)) (λ es. one (core.assign_field (Some p) (first_of es) d f (coerced t (type_of_term e) (expression_of z.code.sure e))))
+  set_final c p j own d f t e has fits plain from before n r x w env s sc u ahead l g ready ks same operand = subst (λ o. Ends z lawful c c.scope discard from before (ir_meaning.in_order (r ∷ []) (ir_meaning.assign_on d f (ir_meaning.step z.place.classes z.low e)) env s) (core.statement (core.assign_field (Some p) x d f o) core.no_statements) sc u) (sym (coerced-same t (type_of_term e) (expression_of z.code.sure e) fits)) (set_alike c p own d f t (type_of_term e) has fits from before w env s sc u g ready ks same r (ir_meaning.step z.place.classes z.low e) x (expression_of z.code.sure e) operand (plain_alike z lawful c.scope e plain).told (as_operand z lawful c.scope e (plain_alike z lawful c.scope e plain).alike w env sc ready.sees))
 
   pub set_does : (p q : Position) (c : Context) (j : ℕ) (o : Term) (d f : List ℕ) (t : IrType) (e : Term) → Sound z.is_mutable c → Ahead c j → (usable z).field d f t ≡ true → Fits t (type_of_term e) → is_plain e ≡ true → Plain z.place.classes (usable z) z.code c.scope e → OperandDoes z lawful c j (receiver_piece c.targets o) → Does z lawful c discard j (assign p (select q o d f t) e)
   set_does p q c j o d f t e sound ahead has fits i plain operand w env s sc u r same = subst (λ a. Ends z lawful c c.scope discard w sc a (into z.is_mutable z.code.sure c.targets discard j (assign p (select q o d f t) e)).statements sc u) (sym (sure_run o act [] w env s sc c.scope r.sees)) (subst (λ (a : Code). Ends z lawful c c.scope discard w sc (ir_meaning.in_order ((receiver_piece c.targets o).run ∷ []) act env s) a.statements sc u) (sym (before_plain (receiver_piece c.targets o).here (piece z lawful low c.targets e).here j both i (shape operand))) (of_operands z lawful c discard (receiver_piece c.targets o ∷ []) j act made sound ahead (operand, tt) (one_final z lawful c discard j (receiver_piece c.targets o).here.tpe act made (set_final c p j (receiver_piece c.targets o).here.tpe d f t e has fits plain)) w env s sc u r same))
@@ -180,21 +188,53 @@ module _ (z : Setting) (lawful : Lawful z) (low : LowAlike z) where
       shape (inl h) = inl h.0
       shape (inr h) = inr (h.0, h.1)
 
-  -- a call of a private member on a receiver
-  pub receive_does : (p : Position) (c : Context) (k : Destination) (j : ℕ) (e : Term) (d : List ℕ) (m : MethodName) (ts : Terms) (t : IrType) → Sound z.is_mutable c → Ahead c j → Writes c.writable k → FitsIn k t → (usable z).received (member d Private m) ≡ true → t ≡ call_type m.result → NoBox Any (type_of_term e) → Fits (class_type d) (type_of_term e) → FitAll (types_referred m.params) (types_of ts) → OperandsDo z lawful c j (receiver_piece c.targets e ∷ list_of z lawful low c.targets ts) → Does z lawful c k j (apply_statically p e d Private m ts t)
-  receive_does p c k j e d m ts t sound ahead wr fits there is unboxed on fit ds w env s sc u r same = subst (λ o. Ends z lawful c c.scope k w sc o (into z.is_mutable z.code.sure c.targets k j (apply_statically p e d Private m ts t)).statements sc u) (sym (sure_run e act (ir_meaning.operands z.place.classes z.low ts) w env s sc c.scope r.sees)) (subst (λ os. Ends z lawful c c.scope k w sc (ir_meaning.in_order ((receiver_piece c.targets e).run ∷ ir_meaning.operands z.place.classes z.low ts) act env s) (then_use (spill ((receiver_piece c.targets e).here ∷ os) j) (λ es. finish k p t false (text es))).statements sc u) (sym (operands-list z lawful low c.targets ts)) (subst (λ rs. Ends z lawful c c.scope k w sc (ir_meaning.in_order ((receiver_piece c.targets e).run ∷ rs) act env s) (then_use (spill (operands_in z lawful (receiver_piece c.targets e ∷ list_of z lawful low c.targets ts)) j) (λ es. finish k p t false (text es))).statements sc u) (sym (runs-list z lawful low c.targets ts)) (expression_does c k j (receiver_piece c.targets e ∷ list_of z lawful low c.targets ts) t p act text sound ahead wr fits ds given w env s sc u r same)))
+  -- where it isn't, the object is kept while the right side runs, which the IR comes to only where the object is one
+  pub set_spilled : (p q : Position) (c : Context) (j : ℕ) (o : Term) (d f : List ℕ) (t : IrType) (e : Term) → Sound z.is_mutable c → Ahead c j → (usable z).field d f t ≡ true → Fits t (type_of_term e) → is_plain e ≡ false → OperandDoes z lawful c j (receiver_piece c.targets o) → OperandDoes z lawful c j (piece z lawful low c.targets e) → Does z lawful c discard j (assign p (select q o d f t) e)
+  set_spilled p q c j o d f t e sound ahead has fits not_plain operand right w env s sc u r same = subst (λ a. Ends z lawful c c.scope discard w sc a (into z.is_mutable z.code.sure c.targets discard j (assign p (select q o d f t) e)).statements sc u) (sym (sure_run o act [] w env s sc c.scope r.sees)) (subst (λ ss. Ends z lawful c c.scope discard w sc (ir_meaning.in_order (object.run ∷ []) act env s) ss sc u) (sym code_is) (first_does z lawful c discard w sc object object.here.fixed object.here.plain refl refl c.kept j (λ v. act (v ∷ [])) rest w env s sc u operand (extends-refl c) sound ahead on (grows-refl w) r (keeps-refl z c.kept sc) same))
+    where
+      object : Piece
+      object = receiver_piece c.targets o
+
+      value : Piece
+      value = piece z lawful low c.targets e
+
+      act : List ir.Value → ir.Run
+      act = ir_meaning.assign_on d f value.run
+
+      both : List core.Expression → ℕ → Code
+      both es = one (core.assign_field (Some p) (first_of es) d f (coerced t (type_of_term e) (second_of es)))
+
+      rest : core.Expression → ℕ → core.Statements
+      rest x i = (then_use (spill (value.here ∷ []) i) (λ es. both (x ∷ es))).statements
+
+      code_is : (then_use (spill (object.here ∷ value.here ∷ []) j) both).statements ≡ first_code z lawful object.here.fixed object.here.plain object.here rest j
+      code_is = ap (λ a. (then_use (spill_case a object.here.fixed object.here.plain object.here (value.here ∷ []) (spill (value.here ∷ [])) j) both).statements) (not_all object.here.plain value.here.plain not_plain) ∙ first-is z lawful object.here.fixed object.here.plain object.here (value.here ∷ []) j both
+
+      on : Onwards z lawful c discard w sc c.kept j sc w object.here.tpe (λ v. act (v ∷ [])) rest
+      on k i v x y env s sc2 u more sub so ah l h ready kb kp states told lasting = goes v lasting
+        where
+          final : (n : ℕ) → Lasting z lawful k y sc2 object.here.tpe (ir.reference n) x → Final z lawful c discard w sc k i sc2 y (type_of_term e ∷ []) (λ vs. ir_meaning.assign_field d f (ir.reference n ∷ vs)) (λ es. both (x ∷ es))
+          final n last b m _ _ at env2 s2 sc3 u2 more2 so2 ah2 l2 h2 ready2 kb2 ks2 states2 (more_operands _ a g _ _ _ told2 alike no_operands) = subst (λ a2. Ends z lawful c c.scope discard w sc (ir_meaning.in_order (a ∷ []) (λ vs. ir_meaning.assign_field d f (ir.reference n ∷ vs)) env2 s2) (core.statement (core.assign_field (Some p) x d f a2) core.no_statements) sc3 u2) (sym (coerced-same t (type_of_term e) g fits)) (set_alike c p object.here.tpe d f t (type_of_term e) has fits w sc at env2 s2 sc3 u2 (grows-trans w y at h h2) ready2 kb2 states2 (ir.given (ir.reference n)) a x g (more_operands object.here.tpe (ir.given (ir.reference n)) x [] [] [] told (last at env2 sc3 h2 ks2) no_operands) told2 alike)
+
+          goes : (v : ir.Value) → Lasting z lawful k y sc2 object.here.tpe v x → Ends z lawful c c.scope discard w sc (act (v ∷ []) env s) (rest x i) sc2 u
+          goes (ir.reference n) last = spill_does z lawful c discard w sc (value ∷ []) k i (λ vs. ir_meaning.assign_field d f (ir.reference n ∷ vs)) (λ es. both (x ∷ es)) y env s sc2 u (operands-later z lawful c j i (value ∷ []) l (right, tt)) sub so ah (final n last) h ready kb states
+          goes _ last = sim_wrong z.direction (Came z.place z.code c c.scope discard w sc) _
+
+  -- a call of a private or a public member on a receiver
+  pub receive_does : (p : Position) (c : Context) (k : Destination) (j : ℕ) (e : Term) (d : List ℕ) (n : Namespace) (m : MethodName) (ts : Terms) (t : IrType) → Sound z.is_mutable c → Ahead c j → Writes c.writable k → FitsIn k t → (usable z).received (member d n m) ≡ true → t ≡ call_type m.result → NoBox Any (type_of_term e) → Fits (class_type d) (type_of_term e) → FitAll (types_referred m.params) (types_of ts) → OperandsDo z lawful c j (receiver_piece c.targets e ∷ list_of z lawful low c.targets ts) → Does z lawful c k j (apply_statically p e d n m ts t)
+  receive_does p c k j e d n m ts t sound ahead wr fits there is unboxed on fit ds w env s sc u r same = subst (λ o. Ends z lawful c c.scope k w sc o (into z.is_mutable z.code.sure c.targets k j (apply_statically p e d n m ts t)).statements sc u) (sym (sure_run e act (ir_meaning.operands z.place.classes z.low ts) w env s sc c.scope r.sees)) (subst (λ os. Ends z lawful c c.scope k w sc (ir_meaning.in_order ((receiver_piece c.targets e).run ∷ ir_meaning.operands z.place.classes z.low ts) act env s) (then_use (spill ((receiver_piece c.targets e).here ∷ os) j) (λ es. finish k p t false (text es))).statements sc u) (sym (operands-list z lawful low c.targets ts)) (subst (λ rs. Ends z lawful c c.scope k w sc (ir_meaning.in_order ((receiver_piece c.targets e).run ∷ rs) act env s) (then_use (spill (operands_in z lawful (receiver_piece c.targets e ∷ list_of z lawful low c.targets ts)) j) (λ es. finish k p t false (text es))).statements sc u) (sym (runs-list z lawful low c.targets ts)) (expression_does c k j (receiver_piece c.targets e ∷ list_of z lawful low c.targets ts) t p act text sound ahead wr fits ds given w env s sc u r same)))
     where
       act : List ir.Value → ir.Run
-      act = ir_meaning.call_on z.place.classes z.low (ir_world.member_of z.place.classes d Private m)
+      act = ir_meaning.call_on z.place.classes z.low (ir_meaning.static_target z.place.classes d n m)
 
       text : List core.Expression → core.Expression
-      text es = core.receiver_call (member d Private m) (coerced_receiver (type_of_term e) (first_of es)) (expressions_of (coerced_arguments m.params (types_of ts) (rest_of es)))
+      text es = core.receiver_call (member d n m) (coerced_receiver (type_of_term e) (first_of es)) (expressions_of (coerced_arguments m.params (types_of ts) (rest_of es)))
 
-      text_is : (g : core.Expression) (gs : List core.Expression) → text (g ∷ gs) ≡ core.receiver_call (member d Private m) g (expressions_of gs)
-      text_is g gs = λ i. core.receiver_call (member d Private m) (receiver-same (type_of_term e) g unboxed i) (expressions_of (arguments-same m.params (types_of ts) gs fit i))
+      text_is : (g : core.Expression) (gs : List core.Expression) → text (g ∷ gs) ≡ core.receiver_call (member d n m) g (expressions_of gs)
+      text_is g gs = λ i. core.receiver_call (member d n m) (receiver-same (type_of_term e) g unboxed i) (expressions_of (arguments-same m.params (types_of ts) gs fit i))
 
       given : (rs : List ir.Run) (es : List core.Expression) (w : World) (env : ir.Env) (s : ir.State) (sc : js.Scope) (u : js.State) → Inside z.place z.code sc → OperandsAlike z w env sc ((receiver_piece c.targets e).here.tpe ∷ types z lawful (list_of z lawful low c.targets ts)) rs es → SameState z.place w s u → Sim z.direction (Valued z.place w env t) (ir_meaning.in_order rs act env s) (shown z (text es) sc u)
-      given _ _ w env s sc u inside (more_operands own q g _ qs gs told one others) same = subst (λ o. Sim z.direction (Valued z.place w env t) (ir_meaning.in_order (q ∷ qs) act env s) (shown z o sc u)) (sym (text_is g gs)) (subst (λ i. Sim z.direction (Valued z.place w env i) (ir_meaning.in_order (q ∷ qs) act env s) (shown z (core.receiver_call (member d Private m) g (expressions_of gs)) sc u)) (sym is) (received_call_alike z lawful.base (member d Private m) own (types_of ts) q qs g gs there (subst (Fits (class_type d)) (sym (received-type (is_sure z.code.sure e) (operand z.is_mutable z.code.sure e (λ k j. into z.is_mutable z.code.sure c.targets k j e)))) on) fit w env s sc u inside (more_operands own q g (types_of ts) qs gs told one (subst (λ is. OperandsAlike z w env sc is qs gs) (sym (types-list z lawful low c.targets ts)) others)) same))
+      given _ _ w env s sc u inside (more_operands own q g _ qs gs told one others) same = subst (λ o. Sim z.direction (Valued z.place w env t) (ir_meaning.in_order (q ∷ qs) act env s) (shown z o sc u)) (sym (text_is g gs)) (subst (λ i. Sim z.direction (Valued z.place w env i) (ir_meaning.in_order (q ∷ qs) act env s) (shown z (core.receiver_call (member d n m) g (expressions_of gs)) sc u)) (sym is) (received_call_alike z lawful.base (member d n m) own (types_of ts) q qs g gs there (subst (Fits (class_type d)) (sym (received-type (is_sure z.code.sure e) (operand z.is_mutable z.code.sure e (λ k j. into z.is_mutable z.code.sure c.targets k j e)))) on) fit w env s sc u inside (more_operands own q g (types_of ts) qs gs told one (subst (λ is. OperandsAlike z w env sc is qs gs) (sym (types-list z lawful low c.targets ts)) others)) same))
 
   -- a call of a constructor on a receiver, which is given up: it gives nothing by the IR, and the object by its function
   pub construct_does : (p : Position) (c : Context) (j : ℕ) (e : Term) (d : List ℕ) (m : MethodName) (ts : Terms) (t : IrType) → Sound z.is_mutable c → Ahead c j → (usable z).built (member d Constructor m) ≡ true → NoBox Any (type_of_term e) → Fits (class_type d) (type_of_term e) → FitAll (types_referred m.params) (types_of ts) → OperandsDo z lawful c j (receiver_piece c.targets e ∷ list_of z lawful low c.targets ts) → Does z lawful c discard j (apply_statically p e d Constructor m ts t)

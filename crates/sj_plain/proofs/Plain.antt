@@ -55,7 +55,7 @@ use Rattle.sj_plain.proofs.Divisions.{division_alike, dividend_alone}
 use Rattle.sj_plain.proofs.Operators.{template_value, is_direct}
 use Rattle.sj_plain.proofs.Objects.{select_alike, new_alike, received_call_alike, checked_alike}
 use Rattle.sure_receivers.specs.Sure.{is_sure}
-use Rattle.sj_names.specs.declared.method_names.Namespace.TheVariants.{Private, Constructor}
+use Rattle.sj_names.specs.declared.method_names.Namespace.TheVariants.{Public, Private, Constructor}
 use Rattle.sj_plain.proofs.Received.{value_none, not_none, class_value, value_below, value_apart, may_be_checked, receiver-same, Received, received}
 use Rattle.sj_plain.proofs.Orders.{ActsAlike, OperandAlike, OperandsAlike, no_operands, more_operands, all_shown, valued-weaken, valued-fits, in_order_alike}
 use Rattle.sj_plain.proofs.Shifts.{left_shift_alike, right_shift_alike, zero_shift_alike, joined_alike}
@@ -336,14 +336,11 @@ module _ (z : Setting) (lawful : Lawful z) (scope : Scope) where
         fit : FitAll (types_referred m.params) (types_of ts)
         fit = fit-all z.place.classes law ts m.params (arguments_there z.place.classes ((usable z).built (member c Constructor m)) ts m.params its.1 h.0.finds h.0.meets.1)
 
-    receive_tree : (p : Position) (e : Term) (c : List ℕ) (m : MethodName) (ts : Terms) (t : IrType) → Kept (apply_statically p e c Private m ts t) → TreeAlike e → RowAlike ts → TreeAlike (apply_statically p e c Private m ts t)
-    receive_tree p e c m ts t h one operands = record {
-      alike = λ w env s sc u sees same. by_equal w env t _ _ _ _ refl (λ i. shown z (core.receiver_call (member c Private m) (receiver-same (type_of_term e) (received_text (is_sure z.code.sure e) (expression_of z.code.sure e)) its.unboxed i) (expressions_of (arguments-same m.params (types_of ts) (all_expressions z.code.sure ts) its.fit i))) sc u) (subst (λ k. Sim z.direction (Valued z.place w env k) (ir_meaning.step z.place.classes z.low (apply_statically p e c Private m ts t) env s) (shown z (core.receiver_call (member c Private m) (received_text (is_sure z.code.sure e) (expression_of z.code.sure e)) (expressions_of (all_expressions z.code.sure ts))) sc u)) (sym h.0.meets.1) (received_call_alike z lawful.base (member c Private m) (type_of_term e) (types_of ts) (ir_meaning.receiving z.place.classes (is_sure env.sure e) z.low (ir_meaning.step z.place.classes z.low e)) (ir_meaning.operands z.place.classes z.low ts) (received_text (is_sure z.code.sure e) (expression_of z.code.sure e)) (all_expressions z.code.sure ts) its.there its.on_class its.fit w env s sc u sees.inside (in_front _ _ _ w env sc _ _ _ (receiver_alike e one its.may_be w env sc sees) (operands w env sc sees)) same));
+    receive_tree : (p : Position) (e : Term) (c : List ℕ) (n : Namespace) (m : MethodName) (ts : Terms) (t : IrType) → Received z.place.classes (usable z) (may_check (usable z) scene.sure) e c n m ts → Kept (apply_statically p e c n m ts t) → TreeAlike e → RowAlike ts → TreeAlike (apply_statically p e c n m ts t)
+    receive_tree p e c n m ts t its h one operands = record {
+      alike = λ w env s sc u sees same. by_equal w env t _ _ _ _ refl (λ i. shown z (core.receiver_call (member c n m) (receiver-same (type_of_term e) (received_text (is_sure z.code.sure e) (expression_of z.code.sure e)) its.unboxed i) (expressions_of (arguments-same m.params (types_of ts) (all_expressions z.code.sure ts) its.fit i))) sc u) (subst (λ k. Sim z.direction (Valued z.place w env k) (ir_meaning.step z.place.classes z.low (apply_statically p e c n m ts t) env s) (shown z (core.receiver_call (member c n m) (received_text (is_sure z.code.sure e) (expression_of z.code.sure e)) (expressions_of (all_expressions z.code.sure ts))) sc u)) (sym h.0.meets.1) (received_call_alike z lawful.base (member c n m) (type_of_term e) (types_of ts) (ir_meaning.receiving z.place.classes (is_sure env.sure e) z.low (ir_meaning.step z.place.classes z.low e)) (ir_meaning.operands z.place.classes z.low ts) (received_text (is_sure z.code.sure e) (expression_of z.code.sure e)) (all_expressions z.code.sure ts) its.there its.on_class its.fit w env s sc u sees.inside (in_front _ _ _ w env sc _ _ _ (receiver_alike e one its.may_be w env sc sees) (operands w env sc sees)) same));
       told = refl;
     }
-      where
-        its : Received z.place.classes (usable z) (may_check (usable z) scene.sure) e c m ts
-        its = received z.place.classes law (usable z) (may_check (usable z) scene.sure) e c m ts h.0.built h.0.finds h.0.meets.2 h.0.meets.3
 
     this_tree : (p : Position) (t : IrType) → Kept (this_ref p t) → TreeAlike (this_ref p t)
     this_tree p t h = record {
@@ -365,9 +362,10 @@ module _ (z : Setting) (lawful : Lawful z) (scope : Scope) where
         right_value (of_division is f g) = value_below z.place.classes law (type_of_term d) (right_operand o) g (value_none (right_operand o) (right-operand-value o))
         right_value (texts is f g) = not_none (type_of_term d) (not_no_type (type_of_term d) g)
 
-    -- a call on a receiver: of a private member, as that of a constructor has no value
+    -- a call on a receiver: of a private or a public member, as that of a constructor has no value
     receiving_tree : (p : Position) (e : Term) (c : List ℕ) (n : Namespace) (m : MethodName) (ts : Terms) (t : IrType) → Kept (apply_statically p e c n m ts t) → IsNoConstruction (apply_statically p e c n m ts t) → TreeAlike e → (ArgumentsFit z.place.classes ts m.params → RowAlike ts) → TreeAlike (apply_statically p e c n m ts t)
-    receiving_tree p e c Private m ts t h v one others = receive_tree p e c m ts t h one (others (received z.place.classes law (usable z) (may_check (usable z) scene.sure) e c m ts h.0.built h.0.finds h.0.meets.2 h.0.meets.3).arguments)
+    receiving_tree p e c Private m ts t h v one others = let its = received z.place.classes law (usable z) (may_check (usable z) scene.sure) e c Private m ts h.0.built h.0.finds h.0.meets.2 h.0.meets.3 in receive_tree p e c Private m ts t its h one (others its.arguments)
+    receiving_tree p e c Public m ts t h v one others = let its = received z.place.classes law (usable z) (may_check (usable z) scene.sure) e c Public m ts h.0.built h.0.finds h.0.meets.2 h.0.meets.3 in receive_tree p e c Public m ts t its h one (others its.arguments)
     receiving_tree p e c Constructor m ts t h v one others = absurd v
     receiving_tree p e c n m ts t h v one others = impossible h.0.built
 

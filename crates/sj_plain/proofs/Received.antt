@@ -19,7 +19,7 @@ use Rattle.sj_desugar.specs.Plain.{is_no_type}
 use Rattle.sj_names.proofs.Same.{impossible}
 use Rattle.sj_names.specs.declared.method_names.MethodName.{MethodName}
 use Rattle.sj_names.specs.declared.method_names.Namespace.{Namespace}
-use Rattle.sj_names.specs.declared.method_names.Namespace.TheVariants.{Private, Constructor}
+use Rattle.sj_names.specs.declared.method_names.Namespace.TheVariants.{Constructor}
 use Rattle.sj_plain.specs.Conditions.{IsNoConstruction}
 use Rattle.sj_trees.specs.Term.{Term, Terms, apply_statically, this_ref}
 use Rattle.sj_trees.specs.TypeOf.{type_of_term}
@@ -67,16 +67,16 @@ no_char own t n = go (is_char own) n
 pub receiver-same : (own : IrType) (e : core.Expression) → NoBox Any own → coerced_receiver own e ≡ e
 receiver-same own e n = ap (λ (b : Bool). if b then core.boxed_char e else e) n
 
-pub record Received (w : Classes) (has : Usable) (checked : Term → Bool) (e : Term) (c : List ℕ) (m : MethodName) (ts : Terms) : Type 0 where
-  pub there : has.received (member c Private m) ≡ true
+pub record Received (w : Classes) (has : Usable) (checked : Term → Bool) (e : Term) (c : List ℕ) (n : Namespace) (m : MethodName) (ts : Terms) : Type 0 where
+  pub there : has.received (member c n m) ≡ true
   pub may_be : checked e ≡ true
   pub unboxed : NoBox Any (type_of_term e)
   pub on_class : Fits (class_type c) (type_of_term e)
   pub arguments : ArgumentsFit w ts m.params
   pub fit : FitAll (types_referred m.params) (types_of ts)
 
-pub received : (w : Classes) (law : IsSubtyping (IsSub w)) (has : Usable) (checked : Term → Bool) (e : Term) (c : List ℕ) (m : MethodName) (ts : Terms) → (has.received (member c Private m) && (checked e && (not (is_boxed Any e) && not (any_is_boxed m.params ts)))) ≡ true → AllHaveValues m.params → rules.Fits w e (class_type c) → rules.ArgumentsFit w ts m.params → Received w has checked e c m ts
-received w law has checked e c m ts built values on fits = record {
+pub received : (w : Classes) (law : IsSubtyping (IsSub w)) (has : Usable) (checked : Term → Bool) (e : Term) (c : List ℕ) (n : Namespace) (m : MethodName) (ts : Terms) → (has.received (member c n m) && (checked e && (not (is_boxed Any e) && not (any_is_boxed m.params ts)))) ≡ true → AllHaveValues m.params → rules.Fits w e (class_type c) → rules.ArgumentsFit w ts m.params → Received w has checked e c n m ts
+received w law has checked e c n m ts built values on fits = record {
   there = its.0;
   may_be = others.0;
   unboxed = unboxed;
@@ -85,8 +85,8 @@ received w law has checked e c m ts built values on fits = record {
   fit = fit-all w law ts m.params arguments;
 }
   where
-    its : (has.received (member c Private m) ≡ true) × ((checked e && (not (is_boxed Any e) && not (any_is_boxed m.params ts))) ≡ true)
-    its = and_parts (has.received (member c Private m)) (checked e && (not (is_boxed Any e) && not (any_is_boxed m.params ts))) built
+    its : (has.received (member c n m) ≡ true) × ((checked e && (not (is_boxed Any e) && not (any_is_boxed m.params ts))) ≡ true)
+    its = and_parts (has.received (member c n m)) (checked e && (not (is_boxed Any e) && not (any_is_boxed m.params ts))) built
 
     others : (checked e ≡ true) × ((not (is_boxed Any e) && not (any_is_boxed m.params ts)) ≡ true)
     others = and_parts (checked e) (not (is_boxed Any e) && not (any_is_boxed m.params ts)) its.1

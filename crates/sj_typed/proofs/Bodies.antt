@@ -7,7 +7,6 @@ use Rattle.built_forms.specs.Built.{Usable, stands, is_boxed, yields_boxed, leav
 use Rattle.listing_spelling.specs.Rules.{IsListedTree, AreListedTrees, AreListedCases}
 use Rattle.sj_ask.specs.Sizes.{size, size_of_cases}
 use Rattle.sj_desugar.specs.Desugar.{member, has_no_value}
-use Rattle.sj_desugar.specs.Plain.{is_plain}
 use Rattle.sj_kept.proofs.Kept.{Keeps, AllKeep, keep-front, keep-behind, SameScope, scope-behind, scope-nothing, not_false, local-is, variable-is}
 use Rattle.sj_kept.proofs.Methods.{keep, distinct, body_once, body_keeps, params-same}
 use Rattle.sj_kept.proofs.Types.{empty-is}
@@ -96,8 +95,8 @@ module _ (w : Classes) (has : Usable) where
         let met = inner s.space s.labels n (assign p (select r d cn f t) e) all in
         let later = keep-behind s.owner s.space (At x (select r d cn f t)) (At x e) h in
         let q = and_parts (stands has (may_check has s.sure) s.labels (assign p (select r d cn f t) e)) (is_built has (may_check has s.sure) s.labels d && is_built has (may_check has s.sure) s.labels e) built in
-        let there = and_parts (has.field cn f t) (may_check has s.sure d && (is_plain e && not (is_boxed t e))) q.0 in
-        let known = and_from (has.field cn f t) (may_check has s.sure d) there.0 (and_parts (may_check has s.sure d) (is_plain e && not (is_boxed t e)) there.1).0 in
+        let there = and_parts (has.field cn f t) (may_check has s.sure d && not (is_boxed t e)) q.0 in
+        let known = and_from (has.field cn f t) (may_check has s.sure d) there.0 (and_parts (may_check has s.sure d) (not (is_boxed t e)) there.1).0 in
         let parts = and_parts (is_built has (may_check has s.sure) s.labels d) (is_built has (may_check has s.sure) s.labels e) q.1 in
         let read = and_from (stands has (may_check has s.sure) s.labels (select r d cn f t)) (is_built has (may_check has s.sure) s.labels d) known parts.0 in
         (record { meets = own s.space s.labels n (assign p (select r d cn f t) e) all; built = q.0; finds = tt }, typed (select r d cn f t) x x s a (n + 1) refl c h.0 (keep-front s.owner s.space (below x (select r d cn f t)) (At x e) h.1) o.0 read listed.0 (one s.space s.labels (n + 1) (select r d cn f t) e met), typed e x x s a (n + 1 + size (select r d cn f t)) refl c later.0 later.1 o.1 parts.1 listed.1 (other s.space s.labels (n + 1) (select r d cn f t) e met))
