@@ -1,7 +1,7 @@
 -- The rules of bodies, in one statement: each tree meets the rule of its form, is of the forms that are built, and finds what it uses around it.
 use Rattle.std.specs.Prelude.{◌≡◌, ℕ, ◌^◌, ◌<◌, true, List, [], ◌∷◌, ◌⊎◌, FitsSigned, not, Some, Bool, ◌&&◌, ◌||◌}
 use Rattle.std.specs.Int.{w32, w64}
-use Rattle.built_forms.specs.Built.{Usable, yields_boxed, stands, is_built_method}
+use Rattle.built_forms.specs.Built.{Usable, may_yield, stands, is_built_method}
 use Rattle.sj_desugar.specs.Desugar.{has_no_value}
 use Rattle.sj_emit_expr.specs.Templates.{check_name}
 use Rattle.sj_names.specs.declared.method_names.Namespace.{Namespace}
@@ -142,4 +142,4 @@ module _ (w : Classes) (has : Usable) where
     pub TypedCases : Scene → IrType → Cases → Type 0
     TypedCases s t no_cases = Unit {0}
     TypedCases s t (more_cases [] e cs) = TypedCases s t cs
-    TypedCases s t (more_cases (n ∷ ns) e cs) = (Yields w e t × (not (yields_boxed t e) ≡ true)) × Typed s e × TypedCases s t cs
+    TypedCases s t (more_cases (n ∷ ns) e cs) = (Yields w e t × (may_yield has t e ≡ true)) × Typed s e × TypedCases s t cs

@@ -32,7 +32,7 @@ use Rattle.body_rules.specs.Subtyping.{IsSubtyping}
 use Rattle.sj_plain.specs.Standing.{suits}
 use Rattle.sj_plain.specs.Worlds.{World, with_pending, Grows, SameValue, SameValues}
 use Rattle.sj_world.specs.Subtypes.{IsSub}
-use Rattle.built_forms.specs.Built.{Usable, divides}
+use Rattle.built_forms.specs.Built.{Usable, can_box, divides}
 use Rattle.body_rules.specs.Locals.{Scope, HasValue}
 use Rattle.body_rules.specs.Standing.{is_bare, types_referred, call_type}
 use Rattle.sj_trees.specs.declared.classes.ClassDef.{ClassDef}
@@ -316,6 +316,7 @@ pub record Lawful (z : Setting) : Type 0 where
   pub base : Based z
   pub checks : (usable z).helper check_name ≡ true → ChecksAlike z
   pub divisions : (o : BinaryOp) → divides (usable z) o ≡ true → DividesAlike z o
+  pub boxes : can_box (usable z) ≡ true → BoxesAlike z
 
 -- what a local of this type holds, and the binding that stands for it
 pub data Holding (w : World) (t : IrType) : Option ir.Value → js.Cell → Type 0 where
