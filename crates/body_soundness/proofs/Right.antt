@@ -502,7 +502,7 @@ module _ (w : World) (law : IsSubtyping (IsSub w)) (has : Usable) where
   constructor_parts c m ts t h = let first = and_parts (has.built (member c Constructor m)) (is_no_type t && may_pass has m.params ts) h in (first.0, (and_parts (is_no_type t) (may_pass has m.params ts) first.1).1)
 
   check_there : (e : Term) (s : Scene) → may_check has s.sure e ≡ true → is_sure s.sure e ≡ false → has.helper check_name ≡ true
-  check_there e s h k = go (is_sure s.sure e) (and_parts (not (has_no_value (type_of_term e))) (is_sure s.sure e || has.helper check_name) h).1 k
+  check_there e s h k = go (is_sure s.sure e) h k
     where
       go : (b : Bool) → (b || has.helper check_name) ≡ true → b ≡ false → has.helper check_name ≡ true
       go true q k = impossible (sym k)

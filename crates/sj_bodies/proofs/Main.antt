@@ -27,7 +27,7 @@ use Rattle.sj_bodies.proofs.Blocks.{Outside, undeclared}
 use Rattle.sj_bodies.proofs.Contexts.{around, Context, Writes, Sound, Ahead, Ready, Keeps, keeps-refl, Came}
 use Rattle.sj_bodies.specs.Fine.{IsDiscard, is_discard, FitsIn, FineOperand, Amid, Asks}
 use Rattle.sj_plain.proofs.Boxes.{StandsFor, stands-for, stand-for-all}
-use Rattle.sj_plain.proofs.Received.{may_be_checked, Received, received, Constructed, constructed}
+use Rattle.sj_plain.proofs.Received.{may_be_checked, value_or_nothing, Received, received, Constructed, constructed}
 use Rattle.built_forms.specs.Built.{may_box, may_pass}
 use Rattle.std.proofs.lemmas.Bool.{and_parts}
 use Rattle.sure_receivers.specs.Sure.{is_sure}
@@ -198,7 +198,7 @@ module _ (z : Setting) (lawful : Lawful z) (low : LowAlike z) where
 
   -- a receiver of a class, by what is known of it
   receiver_of : (c : Context) (j : ℕ) (e : Term) (d : List ℕ) (own : List ℕ → Type 0) → ((x : List ℕ) → Own e x → own x) → TreeDoes z lawful low e → Outside c own → (scene : Scene) → AmidHere c scene → Mutable z.is_mutable (mutable_in e) → IsSub z.place.classes (type_of_term e) (class_type d) → may_check (usable z) scene.sure e ≡ true → Typed z.place.classes (usable z) scene e → (labels : List (List ℕ)) → Once labels e → OperandDoes z lawful c j (receiver_piece z lawful low c.targets e)
-  receiver_of c j e d own part does out scene amid mut sub may typed labels once = let known = may_be_checked (usable z) z.code.sure e (subst (λ (q : List ℕ → Bool). may_check (usable z) q e ≡ true) amid.surely may) in receiver_does z lawful low c j e does (outside-part c own (Own e) part out) (part_of c scene amid e mut (class_type d) sub (class_has_value d) typed labels once) known.0 known.1
+  receiver_of c j e d own part does out scene amid mut sub may typed labels once = receiver_does z lawful low c j e does (outside-part c own (Own e) part out) (part_of c scene amid e mut (class_type d) sub (class_has_value d) typed labels once) (may_be_checked (usable z) z.code.sure e (subst (λ (q : List ℕ → Bool). may_check (usable z) q e ≡ true) amid.surely may)) (value_or_nothing z.place.classes lawful.base.ordered (type_of_term e) (class_type d) sub (class_has_value d))
 
   select_by : (p : Position) (e : Term) (d f : List ℕ) (t : IrType) → TreeDoes z lawful low e → TreeDoes z lawful low (select p e d f t)
   select_by p e d f t does_e c k j sound ahead out wr fine = select_does z lawful low p c k j e d f t sound ahead wr (fits-value z.place.classes lawful.base.ordered (usable z) k t fine.asks (lawful.base.fields d f t its.0).value) its.0 (receiver_of c j e d (Own e) (λ x o. o) does_e out fine.scene fine.amid fine.written fine.typed.0.meets.0 its.1 fine.typed.1 fine.around fine.once)
@@ -251,7 +251,7 @@ module _ (z : Setting) (lawful : Lawful z) (low : LowAlike z) where
   receive_by p e d n m ts t does_e do_all c k j sound ahead out wr fine its = receive_does z lawful low p c k j e d n m ts t sound ahead wr (fits z.place.classes lawful.base.ordered (usable z) k t fine.asks (result_is m.result t fine.typed.0.meets.1)) its.there fine.typed.0.meets.1 (stands-for z lawful (class_type d) (type_of_term e) its.below its.stands) (stand-for-all z lawful ts m.params its.arguments) (receiver_of c j e d (Own (apply_statically p e d n m ts t)) (λ x o. inl o) does_e out fine.scene fine.amid (of_first z.is_mutable (mutable_in e) (mutable_in_all ts) (front e) fine.written) fine.typed.0.meets.2 its.may_be fine.typed.1 fine.around fine.once.0, do_all c j (outside-part c (Own (apply_statically p e d n m ts t)) (OwnAll ts) (λ x o. inr o) out) fine.scene fine.amid (of_second z.is_mutable (mutable_in e) (mutable_in_all ts) (front e) fine.written) m.params its.arguments fine.typed.2 fine.around fine.once.1)
 
   construct_by : (p : Position) (e : Term) (d : List ℕ) (m : MethodName) (ts : Terms) (t : IrType) → TreeDoes z lawful low e → OperandsFine ts → (c : Context) (k : Destination) (j : ℕ) → Sound z.is_mutable c → Ahead c j → Outside c (Own (apply_statically p e d Constructor m ts t)) → (fine : FineHere z lawful low c k (apply_statically p e d Constructor m ts t)) → Constructed z.place.classes (usable z) fine.scene e d m ts t → IsDiscard k → Does z lawful c k j (apply_statically p e d Constructor m ts t)
-  construct_by p e d m ts t does_e do_all c _ j sound ahead out fine its is_discard = construct_does z lawful low p c j e d m ts t sound ahead its.there (stands-for z lawful (class_type d) (type_of_term e) its.below its.stands) (stand-for-all z lawful ts m.params its.arguments) (receiver_does z lawful low c j e does_e (outside-part c (Own (apply_statically p e d Constructor m ts t)) (Own e) (λ x o. inl o) out) (part_of c fine.scene fine.amid e (of_first z.is_mutable (mutable_in e) (mutable_in_all ts) (front e) fine.written) (class_type d) fine.typed.0.meets.2 (class_has_value d) fine.typed.1 fine.around fine.once.0) (inl (subst (λ (q : List ℕ → Bool). is_sure q e ≡ true) fine.amid.surely its.surely)) its.value, do_all c j (outside-part c (Own (apply_statically p e d Constructor m ts t)) (OwnAll ts) (λ x o. inr o) out) fine.scene fine.amid (of_second z.is_mutable (mutable_in e) (mutable_in_all ts) (front e) fine.written) m.params its.arguments fine.typed.2 fine.around fine.once.1)
+  construct_by p e d m ts t does_e do_all c _ j sound ahead out fine its is_discard = construct_does z lawful low p c j e d m ts t sound ahead its.there (stands-for z lawful (class_type d) (type_of_term e) its.below its.stands) (stand-for-all z lawful ts m.params its.arguments) (receiver_does z lawful low c j e does_e (outside-part c (Own (apply_statically p e d Constructor m ts t)) (Own e) (λ x o. inl o) out) (part_of c fine.scene fine.amid e (of_first z.is_mutable (mutable_in e) (mutable_in_all ts) (front e) fine.written) (class_type d) fine.typed.0.meets.2 (class_has_value d) fine.typed.1 fine.around fine.once.0) (inl (subst (λ (q : List ℕ → Bool). is_sure q e ≡ true) fine.amid.surely its.surely)) (inl its.value), do_all c j (outside-part c (Own (apply_statically p e d Constructor m ts t)) (OwnAll ts) (λ x o. inr o) out) fine.scene fine.amid (of_second z.is_mutable (mutable_in e) (mutable_in_all ts) (front e) fine.written) m.params its.arguments fine.typed.2 fine.around fine.once.1)
 
   statically_does : (p : Position) (e : Term) (d : List ℕ) (n : Namespace) (m : MethodName) (ts : Terms) (t : IrType) → TreeDoes z lawful low e → OperandsFine ts → TreeDoes z lawful low (apply_statically p e d n m ts t)
   statically_does p e d Private m ts t does_e do_all c k j sound ahead out wr fine = receive_by p e d Private m ts t does_e do_all c k j sound ahead out wr fine (received z.place.classes (usable z) (may_check (usable z) fine.scene.sure) e d Private m ts fine.typed.0.built fine.typed.0.finds fine.typed.0.meets.2 fine.typed.0.meets.3)

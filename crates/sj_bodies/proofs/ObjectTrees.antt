@@ -27,7 +27,7 @@ use Rattle.sj_trees.specs.TypeOf.{type_of_term}
 use Rattle.sj_trees.specs.Types.{class_type}
 use Rattle.sj_trees.specs.declared.positions.Position.{Position}
 use Rattle.sj_trees.specs.declared.types.IrType.{IrType}
-use Rattle.sj_trees.specs.declared.types.IrType.TheVariants.{Any}
+use Rattle.sj_trees.specs.declared.types.IrType.TheVariants.{Any, Nothing}
 use Rattle.sure_receivers.specs.Sure.{is_sure}
 use Rattle.body_rules.specs.Standing.{is_bare, Fits, types_referred, call_type}
 use Rattle.sj_plain.specs.Settings.{Setting, shown, SameState, Valued, Lawful, Inside, Receiving, no_receiver, on_receiver, Sees, usable}
@@ -49,7 +49,7 @@ use Rattle.sj_bodies.proofs.Contexts.{Context, Writes, Sound, Ahead, Ready, read
 use Rattle.sj_bodies.proofs.Forms.{sound-writing, ahead-writing, outside-writing, of_operands, one_final, act_alike, quiet_alike, OneFinal}
 use Rattle.sj_proper.proofs.Good.{no_name, finish-good}
 use Rattle.sj_bodies.proofs.Spills.{keeping, writing, extends-refl, Does, Final, Piece, OperandDoes, OperandsDo, operands-later, runs, operands_in, types, Lasting, Onwards, first_code, first-is, first_does, spill_does}
-use Rattle.sj_bodies.proofs.Statements.{finish_alike, valued_then, throws-on, ends-one, Ends}
+use Rattle.sj_bodies.proofs.Statements.{finish_alike, valued_then, value_statement, throws-on, ends-one, Ends}
 use Rattle.sj_bodies.proofs.Trees.{written, LowAlike, TreeDoes, FineHere, piece, operand_does, list_of, operands-list, runs-list, types-list}
 
 -- a receiver is of its type, checked or not
@@ -101,14 +101,25 @@ module _ (z : Setting) (lawful : Lawful z) (low : LowAlike z) where
   abbrev FineAt : Context → Term → Type 0
   FineAt c e = FineOperand z.place.classes z.is_mutable (usable z) z.code c.scope e (λ y. FineHere z lawful low c (to_variable y (type_of_term e)) e)
 
+  -- the value of a receiver that is spilled by itself, checked: where it is of type nothing there is none
+  never_final : (c : Context) (x : core.Variable) (p : Position) (j : ℕ) → (usable z).helper check_name ≡ true → (w : World) (sc : js.Scope) → OneFinal z lawful c (to_variable x Nothing) w sc j Nothing (null_act z) (λ es. finish (to_variable x Nothing) p Nothing false (core.checked_value (first_of es)))
+  never_final c x p j has from before n r e w env s sc u ahead l g ready ks same operand = ends-one z lawful c c.scope (to_variable x Nothing) from before (ir_meaning.in_order (r ∷ []) (null_act z) env s) (core.evaluate_of (Some p) (core.checked_value e)) sc u (value_statement z lawful (Came z.place z.code c c.scope (to_variable x Nothing) from before) w env Nothing sc u (ir_meaning.in_order (r ∷ []) (null_act z) env s) (core.checked_value e) (λ v. js_meaning.nothing sc) (check_given Nothing has (r ∷ []) (e ∷ []) w env s sc u ready.sees.inside operand same) (throws-on z lawful c c.scope (to_variable x Nothing) from w before env sc g ks ready) (λ y v q s u h a states. impossible a.suits))
+
+  nothing_final : (c : Context) (x : core.Variable) (p : Position) (j : ℕ) (own : IrType) → own ≡ Nothing → (usable z).helper check_name ≡ true → (w : World) (sc : js.Scope) → OneFinal z lawful c (to_variable x own) w sc j own (null_act z) (λ es. finish (to_variable x own) p own false (core.checked_value (first_of es)))
+  nothing_final c x p j own is has = subst (λ t. (w : World) (sc : js.Scope) → OneFinal z lawful c (to_variable x t) w sc j t (null_act z) (λ es. finish (to_variable x t) p t false (core.checked_value (first_of es)))) (sym is) (never_final c x p j has)
+
+  checked_does : (c : Context) (x : core.Variable) (j : ℕ) (e : Term) → (usable z).helper check_name ≡ true → (has_no_value (type_of_term e) ≡ false) ⊎ (type_of_term e ≡ Nothing) → Sound z.is_mutable c → Ahead c j → c.writable x → OperandDoes z lawful c j (piece z lawful low c.targets e) → (w : World) (env : ir.Env) (s : ir.State) (sc : js.Scope) (u : js.State) → Ready z.place z.code c.scope c.writable w env sc → SameState z.place w s u → Ends z lawful c c.scope (to_variable x (type_of_term e)) w sc (ir_meaning.in_order (ir_meaning.step z.place.classes z.low e ∷ []) (null_act z) env s) (then_use (spill ((piece z lawful low c.targets e).here ∷ []) j) (λ es. finish (to_variable x (type_of_term e)) (position_of e) (type_of_term e) false (core.checked_value (first_of es)))).statements sc u
+  checked_does c x j e has (inl value) sound ahead wr operand = expression_does c (to_variable x (type_of_term e)) j (piece z lawful low c.targets e ∷ []) (type_of_term e) (position_of e) (null_act z) (λ es. core.checked_value (first_of es)) sound ahead wr (value, inl (fits-same (type_of_term e)), stands-same (can_box (usable z)) (is_char (type_of_term e))) (operand, tt) (check_given (type_of_term e) has)
+  checked_does c x j e has (inr none) sound ahead wr operand = of_operands z lawful c (to_variable x (type_of_term e)) (piece z lawful low c.targets e ∷ []) j (null_act z) (λ es. finish (to_variable x (type_of_term e)) (position_of e) (type_of_term e) false (core.checked_value (first_of es))) sound ahead (operand, tt) (one_final z lawful c (to_variable x (type_of_term e)) j (type_of_term e) (null_act z) (λ es. finish (to_variable x (type_of_term e)) (position_of e) (type_of_term e) false (core.checked_value (first_of es))) (nothing_final c x (position_of e) j (type_of_term e) none has))
+
   -- a receiver as an operand: where it has its check and isn't plain, it is spilled by itself
-  receiver_by : (b : Bool) (c : Context) (j : ℕ) (e : Term) → TreeDoes z lawful low e → Outside c (Own e) → FineAt c e → (b ≡ true) ⊎ ((usable z).helper check_name ≡ true) → has_no_value (type_of_term e) ≡ false → OperandDoes z lawful c j (record { run = ir_meaning.receiving z.place.classes b z.low (ir_meaning.step z.place.classes z.low e); here = received b (operand z.is_mutable z.code.sure e (λ k j. into z.is_mutable z.code.sure c.targets k j e)) })
+  receiver_by : (b : Bool) (c : Context) (j : ℕ) (e : Term) → TreeDoes z lawful low e → Outside c (Own e) → FineAt c e → (b ≡ true) ⊎ ((usable z).helper check_name ≡ true) → (has_no_value (type_of_term e) ≡ false) ⊎ (type_of_term e ≡ Nothing) → OperandDoes z lawful c j (record { run = ir_meaning.receiving z.place.classes b z.low (ir_meaning.step z.place.classes z.low e); here = received b (operand z.is_mutable z.code.sure e (λ k j. into z.is_mutable z.code.sure c.targets k j e)) })
   receiver_by true c j e does out fine may value = operand_does z lawful low c j e does out fine
   receiver_by false c j e does out fine (inl i) value = absurd (impossible i)
   receiver_by false c j e does out (inl h) (inr has) value = inl (h.plain, record { alike = λ w env sc sees. checked_alike z lawful (type_of_term e) w env sc (ir_meaning.step z.place.classes z.low e) (expression_of z.code.sure e) has sees.inside (more_operands (type_of_term e) (ir_meaning.step z.place.classes z.low e) (expression_of z.code.sure e) [] [] [] (plain_alike z lawful c.scope e h).told (as_operand z lawful c.scope e (plain_alike z lawful c.scope e h).alike w env sc sees) no_operands); told = refl; fixes = λ i p sound w env sc sees. impossible i })
-  receiver_by false c j e does out (inr h) (inr has) value = inr (h.0, refl, received-onward (operand z.is_mutable z.code.sure e (λ k j. into z.is_mutable z.code.sure c.targets k j e)) (λ k i. (written z.is_mutable z.code.sure c.targets e k i (h.2 (core.numbered j)).once).onward), λ p i l ext sound ahead. expression_does (writing (keeping c p) (core.numbered i)) (to_variable (core.numbered i) (type_of_term e)) (suc i) (piece z lawful low c.targets e ∷ []) (type_of_term e) (position_of e) (null_act z) (λ es. core.checked_value (first_of es)) (sound-writing z lawful (keeping c p) i sound ahead) (ahead-writing z lawful (keeping c p) i ahead) (inl refl) (value, inl (fits-same (type_of_term e)), stands-same (can_box (usable z)) (is_char (type_of_term e))) (operand_does z lawful low (writing (keeping c p) (core.numbered i)) (suc i) e does (outside-writing z lawful c p i (Own e) ext out) (inr h), tt) (check_given (type_of_term e) has))
+  receiver_by false c j e does out (inr h) (inr has) value = inr (h.0, refl, received-onward (operand z.is_mutable z.code.sure e (λ k j. into z.is_mutable z.code.sure c.targets k j e)) (λ k i. (written z.is_mutable z.code.sure c.targets e k i (h.2 (core.numbered j)).once).onward), λ p i l ext sound ahead. checked_does (writing (keeping c p) (core.numbered i)) (core.numbered i) (suc i) e has value (sound-writing z lawful (keeping c p) i sound ahead) (ahead-writing z lawful (keeping c p) i ahead) (inl refl) (operand_does z lawful low (writing (keeping c p) (core.numbered i)) (suc i) e does (outside-writing z lawful c p i (Own e) ext out) (inr h)))
 
-  pub receiver_does : (c : Context) (j : ℕ) (e : Term) → TreeDoes z lawful low e → Outside c (Own e) → FineAt c e → (is_sure z.code.sure e ≡ true) ⊎ ((usable z).helper check_name ≡ true) → has_no_value (type_of_term e) ≡ false → OperandDoes z lawful c j (receiver_piece c.targets e)
+  pub receiver_does : (c : Context) (j : ℕ) (e : Term) → TreeDoes z lawful low e → Outside c (Own e) → FineAt c e → (is_sure z.code.sure e ≡ true) ⊎ ((usable z).helper check_name ≡ true) → (has_no_value (type_of_term e) ≡ false) ⊎ (type_of_term e ≡ Nothing) → OperandDoes z lawful c j (receiver_piece c.targets e)
   receiver_does c j e = receiver_by (is_sure z.code.sure e) c j e
 
   -- the receivers that the IR takes for sure are those of the code

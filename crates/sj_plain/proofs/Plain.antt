@@ -315,7 +315,7 @@ module _ (z : Setting) (lawful : Lawful z) (scope : Scope) where
 
     -- a receiver that is never null, or whose check can be used
     receiver_alike : (e : Term) → TreeAlike e → may_check (usable z) scene.sure e ≡ true → (w : World) (env : ir.Env) (sc : js.Scope) → Sees z.place z.code scope w env sc → OperandsAlike z w env sc (type_of_term e ∷ []) (ir_meaning.receiving z.place.classes (is_sure env.sure e) z.low (ir_meaning.step z.place.classes z.low e) ∷ []) (received_text (is_sure z.code.sure e) (expression_of z.code.sure e) ∷ [])
-    receiver_alike e h may w env sc sees = subst (λ q. OperandsAlike z w env sc (type_of_term e ∷ []) (ir_meaning.receiving z.place.classes (is_sure q e) z.low (ir_meaning.step z.place.classes z.low e) ∷ []) (received_text (is_sure z.code.sure e) (expression_of z.code.sure e) ∷ [])) (sym sees.sure) (received_alike (is_sure z.code.sure e) (type_of_term e) w env sc (ir_meaning.step z.place.classes z.low e) (expression_of z.code.sure e) (may_be_checked (usable z) z.code.sure e (subst (λ (q : List ℕ → Bool). may_check (usable z) q e ≡ true) surely may)).0 sees.inside (with_tree e h w env sc sees [] [] [] no_operands))
+    receiver_alike e h may w env sc sees = subst (λ q. OperandsAlike z w env sc (type_of_term e ∷ []) (ir_meaning.receiving z.place.classes (is_sure q e) z.low (ir_meaning.step z.place.classes z.low e) ∷ []) (received_text (is_sure z.code.sure e) (expression_of z.code.sure e) ∷ [])) (sym sees.sure) (received_alike (is_sure z.code.sure e) (type_of_term e) w env sc (ir_meaning.step z.place.classes z.low e) (expression_of z.code.sure e) (may_be_checked (usable z) z.code.sure e (subst (λ (q : List ℕ → Bool). may_check (usable z) q e ≡ true) surely may)) sees.inside (with_tree e h w env sc sees [] [] [] no_operands))
 
     select_tree : (p : Position) (e : Term) (c f : List ℕ) (t : IrType) → Kept (select p e c f t) → TreeAlike e → TreeAlike (select p e c f t)
     select_tree p e c f t h one = record {

@@ -22,7 +22,7 @@ use Rattle.sj_trees.specs.Term.{Term, Terms, apply_statically, this_ref}
 use Rattle.sj_trees.specs.TypeOf.{type_of_term}
 use Rattle.sj_trees.specs.Types.{class_type}
 use Rattle.sj_trees.specs.declared.types.IrType.{IrType}
-use Rattle.sj_trees.specs.declared.types.IrType.TheVariants.{Any, NoType}
+use Rattle.sj_trees.specs.declared.types.IrType.TheVariants.{Any, Nothing, NoType}
 use Rattle.sj_trees.specs.declared.positions.Position.{Position}
 use Rattle.sj_world.specs.Known.{Classes}
 use Rattle.sj_world.specs.Subtypes.{IsSub}
@@ -74,13 +74,19 @@ received w has checked e c n m ts built values on fits = record {
     others : (checked e ≡ true) × ((may_box has Any e && may_pass has m.params ts) ≡ true)
     others = and_parts (checked e) (may_box has Any e && may_pass has m.params ts) its.1
 
--- a receiver that may be checked is never null, or its check is there; and it has a value
-pub may_be_checked : (has : Usable) (sure : List ℕ → Bool) (e : Term) → may_check has sure e ≡ true → ((is_sure sure e ≡ true) ⊎ (has.helper check_name ≡ true)) × (has_no_value (type_of_term e) ≡ false)
-may_be_checked has sure e h = let x = and_parts (not (has_no_value (type_of_term e))) (is_sure sure e || has.helper check_name) h in (either_true (is_sure sure e) (has.helper check_name) x.1, when_not (has_no_value (type_of_term e)) x.0)
+-- a receiver that may be checked is never null, or its check is there
+pub may_be_checked : (has : Usable) (sure : List ℕ → Bool) (e : Term) → may_check has sure e ≡ true → (is_sure sure e ≡ true) ⊎ (has.helper check_name ≡ true)
+may_be_checked has sure e h = either_true (is_sure sure e) (has.helper check_name) h
   where
     either_true : (a b : Bool) → (a || b) ≡ true → (a ≡ true) ⊎ (b ≡ true)
     either_true true b h = inl refl
     either_true false b h = inr h
+
+-- what stands where there is a value has one, or never comes to one
+pub value_or_nothing : (w : Classes) (law : IsSubtyping (IsSub w)) (own t : IrType) → IsSub w own t → HasValue t → (has_no_value own ≡ false) ⊎ (own ≡ Nothing)
+value_or_nothing w law NoType t f h = impossible (sym h ∙ ap has_no_value (law.from_none t f))
+value_or_nothing w law Nothing t f h = inr refl
+value_or_nothing w law _ t f h = inl refl
 
 -- what the rules give of a call of a constructor on This
 pub record Constructed (w : Classes) (has : Usable) (s : Scene) (e : Term) (c : List ℕ) (m : MethodName) (ts : Terms) (t : IrType) : Type 0 where
