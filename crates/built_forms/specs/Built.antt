@@ -4,6 +4,7 @@ use Rattle.std.specs.Ordering.{int_eq}
 use Rattle.sj_desugar.specs.Coercions.{is_char}
 use Rattle.sj_desugar.specs.Desugar.{member}
 use Rattle.sj_desugar.specs.Plain.{is_no_type}
+use Rattle.sj_names.specs.Same.{is_same_text}
 use Rattle.sj_names.specs.declared.method_names.Namespace.{Namespace}
 use Rattle.sj_names.specs.declared.method_names.Namespace.TheVariants.{Public, PublicStatic, Private, PrivateStatic, Constructor}
 use Rattle.sj_names.specs.declared.references.TypeRef.{TypeRef}
@@ -177,6 +178,18 @@ is_built_method has checked d e = may_yield has d.result e && is_built has check
 -- whatever static member is called
 abbrev pub anything : Usable
 anything = members_alone (λ m. true)
+
+-- whatever is made and used of objects, but for objects that hold chars, and for public members that run on a receiver
+abbrev pub is_private : Namespace → Bool
+is_private Private = true
+is_private _ = false
+
+abbrev pub any_object : Usable
+any_object = record { linked = λ m. true; received = λ m. is_private m.namespace; built = λ m. true; made = λ c. true; field = λ c f t. true; helper = λ x. not (is_same_text x (codes "$C")); objects = true }
+
+-- the body is of these forms, whatever it calls, makes and reads
+abbrev pub is_object_body : MethodDef → Term → Bool
+is_object_body = is_built_method any_object (λ e. true)
 
 -- the body is of the forms that are built, whatever it calls
 abbrev pub is_built_body : MethodDef → Term → Bool

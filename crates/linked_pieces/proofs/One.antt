@@ -1,6 +1,7 @@
 -- The pieces of a linked world are one list.
 use Rattle.std.proofs.Common.{◌≡◌, ◌↔◌, ◌⊎◌, ◌++◌, ◌<◌, Bool, true, false, not, List, [], ◌∷◌, Option, Some, None, IsTrue, inl, inr, refl, sym, ap, subst, ◌∙◌, map, length, Contains, arith}
-use Rattle.std.specs.List.{filter, flat_map, reverse}
+use Rattle.std.specs.List.{filter, flat_map}
+use Rattle.std.specs.Prelude.{reverse}
 use Rattle.std.proofs.lemmas.List.{reverse-reverse}
 use Rattle.std.proofs.lemmas.List.Sorted.{Contains-permutation, IsPermutation-reverse}
 use Rattle.helper_rules.specs.Helpers.{Above, helper_name, helper_piece}

@@ -25,7 +25,7 @@ use Rattle.sj_names.proofs.Same.{impossible}
 use Rattle.body_rules.proofs.Lists.{nothing_in, in_front_or_behind}
 
 -- where nothing is answered, each answers nothing
-none-each : {A R : Type 0} (Answers : A → Option R → Type 0) (n : ℕ) (xs : List A) (r : Option (ℕ × R)) → FirstAnswer Answers n xs r → r ≡ None → (x : A) → Contains xs x → Answers x None
+pub none-each : {A R : Type 0} (Answers : A → Option R → Type 0) (n : ℕ) (xs : List A) (r : Option (ℕ × R)) → FirstAnswer Answers n xs r → r ≡ None → (x : A) → Contains xs x → Answers x None
 none-each Answers _ _ _ (none_left n) e x h = nothing_in x h
 none-each Answers _ _ _ (this_one n y ys r a) e x h = impossible (cc)
 none-each Answers _ _ _ (a_later_one n y ys found a rest) e x h = ⊎_elim (λ same. subst (λ z. Answers z None) same a) (λ later. none-each Answers (suc n) ys found rest e x later) (in_front_or_behind y ys x h)
