@@ -37,7 +37,7 @@ use Rattle.linked_folders.proofs.Edits.{Differ, no_more}
 use Rattle.linked_folders.proofs.Links.{body_built}
 use Rattle.linked_folders.proofs.Names.{names_tell}
 use Rattle.folder_linking.specs.declared.functions.Function.{Function}
-use Rattle.folder_linking.specs.Functions.{HasStaticBody, IsFunction, AreInOrder, member_of, piece}
+use Rattle.folder_linking.specs.Functions.{IsStatic, IsFunction, AreInOrder, member_of, piece}
 use Rattle.folder_linking.specs.Linking.{IsLinkable, ArePieces}
 use Rattle.sj_pieces.specs.Owners.{OnObjects}
 use Rattle.folder_linking.proofs.Objects.{built_on_objects}
@@ -167,18 +167,15 @@ first_true : (b c : Bool) → not (b && c) ≡ false → b ≡ true
 first_true true c h = refl
 first_true false c h = sym h
 
--- each needed body is defined, and as static
-all_defined : (entries : List EntryPoint) (l : Linked) → IsLinkable entries l → (k : Member) → Contains (members_of l.facts) k → IsDefined l.world k
+-- each needed body is defined, and its method has no receiver
+pub all_defined : (entries : List EntryPoint) (l : Linked) → IsLinkable entries l → (k : Member) → Contains (members_of l.facts) k → IsDefined l.world k
 all_defined entries l can k h = needed_bodies l.world entries keeps can.is_accepted.resolved k ((can.reached.exact (fact.Body k)).0 (from_members l.facts k h))
   where
     keeps : KeepRules l.world
     keeps c among = can.is_accepted.kept c (Contains-permutation l.world can.is_accepted.classes c (IsPermutation-sym can.is_accepted.classes l.world can.is_accepted.world.sorted.same) among)
 
-pub all_static : (entries : List EntryPoint) (l : Linked) → IsLinkable entries l → (k : Member) → Contains (members_of l.facts) k → HasStaticBody l.world k
-all_static entries l can k h =
-    let there = all_defined entries l can k h in
-    let d = there.definition in
-    record { defined = there; without_receiver = first_true (is_static d.namespace) (has_built_body d d.body) (can.built k d ((can.reached.exact (fact.Body k)).0 (from_members l.facts k h)) there.defined) }
+pub all_static : (entries : List EntryPoint) (l : Linked) → IsLinkable entries l → (k : Member) → Contains (members_of l.facts) k → IsStatic l.world k
+all_static entries l can k h d is = first_true (is_static d.namespace) (has_built_body d d.body) (can.built k d ((can.reached.exact (fact.Body k)).0 (from_members l.facts k h)) is)
 
 module _ (entries : List EntryPoint) (l : Linked) (can : IsLinkable entries l) (fs : List Function) (are : AreInOrder l.world (members_of l.facts) fs) where
   each : (f : Function) → Contains fs f → IsFunction l.world f

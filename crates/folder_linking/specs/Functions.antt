@@ -12,16 +12,16 @@ use Rattle.built_forms.specs.Built.{is_static}
 use Rattle.sj_proper.specs.Emitted.{EmittedMethod, piece_of_method}
 use Rattle.sj_pieces.specs.Owners.{OnObjects}
 use Rattle.sj_names.specs.declared.method_names.Member.{Member}
+use Rattle.sj_trees.specs.declared.classes.MethodDef.{MethodDef}
 use Rattle.sj_world.specs.Known.{Name, Classes}
+use Rattle.sj_world.specs.Members.{IsMethodOf}
 use Rattle.sj_world.specs.Tables.{AreAncestors}
 use Rattle.accepted_folders.specs.Bodies.{IsFound}
-use Rattle.folder_verdicts.specs.Stages.{IsDefined}
 use Rattle.folder_linking.specs.declared.functions.Function.{Function}
 
--- the member has a body, and no receiver
-pub record HasStaticBody (w : Classes) (k : Member) : Type 0 where
-  pub defined : IsDefined w k
-  pub without_receiver : is_static defined.definition.namespace ≡ true
+-- the member's method has no receiver
+abbrev pub IsStatic : Classes → Member → Type 0
+IsStatic w k = (d : MethodDef) → IsMethodOf w k d → is_static d.namespace ≡ true
 
 -- the class has so many ancestors
 pub record HasAncestors (w : Classes) (class : Name) (count : ℕ) : Type 0 where

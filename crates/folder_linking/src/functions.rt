@@ -17,7 +17,7 @@ ghost use Rattle.folder_verdicts.specs.Stages.{IsDefined};
 ghost use Rattle.folder_judging.specs.Counts.{members_of, bodies_among};
 ghost use Rattle.folder_linking.specs.Counts.{Emits};
 ghost use Rattle.folder_linking.specs.Functions as functions;
-ghost use Rattle.folder_linking.specs.Functions.{AreFunctions, AreInOrder, IsFunction, HasAncestors, HasStaticBody};
+ghost use Rattle.folder_linking.specs.Functions.{AreFunctions, AreInOrder, IsFunction, HasAncestors, IsStatic};
 
 use crate::members::needed_members;
 use folder_judging::definition_of;
@@ -48,7 +48,8 @@ pub fn functions_in_order<'w, W: Workers>(
     linked: &'w LinkedWorld,
     work: &mut W,
 ) -> Result<Vec<Function<'w>>, NoMemory>
-    requires { (k : Member) → Contains (members_of linked.now.facts) k → HasStaticBody linked.now.world k }
+    requires defined { (k : Member) → Contains (members_of linked.now.facts) k → IsDefined linked.now.world k }
+    requires without_receiver { (k : Member) → Contains (members_of linked.now.facts) k → IsStatic linked.now.world k }
     ensures functions { IfOk result (λ fs. AreInOrder linked.now.world (members_of linked.now.facts) fs.items) }
     ensures counted { Emits (bodies_among linked.now.facts) result (W.meter work.old) (W.meter work.new) }
 {
@@ -73,7 +74,8 @@ fn functions_of<'w, W: Workers>(
     members: &[&'w Member],
     work: &mut W,
 ) -> Result<Vec<Function<'w>>, NoMemory>
-    requires { (k : Member) → Contains (map (λ m. m.now) members.now) k → HasStaticBody linked.now.world k }
+    requires defined { (k : Member) → Contains (map (λ m. m.now) members.now) k → IsDefined linked.now.world k }
+    requires without_receiver { (k : Member) → Contains (map (λ m. m.now) members.now) k → IsStatic linked.now.world k }
     ensures functions { IfOk result (λ fs. AreFunctions linked.now.world (map (λ m. m.now) members.now) fs.items) }
     ensures counted { Emits (length members.now) result (W.meter work.old) (W.meter work.new) }
 {
@@ -91,7 +93,8 @@ fn function_of<'w, W: Workers>(
     member: &'w Member,
     work: &mut W,
 ) -> Result<Function<'w>, NoMemory>
-    requires { HasStaticBody linked.now.world member.now }
+    requires defined { IsDefined linked.now.world member.now }
+    requires without_receiver { IsStatic linked.now.world member.now }
     ensures function { IfOk result (λ f. (f.member.now ≡ member.now) × IsFunction linked.now.world f) }
     ensures counted { Emits 1 result (W.meter work.old) (W.meter work.new) }
 {
