@@ -1,11 +1,11 @@
 // Methods.
-ghost use Rattle.std.specs.Prelude.{◌≡◌, IfOk};
+ghost use Rattle.std.specs.Prelude.{◌≡◌, IfOk, None};
+ghost use Rattle.sj_core.specs.Terms as terms;
 ghost use Rattle.sj_core.specs.Views.{method_view, statements_view};
 ghost use Rattle.sj_desugar.specs.Desugar as desugar;
 ghost use Rattle.sj_desugar.specs.Desugar.{body_code, is_mutable_in, result_destination};
 ghost use Rattle.sj_desugaring.specs.Views.{destination_view};
 ghost use Rattle.sj_desugarer.specs.Methods.{method_desugared};
-ghost use Rattle.sj_names.specs.declared.method_names.Namespace.TheVariants.{Constructor};
 ghost use Rattle.sj_trees.specs.View.{view};
 
 use crate::trees::{Locals, statements_of};
@@ -35,7 +35,7 @@ fn body_of(alloc: Global, m: &MethodDef) -> Result<Vec<CoreStatement>, NoMemory>
     match &m.body {
         Some(body) => {
             let statements = statements_of_body(alloc, m, body.tree())?;
-            completed(m.namespace, statements)
+            completed(alloc, m.namespace, statements)
         }
         None => Ok(Vec::new(alloc)),
     }
@@ -43,25 +43,39 @@ fn body_of(alloc: Global, m: &MethodDef) -> Result<Vec<CoreStatement>, NoMemory>
 
 // A constructor gives the object that it ran on.
 fn completed(
+    alloc: Global,
     namespace: Namespace,
     statements: Vec<CoreStatement>,
 ) -> Result<Vec<CoreStatement>, NoMemory>
     ensures { IfOk result (λ ss. statements_view ss.items ≡ desugar.completed namespace (statements_view statements.items)) }
 {
     match namespace {
-        Namespace::Constructor => with_receiver_given(statements),
+        Namespace::Constructor => followed(statements, receiver_given(alloc)?),
         _ => Ok(statements),
     }
 }
 
-#[tactic(auto, using(std::proofs::lemmas::Grind::common_steps, sj_desugaring::proofs::Lists::appending))]
-fn with_receiver_given(statements: Vec<CoreStatement>) -> Result<Vec<CoreStatement>, NoMemory>
-    ensures { IfOk result (λ ss. statements_view ss.items ≡ desugar.completed Constructor (statements_view statements.items)) }
+// `return $this;`
+fn receiver_given(alloc: Global) -> Result<Vec<CoreStatement>, NoMemory>
+    ensures { IfOk result (λ ss. statements_view ss.items ≡ terms.statement (terms.return_of None (terms.variable_use terms.receiver)) terms.no_statements) }
 {
-    let mut completed = statements;
+    let mut statements = Vec::new(alloc);
     let receiver = CoreExpression::Variable(CoreVariable::Receiver);
-    completed.push(CoreStatement::Return(None, receiver))?;
-    Ok(completed)
+    statements.push(CoreStatement::Return(None, receiver))?;
+    Ok(statements)
+}
+
+#[tactic(auto, using(std::proofs::lemmas::Grind::common_steps, sj_desugaring::proofs::Lists::appending))]
+fn followed(
+    first: Vec<CoreStatement>,
+    second: Vec<CoreStatement>,
+) -> Result<Vec<CoreStatement>, NoMemory>
+    ensures { IfOk result (λ ss. statements_view ss.items ≡ terms.followed (statements_view first.items) (statements_view second.items)) }
+{
+    let mut statements = first;
+    let mut others = second;
+    statements.append(&mut others)?;
+    Ok(statements)
 }
 
 fn statements_of_body(

@@ -4,7 +4,7 @@ use Rattle.sj_desugar.specs.Desugar.{body_code, is_mutable_in, completed}
 use Rattle.sj_desugarer.proofs.methods.body_of.Goals as goal
 use Rattle.sj_desugarer.specs.Methods.{desugared_with}
 
-pub returns-in_ok-statements : goal.returns-in_ok-statements
-returns-in_ok-statements c =
+pub returns-in_ok-statements-in-Some : goal.returns-in_ok-statements-in-Some
+returns-in_ok-statements-in-Some c =
     let m = c.args.m.now in
-    subst (λ x. IfOk c.completed.result (λ ss. statements_view ss.items ≡ x)) (ap (completed m.namespace) (c.in_ok-statements.ensures ∙ ap (λ e. body_code (is_mutable_in m e) m.result e) c.tree.ensures) ∙ sym (ap (λ o. (desugared_with m o).body) c.in-Some.is)) c.completed.ensures
+    subst (λ x. IfOk c.completed.result (λ ss. statements_view ss.items ≡ x)) (ap (completed m.namespace) (c.in_ok-statements-in-Some.ensures ∙ ap (λ e. body_code (is_mutable_in m e) m.result e) c.tree.ensures) ∙ sym (ap (λ o. (desugared_with m o).body) c.in-Some.is)) c.completed.ensures
