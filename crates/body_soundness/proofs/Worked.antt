@@ -1,5 +1,5 @@
 -- The worked world with objects has what soundness asks.
-use Rattle.std.proofs.Common.{◌≡◌, codes, ◌<◌, ℕ, Bool, true, false, ◌&&◌, List, [], ◌∷◌, Some, None, Option, Contains, refl, sym, ◌∙◌, subst, inl, inr, ⊎_elim, arith, if◌then◌else◌}
+use Rattle.std.proofs.Common.{◌≡◌, codes, ◌<◌, ℕ, Bool, true, false, ◌&&◌, List, [], ◌∷◌, Some, None, Option, Contains, refl, sym, ◌∙◌, ◌||◌, subst, ◌⊎◌, inl, inr, ⊎_elim, arith, if◌then◌else◌}
 use Rattle.std.specs.List.{list_any}
 use Rattle.std.proofs.lemmas.Bool.{and_parts}
 use Rattle.body_rules.proofs.Lists.{nothing_in, in_front_or_behind, at_front, further_on}
@@ -8,7 +8,7 @@ use Rattle.body_rules.specs.Locals.{HasValue}
 use Rattle.body_rules.specs.Standing.{is_bare}
 use Rattle.body_rules.proofs.RulesGive.{no_division}
 use Rattle.body_soundness.proofs.Modules.{never_wrong}
-use Rattle.body_soundness.proofs.Chains.{no_primitive}
+use Rattle.body_soundness.proofs.Chains.{no_primitive, on_chain as below_on_chain}
 use Rattle.body_soundness.specs.Laws.{ObjectLaws}
 use Rattle.body_soundness.specs.Rules.{RightMember}
 use Rattle.body_soundness.specs.Worked.{class_name, field_name, init_name, get_name, gets_field, gets, init_method, get_method, main_method, its_field, its_class, object_world, main_member, is_member, object_use}
@@ -39,12 +39,14 @@ use Rattle.sj_trees.specs.declared.classes.ClassDef.{ClassDef}
 use Rattle.sj_trees.specs.declared.classes.MethodDef.{MethodDef}
 use Rattle.sj_trees.specs.declared.types.IrType.{IrType}
 use Rattle.sj_trees.specs.declared.types.IrType.TheVariants.{Class, Int}
+use Rattle.sj_world.specs.Ancestors.{next_on_chain, IsOnChain}
 use Rattle.sj_world.specs.Known.{Name, stands_as}
 use Rattle.sj_world.specs.Laws.{IsPlain}
+use Rattle.sj_world.specs.Paths.{stay, on}
 use Rattle.sj_world.specs.Subtypes.{hijacked_class, IsSub, equal}
 use Rattle.typing_rules.specs.Rules.{nothing_wanted, fitting, HasFieldType}
 
-member-same : (m k : Member) → is_member k m ≡ true → m ≡ k
+pub member-same : (m k : Member) → is_member k m ≡ true → m ≡ k
 member-same m k h =
     let p = and_parts (is_same_text m.class k.class) (is_same_namespace m.namespace k.namespace && is_same_method m.method k.method) h in
     let q = and_parts (is_same_namespace m.namespace k.namespace) (is_same_method m.method k.method) p.1 in
@@ -59,39 +61,48 @@ no_place i h = omega (arith, h)
 field_type : HasFieldType object_world class_name field_name false Int
 field_type = record { field = its_field; is_field = record { class = its_class; is_class = refl; first = record { place = 0; stands = refl; has = record { name_is = refl; mark_is = refl }; none_before = λ i y h s k. no_place i h } }; type_is = refl }
 
-init_rules : KeepsRules object_world object_use class_name init_method (skip nowhere)
+pub init_rules : KeepsRules object_world object_use class_name init_method (skip nowhere)
 init_rules = record { typed = record { meets = tt; built = refl; finds = tt }; yields = nothing_wanted refl; unboxed = refl; result = inl refl; values = λ x p e. impossible (cc); once = record { once = tt; parameters = tt; fresh = λ x o i. i } }
 
-get_rules : KeepsRules object_world object_use class_name get_method gets_field
+pub get_rules : KeepsRules object_world object_use class_name get_method gets_field
 get_rules = record { typed = (record { meets = (equal refl, field_type); built = refl; finds = tt }, record { meets = tt; built = refl; finds = (tt, refl) }); yields = fitting (equal refl); unboxed = refl; result = inr refl; values = λ x p e. impossible (cc); once = record { once = tt; parameters = tt; fresh = λ x o i. i } }
 
-main_rules : KeepsRules object_world object_use object_name main_method gets
+pub main_rules : KeepsRules object_world object_use object_name main_method gets
 main_rules = record { typed = (record { meets = (tt, refl, equal refl, tt); built = refl; finds = tt }, (record { meets = (refl, tt); built = refl; finds = tt }, tt), tt); yields = nothing_wanted refl; unboxed = refl; result = inl refl; values = λ x p e. impossible (cc); once = record { once = (tt, tt, λ x o i. i); parameters = tt; fresh = λ x o i. i } }
 
+abbrev pub main_right : RightMember object_world object_use main_member
+main_right = record { definition = main_method; its_body = gets; found = refl; has_body = refl; rules = main_rules; parameters = tt; result_is = refl }
+
 linked_right : (m : Member) → object_use.linked m ≡ true → RightMember object_world object_use m
-linked_right m h = subst (RightMember object_world object_use) (sym (member-same m main_member h)) (record { definition = main_method; its_body = gets; found = refl; has_body = refl; rules = main_rules; parameters = tt; result_is = refl })
+linked_right m h = subst (RightMember object_world object_use) (sym (member-same m main_member h)) main_right
+
+abbrev pub get_right : RightMember object_world object_use (member class_name Private get_name)
+get_right = record { definition = get_method; its_body = gets_field; found = refl; has_body = refl; rules = get_rules; parameters = tt; result_is = refl }
 
 received_right : (m : Member) → object_use.received m ≡ true → RightMember object_world object_use m
-received_right m h = subst (RightMember object_world object_use) (sym (member-same m (member class_name Private get_name) h)) (record { definition = get_method; its_body = gets_field; found = refl; has_body = refl; rules = get_rules; parameters = tt; result_is = refl })
+received_right m h = subst (RightMember object_world object_use) (sym (member-same m (member class_name Private get_name) h)) get_right
+
+abbrev pub init_right : RightMember object_world object_use (member class_name Constructor init_name)
+init_right = record { definition = init_method; its_body = skip nowhere; found = refl; has_body = refl; rules = init_rules; parameters = tt; result_is = refl }
 
 built_right : (m : Member) → object_use.built m ≡ true → RightMember object_world object_use m
-built_right m h = subst (RightMember object_world object_use) (sym (member-same m (member class_name Constructor init_name) h)) (record { definition = init_method; its_body = skip nowhere; found = refl; has_body = refl; rules = init_rules; parameters = tt; result_is = refl })
+built_right m h = subst (RightMember object_world object_use) (sym (member-same m (member class_name Constructor init_name) h)) init_right
 
 -- a class of the world is one of the two
-each_class : (P : ClassDef → Type 0) → P (object_with (main_method ∷ [])) → P its_class → (c : ClassDef) → Contains object_world c → P c
+pub each_class : (P : ClassDef → Type 0) → P (object_with (main_method ∷ [])) → P its_class → (c : ClassDef) → Contains object_world c → P c
 each_class P first second c i = ⊎_elim (λ same. subst P same first) (λ later. ⊎_elim (λ same. subst P same second) (λ none. nothing_in c none) (in_front_or_behind its_class [] c later)) (in_front_or_behind (object_with (main_method ∷ [])) (its_class ∷ []) c i)
 
 kept : AreClassesKept object_world
 kept = record { superclass = each_class (λ c. keeps_superclass c ≡ true) refl refl; hijacked = each_class (λ c. keeps_hijacked c ≡ true) refl refl }
 
-plain : IsPlain object_world
+pub plain : IsPlain object_world
 plain = plain_world object_world kept.superclass kept.hijacked
 
 -- no class writes an interface
 pub data OneField (c f : List ℕ) (t : IrType) : Type 0 where
   the_field : c ≡ class_name → f ≡ field_name → t ≡ Int → OneField c f t
 
-field_is : (c f : List ℕ) (t : IrType) → object_use.field c f t ≡ true → OneField c f t
+pub field_is : (c f : List ℕ) (t : IrType) → object_use.field c f t ≡ true → OneField c f t
 field_is c f t h = let p = and_parts (is_same_text c class_name) (is_same_text f field_name && is_same_type t Int) h in let q = and_parts (is_same_text f field_name) (is_same_type t Int) p.1 in the_field (text-same c class_name p.0) (text-same f field_name q.0) (type-same t Int q.1)
 
 no_faces : (d : Name) → WritesInterfaces object_world d
@@ -106,8 +117,28 @@ zeros c f t (the_field e g h) = (subst HasValue (sym h) refl, (λ i. zeros_in (i
 same_types : (c f : List ℕ) (s t : IrType) → OneField c f s → OneField c f t → s ≡ t
 same_types c f s t (the_field d e g) (the_field h i j) = g ∙ sym j
 
-on_chain : (c f : List ℕ) (t : IrType) (d : List ℕ) → OneField c f t → d ≡ class_name → list_any (is_same_text c) (chain_of object_world d) ≡ true
-on_chain c f t d (the_field e g h) k = (λ i. list_any (is_same_text (e i)) (chain_of object_world (k i)))
+-- what is made is of the class, or of the one above it, which isn't below the first
+pub made_is : (c : List ℕ) → object_use.made c ≡ true → (c ≡ class_name) ⊎ (c ≡ object_name)
+made_is c h = go (is_same_text c class_name) refl h
+  where
+    go : (b : Bool) → is_same_text c class_name ≡ b → (b || is_same_text c object_name) ≡ true → (c ≡ class_name) ⊎ (c ≡ object_name)
+    go true e k = inl (text-same c class_name e)
+    go false e k = inr (text-same c object_name k)
+
+none_bare : (c : List ℕ) → (c ≡ class_name) ⊎ (c ≡ object_name) → is_bare (Class c) ≡ false
+none_bare c (inl e) = subst (λ (n : List ℕ). is_bare (Class n) ≡ false) (sym e) refl
+none_bare c (inr e) = subst (λ (n : List ℕ). is_bare (Class n) ≡ false) (sym e) refl
+
+only_top : (c : Name) → IsOnChain object_world object_name c → c ≡ object_name
+only_top _ stay = refl
+only_top _ (on b c path step) = let next : ◌≡◌ {A = Option Name} None (Some c) = subst (λ (n : Name). next_on_chain object_world n ≡ Some c) (only_top b path) step in absurd (cc)
+
+top_not_below : {A : Type 0} → IsSub object_world (Class object_name) (class_type class_name) → A
+top_not_below sub = impossible (subst (λ (n : Name). is_same_text class_name n ≡ true) (only_top class_name (below_on_chain object_world kept class_name object_name has_fields refl (no_faces object_name) sub)) refl)
+
+on_chain : (c f : List ℕ) (t : IrType) (d : List ℕ) → OneField c f t → (d ≡ class_name) ⊎ (d ≡ object_name) → IsSub object_world (Class d) (class_type c) → list_any (is_same_text c) (chain_of object_world d) ≡ true
+on_chain c f t d (the_field e g h) (inl k) sub = (λ i. list_any (is_same_text (e i)) (chain_of object_world (k i)))
+on_chain c f t d (the_field e g h) (inr k) sub = top_not_below (subst (λ (n : Name). IsSub object_world (Class object_name) (class_type n)) e (subst (λ (n : Name). IsSub object_world (Class n) (class_type c)) k sub))
 
 none_below : (c f : List ℕ) (t : IrType) (o : IrType) (h : List ℕ) → OneField c f t → hijacked_class o ≡ Some h → IsSub object_world o (class_type c) → ⊥
 none_below c f t o h (the_field e g i) its sub = no_primitive object_world kept class_name o h has_fields its (no_faces h) (subst (λ (n : List ℕ). IsSub object_world o (class_type n)) e sub)
@@ -161,16 +192,16 @@ object_laws = record {
   received = received_right;
   built = built_right;
   once = λ r m d e found body. names m d e found body;
-  made = λ c h. subst (λ (n : List ℕ). is_bare (Class n) ≡ false) (sym (text-same c class_name h)) refl;
+  made = λ c h. none_bare c (made_is c h);
   fields = λ c f t h. zeros c f t (field_is c f t h);
   one_type = λ c f s t h k. same_types c f s t (field_is c f s h) (field_is c f t k);
-  holders = λ c f t h d m sub. on_chain c f t d (field_is c f t h) (text-same d class_name m);
+  holders = λ c f t h d m sub. on_chain c f t d (field_is c f t h) (made_is d m) sub;
   strangers = λ c f t h o n its sub. none_below c f t o n (field_is c f t h) its sub;
   exceptions = λ h. impossible h;
   divisions = λ o h. no_division object_use (λ x. refl) o h;
 }
 
-initializer_linked : (e : EntryPoint) → Contains (initializers once (codes "main")) e → object_use.linked (initializer_member e) ≡ true
+pub initializer_linked : (e : EntryPoint) → Contains (initializers once (codes "main")) e → object_use.linked (initializer_member e) ≡ true
 initializer_linked e i = ⊎_elim (λ same. subst (λ (x : EntryPoint). object_use.linked (initializer_member x) ≡ true) same refl) (λ none. nothing_in e none) (in_front_or_behind main_entry [] e i)
 
 pub gets_right : (n : ℕ) → IsNotWrong (ir_shows object_world once (codes "main") n).end

@@ -1,5 +1,5 @@
 -- A worked world with objects: `new A().get()`, where `get` gives a field of its object.
-use Rattle.std.specs.Prelude.{ℕ, Bool, true, false, ◌&&◌, List, [], ◌∷◌, Some, None, codes}
+use Rattle.std.specs.Prelude.{ℕ, Bool, true, false, ◌&&◌, ◌||◌, List, [], ◌∷◌, Some, None, codes}
 use Rattle.built_forms.specs.Built.{Usable}
 use Rattle.ir_mean.specs.Rows.{nowhere, object_name, object_with, static_method}
 use Rattle.ir_mean.specs.World.{World}
@@ -67,13 +67,13 @@ main_member = member object_name PublicStatic main_method.name
 abbrev pub is_member : Member → Member → Bool
 is_member k m = is_same_text m.class k.class && (is_same_namespace m.namespace k.namespace && is_same_method m.method k.method)
 
--- what its bodies can use
+-- what its bodies can use: objects of the class, and so those of the class above it
 abbrev pub object_use : Usable
 object_use = record {
   linked = is_member main_member;
   received = is_member (member class_name Private get_name);
   built = is_member (member class_name Constructor init_name);
-  made = λ c. is_same_text c class_name;
+  made = λ c. is_same_text c class_name || is_same_text c object_name;
   field = λ c f t. is_same_text c class_name && (is_same_text f field_name && is_same_type t Int);
   helper = λ x. false;
   objects = true;

@@ -1,5 +1,5 @@
 -- The fields of classes that keep the rules: two have two properties, and each begins at the zero of its type.
-use Rattle.std.proofs.Common.{◌≡◌, ℕ, Bool, true, false, List, [], ◌∷◌, ◌++◌, ◌&&◌, ◌||◌, not, append_assoc, refl, sym, ap, ◌∙◌, subst, Contains, Option, Some, None, IsTrue, ⊎_elim, cond, codes, ◌<◌, arith}
+use Rattle.std.proofs.Common.{◌≡◌, ℕ, Bool, true, false, List, [], ◌∷◌, ◌++◌, ◌&&◌, not, append_assoc, refl, sym, ap, ◌∙◌, subst, Contains, Option, Some, IsTrue, ⊎_elim, cond, codes, ◌<◌, arith}
 use Rattle.std.specs.Prelude.{nat_eq}
 use Rattle.std.specs.Cmp.Lexicographic.{pointwise}
 use Rattle.std.proofs.lemmas.Bool.{and_parts, or_left}
@@ -15,7 +15,7 @@ use Rattle.sj_mangling.specs.Bindings.{function_name, field_binding}
 use Rattle.sj_mangling.specs.Mangling.{mangled, mangled_byte}
 use Rattle.sj_mangling.specs.declared.bindings.FieldBinding.TheVariants.{Property}
 use Rattle.sj_names.specs.Grammar.{is_class_name, is_plain_name}
-use Rattle.sj_names.specs.MethodNames.{spelled_method, IsMethodName}
+use Rattle.sj_names.specs.MethodNames.{IsMethodName}
 use Rattle.sj_names.specs.Same.{is_same_text}
 use Rattle.sj_names.specs.declared.method_names.MethodName.{MethodName}
 use Rattle.sj_names.specs.declared.method_names.Namespace.TheVariants.{Public}

@@ -1,12 +1,12 @@
 -- Items of distinct names are found by their names.
-use Rattle.std.proofs.Common.{◌≡◌, Bool, true, false, List, [], ◌∷◌, ◌++◌, ◌||◌, not, refl, sym, ap, ◌∙◌, subst, Contains, Option, Some, None, ⊎_elim, cond}
+use Rattle.std.proofs.Common.{◌≡◌, Bool, true, false, List, [], ◌∷◌, ◌++◌, ◌||◌, not, refl, sym, ap, ◌∙◌, Contains, Option, Some, None, ⊎_elim, cond}
 use Rattle.std.proofs.lemmas.Bool.{and_parts, or_left, or_right, not-true, and_from}
 use Rattle.body_rules.proofs.Equal.{equals, is-equal}
 use Rattle.body_rules.proofs.Lists.{nothing_in, in_front_or_behind}
-use Rattle.js_mean.specs.Classes.{Code, members_among}
+use Rattle.js_mean.specs.Classes.{members_among}
 use Rattle.js_mean.specs.Meaning.{code_among, item_cell, items_cell, or_outer}
 use Rattle.js_mean.specs.Proper.{is_among, are_distinct, item_names}
-use Rattle.js_mean.specs.States.{Cell, absent, unset, holds, function}
+use Rattle.js_mean.specs.States.{absent, unset, holds, function}
 use Rattle.js_tree.specs.Names.{is_same_text}
 use Rattle.js_tree.specs.Terms.{Name, Statements, Member, Item, const_item, object_item, let_item, expression_item, function_item, class_item, subclass_item}
 

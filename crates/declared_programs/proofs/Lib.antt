@@ -3,3 +3,4 @@ pub mod Items
 pub mod Place
 pub mod Tops
 pub mod Whole
+pub mod Worked

@@ -1,5 +1,5 @@
 -- A file that declares what can be used: its state behind the declarations stands for the opening of the IR, and it has what objects ask.
-use Rattle.std.proofs.Common.{◌≡◌, ◌≤◌, ℕ, zero, suc, ◌+◌, Bool, true, false, List, [], ◌∷◌, ◌++◌, ◌&&◌, length, map, slice_get, refl, sym, ap, ◌∙◌, subst, Contains, ◌⊎◌, inl, inr, ⊎_elim, Option, Some, None, IsTrue, cond, codes, arith}
+use Rattle.std.proofs.Common.{◌≡◌, ◌≤◌, ℕ, zero, suc, ◌+◌, Bool, true, false, List, [], ◌∷◌, ◌++◌, ◌&&◌, length, map, slice_get, refl, sym, ap, ◌∙◌, subst, Contains, ◌⊎◌, inl, inr, ⊎_elim, Option, Some, None, cond, codes, arith}
 use Rattle.std.specs.Prelude.{nat_eq, pos}
 use Rattle.std.specs.List.{list_all, list_any}
 use Rattle.std.specs.Cmp.Lexicographic.{pointwise}
@@ -13,7 +13,7 @@ use Rattle.body_soundness.specs.Laws.{ObjectLaws}
 use Rattle.built_forms.specs.Built.{Usable, can_box, divides}
 use Rattle.file_tops.proofs.Run.{each, some_same}
 use Rattle.file_tops.specs.Tops.{literal_properties, link}
-use Rattle.helper_rules.specs.Helpers.{helper_name, helper_item, used_helpers, constants, own_marker, marker_property, box_constructor}
+use Rattle.helper_rules.specs.Helpers.{helper_name, helper_item, used_helpers, constants, marker_property, box_constructor}
 use Rattle.helper_rules.specs.Words.{class_name, constants_name, marker}
 use Rattle.helper_rules.specs.declared.kinds.Failure.TheVariants.{NullReceiver, Division}
 use Rattle.helper_rules.specs.declared.kinds.Helper.{Helper}
@@ -23,11 +23,11 @@ use Rattle.ir_mean.specs.Dispatch.{chain_of, chain_from, longest}
 use Rattle.ir_mean.specs.World as ir_world
 use Rattle.sj_world.specs.Ancestors.{next_on_chain}
 use Rattle.sj_world.specs.Known.{is_same}
-use Rattle.js_mean.specs.Classes.{members_of, members_in}
+use Rattle.js_mean.specs.Classes.{members_in}
 use Rattle.js_mean.specs.Meaning as js_meaning
 use Rattle.js_mean.specs.Objects.{with_property, no_properties}
 use Rattle.js_mean.specs.Proper.{are_distinct, item_names, is_proper_item, is_proper_module}
-use Rattle.js_mean.specs.Shows.{object_shown, char_shown, class_marked}
+use Rattle.js_mean.specs.Shows.{object_shown, char_shown}
 use Rattle.js_mean.specs.States as js
 use Rattle.js_tree.specs.Terms.{Name, Statements, Member, constructor_of, Item, function_item, object_item, Module}
 use Rattle.js_tree.specs.Views.{statements_of}
@@ -39,7 +39,7 @@ use Rattle.sj_calls.specs.Helpers.{HelperStands, BoxStands, failing_code, checki
 use Rattle.sj_calls.specs.Methods.{Linked, parameters_in, function_of}
 use Rattle.sj_calls.specs.Objects.{RunsOn, Constructs, function_on, body_of}
 use Rattle.sj_calls.specs.Objects as on_objects
-use Rattle.sj_calls.specs.Worlds.{Stands, IsMade, CanCheck, CanDivide, HasObjects}
+use Rattle.sj_calls.specs.Worlds.{IsMade, CanCheck, CanDivide, HasObjects}
 use Rattle.sj_core.specs.Terms.{named, receiver}
 use Rattle.sj_desugar.specs.Desugar.{is_mutable_in, names_of, body_code, completed, desugared_member}
 use Rattle.sj_emit_expr.specs.Members.{with_receiver, member_piece}
@@ -52,7 +52,7 @@ use Rattle.sj_names.specs.declared.entry_points.EntryPoint.{EntryPoint}
 use Rattle.sj_names.specs.declared.method_names.Member.{Member as MemberName}
 use Rattle.sj_names.specs.declared.method_names.Namespace.{Namespace}
 use Rattle.sj_names.specs.declared.method_names.Namespace.TheVariants.{Public, PublicStatic, Private, PrivateStatic, Constructor}
-use Rattle.sj_plain.specs.Settings.{Place, Top, a_function, a_method, a_constructor, a_class, some_constants, a_helper, top_name, top_function, is_usable, IsField, HasField, HoldsConstants, HoldsCharConstants, TopHolds, SameHeap, SameState, FieldsDiffer, Reaches, link_of, links_of, box_link, division_helper}
+use Rattle.sj_plain.specs.Settings.{Place, Top, a_function, a_method, a_constructor, a_class, some_constants, a_helper, top_name, is_usable, IsField, HasField, HoldsConstants, TopHolds, SameHeap, SameState, Reaches, link_of, division_helper}
 use Rattle.sj_plain.specs.Worlds.{World}
 use Rattle.sj_proper.specs.Emitted.{call_item_of}
 use Rattle.sj_trees.specs.Term.{Term}
@@ -64,13 +64,12 @@ use Rattle.sj_trees.specs.declared.operators.BinaryOp.{BinaryOp}
 use Rattle.sj_trees.specs.declared.operators.BinaryOp.TheVariants.{IntDivide, IntRemainder, LongDivide, LongRemainder}
 use Rattle.sj_trees.specs.declared.types.IrType.{IrType}
 use Rattle.sj_trees.specs.declared.types.IrType.TheVariants.{Any, Class}
-use Rattle.declared_programs.specs.Declarations.{declare, Holds, HoldsObject, HoldsClass, behind, AllHold, DeclaredAt}
+use Rattle.declared_programs.specs.Declarations.{Holds, behind, AllHold}
 use Rattle.declared_programs.specs.Declared as declared
-use Rattle.declared_programs.specs.Declared.{Running, alone as by_itself, on_receiver, completing, running, FunctionDeclared, ClassDeclared, ChainDeclared, MadeDeclared, Declared}
+use Rattle.declared_programs.specs.Declared.{Running, alone as by_itself, on_receiver, completing, running, FunctionDeclared, ClassDeclared, ChainDeclared, Declared}
 use Rattle.declared_programs.specs.Files.{module_declaring}
 use Rattle.declared_programs.proofs.Fields.{fields_differ, begins}
 use Rattle.declared_programs.proofs.Items.{IsClassItem, alone as class_alone, extending, code_found, members_found}
-use Rattle.declared_programs.proofs.Tops.{declarations_hold}
 
 -- an item among those that hold what they are to hold
 held_among : (f : Name) (t : js.State) (is : List Item) (n : ℕ) → AllHold f t n is → (i : Item) → Contains is i → (k : ℕ) × Holds f t k i

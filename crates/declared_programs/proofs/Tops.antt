@@ -1,21 +1,21 @@
 -- Declarations come to a state in which each binding holds what it is to hold.
-use Rattle.std.proofs.Common.{◌≡◌, ℕ, zero, suc, ◌+◌, Bool, true, false, List, [], ◌∷◌, ◌++◌, ◌||◌, ◌&&◌, length, slice_get, Option, Some, None, is_some, refl, sym, ap, ◌∙◌, subst, Contains, ◌⊎◌, inl, inr, ⊎_elim, cond}
+use Rattle.std.proofs.Common.{◌≡◌, ℕ, zero, suc, ◌+◌, Bool, true, false, List, [], ◌∷◌, ◌++◌, ◌||◌, length, slice_get, Option, Some, None, is_some, refl, sym, ap, ◌∙◌, subst, Contains, ◌⊎◌, inl, inr, ⊎_elim, cond}
 use Rattle.std.specs.List.{list_all}
-use Rattle.std.proofs.lemmas.Bool.{and_parts, or_cases, or_parts, or_left}
+use Rattle.std.proofs.lemmas.Bool.{and_parts, or_cases}
 use Rattle.std.proofs.lemmas.List.Elements.{Contains-append_left}
 use Rattle.body_rules.proofs.Equal.{equals, is-equal}
 use Rattle.body_rules.proofs.Lists.{at_front, further_on}
-use Rattle.file_tops.proofs.Run.{each, some_same, others_stay, start_elsewhere}
+use Rattle.file_tops.proofs.Run.{others_stay}
 use Rattle.file_tops.proofs.Standing.{owners_found}
 use Rattle.file_tops.specs.Tops.{literal_value, literal_properties, with_each, started, link, classes_in, after_item, after_items, declares_name, start_name}
 use Rattle.js_mean.specs.Files.{module_among, imports_in, imported_from, owner}
-use Rattle.js_mean.specs.Meaning.{opening, items_cell, module_cell, top_cell, cell_of, top_scope, binding}
+use Rattle.js_mean.specs.Meaning.{opening, items_cell, module_cell, top_cell, binding}
 use Rattle.js_mean.specs.Objects.{with_property, no_properties, allocated, next_address}
 use Rattle.js_mean.specs.Proper.{is_among, are_distinct, item_names}
 use Rattle.js_mean.specs.States.{Value, object, function, class, ClassLink, Cell, holds, Stored, plain, State, Program}
 use Rattle.js_tree.specs.Names.{is_same_text}
-use Rattle.js_tree.specs.Terms.{Name, Expression, Statements, Member, Property, Item, const_item, object_item, let_item, expression_item, function_item, class_item, subclass_item, Module}
-use Rattle.declared_programs.specs.Declarations.{with_class, declares, declare, HoldsLiteral, HoldsObject, HoldsClass, Holds, behind, AllHold, DeclaredAt, DeclarationsHold}
+use Rattle.js_tree.specs.Terms.{Name, Expression, Statements, Property, Item, const_item, object_item, let_item, expression_item, function_item, class_item, subclass_item, Module}
+use Rattle.declared_programs.specs.Declarations.{with_class, declares, declare, HoldsLiteral, Holds, behind, AllHold, DeclarationsHold}
 use Rattle.declared_programs.proofs.Items.{name_of, among, among_first, among_step, rest_distinct, first_apart, differs, cell_found, front_distinct}
 
 -- a name that isn't among the names of items

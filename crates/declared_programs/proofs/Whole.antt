@@ -1,5 +1,5 @@
 -- A file that declares what its calls use shows what the classes show.
-use Rattle.std.proofs.Common.{◌≡◌, ℕ, true, List, [], ◌∷◌, ◌++◌, map, refl, Contains}
+use Rattle.std.proofs.Common.{◌≡◌, ℕ, true, List, [], ◌++◌, map, refl, Contains}
 use Rattle.body_rules.proofs.InWorld.{in_world}
 use Rattle.body_soundness.proofs.Modules.{never_wrong}
 use Rattle.body_soundness.specs.Laws.{ObjectLaws}
@@ -10,7 +10,6 @@ use Rattle.ir_mean.specs.World as ir_world
 use Rattle.js_mean.specs.Meaning as js_meaning
 use Rattle.js_mean.specs.Proper.{are_distinct, item_names, is_proper_module}
 use Rattle.js_mean.specs.Shows as js_showing
-use Rattle.js_mean.specs.States as js
 use Rattle.js_tree.specs.Terms.{Name, Item, Module}
 use Rattle.outcomes.proofs.Simulation.{agree-from_sim}
 use Rattle.outcomes.specs.Agreement.{Direction, Enough, Sim, Agree}

@@ -1,5 +1,5 @@
 -- Items that only declare, and what the binding of each holds once they have run.
-use Rattle.std.specs.Prelude.{◌≡◌, ℕ, zero, suc, Bool, true, false, ◌&&◌, List, [], ◌∷◌, ◌++◌, slice_get, Option, Some, is_some}
+use Rattle.std.specs.Prelude.{◌≡◌, ℕ, suc, Bool, true, false, ◌&&◌, List, [], ◌∷◌, ◌++◌, slice_get, Option, Some, is_some}
 use Rattle.std.specs.List.{list_all}
 use Rattle.file_tops.specs.Tops.{literal_value, literal_properties, after_items, link}
 use Rattle.js_mean.specs.Files.{module_among}

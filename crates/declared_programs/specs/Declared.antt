@@ -1,10 +1,10 @@
 -- What the code of bodies can use in a world, as the items of a file declare it.
-use Rattle.std.specs.Prelude.{◌≡◌, Bool, true, false, ◌&&◌, List, [], ◌∷◌, Option, Some, None, codes, IsTrue}
+use Rattle.std.specs.Prelude.{◌≡◌, Bool, true, false, List, [], ◌∷◌, Option, Some, None, codes, IsTrue}
 use Rattle.std.specs.List.{Contains}
 use Rattle.body_soundness.specs.Rules.{RightMember}
 use Rattle.built_forms.specs.Built.{Usable}
 use Rattle.helper_rules.specs.Helpers.{Above, helper_name, helper_item, used_helpers}
-use Rattle.helper_rules.specs.Words.{constants_name, marker}
+use Rattle.helper_rules.specs.Words.{marker}
 use Rattle.helper_rules.specs.declared.kinds.Helper.{Helper}
 use Rattle.helper_rules.specs.declared.kinds.Helper.TheVariants.{ConstantsOf, ArrayClass}
 use Rattle.helper_rules.specs.declared.kinds.Kind.TheVariants as kinds

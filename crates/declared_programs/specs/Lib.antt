@@ -1,3 +1,4 @@
 pub mod Declarations
 pub mod Declared
 pub mod Files
+pub mod Worked
