@@ -1,5 +1,5 @@
 -- The fields of a class that keeps the local rules, sorted by their names, are one list.
-use Rattle.std.proofs.Common.{◌≡◌, ◌↔◌, ◌⊎◌, ◌++◌, ◌&&◌, not, ℕ, suc, Bool, true, false, List, [], ◌∷◌, Option, Some, None, inl, inr, refl, sym, ap, subst, ◌∙◌, map, Contains, arith}
+use Rattle.std.proofs.Common.{◌≡◌, ◌⊎◌, ◌++◌, ◌&&◌, not, ℕ, suc, Bool, true, false, List, [], ◌∷◌, Option, Some, None, inl, inr, refl, sym, ap, subst, ◌∙◌, map, Contains, arith}
 use Rattle.std.specs.Prelude.{option_map, filter, cond}
 use Rattle.std.specs.Cmp.{IsStrictWeakOrder}
 use Rattle.std.specs.Cmp.Lexicographic.{nat_list_cmp_total}
@@ -14,8 +14,8 @@ use Rattle.std.proofs.lemmas.List.Sorted.{Contains-permutation, IsPermutation-sy
 use Rattle.std.proofs.lemmas.Map.Keys.{IsDistinct-IsPermutation, IsDistinct-cons}
 use Rattle.piece_rules.specs.Classes.{AreSorted, field_cmp}
 use Rattle.sj_kept.proofs.Classes.{none-each}
-use Rattle.sj_local.specs.Broken.{FirstBroken, Breaks, all_rules, repeat_place, at_member, at_method}
-use Rattle.sj_local.specs.Firsts.{FirstRepeat, nothing_left, here, later}
+use Rattle.sj_local.specs.Broken.{FirstBroken, Breaks, all_rules, repeat_place}
+use Rattle.sj_local.specs.Firsts.{FirstRepeat, here, later}
 use Rattle.sj_local.specs.MemberRules.{field_key}
 use Rattle.sj_local.specs.declared.members.FieldKey.{FieldKey}
 use Rattle.sj_local.specs.declared.rules.Rule.TheVariants as rule

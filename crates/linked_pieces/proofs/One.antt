@@ -1,10 +1,10 @@
 -- The pieces of a linked world are one list.
-use Rattle.std.proofs.Common.{◌≡◌, ◌↔◌, ◌⊎◌, ◌++◌, ◌<◌, Bool, true, false, not, List, [], ◌∷◌, Option, Some, None, IsTrue, inl, inr, refl, sym, ap, subst, ◌∙◌, map, length, Contains, arith}
+use Rattle.std.proofs.Common.{◌≡◌, ◌↔◌, ◌++◌, Bool, true, false, not, List, [], ◌∷◌, Some, None, IsTrue, refl, sym, ap, subst, ◌∙◌, map, length, Contains, arith}
 use Rattle.std.specs.List.{filter, flat_map}
 use Rattle.std.specs.Prelude.{reverse}
 use Rattle.std.proofs.lemmas.List.{reverse-reverse}
 use Rattle.std.proofs.lemmas.List.Sorted.{Contains-permutation, IsPermutation-reverse}
-use Rattle.helper_rules.specs.Helpers.{Above, helper_name, helper_piece}
+use Rattle.helper_rules.specs.Helpers.{helper_name, helper_piece}
 use Rattle.helper_rules.specs.Words.{kind_class, worded_kinds}
 use Rattle.helper_rules.specs.declared.kinds.Helper.{Helper}
 use Rattle.helper_rules.specs.declared.kinds.Kind.{Kind}
@@ -21,7 +21,6 @@ use Rattle.sj_local.specs.Broken.{FirstBroken}
 use Rattle.sj_names.proofs.Same.{impossible}
 use Rattle.sj_proper.specs.Emitted.{EmittedMethod}
 use Rattle.sj_split.proofs.Unique.{never_both}
-use Rattle.sj_split.specs.Orders.{IsBefore}
 use Rattle.sj_trees.specs.declared.classes.ClassDef.{ClassDef}
 use Rattle.sj_trees.specs.declared.classes.FieldDef.{FieldDef}
 use Rattle.sj_world.specs.Ancestors.{IsAncestor}
@@ -31,7 +30,7 @@ use Rattle.sj_world.specs.Tables.{AreAncestors}
 use Rattle.sj_world.specs.declared.facts.Fact.{Fact}
 use Rattle.sj_world.specs.declared.facts.Fact.TheVariants as fact
 use Rattle.sj_world.specs.declared.linked.MethodEntry.{MethodEntry}
-use Rattle.linked_pieces.specs.Laws.{AreAlike, LinkedPiecesAreOne}
+use Rattle.linked_pieces.specs.Laws.{LinkedPiecesAreOne}
 use Rattle.linked_pieces.specs.Order.{StandsBefore, by_ancestors, by_name, AreClasses, HasLesserName, AreMethodsOf}
 use Rattle.linked_pieces.specs.Pieces.{Block, IsBlock, AreBlocks, HasLesserWord, IsUsed, AreHelpers, pieces_of_block, with_helpers, AreLinkedPieces}
 use Rattle.linked_pieces.proofs.Fields.{Apart, moved, fields_apart, one_sorting, picked_among, picked_apart, picks_filter}

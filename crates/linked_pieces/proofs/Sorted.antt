@@ -1,11 +1,10 @@
 -- Lists that are sorted and hold nothing twice are one where they have the same members.
-use Rattle.std.proofs.Common.{◌≡◌, ◌↔◌, ◌+◌, ℕ, suc, Bool, true, false, List, [], ◌∷◌, inl, inr, refl, sym, subst, ◌∙◌, Contains, length, arith}
+use Rattle.std.proofs.Common.{◌≡◌, ◌↔◌, ◌+◌, ℕ, suc, Bool, true, false, List, [], ◌∷◌, refl, sym, subst, ◌∙◌, Contains, arith}
 use Rattle.std.specs.Cmp.{IsStrictWeakOrder}
 use Rattle.std.specs.List.Sorted.{IsSortedBy}
 use Rattle.std.specs.Prelude.{get_or}
 use Rattle.std.proofs.lemmas.List.Sorted.{sorted_far}
 use Rattle.sj_names.proofs.Same.{impossible}
-use Rattle.sj_split.proofs.Members.{at_first, further, cons_cases}
 use Rattle.linked_pieces.specs.Order.{AreInOrder}
 use Rattle.linked_pieces.proofs.Order.{one_order}
 
