@@ -21,8 +21,8 @@ weaker R S [] f h = tt
 weaker R S (x ∷ xs) f h = (λ y i. f x y (at_first x xs) (further x y xs i) (h.0 y i), weaker R S xs (λ y z i k. f y z (further x y xs i) (further x z xs k)) h.1)
 
 each_of : {A : Type 0} (P : A → Type 0) (xs : List A) → AllByRecursion P xs → (x : A) → Contains xs x → P x
-each_of P [] h x i = nothing_in x i
-each_of P (y ∷ ys) h x i = go (cons_cases y x ys i) h (each_of P ys)
+each_of {A} P [] h x i = nothing_in x i
+each_of {A} P (y ∷ ys) h x i = go (cons_cases y x ys i) h (each_of P ys)
   where
     go : (y ≡ x) ⊎ Contains ys x → AllByRecursion P (y ∷ ys) → (AllByRecursion P ys → (z : A) → Contains ys z → P z) → P x
     go (inl e) h rest = subst P e h.0

@@ -25,7 +25,7 @@ use Rattle.sj_names.proofs.Same.{impossible}
 use Rattle.body_rules.proofs.Lists.{nothing_in, in_front_or_behind}
 
 -- where nothing is answered, each answers nothing
-none-each : {A R : Type 0} (Answers : A → Option R → Type 0) (n : ℕ) (xs : List A) (r : Option (ℕ × R)) → FirstAnswer Answers n xs r → r ≡ None → (x : A) → Contains xs x → Answers x None
+pub none-each : {A R : Type 0} (Answers : A → Option R → Type 0) (n : ℕ) (xs : List A) (r : Option (ℕ × R)) → FirstAnswer Answers n xs r → r ≡ None → (x : A) → Contains xs x → Answers x None
 none-each Answers _ _ _ (none_left n) e x h = nothing_in x h
 none-each Answers _ _ _ (this_one n y ys r a) e x h = impossible (cc)
 none-each Answers _ _ _ (a_later_one n y ys found a rest) e x h = ⊎_elim (λ same. subst (λ z. Answers z None) same a) (λ later. none-each Answers (suc n) ys found rest e x later) (in_front_or_behind y ys x h)
@@ -83,7 +83,7 @@ pub keeps-hijacked : (c : ClassDef) → FirstBroken c None → keeps_hijacked c 
 keeps-hijacked c h = place-unless (keeps_hijacked c) (none-each (Breaks c) 1 all_rules None h refl rule.Hijacked (1, omega arith, refl))
 
 -- where no element passes a test, each fails it
-none-passes : {A : Type 0} (test : A → Bool) (xs : List A) → first_where test xs ≡ None → (x : A) → Contains xs x → test x ≡ false
+pub none-passes : {A : Type 0} (test : A → Bool) (xs : List A) → first_where test xs ≡ None → (x : A) → Contains xs x → test x ≡ false
 none-passes test [] e x h = nothing_in x h
 none-passes test (y ∷ ys) e x h = go (test y) refl e (in_front_or_behind y ys x h) (λ k i. none-passes test ys k x i)
   where
