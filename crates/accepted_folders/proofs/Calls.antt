@@ -30,7 +30,7 @@ use Rattle.sure_receivers.specs.Sure.{sure_locals}
 use Rattle.sj_names.specs.declared.method_names.MethodName.{MethodName}
 use Rattle.sj_names.specs.declared.method_names.Namespace.{Namespace}
 use Rattle.sj_trees.specs.declared.positions.Position.{Position}
-use Rattle.sj_names.specs.declared.method_names.Namespace.TheVariants.{Private, Constructor}
+use Rattle.sj_names.specs.declared.method_names.Namespace.TheVariants.{Public, Private, Constructor}
 use Rattle.sj_world.specs.Known.{Classes}
 use Rattle.sj_world.specs.declared.facts.Fact.TheVariants.{Body}
 use Rattle.reach_rules.proofs.Derivations.{closed}
@@ -66,6 +66,7 @@ module _ (has : Usable) (checked : Term → Bool) where
 
   -- no member runs on an object
   no_call : {A : Type 0} (p : Position) (e : Term) (c : List ℕ) (n : Namespace) (m : MethodName) (ts : Terms) (t : IrType) (ls : List Label) → is_built anything (λ e. true) ls (apply_statically p e c n m ts t) ≡ true → A
+  no_call p e c Public m ts t ls k = impossible k
   no_call p e c Private m ts t ls k = impossible k
   no_call p e c Constructor m ts t ls k = impossible k
   no_call p e c n m ts t ls k = impossible k

@@ -22,7 +22,7 @@ use Rattle.body_rules.proofs.RulesGive.{operation_kept}
 use Rattle.built_forms.specs.Built.{Usable, members_alone}
 use Rattle.sj_names.specs.declared.method_names.MethodName.{MethodName}
 use Rattle.sj_names.specs.declared.method_names.Namespace.{Namespace}
-use Rattle.sj_names.specs.declared.method_names.Namespace.TheVariants.{Private, Constructor}
+use Rattle.sj_names.specs.declared.method_names.Namespace.TheVariants.{Public, Private, Constructor}
 use Rattle.typing_rules.specs.declared.labels.Label.{Label}
 use Rattle.typing_rules.specs.Labels.{type_of_label}
 use Rattle.typing_rules.specs.Nodes.{inside as inside_label}
@@ -193,6 +193,7 @@ module _ (U : Binding → Type 0) where
 
     -- no member runs on an object
     no_call : {A : Type 0} (p : Position) (e : Term) (c : List ℕ) (n : Namespace) (m : MethodName) (ts : Terms) (t : IrType) (ls : List Label) → is_built from checked_from ls (apply_statically p e c n m ts t) ≡ true → A
+    no_call p e c Public m ts t ls k = impossible k
     no_call p e c Private m ts t ls k = impossible k
     no_call p e c Constructor m ts t ls k = impossible k
     no_call p e c n m ts t ls k = impossible k

@@ -1,14 +1,11 @@
 -- A tree of the one type stands where the other is expected: what the rules say of types, as far as the kinds of values tell.
-use Rattle.std.proofs.Common.{◌≡◌, ℕ, Bool, true, false, ◌&&◌, List, [], ◌∷◌, codes, refl, sym, ap, ◌∙◌, subst, ◌⊎◌, inl, inr, ⊎_elim}
+use Rattle.std.proofs.Common.{◌≡◌, ℕ, Bool, true, false, ◌&&◌, List, codes, refl, sym, ap, ◌∙◌, subst, ◌⊎◌, inl, inr, ⊎_elim}
 use Rattle.std.specs.Prelude.{not, ◌||◌}
 use Rattle.built_forms.specs.Built.{Usable, divides}
 use Rattle.sj_desugar.specs.Coercions.{is_char}
-use Rattle.sj_desugar.specs.Desugar.{types_of, has_no_value}
-use Rattle.sj_desugar.specs.Plain.{is_no_type}
-use Rattle.sj_names.specs.declared.references.TypeRef.{TypeRef}
-use Rattle.sj_trees.specs.Term.{Term, Terms, no_terms, more_terms, boolean_literal}
+use Rattle.sj_desugar.specs.Desugar.{has_no_value}
+use Rattle.sj_trees.specs.Term.{Term, boolean_literal}
 use Rattle.sj_trees.specs.TypeOf.{type_of_term, loop_type, unary_result, binary_result}
-use Rattle.sj_trees.specs.Types.{reference_type}
 use Rattle.sj_trees.specs.declared.operators.BinaryOp.{BinaryOp}
 use Rattle.sj_trees.specs.declared.operators.BinaryOp.TheVariants.{StrictEqual, StrictNotEqual, StringConcatenate, IntAdd, IntDivide, IntRemainder, LongDivide, LongRemainder}
 use Rattle.sj_trees.specs.declared.operators.UnaryOp.{UnaryOp}
@@ -17,14 +14,14 @@ use Rattle.sj_trees.specs.declared.types.IrType.{IrType}
 use Rattle.sj_trees.specs.declared.types.IrType.TheVariants.{Any, Nothing, Undefined, Boolean, Char, Byte, Short, Int, Long, String, Class, Null, Array, NoType}
 use Rattle.body_rules.specs.Operators.{is_simple, a_quotient, a_remainder, a_long_quotient, a_long_remainder, DividesBy, by_int, by_long, Operates, of_its_types, joins, divided}
 use Rattle.typing_rules.specs.Rules.{unary_operand, left_operand, right_operand, IsText}
-use Rattle.body_rules.specs.Standing.{is_bare, Fits, FitAll, types_referred, NoBox}
+use Rattle.body_rules.specs.Standing.{is_bare, Fits, NoBox}
 use Rattle.body_rules.proofs.Standing.{fits-same}
 use Rattle.body_rules.specs.Typing.{IsTrueLiteral, true_literal}
 use Rattle.sj_names.proofs.Same.{impossible, text-refl}
 use Rattle.sj_names.specs.Same.{is_same_text}
 use Rattle.body_rules.specs.Subtyping.{is_lowest, IsSubtyping}
 use Rattle.body_rules.specs.Locals.{HasValue}
-use Rattle.body_rules.proofs.RulesGive.{Takes, its_types, texts, of_division, Yields, ArgumentsFit}
+use Rattle.body_rules.proofs.RulesGive.{Takes, its_types, texts, of_division}
 use Rattle.sj_world.specs.Known.{Classes}
 use Rattle.sj_world.specs.Subtypes.{IsSub}
 
@@ -57,13 +54,20 @@ right-operand-value _ = refl
 pub not_no_type : (t : IrType) → IsText t → t ≡ NoType → ⊥
 not_no_type t h e = subst IsText e h
 
--- chars that aren't boxed on one way and on the next aren't on both
-pub box-further : (a b c : Bool) → (a && not b) ≡ false → (b && not c) ≡ false → (a && not c) ≡ false
-box-further false b c h k = refl
-box-further true false c h k = impossible (sym h)
-box-further true true c h k = k
+-- what may stand on one way and on the next may on both
+pub box-further : (q a b c : Bool) → (q || not (a && not b)) ≡ true → (q || not (b && not c)) ≡ true → (q || not (a && not c)) ≡ true
+box-further true a b c h k = refl
+box-further false false b c h k = refl
+box-further false true false c h k = impossible h
+box-further false true true c h k = k
 
-pub box-same : (a : Bool) → (a && not a) ≡ false
+-- each type may stand at itself
+pub stands-same : (q a : Bool) → (q || not (a && not a)) ≡ true
+stands-same true a = refl
+stands-same false true = refl
+stands-same false false = refl
+
+box-same : (a : Bool) → (a && not a) ≡ false
 box-same true = refl
 box-same false = refl
 
@@ -178,13 +182,3 @@ module _ (w : Classes) (law : IsSubtyping (IsSub w)) where
   operates has o e d (its_types h f g) = of_its_types o (type_of_term e) (type_of_term d) h (fits-sub (left_operand o) (type_of_term e) f (lowest-box (left_operand o) (type_of_term e) (left_lowest o h) f)) (fits-sub (right_operand o) (type_of_term d) g (lowest-box (right_operand o) (type_of_term d) (right_lowest o h) g))
   operates has o e d (of_division h f g) = let own = divided_lowest has o h in divided o (type_of_term e) (type_of_term d) h (fits-sub (left_operand o) (type_of_term e) f (lowest-box (left_operand o) (type_of_term e) own.0 f)) (fits-sub (right_operand o) (type_of_term d) g (lowest-box (right_operand o) (type_of_term d) own.1 g))
   operates has o e d (texts is f g) = subst (λ p. Operates has p (type_of_term e) (type_of_term d)) (sym is) (joins (type_of_term e) (type_of_term d) (text_bare (type_of_term e) f) (text_bare (type_of_term d) g))
-
-  pub fit-all : (ts : Terms) (rs : List TypeRef) → ArgumentsFit w ts rs → FitAll (types_referred rs) (types_of ts)
-  fit-all no_terms [] h = tt
-  fit-all no_terms (r ∷ rs) h = absurd h
-  fit-all (more_terms t ts) [] h = absurd h
-  fit-all (more_terms t ts) (r ∷ rs) h = (fits-sub (reference_type r) (type_of_term t) h.0.0 h.0.1, fit-all ts rs h.2)
-
-  pub yield-fits : (t : IrType) (e : Term) → is_no_type t ≡ false → Yields w e t → Fits t (type_of_term e)
-  yield-fits t e n (inl i) = impossible (sym n ∙ ap is_no_type i)
-  yield-fits t e n (inr h) = fits-sub t (type_of_term e) h.0 h.1

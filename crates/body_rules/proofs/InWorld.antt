@@ -1,5 +1,7 @@
 -- The subtypes of a world have the properties that are asked of subtyping.
-use Rattle.std.proofs.Common.{◌≡◌, true, Some, refl, sym, ap, ◌∙◌, subst, ◌⊎◌, inl, inr}
+use Rattle.std.proofs.Common.{◌≡◌, Bool, true, false, Option, Some, None, refl, sym, ap, ◌∙◌, subst, ◌⊎◌, inl, inr}
+use Rattle.sj_desugar.specs.Coercions.{is_char}
+use Rattle.sj_names.specs.Same.{is_same_text}
 use Rattle.sj_trees.specs.declared.types.IrType.{IrType}
 use Rattle.sj_trees.specs.declared.types.IrType.TheVariants.{Any, Nothing, Undefined, Boolean, Char, Byte, Short, Int, Long, String, Class, Null, Array, NoType}
 use Rattle.sj_world.proofs.LawsHold.{subtypes_transitive}
@@ -65,5 +67,26 @@ bare w plain s t b (primitive_to_class c d e f a) = of_primitive s c e
 bare w plain s t b (arrays_alike x y e f g k) = impossible (ap is_bare (sym f) ∙ b)
 bare w plain s t b (arrays_of_arrays x y e f g k) = impossible (ap is_bare (sym f) ∙ b)
 
+-- the class of chars isn't that of texts
+abbrev is_string : Option Name → Bool
+is_string None = false
+is_string (Some c) = is_same_text c string_class
+
+above_chars : (w : Classes) (plain : IsPlain w) (c d : Name) → hijacked_class Char ≡ Some c → IsAncestor w c d → (b : Bool) → is_bare (Class d) ≡ b → is_bare (Class d) ≡ false
+above_chars w plain c d e a false b = b
+above_chars w plain c d e a true b = impossible (ap is_string (e ∙ ap Some (string_alone w plain c (subst (λ (n : Name). IsAncestor w c n) (text-same d string_class b) a))))
+
+-- of the types above that of chars objects stand at each other one
+open_above : (w : Classes) (plain : IsPlain w) (t : IrType) → is_char t ≡ false → IsSub w Char t → is_bare t ≡ false
+open_above w plain t n (equal e) = impossible (sym n ∙ ap is_char (sym e))
+open_above w plain t n (from_nothing e) = absurd (cc)
+open_above w plain t n (to_any e k) = ap is_bare e
+open_above w plain t n (null_to_class d e f) = absurd (cc)
+open_above w plain t n (null_to_array b e f) = absurd (cc)
+open_above w plain t n (class_to_class c d e f a) = absurd (cc)
+open_above w plain t n (primitive_to_class c d e f a) = ap is_bare f ∙ above_chars w plain c d e a (is_bare (Class d)) refl
+open_above w plain t n (arrays_alike a b e f g h) = absurd (cc)
+open_above w plain t n (arrays_of_arrays a b e f g h) = absurd (cc)
+
 pub in_world : (w : Classes) → IsPlain w → IsSubtyping (IsSub w)
-in_world w plain = record { same = λ t. equal refl; further = subtypes_transitive w (topped w plain); from_none = from_none w; bare = bare w plain; lowest = lowest w }
+in_world w plain = record { same = λ t. equal refl; further = subtypes_transitive w (topped w plain); from_none = from_none w; bare = bare w plain; chars = λ t f n. open_above w plain t n f; lowest = lowest w }

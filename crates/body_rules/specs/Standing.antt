@@ -1,7 +1,8 @@
 -- Which types stand where another is expected, as far as the kind of a value tells: the types that tell chars, texts and objects from other values are told
--- apart. No form makes an object that holds a char yet, so where another type is expected no char stands.
+-- apart. A char that stands where another type is expected becomes an object that holds it, where one can be made.
 pub use Rattle.typing_rules.specs.Rules.{call_type}
 use Rattle.std.specs.Prelude.{◌≡◌, Bool, true, false, ◌&&◌, ◌||◌, not, List, [], ◌∷◌, codes}
+use Rattle.built_forms.specs.Built.{Usable, can_box}
 use Rattle.sj_desugar.specs.Coercions.{is_char}
 use Rattle.sj_names.specs.Same.{is_same_text}
 use Rattle.sj_names.specs.declared.references.TypeRef.{TypeRef}
@@ -52,6 +53,10 @@ FitAll _ _ = ⊥
 abbrev pub types_referred : List TypeRef → List IrType
 types_referred [] = []
 types_referred (r ∷ rs) = reference_type r ∷ types_referred rs
+
+-- no char stands where another type is expected, or an object can be made that holds it
+abbrev pub MayStand : Usable → IrType → IrType → Type 0
+MayStand has expected own = (can_box has || not (is_char own && not (is_char expected))) ≡ true
 
 -- no char stands where another type is expected
 abbrev pub NoBox : IrType → IrType → Type 0

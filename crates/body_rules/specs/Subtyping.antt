@@ -1,6 +1,7 @@
 -- What is asked of a relation of subtypes.
 use Rattle.std.specs.Prelude.{◌≡◌, Bool, true, false, ◌⊎◌}
 use Rattle.body_rules.specs.Standing.{is_bare}
+use Rattle.sj_desugar.specs.Coercions.{is_char}
 use Rattle.sj_trees.specs.declared.types.IrType.{IrType}
 use Rattle.sj_trees.specs.declared.types.IrType.TheVariants.{Nothing, Undefined, Boolean, Char, Byte, Short, Int, Long, String, NoType}
 
@@ -19,10 +20,11 @@ is_lowest Nothing = true
 is_lowest _ = false
 
 -- each type is a subtype of itself, and of what its supertypes are subtypes of; none is a subtype of none alone; below a type at which no object stands
--- there are such types alone; and nothing but itself and nothing is a subtype of the types that are lowest
+-- there are such types alone; above that of chars objects stand at each other one; and nothing but itself and nothing is a subtype of the types that are lowest
 pub record IsSubtyping (sub : IrType → IrType → Type 0) : Type 0 where
   pub same : (t : IrType) → sub t t
   pub further : (s t u : IrType) → sub s t → sub t u → sub s u
   pub from_none : (t : IrType) → sub NoType t → t ≡ NoType
   pub bare : (s t : IrType) → is_bare t ≡ true → sub s t → is_bare s ≡ true
+  pub chars : (t : IrType) → sub Char t → is_char t ≡ false → is_bare t ≡ false
   pub lowest : (s t : IrType) → is_lowest t ≡ true → sub s t → (s ≡ t) ⊎ (s ≡ Nothing)

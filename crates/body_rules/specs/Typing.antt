@@ -1,8 +1,7 @@
 -- The rules of bodies, in one statement: each tree meets the rule of its form, is of the forms that are built, and finds what it uses around it.
-use Rattle.std.specs.Prelude.{◌≡◌, ℕ, ◌^◌, ◌<◌, true, List, [], ◌∷◌, ◌⊎◌, FitsSigned, not, Some, Bool, ◌&&◌, ◌||◌}
+use Rattle.std.specs.Prelude.{◌≡◌, ℕ, ◌^◌, ◌<◌, true, List, [], ◌∷◌, ◌⊎◌, FitsSigned, Some, Bool, ◌||◌}
 use Rattle.std.specs.Int.{w32, w64}
-use Rattle.built_forms.specs.Built.{Usable, yields_boxed, stands, is_built_method}
-use Rattle.sj_desugar.specs.Desugar.{has_no_value}
+use Rattle.built_forms.specs.Built.{Usable, may_yield, stands, is_built_method}
 use Rattle.sj_emit_expr.specs.Templates.{check_name}
 use Rattle.sj_names.specs.declared.method_names.Namespace.{Namespace}
 use Rattle.sj_names.specs.declared.method_names.Namespace.TheVariants.{PublicStatic, PrivateStatic}
@@ -10,7 +9,6 @@ use Rattle.sure_receivers.specs.Sure.{is_sure, sure_locals}
 use Rattle.sj_names.specs.declared.references.TypeRef.{TypeRef}
 use Rattle.body_rules.specs.Locals.{Own, OwnAll, local_of, HasValue}
 use Rattle.sj_trees.specs.Term.{Term, Terms, no_terms, more_terms, Cases, no_cases, more_cases, var_def, block_of, labeled, assign, return_to, if_then, while_loop, do_while, match_on, throw, new_object, select, apply_statically, this_ref, apply_static, unary_op, binary_op, boolean_literal, char_literal, byte_literal, short_literal, int_literal, long_literal, var_ref, log_line}
-use Rattle.sj_trees.specs.TypeOf.{type_of_term}
 use Rattle.sj_trees.specs.Types.{class_type, reference_type}
 use Rattle.sj_trees.specs.declared.classes.MethodDef.{MethodDef}
 use Rattle.sj_trees.specs.declared.classes.ParamDef.{ParamDef}
@@ -73,9 +71,9 @@ RunsOnObject PublicStatic = ⊥
 RunsOnObject PrivateStatic = ⊥
 RunsOnObject _ = Unit {0}
 
--- a receiver that has a value, and that is never null or whose null check can be used
+-- a receiver that is never null or whose null check can be used
 abbrev pub may_check : Usable → (List ℕ → Bool) → Term → Bool
-may_check has sure e = not (has_no_value (type_of_term e)) && (is_sure sure e || has.helper check_name)
+may_check has sure e = is_sure sure e || has.helper check_name
 
 -- the body of a method is of the forms that are built, by what it can use
 abbrev pub is_built_with : Usable → MethodDef → Term → Bool
@@ -142,4 +140,4 @@ module _ (w : Classes) (has : Usable) where
     pub TypedCases : Scene → IrType → Cases → Type 0
     TypedCases s t no_cases = Unit {0}
     TypedCases s t (more_cases [] e cs) = TypedCases s t cs
-    TypedCases s t (more_cases (n ∷ ns) e cs) = (Yields w e t × (not (yields_boxed t e) ≡ true)) × Typed s e × TypedCases s t cs
+    TypedCases s t (more_cases (n ∷ ns) e cs) = (Yields w e t × (may_yield has t e ≡ true)) × Typed s e × TypedCases s t cs

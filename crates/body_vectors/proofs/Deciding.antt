@@ -3,7 +3,7 @@ use Rattle.std.proofs.Common.{◌≡◌, ◌⊎◌, ◌<◌, ◌^◌, ℕ, Bool,
 use Rattle.std.specs.Prelude.{ℤ, pos, negsuc, nat_lt, FitsSigned}
 use Rattle.std.specs.Int.{w32, w64}
 use Rattle.std.proofs.lemmas.Bool.{and_parts}
-use Rattle.built_forms.specs.Built.{Usable, yields_boxed, stands}
+use Rattle.built_forms.specs.Built.{Usable, may_yield, stands}
 use Rattle.sj_desugar.specs.Desugar.{has_no_value}
 use Rattle.sj_names.proofs.Same.{impossible, text-same}
 use Rattle.sj_names.specs.Same.{is_same_text}
@@ -178,7 +178,7 @@ module _ (has : Usable) where
     pub are_typed_cases : Scene → IrType → Cases → Bool
     are_typed_cases s t no_cases = true
     are_typed_cases s t (more_cases [] e cs) = are_typed_cases s t cs
-    are_typed_cases s t (more_cases (n ∷ ns) e cs) = (yields_there e t && not (yields_boxed t e)) && (is_typed s e && are_typed_cases s t cs)
+    are_typed_cases s t (more_cases (n ∷ ns) e cs) = (yields_there e t && may_yield has t e) && (is_typed s e && are_typed_cases s t cs)
 
 -- ---- what the tests tell
 
@@ -363,7 +363,7 @@ module _ (w : Classes) (has : Usable) where
     typed_cases ar s t no_cases o h = tt
     typed_cases ar s t (more_cases [] e cs) o h = typed_cases ar s t cs o.1 h
     typed_cases ar s t (more_cases (n ∷ ns) e cs) o h =
-        let k = and_parts (yields_there e t && not (yields_boxed t e)) (is_typed has s e && are_typed_cases has s t cs) h in
-        let own = and_parts (yields_there e t) (not (yields_boxed t e)) k.0 in
+        let k = and_parts (yields_there e t && may_yield has t e) (is_typed has s e && are_typed_cases has s t cs) h in
+        let own = and_parts (yields_there e t) (may_yield has t e) k.0 in
         let parts = and_parts (is_typed has s e) (are_typed_cases has s t cs) k.1 in
         ((yields_type e t own.0, own.1), typed ar s e o.0 parts.0, typed_cases ar s t cs o.1 parts.1)

@@ -3,9 +3,10 @@ use Rattle.std.specs.Prelude.{ℕ, pos, Bool, true, false, ◌&&◌, ◌||◌, n
 use Rattle.std.specs.Ordering.{int_eq}
 use Rattle.sj_desugar.specs.Coercions.{is_char}
 use Rattle.sj_desugar.specs.Desugar.{member}
-use Rattle.sj_desugar.specs.Plain.{is_no_type, is_plain}
+use Rattle.sj_desugar.specs.Plain.{is_no_type}
+use Rattle.sj_names.specs.Same.{is_same_text}
 use Rattle.sj_names.specs.declared.method_names.Namespace.{Namespace}
-use Rattle.sj_names.specs.declared.method_names.Namespace.TheVariants.{PublicStatic, Private, PrivateStatic, Constructor}
+use Rattle.sj_names.specs.declared.method_names.Namespace.TheVariants.{Public, PublicStatic, Private, PrivateStatic, Constructor}
 use Rattle.sj_names.specs.declared.references.TypeRef.{TypeRef}
 use Rattle.sj_names.specs.declared.method_names.Member.{Member}
 use Rattle.typing_rules.specs.declared.labels.Label.{Label}
@@ -58,6 +59,24 @@ pub record Usable : Type 0 where
   pub helper : List ℕ → Bool
   pub objects : Bool
 
+-- objects that hold chars can be made
+abbrev pub can_box : Usable → Bool
+can_box has = has.helper (codes "$C")
+
+-- no char stands where another type is expected, or an object can be made that holds it; the same where a value is yielded, where one leaves to a
+-- label, and of arguments
+abbrev pub may_box : Usable → IrType → Term → Bool
+may_box has expected e = can_box has || not (is_boxed expected e)
+
+abbrev pub may_yield : Usable → IrType → Term → Bool
+may_yield has t e = can_box has || not (yields_boxed t e)
+
+abbrev pub may_leave : Usable → Option IrType → Term → Bool
+may_leave has o e = can_box has || not (leaves_boxed o e)
+
+abbrev pub may_pass : Usable → List TypeRef → Terms → Bool
+may_pass has rs es = can_box has || not (any_is_boxed rs es)
+
 -- these static members and nothing else
 abbrev pub members_alone : (Member → Bool) → Usable
 members_alone linked = record { linked = linked; received = λ m. false; built = λ m. false; made = λ c. false; field = λ c f t. false; helper = λ x. false; objects = false }
@@ -83,25 +102,26 @@ is_operation has _ d = true
 -- what a body can use, and the receivers that are never null or whose null check can be used
 module _ (has : Usable) (checked : Term → Bool) where
   -- the tree is of the forms that are built, whatever the trees in it are: what it calls, makes and reads is there, so is the helper of its division or its divisor is a literal, its
-  -- receiver is checked where it has to be, the call of a constructor has no value, what a field is set to is plain, and no char stands where another type is expected
+  -- receiver is checked where it has to be, the call of a constructor has no value, and a char stands where another type is expected only if an object can hold it
   abbrev pub stands : List Label → Term → Bool
-  stands ls (var_def p x t b e) = not (is_boxed t e)
+  stands ls (var_def p x t b e) = may_box has t e
   stands ls (skip p) = true
   stands ls (block_of p ts) = true
-  stands ls (labeled p l t e) = not (yields_boxed t e)
-  stands ls (assign p (var_ref q x t) e) = not (is_boxed t e)
-  stands ls (assign p (select q d c f t) e) = has.field c f t && (checked d && (is_plain e && not (is_boxed t e)))
-  stands ls (return_to p e l) = not (leaves_boxed (type_of_label ls l) e)
-  stands ls (if_then p c a b t) = not (yields_boxed t a) && not (yields_boxed t b)
+  stands ls (labeled p l t e) = may_yield has t e
+  stands ls (assign p (var_ref q x t) e) = may_box has t e
+  stands ls (assign p (select q d c f t) e) = has.field c f t && (checked d && may_box has t e)
+  stands ls (return_to p e l) = may_leave has (type_of_label ls l) e
+  stands ls (if_then p c a b t) = may_yield has t a && may_yield has t b
   stands ls (while_loop p c b) = true
   stands ls (do_while p b c) = true
-  stands ls (throw p e) = has.objects && not (is_boxed Any e)
-  stands ls (match_on p e cs d t) = not (yields_boxed t d)
-  stands ls (new_object p c m ts) = has.made c && (has.built (member c Constructor m) && not (any_is_boxed m.params ts))
+  stands ls (throw p e) = has.objects && may_box has Any e
+  stands ls (match_on p e cs d t) = may_yield has t d
+  stands ls (new_object p c m ts) = has.made c && (has.built (member c Constructor m) && may_pass has m.params ts)
   stands ls (select p e c f t) = has.field c f t && checked e
-  stands ls (apply_statically p e c Private m ts t) = has.received (member c Private m) && (checked e && (not (is_boxed Any e) && not (any_is_boxed m.params ts)))
-  stands ls (apply_statically p e c Constructor m ts t) = has.built (member c Constructor m) && (is_no_type t && not (any_is_boxed m.params ts))
-  stands ls (apply_static p c n m ts t) = has.linked (member c n m) && not (any_is_boxed m.params ts)
+  stands ls (apply_statically p e c Private m ts t) = has.received (member c Private m) && (checked e && (may_box has Any e && may_pass has m.params ts))
+  stands ls (apply_statically p e c Public m ts t) = has.received (member c Public m) && (checked e && (may_box has Any e && may_pass has m.params ts))
+  stands ls (apply_statically p e c Constructor m ts t) = has.built (member c Constructor m) && (is_no_type t && may_pass has m.params ts)
+  stands ls (apply_static p c n m ts t) = has.linked (member c n m) && may_pass has m.params ts
   stands ls (unary_op p o e) = true
   stands ls (binary_op p o e d) = is_operation has o d
   stands ls (undefined_literal p) = true
@@ -135,7 +155,7 @@ module _ (has : Usable) (checked : Term → Bool) where
     is_built ls (new_object p c m ts) = stands ls (new_object p c m ts) && are_built ls ts
     is_built ls (select p e c f t) = stands ls (select p e c f t) && is_built ls e
     is_built ls (apply_statically p e c n m ts t) = stands ls (apply_statically p e c n m ts t) && (is_built ls e && are_built ls ts)
-    is_built ls (apply_static p c n m ts t) = has.linked (member c n m) && (not (any_is_boxed m.params ts) && are_built ls ts)
+    is_built ls (apply_static p c n m ts t) = has.linked (member c n m) && (may_pass has m.params ts && are_built ls ts)
     is_built ls (unary_op p o e) = is_built ls e
     is_built ls (binary_op p o e d) = stands ls (binary_op p o e d) && (is_built ls e && is_built ls d)
     is_built ls (log_line p e) = is_built ls e
@@ -149,15 +169,27 @@ module _ (has : Usable) (checked : Term → Bool) where
     pub are_built_cases : List Label → IrType → Cases → Bool
     are_built_cases ls t no_cases = true
     are_built_cases ls t (more_cases [] e cs) = are_built_cases ls t cs
-    are_built_cases ls t (more_cases (n ∷ ns) e cs) = not (yields_boxed t e) && (is_built ls e && are_built_cases ls t cs)
+    are_built_cases ls t (more_cases (n ∷ ns) e cs) = may_yield has t e && (is_built ls e && are_built_cases ls t cs)
 
--- a method of this body is built: its value is no char where its result is of another type
+-- a method of this body is built: its value is a char where its result is of another type only if an object can hold it
 abbrev pub is_built_method : Usable → (Term → Bool) → MethodDef → Term → Bool
-is_built_method has checked d e = not (yields_boxed d.result e) && is_built has checked [] e
+is_built_method has checked d e = may_yield has d.result e && is_built has checked [] e
 
 -- whatever static member is called
 abbrev pub anything : Usable
 anything = members_alone (λ m. true)
+
+-- whatever is made and used of objects, but for objects that hold chars, and for public members that run on a receiver
+abbrev pub is_private : Namespace → Bool
+is_private Private = true
+is_private _ = false
+
+abbrev pub any_object : Usable
+any_object = record { linked = λ m. true; received = λ m. is_private m.namespace; built = λ m. true; made = λ c. true; field = λ c f t. true; helper = λ x. not (is_same_text x (codes "$C")); objects = true }
+
+-- the body is of these forms, whatever it calls, makes and reads
+abbrev pub is_object_body : MethodDef → Term → Bool
+is_object_body = is_built_method any_object (λ e. true)
 
 -- the body is of the forms that are built, whatever it calls
 abbrev pub is_built_body : MethodDef → Term → Bool

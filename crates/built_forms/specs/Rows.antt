@@ -60,6 +60,10 @@ case (k ∷ ks) body = match_on nowhere (number 1) (more_cases (pos k ∷ []) bo
 abbrev pub with_fields : Usable
 with_fields = record { linked = λ m. true; received = λ m. false; built = λ m. false; made = λ c. false; field = λ c f t. true; helper = λ x. false; objects = false }
 
+-- objects that hold chars can be made
+abbrev pub with_boxes : Usable
+with_boxes = record { linked = λ m. true; received = λ m. false; built = λ m. false; made = λ c. false; field = λ c f t. true; helper = λ x. true; objects = false }
+
 -- an assignment to a field of this type
 abbrev pub setting : IrType → Term → Term
 setting t value = assign nowhere (select nowhere (var_ref nowhere (codes "x") Any) (codes "A") (codes "f") t) value
@@ -76,6 +80,8 @@ pub record WorkedForms : Type 0 where
   pub sets_a_field : not_built (static (assign nowhere (select nowhere object (codes "A") (codes "f") Int) (number 1))) ≡ true
   pub sets_a_field_it_can_use : is_built with_fields (λ e. true) [] (setting Int (number 1)) ≡ true
   pub char_in_a_field : is_built with_fields (λ e. true) [] (setting Any letter) ≡ false
+  pub field_set_by_a_call : is_built with_fields (λ e. true) [] (setting Int (apply_static nowhere (codes "A") PublicStatic (method_name TypeRef.Int) (more_terms (number 1) no_terms) Int)) ≡ true
+  pub char_that_becomes_an_object : is_built with_boxes (λ e. true) [] (setting Any letter) ≡ true
   pub field_of_an_unchecked_object : is_built with_fields (λ e. false) [] (setting Int (number 1)) ≡ false
   pub identity : not_built (static (operation StrictEqual Any (number 1))) ≡ true
   pub by_two : not_built (static (operation IntDivide Int (number 2))) ≡ false

@@ -3,13 +3,13 @@ use Rattle.std.proofs.Common.{◌≡◌, ℕ, Bool, true, false, ◌&&◌, List,
 use Rattle.std.specs.Prelude.{not}
 use Rattle.std.proofs.lemmas.Bool.{and_parts}
 use Rattle.built_forms.specs.Built.{Usable, members_alone, anything, yields_boxed, any_is_boxed, stands, is_built, are_built, are_built_cases, is_built_body}
-use Rattle.sj_desugar.specs.Desugar.{desugared, member}
+use Rattle.sj_desugar.specs.Desugar.{desugared_member, member}
 use Rattle.sj_desugarer.specs.Methods.{desugared_with}
 use Rattle.sj_names.proofs.Same.{impossible}
 use Rattle.sj_names.specs.declared.method_names.Member.{Member}
 use Rattle.sj_names.specs.declared.method_names.MethodName.{MethodName}
 use Rattle.sj_names.specs.declared.method_names.Namespace.{Namespace}
-use Rattle.sj_names.specs.declared.method_names.Namespace.TheVariants.{Private, Constructor}
+use Rattle.sj_names.specs.declared.method_names.Namespace.TheVariants.{Public, Private, Constructor}
 use Rattle.sj_pieces.specs.Keys.{HasKeys}
 use Rattle.sj_pieces.specs.Owners.{OnObjects, AllOnObjects, CasesOnObjects, BodyOnObjects, FieldsHaveOwners}
 use Rattle.sj_trees.specs.Term.{Term, Terms, no_terms, more_terms, Cases, no_cases, more_cases, var_def, block_of, labeled, assign, return_to, if_then, while_loop, do_while, throw, match_on, new_object, select, select_static, apply_statically, apply_static, unary_op, binary_op, var_ref, log_line}
@@ -25,6 +25,7 @@ module _ (linked : Member → Bool) (checked : Term → Bool) where
   has = members_alone linked
 
   no_call : {A : Type 0} (p : Position) (e : Term) (c : List ℕ) (n : Namespace) (m : MethodName) (ts : Terms) (t : IrType) (ls : List Label) → is_built has checked ls (apply_statically p e c n m ts t) ≡ true → A
+  no_call p e c Public m ts t ls h = impossible h
   no_call p e c Private m ts t ls h = impossible h
   no_call p e c Constructor m ts t ls h = impossible h
   no_call p e c _ m ts t ls h = impossible h
@@ -81,10 +82,10 @@ pub built_on_objects : (d : MethodDef) (e : Term) → is_built_body d e ≡ true
 built_on_objects d e h = on_objects (λ m. true) (λ e. true) e [] (and_parts (not (yields_boxed d.result e)) (is_built anything (λ e. true) [] e) h).1
 
 -- a method has what each body that it may have has
-pub with_keys : ((d : MethodDef) (e : Term) → HasKeys (desugared d e)) → (d : MethodDef) (body : Option Term) → HasKeys (desugared_with d body)
+pub with_keys : ((d : MethodDef) (e : Term) → HasKeys (desugared_member d e)) → (d : MethodDef) (body : Option Term) → HasKeys (desugared_with d body)
 with_keys h d None = tt
 with_keys h d (Some e) = h d e
 
-pub with_owners : ((d : MethodDef) (e : Term) → OnObjects e → FieldsHaveOwners (desugared d e)) → (d : MethodDef) (body : Option Term) → BodyOnObjects body → FieldsHaveOwners (desugared_with d body)
+pub with_owners : ((d : MethodDef) (e : Term) → OnObjects e → FieldsHaveOwners (desugared_member d e)) → (d : MethodDef) (body : Option Term) → BodyOnObjects body → FieldsHaveOwners (desugared_with d body)
 with_owners h d None objects = tt
 with_owners h d (Some e) objects = h d e objects

@@ -18,10 +18,9 @@ use Rattle.sj_emit_expr.specs.Templates.{statement_templates}
 use Rattle.sj_trees.specs.declared.positions.Position.{Position}
 use Rattle.sj_trees.specs.declared.types.IrType.{IrType}
 use Rattle.body_rules.specs.Locals.{Scope, with_local}
-use Rattle.body_rules.specs.Standing.{Fits}
 use Rattle.sj_trees.specs.declared.types.IrType.TheVariants.{NoType}
-use Rattle.sj_plain.specs.Settings.{Receiving, Setting, shown, run, SameState, Valued, valued, Lawful, Holding, holding, Sees}
-use Rattle.body_rules.proofs.Standing.{coerced-same}
+use Rattle.sj_plain.specs.Settings.{Receiving, Setting, shown, run, SameState, Inside, Valued, valued, Lawful, Holding, holding, Sees, usable}
+use Rattle.sj_plain.proofs.Boxes.{StandsFor, stood, stood-fits, stood_alike, stood_told, operand_coerced}
 use Rattle.sj_bodies.proofs.Blocks.{Outside, Undeclared, block_alike}
 use Rattle.sj_bodies.proofs.Contexts.{Context, Writes, Sound, Ahead, IsOpen, Ready, ready-lift, Keeps, Goes, Less, keeps-less, less-trans, keeps-fewer, keeps-refl, keeps-trans, Arrives, let_go, stored, Came, gave, left, threw, stopped, started-here, started-other, started-inside, started-ready, started-keeps}
 use Rattle.body_rules.proofs.Equal.{equals, is-equal}
@@ -88,10 +87,10 @@ module _ (z : Setting) (lawful : Lawful z) where
   silent c w v env s sc u r same = sim_done z.direction (Came z.place z.code c c.scope discard w sc) (ir.ends (ir.gives v) env s) (js.ends js.normally sc u) (gave w v env s sc u js.normally (grows-refl w) let_go r (keeps-less z c.kept discard sc sc (keeps-refl z c.kept sc)) same)
 
   -- a tree that gives a value at once, and whose expression stands for it
-  pub quiet_alike : (c : Context) (k : Destination) (p : Position) (t : IrType) (e : core.Expression) (j : ℕ) → Sound z.is_mutable c → Writes c.writable k → FitsIn k t → (w : World) (env : ir.Env) (s : ir.State) (sc : js.Scope) (u : js.State) (o : Out ir.Ended) (v : ir.Value) → o ≡ done (ir.ends (ir.gives v) env s) → Ready z.place z.code c.scope c.writable w env sc → SameState z.place w s u → Sim z.direction (Valued z.place w env t) o (shown z e sc u) → Ends z lawful c c.scope k w sc o (finish k p t true e j).statements sc u
+  pub quiet_alike : (c : Context) (k : Destination) (p : Position) (t : IrType) (e : core.Expression) (j : ℕ) → Sound z.is_mutable c → Writes c.writable k → FitsIn (usable z) k t → (w : World) (env : ir.Env) (s : ir.State) (sc : js.Scope) (u : js.State) (o : Out ir.Ended) (v : ir.Value) → o ≡ done (ir.ends (ir.gives v) env s) → Ready z.place z.code c.scope c.writable w env sc → SameState z.place w s u → Sim z.direction (Valued z.place w env t) o (shown z e sc u) → Ends z lawful c c.scope k w sc o (finish k p t true e j).statements sc u
   quiet_alike c discard p t e j sound wr fits w env s sc u o v is r same alike = subst (λ x. Ends z lawful c c.scope discard w sc x core.no_statements sc u) (sym is) (silent c w v env s sc u r same)
-  quiet_alike c (to_variable x i) p t e j sound wr fits w env s sc u o v is r same alike = finish_alike z lawful c (to_variable x i) p t e j sound wr fits w w sc env o sc u (grows-refl w) (keeps-refl z c.kept sc) r alike
-  quiet_alike c (to_result i) p t e j sound wr fits w env s sc u o v is r same alike = finish_alike z lawful c (to_result i) p t e j sound wr fits w w sc env o sc u (grows-refl w) (keeps-refl z c.kept sc) r alike
+  quiet_alike c (to_variable x i) p t e j sound wr fits w env s sc u o v is r same alike = finish_alike z lawful c (to_variable x i) p t e j sound wr fits w w sc env o sc u (grows-refl w) (keeps-refl z c.kept sc) r s same alike
+  quiet_alike c (to_result i) p t e j sound wr fits w env s sc u o v is r same alike = finish_alike z lawful c (to_result i) p t e j sound wr fits w w sc env o sc u (grows-refl w) (keeps-refl z c.kept sc) r s same alike
 
   -- a value that is stored in a local by both sides
   pub set-locals : (scope : Scope) (x : List ℕ) (t : IrType) (w : World) (v : ir.Value) (j : js.Value) (env : ir.Env) (sc : js.Scope) → SameValue w t v j → ((y : List ℕ) (i : IrType) → (y ≡ x → ⊥) → scope y i → Holding w i (env.locals y) (sc.bindings (z.place.name (core.named y)))) → sc.bindings (z.place.name (core.named x)) ≡ js.holds false j → (y : List ℕ) (i : IrType) → with_local x t scope y i → Holding w i ((ir_meaning.set_local x v env).locals y) (sc.bindings (z.place.name (core.named y)))
@@ -146,14 +145,18 @@ module _ (z : Setting) (lawful : Lawful z) where
   act_alike F w env s sc u own r e act g (more_operands _ _ _ _ _ _ told operand no_operands) same through goes = act_once F w env s sc u own r e act g operand same through goes
 
   -- an assignment to a local in scope that isn't kept
-  pub assign_final : (c : Context) (p : Position) (x : List ℕ) (t i : IrType) (j : ℕ) → Sound z.is_mutable c → c.scope x t → z.is_mutable x ≡ true → Fits t i → (w : World) (sc : js.Scope) → OneFinal c discard w sc j i (ir_meaning.define x) (λ es. one (core.assign_to (Some p) (core.named x) (coerced t i (first_of es))))
-  assign_final c p x t i j sound inside mutable fits from before n r e w env s sc u ahead l g ready ks same operand = subst (λ d. Ends z lawful c c.scope discard from before (ir_meaning.in_order (r ∷ []) (ir_meaning.define x) env s) (core.statement (core.assign_to (Some p) (core.named x) d) core.no_statements) sc u) (sym (coerced-same t i e fits)) (ends-one z lawful c c.scope discard from before (ir_meaning.in_order (r ∷ []) (ir_meaning.define x) env s) (core.assign_to (Some p) (core.named x) e) sc u (act_alike (Came z.place z.code c c.scope discard from before) w env s sc u i r e (ir_meaning.define x) (λ v. js_meaning.assign z.place.program (z.place.name (core.named x)) v (sc.bindings (z.place.name (core.named x))) sc) operand same (throws-on z lawful c c.scope discard from w before env sc g ks ready) goes))
+  -- an operand as it is coerced
+  one_stands : (t : IrType) (i : IrType) (fits : StandsFor z t i) (w : World) (env : ir.Env) (sc : js.Scope) → Inside z.place z.code sc → (r : ir.Run) (e : core.Expression) → OperandsAlike z w env sc (i ∷ []) (r ∷ []) (e ∷ []) → OperandsAlike z w env sc (stood t i fits.0 ∷ []) (r ∷ []) (coerced t i e ∷ [])
+  one_stands t _ fits w env sc inside _ _ (more_operands i r e _ _ _ told one no_operands) = more_operands (stood t i fits.0) r (coerced t i e) [] [] [] (stood_told z lawful.base w env sc inside t i fits.0 e told) (stood_alike z lawful.base w env sc inside t i fits.0 fits.1 r e one) no_operands
+
+  pub assign_final : (c : Context) (p : Position) (x : List ℕ) (t i : IrType) (j : ℕ) → Sound z.is_mutable c → c.scope x t → z.is_mutable x ≡ true → StandsFor z t i → (w : World) (sc : js.Scope) → OneFinal c discard w sc j i (ir_meaning.define x) (λ es. one (core.assign_to (Some p) (core.named x) (coerced t i (first_of es))))
+  assign_final c p x t i j sound inside mutable fits from before n r e w env s sc u ahead l g ready ks same operand = ends-one z lawful c c.scope discard from before (ir_meaning.in_order (r ∷ []) (ir_meaning.define x) env s) (core.assign_to (Some p) (core.named x) (coerced t i e)) sc u (act_alike (Came z.place z.code c c.scope discard from before) w env s sc u (stood t i fits.0) r (coerced t i e) (ir_meaning.define x) (λ v. js_meaning.assign z.place.program (z.place.name (core.named x)) v (sc.bindings (z.place.name (core.named x))) sc) (one_stands t i fits w env sc ready.sees.inside r e operand) same (throws-on z lawful c c.scope discard from w before env sc g ks ready) goes)
     where
       open_here : (o : Option ir.Value) (cell : js.Cell) → Holding w t o cell → IsOpen cell
       open_here _ _ (holding v q a) = record { value = q; is = refl }
 
-      goes : (y : World) (v : ir.Value) (q : js.Value) (s : ir.State) (u : js.State) → Grows w y → SameValue y i v q → SameState z.place y s u → Sim z.direction (Came z.place z.code c c.scope discard from before) (done (ir.ends (ir.gives ir.undefined) (ir_meaning.set_local x v env) s)) (js_meaning.assign z.place.program (z.place.name (core.named x)) q (sc.bindings (z.place.name (core.named x))) sc u)
-      goes y v q s u h a same = subst (λ o. Sim z.direction (Came z.place z.code c c.scope discard from before) (done (ir.ends (ir.gives ir.undefined) (ir_meaning.set_local x v env) s)) o) (sym (assigned z lawful (core.named x) q sc u (open_here (env.locals x) (sc.bindings (z.place.name (core.named x))) (ready.sees.locals x t inside)))) (sim_done z.direction (Came z.place z.code c c.scope discard from before) (ir.ends (ir.gives ir.undefined) (ir_meaning.set_local x v env) s) (js.ends js.normally (js_meaning.start false (z.place.name (core.named x)) q sc) u) (gave y ir.undefined (ir_meaning.set_local x v env) s (js_meaning.start false (z.place.name (core.named x)) q sc) u js.normally (grows-trans from w y g h) let_go (narrower (with_local x t c.scope) c.scope c.writable y (ir_meaning.set_local x v env) (js_meaning.start false (z.place.name (core.named x)) q sc) (still_local c x t sound inside) (set-ready c.scope c.writable x t y v q env sc (value-fits y t i v q fits a) (ready-lift z c.scope c.writable w y env sc h ready))) (keeps-less z c.kept discard before (js_meaning.start false (z.place.name (core.named x)) q sc) (keeps-trans z c.kept before sc (js_meaning.start false (z.place.name (core.named x)) q sc) ks (started-keeps z lawful c.kept false (core.named x) q sc (λ k. impossible (absurd (sound.changing x t inside k mutable)))))) same))
+      goes : (y : World) (v : ir.Value) (q : js.Value) (s : ir.State) (u : js.State) → Grows w y → SameValue y (stood t i fits.0) v q → SameState z.place y s u → Sim z.direction (Came z.place z.code c c.scope discard from before) (done (ir.ends (ir.gives ir.undefined) (ir_meaning.set_local x v env) s)) (js_meaning.assign z.place.program (z.place.name (core.named x)) q (sc.bindings (z.place.name (core.named x))) sc u)
+      goes y v q s u h a same = subst (λ o. Sim z.direction (Came z.place z.code c c.scope discard from before) (done (ir.ends (ir.gives ir.undefined) (ir_meaning.set_local x v env) s)) o) (sym (assigned z lawful (core.named x) q sc u (open_here (env.locals x) (sc.bindings (z.place.name (core.named x))) (ready.sees.locals x t inside)))) (sim_done z.direction (Came z.place z.code c c.scope discard from before) (ir.ends (ir.gives ir.undefined) (ir_meaning.set_local x v env) s) (js.ends js.normally (js_meaning.start false (z.place.name (core.named x)) q sc) u) (gave y ir.undefined (ir_meaning.set_local x v env) s (js_meaning.start false (z.place.name (core.named x)) q sc) u js.normally (grows-trans from w y g h) let_go (narrower (with_local x t c.scope) c.scope c.writable y (ir_meaning.set_local x v env) (js_meaning.start false (z.place.name (core.named x)) q sc) (still_local c x t sound inside) (set-ready c.scope c.writable x t y v q env sc (value-fits y t (stood t i fits.0) v q (stood-fits t i fits.0) a) (ready-lift z c.scope c.writable w y env sc h ready))) (keeps-less z c.kept discard before (js_meaning.start false (z.place.name (core.named x)) q sc) (keeps-trans z c.kept before sc (js_meaning.start false (z.place.name (core.named x)) q sc) ks (started-keeps z lawful c.kept false (core.named x) q sc (λ k. impossible (absurd (sound.changing x t inside k mutable)))))) same))
 
   -- a line of output
   log_acts : (w : World) (env : ir.Env) (sc : js.Scope) (own : IrType) → ActsAlike z w w env (own ∷ []) NoType ir_meaning.log js_meaning.log sc
@@ -206,8 +209,8 @@ module _ (z : Setting) (lawful : Lawful z) where
       goes y _ _ s u h _ same = sim_wrong z.direction (Came z.place z.code c c.scope k from before) _
 
   -- a definition: the local holds its first value, and is in scope behind it
-  define_plain : (c : Context) (p : Position) (x : List ℕ) (t i : IrType) → Fits t i → (r : ir.Run) (e : core.Expression) → Sound z.is_mutable c → (c.kept (core.named x) → ⊥) → (w : World) (env : ir.Env) (s : ir.State) (sc : js.Scope) (u : js.State) → Ready z.place z.code c.scope c.writable w env sc → SameState z.place w s u → OperandAlike z w env sc i r (shown z e) → Ends z lawful c (with_local x t c.scope) discard w sc (ir_meaning.in_order (r ∷ []) (ir_meaning.define x) env s) (core.statement (core.define_of (Some p) (core.named x) e) core.no_statements) sc u
-  define_plain c p x t i fits r e sound fresh w env s sc u ready same operand = ends-one z lawful c (with_local x t c.scope) discard w sc (ir_meaning.in_order (r ∷ []) (ir_meaning.define x) env s) (core.define_of (Some p) (core.named x) e) sc u (act_once (Came z.place z.code c (with_local x t c.scope) discard w sc) w env s sc u i r e (ir_meaning.define x) (λ v u. done (js.ends js.normally (js_meaning.start false (z.place.name (core.named x)) v sc) u)) operand same (throws-on z lawful c (with_local x t c.scope) discard w w sc env sc (grows-refl w) (keeps-refl z c.kept sc) ready) (λ y v q s u h a same. sim_done z.direction (Came z.place z.code c (with_local x t c.scope) discard w sc) (ir.ends (ir.gives ir.undefined) (ir_meaning.set_local x v env) s) (js.ends js.normally (js_meaning.start false (z.place.name (core.named x)) q sc) u) (gave y ir.undefined (ir_meaning.set_local x v env) s (js_meaning.start false (z.place.name (core.named x)) q sc) u js.normally h let_go (set-ready c.scope c.writable x t y v q env sc (value-fits y t i v q fits a) (ready-lift z c.scope c.writable w y env sc h ready)) (keeps-less z c.kept discard sc (js_meaning.start false (z.place.name (core.named x)) q sc) (started-keeps z lawful c.kept false (core.named x) q sc fresh)) same)))
+  define_plain : (c : Context) (p : Position) (x : List ℕ) (t i : IrType) → StandsFor z t i → (r : ir.Run) (e : core.Expression) → Sound z.is_mutable c → (c.kept (core.named x) → ⊥) → (w : World) (env : ir.Env) (s : ir.State) (sc : js.Scope) (u : js.State) → Ready z.place z.code c.scope c.writable w env sc → SameState z.place w s u → OperandAlike z w env sc i r (shown z e) → Ends z lawful c (with_local x t c.scope) discard w sc (ir_meaning.in_order (r ∷ []) (ir_meaning.define x) env s) (core.statement (core.define_of (Some p) (core.named x) (coerced t i e)) core.no_statements) sc u
+  define_plain c p x t i fits r e sound fresh w env s sc u ready same operand = ends-one z lawful c (with_local x t c.scope) discard w sc (ir_meaning.in_order (r ∷ []) (ir_meaning.define x) env s) (core.define_of (Some p) (core.named x) (coerced t i e)) sc u (act_once (Came z.place z.code c (with_local x t c.scope) discard w sc) w env s sc u t r (coerced t i e) (ir_meaning.define x) (λ v u. done (js.ends js.normally (js_meaning.start false (z.place.name (core.named x)) v sc) u)) (operand_coerced z lawful.base t i fits.0 fits.1 w env sc ready.sees.inside r e operand) same (throws-on z lawful c (with_local x t c.scope) discard w w sc env sc (grows-refl w) (keeps-refl z c.kept sc) ready) (λ y v q s u h a same. sim_done z.direction (Came z.place z.code c (with_local x t c.scope) discard w sc) (ir.ends (ir.gives ir.undefined) (ir_meaning.set_local x v env) s) (js.ends js.normally (js_meaning.start false (z.place.name (core.named x)) q sc) u) (gave y ir.undefined (ir_meaning.set_local x v env) s (js_meaning.start false (z.place.name (core.named x)) q sc) u js.normally h let_go (set-ready c.scope c.writable x t y v q env sc a (ready-lift z c.scope c.writable w y env sc h ready)) (keeps-less z c.kept discard sc (js_meaning.start false (z.place.name (core.named x)) q sc) (started-keeps z lawful c.kept false (core.named x) q sc fresh)) same)))
 
   -- the context in which a local is being defined
   abbrev pub defining : Context → List ℕ → Context
@@ -246,8 +249,8 @@ module _ (z : Setting) (lawful : Lawful z) where
   pub ahead-defining : (c : Context) (x : List ℕ) (j : ℕ) → Ahead c j → Ahead (defining c x) j
   ahead-defining c x j ahead = record { writable = λ k h wr. ⊎_elim (λ e. numbered-named x k (sym e)) (ahead.writable k h) wr; kept = ahead.kept }
 
-  pub define_alike : (c : Context) (p : Position) (x : List ℕ) (t i : IrType) (r : ir.Run) (e : core.Expression) (code : Code) (j : ℕ) (b : Bool) → Sound z.is_mutable c → ((i : IrType) → c.scope x i → ⊥) → (c.writable (core.named x) → ⊥) → (c.kept (core.named x) → ⊥) → ((b ≡ true) × Fits t i × ((w : World) (env : ir.Env) (sc : js.Scope) → Sees z.place z.code c.scope w env sc → OperandAlike z w env sc i r (shown z e))) ⊎ ((b ≡ false) × ((w : World) (env : ir.Env) (s : ir.State) (sc : js.Scope) (u : js.State) → Ready z.place z.code c.scope (defining c x).writable w env sc → SameState z.place w s u → Sim z.direction (Came z.place z.code (defining c x) c.scope (to_variable (core.named x) t) w sc) (r env s) (run z code.statements sc u))) → (w : World) (env : ir.Env) (s : ir.State) (sc : js.Scope) (u : js.State) → Ready z.place z.code c.scope c.writable w env sc → SameState z.place w s u → Ends z lawful c (with_local x t c.scope) discard w sc (ir_meaning.in_order (r ∷ []) (ir_meaning.define x) env s) (elim b as (λ b. Code) [ true ↦ one (core.define_of (Some p) (core.named x) (coerced t i e)) j | false ↦ put_first (core.declare_of (Some p) (core.named x)) code ]).statements sc u
-  define_alike c p x t i r e code j true sound unseen unwritten fresh (inl h) w env s sc u ready same = subst (λ d. Ends z lawful c (with_local x t c.scope) discard w sc (ir_meaning.in_order (r ∷ []) (ir_meaning.define x) env s) (core.statement (core.define_of (Some p) (core.named x) d) core.no_statements) sc u) (sym (coerced-same t i e h.1)) (define_plain c p x t i h.1 r e sound fresh w env s sc u ready same (h.2 w env sc ready.sees))
+  pub define_alike : (c : Context) (p : Position) (x : List ℕ) (t i : IrType) (r : ir.Run) (e : core.Expression) (code : Code) (j : ℕ) (b : Bool) → Sound z.is_mutable c → ((i : IrType) → c.scope x i → ⊥) → (c.writable (core.named x) → ⊥) → (c.kept (core.named x) → ⊥) → ((b ≡ true) × StandsFor z t i × ((w : World) (env : ir.Env) (sc : js.Scope) → Sees z.place z.code c.scope w env sc → OperandAlike z w env sc i r (shown z e))) ⊎ ((b ≡ false) × ((w : World) (env : ir.Env) (s : ir.State) (sc : js.Scope) (u : js.State) → Ready z.place z.code c.scope (defining c x).writable w env sc → SameState z.place w s u → Sim z.direction (Came z.place z.code (defining c x) c.scope (to_variable (core.named x) t) w sc) (r env s) (run z code.statements sc u))) → (w : World) (env : ir.Env) (s : ir.State) (sc : js.Scope) (u : js.State) → Ready z.place z.code c.scope c.writable w env sc → SameState z.place w s u → Ends z lawful c (with_local x t c.scope) discard w sc (ir_meaning.in_order (r ∷ []) (ir_meaning.define x) env s) (elim b as (λ b. Code) [ true ↦ one (core.define_of (Some p) (core.named x) (coerced t i e)) j | false ↦ put_first (core.declare_of (Some p) (core.named x)) code ]).statements sc u
+  define_alike c p x t i r e code j true sound unseen unwritten fresh (inl h) w env s sc u ready same = define_plain c p x t i h.1 r e sound fresh w env s sc u ready same (h.2 w env sc ready.sees)
   define_alike c p x t i r e code j true sound unseen unwritten fresh (inr h) w env s sc u ready same = impossible (sym h.0)
   define_alike c p x t i r e code j false sound unseen unwritten fresh (inl h) w env s sc u ready same = impossible h.0
   define_alike c p x t i r e code j false sound unseen unwritten fresh (inr h) w env s sc u ready same = define_code c p x t r code.statements unseen unwritten fresh h.1 w env s sc u ready same

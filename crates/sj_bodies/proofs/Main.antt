@@ -1,5 +1,5 @@
 -- The theorem on trees: one induction, both directions.
-use Rattle.std.specs.Prelude.{ℤ, pos, ◌&&◌, not}
+use Rattle.std.specs.Prelude.{ℤ, pos, ◌&&◌}
 use Rattle.std.proofs.Common.{◌≡◌, ℕ, Bool, true, false, List, [], ◌∷◌, Some, refl, sym, ap, ◌∙◌, subst, ◌⊎◌, inl, inr, ⊎_elim}
 use mathlib.Core.Path.{fun_ext}
 use Rattle.outcomes.specs.Outcome.{done}
@@ -26,19 +26,20 @@ use Rattle.sj_plain.specs.Settings.{Setting, run, SameState, Lawful, usable}
 use Rattle.sj_bodies.proofs.Blocks.{Outside, undeclared}
 use Rattle.sj_bodies.proofs.Contexts.{around, Context, Writes, Sound, Ahead, Ready, Keeps, keeps-refl, Came}
 use Rattle.sj_bodies.specs.Fine.{IsDiscard, is_discard, FitsIn, FineOperand, Amid, Asks}
-use Rattle.sj_plain.proofs.Received.{may_be_checked, Received, received, Constructed, constructed}
-use Rattle.built_forms.specs.Built.{is_boxed, any_is_boxed}
+use Rattle.sj_plain.proofs.Boxes.{StandsFor, stands-for, stand-for-all}
+use Rattle.sj_plain.proofs.Received.{may_be_checked, value_or_nothing, Received, received, Constructed, constructed}
+use Rattle.built_forms.specs.Built.{may_box, may_pass}
 use Rattle.std.proofs.lemmas.Bool.{and_parts}
 use Rattle.sure_receivers.specs.Sure.{is_sure}
 use Rattle.sj_names.specs.declared.method_names.MethodName.{MethodName}
 use Rattle.sj_names.specs.declared.method_names.Namespace.{Namespace}
-use Rattle.sj_names.specs.declared.method_names.Namespace.TheVariants.{Private, Constructor}
+use Rattle.sj_names.specs.declared.method_names.Namespace.TheVariants.{Public, Private, Constructor}
 use Rattle.body_rules.specs.Typing.{Scene, in_label, Typed, TypedBlock, TypedAll, TypedCases, may_check}
 use Rattle.body_rules.proofs.Mutable.{of_first, of_second, of_definition, front, front_cases}
 use Rattle.sj_plain.specs.Conditions.{IsNoConstruction, Plain}
 use Rattle.sj_desugar.specs.Plain.{is_plain, mutable_in, mutable_in_all, mutable_in_cases}
 use Rattle.sj_bodies.proofs.Parts.{plain_at, tree_in, operand_in, operand_by, amid-behind, amid-inside, one_mutable, other_mutable, given_up, fits, fits-value, yields, asks-left, asks-right}
-use Rattle.body_rules.proofs.Fitting.{fits-sub, fit-all, fits-unary, fits-dividend, operates, unary-value, binary-value, unary-operand-value, left-operand-value}
+use Rattle.body_rules.proofs.Fitting.{fits-unary, fits-dividend, operates, unary-value, binary-value, unary-operand-value, left-operand-value}
 use Rattle.body_rules.proofs.Locals.{there, typed-there, local-value}
 use Rattle.body_rules.proofs.RulesGive.{Takes, FitsType, ArgumentsFit, class_has_value, fits_there, yields_there, one_yields, other_yields, leaves_there, arguments_there, is_linked, operation, result_is}
 use Rattle.sj_names.specs.declared.references.TypeRef.{TypeRef}
@@ -52,7 +53,7 @@ use Rattle.sj_proper.specs.Once.{Once, OnceAll, OnceCases}
 use Rattle.sj_bodies.proofs.Trees.{written, written_cases, LowAlike, outside-part, behind, go_on-given, FineHere, TreeDoes, piece, operand_does, define_does, quiet, value_of, local_at, finish_one, list_of, call_does, division_does}
 use Rattle.sj_names.proofs.Same.{impossible}
 use Rattle.sj_plain.proofs.Plain.{unary_alike, binary_alike}
-use Rattle.sj_bodies.proofs.ObjectTrees.{receiver_piece, receiver_does, select_does, set_does, new_does, this_does, throw_does, receive_does, construct_does}
+use Rattle.sj_bodies.proofs.ObjectTrees.{receiver_piece, receiver_does, select_does, set_does, set_spilled, new_does, this_does, throw_does, receive_does, construct_does}
 use Rattle.sj_bodies.proofs.Spills.{Does, OperandDoes, OperandsDo, numbered-named}
 use Rattle.sj_bodies.proofs.Statements.{run-followed, came_then, finish_alike, Ends}
 use Rattle.sj_bodies.proofs.Turns.{while_does, do_does}
@@ -60,9 +61,9 @@ use Rattle.sj_plain.proofs.Worlds.{World, Grows, grows-refl}
 
 module _ (z : Setting) (lawful : Lawful z) (low : LowAlike z) where
   abbrev AmidHere : Context → Scene → Type 0
-  AmidHere c s = Amid z.place.classes z.is_mutable z.code c.scope (around c) s
+  AmidHere c s = Amid z.place.classes z.is_mutable (usable z) z.code c.scope (around c) s
 
-  tree : (c : Context) (s : Scene) → AmidHere c s → (k : Destination) (e : Term) → Mutable z.is_mutable (mutable_in e) → Asks z.place.classes k (type_of_term e) → Typed z.place.classes (usable z) s e → (labels : List (List ℕ)) → Once labels e → FineHere z lawful low c k e
+  tree : (c : Context) (s : Scene) → AmidHere c s → (k : Destination) (e : Term) → Mutable z.is_mutable (mutable_in e) → Asks z.place.classes (usable z) k (type_of_term e) → Typed z.place.classes (usable z) s e → (labels : List (List ℕ)) → Once labels e → FineHere z lawful low c k e
   tree c = tree_in z.place.classes lawful.base.ordered z.is_mutable (usable z) z.code c.scope (around c)
 
   part_of : (c : Context) (s : Scene) → AmidHere c s → (e : Term) → Mutable z.is_mutable (mutable_in e) → (t : IrType) → IsSub z.place.classes (type_of_term e) t → HasValue t → Typed z.place.classes (usable z) s e → (labels : List (List ℕ)) → Once labels e → FineOperand z.place.classes z.is_mutable (usable z) z.code c.scope e (λ y. FineHere z lawful low c (to_variable y (type_of_term e)) e)
@@ -72,7 +73,7 @@ module _ (z : Setting) (lawful : Lawful z) (low : LowAlike z) where
   plain_here c k {e} fine i apart = plain_at z.place.classes lawful.base.ordered z.is_mutable (usable z) z.code c.scope (around c) fine.scene fine.amid e fine.typed i apart
 
   abbrev BlockDoes : Terms → Type 1
-  BlockDoes ts = (c : Context) (k : Destination) (j : ℕ) → Sound z.is_mutable c → Ahead c j → Outside c (OwnAll ts) → Writes c.writable k → (scene : Scene) → AmidHere c scene → Mutable z.is_mutable (mutable_in_all ts) → (i : IrType) → Asks z.place.classes k (type_of_last i ts) → TypedBlock z.place.classes (usable z) scene ts → (labels : List (List ℕ)) → OnceAll labels ts → (w : World) (env : ir.Env) (s : ir.State) (sc : js.Scope) (u : js.State) → Ready z.place z.code c.scope c.writable w env sc → SameState z.place w s u → Ends z lawful c c.scope k w sc (ir_meaning.block z.place.classes z.low ts env s) (block z.is_mutable z.code.sure c.targets k j ts).statements sc u
+  BlockDoes ts = (c : Context) (k : Destination) (j : ℕ) → Sound z.is_mutable c → Ahead c j → Outside c (OwnAll ts) → Writes c.writable k → (scene : Scene) → AmidHere c scene → Mutable z.is_mutable (mutable_in_all ts) → (i : IrType) → Asks z.place.classes (usable z) k (type_of_last i ts) → TypedBlock z.place.classes (usable z) scene ts → (labels : List (List ℕ)) → OnceAll labels ts → (w : World) (env : ir.Env) (s : ir.State) (sc : js.Scope) (u : js.State) → Ready z.place z.code c.scope c.writable w env sc → SameState z.place w s u → Ends z lawful c c.scope k w sc (ir_meaning.block z.place.classes z.low ts env s) (block z.is_mutable z.code.sure c.targets k j ts).statements sc u
 
   -- a tree of a block, and those behind it
   one_and_rest : (t : Term) (rest : Terms) (d : Terms) → (c : Context) (k : Destination) (j : ℕ) (first : Scope) → (w : World) (env : ir.Env) (s : ir.State) (sc : js.Scope) (u : js.State) → Sim z.direction (Came z.place z.code c first discard w sc) (ir_meaning.step z.place.classes z.low t env s) (run z (into z.is_mutable z.code.sure c.targets discard j t).statements sc u) → ((y : World) (v : ir.Value) (env : ir.Env) (s : ir.State) (sc' : js.Scope) (u : js.State) → Grows w y → Ready z.place z.code first c.writable y env sc' → Keeps z.place c.kept sc sc' → SameState z.place y s u → Sim z.direction (Came z.place z.code c c.scope k w sc) (ir_meaning.rest z.place.classes z.low rest v env s) (run z (block z.is_mutable z.code.sure c.targets k (into z.is_mutable z.code.sure c.targets discard j t).next rest).statements sc' u)) → Sim z.direction (Came z.place z.code c c.scope k w sc) (ir.go_on (ir_meaning.step z.place.classes z.low t env s) (ir_meaning.rest z.place.classes z.low rest)) (run z (core.followed (into z.is_mutable z.code.sure c.targets discard j t).statements (block z.is_mutable z.code.sure c.targets k (into z.is_mutable z.code.sure c.targets discard j t).next rest).statements) sc u)
@@ -116,25 +117,25 @@ module _ (z : Setting) (lawful : Lawful z) (low : LowAlike z) where
   var_by p x t b e does c _ j sound ahead out fine is_discard w env s sc u r same = sim_weaken z.direction (Came z.place z.code c (with_local x t c.scope) discard w sc) (Came z.place z.code c c.scope discard w sc) (ir_meaning.step z.place.classes z.low (var_def p x t b e) env s) (run z (into z.is_mutable z.code.sure c.targets discard j (var_def p x t b e)).statements sc u) (came-narrow z lawful c c (with_local x t c.scope) c.scope discard w w sc sc refl refl (λ l h. h) (λ h. h) (λ y i h. h) (none_hidden c x t (λ i. out.scope x i (inl refl))) (λ y h. h) (grows-refl w) (keeps-refl z c.kept sc)) (define_does z lawful low p x t b e does c j sound ahead out fine w env s sc u r same)
 
   assign_by : (p q : Position) (x : List ℕ) (t : IrType) (e : Term) → TreeDoes z lawful low e → (c : Context) (k : Destination) (j : ℕ) → Sound z.is_mutable c → Ahead c j → Outside c (Own e) → FineHere z lawful low c k (assign p (var_ref q x t) e) → IsDiscard k → Does z lawful c k j (assign p (var_ref q x t) e)
-  assign_by p q x t e does c _ j sound ahead out fine is_discard = let local = fine.typed.0.finds in let own = fits_there z.place.classes e t fine.typed.0.built fine.typed.0.meets.1 in of_operands z lawful c discard (piece z lawful low c.targets e ∷ []) j (ir_meaning.define x) (λ es. one (core.assign_to (Some p) (core.named x) (coerced t (type_of_term e) (first_of es)))) sound ahead (operand_does z lawful low c j e does out (part_of c fine.scene fine.amid e fine.written t own.0 (subst HasValue local.type_is (fine.amid.values x local.local local.is)) fine.typed.1 fine.around fine.once), tt) (one_final z lawful c discard j (type_of_term e) (ir_meaning.define x) (λ es. one (core.assign_to (Some p) (core.named x) (coerced t (type_of_term e) (first_of es)))) (assign_final z lawful c p x t (type_of_term e) j sound (fine.amid.seen x t (subst (parameters_of fine.scene.locals x) local.type_is (typed-there fine.scene.locals x local.local local.is))) (fine.amid.changing x local.local local.is local.«mutable») (fits-sub z.place.classes lawful.base.ordered t (type_of_term e) own.0 own.1)))
+  assign_by p q x t e does c _ j sound ahead out fine is_discard = let local = fine.typed.0.finds in let own = fits_there z.place.classes (usable z) e t fine.typed.0.built fine.typed.0.meets.1 in of_operands z lawful c discard (piece z lawful low c.targets e ∷ []) j (ir_meaning.define x) (λ es. one (core.assign_to (Some p) (core.named x) (coerced t (type_of_term e) (first_of es)))) sound ahead (operand_does z lawful low c j e does out (part_of c fine.scene fine.amid e fine.written t own.0 (subst HasValue local.type_is (fine.amid.values x local.local local.is)) fine.typed.1 fine.around fine.once), tt) (one_final z lawful c discard j (type_of_term e) (ir_meaning.define x) (λ es. one (core.assign_to (Some p) (core.named x) (coerced t (type_of_term e) (first_of es)))) (assign_final z lawful c p x t (type_of_term e) j sound (fine.amid.seen x t (subst (parameters_of fine.scene.locals x) local.type_is (typed-there fine.scene.locals x local.local local.is))) (fine.amid.changing x local.local local.is local.«mutable») (stands-for z lawful t (type_of_term e) own.0 own.1)))
 
   log_by : (p : Position) (e : Term) → TreeDoes z lawful low e → (c : Context) (k : Destination) (j : ℕ) → Sound z.is_mutable c → Ahead c j → Outside c (Own e) → FineHere z lawful low c k (log_line p e) → IsDiscard k → Does z lawful c k j (log_line p e)
   log_by p e does c _ j sound ahead out fine is_discard = of_operands z lawful c discard (piece z lawful low c.targets e ∷ []) j ir_meaning.log (λ es. one (core.log_of (Some p) (first_of es))) sound ahead (operand_does z lawful low c j e does out (part_of c fine.scene fine.amid e fine.written String fine.typed.0.meets refl fine.typed.1 fine.around fine.once), tt) (one_final z lawful c discard j (type_of_term e) ir_meaning.log (λ es. one (core.log_of (Some p) (first_of es))) (log_final z lawful c p j (type_of_term e)))
 
   labeled_does : (p : Position) (l : List ℕ) (t : IrType) (e : Term) → TreeDoes z lawful low e → TreeDoes z lawful low (labeled p l t e)
-  labeled_does p l t e does c k j sound ahead out wr fine = labeled_alike z lawful c l k p (ir_meaning.step z.place.classes z.low e) (into z.is_mutable z.code.sure (record { label = l; goes_to = k } ∷ c.targets) k j e) (sound-labelling z lawful c l k sound wr) wr (undeclared (labelling z lawful c l k) (Own e) j (into z.is_mutable z.code.sure (record { label = l; goes_to = k } ∷ c.targets) k j e) (record { scope = out.scope; writable = out.writable; kept = out.kept }) (record { writable = ahead.writable; kept = ahead.kept }) (written z.is_mutable z.code.sure (record { label = l; goes_to = k } ∷ c.targets) e k j fine.once.1)) (does (labelling z lawful c l k) k j (sound-labelling z lawful c l k sound wr) (record { writable = ahead.writable; kept = ahead.kept }) (record { scope = out.scope; writable = out.writable; kept = out.kept }) wr (record { scene = in_label l t fine.scene; amid = amid-inside z.place.classes lawful.base.ordered z.is_mutable (usable z) z.code c.scope (around c) fine.scene l t k fine.amid fine.asks; around = l ∷ fine.around; once = fine.once.1; written = fine.written; asks = yields z.place.classes lawful.base.ordered k e t fine.asks (yields_there z.place.classes e t fine.typed.0.built fine.typed.0.meets); typed = fine.typed.1 }))
+  labeled_does p l t e does c k j sound ahead out wr fine = labeled_alike z lawful c l k p (ir_meaning.step z.place.classes z.low e) (into z.is_mutable z.code.sure (record { label = l; goes_to = k } ∷ c.targets) k j e) (sound-labelling z lawful c l k sound wr) wr (undeclared (labelling z lawful c l k) (Own e) j (into z.is_mutable z.code.sure (record { label = l; goes_to = k } ∷ c.targets) k j e) (record { scope = out.scope; writable = out.writable; kept = out.kept }) (record { writable = ahead.writable; kept = ahead.kept }) (written z.is_mutable z.code.sure (record { label = l; goes_to = k } ∷ c.targets) e k j fine.once.1)) (does (labelling z lawful c l k) k j (sound-labelling z lawful c l k sound wr) (record { writable = ahead.writable; kept = ahead.kept }) (record { scope = out.scope; writable = out.writable; kept = out.kept }) wr (record { scene = in_label l t fine.scene; amid = amid-inside z.place.classes lawful.base.ordered z.is_mutable (usable z) z.code c.scope (around c) fine.scene l t k fine.amid fine.asks; around = l ∷ fine.around; once = fine.once.1; written = fine.written; asks = yields z.place.classes lawful.base.ordered (usable z) k e t fine.asks (yields_there z.place.classes (usable z) e t fine.typed.0.built fine.typed.0.meets); typed = fine.typed.1 }))
 
   return_does : (p : Position) (e : Term) (l : List ℕ) → TreeDoes z lawful low e → TreeDoes z lawful low (return_to p e l)
-  return_does p e l does c k j sound ahead out wr fine w env s sc u r same = return_alike z lawful c k (target_of c.targets l) p l (ir_meaning.step z.place.classes z.low e) (into z.is_mutable z.code.sure c.targets (target_of c.targets l) j e) refl (fine.amid.reaches l) w env s sc u (does c (target_of c.targets l) j sound ahead out (sound.reached l (fine.amid.reaches l)) (tree c fine.scene fine.amid (target_of c.targets l) e fine.written (yields z.place.classes lawful.base.ordered (target_of c.targets l) e fine.typed.0.meets.tpe (fine.amid.targets l fine.typed.0.meets.tpe fine.typed.0.meets.is_type) (leaves_there z.place.classes fine.scene.labels l e fine.typed.0.built fine.typed.0.meets)) fine.typed.1 fine.around fine.once.1) w env s sc u r same)
+  return_does p e l does c k j sound ahead out wr fine w env s sc u r same = return_alike z lawful c k (target_of c.targets l) p l (ir_meaning.step z.place.classes z.low e) (into z.is_mutable z.code.sure c.targets (target_of c.targets l) j e) refl (fine.amid.reaches l) w env s sc u (does c (target_of c.targets l) j sound ahead out (sound.reached l (fine.amid.reaches l)) (tree c fine.scene fine.amid (target_of c.targets l) e fine.written (yields z.place.classes lawful.base.ordered (usable z) (target_of c.targets l) e fine.typed.0.meets.tpe (fine.amid.targets l fine.typed.0.meets.tpe fine.typed.0.meets.is_type) (leaves_there z.place.classes (usable z) fine.scene.labels l e fine.typed.0.built fine.typed.0.meets)) fine.typed.1 fine.around fine.once.1) w env s sc u r same)
 
   if_does : (p : Position) (a b d : Term) (t : IrType) → TreeDoes z lawful low a → TreeDoes z lawful low b → TreeDoes z lawful low d → TreeDoes z lawful low (if_then p a b d t)
-  if_does p a b d t does_a does_b does_d c k j sound ahead out wr fine = of_operands z lawful c k (piece z lawful low c.targets a ∷ []) j (ir_meaning.branch (ir_meaning.step z.place.classes z.low b) (ir_meaning.step z.place.classes z.low d)) (λ es i. branches p (first_of es) (into z.is_mutable z.code.sure c.targets k i b) (λ i. into z.is_mutable z.code.sure c.targets k i d)) sound ahead (operand_does z lawful low c j a does_a (outside-part c (Own (if_then p a b d t)) (Own a) (λ x o. inl o) out) (part_of c fine.scene fine.amid a (of_first z.is_mutable (mutable_in a) (λ xs. mutable_in b (mutable_in d xs)) (front a) fine.written) Boolean fine.typed.0.meets.0 refl fine.typed.1 fine.around fine.once.0), tt) (one_final z lawful c k j (type_of_term a) (ir_meaning.branch (ir_meaning.step z.place.classes z.low b) (ir_meaning.step z.place.classes z.low d)) (λ es i. branches p (first_of es) (into z.is_mutable z.code.sure c.targets k i b) (λ i. into z.is_mutable z.code.sure c.targets k i d)) (if_final z lawful c k p (λ i. into z.is_mutable z.code.sure c.targets k i b) (λ i. into z.is_mutable z.code.sure c.targets k i d) (ir_meaning.step z.place.classes z.low b) (ir_meaning.step z.place.classes z.low d) j sound wr (λ i l. (written z.is_mutable z.code.sure c.targets b k i fine.once.1).onward) (λ i l ah. undeclared c (Own b) i (into z.is_mutable z.code.sure c.targets k i b) (outside-part c (Own (if_then p a b d t)) (Own b) (λ x o. inr (inl o)) out) ah (written z.is_mutable z.code.sure c.targets b k i fine.once.1)) (λ i l ah. undeclared c (Own d) i (into z.is_mutable z.code.sure c.targets k i d) (outside-part c (Own (if_then p a b d t)) (Own d) (λ x o. inr (inr o)) out) ah (written z.is_mutable z.code.sure c.targets d k i fine.once.2)) (λ i l ah. does_b c k i sound ah (outside-part c (Own (if_then p a b d t)) (Own b) (λ x o. inr (inl o)) out) wr (tree c fine.scene fine.amid k b (one_mutable z.is_mutable b d (of_second z.is_mutable (mutable_in a) (λ xs. mutable_in b (mutable_in d xs)) (front a) fine.written)) (yields z.place.classes lawful.base.ordered k b t fine.asks (one_yields z.place.classes b d t fine.typed.0.built fine.typed.0.meets.1)) fine.typed.2 fine.around fine.once.1)) (λ i l ah. does_d c k i sound ah (outside-part c (Own (if_then p a b d t)) (Own d) (λ x o. inr (inr o)) out) wr (tree c fine.scene fine.amid k d (other_mutable z.is_mutable b d (of_second z.is_mutable (mutable_in a) (λ xs. mutable_in b (mutable_in d xs)) (front a) fine.written)) (yields z.place.classes lawful.base.ordered k d t fine.asks (other_yields z.place.classes b d t fine.typed.0.built fine.typed.0.meets.2)) fine.typed.3 fine.around fine.once.2)) (type_of_term a)))
+  if_does p a b d t does_a does_b does_d c k j sound ahead out wr fine = of_operands z lawful c k (piece z lawful low c.targets a ∷ []) j (ir_meaning.branch (ir_meaning.step z.place.classes z.low b) (ir_meaning.step z.place.classes z.low d)) (λ es i. branches p (first_of es) (into z.is_mutable z.code.sure c.targets k i b) (λ i. into z.is_mutable z.code.sure c.targets k i d)) sound ahead (operand_does z lawful low c j a does_a (outside-part c (Own (if_then p a b d t)) (Own a) (λ x o. inl o) out) (part_of c fine.scene fine.amid a (of_first z.is_mutable (mutable_in a) (λ xs. mutable_in b (mutable_in d xs)) (front a) fine.written) Boolean fine.typed.0.meets.0 refl fine.typed.1 fine.around fine.once.0), tt) (one_final z lawful c k j (type_of_term a) (ir_meaning.branch (ir_meaning.step z.place.classes z.low b) (ir_meaning.step z.place.classes z.low d)) (λ es i. branches p (first_of es) (into z.is_mutable z.code.sure c.targets k i b) (λ i. into z.is_mutable z.code.sure c.targets k i d)) (if_final z lawful c k p (λ i. into z.is_mutable z.code.sure c.targets k i b) (λ i. into z.is_mutable z.code.sure c.targets k i d) (ir_meaning.step z.place.classes z.low b) (ir_meaning.step z.place.classes z.low d) j sound wr (λ i l. (written z.is_mutable z.code.sure c.targets b k i fine.once.1).onward) (λ i l ah. undeclared c (Own b) i (into z.is_mutable z.code.sure c.targets k i b) (outside-part c (Own (if_then p a b d t)) (Own b) (λ x o. inr (inl o)) out) ah (written z.is_mutable z.code.sure c.targets b k i fine.once.1)) (λ i l ah. undeclared c (Own d) i (into z.is_mutable z.code.sure c.targets k i d) (outside-part c (Own (if_then p a b d t)) (Own d) (λ x o. inr (inr o)) out) ah (written z.is_mutable z.code.sure c.targets d k i fine.once.2)) (λ i l ah. does_b c k i sound ah (outside-part c (Own (if_then p a b d t)) (Own b) (λ x o. inr (inl o)) out) wr (tree c fine.scene fine.amid k b (one_mutable z.is_mutable b d (of_second z.is_mutable (mutable_in a) (λ xs. mutable_in b (mutable_in d xs)) (front a) fine.written)) (yields z.place.classes lawful.base.ordered (usable z) k b t fine.asks (one_yields z.place.classes (usable z) b d t fine.typed.0.built fine.typed.0.meets.1)) fine.typed.2 fine.around fine.once.1)) (λ i l ah. does_d c k i sound ah (outside-part c (Own (if_then p a b d t)) (Own d) (λ x o. inr (inr o)) out) wr (tree c fine.scene fine.amid k d (other_mutable z.is_mutable b d (of_second z.is_mutable (mutable_in a) (λ xs. mutable_in b (mutable_in d xs)) (front a) fine.written)) (yields z.place.classes lawful.base.ordered (usable z) k d t fine.asks (other_yields z.place.classes (usable z) b d t fine.typed.0.built fine.typed.0.meets.2)) fine.typed.3 fine.around fine.once.2)) (type_of_term a)))
 
   unary_does : (p : Position) (o : UnaryOp) (e : Term) → TreeDoes z lawful low e → TreeDoes z lawful low (unary_op p o e)
-  unary_does p o e does c k j sound ahead out wr fine = of_operands z lawful c k (piece z lawful low c.targets e ∷ []) j (ir_meaning.unary z.place.classes z.low o) (λ es. finish k p (unary_result o) false (core.unary_of o (first_of es))) sound ahead (operand_does z lawful low c j e does out (part_of c fine.scene fine.amid e fine.written (unary_operand o) fine.typed.0.meets (unary-operand-value o) fine.typed.1 fine.around fine.once), tt) (one_final z lawful c k j (type_of_term e) (ir_meaning.unary z.place.classes z.low o) (λ es. finish k p (unary_result o) false (core.unary_of o (first_of es))) (finish_one z lawful low c k p (type_of_term e) (unary_result o) (ir_meaning.unary z.place.classes z.low o) (core.unary_of o) j sound wr (fits-value z.place.classes lawful.base.ordered k (unary_result o) fine.asks (unary-value o)) (λ r x w env s sc u alike same. unary_alike z lawful c.scope o (type_of_term e) r x (fits-unary z.place.classes lawful.base.ordered o (type_of_term e) fine.typed.0.meets) w env s sc u alike same)))
+  unary_does p o e does c k j sound ahead out wr fine = of_operands z lawful c k (piece z lawful low c.targets e ∷ []) j (ir_meaning.unary z.place.classes z.low o) (λ es. finish k p (unary_result o) false (core.unary_of o (first_of es))) sound ahead (operand_does z lawful low c j e does out (part_of c fine.scene fine.amid e fine.written (unary_operand o) fine.typed.0.meets (unary-operand-value o) fine.typed.1 fine.around fine.once), tt) (one_final z lawful c k j (type_of_term e) (ir_meaning.unary z.place.classes z.low o) (λ es. finish k p (unary_result o) false (core.unary_of o (first_of es))) (finish_one z lawful low c k p (type_of_term e) (unary_result o) (ir_meaning.unary z.place.classes z.low o) (core.unary_of o) j sound wr (fits-value z.place.classes lawful.base.ordered (usable z) k (unary_result o) fine.asks (unary-value o)) (λ r x w env s sc u alike same. unary_alike z lawful c.scope o (type_of_term e) r x (fits-unary z.place.classes lawful.base.ordered o (type_of_term e) fine.typed.0.meets) w env s sc u alike same)))
 
-  binary_final : (p : Position) (o : BinaryOp) (s t : IrType) (c : Context) (k : Destination) (j : ℕ) → Operates (usable z) o s t → Sound z.is_mutable c → Writes c.writable k → FitsIn k (binary_result o) → (w : World) (sc : js.Scope) → TwoFinal z lawful c k w sc j s t (ir_meaning.binary z.place.classes z.low o) (λ es. finish k p (binary_result o) false (core.binary_of o (operand_of o s (first_of es)) (operand_of o t (second_of es))))
-  binary_final p o m n c k j operates sound wr fits from before i r q e d w env s sc u ahead l g ready ks same operands = finish_alike z lawful c k p (binary_result o) (core.binary_of o (operand_of o m e) (operand_of o n d)) i sound wr fits w from before env (ir_meaning.in_order (r ∷ q ∷ []) (ir_meaning.binary z.place.classes z.low o) env s) sc u g ks ready (binary_alike z lawful c.scope o m n r q e d operates w env s sc u ready.sees.inside operands same)
+  binary_final : (p : Position) (o : BinaryOp) (s t : IrType) (c : Context) (k : Destination) (j : ℕ) → Operates (usable z) o s t → Sound z.is_mutable c → Writes c.writable k → FitsIn (usable z) k (binary_result o) → (w : World) (sc : js.Scope) → TwoFinal z lawful c k w sc j s t (ir_meaning.binary z.place.classes z.low o) (λ es. finish k p (binary_result o) false (core.binary_of o (operand_of o s (first_of es)) (operand_of o t (second_of es))))
+  binary_final p o m n c k j operates sound wr fits from before i r q e d w env s sc u ahead l g ready ks same operands = finish_alike z lawful c k p (binary_result o) (core.binary_of o (operand_of o m e) (operand_of o n d)) i sound wr fits w from before env (ir_meaning.in_order (r ∷ q ∷ []) (ir_meaning.binary z.place.classes z.low o) env s) sc u g ks ready s same (binary_alike z lawful c.scope o m n r q e d operates w env s sc u ready.sees.inside operands same)
 
   binary_does : (p : Position) (o : BinaryOp) (e d : Term) → TreeDoes z lawful low e → TreeDoes z lawful low d → TreeDoes z lawful low (binary_op p o e d)
   binary_does p o e d does_e does_d c k j sound ahead out wr fine = by (operation z.place.classes (usable z) fine.scene o e d fine.typed.0.built fine.typed.2 fine.typed.0.meets)
@@ -145,15 +146,15 @@ module _ (z : Setting) (lawful : Lawful z) (low : LowAlike z) where
       out_d : Outside c (Own d)
       out_d = outside-part c (Own (binary_op p o e d)) (Own d) (λ x i. inr i) out
 
-      fits_here : FitsIn k (binary_result o)
-      fits_here = fits-value z.place.classes lawful.base.ordered k (binary_result o) fine.asks (binary-value o)
+      fits_here : FitsIn (usable z) k (binary_result o)
+      fits_here = fits-value z.place.classes lawful.base.ordered (usable z) k (binary_result o) fine.asks (binary-value o)
 
       by : Takes z.place.classes (usable z) o e d ⊎ (DividesBy o d × IsSub z.place.classes (type_of_term e) (left_operand o)) → Does z lawful c k j (binary_op p o e d)
       by (inl h) = of_operands z lawful c k (piece z lawful low c.targets e ∷ piece z lawful low c.targets d ∷ []) j (ir_meaning.binary z.place.classes z.low o) (λ es. finish k p (binary_result o) false (core.binary_of o (operand_of o (type_of_term e) (first_of es)) (operand_of o (type_of_term d) (second_of es)))) sound ahead (operand_does z lawful low c j e does_e out_e (operand_by z.place.classes lawful.base.ordered z.is_mutable (usable z) z.code c.scope (around c) fine.scene fine.amid e (one_mutable z.is_mutable e d fine.written) (λ y. asks-left z.place.classes lawful.base.ordered (usable z) y o e d h) fine.typed.1 fine.around fine.once.0), (operand_does z lawful low c j d does_d out_d (operand_by z.place.classes lawful.base.ordered z.is_mutable (usable z) z.code c.scope (around c) fine.scene fine.amid d (other_mutable z.is_mutable e d fine.written) (λ y. asks-right z.place.classes lawful.base.ordered (usable z) y o e d h) fine.typed.2 fine.around fine.once.1), tt)) (two_final z lawful c k j (type_of_term e) (type_of_term d) (ir_meaning.binary z.place.classes z.low o) (λ es. finish k p (binary_result o) false (core.binary_of o (operand_of o (type_of_term e) (first_of es)) (operand_of o (type_of_term d) (second_of es)))) (binary_final p o (type_of_term e) (type_of_term d) c k j (operates z.place.classes lawful.base.ordered (usable z) o e d h) sound wr fits_here))
       by (inr h) = division_does z lawful low p c k j o e d h.0 (fits-dividend z.place.classes lawful.base.ordered o d (type_of_term e) h.0 h.1) sound ahead wr fits_here (operand_does z lawful low c j e does_e out_e (part_of c fine.scene fine.amid e (one_mutable z.is_mutable e d fine.written) (left_operand o) h.1 (left-operand-value o) fine.typed.1 fine.around fine.once.0))
 
   abbrev OperandsFine : Terms → Type 1
-  OperandsFine ts = (c : Context) (j : ℕ) → Outside c (OwnAll ts) → (s : Scene) → AmidHere c s → Mutable z.is_mutable (mutable_in_all ts) → (rs : List TypeRef) → ArgumentsFit z.place.classes ts rs → TypedAll z.place.classes (usable z) s ts → (labels : List (List ℕ)) → OnceAll labels ts → OperandsDo z lawful c j (list_of z lawful low c.targets ts)
+  OperandsFine ts = (c : Context) (j : ℕ) → Outside c (OwnAll ts) → (s : Scene) → AmidHere c s → Mutable z.is_mutable (mutable_in_all ts) → (rs : List TypeRef) → ArgumentsFit z.place.classes (usable z) ts rs → TypedAll z.place.classes (usable z) s ts → (labels : List (List ℕ)) → OnceAll labels ts → OperandsDo z lawful c j (list_of z lawful low c.targets ts)
 
   arguments_do : (t : Term) (ts : Terms) → TreeDoes z lawful low t → OperandsFine ts → OperandsFine (more_terms t ts)
   arguments_do t ts does others c j out s amid mut [] fit typed labels once = absurd fit
@@ -162,14 +163,14 @@ module _ (z : Setting) (lawful : Lawful z) (low : LowAlike z) where
   last_does : (t : Term) → TreeDoes z lawful low t → BlockDoes (more_terms t no_terms)
   last_does t does c k j sound ahead out wr scene amid mut i asks typed labels once w env s sc u r same = subst (λ o. Ends z lawful c c.scope k w sc o (into z.is_mutable z.code.sure c.targets k j t).statements sc u) (sym (ap (ir.go_on (ir_meaning.step z.place.classes z.low t env s)) (fun_ext (λ v. refl)) ∙ go_on-given (ir_meaning.step z.place.classes z.low t env s))) (does c k j sound ahead (outside-part c (OwnAll (more_terms t no_terms)) (Own t) (λ x o. inl o) out) wr (tree c scene amid k t mut asks typed labels once.0) w env s sc u r same)
 
-  next_does : (t u : Term) (us : Terms) → TreeDoes z lawful low t → BlockDoes (more_terms u us) → (c : Context) (k : Destination) (j : ℕ) → Sound z.is_mutable c → Ahead c j → Outside c (OwnAll (more_terms t (more_terms u us))) → Writes c.writable k → FineHere z lawful low c discard t → (scene : Scene) → AmidHere c scene → Mutable z.is_mutable (mutable_in_all (more_terms u us)) → (i : IrType) → Asks z.place.classes k (type_of_last i (more_terms u us)) → TypedBlock z.place.classes (usable z) scene (more_terms u us) → (labels : List (List ℕ)) → Once labels t → OnceAll labels (more_terms u us) → (w : World) (env : ir.Env) (s : ir.State) (sc : js.Scope) (q : js.State) → Ready z.place z.code c.scope c.writable w env sc → SameState z.place w s q → Ends z lawful c c.scope k w sc (ir_meaning.block z.place.classes z.low (more_terms t (more_terms u us)) env s) (block z.is_mutable z.code.sure c.targets k j (more_terms t (more_terms u us))).statements sc q
+  next_does : (t u : Term) (us : Terms) → TreeDoes z lawful low t → BlockDoes (more_terms u us) → (c : Context) (k : Destination) (j : ℕ) → Sound z.is_mutable c → Ahead c j → Outside c (OwnAll (more_terms t (more_terms u us))) → Writes c.writable k → FineHere z lawful low c discard t → (scene : Scene) → AmidHere c scene → Mutable z.is_mutable (mutable_in_all (more_terms u us)) → (i : IrType) → Asks z.place.classes (usable z) k (type_of_last i (more_terms u us)) → TypedBlock z.place.classes (usable z) scene (more_terms u us) → (labels : List (List ℕ)) → Once labels t → OnceAll labels (more_terms u us) → (w : World) (env : ir.Env) (s : ir.State) (sc : js.Scope) (q : js.State) → Ready z.place z.code c.scope c.writable w env sc → SameState z.place w s q → Ends z lawful c c.scope k w sc (ir_meaning.block z.place.classes z.low (more_terms t (more_terms u us)) env s) (block z.is_mutable z.code.sure c.targets k j (more_terms t (more_terms u us))).statements sc q
   next_does t u us does others c k j sound ahead out wr fine scene amid mut i asks typed labels once once_others w env s sc q r same = one_and_rest t (more_terms u us) us c k j c.scope w env s sc q (does c discard j sound ahead (outside-part c (OwnAll (more_terms t (more_terms u us))) (Own t) (λ x o. inl o) out) tt fine w env s sc q r same) (λ y v env s sc' q g ready ks same. rebased z lawful c c.scope k w y sc sc' (ir_meaning.block z.place.classes z.low (more_terms u us) env s) (run z (block z.is_mutable z.code.sure c.targets k (into z.is_mutable z.code.sure c.targets discard j t).next (more_terms u us)).statements sc' q) g ks (others c k (into z.is_mutable z.code.sure c.targets discard j t).next sound (ahead-later z lawful c j (into z.is_mutable z.code.sure c.targets discard j t).next (written z.is_mutable z.code.sure c.targets t discard j once).onward ahead) (outside-part c (OwnAll (more_terms t (more_terms u us))) (OwnAll (more_terms u us)) (λ x o. inr o) out) wr scene amid mut i asks typed labels once_others y env s sc' q ready same))
 
   abbrev scene_behind : List ℕ → IrType → Bool → Scene → Scene
   scene_behind x t b s = record { owner = s.owner; space = s.space; sure = s.sure; locals = record { name = x; «mutable» = b; tpe = t } ∷ s.locals; labels = s.labels }
 
   defined_does : (p : Position) (x : List ℕ) (t : IrType) (b : Bool) (e u : Term) (us : Terms) → TreeDoes z lawful low e → BlockDoes (more_terms u us) → BlockDoes (more_terms (var_def p x t b e) (more_terms u us))
-  defined_does p x t b e u us does others c k j sound ahead out wr scene amid mut i asks typed labels once w env s sc q r same = one_and_rest (var_def p x t b e) (more_terms u us) us c k j (with_local x t c.scope) w env s sc q (define_does z lawful low p x t b e does c j sound ahead out_first (tree c scene amid discard (var_def p x t b e) (of_first z.is_mutable (mutable_in (var_def p x t b e)) (mutable_in_all (more_terms u us)) (front (var_def p x t b e)) mut) tt typed.0 labels once.0) w env s sc q r same) (λ y v env s sc' q g ready ks same. sim_weaken z.direction (Came z.place z.code (behind z c x t) (behind z c x t).scope k y sc') (Came z.place z.code c c.scope k w sc) (ir_meaning.block z.place.classes z.low (more_terms u us) env s) (run z (block z.is_mutable z.code.sure c.targets k next (more_terms u us)).statements sc' q) (came-narrow z lawful c (behind z c x t) (behind z c x t).scope c.scope k w y sc sc' refl refl (λ l h. h) (λ h. h) (none_hidden c x t (λ i. out.scope x i (inl (inl refl)))) (none_hidden c x t (λ i. out.scope x i (inl (inl refl)))) (λ y h. inr h) g ks) (others (behind z c x t) k next (sound-behind c x t sound (out.writable x (inl (inl refl))) (out.kept x (inl (inl refl)))) (ahead-behind c x t next (ahead-later z lawful c j next (written z.is_mutable z.code.sure c.targets (var_def p x t b e) discard j once.0).onward ahead)) (outside-behind c x t (more_terms u us) (outside-part c (OwnAll (more_terms (var_def p x t b e) (more_terms u us))) (OwnAll (more_terms u us)) (λ x o. inr o) out) (typed.1 x refl)) wr (scene_behind x t b scene) (amid-behind z.place.classes z.is_mutable z.code c.scope (around c) scene x t b amid typed.0.0.finds.0 (of_definition z.is_mutable b x (mutable_in e) (of_first z.is_mutable (mutable_in (var_def p x t b e)) (mutable_in_all (more_terms u us)) (front (var_def p x t b e)) mut))) (of_second z.is_mutable (mutable_in (var_def p x t b e)) (mutable_in_all (more_terms u us)) (front (var_def p x t b e)) mut) NoType asks typed.2 labels once.1 y env s sc' q ready same))
+  defined_does p x t b e u us does others c k j sound ahead out wr scene amid mut i asks typed labels once w env s sc q r same = one_and_rest (var_def p x t b e) (more_terms u us) us c k j (with_local x t c.scope) w env s sc q (define_does z lawful low p x t b e does c j sound ahead out_first (tree c scene amid discard (var_def p x t b e) (of_first z.is_mutable (mutable_in (var_def p x t b e)) (mutable_in_all (more_terms u us)) (front (var_def p x t b e)) mut) tt typed.0 labels once.0) w env s sc q r same) (λ y v env s sc' q g ready ks same. sim_weaken z.direction (Came z.place z.code (behind z c x t) (behind z c x t).scope k y sc') (Came z.place z.code c c.scope k w sc) (ir_meaning.block z.place.classes z.low (more_terms u us) env s) (run z (block z.is_mutable z.code.sure c.targets k next (more_terms u us)).statements sc' q) (came-narrow z lawful c (behind z c x t) (behind z c x t).scope c.scope k w y sc sc' refl refl (λ l h. h) (λ h. h) (none_hidden c x t (λ i. out.scope x i (inl (inl refl)))) (none_hidden c x t (λ i. out.scope x i (inl (inl refl)))) (λ y h. inr h) g ks) (others (behind z c x t) k next (sound-behind c x t sound (out.writable x (inl (inl refl))) (out.kept x (inl (inl refl)))) (ahead-behind c x t next (ahead-later z lawful c j next (written z.is_mutable z.code.sure c.targets (var_def p x t b e) discard j once.0).onward ahead)) (outside-behind c x t (more_terms u us) (outside-part c (OwnAll (more_terms (var_def p x t b e) (more_terms u us))) (OwnAll (more_terms u us)) (λ x o. inr o) out) (typed.1 x refl)) wr (scene_behind x t b scene) (amid-behind z.place.classes z.is_mutable (usable z) z.code c.scope (around c) scene x t b amid typed.0.0.finds.0 (of_definition z.is_mutable b x (mutable_in e) (of_first z.is_mutable (mutable_in (var_def p x t b e)) (mutable_in_all (more_terms u us)) (front (var_def p x t b e)) mut))) (of_second z.is_mutable (mutable_in (var_def p x t b e)) (mutable_in_all (more_terms u us)) (front (var_def p x t b e)) mut) NoType asks typed.2 labels once.1 y env s sc' q ready same))
     where
       next : ℕ
       next = (into z.is_mutable z.code.sure c.targets discard j (var_def p x t b e)).next
@@ -178,10 +179,10 @@ module _ (z : Setting) (lawful : Lawful z) (low : LowAlike z) where
       out_first = outside-part c (OwnAll (more_terms (var_def p x t b e) (more_terms u us))) (Own (var_def p x t b e)) (λ x o. inl o) out
 
   abbrev CasesDo : Cases → Type 1
-  CasesDo cs = (c : Context) (k : Destination) (j : ℕ) → Sound z.is_mutable c → Ahead c j → Outside c (OwnCases cs) → Writes c.writable k → (scene : Scene) → AmidHere c scene → Mutable z.is_mutable (mutable_in_cases cs) → (t : IrType) → Asks z.place.classes k t → TypedCases z.place.classes (usable z) scene t cs → (labels : List (List ℕ)) → OnceCases labels cs → CasesAlike z lawful c k (ir_meaning.branches z.place.classes z.low cs) (cases z.is_mutable z.code.sure c.targets k j cs).cases
+  CasesDo cs = (c : Context) (k : Destination) (j : ℕ) → Sound z.is_mutable c → Ahead c j → Outside c (OwnCases cs) → Writes c.writable k → (scene : Scene) → AmidHere c scene → Mutable z.is_mutable (mutable_in_cases cs) → (t : IrType) → Asks z.place.classes (usable z) k t → TypedCases z.place.classes (usable z) scene t cs → (labels : List (List ℕ)) → OnceCases labels cs → CasesAlike z lawful c k (ir_meaning.branches z.place.classes z.low cs) (cases z.is_mutable z.code.sure c.targets k j cs).cases
 
   case_does : (n : ℤ) (ns : List ℤ) (t : Term) (cs : Cases) → TreeDoes z lawful low t → CasesDo cs → CasesDo (more_cases (n ∷ ns) t cs)
-  case_does n ns t cs does others c k j sound ahead out wr scene amid mut i asks typed labels once = with_keys (n ∷ ns) (ir_meaning.step z.place.classes z.low t) code.statements (ir_meaning.branches z.place.classes z.low cs) (cases z.is_mutable z.code.sure c.targets k code.next cs).cases (undeclared-case c code.statements (undeclared c (Own t) j code out_case ahead (written z.is_mutable z.code.sure c.targets t k j once.0))) (does (settled c) k j (sound-settled z c sound) (ahead-settled c j ahead) (outside-settled c (Own t) out_case) wr (tree c scene amid k t (of_first z.is_mutable (mutable_in t) (mutable_in_cases cs) (front t) mut) (yields z.place.classes lawful.base.ordered k t i asks (yields_there z.place.classes t i typed.0.1 typed.0.0)) typed.1 labels once.0)) (others c k code.next sound (ahead-later z lawful c j code.next (written z.is_mutable z.code.sure c.targets t k j once.0).onward ahead) (outside-part c (OwnCases (more_cases (n ∷ ns) t cs)) (OwnCases cs) (λ x o. inr o) out) wr scene amid (of_second z.is_mutable (mutable_in t) (mutable_in_cases cs) (front t) mut) i asks typed.2 labels once.1)
+  case_does n ns t cs does others c k j sound ahead out wr scene amid mut i asks typed labels once = with_keys (n ∷ ns) (ir_meaning.step z.place.classes z.low t) code.statements (ir_meaning.branches z.place.classes z.low cs) (cases z.is_mutable z.code.sure c.targets k code.next cs).cases (undeclared-case c code.statements (undeclared c (Own t) j code out_case ahead (written z.is_mutable z.code.sure c.targets t k j once.0))) (does (settled c) k j (sound-settled z c sound) (ahead-settled c j ahead) (outside-settled c (Own t) out_case) wr (tree c scene amid k t (of_first z.is_mutable (mutable_in t) (mutable_in_cases cs) (front t) mut) (yields z.place.classes lawful.base.ordered (usable z) k t i asks (yields_there z.place.classes (usable z) t i typed.0.1 typed.0.0)) typed.1 labels once.0)) (others c k code.next sound (ahead-later z lawful c j code.next (written z.is_mutable z.code.sure c.targets t k j once.0).onward ahead) (outside-part c (OwnCases (more_cases (n ∷ ns) t cs)) (OwnCases cs) (λ x o. inr o) out) wr scene amid (of_second z.is_mutable (mutable_in t) (mutable_in_cases cs) (front t) mut) i asks typed.2 labels once.1)
     where
       code : Code
       code = into z.is_mutable z.code.sure c.targets k j t
@@ -190,78 +191,82 @@ module _ (z : Setting) (lawful : Lawful z) (low : LowAlike z) where
       out_case = outside-part c (OwnCases (more_cases (n ∷ ns) t cs)) (Own t) (λ x o. inl o) out
 
   match_does : (p : Position) (e : Term) (cs : Cases) (d : Term) (t : IrType) → TreeDoes z lawful low e → CasesDo cs → TreeDoes z lawful low d → TreeDoes z lawful low (match_on p e cs d t)
-  match_does p e cs d t does_e do_cases does_d c k j sound ahead out wr fine = of_operands z lawful c k (piece z lawful low c.targets e ∷ []) j (ir_meaning.choose (ir_meaning.branches z.place.classes z.low cs) (ir_meaning.step z.place.classes z.low d)) (λ es i. switch_code p (first_of es) (cases z.is_mutable z.code.sure c.targets k i cs) (λ i. into z.is_mutable z.code.sure c.targets k i d)) sound ahead (operand_does z lawful low c j e does_e (outside-part c (Own (match_on p e cs d t)) (Own e) (λ x o. inl o) out) (part_of c fine.scene fine.amid e (of_first z.is_mutable (mutable_in e) (λ xs. mutable_in_cases cs (mutable_in d xs)) (front e) fine.written) Int fine.typed.0.meets.0 refl fine.typed.1 fine.around fine.once.0), tt) (one_final z lawful c k j (type_of_term e) (ir_meaning.choose (ir_meaning.branches z.place.classes z.low cs) (ir_meaning.step z.place.classes z.low d)) (λ es i. switch_code p (first_of es) (cases z.is_mutable z.code.sure c.targets k i cs) (λ i. into z.is_mutable z.code.sure c.targets k i d)) (match_final z lawful c k p (ir_meaning.branches z.place.classes z.low cs) (ir_meaning.step z.place.classes z.low d) (λ i. cases z.is_mutable z.code.sure c.targets k i cs) (λ i. into z.is_mutable z.code.sure c.targets k i d) j sound wr (λ i l. (written_cases z.is_mutable z.code.sure c.targets cs k i fine.once.1).onward) (λ i l ah. do_cases c k i sound ah (outside-part c (Own (match_on p e cs d t)) (OwnCases cs) (λ x o. inr (inl o)) out) wr fine.scene fine.amid (of_first z.is_mutable (mutable_in_cases cs) (mutable_in d) (front_cases cs) (of_second z.is_mutable (mutable_in e) (λ xs. mutable_in_cases cs (mutable_in d xs)) (front e) fine.written)) t fine.asks fine.typed.2 fine.around fine.once.1) (λ i l ah. undeclared-settled c (into z.is_mutable z.code.sure c.targets k i d).statements (undeclared c (Own d) i (into z.is_mutable z.code.sure c.targets k i d) out_default ah (written z.is_mutable z.code.sure c.targets d k i fine.once.2))) (λ i l ah. does_d (settled c) k i (sound-settled z c sound) (ahead-settled c i ah) (outside-settled c (Own d) out_default) wr (tree c fine.scene fine.amid k d (of_second z.is_mutable (mutable_in_cases cs) (mutable_in d) (front_cases cs) (of_second z.is_mutable (mutable_in e) (λ xs. mutable_in_cases cs (mutable_in d xs)) (front e) fine.written)) (yields z.place.classes lawful.base.ordered k d t fine.asks (yields_there z.place.classes d t fine.typed.0.built fine.typed.0.meets.2)) fine.typed.3 fine.around fine.once.2)) (type_of_term e)))
+  match_does p e cs d t does_e do_cases does_d c k j sound ahead out wr fine = of_operands z lawful c k (piece z lawful low c.targets e ∷ []) j (ir_meaning.choose (ir_meaning.branches z.place.classes z.low cs) (ir_meaning.step z.place.classes z.low d)) (λ es i. switch_code p (first_of es) (cases z.is_mutable z.code.sure c.targets k i cs) (λ i. into z.is_mutable z.code.sure c.targets k i d)) sound ahead (operand_does z lawful low c j e does_e (outside-part c (Own (match_on p e cs d t)) (Own e) (λ x o. inl o) out) (part_of c fine.scene fine.amid e (of_first z.is_mutable (mutable_in e) (λ xs. mutable_in_cases cs (mutable_in d xs)) (front e) fine.written) Int fine.typed.0.meets.0 refl fine.typed.1 fine.around fine.once.0), tt) (one_final z lawful c k j (type_of_term e) (ir_meaning.choose (ir_meaning.branches z.place.classes z.low cs) (ir_meaning.step z.place.classes z.low d)) (λ es i. switch_code p (first_of es) (cases z.is_mutable z.code.sure c.targets k i cs) (λ i. into z.is_mutable z.code.sure c.targets k i d)) (match_final z lawful c k p (ir_meaning.branches z.place.classes z.low cs) (ir_meaning.step z.place.classes z.low d) (λ i. cases z.is_mutable z.code.sure c.targets k i cs) (λ i. into z.is_mutable z.code.sure c.targets k i d) j sound wr (λ i l. (written_cases z.is_mutable z.code.sure c.targets cs k i fine.once.1).onward) (λ i l ah. do_cases c k i sound ah (outside-part c (Own (match_on p e cs d t)) (OwnCases cs) (λ x o. inr (inl o)) out) wr fine.scene fine.amid (of_first z.is_mutable (mutable_in_cases cs) (mutable_in d) (front_cases cs) (of_second z.is_mutable (mutable_in e) (λ xs. mutable_in_cases cs (mutable_in d xs)) (front e) fine.written)) t fine.asks fine.typed.2 fine.around fine.once.1) (λ i l ah. undeclared-settled c (into z.is_mutable z.code.sure c.targets k i d).statements (undeclared c (Own d) i (into z.is_mutable z.code.sure c.targets k i d) out_default ah (written z.is_mutable z.code.sure c.targets d k i fine.once.2))) (λ i l ah. does_d (settled c) k i (sound-settled z c sound) (ahead-settled c i ah) (outside-settled c (Own d) out_default) wr (tree c fine.scene fine.amid k d (of_second z.is_mutable (mutable_in_cases cs) (mutable_in d) (front_cases cs) (of_second z.is_mutable (mutable_in e) (λ xs. mutable_in_cases cs (mutable_in d xs)) (front e) fine.written)) (yields z.place.classes lawful.base.ordered (usable z) k d t fine.asks (yields_there z.place.classes (usable z) d t fine.typed.0.built fine.typed.0.meets.2)) fine.typed.3 fine.around fine.once.2)) (type_of_term e)))
     where
       out_default : Outside c (Own d)
       out_default = outside-part c (Own (match_on p e cs d t)) (Own d) (λ x o. inr (inr o)) out
 
   -- a receiver of a class, by what is known of it
   receiver_of : (c : Context) (j : ℕ) (e : Term) (d : List ℕ) (own : List ℕ → Type 0) → ((x : List ℕ) → Own e x → own x) → TreeDoes z lawful low e → Outside c own → (scene : Scene) → AmidHere c scene → Mutable z.is_mutable (mutable_in e) → IsSub z.place.classes (type_of_term e) (class_type d) → may_check (usable z) scene.sure e ≡ true → Typed z.place.classes (usable z) scene e → (labels : List (List ℕ)) → Once labels e → OperandDoes z lawful c j (receiver_piece z lawful low c.targets e)
-  receiver_of c j e d own part does out scene amid mut sub may typed labels once = let known = may_be_checked (usable z) z.code.sure e (subst (λ (q : List ℕ → Bool). may_check (usable z) q e ≡ true) amid.surely may) in receiver_does z lawful low c j e does (outside-part c own (Own e) part out) (part_of c scene amid e mut (class_type d) sub (class_has_value d) typed labels once) known.0 known.1
+  receiver_of c j e d own part does out scene amid mut sub may typed labels once = receiver_does z lawful low c j e does (outside-part c own (Own e) part out) (part_of c scene amid e mut (class_type d) sub (class_has_value d) typed labels once) (may_be_checked (usable z) z.code.sure e (subst (λ (q : List ℕ → Bool). may_check (usable z) q e ≡ true) amid.surely may)) (value_or_nothing z.place.classes lawful.base.ordered (type_of_term e) (class_type d) sub (class_has_value d))
 
   select_by : (p : Position) (e : Term) (d f : List ℕ) (t : IrType) → TreeDoes z lawful low e → TreeDoes z lawful low (select p e d f t)
-  select_by p e d f t does_e c k j sound ahead out wr fine = select_does z lawful low p c k j e d f t sound ahead wr (fits-value z.place.classes lawful.base.ordered k t fine.asks (lawful.base.fields d f t its.0).value) its.0 (receiver_of c j e d (Own e) (λ x o. o) does_e out fine.scene fine.amid fine.written fine.typed.0.meets.0 its.1 fine.typed.1 fine.around fine.once)
+  select_by p e d f t does_e c k j sound ahead out wr fine = select_does z lawful low p c k j e d f t sound ahead wr (fits-value z.place.classes lawful.base.ordered (usable z) k t fine.asks (lawful.base.fields d f t its.0).value) its.0 (receiver_of c j e d (Own e) (λ x o. o) does_e out fine.scene fine.amid fine.written fine.typed.0.meets.0 its.1 fine.typed.1 fine.around fine.once)
     where
       its : ((usable z).field d f t ≡ true) × (may_check (usable z) fine.scene.sure e ≡ true)
       its = and_parts ((usable z).field d f t) (may_check (usable z) fine.scene.sure e) fine.typed.0.built
 
-  set_by : (p q : Position) (o : Term) (d f : List ℕ) (t : IrType) (e : Term) → TreeDoes z lawful low o → (c : Context) (k : Destination) (j : ℕ) → Sound z.is_mutable c → Ahead c j → Outside c (Own (assign p (select q o d f t) e)) → FineHere z lawful low c k (assign p (select q o d f t) e) → IsDiscard k → Does z lawful c k j (assign p (select q o d f t) e)
-  set_by p q o d f t e does_o c _ j sound ahead out fine is_discard = set_does z lawful low p q c j o d f t e sound ahead there.0 (fits-sub z.place.classes lawful.base.ordered t (type_of_term e) own.0 own.1) right.0 (plainly (part_of c fine.scene fine.amid e (other_mutable z.is_mutable o e fine.written) t own.0 (lawful.base.fields d f t there.0).value fine.typed.2 fine.around fine.once.1)) (receiver_of c j o d (Own (assign p (select q o d f t) e)) (λ x i. inl i) does_o out fine.scene fine.amid (one_mutable z.is_mutable o e fine.written) fine.typed.1.0.meets.0 known.0 fine.typed.1.1 fine.around fine.once.0)
+  set_by : (p q : Position) (o : Term) (d f : List ℕ) (t : IrType) (e : Term) → TreeDoes z lawful low o → TreeDoes z lawful low e → (c : Context) (k : Destination) (j : ℕ) → Sound z.is_mutable c → Ahead c j → Outside c (Own (assign p (select q o d f t) e)) → FineHere z lawful low c k (assign p (select q o d f t) e) → IsDiscard k → Does z lawful c k j (assign p (select q o d f t) e)
+  set_by p q o d f t e does_o does_e c _ j sound ahead out fine is_discard = by (part_of c fine.scene fine.amid e (other_mutable z.is_mutable o e fine.written) t own.0 (lawful.base.fields d f t there.0).value fine.typed.2 fine.around fine.once.1)
     where
-      there : ((usable z).field d f t ≡ true) × ((may_check (usable z) fine.scene.sure o && (is_plain e && not (is_boxed t e))) ≡ true)
-      there = and_parts ((usable z).field d f t) (may_check (usable z) fine.scene.sure o && (is_plain e && not (is_boxed t e))) fine.typed.0.built
+      there : ((usable z).field d f t ≡ true) × ((may_check (usable z) fine.scene.sure o && may_box (usable z) t e) ≡ true)
+      there = and_parts ((usable z).field d f t) (may_check (usable z) fine.scene.sure o && may_box (usable z) t e) fine.typed.0.built
 
-      known : (may_check (usable z) fine.scene.sure o ≡ true) × ((is_plain e && not (is_boxed t e)) ≡ true)
-      known = and_parts (may_check (usable z) fine.scene.sure o) (is_plain e && not (is_boxed t e)) there.1
+      known : (may_check (usable z) fine.scene.sure o ≡ true) × (may_box (usable z) t e ≡ true)
+      known = and_parts (may_check (usable z) fine.scene.sure o) (may_box (usable z) t e) there.1
 
-      right : (is_plain e ≡ true) × (not (is_boxed t e) ≡ true)
-      right = and_parts (is_plain e) (not (is_boxed t e)) known.1
+      own : FitsType z.place.classes (usable z) e t
+      own = fits_there z.place.classes (usable z) e t known.1 fine.typed.0.meets.1
 
-      own : FitsType z.place.classes e t
-      own = fits_there z.place.classes e t right.1 fine.typed.0.meets.1
+      fit : StandsFor z t (type_of_term e)
+      fit = stands-for z lawful t (type_of_term e) own.0 own.1
 
-      plainly : FineOperand z.place.classes z.is_mutable (usable z) z.code c.scope e (λ y. FineHere z lawful low c (to_variable y (type_of_term e)) e) → Plain z.place.classes (usable z) z.code c.scope e
-      plainly (inl h) = h
-      plainly (inr h) = absurd (impossible (sym h.0 ∙ right.0))
+      object : OperandDoes z lawful c j (receiver_piece z lawful low c.targets o)
+      object = receiver_of c j o d (Own (assign p (select q o d f t) e)) (λ x i. inl i) does_o out fine.scene fine.amid (one_mutable z.is_mutable o e fine.written) fine.typed.1.0.meets.0 known.0 fine.typed.1.1 fine.around fine.once.0
+
+      by : FineOperand z.place.classes z.is_mutable (usable z) z.code c.scope e (λ y. FineHere z lawful low c (to_variable y (type_of_term e)) e) → Does z lawful c discard j (assign p (select q o d f t) e)
+      by (inl h) = set_does z lawful low p q c j o d f t e sound ahead there.0 fit h.plain h object
+      by (inr h) = set_spilled z lawful low p q c j o d f t e sound ahead there.0 fit h.0 object (operand_does z lawful low c j e does_e (outside-part c (Own (assign p (select q o d f t) e)) (Own e) (λ x i. inr i) out) (inr h))
 
   new_by : (p : Position) (d : List ℕ) (m : MethodName) (ts : Terms) → OperandsFine ts → TreeDoes z lawful low (new_object p d m ts)
-  new_by p d m ts do_all c k j sound ahead out wr fine = new_does z lawful low p c k j d m ts sound ahead wr (fits-value z.place.classes lawful.base.ordered k (class_type d) fine.asks (class_has_value d)) (is_linked z.place.classes ((usable z).built (member d Constructor m)) ts m.params its.1) its.0 (lawful.base.objects d its.0) (fit-all z.place.classes lawful.base.ordered ts m.params arguments) (do_all c j out fine.scene fine.amid fine.written m.params arguments fine.typed.1 fine.around fine.once)
+  new_by p d m ts do_all c k j sound ahead out wr fine = new_does z lawful low p c k j d m ts sound ahead wr (fits-value z.place.classes lawful.base.ordered (usable z) k (class_type d) fine.asks (class_has_value d)) (is_linked z.place.classes (usable z) ((usable z).built (member d Constructor m)) ts m.params its.1) its.0 (lawful.base.objects d its.0) (stand-for-all z lawful ts m.params arguments) (do_all c j out fine.scene fine.amid fine.written m.params arguments fine.typed.1 fine.around fine.once)
     where
-      its : ((usable z).made d ≡ true) × (((usable z).built (member d Constructor m) && not (any_is_boxed m.params ts)) ≡ true)
-      its = and_parts ((usable z).made d) ((usable z).built (member d Constructor m) && not (any_is_boxed m.params ts)) fine.typed.0.built
+      its : ((usable z).made d ≡ true) × (((usable z).built (member d Constructor m) && may_pass (usable z) m.params ts) ≡ true)
+      its = and_parts ((usable z).made d) ((usable z).built (member d Constructor m) && may_pass (usable z) m.params ts) fine.typed.0.built
 
-      arguments : ArgumentsFit z.place.classes ts m.params
-      arguments = arguments_there z.place.classes ((usable z).built (member d Constructor m)) ts m.params its.1 fine.typed.0.finds fine.typed.0.meets.1
+      arguments : ArgumentsFit z.place.classes (usable z) ts m.params
+      arguments = arguments_there z.place.classes (usable z) ((usable z).built (member d Constructor m)) ts m.params its.1 fine.typed.0.finds fine.typed.0.meets.1
 
   throw_by : (p : Position) (e : Term) → TreeDoes z lawful low e → TreeDoes z lawful low (throw p e)
-  throw_by p e does_e c k j sound ahead out wr fine = throw_does z lawful low p c k j e sound ahead (fits-sub z.place.classes lawful.base.ordered Any (type_of_term e) own.0 own.1) (operand_does z lawful low c j e does_e out (part_of c fine.scene fine.amid e fine.written Any own.0 refl fine.typed.1 fine.around fine.once))
+  throw_by p e does_e c k j sound ahead out wr fine = throw_does z lawful low p c k j e sound ahead (stands-for z lawful Any (type_of_term e) own.0 own.1) (operand_does z lawful low c j e does_e out (part_of c fine.scene fine.amid e fine.written Any own.0 refl fine.typed.1 fine.around fine.once))
     where
-      own : FitsType z.place.classes e Any
-      own = fits_there z.place.classes e Any (and_parts (usable z).objects (not (is_boxed Any e)) fine.typed.0.built).1 fine.typed.0.meets
+      own : FitsType z.place.classes (usable z) e Any
+      own = fits_there z.place.classes (usable z) e Any (and_parts (usable z).objects (may_box (usable z) Any e) fine.typed.0.built).1 fine.typed.0.meets
 
   this_by : (p : Position) (t : IrType) → TreeDoes z lawful low (this_ref p t)
-  this_by p t c k j sound ahead out wr fine = this_does z lawful low p c k j t sound wr (fits-value z.place.classes lawful.base.ordered k t fine.asks (subst HasValue (sym fine.typed.finds.1) (class_has_value fine.scene.owner))) (plain_here c k fine refl tt)
+  this_by p t c k j sound ahead out wr fine = this_does z lawful low p c k j t sound wr (fits-value z.place.classes lawful.base.ordered (usable z) k t fine.asks (subst HasValue (sym fine.typed.finds.1) (class_has_value fine.scene.owner))) (plain_here c k fine refl tt)
 
-  -- a call on a receiver: of a private member, or of a constructor, which has no value
+  -- a call on a receiver: of a private or a public member, or of a constructor, which has no value
+  receive_by : (p : Position) (e : Term) (d : List ℕ) (n : Namespace) (m : MethodName) (ts : Terms) (t : IrType) → TreeDoes z lawful low e → OperandsFine ts → (c : Context) (k : Destination) (j : ℕ) → Sound z.is_mutable c → Ahead c j → Outside c (Own (apply_statically p e d n m ts t)) → Writes c.writable k → (fine : FineHere z lawful low c k (apply_statically p e d n m ts t)) → Received z.place.classes (usable z) (may_check (usable z) fine.scene.sure) e d n m ts → Does z lawful c k j (apply_statically p e d n m ts t)
+  receive_by p e d n m ts t does_e do_all c k j sound ahead out wr fine its = receive_does z lawful low p c k j e d n m ts t sound ahead wr (fits z.place.classes lawful.base.ordered (usable z) k t fine.asks (result_is m.result t fine.typed.0.meets.1)) its.there fine.typed.0.meets.1 (stands-for z lawful (class_type d) (type_of_term e) its.below its.stands) (stand-for-all z lawful ts m.params its.arguments) (receiver_of c j e d (Own (apply_statically p e d n m ts t)) (λ x o. inl o) does_e out fine.scene fine.amid (of_first z.is_mutable (mutable_in e) (mutable_in_all ts) (front e) fine.written) fine.typed.0.meets.2 its.may_be fine.typed.1 fine.around fine.once.0, do_all c j (outside-part c (Own (apply_statically p e d n m ts t)) (OwnAll ts) (λ x o. inr o) out) fine.scene fine.amid (of_second z.is_mutable (mutable_in e) (mutable_in_all ts) (front e) fine.written) m.params its.arguments fine.typed.2 fine.around fine.once.1)
+
   construct_by : (p : Position) (e : Term) (d : List ℕ) (m : MethodName) (ts : Terms) (t : IrType) → TreeDoes z lawful low e → OperandsFine ts → (c : Context) (k : Destination) (j : ℕ) → Sound z.is_mutable c → Ahead c j → Outside c (Own (apply_statically p e d Constructor m ts t)) → (fine : FineHere z lawful low c k (apply_statically p e d Constructor m ts t)) → Constructed z.place.classes (usable z) fine.scene e d m ts t → IsDiscard k → Does z lawful c k j (apply_statically p e d Constructor m ts t)
-  construct_by p e d m ts t does_e do_all c _ j sound ahead out fine its is_discard = construct_does z lawful low p c j e d m ts t sound ahead its.there its.unboxed its.on_class its.fit (receiver_does z lawful low c j e does_e (outside-part c (Own (apply_statically p e d Constructor m ts t)) (Own e) (λ x o. inl o) out) (part_of c fine.scene fine.amid e (of_first z.is_mutable (mutable_in e) (mutable_in_all ts) (front e) fine.written) (class_type d) fine.typed.0.meets.2 (class_has_value d) fine.typed.1 fine.around fine.once.0) (inl (subst (λ (q : List ℕ → Bool). is_sure q e ≡ true) fine.amid.surely its.surely)) its.value, do_all c j (outside-part c (Own (apply_statically p e d Constructor m ts t)) (OwnAll ts) (λ x o. inr o) out) fine.scene fine.amid (of_second z.is_mutable (mutable_in e) (mutable_in_all ts) (front e) fine.written) m.params its.arguments fine.typed.2 fine.around fine.once.1)
+  construct_by p e d m ts t does_e do_all c _ j sound ahead out fine its is_discard = construct_does z lawful low p c j e d m ts t sound ahead its.there (stands-for z lawful (class_type d) (type_of_term e) its.below its.stands) (stand-for-all z lawful ts m.params its.arguments) (receiver_does z lawful low c j e does_e (outside-part c (Own (apply_statically p e d Constructor m ts t)) (Own e) (λ x o. inl o) out) (part_of c fine.scene fine.amid e (of_first z.is_mutable (mutable_in e) (mutable_in_all ts) (front e) fine.written) (class_type d) fine.typed.0.meets.2 (class_has_value d) fine.typed.1 fine.around fine.once.0) (inl (subst (λ (q : List ℕ → Bool). is_sure q e ≡ true) fine.amid.surely its.surely)) (inl its.value), do_all c j (outside-part c (Own (apply_statically p e d Constructor m ts t)) (OwnAll ts) (λ x o. inr o) out) fine.scene fine.amid (of_second z.is_mutable (mutable_in e) (mutable_in_all ts) (front e) fine.written) m.params its.arguments fine.typed.2 fine.around fine.once.1)
 
   statically_does : (p : Position) (e : Term) (d : List ℕ) (n : Namespace) (m : MethodName) (ts : Terms) (t : IrType) → TreeDoes z lawful low e → OperandsFine ts → TreeDoes z lawful low (apply_statically p e d n m ts t)
-  statically_does p e d Private m ts t does_e do_all c k j sound ahead out wr fine = receive_does z lawful low p c k j e d m ts t sound ahead wr (fits z.place.classes lawful.base.ordered k t fine.asks (result_is m.result t fine.typed.0.meets.1)) its.there fine.typed.0.meets.1 its.unboxed its.on_class its.fit (receiver_of c j e d (Own (apply_statically p e d Private m ts t)) (λ x o. inl o) does_e out fine.scene fine.amid (of_first z.is_mutable (mutable_in e) (mutable_in_all ts) (front e) fine.written) fine.typed.0.meets.2 its.may_be fine.typed.1 fine.around fine.once.0, do_all c j (outside-part c (Own (apply_statically p e d Private m ts t)) (OwnAll ts) (λ x o. inr o) out) fine.scene fine.amid (of_second z.is_mutable (mutable_in e) (mutable_in_all ts) (front e) fine.written) m.params its.arguments fine.typed.2 fine.around fine.once.1)
-    where
-      its : Received z.place.classes (usable z) (may_check (usable z) fine.scene.sure) e d m ts
-      its = received z.place.classes lawful.base.ordered (usable z) (may_check (usable z) fine.scene.sure) e d m ts fine.typed.0.built fine.typed.0.finds fine.typed.0.meets.2 fine.typed.0.meets.3
-  statically_does p e d Constructor m ts t does_e do_all c k j sound ahead out wr fine = let its = constructed z.place.classes lawful.base.ordered (usable z) fine.scene p e d m ts t fine.typed in construct_by p e d m ts t does_e do_all c k j sound ahead out fine its (given_up z.place.classes lawful.base.ordered k (subst (Asks z.place.classes k) its.none fine.asks))
+  statically_does p e d Private m ts t does_e do_all c k j sound ahead out wr fine = receive_by p e d Private m ts t does_e do_all c k j sound ahead out wr fine (received z.place.classes (usable z) (may_check (usable z) fine.scene.sure) e d Private m ts fine.typed.0.built fine.typed.0.finds fine.typed.0.meets.2 fine.typed.0.meets.3)
+  statically_does p e d Public m ts t does_e do_all c k j sound ahead out wr fine = receive_by p e d Public m ts t does_e do_all c k j sound ahead out wr fine (received z.place.classes (usable z) (may_check (usable z) fine.scene.sure) e d Public m ts fine.typed.0.built fine.typed.0.finds fine.typed.0.meets.2 fine.typed.0.meets.3)
+  statically_does p e d Constructor m ts t does_e do_all c k j sound ahead out wr fine = let its = constructed z.place.classes (usable z) fine.scene p e d m ts t fine.typed in construct_by p e d m ts t does_e do_all c k j sound ahead out fine its (given_up z.place.classes lawful.base.ordered (usable z) k (subst (Asks z.place.classes (usable z) k) its.none fine.asks))
   statically_does p e d n m ts t does_e do_all c k j sound ahead out wr fine = impossible fine.typed.0.built
 
   mutual
     pub does : (t : Term) → TreeDoes z lawful low t
-    does (var_def p x t b e) = λ c k j sound ahead out wr fine. var_by p x t b e (does e) c k j sound ahead out fine (given_up z.place.classes lawful.base.ordered k fine.asks)
-    does (skip p) = λ c k j sound ahead out wr fine. skip_by p c k (given_up z.place.classes lawful.base.ordered k fine.asks)
+    does (var_def p x t b e) = λ c k j sound ahead out wr fine. var_by p x t b e (does e) c k j sound ahead out fine (given_up z.place.classes lawful.base.ordered (usable z) k fine.asks)
+    does (skip p) = λ c k j sound ahead out wr fine. skip_by p c k (given_up z.place.classes lawful.base.ordered (usable z) k fine.asks)
     does (block_of p ts) = λ c k j sound ahead out wr fine. block_does ts c k j sound ahead out wr fine.scene fine.amid fine.written NoType fine.asks fine.typed fine.around fine.once
     does (labeled p l t e) = labeled_does p l t e (does e)
-    does (assign p (var_ref q x t) e) = λ c k j sound ahead out wr fine. assign_by p q x t e (does e) c k j sound ahead out fine (given_up z.place.classes lawful.base.ordered k fine.asks)
-    does (assign p (select q o d f t) e) = λ c k j sound ahead out wr fine. set_by p q o d f t e (does o) c k j sound ahead out fine (given_up z.place.classes lawful.base.ordered k fine.asks)
+    does (assign p (var_ref q x t) e) = λ c k j sound ahead out wr fine. assign_by p q x t e (does e) c k j sound ahead out fine (given_up z.place.classes lawful.base.ordered (usable z) k fine.asks)
+    does (assign p (select q o d f t) e) = λ c k j sound ahead out wr fine. set_by p q o d f t e (does o) (does e) c k j sound ahead out fine (given_up z.place.classes lawful.base.ordered (usable z) k fine.asks)
     does (return_to p e l) = return_does p e l (does e)
     does (if_then p a b d t) = if_does p a b d t (does a) (does b) (does d)
     does (while_loop p a b) = while_does z lawful low p a b (does a) (does b)
@@ -272,20 +277,20 @@ module _ (z : Setting) (lawful : Lawful z) (low : LowAlike z) where
     does (select p e d f t) = select_by p e d f t (does e)
     does (apply_statically p e d n m ts t) = statically_does p e d n m ts t (does e) (operands_do ts)
     does (this_ref p t) = this_by p t
-    does (apply_static p cn n m ts t) = λ c k j sound ahead out wr fine. call_does z lawful low p c k j m cn n ts t sound ahead wr (fits z.place.classes lawful.base.ordered k t fine.asks (result_is m.result t fine.typed.0.meets.1)) (is_linked z.place.classes ((usable z).linked (member cn n m)) ts m.params fine.typed.0.built) fine.typed.0.meets.1 (fit-all z.place.classes lawful.base.ordered ts m.params (arguments_there z.place.classes ((usable z).linked (member cn n m)) ts m.params fine.typed.0.built fine.typed.0.finds fine.typed.0.meets.2)) (operands_do ts c j out fine.scene fine.amid fine.written m.params (arguments_there z.place.classes ((usable z).linked (member cn n m)) ts m.params fine.typed.0.built fine.typed.0.finds fine.typed.0.meets.2) fine.typed.1 fine.around fine.once)
+    does (apply_static p cn n m ts t) = λ c k j sound ahead out wr fine. call_does z lawful low p c k j m cn n ts t sound ahead wr (fits z.place.classes lawful.base.ordered (usable z) k t fine.asks (result_is m.result t fine.typed.0.meets.1)) (is_linked z.place.classes (usable z) ((usable z).linked (member cn n m)) ts m.params fine.typed.0.built) fine.typed.0.meets.1 (stand-for-all z lawful ts m.params (arguments_there z.place.classes (usable z) ((usable z).linked (member cn n m)) ts m.params fine.typed.0.built fine.typed.0.finds fine.typed.0.meets.2)) (operands_do ts c j out fine.scene fine.amid fine.written m.params (arguments_there z.place.classes (usable z) ((usable z).linked (member cn n m)) ts m.params fine.typed.0.built fine.typed.0.finds fine.typed.0.meets.2) fine.typed.1 fine.around fine.once)
     does (unary_op p o e) = unary_does p o e (does e)
     does (binary_op p o e d) = binary_does p o e d (does e) (does d)
-    does (undefined_literal p) = λ c k j sound ahead out wr fine. quiet z lawful low (undefined_literal p) c k p core.undefined_value j (λ env. ir.undefined) sound wr (fits-value z.place.classes lawful.base.ordered k Undefined fine.asks refl) (plain_here c k fine refl tt) refl (λ w env s sc r. refl)
-    does (null_literal p) = λ c k j sound ahead out wr fine. quiet z lawful low (null_literal p) c k p core.null_value j (λ env. ir.null) sound wr (fits-value z.place.classes lawful.base.ordered k Null fine.asks refl) (plain_here c k fine refl tt) refl (λ w env s sc r. refl)
-    does (boolean_literal p b) = λ c k j sound ahead out wr fine. quiet z lawful low (boolean_literal p b) c k p (core.boolean_value b) j (λ env. ir.boolean b) sound wr (fits-value z.place.classes lawful.base.ordered k Boolean fine.asks refl) (plain_here c k fine refl tt) refl (λ w env s sc r. refl)
-    does (char_literal p n) = λ c k j sound ahead out wr fine. quiet z lawful low (char_literal p n) c k p (core.number_value (pos n)) j (λ env. ir.char n) sound wr (fits-value z.place.classes lawful.base.ordered k Char fine.asks refl) (plain_here c k fine refl tt) refl (λ w env s sc r. refl)
-    does (long_literal p n) = λ c k j sound ahead out wr fine. quiet z lawful low (long_literal p n) c k p (core.long_value n) j (λ env. ir.long n) sound wr (fits-value z.place.classes lawful.base.ordered k Long fine.asks refl) (plain_here c k fine refl tt) refl (λ w env s sc r. refl)
-    does (byte_literal p n) = λ c k j sound ahead out wr fine. quiet z lawful low (byte_literal p n) c k p (core.number_value n) j (λ env. ir.number n) sound wr (fits-value z.place.classes lawful.base.ordered k Byte fine.asks refl) (plain_here c k fine refl tt) refl (λ w env s sc r. refl)
-    does (short_literal p n) = λ c k j sound ahead out wr fine. quiet z lawful low (short_literal p n) c k p (core.number_value n) j (λ env. ir.number n) sound wr (fits-value z.place.classes lawful.base.ordered k Short fine.asks refl) (plain_here c k fine refl tt) refl (λ w env s sc r. refl)
-    does (int_literal p n) = λ c k j sound ahead out wr fine. quiet z lawful low (int_literal p n) c k p (core.number_value n) j (λ env. ir.number n) sound wr (fits-value z.place.classes lawful.base.ordered k Int fine.asks refl) (plain_here c k fine refl tt) refl (λ w env s sc r. refl)
-    does (string_literal p us) = λ c k j sound ahead out wr fine. quiet z lawful low (string_literal p us) c k p (core.text_value us) j (λ env. ir.text us) sound wr (fits-value z.place.classes lawful.base.ordered k String fine.asks refl) (plain_here c k fine refl tt) refl (λ w env s sc r. refl)
-    does (var_ref p x t) = λ c k j sound ahead out wr fine. quiet z lawful low (var_ref p x t) c k p (core.variable_use (core.named x)) j (λ env. value_of z lawful low (env.locals x)) sound wr (fits-value z.place.classes lawful.base.ordered k t fine.asks (local-value fine.scene x t fine.amid.values fine.typed.finds)) (plain_here c k fine refl tt) refl (λ w env s sc r. local_at z lawful low w t (env.locals x) (sc.bindings (z.place.name (core.named x))) env s (r.sees.locals x t (fine.amid.seen x t (there fine.scene x t fine.typed.finds))))
-    does (log_line p e) = λ c k j sound ahead out wr fine. log_by p e (does e) c k j sound ahead out fine (given_up z.place.classes lawful.base.ordered k fine.asks)
+    does (undefined_literal p) = λ c k j sound ahead out wr fine. quiet z lawful low (undefined_literal p) c k p core.undefined_value j (λ env. ir.undefined) sound wr (fits-value z.place.classes lawful.base.ordered (usable z) k Undefined fine.asks refl) (plain_here c k fine refl tt) refl (λ w env s sc r. refl)
+    does (null_literal p) = λ c k j sound ahead out wr fine. quiet z lawful low (null_literal p) c k p core.null_value j (λ env. ir.null) sound wr (fits-value z.place.classes lawful.base.ordered (usable z) k Null fine.asks refl) (plain_here c k fine refl tt) refl (λ w env s sc r. refl)
+    does (boolean_literal p b) = λ c k j sound ahead out wr fine. quiet z lawful low (boolean_literal p b) c k p (core.boolean_value b) j (λ env. ir.boolean b) sound wr (fits-value z.place.classes lawful.base.ordered (usable z) k Boolean fine.asks refl) (plain_here c k fine refl tt) refl (λ w env s sc r. refl)
+    does (char_literal p n) = λ c k j sound ahead out wr fine. quiet z lawful low (char_literal p n) c k p (core.number_value (pos n)) j (λ env. ir.char n) sound wr (fits-value z.place.classes lawful.base.ordered (usable z) k Char fine.asks refl) (plain_here c k fine refl tt) refl (λ w env s sc r. refl)
+    does (long_literal p n) = λ c k j sound ahead out wr fine. quiet z lawful low (long_literal p n) c k p (core.long_value n) j (λ env. ir.long n) sound wr (fits-value z.place.classes lawful.base.ordered (usable z) k Long fine.asks refl) (plain_here c k fine refl tt) refl (λ w env s sc r. refl)
+    does (byte_literal p n) = λ c k j sound ahead out wr fine. quiet z lawful low (byte_literal p n) c k p (core.number_value n) j (λ env. ir.number n) sound wr (fits-value z.place.classes lawful.base.ordered (usable z) k Byte fine.asks refl) (plain_here c k fine refl tt) refl (λ w env s sc r. refl)
+    does (short_literal p n) = λ c k j sound ahead out wr fine. quiet z lawful low (short_literal p n) c k p (core.number_value n) j (λ env. ir.number n) sound wr (fits-value z.place.classes lawful.base.ordered (usable z) k Short fine.asks refl) (plain_here c k fine refl tt) refl (λ w env s sc r. refl)
+    does (int_literal p n) = λ c k j sound ahead out wr fine. quiet z lawful low (int_literal p n) c k p (core.number_value n) j (λ env. ir.number n) sound wr (fits-value z.place.classes lawful.base.ordered (usable z) k Int fine.asks refl) (plain_here c k fine refl tt) refl (λ w env s sc r. refl)
+    does (string_literal p us) = λ c k j sound ahead out wr fine. quiet z lawful low (string_literal p us) c k p (core.text_value us) j (λ env. ir.text us) sound wr (fits-value z.place.classes lawful.base.ordered (usable z) k String fine.asks refl) (plain_here c k fine refl tt) refl (λ w env s sc r. refl)
+    does (var_ref p x t) = λ c k j sound ahead out wr fine. quiet z lawful low (var_ref p x t) c k p (core.variable_use (core.named x)) j (λ env. value_of z lawful low (env.locals x)) sound wr (fits-value z.place.classes lawful.base.ordered (usable z) k t fine.asks (local-value fine.scene x t fine.amid.values fine.typed.finds)) (plain_here c k fine refl tt) refl (λ w env s sc r. local_at z lawful low w t (env.locals x) (sc.bindings (z.place.name (core.named x))) env s (r.sees.locals x t (fine.amid.seen x t (there fine.scene x t fine.typed.finds))))
+    does (log_line p e) = λ c k j sound ahead out wr fine. log_by p e (does e) c k j sound ahead out fine (given_up z.place.classes lawful.base.ordered (usable z) k fine.asks)
     does _ = λ c k j sound ahead out wr fine. impossible fine.typed.built
 
     pub block_does : (ts : Terms) → BlockDoes ts

@@ -153,7 +153,7 @@ module _ (z : Setting) (lawful : Lawful z) where
   OperandsDo c j [] = Unit {1}
   OperandsDo c j (t ∷ ts) = OperandDoes c j t × OperandsDo c j ts
 
-  operands-later : (c : Context) (i j : ℕ) (ts : List Piece) → i ≤ j → OperandsDo c i ts → OperandsDo c j ts
+  pub operands-later : (c : Context) (i j : ℕ) (ts : List Piece) → i ≤ j → OperandsDo c i ts → OperandsDo c j ts
   operands-later c i j [] h d = tt
   operands-later c i j (t ∷ ts) h (inl e, ds) = (inl e, operands-later c i j ts h ds)
   operands-later c i j (t ∷ ts) h (inr e, ds) = (inr (e.0, e.1, e.2, λ p k l. e.3 p k (omega arith)), operands-later c i j ts h ds)
@@ -224,31 +224,35 @@ module _ (z : Setting) (lawful : Lawful z) where
   spill_all : (c : Context) (k : Destination) (from : World) (before : js.Scope) (t : Piece) (ts : List Piece) → all_plain (operands_in (t ∷ ts)) ≡ true → (p : core.Variable → Type 0) (j : ℕ) (act : List ir.Value → ir.Run) (made : List core.Expression → ℕ → Code) (w : World) (env : ir.Env) (s : ir.State) (sc : js.Scope) (u : js.State) → OperandsDo c j (t ∷ ts) → Sound z.is_mutable (keeping c p) → Ahead (keeping c p) j → Final c k from before p j sc w (types (t ∷ ts)) act made → Ready z.place z.code c.scope c.writable w env sc → Keeps z.place c.kept before sc → SameState z.place w s u → Ends z lawful c c.scope k from before (ir_meaning.in_order (runs (t ∷ ts)) act env s) (made (texts (operands_in (t ∷ ts))) j).statements sc u
   spill_all c k from before t ts e p j act made w env s sc u ds sound ahead final r ks same = final p j (runs (t ∷ ts)) (texts (operands_in (t ∷ ts))) w env s sc u (λ y h. h) sound ahead (omega arith) (grows-refl w) r ks (keeps-refl z p sc) same (all_plain_alike c j (t ∷ ts) e ds w env sc r.sees)
 
-  -- a fixed operand in front of one that isn't plain
-  spill_fixed : (c : Context) (k : Destination) (from : World) (before : js.Scope) (t : Piece) (ts : List Piece) → SpillDoes c k from before ts → t.here.fixed ≡ true → Plainly c t → (p : core.Variable → Type 0) (j : ℕ) (act : List ir.Value → ir.Run) (made : List core.Expression → ℕ → Code) (w : World) (env : ir.Env) (s : ir.State) (sc : js.Scope) (u : js.State) → OperandsDo c j ts → Extends c p → Sound z.is_mutable (keeping c p) → Ahead (keeping c p) j → Final c k from before p j sc w (types (t ∷ ts)) act made → Grows from w → Ready z.place z.code c.scope c.writable w env sc → Keeps z.place c.kept before sc → SameState z.place w s u → Ends z lawful c c.scope k from before (ir_meaning.in_order (runs (t ∷ ts)) act env s) (then_use (spill (operands_in ts) j) (λ es. made (t.here.text ∷ es))).statements sc u
-  spill_fixed c k from before t ts others e plain p j act made w env s sc u ds sub sound ahead final g r ks same = known (plain.fixes e p sound w env sc r.sees)
-    where
-      known : FixedOrWrong p w env sc t.here.tpe t.run t.here.text → Ends z lawful c c.scope k from before (ir_meaning.in_order (runs (t ∷ ts)) act env s) (then_use (spill (operands_in ts) j) (λ es. made (t.here.text ∷ es))).statements sc u
-      known (inr f) = subst (λ o. Ends z lawful c c.scope k from before (ir.go_on o (λ v. ir_meaning.in_order (runs ts) (λ vs. act (v ∷ vs)))) (then_use (spill (operands_in ts) j) (λ es. made (t.here.text ∷ es))).statements sc u) (sym (f s)) (sim_wrong z.direction (Came z.place z.code c c.scope k from before) _)
-      known (inl f) = subst (λ o. Ends z lawful c c.scope k from before (ir.go_on o (λ v. ir_meaning.in_order (runs ts) (λ vs. act (v ∷ vs)))) (then_use (spill (operands_in ts) j) (λ es. made (t.here.text ∷ es))).statements sc u) (sym (f.gives s)) (others p j (λ vs. act (f.value ∷ vs)) (λ es. made (t.here.text ∷ es)) w env s sc u ds sub sound ahead (λ q i rs es y env' s' sc' u' more so ah l h ready kb kp states operands. final q i (ir.given f.value ∷ rs) (t.here.text ∷ es) y env' s' sc' u' more so ah l h ready kb kp states (more_operands t.here.tpe (ir.given f.value) t.here.text (types ts) rs es plain.told (fixed_alike p w y env env' sc sc' t.here.tpe t.run t.here.text f h kp) operands)) g r ks same)
+  -- an expression that goes on to give what stands for the value, while these variables keep what they hold
+  abbrev pub Lasting : (core.Variable → Type 0) → World → js.Scope → IrType → ir.Value → core.Expression → Type 0
+  Lasting q y sc own v e = (w : World) (env : ir.Env) (later : js.Scope) → Grows y w → Keeps z.place q sc later → OperandAlike z w env later own (ir.given v) (shown z e)
 
-  -- what is known behind an operand that has been saved in the variable of this number
-  saved_final : (c : Context) (k : Destination) (from : World) (before : js.Scope) (p : core.Variable → Type 0) (j i : ℕ) (own : IrType) (ts : List IrType) (w y : World) (sc sc' : js.Scope) (act : List ir.Value → ir.Run) (made : List core.Expression → ℕ → Code) (v : ir.Value) (x : js.Value) (const : Bool) → suc j ≤ i → Final c k from before p j sc w (own ∷ ts) act made → Grows w y → Keeps z.place p sc sc' → SameValue y own v x → sc'.bindings (z.place.name (core.numbered j)) ≡ js.holds const x → Final c k from before (λ a. (a ≡ core.numbered j) ⊎ p a) i sc' y ts (λ vs. act (v ∷ vs)) (λ es. made (core.variable_use (core.numbered j) ∷ es))
-  saved_final c k from before p j i own ts w y sc sc' act made v x const l final g kp alike e q o rs es w' env s sc2 u more so ah m h r kb ks same operands = final q o (ir.given v ∷ rs) (core.variable_use (core.numbered j) ∷ es) w' env s sc2 u (λ a b. more a (inr b)) so ah (omega arith) (grows-trans w y w' g h) r kb (record { same = λ a b. ks.same a (inr b) ∙ kp.same a b }) same (more_operands own (ir.given v) (core.variable_use (core.numbered j)) ts rs es refl (variable_alike y w' env sc2 own (core.numbered j) const v x h alike (ks.same (core.numbered j) (inl refl) ∙ e)) operands)
+  -- what is done behind a first operand: the IR goes on with its value, and the statements with an expression for it
+  abbrev pub Onwards : Context → Destination → World → js.Scope → (core.Variable → Type 0) → ℕ → js.Scope → World → IrType → (ir.Value → ir.Run) → (core.Expression → ℕ → core.Statements) → Type 1
+  Onwards c k from before p j start at own f rest = (q : core.Variable → Type 0) (i : ℕ) (v : ir.Value) (e : core.Expression) (y : World) (env : ir.Env) (s : ir.State) (sc : js.Scope) (u : js.State) → ((a : core.Variable) → p a → q a) → Extends c q → Sound z.is_mutable (keeping c q) → Ahead (keeping c q) i → j ≤ i → Grows at y → Ready z.place z.code c.scope c.writable y env sc → Keeps z.place c.kept before sc → Keeps z.place p start sc → SameState z.place y s u → tells own (text_of z e) ≡ true → Lasting q y sc own v e → Ends z lawful c c.scope k from before (f v env s) (rest e i) sc u
+
+  -- a fixed operand in front of one that isn't plain
+  spill_fixed : (c : Context) (k : Destination) (from : World) (before : js.Scope) (t : Piece) (f : ir.Value → ir.Run) (rest : core.Expression → ℕ → core.Statements) → t.here.fixed ≡ true → Plainly c t → (p : core.Variable → Type 0) (j : ℕ) (w : World) (env : ir.Env) (s : ir.State) (sc : js.Scope) (u : js.State) → Extends c p → Sound z.is_mutable (keeping c p) → Ahead (keeping c p) j → Onwards c k from before p j sc w t.here.tpe f rest → Ready z.place z.code c.scope c.writable w env sc → Keeps z.place c.kept before sc → SameState z.place w s u → Ends z lawful c c.scope k from before (ir.go_on (t.run env s) f) (rest t.here.text j) sc u
+  spill_fixed c k from before t f rest e plain p j w env s sc u sub sound ahead on r ks same = known (plain.fixes e p sound w env sc r.sees)
+    where
+      known : FixedOrWrong p w env sc t.here.tpe t.run t.here.text → Ends z lawful c c.scope k from before (ir.go_on (t.run env s) f) (rest t.here.text j) sc u
+      known (inr g) = subst (λ o. Ends z lawful c c.scope k from before (ir.go_on o f) (rest t.here.text j) sc u) (sym (g s)) (sim_wrong z.direction (Came z.place z.code c c.scope k from before) _)
+      known (inl g) = subst (λ o. Ends z lawful c c.scope k from before (ir.go_on o f) (rest t.here.text j) sc u) (sym (g.gives s)) (on p j g.value t.here.text w env s sc u (λ a h. h) sub sound ahead (omega arith) (grows-refl w) r ks (keeps-refl z p sc) same plain.told (λ y env' sc' h kp. fixed_alike p w y env env' sc sc' t.here.tpe t.run t.here.text g h kp))
 
   numbered_open : (c : Context) (p : core.Variable → Type 0) (j : ℕ) → Ahead (keeping c p) j → (x : core.Variable) → c.writable x → x ≡ core.numbered j → ⊥
   numbered_open c p j ahead x h e = ahead.writable j (omega arith) (subst c.writable e h)
 
   -- a plain operand that isn't fixed, in front of one that isn't plain: a constant
-  spill_constant : (c : Context) (k : Destination) (from : World) (before : js.Scope) (t : Piece) (ts : List Piece) → SpillDoes c k from before ts → Plainly c t → (p : core.Variable → Type 0) (j : ℕ) (act : List ir.Value → ir.Run) (made : List core.Expression → ℕ → Code) (w : World) (env : ir.Env) (s : ir.State) (sc : js.Scope) (u : js.State) → OperandsDo c j ts → Extends c p → Sound z.is_mutable (keeping c p) → Ahead (keeping c p) j → Final c k from before p j sc w (types (t ∷ ts)) act made → Grows from w → Ready z.place z.code c.scope c.writable w env sc → Keeps z.place c.kept before sc → SameState z.place w s u → Ends z lawful c c.scope k from before (ir_meaning.in_order (runs (t ∷ ts)) act env s) (core.statement (core.constant_of (Some (t.here.at)) (core.numbered j) (t.here.text)) (then_use (spill (operands_in ts) (suc j)) (λ es. made (core.variable_use (core.numbered j) ∷ es))).statements) sc u
-  spill_constant c k from before t ts others plain p j act made w env s sc u ds sub sound ahead final g r ks same = valued_seq (Came z.place z.code c c.scope k from before) w env t.here.tpe sc u (t.run env s) (t.here.text) (λ v. ir_meaning.in_order (runs ts) (λ vs. act (v ∷ vs))) (λ v u. done (js.ends js.normally (js_meaning.start true (z.place.name (core.numbered j)) v sc) u)) (run z (then_use (spill (operands_in ts) (suc j)) (λ es. made (core.variable_use (core.numbered j) ∷ es))).statements) (plain.alike w env sc r.sees w s u (grows-refl w) same) (throws-on z lawful c c.scope k from w before env sc g ks r) goes
+  spill_constant : (c : Context) (k : Destination) (from : World) (before : js.Scope) (t : Piece) (f : ir.Value → ir.Run) (rest : core.Expression → ℕ → core.Statements) → Plainly c t → (p : core.Variable → Type 0) (j : ℕ) (w : World) (env : ir.Env) (s : ir.State) (sc : js.Scope) (u : js.State) → Extends c p → Sound z.is_mutable (keeping c p) → Ahead (keeping c p) j → Onwards c k from before p j sc w t.here.tpe f rest → Grows from w → Ready z.place z.code c.scope c.writable w env sc → Keeps z.place c.kept before sc → SameState z.place w s u → Ends z lawful c c.scope k from before (ir.go_on (t.run env s) f) (core.statement (core.constant_of (Some (t.here.at)) (core.numbered j) (t.here.text)) (rest (core.variable_use (core.numbered j)) (suc j))) sc u
+  spill_constant c k from before t f rest plain p j w env s sc u sub sound ahead on g r ks same = valued_seq (Came z.place z.code c c.scope k from before) w env t.here.tpe sc u (t.run env s) (t.here.text) f (λ v u. done (js.ends js.normally (js_meaning.start true (z.place.name (core.numbered j)) v sc) u)) (run z (rest (core.variable_use (core.numbered j)) (suc j))) (plain.alike w env sc r.sees w s u (grows-refl w) same) (throws-on z lawful c c.scope k from w before env sc g ks r) goes
     where
-      goes : (y : World) (v : ir.Value) (x : js.Value) (s : ir.State) (u : js.State) → Grows w y → SameValue y t.here.tpe v x → SameState z.place y s u → Ends z lawful c c.scope k from before (ir_meaning.in_order (runs ts) (λ vs. act (v ∷ vs)) env s) (then_use (spill (operands_in ts) (suc j)) (λ es. made (core.variable_use (core.numbered j) ∷ es))).statements (js_meaning.start true (z.place.name (core.numbered j)) x sc) u
-      goes y v x s u h alike same = others (λ a. (a ≡ core.numbered j) ⊎ p a) (suc j) (λ vs. act (v ∷ vs)) (λ es. made (core.variable_use (core.numbered j) ∷ es)) y env s (js_meaning.start true (z.place.name (core.numbered j)) x sc) u (operands-later c j (suc j) ts (omega arith) ds) (extends-more c p j sub) (sound-kept c p j sound ahead) (ahead-kept c p j (suc j) (omega arith) ahead) (saved_final c k from before p j (suc j) t.here.tpe (types ts) w y sc (js_meaning.start true (z.place.name (core.numbered j)) x sc) act made v x true (omega arith) final h (started-keeps z lawful p true (core.numbered j) x sc (ahead.kept j (omega arith))) alike (started-here z lawful true (core.numbered j) x sc)) (grows-trans from w y g h) (ready-lift z c.scope c.writable w y env (js_meaning.start true (z.place.name (core.numbered j)) x sc) h (started-ready z lawful c.scope c.writable true (core.numbered j) x w env sc (λ a t b. numbered-named a j) (numbered_open c p j ahead) (λ e. absurd (cc)) r)) (keeps-trans z c.kept before sc (js_meaning.start true (z.place.name (core.numbered j)) x sc) ks (started-keeps z lawful c.kept true (core.numbered j) x sc (λ b. ahead.kept j (omega arith) (sub.more (core.numbered j) b)))) same
+      goes : (y : World) (v : ir.Value) (x : js.Value) (s : ir.State) (u : js.State) → Grows w y → SameValue y t.here.tpe v x → SameState z.place y s u → Ends z lawful c c.scope k from before (f v env s) (rest (core.variable_use (core.numbered j)) (suc j)) (js_meaning.start true (z.place.name (core.numbered j)) x sc) u
+      goes y v x s u h alike same = on (λ a. (a ≡ core.numbered j) ⊎ p a) (suc j) v (core.variable_use (core.numbered j)) y env s (js_meaning.start true (z.place.name (core.numbered j)) x sc) u (λ a b. inr b) (extends-more c p j sub) (sound-kept c p j sound ahead) (ahead-kept c p j (suc j) (omega arith) ahead) (omega arith) h (ready-lift z c.scope c.writable w y env (js_meaning.start true (z.place.name (core.numbered j)) x sc) h (started-ready z lawful c.scope c.writable true (core.numbered j) x w env sc (λ a t b. numbered-named a j) (numbered_open c p j ahead) (λ e. absurd (cc)) r)) (keeps-trans z c.kept before sc (js_meaning.start true (z.place.name (core.numbered j)) x sc) ks (started-keeps z lawful c.kept true (core.numbered j) x sc (λ b. ahead.kept j (omega arith) (sub.more (core.numbered j) b)))) (started-keeps z lawful p true (core.numbered j) x sc (ahead.kept j (omega arith))) same refl (λ w' env' sc2 m kp. variable_alike y w' env' sc2 t.here.tpe (core.numbered j) true v x m alike (kp.same (core.numbered j) (inl refl) ∙ started-here z lawful true (core.numbered j) x sc))
 
   -- an operand that isn't plain: a variable, and the statements that bring its value there
-  spill_code_does : (c : Context) (k : Destination) (from : World) (before : js.Scope) (t : Piece) (ts : List Piece) → SpillDoes c k from before ts → Onward t → (p : core.Variable → Type 0) (j : ℕ) → PieceDoes (writing (keeping c p) (core.numbered j)) (to_variable (core.numbered j) (t.here.tpe)) (suc j) t → (act : List ir.Value → ir.Run) (made : List core.Expression → ℕ → Code) (w : World) (env : ir.Env) (s : ir.State) (sc : js.Scope) (u : js.State) → OperandsDo c j ts → Extends c p → Sound z.is_mutable (keeping c p) → Ahead (keeping c p) j → Final c k from before p j sc w (types (t ∷ ts)) act made → Grows from w → Ready z.place z.code c.scope c.writable w env sc → Keeps z.place c.kept before sc → SameState z.place w s u → Ends z lawful c c.scope k from before (ir_meaning.in_order (runs (t ∷ ts)) act env s) (core.statement (core.declare_of (Some (t.here.at)) (core.numbered j)) (followed (t.here.code (to_variable (core.numbered j) (t.here.tpe)) (suc j)).statements (then_use (spill (operands_in ts) (t.here.code (to_variable (core.numbered j) (t.here.tpe)) (suc j)).next) (λ es. made (core.variable_use (core.numbered j) ∷ es))).statements)) sc u
-  spill_code_does c k from before t ts others onward p j does act made w env s sc u ds sub sound ahead final g r ks same = subst (λ q. Sim z.direction (Came z.place z.code c c.scope k from before) (ir.go_on (t.run env s) f) q) (sym (run-followed z code.statements rest started u)) (sim_then z.direction (Came z.place z.code (writing (keeping c p) x) c.scope (to_variable x (t.here.tpe)) w started) (Came z.place z.code c c.scope k from before) (t.run env s) (run z code.statements started u) (ir.onward f) (js.next_statement (run z rest)) (does w env s started u (record { sees = r1.sees; «open» = open1 }) same) each)
+  spill_code_does : (c : Context) (k : Destination) (from : World) (before : js.Scope) (t : Piece) (f : ir.Value → ir.Run) (rest_of : core.Expression → ℕ → core.Statements) → Onward t → (p : core.Variable → Type 0) (j : ℕ) → PieceDoes (writing (keeping c p) (core.numbered j)) (to_variable (core.numbered j) (t.here.tpe)) (suc j) t → (w : World) (env : ir.Env) (s : ir.State) (sc : js.Scope) (u : js.State) → Extends c p → Sound z.is_mutable (keeping c p) → Ahead (keeping c p) j → Onwards c k from before p j sc w t.here.tpe f rest_of → Grows from w → Ready z.place z.code c.scope c.writable w env sc → Keeps z.place c.kept before sc → SameState z.place w s u → Ends z lawful c c.scope k from before (ir.go_on (t.run env s) f) (core.statement (core.declare_of (Some (t.here.at)) (core.numbered j)) (followed (t.here.code (to_variable (core.numbered j) (t.here.tpe)) (suc j)).statements (rest_of (core.variable_use (core.numbered j)) (t.here.code (to_variable (core.numbered j) (t.here.tpe)) (suc j)).next))) sc u
+  spill_code_does c k from before t f rest_of onward p j does w env s sc u sub sound ahead on g r ks same = subst (λ q. Sim z.direction (Came z.place z.code c c.scope k from before) (ir.go_on (t.run env s) f) q) (sym (run-followed z code.statements rest started u)) (sim_then z.direction (Came z.place z.code (writing (keeping c p) x) c.scope (to_variable x (t.here.tpe)) w started) (Came z.place z.code c c.scope k from before) (t.run env s) (run z code.statements started u) (ir.onward f) (js.next_statement (run z rest)) (does w env s started u (record { sees = r1.sees; «open» = open1 }) same) each)
     where
       x : core.Variable
       x = core.numbered j
@@ -257,13 +261,10 @@ module _ (z : Setting) (lawful : Lawful z) where
       code = t.here.code (to_variable x (t.here.tpe)) (suc j)
 
       rest : core.Statements
-      rest = (then_use (spill (operands_in ts) code.next) (λ es. made (core.variable_use x ∷ es))).statements
+      rest = rest_of (core.variable_use x) code.next
 
       started : js.Scope
       started = js_meaning.start false (z.place.name x) js.undefined sc
-
-      f : ir.Value → ir.Run
-      f v = ir_meaning.in_order (runs ts) (λ vs. act (v ∷ vs))
 
       r1 : Ready z.place z.code c.scope c.writable w env started
       r1 = started-ready z lawful c.scope c.writable false x js.undefined w env sc (λ a t b. numbered-named a j) (numbered_open c p j ahead) (λ e. absurd (cc)) r
@@ -279,23 +280,41 @@ module _ (z : Setting) (lawful : Lawful z) where
       all_kept sc2 k2 = keeps-fewer z (Less p (to_variable x (t.here.tpe))) p started sc2 (λ b h. (h, λ e. kept_here (subst p (sym e) h))) k2
 
       each : (a : ir.Ended) (b : js.StatementEnd) → Came z.place z.code (writing (keeping c p) x) c.scope (to_variable x (t.here.tpe)) w started a b → Sim z.direction (Came z.place z.code c c.scope k from before) (ir.onward f a) (js.next_statement (run z rest) b)
-      each _ _ (gave y v env' s' sc2 u' _ h (stored _ _ q a e) r2 k2 states) = others (λ b. (b ≡ x) ⊎ p b) code.next (λ vs. act (v ∷ vs)) (λ es. made (core.variable_use x ∷ es)) y env' s' sc2 u' (operands-later c j code.next ts (omega (arith, onward (to_variable x (t.here.tpe)) (suc j))) ds) (extends-more c p j sub) (sound-kept c p j sound ahead) (ahead-kept c p j code.next (onward (to_variable x (t.here.tpe)) (suc j)) ahead) (saved_final c k from before p j code.next t.here.tpe (types ts) w y sc sc2 act made v q false (onward (to_variable x (t.here.tpe)) (suc j)) final h (keeps-trans z p sc started sc2 (started-keeps z lawful p false x js.undefined sc kept_here) (all_kept sc2 k2)) a e) (grows-trans from w y g h) (record { sees = r2.sees; «open» = λ a b. r2.«open» a (inr b) }) (keeps-trans z c.kept before sc sc2 ks (keeps-trans z c.kept sc started sc2 (started-keeps z lawful c.kept false x js.undefined sc (λ b. kept_here (sub.more x b))) (keeps-fewer z p c.kept started sc2 sub.more (all_kept sc2 k2)))) states
+      each _ _ (gave y v env' s' sc2 u' _ h (stored _ _ q a e) r2 k2 states) = on (λ b. (b ≡ x) ⊎ p b) code.next v (core.variable_use x) y env' s' sc2 u' (λ a b. inr b) (extends-more c p j sub) (sound-kept c p j sound ahead) (ahead-kept c p j code.next (onward (to_variable x (t.here.tpe)) (suc j)) ahead) (omega (arith, onward (to_variable x (t.here.tpe)) (suc j))) h (record { sees = r2.sees; «open» = λ a b. r2.«open» a (inr b) }) (keeps-trans z c.kept before sc sc2 ks (keeps-trans z c.kept sc started sc2 (started-keeps z lawful c.kept false x js.undefined sc (λ b. kept_here (sub.more x b))) (keeps-fewer z p c.kept started sc2 sub.more (all_kept sc2 k2)))) (keeps-trans z p sc started sc2 (started-keeps z lawful p false x js.undefined sc kept_here) (all_kept sc2 k2)) states refl (λ w' env2 sc3 m kp. variable_alike y w' env2 sc3 t.here.tpe x false v q m a (kp.same x (inl refl) ∙ e))
       each _ _ (left y l v env' s' sc2 u' e reach h a r2 k2 states) = leaves_on z lawful c c.scope k from before (run z rest) y l v env' s' sc2 u' e (target_of c.targets l) refl reach (grows-trans from w y g h) a (record { sees = r2.sees; «open» = λ a b. r2.«open» a (inr b) }) (less-trans z c.kept (target_of c.targets l) before sc sc2 ks (less-trans z c.kept (target_of c.targets l) sc started sc2 (started-keeps z lawful c.kept false x js.undefined sc (λ b. kept_here (sub.more x b))) (keeps-fewer z (Less p (target_of c.targets l)) (Less c.kept (target_of c.targets l)) started sc2 (λ y i. (sub.more y i.0, i.1)) k2))) states
       each _ _ (threw y v q env' s' sc2 u' h a r2 k2 states) = sim_done z.direction (Came z.place z.code c c.scope k from before) (ir.ends (ir.throws v) env' s') (js.ends (js.thrown_with q) sc2 u') (threw y v q env' s' sc2 u' (grows-trans from w y g h) a (record { sees = r2.sees; «open» = λ a b. r2.«open» a (inr b) }) (keeps-trans z c.kept before sc sc2 ks (keeps-trans z c.kept sc started sc2 (started-keeps z lawful c.kept false x js.undefined sc (λ b. kept_here (sub.more x b))) (keeps-fewer z p c.kept started sc2 sub.more k2))) states)
       each _ _ (stopped y env' s' sc2 u' t h r2 k2 states) = sim_done z.direction (Came z.place z.code c c.scope k from before) (ir.ends ir.stops env' s') (js.ends js.breaks_nearest sc2 u') (stopped y env' s' sc2 u' t (grows-trans from w y g h) (record { sees = r2.sees; «open» = λ a b. r2.«open» a (inr b) }) (keeps-trans z c.kept before sc sc2 ks (keeps-trans z c.kept sc started sc2 (started-keeps z lawful c.kept false x js.undefined sc (λ b. kept_here (sub.more x b))) (keeps-fewer z p c.kept started sc2 sub.more k2))) states)
 
+  -- an operand in front of others, not all of them plain, by whether it is fixed and whether it is plain; and what is written for it
+  abbrev pub first_code : Bool → Bool → Operand → (core.Expression → ℕ → core.Statements) → ℕ → core.Statements
+  first_code true b o rest j = rest o.text j
+  first_code false true o rest j = core.statement (core.constant_of (Some o.at) (core.numbered j) o.text) (rest (core.variable_use (core.numbered j)) (suc j))
+  first_code false false o rest j = core.statement (core.declare_of (Some o.at) (core.numbered j)) (followed (o.code (to_variable (core.numbered j) o.tpe) (suc j)).statements (rest (core.variable_use (core.numbered j)) (o.code (to_variable (core.numbered j) o.tpe) (suc j)).next))
+
+  pub first-is : (f b : Bool) (o : Operand) (os : List Operand) (j : ℕ) (made : List core.Expression → ℕ → Code) → (then_use (spill_case false f b o os (spill os) j) made).statements ≡ first_code f b o (λ e i. (then_use (spill os i) (λ es. made (e ∷ es))).statements) j
+  first-is true b o os j made = refl
+  first-is false true o os j made = refl
+  first-is false false o os j made = ap (core.statement (core.declare_of (Some o.at) (core.numbered j))) (followed-associative code.statements (spill os code.next).statements (made (core.variable_use (core.numbered j) ∷ (spill os code.next).expressions) (spill os code.next).next).statements)
+    where
+      code : Code
+      code = o.code (to_variable (core.numbered j) o.tpe) (suc j)
+
+  pub first_does : (c : Context) (k : Destination) (from : World) (before : js.Scope) (t : Piece) (g b : Bool) → t.here.fixed ≡ g → t.here.plain ≡ b → (p : core.Variable → Type 0) (j : ℕ) (f : ir.Value → ir.Run) (rest : core.Expression → ℕ → core.Statements) (w : World) (env : ir.Env) (s : ir.State) (sc : js.Scope) (u : js.State) → OperandDoes c j t → Extends c p → Sound z.is_mutable (keeping c p) → Ahead (keeping c p) j → Onwards c k from before p j sc w t.here.tpe f rest → Grows from w → Ready z.place z.code c.scope c.writable w env sc → Keeps z.place c.kept before sc → SameState z.place w s u → Ends z lawful c c.scope k from before (ir.go_on (t.run env s) f) (first_code g b t.here rest j) sc u
+  first_does c k from before t true b e1 e2 p j f rest w env s sc u (inl d) sub sound ahead on g r ks same = spill_fixed c k from before t f rest e1 d.1 p j w env s sc u sub sound ahead on r ks same
+  first_does c k from before t true b e1 e2 p j f rest w env s sc u (inr d) sub sound ahead on g r ks same = impossible (sym d.1 ∙ e1)
+  first_does c k from before t false true e1 e2 p j f rest w env s sc u (inl d) sub sound ahead on g r ks same = spill_constant c k from before t f rest d.1 p j w env s sc u sub sound ahead on g r ks same
+  first_does c k from before t false true e1 e2 p j f rest w env s sc u (inr d) sub sound ahead on g r ks same = impossible (sym d.0 ∙ e2)
+  first_does c k from before t false false e1 e2 p j f rest w env s sc u (inl d) sub sound ahead on g r ks same = impossible (sym e2 ∙ d.0)
+  first_does c k from before t false false e1 e2 p j f rest w env s sc u (inr d) sub sound ahead on g r ks same = spill_code_does c k from before t f rest d.2 p j (d.3 p j (omega arith) sub sound ahead) w env s sc u sub sound ahead on g r ks same
+
+  -- behind a first operand come the others
+  then_others : (c : Context) (k : Destination) (from : World) (before : js.Scope) (t : Piece) (ts : List Piece) → SpillDoes c k from before ts → (p : core.Variable → Type 0) (j : ℕ) (act : List ir.Value → ir.Run) (made : List core.Expression → ℕ → Code) (w : World) (sc : js.Scope) → OperandsDo c j ts → Final c k from before p j sc w (types (t ∷ ts)) act made → Grows from w → Onwards c k from before p j sc w t.here.tpe (λ v. ir_meaning.in_order (runs ts) (λ vs. act (v ∷ vs))) (λ e i. (then_use (spill (operands_in ts) i) (λ es. made (e ∷ es))).statements)
+  then_others c k from before t ts others p j act made w sc ds final g q i v e y env s sc' u more sub so ah l h r kb kp same told lasting = others q i (λ vs. act (v ∷ vs)) (λ es. made (e ∷ es)) y env s sc' u (operands-later c j i ts l ds) sub so ah (λ q' o rs es w' env2 s2 sc2 u2 more2 so2 ah2 m h2 r2 kb2 ks2 same2 operands. final q' o (ir.given v ∷ rs) (e ∷ es) w' env2 s2 sc2 u2 (λ a b. more2 a (more a b)) so2 ah2 (omega (arith, l, m)) (grows-trans w y w' h h2) r2 kb2 (record { same = λ a b. ks2.same a (more a b) ∙ kp.same a b }) same2 (more_operands t.here.tpe (ir.given v) e (types ts) rs es told (lasting w' env2 sc2 h2 ks2) operands)) (grows-trans from w y g h) r kb same
+
   -- one operand, by whether it and all behind it are plain, whether it is fixed, and whether it is plain
   spill_one : (c : Context) (k : Destination) (from : World) (before : js.Scope) (t : Piece) (ts : List Piece) → SpillDoes c k from before ts → (a f b : Bool) → (t.here.plain && all_plain (operands_in ts)) ≡ a → t.here.fixed ≡ f → t.here.plain ≡ b → (p : core.Variable → Type 0) (j : ℕ) (act : List ir.Value → ir.Run) (made : List core.Expression → ℕ → Code) (w : World) (env : ir.Env) (s : ir.State) (sc : js.Scope) (u : js.State) → OperandsDo c j (t ∷ ts) → Extends c p → Sound z.is_mutable (keeping c p) → Ahead (keeping c p) j → Final c k from before p j sc w (types (t ∷ ts)) act made → Grows from w → Ready z.place z.code c.scope c.writable w env sc → Keeps z.place c.kept before sc → SameState z.place w s u → Ends z lawful c c.scope k from before (ir_meaning.in_order (runs (t ∷ ts)) act env s) (then_use (spill_case a f b t.here (operands_in ts) (spill (operands_in ts)) j) made).statements sc u
   spill_one c k from before t ts others true f b e1 e2 e3 p j act made w env s sc u ds sub sound ahead final g r ks same = spill_all c k from before t ts e1 p j act made w env s sc u ds sound ahead final r ks same
-  spill_one c k from before t ts others false true b e1 e2 e3 p j act made w env s sc u (inl d, ds) sub sound ahead final g r ks same = spill_fixed c k from before t ts others e2 d.1 p j act made w env s sc u ds sub sound ahead final g r ks same
-  spill_one c k from before t ts others false true b e1 e2 e3 p j act made w env s sc u (inr d, ds) sub sound ahead final g r ks same = impossible (sym d.1 ∙ e2)
-  spill_one c k from before t ts others false false true e1 e2 e3 p j act made w env s sc u (inl d, ds) sub sound ahead final g r ks same = spill_constant c k from before t ts others d.1 p j act made w env s sc u ds sub sound ahead final g r ks same
-  spill_one c k from before t ts others false false true e1 e2 e3 p j act made w env s sc u (inr d, ds) sub sound ahead final g r ks same = impossible (sym d.0 ∙ e3)
-  spill_one c k from before t ts others false false false e1 e2 e3 p j act made w env s sc u (inl d, ds) sub sound ahead final g r ks same = impossible (sym e3 ∙ d.0)
-  spill_one c k from before t ts others false false false e1 e2 e3 p j act made w env s sc u (inr d, ds) sub sound ahead final g r ks same = subst (λ ss. Ends z lawful c c.scope k from before (ir_meaning.in_order (runs (t ∷ ts)) act env s) (core.statement (core.declare_of (Some (t.here.at)) (core.numbered j)) ss) sc u) (sym (followed-associative code.statements (spill (operands_in ts) code.next).statements (made (core.variable_use (core.numbered j) ∷ (spill (operands_in ts) code.next).expressions) (spill (operands_in ts) code.next).next).statements)) (spill_code_does c k from before t ts others d.2 p j (d.3 p j (omega arith) sub sound ahead) act made w env s sc u ds sub sound ahead final g r ks same)
-    where
-      code : Code
-      code = t.here.code (to_variable (core.numbered j) (t.here.tpe)) (suc j)
+  spill_one c k from before t ts others false f b e1 e2 e3 p j act made w env s sc u (d, ds) sub sound ahead final g r ks same = subst (λ ss. Ends z lawful c c.scope k from before (ir_meaning.in_order (runs (t ∷ ts)) act env s) ss sc u) (sym (first-is f b t.here (operands_in ts) j made)) (first_does c k from before t f b e2 e3 p j (λ v. ir_meaning.in_order (runs ts) (λ vs. act (v ∷ vs))) (λ e i. (then_use (spill (operands_in ts) i) (λ es. made (e ∷ es))).statements) w env s sc u d sub sound ahead (then_others c k from before t ts others p j act made w sc ds final g) g r ks same)
 
   -- what operands come to in order, their statements and expressions come to
   pub spill_does : (c : Context) (k : Destination) (from : World) (before : js.Scope) (ts : List Piece) → SpillDoes c k from before ts

@@ -47,10 +47,10 @@ module _ (z : Setting) (lawful : Lawful z) (low : LowAlike z) where
   LoopFine c k cond = (IsDiscard k × FineOperand z.place.classes z.is_mutable (usable z) z.code c.scope cond (λ y. Fine z.place.classes z.is_mutable (usable z) z.code c.scope (around c) (to_variable y (type_of_term cond)) cond)) ⊎ IsTrueLiteral cond
 
   while_test : (p : Position) (cond b : Term) (c : Context) (k : Destination) → Fine z.place.classes z.is_mutable (usable z) z.code c.scope (around c) k (while_loop p cond b) → LoopFine c k cond
-  while_test p cond b c k f = ⊎_elim (λ e. inl (given_up z.place.classes lawful.base.ordered k (subst (Asks z.place.classes k) e f.asks), operand_in z.place.classes lawful.base.ordered z.is_mutable (usable z) z.code c.scope (around c) f.scene f.amid cond (one_mutable z.is_mutable cond b f.written) Boolean f.typed.0.meets refl f.typed.1 f.around f.once.0)) (λ i. inr i) (true-or-none cond)
+  while_test p cond b c k f = ⊎_elim (λ e. inl (given_up z.place.classes lawful.base.ordered (usable z) k (subst (Asks z.place.classes (usable z) k) e f.asks), operand_in z.place.classes lawful.base.ordered z.is_mutable (usable z) z.code c.scope (around c) f.scene f.amid cond (one_mutable z.is_mutable cond b f.written) Boolean f.typed.0.meets refl f.typed.1 f.around f.once.0)) (λ i. inr i) (true-or-none cond)
 
   do_test : (p : Position) (b cond : Term) (c : Context) (k : Destination) → Fine z.place.classes z.is_mutable (usable z) z.code c.scope (around c) k (do_while p b cond) → LoopFine c k cond
-  do_test p b cond c k f = ⊎_elim (λ e. inl (given_up z.place.classes lawful.base.ordered k (subst (Asks z.place.classes k) e f.asks), operand_in z.place.classes lawful.base.ordered z.is_mutable (usable z) z.code c.scope (around c) f.scene f.amid cond (other_mutable z.is_mutable b cond f.written) Boolean f.typed.0.meets refl f.typed.2 f.around f.once.1)) (λ i. inr i) (true-or-none cond)
+  do_test p b cond c k f = ⊎_elim (λ e. inl (given_up z.place.classes lawful.base.ordered (usable z) k (subst (Asks z.place.classes (usable z) k) e f.asks), operand_in z.place.classes lawful.base.ordered z.is_mutable (usable z) z.code c.scope (around c) f.scene f.amid cond (other_mutable z.is_mutable b cond f.written) Boolean f.typed.0.meets refl f.typed.2 f.around f.once.1)) (λ i. inr i) (true-or-none cond)
 
   -- the body of a loop in its turn
   body_alike : (b : Term) → TreeDoes z lawful low b → (c : Context) (k : Destination) (i : ℕ) → Sound z.is_mutable c → Ahead (in_turn c k) i → Outside c (Own b) → Fine z.place.classes z.is_mutable (usable z) z.code c.scope (around c) discard b → Alike z lawful (in_turn c k) discard (ir_meaning.step z.place.classes z.low b) (run z (into z.is_mutable z.code.sure c.targets discard i b).statements)

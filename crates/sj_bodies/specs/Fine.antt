@@ -13,7 +13,8 @@ use Rattle.sj_plain.specs.Conditions.{InScope, Plain}
 use Rattle.sj_plain.specs.Settings.{Code}
 use Rattle.sj_proper.specs.Once.{Once}
 use Rattle.body_rules.specs.Locals.{HaveValues, AreMutable, Mutable, Scope}
-use Rattle.body_rules.specs.Standing.{NoBox, Fits}
+use Rattle.body_rules.specs.Standing.{MayStand}
+use Rattle.sj_plain.specs.Standing.{Takes}
 use Rattle.built_forms.specs.Built.{Usable}
 use Rattle.body_rules.specs.Typing.{Scene, Typed}
 use Rattle.sj_world.specs.Known.{Classes}
@@ -23,11 +24,11 @@ use Rattle.typing_rules.specs.Labels.{type_of_label}
 pub data IsDiscard : Destination → Type 0 where
   is_discard : IsDiscard discard
 
--- where a tree isn't given up, it has a value, which stands for the type that is expected
-abbrev pub FitsIn : Destination → IrType → Type 0
-FitsIn discard t = Unit {0}
-FitsIn (to_variable x expected) t = (has_no_value t ≡ false) × Fits expected t
-FitsIn (to_result expected) t = (has_no_value t ≡ false) × Fits expected t
+-- where a tree isn't given up, it has a value, which stands for the type that is expected, as an object that holds a char where it has to
+abbrev pub FitsIn : Usable → Destination → IrType → Type 0
+FitsIn has discard t = Unit {0}
+FitsIn has (to_variable x expected) t = (has_no_value t ≡ false) × Takes expected t × MayStand has expected t
+FitsIn has (to_result expected) t = (has_no_value t ≡ false) × Takes expected t × MayStand has expected t
 
 -- the labels around a tree: where what leaves to each goes, and those to which the tree may leave
 pub record Around : Type 1 where
@@ -43,30 +44,30 @@ abbrev pub no_labels : Around
 no_labels = record { targets = []; reaches = λ l. Unit {0} }
 
 -- a type that may be brought to a destination: it is given up, or stands for one that has values
-abbrev pub Asks : Classes → Destination → IrType → Type 0
-Asks w discard t = Unit {0}
-Asks w (to_variable x i) t = (IsSub w t i × NoBox i t) × (i ≡ NoType → ⊥)
-Asks w (to_result i) t = (IsSub w t i × NoBox i t) × (i ≡ NoType → ⊥)
+abbrev pub Asks : Classes → Usable → Destination → IrType → Type 0
+Asks w has discard t = Unit {0}
+Asks w has (to_variable x i) t = (IsSub w t i × MayStand has i t) × (i ≡ NoType → ⊥)
+Asks w has (to_result i) t = (IsSub w t i × MayStand has i t) × (i ≡ NoType → ⊥)
 
 -- what is around a tree is what its scene says: its method is that of the code at hand; the locals of the scene are in scope, have values, and are taken for mutable where they
 -- are; and the values that leave to a label go where they are of its type
-pub record Amid (w : Classes) (is_mutable : List ℕ → Bool) (here : Code) (g : Scope) (ls : Around) (s : Scene) : Type 0 where
+pub record Amid (w : Classes) (is_mutable : List ℕ → Bool) (has : Usable) (here : Code) (g : Scope) (ls : Around) (s : Scene) : Type 0 where
   pub surely : s.sure ≡ here.sure
   pub owned : s.owner ≡ here.owner
   pub seen : InScope s g
   pub values : HaveValues s.locals
   pub changing : AreMutable is_mutable s.locals
-  pub targets : (l : List ℕ) (t : IrType) → type_of_label s.labels l ≡ Some t → Asks w (target_of ls.targets l) t
+  pub targets : (l : List ℕ) (t : IrType) → type_of_label s.labels l ≡ Some t → Asks w has (target_of ls.targets l) t
   pub reaches : (l : List ℕ) → ls.reaches l
 
 -- a tree that keeps the rules where it is written, defines each local once, and may be brought to its destination
 pub record Fine (w : Classes) (is_mutable : List ℕ → Bool) (has : Usable) (here : Code) (g : Scope) (ls : Around) (k : Destination) (t : Term) : Type 0 where
   pub scene : Scene
-  pub amid : Amid w is_mutable here g ls scene
+  pub amid : Amid w is_mutable has here g ls scene
   pub around : List (List ℕ)
   pub once : Once around t
   pub written : Mutable is_mutable (mutable_in t)
-  pub asks : Asks w k (type_of_term t)
+  pub asks : Asks w has k (type_of_term t)
   pub typed : Typed w has scene t
 
 -- an operand is plain, or it may be brought to any variable of its type

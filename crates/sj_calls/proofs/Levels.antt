@@ -1,6 +1,6 @@
 -- All levels: trees and calls are alike at bounds that stand to each other as the direction says, by induction on the IR's bound alone, for each
 -- bound of the emitted code that is enough for it.
-use Rattle.std.specs.Prelude.{◌+◌, ◌*◌}
+use Rattle.std.specs.Prelude.{◌+◌, ◌*◌, codes}
 use Rattle.std.proofs.Common.{◌≡◌, ℕ, zero, suc, Bool, true, List, arith, sym, ◌∙◌}
 use Rattle.sj_names.proofs.Same.{impossible}
 use Rattle.sj_emit_expr.specs.Templates.{check_name, statement_templates}
@@ -68,7 +68,7 @@ module _ (p : Place) (ordered : IsSubtyping (IsSub p.classes)) (names : NamesDif
   }
 
   lawful : (d : Direction) (n k : ℕ) → Levels d n → Enough p.room p.room.each d n k → (f : Code) → Reaches p f.file → (is_mutable : List ℕ → Bool) → Lawful (within f d is_mutable n k)
-  lawful d n k levels h f reaches is_mutable = record { base = based d n k levels (fewer d p.room.each n k h) f reaches is_mutable; checks = λ i. impossible (sym (alone.helper f.file check_name) ∙ i); divisions = λ o i. no_division (p.has f.file) (alone.helper f.file) o i }
+  lawful d n k levels h f reaches is_mutable = record { base = based d n k levels (fewer d p.room.each n k h) f reaches is_mutable; checks = λ i. impossible (sym (alone.helper f.file check_name) ∙ i); divisions = λ o i. no_division (p.has f.file) (alone.helper f.file) o i; boxes = λ i. impossible (sym (alone.helper f.file (codes "$C")) ∙ i) }
 
   next : (d : Direction) (n k : ℕ) → Levels d n → Enough p.room p.room.each d n k → Level d (suc n) (suc k)
   next d n k levels h f reaches is_mutable c q j t sound ahead out wr fine w env s sc u ready same = does (within f d is_mutable n k) (lawful d n k levels h f reaches is_mutable) (levels k (fewer d p.room.each n k h) f reaches is_mutable) t c q j sound ahead out wr fine w env s sc u ready same

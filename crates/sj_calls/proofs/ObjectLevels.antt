@@ -37,6 +37,7 @@ use Rattle.sj_calls.specs.Helpers.{HelperStands, failing_code, Failed}
 use Rattle.sj_calls.specs.Methods.{Linked, CallsAgree, ir_call, js_call}
 use Rattle.sj_calls.specs.Objects.{RunsOn, Constructs}
 use Rattle.sj_calls.specs.Worlds.{IsMade, CanCheck, CanDivide, HasObjects}
+use Rattle.sj_calls.proofs.Boxing.{boxes_alike}
 use Rattle.sj_calls.proofs.Calls.{call_alike}
 use Rattle.sj_calls.proofs.Dividing.{divides_alike}
 use Rattle.sj_calls.proofs.Helps.{FailsAt, fails_alike, checks_alike, in_helper}
@@ -115,8 +116,13 @@ module _ (p : Place) (ordered : IsSubtyping (IsSub p.classes)) (names : NamesDif
   divides_at f is_mutable o i can forward n zero levels h = let e = has.beyond in absurd (omega (arith, e, h))
   divides_at f is_mutable o i can backward n zero levels h = λ w v v' x x' env s u a b same. subst (λ q. Sim backward (Valued p w env (binary_result o)) (ir_meaning.answered p.classes (ir_meaning.below p.classes n) (binary_value o v v') env s) q) (sym (ap (λ c. js_meaning.code_call (js_meaning.below p.program 0) (p.home (a_helper (division_helper o))) c (x ∷ x' ∷ []) u) can.division)) (sim_going (Valued p w env (binary_result o)) (ir_meaning.answered p.classes (ir_meaning.below p.classes n) (binary_value o v v') env s))
 
+  -- an object that holds a char takes a unit
+  box_room : (d : Direction) (n k : ℕ) → Enough p.room p.room.each d n k → d ≡ forward → 1 ≤ k
+  box_room forward n k h e = let b = has.beyond in omega (arith, b, h)
+  box_room backward n k h e = absurd (cc)
+
   lawful : (d : Direction) (n k : ℕ) → Levels d n → Enough p.room p.room.each d n k → (f : Code) → Reaches p f.file → (is_mutable : List ℕ → Bool) → Lawful (within f d is_mutable n k)
-  lawful d n k levels h f reaches is_mutable = record { base = based d n k levels (fewer d p.room.each n k h) f reaches is_mutable; checks = λ i. checks_at (has.checked f.file i) f is_mutable d n k levels h; divisions = λ o i. divides_at f is_mutable o i (has.divided f.file o i) d n k levels h }
+  lawful d n k levels h f reaches is_mutable = record { base = based d n k levels (fewer d p.room.each n k h) f reaches is_mutable; checks = λ i. checks_at (has.checked f.file i) f is_mutable d n k levels h; divisions = λ o i. divides_at f is_mutable o i (has.divided f.file o i) d n k levels h; boxes = λ i. boxes_alike (within f d is_mutable n k) k (has.boxes f.file i) refl (box_room d n k h) }
 
   next : (d : Direction) (n k : ℕ) → Levels d n → Enough p.room p.room.each d n k → Level d (suc n) (suc k)
   next d n k levels h f reaches is_mutable c q j t sound ahead out wr fine w env s sc u ready same = does (within f d is_mutable n k) (lawful d n k levels h f reaches is_mutable) (levels k (fewer d p.room.each n k h) f reaches is_mutable) t c q j sound ahead out wr fine w env s sc u ready same

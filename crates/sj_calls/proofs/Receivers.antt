@@ -6,6 +6,7 @@ use Rattle.outcomes.proofs.Simulation.{sim_done, sim_wrong, sim_then}
 use Rattle.outcomes.proofs.Sequence.{then_do-associative}
 use Rattle.ir_mean.specs.Meaning as ir_meaning
 use Rattle.ir_mean.specs.States as ir
+use Rattle.ir_mean.proofs.TargetsFound.{target_found}
 use Rattle.ir_mean.specs.World.{member_of}
 use Rattle.js_mean.specs.Files.{owner}
 use Rattle.js_mean.specs.Meaning as js_meaning
@@ -49,8 +50,8 @@ module _ (p : Place) (names : NamesDiffer p) where
   free_there x b y none = ap (λ (t : Bool). if t then js.holds false x else b y) (differs y (p.name core.receiver) (λ e. none core.receiver (sym e)))
 
   -- a call of a member that runs on a receiver, and of its function, are alike where the levels below are
-  pub receive_alike : (d : Direction) (low : ir_meaning.Low) (js_low : js_meaning.Low) (m : Member) (l : RunsOn p m) → LowAlike (record { place = p; code = record { file = p.home (a_method m); owner = m.class; sure = sure_locals l.its_body }; direction = d; is_mutable = is_mutable_in l.definition l.its_body; low = low; js_low = js_low }) → (w : World) (v : ir.Value) (x : js.Value) (vs : List ir.Value) (xs : List js.Value) (env : ir.Env) (s : ir.State) (u : js.State) → IsReceiver w m.class v x → SameValues w (types_referred m.method.params) vs xs → SameState p w s u → Sim d (Valued p w env (call_type m.method.result)) (ir_meaning.call low (member_of p.classes m.class m.namespace m.method) (Some v) vs env s) (top_call p js_low (a_method m) (x ∷ xs) u)
-  receive_alike d low js_low m l below w v x vs xs env s u this values same = subst (λ t. Sim d (Valued p w env t) (ir_meaning.call low (member_of p.classes m.class m.namespace m.method) (Some v) vs env s) (top_call p js_low (a_method m) (x ∷ xs) u)) l.result_is (subst (λ o. Sim d (Valued p w env l.definition.result) o (top_call p js_low (a_method m) (x ∷ xs) u)) (sym ir_is) (subst (λ o. Sim d (Valued p w env l.definition.result) (ir_meaning.body_call low l.definition.result (Some l.its_body) (Some v) (ir_meaning.parameters l.definition.params vs) env s) o) (sym js_is) (locals (bound p names w l.definition.params m.method.params vs xs names_declared l.parameters values))))
+  pub receive_alike : (d : Direction) (low : ir_meaning.Low) (js_low : js_meaning.Low) (m : Member) (l : RunsOn p m) → LowAlike (record { place = p; code = record { file = p.home (a_method m); owner = m.class; sure = sure_locals l.its_body }; direction = d; is_mutable = is_mutable_in l.definition l.its_body; low = low; js_low = js_low }) → (w : World) (v : ir.Value) (x : js.Value) (vs : List ir.Value) (xs : List js.Value) (env : ir.Env) (s : ir.State) (u : js.State) → IsReceiver w m.class v x → SameValues w (types_referred m.method.params) vs xs → SameState p w s u → Sim d (Valued p w env (call_type m.method.result)) (ir_meaning.call low (ir_meaning.static_target p.classes m.class m.namespace m.method) (Some v) vs env s) (top_call p js_low (a_method m) (x ∷ xs) u)
+  receive_alike d low js_low m l below w v x vs xs env s u this values same = subst (λ t. Sim d (Valued p w env t) (ir_meaning.call low (ir_meaning.static_target p.classes m.class m.namespace m.method) (Some v) vs env s) (top_call p js_low (a_method m) (x ∷ xs) u)) l.result_is (subst (λ o. Sim d (Valued p w env l.definition.result) o (top_call p js_low (a_method m) (x ∷ xs) u)) (sym ir_is) (subst (λ o. Sim d (Valued p w env l.definition.result) (ir_meaning.body_call low l.definition.result (Some l.its_body) (Some v) (ir_meaning.parameters l.definition.params vs) env s) o) (sym js_is) (locals (bound p names w l.definition.params m.method.params vs xs names_declared l.parameters values))))
     where
       is_mutable : List ℕ → Bool
       is_mutable = is_mutable_in l.definition l.its_body
@@ -79,8 +80,8 @@ module _ (p : Place) (names : NamesDiffer p) where
       js_body : Out js.ExpressionEnd
       js_body = then_do (js_low code.body sc u) js_meaning.returned
 
-      ir_is : ir_meaning.call low (member_of p.classes m.class m.namespace m.method) (Some v) vs env s ≡ ir_meaning.body_call low l.definition.result (Some l.its_body) (Some v) (ir_meaning.parameters l.definition.params vs) env s
-      ir_is = ap (λ o. ir_meaning.call low o (Some v) vs env s) l.found ∙ ap (λ o. ir_meaning.body_call low l.definition.result o (Some v) (ir_meaning.parameters l.definition.params vs) env s) l.has_body
+      ir_is : ir_meaning.call low (ir_meaning.static_target p.classes m.class m.namespace m.method) (Some v) vs env s ≡ ir_meaning.body_call low l.definition.result (Some l.its_body) (Some v) (ir_meaning.parameters l.definition.params vs) env s
+      ir_is = ap (λ o. ir_meaning.call low o (Some v) vs env s) (target_found p.classes m.class m.namespace m.method l.definition l.its_body l.has_body l.found) ∙ ap (λ o. ir_meaning.body_call low l.definition.result o (Some v) (ir_meaning.parameters l.definition.params vs) env s) l.has_body
 
       js_is : top_call p js_low (a_method m) (x ∷ xs) u ≡ js_body
       js_is = ap (λ o. js_meaning.code_call js_low (p.home (a_method m)) o (x ∷ xs) u) l.emitted

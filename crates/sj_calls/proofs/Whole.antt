@@ -1,5 +1,5 @@
 -- A file that has the functions of methods and calls initializers shows what these show.
-use Rattle.std.proofs.Common.{◌≡◌, ℕ, Bool, true, false, List, [], ◌∷◌, ◌++◌, ◌&&◌, map, refl, sym, ap, ◌∙◌, subst, Contains, Option, Some, None, if◌then◌else◌, slice_get, length, ◌<◌, ◌^◌, arith}
+use Rattle.std.proofs.Common.{◌≡◌, ℕ, Bool, true, false, List, [], ◌∷◌, ◌++◌, ◌&&◌, map, refl, sym, ap, ◌∙◌, subst, Contains, Option, Some, None, is_some, if◌then◌else◌, slice_get, length, ◌<◌, ◌^◌, arith}
 use Rattle.std.specs.Int.{w32, w64}
 use Rattle.std.specs.Prelude.{ℤ, pos, negsuc, codes, FitsSigned, nat_lt}
 use Rattle.std.specs.List.{list_all}
@@ -8,7 +8,7 @@ use Rattle.std.proofs.lemmas.List.Elements.{Contains-append_left, Contains-appen
 use Rattle.outcomes.specs.Outcome.{Out, done, wrong, then_do}
 use Rattle.outcomes.specs.Shown as shown
 use Rattle.outcomes.specs.Shown.{normal, uncaught, Shown}
-use Rattle.outcomes.specs.Agreement.{Direction, forward, backward, Enough, no_room, Sim, IsNotWrong, Agree}
+use Rattle.outcomes.specs.Agreement.{Direction, forward, backward, Room, Enough, no_room, Sim, IsNotWrong, Agree}
 use Rattle.outcomes.proofs.Sequence.{then_do-associative}
 use Rattle.outcomes.proofs.Simulation.{sim_done, sim_then, agree-from_sim}
 use Rattle.ir_mean.specs.Shows as ir_showing
@@ -19,7 +19,7 @@ use Rattle.js_mean.specs.Meaning as js_meaning
 use Rattle.js_mean.specs.Objects as js_objects
 use Rattle.sj_mangling.specs.Bindings.{class_binding}
 use Rattle.sj_mangling.specs.declared.bindings.ClassBinding.TheVariants.{Marker}
-use Rattle.js_mean.specs.Proper.{is_among, are_distinct, item_names, is_proper_item, is_proper_module}
+use Rattle.js_mean.specs.Proper.{is_among, are_distinct, item_names, imported_names, is_proper_item, is_proper_module}
 use Rattle.js_mean.specs.Shows as js_showing
 use Rattle.js_mean.specs.States as js
 use Rattle.js_tree.specs.Terms.{Name, Item, Module, call_of, no_expressions}
@@ -36,7 +36,7 @@ use Rattle.sj_trees.specs.declared.types.IrType.TheVariants.{Any, NoType}
 use Rattle.body_rules.proofs.Equal.{equals}
 use Rattle.sj_proper.specs.Emitted.{EmittedMethod, function_item_of, initializer_member, call_item_of, module_with}
 use Rattle.sj_calls.specs.Files.{program_with, IsEmitted, HasFunction}
-use Rattle.sj_calls.specs.Methods.{CallsAlone, parameters_in, function_of, Linked, ir_call, js_call}
+use Rattle.sj_calls.specs.Methods.{CallsAlone, CallsAgree, parameters_in, function_of, Linked, ir_call, js_call}
 use Rattle.sj_calls.specs.Names.{emitted_in}
 use Rattle.sj_calls.proofs.Items.{code_with, code_found, cell_found}
 use Rattle.body_rules.proofs.InWorld.{in_world}
@@ -46,16 +46,16 @@ use Rattle.sj_calls.proofs.Names.{emitted_names_differ}
 use Rattle.built_forms.specs.Built.{Usable, members_alone}
 
 -- a program of one file, and what is found in it
-abbrev alone : Name → Module → js.Program
+abbrev pub alone : Name → Module → js.Program
 alone f m = record { file = f; content = Some m } ∷ []
 
-module_there : (f : Name) (m : Module) → files.module_among (alone f m) f ≡ Some m
+pub module_there : (f : Name) (m : Module) → files.module_among (alone f m) f ≡ Some m
 module_there f m = ap (λ b. if b then Some m else None) (equals f)
 
 abbrev origin_by : js.Program → Name → Name → Option Module → Option Name
 origin_by p f x content = elim (files.imported_from (files.imports_in content) x) [ None ↦ Some f | Some g ↦ if is_among (files.exports_in (files.module_among p g)) x then files.origin p (length p) g x else None ]
 
-own_name : (f : Name) (m : Module) (x : Name) → m.imports ≡ [] → files.owner (alone f m) f x ≡ Some f
+pub own_name : (f : Name) (m : Module) (x : Name) → m.imports ≡ [] → files.owner (alone f m) f x ≡ Some f
 own_name f m x none = ap (origin_by (alone f m) f x) (module_there f m) ∙ ap (λ is. elim (files.imported_from is x) as (λ o. Option Name) [ None ↦ Some f | Some g ↦ if is_among (files.exports_in (files.module_among (alone f m) g)) x then files.origin (alone f m) 1 g x else None ]) none
 
 abbrev order_by : js.Program → Name → Option Module → List Name
@@ -135,6 +135,76 @@ uncaught_alike place p d w _ _ s u same (same_number n f) h = subst (λ (b : Boo
 uncaught_alike place p d w _ _ s u same (same_long n f) h = subst (λ (b : Bool). Sim d ◌≡◌ (done (uncaught (shown.long n))) (js_showing.uncaught_or_wrong (if b then Some (shown.long n) else None))) (sym (long_shown n f)) (sim_done d ◌≡◌ (uncaught (shown.long n)) (uncaught (shown.long n)) refl)
 uncaught_alike place p d w _ _ s u same (same_text us) h = sim_done d ◌≡◌ (uncaught (shown.text us)) (uncaught (shown.text us)) refl
 uncaught_alike place p d w _ _ s u same (same_reference i a e) h = stored_alike place p d w s.heap u same.heaps (slice_get s.heap i) (slice_get u.heap a) (same.heaps.objects i a e)
+
+-- a file that calls initializers behind what it declares
+module _ (w : ir_world.World) (f : Name) (m : Module) (none : m.imports ≡ []) (usable : Usable) (room : Room) where
+  abbrev pub place_of : Place
+  place_of = emitted_in w (alone f m) (λ t. f) (λ g. usable) room
+
+  -- an initializer, and the item that calls it
+  abbrev item_run : EntryPoint → ℕ → js.State → Out js.ExpressionEnd
+  item_run e k u = js_meaning.evaluate (alone f m) (js_meaning.below (alone f m) k) (call_of (member_name (initializer_member e)) no_expressions) (js_meaning.top_scope (alone f m) f) u
+
+  item_is : (e : EntryPoint) (k : ℕ) (y : World) (s : ir.State) (u : js.State) → usable.linked (initializer_member e) ≡ true → SameState place_of y s u → item_run e k u ≡ js_call place_of (initializer_member e) [] u k
+  item_is e k y s u l same = ap (λ o. called (js_meaning.top_cell o name u)) (own_name f m name none) ∙ ap called (same.tops f (a_function (initializer_member e)) l)
+    where
+      name : Name
+      name = member_name (initializer_member e)
+
+      called : js.Cell → Out js.ExpressionEnd
+      called cell = then_do (js_meaning.cell_value cell u) (js.with_value (λ g. js_meaning.in_order [] (js_meaning.call (alone f m) (js_meaning.below (alone f m) k) g) (js_meaning.top_scope (alone f m) f)))
+
+  -- the end of the file
+  abbrev ended : ℕ → Out js.ExpressionEnd → Shown
+  ended k o = then_do (then_do o (js.with_value (λ v. js_meaning.run_files (alone f m) k []))) (js_showing.ending (alone f m))
+
+  abbrev pub calls : List EntryPoint → ℕ → js.State → Out js.ExpressionEnd
+  calls is k u = js_meaning.run_items (alone f m) k f (map call_item_of is) u
+
+  abbrev pub order_shows : ℕ → List Name → Shown
+  order_shows k names = if list_all (files.is_good_file (alone f m)) names then then_do (js_meaning.run_files (alone f m) k names (js_meaning.opening (alone f m))) (js_showing.ending (alone f m)) else wrong
+
+  abbrev content_shows : ℕ → Option Module → Shown
+  content_shows k content = if (files.is_good_module (alone f m) f content && true) then then_do (then_do (js_meaning.run_items (alone f m) k f (files.items_in content) (js_meaning.opening (alone f m))) (js.with_value (λ v. js_meaning.run_files (alone f m) k []))) (js_showing.ending (alone f m)) else wrong
+
+  -- each initializer and its call agree
+  abbrev pub InitializersAgree : Type 0
+  InitializersAgree = (e : EntryPoint) → usable.linked (initializer_member e) ≡ true → (y : World) (s : ir.State) (u : js.State) → SameState place_of y s u → CallsAgree place_of (initializer_member e) y [] [] ir_showing.outside s u
+
+  module _ (agree : InitializersAgree) where
+    item_alike : (d : Direction) (n k : ℕ) → Enough room 0 d n k → (e : EntryPoint) → usable.linked (initializer_member e) ≡ true → (y : World) (s : ir.State) (u : js.State) → SameState place_of y s u → Sim d (Valued place_of y ir_showing.outside NoType) (ir_call place_of (initializer_member e) [] ir_showing.outside s n) (item_run e k u)
+    item_alike forward n k h e l y s u same = subst (λ o. Sim forward (Valued place_of y ir_showing.outside NoType) (ir_call place_of (initializer_member e) [] ir_showing.outside s n) o) (sym (item_is e k y s u l same)) ((agree e l y s u same).there n k h)
+    item_alike backward n k h e l y s u same = subst (λ o. Sim backward (Valued place_of y ir_showing.outside NoType) (ir_call place_of (initializer_member e) [] ir_showing.outside s n) o) (sym (item_is e k y s u l same)) ((agree e l y s u same).back n k h)
+
+    calls_alike : (d : Direction) (n k : ℕ) → Enough room 0 d n k → (is : List EntryPoint) → ((e : EntryPoint) → Contains is e → usable.linked (initializer_member e) ≡ true) → (y : World) (s : ir.State) (u : js.State) → SameState place_of y s u → Sim d ◌≡◌ (ir_showing.all_show w n is s) (ended k (calls is k u))
+    calls_alike d n k h [] all y s u same = sim_done d ◌≡◌ normal normal refl
+    calls_alike d n k h (e ∷ is) all y s u same = subst (λ o. Sim d ◌≡◌ (ir_showing.all_show w n (e ∷ is) s) o) (sym regrouped) (sim_then d (Valued place_of y ir_showing.outside NoType) ◌≡◌ (ir_call place_of (initializer_member e) [] ir_showing.outside s n) (item_run e k u) (ir_showing.next_or_end (ir_showing.all_show w n is)) behind (item_alike d n k h e (all e (Contains-append_left (e ∷ []) is e (Contains-push [] e))) y s u same) (next d n k is y (λ z v s u same. calls_alike d n k h is (λ x i. all x (Contains-append_right (e ∷ []) is x i)) z s u same)))
+      where
+        rest : js.ExpressionEnd → Out js.ExpressionEnd
+        rest = js.with_value (λ v. js_meaning.run_items (alone f m) k f (map call_item_of is))
+
+        end : js.ExpressionEnd → Out js.ExpressionEnd
+        end = js.with_value (λ v. js_meaning.run_files (alone f m) k [])
+
+        behind : js.ExpressionEnd → Shown
+        behind b = then_do (then_do (rest b) end) (js_showing.ending (alone f m))
+
+        regrouped : ended k (calls (e ∷ is) k u) ≡ then_do (item_run e k u) behind
+        regrouped = ap (λ o. then_do o (js_showing.ending (alone f m))) (then_do-associative (item_run e k u) rest end) ∙ then_do-associative (item_run e k u) (λ b. then_do (rest b) end) (js_showing.ending (alone f m))
+
+        next : (d : Direction) (n k : ℕ) (is : List EntryPoint) (y : World) → ((z : World) (v : ir.Value) (s : ir.State) (u : js.State) → SameState place_of z s u → Sim d ◌≡◌ (ir_showing.all_show w n is s) (ended k (calls is k u))) → (a : ir.Ended) (b : js.ExpressionEnd) → Valued place_of y ir_showing.outside NoType a b → Sim d ◌≡◌ (ir_showing.next_or_end (ir_showing.all_show w n is) a) (then_do (then_do (js.with_value (λ v. js_meaning.run_items (alone f m) k f (map call_item_of is)) b) (js.with_value (λ v. js_meaning.run_files (alone f m) k []))) (js_showing.ending (alone f m)))
+        next d n k is y others _ _ (valued z v x s u g a same) = others z v s u same
+        next d n k is y others _ _ (thrown z v x s u g a same) = uncaught_alike place_of (alone f m) d z v x s u same a.stands a.suits
+
+    -- what the file shows, where its items come to a state that stands for the opening, and the calls of these initializers go on from it
+    pub file_alike : is_proper_module m ≡ true → (es : List EntryPoint) (y : World) (u : js.State) → ((k : ℕ) → js_meaning.run_items (alone f m) k f m.items (js_meaning.opening (alone f m)) ≡ calls es k u) → SameState place_of y (ir_world.opening w) u → ((e : EntryPoint) → Contains es e → usable.linked (initializer_member e) ≡ true) → (d : Direction) (n k : ℕ) → Enough room 0 d n k → Sim d ◌≡◌ (ir_showing.all_show w n es (ir_world.opening w)) (order_shows k (files.running_order (alone f m) f))
+    file_alike proper es y u runs same all d n k h = subst (λ o. Sim d ◌≡◌ (ir_showing.all_show w n es (ir_world.opening w)) o) (sym js_is) (calls_alike d n k h es all y (ir_world.opening w) u same)
+      where
+        judged : files.is_good_module (alone f m) f (Some m) ≡ true
+        judged = ap (λ b. b && list_all (λ x. is_some (files.owner (alone f m) f x)) (imported_names m.imports)) proper ∙ ap (λ is. list_all (λ x. is_some (files.owner (alone f m) f x)) (imported_names is)) none
+
+        js_is : order_shows k (files.running_order (alone f m) f) ≡ ended k (calls es k u)
+        js_is = ap (order_shows k) (order_is f m none) ∙ ap (content_shows k) (module_there f m) ∙ (λ i. if (judged i && true) then ended k (runs k i) else wrong)
 
 -- functions do nothing as items
 past_functions : (p : js.Program) (k : ℕ) (f : Name) (fs : List EmittedMethod) (is : List Item) (u : js.State) → js_meaning.run_items p k f (map function_item_of fs ++ is) u ≡ js_meaning.run_items p k f is u
@@ -216,62 +286,11 @@ module _ (w : ir_world.World) (id : List ℕ) (fs : List EmittedMethod) (es : Li
     names : NamesDiffer place
     names = emitted_names_differ w program (λ t. file) (λ f. has) no_room
 
-    -- an initializer, and the item that calls it
-    abbrev item_run : EntryPoint → ℕ → js.State → Out js.ExpressionEnd
-    item_run e k u = js_meaning.evaluate program (js_meaning.below program k) (call_of (member_name (initializer_member e)) no_expressions) (js_meaning.top_scope program file) u
-
-    item_is : (e : EntryPoint) (k : ℕ) (y : World) (s : ir.State) (u : js.State) → has.linked (initializer_member e) ≡ true → SameState place y s u → item_run e k u ≡ js_call place (initializer_member e) [] u k
-    item_is e k y s u l same = ap (λ o. called (js_meaning.top_cell o name u)) (own_name file (module_with fs es) name refl) ∙ ap called (same.tops file (a_function (initializer_member e)) l)
-      where
-        name : Name
-        name = member_name (initializer_member e)
-
-        called : js.Cell → Out js.ExpressionEnd
-        called cell = then_do (js_meaning.cell_value cell u) (js.with_value (λ g. js_meaning.in_order [] (js_meaning.call program (js_meaning.below program k) g) (js_meaning.top_scope program file)))
-
-    item_alike : (d : Direction) (n k : ℕ) → Enough place.room 0 d n k → (e : EntryPoint) → has.linked (initializer_member e) ≡ true → (y : World) (s : ir.State) (u : js.State) → SameState place y s u → Sim d (Valued place y ir_showing.outside NoType) (ir_call place (initializer_member e) [] ir_showing.outside s n) (item_run e k u)
-    item_alike forward n k h e l y s u same = subst (λ o. Sim forward (Valued place y ir_showing.outside NoType) (ir_call place (initializer_member e) [] ir_showing.outside s n) o) (sym (item_is e k y s u l same)) ((calls_agree place (in_world w plain) names (λ f m l. linked m l) no_objects file (initializer_member e) l y [] [] ir_showing.outside s u no_values same).there n k h)
-    item_alike backward n k h e l y s u same = subst (λ o. Sim backward (Valued place y ir_showing.outside NoType) (ir_call place (initializer_member e) [] ir_showing.outside s n) o) (sym (item_is e k y s u l same)) ((calls_agree place (in_world w plain) names (λ f m l. linked m l) no_objects file (initializer_member e) l y [] [] ir_showing.outside s u no_values same).back n k h)
-
-    -- the end of the file
-    abbrev ended : ℕ → Out js.ExpressionEnd → Shown
-    ended k o = then_do (then_do o (js.with_value (λ v. js_meaning.run_files program k []))) (js_showing.ending program)
-
-    abbrev calls : List EntryPoint → ℕ → js.State → Out js.ExpressionEnd
-    calls is k u = js_meaning.run_items program k file (map call_item_of is) u
-
-    calls_alike : (d : Direction) (n k : ℕ) → Enough place.room 0 d n k → (is : List EntryPoint) → ((e : EntryPoint) → Contains is e → has.linked (initializer_member e) ≡ true) → (y : World) (s : ir.State) (u : js.State) → SameState place y s u → Sim d ◌≡◌ (ir_showing.all_show w n is s) (ended k (calls is k u))
-    calls_alike d n k h [] all y s u same = sim_done d ◌≡◌ normal normal refl
-    calls_alike d n k h (e ∷ is) all y s u same = subst (λ o. Sim d ◌≡◌ (ir_showing.all_show w n (e ∷ is) s) o) (sym regrouped) (sim_then d (Valued place y ir_showing.outside NoType) ◌≡◌ (ir_call place (initializer_member e) [] ir_showing.outside s n) (item_run e k u) (ir_showing.next_or_end (ir_showing.all_show w n is)) behind (item_alike d n k h e (all e (Contains-append_left (e ∷ []) is e (Contains-push [] e))) y s u same) (next d n k is y (λ z v s u same. calls_alike d n k h is (λ x i. all x (Contains-append_right (e ∷ []) is x i)) z s u same)))
-      where
-        rest : js.ExpressionEnd → Out js.ExpressionEnd
-        rest = js.with_value (λ v. js_meaning.run_items program k file (map call_item_of is))
-
-        end : js.ExpressionEnd → Out js.ExpressionEnd
-        end = js.with_value (λ v. js_meaning.run_files program k [])
-
-        behind : js.ExpressionEnd → Shown
-        behind b = then_do (then_do (rest b) end) (js_showing.ending program)
-
-        regrouped : ended k (calls (e ∷ is) k u) ≡ then_do (item_run e k u) behind
-        regrouped = ap (λ o. then_do o (js_showing.ending program)) (then_do-associative (item_run e k u) rest end) ∙ then_do-associative (item_run e k u) (λ b. then_do (rest b) end) (js_showing.ending program)
-
-        next : (d : Direction) (n k : ℕ) (is : List EntryPoint) (y : World) → ((z : World) (v : ir.Value) (s : ir.State) (u : js.State) → SameState place z s u → Sim d ◌≡◌ (ir_showing.all_show w n is s) (ended k (calls is k u))) → (a : ir.Ended) (b : js.ExpressionEnd) → Valued place y ir_showing.outside NoType a b → Sim d ◌≡◌ (ir_showing.next_or_end (ir_showing.all_show w n is) a) (then_do (then_do (js.with_value (λ v. js_meaning.run_items program k file (map call_item_of is)) b) (js.with_value (λ v. js_meaning.run_files program k []))) (js_showing.ending program))
-        next d n k is y others _ _ (valued z v x s u g a same) = others z v s u same
-        next d n k is y others _ _ (thrown z v x s u g a same) = uncaught_alike place program d z v x s u same a.stands a.suits
-
-    -- what the file shows
-    abbrev order_shows : ℕ → List Name → Shown
-    order_shows k names = if list_all (files.is_good_file program) names then then_do (js_meaning.run_files program k names (js_meaning.opening program)) (js_showing.ending program) else wrong
-
-    abbrev content_shows : ℕ → Option Module → Shown
-    content_shows k content = if (files.is_good_module program file content && true) then then_do (then_do (js_meaning.run_items program k file (files.items_in content) (js_meaning.opening program)) (js.with_value (λ v. js_meaning.run_files program k []))) (js_showing.ending program) else wrong
-
-    js_is : (k : ℕ) → js_showing.js_shows program id k ≡ ended k (calls es k (js_meaning.opening program))
-    js_is k = ap (order_shows k) (order_is file (module_with fs es) refl) ∙ ap (content_shows k) (module_there file (module_with fs es)) ∙ (λ i. if (proper i && true && true) then ended k (past_functions program k file fs (map call_item_of es) (js_meaning.opening program) i) else wrong)
+    initializers_agree : InitializersAgree w file (module_with fs es) refl has no_room
+    initializers_agree e l y s u same = calls_agree place (in_world w plain) names (λ f m l. linked m l) no_objects file (initializer_member e) l y [] [] ir_showing.outside s u no_values same
 
     pub shows_alike : ((e : EntryPoint) → Contains es e → has.linked (initializer_member e) ≡ true) → (d : Direction) (n k : ℕ) → Enough place.room 0 d n k → Sim d ◌≡◌ (ir_showing.all_show w n es (ir_world.opening w)) (js_showing.js_shows program id k)
-    shows_alike all d n k h = subst (λ o. Sim d ◌≡◌ (ir_showing.all_show w n es (ir_world.opening w)) o) (sym (js_is k)) (calls_alike d n k h es all nothing_made (ir_world.opening w) (js_meaning.opening program) opening_same)
+    shows_alike all d n k h = file_alike w file (module_with fs es) refl has no_room initializers_agree proper es nothing_made (js_meaning.opening program) (λ k. past_functions program k file fs (map call_item_of es) (js_meaning.opening program)) opening_same all d n k h
 
 pub file_agrees : (w : ir_world.World) → IsPlain w → (entries : List EntryPoint) (id : List ℕ) (fs : List EmittedMethod) (linked_here : Member → Bool) → is_proper_module (module_with fs (ir_showing.initializers entries id)) ≡ true → ((e : EmittedMethod) → Contains fs e → IsEmitted w (members_alone linked_here) e) → ((m : Member) → linked_here m ≡ true → HasFunction fs m) → ((e : EntryPoint) → Contains (ir_showing.initializers entries id) e → linked_here (initializer_member e) ≡ true) → ((n : ℕ) → IsNotWrong (ir_showing.ir_shows w entries id n).end) → Agree (ir_showing.ir_shows w entries id) (js_showing.js_shows (program_with id fs (ir_showing.initializers entries id)) id)
 file_agrees w plain entries id fs linked_here proper emitted functions all right = agree-from_sim no_room (ir_showing.ir_shows w entries id) (js_showing.js_shows (program_with id fs (ir_showing.initializers entries id)) id) (shows_alike w id fs (ir_showing.initializers entries id) linked_here plain proper emitted functions all) right

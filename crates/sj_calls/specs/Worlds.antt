@@ -1,6 +1,7 @@
--- What the code of a program has of objects: members that run on receivers, constructors, classes, fields, the null check and divisions, each where code can use it.
+-- What the code of a program has of objects: members that run on receivers, constructors, classes, fields, the null check, divisions and objects that hold chars,
+-- each where code can use it.
 use Rattle.std.specs.Prelude.{◌≡◌, ℕ, ◌≤◌, true, false, List, length, codes, Option, Some}
-use Rattle.built_forms.specs.Built.{divides}
+use Rattle.built_forms.specs.Built.{can_box, divides}
 use Rattle.helper_rules.specs.Helpers.{helper_name}
 use Rattle.helper_rules.specs.declared.kinds.Failure.TheVariants.{NullReceiver, Division}
 use Rattle.helper_rules.specs.declared.kinds.Helper.TheVariants.{NotNull, Throws}
@@ -20,7 +21,7 @@ use Rattle.sj_plain.specs.Settings.{Place, SameState, SameStored, HasField, Reac
 use Rattle.body_rules.specs.Standing.{is_bare}
 use Rattle.sj_plain.specs.Worlds.{World}
 use Rattle.sj_trees.specs.Types.{class_type}
-use Rattle.sj_calls.specs.Helpers.{HelperStands, failing_code, checking_code, division_code}
+use Rattle.sj_calls.specs.Helpers.{HelperStands, BoxStands, helper_code, checking_code, division_code}
 use Rattle.sj_calls.specs.Made.{Makers}
 use Rattle.sj_calls.specs.Methods.{Linked}
 use Rattle.sj_calls.specs.Objects.{RunsOn, Constructs}
@@ -39,7 +40,7 @@ pub record IsMade (p : Place) (c : List ℕ) : Type 0 where
 -- the null check stands in the program, and so does what it throws
 pub record CanCheck (p : Place) : Type 0 where
   pub check : HelperStands p NotNull checking_code
-  pub failure : HelperStands p (Throws NullReceiver) (failing_code (codes "java.lang.NullPointerException") (codes "null"))
+  pub failure : HelperStands p (Throws NullReceiver) (helper_code (Throws NullReceiver))
   pub owned : owner p.program (p.home (a_helper NotNull)) (helper_name (Throws NullReceiver)) ≡ Some (p.home (a_helper (Throws NullReceiver)))
   pub held : (w : World) (s : ir.State) (u : js.State) → SameState p w s u → u.tops (p.home (a_helper (Throws NullReceiver))) (helper_name (Throws NullReceiver)) ≡ js.holds false (top_function p (a_helper (Throws NullReceiver)))
   pub reaches : Reaches p (p.home (a_helper (Throws NullReceiver)))
@@ -49,7 +50,7 @@ pub record CanCheck (p : Place) : Type 0 where
 -- the helper of a division stands in the program, and so does what it throws
 pub record CanDivide (p : Place) (o : BinaryOp) : Type 0 where
   pub division : HelperStands p (division_helper o) (division_code o)
-  pub failure : HelperStands p (Throws Division) (failing_code (codes "java.lang.ArithmeticException") (codes "/ by zero"))
+  pub failure : HelperStands p (Throws Division) (helper_code (Throws Division))
   pub owned : owner p.program (p.home (a_helper (division_helper o))) (helper_name (Throws Division)) ≡ Some (p.home (a_helper (Throws Division)))
   pub held : (w : World) (s : ir.State) (u : js.State) → SameState p w s u → u.tops (p.home (a_helper (Throws Division))) (helper_name (Throws Division)) ≡ js.holds false (top_function p (a_helper (Throws Division)))
   pub reaches : Reaches p (p.home (a_helper (Throws Division)))
@@ -66,5 +67,6 @@ pub record HasObjects (p : Place) : Type 0 where
   pub field : (f : Name) (c g : List ℕ) (t : IrType) → (p.has f).field c g t ≡ true → HasField p c g t
   pub checked : (f : Name) → (p.has f).helper check_name ≡ true → CanCheck p
   pub divided : (f : Name) (o : BinaryOp) → divides (p.has f) o ≡ true → CanDivide p o
+  pub boxes : (f : Name) → can_box (p.has f) ≡ true → BoxStands p
   pub each : 2 ≤ p.room.each
   pub beyond : 1 ≤ p.room.beyond

@@ -1,16 +1,19 @@
 -- Objects that hold chars: the emitted code makes one for itself, and where a tree is coerced, what it comes to stands at the type that is expected.
 use Rattle.std.proofs.lemmas.Bool.{eq-eqb, and_parts, not-true}
-use Rattle.std.proofs.Common.{◌≡◌, ℕ, Bool, true, false, ◌&&◌, inl, inr, List, [], ◌∷◌, Some, None, Option, refl, sym, ap, ◌∙◌, subst, if◌then◌else◌}
-use Rattle.std.specs.Prelude.{not, pos}
+use Rattle.std.proofs.Common.{◌≡◌, ℕ, Bool, true, false, ◌&&◌, inl, inr, List, [], ◌∷◌, Some, Option, refl, sym, ap, subst, if◌then◌else◌}
+use Rattle.std.specs.Prelude.{not, pos, ◌||◌, codes, nat_eq}
+use Rattle.std.specs.Cmp.Lexicographic.{pointwise}
 use Rattle.outcomes.specs.Outcome.{Out, done, then_do}
 use Rattle.outcomes.specs.Agreement.{Sim}
 use Rattle.outcomes.proofs.Sequence.{then_do-right}
 use Rattle.outcomes.proofs.Simulation.{sim_done, sim_then, sim_weaken}
 use Rattle.body_rules.proofs.Fitting.{fits-sub}
 use Rattle.body_rules.proofs.InWorld.{in_world}
+use Rattle.body_rules.proofs.RulesGive.{ArgumentsFit}
 use Rattle.body_rules.proofs.Standing.{coerced-same, fits-same}
-use Rattle.body_rules.proofs.Topped.{string_class, string_alone}
-use Rattle.body_rules.specs.Standing.{is_bare, Fits, FitAll, types_referred}
+use Rattle.body_rules.specs.Standing.{is_bare, Fits, FitAll, types_referred, MayStand}
+use Rattle.body_rules.specs.Subtyping.{IsSubtyping}
+use Rattle.built_forms.specs.Built.{Usable, can_box}
 use Rattle.helper_rules.specs.Helpers.{helper_name}
 use Rattle.helper_rules.specs.declared.kinds.Helper.TheVariants.{BoxedChar, ConstantsOf}
 use Rattle.helper_rules.specs.declared.kinds.Kind.TheVariants as kinds
@@ -18,20 +21,20 @@ use Rattle.ir_mean.specs.States as ir
 use Rattle.js_mean.specs.Meaning as js_meaning
 use Rattle.js_mean.specs.Objects as js_objects
 use Rattle.js_mean.specs.States as js
-use Rattle.js_tree.specs.Terms.{Name}
 use Rattle.sj_core.specs.Terms as core
-use Rattle.sj_desugar.specs.Coercions.{is_char, coerced, coerced_arguments}
-use Rattle.sj_names.proofs.Same.{impossible, text-same}
-use Rattle.sj_names.specs.Same.{is_same_text}
+use Rattle.sj_desugar.specs.Coercions.{is_char, coerced, coerced_arguments, coerced_receiver}
+use Rattle.sj_desugar.specs.Desugar.{types_of}
+use Rattle.sj_names.proofs.Same.{impossible}
 use Rattle.sj_names.specs.declared.references.TypeRef.{TypeRef}
-use Rattle.sj_trees.specs.Types.{reference_type}
+use Rattle.sj_trees.specs.Term.{Terms, no_terms, more_terms}
+use Rattle.sj_trees.specs.TypeOf.{type_of_term}
+use Rattle.sj_trees.specs.Types.{class_type, reference_type}
 use Rattle.sj_trees.specs.declared.types.IrType.{IrType}
-use Rattle.sj_trees.specs.declared.types.IrType.TheVariants.{Char, Class}
-use Rattle.sj_world.specs.Ancestors.{IsAncestor}
+use Rattle.sj_trees.specs.declared.types.IrType.TheVariants.{Any, Char, Class}
 use Rattle.sj_world.specs.Known.{Classes}
 use Rattle.sj_world.specs.Laws.{IsPlain}
-use Rattle.sj_world.specs.Subtypes.{hijacked_class, IsSub, equal, from_nothing, to_any, null_to_class, null_to_array, class_to_class, primitive_to_class, arrays_alike, arrays_of_arrays}
-use Rattle.sj_plain.specs.Settings.{Place, Setting, shown, usable, Top, a_helper, some_constants, TopHolds, top_name, box_link, SameState, Valued, valued, thrown, Based, Inside, BoxesAlike, MayBox}
+use Rattle.sj_world.specs.Subtypes.{IsSub}
+use Rattle.sj_plain.specs.Settings.{Place, Setting, shown, usable, Top, a_helper, some_constants, TopHolds, top_name, box_link, SameState, Valued, valued, thrown, Based, Lawful, Inside, BoxesAlike, MayBox}
 use Rattle.sj_plain.specs.Standing.{suits, Takes}
 use Rattle.sj_plain.specs.Worlds.{with_owned}
 use Rattle.sj_plain.proofs.Heaps.{owned-still, owns}
@@ -142,11 +145,11 @@ all-stood-fit [] (own ∷ owns) h = absurd h
 all-stood-fit (t ∷ ts) [] h = absurd h
 
 module _ (z : Setting) (law : Based z) (from : World) (env : ir.Env) (sc : js.Scope) (inside : Inside z.place z.code sc) where
-  stood_alike : (expected own : IrType) (h : Takes expected own) → MayBox z expected own → (r : ir.Run) (e : core.Expression) → OperandAlike z from env sc own r (shown z e) → OperandAlike z from env sc (stood expected own h) r (shown z (coerced expected own e))
+  pub stood_alike : (expected own : IrType) (h : Takes expected own) → MayBox z expected own → (r : ir.Run) (e : core.Expression) → OperandAlike z from env sc own r (shown z e) → OperandAlike z from env sc (stood expected own h) r (shown z (coerced expected own e))
   stood_alike expected own (inl f) may r e alike = subst (λ x. OperandAlike z from env sc own r (shown z x)) (sym (coerced-same expected own e f)) alike
   stood_alike expected own (inr h) may r e alike = operand_coerced z law expected own (inr h) may from env sc inside r e alike
 
-  stood_told : (expected own : IrType) (h : Takes expected own) (e : core.Expression) → tells own (text_of z e) ≡ true → tells (stood expected own h) (text_of z (coerced expected own e)) ≡ true
+  pub stood_told : (expected own : IrType) (h : Takes expected own) (e : core.Expression) → tells own (text_of z e) ≡ true → tells (stood expected own h) (text_of z (coerced expected own e)) ≡ true
   stood_told expected own (inl f) e told = subst (λ x. tells own (text_of z x) ≡ true) (sym (coerced-same expected own e f)) told
   stood_told expected own (inr h) e told = subst (λ x. tells expected (text_of z x) ≡ true) (sym (boxed-is expected own e h)) refl
 
@@ -157,32 +160,54 @@ module _ (z : Setting) (law : Based z) (from : World) (env : ir.Env) (sc : js.Sc
   operands_coerced (r ∷ rs) _ _ _ h may no_operands = absurd h
   operands_coerced (r ∷ rs) _ _ _ h may (more_operands own run e owns runs es told one others) = more_operands (stood (reference_type r) own h.0) run (coerced (reference_type r) own e) (all_stood (types_referred rs) owns h.1) runs (coerced_arguments rs owns es) (stood_told (reference_type r) own h.0 e told) (stood_alike (reference_type r) own h.0 may.0 run e one) (operands_coerced rs owns runs es h.1 may.1 others)
 
--- the class of chars isn't that of texts
-abbrev is_string : Option Name → Bool
-is_string None = false
-is_string (Some c) = is_same_text c string_class
+-- a tree of a subtype may stand where the type is expected, whether it is a char or not
+pub takes-below : (w : Classes) → IsSubtyping (IsSub w) → (expected own : IrType) → IsSub w own expected → Takes expected own
+takes-below w law expected own f = go (is_char own && not (is_char expected)) refl
+  where
+    go : (b : Bool) → (is_char own && not (is_char expected)) ≡ b → Takes expected own
+    go false n = inl (fits-sub w law expected own f n)
+    go true n = let q = and_parts (is_char own) (not (is_char expected)) n in inr (q.0, law.chars expected (subst (λ t. IsSub w t expected) (char_type own q.0) f) (not-true (is_char expected) q.1))
 
-module _ (w : Classes) (plain : IsPlain w) where
-  above_chars : (c d : Name) → hijacked_class Char ≡ Some c → IsAncestor w c d → (b : Bool) → is_bare (Class d) ≡ b → is_bare (Class d) ≡ false
-  above_chars c d e a false b = b
-  above_chars c d e a true b = impossible (ap is_string (e ∙ ap Some (string_alone w plain c (subst (λ (n : Name). IsAncestor w c n) (text-same d string_class b) a))))
+pub takes-sub : (w : Classes) → IsPlain w → (expected own : IrType) → IsSub w own expected → Takes expected own
+takes-sub w plain = takes-below w (in_world w plain)
 
-  -- of the types above that of chars objects stand at each other one
-  open_above : (t : IrType) → is_char t ≡ false → IsSub w Char t → is_bare t ≡ false
-  open_above t n (equal e) = impossible (sym n ∙ ap is_char (sym e))
-  open_above t n (from_nothing e) = absurd (cc)
-  open_above t n (to_any e k) = ap is_bare e
-  open_above t n (null_to_class d e f) = absurd (cc)
-  open_above t n (null_to_array b e f) = absurd (cc)
-  open_above t n (class_to_class c d e f a) = absurd (cc)
-  open_above t n (primitive_to_class c d e f a) = ap is_bare f ∙ above_chars c d e a (is_bare (Class d)) refl
-  open_above t n (arrays_alike a b e f g h) = absurd (cc)
-  open_above t n (arrays_of_arrays a b e f g h) = absurd (cc)
+-- a tree of the second type may stand where the first is expected, by what the code at hand can make
+abbrev pub StandsFor : Setting → IrType → IrType → Type 0
+StandsFor z expected own = Takes expected own × MayBox z expected own
 
-  -- a tree of a subtype may stand where the type is expected, whether it is a char or not
-  pub takes-sub : (expected own : IrType) → IsSub w own expected → Takes expected own
-  takes-sub expected own f = go (is_char own && not (is_char expected)) refl
-    where
-      go : (b : Bool) → (is_char own && not (is_char expected)) ≡ b → Takes expected own
-      go false n = inl (fits-sub w (in_world w plain) expected own f n)
-      go true n = let q = and_parts (is_char own) (not (is_char expected)) n in inr (q.0, open_above expected (not-true (is_char expected) q.1) (subst (λ t. IsSub w t expected) (char_type own q.0) f))
+abbrev pub StandForAll : Setting → List IrType → List IrType → Type 0
+StandForAll z ts owns = TakeAll ts owns × MayBoxAll z ts owns
+
+boxes_it_has : (b x : Bool) → (b || not x) ≡ true → x ≡ true → b ≡ true
+boxes_it_has true x h k = refl
+boxes_it_has false true h k = impossible h
+boxes_it_has false false h k = impossible k
+
+module _ (z : Setting) (lawful : Lawful z) where
+  pub may-box : (expected own : IrType) → MayStand (usable z) expected own → MayBox z expected own
+  may-box expected own may char = let has = boxes_it_has (can_box (usable z)) (is_char own && not (is_char expected)) may char in (has, lawful.boxes has)
+
+  pub stands-for : (expected own : IrType) → IsSub z.place.classes own expected → MayStand (usable z) expected own → StandsFor z expected own
+  stands-for expected own f may = (takes-below z.place.classes lawful.base.ordered expected own f, may-box expected own may)
+
+  pub stand-for-all : (ts : Terms) (rs : List TypeRef) → ArgumentsFit z.place.classes (usable z) ts rs → StandForAll z (types_referred rs) (types_of ts)
+  stand-for-all no_terms [] h = (tt, tt)
+  stand-for-all no_terms (r ∷ rs) h = absurd h
+  stand-for-all (more_terms t ts) [] h = absurd h
+  stand-for-all (more_terms t ts) (r ∷ rs) h = let own = stands-for (reference_type r) (type_of_term t) h.0.0 h.0.1 in let others = stand-for-all ts rs h.2 in ((own.0, others.0), (own.1, others.1))
+
+-- the type of a class isn't that of chars
+pub class-no-char : (c : List ℕ) → is_char (class_type c) ≡ false
+class-no-char c = go (pointwise nat_eq c (codes "java.lang.Object"))
+  where
+    go : (b : Bool) → is_char (if b then Any else Class c) ≡ false
+    go true = refl
+    go false = refl
+
+-- a receiver is coerced as to the type of its class
+pub receiver-coerced : (c : List ℕ) (own : IrType) (e : core.Expression) → coerced_receiver own e ≡ coerced (class_type c) own e
+receiver-coerced c own e = ap (λ (x : Bool). if (is_char own && not x) then core.boxed_char e else e) (sym (class-no-char c))
+
+-- what may stand anywhere may stand at the type of a class
+pub stands-at-class : (has : Usable) (c : List ℕ) (own : IrType) → MayStand has Any own → MayStand has (class_type c) own
+stands-at-class has c own h = subst (λ (x : Bool). (can_box has || not (is_char own && not x)) ≡ true) (sym (class-no-char c)) h

@@ -165,13 +165,13 @@ module _ (z : Setting) (law : Based z) where
           grown a o fresh = record { places = λ j b e. e; owns = λ b d e. e; pends = λ b d e. pending-kept w a b o d fresh e (b == a) refl }
 
   -- a member runs on a receiver
-  receive_acts : (m : Member) (own : IrType) (ts : List IrType) (w : World) (env : ir.Env) (sc : js.Scope) → (usable z).received m ≡ true → Fits (class_type m.class) own → FitAll (types_referred m.method.params) ts → ActsAlike z w w env (own ∷ ts) (call_type m.method.result) (ir_meaning.call_on z.place.classes z.low (ir_world.member_of z.place.classes m.class m.namespace m.method)) (js_meaning.call z.place.program z.js_low (top_function z.place (a_method m))) sc
+  receive_acts : (m : Member) (own : IrType) (ts : List IrType) (w : World) (env : ir.Env) (sc : js.Scope) → (usable z).received m ≡ true → Fits (class_type m.class) own → FitAll (types_referred m.method.params) ts → ActsAlike z w w env (own ∷ ts) (call_type m.method.result) (ir_meaning.call_on z.place.classes z.low (ir_meaning.static_target z.place.classes m.class m.namespace m.method)) (js_meaning.call z.place.program z.js_low (top_function z.place (a_method m))) sc
   receive_acts m own ts w env sc there f fit y _ _ s u g (one_more _ v x _ vs xs a others) same = by v x a.stands (value-fits y (class_type m.class) own v x f a)
     where
-      goes : (v : ir.Value) (x : js.Value) → IsReceiver y m.class v x → Sim z.direction (Valued z.place w env (call_type m.method.result)) (ir_meaning.call z.low (ir_world.member_of z.place.classes m.class m.namespace m.method) (Some v) vs env s) (top_call z.place z.js_low (a_method m) (x ∷ xs) u)
+      goes : (v : ir.Value) (x : js.Value) → IsReceiver y m.class v x → Sim z.direction (Valued z.place w env (call_type m.method.result)) (ir_meaning.call z.low (ir_meaning.static_target z.place.classes m.class m.namespace m.method) (Some v) vs env s) (top_call z.place z.js_low (a_method m) (x ∷ xs) u)
       goes v x r = sim_weaken z.direction (Valued z.place y env (call_type m.method.result)) (Valued z.place w env (call_type m.method.result)) _ _ (λ a b. valued-weaken z w y env (call_type m.method.result) a b g) (law.receives m there y v x vs xs env s u r (values-fit y (types_referred m.method.params) ts vs xs fit others) same)
 
-      by : (v : ir.Value) (x : js.Value) → Stands y (is_char own) v x → SameValue y (class_type m.class) v x → Sim z.direction (Valued z.place w env (call_type m.method.result)) (ir_meaning.call_on z.place.classes z.low (ir_world.member_of z.place.classes m.class m.namespace m.method) (v ∷ vs) env s) (top_call z.place z.js_low (a_method m) (x ∷ xs) u)
+      by : (v : ir.Value) (x : js.Value) → Stands y (is_char own) v x → SameValue y (class_type m.class) v x → Sim z.direction (Valued z.place w env (call_type m.method.result)) (ir_meaning.call_on z.place.classes z.low (ir_meaning.static_target z.place.classes m.class m.namespace m.method) (v ∷ vs) env s) (top_call z.place z.js_low (a_method m) (x ∷ xs) u)
       by _ _ same_null k = sim_wrong z.direction (Valued z.place w env (call_type m.method.result)) _
       by _ _ same_undefined k = goes _ _ (record { stands = k; there = λ e. cc })
       by _ _ (same_boolean b) k = goes _ _ (record { stands = k; there = λ e. cc })
@@ -182,8 +182,8 @@ module _ (z : Setting) (law : Based z) where
       by _ _ (same_text us) k = goes _ _ (record { stands = k; there = λ e. cc })
       by _ _ (same_reference i a e) k = goes _ _ (record { stands = k; there = λ e. cc })
 
-  pub received_call_alike : (m : Member) (own : IrType) (ts : List IrType) (r : ir.Run) (rs : List ir.Run) (e : core.Expression) (es : List core.Expression) → (usable z).received m ≡ true → Fits (class_type m.class) own → FitAll (types_referred m.method.params) ts → (w : World) (env : ir.Env) (s : ir.State) (sc : js.Scope) (u : js.State) → Inside z.place z.code sc → OperandsAlike z w env sc (own ∷ ts) (r ∷ rs) (e ∷ es) → SameState z.place w s u → Sim z.direction (Valued z.place w env (call_type m.method.result)) (ir_meaning.in_order (r ∷ rs) (ir_meaning.call_on z.place.classes z.low (ir_world.member_of z.place.classes m.class m.namespace m.method)) env s) (shown z (core.receiver_call m e (expressions_of es)) sc u)
-  received_call_alike m own ts r rs e es there f fit w env s sc u inside operands same = subst (λ q. Sim z.direction (Valued z.place w env (call_type m.method.result)) (ir_meaning.in_order (r ∷ rs) (ir_meaning.call_on z.place.classes z.low (ir_world.member_of z.place.classes m.class m.namespace m.method)) env s) q) (sym js_is) (in_order_alike z w w env sc w (own ∷ ts) (call_type m.method.result) (r ∷ rs) (e ∷ es) (ir_meaning.call_on z.place.classes z.low (ir_world.member_of z.place.classes m.class m.namespace m.method)) (js_meaning.call z.place.program z.js_low fun) operands (receive_acts m own ts w env sc there f fit) w s u (grows-refl w) (grows-refl w) (grows-refl w) same)
+  pub received_call_alike : (m : Member) (own : IrType) (ts : List IrType) (r : ir.Run) (rs : List ir.Run) (e : core.Expression) (es : List core.Expression) → (usable z).received m ≡ true → Fits (class_type m.class) own → FitAll (types_referred m.method.params) ts → (w : World) (env : ir.Env) (s : ir.State) (sc : js.Scope) (u : js.State) → Inside z.place z.code sc → OperandsAlike z w env sc (own ∷ ts) (r ∷ rs) (e ∷ es) → SameState z.place w s u → Sim z.direction (Valued z.place w env (call_type m.method.result)) (ir_meaning.in_order (r ∷ rs) (ir_meaning.call_on z.place.classes z.low (ir_meaning.static_target z.place.classes m.class m.namespace m.method)) env s) (shown z (core.receiver_call m e (expressions_of es)) sc u)
+  received_call_alike m own ts r rs e es there f fit w env s sc u inside operands same = subst (λ q. Sim z.direction (Valued z.place w env (call_type m.method.result)) (ir_meaning.in_order (r ∷ rs) (ir_meaning.call_on z.place.classes z.low (ir_meaning.static_target z.place.classes m.class m.namespace m.method)) env s) q) (sym js_is) (in_order_alike z w w env sc w (own ∷ ts) (call_type m.method.result) (r ∷ rs) (e ∷ es) (ir_meaning.call_on z.place.classes z.low (ir_meaning.static_target z.place.classes m.class m.namespace m.method)) (js_meaning.call z.place.program z.js_low fun) operands (receive_acts m own ts w env sc there f fit) w s u (grows-refl w) (grows-refl w) (grows-refl w) same)
     where
       fun : js.Value
       fun = top_function z.place (a_method m)

@@ -2,12 +2,12 @@
 use Rattle.std.proofs.Common.{◌≡◌, zero, suc, Bool, true, false, List, [], ◌∷◌, None, Option, refl, sym, ap, ◌∙◌, subst, inl, inr, if◌then◌else◌, ⊎_elim}
 use Rattle.std.specs.Prelude.{ℤ, pos, negsuc, FitsSigned, ℕ, ◌&&◌, ◌⊎◌, not}
 use Rattle.std.proofs.lemmas.Bool.{and_parts}
-use Rattle.body_rules.proofs.Fitting.{yield-fits, fit-all, fits-unary, fits-dividend, operates, not_no_type, unary-operand-value, left-operand-value, right-operand-value}
+use Rattle.body_rules.proofs.Fitting.{fits-unary, fits-dividend, operates, not_no_type, unary-operand-value, left-operand-value, right-operand-value}
 use Rattle.body_rules.proofs.Locals.{there}
 use Rattle.body_rules.proofs.RulesGive.{when_not, Yields, ArgumentsFit, Takes, its_types, texts, of_division, one_yields, other_yields, arguments_there, is_linked, operation}
 use Rattle.body_rules.specs.Subtyping.{IsSubtyping}
 use Rattle.body_rules.specs.Typing.{Scene, Typed, TypedAll, may_check}
-use Rattle.built_forms.specs.Built.{Usable, any_is_boxed, divides}
+use Rattle.built_forms.specs.Built.{Usable, may_pass, divides}
 use Rattle.sj_desugar.specs.Plain.{is_plain, are_plain, is_no_type}
 use Rattle.sj_names.specs.declared.method_names.Namespace.{Namespace}
 use Rattle.sj_names.specs.declared.method_names.MethodName.{MethodName}
@@ -55,11 +55,11 @@ use Rattle.sj_plain.proofs.Divisions.{division_alike, dividend_alone}
 use Rattle.sj_plain.proofs.Operators.{template_value, is_direct}
 use Rattle.sj_plain.proofs.Objects.{select_alike, new_alike, received_call_alike, checked_alike}
 use Rattle.sure_receivers.specs.Sure.{is_sure}
-use Rattle.sj_names.specs.declared.method_names.Namespace.TheVariants.{Private, Constructor}
-use Rattle.sj_plain.proofs.Received.{value_none, not_none, class_value, value_below, value_apart, may_be_checked, receiver-same, Received, received}
-use Rattle.sj_plain.proofs.Orders.{ActsAlike, OperandAlike, OperandsAlike, no_operands, more_operands, all_shown, valued-weaken, valued-fits, in_order_alike}
+use Rattle.sj_names.specs.declared.method_names.Namespace.TheVariants.{Public, Private, Constructor}
+use Rattle.sj_plain.proofs.Received.{value_none, not_none, class_value, value_below, value_apart, may_be_checked, Received, received}
+use Rattle.sj_plain.proofs.Orders.{ActsAlike, OperandAlike, OperandsAlike, no_operands, more_operands, all_shown, valued-weaken, in_order_alike}
 use Rattle.sj_plain.proofs.Shifts.{left_shift_alike, right_shift_alike, zero_shift_alike, joined_alike}
-use Rattle.body_rules.proofs.Standing.{coerced-same, arguments-same}
+use Rattle.sj_plain.proofs.Boxes.{operand_coerced, operands_coerced, stood, stood-fits, stood_alike, stood_told, all_stood, all-stood-fit, StandsFor, StandForAll, stands-for, stand-for-all, receiver-coerced}
 use Rattle.sj_plain.proofs.Templates.{fits-exact, unit_is_int, by_value, by_one_value, one_template_value, binary_shown, binary_acts, unary_shown, unary_acts}
 use Rattle.sj_plain.proofs.Told.{is_long, is_narrow, tells, tells-narrow, no_ratio}
 use Rattle.sj_plain.proofs.Worlds.{World, Grows, grows-refl, SameValue, Stands, same_undefined, same_null, same_boolean, same_char, same_number, same_long, same_text, value-lift, values-fit, no_values, one_more}
@@ -110,9 +110,6 @@ module _ (z : Setting) (lawful : Lawful z) (scope : Scope) where
   weaker : (v w : World) (env : ir.Env) (t : IrType) (o : Out ir.Ended) (q : Out js.ExpressionEnd) → Grows v w → Sim z.direction (Valued z.place w env t) o q → Sim z.direction (Valued z.place v env t) o q
   weaker v w env t o q g h = sim_weaken z.direction (Valued z.place w env t) (Valued z.place v env t) o q (λ a b. valued-weaken z v w env t a b g) h
 
-  pub fitting : (w : World) (env : ir.Env) (expected own : IrType) (o : Out ir.Ended) (q : Out js.ExpressionEnd) → Fits expected own → Sim z.direction (Valued z.place w env own) o q → Sim z.direction (Valued z.place w env expected) o q
-  fitting w env expected own o q f h = sim_weaken z.direction (Valued z.place w env own) (Valued z.place w env expected) o q (λ a b. valued-fits z w env expected own a b f) h
-
   call_acts : (m : Member) (ts : List IrType) (w : World) (env : ir.Env) (sc : js.Scope) → (usable z).linked m ≡ true → FitAll (types_referred m.method.params) ts → ActsAlike z w w env ts (call_type m.method.result) (ir_meaning.call z.low (ir_world.member_of z.place.classes m.class m.namespace m.method) None) (js_meaning.call z.place.program z.js_low (function_of_member z.place m)) sc
   call_acts m ts w env sc linked fit y vs xs s u g alike same = weaker w y env (call_type m.method.result) (ir_meaning.call z.low (ir_world.member_of z.place.classes m.class m.namespace m.method) None vs env s) (function_call z.place z.js_low m xs u) g (lawful.base.calls m linked y vs xs env s u (values-fit y (types_referred m.method.params) ts vs xs fit alike) same)
 
@@ -138,11 +135,11 @@ module _ (z : Setting) (lawful : Lawful z) (scope : Scope) where
   pub as_operand : (t : Term) → PlainAlike t → (w : World) (env : ir.Env) (sc : js.Scope) → Sees z.place z.code scope w env sc → OperandAlike z w env sc (type_of_term t) (ir_meaning.step z.place.classes z.low t) (shown z (expression_of z.code.sure t))
   as_operand t h w env sc sees y s u g same = h y env s sc u (sees-lift z scope w y env sc g sees) same
 
-  fitting_operand : (t : Term) (expected : IrType) → Fits expected (type_of_term t) → PlainAlike t → (w : World) (env : ir.Env) (sc : js.Scope) → Sees z.place z.code scope w env sc → OperandAlike z w env sc expected (ir_meaning.step z.place.classes z.low t) (shown z (expression_of z.code.sure t))
-  fitting_operand t expected f h w env sc sees y s u g same = fitting y env expected (type_of_term t) (ir_meaning.step z.place.classes z.low t env s) (shown z (expression_of z.code.sure t) sc u) f (as_operand t h w env sc sees y s u g same)
+  standing_operand : (t : Term) (expected : IrType) → StandsFor z expected (type_of_term t) → PlainAlike t → (w : World) (env : ir.Env) (sc : js.Scope) → Sees z.place z.code scope w env sc → OperandAlike z w env sc expected (ir_meaning.step z.place.classes z.low t) (shown z (coerced expected (type_of_term t) (expression_of z.code.sure t)))
+  standing_operand t expected f h w env sc sees = operand_coerced z lawful.base expected (type_of_term t) f.0 f.1 w env sc sees.inside (ir_meaning.step z.place.classes z.low t) (expression_of z.code.sure t) (as_operand t h w env sc sees)
 
-  if_alike : (c a b : Term) (t : IrType) (e f : core.Expression) → PlainAlike c → PlainAlike a → PlainAlike b → Fits t (type_of_term a) → Fits t (type_of_term b) → e ≡ expression_of z.code.sure a → f ≡ expression_of z.code.sure b → tells (type_of_term c) (expression_template z.place.name z.place.label (expression_of z.code.sure c)) ≡ true → (w : World) (env : ir.Env) (s : ir.State) (sc : js.Scope) (u : js.State) → Sees z.place z.code scope w env sc → SameState z.place w s u → Sim z.direction (Valued z.place w env t) (ir_meaning.in_order (ir_meaning.step z.place.classes z.low c ∷ []) (ir_meaning.branch (ir_meaning.step z.place.classes z.low a) (ir_meaning.step z.place.classes z.low b)) env s) (shown z (core.choice_of (expression_of z.code.sure c) e f) sc u)
-  if_alike c a b t e f hc ha hb fa fb ea eb told w env s sc u sees same = by_equal w env t _ _ _ _ refl (λ i. shown z (core.choice_of (expression_of z.code.sure c) (ea i) (eb i)) sc u) (in_order_alike z w w env sc w (type_of_term c ∷ []) t (ir_meaning.step z.place.classes z.low c ∷ []) (expression_of z.code.sure c ∷ []) (ir_meaning.branch (ir_meaning.step z.place.classes z.low a) (ir_meaning.step z.place.classes z.low b)) (js_meaning.chosen (shown z (expression_of z.code.sure a)) (shown z (expression_of z.code.sure b))) (more_operands _ _ _ _ _ _ told (as_operand c hc w env sc sees) no_operands) (branch_acts w env sc (type_of_term c) t (ir_meaning.step z.place.classes z.low a) (ir_meaning.step z.place.classes z.low b) (shown z (expression_of z.code.sure a)) (shown z (expression_of z.code.sure b)) (fitting_operand a t fa ha w env sc sees) (fitting_operand b t fb hb w env sc sees)) w s u (grows-refl w) (grows-refl w) (grows-refl w) same)
+  if_alike : (c a b : Term) (t : IrType) → PlainAlike c → PlainAlike a → PlainAlike b → StandsFor z t (type_of_term a) → StandsFor z t (type_of_term b) → tells (type_of_term c) (expression_template z.place.name z.place.label (expression_of z.code.sure c)) ≡ true → (w : World) (env : ir.Env) (s : ir.State) (sc : js.Scope) (u : js.State) → Sees z.place z.code scope w env sc → SameState z.place w s u → Sim z.direction (Valued z.place w env t) (ir_meaning.in_order (ir_meaning.step z.place.classes z.low c ∷ []) (ir_meaning.branch (ir_meaning.step z.place.classes z.low a) (ir_meaning.step z.place.classes z.low b)) env s) (shown z (core.choice_of (expression_of z.code.sure c) (coerced t (type_of_term a) (expression_of z.code.sure a)) (coerced t (type_of_term b) (expression_of z.code.sure b))) sc u)
+  if_alike c a b t hc ha hb fa fb told w env s sc u sees same = in_order_alike z w w env sc w (type_of_term c ∷ []) t (ir_meaning.step z.place.classes z.low c ∷ []) (expression_of z.code.sure c ∷ []) (ir_meaning.branch (ir_meaning.step z.place.classes z.low a) (ir_meaning.step z.place.classes z.low b)) (js_meaning.chosen (shown z (coerced t (type_of_term a) (expression_of z.code.sure a))) (shown z (coerced t (type_of_term b) (expression_of z.code.sure b)))) (more_operands _ _ _ _ _ _ told (as_operand c hc w env sc sees) no_operands) (branch_acts w env sc (type_of_term c) t (ir_meaning.step z.place.classes z.low a) (ir_meaning.step z.place.classes z.low b) (shown z (coerced t (type_of_term a) (expression_of z.code.sure a))) (shown z (coerced t (type_of_term b) (expression_of z.code.sure b))) (standing_operand a t fa ha w env sc sees) (standing_operand b t fb hb w env sc sees)) w s u (grows-refl w) (grows-refl w) (grows-refl w) same
 
   pub call_alike : (m : Member) (ts : List IrType) (rs : List ir.Run) (es es' : List core.Expression) → es ≡ es' → (usable z).linked m ≡ true → FitAll (types_referred m.method.params) ts → (w : World) (env : ir.Env) (s : ir.State) (sc : js.Scope) (u : js.State) → Inside z.place z.code sc → OperandsAlike z w env sc ts rs es' → SameState z.place w s u → Sim z.direction (Valued z.place w env (call_type m.method.result)) (ir_meaning.in_order rs (ir_meaning.call z.low (ir_world.member_of z.place.classes m.class m.namespace m.method) None) env s) (shown z (core.static_call m (expressions_of es)) sc u)
   call_alike m ts rs es es' e linked fit w env s sc u inside operands same = by_equal w env (call_type m.method.result) _ _ _ _ refl (ap (λ o. then_do o (js.with_value (λ f. js_meaning.in_order (js_meaning.arguments z.place.program z.js_low (expression_templates z.place.name z.place.label (expressions_of es))) (js_meaning.call z.place.program z.js_low f) sc))) (name_shown m w s sc u linked inside same) ∙ ap (λ args. js_meaning.in_order args (js_meaning.call z.place.program z.js_low (function_of_member z.place m)) sc u) (arguments_shown es ∙ ap (all_shown z) e)) (in_order_alike z w w env sc w ts (call_type m.method.result) rs es' (ir_meaning.call z.low (ir_world.member_of z.place.classes m.class m.namespace m.method) None) (js_meaning.call z.place.program z.js_low (function_of_member z.place m)) operands (call_acts m ts w env sc linked fit) w s u (grows-refl w) (grows-refl w) (grows-refl w) same)
@@ -266,8 +263,12 @@ module _ (z : Setting) (lawful : Lawful z) (scope : Scope) where
     told = subst (λ x. tells (binary_result o) (expression_template z.place.name z.place.label x) ≡ true) (sym (division_same o d by (type_of_term e) (type_of_term d) (expression_of z.code.sure e) (expression_of z.code.sure d))) (division_tells o d by (text_of_tree e));
   }
 
-  call_plain : (p : Position) (m : Member) (ts : Terms) (t : IrType) → t ≡ call_type m.method.result → (usable z).linked m ≡ true → FitAll (types_referred m.method.params) (types_of ts) → (w : World) (env : ir.Env) (s : ir.State) (sc : js.Scope) (u : js.State) → Sees z.place z.code scope w env sc → OperandsAlike z w env sc (types_of ts) (ir_meaning.operands z.place.classes z.low ts) (all_expressions z.code.sure ts) → SameState z.place w s u → Sim z.direction (Valued z.place w env t) (ir_meaning.in_order (ir_meaning.operands z.place.classes z.low ts) (ir_meaning.call z.low (ir_world.member_of z.place.classes m.class m.namespace m.method) None) env s) (shown z (core.static_call m (expressions_of (coerced_arguments m.method.params (types_of ts) (all_expressions z.code.sure ts)))) sc u)
-  call_plain p m ts t is linked fit w env s sc u sees operands same = subst (λ i. Sim z.direction (Valued z.place w env i) (ir_meaning.in_order (ir_meaning.operands z.place.classes z.low ts) (ir_meaning.call z.low (ir_world.member_of z.place.classes m.class m.namespace m.method) None) env s) (shown z (core.static_call m (expressions_of (coerced_arguments m.method.params (types_of ts) (all_expressions z.code.sure ts)))) sc u)) (sym is) (call_alike m (types_of ts) (ir_meaning.operands z.place.classes z.low ts) (coerced_arguments m.method.params (types_of ts) (all_expressions z.code.sure ts)) (all_expressions z.code.sure ts) (arguments-same m.method.params (types_of ts) (all_expressions z.code.sure ts) fit) linked fit w env s sc u sees.inside operands same)
+  -- arguments as they are coerced
+  passed : (rs : List TypeRef) (ts : Terms) (fit : StandForAll z (types_referred rs) (types_of ts)) (w : World) (env : ir.Env) (sc : js.Scope) → Inside z.place z.code sc → OperandsAlike z w env sc (types_of ts) (ir_meaning.operands z.place.classes z.low ts) (all_expressions z.code.sure ts) → OperandsAlike z w env sc (all_stood (types_referred rs) (types_of ts) fit.0) (ir_meaning.operands z.place.classes z.low ts) (coerced_arguments rs (types_of ts) (all_expressions z.code.sure ts))
+  passed rs ts fit w env sc inside = operands_coerced z lawful.base w env sc inside rs (types_of ts) (ir_meaning.operands z.place.classes z.low ts) (all_expressions z.code.sure ts) fit.0 fit.1
+
+  call_plain : (p : Position) (m : Member) (ts : Terms) (t : IrType) → t ≡ call_type m.method.result → (usable z).linked m ≡ true → StandForAll z (types_referred m.method.params) (types_of ts) → (w : World) (env : ir.Env) (s : ir.State) (sc : js.Scope) (u : js.State) → Sees z.place z.code scope w env sc → OperandsAlike z w env sc (types_of ts) (ir_meaning.operands z.place.classes z.low ts) (all_expressions z.code.sure ts) → SameState z.place w s u → Sim z.direction (Valued z.place w env t) (ir_meaning.in_order (ir_meaning.operands z.place.classes z.low ts) (ir_meaning.call z.low (ir_world.member_of z.place.classes m.class m.namespace m.method) None) env s) (shown z (core.static_call m (expressions_of (coerced_arguments m.method.params (types_of ts) (all_expressions z.code.sure ts)))) sc u)
+  call_plain p m ts t is linked fit w env s sc u sees operands same = subst (λ i. Sim z.direction (Valued z.place w env i) (ir_meaning.in_order (ir_meaning.operands z.place.classes z.low ts) (ir_meaning.call z.low (ir_world.member_of z.place.classes m.class m.namespace m.method) None) env s) (shown z (core.static_call m (expressions_of (coerced_arguments m.method.params (types_of ts) (all_expressions z.code.sure ts)))) sc u)) (sym is) (call_alike m (all_stood (types_referred m.method.params) (types_of ts) fit.0) (ir_meaning.operands z.place.classes z.low ts) (coerced_arguments m.method.params (types_of ts) (all_expressions z.code.sure ts)) (coerced_arguments m.method.params (types_of ts) (all_expressions z.code.sure ts)) refl linked (all-stood-fit (types_referred m.method.params) (types_of ts) fit.0) w env s sc u sees.inside (passed m.method.params ts fit w env sc sees.inside operands) same)
 
   -- a receiver, by whether it is sure
   pub received_alike : (b : Bool) (t : IrType) (w : World) (env : ir.Env) (sc : js.Scope) (r : ir.Run) (e : core.Expression) → (b ≡ true) ⊎ ((usable z).helper check_name ≡ true) → Inside z.place z.code sc → OperandsAlike z w env sc (t ∷ []) (r ∷ []) (e ∷ []) → OperandsAlike z w env sc (t ∷ []) (ir_meaning.receiving z.place.classes b z.low r ∷ []) (received_text b e ∷ [])
@@ -289,34 +290,32 @@ module _ (z : Setting) (lawful : Lawful z) (scope : Scope) where
     abbrev IsValue : Term → Type 0
     IsValue t = is_no_type (type_of_term t) ≡ false
 
-    value_yielded : (e : Term) (t : IrType) → is_no_type t ≡ false → Yields z.place.classes e t → IsValue e
+    value_yielded : (e : Term) (t : IrType) → is_no_type t ≡ false → Yields z.place.classes (usable z) e t → IsValue e
     value_yielded e t n (inl i) = impossible (sym n ∙ ap is_no_type i)
     value_yielded e t n (inr f) = value_below z.place.classes law (type_of_term e) t f.0 n
 
+    yielded_stands : (e : Term) (t : IrType) → is_no_type t ≡ false → Yields z.place.classes (usable z) e t → StandsFor z t (type_of_term e)
+    yielded_stands e t n (inl i) = impossible (sym n ∙ ap is_no_type i)
+    yielded_stands e t n (inr f) = stands-for z lawful t (type_of_term e) f.0 f.1
+
     if_tree : (p : Position) (c a b : Term) (t : IrType) → Kept (if_then p c a b t) → is_no_type t ≡ false → TreeAlike c → TreeAlike a → TreeAlike b → TreeAlike (if_then p c a b t)
     if_tree p c a b t h value hc ha hb = record {
-      alike = λ w env s sc u sees same. if_alike c a b t (coerced t (type_of_term a) (expression_of z.code.sure a)) (coerced t (type_of_term b) (expression_of z.code.sure b)) hc.alike ha.alike hb.alike fit fit_other (coerced-same t (type_of_term a) (expression_of z.code.sure a) fit) (coerced-same t (type_of_term b) (expression_of z.code.sure b) fit_other) hc.told w env s sc u sees same;
+      alike = λ w env s sc u sees same. if_alike c a b t hc.alike ha.alike hb.alike (yielded_stands a t value (one_yields z.place.classes (usable z) a b t h.0.built h.0.meets.1)) (yielded_stands b t value (other_yields z.place.classes (usable z) a b t h.0.built h.0.meets.2)) hc.told w env s sc u sees same;
       told = refl;
     }
-      where
-        fit : Fits t (type_of_term a)
-        fit = yield-fits z.place.classes law t a value (one_yields z.place.classes a b t h.0.built h.0.meets.1)
-
-        fit_other : Fits t (type_of_term b)
-        fit_other = yield-fits z.place.classes law t b value (other_yields z.place.classes a b t h.0.built h.0.meets.2)
 
     abbrev RowAlike : Terms → Type 0
     RowAlike ts = (w : World) (env : ir.Env) (sc : js.Scope) → Sees z.place z.code scope w env sc → OperandsAlike z w env sc (types_of ts) (ir_meaning.operands z.place.classes z.low ts) (all_expressions z.code.sure ts)
 
     call_tree : (p : Position) (c : List ℕ) (n : Namespace) (m : MethodName) (ts : Terms) (t : IrType) → Kept (apply_static p c n m ts t) → RowAlike ts → TreeAlike (apply_static p c n m ts t)
     call_tree p c n m ts t h operands = record {
-      alike = λ w env s sc u sees same. call_plain p (member c n m) ts t h.0.meets.1 (is_linked z.place.classes ((usable z).linked (member c n m)) ts m.params h.0.built) (fit-all z.place.classes law ts m.params (arguments_there z.place.classes ((usable z).linked (member c n m)) ts m.params h.0.built h.0.finds h.0.meets.2)) w env s sc u sees (operands w env sc sees) same;
+      alike = λ w env s sc u sees same. call_plain p (member c n m) ts t h.0.meets.1 (is_linked z.place.classes (usable z) ((usable z).linked (member c n m)) ts m.params h.0.built) (stand-for-all z lawful ts m.params (arguments_there z.place.classes (usable z) ((usable z).linked (member c n m)) ts m.params h.0.built h.0.finds h.0.meets.2)) w env s sc u sees (operands w env sc sees) same;
       told = refl;
     }
 
     -- a receiver that is never null, or whose check can be used
     receiver_alike : (e : Term) → TreeAlike e → may_check (usable z) scene.sure e ≡ true → (w : World) (env : ir.Env) (sc : js.Scope) → Sees z.place z.code scope w env sc → OperandsAlike z w env sc (type_of_term e ∷ []) (ir_meaning.receiving z.place.classes (is_sure env.sure e) z.low (ir_meaning.step z.place.classes z.low e) ∷ []) (received_text (is_sure z.code.sure e) (expression_of z.code.sure e) ∷ [])
-    receiver_alike e h may w env sc sees = subst (λ q. OperandsAlike z w env sc (type_of_term e ∷ []) (ir_meaning.receiving z.place.classes (is_sure q e) z.low (ir_meaning.step z.place.classes z.low e) ∷ []) (received_text (is_sure z.code.sure e) (expression_of z.code.sure e) ∷ [])) (sym sees.sure) (received_alike (is_sure z.code.sure e) (type_of_term e) w env sc (ir_meaning.step z.place.classes z.low e) (expression_of z.code.sure e) (may_be_checked (usable z) z.code.sure e (subst (λ (q : List ℕ → Bool). may_check (usable z) q e ≡ true) surely may)).0 sees.inside (with_tree e h w env sc sees [] [] [] no_operands))
+    receiver_alike e h may w env sc sees = subst (λ q. OperandsAlike z w env sc (type_of_term e ∷ []) (ir_meaning.receiving z.place.classes (is_sure q e) z.low (ir_meaning.step z.place.classes z.low e) ∷ []) (received_text (is_sure z.code.sure e) (expression_of z.code.sure e) ∷ [])) (sym sees.sure) (received_alike (is_sure z.code.sure e) (type_of_term e) w env sc (ir_meaning.step z.place.classes z.low e) (expression_of z.code.sure e) (may_be_checked (usable z) z.code.sure e (subst (λ (q : List ℕ → Bool). may_check (usable z) q e ≡ true) surely may)) sees.inside (with_tree e h w env sc sees [] [] [] no_operands))
 
     select_tree : (p : Position) (e : Term) (c f : List ℕ) (t : IrType) → Kept (select p e c f t) → TreeAlike e → TreeAlike (select p e c f t)
     select_tree p e c f t h one = record {
@@ -326,24 +325,31 @@ module _ (z : Setting) (lawful : Lawful z) (scope : Scope) where
 
     new_tree : (p : Position) (c : List ℕ) (m : MethodName) (ts : Terms) → Kept (new_object p c m ts) → RowAlike ts → TreeAlike (new_object p c m ts)
     new_tree p c m ts h operands = record {
-      alike = λ w env s sc u sees same. new_alike z lawful.base c m (types_of ts) (ir_meaning.operands z.place.classes z.low ts) (coerced_arguments m.params (types_of ts) (all_expressions z.code.sure ts)) (all_expressions z.code.sure ts) (arguments-same m.params (types_of ts) (all_expressions z.code.sure ts) fit) (is_linked z.place.classes ((usable z).built (member c Constructor m)) ts m.params its.1) its.0 (lawful.base.objects c its.0) fit w env s sc u sees.inside (operands w env sc sees) same;
+      alike = λ w env s sc u sees same. new_alike z lawful.base c m (all_stood (types_referred m.params) (types_of ts) fit.0) (ir_meaning.operands z.place.classes z.low ts) (coerced_arguments m.params (types_of ts) (all_expressions z.code.sure ts)) (coerced_arguments m.params (types_of ts) (all_expressions z.code.sure ts)) refl (is_linked z.place.classes (usable z) ((usable z).built (member c Constructor m)) ts m.params its.1) its.0 (lawful.base.objects c its.0) (all-stood-fit (types_referred m.params) (types_of ts) fit.0) w env s sc u sees.inside (passed m.params ts fit w env sc sees.inside (operands w env sc sees)) same;
       told = refl;
     }
       where
-        its : ((usable z).made c ≡ true) × (((usable z).built (member c Constructor m) && not (any_is_boxed m.params ts)) ≡ true)
-        its = and_parts ((usable z).made c) ((usable z).built (member c Constructor m) && not (any_is_boxed m.params ts)) h.0.built
+        its : ((usable z).made c ≡ true) × (((usable z).built (member c Constructor m) && may_pass (usable z) m.params ts) ≡ true)
+        its = and_parts ((usable z).made c) ((usable z).built (member c Constructor m) && may_pass (usable z) m.params ts) h.0.built
 
-        fit : FitAll (types_referred m.params) (types_of ts)
-        fit = fit-all z.place.classes law ts m.params (arguments_there z.place.classes ((usable z).built (member c Constructor m)) ts m.params its.1 h.0.finds h.0.meets.1)
+        fit : StandForAll z (types_referred m.params) (types_of ts)
+        fit = stand-for-all z lawful ts m.params (arguments_there z.place.classes (usable z) ((usable z).built (member c Constructor m)) ts m.params its.1 h.0.finds h.0.meets.1)
 
-    receive_tree : (p : Position) (e : Term) (c : List ℕ) (m : MethodName) (ts : Terms) (t : IrType) → Kept (apply_statically p e c Private m ts t) → TreeAlike e → RowAlike ts → TreeAlike (apply_statically p e c Private m ts t)
-    receive_tree p e c m ts t h one operands = record {
-      alike = λ w env s sc u sees same. by_equal w env t _ _ _ _ refl (λ i. shown z (core.receiver_call (member c Private m) (receiver-same (type_of_term e) (received_text (is_sure z.code.sure e) (expression_of z.code.sure e)) its.unboxed i) (expressions_of (arguments-same m.params (types_of ts) (all_expressions z.code.sure ts) its.fit i))) sc u) (subst (λ k. Sim z.direction (Valued z.place w env k) (ir_meaning.step z.place.classes z.low (apply_statically p e c Private m ts t) env s) (shown z (core.receiver_call (member c Private m) (received_text (is_sure z.code.sure e) (expression_of z.code.sure e)) (expressions_of (all_expressions z.code.sure ts))) sc u)) (sym h.0.meets.1) (received_call_alike z lawful.base (member c Private m) (type_of_term e) (types_of ts) (ir_meaning.receiving z.place.classes (is_sure env.sure e) z.low (ir_meaning.step z.place.classes z.low e)) (ir_meaning.operands z.place.classes z.low ts) (received_text (is_sure z.code.sure e) (expression_of z.code.sure e)) (all_expressions z.code.sure ts) its.there its.on_class its.fit w env s sc u sees.inside (in_front _ _ _ w env sc _ _ _ (receiver_alike e one its.may_be w env sc sees) (operands w env sc sees)) same));
+    -- a receiver as it is coerced
+    receiver_stood : (c : List ℕ) (own : IrType) (h : StandsFor z (class_type c) own) (r : ir.Run) (e : core.Expression) (w : World) (env : ir.Env) (sc : js.Scope) → Inside z.place z.code sc → OperandsAlike z w env sc (own ∷ []) (r ∷ []) (e ∷ []) → OperandsAlike z w env sc (stood (class_type c) own h.0 ∷ []) (r ∷ []) (coerced (class_type c) own e ∷ [])
+    receiver_stood c _ h _ _ w env sc inside (more_operands own r e _ _ _ told one no_operands) = more_operands (stood (class_type c) own h.0) r (coerced (class_type c) own e) [] [] [] (stood_told z lawful.base w env sc inside (class_type c) own h.0 e told) (stood_alike z lawful.base w env sc inside (class_type c) own h.0 h.1 r e one) no_operands
+
+    receive_tree : (p : Position) (e : Term) (c : List ℕ) (n : Namespace) (m : MethodName) (ts : Terms) (t : IrType) → Received z.place.classes (usable z) (may_check (usable z) scene.sure) e c n m ts → Kept (apply_statically p e c n m ts t) → TreeAlike e → RowAlike ts → TreeAlike (apply_statically p e c n m ts t)
+    receive_tree p e c n m ts t its h one operands = record {
+      alike = λ w env s sc u sees same. by_equal w env t _ _ _ _ refl (λ i. shown z (core.receiver_call (member c n m) (receiver-coerced c (type_of_term e) (received_text (is_sure z.code.sure e) (expression_of z.code.sure e)) i) (expressions_of (coerced_arguments m.params (types_of ts) (all_expressions z.code.sure ts)))) sc u) (subst (λ k. Sim z.direction (Valued z.place w env k) (ir_meaning.step z.place.classes z.low (apply_statically p e c n m ts t) env s) (shown z (core.receiver_call (member c n m) (coerced (class_type c) (type_of_term e) (received_text (is_sure z.code.sure e) (expression_of z.code.sure e))) (expressions_of (coerced_arguments m.params (types_of ts) (all_expressions z.code.sure ts)))) sc u)) (sym h.0.meets.1) (received_call_alike z lawful.base (member c n m) (stood (class_type c) (type_of_term e) on.0) (all_stood (types_referred m.params) (types_of ts) fit.0) (ir_meaning.receiving z.place.classes (is_sure env.sure e) z.low (ir_meaning.step z.place.classes z.low e)) (ir_meaning.operands z.place.classes z.low ts) (coerced (class_type c) (type_of_term e) (received_text (is_sure z.code.sure e) (expression_of z.code.sure e))) (coerced_arguments m.params (types_of ts) (all_expressions z.code.sure ts)) its.there (stood-fits (class_type c) (type_of_term e) on.0) (all-stood-fit (types_referred m.params) (types_of ts) fit.0) w env s sc u sees.inside (in_front _ _ _ w env sc _ _ _ (receiver_stood c (type_of_term e) on _ _ w env sc sees.inside (receiver_alike e one its.may_be w env sc sees)) (passed m.params ts fit w env sc sees.inside (operands w env sc sees))) same));
       told = refl;
     }
       where
-        its : Received z.place.classes (usable z) (may_check (usable z) scene.sure) e c m ts
-        its = received z.place.classes law (usable z) (may_check (usable z) scene.sure) e c m ts h.0.built h.0.finds h.0.meets.2 h.0.meets.3
+        on : StandsFor z (class_type c) (type_of_term e)
+        on = stands-for z lawful (class_type c) (type_of_term e) its.below its.stands
+
+        fit : StandForAll z (types_referred m.params) (types_of ts)
+        fit = stand-for-all z lawful ts m.params its.arguments
 
     this_tree : (p : Position) (t : IrType) → Kept (this_ref p t) → TreeAlike (this_ref p t)
     this_tree p t h = record {
@@ -365,9 +371,10 @@ module _ (z : Setting) (lawful : Lawful z) (scope : Scope) where
         right_value (of_division is f g) = value_below z.place.classes law (type_of_term d) (right_operand o) g (value_none (right_operand o) (right-operand-value o))
         right_value (texts is f g) = not_none (type_of_term d) (not_no_type (type_of_term d) g)
 
-    -- a call on a receiver: of a private member, as that of a constructor has no value
-    receiving_tree : (p : Position) (e : Term) (c : List ℕ) (n : Namespace) (m : MethodName) (ts : Terms) (t : IrType) → Kept (apply_statically p e c n m ts t) → IsNoConstruction (apply_statically p e c n m ts t) → TreeAlike e → (ArgumentsFit z.place.classes ts m.params → RowAlike ts) → TreeAlike (apply_statically p e c n m ts t)
-    receiving_tree p e c Private m ts t h v one others = receive_tree p e c m ts t h one (others (received z.place.classes law (usable z) (may_check (usable z) scene.sure) e c m ts h.0.built h.0.finds h.0.meets.2 h.0.meets.3).arguments)
+    -- a call on a receiver: of a private or a public member, as that of a constructor has no value
+    receiving_tree : (p : Position) (e : Term) (c : List ℕ) (n : Namespace) (m : MethodName) (ts : Terms) (t : IrType) → Kept (apply_statically p e c n m ts t) → IsNoConstruction (apply_statically p e c n m ts t) → TreeAlike e → (ArgumentsFit z.place.classes (usable z) ts m.params → RowAlike ts) → TreeAlike (apply_statically p e c n m ts t)
+    receiving_tree p e c Private m ts t h v one others = let its = received z.place.classes (usable z) (may_check (usable z) scene.sure) e c Private m ts h.0.built h.0.finds h.0.meets.2 h.0.meets.3 in receive_tree p e c Private m ts t its h one (others its.arguments)
+    receiving_tree p e c Public m ts t h v one others = let its = received z.place.classes (usable z) (may_check (usable z) scene.sure) e c Public m ts h.0.built h.0.finds h.0.meets.2 h.0.meets.3 in receive_tree p e c Public m ts t its h one (others its.arguments)
     receiving_tree p e c Constructor m ts t h v one others = absurd v
     receiving_tree p e c n m ts t h v one others = impossible h.0.built
 
@@ -378,12 +385,12 @@ module _ (z : Setting) (lawful : Lawful z) (scope : Scope) where
           let x = and_parts (not (is_no_type t) && is_plain c && is_plain a) (is_plain b) k in
           let y = and_parts (not (is_no_type t) && is_plain c) (is_plain a) x.0 in
           let q = and_parts (not (is_no_type t)) (is_plain c) y.0 in
-          if_tree p c a b t h (when_not (is_no_type t) q.0) (tree_alike c h.1 q.1 (value_apart z.place.classes (usable z) scene c h.1 (value_below z.place.classes law (type_of_term c) Boolean h.0.meets.0 refl))) (tree_alike a h.2 y.1 (value_apart z.place.classes (usable z) scene a h.2 (value_yielded a t (when_not (is_no_type t) q.0) (one_yields z.place.classes a b t h.0.built h.0.meets.1)))) (tree_alike b h.3 x.1 (value_apart z.place.classes (usable z) scene b h.3 (value_yielded b t (when_not (is_no_type t) q.0) (other_yields z.place.classes a b t h.0.built h.0.meets.2))))
-      tree_alike (new_object p c m ts) h k v = let x = and_parts ((usable z).made c) ((usable z).built (member c Constructor m) && not (any_is_boxed m.params ts)) h.0.built in new_tree p c m ts h (trees_alike ts m.params h.1 k (arguments_there z.place.classes ((usable z).built (member c Constructor m)) ts m.params x.1 h.0.finds h.0.meets.1))
+          if_tree p c a b t h (when_not (is_no_type t) q.0) (tree_alike c h.1 q.1 (value_apart z.place.classes (usable z) scene c h.1 (value_below z.place.classes law (type_of_term c) Boolean h.0.meets.0 refl))) (tree_alike a h.2 y.1 (value_apart z.place.classes (usable z) scene a h.2 (value_yielded a t (when_not (is_no_type t) q.0) (one_yields z.place.classes (usable z) a b t h.0.built h.0.meets.1)))) (tree_alike b h.3 x.1 (value_apart z.place.classes (usable z) scene b h.3 (value_yielded b t (when_not (is_no_type t) q.0) (other_yields z.place.classes (usable z) a b t h.0.built h.0.meets.2))))
+      tree_alike (new_object p c m ts) h k v = let x = and_parts ((usable z).made c) ((usable z).built (member c Constructor m) && may_pass (usable z) m.params ts) h.0.built in new_tree p c m ts h (trees_alike ts m.params h.1 k (arguments_there z.place.classes (usable z) ((usable z).built (member c Constructor m)) ts m.params x.1 h.0.finds h.0.meets.1))
       tree_alike (select p e c f t) h k v = select_tree p e c f t h (tree_alike e h.1 k (value_apart z.place.classes (usable z) scene e h.1 (value_below z.place.classes law (type_of_term e) (class_type c) h.0.meets.0 (class_value c))))
       tree_alike (apply_statically p e c n m ts t) h k v = let x = and_parts (is_plain e) (are_plain ts) k in receiving_tree p e c n m ts t h v (tree_alike e h.1 x.0 (value_apart z.place.classes (usable z) scene e h.1 (value_below z.place.classes law (type_of_term e) (class_type c) h.0.meets.2 (class_value c)))) (trees_alike ts m.params h.2 x.1)
       tree_alike (this_ref p t) h k v = this_tree p t h
-      tree_alike (apply_static p c n m ts t) h k v = call_tree p c n m ts t h (trees_alike ts m.params h.1 k (arguments_there z.place.classes ((usable z).linked (member c n m)) ts m.params h.0.built h.0.finds h.0.meets.2))
+      tree_alike (apply_static p c n m ts t) h k v = call_tree p c n m ts t h (trees_alike ts m.params h.1 k (arguments_there z.place.classes (usable z) ((usable z).linked (member c n m)) ts m.params h.0.built h.0.finds h.0.meets.2))
       tree_alike (unary_op p o e) h k v = unary_tree p o e (fits-unary z.place.classes law o (type_of_term e) h.0.meets) (tree_alike e h.1 k (value_apart z.place.classes (usable z) scene e h.1 (value_below z.place.classes law (type_of_term e) (unary_operand o) h.0.meets (value_none (unary_operand o) (unary-operand-value o)))))
       tree_alike (binary_op p o e d) h k v = let x = and_parts (is_plain e) (is_plain d) k in operation_tree p o e d h (λ v. tree_alike e h.1 x.0 (value_apart z.place.classes (usable z) scene e h.1 v)) (λ v. tree_alike d h.2 x.1 (value_apart z.place.classes (usable z) scene d h.2 v))
       tree_alike (undefined_literal p) h k v = record { alike = λ w env s sc u sees same. literal_alike w env Undefined s u ir.undefined js.undefined same_undefined refl same; told = refl }
@@ -409,7 +416,7 @@ module _ (z : Setting) (lawful : Lawful z) (scope : Scope) where
       tree_alike (log_line p e) h k v = impossible k
       tree_alike _ h k v = impossible h.built
 
-      trees_alike : (ts : Terms) (rs : List TypeRef) → TypedAll z.place.classes (usable z) scene ts → are_plain ts ≡ true → ArgumentsFit z.place.classes ts rs → RowAlike ts
+      trees_alike : (ts : Terms) (rs : List TypeRef) → TypedAll z.place.classes (usable z) scene ts → are_plain ts ≡ true → ArgumentsFit z.place.classes (usable z) ts rs → RowAlike ts
       trees_alike no_terms rs h k fit w env sc sees = no_operands
       trees_alike (more_terms t ts) [] h k fit w env sc sees = absurd fit
       trees_alike (more_terms t ts) (r ∷ rs) h k fit w env sc sees = let x = and_parts (is_plain t) (are_plain ts) k in with_tree t (tree_alike t h.0 x.0 (value_apart z.place.classes (usable z) scene t h.0 (value_below z.place.classes law (type_of_term t) (reference_type r) fit.0.0 (value_none (reference_type r) fit.1)))) w env sc sees _ _ _ (trees_alike ts rs h.1 x.1 fit.2 w env sc sees)

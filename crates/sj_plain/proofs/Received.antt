@@ -1,31 +1,28 @@
 -- What the rules give: which trees have a value, and what holds of a call on a receiver.
-use Rattle.std.proofs.Common.{◌≡◌, ℕ, Bool, true, false, ◌&&◌, codes, ◌⊎◌, inl, inr, List, refl, sym, ap, ◌∙◌, subst, if◌then◌else◌}
-use Rattle.std.specs.Prelude.{not, ◌||◌, nat_eq}
-use Rattle.std.specs.Cmp.Lexicographic.{pointwise}
+use Rattle.std.proofs.Common.{◌≡◌, ℕ, Bool, true, false, ◌&&◌, ◌⊎◌, inl, inr, List, refl, sym, ap, ◌∙◌, subst}
+use Rattle.std.specs.Prelude.{not, ◌||◌}
 use Rattle.std.proofs.lemmas.Bool.{and_parts}
-use Rattle.body_rules.proofs.Fitting.{fits-sub, fit-all}
-use Rattle.body_rules.proofs.RulesGive.{when_not, class_has_value, ArgumentsFit, arguments_there}
-use Rattle.body_rules.specs.Standing.{Fits, FitAll, NoBox, types_referred}
+use Rattle.body_rules.proofs.RulesGive.{class_has_value, ArgumentsFit, arguments_there}
+use Rattle.body_rules.specs.Standing.{MayStand}
 use Rattle.body_rules.specs.Subtyping.{IsSubtyping}
 use Rattle.body_rules.specs.Typing.{Scene, Typed, AllHaveValues, may_check}
 use Rattle.body_rules.specs.Locals.{HasValue}
 use Rattle.sj_emit_expr.specs.Templates.{check_name}
 use Rattle.sure_receivers.specs.Sure.{is_sure}
-use Rattle.built_forms.specs.Built.{Usable, is_boxed, any_is_boxed}
-use Rattle.sj_core.specs.Terms as core
-use Rattle.sj_desugar.specs.Coercions.{is_char, coerced_receiver}
-use Rattle.sj_desugar.specs.Desugar.{has_no_value, member, types_of}
+use Rattle.built_forms.specs.Built.{Usable, can_box, may_box, may_pass}
+use Rattle.sj_desugar.specs.Desugar.{has_no_value, member}
 use Rattle.sj_desugar.specs.Plain.{is_no_type}
 use Rattle.sj_names.proofs.Same.{impossible}
 use Rattle.sj_names.specs.declared.method_names.MethodName.{MethodName}
 use Rattle.sj_names.specs.declared.method_names.Namespace.{Namespace}
-use Rattle.sj_names.specs.declared.method_names.Namespace.TheVariants.{Private, Constructor}
+use Rattle.sj_names.specs.declared.method_names.Namespace.TheVariants.{Constructor}
+use Rattle.sj_plain.proofs.Boxes.{class-no-char, stands-at-class}
 use Rattle.sj_plain.specs.Conditions.{IsNoConstruction}
 use Rattle.sj_trees.specs.Term.{Term, Terms, apply_statically, this_ref}
 use Rattle.sj_trees.specs.TypeOf.{type_of_term}
 use Rattle.sj_trees.specs.Types.{class_type}
 use Rattle.sj_trees.specs.declared.types.IrType.{IrType}
-use Rattle.sj_trees.specs.declared.types.IrType.TheVariants.{Any, Class, NoType}
+use Rattle.sj_trees.specs.declared.types.IrType.TheVariants.{Any, Nothing, NoType}
 use Rattle.sj_trees.specs.declared.positions.Position.{Position}
 use Rattle.sj_world.specs.Known.{Classes}
 use Rattle.sj_world.specs.Subtypes.{IsSub}
@@ -51,59 +48,45 @@ pub value_apart : (w : Classes) (has : Usable) (s : Scene) (t : Term) → Typed 
 value_apart w has s (apply_statically p e c n m ts t) h v = by n h
   where
     by : (n : Namespace) → Typed w has s (apply_statically p e c n m ts t) → IsNoConstruction (apply_statically p e c n m ts t)
-    by Constructor h = impossible (sym v ∙ (and_parts (is_no_type t) (not (any_is_boxed m.params ts)) (and_parts (has.built (member c Constructor m)) (is_no_type t && not (any_is_boxed m.params ts)) h.0.built).1).0)
+    by Constructor h = impossible (sym v ∙ (and_parts (is_no_type t) (may_pass has m.params ts) (and_parts (has.built (member c Constructor m)) (is_no_type t && may_pass has m.params ts) h.0.built).1).0)
     by _ h = tt
 value_apart w has s _ h v = tt
 
--- what is no char for any type is none for another
-no_char : (own t : IrType) → NoBox Any own → NoBox t own
-no_char own t n = go (is_char own) n
-  where
-    go : (b : Bool) → (b && true) ≡ false → (b && not (is_char t)) ≡ false
-    go true h = impossible (sym h)
-    go false h = refl
-
--- a receiver that is no char is called as it is
-pub receiver-same : (own : IrType) (e : core.Expression) → NoBox Any own → coerced_receiver own e ≡ e
-receiver-same own e n = ap (λ (b : Bool). if b then core.boxed_char e else e) n
-
-pub record Received (w : Classes) (has : Usable) (checked : Term → Bool) (e : Term) (c : List ℕ) (m : MethodName) (ts : Terms) : Type 0 where
-  pub there : has.received (member c Private m) ≡ true
+pub record Received (w : Classes) (has : Usable) (checked : Term → Bool) (e : Term) (c : List ℕ) (n : Namespace) (m : MethodName) (ts : Terms) : Type 0 where
+  pub there : has.received (member c n m) ≡ true
   pub may_be : checked e ≡ true
-  pub unboxed : NoBox Any (type_of_term e)
-  pub on_class : Fits (class_type c) (type_of_term e)
-  pub arguments : ArgumentsFit w ts m.params
-  pub fit : FitAll (types_referred m.params) (types_of ts)
+  pub below : IsSub w (type_of_term e) (class_type c)
+  pub stands : MayStand has (class_type c) (type_of_term e)
+  pub arguments : ArgumentsFit w has ts m.params
 
-pub received : (w : Classes) (law : IsSubtyping (IsSub w)) (has : Usable) (checked : Term → Bool) (e : Term) (c : List ℕ) (m : MethodName) (ts : Terms) → (has.received (member c Private m) && (checked e && (not (is_boxed Any e) && not (any_is_boxed m.params ts)))) ≡ true → AllHaveValues m.params → rules.Fits w e (class_type c) → rules.ArgumentsFit w ts m.params → Received w has checked e c m ts
-received w law has checked e c m ts built values on fits = record {
+pub received : (w : Classes) (has : Usable) (checked : Term → Bool) (e : Term) (c : List ℕ) (n : Namespace) (m : MethodName) (ts : Terms) → (has.received (member c n m) && (checked e && (may_box has Any e && may_pass has m.params ts))) ≡ true → AllHaveValues m.params → rules.Fits w e (class_type c) → rules.ArgumentsFit w ts m.params → Received w has checked e c n m ts
+received w has checked e c n m ts built values on fits = record {
   there = its.0;
   may_be = others.0;
-  unboxed = unboxed;
-  on_class = fits-sub w law (class_type c) (type_of_term e) on (no_char (type_of_term e) (class_type c) unboxed);
-  arguments = arguments;
-  fit = fit-all w law ts m.params arguments;
+  below = on;
+  stands = stands-at-class has c (type_of_term e) (and_parts (may_box has Any e) (may_pass has m.params ts) others.1).0;
+  arguments = arguments_there w has (may_box has Any e) ts m.params others.1 values fits;
 }
   where
-    its : (has.received (member c Private m) ≡ true) × ((checked e && (not (is_boxed Any e) && not (any_is_boxed m.params ts))) ≡ true)
-    its = and_parts (has.received (member c Private m)) (checked e && (not (is_boxed Any e) && not (any_is_boxed m.params ts))) built
+    its : (has.received (member c n m) ≡ true) × ((checked e && (may_box has Any e && may_pass has m.params ts)) ≡ true)
+    its = and_parts (has.received (member c n m)) (checked e && (may_box has Any e && may_pass has m.params ts)) built
 
-    others : (checked e ≡ true) × ((not (is_boxed Any e) && not (any_is_boxed m.params ts)) ≡ true)
-    others = and_parts (checked e) (not (is_boxed Any e) && not (any_is_boxed m.params ts)) its.1
+    others : (checked e ≡ true) × ((may_box has Any e && may_pass has m.params ts) ≡ true)
+    others = and_parts (checked e) (may_box has Any e && may_pass has m.params ts) its.1
 
-    unboxed : NoBox Any (type_of_term e)
-    unboxed = when_not (is_boxed Any e) (and_parts (not (is_boxed Any e)) (not (any_is_boxed m.params ts)) others.1).0
-
-    arguments : ArgumentsFit w ts m.params
-    arguments = arguments_there w (not (is_boxed Any e)) ts m.params others.1 values fits
-
--- a receiver that may be checked is never null, or its check is there; and it has a value
-pub may_be_checked : (has : Usable) (sure : List ℕ → Bool) (e : Term) → may_check has sure e ≡ true → ((is_sure sure e ≡ true) ⊎ (has.helper check_name ≡ true)) × (has_no_value (type_of_term e) ≡ false)
-may_be_checked has sure e h = let x = and_parts (not (has_no_value (type_of_term e))) (is_sure sure e || has.helper check_name) h in (either_true (is_sure sure e) (has.helper check_name) x.1, when_not (has_no_value (type_of_term e)) x.0)
+-- a receiver that may be checked is never null, or its check is there
+pub may_be_checked : (has : Usable) (sure : List ℕ → Bool) (e : Term) → may_check has sure e ≡ true → (is_sure sure e ≡ true) ⊎ (has.helper check_name ≡ true)
+may_be_checked has sure e h = either_true (is_sure sure e) (has.helper check_name) h
   where
     either_true : (a b : Bool) → (a || b) ≡ true → (a ≡ true) ⊎ (b ≡ true)
     either_true true b h = inl refl
     either_true false b h = inr h
+
+-- what stands where there is a value has one, or never comes to one
+pub value_or_nothing : (w : Classes) (law : IsSubtyping (IsSub w)) (own t : IrType) → IsSub w own t → HasValue t → (has_no_value own ≡ false) ⊎ (own ≡ Nothing)
+value_or_nothing w law NoType t f h = impossible (sym h ∙ ap has_no_value (law.from_none t f))
+value_or_nothing w law Nothing t f h = inr refl
+value_or_nothing w law _ t f h = inl refl
 
 -- what the rules give of a call of a constructor on This
 pub record Constructed (w : Classes) (has : Usable) (s : Scene) (e : Term) (c : List ℕ) (m : MethodName) (ts : Terms) (t : IrType) : Type 0 where
@@ -111,17 +94,17 @@ pub record Constructed (w : Classes) (has : Usable) (s : Scene) (e : Term) (c : 
   pub none : t ≡ NoType
   pub surely : is_sure s.sure e ≡ true
   pub value : has_no_value (type_of_term e) ≡ false
-  pub unboxed : NoBox Any (type_of_term e)
-  pub on_class : Fits (class_type c) (type_of_term e)
-  pub arguments : ArgumentsFit w ts m.params
-  pub fit : FitAll (types_referred m.params) (types_of ts)
+  pub below : IsSub w (type_of_term e) (class_type c)
+  pub stands : MayStand has (class_type c) (type_of_term e)
+  pub arguments : ArgumentsFit w has ts m.params
 
-class_unboxed : (c : List ℕ) → NoBox Any (class_type c)
-class_unboxed c = go (pointwise nat_eq c (codes "java.lang.Object"))
+-- an object of a class may stand anywhere
+class_stands : (has : Usable) (c : List ℕ) → MayStand has Any (class_type c)
+class_stands has c = subst (λ (x : Bool). (can_box has || not (x && true)) ≡ true) (sym (class-no-char c)) (either (can_box has))
   where
-    go : (b : Bool) → NoBox Any (if b then Any else Class c)
-    go true = refl
-    go false = refl
+    either : (b : Bool) → (b || true) ≡ true
+    either true = refl
+    either false = refl
 
 on_this : (w : Classes) (has : Usable) (s : Scene) (e : Term) → rules.IsReceiver Constructor e → Typed w has s e → (is_sure s.sure e ≡ true) × (type_of_term e ≡ class_type s.owner)
 on_this w has s (this_ref q i) r h = (refl, h.finds.1)
@@ -131,29 +114,22 @@ is_none : (t : IrType) → is_no_type t ≡ true → t ≡ NoType
 is_none NoType h = refl
 is_none _ h = impossible h
 
-pub constructed : (w : Classes) (law : IsSubtyping (IsSub w)) (has : Usable) (s : Scene) (p : Position) (e : Term) (c : List ℕ) (m : MethodName) (ts : Terms) (t : IrType) → Typed w has s (apply_statically p e c Constructor m ts t) → Constructed w has s e c m ts t
-constructed w law has s p e c m ts t h = record {
+pub constructed : (w : Classes) (has : Usable) (s : Scene) (p : Position) (e : Term) (c : List ℕ) (m : MethodName) (ts : Terms) (t : IrType) → Typed w has s (apply_statically p e c Constructor m ts t) → Constructed w has s e c m ts t
+constructed w has s p e c m ts t h = record {
   there = its.0;
   none = is_none t others.0;
   surely = this.0;
   value = subst HasValue (sym this.1) (class_has_value s.owner);
-  unboxed = unboxed;
-  on_class = fits-sub w law (class_type c) (type_of_term e) h.0.meets.2 (no_char (type_of_term e) (class_type c) unboxed);
-  arguments = arguments;
-  fit = fit-all w law ts m.params arguments;
+  below = h.0.meets.2;
+  stands = stands-at-class has c (type_of_term e) (subst (MayStand has Any) (sym this.1) (class_stands has s.owner));
+  arguments = arguments_there w has (is_no_type t) ts m.params its.1 h.0.finds h.0.meets.3;
 }
   where
-    its : (has.built (member c Constructor m) ≡ true) × ((is_no_type t && not (any_is_boxed m.params ts)) ≡ true)
-    its = and_parts (has.built (member c Constructor m)) (is_no_type t && not (any_is_boxed m.params ts)) h.0.built
+    its : (has.built (member c Constructor m) ≡ true) × ((is_no_type t && may_pass has m.params ts) ≡ true)
+    its = and_parts (has.built (member c Constructor m)) (is_no_type t && may_pass has m.params ts) h.0.built
 
-    others : (is_no_type t ≡ true) × (not (any_is_boxed m.params ts) ≡ true)
-    others = and_parts (is_no_type t) (not (any_is_boxed m.params ts)) its.1
+    others : (is_no_type t ≡ true) × (may_pass has m.params ts ≡ true)
+    others = and_parts (is_no_type t) (may_pass has m.params ts) its.1
 
     this : (is_sure s.sure e ≡ true) × (type_of_term e ≡ class_type s.owner)
     this = on_this w has s e h.0.meets.0 h.1
-
-    unboxed : NoBox Any (type_of_term e)
-    unboxed = subst (NoBox Any) (sym this.1) (class_unboxed s.owner)
-
-    arguments : ArgumentsFit w ts m.params
-    arguments = arguments_there w (is_no_type t) ts m.params its.1 h.0.finds h.0.meets.3

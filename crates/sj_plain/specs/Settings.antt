@@ -32,7 +32,7 @@ use Rattle.body_rules.specs.Subtyping.{IsSubtyping}
 use Rattle.sj_plain.specs.Standing.{suits}
 use Rattle.sj_plain.specs.Worlds.{World, with_pending, Grows, SameValue, SameValues}
 use Rattle.sj_world.specs.Subtypes.{IsSub}
-use Rattle.built_forms.specs.Built.{Usable, divides}
+use Rattle.built_forms.specs.Built.{Usable, can_box, divides}
 use Rattle.body_rules.specs.Locals.{Scope, HasValue}
 use Rattle.body_rules.specs.Standing.{is_bare, types_referred, call_type}
 use Rattle.sj_trees.specs.declared.classes.ClassDef.{ClassDef}
@@ -262,9 +262,9 @@ pub record IsReceiver (w : World) (c : List ℕ) (v : ir.Value) (x : js.Value) :
 abbrev pub BuildsAlike : Setting → Member → Type 0
 BuildsAlike z m = (w : World) (v : ir.Value) (x : js.Value) (vs : List ir.Value) (xs : List js.Value) (env : ir.Env) (s : ir.State) (u : js.State) → IsReceiver w m.class v x → SameValues w (types_referred m.method.params) vs xs → SameState z.place w s u → Sim z.direction (Built z.place w env x) (ir_meaning.call z.low (ir_world.member_of z.place.classes m.class m.namespace m.method) (Some v) vs env s) (top_call z.place z.js_low (a_constructor m) (x ∷ xs) u)
 
--- a member on a receiver, and its function
+-- a member on a receiver, as a call in its class finds it, and its function
 abbrev pub ReceivesAlike : Setting → Member → Type 0
-ReceivesAlike z m = (w : World) (v : ir.Value) (x : js.Value) (vs : List ir.Value) (xs : List js.Value) (env : ir.Env) (s : ir.State) (u : js.State) → IsReceiver w m.class v x → SameValues w (types_referred m.method.params) vs xs → SameState z.place w s u → Sim z.direction (Valued z.place w env (call_type m.method.result)) (ir_meaning.call z.low (ir_world.member_of z.place.classes m.class m.namespace m.method) (Some v) vs env s) (top_call z.place z.js_low (a_method m) (x ∷ xs) u)
+ReceivesAlike z m = (w : World) (v : ir.Value) (x : js.Value) (vs : List ir.Value) (xs : List js.Value) (env : ir.Env) (s : ir.State) (u : js.State) → IsReceiver w m.class v x → SameValues w (types_referred m.method.params) vs xs → SameState z.place w s u → Sim z.direction (Valued z.place w env (call_type m.method.result)) (ir_meaning.call z.low (ir_meaning.static_target z.place.classes m.class m.namespace m.method) (Some v) vs env s) (top_call z.place z.js_low (a_method m) (x ∷ xs) u)
 
 -- two fields of the classes have two properties, and a field has one type
 pub record FieldsDiffer (p : Place) : Type 0 where
@@ -316,6 +316,7 @@ pub record Lawful (z : Setting) : Type 0 where
   pub base : Based z
   pub checks : (usable z).helper check_name ≡ true → ChecksAlike z
   pub divisions : (o : BinaryOp) → divides (usable z) o ≡ true → DividesAlike z o
+  pub boxes : can_box (usable z) ≡ true → BoxesAlike z
 
 -- what a local of this type holds, and the binding that stands for it
 pub data Holding (w : World) (t : IrType) : Option ir.Value → js.Cell → Type 0 where

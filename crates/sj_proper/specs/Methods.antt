@@ -1,9 +1,9 @@
 -- What is asked of a method whose body is of the forms that are built.
-use Rattle.std.specs.Prelude.{◌≡◌, ℕ, true, List, [], ◌∷◌, not}
+use Rattle.std.specs.Prelude.{◌≡◌, ℕ, true, List, [], ◌∷◌}
 use Rattle.body_rules.specs.Locals.{HaveValues}
 use Rattle.sj_proper.specs.Once.{DefinesOnce}
 use Rattle.body_rules.specs.Typing.{Scene, IsResult, Typed}
-use Rattle.built_forms.specs.Built.{Usable, yields_boxed}
+use Rattle.built_forms.specs.Built.{Usable, may_yield}
 use Rattle.sure_receivers.specs.Sure.{sure_locals}
 use Rattle.sj_names.specs.declared.references.TypeRef.{TypeRef}
 use Rattle.sj_trees.specs.Term.{Term}
@@ -28,7 +28,7 @@ scene_of c d e = record { owner = c; space = d.namespace; sure = sure_locals e; 
 pub record KeepsRules (w : Classes) (has : Usable) (c : List ℕ) (d : MethodDef) (e : Term) : Type 0 where
   pub typed : Typed w has (scene_of c d e) e
   pub yields : Yields w e d.result
-  pub unboxed : not (yields_boxed d.result e) ≡ true
+  pub unboxed : may_yield has d.result e ≡ true
   pub result : IsResult d.result
   pub values : HaveValues d.params
   pub once : DefinesOnce d e

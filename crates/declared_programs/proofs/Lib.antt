@@ -1,0 +1,5 @@
+pub mod Fields
+pub mod Items
+pub mod Place
+pub mod Tops
+pub mod Whole
