@@ -1,5 +1,5 @@
 -- A tree of the one type stands where the other is expected: what the rules say of types, as far as the kinds of values tell.
-use Rattle.std.proofs.Common.{◌≡◌, ℕ, Bool, true, false, ◌&&◌, List, [], ◌∷◌, codes, refl, sym, ap, ◌∙◌, subst, ◌⊎◌, inl, inr, ⊎_elim}
+use Rattle.std.proofs.Common.{◌≡◌, ℕ, Bool, true, false, ◌&&◌, List, codes, refl, sym, ap, ◌∙◌, subst, ◌⊎◌, inl, inr, ⊎_elim}
 use Rattle.std.specs.Prelude.{not, ◌||◌}
 use Rattle.built_forms.specs.Built.{Usable, divides}
 use Rattle.sj_desugar.specs.Coercions.{is_char}

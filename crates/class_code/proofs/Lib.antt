@@ -1,4 +1,5 @@
 pub mod Bridge
 pub mod Making
+pub mod Markers
 pub mod Objects
 pub mod Parameters

@@ -1,3 +1,4 @@
 pub mod Bridges
 pub mod Made
+pub mod Markers
 pub mod Objects

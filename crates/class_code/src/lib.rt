@@ -6,6 +6,7 @@
 
 ghost use Rattle.class_code.specs.Bridges.{BridgesHandOn, LookupSearches};
 ghost use Rattle.class_code.specs.Made.{ChainsMake, ShortBoundsGo};
+ghost use Rattle.class_code.specs.Markers.{MarkersTellClasses};
 ghost use Rattle.class_code.specs.Objects.{LookupFindsBridge, ObjectsRunTargets};
 
 /// A method of a class that only hands its call on costs one unit, and runs the function with `this` in front of the arguments.
@@ -34,4 +35,9 @@ pub fn objects_run_targets()
 pub fn chains_make()
     ensures whole { ChainsMake }
     ensures short { ShortBoundsGo }
+{}
+
+/// By the marker of a class its name is known.
+pub fn markers_tell_classes()
+    ensures { MarkersTellClasses }
 {}

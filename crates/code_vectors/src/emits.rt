@@ -3,7 +3,7 @@ ghost use Rattle.std.specs.Prelude.{◌≡◌, IfOk};
 ghost use Rattle.js_tree.specs.Rules.{IsPiece};
 ghost use Rattle.js_tree.specs.Views.{piece_view};
 ghost use Rattle.sj_desugarer.specs.Methods.{method_desugared};
-ghost use Rattle.sj_emit_expr.specs.Pieces.{piece_of};
+ghost use Rattle.sj_emit_expr.specs.Members as members;
 ghost use Rattle.sj_pieces.specs.Owners.{BodyOnObjects};
 
 use crate::forms::is_built;
@@ -14,12 +14,12 @@ use sj_desugarer::desugar;
 use sj_emitter::emit_member;
 use sj_mangling::function_name;
 use sj_names::{ClassName, Member, Meter, NameError, NoMemory};
-use sj_pieces::{desugared_fields_have_owners, desugared_methods_have_keys, member_piece};
+use sj_pieces::{desugared_fields_have_owners, desugared_members_have_keys, member_piece};
 use sj_trees::{ClassDef, MethodDef};
 use std::alloc::Global;
 
 /// Adds for each method of the class of a file `piece`, the name of its function, and the bytes of the printed function in hexadecimal digits. In place of the
-/// bytes it has `not built` where the method isn't static or a form of its body isn't built.
+/// bytes it has `not built` where the method has no body or a form of its body isn't built.
 pub(crate) fn add_answer(alloc: Global, file: &str, text: &mut String) -> Result<(), NameError> {
     match class_of(alloc, file) {
         Some(class) => add_methods(alloc, &class, text),
@@ -80,13 +80,13 @@ fn add_printed(alloc: Global, piece: &JsPiece, text: &mut String) -> Result<(), 
     add_digits(alloc, bytes.as_slice(), text)
 }
 
-// The piece of a static method whose fields are those of objects.
+// The piece of a method whose fields are those of objects.
 fn emitted(alloc: Global, member: &Member, method: &MethodDef) -> Result<JsPiece, NoMemory>
     requires { BodyOnObjects method.now.body }
-    ensures piece { IfOk result (λ p. piece_view p ≡ piece_of member.now (method_desugared method.now)) }
+    ensures piece { IfOk result (λ p. piece_view p ≡ members.member_piece member.now (method_desugared method.now)) }
     ensures rules { IfOk result (λ p. IsPiece (piece_view p)) }
 {
-    desugared_methods_have_keys();
+    desugared_members_have_keys();
     desugared_fields_have_owners();
     let core = desugar(alloc, method)?;
     let function = emit_member(alloc, &core, &mut Meter::new())?;

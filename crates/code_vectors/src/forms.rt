@@ -8,23 +8,11 @@ ghost use Rattle.sure_receivers.specs.Sure as sure;
 use sj_names::Namespace;
 use sj_trees::{BinaryOp, IrType, MatchCase, MethodDef, Tree};
 
-/// Whether a method is static, and each tree of its body is of a form that is built. Then no field in it is one of a primitive value.
+/// Whether a method has a body, and each tree of it is of a form that is built. Then no field in it is one of a primitive value.
 pub(crate) fn is_built(method: &MethodDef) -> bool
     ensures { result ≡ true → BodyOnObjects method.now.body }
 {
-    let counts = is_static(method.namespace);
-    if counts {
-        has_built_body(method)
-    } else {
-        false
-    }
-}
-
-fn is_static(namespace: Namespace) -> bool {
-    match namespace {
-        Namespace::PublicStatic | Namespace::PrivateStatic => true,
-        _ => false,
-    }
+    has_built_body(method)
 }
 
 fn has_built_body(method: &MethodDef) -> bool

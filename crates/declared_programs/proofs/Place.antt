@@ -10,10 +10,10 @@ use Rattle.outcomes.specs.Shown as shown_ends
 use Rattle.body_rules.proofs.Lists.{nothing_in, in_front_or_behind, at_front, further_on}
 use Rattle.body_rules.specs.Standing.{is_bare}
 use Rattle.body_soundness.specs.Laws.{ObjectLaws}
-use Rattle.built_forms.specs.Built.{Usable, divides}
+use Rattle.built_forms.specs.Built.{Usable, can_box, divides}
 use Rattle.file_tops.proofs.Run.{each, some_same}
 use Rattle.file_tops.specs.Tops.{literal_properties, link}
-use Rattle.helper_rules.specs.Helpers.{helper_name, helper_item, used_helpers, constants, own_marker, marker_property}
+use Rattle.helper_rules.specs.Helpers.{helper_name, helper_item, used_helpers, constants, own_marker, marker_property, box_constructor}
 use Rattle.helper_rules.specs.Words.{class_name, constants_name, marker}
 use Rattle.helper_rules.specs.declared.kinds.Failure.TheVariants.{NullReceiver, Division}
 use Rattle.helper_rules.specs.declared.kinds.Helper.{Helper}
@@ -35,7 +35,7 @@ use Rattle.piece_rules.specs.Pieces.{class_item_of, constructor_body}
 use Rattle.sj_calls.proofs.Shapes.{stands_there}
 use Rattle.sj_calls.proofs.Whole.{module_there, own_name, alone, place_of}
 use Rattle.sj_calls.specs.Chains as chains
-use Rattle.sj_calls.specs.Helpers.{HelperStands, failing_code, checking_code, division_code}
+use Rattle.sj_calls.specs.Helpers.{HelperStands, BoxStands, failing_code, checking_code, division_code}
 use Rattle.sj_calls.specs.Methods.{Linked, parameters_in, function_of}
 use Rattle.sj_calls.specs.Objects.{RunsOn, Constructs, function_on, body_of}
 use Rattle.sj_calls.specs.Objects as on_objects
@@ -266,8 +266,16 @@ module _ (w : ir_world.World) (f : Name) (has : Usable) (is : List Item) (es : L
       divided_here LongRemainder l = divide_here LongRemainder l (throws_too helpers.LongRemainder l (at_front (helpers.Throws Division) [])) (function_there (helper_name helpers.LongRemainder) (division_code LongRemainder).parameters (division_code LongRemainder).body (failing_here helpers.LongRemainder l)) l
       divided_here _ l = impossible l
 
+      box_here : can_box has ≡ true → BoxStands place
+      box_here l = let item = helper_item can.ancestors helpers.BoxedChar in record {
+        members_are = ap (λ o. members_in o (helper_name helpers.BoxedChar)) (module_there f module_here) ∙ members_found items_here (helper_name helpers.BoxedChar) (box_constructor ∷ []) item class_alone distinct (listed item (failing_here helpers.BoxedChar l));
+        reached = own_name f module_here (helper_name (helpers.ConstantsOf kinds.Char)) refl;
+        user = f;
+        usable = can.helpers helpers.BoxedChar (helpers.ConstantsOf kinds.Char) l (at_front (helpers.ConstantsOf kinds.Char) []);
+      }
+
       pub has_objects : HasObjects place
-      has_objects = record { linked = λ g m l. linked_here m l; received = λ g m l. runs_here m l; built = λ g m l. constructs_here m l; made = λ g c l. made_here c l; objects = λ g c l. object_here c l; field = λ g c x t l. field_here c x t l; checked = λ g l. check_here l; divided = λ g o l. divided_here o l; each = omega arith; beyond = omega arith }
+      has_objects = record { linked = λ g m l. linked_here m l; received = λ g m l. runs_here m l; built = λ g m l. constructs_here m l; made = λ g c l. made_here c l; objects = λ g c l. object_here c l; field = λ g c x t l. field_here c x t l; checked = λ g l. check_here l; divided = λ g o l. divided_here o l; boxes = λ g l. box_here l; each = omega arith; beyond = omega arith }
 
     -- the state behind the declarations
     module _ (t : js.State) (hold : AllHold f t 0 is) where

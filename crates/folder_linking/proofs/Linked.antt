@@ -1,5 +1,6 @@
 -- A folder is linked: its pieces are those of all needed bodies, and its files those of the plan.
-use Rattle.std.proofs.Common.{◌≡◌, ◌↔◌, ℕ, suc, Bool, true, false, List, [], ◌∷◌, ◌⊎◌, inl, inr, Some, refl, sym, ap, subst, ◌∙◌, map, length, Contains, arith}
+use Rattle.std.proofs.Common.{◌≡◌, ◌↔◌, ℕ, suc, Bool, true, false, ◌&&◌, List, [], ◌∷◌, ◌⊎◌, inl, inr, Some, refl, sym, ap, subst, ◌∙◌, map, length, Contains, arith}
+use Rattle.std.specs.Prelude.{not}
 use Rattle.std.specs.List.{All, AllByRecursion, IsDistinct}
 use Rattle.std.specs.List.Sorted.{IsPermutation}
 use Rattle.std.proofs.lemmas.List.{length-map}
@@ -26,6 +27,7 @@ use Rattle.sj_world.specs.declared.facts.Fact.{Fact}
 use Rattle.sj_world.specs.declared.facts.Fact.TheVariants as fact
 use Rattle.folder_verdicts.proofs.Defined.{needed_bodies}
 use Rattle.folder_verdicts.specs.Stages.{IsDefined, KeepRules}
+use Rattle.built_forms.specs.Built.{is_static, has_built_body}
 use Rattle.worklist.proofs.Inserted.{nothing_in}
 use Rattle.accepted_folders.specs.Bodies.{AreBodies}
 use Rattle.accepted_folders.proofs.Calls.{needed}
@@ -35,7 +37,7 @@ use Rattle.linked_folders.proofs.Edits.{Differ, no_more}
 use Rattle.linked_folders.proofs.Links.{body_built}
 use Rattle.linked_folders.proofs.Names.{names_tell}
 use Rattle.folder_linking.specs.declared.functions.Function.{Function}
-use Rattle.folder_linking.specs.Functions.{IsFunction, AreInOrder, member_of, piece}
+use Rattle.folder_linking.specs.Functions.{IsStatic, IsFunction, AreInOrder, member_of, piece}
 use Rattle.folder_linking.specs.Linking.{IsLinkable, ArePieces}
 use Rattle.sj_pieces.specs.Owners.{OnObjects}
 use Rattle.folder_linking.proofs.Objects.{built_on_objects}
@@ -161,12 +163,19 @@ bodies_many w entries facts all reached bodies =
     let back = no_more (members_of facts) (map member_in all) (distinct_differ (members_of facts) (members_distinct facts reached.once)) (λ k h. (let f = (bodies.exact k).1 ((reached.exact (fact.Body k)).0 (from_members facts k h)) in subst (Contains (map member_in all)) f.is (into_map member_in all f.method f.listed))) in
     omega (arith, to, back, length-map all member_in)
 
--- each needed body is defined
+first_true : (b c : Bool) → not (b && c) ≡ false → b ≡ true
+first_true true c h = refl
+first_true false c h = sym h
+
+-- each needed body is defined, and its method has no receiver
 pub all_defined : (entries : List EntryPoint) (l : Linked) → IsLinkable entries l → (k : Member) → Contains (members_of l.facts) k → IsDefined l.world k
 all_defined entries l can k h = needed_bodies l.world entries keeps can.is_accepted.resolved k ((can.reached.exact (fact.Body k)).0 (from_members l.facts k h))
   where
     keeps : KeepRules l.world
     keeps c among = can.is_accepted.kept c (Contains-permutation l.world can.is_accepted.classes c (IsPermutation-sym can.is_accepted.classes l.world can.is_accepted.world.sorted.same) among)
+
+pub all_static : (entries : List EntryPoint) (l : Linked) → IsLinkable entries l → (k : Member) → Contains (members_of l.facts) k → IsStatic l.world k
+all_static entries l can k h d is = first_true (is_static d.namespace) (has_built_body d d.body) (can.built k d ((can.reached.exact (fact.Body k)).0 (from_members l.facts k h)) is)
 
 module _ (entries : List EntryPoint) (l : Linked) (can : IsLinkable entries l) (fs : List Function) (are : AreInOrder l.world (members_of l.facts) fs) where
   each : (f : Function) → Contains fs f → IsFunction l.world f

@@ -3,7 +3,7 @@ use Rattle.std.proofs.Common.{◌≡◌, ℕ, Bool, true, false, ◌&&◌, List,
 use Rattle.std.specs.Prelude.{not}
 use Rattle.std.proofs.lemmas.Bool.{and_parts}
 use Rattle.built_forms.specs.Built.{Usable, members_alone, anything, yields_boxed, any_is_boxed, stands, is_built, are_built, are_built_cases, is_built_body}
-use Rattle.sj_desugar.specs.Desugar.{desugared, member}
+use Rattle.sj_desugar.specs.Desugar.{desugared_member, member}
 use Rattle.sj_desugarer.specs.Methods.{desugared_with}
 use Rattle.sj_names.proofs.Same.{impossible}
 use Rattle.sj_names.specs.declared.method_names.Member.{Member}
@@ -82,10 +82,10 @@ pub built_on_objects : (d : MethodDef) (e : Term) → is_built_body d e ≡ true
 built_on_objects d e h = on_objects (λ m. true) (λ e. true) e [] (and_parts (not (yields_boxed d.result e)) (is_built anything (λ e. true) [] e) h).1
 
 -- a method has what each body that it may have has
-pub with_keys : ((d : MethodDef) (e : Term) → HasKeys (desugared d e)) → (d : MethodDef) (body : Option Term) → HasKeys (desugared_with d body)
+pub with_keys : ((d : MethodDef) (e : Term) → HasKeys (desugared_member d e)) → (d : MethodDef) (body : Option Term) → HasKeys (desugared_with d body)
 with_keys h d None = tt
 with_keys h d (Some e) = h d e
 
-pub with_owners : ((d : MethodDef) (e : Term) → OnObjects e → FieldsHaveOwners (desugared d e)) → (d : MethodDef) (body : Option Term) → BodyOnObjects body → FieldsHaveOwners (desugared_with d body)
+pub with_owners : ((d : MethodDef) (e : Term) → OnObjects e → FieldsHaveOwners (desugared_member d e)) → (d : MethodDef) (body : Option Term) → BodyOnObjects body → FieldsHaveOwners (desugared_with d body)
 with_owners h d None objects = tt
 with_owners h d (Some e) objects = h d e objects

@@ -1,5 +1,5 @@
 -- The functions of bodies, and their order in a module.
-use Rattle.std.specs.Prelude.{◌≡◌, ℕ, Bool, List, length, map}
+use Rattle.std.specs.Prelude.{◌≡◌, ℕ, Bool, true, List, length, map}
 use Rattle.std.specs.Cmp.Lexicographic.{slice_cmp}
 use Rattle.std.specs.List.{Contains}
 use Rattle.std.specs.List.Sorted.{IsPermutation, IsSortedBy}
@@ -8,13 +8,20 @@ use Rattle.std.specs.declared.cmp.Ordering.{Ordering}
 use Rattle.js_tree.specs.declared.items.JsPiece.{JsPiece}
 use Rattle.js_tree.specs.Rules.{IsPiece}
 use Rattle.js_tree.specs.Views.{piece_view}
+use Rattle.built_forms.specs.Built.{is_static}
 use Rattle.sj_proper.specs.Emitted.{EmittedMethod, piece_of_method}
 use Rattle.sj_pieces.specs.Owners.{OnObjects}
 use Rattle.sj_names.specs.declared.method_names.Member.{Member}
+use Rattle.sj_trees.specs.declared.classes.MethodDef.{MethodDef}
 use Rattle.sj_world.specs.Known.{Name, Classes}
+use Rattle.sj_world.specs.Members.{IsMethodOf}
 use Rattle.sj_world.specs.Tables.{AreAncestors}
 use Rattle.accepted_folders.specs.Bodies.{IsFound}
 use Rattle.folder_linking.specs.declared.functions.Function.{Function}
+
+-- the member's method has no receiver
+abbrev pub IsStatic : Classes → Member → Type 0
+IsStatic w k = (d : MethodDef) → IsMethodOf w k d → is_static d.namespace ≡ true
 
 -- the class has so many ancestors
 pub record HasAncestors (w : Classes) (class : Name) (count : ℕ) : Type 0 where

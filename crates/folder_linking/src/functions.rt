@@ -4,8 +4,9 @@ ghost use Rattle.std.specs.List.{Contains};
 ghost use Rattle.js_tree.specs.Views.{body_view, piece_view};
 ghost use Rattle.sj_core.specs.Views.{method_view};
 ghost use Rattle.sj_desugarer.specs.Methods.{method_desugared};
-ghost use Rattle.sj_emit_expr.specs.Pieces.{piece_of};
-ghost use Rattle.sj_emit_expr.specs.Templates.{parameter_names, body_template};
+ghost use Rattle.sj_emit_expr.specs.Members as members;
+ghost use Rattle.sj_emit_expr.specs.Members.{function_parameters};
+ghost use Rattle.sj_emit_expr.specs.Templates.{body_template};
 ghost use Rattle.sj_emit_expr.specs.Uses.{uses};
 ghost use Rattle.sj_pieces.specs.Owners.{BodyOnObjects};
 ghost use Rattle.js_tree.specs.Rules.{IsPiece};
@@ -16,7 +17,7 @@ ghost use Rattle.folder_verdicts.specs.Stages.{IsDefined};
 ghost use Rattle.folder_judging.specs.Counts.{members_of, bodies_among};
 ghost use Rattle.folder_linking.specs.Counts.{Emits};
 ghost use Rattle.folder_linking.specs.Functions as functions;
-ghost use Rattle.folder_linking.specs.Functions.{AreFunctions, AreInOrder, IsFunction, HasAncestors};
+ghost use Rattle.folder_linking.specs.Functions.{AreFunctions, AreInOrder, IsFunction, HasAncestors, IsStatic};
 
 use crate::members::needed_members;
 use folder_judging::definition_of;
@@ -25,7 +26,7 @@ use sj_ask::WorldOracle;
 use sj_core::CoreMethod;
 use sj_desugarer::desugar;
 use sj_names::{ClassName, Member, NoMemory};
-use sj_pieces::{desugared_fields_have_owners, desugared_methods_have_keys, member_piece};
+use sj_pieces::{desugared_fields_have_owners, desugared_members_have_keys, member_piece};
 use sj_recorder::Recorder;
 use sj_trees::MethodDef;
 use sj_workers::Workers;
@@ -47,7 +48,8 @@ pub fn functions_in_order<'w, W: Workers>(
     linked: &'w LinkedWorld,
     work: &mut W,
 ) -> Result<Vec<Function<'w>>, NoMemory>
-    requires { (k : Member) → Contains (members_of linked.now.facts) k → IsDefined linked.now.world k }
+    requires defined { (k : Member) → Contains (members_of linked.now.facts) k → IsDefined linked.now.world k }
+    requires without_receiver { (k : Member) → Contains (members_of linked.now.facts) k → IsStatic linked.now.world k }
     ensures functions { IfOk result (λ fs. AreInOrder linked.now.world (members_of linked.now.facts) fs.items) }
     ensures counted { Emits (bodies_among linked.now.facts) result (W.meter work.old) (W.meter work.new) }
 {
@@ -72,7 +74,8 @@ fn functions_of<'w, W: Workers>(
     members: &[&'w Member],
     work: &mut W,
 ) -> Result<Vec<Function<'w>>, NoMemory>
-    requires { (k : Member) → Contains (map (λ m. m.now) members.now) k → IsDefined linked.now.world k }
+    requires defined { (k : Member) → Contains (map (λ m. m.now) members.now) k → IsDefined linked.now.world k }
+    requires without_receiver { (k : Member) → Contains (map (λ m. m.now) members.now) k → IsStatic linked.now.world k }
     ensures functions { IfOk result (λ fs. AreFunctions linked.now.world (map (λ m. m.now) members.now) fs.items) }
     ensures counted { Emits (length members.now) result (W.meter work.old) (W.meter work.new) }
 {
@@ -90,7 +93,8 @@ fn function_of<'w, W: Workers>(
     member: &'w Member,
     work: &mut W,
 ) -> Result<Function<'w>, NoMemory>
-    requires { IsDefined linked.now.world member.now }
+    requires defined { IsDefined linked.now.world member.now }
+    requires without_receiver { IsStatic linked.now.world member.now }
     ensures function { IfOk result (λ f. (f.member.now ≡ member.now) × IsFunction linked.now.world f) }
     ensures counted { Emits 1 result (W.meter work.old) (W.meter work.new) }
 {
@@ -111,11 +115,11 @@ fn emitted_piece<W: Workers>(
     definition: &MethodDef,
     work: &mut W,
 ) -> Result<JsPiece, NoMemory>
-    ensures piece { IfOk result (λ p. piece_view p ≡ piece_of member.now (method_desugared definition.now)) }
+    ensures piece { IfOk result (λ p. piece_view p ≡ members.member_piece member.now (method_desugared definition.now)) }
     ensures rules { BodyOnObjects definition.now.body → IfOk result (λ p. IsPiece (piece_view p)) }
     ensures counted { Emits 1 result (W.meter work.old) (W.meter work.new) }
 {
-    desugared_methods_have_keys();
+    desugared_members_have_keys();
     desugared_fields_have_owners();
     let core = desugar(alloc, definition)?;
     let emitted = emit(alloc, linked, member, &core, work)?;
@@ -129,7 +133,7 @@ fn emit<W: Workers>(
     core: &CoreMethod,
     work: &mut W,
 ) -> Result<JsMember, NoMemory>
-    ensures params { IfOk result (λ e. e.params ≡ parameter_names (method_view core.now).params) }
+    ensures params { IfOk result (λ e. e.params ≡ function_parameters (method_view core.now)) }
     ensures body { IfOk result (λ e. body_view e.body ≡ body_template (method_view core.now)) }
     ensures used { IfOk result (λ e. e.uses ≡ uses (method_view core.now).body) }
     ensures counted { Emits 1 result (W.meter work.old) (W.meter work.new) }

@@ -1,7 +1,7 @@
 -- A public member that a class has with a body is the target of a call in the class.
 use Rattle.std.proofs.Common.{◌≡◌, ℕ, suc, ◌+◌, Bool, true, false, ◌&&◌, List, [], ◌∷◌, length, Option, Some, None, refl, sym, ap, ◌∙◌, subst, if◌then◌else◌, arith}
 use Rattle.std.specs.Prelude.{filter, is_some}
-use Rattle.ir_mean.specs.Dispatch.{chain_from, chain_of, longest, Found, is_body, first_of, methods_in, body_at, or_found, nearest, or_default, resolved}
+use Rattle.ir_mean.specs.Dispatch.{chain_from, longest, Found, is_body, first_of, methods_in, body_at, or_found, nearest, or_default}
 use Rattle.ir_mean.specs.Meaning.{method_found, target_in, static_target}
 use Rattle.ir_mean.specs.World as world
 use Rattle.ir_mean.specs.World.{World, member_of, method_among, method_in}

@@ -1,5 +1,5 @@
 -- The fields of a class that keeps the local rules, sorted by their names, are one list.
-use Rattle.std.proofs.Common.{◌≡◌, ◌↔◌, ◌⊎◌, ◌++◌, ◌&&◌, not, ℕ, suc, Bool, true, false, List, [], ◌∷◌, Option, Some, None, inl, inr, refl, sym, ap, subst, ◌∙◌, map, Contains}
+use Rattle.std.proofs.Common.{◌≡◌, ◌↔◌, ◌⊎◌, ◌++◌, ◌&&◌, not, ℕ, suc, Bool, true, false, List, [], ◌∷◌, Option, Some, None, inl, inr, refl, sym, ap, subst, ◌∙◌, map, Contains, arith}
 use Rattle.std.specs.Prelude.{option_map, filter, cond}
 use Rattle.std.specs.Cmp.{IsStrictWeakOrder}
 use Rattle.std.specs.Cmp.Lexicographic.{nat_list_cmp_total}
@@ -30,19 +30,17 @@ use Rattle.linked_pieces.proofs.Names.{weaker, distinct_in_order, tied_name}
 use Rattle.linked_pieces.proofs.Picked.{Picks, nothing, taken, left}
 use Rattle.linked_pieces.proofs.Sorted.{one_sorted}
 
-same_mark : Bool → Bool → Bool
+abbrev pub same_mark : Bool → Bool → Bool
 same_mark true b = b
 same_mark false b = not b
 
 mark_is : (a b : Bool) → same_mark a b ≡ true → a ≡ b
-unfolding same_mark
 mark_is true true e = refl
 mark_is true false e = impossible e
 mark_is false true e = impossible e
 mark_is false false e = refl
 
 mark_itself : (a : Bool) → same_mark a a ≡ true
-unfolding same_mark
 mark_itself true = refl
 mark_itself false = refl
 
@@ -87,11 +85,11 @@ unrepeated earlier [] r h e = (λ f i k. nothing_in f i, tt)
 unrepeated earlier (f ∷ fs) _ (here _ _ _ i) e = absurd cc
 unrepeated earlier (f ∷ fs) _ (later _ _ _ index new rest) e =
     let q = unrepeated (earlier ++ field_key f ∷ []) fs index rest (no_index index e) in
-    (λ g i k. go g (cons_cases f g fs i) k, (λ g i. differ f g (λ same. q.0 g i (subst (Contains (earlier ++ field_key f ∷ [])) same (Contains-append_right earlier (field_key f ∷ []) (field_key f) (at_first (field_key f) [])))), q.1))
+    (λ g i k. go g q.0 (cons_cases f g fs i) k, (λ g i. differ f g (λ same. q.0 g i (subst (Contains (earlier ++ field_key f ∷ [])) same (Contains-append_right earlier (field_key f ∷ []) (field_key f) (at_first (field_key f) [])))), q.1))
   where
-    go : (g : FieldDef) → (f ≡ g) ⊎ Contains fs g → Contains earlier (field_key g) → ⊥
-    go g (inl same) k = new (subst (λ (x : FieldDef). Contains earlier (field_key x)) (sym same) k)
-    go g (inr i) k = (unrepeated (earlier ++ field_key f ∷ []) fs index rest (no_index index e)).0 g i (Contains-append_left earlier (field_key f ∷ []) (field_key g) k)
+    go : (g : FieldDef) → ((h : FieldDef) → Contains fs h → Contains (earlier ++ field_key f ∷ []) (field_key h) → ⊥) → (f ≡ g) ⊎ Contains fs g → Contains earlier (field_key g) → ⊥
+    go g behind (inl same) k = new (subst (λ (x : FieldDef). Contains earlier (field_key x)) (sym same) k)
+    go g behind (inr i) k = behind g i (Contains-append_left earlier (field_key f ∷ []) (field_key g) k)
 
 no_place : (c : ClassDef) (field method : Option ℕ) → None ≡ repeat_place c field method → field ≡ None
 no_place c None method e = refl
@@ -118,11 +116,11 @@ moved fs gs p h = distinct_in_order is_same_field gs (IsDistinct-IsPermutation i
 
 pub picked_among : (P : FieldDef → Type 0) (fs gs : List FieldDef) → Picks P fs gs → (g : FieldDef) → Contains gs g → Contains fs g × P g
 picked_among P _ _ nothing g i = nothing_in g i
-picked_among P _ _ (taken f fs gs h p) g i = go (cons_cases f g gs i)
+picked_among P _ _ (taken f fs gs h p) g i = go (cons_cases f g gs i) (picked_among P fs gs p g)
   where
-    go : (f ≡ g) ⊎ Contains gs g → Contains (f ∷ fs) g × P g
-    go (inl e) = subst (λ (x : FieldDef). Contains (f ∷ fs) x × P x) e (at_first f fs, h)
-    go (inr k) = let q = picked_among P fs gs p g k in (further f g fs q.0, q.1)
+    go : (f ≡ g) ⊎ Contains gs g → (Contains gs g → Contains fs g × P g) → Contains (f ∷ fs) g × P g
+    go (inl e) rest = subst (λ (x : FieldDef). Contains (f ∷ fs) x × P x) e (at_first f fs, h)
+    go (inr k) rest = let q = rest k in (further f g fs q.0, q.1)
 picked_among P _ _ (left f fs gs h p) g i = let q = picked_among P fs gs p g i in (further f g fs q.0, q.1)
 
 pub picked_apart : (P : FieldDef → Type 0) (fs gs : List FieldDef) → Picks P fs gs → Apart fs → Apart gs
@@ -132,11 +130,11 @@ picked_apart P _ _ (left f fs gs k p) h = picked_apart P fs gs p h.1
 
 pub picks_filter : (test : FieldDef → Bool) (fs : List FieldDef) → Picks (λ f. test f ≡ true) fs (filter test fs)
 picks_filter test [] = nothing
-picks_filter test (f ∷ fs) = go (test f) refl
+picks_filter test (f ∷ fs) = go (test f) refl (picks_filter test fs)
   where
-    go : (b : Bool) → test f ≡ b → Picks (λ f. test f ≡ true) (f ∷ fs) (cond b (f ∷ filter test fs) (filter test fs))
-    go true e = taken f fs (filter test fs) e (picks_filter test fs)
-    go false e = left f fs (filter test fs) (λ t. impossible (sym e ∙ t)) (picks_filter test fs)
+    go : (b : Bool) → test f ≡ b → Picks (λ f. test f ≡ true) fs (filter test fs) → Picks (λ f. test f ≡ true) (f ∷ fs) (cond b (f ∷ filter test fs) (filter test fs))
+    go true e rest = taken f fs (filter test fs) e rest
+    go false e rest = left f fs (filter test fs) (λ t. impossible (sym e ∙ t)) rest
 
 field_before : FieldDef → FieldDef → Bool
 field_before f g = is_lt (field_cmp f g)

@@ -42,8 +42,8 @@ use Rattle.linked_pieces.proofs.Picked.{Picks, nothing, taken, left, one_pick, l
 one_mark : (a b : Bool) {P Q : Type 0} → IsTrue a ↔ P → IsTrue b ↔ Q → P ↔ Q → a ≡ b
 one_mark true true h k e = refl
 one_mark false false h k e = refl
-one_mark true false h k e = absurd (k.1 (e.0 (h.0 tt)))
-one_mark false true h k e = absurd (h.1 (e.1 (k.0 tt)))
+one_mark true false h k e = impossible (k.1 (e.0 (h.0 refl)))
+one_mark false true h k e = impossible (h.1 (e.1 (k.0 refl)))
 
 module _ (w : Classes) where
   as_many : (c : Name) (xs ys : List Name) → AreAncestors w c xs → AreAncestors w c ys → length xs ≡ length ys
@@ -65,7 +65,7 @@ module _ (w : Classes) where
   instances_picked c _ _ (classes.AreInstances.other k ks ts are h) = subst (λ xs. Picks (λ k. IsAncestor w (kind_class k) c) xs (reverse ts)) (sym (last_first ks k)) (left k (reverse ks) (reverse ts) h (instances_picked c ks ts are))
 
   one_instances : (c : Name) (ks xs ys : List Kind) → AreInstances w c ks xs → AreInstances w c ks ys → xs ≡ ys
-  one_instances c ks xs ys one other = sym (reverse-reverse xs) ∙ ap reverse (one_pick (λ k. IsAncestor w (kind_class k) c) (λ k. IsAncestor w (kind_class k) c) (λ k h. h) (λ k h. h) (reverse ks) (reverse xs) (reverse ys) (instances_picked c ks xs one) (instances_picked c ks ys other)) ∙ reverse-reverse ys
+  one_instances c ks xs ys first second = sym (reverse-reverse xs) ∙ ap reverse (one_pick (λ k. IsAncestor w (kind_class k) c) (λ k. IsAncestor w (kind_class k) c) (λ k h. h) (λ k h. h) (reverse ks) (reverse xs) (reverse ys) (instances_picked c ks xs first) (instances_picked c ks ys second)) ∙ reverse-reverse ys
 
 abbrev IsTaken : List Fact → Name → FieldDef → Type 0
 IsTaken known c f = IsTrue f.is_static × Contains known (fact.NeededField c f.name true)
@@ -74,10 +74,6 @@ reached_picked : (known : List Fact) (c : Name) (fs gs : List FieldDef) → AreR
 reached_picked known c _ _ classes.AreReached.none_yet = nothing
 reached_picked known c _ _ (classes.AreReached.reached f fs gs are s h) = subst (λ xs. Picks (IsTaken known c) xs (reverse (gs ++ f ∷ []))) (sym (last_first fs f)) (subst (λ ys. Picks (IsTaken known c) (f ∷ reverse fs) ys) (sym (last_first gs f)) (taken f (reverse fs) (reverse gs) (s, h) (reached_picked known c fs gs are)))
 reached_picked known c _ _ (classes.AreReached.other f fs gs are h) = subst (λ xs. Picks (IsTaken known c) xs (reverse gs)) (sym (last_first fs f)) (left f (reverse fs) (reverse gs) (λ t. h t.0 t.1) (reached_picked known c fs gs are))
-
-true_is : (b : Bool) → IsTrue b → b ≡ true
-true_is true h = refl
-true_is false h = absurd h
 
 not_marked : (b : Bool) → not b ≡ true → b ≡ false
 not_marked true h = impossible h
@@ -108,13 +104,13 @@ module _ (w : Classes) (kept : (c : ClassDef) → Contains w c → FirstBroken c
     from f = (same f).1
 
     one_reached : (c : Name) (fs xs ys : List FieldDef) → AreReached known c fs xs → AreReached more c fs ys → xs ≡ ys
-    one_reached c fs xs ys one other = sym (reverse-reverse xs) ∙ ap reverse (one_pick (IsTaken known c) (IsTaken more c) (takes known more to c) (takes more known from c) (reverse fs) (reverse xs) (reverse ys) (reached_picked known c fs xs one) (reached_picked more c fs ys other)) ∙ reverse-reverse ys
+    one_reached c fs xs ys first second = sym (reverse-reverse xs) ∙ ap reverse (one_pick (IsTaken known c) (IsTaken more c) (takes known more to c) (takes more known from c) (reverse fs) (reverse xs) (reverse ys) (reached_picked known c fs xs first) (reached_picked more c fs ys second)) ∙ reverse-reverse ys
 
     reached_apart : (c : Name) (fs xs : List FieldDef) → Apart fs → AreReached known c fs xs → Apart xs
     reached_apart c fs xs apart are = subst Apart (reverse-reverse xs) (moved (reverse xs) (reverse (reverse xs)) (IsPermutation-reverse (reverse xs)) (picked_apart (IsTaken known c) (reverse fs) (reverse xs) (reached_picked known c fs xs are) (moved fs (reverse fs) (IsPermutation-reverse fs) apart)))
 
     reached_static : (c : Name) (fs xs : List FieldDef) → AreReached known c fs xs → (f : FieldDef) → Contains xs f → f.is_static ≡ true
-    reached_static c fs xs are f i = true_is f.is_static (picked_among (IsTaken known c) (reverse fs) (reverse xs) (reached_picked known c fs xs are) f (in_reverse xs f i)).1.0
+    reached_static c fs xs are f i = (picked_among (IsTaken known c) (reverse fs) (reverse xs) (reached_picked known c fs xs are) f (in_reverse xs f i)).1.0
 
     one_statics : (c : Name) (fs xs ys : List FieldDef) → Apart fs → AreStatics known c fs xs → AreStatics more c fs ys → xs ≡ ys
     one_statics c fs xs ys apart one other = one_sorting true one.reached xs ys (reached_apart c fs one.reached apart one.are_reached) (reached_static c fs one.reached one.are_reached) one.sorted (subst (λ zs. AreSorted zs ys) (sym (one_reached c fs one.reached other.reached one.are_reached other.are_reached)) other.sorted)

@@ -1,5 +1,5 @@
 -- The theorem on trees: one induction, both directions.
-use Rattle.std.specs.Prelude.{ℤ, pos, ◌&&◌, not}
+use Rattle.std.specs.Prelude.{ℤ, pos, ◌&&◌}
 use Rattle.std.proofs.Common.{◌≡◌, ℕ, Bool, true, false, List, [], ◌∷◌, Some, refl, sym, ap, ◌∙◌, subst, ◌⊎◌, inl, inr, ⊎_elim}
 use mathlib.Core.Path.{fun_ext}
 use Rattle.outcomes.specs.Outcome.{done}

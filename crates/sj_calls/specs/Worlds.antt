@@ -21,7 +21,7 @@ use Rattle.sj_plain.specs.Settings.{Place, SameState, SameStored, HasField, Reac
 use Rattle.body_rules.specs.Standing.{is_bare}
 use Rattle.sj_plain.specs.Worlds.{World}
 use Rattle.sj_trees.specs.Types.{class_type}
-use Rattle.sj_calls.specs.Helpers.{HelperStands, BoxStands, failing_code, checking_code, division_code}
+use Rattle.sj_calls.specs.Helpers.{HelperStands, BoxStands, helper_code, checking_code, division_code}
 use Rattle.sj_calls.specs.Made.{Makers}
 use Rattle.sj_calls.specs.Methods.{Linked}
 use Rattle.sj_calls.specs.Objects.{RunsOn, Constructs}
@@ -40,7 +40,7 @@ pub record IsMade (p : Place) (c : List ℕ) : Type 0 where
 -- the null check stands in the program, and so does what it throws
 pub record CanCheck (p : Place) : Type 0 where
   pub check : HelperStands p NotNull checking_code
-  pub failure : HelperStands p (Throws NullReceiver) (failing_code (codes "java.lang.NullPointerException") (codes "null"))
+  pub failure : HelperStands p (Throws NullReceiver) (helper_code (Throws NullReceiver))
   pub owned : owner p.program (p.home (a_helper NotNull)) (helper_name (Throws NullReceiver)) ≡ Some (p.home (a_helper (Throws NullReceiver)))
   pub held : (w : World) (s : ir.State) (u : js.State) → SameState p w s u → u.tops (p.home (a_helper (Throws NullReceiver))) (helper_name (Throws NullReceiver)) ≡ js.holds false (top_function p (a_helper (Throws NullReceiver)))
   pub reaches : Reaches p (p.home (a_helper (Throws NullReceiver)))
@@ -50,7 +50,7 @@ pub record CanCheck (p : Place) : Type 0 where
 -- the helper of a division stands in the program, and so does what it throws
 pub record CanDivide (p : Place) (o : BinaryOp) : Type 0 where
   pub division : HelperStands p (division_helper o) (division_code o)
-  pub failure : HelperStands p (Throws Division) (failing_code (codes "java.lang.ArithmeticException") (codes "/ by zero"))
+  pub failure : HelperStands p (Throws Division) (helper_code (Throws Division))
   pub owned : owner p.program (p.home (a_helper (division_helper o))) (helper_name (Throws Division)) ≡ Some (p.home (a_helper (Throws Division)))
   pub held : (w : World) (s : ir.State) (u : js.State) → SameState p w s u → u.tops (p.home (a_helper (Throws Division))) (helper_name (Throws Division)) ≡ js.holds false (top_function p (a_helper (Throws Division)))
   pub reaches : Reaches p (p.home (a_helper (Throws Division)))

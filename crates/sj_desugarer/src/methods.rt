@@ -1,5 +1,6 @@
 // Methods.
-ghost use Rattle.std.specs.Prelude.{◌≡◌, IfOk};
+ghost use Rattle.std.specs.Prelude.{◌≡◌, IfOk, None};
+ghost use Rattle.sj_core.specs.Terms as terms;
 ghost use Rattle.sj_core.specs.Views.{method_view, statements_view};
 ghost use Rattle.sj_desugar.specs.Desugar as desugar;
 ghost use Rattle.sj_desugar.specs.Desugar.{body_code, is_mutable_in, result_destination};
@@ -8,13 +9,14 @@ ghost use Rattle.sj_desugarer.specs.Methods.{method_desugared};
 ghost use Rattle.sj_trees.specs.View.{view};
 
 use crate::trees::{Locals, statements_of};
-use sj_core::{CoreMethod, CoreStatement};
+use sj_core::{CoreExpression, CoreMethod, CoreStatement, CoreVariable};
 use sj_desugaring::{Destination, is_no_type, mutable_locals, sure_locals};
-use sj_names::{Items, LocalName, NoMemory};
+use sj_names::{Items, LocalName, Namespace, NoMemory};
 use sj_trees::{IrType, MethodDef, ParamDef, Tree};
 use std::alloc::Global;
 
-/// The method of the core for the method `m`: the statements of its body, and none where it has no body. Want of memory is the only error.
+/// The method of the core for the method `m`: the statements of its body, behind which a constructor gives the object that it ran on, and no
+/// statements where it has no body. Want of memory is the only error.
 pub fn desugar(alloc: Global, m: &MethodDef) -> Result<CoreMethod, NoMemory>
     ensures { IfOk result (λ c. method_view c ≡ method_desugared m.now) }
 {
@@ -31,9 +33,49 @@ fn body_of(alloc: Global, m: &MethodDef) -> Result<Vec<CoreStatement>, NoMemory>
     ensures { IfOk result (λ ss. statements_view ss.items ≡ (method_desugared m.now).body) }
 {
     match &m.body {
-        Some(body) => statements_of_body(alloc, m, body.tree()),
+        Some(body) => {
+            let statements = statements_of_body(alloc, m, body.tree())?;
+            completed(alloc, m.namespace, statements)
+        }
         None => Ok(Vec::new(alloc)),
     }
+}
+
+// A constructor gives the object that it ran on.
+fn completed(
+    alloc: Global,
+    namespace: Namespace,
+    statements: Vec<CoreStatement>,
+) -> Result<Vec<CoreStatement>, NoMemory>
+    ensures { IfOk result (λ ss. statements_view ss.items ≡ desugar.completed namespace (statements_view statements.items)) }
+{
+    match namespace {
+        Namespace::Constructor => followed(statements, receiver_given(alloc)?),
+        _ => Ok(statements),
+    }
+}
+
+// `return $this;`
+fn receiver_given(alloc: Global) -> Result<Vec<CoreStatement>, NoMemory>
+    ensures { IfOk result (λ ss. statements_view ss.items ≡ terms.statement (terms.return_of None (terms.variable_use terms.receiver)) terms.no_statements) }
+{
+    let mut statements = Vec::new(alloc);
+    let receiver = CoreExpression::Variable(CoreVariable::Receiver);
+    statements.push(CoreStatement::Return(None, receiver))?;
+    Ok(statements)
+}
+
+#[tactic(auto, using(std::proofs::lemmas::Grind::common_steps, sj_desugaring::proofs::Lists::appending))]
+fn followed(
+    first: Vec<CoreStatement>,
+    second: Vec<CoreStatement>,
+) -> Result<Vec<CoreStatement>, NoMemory>
+    ensures { IfOk result (λ ss. statements_view ss.items ≡ terms.followed (statements_view first.items) (statements_view second.items)) }
+{
+    let mut statements = first;
+    let mut others = second;
+    statements.append(&mut others)?;
+    Ok(statements)
 }
 
 fn statements_of_body(

@@ -5,7 +5,7 @@ use Rattle.sj_desugar.specs.Desugar.{desugared_member}
 use Rattle.sj_emit_expr.specs.Members.{member_piece}
 use Rattle.sj_names.specs.declared.method_names.MethodName.{MethodName}
 use Rattle.sj_names.specs.declared.method_names.Namespace.{Namespace}
-use Rattle.sj_names.specs.declared.method_names.Namespace.TheVariants.{PublicStatic, Private, Constructor}
+use Rattle.sj_names.specs.declared.method_names.Namespace.TheVariants.{Public, PublicStatic, Private, PrivateStatic, Constructor}
 use Rattle.sj_names.specs.declared.references.TypeRef.{TypeRef}
 use Rattle.sj_trees.specs.Erase.{nowhere}
 use Rattle.sj_trees.specs.Term.{Term, Terms, no_terms, more_terms, var_def, skip, block_of, assign, throw, new_object, select, select_static, apply_statically, int_literal, long_literal, var_ref, this_ref, binary_op}
@@ -61,6 +61,14 @@ block ts = block_of nowhere (all ts)
 -- it calls the constructor of java.lang.Object on This, and sets the field
 abbrev pub constructor_piece : Piece
 constructor_piece = piece Constructor from_int (param (codes "x") Types.Int ∷ []) Types.NoType (block (apply_statically nowhere this (codes "java.lang.Object") Constructor from_nothing no_terms Types.NoType ∷ assign nowhere (field this) (use_of (codes "x") Types.Int) ∷ []))
+
+-- a public method without parameters gives the field of This
+abbrev pub field_piece : Piece
+field_piece = piece Public (named (codes "get") [] TypeRef.Int) [] Types.Int (field this)
+
+-- a private static method gives its parameter, and has no receiver
+abbrev pub same_piece : Piece
+same_piece = piece PrivateStatic (named (codes "same") (TypeRef.Int ∷ []) TypeRef.Int) (param (codes "x") Types.Int ∷ []) Types.Int (use_of (codes "x") Types.Int)
 
 -- `q.f + a.f`, where `a` is a new object: of the two receivers `q` alone may be null
 abbrev pub sum_piece : Piece

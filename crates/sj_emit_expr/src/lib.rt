@@ -6,7 +6,7 @@
 ghost use Rattle.std.specs.Prelude.{◌≡◌, codes, [], ◌∷◌};
 ghost use Rattle.js_tree.specs.Texts.{piece_text};
 ghost use Rattle.js_tree.specs.declared.items.Binding.{Binding};
-ghost use Rattle.sj_emit_expr.specs.ObjectRows.{constructor_piece, sum_piece, sets_piece, gets_piece, others_piece};
+ghost use Rattle.sj_emit_expr.specs.ObjectRows.{constructor_piece, field_piece, same_piece, sum_piece, sets_piece, gets_piece, others_piece};
 ghost use Rattle.sj_emit_expr.specs.Rows.{piece_of, triple_method, triples, two_method, one_and_two};
 
 /// Two worked methods of the class `A`: `f` with the loop `while (p < 10) { p = p * 3 }; p`, and `two`, which adds what `one` gives to the value
@@ -16,11 +16,14 @@ pub fn worked_functions()
     ensures order { piece_text (piece_of two_method one_and_two) ≡ codes "function s_A__two$$I() {\n  const $1 = s_A__one$$I();\n  let $2;\n  $2 = 2;\n  return (($1 + $2) | 0);\n}\n" }
 {}
 
-/// Worked methods of the class `A` on objects. A constructor runs on an object that is there, and gives it. A receiver has its null check, but where it
+/// Worked methods of the class `A` on objects. A constructor runs on an object that is there, and gives it. A method that isn't static has This as its
+/// first parameter. A receiver has its null check, but where it
 /// is This, or an immutable local that is defined as a new object; where a later operand isn't plain, the check comes in front of it; and a receiver
 /// that isn't plain is spilled for its check. `uses` names the functions, classes, static fields and helpers of a text in its order.
 pub fn worked_objects()
     ensures constructor { piece_text constructor_piece ≡ codes "function ct_A__$3cinit$3e$$I$$V($this, v_x) {\n  ct_java_lang_Object__$3cinit$3e$$V($this);\n  $this.f_A__f = v_x;\n  return $this;\n}\n" }
+    ensures field { piece_text field_piece ≡ codes "function f_A__get$$I($this) {\n  return $this.f_A__f;\n}\n" }
+    ensures same { piece_text same_piece ≡ codes "function ps_A__same$$I$$I(v_x) {\n  return v_x;\n}\n" }
     ensures sum { piece_text sum_piece ≡ codes "function s_A__sum$$LA$$I(v_q) {\n  let v_a = ct_A__$3cinit$3e$$I$$V(new c_A(), 1);\n  return (($nn(v_q).f_A__f + v_a.f_A__f) | 0);\n}\n" }
     ensures sets { piece_text sets_piece ≡ codes "function p_A__sets$$LA$$V($this, v_q) {\n  const $1 = $nn(v_q);\n  let $2;\n  $2 = 2;\n  $1.f_A__f = $2;\n  let $3;\n  $3 = 3;\n  $this.f_A__f = $3;\n}\n" }
     ensures gets { piece_text gets_piece ≡ codes "function s_A__gets$$LA$$I(v_q) {\n  let $1;\n  let $2;\n  $2 = v_q;\n  $1 = $nn($2);\n  return $1.f_A__f;\n}\n" }

@@ -5,15 +5,17 @@ use Rattle.std.proofs.lemmas.List.Elements.{All-nil, All-cons, All-head, All-tai
 use Rattle.js_tree.specs.Rules.{IsName, IsUnit, IsExpression, IsExpressions, IsStatement, AreStatements, AreCases, IsPiece}
 use Rattle.js_tree.specs.Terms as js
 use Rattle.sj_core.specs.Terms as core
+use Rattle.sj_emit_expr.specs.Members.{with_receiver, member_piece}
 use Rattle.sj_emit_expr.specs.Names.{variable_name, label_name}
 use Rattle.sj_emit_expr.specs.Templates.{unary_template, binary_template, is_nonzero_literal, choice_template, expression_template, expression_templates, statement_template, statement_templates, case_templates, parameter_names}
 use Rattle.sj_names.specs.declared.method_names.Member.{Member}
+use Rattle.sj_names.specs.declared.method_names.Namespace.{Namespace}
+use Rattle.sj_names.specs.declared.method_names.Namespace.TheVariants.{Public, PublicStatic, Private, PrivateStatic, Constructor}
 use Rattle.sj_trees.specs.declared.operators.BinaryOp.{BinaryOp}
 use Rattle.sj_trees.specs.declared.operators.BinaryOp.TheVariants.{StringConcatenate, BooleanEqual, BooleanNotEqual, BooleanOr, BooleanAnd, IntAdd, IntSubtract, IntMultiply, IntDivide, IntRemainder, IntOr, IntAnd, IntXor, IntShiftLeft, IntShiftRightLogical, IntShiftRightArithmetic, IntEqual, IntNotEqual, IntLess, IntLessOrEqual, IntGreater, IntGreaterOrEqual, LongAdd, LongSubtract, LongMultiply, LongDivide, LongRemainder, LongOr, LongAnd, LongXor, LongShiftLeft, LongShiftRightLogical, LongShiftRightArithmetic, LongEqual, LongNotEqual, LongLess, LongLessOrEqual, LongGreater, LongGreaterOrEqual}
 use Rattle.sj_trees.specs.declared.operators.UnaryOp.{UnaryOp}
 use Rattle.sj_trees.specs.declared.operators.UnaryOp.TheVariants.{BooleanNot, CharToInt, ByteToInt, ShortToInt, IntToLong, IntToChar, IntToByte, IntToShort, LongToInt}
 use Rattle.sj_pieces.specs.Keys.{IsKeyed, AreKeyed, HaveKeys, HasKeys}
-use Rattle.sj_emit_expr.specs.Pieces.{piece_of}
 use Rattle.sj_pieces.specs.Owners.{HasOwners, HaveOwners, IsOwned, AreOwned, CasesOwned, FieldsHaveOwners}
 use Rattle.sj_pieces.specs.Ranges.{AreBytes, FitsMember, FitsExpression, FitExpressions, FitsStatement, FitStatements, FitCases, FitsMethod}
 use Rattle.sj_pieces.proofs.Names.{variable-named, label-named, member-named, class-named, property-named, static-named, setter-named}
@@ -136,5 +138,15 @@ parameters-kept : (xs : List (List ℕ)) → All AreBytes xs → All IsName (par
 parameters-kept [] h = All-nil IsName
 parameters-kept (x ∷ xs) h = All-cons IsName (variable_name (core.named x)) (parameter_names xs) (variable-named (core.named x) (All-head AreBytes x xs h)) (parameters-kept xs (All-tail AreBytes x xs h))
 
-pub piece-kept : (m : Member) (c : core.Method) → FitsMember m → FitsMethod c → HasKeys c → FieldsHaveOwners c → IsPiece (piece_of m c)
-piece-kept m c own fits keys owners = (member-named m own, uses-named c.body fits.1, (member-named m own, parameters-kept c.params fits.0, statements-kept c.body fits.1 keys owners))
+behind-receiver : (xs : List js.Name) → All IsName xs → All IsName (variable_name core.receiver ∷ xs)
+behind-receiver xs h = All-cons IsName (variable_name core.receiver) xs (variable-named core.receiver tt) h
+
+receiver-kept : (n : Namespace) (xs : List js.Name) → All IsName xs → All IsName (with_receiver n xs)
+receiver-kept PublicStatic xs h = h
+receiver-kept PrivateStatic xs h = h
+receiver-kept Public xs h = behind-receiver xs h
+receiver-kept Private xs h = behind-receiver xs h
+receiver-kept Constructor xs h = behind-receiver xs h
+
+pub piece-kept : (m : Member) (c : core.Method) → FitsMember m → FitsMethod c → HasKeys c → FieldsHaveOwners c → IsPiece (member_piece m c)
+piece-kept m c own fits keys owners = (member-named m own, uses-named c.body fits.1, (member-named m own, receiver-kept c.namespace (parameter_names c.params) (parameters-kept c.params fits.0), statements-kept c.body fits.1 keys owners))

@@ -5,9 +5,10 @@ ghost use Rattle.js_tree.specs.Views.{body_view, piece_view};
 ghost use Rattle.sj_core.specs.Views.{method_view};
 ghost use Rattle.sj_pieces.specs.Keys.{HasKeys};
 ghost use Rattle.sj_pieces.specs.Owners.{FieldsHaveOwners};
+ghost use Rattle.sj_emit_expr.specs.Members as members;
+ghost use Rattle.sj_emit_expr.specs.Members.{function_parameters};
 ghost use Rattle.sj_emit_expr.specs.Pieces as pieces;
-ghost use Rattle.sj_emit_expr.specs.Pieces.{piece_of};
-ghost use Rattle.sj_emit_expr.specs.Templates.{parameter_names, body_template};
+ghost use Rattle.sj_emit_expr.specs.Templates.{body_template};
 ghost use Rattle.sj_emit_expr.specs.Uses.{uses};
 
 use crate::ranges::{member_fits, method_fits};
@@ -18,8 +19,8 @@ use sj_names::{Member, NoMemory};
 use std::alloc::Global;
 use std::rc::Rc;
 
-/// The piece of a method without a receiver, of which this is the emitted function: the function, under the name of the member, which the member's
-/// class owns. Where each case of a switch has a key, and each field is one of what may stand before `.`, the piece keeps the rules of printing. Want
+/// The piece of a method, with a receiver or without one, of which this is the emitted function: the function, under the name of the member, which the
+/// member's class owns. Where each case of a switch has a key, and each field is one of what may stand before `.`, the piece keeps the rules of printing. Want
 /// of memory is the only error.
 pub fn member_piece(
     alloc: Global,
@@ -27,10 +28,10 @@ pub fn member_piece(
     m: &CoreMethod,
     emitted: JsMember,
 ) -> Result<JsPiece, NoMemory>
-    requires params { emitted.params ≡ parameter_names (method_view m.now).params }
+    requires params { emitted.params ≡ function_parameters (method_view m.now) }
     requires body { body_view emitted.body ≡ body_template (method_view m.now) }
     requires used { emitted.uses ≡ uses (method_view m.now).body }
-    ensures piece { IfOk result (λ p. piece_view p ≡ piece_of member.now (method_view m.now)) }
+    ensures piece { IfOk result (λ p. piece_view p ≡ members.member_piece member.now (method_view m.now)) }
     ensures rules { HasKeys (method_view m.now) → FieldsHaveOwners (method_view m.now) → IfOk result (λ p. IsPiece (piece_view p)) }
 {
     member_fits(member);

@@ -1,6 +1,6 @@
 -- Objects that hold chars: the emitted code makes one for itself, and where a tree is coerced, what it comes to stands at the type that is expected.
 use Rattle.std.proofs.lemmas.Bool.{eq-eqb, and_parts, not-true}
-use Rattle.std.proofs.Common.{◌≡◌, ℕ, Bool, true, false, ◌&&◌, inl, inr, List, [], ◌∷◌, Some, None, Option, refl, sym, ap, ◌∙◌, subst, if◌then◌else◌}
+use Rattle.std.proofs.Common.{◌≡◌, ℕ, Bool, true, false, ◌&&◌, inl, inr, List, [], ◌∷◌, Some, Option, refl, sym, ap, subst, if◌then◌else◌}
 use Rattle.std.specs.Prelude.{not, pos, ◌||◌, codes, nat_eq}
 use Rattle.std.specs.Cmp.Lexicographic.{pointwise}
 use Rattle.outcomes.specs.Outcome.{Out, done, then_do}
@@ -21,7 +21,6 @@ use Rattle.ir_mean.specs.States as ir
 use Rattle.js_mean.specs.Meaning as js_meaning
 use Rattle.js_mean.specs.Objects as js_objects
 use Rattle.js_mean.specs.States as js
-use Rattle.js_tree.specs.Terms.{Name}
 use Rattle.sj_core.specs.Terms as core
 use Rattle.sj_desugar.specs.Coercions.{is_char, coerced, coerced_arguments, coerced_receiver}
 use Rattle.sj_desugar.specs.Desugar.{types_of}

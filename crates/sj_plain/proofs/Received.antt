@@ -2,7 +2,7 @@
 use Rattle.std.proofs.Common.{◌≡◌, ℕ, Bool, true, false, ◌&&◌, ◌⊎◌, inl, inr, List, refl, sym, ap, ◌∙◌, subst}
 use Rattle.std.specs.Prelude.{not, ◌||◌}
 use Rattle.std.proofs.lemmas.Bool.{and_parts}
-use Rattle.body_rules.proofs.RulesGive.{when_not, class_has_value, ArgumentsFit, arguments_there}
+use Rattle.body_rules.proofs.RulesGive.{class_has_value, ArgumentsFit, arguments_there}
 use Rattle.body_rules.specs.Standing.{MayStand}
 use Rattle.body_rules.specs.Subtyping.{IsSubtyping}
 use Rattle.body_rules.specs.Typing.{Scene, Typed, AllHaveValues, may_check}

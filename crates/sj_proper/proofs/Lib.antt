@@ -3,4 +3,5 @@ pub mod Declared
 pub mod Good
 pub mod Modules
 pub mod Names
+pub mod Statics
 pub mod Trees

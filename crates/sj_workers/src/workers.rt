@@ -8,7 +8,8 @@ ghost use Rattle.sj_ask.specs.Answers.{IsAnswer};
 ghost use Rattle.typing_rules.specs.Answered.{AsRun, agreed, IsVerdict};
 ghost use Rattle.typing_rules.specs.Checks.{check_task};
 ghost use Rattle.sj_core.specs.Views.{method_view};
-ghost use Rattle.sj_emit_expr.specs.Templates.{parameter_names, body_template};
+ghost use Rattle.sj_emit_expr.specs.Members.{function_parameters};
+ghost use Rattle.sj_emit_expr.specs.Templates.{body_template};
 ghost use Rattle.sj_emit_expr.specs.Uses.{uses};
 
 use js_tree::JsMember;
@@ -51,7 +52,7 @@ pub trait Workers {
         m: &CoreMethod,
         oracle: &mut Recorder<WorldOracle<'_>>,
     ) -> Result<JsMember, NoMemory>
-        ensures params { IfOk result (λ e. e.params ≡ parameter_names (method_view m.now).params) }
+        ensures params { IfOk result (λ e. e.params ≡ function_parameters (method_view m.now)) }
         ensures body { IfOk result (λ e. body_view e.body ≡ body_template (method_view m.now)) }
         ensures used { IfOk result (λ e. e.uses ≡ uses (method_view m.now).body) }
         ensures stand { ⟦<Recorder<WorldOracle<'static>> as Oracle>⟧.stand oracle.new ≡ ⟦<Recorder<WorldOracle<'static>> as Oracle>⟧.stand oracle.old }

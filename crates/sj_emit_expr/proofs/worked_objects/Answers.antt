@@ -7,6 +7,14 @@ pub returns-clause-constructor : goal.returns-clause-constructor
 unfolding put digits
 returns-clause-constructor c = refl
 
+pub returns-clause-field : goal.returns-clause-field
+unfolding put digits
+returns-clause-field c = refl
+
+pub returns-clause-same : goal.returns-clause-same
+unfolding put digits
+returns-clause-same c = refl
+
 pub returns-clause-sum : goal.returns-clause-sum
 unfolding put digits
 returns-clause-sum c = refl

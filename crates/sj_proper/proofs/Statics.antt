@@ -1,0 +1,39 @@
+-- The function of a static method is that of any method, without a receiver.
+use Rattle.std.proofs.Common.{◌≡◌, true, ◌∙◌, List, refl, ap}
+use Rattle.js_tree.specs.Terms.{Name, Piece}
+use Rattle.built_forms.specs.Built.{is_static}
+use Rattle.sj_core.specs.Terms.{Method, Statements}
+use Rattle.sj_desugar.specs.Desugar.{names_of, body_code, is_mutable_in, completed, desugared, desugared_member}
+use Rattle.sj_emit_expr.specs.Members.{with_receiver, member_piece}
+use Rattle.sj_emit_expr.specs.Pieces.{function_piece, piece_of}
+use Rattle.sj_emit_expr.specs.Templates.{parameter_names, body_template}
+use Rattle.sj_emit_expr.specs.Uses.{uses}
+use Rattle.sj_names.proofs.Same.{impossible}
+use Rattle.sj_names.specs.declared.method_names.Member.{Member}
+use Rattle.sj_names.specs.declared.method_names.Namespace.{Namespace}
+use Rattle.sj_names.specs.declared.method_names.Namespace.TheVariants.{Public, PublicStatic, Private, PrivateStatic, Constructor}
+use Rattle.sj_trees.specs.Term.{Term}
+use Rattle.sj_trees.specs.declared.classes.MethodDef.{MethodDef}
+
+static_completed : (n : Namespace) (ss : Statements) → is_static n ≡ true → completed n ss ≡ ss
+static_completed PublicStatic ss h = refl
+static_completed PrivateStatic ss h = refl
+static_completed Public ss h = refl
+static_completed Private ss h = refl
+static_completed Constructor ss h = impossible h
+
+static_parameters : (n : Namespace) (xs : List Name) → is_static n ≡ true → with_receiver n xs ≡ xs
+static_parameters PublicStatic xs h = refl
+static_parameters PrivateStatic xs h = refl
+static_parameters Public xs h = impossible h
+static_parameters Private xs h = impossible h
+static_parameters Constructor xs h = impossible h
+
+pub desugared_static : (d : MethodDef) (e : Term) → is_static d.namespace ≡ true → desugared_member d e ≡ desugared d e
+desugared_static d e h = ap (λ (ss : Statements). record { namespace = d.namespace; params = names_of d.params; body = ss }) (static_completed d.namespace (body_code (is_mutable_in d e) d.result e) h)
+
+pub piece_static : (m : Member) (c : Method) → is_static c.namespace ≡ true → member_piece m c ≡ piece_of m c
+piece_static m c h = ap (λ (xs : List Name). function_piece m xs (body_template c) (uses c.body)) (static_parameters c.namespace (parameter_names c.params) h)
+
+pub static_piece : (m : Member) (d : MethodDef) (e : Term) → is_static d.namespace ≡ true → member_piece m (desugared_member d e) ≡ piece_of m (desugared d e)
+static_piece m d e h = ap (member_piece m) (desugared_static d e h) ∙ piece_static m (desugared d e) h
