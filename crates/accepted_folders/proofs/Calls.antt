@@ -1,5 +1,5 @@
 -- What the bodies call that are needed is among them.
-use Rattle.std.proofs.Common.{◌≡◌, Bool, true, false, List, [], ◌∷◌, ◌++◌, ◌&&◌, Option, Some, refl, sym, subst, Contains, if◌then◌else◌}
+use Rattle.std.proofs.Common.{◌≡◌, Bool, true, false, List, [], ◌∷◌, ◌++◌, ◌&&◌, ◌||◌, Option, Some, refl, sym, subst, Contains, if◌then◌else◌}
 use Rattle.std.specs.Prelude.{ℕ, not}
 use Rattle.std.specs.List.{All}
 use Rattle.std.proofs.lemmas.Bool.{and_parts, and_from}
@@ -23,7 +23,7 @@ use Rattle.typing_rules.specs.Labels.{type_of_label}
 use Rattle.typing_rules.specs.Nodes.{inside as inside_label}
 use Rattle.sj_trees.specs.Term.{Term, Terms, no_terms, more_terms, Cases, no_cases, more_cases, var_def, skip, block_of, labeled, assign, return_to, if_then, while_loop, do_while, match_on, apply_statically, apply_static, unary_op, binary_op, undefined_literal, null_literal, boolean_literal, char_literal, byte_literal, short_literal, int_literal, long_literal, string_literal, var_ref, log_line}
 use Rattle.sj_trees.specs.declared.types.IrType.{IrType}
-use Rattle.built_forms.specs.Built.{is_boxed, yields_boxed, leaves_boxed, any_is_boxed, is_operation, is_built, are_built, are_built_cases, anything, is_built_body}
+use Rattle.built_forms.specs.Built.{can_box, may_box, may_yield, may_leave, may_pass, is_boxed, yields_boxed, leaves_boxed, any_is_boxed, is_operation, is_built, are_built, are_built_cases, anything, is_built_body}
 use Rattle.body_rules.proofs.RulesGive.{operation_kept}
 use Rattle.body_rules.specs.Typing.{may_check, is_built_with}
 use Rattle.sure_receivers.specs.Sure.{sure_locals}
@@ -71,14 +71,25 @@ module _ (has : Usable) (checked : Term → Bool) where
   no_call p e c Constructor m ts t ls k = impossible k
   no_call p e c n m ts t ls k = impossible k
 
+  -- what isn't boxed stands, whatever can be boxed
+  boxes : (b : Bool) → b ≡ true → (can_box has || b) ≡ true
+  boxes b h = go (can_box has)
+    where
+      go : (a : Bool) → (a || b) ≡ true
+      go true = refl
+      go false = h
+
+  two_boxes : (a b : Bool) → (a && b) ≡ true → ((can_box has || a) && (can_box has || b)) ≡ true
+  two_boxes a b h = let q = and_parts a b h in and_from (can_box has || a) (can_box has || b) (boxes a q.0) (boxes b q.1)
+
   mutual
     built : (t : Term) (ls : List Label) → is_built anything (λ e. true) ls t ≡ true → Each (trees t) → is_built has checked ls t ≡ true
-    built (var_def p x t b e) ls k h = let q = and_parts (not (is_boxed t e)) (is_built anything (λ e. true) ls e) k in and_from (not (is_boxed t e)) (is_built has checked ls e) q.0 (built e ls q.1 (inner (var_def p x t b e) h))
+    built (var_def p x t b e) ls k h = let q = and_parts (not (is_boxed t e)) (is_built anything (λ e. true) ls e) k in and_from (may_box has t e) (is_built has checked ls e) (boxes (not (is_boxed t e)) q.0) (built e ls q.1 (inner (var_def p x t b e) h))
     built (skip p) ls k h = refl
     built (block_of p ts) ls k h = all_built ts ls k (inner (block_of p ts) h)
-    built (labeled p l t e) ls k h = let q = and_parts (not (yields_boxed t e)) (is_built anything (λ e. true) (inside_label l t ls) e) k in and_from (not (yields_boxed t e)) (is_built has checked (inside_label l t ls) e) q.0 (built e (inside_label l t ls) q.1 (inner (labeled p l t e) h))
-    built (assign p (var_ref q x t) e) ls k h = let r = and_parts (not (is_boxed t e)) (is_built anything (λ e. true) ls e) k in and_from (not (is_boxed t e)) (is_built has checked ls e) r.0 (built e ls r.1 (two (var_ref q x t) e (inner (assign p (var_ref q x t) e) h)).1)
-    built (return_to p e l) ls k h = let q = and_parts (not (leaves_boxed (type_of_label ls l) e)) (is_built anything (λ e. true) ls e) k in and_from (not (leaves_boxed (type_of_label ls l) e)) (is_built has checked ls e) q.0 (built e ls q.1 (inner (return_to p e l) h))
+    built (labeled p l t e) ls k h = let q = and_parts (not (yields_boxed t e)) (is_built anything (λ e. true) (inside_label l t ls) e) k in and_from (may_yield has t e) (is_built has checked (inside_label l t ls) e) (boxes (not (yields_boxed t e)) q.0) (built e (inside_label l t ls) q.1 (inner (labeled p l t e) h))
+    built (assign p (var_ref q x t) e) ls k h = let r = and_parts (not (is_boxed t e)) (is_built anything (λ e. true) ls e) k in and_from (may_box has t e) (is_built has checked ls e) (boxes (not (is_boxed t e)) r.0) (built e ls r.1 (two (var_ref q x t) e (inner (assign p (var_ref q x t) e) h)).1)
+    built (return_to p e l) ls k h = let q = and_parts (not (leaves_boxed (type_of_label ls l) e)) (is_built anything (λ e. true) ls e) k in and_from (may_leave has (type_of_label ls l) e) (is_built has checked ls e) (boxes (not (leaves_boxed (type_of_label ls l) e)) q.0) (built e ls q.1 (inner (return_to p e l) h))
     built (if_then p c a b t) ls k h =
         let q = and_parts (not (yields_boxed t a) && not (yields_boxed t b)) (is_built anything (λ e. true) ls c && (is_built anything (λ e. true) ls a && is_built anything (λ e. true) ls b)) k in
         let r = and_parts (is_built anything (λ e. true) ls c) (is_built anything (λ e. true) ls a && is_built anything (λ e. true) ls b) q.1 in
@@ -86,7 +97,7 @@ module _ (has : Usable) (checked : Term → Bool) where
         let inside : Each (trees c ++ trees a ++ trees b) = inner (if_then p c a b t) h in
         let head = two c a (front (trees c ++ trees a) (trees b) inside) in
         let last = back (trees c ++ trees a) (trees b) inside in
-        and_from (not (yields_boxed t a) && not (yields_boxed t b)) (is_built has checked ls c && (is_built has checked ls a && is_built has checked ls b)) q.0 (and_from (is_built has checked ls c) (is_built has checked ls a && is_built has checked ls b) (built c ls r.0 head.0) (and_from (is_built has checked ls a) (is_built has checked ls b) (built a ls s.0 head.1) (built b ls s.1 last)))
+        and_from (may_yield has t a && may_yield has t b) (is_built has checked ls c && (is_built has checked ls a && is_built has checked ls b)) (two_boxes (not (yields_boxed t a)) (not (yields_boxed t b)) q.0) (and_from (is_built has checked ls c) (is_built has checked ls a && is_built has checked ls b) (built c ls r.0 head.0) (and_from (is_built has checked ls a) (is_built has checked ls b) (built a ls s.0 head.1) (built b ls s.1 last)))
     built (while_loop p c b) ls k h = let q = and_parts (is_built anything (λ e. true) ls c) (is_built anything (λ e. true) ls b) k in let parts = two c b (inner (while_loop p c b) h) in and_from (is_built has checked ls c) (is_built has checked ls b) (built c ls q.0 parts.0) (built b ls q.1 parts.1)
     built (do_while p b c) ls k h = let q = and_parts (is_built anything (λ e. true) ls b) (is_built anything (λ e. true) ls c) k in let parts = two b c (inner (do_while p b c) h) in and_from (is_built has checked ls b) (is_built has checked ls c) (built b ls q.0 parts.0) (built c ls q.1 parts.1)
     built (match_on p e cs d t) ls k h =
@@ -95,10 +106,10 @@ module _ (has : Usable) (checked : Term → Bool) where
         let s = and_parts (are_built_cases anything (λ e. true) ls t cs) (is_built anything (λ e. true) ls d) r.1 in
         let inside : Each (trees e ++ cases_below cs ++ trees d) = inner (match_on p e cs d t) h in
         let head : Each (trees e ++ cases_below cs) = front (trees e ++ cases_below cs) (trees d) inside in
-        and_from (not (yields_boxed t d)) (is_built has checked ls e && (are_built_cases has checked ls t cs && is_built has checked ls d)) q.0 (and_from (is_built has checked ls e) (are_built_cases has checked ls t cs && is_built has checked ls d) (built e ls r.0 (front (trees e) (cases_below cs) head)) (and_from (are_built_cases has checked ls t cs) (is_built has checked ls d) (cases_built cs ls t s.0 (back (trees e) (cases_below cs) head)) (built d ls s.1 (back (trees e ++ cases_below cs) (trees d) inside))))
+        and_from (may_yield has t d) (is_built has checked ls e && (are_built_cases has checked ls t cs && is_built has checked ls d)) (boxes (not (yields_boxed t d)) q.0) (and_from (is_built has checked ls e) (are_built_cases has checked ls t cs && is_built has checked ls d) (built e ls r.0 (front (trees e) (cases_below cs) head)) (and_from (are_built_cases has checked ls t cs) (is_built has checked ls d) (cases_built cs ls t s.0 (back (trees e) (cases_below cs) head)) (built d ls s.1 (back (trees e ++ cases_below cs) (trees d) inside))))
     built (apply_static p c n m ts t) ls k h =
         let q = and_parts (not (any_is_boxed m.params ts)) (are_built anything (λ e. true) ls ts) k in
-        and_from (has.linked (member c n m)) (not (any_is_boxed m.params ts) && are_built has checked ls ts) (All-head Calls (apply_static p c n m ts t) (all_below ts) h) (and_from (not (any_is_boxed m.params ts)) (are_built has checked ls ts) q.0 (all_built ts ls q.1 (inner (apply_static p c n m ts t) h)))
+        and_from (has.linked (member c n m)) (may_pass has m.params ts && are_built has checked ls ts) (All-head Calls (apply_static p c n m ts t) (all_below ts) h) (and_from (may_pass has m.params ts) (are_built has checked ls ts) (boxes (not (any_is_boxed m.params ts)) q.0) (all_built ts ls q.1 (inner (apply_static p c n m ts t) h)))
     built (unary_op p o e) ls k h = built e ls k (inner (unary_op p o e) h)
     built (binary_op p o e d) ls k h =
         let q = and_parts (is_operation anything o d) (is_built anything (λ e. true) ls e && is_built anything (λ e. true) ls d) k in
@@ -129,7 +140,7 @@ module _ (has : Usable) (checked : Term → Bool) where
     cases_built (more_cases (key ∷ keys) e cs) ls t k h =
         let q = and_parts (not (yields_boxed t e)) (is_built anything (λ e. true) ls e && are_built_cases anything (λ e. true) ls t cs) k in
         let r = and_parts (is_built anything (λ e. true) ls e) (are_built_cases anything (λ e. true) ls t cs) q.1 in
-        and_from (not (yields_boxed t e)) (is_built has checked ls e && are_built_cases has checked ls t cs) q.0 (and_from (is_built has checked ls e) (are_built_cases has checked ls t cs) (built e ls r.0 (front (trees e) (cases_below cs) h)) (cases_built cs ls t r.1 (back (trees e) (cases_below cs) h)))
+        and_from (may_yield has t e) (is_built has checked ls e && are_built_cases has checked ls t cs) (boxes (not (yields_boxed t e)) q.0) (and_from (is_built has checked ls e) (are_built_cases has checked ls t cs) (built e ls r.0 (front (trees e) (cases_below cs) h)) (cases_built cs ls t r.1 (back (trees e) (cases_below cs) h)))
 
 all-from : {X : Type 0} (P : X → Type 0) (xs : List X) → ((x : X) → Contains xs x → P x) → All P xs
 all-from P [] h = All-nil P
