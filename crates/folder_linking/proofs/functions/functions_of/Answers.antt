@@ -1,4 +1,4 @@
-use Rattle.std.proofs.Common.{◌+◌, ◌∙◌, ap, arith, length, map, refl, sym, subst}
+use Rattle.std.proofs.Common.{rules, ◌+◌, ◌∙◌, ap, arith, length, map, refl, sym, subst}
 use Rattle.std.specs.Prelude.{option_map}
 use Rattle.std.proofs.lemmas.Option.{slice_get-map, slice_get_read}
 use Rattle.std.proofs.lemmas.Result.{err_from_is_err_and}
@@ -16,6 +16,9 @@ pub returns-in_err-push-clause-counted : goal.returns-in_err-push-clause-counted
 returns-in_err-push-clause-counted g c =
     let p = err_from_is_err_and c.from_residual-in_err-push.result c.from_residual-in_err-push.ensures.1 in
     subst (λ r. Emits (length c.args.members.now) r (g.W.Workers.meter c.args.work.now) (g.W.Workers.meter c.function_of.new.work)) (sym p.1) (emits_some (c.loop-member.member-index + 1) (length c.args.members.now) (g.W.Workers.meter c.args.work.now) _ (omega arith) (emits_on c.loop-member.member-index (g.W.Workers.meter c.args.work.now) _ _ c.loop-member.invariant.counted c.in_ok-function.ensures.counted))
+
+pub function_of-requires-clause-without_receiver : goal.function_of-requires-clause-without_receiver
+function_of-requires-clause-without_receiver g c = λ d h. c.requires.without_receiver _ (search rules) d h
 
 pub loop-member-preserved : goal.loop-member-preserved
 loop-member-preserved g c = record {
