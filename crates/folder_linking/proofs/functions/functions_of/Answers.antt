@@ -1,7 +1,8 @@
-use Rattle.std.proofs.Common.{rules, ◌+◌, ◌∙◌, ap, arith, length, map, refl, sym, subst}
+use Rattle.std.proofs.Common.{◌+◌, ◌∙◌, ap, arith, length, map, refl, sym, subst}
 use Rattle.std.specs.Prelude.{option_map}
 use Rattle.std.proofs.lemmas.Option.{slice_get-map, slice_get_read}
 use Rattle.std.proofs.lemmas.Result.{err_from_is_err_and}
+use Rattle.sj_world.proofs.Searches.{contains_at}
 use Rattle.folder_linking.specs.Counts.{Emits}
 use Rattle.folder_linking.proofs.Bodies.{more_functions}
 use Rattle.folder_linking.proofs.Counted.{emits_on, emits_end, emits_some}
@@ -18,7 +19,7 @@ returns-in_err-push-clause-counted g c =
     subst (λ r. Emits (length c.args.members.now) r (g.W.Workers.meter c.args.work.now) (g.W.Workers.meter c.function_of.new.work)) (sym p.1) (emits_some (c.loop-member.member-index + 1) (length c.args.members.now) (g.W.Workers.meter c.args.work.now) _ (omega arith) (emits_on c.loop-member.member-index (g.W.Workers.meter c.args.work.now) _ _ c.loop-member.invariant.counted c.in_ok-function.ensures.counted))
 
 pub function_of-requires-clause-without_receiver : goal.function_of-requires-clause-without_receiver
-function_of-requires-clause-without_receiver g c = λ d h. c.requires.without_receiver _ (search rules) d h
+function_of-requires-clause-without_receiver g c = c.requires.without_receiver c.member-item.result.now (contains_at (map (λ m. m.now) c.args.members.now) c.loop-member.member-index c.member-item.result.now (slice_get-map (λ m. m.now) c.args.members.now c.loop-member.member-index ∙ ap (option_map (λ m. m.now)) (slice_get_read c.args.members.now _ c.loop-member.member-index c.member-item.result refl (omega arith) c.member-item.is)))
 
 pub loop-member-preserved : goal.loop-member-preserved
 loop-member-preserved g c = record {
