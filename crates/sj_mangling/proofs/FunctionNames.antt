@@ -43,7 +43,8 @@ ends_first begun b bs rest front e same =
     let parts = same_reading 46 b (95 ∷ front) (mangled bs ++ (95 ∷ 95 ∷ rest)) read in
     no_second bs rest front (dot_tail begun b bs parts.0 e) parts.1
 
-split_class : (begun further : Bool) (one other rest behind : List ℕ) → is_dotted begun one ≡ true → is_dotted further other ≡ true →
+-- two names of classes with what stands behind them
+pub split_class : (begun further : Bool) (one other rest behind : List ℕ) → is_dotted begun one ≡ true → is_dotted further other ≡ true →
     mangled one ++ (95 ∷ 95 ∷ rest) ≡ mangled other ++ (95 ∷ 95 ∷ behind) → (one ≡ other) × (rest ≡ behind)
 split_class begun further [] [] rest behind e h same = (refl, ap (drop 2) same)
 split_class begun further [] (y ∷ ys) rest behind e h same = absurd (ends_first further y ys behind rest h same)

@@ -1,5 +1,5 @@
 -- A module of the functions of methods has no early error.
-use Rattle.std.proofs.Common.{◌≡◌, ℕ, Bool, true, false, ◌&&◌, ◌||◌, not, List, [], ◌∷◌, ◌++◌, map, refl, sym, ap, ◌∙◌, inl, inr, Contains}
+use Rattle.std.proofs.Common.{◌≡◌, ℕ, Bool, true, false, ◌&&◌, ◌||◌, not, List, [], ◌∷◌, ◌++◌, None, map, refl, sym, ap, ◌∙◌, inl, inr, ⊎_elim, Contains}
 use Rattle.std.specs.Prelude.{nat_eq}
 use Rattle.std.specs.Cmp.Lexicographic.{pointwise}
 use Rattle.std.specs.List.{list_all}
@@ -7,21 +7,24 @@ use Rattle.std.proofs.lemmas.List.Elements.{Contains-append_left, Contains-appen
 use Rattle.js_mean.specs.Proper.{is_among, are_distinct, declared, are_proper, is_proper_item, item_names, is_proper_module}
 use Rattle.js_tree.specs.Terms.{Name}
 use Rattle.sj_core.specs.Terms as core
-use Rattle.sj_desugar.specs.Desugar.{desugared, names_of, is_mutable_in, into, result_destination}
+use Rattle.sj_desugar.specs.Desugar.{desugared, desugared_member, completed, body_code, names_of, is_mutable_in, into, result_destination}
+use Rattle.sj_emit_expr.specs.Members.{with_receiver, member_piece}
 use Rattle.sj_emit_expr.specs.Names.{variable_name, label_name}
 use Rattle.sj_emit_expr.specs.Templates.{member_name, statement_templates, parameter_names}
 use Rattle.sj_proper.specs.Once.{DefinesOnce, IsAmong, AreDistinct}
 use Rattle.sj_proper.proofs.Names.{variables-differ, labels-differ}
 use Rattle.sj_mangling.proofs.FunctionNames.{function_names_differ}
 use Rattle.sj_names.specs.declared.entry_points.EntryPoint.{EntryPoint}
+use Rattle.sj_names.specs.declared.method_names.Namespace.{Namespace}
+use Rattle.sj_names.specs.declared.method_names.Namespace.TheVariants.{Public, PublicStatic, Private, PrivateStatic, Constructor}
 use Rattle.sj_trees.specs.declared.classes.ParamDef.{ParamDef}
 use Rattle.sure_receivers.specs.Sure.{sure_locals}
 use Rattle.body_rules.specs.Locals.{Own, IsParameter}
 use Rattle.body_rules.proofs.Equal.{differs}
-use Rattle.sj_proper.proofs.Declared.{Declares}
+use Rattle.sj_proper.proofs.Declared.{Declares, declares-followed}
 use Rattle.sj_names.proofs.Same.{impossible}
 use Rattle.sj_proper.specs.Emitted.{EmittedMethod, function_item_of, call_item_of, module_with, HaveOwnMembers, IsNamed}
-use Rattle.sj_proper.proofs.Core.{Distinct, distinct-templates, proper-templates, not_again}
+use Rattle.sj_proper.proofs.Core.{Distinct, Proper, distinct-followed, proper-followed, distinct-templates, proper-templates, not_again}
 use Rattle.sj_proper.proofs.Good.{Good}
 use Rattle.sj_proper.proofs.Trees.{good}
 
@@ -66,12 +69,59 @@ item_proper e h = both (are_distinct (parameter_names (names_of e.definition.par
     g : Good (Own e.its_body) [] false 1 (into (is_mutable_in e.definition e.its_body) (sure_locals e.its_body) [] (result_destination e.definition.result) 1 e.its_body)
     g = good (is_mutable_in e.definition e.its_body) (sure_locals e.its_body) e.its_body [] [] [] false (result_destination e.definition.result) 1 h.once (record { has = λ l i k. absurd i; outer = λ l i. i })
 
+-- a name that no local has, in front of the parameters
+no_receiver : (ns : List (List ℕ)) (ss : core.Statements) → (Declares ss core.receiver → ⊥) → is_among (parameter_names ns ++ declares_names ss) (variable_name core.receiver) ≡ false
+no_receiver [] ss k = not_again variable_name label_name variables-differ labels-differ core.receiver ss k
+no_receiver (n ∷ ns) ss k = neither (pointwise nat_eq (variable_name core.receiver) (variable_name (core.named n))) (is_among (parameter_names ns ++ declares_names ss) (variable_name core.receiver)) (differs (variable_name core.receiver) (variable_name (core.named n)) (λ e. let no : core.receiver ≡ core.named n = variables-differ core.receiver (core.named n) e in absurd (cc))) (no_receiver ns ss k)
+
+received : (n : Namespace) (ns : List (List ℕ)) (ss : core.Statements) → (Declares ss core.receiver → ⊥) → are_distinct (parameter_names ns ++ declares_names ss) ≡ true → are_distinct (with_receiver n (parameter_names ns) ++ declares_names ss) ≡ true
+received PublicStatic ns ss h k = k
+received PrivateStatic ns ss h k = k
+received Public ns ss h k = both (not (is_among (parameter_names ns ++ declares_names ss) (variable_name core.receiver))) (are_distinct (parameter_names ns ++ declares_names ss)) (not_is (is_among (parameter_names ns ++ declares_names ss) (variable_name core.receiver)) (no_receiver ns ss h)) k
+received Private ns ss h k = both (not (is_among (parameter_names ns ++ declares_names ss) (variable_name core.receiver))) (are_distinct (parameter_names ns ++ declares_names ss)) (not_is (is_among (parameter_names ns ++ declares_names ss) (variable_name core.receiver)) (no_receiver ns ss h)) k
+received Constructor ns ss h k = both (not (is_among (parameter_names ns ++ declares_names ss) (variable_name core.receiver))) (are_distinct (parameter_names ns ++ declares_names ss)) (not_is (is_among (parameter_names ns ++ declares_names ss) (variable_name core.receiver)) (no_receiver ns ss h)) k
+
+-- what holds of statements that end a constructor or not
+record Ended (own : List ℕ → Type 0) (ss : core.Statements) : Type 0 where
+  pub fresh : (x : List ℕ) → Declares ss (core.named x) → own x
+  pub unreceived : Declares ss core.receiver → ⊥
+  pub distinct : Distinct ss
+  pub proper : Proper [] false ss
+
+ended : (own : List ℕ → Type 0) (n : Namespace) (ss : core.Statements) → Ended own ss → Ended own (completed n ss)
+ended own Public ss h = h
+ended own PublicStatic ss h = h
+ended own Private ss h = h
+ended own PrivateStatic ss h = h
+ended own Constructor ss h = record {
+  fresh = λ x d. ⊎_elim (λ i. h.fresh x i) (λ i. ⊎_elim (λ k. absurd k) (λ k. absurd k) i) (declares-followed ss last (core.named x) d);
+  unreceived = λ d. ⊎_elim (λ i. h.unreceived i) (λ i. ⊎_elim (λ k. k) (λ k. k) i) (declares-followed ss last core.receiver d);
+  distinct = distinct-followed ss last h.distinct ((λ y d e. e), tt) (λ y d e. ⊎_elim (λ k. k) (λ k. k) e);
+  proper = proper-followed [] false ss last h.proper (tt, tt);
+}
+  where
+    last : core.Statements
+    last = core.statement (core.return_of None (core.variable_use core.receiver)) core.no_statements
+
+-- the function of any method
+pub member_proper : (e : EmittedMethod) → DefinesOnce e.definition e.its_body → is_proper_item (member_piece e.member (desugared_member e.definition e.its_body)).item ≡ true
+member_proper e h = both (are_distinct (with_receiver e.definition.namespace (parameter_names (names_of e.definition.params)) ++ declares_names body)) (are_proper (record { labels = []; breakable = false; super_allowed = false }) (statement_templates variable_name label_name body)) (received e.definition.namespace (names_of e.definition.params) body k.unreceived (distinct_names (names_of e.definition.params) body h.parameters (λ x i d. h.fresh x (k.fresh x d) (parameter-among e.definition.params x i)) k.distinct)) (proper-templates variable_name label_name variables-differ labels-differ [] false body k.proper)
+  where
+    body : core.Statements
+    body = (desugared_member e.definition e.its_body).body
+
+    g : Good (Own e.its_body) [] false 1 (into (is_mutable_in e.definition e.its_body) (sure_locals e.its_body) [] (result_destination e.definition.result) 1 e.its_body)
+    g = good (is_mutable_in e.definition e.its_body) (sure_locals e.its_body) e.its_body [] [] [] false (result_destination e.definition.result) 1 h.once (record { has = λ l i k. absurd i; outer = λ l i. i })
+
+    k : Ended (Own e.its_body) body
+    k = ended (Own e.its_body) e.definition.namespace (body_code (is_mutable_in e.definition e.its_body) e.definition.result e.its_body) (record { fresh = λ x d. g.fresh (core.named x) d; unreceived = λ d. g.fresh core.receiver d; distinct = g.distinct; proper = g.proper })
+
 -- items, and the names that they declare
-calls_proper : (is : List EntryPoint) → list_all is_proper_item (map call_item_of is) ≡ true
+pub calls_proper : (is : List EntryPoint) → list_all is_proper_item (map call_item_of is) ≡ true
 calls_proper [] = refl
 calls_proper (e ∷ is) = calls_proper is
 
-calls_named : (is : List EntryPoint) → item_names (map call_item_of is) ≡ []
+pub calls_named : (is : List EntryPoint) → item_names (map call_item_of is) ≡ []
 calls_named [] = refl
 calls_named (e ∷ is) = calls_named is
 
