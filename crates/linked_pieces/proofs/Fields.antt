@@ -51,7 +51,7 @@ is_same_field f g = same_mark f.is_static g.is_static && is_same_text f.name g.n
 key_is : (f g : FieldDef) → is_same_field f g ≡ true → field_key f ≡ field_key g
 key_is f g h = let q = and_parts (same_mark f.is_static g.is_static) (is_same_text f.name g.name) h in (λ i. record { is_static = mark_is f.is_static g.is_static q.0 i; name = text-same f.name g.name q.1 i })
 
-from_key : (f g : FieldDef) → field_key f ≡ field_key g → is_same_field f g ≡ true
+pub from_key : (f g : FieldDef) → field_key f ≡ field_key g → is_same_field f g ≡ true
 from_key f g e =
     let mark : f.is_static ≡ g.is_static = ap (λ (k : FieldKey). k.is_static) e in
     let name : f.name ≡ g.name = ap (λ (k : FieldKey). k.name) e in

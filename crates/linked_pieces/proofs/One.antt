@@ -48,7 +48,7 @@ module _ (w : Classes) where
   as_many : (c : Name) (xs ys : List Name) → AreAncestors w c xs → AreAncestors w c ys → length xs ≡ length ys
   as_many c xs ys one other = ap length (one_ancestors w c xs ys one other)
 
-  never_class : (a b : Name) → StandsBefore w a b → StandsBefore w b a → ⊥
+  pub never_class : (a b : Name) → StandsBefore w a b → StandsBefore w b a → ⊥
   never_class a b (by_ancestors x y p q l) (by_ancestors u v r s m) = let e = as_many a x v p s in let f = as_many b y u q r in absurd (omega (arith, l, m, e, f))
   never_class a b (by_ancestors x y p q l) (by_name u v r s m n) = let e = as_many a x v p s in let f = as_many b y u q r in absurd (omega (arith, l, m, e, f))
   never_class a b (by_name x y p q l n) (by_ancestors u v r s m) = let e = as_many a x v p s in let f = as_many b y u q r in absurd (omega (arith, l, m, e, f))
@@ -105,10 +105,10 @@ module _ (w : Classes) (kept : (c : ClassDef) → Contains w c → FirstBroken c
     one_reached : (c : Name) (fs xs ys : List FieldDef) → AreReached known c fs xs → AreReached more c fs ys → xs ≡ ys
     one_reached c fs xs ys first second = sym (reverse-reverse xs) ∙ ap reverse (one_pick (IsTaken known c) (IsTaken more c) (takes known more to c) (takes more known from c) (reverse fs) (reverse xs) (reverse ys) (reached_picked known c fs xs first) (reached_picked more c fs ys second)) ∙ reverse-reverse ys
 
-    reached_apart : (c : Name) (fs xs : List FieldDef) → Apart fs → AreReached known c fs xs → Apart xs
+    pub reached_apart : (c : Name) (fs xs : List FieldDef) → Apart fs → AreReached known c fs xs → Apart xs
     reached_apart c fs xs apart are = subst Apart (reverse-reverse xs) (moved (reverse xs) (reverse (reverse xs)) (IsPermutation-reverse (reverse xs)) (picked_apart (IsTaken known c) (reverse fs) (reverse xs) (reached_picked known c fs xs are) (moved fs (reverse fs) (IsPermutation-reverse fs) apart)))
 
-    reached_static : (c : Name) (fs xs : List FieldDef) → AreReached known c fs xs → (f : FieldDef) → Contains xs f → f.is_static ≡ true
+    pub reached_static : (c : Name) (fs xs : List FieldDef) → AreReached known c fs xs → (f : FieldDef) → Contains xs f → f.is_static ≡ true
     reached_static c fs xs are f i = (picked_among (IsTaken known c) (reverse fs) (reverse xs) (reached_picked known c fs xs are) f (in_reverse xs f i)).1.0
 
     one_statics : (c : Name) (fs xs ys : List FieldDef) → Apart fs → AreStatics known c fs xs → AreStatics more c fs ys → xs ≡ ys

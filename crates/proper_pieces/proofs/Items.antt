@@ -1,0 +1,136 @@
+-- Each piece has no early error by itself.
+use Rattle.std.proofs.Common.{◌≡◌, ◌<◌, ◌⊎◌, ◌++◌, ◌&&◌, ◌||◌, ◌^◌, not, ℕ, Bool, true, false, List, [], ◌∷◌, Option, Some, None, inl, inr, refl, sym, ap, subst, ◌∙◌, map, length, Contains, append-nil, arith}
+use Rattle.std.specs.List.{list_all, list_any}
+use Rattle.std.proofs.lemmas.List.Elements.{Contains-append_cases}
+use Rattle.helper_rules.specs.Helpers.{Above, helper_piece}
+use Rattle.helper_rules.specs.Words.{parameters_of, all_kinds}
+use Rattle.helper_rules.specs.declared.kinds.Helper.{Helper}
+use Rattle.helper_rules.specs.declared.kinds.Helper.TheVariants as helpers
+use Rattle.helper_rules.specs.declared.kinds.Failure.{Failure}
+use Rattle.helper_rules.specs.declared.kinds.Failure.TheVariants as failures
+use Rattle.js_mean.specs.Proper.{Place, are_distinct, declared, are_proper, is_proper_member, is_proper_item, is_constructor}
+use Rattle.js_tree.specs.Terms.{Name, Piece, Statements}
+use Rattle.js_tree.specs.Views.{statements_of}
+use Rattle.linked_pieces.specs.Pieces.{piece_of_member}
+use Rattle.piece_rules.specs.Pieces.{Parts, pieces, when, constants_piece, class_piece, members, entry_member, field_start, all_statics, variable_piece, setter_piece, cell_piece, load_piece, store_piece, cell_pieces, test_piece, kind_of_class, cast_piece, constants_of, class_of, module_of, tests_of}
+use Rattle.proper_pieces.specs.Laws.{AreCounted, PiecesAreProper}
+use Rattle.sj_proper.proofs.Modules.{member_proper}
+use Rattle.sj_split.proofs.Members.{at_first, further, cons_cases}
+use Rattle.sj_trees.specs.declared.classes.FieldDef.{FieldDef}
+use Rattle.sj_world.specs.declared.linked.MethodEntry.{MethodEntry}
+use Rattle.worklist.proofs.Inserted.{nothing_in}
+use Rattle.proper_pieces.proofs.Apart.{both, not_is, parameters_distinct}
+
+abbrev AreProper : List Piece → Type 0
+AreProper ps = (q : Piece) → Contains ps q → is_proper_item q.item ≡ true
+
+none_proper : AreProper []
+none_proper q i = nothing_in q i
+
+more_proper : (p : Piece) (ps : List Piece) → is_proper_item p.item ≡ true → AreProper ps → AreProper (p ∷ ps)
+more_proper p ps h k q i = go (cons_cases p q ps i)
+  where
+    go : (p ≡ q) ⊎ Contains ps q → is_proper_item q.item ≡ true
+    go (inl e) = subst (λ (x : Piece). is_proper_item x.item ≡ true) e h
+    go (inr later) = k q later
+
+one_proper : (p : Piece) → is_proper_item p.item ≡ true → AreProper (p ∷ [])
+one_proper p h = more_proper p [] h none_proper
+
+joined_proper : (ps qs : List Piece) → AreProper ps → AreProper qs → AreProper (ps ++ qs)
+joined_proper ps qs h k q i = go (Contains-append_cases ps qs q i)
+  where
+    go : Contains ps q ⊎ Contains qs q → is_proper_item q.item ≡ true
+    go (inl j) = h q j
+    go (inr j) = k q j
+
+when_proper : (b : Bool) (ps : List Piece) → AreProper ps → AreProper (when b ps)
+when_proper true ps h = h
+when_proper false ps h = none_proper
+
+-- the statements that set fields
+starts_declare : (c : Name) (fs : List FieldDef) → declared (statements_of (map (field_start c) fs)) ≡ []
+starts_declare c [] = refl
+starts_declare c (f ∷ fs) = starts_declare c fs
+
+starts_proper : (at : Place) (c : Name) (fs : List FieldDef) → are_proper at (statements_of (map (field_start c) fs)) ≡ true
+starts_proper at c [] = refl
+starts_proper at c (f ∷ fs) = starts_proper at c fs
+
+only_entries : (es : List MethodEntry) → list_any is_constructor (map entry_member es) ≡ false
+only_entries [] = refl
+only_entries (e ∷ es) = only_entries es
+
+entry_proper : (extends : Bool) (e : MethodEntry) → length e.name.params < 2 ^ 64 → is_proper_member extends (entry_member e) ≡ true
+entry_proper extends e h = both (are_distinct (parameters_of e.name ++ [])) true (subst (λ (xs : List Name). are_distinct xs ≡ true) (sym (append-nil (parameters_of e.name))) (parameters_distinct (length e.name.params) h)) refl
+
+entries_proper : (extends : Bool) (es : List MethodEntry) → AreCounted es → list_all (is_proper_member extends) (map entry_member es) ≡ true
+entries_proper extends [] h = refl
+entries_proper extends (e ∷ es) h = both (is_proper_member extends (entry_member e)) (list_all (is_proper_member extends) (map entry_member es)) (entry_proper extends e (h e (at_first e es))) (entries_proper extends es (λ d i. h d (further e d es i)))
+
+class_proper : (c : Name) (superclass : Option Name) (es : List MethodEntry) (fs : List FieldDef) → AreCounted es → is_proper_item (class_piece c superclass es fs).item ≡ true
+class_proper c None es fs h = both (not (list_any is_constructor (map entry_member es))) ((are_distinct (declared (statements_of (map (field_start c) fs))) && are_proper (record { labels = []; breakable = false; super_allowed = false }) (statements_of (map (field_start c) fs))) && list_all (is_proper_member false) (map entry_member es)) (not_is (list_any is_constructor (map entry_member es)) (only_entries es)) (both (are_distinct (declared (statements_of (map (field_start c) fs))) && are_proper (record { labels = []; breakable = false; super_allowed = false }) (statements_of (map (field_start c) fs))) (list_all (is_proper_member false) (map entry_member es)) (both (are_distinct (declared (statements_of (map (field_start c) fs)))) (are_proper (record { labels = []; breakable = false; super_allowed = false }) (statements_of (map (field_start c) fs))) (ap are_distinct (starts_declare c fs)) (starts_proper (record { labels = []; breakable = false; super_allowed = false }) c fs)) (entries_proper false es h))
+class_proper c (Some s) es fs h = both (not (list_any is_constructor (map entry_member es))) ((are_distinct (declared (statements_of (map (field_start c) fs))) && are_proper (record { labels = []; breakable = false; super_allowed = true }) (statements_of (map (field_start c) fs))) && list_all (is_proper_member true) (map entry_member es)) (not_is (list_any is_constructor (map entry_member es)) (only_entries es)) (both (are_distinct (declared (statements_of (map (field_start c) fs))) && are_proper (record { labels = []; breakable = false; super_allowed = true }) (statements_of (map (field_start c) fs))) (list_all (is_proper_member true) (map entry_member es)) (both (are_distinct (declared (statements_of (map (field_start c) fs)))) (are_proper (record { labels = []; breakable = false; super_allowed = true }) (statements_of (map (field_start c) fs))) (ap are_distinct (starts_declare c fs)) (starts_proper (record { labels = []; breakable = false; super_allowed = true }) c fs)) (entries_proper true es h))
+
+statics_proper : (c : Name) (fs : List FieldDef) → AreProper (all_statics c fs)
+statics_proper c [] = none_proper
+statics_proper c (f ∷ fs) = more_proper (variable_piece c f) (setter_piece c f ∷ all_statics c fs) refl (more_proper (setter_piece c f) (all_statics c fs) refl (statics_proper c fs))
+
+cells_proper : (c : Name) (loaded : Bool) → AreProper (cell_pieces c loaded)
+cells_proper c loaded = more_proper (cell_piece c) (when loaded (load_piece c ∷ []) ++ store_piece c ∷ []) refl (joined_proper (when loaded (load_piece c ∷ [])) (store_piece c ∷ []) (when_proper loaded (load_piece c ∷ []) (one_proper (load_piece c) refl)) (one_proper (store_piece c) refl))
+
+class_pieces_proper : (p : Parts) → AreCounted p.entries → AreProper (pieces p)
+class_pieces_proper p h =
+    joined_proper (constants_of p ++ class_of p ++ all_statics c p.statics ++ module_of p) (tests_of p)
+    (joined_proper (constants_of p ++ class_of p ++ all_statics c p.statics) (module_of p)
+    (joined_proper (constants_of p ++ class_of p) (all_statics c p.statics)
+    (joined_proper (constants_of p) (class_of p)
+    (when_proper (p.is_live || p.is_base) (constants_piece c p.ancestors ∷ []) (one_proper (constants_piece c p.ancestors) refl))
+    (when_proper p.is_live (class_piece c p.class.superclass p.entries p.fields ∷ []) (one_proper (class_piece c p.class.superclass p.entries p.fields) (class_proper c p.class.superclass p.entries p.fields h))))
+    (statics_proper c p.statics))
+    (when_proper (p.is_loaded || p.is_stored) (cell_pieces c p.is_loaded) (cells_proper c p.is_loaded)))
+    (joined_proper (when (p.is_tested || p.is_cast) (tested ∷ [])) (when p.is_cast (cast_piece c ∷ []))
+    (when_proper (p.is_tested || p.is_cast) (tested ∷ []) (one_proper tested refl))
+    (when_proper p.is_cast (cast_piece c ∷ []) (one_proper (cast_piece c) refl)))
+  where
+    c : Name
+    c = p.class.name
+
+    tested : Piece
+    tested = test_piece c p.instances (kind_of_class c all_kinds)
+
+failure_proper : (above : Above) (f : Failure) → is_proper_item (helper_piece above (helpers.Throws f)).item ≡ true
+failure_proper above failures.NullReceiver = refl
+failure_proper above failures.Division = refl
+failure_proper above failures.Cast = refl
+failure_proper above failures.Index = refl
+failure_proper above failures.Store = refl
+failure_proper above failures.Size = refl
+failure_proper above failures.Method = refl
+
+helper_proper : (above : Above) (h : Helper) → is_proper_item (helper_piece above h).item ≡ true
+helper_proper above (helpers.TestOf k) = refl
+helper_proper above (helpers.CastTo k) = refl
+helper_proper above (helpers.ConstantsOf k) = refl
+helper_proper above helpers.NotNull = refl
+helper_proper above helpers.IntQuotient = refl
+helper_proper above helpers.IntRemainder = refl
+helper_proper above helpers.LongQuotient = refl
+helper_proper above helpers.LongRemainder = refl
+helper_proper above helpers.BoxedChar = refl
+helper_proper above helpers.Equal = refl
+helper_proper above helpers.ArrayClass = refl
+helper_proper above helpers.MakeArray = refl
+helper_proper above helpers.CheckIndex = refl
+helper_proper above helpers.Get = refl
+helper_proper above helpers.Set = refl
+helper_proper above helpers.Put = refl
+helper_proper above helpers.Covers = refl
+helper_proper above helpers.Fits = refl
+helper_proper above helpers.ClassOf = refl
+helper_proper above helpers.TestOfArray = refl
+helper_proper above helpers.CastToArray = refl
+helper_proper above (helpers.Throws f) = failure_proper above f
+
+pub pieces_are_proper : PiecesAreProper
+pieces_are_proper = record { of_classes = class_pieces_proper; of_helpers = helper_proper; of_methods = member_proper }
