@@ -66,7 +66,7 @@ turned a b = go (is_same_text a b) (is_same_text b a) refl refl
     go true false f g = impossible (sym g ∙ subst (λ (x : List ℕ). is_same_text b x ≡ true) (sym (text-same a b f)) (text-refl b))
     go false true f g = impossible (sym f ∙ subst (λ (x : List ℕ). is_same_text a x ≡ true) (sym (text-same b a g)) (text-refl a))
 
-same-class : (w : Classes) (name : Name) → ir.class_of w name ≡ class_of w name
+pub same-class : (w : Classes) (name : Name) → ir.class_of w name ≡ class_of w name
 same-class [] name = refl
 same-class (c ∷ w) name = ap (λ (b : Bool). if b then Some c else ir.class_of w name) (turned name c.name) ∙ ap (λ (o : Option ClassDef). if is_same_text c.name name then Some c else o) (same-class w name)
 

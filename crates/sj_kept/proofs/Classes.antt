@@ -83,7 +83,7 @@ pub keeps-hijacked : (c : ClassDef) → FirstBroken c None → keeps_hijacked c 
 keeps-hijacked c h = place-unless (keeps_hijacked c) (none-each (Breaks c) 1 all_rules None h refl rule.Hijacked (1, omega arith, refl))
 
 -- where no element passes a test, each fails it
-none-passes : {A : Type 0} (test : A → Bool) (xs : List A) → first_where test xs ≡ None → (x : A) → Contains xs x → test x ≡ false
+pub none-passes : {A : Type 0} (test : A → Bool) (xs : List A) → first_where test xs ≡ None → (x : A) → Contains xs x → test x ≡ false
 none-passes test [] e x h = nothing_in x h
 none-passes test (y ∷ ys) e x h = go (test y) refl e (in_front_or_behind y ys x h) (λ k i. none-passes test ys k x i)
   where

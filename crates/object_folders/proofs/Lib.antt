@@ -1,0 +1,5 @@
+pub mod Fields
+pub mod Made
+pub mod Methods
+pub mod Throwing
+pub mod Worlds

@@ -1,0 +1,77 @@
+-- The methods that can be used are found, and their bodies keep the rules.
+use Rattle.std.proofs.Common.{◌≡◌, ℕ, true, List, Option, Some, sym, subst, Contains}
+use Rattle.std.specs.Prelude.{MatchOption}
+use Rattle.std.proofs.lemmas.List.Elements.{All-contains}
+use Rattle.accepted_folders.proofs.Calls.{needed}
+use Rattle.accepted_folders.proofs.Members.{defined}
+use Rattle.accepted_folders.proofs.Worlds.{judged}
+use Rattle.accepted_folders.specs.Accepted.{IsAccepted}
+use Rattle.accepted_folders.specs.Bodies.{AreBodies}
+use Rattle.body_rules.proofs.RulesGive.{result_is}
+use Rattle.body_rules.specs.Standing.{call_type}
+use Rattle.body_rules.specs.Typing.{is_built_with}
+use Rattle.body_soundness.specs.Rules.{RightMember}
+use Rattle.built_forms.specs.Built.{Usable}
+use Rattle.file_listings.proofs.ListedClasses.{file_is_listed}
+use Rattle.file_listings.specs.Listed.{AreBytes}
+use Rattle.ir_mean.specs.World.{member_of}
+use Rattle.listing_spelling.specs.Rules.{HasListing, IsListedMethod, IsListedTree}
+use Rattle.sj_calls.specs.Files.{HasFunction}
+use Rattle.sj_judged.proofs.Found.{OwnerOf, owner_of}
+use Rattle.sj_judged.specs.Judged.{IsJudgedClass}
+use Rattle.sj_kept.proofs.Classes.{class-keeps, signature-keeps}
+use Rattle.sj_kept.proofs.Methods as methods
+use Rattle.sj_names.specs.declared.entry_points.EntryPoint.{EntryPoint}
+use Rattle.sj_names.specs.declared.folders.SourceFile.{SourceFile}
+use Rattle.sj_names.specs.declared.method_names.Member.{Member}
+use Rattle.sj_names.specs.declared.method_names.MethodName.{MethodName}
+use Rattle.sj_proper.specs.Emitted.{EmittedMethod}
+use Rattle.sj_proper.specs.Methods.{HaveTypes, KeepsRules}
+use Rattle.sj_proper.specs.Once.{NamesOnce}
+use Rattle.sj_trees.specs.Term.{Term}
+use Rattle.sj_trees.specs.declared.classes.MethodDef.{MethodDef}
+use Rattle.sj_typed.proofs.Bodies.{rules_kept}
+use Rattle.sj_typed.proofs.Values.{parameters_have_values}
+use Rattle.sj_world.specs.Known.{Classes}
+
+module _ (entries : List EntryPoint) (files : List SourceFile) (w : Classes) (bytes : (file : SourceFile) → Contains files file → AreBytes file.bytes) (a : IsAccepted entries files w) where
+  -- whatever the method of a member is, it defines no name twice
+  pub once : (m : Member) (d : MethodDef) (e : Term) → member_of w m.class m.namespace m.method ≡ Some d → d.body ≡ Some e → NamesOnce d e
+  once m d e found has_body = let its = owner_of w m d found in methods.names_keep its.owner d e has_body (class-keeps its.owner (judged entries files w bytes a its.owner its.in_world).unbroken d its.listed)
+
+  module _ (all : List EmittedMethod) (bodies : AreBodies w entries all) (has : Usable) where
+    module _ (e : EmittedMethod) (i : Contains all e) (built : is_built_with has e.definition e.its_body ≡ true) where
+      its : OwnerOf w e.member e.definition
+      its = owner_of w e.member e.definition (bodies.found e i).found
+
+      owner_judged : IsJudgedClass its.owner
+      owner_judged = judged entries files w bytes a its.owner its.in_world
+
+      listing : HasListing its.owner
+      listing = file_is_listed owner_judged.bytes its.owner owner_judged.are_bytes owner_judged.read
+
+      method : IsListedMethod e.definition
+      method = All-contains IsListedMethod its.owner.methods e.definition listing.methods its.listed
+
+      body : IsListedTree e.its_body
+      body = subst (λ (o : Option Term). MatchOption o (Unit {0}) IsListedTree) (bodies.found e i).has_body method.3
+
+      types : HaveTypes e.definition.params e.definition.name.params × (e.definition.result ≡ call_type e.definition.name.result)
+      types = signature-keeps its.owner owner_judged.unbroken e.definition its.listed
+
+      kept : KeepsRules w has its.owner.name e.definition e.its_body
+      kept = rules_kept w has its.owner e.definition e.its_body (bodies.found e i).has_body (class-keeps its.owner owner_judged.unbroken e.definition its.listed) (a.typed e.member e.definition (needed w entries all bodies e i) (defined w e.member e.definition (bodies.found e i).found)) built body (result_is e.definition.name.result e.definition.result types.1) (parameters_have_values e.definition.params e.definition.name.params types.0 method.0.0.params)
+
+      pub right_method : RightMember w has e.member
+      right_method = record {
+        definition = e.definition;
+        its_body = e.its_body;
+        found = (bodies.found e i).found;
+        has_body = (bodies.found e i).has_body;
+        rules = subst (λ c. KeepsRules w has c e.definition e.its_body) (sym its.class_is) kept;
+        parameters = subst (λ (m : MethodName). HaveTypes e.definition.params m.params) (sym its.named) types.0;
+        result_is = subst (λ (m : MethodName). e.definition.result ≡ call_type m.result) (sym its.named) types.1;
+      }
+
+    pub right_member : (m : Member) (f : HasFunction all m) → is_built_with has f.method.definition f.method.its_body ≡ true → RightMember w has m
+    right_member m f built = subst (λ (k : Member). RightMember w has k) f.is (right_method f.method f.listed built)

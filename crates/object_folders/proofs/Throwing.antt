@@ -1,0 +1,100 @@
+-- What helpers throw can be made, where helpers are written.
+use Rattle.std.proofs.Common.{◌≡◌, ◌&&◌, Bool, true, false, List, [], ◌∷◌, codes, refl, sym, subst, ◌∙◌, ap, Contains}
+use Rattle.std.specs.List.{list_any}
+use Rattle.std.proofs.lemmas.Bool.{and_parts, and_from}
+use Rattle.std.proofs.lemmas.List.Folds.{Any-from_list_any}
+use Rattle.accepted_folders.proofs.Members.{has_function-from}
+use Rattle.body_rules.proofs.Lists.{at_front}
+use Rattle.body_soundness.specs.Laws.{null_pointer, arithmetic}
+use Rattle.built_forms.specs.Built.{Usable, divides}
+use Rattle.helper_rules.specs.Helpers.{helper_name, used_helpers, failure_class}
+use Rattle.helper_rules.specs.declared.kinds.Failure.{Failure}
+use Rattle.helper_rules.specs.declared.kinds.Failure.TheVariants.{NullReceiver, Division}
+use Rattle.helper_rules.specs.declared.kinds.Helper.{Helper}
+use Rattle.helper_rules.specs.declared.kinds.Helper.TheVariants.{TestOf, CastTo, ConstantsOf, NotNull, IntQuotient, IntRemainder, LongQuotient, LongRemainder, Throws}
+use Rattle.ir_mean.specs.Meaning.{with_message}
+use Rattle.linked_pieces.specs.Used.{used_of, is_among}
+use Rattle.object_folders.specs.Running.{CanRun, CanBeThrown}
+use Rattle.sj_desugar.specs.Desugar.{member}
+use Rattle.sj_emit_expr.specs.Templates.{check_name}
+use Rattle.sj_names.proofs.Same.{impossible, text-same}
+use Rattle.sj_names.specs.Same.{is_same_text}
+use Rattle.sj_names.specs.WellKnown.{object}
+use Rattle.sj_names.specs.declared.entry_points.EntryPoint.{EntryPoint}
+use Rattle.sj_names.specs.declared.method_names.Namespace.TheVariants.{Constructor}
+use Rattle.sj_proper.specs.Emitted.{EmittedMethod}
+use Rattle.sj_sound.specs.Linked.{has_function}
+use Rattle.sj_trees.specs.declared.operators.BinaryOp.{BinaryOp}
+use Rattle.sj_trees.specs.declared.operators.BinaryOp.TheVariants.{IntDivide, IntRemainder as IntRest, LongDivide, LongRemainder as LongRest}
+use Rattle.sj_world.proofs.OnCycles.{among}
+use Rattle.sj_world.specs.Known.{Name, Classes}
+use Rattle.sj_world.specs.declared.facts.Fact.{Fact}
+
+-- the null check, by its name
+abbrev is_check : Name → Bool
+is_check = is_same_text check_name
+
+-- and the divisions
+abbrev is_division : Name → Bool
+is_division x = list_any (is_same_text x) (codes "$id" ∷ codes "$im" ∷ codes "$ld" ∷ codes "$lm" ∷ [])
+
+no_check : (f : Failure) → is_check (helper_name (Throws f)) ≡ false
+no_check NullReceiver = refl
+no_check _ = refl
+
+no_division : (f : Failure) → is_division (helper_name (Throws f)) ≡ false
+no_division NullReceiver = refl
+no_division _ = refl
+
+-- the helper of this name uses the one that throws
+checks : (h : Helper) → is_check (helper_name h) ≡ true → Contains (used_helpers h) (Throws NullReceiver)
+checks NotNull e = at_front (Throws NullReceiver) []
+checks (TestOf k) e = impossible e
+checks (CastTo k) e = impossible e
+checks (ConstantsOf k) e = impossible e
+checks (Throws f) e = impossible (sym (no_check f) ∙ e)
+checks _ e = impossible e
+
+divisions : (h : Helper) → is_division (helper_name h) ≡ true → Contains (used_helpers h) (Throws Division)
+divisions IntQuotient e = at_front (Throws Division) []
+divisions IntRemainder e = at_front (Throws Division) []
+divisions LongQuotient e = at_front (Throws Division) []
+divisions LongRemainder e = at_front (Throws Division) []
+divisions (TestOf k) e = impossible e
+divisions (CastTo k) e = impossible e
+divisions (ConstantsOf k) e = impossible e
+divisions (Throws f) e = impossible (sym (no_division f) ∙ e)
+divisions _ e = impossible e
+
+module _ (w : Classes) (entries : List EntryPoint) (facts : List Fact) (all : List EmittedMethod) (live : List Name) (helpers : List Helper) (written : List Name) (run : CanRun w entries facts all live helpers written) where
+  abbrev has : Usable
+  has = used_of w all live helpers written
+
+  -- an exception of this class can be made
+  abbrev Makes : Name → Type 0
+  Makes c = (has.made c ≡ true) × (has.built (member c Constructor with_message) ≡ true)
+
+  makes : (c : Name) → CanBeThrown all live written c → Makes c
+  makes c h =
+      let is_written : is_among written c ≡ true = (among written c).1 h.is_written in
+      (and_from (is_among written c) (is_among live c) is_written ((among live c).1 h.is_live), and_from (is_among written c) (has_function all (member c Constructor with_message)) is_written (has_function-from all (member c Constructor with_message) h.constructor))
+
+  throwing : (f : Failure) (x : Name) → ((h : Helper) → helper_name h ≡ x → Contains (used_helpers h) (Throws f)) → has.helper x ≡ true → Makes (failure_class f)
+  throwing f x uses h =
+      let p = and_parts (is_among written object) (list_any (λ h. is_same_text x (helper_name h)) helpers) h in
+      let found = Any-from_list_any (λ h. is_same_text x (helper_name h)) helpers p.1 in
+      let listed : Contains helpers found.1 = (found.0, found.2, found.3) in
+      makes (failure_class f) (run.thrown f (run.closed found.1 (Throws f) listed (uses found.1 (sym (text-same x (helper_name found.1) found.4)))) ((among written object).0 p.0))
+
+  pub exceptions : has.helper check_name ≡ true → Makes null_pointer
+  exceptions h = throwing NullReceiver check_name (λ g e. checks g (subst (λ (y : Name). is_check y ≡ true) (sym e) refl)) h
+
+  dividing : (x : Name) → is_division x ≡ true → has.helper x ≡ true → Makes arithmetic
+  dividing x is h = throwing Division x (λ g e. divisions g (subst (λ (y : Name). is_division y ≡ true) (sym e) is)) h
+
+  pub division : (o : BinaryOp) → divides has o ≡ true → Makes arithmetic
+  division IntDivide h = dividing (codes "$id") refl h
+  division IntRest h = dividing (codes "$im") refl h
+  division LongDivide h = dividing (codes "$ld") refl h
+  division LongRest h = dividing (codes "$lm") refl h
+  division _ h = impossible h

@@ -1,0 +1,33 @@
+-- What can run, where the pieces of some classes of a folder are written: what is written finds there what it uses.
+use Rattle.std.specs.Prelude.{◌≡◌, true, List}
+use Rattle.std.specs.List.{Contains}
+use Rattle.body_rules.specs.Typing.{is_built_with}
+use Rattle.entry_rules.specs.Entries.{IsLive}
+use Rattle.helper_rules.specs.Helpers.{failure_class, used_helpers}
+use Rattle.helper_rules.specs.declared.kinds.Failure.{Failure}
+use Rattle.helper_rules.specs.declared.kinds.Helper.{Helper}
+use Rattle.helper_rules.specs.declared.kinds.Helper.TheVariants.{Throws}
+use Rattle.linked_pieces.specs.Used.{used_of}
+use Rattle.reach_rules.specs.Reachable.{Reachable}
+use Rattle.reach_rules.specs.Rules.{message_constructor}
+use Rattle.sj_calls.specs.Files.{HasFunction}
+use Rattle.sj_names.specs.WellKnown.{object}
+use Rattle.sj_names.specs.declared.entry_points.EntryPoint.{EntryPoint}
+use Rattle.sj_proper.specs.Emitted.{EmittedMethod}
+use Rattle.sj_world.specs.Known.{Name, Classes}
+use Rattle.sj_world.specs.declared.facts.Fact.{Fact}
+
+-- an exception of this class can be made: the class is live and written, and its constructor with a message is among the methods
+pub record CanBeThrown (all : List EmittedMethod) (live written : List Name) (c : Name) : Type 0 where
+  pub is_live : Contains live c
+  pub is_written : Contains written c
+  pub constructor : HasFunction all (message_constructor c)
+
+-- Of facts that are reachable, these classes are live; each written method is built with what can be used; a helper has those that it uses; and where helpers
+-- are written, what a helper throws can be made.
+pub record CanRun (w : Classes) (entries : List EntryPoint) (facts : List Fact) (all : List EmittedMethod) (live : List Name) (helpers : List Helper) (written : List Name) : Type 0 where
+  pub reached : (f : Fact) → Contains facts f → Reachable w entries f
+  pub are_live : (c : Name) → Contains live c → IsLive w facts c
+  pub are_built : (e : EmittedMethod) → Contains all e → Contains written e.member.class → is_built_with (used_of w all live helpers written) e.definition e.its_body ≡ true
+  pub closed : (h g : Helper) → Contains helpers h → Contains (used_helpers h) g → Contains helpers g
+  pub thrown : (f : Failure) → Contains helpers (Throws f) → Contains written object → CanBeThrown all live written (failure_class f)
