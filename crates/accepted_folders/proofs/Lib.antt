@@ -4,4 +4,3 @@ pub mod Listed
 pub mod Members
 pub mod Objects
 pub mod Worlds
-pub mod Uses

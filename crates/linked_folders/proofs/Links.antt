@@ -1,9 +1,8 @@
 -- Written bodies are closed under what their text calls, so their file agrees with the classes.
-use Rattle.std.proofs.Common.{◌≡◌, ℕ, Bool, true, false, List, [], ◌∷◌, ◌||◌, ◌&&◌, ◌⊎◌, inl, inr, Option, Some, refl, sym, subst, map, Contains, if◌then◌else◌}
+use Rattle.std.proofs.Common.{◌≡◌, ℕ, Bool, true, false, List, [], ◌∷◌, ◌&&◌, Option, Some, refl, sym, subst, map, Contains, if◌then◌else◌}
 use Rattle.std.specs.Prelude.{not}
-use Rattle.std.specs.List.{All, list_any}
 use Rattle.std.proofs.lemmas.Bool.{and_parts, and_from}
-use Rattle.std.proofs.lemmas.List.Elements.{All-nil, All-cons, Contains-append_left}
+use Rattle.std.proofs.lemmas.List.Elements.{Contains-append_left}
 use Rattle.file_listings.specs.Listed.{AreBytes}
 use Rattle.ir_mean.specs.Shows.{initializers}
 use Rattle.js_mean.specs.Shows.{File, file_of}
@@ -14,13 +13,11 @@ use Rattle.sj_trees.specs.declared.classes.MethodDef.{MethodDef}
 use Rattle.js_tree.specs.declared.items.Binding.{Binding}
 use Rattle.sj_proper.specs.Emitted.{EmittedMethod, piece_of_method, initializer_member}
 use Rattle.sj_calls.specs.Files.{HasFunction}
-use Rattle.sj_core.specs.Terms as core
 use Rattle.sj_desugar.specs.Desugar.{desugared, is_mutable_in, result_destination}
-use Rattle.sj_emit_expr.specs.Uses.{function_binding, uses_of_all, is_same_binding, once_each, uses}
+use Rattle.sj_emit_expr.specs.Uses.{function_binding, uses_of_all, uses}
 use Rattle.sj_graph.specs.References.{reference, reference_by}
 use Rattle.sj_judged.proofs.Found.{here, there}
 use Rattle.sj_judged.proofs.Written.{files_agree}
-use Rattle.sj_names.proofs.Same.{impossible, text-same}
 use Rattle.sj_names.specs.Same.{is_same_text}
 use Rattle.sj_names.specs.declared.entry_points.EntryPoint.{EntryPoint}
 use Rattle.sj_names.specs.declared.method_names.Member.{Member}
@@ -31,56 +28,19 @@ use Rattle.body_rules.specs.Typing.{may_check, is_built_with}
 use Rattle.sure_receivers.specs.Sure.{sure_locals}
 use Rattle.built_forms.specs.Built.{yields_boxed, is_built, is_built_body, is_static, has_built_body, not_built}
 use Rattle.sj_world.specs.Known.{Classes}
-use Rattle.worklist.proofs.Inserted.{nothing_in}
 use Rattle.worklist.specs.Paths.{stay, on}
 use Rattle.folder_verdicts.proofs.EachTyped.{in_map}
-use Rattle.folder_verdicts.proofs.Undenied.{first_or_later}
 use Rattle.accepted_folders.specs.Accepted.{IsAccepted}
 use Rattle.accepted_folders.specs.Bodies.{AreBodies}
 use Rattle.accepted_folders.proofs.Calls.{needed, calls_among, entry}
 use Rattle.accepted_folders.proofs.Members.{has_function-from, defined}
-use Rattle.accepted_folders.proofs.Uses.{tree}
 use Rattle.accepted_folders.proofs.Worlds.{judged}
+use Rattle.body_uses.proofs.Given.{in_uses, all_from}
+use Rattle.body_uses.proofs.Statics.{statics_kept}
 use Rattle.linked_folders.specs.Link.{AreWritten, IsOneModule}
 use Rattle.linked_folders.specs.Edits.{AreBuilt}
 use Rattle.linked_folders.proofs.Planned.{one_file}
 use Rattle.linked_folders.specs.Laws.{WrittenBodiesAreClosed, InitializersAreWritten, LinkedFilesAgree}
-
-same_binding : (a b : Binding) → is_same_binding a b ≡ true → a ≡ b
-same_binding a b h = let q = and_parts (is_same_text a.owner b.owner) (is_same_text a.name b.name) h in (λ i. record { owner = text-same a.owner b.owner q.0 i; name = text-same a.name b.name q.1 i })
-
--- a binding is there already, or it is kept
-abbrev IsKept : List Binding → List Binding → Binding → Type 0
-IsKept seen bs b = (list_any (is_same_binding b) seen ≡ true) ⊎ Contains (once_each seen bs) b
-
-kept_step : (c : Binding) (bs seen : List Binding) (b : Binding) (p : Bool) → list_any (is_same_binding c) seen ≡ p → (c ≡ b) ⊎ Contains bs b → (Contains bs b → IsKept seen bs b) → (Contains bs b → IsKept (c ∷ seen) bs b) → (list_any (is_same_binding b) seen ≡ true) ⊎ Contains (if p then once_each seen bs else (c ∷ once_each (c ∷ seen) bs)) b
-kept_step c bs seen b true e (inl same) f g = inl (subst (λ (x : Binding). list_any (is_same_binding x) seen ≡ true) same e)
-kept_step c bs seen b true e (inr after) f g = f after
-kept_step c bs seen b false e (inl same) f g = inr (subst (Contains (c ∷ once_each (c ∷ seen) bs)) same (here c (once_each (c ∷ seen) bs)))
-kept_step c bs seen b false e (inr after) f g = later (g after)
-  where
-    first : (q : Bool) → is_same_binding b c ≡ q → (q || list_any (is_same_binding b) seen) ≡ true → (list_any (is_same_binding b) seen ≡ true) ⊎ Contains (c ∷ once_each (c ∷ seen) bs) b
-    first true t h = inr (subst (Contains (c ∷ once_each (c ∷ seen) bs)) (sym (same_binding b c t)) (here c (once_each (c ∷ seen) bs)))
-    first false t h = inl h
-
-    later : IsKept (c ∷ seen) bs b → (list_any (is_same_binding b) seen ≡ true) ⊎ Contains (c ∷ once_each (c ∷ seen) bs) b
-    later (inl h) = first (is_same_binding b c) refl h
-    later (inr k) = inr (there c (once_each (c ∷ seen) bs) b k)
-
-kept : (bs seen : List Binding) (b : Binding) → Contains bs b → IsKept seen bs b
-kept [] seen b h = nothing_in b h
-kept (c ∷ bs) seen b h = kept_step c bs seen b (list_any (is_same_binding c) seen) refl (first_or_later c bs b h) (kept bs seen b) (kept bs (c ∷ seen) b)
-
-in_uses : (ss : core.Statements) (b : Binding) → Contains (uses_of_all ss) b → Contains (uses ss) b
-in_uses ss b h = go (kept (uses_of_all ss) [] b h)
-  where
-    go : IsKept [] (uses_of_all ss) b → Contains (uses ss) b
-    go (inl t) = impossible t
-    go (inr k) = k
-
-all_from : {X : Type 0} (P : X → Type 0) (xs : List X) → ((x : X) → Contains xs x → P x) → All P xs
-all_from P [] h = All-nil P
-all_from P (x ∷ xs) h = All-cons P x xs (h x (here x xs)) (all_from P xs (λ y i. h y (there x xs y i)))
 
 initializers_all : (fs : List EmittedMethod) (id : List ℕ) (es : List EntryPoint) → ((e : EntryPoint) → Contains es e → has_function fs (initializer_member e) ≡ true) → have_functions fs (initializers es id) ≡ true
 initializers_all fs id [] h = refl
@@ -114,7 +74,7 @@ module _ (w : Classes) (entries : List EntryPoint) (all fs : List EmittedMethod)
     closed k =
         let q = and_parts (not (yields_boxed e.definition.result e.its_body)) (is_built (functions_of all) (may_check (functions_of all) (sure_locals e.its_body)) [] e.its_body) (calls_among w entries all e bodies listed k) in
         let body = (desugared e.definition e.its_body).body in
-        and_from (not (yields_boxed e.definition.result e.its_body)) (is_built (functions_of fs) (may_check (functions_of fs) (sure_locals e.its_body)) [] e.its_body) q.0 (tree (Contains used) (has_function all) (has_function fs) (may_check (functions_of all) (sure_locals e.its_body)) (may_check (functions_of fs) (sure_locals e.its_body)) (sure_locals e.its_body) (λ m h u. has_written m h (reached m u)) (is_mutable_in e.definition e.its_body) e.its_body [] (result_destination e.definition.result) 1 [] q.1 (all_from (Contains used) (uses_of_all body) (in_uses body)))
+        and_from (not (yields_boxed e.definition.result e.its_body)) (is_built (functions_of fs) (may_check (functions_of fs) (sure_locals e.its_body)) [] e.its_body) q.0 (statics_kept (Contains used) (has_function all) (has_function fs) (sure_locals e.its_body) (λ m h u. has_written m h (reached m u)) (is_mutable_in e.definition e.its_body) e.its_body [] (result_destination e.definition.result) 1 [] q.1 (all_from (Contains used) (uses_of_all body) (in_uses body)))
 
   starts : (id : List ℕ) → have_functions fs (initializers entries id) ≡ true
   starts id = initializers_all fs id entries (λ e i. has_written (initializer_member e) (entry w entries all bodies e i) (record { entry = e; among = i; walk = stay }))

@@ -116,7 +116,7 @@ name_of p = p.name
 
 statics_differ : (c : Name) → IsTrue (is_class_name c) → (fs : List FieldDef) → NamesDiffer fs → AreInOrder HaveOwnNames (all_statics c fs)
 statics_differ c h [] k = tt
-statics_differ c h (f ∷ fs) k = ((λ p i e. variable_first p (cons_cases (setter_piece c f) p (all_statics c fs) i) e), (λ p i e. setter_then p (of_fields c fs p i) e), statics_differ c h fs k.1)
+statics_differ c h (f ∷ fs) k = ((λ p i e. variable_first p (cons_cases (setter_piece c f) p (all_statics c fs) i) e), ((λ p i e. setter_then p (of_fields c fs p i) e), statics_differ c h fs k.1))
   where
     variable_then : (p : Piece) → OfField c fs p → field_binding Variable c f.name ≡ p.name → ⊥
     variable_then p (of_variable g i is) e = k.0 g i (same_variable c f.name g.name h (e ∙ ap name_of is))

@@ -1,0 +1,5 @@
+pub mod Given
+pub mod Standing
+pub mod Statics
+pub mod Uses
+pub mod Written

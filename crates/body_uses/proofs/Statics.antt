@@ -1,0 +1,51 @@
+-- A body that is built over static members alone is built over those of them that its code names.
+use Rattle.std.proofs.Common.{◌≡◌, ℕ, Bool, true, false, List, [], ◌∷◌, refl, sym, ◌∙◌}
+use Rattle.std.specs.Prelude.{◌||◌}
+use Rattle.std.specs.List.{All}
+use Rattle.body_rules.proofs.RulesGive.{no_division}
+use Rattle.body_rules.specs.Typing.{may_check}
+use Rattle.built_forms.specs.Built.{Usable, members_alone, divides, is_built}
+use Rattle.js_tree.specs.declared.items.Binding.{Binding}
+use Rattle.sj_desugar.specs.Desugar.{Targets, into, member}
+use Rattle.sj_desugar.specs.Spill.{Destination}
+use Rattle.sj_emit_expr.specs.Uses.{function_binding, uses_of_all}
+use Rattle.sj_infos.specs.Trees.{trees}
+use Rattle.sj_names.proofs.Same.{impossible}
+use Rattle.sj_names.specs.declared.method_names.Member.{Member}
+use Rattle.sj_names.specs.declared.method_names.MethodName.{MethodName}
+use Rattle.sj_names.specs.declared.method_names.Namespace.{Namespace}
+use Rattle.sj_names.specs.declared.method_names.Namespace.TheVariants.{Constructor}
+use Rattle.sj_trees.specs.Term.{Term, new_object, select, apply_statically, apply_static, binary_op}
+use Rattle.sure_receivers.specs.Sure.{is_sure}
+use Rattle.typing_rules.specs.declared.labels.Label.{Label}
+use Rattle.body_uses.proofs.Given.{all_from}
+use Rattle.body_uses.proofs.Uses.{Gives, GivesReceived, tree}
+
+module _ (U : Binding → Type 0) (linked_from linked_here : Member → Bool) (sure : List ℕ → Bool) (known : (m : Member) → linked_from m ≡ true → U (function_binding m) → linked_here m ≡ true) where
+  abbrev from : Usable
+  from = members_alone linked_from
+
+  abbrev has : Usable
+  has = members_alone linked_here
+
+  no_receiver : (c : List ℕ) (n : Namespace) (m : MethodName) → GivesReceived U from has n c m
+  no_receiver c Constructor m = λ h u. impossible h
+  no_receiver c n m = λ h u. impossible h
+
+  gives : (t : Term) → Gives U from has t
+  gives (apply_static p c n m ts t) = known (member c n m)
+  gives (apply_statically p e c n m ts t) = no_receiver c n m
+  gives (new_object p c m ts) = λ h k f u. impossible h
+  gives (select p e c f t) = λ h. impossible h
+  gives (binary_op p o e d) = λ h. no_division from (λ x. refl) o h
+  gives t = tt
+
+  never_checked : (e : Term) → may_check from sure e ≡ true → is_sure sure e ≡ false → false ≡ true
+  never_checked e h n = go (is_sure sure e) n h
+    where
+      go : (b : Bool) → b ≡ false → (b || false) ≡ true → false ≡ true
+      go true n h = sym n
+      go false n h = h
+
+  pub statics_kept : (is_mutable : List ℕ → Bool) (t : Term) (ts : Targets) (k : Destination) (j : ℕ) (ls : List Label) → is_built from (may_check from sure) ls t ≡ true → All U (uses_of_all (into is_mutable sure ts k j t).statements) → is_built has (may_check has sure) ls t ≡ true
+  statics_kept is_mutable t ts k j ls q h = tree U from has (may_check from sure) sure (λ h. h) (λ h. h) (λ x i h u. impossible h) never_checked is_mutable t ts k j ls q (all_from (Gives U from has) (trees t) (λ x i. gives x)) h

@@ -1,0 +1,215 @@
+-- The bodies of an accepted folder whose classes are written are built with what is written.
+use Rattle.std.proofs.Common.{◌≡◌, ℕ, Bool, true, false, List, [], ◌∷◌, ◌++◌, ◌⊎◌, inl, inr, Option, Some, None, refl, sym, ap, subst, ◌∙◌, Contains, codes, slice_get, if◌then◌else◌}
+use Rattle.std.specs.Prelude.{not, ◌&&◌}
+use Rattle.worklist.proofs.Inserted.{nothing_in}
+use Rattle.std.specs.List.{All, list_any}
+use Rattle.std.proofs.lemmas.Bool.{and_parts, and_from}
+use Rattle.std.proofs.lemmas.List.Elements.{All-head, All-tail}
+use Rattle.std.proofs.lemmas.List.Folds.{list_any_at}
+use Rattle.body_rules.specs.Typing.{is_built_with}
+use Rattle.built_forms.specs.Built.{Usable, is_object_body, is_static}
+use Rattle.folder_verdicts.proofs.EachTyped.{in_all}
+use Rattle.folder_verdicts.proofs.Undenied.{first_or_later}
+use Rattle.helper_rules.specs.Helpers.{helper_name}
+use Rattle.helper_rules.specs.declared.kinds.Helper.{Helper}
+use Rattle.helper_rules.specs.declared.kinds.Helper.TheVariants.{NotNull, IntQuotient, IntRemainder as IntRest, LongQuotient, LongRemainder as LongRest}
+use Rattle.js_tree.specs.declared.items.Binding.{Binding}
+use Rattle.reach_rules.proofs.Derivations.{closed}
+use Rattle.reach_rules.specs.Reachable.{Reachable}
+use Rattle.reach_rules.specs.Rules.{Reads, of_call, of_new, asked_body, new_made, constructor_member}
+use Rattle.sj_desugar.specs.Desugar.{member}
+use Rattle.sj_emit_expr.specs.Templates.{check_name}
+use Rattle.sj_emit_expr.specs.Uses.{object_binding, function_binding, class_use}
+use Rattle.sj_infos.specs.Infos.{asks, asked_by_body, asked_in, of_receiver}
+use Rattle.sj_infos.specs.Sure.{sure_among}
+use Rattle.sj_infos.specs.Trees.{trees}
+use Rattle.sj_infos.specs.declared.infos.Info.{Info}
+use Rattle.sj_infos.specs.declared.infos.Info.TheVariants.{New, Static}
+use Rattle.sj_judged.proofs.Found.{here, there}
+use Rattle.sj_names.proofs.Same.{impossible, text-refl}
+use Rattle.sj_names.specs.Same.{is_same_text}
+use Rattle.sj_names.specs.WellKnown.{object}
+use Rattle.sj_names.specs.declared.entry_points.EntryPoint.{EntryPoint}
+use Rattle.sj_names.specs.declared.folders.SourceFile.{SourceFile}
+use Rattle.sj_names.specs.declared.method_names.Member.{Member}
+use Rattle.sj_names.specs.declared.method_names.MethodName.{MethodName}
+use Rattle.sj_names.specs.declared.method_names.Namespace.{Namespace}
+use Rattle.sj_names.specs.declared.method_names.Namespace.TheVariants.{Public, PublicStatic, Private, PrivateStatic, Constructor}
+use Rattle.sj_proper.specs.Emitted.{EmittedMethod}
+use Rattle.sj_sound.specs.Linked.{has_function}
+use Rattle.sj_trees.proofs.SameTypes.{type-refl}
+use Rattle.sj_trees.specs.SameTypes.{is_same_type}
+use Rattle.sj_trees.specs.Term.{Term, Terms, new_object, select, apply_statically, apply_static, binary_op}
+use Rattle.sj_trees.specs.TypeOf.{type_of_term}
+use Rattle.sj_trees.specs.declared.classes.ClassDef.{ClassDef}
+use Rattle.sj_trees.specs.declared.classes.FieldDef.{FieldDef}
+use Rattle.sj_trees.specs.declared.operators.BinaryOp.{BinaryOp}
+use Rattle.sj_trees.specs.declared.operators.BinaryOp.TheVariants.{StringConcatenate, IntDivide, IntRemainder, LongDivide, LongRemainder}
+use Rattle.sj_trees.specs.declared.positions.Position.{Position}
+use Rattle.sj_trees.specs.declared.types.IrType.{IrType}
+use Rattle.sj_trees.specs.declared.types.IrType.TheVariants.{Int, Long, Nothing}
+use Rattle.sj_world.specs.Known.{Name, Classes, class_of}
+use Rattle.sj_world.specs.Paths.{stay}
+use Rattle.sj_world.specs.Subtypes.{IsSub, equal, from_nothing, to_any, null_to_class, null_to_array, class_to_class, primitive_to_class, arrays_alike, arrays_of_arrays}
+use Rattle.sj_world.specs.declared.facts.Fact.TheVariants.{Body, Made}
+use Rattle.typing_rules.specs.Nodes.{node}
+use Rattle.typing_rules.specs.Rules.{Fits, HasFieldType, IsStatic, Meets, OperandsFit}
+use Rattle.typing_rules.specs.Typed.{MeetsThere}
+use Rattle.accepted_folders.specs.Accepted.{IsAccepted}
+use Rattle.accepted_folders.specs.Bodies.{AreBodies}
+use Rattle.accepted_folders.proofs.Calls.{needed}
+use Rattle.accepted_folders.proofs.Members.{has_function-from, defined}
+use Rattle.linked_pieces.specs.Used.{used_of, is_among, is_its_field, has_field_in}
+use Rattle.body_uses.specs.Given.{Given, HelpersGiven, FitsDivision, HasType, body_helpers}
+use Rattle.body_uses.specs.Laws.{used_by, AcceptedBodiesUseWhatIsWritten}
+use Rattle.body_uses.specs.Written.{AreWrittenWith}
+use Rattle.body_uses.proofs.Given.{given}
+use Rattle.body_uses.proofs.Standing.{Stands, each_stands}
+
+any_of : {X : Type 0} (p : X → Bool) (xs : List X) (x : X) → Contains xs x → p x ≡ true → list_any p xs ≡ true
+any_of {X} p xs x h t = list_any_at p xs h.0 x h.1 (subst (λ (y : X). p y ≡ true) (sym h.2) t)
+
+some_same : (a b : Term) → ◌≡◌ {A = Option Term} (Some a) (Some b) → a ≡ b
+some_same a b e = cc
+
+all_at : {X : Type 0} (P : X → Type 0) (xs : List X) → All P xs → (x : X) → Contains xs x → P x
+all_at P [] h x i = nothing_in x i
+all_at {X} P (y ∷ ys) h x i = elim (first_or_later y ys x i) [
+  | inl same ↦ subst P same (All-head P y ys h)
+  | inr after ↦ all_at P ys (All-tail P y ys h) x after
+]
+
+among_names : (names : List Name) (x : Name) → Contains names x → is_among names x ≡ true
+among_names names x h = any_of (is_same_text x) names x h (text-refl x)
+
+module _ (w : Classes) where
+  int_or_none : (d : Term) → Fits w d Int → HasType Int d
+  int_or_none d (equal e) = inl e
+  int_or_none d (from_nothing e) = inr e
+  int_or_none d (to_any e n) = absurd cc
+  int_or_none d (null_to_class c e f) = absurd cc
+  int_or_none d (null_to_array b e f) = absurd cc
+  int_or_none d (class_to_class a b e f i) = absurd cc
+  int_or_none d (primitive_to_class a b e f i) = absurd cc
+  int_or_none d (arrays_alike a b e f g i) = absurd cc
+  int_or_none d (arrays_of_arrays a b e f g i) = absurd cc
+
+  long_or_none : (d : Term) → Fits w d Long → HasType Long d
+  long_or_none d (equal e) = inl e
+  long_or_none d (from_nothing e) = inr e
+  long_or_none d (to_any e n) = absurd cc
+  long_or_none d (null_to_class c e f) = absurd cc
+  long_or_none d (null_to_array b e f) = absurd cc
+  long_or_none d (class_to_class a b e f i) = absurd cc
+  long_or_none d (primitive_to_class a b e f i) = absurd cc
+  long_or_none d (arrays_alike a b e f g i) = absurd cc
+  long_or_none d (arrays_of_arrays a b e f g i) = absurd cc
+
+  divisor : (o : BinaryOp) (e d : Term) → OperandsFit w o e d → FitsDivision o d
+  divisor IntDivide e d h = int_or_none d h.1
+  divisor IntRemainder e d h = int_or_none d h.1
+  divisor LongDivide e d h = long_or_none d h.1
+  divisor LongRemainder e d h = long_or_none d h.1
+  divisor _ e d h = tt
+
+  -- a field of this type is a field of the world
+  field_there : (c f : Name) (t : IrType) → HasFieldType w c f false t → has_field_in (class_of w c) f t ≡ true
+  field_there c f t h =
+      let own = h.is_field in
+      let same_name : is_same_text f h.field.name ≡ true = subst (λ (x : Name). is_same_text f x ≡ true) (sym own.first.has.name_is) (text-refl f) in
+      let same_type : is_same_type t h.field.tpe ≡ true = subst (λ (x : IrType). is_same_type t x ≡ true) (sym h.type_is) (type-refl t) in
+      let no_mark : not h.field.is_static ≡ true = subst (λ (b : Bool). not b ≡ true) (sym own.first.has.mark_is) refl in
+      subst (λ (o : Option ClassDef). has_field_in o f t ≡ true) (sym own.is_class) (list_any_at (is_its_field f t) own.class.fields own.first.place h.field own.first.stands (and_from (not h.field.is_static) (is_same_text f h.field.name && is_same_type t h.field.tpe) no_mark (and_from (is_same_text f h.field.name) (is_same_type t h.field.tpe) same_name same_type)))
+
+static_there : (n : Namespace) → IsStatic n → is_static n ≡ true
+static_there PublicStatic h = refl
+static_there PrivateStatic h = refl
+static_there Public h = absurd h
+static_there Private h = absurd h
+static_there Constructor h = absurd h
+
+module _ (entries : List EntryPoint) (files : List SourceFile) (w : Classes) (all : List EmittedMethod) (live : List Name) (helpers : List Helper) (written : List Name) (accepted : IsAccepted entries files w) (bodies : AreBodies w entries all) (uses : AreWrittenWith w entries all live helpers written) (e : EmittedMethod) (i : Contains all e) (here_written : Contains written e.member.class) where
+  abbrev has : Usable
+  has = used_of w all live helpers written
+
+  abbrev used : List Binding
+  used = used_by e.definition e.its_body
+
+  in_written : (b : Binding) → Contains used b → is_among written b.owner ≡ true
+  in_written b u = among_names written b.owner (uses.owned e i here_written b u)
+
+  reads : (o : Info) → Contains (asked_in e.its_body) o → Reads w (Reachable w entries) o
+  reads o h = record {
+    member = e.member;
+    needed = needed w entries all bodies e i;
+    definition = e.definition;
+    defined = defined w e.member e.definition (bodies.found e i).found;
+    asked = subst (λ (b : Option Term). Contains (asked_by_body b) o) (sym (bodies.found e i).has_body) h;
+  }
+
+  asked : (t : Term) → Contains (trees e.its_body) t → (o : Info) → Contains (asks (sure_among [] (trees e.its_body)) t) o → Reads w (Reachable w entries) o
+  asked t among o h = reads o (in_all (asks (sure_among [] (trees e.its_body))) (trees e.its_body) t o among h)
+
+  body_there : (k : Member) → Reachable w entries (Body k) → has_function all k ≡ true
+  body_there k r = has_function-from all k ((bodies.exact k).1 r)
+
+  called : (k : Member) → Reads w (Reachable w entries) (Static k) → has_function all k ≡ true
+  called k r = body_there k (closed w entries (Body k) (asked_body k (of_call k r)))
+
+  in_used : (k : Member) (named : Bool) → named ≡ true → Reads w (Reachable w entries) (Static k) → Contains used (function_binding k) → (named && (is_among written k.class && has_function all k)) ≡ true
+  in_used k named n r u = and_from named (is_among written k.class && has_function all k) n (and_from (is_among written k.class) (has_function all k) (in_written (function_binding k) u) (called k r))
+
+  made_there : (c : Name) (m : MethodName) → Reads w (Reachable w entries) (New c m) → Contains used (function_binding (member c Constructor m)) → Contains used (class_use c) → (has.built (member c Constructor m) ≡ true) × (has.made c ≡ true)
+  made_there c m r f u =
+      let k : Member = member c Constructor m in
+      let own = body_there k (closed w entries (Body k) (asked_body k (of_new c m r))) in
+      let is_made = (uses.are_facts (Made c)).1 (closed w entries (Made c) (new_made c m r)) in
+      let is_live = (uses.are_live c).1 (record { made = c; is_made = is_made; on_chain = stay }) in
+      (and_from (is_among written c) (has_function all k) (in_written (function_binding k) f) own, and_from (is_among written c) (is_among live c) (in_written (class_use c) u) (among_names live c is_live))
+
+  tree_given : (t : Term) → Contains (trees e.its_body) t → Stands (MeetsThere w e.definition.namespace) t → Given has used t
+  tree_given (apply_static p c n m ts t) among s = λ u. in_used (member c n m) (is_static n) (static_there n s.asked.0) (asked (apply_static p c n m ts t) among (Static (member c n m)) (here (Static (member c n m)) [])) u
+  tree_given (apply_statically p d c Private m ts t) among s = λ u. in_used (member c Private m) true refl (asked (apply_statically p d c Private m ts t) among (Static (member c Private m)) (here (Static (member c Private m)) (of_receiver (sure_among [] (trees e.its_body)) d))) u
+  tree_given (apply_statically p d c Constructor m ts t) among s = λ u. in_used (member c Constructor m) true refl (asked (apply_statically p d c Constructor m ts t) among (Static (member c Constructor m)) (here (Static (member c Constructor m)) (of_receiver (sure_among [] (trees e.its_body)) d))) u
+  tree_given (apply_statically p d c Public m ts t) among s = tt
+  tree_given (apply_statically p d c PublicStatic m ts t) among s = tt
+  tree_given (apply_statically p d c PrivateStatic m ts t) among s = tt
+  tree_given (new_object p c m ts) among s = λ f u. made_there c m (asked (new_object p c m ts) among (New c m) (here (New c m) [])) f u
+  tree_given (select p d c f t) among s = field_there w c f t s.asked.1
+  tree_given (binary_op p o a b) among s = divisor w o a b s.asked
+  tree_given t among s = tt
+
+  -- a helper by its name
+  helper_there : (h : Helper) → Contains used (object_binding (helper_name h)) → has.helper (helper_name h) ≡ true
+  helper_there h u = and_from (is_among written object) (list_any (λ (g : Helper). is_same_text (helper_name h) (helper_name g)) helpers) (in_written (object_binding (helper_name h)) u) (any_of (λ (g : Helper). is_same_text (helper_name h) (helper_name g)) helpers h (uses.helped e i here_written h u) (text-refl (helper_name h)))
+
+  is_helper : (h : Helper) (x : Name) → helper_name h ≡ x → Contains used (object_binding x) → has.helper x ≡ true
+  is_helper h x same u = subst (λ (y : Name). has.helper y ≡ true) same (helper_there h (subst (λ (y : Name). Contains used (object_binding y)) (sym same) u))
+
+  helpers_given : HelpersGiven has used
+  helpers_given x among u = elim (first_or_later check_name (codes "$id" ∷ codes "$im" ∷ codes "$ld" ∷ codes "$lm" ∷ []) x among) [
+    | inl same ↦ is_helper NotNull x same u
+    | inr more ↦ elim (first_or_later (codes "$id") (codes "$im" ∷ codes "$ld" ∷ codes "$lm" ∷ []) x more) [
+      | inl same ↦ is_helper IntQuotient x same u
+      | inr more ↦ elim (first_or_later (codes "$im") (codes "$ld" ∷ codes "$lm" ∷ []) x more) [
+        | inl same ↦ is_helper IntRest x same u
+        | inr more ↦ elim (first_or_later (codes "$ld") (codes "$lm" ∷ []) x more) [
+          | inl same ↦ is_helper LongQuotient x same u
+          | inr more ↦ elim (first_or_later (codes "$lm") [] x more) [
+            | inl same ↦ is_helper LongRest x same u
+            | inr more ↦ nothing_in x more
+          ]
+        ]
+      ]
+    ]
+  ]
+
+  body_built : is_object_body e.definition e.its_body ≡ true → is_built_with has e.definition e.its_body ≡ true
+  body_built k =
+      let typed = accepted.typed e.member e.definition (needed w entries all bodies e i) (defined w e.member e.definition (bodies.found e i).found) in
+      let same : typed.body ≡ e.its_body = some_same typed.body e.its_body (sym typed.has_body ∙ (bodies.found e i).has_body) in
+      let stands = subst (λ (b : Term). All (Stands (MeetsThere w e.definition.namespace)) (trees b)) same (each_stands (MeetsThere w e.definition.namespace) typed.body [] 0 typed.met) in
+      given has e.definition e.its_body refl k helpers_given (λ t among. tree_given t among (all_at (Stands (MeetsThere w e.definition.namespace)) (trees e.its_body) stands t among))
+
+pub accepted_bodies : AcceptedBodiesUseWhatIsWritten
+accepted_bodies entries files w all live helpers written accepted bodies uses e i here_written k = body_built entries files w all live helpers written accepted bodies uses e i here_written k

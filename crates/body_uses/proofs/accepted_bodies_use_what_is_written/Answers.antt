@@ -1,0 +1,5 @@
+use Rattle.body_uses.proofs.Written.{accepted_bodies}
+use Rattle.body_uses.proofs.accepted_bodies_use_what_is_written.Goals as goal
+
+pub returns : goal.returns
+returns c = accepted_bodies

@@ -1,0 +1,46 @@
+-- What a body is given: what its emitted code names is there.
+use Rattle.std.specs.Prelude.{◌≡◌, ◌⊎◌, ℕ, true, List, [], ◌∷◌, Contains, codes}
+use Rattle.built_forms.specs.Built.{Usable}
+use Rattle.js_tree.specs.declared.items.Binding.{Binding}
+use Rattle.sj_desugar.specs.Desugar.{member}
+use Rattle.sj_emit_expr.specs.Templates.{check_name}
+use Rattle.sj_emit_expr.specs.Uses.{object_binding, function_binding, class_use}
+use Rattle.sj_names.specs.declared.method_names.Namespace.TheVariants.{Private, Constructor}
+use Rattle.sj_trees.specs.Term.{Term, new_object, select, apply_statically, apply_static, binary_op}
+use Rattle.sj_trees.specs.TypeOf.{type_of_term}
+use Rattle.sj_trees.specs.declared.operators.BinaryOp.{BinaryOp}
+use Rattle.sj_trees.specs.declared.operators.BinaryOp.TheVariants.{IntDivide, IntRemainder, LongDivide, LongRemainder}
+use Rattle.sj_trees.specs.declared.types.IrType.{IrType}
+use Rattle.sj_trees.specs.declared.types.IrType.TheVariants.{Int, Long, Nothing}
+
+-- a tree is of this type, or it has no value
+abbrev pub HasType : IrType → Term → Type 0
+HasType t e = (type_of_term e ≡ t) ⊎ (type_of_term e ≡ Nothing)
+
+-- a divisor is of the type that is divided
+abbrev pub FitsDivision : BinaryOp → Term → Type 0
+FitsDivision IntDivide d = HasType Int d
+FitsDivision IntRemainder d = HasType Int d
+FitsDivision LongDivide d = HasType Long d
+FitsDivision LongRemainder d = HasType Long d
+FitsDivision _ d = Unit {0}
+
+-- the check of null, and the divisions
+abbrev pub body_helpers : List (List ℕ)
+body_helpers = check_name ∷ codes "$id" ∷ codes "$im" ∷ codes "$ld" ∷ codes "$lm" ∷ []
+
+-- where these bindings are used
+module _ (has : Usable) (used : List Binding) where
+  -- a member whose function is used is there, and so are a class that is used to make an object, and each field; a divisor has its type
+  abbrev pub Given : Term → Type 0
+  Given (apply_static p c n m ts t) = Contains used (function_binding (member c n m)) → has.linked (member c n m) ≡ true
+  Given (apply_statically p e c Private m ts t) = Contains used (function_binding (member c Private m)) → has.received (member c Private m) ≡ true
+  Given (apply_statically p e c Constructor m ts t) = Contains used (function_binding (member c Constructor m)) → has.built (member c Constructor m) ≡ true
+  Given (new_object p c m ts) = Contains used (function_binding (member c Constructor m)) → Contains used (class_use c) → (has.built (member c Constructor m) ≡ true) × (has.made c ≡ true)
+  Given (select p e c f t) = has.field c f t ≡ true
+  Given (binary_op p o e d) = FitsDivision o d
+  Given _ = Unit {0}
+
+  -- a helper that is used is there
+  abbrev pub HelpersGiven : Type 0
+  HelpersGiven = (x : List ℕ) → Contains body_helpers x → Contains used (object_binding x) → has.helper x ≡ true

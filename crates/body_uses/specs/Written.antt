@@ -1,0 +1,22 @@
+-- What the written pieces of a world use is written.
+use Rattle.std.specs.Prelude.{◌↔◌, List, Contains}
+use Rattle.entry_rules.specs.Entries.{IsLive}
+use Rattle.helper_rules.specs.Helpers.{helper_name}
+use Rattle.helper_rules.specs.Words.{helper}
+use Rattle.helper_rules.specs.declared.kinds.Helper.{Helper}
+use Rattle.js_tree.specs.declared.items.Binding.{Binding}
+use Rattle.reach_rules.specs.Reachable.{Reachable}
+use Rattle.sj_names.specs.declared.entry_points.EntryPoint.{EntryPoint}
+use Rattle.sj_proper.specs.Emitted.{EmittedMethod}
+use Rattle.sj_world.specs.Known.{Name, Classes}
+use Rattle.sj_world.specs.declared.facts.Fact.{Fact}
+use Rattle.linked_pieces.specs.Pieces.{piece_of_member}
+
+-- the pieces of these classes are written, in a world with these methods, live classes and helpers: what the methods of the classes use is of one of them, and each
+-- helper that they use is there
+pub record AreWrittenWith (w : Classes) (entries : List EntryPoint) (all : List EmittedMethod) (live : List Name) (helpers : List Helper) (written : List Name) : Type 0 where
+  pub facts : List Fact
+  pub are_facts : (f : Fact) → Contains facts f ↔ Reachable w entries f
+  pub are_live : (c : Name) → Contains live c ↔ IsLive w facts c
+  pub owned : (e : EmittedMethod) → Contains all e → Contains written e.member.class → (b : Binding) → Contains (piece_of_member e).uses b → Contains written b.owner
+  pub helped : (e : EmittedMethod) → Contains all e → Contains written e.member.class → (h : Helper) → Contains (piece_of_member e).uses (helper (helper_name h)) → Contains helpers h
