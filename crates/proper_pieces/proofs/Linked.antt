@@ -124,7 +124,7 @@ module _ (l : Linked) (all : List EmittedMethod) (named : AreNamed l.world) wher
       marked f i = reached_static l.world named.kept l.entries l.facts l.facts (λ f. ((λ i. i), (λ i. i))) c p.class.fields s.reached s.are_reached f (Contains-permutation p.statics s.reached f (IsPermutation-sym s.reached p.statics s.sorted.exact) i)
 
       differ : (f g : FieldDef) → Contains p.statics f → Contains p.statics g → is_same_field f g ≡ false → Differ f.name g.name
-      differ f g i k no e = impossible (sym no ∙ from_key f g (λ j. record { is_static = (marked f i ∙ sym (marked g k)) j; name = e j }))
+      differ f g i k distinct e = impossible (sym distinct ∙ from_key f g (λ j. record { is_static = (marked f i ∙ sym (marked g k)) j; name = e j }))
 
   own_of : (c : Name) (ps : List Piece) → AreClassPieces l c ps → Segment c 0 9 ps
   own_of c ps (absent e is) = subst (Segment c 0 9) (sym is) (no_pieces c 0 9 (omega arith))
