@@ -49,6 +49,7 @@ use Rattle.sj_trees.specs.declared.positions.Position.{Position}
 use Rattle.sj_trees.specs.declared.types.IrType.{IrType}
 use Rattle.sj_trees.specs.declared.types.IrType.TheVariants.{Int, Long, Nothing}
 use Rattle.sj_world.specs.Known.{Name, Classes, class_of}
+use Rattle.sj_world.proofs.Searches.{contains_at}
 use Rattle.sj_world.specs.Paths.{stay}
 use Rattle.sj_world.specs.Subtypes.{IsSub, equal, from_nothing, to_any, null_to_class, null_to_array, class_to_class, primitive_to_class, arrays_alike, arrays_of_arrays}
 use Rattle.sj_world.specs.declared.facts.Fact.TheVariants.{Body, Made}
@@ -119,7 +120,7 @@ module _ (w : Classes) where
       let same_name : is_same_text f h.field.name ≡ true = subst (λ (x : Name). is_same_text f x ≡ true) (sym own.first.has.name_is) (text-refl f) in
       let same_type : is_same_type t h.field.tpe ≡ true = subst (λ (x : IrType). is_same_type t x ≡ true) (sym h.type_is) (type-refl t) in
       let no_mark : not h.field.is_static ≡ true = subst (λ (b : Bool). not b ≡ true) (sym own.first.has.mark_is) refl in
-      subst (λ (o : Option ClassDef). has_field_in o f t ≡ true) (sym own.is_class) (list_any_at (is_its_field f t) own.class.fields own.first.place h.field own.first.stands (and_from (not h.field.is_static) (is_same_text f h.field.name && is_same_type t h.field.tpe) no_mark (and_from (is_same_text f h.field.name) (is_same_type t h.field.tpe) same_name same_type)))
+      subst (λ (o : Option ClassDef). has_field_in o f t ≡ true) (sym own.is_class) (any_of (is_its_field f t) own.class.fields h.field (contains_at own.class.fields own.first.place h.field own.first.stands) (and_from (not h.field.is_static) (is_same_text f h.field.name && is_same_type t h.field.tpe) no_mark (and_from (is_same_text f h.field.name) (is_same_type t h.field.tpe) same_name same_type)))
 
 static_there : (n : Namespace) → IsStatic n → is_static n ≡ true
 static_there PublicStatic h = refl
@@ -138,7 +139,7 @@ module _ (entries : List EntryPoint) (files : List SourceFile) (w : Classes) (al
   in_written : (b : Binding) → Contains used b → is_among written b.owner ≡ true
   in_written b u = among_names written b.owner (uses.owned e i here_written b u)
 
-  reads : (o : Info) → Contains (asked_in e.its_body) o → Reads w (Reachable w entries) o
+  reads : (o : Info) → Contains (asked_in e.its_body) o → Reads w entries (Reachable w entries) o
   reads o h = record {
     member = e.member;
     needed = needed w entries all bodies e i;
@@ -147,19 +148,19 @@ module _ (entries : List EntryPoint) (files : List SourceFile) (w : Classes) (al
     asked = subst (λ (b : Option Term). Contains (asked_by_body b) o) (sym (bodies.found e i).has_body) h;
   }
 
-  asked : (t : Term) → Contains (trees e.its_body) t → (o : Info) → Contains (asks (sure_among [] (trees e.its_body)) t) o → Reads w (Reachable w entries) o
+  asked : (t : Term) → Contains (trees e.its_body) t → (o : Info) → Contains (asks (sure_among [] (trees e.its_body)) t) o → Reads w entries (Reachable w entries) o
   asked t among o h = reads o (in_all (asks (sure_among [] (trees e.its_body))) (trees e.its_body) t o among h)
 
   body_there : (k : Member) → Reachable w entries (Body k) → has_function all k ≡ true
   body_there k r = has_function-from all k ((bodies.exact k).1 r)
 
-  called : (k : Member) → Reads w (Reachable w entries) (Static k) → has_function all k ≡ true
+  called : (k : Member) → Reads w entries (Reachable w entries) (Static k) → has_function all k ≡ true
   called k r = body_there k (closed w entries (Body k) (asked_body k (of_call k r)))
 
-  in_used : (k : Member) (named : Bool) → named ≡ true → Reads w (Reachable w entries) (Static k) → Contains used (function_binding k) → (named && (is_among written k.class && has_function all k)) ≡ true
+  in_used : (k : Member) (named : Bool) → named ≡ true → Reads w entries (Reachable w entries) (Static k) → Contains used (function_binding k) → (named && (is_among written k.class && has_function all k)) ≡ true
   in_used k named n r u = and_from named (is_among written k.class && has_function all k) n (and_from (is_among written k.class) (has_function all k) (in_written (function_binding k) u) (called k r))
 
-  made_there : (c : Name) (m : MethodName) → Reads w (Reachable w entries) (New c m) → Contains used (function_binding (member c Constructor m)) → Contains used (class_use c) → (has.built (member c Constructor m) ≡ true) × (has.made c ≡ true)
+  made_there : (c : Name) (m : MethodName) → Reads w entries (Reachable w entries) (New c m) → Contains used (function_binding (member c Constructor m)) → Contains used (class_use c) → (has.built (member c Constructor m) ≡ true) × (has.made c ≡ true)
   made_there c m r f u =
       let k : Member = member c Constructor m in
       let own = body_there k (closed w entries (Body k) (asked_body k (of_new c m r))) in
