@@ -67,13 +67,13 @@ field_found fs f t h =
 -- two fields that are apart have two keys
 one_field : (fs : List FieldDef) → Apart fs → (a b : FieldDef) → Contains fs a → Contains fs b → field_key a ≡ field_key b → a ≡ b
 one_field [] h a b i k e = nothing_in a i
-one_field (x ∷ xs) h a b i k e = go (in_front_or_behind x xs a i) (in_front_or_behind x xs b k)
+one_field (x ∷ xs) h a b i k e = go (in_front_or_behind x xs a i) (in_front_or_behind x xs b k) (λ p q. one_field xs h.1 a b p q e)
   where
-    go : (x ≡ a) ⊎ Contains xs a → (x ≡ b) ⊎ Contains xs b → a ≡ b
-    go (inl p) (inl q) = sym p ∙ q
-    go (inl p) (inr q) = impossible (sym (h.0 b q) ∙ subst (λ (y : FieldDef). is_same_field y b ≡ true) (sym p) (from_key a b e))
-    go (inr p) (inl q) = impossible (sym (h.0 a p) ∙ subst (λ (y : FieldDef). is_same_field y a ≡ true) (sym q) (from_key b a (sym e)))
-    go (inr p) (inr q) = one_field xs h.1 a b p q e
+    go : (x ≡ a) ⊎ Contains xs a → (x ≡ b) ⊎ Contains xs b → (Contains xs a → Contains xs b → a ≡ b) → a ≡ b
+    go (inl p) (inl q) later = sym p ∙ q
+    go (inl p) (inr q) later = impossible (sym (h.0 b q) ∙ subst (λ (y : FieldDef). is_same_field y b ≡ true) (sym p) (from_key a b e))
+    go (inr p) (inl q) later = impossible (sym (h.0 a p) ∙ subst (λ (y : FieldDef). is_same_field y a ≡ true) (sym q) (from_key b a (sym e)))
+    go (inr p) (inr q) later = later p q
 
 key_of : (d : FieldDef) (f : Name) → d.is_static ≡ false → f ≡ d.name → field_key d ≡ record { is_static = false; name = f }
 key_of d f mark name = (λ i. record { is_static = mark i; name = sym name i })
