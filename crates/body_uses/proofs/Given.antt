@@ -80,7 +80,7 @@ module _ (has : Usable) (used : List Binding) where
   box h = impossible h
 
   call_given : (p : Position) (e : Term) (c : List ℕ) (n : Namespace) (m : MethodName) (ts : Terms) (t : IrType) → Given has used (apply_statically p e c n m ts t) → GivesReceived U any_object has n c m
-  call_given p e c Constructor m ts t g = λ h u. g u
+  call_given p e c Constructor m ts t g = λ h u. g h u
   call_given p e c Private m ts t g = λ h u. g u
   call_given p e c Public m ts t g = λ h u. impossible h
   call_given p e c n m ts t g = λ h u. impossible h
@@ -88,7 +88,7 @@ module _ (has : Usable) (used : List Binding) where
   gives : (t : Term) → Given has used t → Gives U any_object has t
   gives (apply_static p c n m ts t) g = λ h u. g u
   gives (apply_statically p e c n m ts t) g = call_given p e c n m ts t g
-  gives (new_object p c m ts) g = λ h k f u. g f u
+  gives (new_object p c m ts) g = λ h k f u. g k f u
   gives (select p e c f t) g = λ h. g
   gives (binary_op p o e d) g = λ h. g
   gives t g = tt

@@ -7,7 +7,7 @@ use Rattle.std.proofs.lemmas.Bool.{and_parts, and_from}
 use Rattle.std.proofs.lemmas.List.Elements.{All-head, All-tail}
 use Rattle.std.proofs.lemmas.List.Folds.{list_any_at}
 use Rattle.body_rules.specs.Typing.{is_built_with}
-use Rattle.built_forms.specs.Built.{Usable, is_object_body, is_static}
+use Rattle.built_forms.specs.Built.{Usable, is_object_body, is_static, has_no_value}
 use Rattle.folder_verdicts.proofs.EachTyped.{in_all}
 use Rattle.folder_verdicts.proofs.Undenied.{first_or_later}
 use Rattle.helper_rules.specs.Helpers.{helper_name}
@@ -160,22 +160,22 @@ module _ (entries : List EntryPoint) (files : List SourceFile) (w : Classes) (al
   in_used : (k : Member) (named : Bool) → named ≡ true → Reads w entries (Reachable w entries) (Static k) → Contains used (function_binding k) → (named && (is_among written k.class && has_function all k)) ≡ true
   in_used k named n r u = and_from named (is_among written k.class && has_function all k) n (and_from (is_among written k.class) (has_function all k) (in_written (function_binding k) u) (called k r))
 
-  made_there : (c : Name) (m : MethodName) → Reads w entries (Reachable w entries) (New c m) → Contains used (function_binding (member c Constructor m)) → Contains used (class_use c) → (has.built (member c Constructor m) ≡ true) × (has.made c ≡ true)
-  made_there c m r f u =
+  made_there : (c : Name) (m : MethodName) → has_no_value m.result ≡ true → Reads w entries (Reachable w entries) (New c m) → Contains used (function_binding (member c Constructor m)) → Contains used (class_use c) → (has.built (member c Constructor m) ≡ true) × (has.made c ≡ true)
+  made_there c m v r f u =
       let k : Member = member c Constructor m in
       let own = body_there k (closed w entries (Body k) (asked_body k (of_new c m r))) in
       let is_made = (uses.are_facts (Made c)).1 (closed w entries (Made c) (new_made c m r)) in
       let is_live = (uses.are_live c).1 (record { made = c; is_made = is_made; on_chain = stay }) in
-      (and_from (is_among written c) (has_function all k) (in_written (function_binding k) f) own, and_from (is_among written c) (is_among live c) (in_written (class_use c) u) (among_names live c is_live))
+      (and_from (has_no_value m.result) (is_among written c && has_function all k) v (and_from (is_among written c) (has_function all k) (in_written (function_binding k) f) own), and_from (is_among written c) (is_among live c) (in_written (class_use c) u) (among_names live c is_live))
 
   tree_given : (t : Term) → Contains (trees e.its_body) t → Stands (MeetsThere w e.definition.namespace) t → Given has used t
   tree_given (apply_static p c n m ts t) among s = λ u. in_used (member c n m) (is_static n) (static_there n s.asked.0) (asked (apply_static p c n m ts t) among (Static (member c n m)) (here (Static (member c n m)) [])) u
   tree_given (apply_statically p d c Private m ts t) among s = λ u. in_used (member c Private m) true refl (asked (apply_statically p d c Private m ts t) among (Static (member c Private m)) (here (Static (member c Private m)) (of_receiver (sure_among [] (trees e.its_body)) d))) u
-  tree_given (apply_statically p d c Constructor m ts t) among s = λ u. in_used (member c Constructor m) true refl (asked (apply_statically p d c Constructor m ts t) among (Static (member c Constructor m)) (here (Static (member c Constructor m)) (of_receiver (sure_among [] (trees e.its_body)) d))) u
+  tree_given (apply_statically p d c Constructor m ts t) among s = λ v u. in_used (member c Constructor m) (has_no_value m.result) v (asked (apply_statically p d c Constructor m ts t) among (Static (member c Constructor m)) (here (Static (member c Constructor m)) (of_receiver (sure_among [] (trees e.its_body)) d))) u
   tree_given (apply_statically p d c Public m ts t) among s = tt
   tree_given (apply_statically p d c PublicStatic m ts t) among s = tt
   tree_given (apply_statically p d c PrivateStatic m ts t) among s = tt
-  tree_given (new_object p c m ts) among s = λ f u. made_there c m (asked (new_object p c m ts) among (New c m) (here (New c m) [])) f u
+  tree_given (new_object p c m ts) among s = λ v f u. made_there c m v (asked (new_object p c m ts) among (New c m) (here (New c m) [])) f u
   tree_given (select p d c f t) among s = field_there w c f t s.asked.1
   tree_given (binary_op p o a b) among s = divisor w o a b s.asked
   tree_given t among s = tt

@@ -1,6 +1,6 @@
 -- What a body is given: what its emitted code names is there.
 use Rattle.std.specs.Prelude.{◌≡◌, ◌⊎◌, ℕ, true, List, [], ◌∷◌, Contains, codes}
-use Rattle.built_forms.specs.Built.{Usable}
+use Rattle.built_forms.specs.Built.{Usable, has_no_value}
 use Rattle.js_tree.specs.declared.items.Binding.{Binding}
 use Rattle.sj_desugar.specs.Desugar.{member}
 use Rattle.sj_emit_expr.specs.Templates.{check_name}
@@ -31,12 +31,12 @@ body_helpers = check_name ∷ codes "$id" ∷ codes "$im" ∷ codes "$ld" ∷ co
 
 -- where these bindings are used
 module _ (has : Usable) (used : List Binding) where
-  -- a member whose function is used is there, and so are a class that is used to make an object, and each field; a divisor has its type
+  -- a member whose function is used is there, a constructor where it has no value, and so are a class that is used to make an object, and each field; a divisor has its type
   abbrev pub Given : Term → Type 0
   Given (apply_static p c n m ts t) = Contains used (function_binding (member c n m)) → has.linked (member c n m) ≡ true
   Given (apply_statically p e c Private m ts t) = Contains used (function_binding (member c Private m)) → has.received (member c Private m) ≡ true
-  Given (apply_statically p e c Constructor m ts t) = Contains used (function_binding (member c Constructor m)) → has.built (member c Constructor m) ≡ true
-  Given (new_object p c m ts) = Contains used (function_binding (member c Constructor m)) → Contains used (class_use c) → (has.built (member c Constructor m) ≡ true) × (has.made c ≡ true)
+  Given (apply_statically p e c Constructor m ts t) = has_no_value m.result ≡ true → Contains used (function_binding (member c Constructor m)) → has.built (member c Constructor m) ≡ true
+  Given (new_object p c m ts) = has_no_value m.result ≡ true → Contains used (function_binding (member c Constructor m)) → Contains used (class_use c) → (has.built (member c Constructor m) ≡ true) × (has.made c ≡ true)
   Given (select p e c f t) = has.field c f t ≡ true
   Given (binary_op p o e d) = FitsDivision o d
   Given _ = Unit {0}

@@ -8,6 +8,7 @@ use Rattle.sj_names.specs.Same.{is_same_text}
 use Rattle.sj_names.specs.declared.method_names.Namespace.{Namespace}
 use Rattle.sj_names.specs.declared.method_names.Namespace.TheVariants.{Public, PublicStatic, Private, PrivateStatic, Constructor}
 use Rattle.sj_names.specs.declared.references.TypeRef.{TypeRef}
+use Rattle.sj_names.specs.declared.references.TypeRef.TheVariants.{Void}
 use Rattle.sj_names.specs.declared.method_names.Member.{Member}
 use Rattle.typing_rules.specs.declared.labels.Label.{Label}
 use Rattle.typing_rules.specs.Labels.{type_of_label}
@@ -179,13 +180,18 @@ is_built_method has checked d e = may_yield has d.result e && is_built has check
 abbrev pub anything : Usable
 anything = members_alone (λ m. true)
 
--- whatever is made and used of objects, but for objects that hold chars, and for public members that run on a receiver
 abbrev pub is_private : Namespace → Bool
 is_private Private = true
 is_private _ = false
 
+-- a method of which this is the result has no value
+abbrev pub has_no_value : Option TypeRef → Bool
+has_no_value (Some Void) = true
+has_no_value _ = false
+
+-- whatever is made and used of objects, but for objects that hold chars, for public members that run on a receiver, and for constructors with a value
 abbrev pub any_object : Usable
-any_object = record { linked = λ m. true; received = λ m. is_private m.namespace; built = λ m. true; made = λ c. true; field = λ c f t. true; helper = λ x. not (is_same_text x (codes "$C")); objects = true }
+any_object = record { linked = λ m. true; received = λ m. is_private m.namespace; built = λ m. has_no_value m.method.result; made = λ c. true; field = λ c f t. true; helper = λ x. not (is_same_text x (codes "$C")); objects = true }
 
 -- the body is of these forms, whatever it calls, makes and reads
 abbrev pub is_object_body : MethodDef → Term → Bool
@@ -203,8 +209,8 @@ is_static _ = false
 -- there is no body, or it is of the forms that are built
 abbrev pub has_built_body : MethodDef → Option Term → Bool
 has_built_body d None = true
-has_built_body d (Some e) = is_built_body d e
+has_built_body d (Some e) = is_object_body d e
 
--- the linker doesn't build the method yet: it isn't static, or its body isn't of the forms that are built
+-- the linker doesn't build the method yet: its body isn't of the forms that are built
 abbrev pub not_built : MethodDef → Bool
-not_built d = not (is_static d.namespace && has_built_body d d.body)
+not_built d = not (has_built_body d d.body)

@@ -1,13 +1,14 @@
 -- The names of the pieces of classes keep the rule of names.
-use Rattle.std.proofs.Common.{◌≡◌, ◌∙◌, ℕ, zero, suc, ◌<◌, ◌%◌, ◌/◌, ◌^◌, Bool, true, false, ◌&&◌, List, [], ◌∷◌, ◌++◌, refl, arith, if◌then◌else◌, length}
-use Rattle.std.specs.Prelude.{◌==◌, ◌||◌, codes, All, decimal}
-use Rattle.std.specs.Fmt.{digits_onto, digits, digit_glyph}
+use Rattle.std.proofs.Common.{◌≡◌, ◌∙◌, ℕ, zero, suc, ◌<◌, ◌^◌, Bool, true, false, ◌&&◌, List, [], ◌∷◌, ◌++◌, refl, arith, if◌then◌else◌, length, map, get_or}
+use Rattle.std.specs.Prelude.{codes, All}
+use Rattle.std.specs.Int.Digits.{digits_of, AllBelowBase}
 use Rattle.std.specs.List.{list_all, list_any}
 use Rattle.std.proofs.lemmas.Bool.Decides.{nat_tests}
+use Rattle.std.proofs.lemmas.Int.Digits.{all_below_base_digits_of, first_digits_of}
 use Rattle.std.proofs.lemmas.List.Elements.{All-nil, All-cons, All-append}
 use Rattle.std.proofs.lemmas.List.Folds.{list_all-append}
 use Rattle.helper_rules.specs.Words.{parameter, first_parameters, parameters_of, entry_name, marker}
-use Rattle.js_tree.specs.Names.{is_name_character, is_letter, is_digit, is_mark}
+use Rattle.js_tree.specs.Names.{is_name_character, is_mark}
 use Rattle.js_tree.specs.Rules.{IsName, IsProperty, IsUnit}
 use Rattle.sj_mangling.specs.Bindings.{class_binding, field_binding, method_binding}
 use Rattle.sj_mangling.specs.Mangling.{mangled}
@@ -21,7 +22,8 @@ use Rattle.sj_names.specs.MethodNames.{spelled_method}
 use Rattle.sj_names.specs.declared.method_names.MethodName.{MethodName}
 use Rattle.sj_names.specs.declared.method_names.Namespace.TheVariants.{Public}
 use Rattle.sj_pieces.specs.Ranges.{AreBytes, FitsMethodName}
-use Rattle.sj_pieces.proofs.Names.{AreCharacters, label-named, member-named}
+use Rattle.sj_mangling.specs.Numerals.{number_text}
+use Rattle.sj_pieces.proofs.Names.{AreCharacters, label-named, member-named, numeral-characters}
 
 pub and_left : (b c : Bool) → (b && c) ≡ true → b ≡ true
 and_left true c h = refl
@@ -91,64 +93,20 @@ pub choose : {A : Type 0} (P : A → Type 0) (b : Bool) (x y : A) → P x → P 
 choose P true x y h k = h
 choose P false x y h k = k
 
-or_right : (a b : Bool) → b ≡ true → (a || b) ≡ true
-or_right true b h = refl
-or_right false b h = h
+-- a numeral has a digit
+digit-mark : (d : ℕ) → d < 10 → is_mark (48 + d) ≡ true
+digit-mark d small = grind (arith, nat_tests, small)
 
--- the digits of a number, of which there is one
-glyph-digit : (d : ℕ) → d < 10 → is_digit (digit_glyph false d) ≡ true
-glyph-digit d small = grind (arith, nat_tests, small)
+digits-mark : (ds : List ℕ) → AllBelowBase 10 ds → 0 < get_or ds 0 0 → list_any is_mark (map (λ d. 48 + d) ds) ≡ true
+digits-mark [] below some = absurd (omega (arith, some))
+digits-mark (d ∷ ds) below some = rw (digit-mark d below.0) refl
 
-digit-mark : (b : ℕ) → is_digit b ≡ true → is_mark b ≡ true
-digit-mark b h = or_right (b == 95 || b == 36) (is_digit b) h
-
-AreDigits : List ℕ → Type 0
-AreDigits xs = list_all is_digit xs ≡ true
-
-HasMark : List ℕ → Type 0
-HasMark xs = list_any is_mark xs ≡ true
-
-first-glyph : (n : ℕ) → is_digit (digit_glyph false (n % 10)) ≡ true
-first-glyph n = glyph-digit (n % 10) (omega arith)
-
-more-digits : (n : ℕ) (acc : List ℕ) → AreDigits acc → AreDigits (digit_glyph false (n % 10) ∷ acc)
-unfolding AreDigits
-more-digits n acc h = λ i. first-glyph n i && h i
-
-one-mark : (n : ℕ) (acc : List ℕ) → HasMark (digit_glyph false (n % 10) ∷ acc)
-unfolding HasMark
-one-mark n acc = rw (digit-mark (digit_glyph false (n % 10)) (first-glyph n)) refl
-
-all-digits : (k n : ℕ) (acc : List ℕ) → AreDigits acc → AreDigits (digits_onto k 10 false n acc)
-all-digits zero n acc h = h
-all-digits (suc k) n acc h = choose AreDigits (n / 10 == 0) (digit_glyph false (n % 10) ∷ acc) (digits_onto k 10 false (n / 10) (digit_glyph false (n % 10) ∷ acc)) (more-digits n acc h) (all-digits k (n / 10) (digit_glyph false (n % 10) ∷ acc) (more-digits n acc h))
-
-kept-mark : (k n : ℕ) (acc : List ℕ) → HasMark acc → HasMark (digits_onto k 10 false n acc)
-kept-mark zero n acc h = h
-kept-mark (suc k) n acc h = choose HasMark (n / 10 == 0) (digit_glyph false (n % 10) ∷ acc) (digits_onto k 10 false (n / 10) (digit_glyph false (n % 10) ∷ acc)) (one-mark n acc) (kept-mark k (n / 10) (digit_glyph false (n % 10) ∷ acc) (one-mark n acc))
-
-some-mark : (k n : ℕ) (acc : List ℕ) → HasMark (digits_onto (suc k) 10 false n acc)
-some-mark k n acc = choose HasMark (n / 10 == 0) (digit_glyph false (n % 10) ∷ acc) (digits_onto k 10 false (n / 10) (digit_glyph false (n % 10) ∷ acc)) (one-mark n acc) (kept-mark k (n / 10) (digit_glyph false (n % 10) ∷ acc) (one-mark n acc))
-
-digits-characters : (xs : List ℕ) → AreDigits xs → AreCharacters xs
-unfolding AreDigits
-digits-characters [] h = refl
-digits-characters (x ∷ xs) h = λ i. or_right (is_letter x) (is_mark x) (digit-mark x (and_left (is_digit x) (list_all is_digit xs) h)) i && digits-characters xs (and_right (is_digit x) (list_all is_digit xs) h) i
-
-no-digits : AreDigits []
-unfolding AreDigits
-no-digits = refl
-
-decimal-characters : (n : ℕ) → AreCharacters (decimal n)
-unfolding digits
-decimal-characters n = digits-characters (digits_onto 64 10 false n []) (all-digits 64 n [] no-digits)
-
-decimal-mark : (n : ℕ) → list_any is_mark (decimal n) ≡ true
-unfolding digits HasMark
-decimal-mark n = some-mark 63 n []
+numeral-mark : (n : ℕ) → list_any is_mark (number_text n) ≡ true
+numeral-mark zero = refl
+numeral-mark (suc n) = digits-mark (digits_of 10 (suc n)) (all_below_base_digits_of 10 (suc n) (omega arith)) (first_digits_of 10 (suc n) (omega arith) (omega arith))
 
 parameter-named : (n : ℕ) → IsName (parameter n)
-parameter-named n = rw (decimal-characters n, decimal-mark n) refl
+parameter-named n = rw (numeral-characters n, numeral-mark n) refl
 
 first-named : (n : ℕ) → All IsName (first_parameters n)
 first-named zero = All-nil IsName

@@ -1,5 +1,5 @@
 -- Names and small expressions that helpers and the pieces of classes are made of.
-use Rattle.std.specs.Prelude.{ℕ, List, [], ◌∷◌, ◌++◌, codes, decimal, map, zero, suc, length}
+use Rattle.std.specs.Prelude.{ℕ, List, [], ◌∷◌, ◌++◌, codes, map, zero, suc, length}
 use Rattle.std.specs.Char.Escape.{encode_utf16}
 use Rattle.std.specs.List.{flat_map}
 use Rattle.std.specs.Str.{chars}
@@ -8,6 +8,7 @@ use Rattle.js_tree.specs.Views.{expressions_of, statements_of}
 use Rattle.js_tree.specs.declared.operators.BinaryOperator.TheVariants.{StrictEqual, StrictNotEqual, And, Or}
 use Rattle.js_tree.specs.declared.operators.UnaryOperator.TheVariants.{TypeOf}
 use Rattle.js_tree.specs.declared.items.Binding.{Binding}
+use Rattle.sj_mangling.specs.Numerals.{number_text}
 use Rattle.sj_mangling.specs.Bindings.{class_binding, method_binding, function_name}
 use Rattle.sj_mangling.specs.declared.bindings.ClassBinding.TheVariants.{Constants, Class, Marker}
 use Rattle.sj_mangling.specs.declared.bindings.MethodBinding.TheVariants.{Entry}
@@ -74,7 +75,7 @@ public_function = function_name Public
 
 -- `a0`, `a1`, ..
 abbrev pub parameter : ℕ → Name
-parameter n = codes "a" ++ decimal n
+parameter n = codes "a" ++ number_text n
 
 abbrev pub first_parameters : ℕ → List Name
 first_parameters zero = []

@@ -7,7 +7,7 @@ use Rattle.ir_mean.specs.Shows.{initializers}
 use Rattle.js_mean.specs.Shows.{File, file_of}
 use Rattle.js_tree.specs.Spelling.{Spells}
 use Rattle.module_names.specs.Names.{names_of, sha1_digest}
-use Rattle.sj_proper.specs.Emitted.{module_with}
+use Rattle.proper_pieces.specs.Modules.{module_of}
 use Rattle.sj_names.proofs.Same.{text-refl}
 use Rattle.sj_names.specs.Same.{is_same_text}
 use Rattle.sj_names.specs.declared.entry_points.EntryPoint.{EntryPoint}
@@ -15,7 +15,7 @@ use Rattle.sj_split.proofs.Least.{not_before_itself}
 use Rattle.sj_split.proofs.Members.{at_first, further, cons_cases, into_map, from_map, into_filter}
 use Rattle.sj_split.proofs.OnePlace.{placed}
 use Rattle.sj_split.specs.Homes.{AreHomes, home_of_tags, class_of}
-use Rattle.sj_split.specs.Modules.{AreIds, AreKeys, is_public, classes_at, public_module, internal_modules, initializers_of, home_of, module_of}
+use Rattle.sj_split.specs.Modules.{AreIds, AreKeys, is_public, classes_at, public_module, internal_modules, initializers_of, home_of, module_of as module_id}
 use Rattle.sj_split.specs.Orders.{AreIncreasing, IsBefore, is_same}
 use Rattle.sj_split.specs.Walks.{Name, Id, References, IsReached, AreTags}
 use Rattle.sj_split.specs.declared.homes.Home.{Home}
@@ -76,10 +76,10 @@ module _ (references : References) (entries : List EntryPoint) (id : Id) (one : 
   tag_is class tags are x h = let r = (are.exact x).0 h in sym r.in_module ∙ one.each r.entry r.among
 
   ids_are : (ids : List Id) → AreIds entries ids → ids ≡ id ∷ []
-  ids_are ids are = one_text id ids are.increasing from ((are.exact id).1 (subst (λ (m : Id). Contains (map module_of entries) m) (one.each one.first one.among) (into_map module_of entries one.first one.among)))
+  ids_are ids are = one_text id ids are.increasing from ((are.exact id).1 (subst (λ (m : Id). Contains (map module_id entries) m) (one.each one.first one.among) (into_map module_id entries one.first one.among)))
     where
       from : (x : Id) → Contains ids x → x ≡ id
-      from x h = let m = from_map module_of entries x ((are.exact x).0 h) in sym m.is ∙ one.each m.item m.among
+      from x h = let m = from_map module_id entries x ((are.exact x).0 h) in sym m.is ∙ one.each m.item m.among
 
   module _ (homes : List Settled) (are : AreHomes references entries Fewest homes) where
     home_at : (s : Settled) → Contains homes s → s.home ≡ Public id
@@ -127,28 +127,22 @@ module _ (w : Classes) (entries : List EntryPoint) (id : Id) (files : List File)
   initializers_are : initializers_of id entries ≡ initializers entries id
   initializers_are = filtered (λ (e : EntryPoint). is_same e.module id) entries (λ e h. subst (λ (m : Id). is_same m id ≡ true) (sym (one.each e h)) (text-refl id)) ∙ sym (all_of_module id entries one.each)
 
-  the_module : (f : File) → IsFileOf w link.all planned f → IsOneModule w entries id f.bytes
+  the_module : (f : File) → IsFileOf link.pieces planned f → IsOneModule w entries id f.bytes
   the_module f is = record {
-    all = link.all;
-    bodies = link.bodies;
-    fs = is.fs;
-    written = record {
-      graph = link.graph;
-      is_graph = link.is_graph;
-      exact = λ e. (λ h. (let q = (is.functions.exact e).0 h in (q.0, (classes_are references entries id one homes link.is_plan.are_homes e.member.class).0 q.1)), λ h. (is.functions.exact e).1 (h.0, (classes_are references entries id one homes link.is_plan.are_homes e.member.class).1 h.1));
-      once = is.functions.once;
-    };
-    in_order = is.functions.in_order;
-    spelled = subst (λ (es : List EntryPoint). Spells (module_with is.fs es) f.bytes) initializers_are is.spelled;
+    pieces = link.pieces;
+    are_pieces = link.are_pieces;
+    written = planned.classes;
+    are_written = record { graph = link.graph; is_graph = link.is_graph; exact = classes_are references entries id one homes link.is_plan.are_homes };
+    spelled = subst (λ (es : List EntryPoint). Spells (module_of planned.classes link.pieces es) f.bytes) initializers_are is.spelled;
   }
 
   with_name : (f : File) → f.name ≡ file_of id → f ≡ record { name = file_of id; bytes = f.bytes }
   with_name f e = (λ i. record { name = e i; bytes = f.bytes })
 
-  files_of_one : (fs : List File) → AreFilesOf w link.all (planned ∷ []) fs → (bytes : List ℕ) × (fs ≡ record { name = file_of id; bytes = bytes } ∷ []) × IsOneModule w entries id bytes
+  files_of_one : (fs : List File) → AreFilesOf link.pieces (planned ∷ []) fs → (bytes : List ℕ) × (fs ≡ record { name = file_of id; bytes = bytes } ∷ []) × IsOneModule w entries id bytes
   files_of_one [] are = absurd are
   files_of_one (f ∷ []) are = (f.bytes, ap (λ (x : File). x ∷ []) (with_name f are.0.named), the_module f are.0)
   files_of_one (f ∷ g ∷ fs) are = absurd are.1
 
 pub one_file : LinksAreOneFile
-one_file w entries id files one link = files_of_one w entries id files one link files (subst (λ (plan : List PlannedModule). AreFilesOf w link.all plan files) (plan_is w entries id files one link) link.files_are)
+one_file w entries id files one link = files_of_one w entries id files one link files (subst (λ (plan : List PlannedModule). AreFilesOf link.pieces plan files) (plan_is w entries id files one link) link.files_are)

@@ -1,11 +1,12 @@
 -- What the code of a linked world can use, where the pieces of some of its classes are written.
 use Rattle.std.specs.Prelude.{Bool, true, false, ◌&&◌, not, List, Option, Some, None}
 use Rattle.std.specs.List.{list_any}
-use Rattle.built_forms.specs.Built.{Usable, is_static}
+use Rattle.built_forms.specs.Built.{Usable, is_static, has_no_value}
 use Rattle.helper_rules.specs.Helpers.{helper_name}
 use Rattle.helper_rules.specs.declared.kinds.Helper.{Helper}
 use Rattle.sj_names.specs.WellKnown.{object}
 use Rattle.sj_names.specs.Same.{is_same_text}
+use Rattle.sj_names.specs.declared.method_names.Member.{Member}
 use Rattle.sj_names.specs.declared.method_names.Namespace.{Namespace}
 use Rattle.sj_names.specs.declared.method_names.Namespace.TheVariants.{Public, Private, Constructor}
 use Rattle.sj_proper.specs.Emitted.{EmittedMethod}
@@ -28,6 +29,9 @@ abbrev pub is_constructor : Namespace → Bool
 is_constructor Constructor = true
 is_constructor _ = false
 
+abbrev pub is_constructor_without_value : Member → Bool
+is_constructor_without_value m = is_constructor m.namespace && has_no_value m.method.result
+
 -- an instance field of this name and type
 abbrev pub is_its_field : Name → IrType → FieldDef → Bool
 is_its_field f t d = not d.is_static && (is_same_text f d.name && is_same_type t d.tpe)
@@ -37,12 +41,12 @@ has_field_in None f t = false
 has_field_in (Some c) f t = list_any (is_its_field f t) c.fields
 
 -- what the code can use, of a world with these methods, live classes and helpers, where the pieces of these classes are written: their members and
--- their constructors, their objects, each instance field of the world, and the helpers
+-- their constructors that have no value, their objects, each instance field of the world, and the helpers
 abbrev pub used_of : Classes → List EmittedMethod → List Name → List Helper → List Name → Usable
 used_of w all live helpers written = record {
   linked = λ m. is_static m.namespace && (is_among written m.class && has_function all m);
   received = λ m. is_received m.namespace && (is_among written m.class && has_function all m);
-  built = λ m. is_constructor m.namespace && (is_among written m.class && has_function all m);
+  built = λ m. is_constructor_without_value m && (is_among written m.class && has_function all m);
   made = λ c. is_among written c && is_among live c;
   field = λ c f t. has_field_in (class_of w c) f t;
   helper = λ x. is_among written object && list_any (λ h. is_same_text x (helper_name h)) helpers;

@@ -10,7 +10,7 @@ use Rattle.body_soundness.specs.Worlds.{AreClassesKept}
 use Rattle.built_forms.specs.Built.{Usable, is_static}
 use Rattle.file_listings.specs.Listed.{AreBytes}
 use Rattle.helper_rules.specs.declared.kinds.Helper.{Helper}
-use Rattle.linked_pieces.specs.Used.{used_of, is_among, is_received, is_constructor}
+use Rattle.linked_pieces.specs.Used.{used_of, is_among, is_received, is_constructor_without_value}
 use Rattle.object_folders.proofs.Fields.{field_there, type_there}
 use Rattle.object_folders.proofs.Made.{live_free}
 use Rattle.object_folders.proofs.Methods.{once, right_member}
@@ -22,7 +22,6 @@ use Rattle.sj_local.specs.Broken.{FirstBroken}
 use Rattle.sj_names.specs.declared.entry_points.EntryPoint.{EntryPoint}
 use Rattle.sj_names.specs.declared.folders.SourceFile.{SourceFile}
 use Rattle.sj_names.specs.declared.method_names.Member.{Member}
-use Rattle.sj_names.specs.declared.method_names.Namespace.{Namespace}
 use Rattle.sj_proper.specs.Emitted.{EmittedMethod}
 use Rattle.sj_sound.proofs.Same.{has_function-is}
 use Rattle.sj_sound.specs.Linked.{has_function}
@@ -31,24 +30,24 @@ use Rattle.sj_world.proofs.OnCycles.{among}
 use Rattle.sj_world.specs.Known.{Name, Classes}
 use Rattle.sj_world.specs.declared.facts.Fact.{Fact}
 
--- a member that is written and has a method keeps the rules, of whatever namespaces it is asked
-member_right : (entries : List EntryPoint) (files : List SourceFile) (w : Classes) (facts : List Fact) (all : List EmittedMethod) (live : List Name) (helpers : List Helper) (written : List Name) → ((file : SourceFile) → Contains files file → AreBytes file.bytes) → IsAccepted entries files w → AreBodies w entries all → CanRun w entries facts all live helpers written → (test : Namespace → Bool) (m : Member) → (test m.namespace && (is_among written m.class && has_function all m)) ≡ true → RightMember w (used_of w all live helpers written) m
+-- a member that is written and has a method keeps the rules, of whatever members it is asked
+pub member_right : (entries : List EntryPoint) (files : List SourceFile) (w : Classes) (facts : List Fact) (all : List EmittedMethod) (live : List Name) (helpers : List Helper) (written : List Name) → ((file : SourceFile) → Contains files file → AreBytes file.bytes) → IsAccepted entries files w → AreBodies w entries all → CanRun w entries facts all live helpers written → (test : Member → Bool) (m : Member) → (test m && (is_among written m.class && has_function all m)) ≡ true → RightMember w (used_of w all live helpers written) m
 member_right entries files w facts all live helpers written bytes a bodies run test m h =
-    let p = and_parts (test m.namespace) (is_among written m.class && has_function all m) h in
+    let p = and_parts (test m) (is_among written m.class && has_function all m) h in
     let q = and_parts (is_among written m.class) (has_function all m) p.1 in
     let f = has_function-is all m q.1 in
     let is_written : Contains written f.method.member.class = subst (λ (k : Member). Contains written k.class) (sym f.is) ((among written m.class).0 q.0) in
     right_member entries files w bytes a all bodies (used_of w all live helpers written) m f (run.are_built f.method f.listed is_written)
 
 pub link_right : AcceptedFoldersLinkRightMembers
-link_right entries files w facts all live helpers written bytes a bodies run = member_right entries files w facts all live helpers written bytes a bodies run is_static
+link_right entries files w facts all live helpers written bytes a bodies run = member_right entries files w facts all live helpers written bytes a bodies run (λ m. is_static m.namespace)
 
 pub carry : AcceptedFoldersCarryObjects
 carry entries files w facts all live helpers written bytes a bodies run = record {
   kept = kept;
   acyclic = a.world.no_cycle;
-  received = member_right entries files w facts all live helpers written bytes a bodies run is_received;
-  built = member_right entries files w facts all live helpers written bytes a bodies run is_constructor;
+  received = member_right entries files w facts all live helpers written bytes a bodies run (λ m. is_received m.namespace);
+  built = member_right entries files w facts all live helpers written bytes a bodies run is_constructor_without_value;
   once = λ receivers. once entries files w bytes a;
   made = λ c h. let p = and_parts (is_among written c) (is_among live c) h in live_free w entries a.resolved kept facts run.reached c (run.are_live c ((among live c).0 p.1));
   primitives = λ h is. objects.write_interfaces entries files w a h (hijacked is);

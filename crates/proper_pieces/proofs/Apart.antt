@@ -1,7 +1,7 @@
 -- Names of which no two are one, and the parameters of entries among them.
 use Rattle.std.proofs.Common.{◌≡◌, ◌<◌, ◌⊎◌, ◌++◌, ◌||◌, ◌&&◌, ◌^◌, not, ℕ, zero, suc, Bool, true, false, List, [], ◌∷◌, inl, inr, refl, sym, ap, subst, ◌∙◌, map, Contains, arith}
-use Rattle.std.specs.Prelude.{decimal}
-use Rattle.std.proofs.lemmas.Fmt.{decimal_injective}
+use Rattle.sj_mangling.proofs.Numerals.{numerals_differ}
+use Rattle.sj_mangling.specs.Numerals.{number_text}
 use Rattle.std.proofs.lemmas.List.Elements.{Contains-append_cases}
 use Rattle.body_rules.proofs.Equal.{differs}
 use Rattle.helper_rules.specs.Words.{parameter, first_parameters}
@@ -67,19 +67,19 @@ numbered (suc n) x i = go (numbered n x) (Contains-append_cases (first_parameter
         last (inl e) = sym e
         last (inr j) = nothing_in x j
 
-parameters_differ : (m n : ℕ) → m < 2 ^ 64 → n < 2 ^ 64 → parameter m ≡ parameter n → m ≡ n
-parameters_differ m n h k e = decimal_injective m n h k (tails 97 97 (decimal m) (decimal n) e)
+parameters_differ : (m n : ℕ) → parameter m ≡ parameter n → m ≡ n
+parameters_differ m n e = numerals_differ m n (tails 97 97 (number_text m) (number_text n) e)
 
-parameters_apart : (n : ℕ) → n < 2 ^ 64 → AreApart (first_parameters n)
-parameters_apart zero h = tt
-parameters_apart (suc n) h = order_joined Differ (first_parameters n) (parameter n ∷ []) (parameters_apart n (omega (arith, h))) ((λ y i. nothing_in y i), tt) (λ x y i k e. go x y (numbered n x i) (cons_cases (parameter n) y [] k) e)
+parameters_apart : (n : ℕ) → AreApart (first_parameters n)
+parameters_apart zero = tt
+parameters_apart (suc n) = order_joined Differ (first_parameters n) (parameter n ∷ []) (parameters_apart n) ((λ y i. nothing_in y i), tt) (λ x y i k e. go x y (numbered n x i) (cons_cases (parameter n) y [] k) e)
   where
     go : (x y : Name) → Numbered n x → (parameter n ≡ y) ⊎ Contains [] y → x ≡ y → ⊥
     go x y q (inl s) e =
         let l = q.below in
-        let same : q.number ≡ n = parameters_differ q.number n (omega (arith, h, l)) (omega (arith, h)) (sym q.name ∙ e ∙ sym s) in
+        let same : q.number ≡ n = parameters_differ q.number n (sym q.name ∙ e ∙ sym s) in
         omega (arith, l, same)
     go x y q (inr j) e = nothing_in y j
 
-pub parameters_distinct : (n : ℕ) → n < 2 ^ 64 → are_distinct (first_parameters n) ≡ true
-parameters_distinct n h = told_apart (first_parameters n) (parameters_apart n h)
+pub parameters_distinct : (n : ℕ) → are_distinct (first_parameters n) ≡ true
+parameters_distinct n = told_apart (first_parameters n) (parameters_apart n)

@@ -13,7 +13,7 @@ use Rattle.js_tree.specs.Terms.{Name, Piece, Statements}
 use Rattle.js_tree.specs.Views.{statements_of}
 use Rattle.linked_pieces.specs.Pieces.{piece_of_member}
 use Rattle.piece_rules.specs.Pieces.{Parts, pieces, when, constants_piece, class_piece, members, entry_member, field_start, all_statics, variable_piece, setter_piece, cell_piece, load_piece, store_piece, cell_pieces, test_piece, kind_of_class, cast_piece, constants_of, class_of, module_of, tests_of}
-use Rattle.proper_pieces.specs.Laws.{AreCounted, PiecesAreProper}
+use Rattle.proper_pieces.specs.Laws.{PiecesAreProper}
 use Rattle.sj_proper.proofs.Modules.{member_proper}
 use Rattle.sj_split.proofs.Members.{at_first, further, cons_cases}
 use Rattle.sj_trees.specs.declared.classes.FieldDef.{FieldDef}
@@ -61,16 +61,16 @@ only_entries : (es : List MethodEntry) → list_any is_constructor (map entry_me
 only_entries [] = refl
 only_entries (e ∷ es) = only_entries es
 
-entry_proper : (extends : Bool) (e : MethodEntry) → length e.name.params < 2 ^ 64 → is_proper_member extends (entry_member e) ≡ true
-entry_proper extends e h = both (are_distinct (parameters_of e.name ++ [])) true (subst (λ (xs : List Name). are_distinct xs ≡ true) (sym (append-nil (parameters_of e.name))) (parameters_distinct (length e.name.params) h)) refl
+entry_proper : (extends : Bool) (e : MethodEntry) → is_proper_member extends (entry_member e) ≡ true
+entry_proper extends e = both (are_distinct (parameters_of e.name ++ [])) true (subst (λ (xs : List Name). are_distinct xs ≡ true) (sym (append-nil (parameters_of e.name))) (parameters_distinct (length e.name.params))) refl
 
-entries_proper : (extends : Bool) (es : List MethodEntry) → AreCounted es → list_all (is_proper_member extends) (map entry_member es) ≡ true
-entries_proper extends [] h = refl
-entries_proper extends (e ∷ es) h = both (is_proper_member extends (entry_member e)) (list_all (is_proper_member extends) (map entry_member es)) (entry_proper extends e (h e (at_first e es))) (entries_proper extends es (λ d i. h d (further e d es i)))
+entries_proper : (extends : Bool) (es : List MethodEntry) → list_all (is_proper_member extends) (map entry_member es) ≡ true
+entries_proper extends [] = refl
+entries_proper extends (e ∷ es) = both (is_proper_member extends (entry_member e)) (list_all (is_proper_member extends) (map entry_member es)) (entry_proper extends e) (entries_proper extends es)
 
-class_proper : (c : Name) (superclass : Option Name) (es : List MethodEntry) (fs : List FieldDef) → AreCounted es → is_proper_item (class_piece c superclass es fs).item ≡ true
-class_proper c None es fs h = both (not (list_any is_constructor (map entry_member es))) ((are_distinct (declared (statements_of (map (field_start c) fs))) && are_proper (record { labels = []; breakable = false; super_allowed = false }) (statements_of (map (field_start c) fs))) && list_all (is_proper_member false) (map entry_member es)) (not_is (list_any is_constructor (map entry_member es)) (only_entries es)) (both (are_distinct (declared (statements_of (map (field_start c) fs))) && are_proper (record { labels = []; breakable = false; super_allowed = false }) (statements_of (map (field_start c) fs))) (list_all (is_proper_member false) (map entry_member es)) (both (are_distinct (declared (statements_of (map (field_start c) fs)))) (are_proper (record { labels = []; breakable = false; super_allowed = false }) (statements_of (map (field_start c) fs))) (ap are_distinct (starts_declare c fs)) (starts_proper (record { labels = []; breakable = false; super_allowed = false }) c fs)) (entries_proper false es h))
-class_proper c (Some s) es fs h = both (not (list_any is_constructor (map entry_member es))) ((are_distinct (declared (statements_of (map (field_start c) fs))) && are_proper (record { labels = []; breakable = false; super_allowed = true }) (statements_of (map (field_start c) fs))) && list_all (is_proper_member true) (map entry_member es)) (not_is (list_any is_constructor (map entry_member es)) (only_entries es)) (both (are_distinct (declared (statements_of (map (field_start c) fs))) && are_proper (record { labels = []; breakable = false; super_allowed = true }) (statements_of (map (field_start c) fs))) (list_all (is_proper_member true) (map entry_member es)) (both (are_distinct (declared (statements_of (map (field_start c) fs)))) (are_proper (record { labels = []; breakable = false; super_allowed = true }) (statements_of (map (field_start c) fs))) (ap are_distinct (starts_declare c fs)) (starts_proper (record { labels = []; breakable = false; super_allowed = true }) c fs)) (entries_proper true es h))
+class_proper : (c : Name) (superclass : Option Name) (es : List MethodEntry) (fs : List FieldDef) → is_proper_item (class_piece c superclass es fs).item ≡ true
+class_proper c None es fs = both (not (list_any is_constructor (map entry_member es))) ((are_distinct (declared (statements_of (map (field_start c) fs))) && are_proper (record { labels = []; breakable = false; super_allowed = false }) (statements_of (map (field_start c) fs))) && list_all (is_proper_member false) (map entry_member es)) (not_is (list_any is_constructor (map entry_member es)) (only_entries es)) (both (are_distinct (declared (statements_of (map (field_start c) fs))) && are_proper (record { labels = []; breakable = false; super_allowed = false }) (statements_of (map (field_start c) fs))) (list_all (is_proper_member false) (map entry_member es)) (both (are_distinct (declared (statements_of (map (field_start c) fs)))) (are_proper (record { labels = []; breakable = false; super_allowed = false }) (statements_of (map (field_start c) fs))) (ap are_distinct (starts_declare c fs)) (starts_proper (record { labels = []; breakable = false; super_allowed = false }) c fs)) (entries_proper false es))
+class_proper c (Some s) es fs = both (not (list_any is_constructor (map entry_member es))) ((are_distinct (declared (statements_of (map (field_start c) fs))) && are_proper (record { labels = []; breakable = false; super_allowed = true }) (statements_of (map (field_start c) fs))) && list_all (is_proper_member true) (map entry_member es)) (not_is (list_any is_constructor (map entry_member es)) (only_entries es)) (both (are_distinct (declared (statements_of (map (field_start c) fs))) && are_proper (record { labels = []; breakable = false; super_allowed = true }) (statements_of (map (field_start c) fs))) (list_all (is_proper_member true) (map entry_member es)) (both (are_distinct (declared (statements_of (map (field_start c) fs)))) (are_proper (record { labels = []; breakable = false; super_allowed = true }) (statements_of (map (field_start c) fs))) (ap are_distinct (starts_declare c fs)) (starts_proper (record { labels = []; breakable = false; super_allowed = true }) c fs)) (entries_proper true es))
 
 statics_proper : (c : Name) (fs : List FieldDef) → AreProper (all_statics c fs)
 statics_proper c [] = none_proper
@@ -79,14 +79,14 @@ statics_proper c (f ∷ fs) = more_proper (variable_piece c f) (setter_piece c f
 cells_proper : (c : Name) (loaded : Bool) → AreProper (cell_pieces c loaded)
 cells_proper c loaded = more_proper (cell_piece c) (when loaded (load_piece c ∷ []) ++ store_piece c ∷ []) refl (joined_proper (when loaded (load_piece c ∷ [])) (store_piece c ∷ []) (when_proper loaded (load_piece c ∷ []) (one_proper (load_piece c) refl)) (one_proper (store_piece c) refl))
 
-class_pieces_proper : (p : Parts) → AreCounted p.entries → AreProper (pieces p)
-class_pieces_proper p h =
+class_pieces_proper : (p : Parts) → AreProper (pieces p)
+class_pieces_proper p =
     joined_proper (constants_of p ++ class_of p ++ all_statics c p.statics ++ module_of p) (tests_of p)
     (joined_proper (constants_of p ++ class_of p ++ all_statics c p.statics) (module_of p)
     (joined_proper (constants_of p ++ class_of p) (all_statics c p.statics)
     (joined_proper (constants_of p) (class_of p)
     (when_proper (p.is_live || p.is_base) (constants_piece c p.ancestors ∷ []) (one_proper (constants_piece c p.ancestors) refl))
-    (when_proper p.is_live (class_piece c p.class.superclass p.entries p.fields ∷ []) (one_proper (class_piece c p.class.superclass p.entries p.fields) (class_proper c p.class.superclass p.entries p.fields h))))
+    (when_proper p.is_live (class_piece c p.class.superclass p.entries p.fields ∷ []) (one_proper (class_piece c p.class.superclass p.entries p.fields) (class_proper c p.class.superclass p.entries p.fields))))
     (statics_proper c p.statics))
     (when_proper (p.is_loaded || p.is_stored) (cell_pieces c p.is_loaded) (cells_proper c p.is_loaded)))
     (joined_proper (when (p.is_tested || p.is_cast) (tested ∷ [])) (when p.is_cast (cast_piece c ∷ []))

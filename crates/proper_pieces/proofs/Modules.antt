@@ -9,7 +9,7 @@ use Rattle.js_tree.specs.Terms.{Name, Piece}
 use Rattle.linked_pieces.specs.Order.{AreInOrder}
 use Rattle.linked_pieces.specs.Pieces.{piece_of_member, Block, IsBlock, AreBlocks, pieces_of_block, with_helpers, AreLinkedPieces}
 use Rattle.piece_rules.specs.Classes.{AreClassPieces, absent, present}
-use Rattle.proper_pieces.specs.Laws.{AreCounted, ModulesOfPiecesAreProper}
+use Rattle.proper_pieces.specs.Laws.{ModulesOfPiecesAreProper}
 use Rattle.proper_pieces.specs.Modules.{item_of, is_owned}
 use Rattle.sj_names.specs.WellKnown.{is_object}
 use Rattle.sj_names.specs.declared.entry_points.EntryPoint.{EntryPoint}
@@ -46,7 +46,7 @@ items_proper : (ps : List Piece) (es : List EntryPoint) → ((p : Piece) → Con
 items_proper [] es h = calls_proper es
 items_proper (p ∷ ps) es h = both (is_proper_item p.item) (list_all is_proper_item (map item_of ps ++ map call_item_of es)) (h p (at_first p ps)) (items_proper ps es (λ q i. h q (further p q ps i)))
 
-module _ (l : Linked) (all : List EmittedMethod) (counted : AreCounted l.entries) (once : (e : EmittedMethod) → Contains all e → DefinesOnce e.definition e.its_body) where
+module _ (l : Linked) (all : List EmittedMethod) (once : (e : EmittedMethod) → Contains all e → DefinesOnce e.definition e.its_body) where
   abbrev EachProper : List Piece → Type 0
   EachProper ps = (p : Piece) → Contains ps p → is_proper_item p.item ≡ true
 
@@ -59,7 +59,7 @@ module _ (l : Linked) (all : List EmittedMethod) (counted : AreCounted l.entries
 
   own_proper : (c : Name) (ps : List Piece) → AreClassPieces l c ps → EachProper ps
   own_proper c ps (absent e is) = subst EachProper (sym is) (λ p i. nothing_in p i)
-  own_proper c ps (present p parts is) = subst EachProper (sym is) (pieces_are_proper.of_classes p (subst AreCounted (sym parts.entries) (λ e i. counted e (from_filter (λ (e : MethodEntry). is_same e.class c) l.entries e i).among)))
+  own_proper c ps (present p parts is) = subst EachProper (sym is) (pieces_are_proper.of_classes p)
 
   block_proper : (c : Name) (b : Block) → IsBlock l all c b → EachProper (pieces_of_block b)
   block_proper c b h = joined_proper b.own (map piece_of_member b.methods) (own_proper c b.own h.own) methods
@@ -87,7 +87,7 @@ module _ (l : Linked) (all : List EmittedMethod) (counted : AreCounted l.entries
   linked_proper ps h = subst EachProper (sym h.pieces_are) (blocks_proper h.above h.helpers h.classes h.blocks h.are_blocks)
 
 pub modules_of_pieces_are_proper : ModulesOfPiecesAreProper
-modules_of_pieces_are_proper l all ps written es named counted once h = both (names && true && true) (list_all is_proper_item (map item_of owned ++ map call_item_of es)) (ap (λ b. b && true && true) distinct) (items_proper owned es (λ p i. linked_proper l all counted once ps h p (from_filter (is_owned written) ps p i).among))
+modules_of_pieces_are_proper l all ps written es named once h = both (names && true && true) (list_all is_proper_item (map item_of owned ++ map call_item_of es)) (ap (λ b. b && true && true) distinct) (items_proper owned es (λ p i. linked_proper l all once ps h p (from_filter (is_owned written) ps p i).among))
   where
     owned : List Piece
     owned = filter (is_owned written) ps

@@ -1,5 +1,5 @@
 -- Laws of the early errors of the pieces of a linked world.
-use Rattle.std.specs.Prelude.{◌≡◌, ◌<◌, ◌^◌, true, List, None, Contains, IsTrue, length, map}
+use Rattle.std.specs.Prelude.{◌≡◌, true, List, None, Contains, IsTrue, map}
 use Rattle.helper_rules.specs.Helpers.{Above, helper_piece}
 use Rattle.helper_rules.specs.declared.kinds.Helper.{Helper}
 use Rattle.js_mean.specs.Proper.{are_distinct, is_proper_item, item_names, is_proper_module}
@@ -15,15 +15,10 @@ use Rattle.sj_proper.specs.Once.{DefinesOnce}
 use Rattle.sj_trees.specs.declared.classes.ClassDef.{ClassDef}
 use Rattle.sj_world.specs.Known.{Classes}
 use Rattle.sj_world.specs.Linked.{Linked}
-use Rattle.sj_world.specs.declared.linked.MethodEntry.{MethodEntry}
-
--- the numbers of the parameters of each of these entries fit in 64 bits
-abbrev pub AreCounted : List MethodEntry → Type 0
-AreCounted es = (e : MethodEntry) → Contains es e → length e.name.params < 2 ^ 64
 
 -- of any class, any helper, and any method whose locals are defined once
 pub record PiecesAreProper : Type 0 where
-  pub of_classes : (p : Parts) → AreCounted p.entries → (q : Piece) → Contains (pieces p) q → is_proper_item q.item ≡ true
+  pub of_classes : (p : Parts) (q : Piece) → Contains (pieces p) q → is_proper_item q.item ≡ true
   pub of_helpers : (above : Above) (h : Helper) → is_proper_item (helper_piece above h).item ≡ true
   pub of_methods : (e : EmittedMethod) → DefinesOnce e.definition e.its_body → is_proper_item (piece_of_member e).item ≡ true
 
@@ -41,7 +36,6 @@ NamesOfPiecesDiffer = (l : Linked) (all : List EmittedMethod) (ps : List Piece)
 abbrev pub ModulesOfPiecesAreProper : Type 0
 ModulesOfPiecesAreProper = (l : Linked) (all : List EmittedMethod) (ps : List Piece) (written : List Name) (es : List EntryPoint)
     → AreNamed l.world
-    → AreCounted l.entries
     → ((e : EmittedMethod) → Contains all e → DefinesOnce e.definition e.its_body)
     → AreLinkedPieces l all ps
     → is_proper_module (module_of written ps es) ≡ true

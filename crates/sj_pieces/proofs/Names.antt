@@ -106,7 +106,7 @@ digits-characters : (ds : List ℕ) → AllBelowBase 10 ds → AreCharacters (ma
 digits-characters [] h = refl
 digits-characters (d ∷ ds) h = λ i. digit-named d h.0 i && digits-characters ds h.1 i
 
-numeral-characters : (n : ℕ) → AreCharacters (number_text n)
+pub numeral-characters : (n : ℕ) → AreCharacters (number_text n)
 numeral-characters zero = refl
 numeral-characters (suc n) = digits-characters (digits_of 10 (suc n)) (all_below_base_digits_of 10 (suc n) (omega arith))
 
