@@ -1,7 +1,7 @@
 -- Where the pieces of a linked world stand: in the block of their class, and the helpers behind that of `java.lang.Object`.
 use Rattle.std.proofs.Common.{◌≡◌, ◌⊎◌, ◌++◌, Bool, true, false, List, [], ◌∷◌, Option, Some, None, inl, inr, refl, sym, ap, subst, ◌∙◌, map, if◌then◌else◌}
 use Rattle.std.specs.Prelude.{is_some}
-use Rattle.std.specs.List.{Contains, flat_map}
+use Rattle.std.specs.List.{Contains}
 use Rattle.std.proofs.lemmas.List.Elements.{Contains-append_left, Contains-append_right}
 use Rattle.declared_pieces.specs.Closed.{items_of}
 use Rattle.folder_verdicts.proofs.EachTyped.{in_all}
@@ -12,7 +12,6 @@ use Rattle.linked_pieces.specs.Pieces.{piece_of_member, Block, IsBlock, AreBlock
 use Rattle.piece_rules.specs.Classes.{AreClassPieces, AreParts, absent, present}
 use Rattle.piece_rules.specs.Pieces.{Parts, pieces}
 use Rattle.proper_pieces.specs.Modules.{item_of, is_owned}
-use Rattle.sj_names.proofs.Same.{impossible}
 use Rattle.sj_names.specs.WellKnown.{is_object, object}
 use Rattle.sj_proper.specs.Emitted.{EmittedMethod}
 use Rattle.sj_split.proofs.Members.{at_first, further, cons_cases, into_map, into_filter}

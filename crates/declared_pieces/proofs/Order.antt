@@ -1,5 +1,5 @@
 -- The items of the pieces that some classes own only declare: a class that another extends stands in front of it.
-use Rattle.std.proofs.Common.{◌≡◌, ◌⊎◌, ◌<◌, ◌++◌, ◌||◌, ◌&&◌, Bool, true, false, List, [], ◌∷◌, Option, Some, None, inl, inr, refl, sym, ap, subst, ◌∙◌, map, cond, length, arith, if◌then◌else◌}
+use Rattle.std.proofs.Common.{◌≡◌, ◌⊎◌, ◌++◌, ◌||◌, Bool, true, false, List, [], ◌∷◌, Option, Some, None, inl, inr, refl, sym, subst, ◌∙◌, map, cond, arith, if◌then◌else◌}
 use Rattle.std.specs.List.{Contains, filter, flat_map}
 use Rattle.std.proofs.lemmas.Bool.{and_from, or_left, or_right}
 use Rattle.std.proofs.lemmas.List.Elements.{Contains-append_left, Contains-append_right, Contains-append_cases}
@@ -22,7 +22,7 @@ use Rattle.js_mean.specs.Proper.{is_among}
 use Rattle.js_tree.specs.Names.{is_same_text}
 use Rattle.js_tree.specs.Terms.{Name, Member, Item, const_item, object_item, let_item, expression_item, function_item, class_item, subclass_item, Piece}
 use Rattle.linked_pieces.specs.Order.{AreInOrder, StandsBefore, by_ancestors, by_name}
-use Rattle.linked_pieces.specs.Pieces.{piece_of_member, Block, IsBlock, AreBlocks, pieces_of_block, with_helpers, AreLinkedPieces}
+use Rattle.linked_pieces.specs.Pieces.{piece_of_member, Block, IsBlock, AreBlocks, pieces_of_block, with_helpers}
 use Rattle.piece_rules.specs.Classes.{AreClassPieces, AreParts, absent, present}
 use Rattle.piece_rules.specs.Pieces.{Parts, pieces, when, constants_piece, members, class_item_of, class_piece, variable_piece, setter_piece, cell_piece, load_piece, store_piece, cell_pieces, all_statics, test_piece, kind_of_class, cast_piece, constants_of, class_of, module_of, tests_of}
 use Rattle.proper_pieces.specs.Modules.{item_of, is_owned}
@@ -33,7 +33,6 @@ use Rattle.sj_names.specs.declared.entry_points.EntryPoint.{EntryPoint}
 use Rattle.sj_names.specs.declared.folders.SourceFile.{SourceFile}
 use Rattle.sj_proper.specs.Emitted.{EmittedMethod}
 use Rattle.sj_split.proofs.Members.{at_first, further, cons_cases, from_map}
-use Rattle.sj_trees.specs.declared.classes.ClassDef.{ClassDef}
 use Rattle.sj_trees.specs.declared.classes.FieldDef.{FieldDef}
 use Rattle.sj_world.proofs.Grows.{ancestors_grow}
 use Rattle.sj_world.proofs.OnCycles.{among}

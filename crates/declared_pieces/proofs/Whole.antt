@@ -1,5 +1,5 @@
 -- The items of the pieces that some classes own declare all that code can use there.
-use Rattle.std.proofs.Common.{◌≡◌, ◌&&◌, not, Bool, true, false, List, Option, Some, IsTrue, codes, map, refl, sym, ap, subst, ◌∙◌}
+use Rattle.std.proofs.Common.{◌≡◌, ◌&&◌, not, Bool, true, false, List, Some, IsTrue, codes, map, refl, sym, ap, subst, ◌∙◌}
 use Rattle.std.specs.Prelude.{◌↔◌}
 use Rattle.std.specs.List.{Contains, filter, list_any}
 use Rattle.std.proofs.lemmas.Bool.{and_parts, and_from}
@@ -20,10 +20,10 @@ use Rattle.declared_pieces.proofs.Live.{next_is, live_next, classes_kept, live_f
 use Rattle.declared_pieces.proofs.Parts.{constants_there, class_there, uses_superclass}
 use Rattle.declared_pieces.specs.Closed.{IsClosed, items_of, GiveNoValue}
 use Rattle.declared_pieces.specs.Laws.{PiecesDeclare}
-use Rattle.declared_programs.specs.Declared.{Running, alone, on_receiver, completing, running, FunctionDeclared, ClassDeclared, MadeDeclared, is_covered}
+use Rattle.declared_programs.specs.Declared.{Running, alone, on_receiver, completing, running, FunctionDeclared, ClassDeclared, MadeDeclared}
 use Rattle.entry_rules.specs.Entries.{IsLive}
 use Rattle.file_listings.specs.Listed.{AreBytes}
-use Rattle.helper_rules.specs.Helpers.{helper_name, helper_item, helper_piece, used_helpers}
+use Rattle.helper_rules.specs.Helpers.{helper_name, helper_item, helper_piece}
 use Rattle.helper_rules.specs.Words.{class_name, bound}
 use Rattle.helper_rules.specs.declared.kinds.Helper.{Helper}
 use Rattle.js_tree.specs.Terms.{Item, Piece}
@@ -33,7 +33,7 @@ use Rattle.object_folders.proofs.Made as made
 use Rattle.object_folders.proofs.Methods.{right_method}
 use Rattle.object_folders.specs.Running.{CanRun}
 use Rattle.piece_rules.specs.Classes.{AreSorted, is_own}
-use Rattle.piece_rules.specs.Pieces.{Parts, pieces, constants_piece, entry_member, class_piece}
+use Rattle.piece_rules.specs.Pieces.{Parts, constants_piece, entry_member, class_piece}
 use Rattle.reach_rules.proofs.Derivations.{closed}
 use Rattle.reach_rules.specs.Rules.{the_object}
 use Rattle.sj_names.proofs.Same.{impossible, text-same, text-refl}
@@ -48,13 +48,12 @@ use Rattle.sj_names.specs.declared.method_names.Namespace.TheVariants.{Public, P
 use Rattle.sj_proper.specs.Emitted.{EmittedMethod}
 use Rattle.sj_sound.proofs.Same.{has_function-is}
 use Rattle.sj_sound.specs.Linked.{has_function}
-use Rattle.sj_split.proofs.Members.{into_map, into_filter, from_filter}
-use Rattle.sj_trees.specs.declared.classes.ClassDef.{ClassDef}
+use Rattle.sj_split.proofs.Members.{into_filter, from_filter}
 use Rattle.sj_trees.specs.declared.classes.FieldDef.{FieldDef}
 use Rattle.sj_trees.specs.declared.types.IrType.TheVariants.{NoType}
 use Rattle.sj_world.proofs.OnCycles.{among}
 use Rattle.sj_world.specs.Ancestors.{IsNext}
-use Rattle.sj_world.specs.Known.{Name, Classes, class_of, is_hijacked}
+use Rattle.sj_world.specs.Known.{Name, Classes, is_hijacked}
 use Rattle.sj_world.specs.Linked.{Linked}
 use Rattle.sj_world.specs.Members.{IsMethodOf}
 use Rattle.sj_world.specs.declared.facts.Fact.TheVariants.{Needed}
