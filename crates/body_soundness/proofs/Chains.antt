@@ -29,7 +29,7 @@ either_false true b h k = impossible (sym k)
 either_false false b h k = h
 
 -- a class that isn't hijacked stands as itself
-byte_not : (b : Name) → is_hijacked b ≡ false → (n : Name) → is_hijacked n ≡ true → is_same b n ≡ false
+pub byte_not : (b : Name) → is_hijacked b ≡ false → (n : Name) → is_hijacked n ≡ true → is_same b n ≡ false
 byte_not b free n h = go (is_same b n) refl
   where
     go : (q : Bool) → is_same b n ≡ q → is_same b n ≡ false

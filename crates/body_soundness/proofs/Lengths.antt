@@ -18,7 +18,7 @@ use Rattle.sj_world.specs.Paths.{Path, stay, on}
 use Rattle.sj_world.specs.Refusals.{HasNoCycle}
 
 -- the classes whose names aren't among these
-abbrev unseen : List Name → Classes → ℕ
+abbrev pub unseen : List Name → Classes → ℕ
 unseen seen [] = 0
 unseen seen (k ∷ w) = if list_any (is_same k.name) seen then unseen seen w else suc (unseen seen w)
 
@@ -37,7 +37,7 @@ same_counted true m n h = h
 same_counted false m n h = omega (arith, h)
 
 -- a class of the world that is seen now is one of them fewer
-less : (d : Name) (seen : List Name) (w : Classes) (k : ClassDef) → class_of w d ≡ Some k → list_any (is_same d) seen ≡ false → unseen (d ∷ seen) w < unseen seen w
+pub less : (d : Name) (seen : List Name) (w : Classes) (k : ClassDef) → class_of w d ≡ Some k → list_any (is_same d) seen ≡ false → unseen (d ∷ seen) w < unseen seen w
 less d seen [] k e new = impossible (cc)
 less d seen (c ∷ w) k e new = go (is_same c.name d) refl e (less d seen w k)
   where
@@ -45,7 +45,7 @@ less d seen (c ∷ w) k e new = go (is_same c.name d) refl e (less d seen w k)
     go true i f later = subst (λ (q : Bool). (if (q || list_any (is_same c.name) seen) then unseen (d ∷ seen) w else suc (unseen (d ∷ seen) w)) < (if list_any (is_same c.name) seen then unseen seen w else suc (unseen seen w))) (sym i) (subst (λ (q : Bool). unseen (d ∷ seen) w < (if q then unseen seen w else suc (unseen seen w))) (sym (subst (λ (n : Name). list_any (is_same n) seen ≡ false) (sym (text-same c.name d i)) new)) (let fit = fewer d seen w in omega (arith, fit)))
     go false i f later = subst (λ (q : Bool). (if (q || list_any (is_same c.name) seen) then unseen (d ∷ seen) w else suc (unseen (d ∷ seen) w)) < (if list_any (is_same c.name) seen then unseen seen w else suc (unseen seen w))) (sym i) (same_counted (list_any (is_same c.name) seen) (unseen (d ∷ seen) w) (unseen seen w) (later f new))
 
-all_unseen : (w : Classes) → unseen [] w ≤ length w
+pub all_unseen : (w : Classes) → unseen [] w ≤ length w
 all_unseen [] = omega arith
 all_unseen (k ∷ w) = let rest = all_unseen w in omega (arith, rest)
 
@@ -89,7 +89,7 @@ module _ (w : Classes) (kept : AreClassesKept w) (acyclic : HasNoCycle w) where
   written_path a _ free (on b c path s) = let before = written_path a b free path in let its = one_step b c before.1 s in (on b c before.0 its.up, its.free)
 
   -- no class is behind itself
-  not_behind : (d e x : Name) → is_hijacked d ≡ false → IsNext w d e → Path (IsNext w) e x → is_same x d ≡ false
+  pub not_behind : (d e x : Name) → is_hijacked d ≡ false → IsNext w d e → Path (IsNext w) e x → is_same x d ≡ false
   not_behind d e x free s path = go (is_same x d) refl
     where
       go : (b : Bool) → is_same x d ≡ b → is_same x d ≡ false

@@ -33,7 +33,7 @@ same_binding : (a b : Binding) → is_same_binding a b ≡ true → a ≡ b
 same_binding a b h = let q = and_parts (is_same_text a.owner b.owner) (is_same_text a.name b.name) h in (λ i. record { owner = text-same a.owner b.owner q.0 i; name = text-same a.name b.name q.1 i })
 
 -- a binding is there already, or it is kept
-abbrev IsKept : List Binding → List Binding → Binding → Type 0
+abbrev pub IsKept : List Binding → List Binding → Binding → Type 0
 IsKept seen bs b = (list_any (is_same_binding b) seen ≡ true) ⊎ Contains (once_each seen bs) b
 
 kept_step : (c : Binding) (bs seen : List Binding) (b : Binding) (p : Bool) → list_any (is_same_binding c) seen ≡ p → (c ≡ b) ⊎ Contains bs b → (Contains bs b → IsKept seen bs b) → (Contains bs b → IsKept (c ∷ seen) bs b) → (list_any (is_same_binding b) seen ≡ true) ⊎ Contains (if p then once_each seen bs else (c ∷ once_each (c ∷ seen) bs)) b
@@ -50,7 +50,7 @@ kept_step c bs seen b false e (inr after) f g = later (g after)
     later (inl h) = first (is_same_binding b c) refl h
     later (inr k) = inr (there c (once_each (c ∷ seen) bs) b k)
 
-kept : (bs seen : List Binding) (b : Binding) → Contains bs b → IsKept seen bs b
+pub kept : (bs seen : List Binding) (b : Binding) → Contains bs b → IsKept seen bs b
 kept [] seen b h = nothing_in b h
 kept (c ∷ bs) seen b h = kept_step c bs seen b (list_any (is_same_binding c) seen) refl (first_or_later c bs b h) (kept bs seen b) (kept bs (c ∷ seen) b)
 

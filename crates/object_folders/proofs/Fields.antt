@@ -35,7 +35,7 @@ no_place None e = refl
 no_place (Some n) e = impossible cc
 
 -- a field of a class that keeps the local rules keeps the rule on fields
-field_keeps : (c : ClassDef) → FirstBroken c None → (d : FieldDef) → Contains c.fields d → breaks_field c d ≡ false
+pub field_keeps : (c : ClassDef) → FirstBroken c None → (d : FieldDef) → Contains c.fields d → breaks_field c d ≡ false
 field_keeps c h d i = none-passes (breaks_field c) c.fields (no_place (first_where (breaks_field c) c.fields) (none-each (Breaks c) 1 all_rules None h refl rule.Field (4, omega arith, refl))) d i
 
 first_false : (a b : Bool) → (a || b) ≡ false → a ≡ false
@@ -46,18 +46,18 @@ not_true : (b : Bool) → not b ≡ true → b ≡ false
 not_true true h = impossible h
 not_true false h = refl
 
-has_value : (c : ClassDef) (d : FieldDef) → breaks_field c d ≡ false → HasValue d.tpe
+pub has_value : (c : ClassDef) (d : FieldDef) → breaks_field c d ≡ false → HasValue d.tpe
 has_value c d h = empty-is d.tpe ∙ first_false (is_empty_type d.tpe) (not d.is_static && has_no_fields c) h
 
 -- an instance field of this name and type among fields
-record IsInstanceField (fs : List FieldDef) (f : Name) (t : IrType) : Type 0 where
-  field : FieldDef
-  among : Contains fs field
-  instance : field.is_static ≡ false
-  name_is : f ≡ field.name
-  type_is : t ≡ field.tpe
+pub record IsInstanceField (fs : List FieldDef) (f : Name) (t : IrType) : Type 0 where
+  pub field : FieldDef
+  pub among : Contains fs field
+  pub instance : field.is_static ≡ false
+  pub name_is : f ≡ field.name
+  pub type_is : t ≡ field.tpe
 
-field_found : (fs : List FieldDef) (f : Name) (t : IrType) → list_any (is_its_field f t) fs ≡ true → IsInstanceField fs f t
+pub field_found : (fs : List FieldDef) (f : Name) (t : IrType) → list_any (is_its_field f t) fs ≡ true → IsInstanceField fs f t
 field_found fs f t h =
     let a = Any-from_list_any (is_its_field f t) fs h in
     let p = and_parts (not a.1.is_static) (is_same_text f a.1.name && is_same_type t a.1.tpe) a.4 in
@@ -65,7 +65,7 @@ field_found fs f t h =
     record { field = a.1; among = (a.0, a.2, a.3); instance = not_true a.1.is_static p.0; name_is = text-same f a.1.name q.0; type_is = type-same t a.1.tpe q.1 }
 
 -- two fields that are apart have two keys
-one_field : (fs : List FieldDef) → Apart fs → (a b : FieldDef) → Contains fs a → Contains fs b → field_key a ≡ field_key b → a ≡ b
+pub one_field : (fs : List FieldDef) → Apart fs → (a b : FieldDef) → Contains fs a → Contains fs b → field_key a ≡ field_key b → a ≡ b
 one_field [] h a b i k e = nothing_in a i
 one_field (x ∷ xs) h a b i k e = go (in_front_or_behind x xs a i) (in_front_or_behind x xs b k) (λ p q. one_field xs h.1 a b p q e)
   where
@@ -75,7 +75,7 @@ one_field (x ∷ xs) h a b i k e = go (in_front_or_behind x xs a i) (in_front_or
     go (inr p) (inl q) later = impossible (sym (h.0 a p) ∙ subst (λ (y : FieldDef). is_same_field y a ≡ true) (sym q) (from_key b a (sym e)))
     go (inr p) (inr q) later = later p q
 
-key_of : (d : FieldDef) (f : Name) → d.is_static ≡ false → f ≡ d.name → field_key d ≡ record { is_static = false; name = f }
+pub key_of : (d : FieldDef) (f : Name) → d.is_static ≡ false → f ≡ d.name → field_key d ≡ record { is_static = false; name = f }
 key_of d f mark name = (λ i. record { is_static = mark i; name = sym name i })
 
 -- among fields that are apart, an instance field is at first at the zero of its type

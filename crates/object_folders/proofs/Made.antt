@@ -47,7 +47,7 @@ module _ (w : Classes) (entries : List EntryPoint) (resolved : (r : Refusal) →
   IsFree c = Holds (Needed c) × (is_hijacked c ≡ false)
 
   -- a class that is needed is there
-  present : (c : Name) → Holds (Needed c) → (k : ClassDef) × (class_of w c ≡ Some k)
+  pub present : (c : Name) → Holds (Needed c) → (k : ClassDef) × (class_of w c ≡ Some k)
   present c r = go (class_of w c) refl
     where
       go : (o : Option ClassDef) → class_of w c ≡ o → (k : ClassDef) × (class_of w c ≡ Some k)
@@ -96,3 +96,7 @@ module _ (w : Classes) (entries : List EntryPoint) (resolved : (r : Refusal) →
   -- what is live isn't hijacked, and what it writes as an interface is one
   pub live_free : (facts : List Fact) → ((f : Fact) → Contains facts f → Holds f) → (c : Name) → IsLive w facts c → (is_hijacked c ≡ false) × WritesInterfaces w c
   live_free facts reached c h = let free = chain h.made c (made h.made (last w entries (Made h.made) (reached (Made h.made) h.is_made))) h.on_chain in (free.1, interfaces w entries resolved c (needed free.0))
+
+  -- and is there
+  pub live_there : (facts : List Fact) → ((f : Fact) → Contains facts f → Holds f) → (c : Name) → IsLive w facts c → (k : ClassDef) × (class_of w c ≡ Some k)
+  live_there facts reached c h = present c (chain h.made c (made h.made (last w entries (Made h.made) (reached (Made h.made) h.is_made))) h.on_chain).0

@@ -41,7 +41,7 @@ module _ (entries : List EntryPoint) (files : List SourceFile) (w : Classes) (by
 
   module _ (all : List EmittedMethod) (bodies : AreBodies w entries all) (has : Usable) where
     module _ (e : EmittedMethod) (i : Contains all e) (built : is_built_with has e.definition e.its_body ≡ true) where
-      its : OwnerOf w e.member e.definition
+      pub its : OwnerOf w e.member e.definition
       its = owner_of w e.member e.definition (bodies.found e i).found
 
       owner_judged : IsJudgedClass its.owner
@@ -56,13 +56,13 @@ module _ (entries : List EntryPoint) (files : List SourceFile) (w : Classes) (by
       body : IsListedTree e.its_body
       body = subst (λ (o : Option Term). MatchOption o (Unit {0}) IsListedTree) (bodies.found e i).has_body method.3
 
-      types : HaveTypes e.definition.params e.definition.name.params × (e.definition.result ≡ call_type e.definition.name.result)
+      pub types : HaveTypes e.definition.params e.definition.name.params × (e.definition.result ≡ call_type e.definition.name.result)
       types = signature-keeps its.owner owner_judged.unbroken e.definition its.listed
 
-      kept : KeepsRules w has its.owner.name e.definition e.its_body
+      pub kept : KeepsRules w has its.owner.name e.definition e.its_body
       kept = rules_kept w has its.owner e.definition e.its_body (bodies.found e i).has_body (class-keeps its.owner owner_judged.unbroken e.definition its.listed) (a.typed e.member e.definition (needed w entries all bodies e i) (defined w e.member e.definition (bodies.found e i).found)) built body (result_is e.definition.name.result e.definition.result types.1) (parameters_have_values e.definition.params e.definition.name.params types.0 method.0.0.params)
 
-      pub right_method : RightMember w has e.member
+      abbrev pub right_method : RightMember w has e.member
       right_method = record {
         definition = e.definition;
         its_body = e.its_body;

@@ -1,0 +1,59 @@
+-- The names and the fields of the classes of an accepted folder.
+use Rattle.std.proofs.Common.{◌≡◌, true, List, Option, Some, None, IsTrue, refl, sym, subst, ◌∙◌}
+use Rattle.std.specs.List.{Contains}
+use Rattle.std.proofs.lemmas.List.Elements.{All-contains}
+use Rattle.accepted_folders.proofs.Members.{same-class}
+use Rattle.accepted_folders.proofs.Worlds.{judged}
+use Rattle.accepted_folders.specs.Accepted.{IsAccepted}
+use Rattle.body_rules.specs.Locals.{HasValue}
+use Rattle.declared_programs.specs.Declared.{FieldsAreKept}
+use Rattle.file_listings.proofs.ListedClasses.{file_is_listed}
+use Rattle.file_listings.specs.Listed.{AreBytes}
+use Rattle.linked_pieces.proofs.Fields.{fields_apart}
+use Rattle.linked_pieces.specs.Used.{has_field_in}
+use Rattle.listing_spelling.specs.Rules.{HasListing, IsListedField}
+use Rattle.object_folders.proofs.Fields.{field_keeps, has_value, field_found, one_field, key_of}
+use Rattle.sj_judged.specs.Judged.{IsJudgedClass}
+use Rattle.sj_names.proofs.Same.{impossible}
+use Rattle.sj_names.specs.Grammar.{is_class_name, is_plain_name}
+use Rattle.sj_names.specs.declared.entry_points.EntryPoint.{EntryPoint}
+use Rattle.sj_names.specs.declared.folders.SourceFile.{SourceFile}
+use Rattle.sj_plain.specs.Settings.{IsField}
+use Rattle.sj_trees.specs.declared.classes.ClassDef.{ClassDef}
+use Rattle.sj_trees.specs.declared.classes.FieldDef.{FieldDef}
+use Rattle.sj_trees.specs.declared.types.IrType.{IrType}
+use Rattle.sj_trees.specs.declared.types.IrType.TheVariants.{Nothing}
+use Rattle.sj_world.specs.Known.{Name, Classes, class_of}
+
+pub field_there : (w : Classes) (c f : Name) (t : IrType) → has_field_in (class_of w c) f t ≡ true → IsField w c f t
+field_there w c f t h = go (class_of w c) refl h
+  where
+    go : (o : Option ClassDef) → class_of w c ≡ o → has_field_in o f t ≡ true → IsField w c f t
+    go None e k = impossible k
+    go (Some class) e k =
+        let its = field_found class.fields f t k in
+        record { definition = class; field = its.field; found = same-class w c ∙ e; among = its.among; of_objects = its.instance; named = sym its.name_is; typed = sym its.type_is }
+
+nothing_has : HasValue Nothing → ⊥
+nothing_has h = impossible (sym h)
+
+module _ (entries : List EntryPoint) (files : List SourceFile) (w : Classes) (bytes : (file : SourceFile) → Contains files file → AreBytes file.bytes) (a : IsAccepted entries files w) where
+  its : (d : ClassDef) → Contains w d → IsJudgedClass d
+  its d i = judged entries files w bytes a d i
+
+  listing : (d : ClassDef) → Contains w d → HasListing d
+  listing d i = let j = its d i in file_is_listed j.bytes d j.are_bytes j.read
+
+  pub class_named : (d : ClassDef) → Contains w d → IsTrue (is_class_name d.name)
+  class_named d i = (listing d i).name.0
+
+  field_named : (d : ClassDef) (f : FieldDef) → Contains w d → Contains d.fields f → IsTrue (is_plain_name f.name)
+  field_named d f i k = let all = All-contains IsListedField d.fields f (listing d i).fields k in all.0.0
+
+  pub fields_kept : FieldsAreKept w
+  fields_kept = record {
+    class_names = class_named;
+    field_names = field_named;
+    once = λ d f g i j k m n e. one_field d.fields (fields_apart d (its d i).unbroken) f g j k (key_of f f.name m refl ∙ sym (key_of g f.name n e));
+    values = λ d f i k e. nothing_has (subst HasValue e (has_value d f (field_keeps d (its d i).unbroken f k)));
+  }

@@ -1,0 +1,9 @@
+pub mod Blocks
+pub mod Chains
+pub mod Covered
+pub mod Fields
+pub mod HelperNames
+pub mod Live
+pub mod Order
+pub mod Parts
+pub mod Whole

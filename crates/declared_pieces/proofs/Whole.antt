@@ -1,0 +1,268 @@
+-- The items of the pieces that some classes own declare all that code can use there.
+use Rattle.std.proofs.Common.{◌≡◌, ◌&&◌, not, Bool, true, false, List, Option, Some, None, IsTrue, codes, map, refl, sym, ap, subst, ◌∙◌}
+use Rattle.std.specs.Prelude.{◌↔◌}
+use Rattle.std.specs.List.{Contains, filter, list_any}
+use Rattle.std.proofs.lemmas.Bool.{and_parts, and_from}
+use Rattle.std.proofs.lemmas.List.Folds.{Any-from_list_any, list_any_at}
+use Rattle.std.proofs.lemmas.List.Sorted.{Contains-permutation, IsPermutation-sym}
+use Rattle.accepted_folders.proofs.Members.{same-class, defined}
+use Rattle.accepted_folders.specs.Accepted.{IsAccepted}
+use Rattle.accepted_folders.specs.Bodies.{AreBodies}
+use Rattle.body_rules.proofs.Plain.{class_found}
+use Rattle.body_rules.specs.Standing.{call_type}
+use Rattle.body_soundness.proofs.Chains.{byte_not}
+use Rattle.built_forms.specs.Built.{Usable, is_static, has_no_value}
+use Rattle.class_code.proofs.Markers.{marked}
+use Rattle.declared_pieces.proofs.Blocks.{to_items, OwnPieces, own_pieces, method_there, helper_there}
+use Rattle.declared_pieces.proofs.Chains.{Stands, made_declared}
+use Rattle.declared_pieces.proofs.Fields.{field_there, class_named, fields_kept}
+use Rattle.declared_pieces.proofs.HelperNames.{one_helper}
+use Rattle.declared_pieces.proofs.Live.{next_is, live_next, classes_kept, live_free, live_there}
+use Rattle.declared_pieces.proofs.Parts.{constants_there, class_there, uses_superclass}
+use Rattle.declared_pieces.specs.Closed.{IsClosed, items_of}
+use Rattle.declared_pieces.specs.Laws.{PiecesDeclare}
+use Rattle.declared_programs.specs.Declared.{Running, alone, on_receiver, completing, running, FunctionDeclared, ClassDeclared, MadeDeclared}
+use Rattle.entry_rules.specs.Entries.{IsLive}
+use Rattle.file_listings.specs.Listed.{AreBytes}
+use Rattle.helper_rules.specs.Helpers.{helper_name, helper_item, helper_piece}
+use Rattle.helper_rules.specs.Words.{class_name, bound}
+use Rattle.helper_rules.specs.declared.kinds.Helper.{Helper}
+use Rattle.js_tree.specs.Terms.{Item, Piece}
+use Rattle.linked_pieces.specs.Pieces.{piece_of_member, AreLinkedPieces}
+use Rattle.linked_pieces.specs.Used.{used_of, is_among, is_received, is_constructor, is_constructor_without_value}
+use Rattle.object_folders.proofs.Made as made
+use Rattle.object_folders.proofs.Methods.{right_method}
+use Rattle.object_folders.specs.Running.{CanRun}
+use Rattle.piece_rules.specs.Classes.{AreSorted, is_own}
+use Rattle.piece_rules.specs.Pieces.{Parts, constants_piece, entry_member, class_piece}
+use Rattle.reach_rules.proofs.Derivations.{closed}
+use Rattle.reach_rules.specs.Rules.{the_object}
+use Rattle.sj_names.proofs.Same.{impossible, text-same, text-refl}
+use Rattle.sj_names.specs.Grammar.{is_class_name}
+use Rattle.sj_names.specs.Same.{is_same_text}
+use Rattle.sj_names.specs.WellKnown.{object}
+use Rattle.sj_names.specs.declared.entry_points.EntryPoint.{EntryPoint}
+use Rattle.sj_names.specs.declared.folders.SourceFile.{SourceFile}
+use Rattle.sj_names.specs.declared.method_names.Member.{Member}
+use Rattle.sj_names.specs.declared.method_names.Namespace.{Namespace}
+use Rattle.sj_names.specs.declared.method_names.Namespace.TheVariants.{Public, PublicStatic, Private, PrivateStatic, Constructor}
+use Rattle.sj_names.specs.declared.references.TypeRef.{TypeRef}
+use Rattle.sj_names.specs.declared.references.TypeRef.TheVariants as References
+use Rattle.sj_proper.specs.Emitted.{EmittedMethod}
+use Rattle.sj_sound.proofs.Same.{has_function-is}
+use Rattle.sj_sound.specs.Linked.{has_function}
+use Rattle.sj_split.proofs.Members.{into_filter, from_filter}
+use Rattle.sj_trees.specs.declared.classes.FieldDef.{FieldDef}
+use Rattle.sj_trees.specs.declared.types.IrType.TheVariants.{NoType}
+use Rattle.sj_world.proofs.OnCycles.{among}
+use Rattle.sj_world.specs.Ancestors.{IsNext}
+use Rattle.sj_world.specs.Known.{Name, Classes, is_hijacked}
+use Rattle.sj_world.specs.Linked.{Linked}
+use Rattle.sj_world.specs.Members.{IsMethodOf}
+use Rattle.sj_world.specs.declared.facts.Fact.TheVariants.{Needed}
+
+static_alone : (n : Namespace) → is_static n ≡ true → running n ≡ alone
+static_alone PublicStatic h = refl
+static_alone PrivateStatic h = refl
+static_alone Public h = impossible h
+static_alone Private h = impossible h
+static_alone Constructor h = impossible h
+
+received_runs : (n : Namespace) → is_received n ≡ true → running n ≡ on_receiver
+received_runs Public h = refl
+received_runs Private h = refl
+received_runs PublicStatic h = impossible h
+received_runs PrivateStatic h = impossible h
+received_runs Constructor h = impossible h
+
+constructor_is : (n : Namespace) → is_constructor n ≡ true → n ≡ Constructor
+constructor_is Constructor h = refl
+constructor_is Public h = impossible h
+constructor_is Private h = impossible h
+constructor_is PublicStatic h = impossible h
+constructor_is PrivateStatic h = impossible h
+
+own_mark : (b : Bool) → b ≡ false → not b ≡ true
+own_mark true h = impossible (sym h)
+own_mark false h = refl
+
+no_mark : (b : Bool) → not b ≡ true → b ≡ false
+no_mark true h = impossible h
+no_mark false h = refl
+
+no_value : (r : Option TypeRef) → has_no_value r ≡ true → call_type r ≡ NoType
+no_value (Some References.Void) h = refl
+no_value (Some References.Boolean) h = impossible h
+no_value (Some References.Char) h = impossible h
+no_value (Some References.Byte) h = impossible h
+no_value (Some References.Short) h = impossible h
+no_value (Some References.Int) h = impossible h
+no_value (Some References.Long) h = impossible h
+no_value (Some (References.Class c)) h = impossible h
+no_value (Some (References.Array r)) h = impossible h
+no_value None h = impossible h
+
+-- the fields of the parts are those of instances
+own_fields : (given sorted : List FieldDef) → AreSorted (filter is_own given) sorted → (f : FieldDef) → Contains sorted f → Contains given f × (f.is_static ≡ false)
+own_fields given sorted h f i = let p = from_filter is_own given f (Contains-permutation sorted (filter is_own given) f (IsPermutation-sym (filter is_own given) sorted h.exact) i) in (p.among, no_mark f.is_static p.passes)
+
+whole_fields : (given sorted : List FieldDef) → AreSorted (filter is_own given) sorted → (f : FieldDef) → Contains given f → f.is_static ≡ false → Contains sorted f
+whole_fields given sorted h f i mark = Contains-permutation (filter is_own given) sorted f h.exact (into_filter is_own given f i (own_mark f.is_static mark))
+
+module _ (entries : List EntryPoint) (files : List SourceFile) (l : Linked) (all : List EmittedMethod) (live written : List Name) (ps : List Piece) (bytes : (file : SourceFile) → Contains files file → AreBytes file.bytes) (a : IsAccepted entries files l.world) (bodies : AreBodies l.world entries all) (p : AreLinkedPieces l all ps) (are_live : (c : Name) → Contains live c ↔ IsLive l.world l.facts c) (run : CanRun l.world entries l.facts all live p.helpers written) (owned : IsClosed ps written) where
+  abbrev w : Classes
+  w = l.world
+
+  abbrev has : Usable
+  has = used_of w all live p.helpers written
+
+  abbrev items : List Item
+  items = items_of written ps
+
+  -- members
+
+  module _ (e : EmittedMethod) (i : Contains all e) (here : Contains written e.member.class) (r : Running) (runs : running e.member.namespace ≡ r) where
+    its_definition : IsMethodOf w e.member e.definition
+    its_definition = defined w e.member e.definition (bodies.found e i).found
+
+    abbrev function_of : FunctionDeclared w has items r e.member
+    function_of = record {
+      right = right_method entries files w bytes a all bodies has e i (run.are_built e i here);
+      runs = ap running its_definition.first.has.namespace_is ∙ runs;
+      function = to_items written ps (piece_of_member e) (method_there l all ps p e i its_definition.class its_definition.is_class) here;
+    }
+
+  -- a method of a class that is written, of this member
+  record Method (m : Member) : Type 0 where
+    method : EmittedMethod
+    listed : Contains all method
+    is : method.member ≡ m
+    here : Contains written method.member.class
+
+  method_of : (m : Member) → (is_among written m.class && has_function all m) ≡ true → Method m
+  method_of m h =
+      let q = and_parts (is_among written m.class) (has_function all m) h in
+      let f = has_function-is all m q.1 in
+      record { method = f.method; listed = f.listed; is = f.is; here = subst (λ (k : Member). Contains written k.class) (sym f.is) ((among written m.class).0 q.0) }
+
+  member_declared : (test : Namespace → Bool) (r : Running) → ((n : Namespace) → test n ≡ true → running n ≡ r) → (m : Member) → (test m.namespace && (is_among written m.class && has_function all m)) ≡ true → FunctionDeclared w has items r m
+  member_declared test r runs m h =
+      let q = and_parts (test m.namespace) (is_among written m.class && has_function all m) h in
+      let f = method_of m q.1 in
+      subst (FunctionDeclared w has items r) f.is (function_of f.method f.listed f.here r (subst (λ (k : Member). running k.namespace ≡ r) (sym f.is) (runs m.namespace q.0)))
+
+  abbrev Completes : Member → Type 0
+  Completes m = (b : FunctionDeclared w has items completing m) × (b.right.definition.result ≡ NoType)
+
+  constructor_declared : (m : Member) → (is_constructor_without_value m && (is_among written m.class && has_function all m)) ≡ true → Completes m
+  constructor_declared m h =
+      let q = and_parts (is_constructor_without_value m) (is_among written m.class && has_function all m) h in
+      let its = and_parts (is_constructor m.namespace) (has_no_value m.method.result) q.0 in
+      let f = method_of m q.1 in
+      let constructs : f.method.member.namespace ≡ Constructor = ap (λ (k : Member). k.namespace) f.is ∙ constructor_is m.namespace its.0 in
+      let declared : FunctionDeclared w has items completing f.method.member = function_of f.method f.listed f.here completing (ap running constructs) in
+      let none : has_no_value f.method.member.method.result ≡ true = subst (λ (k : Member). has_no_value k.method.result ≡ true) (sym f.is) its.1 in
+      subst Completes f.is (declared, declared.right.result_is ∙ no_value f.method.member.method.result none)
+
+  -- classes
+
+  record Good (c : Name) : Type 0 where
+    is_live : Contains live c
+    is_written : Contains written c
+
+  module _ (c : Name) (good : Good c) where
+    c_live : IsLive w l.facts c
+    c_live = (are_live c).0 good.is_live
+
+    free : is_hijacked c ≡ false
+    free = live_free entries files w bytes a l.facts run.reached c c_live
+
+    own : OwnPieces l all ps p c
+    own = let k = live_there entries files w bytes a l.facts run.reached c c_live in own_pieces l all ps p c k.0 k.1
+
+    abbrev its : Parts
+    its = own.parts
+
+    named : its.class.name ≡ c
+    named = (class_found w c its.class own.are.class_is).1
+
+    is_named : IsTrue (is_class_name c)
+    is_named = subst (λ (n : Name). IsTrue (is_class_name n)) named (class_named entries files w bytes a its.class (class_found w c its.class own.are.class_is).0)
+
+    constants_here : Contains ps (constants_piece c its.ancestors)
+    constants_here = subst (λ (n : Name). Contains ps (constants_piece n its.ancestors)) named (own.there (constants_piece its.class.name its.ancestors) (constants_there its (own.are.live.1 c_live)))
+
+    abbrev class_of_its : Piece
+    class_of_its = class_piece c its.class.superclass its.entries its.fields
+
+    class_here : Contains ps class_of_its
+    class_here = subst (λ (n : Name). Contains ps (class_piece n its.class.superclass its.entries its.fields)) named (own.there (class_piece its.class.name its.class.superclass its.entries its.fields) (class_there its (own.are.live.1 c_live)))
+
+    class_declared : ClassDeclared w has items c its.class.superclass
+    class_declared = record {
+      made = and_from (is_among written c) (is_among live c) ((among written c).1 good.is_written) ((among live c).1 good.is_live);
+      definition = its.class;
+      found = same-class w c ∙ own.are.class_is;
+      fields = its.fields;
+      own = own_fields its.class.fields its.fields own.are.fields;
+      whole = whole_fields its.class.fields its.fields own.are.fields;
+      ancestors = its.ancestors;
+      constants = to_items written ps (constants_piece c its.ancestors) constants_here good.is_written;
+      others = map entry_member its.entries;
+      class = to_items written ps class_of_its class_here good.is_written;
+      marked = marked c is_named;
+      no_char = byte_not c free (codes "java.lang.Character") refl;
+    }
+
+    super_good : (d : Name) → its.class.superclass ≡ Some d → Good d
+    super_good d super =
+        let next : IsNext w c d = next_is w c its.class own.are.class_is free ∙ super in
+        record { is_live = (are_live d).1 (live_next w l.facts c d c_live next); is_written = owned class_of_its class_here good.is_written (bound d (class_name d)) (uses_superclass c d its.class.superclass its.entries super) }
+
+    stands : Stands w has items Good c
+    stands = record { class = its.class; found = own.are.class_is; free = free; declared = class_declared; up = super_good }
+
+  class_made : (c : Name) → (is_among written c && is_among live c) ≡ true → MadeDeclared w has items c
+  class_made c h = let q = and_parts (is_among written c) (is_among live c) h in made_declared w (classes_kept entries files w bytes a) a.world.no_cycle has items Good stands c (record { is_live = (among live c).0 q.1; is_written = (among written c).0 q.0 })
+
+  -- helpers
+
+  abbrev IsNamed : Name → Helper → Bool
+  IsNamed x h = is_same_text x (helper_name h)
+
+  record IsWritten (h : Helper) : Type 0 where
+    among_helpers : Contains p.helpers h
+    with_object : Contains written object
+
+  helper_written : (h : Helper) → has.helper (helper_name h) ≡ true → IsWritten h
+  helper_written h e =
+      let q = and_parts (is_among written object) (list_any (IsNamed (helper_name h)) p.helpers) e in
+      let found = Any-from_list_any (IsNamed (helper_name h)) p.helpers q.1 in
+      let same : h ≡ found.1 = one_helper h found.1 (text-same (helper_name h) (helper_name found.1) found.4) in
+      record { among_helpers = subst (Contains p.helpers) (sym same) (found.0, found.2, found.3); with_object = (among written object).0 q.0 }
+
+  helper_had : (h : Helper) → IsWritten h → has.helper (helper_name h) ≡ true
+  helper_had h i =
+      let j = i.among_helpers in
+      and_from (is_among written object) (list_any (IsNamed (helper_name h)) p.helpers) ((among written object).1 i.with_object) (list_any_at (IsNamed (helper_name h)) p.helpers j.0 h j.1 (subst (λ (g : Helper). IsNamed (helper_name h) g ≡ true) (sym j.2) (text-refl (helper_name h))))
+
+  helper_here : (h : Helper) → IsWritten h → Contains items (helper_item p.above h)
+  helper_here h i =
+      let k = made.present w entries a.resolved (classes_kept entries files w bytes a) object (closed w entries (Needed object) the_object) in
+      to_items written ps (helper_piece p.above h) (helper_there l all ps p k.0 k.1 h i.among_helpers) i.with_object
+
+pub pieces_declare : PiecesDeclare
+pieces_declare entries files l all live written ps bytes a bodies p are_live run owned covered = record {
+  linked = member_declared entries files l all live written ps bytes a bodies p are_live run owned is_static alone static_alone;
+  received = member_declared entries files l all live written ps bytes a bodies p are_live run owned is_received on_receiver received_runs;
+  built = constructor_declared entries files l all live written ps bytes a bodies p are_live run owned;
+  made = class_made entries files l all live written ps bytes a bodies p are_live run owned;
+  field = field_there l.world;
+  kept = fields_kept entries files l.world bytes a;
+  ancestors = p.above;
+  helper = λ h e. let i = written_there h e in (covered h i.among_helpers, helper_here entries files l all live written ps bytes a bodies p are_live run owned h i);
+  helpers = λ h k e used. let i = written_there h e in helper_had entries files l all live written ps bytes a bodies p are_live run owned k (record { among_helpers = run.closed h k i.among_helpers used; with_object = i.with_object });
+}
+  where
+    written_there : (h : Helper) → (used_of l.world all live p.helpers written).helper (helper_name h) ≡ true → IsWritten entries files l all live written ps bytes a bodies p are_live run owned h
+    written_there h e = helper_written entries files l all live written ps bytes a bodies p are_live run owned h e
