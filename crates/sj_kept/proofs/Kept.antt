@@ -66,7 +66,7 @@ pub data SameLocal : Option Local → Option ParamDef → Type 0 where
 pub record SameScope (x : List Local) (ds : List ParamDef) : Type 0 where
   pub same : (y : List ℕ) → SameLocal (innermost x y) (local_of ds y)
 
-innermost-behind : (ls : List Local) (l : Local) (y : List ℕ) → innermost (ls ++ l ∷ []) y ≡ (if pointwise nat_eq y l.name then Some l else innermost ls y)
+pub innermost-behind : (ls : List Local) (l : Local) (y : List ℕ) → innermost (ls ++ l ∷ []) y ≡ (if pointwise nat_eq y l.name then Some l else innermost ls y)
 innermost-behind [] l y = go (pointwise nat_eq y l.name)
   where
     go : (b : Bool) → last_some (if b then Some l else None) None ≡ (if b then Some l else None)

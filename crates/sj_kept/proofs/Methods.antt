@@ -71,7 +71,7 @@ no-repeat earlier _ _ (here _ key keys there) e = impossible (cc)
 no-repeat earlier _ _ (later _ key keys index not_there rest) e = ((λ h. not-earlier (earlier ++ key ∷ []) keys index rest (suc-none index e) key h (Contains-push earlier key)), no-repeat (earlier ++ key ∷ []) keys index rest (suc-none index e))
 
 -- the declarations of a method: its parameters, and those of its nodes
-abbrev param_declarations : List ParamDef → List Declaration
+abbrev pub param_declarations : List ParamDef → List Declaration
 param_declarations [] = []
 param_declarations (p ∷ ps) = declaration.Local p.name ∷ param_declarations ps
 
@@ -145,7 +145,7 @@ module _ (c : ClassDef) (d : MethodDef) (e : Term) (body : d.body ≡ Some e) (k
   pub keep : AllKeep c.name d.namespace (node (outermost d) e ∷ below (outermost d) e)
   keep = subst (AllKeep c.name d.namespace) nodes-are (all-keep c d.namespace (method_nodes d) kept.definition kept.variable kept.jump kept.this)
 
-  apart : NoRepeat (param_declarations d.params) × NoRepeat (declares (node (outermost d) e ∷ below (outermost d) e)) × ((q : Declaration) → Has (param_declarations d.params) q → Has (declares (node (outermost d) e ∷ below (outermost d) e)) q → ⊥)
+  pub apart : NoRepeat (param_declarations d.params) × NoRepeat (declares (node (outermost d) e ∷ below (outermost d) e)) × ((q : Declaration) → Has (param_declarations d.params) q → Has (declares (node (outermost d) e ∷ below (outermost d) e)) q → ⊥)
   apart = repeat-parts (param_declarations d.params) (declares (node (outermost d) e ∷ below (outermost d) e)) (subst (λ xs. NoRepeat (param_declarations d.params ++ declares xs)) nodes-are (method-distinct d twice))
 
   pub distinct : AreDistinct (names_of d.params)

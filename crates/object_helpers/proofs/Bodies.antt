@@ -1,0 +1,125 @@
+-- The helpers that the code of a body uses are told by what the body asks for.
+use Rattle.std.proofs.Common.{◌≡◌, ℕ, Bool, true, false, ◌&&◌, List, [], ◌∷◌, Some, None, refl, sym, ap, ◌∙◌, subst, codes, Contains, if◌then◌else◌}
+use Rattle.std.specs.Prelude.{not}
+use Rattle.std.specs.List.{All, list_any}
+use Rattle.std.proofs.lemmas.List.Elements.{All-nil, All-cons, All-head, All-tail, All-contains, Contains-append_right}
+use Rattle.body_uses.proofs.Given.{all_from}
+use Rattle.folder_verdicts.proofs.EachTyped.{in_all}
+use Rattle.helper_rules.specs.Helpers.{helper_name}
+use Rattle.helper_rules.specs.Words.{helper}
+use Rattle.helper_rules.specs.declared.kinds.Helper.{Helper}
+use Rattle.js_tree.specs.Terms.{Name}
+use Rattle.js_tree.specs.declared.items.Binding.{Binding}
+use Rattle.proper_pieces.proofs.Names.{function_rank}
+use Rattle.sj_core.specs.Terms as core
+use Rattle.sj_desugar.specs.Desugar.{member, desugared_member, body_code, completed, is_mutable_in, result_destination}
+use Rattle.sj_emit_expr.specs.Templates.{check_name}
+use Rattle.sj_emit_expr.specs.Uses.{object_binding, function_binding, class_use, static_use, setter_use, helper_of, uses_of_all, is_same_binding, once_each, uses}
+use Rattle.sj_infos.specs.Infos.{asks, asked_in, of_receiver, of_static_call, of_division, is_other_than_zero, null_pointer, arithmetic}
+use Rattle.sj_infos.specs.Infos as infos
+use Rattle.sj_infos.specs.Sure.{sure_among}
+use Rattle.sj_infos.specs.Sure as infos_sure
+use Rattle.sj_infos.specs.Trees.{trees}
+use Rattle.sj_infos.specs.declared.infos.Info.{Info}
+use Rattle.sj_infos.specs.declared.infos.Info.TheVariants.{Field, Throws}
+use Rattle.sj_judged.proofs.Found.{here, there}
+use Rattle.sj_kept.specs.Kept.{KeepsTreeRules}
+use Rattle.sj_names.proofs.Same.{impossible}
+use Rattle.sj_names.specs.declared.method_names.Member.{Member}
+use Rattle.sj_names.specs.declared.method_names.Namespace.{Namespace}
+use Rattle.sj_names.specs.declared.method_names.Namespace.TheVariants.{Public, PublicStatic, Private, PrivateStatic, Constructor}
+use Rattle.sj_trees.specs.Term.{Term, new_object, select, select_static, apply_statically, apply_static, binary_op}
+use Rattle.sj_trees.specs.declared.classes.ClassDef.{ClassDef}
+use Rattle.sj_trees.specs.declared.classes.MethodDef.{MethodDef}
+use Rattle.sj_trees.specs.declared.operators.BinaryOp.{BinaryOp}
+use Rattle.sj_trees.specs.declared.operators.BinaryOp.TheVariants.{IntDivide, IntRemainder, LongDivide, LongRemainder}
+use Rattle.sure_receivers.specs.Sure.{is_sure, sure_locals}
+use Rattle.object_helpers.specs.Helpers.{UsesIt, a_check, a_division, a_char}
+use Rattle.object_helpers.specs.Laws.{BodiesUseObjectHelpers}
+use Rattle.object_helpers.proofs.Brought.{Brings, followed_in, tree}
+use Rattle.object_helpers.proofs.Named.{no_helper, named_check, named_division, named_box}
+use Rattle.object_helpers.proofs.Sures.{sure_tree, sure_kept}
+
+-- each once
+pub once_in : (Q : Binding → Type 0) (seen bs : List Binding) → All Q bs → All Q (once_each seen bs)
+once_in Q seen [] h = All-nil Q
+once_in Q seen (b ∷ bs) h = go (list_any (is_same_binding b) seen) (once_in Q seen bs (All-tail Q b bs h)) (once_in Q (b ∷ seen) bs (All-tail Q b bs h))
+  where
+    go : (t : Bool) → All Q (once_each seen bs) → All Q (once_each (b ∷ seen) bs) → All Q (if t then once_each seen bs else (b ∷ once_each (b ∷ seen) bs))
+    go true f g = f
+    go false f g = All-cons Q b (once_each (b ∷ seen) bs) (All-head Q b bs h) g
+
+-- where a binding is of no other helper than these
+abbrev pub Only : (Helper → Type 0) → Binding → Type 0
+Only P b = (h : Helper) → b ≡ helper (helper_name h) → P h
+
+pub only_function : (P : Helper → Type 0) (m : Member) → Only P (function_binding m)
+only_function P m h e = no_helper (function_binding m) 9 (function_rank m.namespace m.class m.method) refl h e
+
+module _ (c : ClassDef) (d : MethodDef) (e : Term) (body : d.body ≡ Some e) (kept : KeepsTreeRules c d) where
+  abbrev asked : List Info
+  asked = asked_in e
+
+  abbrev names : List (List ℕ)
+  names = sure_among [] (trees e)
+
+  abbrev sure : List ℕ → Bool
+  sure = sure_locals e
+
+  abbrev Q : Binding → Type 0
+  Q = Only (UsesIt asked)
+
+  box : Q (object_binding (codes "$C"))
+  box h same = subst (UsesIt asked) (sym (named_box h same)) a_char
+
+  check : Contains asked (Throws (codes "java.lang.NullPointerException")) → Q (object_binding check_name)
+  check i h same = subst (UsesIt asked) (sym (named_check h same)) (a_check i)
+
+  -- a receiver that isn't sure in emitted code isn't where infos are asked for
+  unsure : (r : Term) → is_sure sure r ≡ false → infos_sure.is_sure names r ≡ false
+  unsure r n = go (infos_sure.is_sure names r) refl
+    where
+      go : (b : Bool) → infos_sure.is_sure names r ≡ b → infos_sure.is_sure names r ≡ false
+      go false s = s
+      go true s = impossible (sym n ∙ sure_tree names sure r (λ p x u same i. sure_kept c d e body kept x i) s)
+
+  receiver_asks : (r : Term) → is_sure sure r ≡ false → Contains (of_receiver names r) (Throws (codes "java.lang.NullPointerException"))
+  receiver_asks r n = subst (λ (b : Bool). Contains (if b then [] else null_pointer) (Throws (codes "java.lang.NullPointerException"))) (sym (unsure r n)) (here (Throws (codes "java.lang.NullPointerException")) [])
+
+  told : (t : Term) → Contains (trees e) t → (o : Info) → Contains (asks names t) o → Contains asked o
+  told t among o h = in_all (asks names) (trees e) t o among h
+
+  division : (x : Name) → ((h : Helper) → helper x ≡ helper (helper_name h) → UsesIt asked h) → All Q (object_binding x ∷ [])
+  division x f = All-cons Q (object_binding x) [] f (All-nil Q)
+
+  divided : (o : BinaryOp) (t a b : Term) → ((infos.divides o && not (is_other_than_zero b)) ≡ true → Contains asked (Throws (codes "java.lang.ArithmeticException"))) → is_other_than_zero b ≡ false → All Q (helper_of false o)
+  divided IntDivide t a b f n = division (codes "$id") (λ h same. a_division h (named_division (codes "$id") refl h same) (f (ap not n)))
+  divided IntRemainder t a b f n = division (codes "$im") (λ h same. a_division h (named_division (codes "$im") refl h same) (f (ap not n)))
+  divided LongDivide t a b f n = division (codes "$ld") (λ h same. a_division h (named_division (codes "$ld") refl h same) (f (ap not n)))
+  divided LongRemainder t a b f n = division (codes "$lm") (λ h same. a_division h (named_division (codes "$lm") refl h same) (f (ap not n)))
+  divided _ t a b f n = All-nil Q
+
+  division_asks : (o : BinaryOp) (b : Term) → (infos.divides o && not (is_other_than_zero b)) ≡ true → Contains (of_division o b) (Throws (codes "java.lang.ArithmeticException"))
+  division_asks o b h = subst (λ (v : Bool). Contains (if v then arithmetic else []) (Throws (codes "java.lang.ArithmeticException"))) (sym h) (here (Throws (codes "java.lang.ArithmeticException")) [])
+
+  brings : (t : Term) → Contains (trees e) t → Brings Q box sure t
+  brings (apply_static p k n m ts t) among = only_function (UsesIt asked) (member k n m)
+  brings (apply_statically p r k n m ts t) among = (only_function (UsesIt asked) (member k n m), λ u. check (told (apply_statically p r k n m ts t) among (Throws (codes "java.lang.NullPointerException")) (Contains-append_right (of_static_call k n m) (of_receiver names r) (Throws (codes "java.lang.NullPointerException")) (receiver_asks r u))))
+  brings (new_object p k m ts) among = (only_function (UsesIt asked) (member k Constructor m), λ h same. no_helper (class_use k) 1 refl refl h same)
+  brings (select p r k f t) among = λ u. check (told (select p r k f t) among (Throws (codes "java.lang.NullPointerException")) (there (Field k f false) (of_receiver names r) (Throws (codes "java.lang.NullPointerException")) (receiver_asks r u)))
+  brings (select_static p k f t) among = (λ h same. no_helper (static_use k f) 2 refl refl h same, λ h same. no_helper (setter_use k f) 3 refl refl h same)
+  brings (binary_op p o a b) among = λ n. divided o (binary_op p o a b) a b (λ h. told (binary_op p o a b) among (Throws (codes "java.lang.ArithmeticException")) (division_asks o b h)) n
+  brings _ among = tt
+
+  completed_in : (n : Namespace) (ss : core.Statements) → All Q (uses_of_all ss) → All Q (uses_of_all (completed n ss))
+  completed_in Constructor ss h = followed_in Q box ss (core.statement (core.return_of None (core.variable_use core.receiver)) core.no_statements) h (All-nil Q)
+  completed_in Public ss h = h
+  completed_in PublicStatic ss h = h
+  completed_in Private ss h = h
+  completed_in PrivateStatic ss h = h
+
+  pub all_used : All Q (uses (desugared_member d e).body)
+  all_used = once_in Q [] (uses_of_all (desugared_member d e).body) (completed_in d.namespace (body_code (is_mutable_in d e) d.result e) (tree Q box sure (is_mutable_in d e) e (all_from (Brings Q box sure) (trees e) brings) [] (result_destination d.result) 1))
+
+pub used : BodiesUseObjectHelpers
+used c d e h body kept i = All-contains (Only (UsesIt (asked_in e))) (uses (desugared_member d e).body) (helper (helper_name h)) (all_used c d e body kept) i h refl

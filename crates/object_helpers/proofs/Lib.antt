@@ -1,0 +1,5 @@
+pub mod Bodies
+pub mod Brought
+pub mod Named
+pub mod Pieces
+pub mod Sures

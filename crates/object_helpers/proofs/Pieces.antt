@@ -1,0 +1,340 @@
+-- The helpers of the pieces of a linked world: each piece uses none but these, and what they use are these again.
+use Rattle.std.proofs.Common.{◌≡◌, Bool, true, false, List, [], ◌∷◌, ◌++◌, ◌||◌, ◌⊎◌, inl, inr, ⊎_elim, Option, Some, None, refl, sym, subst, codes, map, Contains, if◌then◌else◌}
+use Rattle.std.specs.Prelude.{is_none}
+use Rattle.std.specs.List.{All, flat_map}
+use Rattle.std.proofs.lemmas.List.Elements.{All-nil, All-cons, All-contains, All-weaker, Contains-append_cases}
+use Rattle.std.proofs.lemmas.List.Sorted.{Contains-permutation, IsPermutation-sym}
+use Rattle.accepted_folders.proofs.Calls.{needed}
+use Rattle.accepted_folders.proofs.Members.{defined}
+use Rattle.accepted_folders.specs.Accepted.{IsAccepted}
+use Rattle.accepted_folders.specs.Bodies.{AreBodies}
+use Rattle.body_uses.proofs.Uses.{combine}
+use Rattle.folder_verdicts.proofs.EachTyped.{in_all}
+use Rattle.folder_verdicts.proofs.Undenied.{first_or_later}
+use Rattle.helper_rules.specs.Helpers.{helper_name, used_helpers, failure_class}
+use Rattle.helper_rules.specs.Words.{bound, helper, all_kinds, class_name}
+use Rattle.helper_rules.specs.declared.kinds.Failure.{Failure}
+use Rattle.helper_rules.specs.declared.kinds.Failure.TheVariants as failures
+use Rattle.helper_rules.specs.declared.kinds.Helper.{Helper}
+use Rattle.helper_rules.specs.declared.kinds.Helper.TheVariants as helpers
+use Rattle.helper_rules.specs.declared.kinds.Kind.{Kind}
+use Rattle.helper_rules.specs.declared.kinds.Kind.TheVariants as kinds
+use Rattle.js_tree.specs.Terms.{Name, Piece}
+use Rattle.js_tree.specs.declared.items.Binding.{Binding}
+use Rattle.linked_pieces.specs.Pieces.{piece_of_member, Block, IsBlock, AreBlocks, pieces_of_block, IsUsed, by_piece, by_helper, AreLinkedPieces}
+use Rattle.piece_rules.specs.Classes.{HasForm, AreParts, AreClassPieces, absent, present}
+use Rattle.piece_rules.specs.Pieces.{Parts, pieces, constants_piece, class_piece, class_uses, parent_uses, own_constants, uses_of_entries, entry_uses, box_uses, is_proxy, is_char, all_statics, variable_piece, setter_piece, when, cell_piece, cell_pieces, load_piece, store_piece, init, init_name, test_piece, test_uses, test_binding, cast_piece, kind_of_class, constants_of, class_of as class_pieces_of, module_of, tests_of}
+use Rattle.proper_pieces.proofs.Names.{function_rank}
+use Rattle.reach_rules.proofs.Derivations.{closed}
+use Rattle.reach_rules.specs.Reachable.{Reachable}
+use Rattle.reach_rules.specs.Rules.{Reads, message_constructor, of_throw, asked_body, throw_made}
+use Rattle.sj_infos.specs.Forms.{form_of, of_base, of_test, of_cast, forms_by_body}
+use Rattle.sj_infos.specs.Forms as of_form
+use Rattle.sj_infos.specs.Infos as infos
+use Rattle.sj_infos.specs.Infos.{asks, asked_in, asked_by_body}
+use Rattle.sj_infos.specs.Sure.{sure_among}
+use Rattle.sj_infos.specs.Trees.{trees}
+use Rattle.sj_infos.specs.declared.forms.BodyForm.TheVariants as forms
+use Rattle.sj_infos.specs.declared.infos.Info.{Info}
+use Rattle.sj_infos.specs.declared.infos.Info.TheVariants.{Class, Throws}
+use Rattle.sj_judged.proofs.Found.{owner_of, here, there}
+use Rattle.sj_kept.proofs.Classes.{class-keeps}
+use Rattle.sj_mangling.specs.Bindings.{class_binding, field_binding}
+use Rattle.sj_mangling.specs.declared.bindings.ClassBinding.TheVariants.{Instance, IsInstance}
+use Rattle.sj_mangling.specs.declared.bindings.FieldBinding.TheVariants.{Variable}
+use Rattle.sj_names.proofs.Same.{impossible}
+use Rattle.sj_names.specs.declared.entry_points.EntryPoint.{EntryPoint}
+use Rattle.sj_names.specs.declared.folders.SourceFile.{SourceFile}
+use Rattle.sj_names.specs.declared.method_names.MethodName.{MethodName}
+use Rattle.sj_names.specs.declared.method_names.Namespace.TheVariants.{Constructor}
+use Rattle.sj_names.specs.declared.references.BaseRef.{BaseRef}
+use Rattle.sj_emit_expr.specs.Templates.{member_name}
+use Rattle.sj_proper.specs.Emitted.{EmittedMethod}
+use Rattle.sj_split.proofs.Members.{from_map}
+use Rattle.sj_trees.specs.Term.{Term, load_module, store_module, apply, new_array, array_value, is_instance_of, as_instance_of}
+use Rattle.sj_trees.specs.declared.classes.FieldDef.{FieldDef}
+use Rattle.sj_trees.specs.declared.types.IrType.{IrType}
+use Rattle.sj_world.specs.Linked.{Linked}
+use Rattle.sj_world.specs.declared.facts.Fact.{Fact}
+use Rattle.sj_world.specs.declared.facts.Fact.TheVariants.{Made, Body}
+use Rattle.sj_world.specs.declared.linked.MethodEntry.{MethodEntry}
+use Rattle.worklist.proofs.Inserted.{nothing_in, only_one}
+use Rattle.object_helpers.specs.Helpers.{is_division, is_object_helper, UsesIt, a_check, a_division, a_char}
+use Rattle.object_helpers.specs.Laws.{HelpersAreOfObjects, ThrownClassesAreReached}
+use Rattle.object_helpers.proofs.Bodies.{Only, only_function, once_in, all_used}
+use Rattle.object_helpers.proofs.Named.{no_helper, named_box, named_test, named_cast}
+
+-- what a list that is made of lists has is in one of them
+pub record InOne {X Y : Type 0} (f : X → List Y) (xs : List X) (y : Y) : Type 0 where
+  pub item : X
+  pub among : Contains xs item
+  pub within : Contains (f item) y
+
+in_one : {X Y : Type 0} (f : X → List Y) (xs : List X) (y : Y) → Contains (flat_map f xs) y → InOne f xs y
+in_one f [] y h = nothing_in y h
+in_one {X} {Y} f (x ∷ xs) y h = go (Contains-append_cases (f x) (flat_map f xs) y h) (in_one f xs y)
+  where
+    later : InOne f xs y → InOne f (x ∷ xs) y
+    later o = record { item = o.item; among = there x xs o.item o.among; within = o.within }
+
+    go : Contains (f x) y ⊎ Contains (flat_map f xs) y → (Contains (flat_map f xs) y → InOne f xs y) → InOne f (x ∷ xs) y
+    go (inl i) k = record { item = x; among = here x xs; within = i }
+    go (inr i) k = later (k i)
+
+-- a cast to a class asks for the exception that it throws
+abbrev cast_exception : Info
+cast_exception = Throws (codes "java.lang.ClassCastException")
+
+not_base : {A : Type 0} (c : Name) (b : BaseRef) → Contains (of_base b) (forms.Cast c) → A
+not_base c (BaseRef.Class d) h = let e : forms.Base d ≡ forms.Cast c = only_one (forms.Base d) (forms.Cast c) h in absurd cc
+not_base c _ h = nothing_in (forms.Cast c) h
+
+not_test : {A : Type 0} (c : Name) (t : IrType) → Contains (of_test t) (forms.Cast c) → A
+not_test c (IrType.Class d) h = let e : forms.Test d ≡ forms.Cast c = only_one (forms.Test d) (forms.Cast c) h in absurd cc
+not_test c (IrType.Array r) h = not_base c r.base h
+not_test c _ h = nothing_in (forms.Cast c) h
+
+not_call : {A : Type 0} (c : Name) (m : MethodName) → Contains (of_form.of_call m) (forms.Cast c) → A
+not_call {A} c m h = go (is_none m.result) h
+  where
+    go : (b : Bool) → Contains (if b then forms.Reflective m ∷ [] else []) (forms.Cast c) → A
+    go true h = let e : forms.Reflective m ≡ forms.Cast c = only_one (forms.Reflective m) (forms.Cast c) h in absurd cc
+    go false h = nothing_in (forms.Cast c) h
+
+cast_asks : (c : Name) (t : IrType) → Contains (of_cast t) (forms.Cast c) → Contains (infos.of_cast t) cast_exception
+cast_asks c (IrType.Class d) h = there (Class d) (cast_exception ∷ []) cast_exception (here cast_exception [])
+cast_asks c (IrType.Array r) h = not_base c r.base h
+cast_asks c _ h = nothing_in (forms.Cast c) h
+
+tree_asks : (names : List Name) (c : Name) (t : Term) → Contains (form_of t) (forms.Cast c) → Contains (asks names t) cast_exception
+tree_asks names c (as_instance_of p e t) h = cast_asks c t h
+tree_asks names c (load_module p d) h = let e : forms.Load d ≡ forms.Cast c = only_one (forms.Load d) (forms.Cast c) h in absurd cc
+tree_asks names c (store_module p d e) h = let e : forms.Store d ≡ forms.Cast c = only_one (forms.Store d) (forms.Cast c) h in absurd cc
+tree_asks names c (apply p e m ts t) h = not_call c m h
+tree_asks names c (new_array p r e) h = not_base c r.base h
+tree_asks names c (array_value p r ts) h = not_base c r.base h
+tree_asks names c (is_instance_of p e t) h = not_test c t h
+tree_asks names c _ h = nothing_in (forms.Cast c) h
+
+body_asks : (c : Name) (body : Option Term) → Contains (forms_by_body body) (forms.Cast c) → Contains (asked_by_body body) cast_exception
+body_asks c None h = nothing_in (forms.Cast c) h
+body_asks c (Some e) h = let o = in_one form_of (trees e) (forms.Cast c) h in in_all (asks (sure_among [] (trees e))) (trees e) o.item cast_exception o.among (tree_asks (sure_among [] (trees e)) c o.item o.within)
+
+module _ (entries : List EntryPoint) (files : List SourceFile) (l : Linked) (all : List EmittedMethod) (accepted : IsAccepted entries files l.world) (bodies : AreBodies l.world entries all) (reached : (f : Fact) → Contains l.facts f → Reachable l.world entries f) where
+  abbrev Asked : Name → Type 0
+  Asked c = Reads l.world entries (Reachable l.world entries) (Throws c)
+
+  -- the helpers of these forms: one that throws, or that uses one that does, is there only where a needed body asks for the exception
+  abbrev Good : Helper → Type 0
+  Good helpers.NotNull = Asked (codes "java.lang.NullPointerException")
+  Good helpers.IntQuotient = Asked (codes "java.lang.ArithmeticException")
+  Good helpers.IntRemainder = Asked (codes "java.lang.ArithmeticException")
+  Good helpers.LongQuotient = Asked (codes "java.lang.ArithmeticException")
+  Good helpers.LongRemainder = Asked (codes "java.lang.ArithmeticException")
+  Good helpers.BoxedChar = Unit {0}
+  Good (helpers.ConstantsOf kinds.Char) = Unit {0}
+  Good (helpers.TestOf k) = Unit {0}
+  Good (helpers.Throws failures.NullReceiver) = Asked (codes "java.lang.NullPointerException")
+  Good (helpers.Throws failures.Division) = Asked (codes "java.lang.ArithmeticException")
+  Good (helpers.Throws failures.Cast) = Asked (codes "java.lang.ClassCastException")
+  Good _ = ⊥
+
+  good_helper : (h : Helper) → Good h → is_object_helper h ≡ true
+  good_helper helpers.NotNull g = refl
+  good_helper helpers.IntQuotient g = refl
+  good_helper helpers.IntRemainder g = refl
+  good_helper helpers.LongQuotient g = refl
+  good_helper helpers.LongRemainder g = refl
+  good_helper helpers.BoxedChar g = refl
+  good_helper (helpers.ConstantsOf kinds.Char) g = refl
+  good_helper (helpers.TestOf k) g = refl
+  good_helper (helpers.Throws failures.NullReceiver) g = refl
+  good_helper (helpers.Throws failures.Division) g = refl
+  good_helper (helpers.Throws failures.Cast) g = refl
+  good_helper _ g = absurd g
+
+  good_division : (h : Helper) → is_division h ≡ true → Asked (codes "java.lang.ArithmeticException") → Good h
+  good_division helpers.IntQuotient e r = r
+  good_division helpers.IntRemainder e r = r
+  good_division helpers.LongQuotient e r = r
+  good_division helpers.LongRemainder e r = r
+  good_division _ e r = impossible e
+
+  -- the helpers of a helper
+  only_good : (g h : Helper) → Good g → Contains (g ∷ []) h → Good h
+  only_good g h r i = subst Good (only_one g h i) r
+
+  of_helper : (g h : Helper) → Good g → Contains (used_helpers g) h → Good h
+  of_helper helpers.NotNull h r i = only_good (helpers.Throws failures.NullReceiver) h r i
+  of_helper helpers.IntQuotient h r i = only_good (helpers.Throws failures.Division) h r i
+  of_helper helpers.IntRemainder h r i = only_good (helpers.Throws failures.Division) h r i
+  of_helper helpers.LongQuotient h r i = only_good (helpers.Throws failures.Division) h r i
+  of_helper helpers.LongRemainder h r i = only_good (helpers.Throws failures.Division) h r i
+  of_helper helpers.BoxedChar h r i = only_good (helpers.ConstantsOf kinds.Char) h tt i
+  of_helper (helpers.ConstantsOf k) h r i = nothing_in h i
+  of_helper (helpers.TestOf kinds.Char) h r i = only_good helpers.BoxedChar h tt i
+  of_helper (helpers.TestOf k) h r i = nothing_in h i
+  of_helper (helpers.Throws f) h r i = nothing_in h i
+  of_helper _ h r i = absurd r
+
+  -- bindings of a piece that are of no other helper
+  abbrev Q : Binding → Type 0
+  Q = Only Good
+
+  none : All Q []
+  none = All-nil Q
+
+  one : (b : Binding) → Q b → All Q (b ∷ [])
+  one b q = All-cons Q b [] q none
+
+  box : Q (helper (codes "$C"))
+  box h same = subst Good (sym (named_box h same)) tt
+
+  abbrev EachGood : List Piece → Type 0
+  EachGood ps = (p : Piece) → Contains ps p → All Q p.uses
+
+  no_pieces : EachGood []
+  no_pieces p i = nothing_in p i
+
+  one_piece : (p : Piece) → All Q p.uses → EachGood (p ∷ [])
+  one_piece p h q i = subst (λ (x : Piece). All Q x.uses) (only_one p q i) h
+
+  more_pieces : (p : Piece) (ps : List Piece) → All Q p.uses → EachGood ps → EachGood (p ∷ ps)
+  more_pieces p ps h k q i = ⊎_elim (λ e. subst (λ (x : Piece). All Q x.uses) e h) (λ j. k q j) (first_or_later p ps q i)
+
+  joined : (ps qs : List Piece) → EachGood ps → EachGood qs → EachGood (ps ++ qs)
+  joined ps qs h k p i = ⊎_elim (h p) (k p) (Contains-append_cases ps qs p i)
+
+  pieces_when : (b : Bool) (ps : List Piece) → (b ≡ true → EachGood ps) → EachGood (when b ps)
+  pieces_when true ps h = h refl
+  pieces_when false ps h = no_pieces
+
+  -- the functions of methods
+  reads : (e : EmittedMethod) → Contains all e → (o : Info) → Contains (asked_in e.its_body) o → Reads l.world entries (Reachable l.world entries) o
+  reads e i o h = record {
+    member = e.member;
+    needed = needed l.world entries all bodies e i;
+    definition = e.definition;
+    defined = defined l.world e.member e.definition (bodies.found e i).found;
+    asked = subst (λ (b : Option Term). Contains (asked_by_body b) o) (sym (bodies.found e i).has_body) h;
+  }
+
+  of_body : (e : EmittedMethod) → Contains all e → (h : Helper) → UsesIt (asked_in e.its_body) h → Good h
+  of_body e i _ (a_check k) = reads e i (Throws (codes "java.lang.NullPointerException")) k
+  of_body e i _ (a_division h d k) = good_division h d (reads e i (Throws (codes "java.lang.ArithmeticException")) k)
+  of_body e i _ a_char = tt
+
+  method_good : (e : EmittedMethod) → Contains all e → All Q (piece_of_member e).uses
+  method_good e i =
+      let o = owner_of l.world e.member e.definition (bodies.found e i).found in
+      let among = Contains-permutation l.world accepted.classes o.owner (IsPermutation-sym accepted.classes l.world accepted.world.sorted.same) o.in_world in
+      let kept = class-keeps o.owner (accepted.kept o.owner among) e.definition o.listed in
+      weaken (piece_of_member e).uses (all_used o.owner e.definition e.its_body (bodies.found e i).has_body kept)
+    where
+      weaken : (bs : List Binding) → All (Only (UsesIt (asked_in e.its_body))) bs → All Q bs
+      weaken bs h = All-weaker (Only (UsesIt (asked_in e.its_body))) Q (λ b f k same. of_body e i k (f k same)) bs h
+
+  methods_good : (es : List EmittedMethod) → ((e : EmittedMethod) → Contains es e → Contains all e) → EachGood (map piece_of_member es)
+  methods_good es h p i = let m = from_map piece_of_member es p i in subst (λ (x : Piece). All Q x.uses) m.is (method_good m.item (h m.item m.among))
+
+  -- the pieces of a class
+  parent_good : (s : Option Name) → All Q (parent_uses s)
+  parent_good None = none
+  parent_good (Some s) = one (bound s (class_name s)) (λ h same. no_helper (bound s (class_name s)) 1 refl refl h same)
+
+  box_good : (b : Bool) → All Q (if b then helper (codes "$C") ∷ [] else [])
+  box_good true = one (helper (codes "$C")) box
+  box_good false = none
+
+  entry_good : (e : MethodEntry) → All Q (entry_uses e)
+  entry_good e = go (is_proxy e)
+    where
+      go : (b : Bool) → All Q (if b then box_uses e.target.method else bound e.target.class (member_name e.target) ∷ [])
+      go true = box_good (is_char e.target.method.result)
+      go false = one (bound e.target.class (member_name e.target)) (only_function Good e.target)
+
+  entries_good : (es : List MethodEntry) → All Q (uses_of_entries es)
+  entries_good [] = none
+  entries_good (e ∷ es) = combine Q (entry_uses e) (uses_of_entries es) (entry_good e) (entries_good es)
+
+  class_good : (c : Name) (s : Option Name) (es : List MethodEntry) (fs : List FieldDef) → All Q (class_piece c s es fs).uses
+  class_good c s es fs = once_in Q [] (class_uses c s es) (combine Q (parent_uses s) (own_constants c ∷ uses_of_entries es) (parent_good s) (All-cons Q (own_constants c) (uses_of_entries es) (λ h same. no_helper (own_constants c) 0 refl refl h same) (entries_good es)))
+
+  statics_good : (c : Name) (fs : List FieldDef) → EachGood (all_statics c fs)
+  statics_good c [] = no_pieces
+  statics_good c (f ∷ fs) = more_pieces (variable_piece c f) (setter_piece c f ∷ all_statics c fs) none (more_pieces (setter_piece c f) (all_statics c fs) (one (bound c (field_binding Variable c f.name)) (λ h same. no_helper (bound c (field_binding Variable c f.name)) 2 refl refl h same)) (statics_good c fs))
+
+  cell : (c : Name) → Q (bound c (class_binding Instance c))
+  cell c h same = no_helper (bound c (class_binding Instance c)) 4 refl refl h same
+
+  load_good : (c : Name) → All Q (load_piece c).uses
+  load_good c = All-cons Q (bound c (class_binding Instance c)) (bound c (init_name c) ∷ bound c (class_name c) ∷ []) (cell c) (All-cons Q (bound c (init_name c)) (bound c (class_name c) ∷ []) (λ h same. no_helper (bound c (init_name c)) 9 (function_rank Constructor c init) refl h same) (one (bound c (class_name c)) (λ h same. no_helper (bound c (class_name c)) 1 refl refl h same)))
+
+  cells_good : (c : Name) (loaded : Bool) → EachGood (cell_pieces c loaded)
+  cells_good c loaded = more_pieces (cell_piece c) (when loaded (load_piece c ∷ []) ++ store_piece c ∷ []) none (joined (when loaded (load_piece c ∷ [])) (store_piece c ∷ []) (pieces_when loaded (load_piece c ∷ []) (λ h. one_piece (load_piece c) (load_good c))) (one_piece (store_piece c) (one (bound c (class_binding Instance c)) (cell c))))
+
+  kind_good : (k : Kind) → Q (test_binding k)
+  kind_good k h same = named_test Good (λ j. tt) k h same
+
+  kinds_good : (ks : List Kind) → All Q (map test_binding ks)
+  kinds_good [] = none
+  kinds_good (k ∷ ks) = All-cons Q (test_binding k) (map test_binding ks) (kind_good k) (kinds_good ks)
+
+  test_good : (ks : List Kind) (o : Option Kind) → All Q (test_uses ks o)
+  test_good ks (Some k) = one (test_binding k) (kind_good k)
+  test_good ks None = kinds_good ks
+
+  cast_good : (c : Name) → Asked (codes "java.lang.ClassCastException") → All Q (cast_piece c).uses
+  cast_good c r = All-cons Q (bound c (class_binding IsInstance c)) (helper (codes "$cce") ∷ []) (λ h same. no_helper (bound c (class_binding IsInstance c)) 7 refl refl h same) (one (helper (codes "$cce")) (λ h same. subst Good (sym (named_cast h same)) r))
+
+  cast_read : (c : Name) → HasForm l.world l.facts (forms.Cast c) → Asked (codes "java.lang.ClassCastException")
+  cast_read c h = record { member = h.member; needed = reached (Body h.member) h.needed; definition = h.definition; defined = h.defined; asked = body_asks c h.definition.body h.has }
+
+  own_good : (c : Name) (p : Parts) → AreParts l c p → EachGood (pieces p)
+  own_good c p are =
+      let n = p.class.name in
+      let first = constants_of p in
+      let second = class_pieces_of p in
+      let third = all_statics n p.statics in
+      let fourth = module_of p in
+      let test = test_piece n p.instances (kind_of_class n all_kinds) in
+      let tests = when (p.is_tested || p.is_cast) (test ∷ []) in
+      joined (first ++ second ++ third ++ fourth) (tests_of p) (joined (first ++ second ++ third) fourth (joined (first ++ second) third (joined first second (pieces_when (p.is_live || p.is_base) (constants_piece n p.ancestors ∷ []) (λ h. one_piece (constants_piece n p.ancestors) none)) (pieces_when p.is_live (class_piece n p.class.superclass p.entries p.fields ∷ []) (λ h. one_piece (class_piece n p.class.superclass p.entries p.fields) (class_good n p.class.superclass p.entries p.fields)))) (statics_good n p.statics)) (pieces_when (p.is_loaded || p.is_stored) (cell_pieces n p.is_loaded) (λ h. cells_good n p.is_loaded))) (joined tests (when p.is_cast (cast_piece n ∷ [])) (pieces_when (p.is_tested || p.is_cast) (test ∷ []) (λ h. one_piece test (test_good p.instances (kind_of_class n all_kinds)))) (pieces_when p.is_cast (cast_piece n ∷ []) (λ h. one_piece (cast_piece n) (cast_good n (cast_read c (are.cast.0 h))))))
+
+  class_pieces_good : (c : Name) (ps : List Piece) → AreClassPieces l c ps → EachGood ps
+  class_pieces_good c ps (absent e is) = subst EachGood (sym is) no_pieces
+  class_pieces_good c ps (present p are is) = subst EachGood (sym is) (own_good c p are)
+
+  block_good : (c : Name) (b : Block) → IsBlock l all c b → EachGood (pieces_of_block b)
+  block_good c b h = joined b.own (map piece_of_member b.methods) (class_pieces_good c b.own h.own) (methods_good b.methods (λ e i. ((h.methods.exact e).0 i).0))
+
+  blocks_good : (cs : List Name) (bs : List Block) → AreBlocks l all cs bs → EachGood (flat_map pieces_of_block bs)
+  blocks_good [] [] h = no_pieces
+  blocks_good [] (b ∷ bs) h = absurd h
+  blocks_good (c ∷ cs) [] h = absurd h
+  blocks_good (c ∷ cs) (b ∷ bs) h = joined (pieces_of_block b) (flat_map pieces_of_block bs) (block_good c b h.0) (blocks_good cs bs h.1)
+
+  used_good : (ps : List Piece) → EachGood ps → (h : Helper) → IsUsed ps h → Good h
+  used_good ps each _ (by_piece p h i u) = All-contains Q p.uses (helper (helper_name h)) (each p i) u h refl
+  used_good ps each _ (by_helper g h k u) = of_helper g h (used_good ps each g k) u
+
+  pub linked_good : (ps : List Piece) (p : AreLinkedPieces l all ps) (h : Helper) → Contains p.helpers h → Good h
+  linked_good ps p h i = used_good (flat_map pieces_of_block p.blocks) (blocks_good p.classes p.blocks p.are_blocks) h ((p.are_helpers.exact h).0 i)
+
+  of_thrown : (c : Name) → Asked c → Reachable l.world entries (Made c) × Reachable l.world entries (Body (message_constructor c))
+  of_thrown c r = (closed l.world entries (Made c) (throw_made c r), closed l.world entries (Body (message_constructor c)) (asked_body (message_constructor c) (of_throw c r)))
+
+  pub thrown : (f : Failure) → Good (helpers.Throws f) → Reachable l.world entries (Made (failure_class f)) × Reachable l.world entries (Body (message_constructor (failure_class f)))
+  thrown failures.NullReceiver r = of_thrown (codes "java.lang.NullPointerException") r
+  thrown failures.Division r = of_thrown (codes "java.lang.ArithmeticException") r
+  thrown failures.Cast r = of_thrown (codes "java.lang.ClassCastException") r
+  thrown failures.Index r = absurd r
+  thrown failures.Store r = absurd r
+  thrown failures.Size r = absurd r
+  thrown failures.Method r = absurd r
+
+pub of_objects : HelpersAreOfObjects
+of_objects entries files l all ps accepted bodies reached objects p h i = good_helper entries files l all accepted bodies reached h (linked_good entries files l all accepted bodies reached ps p h i)
+
+pub reached : ThrownClassesAreReached
+reached entries files l all ps accepted bodies known objects p f i = thrown entries files l all accepted bodies known f (linked_good entries files l all accepted bodies known ps p (helpers.Throws f) i)
