@@ -70,10 +70,10 @@ use Rattle.body_uses.proofs.Standing.{Stands, each_stands}
 any_of : {X : Type 0} (p : X → Bool) (xs : List X) (x : X) → Contains xs x → p x ≡ true → list_any p xs ≡ true
 any_of {X} p xs x h t = list_any_at p xs h.0 x h.1 (subst (λ (y : X). p y ≡ true) (sym h.2) t)
 
-some_same : (a b : Term) → ◌≡◌ {A = Option Term} (Some a) (Some b) → a ≡ b
+pub some_same : (a b : Term) → ◌≡◌ {A = Option Term} (Some a) (Some b) → a ≡ b
 some_same a b e = cc
 
-all_at : {X : Type 0} (P : X → Type 0) (xs : List X) → All P xs → (x : X) → Contains xs x → P x
+pub all_at : {X : Type 0} (P : X → Type 0) (xs : List X) → All P xs → (x : X) → Contains xs x → P x
 all_at P [] h x i = nothing_in x i
 all_at {X} P (y ∷ ys) h x i = elim (first_or_later y ys x i) [
   | inl same ↦ subst P same (All-head P y ys h)
@@ -114,7 +114,7 @@ module _ (w : Classes) where
   divisor _ e d h = tt
 
   -- a field of this type is a field of the world
-  field_there : (c f : Name) (t : IrType) → HasFieldType w c f false t → has_field_in (class_of w c) f t ≡ true
+  pub field_there : (c f : Name) (t : IrType) → HasFieldType w c f false t → has_field_in (class_of w c) f t ≡ true
   field_there c f t h =
       let own = h.is_field in
       let same_name : is_same_text f h.field.name ≡ true = subst (λ (x : Name). is_same_text f x ≡ true) (sym own.first.has.name_is) (text-refl f) in
