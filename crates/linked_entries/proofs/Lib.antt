@@ -1,1 +1,5 @@
+pub mod Below
+pub mod Names
 pub mod One
+pub mod Read
+pub mod Targets

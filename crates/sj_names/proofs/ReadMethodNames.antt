@@ -133,10 +133,10 @@ read_method (simple ∷ others) method e =
         )
 
 -- no spelling holds a semicolon
-lacks_semicolon : List ℕ → Bool
+unfoldable pub lacks_semicolon : List ℕ → Bool
 lacks_semicolon = list_all (λ b. not (b == 59))
 
-Whole-lacks : (bs : List ℕ) → lacks_semicolon bs ≡ true → Whole bs
+pub Whole-lacks : (bs : List ℕ) → lacks_semicolon bs ≡ true → Whole bs
 unfolding lacks_semicolon
 Whole-lacks [] e i inside = absurd (omega arith)
 Whole-lacks (b ∷ bs) e zero inside = let parts = and_parts (not (b == 59)) (lacks_semicolon bs) e in let h : not (b == 59) ≡ true = parts.0 in λ same. grind arith
@@ -150,7 +150,7 @@ unfolding lacks_semicolon
 plain_lacks [] e = refl
 plain_lacks (b ∷ bs) e = let parts = and_parts (is_name_byte b) (list_all is_name_byte bs) e in and_from (not (b == 59)) (lacks_semicolon bs) (name_byte_lacks b parts.0) (plain_lacks bs parts.1)
 
-dotted_lacks : (begun : Bool) (bs : List ℕ) → is_dotted begun bs ≡ true → lacks_semicolon bs ≡ true
+pub dotted_lacks : (begun : Bool) (bs : List ℕ) → is_dotted begun bs ≡ true → lacks_semicolon bs ≡ true
 unfolding lacks_semicolon
 dotted_lacks begun [] e = refl
 dotted_lacks begun (b ∷ bs) e =
@@ -159,7 +159,7 @@ dotted_lacks begun (b ∷ bs) e =
       | false ↦ λ is h. let parts = and_parts (is_name_byte b) (is_dotted true bs) h in and_from (not (b == 59)) (lacks_semicolon bs) (name_byte_lacks b parts.0) (dotted_lacks true bs parts.1)
     ] refl e
 
-simple_lacks : (bs : List ℕ) → is_simple_name bs ≡ true → lacks_semicolon bs ≡ true
+pub simple_lacks : (bs : List ℕ) → is_simple_name bs ≡ true → lacks_semicolon bs ≡ true
 unfolding lacks_semicolon
 simple_lacks bs e =
     elim (is_plain_name bs) as (λ v. is_plain_name bs ≡ v → (v || pointwise nat_eq bs (codes "<init>")) ≡ true → lacks_semicolon bs ≡ true) [
@@ -167,7 +167,7 @@ simple_lacks bs e =
       | false ↦ λ is h. subst (λ t. lacks_semicolon t ≡ true) (sym ((bytes_decides bs (codes "<init>")).0 h)) refl
     ] refl e
 
-array_lacks : (n : ℕ) (b : BaseRef) → IsBase b → lacks_semicolon (replicate n 91 ++ spelled_base b) ≡ true
+pub array_lacks : (n : ℕ) (b : BaseRef) → IsBase b → lacks_semicolon (replicate n 91 ++ spelled_base b) ≡ true
 unfolding lacks_semicolon
 array_lacks zero base.Boolean is = refl
 array_lacks zero base.Char is = refl
@@ -228,7 +228,7 @@ not_proxy_array zero base.Long = refl
 not_proxy_array zero (base.Class name) = refl
 not_proxy_array (suc n) b = refl
 
-not_proxy : (r : TypeRef) → pointwise nat_eq (spelled r) (codes "R") ≡ false
+pub not_proxy : (r : TypeRef) → pointwise nat_eq (spelled r) (codes "R") ≡ false
 not_proxy Void = refl
 not_proxy Boolean = refl
 not_proxy Char = refl

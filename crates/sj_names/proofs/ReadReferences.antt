@@ -30,7 +30,7 @@ text-dimensions (b ∷ text) =
           ap (λ n. replicate n 91 ++ (b ∷ text)) none
     ] refl
 
-behind-spelled_base : (n : ℕ) (b : BaseRef) → behind_dimensions (replicate n 91 ++ spelled_base b) ≡ spelled_base b
+pub behind-spelled_base : (n : ℕ) (b : BaseRef) → behind_dimensions (replicate n 91 ++ spelled_base b) ≡ spelled_base b
 behind-spelled_base zero base.Boolean = refl
 behind-spelled_base zero base.Char = refl
 behind-spelled_base zero base.Byte = refl
@@ -96,7 +96,7 @@ not_void zero base.Long = refl
 not_void zero (base.Class name) = refl
 not_void (suc n) b = refl
 
-dimensions-spelled : (n : ℕ) (b : BaseRef) → dimensions (replicate n 91 ++ spelled_base b) ≡ n
+pub dimensions-spelled : (n : ℕ) (b : BaseRef) → dimensions (replicate n 91 ++ spelled_base b) ≡ n
 dimensions-spelled n b =
     omega (arith, ap length (behind-spelled_base n b), length-append (replicate n 91) (spelled_base b), length-replicate {A = ℕ} n 91)
 

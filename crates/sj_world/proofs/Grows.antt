@@ -51,7 +51,7 @@ into_filter p (y ∷ ys) x passes h = go (into_filter p ys x passes) (p y) refl 
     go below false e (inl first) = let t : false ≡ true = sym e ∙ ap p (only (Contains-push_cases [] y x first)) ∙ passes in cc
 
 module _ (w : Classes) where
-  parent_cases : (b x : Name) → IsParent w b x → (object ≡ x) ⊎ IsWritten w (stands_as b) x
+  pub parent_cases : (b x : Name) → IsParent w b x → (object ≡ x) ⊎ IsWritten w (stands_as b) x
   parent_cases b x h = go (class_of w (stands_as b)) refl
     where
       above : Contains (above_in (class_of w (stands_as b)) (stands_as b)) x
@@ -114,7 +114,7 @@ module _ (w : Classes) where
 
   module _ (plain : IsPlain w) where
     -- a path of parents from a class that isn't hijacked ends at `java.lang.Object`, or is one of what is written
-    climbs : (d x : Name) → is_hijacked d ≡ false → Path (IsParent w) d x → (object ≡ x) ⊎ (Path (IsWritten w) d x × (is_hijacked x ≡ false))
+    pub climbs : (d x : Name) → is_hijacked d ≡ false → Path (IsParent w) d x → (object ≡ x) ⊎ (Path (IsWritten w) d x × (is_hijacked x ≡ false))
     climbs d x h stay = inr (stay, h)
     climbs d x h (on b _ path step) = go (climbs d b h path) (parent_cases b x step)
       where
