@@ -1,5 +1,5 @@
 -- No two method names have one spelling, whatever the number of an array's dimensions is.
-use Rattle.std.proofs.Common.{◌≡◌, ◌≢◌, ◌≤◌, ℕ, true, false, List, [], ◌∷◌, ◌++◌, refl, sym, ap, ◌∙◌, arith, append_assoc, append-nil, replicate, Option, Some, None, option_map, if◌then◌else◌, MatchOption, IsTrue}
+use Rattle.std.proofs.Common.{◌≡◌, ◌≤◌, ℕ, true, false, List, [], ◌∷◌, ◌++◌, refl, sym, ap, ◌∙◌, arith, append_assoc, append-nil, replicate, Option, Some, None, option_map, if◌then◌else◌, MatchOption, IsTrue}
 use Rattle.std.specs.Prelude.{◌==◌, nat_eq, codes}
 use Rattle.std.specs.List.{All}
 use Rattle.std.specs.Cmp.Lexicographic.{pointwise, bytes_decides}

@@ -1,12 +1,11 @@
 -- The method entries of an accepted folder are one list.
-use Rattle.std.proofs.Common.{◌≡◌, ◌↔◌, ◌<◌, ℕ, zero, suc, Bool, true, false, List, [], ◌∷◌, Option, Some, None, refl, sym, ap, subst, ◌∙◌, Contains, slice_get, arith, MatchOption, IsTrue}
+use Rattle.std.proofs.Common.{◌≡◌, ◌↔◌, ◌<◌, ℕ, suc, true, false, List, [], ◌∷◌, Option, Some, None, refl, sym, subst, Contains, slice_get, arith}
 use Rattle.std.specs.Prelude.{is_some}
-use Rattle.std.specs.Cmp.Lexicographic.{slice_cmp, nat_list_cmp_total}
-use Rattle.std.specs.Ordering.{nat_cmp, is_lt, ordering_reverse, ordering_then}
+use Rattle.std.specs.Cmp.Lexicographic.{nat_list_cmp_total}
+use Rattle.std.specs.Ordering.{is_lt, ordering_reverse, ordering_then}
 use Rattle.std.specs.declared.cmp.Ordering.{Ordering}
 use Rattle.std.specs.declared.cmp.Ordering.TheVariants.{Less, Equal, Greater}
 use Rattle.std.proofs.lemmas.List.Sorted.{Contains-permutation, IsPermutation-sym}
-use Rattle.std.proofs.lemmas.Option.{slice_get-get_or}
 use Rattle.accepted_folders.specs.Accepted.{IsAccepted}
 use Rattle.body_rules.proofs.Plain.{plain_world}
 use Rattle.entry_rules.specs.Entries.{IsTarget, IsLive, IsWanted, IsInherited, IsDirect, IsReflective, IsProxy, IsMethodEntry, direct, proxy, entry_cmp, AreEntries}
@@ -18,7 +17,6 @@ use Rattle.linked_pieces.proofs.Names.{tied_name}
 use Rattle.linked_pieces.proofs.Order.{one_order}
 use Rattle.proxy_targets.specs.Proxies.{IsTargetName}
 use Rattle.reach_rules.specs.Rules.{public_member}
-use Rattle.sj_format.specs.Files.{FileIs}
 use Rattle.sj_kept.proofs.Classes.{keeps-superclass, keeps-hijacked, result-keeps}
 use Rattle.sj_local.specs.Broken.{FirstBroken}
 use Rattle.sj_names.proofs.Same.{impossible}
@@ -33,7 +31,6 @@ use Rattle.sj_world.proofs.Orders.{compared, same_name, same_compared}
 use Rattle.sj_world.proofs.Searches.{contains_at, stands_at}
 use Rattle.sj_world.specs.Known.{Name, Classes}
 use Rattle.sj_world.specs.Laws.{IsPlain}
-use Rattle.sj_world.specs.Refusals.{is_before}
 use Rattle.sj_world.specs.declared.facts.Fact.{Fact}
 use Rattle.sj_world.specs.declared.facts.Fact.TheVariants as fact
 use Rattle.sj_world.specs.declared.linked.MethodEntry.{MethodEntry}

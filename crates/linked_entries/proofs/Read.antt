@@ -6,7 +6,7 @@ use Rattle.std.proofs.lemmas.Bool.{ltb-true}
 use Rattle.std.proofs.lemmas.List.Elements.{All-contains}
 use Rattle.file_listings.proofs.Ensures.{AllOf, all_none, all_more, all_first, all_others, entry_meets}
 use Rattle.file_listings.proofs.ListedNames.{plain_base_meets, plain_reference_meets}
-use Rattle.sj_format.specs.Classes.{IsField, IsMethod, IsMemberOf, IsMember, methods_in, IsClass}
+use Rattle.sj_format.specs.Classes.{IsMethod, IsMemberOf, IsMember, methods_in, IsClass}
 use Rattle.sj_format.specs.Files.{IsTables, IsContents, FileIs}
 use Rattle.sj_format.specs.References as refs
 use Rattle.sj_format.specs.Spelling.{Spelling, ◌then◌, Gives_value, Never, chosen, Found, Tested, IsByte, IsNumber, IsEach, IsList}
@@ -19,7 +19,6 @@ use Rattle.sj_format.specs.declared.members.MemberDef.TheVariants.{Field, Method
 use Rattle.sj_names.specs.Bases.{IsBase}
 use Rattle.sj_names.specs.Grammar.{is_class_name, is_simple_name}
 use Rattle.sj_names.specs.References.{IsReference}
-use Rattle.sj_names.specs.declared.method_names.MethodName.{MethodName}
 use Rattle.sj_names.specs.declared.references.ArrayRef.{ArrayRef}
 use Rattle.sj_names.specs.declared.references.TypeRef.{TypeRef}
 use Rattle.sj_names.specs.declared.references.TypeRef.TheVariants.{Void, Boolean, Char, Byte, Short, Int, Long, Class, Array}

@@ -1,5 +1,5 @@
 -- A reflective name has one target in a class, and the name of each method that is found stands in its class.
-use Rattle.std.proofs.Common.{◌≡◌, Bool, true, false, List, Option, Some, None, refl, sym, ap, subst, ◌∙◌, Contains, IsTrue}
+use Rattle.std.proofs.Common.{◌≡◌, true, Option, Some, None, sym, ap, subst, ◌∙◌, Contains}
 use Rattle.std.specs.Prelude.{is_some}
 use Rattle.body_rules.proofs.Plain.{class_found}
 use Rattle.entry_rules.specs.Entries.{IsTarget}
