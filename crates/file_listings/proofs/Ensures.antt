@@ -95,7 +95,7 @@ big_from_below (suc n) i xs all =
 pub a_number : (n : ℕ) → Ensures (λ x. x < 256 ^ n) (IsNumber n)
 a_number n = record { meets = λ x text bytes s. subst (λ y. y < 256 ^ n) (sym s.value) (big_from_below n 0 text bytes) }
 
-entry_meets : {A : Type 0} (Q : A → Type 0) (table : List A) (n : ℕ) → AllOf Q table → MatchOption (slice_get table n) (Unit {0}) Q
+pub entry_meets : {A : Type 0} (Q : A → Type 0) (table : List A) (n : ℕ) → AllOf Q table → MatchOption (slice_get table n) (Unit {0}) Q
 entry_meets Q [] n all = tt
 entry_meets Q (x ∷ xs) zero all = all_first x xs all
 entry_meets Q (x ∷ xs) (suc n) all = entry_meets Q xs n (all_others x xs all)

@@ -65,7 +65,7 @@ pub record IsTextBase (base : BaseRef) : Type 0 where
   pub is : IsBase base
   pub utf8 : IsUtf8 (spelled_base base)
 
-plain_base_meets : (code : ℕ) → MatchOption (refs.plain_base code) (Unit {0}) IsTextBase
+pub plain_base_meets : (code : ℕ) → MatchOption (refs.plain_base code) (Unit {0}) IsTextBase
 plain_base_meets code = plain (code == 2) (code == 3) (code == 4) (code == 5) (code == 6) (code == 7)
   where
     letter : (b : ℕ) → b < 128 → IsUtf8 (b ∷ [])
@@ -111,7 +111,7 @@ pub record IsTextParameter (reference : TypeRef) : Type 0 where
   pub is : IsParameter reference
   pub utf8 : IsUtf8 (spelled reference)
 
-plain_reference_meets : (code : ℕ) → MatchOption (refs.plain_reference code) (Unit {0}) IsTextParameter
+pub plain_reference_meets : (code : ℕ) → MatchOption (refs.plain_reference code) (Unit {0}) IsTextParameter
 plain_reference_meets code = plain (code == 2) (code == 3) (code == 4) (code == 5) (code == 6) (code == 7)
   where
     letter : (b : ℕ) → b < 128 → IsUtf8 (b ∷ [])

@@ -1,1 +1,1 @@
-mod Named
+pub mod Named

@@ -163,14 +163,14 @@ pub record SomeChosen (w : Classes) (p : MethodName) (name : Name) : Type 0 wher
   pub definition : MethodDef
   pub chosen : IsChosenAt w p name definition
 
-chosen_named : (w : Classes) (p : MethodName) (methods : List MethodDef) (d : MethodDef) → IsChosen w p methods d → Contains methods d × IsNamedBy p d
+pub chosen_named : (w : Classes) (p : MethodName) (methods : List MethodDef) (d : MethodDef) → IsChosen w p methods d → Contains methods d × IsNamedBy p d
 chosen_named w p methods d (narrowest h) = (h.among, h.named)
 chosen_named w p methods d (least _ h) = (h.among, h.named)
 
-not_lacking : (w : Classes) (p : MethodName) (n : Name) → HasNoneNamed w p n → SomeChosen w p n → ⊥
+pub not_lacking : (w : Classes) (p : MethodName) (n : Name) → HasNoneNamed w p n → SomeChosen w p n → ⊥
 not_lacking w p n none h = let k = chosen_named w p h.chosen.class.methods h.definition h.chosen.chosen in (none.none h.chosen.class h.chosen.is_class).none k.0.0 h.definition (stands_at h.chosen.class.methods h.definition k.0) k.1
 
-same_class : (a b : ClassDef) → Some a ≡ Some b → a ≡ b
+pub same_class : (a b : ClassDef) → Some a ≡ Some b → a ≡ b
 same_class a b e = cc
 
 -- the names of what is chosen in the class of one target are those of all targets

@@ -118,15 +118,17 @@ result-is : (t : IrType) (o : Option TypeRef) → is_some o ≡ true → has_res
 result-is t None h k = impossible h
 result-is t (Some r) h k = type-same t (reference_type r) k
 
+-- a rule on methods that a class keeps
+method-passes : (c : ClassDef) (r : Rule) → None ≡ option_map (at_method c) (first_where (breaks_method c r) c.methods) → (m : MethodDef) → Contains c.methods m → breaks_method c r m ≡ false
+method-passes c r e m i = none-passes (breaks_method c r) c.methods (no-place c (first_where (breaks_method c r) c.methods) e) m i
+
+-- each method's name has a result
+pub result-keeps : (c : ClassDef) → FirstBroken c None → (m : MethodDef) → Contains c.methods m → is_some m.name.result ≡ true
+result-keeps c h m i = not-broken (is_some m.name.result) (second-false (is_init m.name.simple && not (is_constructor m.namespace && is_void m.name.result)) (not (is_some m.name.result)) (method-passes c rule.MethodName (none-each (Breaks c) 1 all_rules None h refl rule.MethodName (5, omega arith, refl)) m i))
+
 -- the types that a method's name tells
 pub signature-keeps : (c : ClassDef) → FirstBroken c None → (m : MethodDef) → Contains c.methods m → HaveTypes m.params m.name.params × (m.result ≡ call_type m.name.result)
-signature-keeps c h m i = (types-are m.params m.name.params parts.0, result-is m.result m.name.result named parts.1)
+signature-keeps c h m i = (types-are m.params m.name.params parts.0, result-is m.result m.name.result (result-keeps c h m i) parts.1)
   where
-    kept : (r : Rule) → Contains all_rules r → Breaks c r None
-    kept r k = none-each (Breaks c) 1 all_rules None h refl r k
-
     parts : (pointwise is_same_type (map (λ (p : ParamDef). p.tpe) m.params) (map reference_type m.name.params) ≡ true) × (has_result m.result m.name.result ≡ true)
-    parts = and_parts (pointwise is_same_type (map (λ (p : ParamDef). p.tpe) m.params) (map reference_type m.name.params)) (has_result m.result m.name.result) (not-broken (pointwise is_same_type (map (λ (p : ParamDef). p.tpe) m.params) (map reference_type m.name.params) && has_result m.result m.name.result) (none-passes (breaks_method c rule.Signature) c.methods (no-place c (first_where (breaks_method c rule.Signature) c.methods) (kept rule.Signature (6, omega arith, refl))) m i))
-
-    named : is_some m.name.result ≡ true
-    named = not-broken (is_some m.name.result) (second-false (is_init m.name.simple && not (is_constructor m.namespace && is_void m.name.result)) (not (is_some m.name.result)) (none-passes (breaks_method c rule.MethodName) c.methods (no-place c (first_where (breaks_method c rule.MethodName) c.methods) (kept rule.MethodName (5, omega arith, refl))) m i))
+    parts = and_parts (pointwise is_same_type (map (λ (p : ParamDef). p.tpe) m.params) (map reference_type m.name.params)) (has_result m.result m.name.result) (not-broken (pointwise is_same_type (map (λ (p : ParamDef). p.tpe) m.params) (map reference_type m.name.params) && has_result m.result m.name.result) (method-passes c rule.Signature (none-each (Breaks c) 1 all_rules None h refl rule.Signature (6, omega arith, refl)) m i))
