@@ -1,5 +1,6 @@
 -- A folder is linked: its pieces are those of all needed bodies, and its files those of the plan.
 use Rattle.std.proofs.Common.{◌≡◌, ◌↔◌, ℕ, suc, Bool, true, false, List, [], ◌∷◌, ◌⊎◌, inl, inr, Some, refl, sym, ap, subst, ◌∙◌, map, length, Contains, arith}
+use Rattle.std.specs.Prelude.{Result, Ok, Err, IfOk}
 use Rattle.std.specs.List.{All, AllByRecursion, IsDistinct}
 use Rattle.std.proofs.lemmas.List.{length-map}
 use Rattle.std.proofs.lemmas.List.Sorted.{Contains-permutation, IsPermutation-sym}
@@ -166,7 +167,7 @@ all_defined entries l can k h = needed_bodies l.world entries keeps can.is_accep
     keeps c among = can.is_accepted.kept c (Contains-permutation l.world can.is_accepted.classes c (IsPermutation-sym can.is_accepted.classes l.world can.is_accepted.world.sorted.same) among)
 
 module _ (entries : List EntryPoint) (l : Linked) (can : IsLinkable entries l) (fs : List Function) (are : AreFunctions l.world (members_of l.facts) fs) where
-  abbrev all : List EmittedMethod
+  abbrev pub all : List EmittedMethod
   all = methods l.world fs are.each
 
   same_members : map member_in all ≡ members_of l.facts
@@ -210,3 +211,8 @@ module _ (entries : List EntryPoint) (l : Linked) (can : IsLinkable entries l) (
     are = record { all = all; bodies = bodies; facts = l.facts; are_facts = can.reached.exact; linked = l; is_linked = record { world = refl; facts_are = refl; entries = can.method_entries }; are = pieces };
     rules = rules;
   }
+
+-- two things that are known of what was answered
+pub both_known : {A E : Type 0} (r : Result A E) (P Q R : A → Type 0) → ((a : A) → P a → Q a → R a) → IfOk r P → IfOk r Q → IfOk r R
+both_known (Ok a) P Q R f p q = f a p q
+both_known (Err e) P Q R f p q = tt
