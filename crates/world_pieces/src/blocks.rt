@@ -1,5 +1,5 @@
 // The classes with their own pieces and their functions.
-ghost use Rattle.std.specs.Prelude.{◌≡◌, map, IfOk};
+ghost use Rattle.std.specs.Prelude.{◌≡◌, List, map, IfOk};
 ghost use Rattle.std.specs.List.{IsDistinct, filter};
 ghost use Rattle.class_needs.specs.Needs.{AreNeeds};
 ghost use Rattle.js_tree.specs.declared.items.JsPiece.{JsPiece as Function};
