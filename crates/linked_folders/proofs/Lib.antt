@@ -1,5 +1,4 @@
 pub mod Planned
-pub mod Live
 pub mod Links
 pub mod One
 pub mod Edits

@@ -1,0 +1,4 @@
+pub mod Planned
+mod Live
+pub mod Links
+pub mod One
