@@ -1,14 +1,13 @@
 -- Each body of the forms with objects is built with what it is given.
-use Rattle.std.proofs.Common.{◌≡◌, ℕ, Bool, true, false, List, [], ◌∷◌, ◌++◌, ◌||◌, ◌⊎◌, inl, inr, None, refl, sym, subst, Contains, if◌then◌else◌}
+use Rattle.std.proofs.Common.{◌≡◌, ℕ, Bool, true, false, List, [], ◌∷◌, ◌||◌, ◌⊎◌, inl, inr, None, refl, sym, subst, Contains, if◌then◌else◌}
 use Rattle.std.specs.Prelude.{not}
 use Rattle.std.specs.List.{All, list_any}
 use Rattle.std.proofs.lemmas.Bool.{and_parts, and_from}
 use Rattle.std.proofs.lemmas.List.Elements.{All-nil, All-cons}
 use Rattle.js_tree.specs.declared.items.Binding.{Binding}
 use Rattle.sj_core.specs.Terms as core
-use Rattle.sj_core.specs.Terms.{followed}
-use Rattle.sj_desugar.specs.Desugar.{member, desugared_member, body_code, completed, is_mutable_in, result_destination}
-use Rattle.sj_emit_expr.specs.Uses.{object_binding, uses_of_all, is_same_binding, once_each, uses}
+use Rattle.sj_desugar.specs.Desugar.{desugared_member, body_code, completed, is_mutable_in, result_destination}
+use Rattle.sj_emit_expr.specs.Uses.{uses_of_all, is_same_binding, once_each, uses}
 use Rattle.sj_infos.specs.Trees.{trees}
 use Rattle.sj_judged.proofs.Found.{here, there}
 use Rattle.sj_names.proofs.Same.{impossible, text-same}
@@ -25,7 +24,7 @@ use Rattle.sj_trees.specs.declared.types.IrType.{IrType}
 use Rattle.sure_receivers.specs.Sure.{sure_locals}
 use Rattle.worklist.proofs.Inserted.{nothing_in}
 use Rattle.folder_verdicts.proofs.Undenied.{first_or_later}
-use Rattle.body_uses.specs.Given.{Given, HelpersGiven, body_helpers}
+use Rattle.body_uses.specs.Given.{Given, HelpersGiven}
 use Rattle.body_uses.specs.Laws.{BodiesUseWhatIsGiven, used_by}
 use Rattle.body_uses.proofs.Uses.{Gives, GivesReceived, followed_parts, or_second, tree}
 

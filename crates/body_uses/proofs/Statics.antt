@@ -1,10 +1,10 @@
 -- A body that is built over static members alone is built over those of them that its code names.
-use Rattle.std.proofs.Common.{◌≡◌, ℕ, Bool, true, false, List, [], ◌∷◌, refl, sym, ◌∙◌}
+use Rattle.std.proofs.Common.{◌≡◌, ℕ, Bool, true, false, List, refl, sym}
 use Rattle.std.specs.Prelude.{◌||◌}
 use Rattle.std.specs.List.{All}
 use Rattle.body_rules.proofs.RulesGive.{no_division}
 use Rattle.body_rules.specs.Typing.{may_check}
-use Rattle.built_forms.specs.Built.{Usable, members_alone, divides, is_built}
+use Rattle.built_forms.specs.Built.{Usable, members_alone, is_built}
 use Rattle.js_tree.specs.declared.items.Binding.{Binding}
 use Rattle.sj_desugar.specs.Desugar.{Targets, into, member}
 use Rattle.sj_desugar.specs.Spill.{Destination}

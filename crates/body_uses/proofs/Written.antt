@@ -1,9 +1,9 @@
 -- The bodies of an accepted folder whose classes are written are built with what is written.
-use Rattle.std.proofs.Common.{◌≡◌, ℕ, Bool, true, false, List, [], ◌∷◌, ◌++◌, ◌⊎◌, inl, inr, Option, Some, None, refl, sym, ap, subst, ◌∙◌, Contains, codes, slice_get, if◌then◌else◌}
+use Rattle.std.proofs.Common.{◌≡◌, Bool, true, false, List, [], ◌∷◌, inl, inr, Option, Some, refl, sym, subst, ◌∙◌, Contains, codes}
 use Rattle.std.specs.Prelude.{not, ◌&&◌}
 use Rattle.worklist.proofs.Inserted.{nothing_in}
 use Rattle.std.specs.List.{All, list_any}
-use Rattle.std.proofs.lemmas.Bool.{and_parts, and_from}
+use Rattle.std.proofs.lemmas.Bool.{and_from}
 use Rattle.std.proofs.lemmas.List.Elements.{All-head, All-tail}
 use Rattle.std.proofs.lemmas.List.Folds.{list_any_at}
 use Rattle.body_rules.specs.Typing.{is_built_with}
@@ -16,7 +16,7 @@ use Rattle.helper_rules.specs.declared.kinds.Helper.TheVariants.{NotNull, IntQuo
 use Rattle.js_tree.specs.declared.items.Binding.{Binding}
 use Rattle.reach_rules.proofs.Derivations.{closed}
 use Rattle.reach_rules.specs.Reachable.{Reachable}
-use Rattle.reach_rules.specs.Rules.{Reads, of_call, of_new, asked_body, new_made, constructor_member}
+use Rattle.reach_rules.specs.Rules.{Reads, of_call, of_new, asked_body, new_made}
 use Rattle.sj_desugar.specs.Desugar.{member}
 use Rattle.sj_emit_expr.specs.Templates.{check_name}
 use Rattle.sj_emit_expr.specs.Uses.{object_binding, function_binding, class_use}
@@ -25,8 +25,8 @@ use Rattle.sj_infos.specs.Sure.{sure_among}
 use Rattle.sj_infos.specs.Trees.{trees}
 use Rattle.sj_infos.specs.declared.infos.Info.{Info}
 use Rattle.sj_infos.specs.declared.infos.Info.TheVariants.{New, Static}
-use Rattle.sj_judged.proofs.Found.{here, there}
-use Rattle.sj_names.proofs.Same.{impossible, text-refl}
+use Rattle.sj_judged.proofs.Found.{here}
+use Rattle.sj_names.proofs.Same.{text-refl}
 use Rattle.sj_names.specs.Same.{is_same_text}
 use Rattle.sj_names.specs.WellKnown.{object}
 use Rattle.sj_names.specs.declared.entry_points.EntryPoint.{EntryPoint}
@@ -39,29 +39,25 @@ use Rattle.sj_proper.specs.Emitted.{EmittedMethod}
 use Rattle.sj_sound.specs.Linked.{has_function}
 use Rattle.sj_trees.proofs.SameTypes.{type-refl}
 use Rattle.sj_trees.specs.SameTypes.{is_same_type}
-use Rattle.sj_trees.specs.Term.{Term, Terms, new_object, select, apply_statically, apply_static, binary_op}
-use Rattle.sj_trees.specs.TypeOf.{type_of_term}
+use Rattle.sj_trees.specs.Term.{Term, new_object, select, apply_statically, apply_static, binary_op}
 use Rattle.sj_trees.specs.declared.classes.ClassDef.{ClassDef}
-use Rattle.sj_trees.specs.declared.classes.FieldDef.{FieldDef}
 use Rattle.sj_trees.specs.declared.operators.BinaryOp.{BinaryOp}
-use Rattle.sj_trees.specs.declared.operators.BinaryOp.TheVariants.{StringConcatenate, IntDivide, IntRemainder, LongDivide, LongRemainder}
-use Rattle.sj_trees.specs.declared.positions.Position.{Position}
+use Rattle.sj_trees.specs.declared.operators.BinaryOp.TheVariants.{IntDivide, IntRemainder, LongDivide, LongRemainder}
 use Rattle.sj_trees.specs.declared.types.IrType.{IrType}
-use Rattle.sj_trees.specs.declared.types.IrType.TheVariants.{Int, Long, Nothing}
+use Rattle.sj_trees.specs.declared.types.IrType.TheVariants.{Int, Long}
 use Rattle.sj_world.specs.Known.{Name, Classes, class_of}
 use Rattle.sj_world.proofs.Searches.{contains_at}
 use Rattle.sj_world.specs.Paths.{stay}
-use Rattle.sj_world.specs.Subtypes.{IsSub, equal, from_nothing, to_any, null_to_class, null_to_array, class_to_class, primitive_to_class, arrays_alike, arrays_of_arrays}
+use Rattle.sj_world.specs.Subtypes.{equal, from_nothing, to_any, null_to_class, null_to_array, class_to_class, primitive_to_class, arrays_alike, arrays_of_arrays}
 use Rattle.sj_world.specs.declared.facts.Fact.TheVariants.{Body, Made}
-use Rattle.typing_rules.specs.Nodes.{node}
-use Rattle.typing_rules.specs.Rules.{Fits, HasFieldType, IsStatic, Meets, OperandsFit}
+use Rattle.typing_rules.specs.Rules.{Fits, HasFieldType, IsStatic, OperandsFit}
 use Rattle.typing_rules.specs.Typed.{MeetsThere}
 use Rattle.accepted_folders.specs.Accepted.{IsAccepted}
 use Rattle.accepted_folders.specs.Bodies.{AreBodies}
 use Rattle.accepted_folders.proofs.Calls.{needed}
 use Rattle.accepted_folders.proofs.Members.{has_function-from, defined}
 use Rattle.linked_pieces.specs.Used.{used_of, is_among, is_its_field, has_field_in}
-use Rattle.body_uses.specs.Given.{Given, HelpersGiven, FitsDivision, HasType, body_helpers}
+use Rattle.body_uses.specs.Given.{Given, HelpersGiven, FitsDivision, HasType}
 use Rattle.body_uses.specs.Laws.{used_by, AcceptedBodiesUseWhatIsWritten}
 use Rattle.body_uses.specs.Written.{AreWrittenWith}
 use Rattle.body_uses.proofs.Given.{given}

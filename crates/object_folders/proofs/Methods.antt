@@ -1,5 +1,5 @@
 -- The methods that can be used are found, and their bodies keep the rules.
-use Rattle.std.proofs.Common.{◌≡◌, ℕ, true, List, Option, Some, sym, subst, Contains}
+use Rattle.std.proofs.Common.{◌≡◌, true, List, Option, Some, sym, subst, Contains}
 use Rattle.std.specs.Prelude.{MatchOption}
 use Rattle.std.proofs.lemmas.List.Elements.{All-contains}
 use Rattle.accepted_folders.proofs.Calls.{needed}

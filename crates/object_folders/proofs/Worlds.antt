@@ -7,7 +7,7 @@ use Rattle.accepted_folders.specs.Accepted.{IsAccepted}
 use Rattle.accepted_folders.specs.Bodies.{AreBodies}
 use Rattle.body_soundness.specs.Rules.{RightMember}
 use Rattle.body_soundness.specs.Worlds.{AreClassesKept}
-use Rattle.built_forms.specs.Built.{Usable, is_static}
+use Rattle.built_forms.specs.Built.{is_static}
 use Rattle.file_listings.specs.Listed.{AreBytes}
 use Rattle.helper_rules.specs.declared.kinds.Helper.{Helper}
 use Rattle.linked_pieces.specs.Used.{used_of, is_among, is_received, is_constructor_without_value}

@@ -1,36 +1,26 @@
 -- The classes of an accepted folder are linked to one text.
-use Rattle.std.proofs.Common.{◌≡◌, ◌↔◌, ℕ, Bool, true, false, List, [], ◌∷◌, ◌++◌, cond, Some, None, refl, sym, ap, subst, ◌∙◌, map, Contains}
+use Rattle.std.proofs.Common.{◌≡◌, ◌↔◌, ℕ, Bool, true, false, List, [], ◌∷◌, ◌++◌, cond, None, refl, sym, ap, subst, ◌∙◌, map, Contains}
 use Rattle.std.specs.List.{filter}
 use Rattle.std.proofs.lemmas.List.Sorted.{Contains-permutation, IsPermutation-sym}
-use Rattle.ir_mean.specs.World.{member_of}
 use Rattle.ir_mean.specs.Shows.{initializers}
 use Rattle.js_mean.specs.Shows.{file_of}
-use Rattle.js_tree.specs.Rules.{IsModule}
 use Rattle.js_tree.specs.Spelling.{Spells}
 use Rattle.js_tree.specs.Terms.{Module, Piece}
-use Rattle.js_tree.proofs.Kept.{module_kept}
-use Rattle.js_tree.proofs.TextLaws.{module_spelled}
 use Rattle.linked_pieces.proofs.One.{are_one as pieces_are_one}
 use Rattle.linked_pieces.specs.Laws.{AreAlike}
 use Rattle.linked_pieces.specs.Used.{is_among}
 use Rattle.linked_entries.proofs.One.{entries_one}
 use Rattle.proper_pieces.specs.Modules.{item_of, is_owned, module_of}
-use Rattle.sj_proper.specs.Emitted.{EmittedMethod, call_item_of}
-use Rattle.sj_calls.specs.Files.{HasFunction}
+use Rattle.sj_proper.specs.Emitted.{call_item_of}
 use Rattle.sj_graph.specs.References.{IsGraph}
-use Rattle.sj_graph.specs.declared.graphs.Reference.{Reference}
 use Rattle.sj_local.specs.Broken.{FirstBroken}
 use Rattle.sj_names.specs.declared.entry_points.EntryPoint.{EntryPoint}
 use Rattle.sj_names.specs.declared.folders.SourceFile.{SourceFile}
-use Rattle.sj_names.specs.declared.method_names.Member.{Member}
-use Rattle.sj_split.specs.Walks.{References, Walk}
 use Rattle.sj_trees.specs.declared.classes.ClassDef.{ClassDef}
 use Rattle.sj_world.proofs.OnCycles.{among}
 use Rattle.sj_world.specs.Known.{Name, Classes}
 use Rattle.sj_world.specs.declared.facts.Fact.{Fact}
-use Rattle.worklist.specs.Paths.{stay, on}
 use Rattle.accepted_folders.specs.Accepted.{IsAccepted}
-use Rattle.accepted_folders.specs.Bodies.{IsFound, AreBodies}
 use Rattle.linked_folders.proofs.One.{same_bodies, same_walk, spelled_once}
 use Rattle.object_links.specs.Link.{ArePieces, AreWritten, IsOneModule}
 use Rattle.object_links.proofs.Planned.{one_file}

@@ -1,5 +1,5 @@
 -- Names of which no two are one, and the parameters of entries among them.
-use Rattle.std.proofs.Common.{◌≡◌, ◌<◌, ◌⊎◌, ◌++◌, ◌||◌, ◌&&◌, ◌^◌, not, ℕ, zero, suc, Bool, true, false, List, [], ◌∷◌, inl, inr, refl, sym, ap, subst, ◌∙◌, map, Contains, arith}
+use Rattle.std.proofs.Common.{◌≡◌, ◌<◌, ◌⊎◌, ◌++◌, ◌||◌, ◌&&◌, not, ℕ, zero, suc, Bool, true, false, List, [], ◌∷◌, inl, inr, refl, sym, ◌∙◌, Contains, arith}
 use Rattle.sj_mangling.proofs.Numerals.{numerals_differ}
 use Rattle.sj_mangling.specs.Numerals.{number_text}
 use Rattle.std.proofs.lemmas.List.Elements.{Contains-append_cases}

@@ -1,5 +1,5 @@
 -- Each piece has no early error by itself.
-use Rattle.std.proofs.Common.{◌≡◌, ◌<◌, ◌⊎◌, ◌++◌, ◌&&◌, ◌||◌, ◌^◌, not, ℕ, Bool, true, false, List, [], ◌∷◌, Option, Some, None, inl, inr, refl, sym, ap, subst, ◌∙◌, map, length, Contains, append-nil, arith}
+use Rattle.std.proofs.Common.{◌≡◌, ◌⊎◌, ◌++◌, ◌&&◌, ◌||◌, not, Bool, true, false, List, [], ◌∷◌, Option, Some, None, inl, inr, refl, sym, ap, subst, map, length, Contains, append-nil}
 use Rattle.std.specs.List.{list_all, list_any}
 use Rattle.std.proofs.lemmas.List.Elements.{Contains-append_cases}
 use Rattle.helper_rules.specs.Helpers.{Above, helper_piece}
@@ -9,13 +9,12 @@ use Rattle.helper_rules.specs.declared.kinds.Helper.TheVariants as helpers
 use Rattle.helper_rules.specs.declared.kinds.Failure.{Failure}
 use Rattle.helper_rules.specs.declared.kinds.Failure.TheVariants as failures
 use Rattle.js_mean.specs.Proper.{Place, are_distinct, declared, are_proper, is_proper_member, is_proper_item, is_constructor}
-use Rattle.js_tree.specs.Terms.{Name, Piece, Statements}
+use Rattle.js_tree.specs.Terms.{Name, Piece}
 use Rattle.js_tree.specs.Views.{statements_of}
-use Rattle.linked_pieces.specs.Pieces.{piece_of_member}
-use Rattle.piece_rules.specs.Pieces.{Parts, pieces, when, constants_piece, class_piece, members, entry_member, field_start, all_statics, variable_piece, setter_piece, cell_piece, load_piece, store_piece, cell_pieces, test_piece, kind_of_class, cast_piece, constants_of, class_of, module_of, tests_of}
+use Rattle.piece_rules.specs.Pieces.{Parts, pieces, when, constants_piece, class_piece, entry_member, field_start, all_statics, variable_piece, setter_piece, cell_piece, load_piece, store_piece, cell_pieces, test_piece, kind_of_class, cast_piece, constants_of, class_of, module_of, tests_of}
 use Rattle.proper_pieces.specs.Laws.{PiecesAreProper}
 use Rattle.sj_proper.proofs.Modules.{member_proper}
-use Rattle.sj_split.proofs.Members.{at_first, further, cons_cases}
+use Rattle.sj_split.proofs.Members.{cons_cases}
 use Rattle.sj_trees.specs.declared.classes.FieldDef.{FieldDef}
 use Rattle.sj_world.specs.declared.linked.MethodEntry.{MethodEntry}
 use Rattle.worklist.proofs.Inserted.{nothing_in}

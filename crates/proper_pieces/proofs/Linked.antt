@@ -1,5 +1,5 @@
 -- No two pieces of a linked world declare one name.
-use Rattle.std.proofs.Common.{◌≡◌, ◌≤◌, ◌<◌, ◌⊎◌, ◌++◌, ℕ, Bool, true, false, List, [], ◌∷◌, Option, Some, None, IsTrue, inl, inr, refl, sym, ap, subst, ◌∙◌, map, Contains, arith, if◌then◌else◌}
+use Rattle.std.proofs.Common.{◌≡◌, ◌≤◌, ◌<◌, ◌⊎◌, ◌++◌, Bool, true, false, List, [], ◌∷◌, Option, Some, None, IsTrue, inl, inr, refl, sym, ap, subst, ◌∙◌, map, Contains, arith, if◌then◌else◌}
 use Rattle.std.specs.List.{flat_map}
 use Rattle.std.specs.Prelude.{is_some}
 use Rattle.std.proofs.lemmas.List.Elements.{Contains-append_cases}
@@ -12,7 +12,7 @@ use Rattle.js_mean.specs.Proper.{are_distinct, item_names}
 use Rattle.js_tree.specs.Terms.{Name, Piece}
 use Rattle.linked_pieces.specs.Order.{AreInOrder, StandsBefore, AreMethodsOf, HasLesserName}
 use Rattle.linked_pieces.specs.Pieces.{piece_of_member, Block, IsBlock, AreBlocks, HasLesserWord, pieces_of_block, with_helpers, AreLinkedPieces}
-use Rattle.linked_pieces.proofs.Fields.{Apart, is_same_field, fields_apart, from_key, moved}
+use Rattle.linked_pieces.proofs.Fields.{is_same_field, fields_apart, from_key, moved}
 use Rattle.linked_pieces.proofs.Names.{weaker}
 use Rattle.linked_pieces.proofs.One.{never_class, reached_apart, reached_static}
 use Rattle.piece_rules.specs.Classes.{AreClassPieces, AreParts, AreStatics, absent, present}
@@ -24,12 +24,12 @@ use Rattle.sj_names.proofs.Same.{impossible}
 use Rattle.sj_names.specs.Grammar.{is_class_name}
 use Rattle.sj_names.specs.WellKnown.{is_object}
 use Rattle.sj_proper.specs.Emitted.{EmittedMethod}
-use Rattle.sj_split.proofs.Members.{at_first, further, into_map, Mapped, from_map}
+use Rattle.sj_split.proofs.Members.{at_first, further, Mapped, from_map}
 use Rattle.sj_split.proofs.Unique.{never_both}
 use Rattle.sj_split.specs.Orders.{IsBefore}
 use Rattle.sj_trees.specs.declared.classes.ClassDef.{ClassDef}
 use Rattle.sj_trees.specs.declared.classes.FieldDef.{FieldDef}
-use Rattle.sj_world.specs.Known.{Classes, class_of}
+use Rattle.sj_world.specs.Known.{class_of}
 use Rattle.sj_world.specs.Linked.{Linked}
 use Rattle.worklist.proofs.Inserted.{nothing_in}
 use Rattle.proper_pieces.proofs.Apart.{Differ, AreApart, order_joined, told_apart}

@@ -1,5 +1,5 @@
 -- A module of the pieces that some classes own has no early error.
-use Rattle.std.proofs.Common.{◌≡◌, ◌⊎◌, ◌++◌, ◌&&◌, Bool, true, false, List, [], ◌∷◌, inl, inr, refl, sym, ap, subst, ◌∙◌, map, cond, Contains, if◌then◌else◌}
+use Rattle.std.proofs.Common.{◌≡◌, ◌⊎◌, ◌++◌, ◌&&◌, Bool, true, false, List, [], ◌∷◌, inl, inr, sym, ap, subst, ◌∙◌, map, cond, Contains, if◌then◌else◌}
 use Rattle.std.specs.List.{filter, list_all, flat_map}
 use Rattle.std.proofs.lemmas.List.Elements.{Contains-append_cases}
 use Rattle.helper_rules.specs.Helpers.{Above, helper_piece}
@@ -17,9 +17,7 @@ use Rattle.sj_proper.proofs.Modules.{calls_proper, calls_named}
 use Rattle.sj_proper.specs.Emitted.{EmittedMethod, call_item_of}
 use Rattle.sj_proper.specs.Once.{DefinesOnce}
 use Rattle.sj_split.proofs.Members.{at_first, further, from_map, from_filter}
-use Rattle.sj_world.specs.Known.{is_same}
 use Rattle.sj_world.specs.Linked.{Linked}
-use Rattle.sj_world.specs.declared.linked.MethodEntry.{MethodEntry}
 use Rattle.worklist.proofs.Inserted.{nothing_in}
 use Rattle.proper_pieces.proofs.Apart.{both, told_apart}
 use Rattle.proper_pieces.proofs.Items.{pieces_are_proper}

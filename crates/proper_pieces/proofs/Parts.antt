@@ -1,7 +1,7 @@
 -- The pieces of a class declare names that differ, each of which the class owns.
 use Rattle.std.proofs.Common.{◌≡◌, ◌≤◌, ◌<◌, ◌⊎◌, ◌++◌, ◌||◌, ℕ, Bool, true, false, List, [], ◌∷◌, Option, Some, None, IsTrue, inl, inr, refl, sym, ap, subst, ◌∙◌, Contains, arith}
 use Rattle.std.proofs.lemmas.List.Elements.{Contains-append_cases}
-use Rattle.helper_rules.specs.Words.{constants_name, class_name, all_kinds}
+use Rattle.helper_rules.specs.Words.{all_kinds}
 use Rattle.js_mean.specs.Proper.{item_names}
 use Rattle.js_tree.specs.Terms.{Name, Item, Piece}
 use Rattle.linked_pieces.specs.Order.{AreInOrder}
