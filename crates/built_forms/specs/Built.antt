@@ -209,8 +209,8 @@ is_static _ = false
 -- there is no body, or it is of the forms that are built
 abbrev pub has_built_body : MethodDef → Option Term → Bool
 has_built_body d None = true
-has_built_body d (Some e) = is_built_body d e
+has_built_body d (Some e) = is_object_body d e
 
--- the linker doesn't build the method yet: it isn't static, or its body isn't of the forms that are built
+-- the linker doesn't build the method yet: its body isn't of the forms that are built
 abbrev pub not_built : MethodDef → Bool
-not_built d = not (is_static d.namespace && has_built_body d d.body)
+not_built d = not (has_built_body d d.body)

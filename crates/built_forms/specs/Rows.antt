@@ -2,10 +2,10 @@
 use Rattle.std.specs.Prelude.{◌≡◌, ℕ, pos, true, false, List, [], ◌∷◌, Option, Some, None, codes}
 use Rattle.sj_names.specs.declared.method_names.MethodName.{MethodName}
 use Rattle.sj_names.specs.declared.method_names.Namespace.{Namespace}
-use Rattle.sj_names.specs.declared.method_names.Namespace.TheVariants.{Public, PublicStatic, PrivateStatic, Constructor}
+use Rattle.sj_names.specs.declared.method_names.Namespace.TheVariants.{Public, PublicStatic, Private, PrivateStatic, Constructor}
 use Rattle.sj_names.specs.declared.references.TypeRef.{TypeRef}
 use Rattle.sj_trees.specs.Erase.{nowhere}
-use Rattle.sj_trees.specs.Term.{Term, no_terms, more_terms, no_cases, more_cases, skip, block_of, labeled, assign, return_to, if_then, match_on, new_object, select, apply_static, binary_op, char_literal, int_literal, long_literal, var_ref}
+use Rattle.sj_trees.specs.Term.{Term, no_terms, more_terms, no_cases, more_cases, skip, block_of, labeled, assign, return_to, if_then, match_on, throw, new_object, select, select_static, apply, apply_statically, apply_static, this_ref, binary_op, char_literal, int_literal, long_literal, var_ref}
 use Rattle.sj_trees.specs.declared.classes.MethodDef.{MethodDef}
 use Rattle.sj_trees.specs.declared.operators.BinaryOp.{BinaryOp}
 use Rattle.sj_trees.specs.declared.operators.BinaryOp.TheVariants.{StrictEqual, IntDivide, LongRemainder}
@@ -37,6 +37,14 @@ number n = int_literal nowhere (pos n)
 
 abbrev pub object : Term
 object = new_object nowhere (codes "A") (method_name TypeRef.Int) no_terms
+
+-- a call that is looked up
+abbrev pub unbuilt : Term
+unbuilt = apply nowhere object (method_name TypeRef.Int) (more_terms (number 1) no_terms) NoType
+
+-- a call that isn't looked up
+abbrev pub direct : Namespace → Term → IrType → Term
+direct namespace receiver t = apply_statically nowhere receiver (codes "A") namespace (method_name TypeRef.Int) (more_terms (number 1) no_terms) t
 
 -- an operator between a local and this divisor
 abbrev pub operation : BinaryOp → IrType → Term → Term
@@ -72,12 +80,28 @@ pub record WorkedForms : Type 0 where
   pub empty_method : not_built (static nothing) ≡ false
   pub private_method : not_built (method PrivateStatic NoType (Some nothing)) ≡ false
   pub method_without_a_body : not_built (method PublicStatic NoType None) ≡ false
-  pub constructor : not_built (method Constructor NoType (Some nothing)) ≡ true
-  pub method_on_objects : not_built (method Public NoType (Some nothing)) ≡ true
-  pub abstract_method : not_built (method Public NoType None) ≡ true
-  pub makes_an_object : not_built (static object) ≡ true
-  pub makes_an_object_within : not_built (static (block_of nowhere (more_terms nothing (more_terms object no_terms)))) ≡ true
-  pub sets_a_field : not_built (static (assign nowhere (select nowhere object (codes "A") (codes "f") Int) (number 1))) ≡ true
+  pub constructor : not_built (method Constructor NoType (Some nothing)) ≡ false
+  pub method_on_objects : not_built (method Public NoType (Some nothing)) ≡ false
+  pub abstract_method : not_built (method Public NoType None) ≡ false
+  pub makes_an_object : not_built (static object) ≡ false
+  pub makes_an_object_of_a_char : not_built (static (new_object nowhere (codes "A") (method_name TypeRef.Int) (more_terms letter no_terms))) ≡ true
+  pub sets_a_field : not_built (static (assign nowhere (select nowhere object (codes "A") (codes "f") Int) (number 1))) ≡ false
+  pub sets_a_field_to_a_char : not_built (static (assign nowhere (select nowhere object (codes "A") (codes "f") Any) letter)) ≡ true
+  pub sets_a_static_field : not_built (static (assign nowhere (select_static nowhere (codes "A") (codes "f") Int) (number 1))) ≡ true
+  pub reads_a_field : not_built (static (select nowhere object (codes "A") (codes "f") Int)) ≡ false
+  pub reads_a_field_of_what_is_not_built : not_built (static (select nowhere unbuilt (codes "A") (codes "f") Int)) ≡ true
+  pub throws : not_built (static (throw nowhere object)) ≡ false
+  pub throws_a_char : not_built (static (throw nowhere letter)) ≡ true
+  pub calls_a_private_method : not_built (static (direct Private object NoType)) ≡ false
+  pub calls_a_private_method_on_a_char : not_built (static (direct Private letter NoType)) ≡ true
+  pub calls_a_private_method_on_what_is_not_built : not_built (static (direct Private unbuilt NoType)) ≡ true
+  pub calls_a_public_method : not_built (static (direct Public object NoType)) ≡ true
+  pub calls_a_constructor : not_built (static (direct Constructor object NoType)) ≡ false
+  pub calls_a_constructor_for_a_value : not_built (static (direct Constructor object Int)) ≡ true
+  pub calls_a_constructor_that_has_a_value : not_built (static (apply_statically nowhere object (codes "A") Constructor (record { simple = codes "m"; params = []; result = Some TypeRef.Int }) no_terms NoType)) ≡ true
+  pub makes_an_object_by_a_constructor_that_has_a_value : not_built (static (new_object nowhere (codes "A") (record { simple = codes "m"; params = []; result = Some TypeRef.Int }) no_terms)) ≡ true
+  pub names_its_receiver : not_built (method Public NoType (Some (this_ref nowhere Any))) ≡ false
+  pub calls_a_method_that_is_looked_up : not_built (static unbuilt) ≡ true
   pub sets_a_field_it_can_use : is_built with_fields (λ e. true) [] (setting Int (number 1)) ≡ true
   pub char_in_a_field : is_built with_fields (λ e. true) [] (setting Any letter) ≡ false
   pub field_set_by_a_call : is_built with_fields (λ e. true) [] (setting Int (apply_static nowhere (codes "A") PublicStatic (method_name TypeRef.Int) (more_terms (number 1) no_terms) Int)) ≡ true
@@ -85,10 +109,13 @@ pub record WorkedForms : Type 0 where
   pub field_of_an_unchecked_object : is_built with_fields (λ e. false) [] (setting Int (number 1)) ≡ false
   pub identity : not_built (static (operation StrictEqual Any (number 1))) ≡ true
   pub by_two : not_built (static (operation IntDivide Int (number 2))) ≡ false
-  pub by_zero : not_built (static (operation IntDivide Int (number 0))) ≡ true
-  pub by_a_local : not_built (static (operation IntDivide Int (var_ref nowhere (codes "y") Int))) ≡ true
+  pub by_zero : not_built (static (operation IntDivide Int (number 0))) ≡ false
+  pub by_a_local : not_built (static (operation IntDivide Int (var_ref nowhere (codes "y") Int))) ≡ false
+  pub by_a_local_without_a_helper : is_built with_fields (λ e. true) [] (operation IntDivide Int (var_ref nowhere (codes "y") Int)) ≡ false
+  pub by_zero_without_a_helper : is_built with_fields (λ e. true) [] (operation IntDivide Int (number 0)) ≡ false
+  pub by_two_without_a_helper : is_built with_fields (λ e. true) [] (operation IntDivide Int (number 2)) ≡ true
   pub long_by_two : not_built (static (operation LongRemainder Long (long_literal nowhere (pos 2)))) ≡ false
-  pub long_by_an_int : not_built (static (operation LongRemainder Long (number 2))) ≡ true
+  pub long_by_an_int_without_a_helper : is_built with_fields (λ e. true) [] (operation LongRemainder Long (number 2)) ≡ false
   pub char_as_a_char : not_built (giving Char letter) ≡ false
   pub char_given_up : not_built (static letter) ≡ false
   pub char_as_a_value : not_built (giving Any letter) ≡ true
@@ -101,5 +128,5 @@ pub record WorkedForms : Type 0 where
   pub leaves_the_inner_block : not_built (static (inside Any (inside Char (leave letter)))) ≡ true
   pub leaves_the_inner_block_alone : not_built (static (inside Int (block_of nowhere (more_terms (inside Char (leave letter)) (more_terms (number 1) no_terms))))) ≡ false
   pub leaves_no_block : not_built (static (leave letter)) ≡ false
-  pub case_with_a_key : not_built (static (case (1 ∷ []) object)) ≡ true
-  pub case_without_keys : not_built (static (case [] object)) ≡ false
+  pub case_with_a_key : not_built (static (case (1 ∷ []) unbuilt)) ≡ true
+  pub case_without_keys : not_built (static (case [] unbuilt)) ≡ false

@@ -6,28 +6,17 @@ ghost use Rattle.sj_trees.specs.View.{view};
 use crate::chars::yields_boxed;
 use crate::forms::is_built;
 use crate::labels::Labels;
-use sj_names::Namespace;
 use sj_trees::{MethodDef, Tree};
 
-/// Whether the linker doesn't build the method yet: it isn't static, or its body isn't of the forms that are built. A static method without a body
-/// is built. It takes no memory.
+/// Whether the linker doesn't build the method yet: its body isn't of the forms that are built. A method without a body is built. It takes no memory.
 ///
 /// These forms are built: locals that are defined, read and assigned, blocks with and without labels, `Return`, `If`, both loops, `Match`, calls of static
-/// methods, operators, literals, and `Log`. Of these, no operator of identity is built and no division but by a literal other than zero; nor is a char
-/// where a value of another type is wanted. What a case without keys has isn't asked for.
+/// methods, of constructors and of private methods, `New`, `This`, fields of instances that are read and assigned, `Throw`, operators, literals, and `Log`. Of these,
+/// no operator of identity is built; nor is a char where a value of another type is wanted. What a case without keys has isn't asked for.
 pub fn not_built(m: &MethodDef) -> bool
     ensures { result ≡ built.not_built m.now }
 {
-    !(is_static(m.namespace) && has_built_body(m))
-}
-
-fn is_static(namespace: Namespace) -> bool
-    ensures { result ≡ built.is_static namespace }
-{
-    matches!(
-        namespace,
-        Namespace::PublicStatic | Namespace::PrivateStatic
-    )
+    !has_built_body(m)
 }
 
 fn has_built_body(m: &MethodDef) -> bool
@@ -40,7 +29,7 @@ fn has_built_body(m: &MethodDef) -> bool
 }
 
 fn is_built_body(m: &MethodDef, body: &Tree) -> bool
-    ensures { result ≡ built.is_built_body m.now (view body.now) }
+    ensures { result ≡ built.is_object_body m.now (view body.now) }
 {
     !yields_boxed(&m.result, body) && is_built(body, &Labels::Outside)
 }

@@ -7,7 +7,6 @@ use Rattle.js_tree.specs.Rules.{IsPiece}
 use Rattle.js_tree.specs.Views.{piece_view}
 use Rattle.sj_desugarer.specs.Methods.{method_desugared, desugared_with}
 use Rattle.sj_emit_expr.specs.Members.{member_piece}
-use Rattle.sj_proper.proofs.Statics.{static_piece}
 use Rattle.sj_names.specs.declared.method_names.Member.{Member}
 use Rattle.sj_pieces.specs.Owners.{BodyOnObjects}
 use Rattle.sj_trees.specs.Term.{Term}
@@ -22,7 +21,7 @@ use Rattle.folder_judging.specs.Counts.{members_of}
 use Rattle.folder_verdicts.specs.Stages.{IsDefined}
 use Rattle.folder_linking.proofs.Taken.{more_taken}
 use Rattle.folder_linking.specs.declared.functions.Function.{Function}
-use Rattle.folder_linking.specs.Functions.{IsStatic, HasAncestors, IsFunction, AreFunctions, member_of}
+use Rattle.folder_linking.specs.Functions.{IsFunction, AreFunctions, member_of}
 
 -- the members of more facts
 members_append : (facts : List Fact) (f : Fact) → members_of (facts ++ f ∷ []) ≡ members_of facts ++ members_of (f ∷ [])
@@ -52,21 +51,17 @@ some_of (Some t) h = (t, refl)
 same_definition : (w : Classes) (k : Member) (d e : MethodDef) → IsMethodOf w k d → IsMethodOf w k e → d ≡ e
 same_definition w k d e h g = let s : Some d ≡ Some e = sym (found-member w k d h) ∙ found-member w k e g in cc
 
-pub class_known : (w : Classes) (k : Member) (d : MethodDef) → IsMethodOf w k d → is_known w k.class ≡ true
-class_known w k d h = ap (λ o. is_some o || is_hijacked k.class) h.is_class
-
 -- the function of a member that has this definition
-pub function_is : (w : Classes) (k : Member) (d : MethodDef) (f : Function) → IsDefined w k → IsStatic w k → IsMethodOf w k d → f.member.now ≡ k → piece_view f.piece ≡ member_piece k (method_desugared d) → (BodyOnObjects d.body → IsPiece (piece_view f.piece)) → HasAncestors w k.class f.ancestors → IsFunction w f
-function_is w k d f has without is member piece rules above = go (some_of d.body (subst (λ (e : MethodDef). IsSome e.body) (same_definition w k has.definition d has.defined is) has.has_body))
+pub function_is : (w : Classes) (k : Member) (d : MethodDef) (f : Function) → IsDefined w k → IsMethodOf w k d → f.member.now ≡ k → piece_view f.piece ≡ member_piece k (method_desugared d) → (BodyOnObjects d.body → IsPiece (piece_view f.piece)) → IsFunction w f
+function_is w k d f has is member piece rules = go (some_of d.body (subst (λ (e : MethodDef). IsSome e.body) (same_definition w k has.definition d has.defined is) has.has_body))
   where
     go : (t : Term) × (d.body ≡ Some t) → IsFunction w f
     go b = record {
       method = record { member = k; definition = d; its_body = b.0 };
       member_is = sym member;
       found = record { found = found-member w k d is; has_body = b.1 };
-      piece_is = piece ∙ ap (λ o. member_piece k (desugared_with d o)) b.1 ∙ static_piece k d b.0 (without d is);
+      piece_is = piece ∙ ap (λ o. member_piece k (desugared_with d o)) b.1;
       rules = λ h. rules (subst BodyOnObjects (sym b.1) h);
-      ancestors = above;
     }
 
 pub no_functions : (w : Classes) → AreFunctions w [] []

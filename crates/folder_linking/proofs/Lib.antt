@@ -2,6 +2,6 @@ pub mod Taken
 mod Bodies
 mod Counted
 mod Objects
-pub mod Ordered
+pub mod Methods
 pub mod Linked
 mod Printed

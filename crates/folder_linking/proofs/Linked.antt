@@ -1,11 +1,10 @@
 -- A folder is linked: its pieces are those of all needed bodies, and its files those of the plan.
-use Rattle.std.proofs.Common.{◌≡◌, ◌↔◌, ℕ, suc, Bool, true, false, ◌&&◌, List, [], ◌∷◌, ◌⊎◌, inl, inr, Some, refl, sym, ap, subst, ◌∙◌, map, length, Contains, arith}
-use Rattle.std.specs.Prelude.{not}
+use Rattle.std.proofs.Common.{◌≡◌, ◌↔◌, ℕ, suc, Bool, true, false, List, [], ◌∷◌, ◌⊎◌, inl, inr, Some, refl, sym, ap, subst, ◌∙◌, map, length, Contains, arith}
+use Rattle.std.specs.Prelude.{Result, Ok, Err, IfOk}
 use Rattle.std.specs.List.{All, AllByRecursion, IsDistinct}
-use Rattle.std.specs.List.Sorted.{IsPermutation}
 use Rattle.std.proofs.lemmas.List.{length-map}
-use Rattle.std.proofs.lemmas.List.Sorted.{Contains-permutation, IsPermutation-map, IsPermutation-sym}
-use Rattle.std.proofs.lemmas.Map.Keys.{IsDistinct-IsPermutation, IsDistinct-cons}
+use Rattle.std.proofs.lemmas.List.Sorted.{Contains-permutation, IsPermutation-sym}
+use Rattle.std.proofs.lemmas.Map.Keys.{IsDistinct-cons}
 use Rattle.std.proofs.lemmas.Option.{slice_get-get_or}
 use Rattle.js_tree.specs.Rules.{IsPiece}
 use Rattle.js_tree.specs.Terms.{Piece}
@@ -27,21 +26,18 @@ use Rattle.sj_world.specs.declared.facts.Fact.{Fact}
 use Rattle.sj_world.specs.declared.facts.Fact.TheVariants as fact
 use Rattle.folder_verdicts.proofs.Defined.{needed_bodies}
 use Rattle.folder_verdicts.specs.Stages.{IsDefined, KeepRules}
-use Rattle.built_forms.specs.Built.{is_static, has_built_body}
 use Rattle.worklist.proofs.Inserted.{nothing_in}
 use Rattle.accepted_folders.specs.Bodies.{AreBodies}
-use Rattle.accepted_folders.proofs.Calls.{needed}
-use Rattle.accepted_folders.proofs.Members.{defined}
 use Rattle.folder_judging.specs.Counts.{members_of, bodies_among}
 use Rattle.linked_folders.proofs.Edits.{Differ, no_more}
-use Rattle.linked_folders.proofs.Links.{body_built}
 use Rattle.linked_folders.proofs.Names.{names_tell}
 use Rattle.folder_linking.specs.declared.functions.Function.{Function}
-use Rattle.folder_linking.specs.Functions.{IsStatic, IsFunction, AreInOrder, member_of, piece}
-use Rattle.folder_linking.specs.Linking.{IsLinkable, ArePieces}
-use Rattle.sj_pieces.specs.Owners.{OnObjects}
-use Rattle.folder_linking.proofs.Objects.{built_on_objects}
-use Rattle.folder_linking.proofs.Ordered.{methods, methods_in_order, members_are, pieces_are, methods_found, pieces_keep}
+use Rattle.folder_linking.specs.Functions.{AreFunctions, piece}
+use Rattle.folder_linking.specs.Linking.{IsLinkable, ArePrintable}
+use Rattle.linked_pieces.specs.Pieces.{piece_of_member, AreLinkedPieces}
+use Rattle.world_pieces.specs.Names.{NamesTell}
+use Rattle.folder_linking.proofs.Objects.{body_on_objects}
+use Rattle.folder_linking.proofs.Methods.{methods, members_are, pieces_are, methods_found, pieces_keep}
 
 abbrev is_one : Member → Member → Bool
 is_one = member_eq.ghosts.eq
@@ -163,72 +159,60 @@ bodies_many w entries facts all reached bodies =
     let back = no_more (members_of facts) (map member_in all) (distinct_differ (members_of facts) (members_distinct facts reached.once)) (λ k h. (let f = (bodies.exact k).1 ((reached.exact (fact.Body k)).0 (from_members facts k h)) in subst (Contains (map member_in all)) f.is (into_map member_in all f.method f.listed))) in
     omega (arith, to, back, length-map all member_in)
 
-first_true : (b c : Bool) → not (b && c) ≡ false → b ≡ true
-first_true true c h = refl
-first_true false c h = sym h
-
--- each needed body is defined, and its method has no receiver
+-- each needed body is defined
 pub all_defined : (entries : List EntryPoint) (l : Linked) → IsLinkable entries l → (k : Member) → Contains (members_of l.facts) k → IsDefined l.world k
 all_defined entries l can k h = needed_bodies l.world entries keeps can.is_accepted.resolved k ((can.reached.exact (fact.Body k)).0 (from_members l.facts k h))
   where
     keeps : KeepRules l.world
     keeps c among = can.is_accepted.kept c (Contains-permutation l.world can.is_accepted.classes c (IsPermutation-sym can.is_accepted.classes l.world can.is_accepted.world.sorted.same) among)
 
-pub all_static : (entries : List EntryPoint) (l : Linked) → IsLinkable entries l → (k : Member) → Contains (members_of l.facts) k → IsStatic l.world k
-all_static entries l can k h d is = first_true (is_static d.namespace) (has_built_body d d.body) (can.built k d ((can.reached.exact (fact.Body k)).0 (from_members l.facts k h)) is)
+module _ (entries : List EntryPoint) (l : Linked) (can : IsLinkable entries l) (fs : List Function) (are : AreFunctions l.world (members_of l.facts) fs) where
+  abbrev pub all : List EmittedMethod
+  all = methods l.world fs are.each
 
-module _ (entries : List EntryPoint) (l : Linked) (can : IsLinkable entries l) (fs : List Function) (are : AreInOrder l.world (members_of l.facts) fs) where
-  each : (f : Function) → Contains fs f → IsFunction l.world f
-  each f h = are.functions.each f (Contains-permutation fs are.unsorted f (IsPermutation-sym are.unsorted fs are.same) h)
-
-  abbrev all : List EmittedMethod
-  all = methods l.world fs each
-
-  moved : IsPermutation (members_of l.facts) (map member_of fs)
-  moved = subst (λ (ks : List Member). IsPermutation ks (map member_of fs)) are.functions.members_are (IsPermutation-map member_of are.unsorted fs are.same)
-
-  same_members : map member_in all ≡ map member_of fs
-  same_members = members_are l.world fs each
+  same_members : map member_in all ≡ members_of l.facts
+  same_members = members_are l.world fs are.each ∙ are.members_are
 
   exact : (k : Member) → HasFunction all k ↔ Reachable l.world entries (fact.Body k)
   exact k = (to, back)
     where
       to : HasFunction all k → Reachable l.world entries (fact.Body k)
-      to h =
-          let i : Contains (map member_in all) k = subst (Contains (map member_in all)) h.is (into_map member_in all h.method h.listed) in
-          let j : Contains (map member_of fs) k = subst (λ (ks : List Member). Contains ks k) same_members i in
-          (can.reached.exact (fact.Body k)).0 (from_members l.facts k (Contains-permutation (map member_of fs) (members_of l.facts) k (IsPermutation-sym (members_of l.facts) (map member_of fs) moved) j))
+      to h = let i : Contains (map member_in all) k = subst (Contains (map member_in all)) h.is (into_map member_in all h.method h.listed) in (can.reached.exact (fact.Body k)).0 (from_members l.facts k (subst (λ (ks : List Member). Contains ks k) same_members i))
 
       back : Reachable l.world entries (fact.Body k) → HasFunction all k
       back r =
-          let i : Contains (map member_of fs) k = Contains-permutation (members_of l.facts) (map member_of fs) k moved (to_members l.facts k ((can.reached.exact (fact.Body k)).1 r)) in
+          let i : Contains (members_of l.facts) k = to_members l.facts k ((can.reached.exact (fact.Body k)).1 r) in
           let m = from_map member_in all k (subst (λ (ks : List Member). Contains ks k) (sym same_members) i) in
           record { method = m.item; listed = m.among; is = m.is }
 
-  own : HaveOwnMembers all
-  own = own_members all (subst (IsDistinct is_one) (sym same_members) (IsDistinct-IsPermutation is_one flips (members_of l.facts) (map member_of fs) moved (members_distinct l.facts can.reached.once)))
+  pub own : HaveOwnMembers all
+  own = own_members all (subst (IsDistinct is_one) (sym same_members) (members_distinct l.facts can.reached.once))
 
   bodies : AreBodies l.world entries all
-  bodies = record { exact = exact; found = methods_found l.world fs each; own = own }
+  bodies = record { exact = exact; found = methods_found l.world fs are.each; own = own }
 
-  objects : (e : EmittedMethod) → Contains all e → OnObjects e.its_body
-  objects e i =
-      let found = bodies.found e i in
-      built_on_objects e.definition e.its_body (body_built e.definition e.its_body found.has_body (can.built e.member e.definition (needed l.world entries all bodies e i) (defined l.world e.member e.definition found.found)))
+  pub tell : NamesTell all
+  tell = names_tell entries can.files l.world all can.are_bytes can.is_accepted bodies
 
-  -- the pieces of the functions are those of all needed bodies, in order
-  pub pieces : (ps : List JsPiece) → ps ≡ map piece fs → ArePieces l.world entries (map piece_view ps)
-  pieces ps made = record {
-    all = all;
-    bodies = bodies;
-    in_order = methods_in_order l.world fs each are.in_order own (names_tell entries can.files l.world all can.are_bytes can.is_accepted can.built bodies);
-    pieces_are = pieces_are l.world fs each ∙ sym views;
-    rules = subst (λ (qs : List Piece). All IsPiece qs) (sym views) (pieces_keep l.world fs each objects);
+  -- the pieces of the functions are those of all needed bodies, and keep the rules of printing
+  views : (gs : List Function) → map piece_view (map piece gs) ≡ map (λ (f : Function). piece_view f.piece) gs
+  views [] = refl
+  views (g ∷ gs) = ap (λ (qs : List Piece). piece_view g.piece ∷ qs) (views gs)
+
+  pub pieces_of_bodies : (ps : List JsPiece) → ps ≡ map piece fs → map piece_view ps ≡ map piece_of_member all
+  pieces_of_bodies ps made = ap (map piece_view) made ∙ views fs ∙ sym (pieces_are l.world fs are.each)
+
+  pub bodies_keep : (ps : List JsPiece) → ps ≡ map piece fs → All IsPiece (map piece_view ps)
+  bodies_keep ps made = subst (All IsPiece) (sym (ap (map piece_view) made ∙ views fs)) (pieces_keep l.world fs are.each (body_on_objects entries can.files l.world can.are_bytes can.is_accepted all bodies))
+
+  -- and those with the pieces of the classes can be printed
+  pub printable : (ps : List Piece) → AreLinkedPieces l all ps → All IsPiece ps → ArePrintable l.world entries ps
+  printable ps pieces rules = record {
+    are = record { all = all; bodies = bodies; facts = l.facts; are_facts = can.reached.exact; linked = l; is_linked = record { world = refl; facts_are = refl; entries = can.method_entries }; are = pieces };
+    rules = rules;
   }
-    where
-      views : map piece_view ps ≡ map (λ (f : Function). piece_view f.piece) fs
-      views = ap (map piece_view) made ∙ twice fs
-        where
-          twice : (gs : List Function) → map piece_view (map piece gs) ≡ map (λ (f : Function). piece_view f.piece) gs
-          twice [] = refl
-          twice (g ∷ gs) = ap (λ (qs : List Piece). piece_view g.piece ∷ qs) (twice gs)
+
+-- two things that are known of what was answered
+pub both_known : {A E : Type 0} (r : Result A E) (P Q R : A → Type 0) → ((a : A) → P a → Q a → R a) → IfOk r P → IfOk r Q → IfOk r R
+both_known (Ok a) P Q R f p q = f a p q
+both_known (Err e) P Q R f p q = tt

@@ -1,85 +1,166 @@
--- Fields of built bodies are those of objects, and what desugaring gives for a body can be printed.
-use Rattle.std.proofs.Common.{◌≡◌, ℕ, Bool, true, false, ◌&&◌, List, [], ◌∷◌, Option, Some, None}
-use Rattle.std.specs.Prelude.{not}
-use Rattle.std.proofs.lemmas.Bool.{and_parts}
-use Rattle.built_forms.specs.Built.{Usable, members_alone, anything, yields_boxed, any_is_boxed, stands, is_built, are_built, are_built_cases, is_built_body}
-use Rattle.sj_desugar.specs.Desugar.{desugared_member, member}
+-- Fields of typed bodies are those of objects, and what desugaring gives for a body can be printed.
+use Rattle.std.proofs.Common.{◌≡◌, ◌++◌, ℕ, Bool, true, false, List, [], ◌∷◌, Option, Some, None, refl, sym, ap, subst, ◌∙◌, Contains}
+use Rattle.std.specs.List.{All}
+use Rattle.std.proofs.lemmas.List.Elements.{All-head, All-tail}
+use Rattle.accepted_folders.proofs.Calls.{needed}
+use Rattle.accepted_folders.proofs.Members.{defined}
+use Rattle.accepted_folders.proofs.Objects as objects
+use Rattle.accepted_folders.proofs.Worlds.{judged}
+use Rattle.accepted_folders.specs.Accepted.{IsAccepted}
+use Rattle.accepted_folders.specs.Bodies.{AreBodies}
+use Rattle.body_soundness.proofs.Chains.{no_primitive}
+use Rattle.body_soundness.specs.Worlds.{AreClassesKept, HasFields}
+use Rattle.body_uses.proofs.Given.{all_from}
+use Rattle.body_uses.proofs.Standing.{Stands, each_stands}
+use Rattle.body_uses.proofs.Uses.{ahead, after}
+use Rattle.body_uses.proofs.Written as written
+use Rattle.file_listings.specs.Listed.{AreBytes}
+use Rattle.linked_pieces.specs.Used.{has_field_in}
+use Rattle.object_folders.proofs.Fields.{field_there}
+use Rattle.reach_rules.specs.Refusals.{hijacked}
+use Rattle.sj_desugar.specs.Desugar.{desugared_member}
 use Rattle.sj_desugarer.specs.Methods.{desugared_with}
+use Rattle.sj_infos.specs.Trees.{trees, below, all_below, cases_below}
 use Rattle.sj_names.proofs.Same.{impossible}
-use Rattle.sj_names.specs.declared.method_names.Member.{Member}
-use Rattle.sj_names.specs.declared.method_names.MethodName.{MethodName}
-use Rattle.sj_names.specs.declared.method_names.Namespace.{Namespace}
-use Rattle.sj_names.specs.declared.method_names.Namespace.TheVariants.{Public, Private, Constructor}
+use Rattle.sj_names.specs.declared.entry_points.EntryPoint.{EntryPoint}
+use Rattle.sj_names.specs.declared.folders.SourceFile.{SourceFile}
 use Rattle.sj_pieces.specs.Keys.{HasKeys}
 use Rattle.sj_pieces.specs.Owners.{OnObjects, AllOnObjects, CasesOnObjects, BodyOnObjects, FieldsHaveOwners}
+use Rattle.sj_proper.specs.Emitted.{EmittedMethod}
 use Rattle.sj_trees.specs.Term.{Term, Terms, no_terms, more_terms, Cases, no_cases, more_cases, var_def, block_of, labeled, assign, return_to, if_then, while_loop, do_while, throw, match_on, new_object, select, select_static, apply_statically, apply_static, unary_op, binary_op, var_ref, log_line}
+use Rattle.sj_trees.specs.TypeOf.{type_of_term}
+use Rattle.sj_trees.specs.Types.{class_type}
+use Rattle.sj_trees.specs.declared.classes.ClassDef.{ClassDef}
 use Rattle.sj_trees.specs.declared.classes.MethodDef.{MethodDef}
-use Rattle.sj_trees.specs.declared.positions.Position.{Position}
 use Rattle.sj_trees.specs.declared.types.IrType.{IrType}
-use Rattle.typing_rules.specs.declared.labels.Label.{Label}
-use Rattle.typing_rules.specs.Nodes.{inside}
+use Rattle.sj_trees.specs.declared.types.IrType.TheVariants as types
+use Rattle.sj_local.specs.Broken.{FirstBroken}
+use Rattle.sj_names.specs.WellKnown.{is_hijacked}
+use Rattle.sj_world.specs.Known.{Name, Classes}
+use Rattle.sj_world.specs.Subtypes.{IsSub, hijacked_class}
+use Rattle.sure_receivers.specs.Sure.{is_sure_type}
+use Rattle.typing_rules.specs.Rules.{HasFieldType}
+use Rattle.typing_rules.specs.Typed.{MeetsThere}
 
--- no form that is built where nothing but static members is used has a field
-module _ (linked : Member → Bool) (checked : Term → Bool) where
-  abbrev has : Usable
-  has = members_alone linked
+-- a field is one of no tree of a primitive type
+abbrev IsOfObject : Term → Type 0
+IsOfObject (select p e c f t) = is_sure_type (type_of_term e) ≡ false
+IsOfObject _ = Unit {0}
 
-  no_call : {A : Type 0} (p : Position) (e : Term) (c : List ℕ) (n : Namespace) (m : MethodName) (ts : Terms) (t : IrType) (ls : List Label) → is_built has checked ls (apply_statically p e c n m ts t) ≡ true → A
-  no_call p e c Public m ts t ls h = impossible h
-  no_call p e c Private m ts t ls h = impossible h
-  no_call p e c Constructor m ts t ls h = impossible h
-  no_call p e c _ m ts t ls h = impossible h
+abbrev Each : List Term → Type 0
+Each = All IsOfObject
 
-  mutual
-    on_objects : (t : Term) (ls : List Label) → is_built has checked ls t ≡ true → OnObjects t
-    on_objects (var_def p x t b e) ls h = on_objects e ls (and_parts (stands has checked ls (var_def p x t b e)) (is_built has checked ls e) h).1
-    on_objects (block_of p ts) ls h = all_on_objects ts ls h
-    on_objects (labeled p l t e) ls h = on_objects e (inside l t ls) (and_parts (stands has checked ls (labeled p l t e)) (is_built has checked (inside l t ls) e) h).1
-    on_objects (assign p (var_ref q x t) e) ls h = on_objects e ls (and_parts (stands has checked ls (assign p (var_ref q x t) e)) (is_built has checked ls e) h).1
-    on_objects (assign p (select q d c f t) e) ls h = impossible h
-    on_objects (assign p (select_static q c f t) e) ls h = impossible h
-    on_objects (return_to p e l) ls h = on_objects e ls (and_parts (stands has checked ls (return_to p e l)) (is_built has checked ls e) h).1
-    on_objects (if_then p c a b t) ls h =
-        let q = and_parts (stands has checked ls (if_then p c a b t)) (is_built has checked ls c && (is_built has checked ls a && is_built has checked ls b)) h in
-        let r = and_parts (is_built has checked ls c) (is_built has checked ls a && is_built has checked ls b) q.1 in
-        let s = and_parts (is_built has checked ls a) (is_built has checked ls b) r.1 in
-        (on_objects c ls r.0, on_objects a ls s.0, on_objects b ls s.1)
-    on_objects (while_loop p c b) ls h = let q = and_parts (is_built has checked ls c) (is_built has checked ls b) h in (on_objects c ls q.0, on_objects b ls q.1)
-    on_objects (do_while p b c) ls h = let q = and_parts (is_built has checked ls b) (is_built has checked ls c) h in (on_objects b ls q.0, on_objects c ls q.1)
-    on_objects (throw p e) ls h = impossible h
-    on_objects (match_on p e cs d t) ls h =
-        let q = and_parts (stands has checked ls (match_on p e cs d t)) (is_built has checked ls e && (are_built_cases has checked ls t cs && is_built has checked ls d)) h in
-        let r = and_parts (is_built has checked ls e) (are_built_cases has checked ls t cs && is_built has checked ls d) q.1 in
-        let s = and_parts (are_built_cases has checked ls t cs) (is_built has checked ls d) r.1 in
-        (on_objects e ls r.0, cases_on_objects cs ls t s.0, on_objects d ls s.1)
-    on_objects (new_object p c m ts) ls h = impossible h
-    on_objects (select p e c f t) ls h = impossible h
-    on_objects (apply_statically p e c n m ts t) ls h = no_call p e c n m ts t ls h
-    on_objects (apply_static p c n m ts t) ls h =
-        let q = and_parts (linked (member c n m)) (not (any_is_boxed m.params ts) && are_built has checked ls ts) h in
-        all_on_objects ts ls (and_parts (not (any_is_boxed m.params ts)) (are_built has checked ls ts) q.1).1
-    on_objects (unary_op p o e) ls h = on_objects e ls h
-    on_objects (binary_op p o e d) ls h =
-        let q = and_parts (stands has checked ls (binary_op p o e d)) (is_built has checked ls e && is_built has checked ls d) h in
-        let r = and_parts (is_built has checked ls e) (is_built has checked ls d) q.1 in
-        (on_objects e ls r.0, on_objects d ls r.1)
-    on_objects (log_line p e) ls h = on_objects e ls h
-    on_objects _ ls h = tt
+mutual
+  on_objects : (t : Term) → Each (trees t) → OnObjects t
+  on_objects (var_def p x t b e) h = on_objects e (All-tail IsOfObject (var_def p x t b e) (trees e) h)
+  on_objects (block_of p ts) h = all_on_objects ts (All-tail IsOfObject (block_of p ts) (all_below ts) h)
+  on_objects (labeled p l t e) h = on_objects e (All-tail IsOfObject (labeled p l t e) (trees e) h)
+  on_objects (assign p (var_ref q x t) e) h = on_objects e (after IsOfObject (trees (var_ref q x t)) (trees e) (All-tail IsOfObject (assign p (var_ref q x t) e) (trees (var_ref q x t) ++ trees e) h))
+  on_objects (assign p (select q d c f t) e) h =
+      let both = All-tail IsOfObject (assign p (select q d c f t) e) (trees (select q d c f t) ++ trees e) h in
+      let own = ahead IsOfObject (trees (select q d c f t)) (trees e) both in
+      (All-head IsOfObject (select q d c f t) (trees d) own, (on_objects d (All-tail IsOfObject (select q d c f t) (trees d) own), on_objects e (after IsOfObject (trees (select q d c f t)) (trees e) both)))
+  on_objects (assign p (select_static q c f t) e) h = on_objects e (after IsOfObject (trees (select_static q c f t)) (trees e) (All-tail IsOfObject (assign p (select_static q c f t) e) (trees (select_static q c f t) ++ trees e) h))
+  on_objects (return_to p e l) h = on_objects e (All-tail IsOfObject (return_to p e l) (trees e) h)
+  on_objects (if_then p c a b t) h =
+      let all = All-tail IsOfObject (if_then p c a b t) (trees c ++ (trees a ++ trees b)) h in
+      let rest = after IsOfObject (trees c) (trees a ++ trees b) all in
+      (on_objects c (ahead IsOfObject (trees c) (trees a ++ trees b) all), (on_objects a (ahead IsOfObject (trees a) (trees b) rest), on_objects b (after IsOfObject (trees a) (trees b) rest)))
+  on_objects (while_loop p c b) h = let all = All-tail IsOfObject (while_loop p c b) (trees c ++ trees b) h in (on_objects c (ahead IsOfObject (trees c) (trees b) all), on_objects b (after IsOfObject (trees c) (trees b) all))
+  on_objects (do_while p b c) h = let all = All-tail IsOfObject (do_while p b c) (trees b ++ trees c) h in (on_objects b (ahead IsOfObject (trees b) (trees c) all), on_objects c (after IsOfObject (trees b) (trees c) all))
+  on_objects (throw p e) h = on_objects e (All-tail IsOfObject (throw p e) (trees e) h)
+  on_objects (match_on p e cs d t) h =
+      let all = All-tail IsOfObject (match_on p e cs d t) (trees e ++ (cases_below cs ++ trees d)) h in
+      let rest = after IsOfObject (trees e) (cases_below cs ++ trees d) all in
+      (on_objects e (ahead IsOfObject (trees e) (cases_below cs ++ trees d) all), (cases_on_objects cs (ahead IsOfObject (cases_below cs) (trees d) rest), on_objects d (after IsOfObject (cases_below cs) (trees d) rest)))
+  on_objects (new_object p c m ts) h = all_on_objects ts (All-tail IsOfObject (new_object p c m ts) (all_below ts) h)
+  on_objects (select p e c f t) h = (All-head IsOfObject (select p e c f t) (trees e) h, on_objects e (All-tail IsOfObject (select p e c f t) (trees e) h))
+  on_objects (apply_statically p e c n m ts t) h = let all = All-tail IsOfObject (apply_statically p e c n m ts t) (trees e ++ all_below ts) h in (on_objects e (ahead IsOfObject (trees e) (all_below ts) all), all_on_objects ts (after IsOfObject (trees e) (all_below ts) all))
+  on_objects (apply_static p c n m ts t) h = all_on_objects ts (All-tail IsOfObject (apply_static p c n m ts t) (all_below ts) h)
+  on_objects (unary_op p o e) h = on_objects e (All-tail IsOfObject (unary_op p o e) (trees e) h)
+  on_objects (binary_op p o e d) h = let all = All-tail IsOfObject (binary_op p o e d) (trees e ++ trees d) h in (on_objects e (ahead IsOfObject (trees e) (trees d) all), on_objects d (after IsOfObject (trees e) (trees d) all))
+  on_objects (log_line p e) h = on_objects e (All-tail IsOfObject (log_line p e) (trees e) h)
+  on_objects _ h = tt
 
-    all_on_objects : (ts : Terms) (ls : List Label) → are_built has checked ls ts ≡ true → AllOnObjects ts
-    all_on_objects no_terms ls h = tt
-    all_on_objects (more_terms t ts) ls h = let q = and_parts (is_built has checked ls t) (are_built has checked ls ts) h in (on_objects t ls q.0, all_on_objects ts ls q.1)
+  all_on_objects : (ts : Terms) → Each (all_below ts) → AllOnObjects ts
+  all_on_objects no_terms h = tt
+  all_on_objects (more_terms t ts) h = (on_objects t (ahead IsOfObject (trees t) (all_below ts) h), all_on_objects ts (after IsOfObject (trees t) (all_below ts) h))
 
-    cases_on_objects : (cs : Cases) (ls : List Label) (t : IrType) → are_built_cases has checked ls t cs ≡ true → CasesOnObjects cs
-    cases_on_objects no_cases ls t h = tt
-    cases_on_objects (more_cases [] e cs) ls t h = cases_on_objects cs ls t h
-    cases_on_objects (more_cases (n ∷ ns) e cs) ls t h =
-        let q = and_parts (not (yields_boxed t e)) (is_built has checked ls e && are_built_cases has checked ls t cs) h in
-        let r = and_parts (is_built has checked ls e) (are_built_cases has checked ls t cs) q.1 in
-        (on_objects e ls r.0, cases_on_objects cs ls t r.1)
+  cases_on_objects : (cs : Cases) → Each (cases_below cs) → CasesOnObjects cs
+  cases_on_objects no_cases h = tt
+  cases_on_objects (more_cases [] e cs) h = cases_on_objects cs (after IsOfObject (trees e) (cases_below cs) h)
+  cases_on_objects (more_cases (n ∷ ns) e cs) h = (on_objects e (ahead IsOfObject (trees e) (cases_below cs) h), cases_on_objects cs (after IsOfObject (trees e) (cases_below cs) h))
 
-pub built_on_objects : (d : MethodDef) (e : Term) → is_built_body d e ≡ true → OnObjects e
-built_on_objects d e h = on_objects (λ m. true) (λ e. true) e [] (and_parts (not (yields_boxed d.result e)) (is_built anything (λ e. true) [] e) h).1
+-- the class of a primitive type
+class_of_sure : (t : IrType) → is_sure_type t ≡ true → (h : Name) × (hijacked_class t ≡ Some h)
+class_of_sure types.Undefined e = (_, refl)
+class_of_sure types.Boolean e = (_, refl)
+class_of_sure types.Char e = (_, refl)
+class_of_sure types.Byte e = (_, refl)
+class_of_sure types.Short e = (_, refl)
+class_of_sure types.Int e = (_, refl)
+class_of_sure types.Long e = (_, refl)
+class_of_sure types.String e = (_, refl)
+class_of_sure types.Any e = impossible e
+class_of_sure types.Nothing e = impossible e
+class_of_sure types.Null e = impossible e
+class_of_sure types.NoType e = impossible e
+class_of_sure (types.Class c) e = impossible e
+class_of_sure (types.Array r) e = impossible e
+
+some_name : (a b : Name) → Some a ≡ Some b → a ≡ b
+some_name a b e = cc
+
+no_name : (h : Name) → ◌≡◌ {A = Option Name} None (Some h) → ⊥
+no_name h e = absurd (cc)
+
+-- it is hijacked
+is_hijacked_class : (t : IrType) (h : Name) → hijacked_class t ≡ Some h → is_hijacked h ≡ true
+is_hijacked_class types.Undefined h e = subst (λ (n : Name). is_hijacked n ≡ true) (some_name _ h e) refl
+is_hijacked_class types.Boolean h e = subst (λ (n : Name). is_hijacked n ≡ true) (some_name _ h e) refl
+is_hijacked_class types.Char h e = subst (λ (n : Name). is_hijacked n ≡ true) (some_name _ h e) refl
+is_hijacked_class types.Byte h e = subst (λ (n : Name). is_hijacked n ≡ true) (some_name _ h e) refl
+is_hijacked_class types.Short h e = subst (λ (n : Name). is_hijacked n ≡ true) (some_name _ h e) refl
+is_hijacked_class types.Int h e = subst (λ (n : Name). is_hijacked n ≡ true) (some_name _ h e) refl
+is_hijacked_class types.Long h e = subst (λ (n : Name). is_hijacked n ≡ true) (some_name _ h e) refl
+is_hijacked_class types.String h e = subst (λ (n : Name). is_hijacked n ≡ true) (some_name _ h e) refl
+is_hijacked_class types.Any h e = absurd (no_name h e)
+is_hijacked_class types.Nothing h e = absurd (no_name h e)
+is_hijacked_class types.Null h e = absurd (no_name h e)
+is_hijacked_class types.NoType h e = absurd (no_name h e)
+is_hijacked_class (types.Class c) h e = absurd (no_name h e)
+is_hijacked_class (types.Array r) h e = absurd (no_name h e)
+
+module _ (entries : List EntryPoint) (files : List SourceFile) (w : Classes) (bytes : (file : SourceFile) → Contains files file → AreBytes file.bytes) (a : IsAccepted entries files w) where
+  kept : AreClassesKept w
+  kept = objects.kept entries files w bytes a
+
+  unbroken : (c : ClassDef) → Contains w c → FirstBroken c None
+  unbroken c i = (judged entries files w bytes a c i).unbroken
+
+  -- no primitive value has a field
+  of_object : (t : IrType) (c f : Name) (u : IrType) → IsSub w t (class_type c) → HasFieldType w c f false u → is_sure_type t ≡ false
+  of_object t c f u sub field = go (is_sure_type t) refl
+    where
+      has : HasFields w c
+      has = (field_there w unbroken c f u (written.field_there w c f u field)).0
+
+      go : (b : Bool) → is_sure_type t ≡ b → is_sure_type t ≡ false
+      go false e = e
+      go true e = let k = class_of_sure t e in absurd (no_primitive w kept c t k.0 has k.1 (objects.write_interfaces entries files w a k.0 (hijacked (is_hijacked_class t k.0 k.1))) sub)
+
+  module _ (all : List EmittedMethod) (bodies : AreBodies w entries all) (e : EmittedMethod) (i : Contains all e) where
+    tree_of_object : (t : Term) → Stands (MeetsThere w e.definition.namespace) t → IsOfObject t
+    tree_of_object (select p d c f t) s = of_object (type_of_term d) c f t s.asked.0 s.asked.1
+    tree_of_object t s = tt
+
+    -- a needed body
+    pub body_on_objects : OnObjects e.its_body
+    body_on_objects =
+        let typed = a.typed e.member e.definition (needed w entries all bodies e i) (defined w e.member e.definition (bodies.found e i).found) in
+        let same : typed.body ≡ e.its_body = written.some_same typed.body e.its_body (sym typed.has_body ∙ (bodies.found e i).has_body) in
+        let stands = subst (λ (b : Term). All (Stands (MeetsThere w e.definition.namespace)) (trees b)) same (each_stands (MeetsThere w e.definition.namespace) typed.body [] 0 typed.met) in
+        on_objects e.its_body (all_from IsOfObject (trees e.its_body) (λ t among. tree_of_object t (written.all_at (Stands (MeetsThere w e.definition.namespace)) (trees e.its_body) stands t among)))
 
 -- a method has what each body that it may have has
 pub with_keys : ((d : MethodDef) (e : Term) → HasKeys (desugared_member d e)) → (d : MethodDef) (body : Option Term) → HasKeys (desugared_with d body)

@@ -15,13 +15,12 @@ use Rattle.js_tree.specs.Views.{item_view}
 use Rattle.js_tree.specs.declared.items.JsItem.{JsItem}
 use Rattle.std.specs.declared.rc.Rc.{Rc}
 use Rattle.module_names.specs.Names.{Key, sha1_digest, names_of}
-use Rattle.sj_proper.specs.Emitted.{EmittedMethod, piece_of_method, function_item_of, call_item_of, initializer_member, module_with}
+use Rattle.sj_proper.specs.Emitted.{EmittedMethod, call_item_of, initializer_member}
 use Rattle.sj_graph.specs.References.{IsGraph}
 use Rattle.sj_graph.specs.declared.graphs.Graph.{Graph}
-use Rattle.sj_judged.proofs.Written.{modules_keep}
 use Rattle.sj_names.specs.declared.entry_points.EntryPoint.{EntryPoint}
-use Rattle.sj_proper.specs.Emitted.{HaveOwnMembers}
-use Rattle.sj_sound.specs.Linked.{has_function, have_functions}
+use Rattle.sj_names.specs.declared.method_names.Member.{Member}
+use Rattle.sj_sound.proofs.Same.{has_function-is}
 use Rattle.sj_split.proofs.Members.{at_first, further, cons_cases, from_map, Mapped, into_filter, from_filter}
 use Rattle.sj_split.specs.Modules.{IsPlan, public_module, with_piece, has_piece, internal_modules, is_among, classes_at, is_internal}
 use Rattle.sj_split.specs.Orders.{Bytes, is_same}
@@ -29,14 +28,19 @@ use Rattle.sj_split.specs.declared.homes.Settled.{Settled}
 use Rattle.sj_split.specs.declared.plans.PlannedModule.{PlannedModule}
 use Rattle.sj_split.specs.declared.plans.Style.TheVariants.{Fewest}
 use Rattle.sj_world.proofs.OnCycles.{among}
-use Rattle.sj_world.specs.Known.{Name, Classes}
+use Rattle.sj_world.specs.Known.{Name, Classes, class_of}
 use Rattle.worklist.proofs.Inserted.{nothing_in, from-insert_all, each-insert_all}
 use Rattle.sj_names.proofs.Same.{text-same}
 use Rattle.accepted_folders.proofs.Calls.{entry}
-use Rattle.linked_folders.specs.Link.{AreInOrder, IsFileOf, AreFilesOf, IsLink}
+use Rattle.accepted_folders.proofs.Members.{defined}
+use Rattle.declared_pieces.proofs.Blocks.{method_there}
+use Rattle.linked_pieces.specs.Pieces.{piece_of_member}
+use Rattle.sj_emit_expr.specs.Templates.{member_name}
+use Rattle.linked_folders.specs.Link.{AreFilesOf, IsLink}
 use Rattle.folder_linking.specs.declared.files.ModuleFile.{ModuleFile}
-use Rattle.folder_linking.specs.Linking.{ArePieces}
-use Rattle.folder_linking.specs.Modules.{item_of, is_owned, module_of, IsPrinted, ArePrinted, KeepRules, as_file}
+use Rattle.folder_linking.specs.Linking.{ArePrintable}
+use Rattle.folder_linking.specs.Modules.{module_of, IsPrinted, ArePrinted, KeepRules, as_file}
+use Rattle.proper_pieces.specs.Modules.{item_of, is_owned}
 use Rattle.folder_linking.proofs.Taken.{more_taken}
 
 -- two tests that pass for the same reasons are one
@@ -100,71 +104,15 @@ printed_more ps (n ∷ ms) (g ∷ fs) m f are is = (are.0, printed_more ps ms fs
 pub first_printed : (ps : List Piece) (ms : List PlannedModule) (n : ℕ) (m : PlannedModule) (old new : List ModuleFile) (f : ModuleFile) → slice_get ms n ≡ Some m → new ≡ old ++ f ∷ [] → ArePrinted ps (take n ms) old → IsPrinted ps m f → ArePrinted ps (take (n + 1) ms) new
 first_printed ps ms n m old new f at made are is = subst (λ (fs : List ModuleFile). ArePrinted ps (take (n + 1) ms) fs) (sym made) (subst (λ (l : List PlannedModule). ArePrinted ps l (old ++ f ∷ [])) (sym (more_taken ms n m at)) (printed_more ps (take n ms) old m f are is))
 
--- what is chosen of a list
-module _ (test : EmittedMethod → Bool) where
-  chosen_own : (es : List EmittedMethod) → HaveOwnMembers es → HaveOwnMembers (filter test es)
-  chosen_own [] own = tt
-  chosen_own (e ∷ es) own = go (test e) (chosen_own es own.1)
-    where
-      go : (b : Bool) → HaveOwnMembers (filter test es) → HaveOwnMembers (cond b (e ∷ filter test es) (filter test es))
-      go true rest = (λ o h. own.0 o (from_filter test es o h).among, rest)
-      go false rest = rest
-
-  chosen_in_order : (w : Classes) (es : List EmittedMethod) → AreInOrder w es → AreInOrder w (filter test es)
-  chosen_in_order w [] sorted = tt
-  chosen_in_order w (e ∷ es) sorted = go (test e) (chosen_in_order w es sorted.1)
-    where
-      go : (b : Bool) → AreInOrder w (filter test es) → AreInOrder w (cond b (e ∷ filter test es) (filter test es))
-      go true rest = (λ o h. sorted.0 o (from_filter test es o h).among, rest)
-      go false rest = rest
-
-abbrev is_of : List Name → EmittedMethod → Bool
-is_of classes e = is_among classes e.member.class
-
--- the items of the owned pieces are those of the methods of the classes
-items_of_methods : (classes : List Name) (es : List EmittedMethod) → owned_items classes (map piece_of_method es) ≡ map function_item_of (filter (is_of classes) es)
-items_of_methods classes [] = refl
-items_of_methods classes (e ∷ es) = go (is_of classes e) (items_of_methods classes es)
-  where
-    go : (b : Bool) → owned_items classes (map piece_of_method es) ≡ map function_item_of (filter (is_of classes) es) → map item_of (cond b (piece_of_method e ∷ filter (is_owned classes) (map piece_of_method es)) (filter (is_owned classes) (map piece_of_method es))) ≡ map function_item_of (cond b (e ∷ filter (is_of classes) es) (filter (is_of classes) es))
-    go true rest = ap (λ (is : List Item). function_item_of e ∷ is) rest
-    go false rest = rest
-
-module _ (w : Classes) (entries : List EntryPoint) (pieces : List Piece) (are : ArePieces w entries pieces) where
-  abbrev all : List EmittedMethod
-  all = are.all
-
-  file_is : (planned : PlannedModule) (f : ModuleFile) → IsPrinted pieces planned f → IsFileOf w all planned (as_file f)
-  file_is planned f is = record {
-    fs = filter (is_of planned.classes) all;
-    functions = record {
-      exact = λ e. (λ h. (let p = from_filter (is_of planned.classes) all e h in (p.among, (among planned.classes e.member.class).0 p.passes)), λ h. into_filter (is_of planned.classes) all e h.0 ((among planned.classes e.member.class).1 h.1));
-      once = chosen_own (is_of planned.classes) all are.bodies.own;
-      in_order = chosen_in_order (is_of planned.classes) w all are.in_order;
-    };
-    named = is.named;
-    spelled = subst (λ (m : Module). Spells m f.bytes) same is.spelled;
-  }
-    where
-      same : module_of planned pieces ≡ module_with (filter (is_of planned.classes) all) planned.initializers
-      same = ap (module_of planned) (sym are.pieces_are) ∙ ap (λ (is : List Item). record { imports = []; items = is ++ map call_item_of planned.initializers; exports = [] }) (items_of_methods planned.classes all)
-
-  files_are : (plan : List PlannedModule) (fs : List ModuleFile) → ArePrinted pieces plan fs → AreFilesOf w all plan (map as_file fs)
+module _ (w : Classes) (entries : List EntryPoint) (pieces : List Piece) (printable : ArePrintable w entries pieces) where
+  files_are : (plan : List PlannedModule) (fs : List ModuleFile) → ArePrinted pieces plan fs → AreFilesOf pieces plan (map as_file fs)
   files_are [] [] h = tt
   files_are [] (f ∷ fs) h = absurd h
   files_are (m ∷ plan) [] h = absurd h
-  files_are (m ∷ plan) (f ∷ fs) h = (file_is m f h.0, files_are plan fs h.1)
+  files_are (m ∷ plan) (f ∷ fs) h = (record { named = h.0.named; spelled = h.0.spelled }, files_are plan fs h.1)
 
   pub link_is : (graph : Graph) (plan : List PlannedModule) (fs : List ModuleFile) → IsGraph pieces graph → IsPlan sha1_digest graph entries Fewest plan → ArePrinted pieces plan fs → IsLink w entries (map as_file fs)
-  link_is graph plan fs is_graph is_plan printed = record {
-    all = all;
-    bodies = are.bodies;
-    graph = graph;
-    is_graph = subst (λ (ps : List Piece). IsGraph ps graph) (sym are.pieces_are) is_graph;
-    plan = plan;
-    is_plan = is_plan;
-    files_are = files_are plan fs printed;
-  }
+  link_is graph plan fs is_graph is_plan printed = record { pieces = pieces; are_pieces = printable.are; graph = graph; is_graph = is_graph; plan = plan; is_plan = is_plan; files_are = files_are plan fs printed }
 
   -- the initializers of a planned module are entries
   no_initializers : (owners : List Name) (homes : List Settled) (keys : List Key) (names : List Bytes) (m : PlannedModule) → Contains (internal_modules owners homes keys names) m → m.initializers ≡ []
@@ -182,22 +130,25 @@ module _ (w : Classes) (entries : List EntryPoint) (pieces : List Piece) (are : 
       of_public : Mapped (public_module entries is.homes) is.ids m → Contains entries e
       of_public p = (from_filter (λ (x : EntryPoint). is_same x.module p.item) entries e (subst (λ (es : List EntryPoint). Contains es e) (sym (ap (λ (x : PlannedModule). x.initializers) p.is)) i)).among
 
-  all_have : (es : List EntryPoint) → ((e : EntryPoint) → Contains es e → Contains entries e) → have_functions all es ≡ true
-  all_have [] each = refl
-  all_have (e ∷ es) each = and_from (has_function all (initializer_member e)) (have_functions all es) (entry w entries all are.bodies e (each e (at_first e es))) (all_have es (λ d i. each d (further e d es i)))
+  abbrev all : List EmittedMethod
+  all = printable.are.all
 
-  last_all : (xs ys : List Item) → All IsItem (xs ++ ys) → All IsItem ys
-  last_all xs ys h = from ys (λ i k. All-contains IsItem (xs ++ ys) i h (Contains-append_right xs ys i k))
-    where
-      from : (zs : List Item) → ((i : Item) → Contains zs i → IsItem i) → All IsItem zs
-      from [] each = All-nil IsItem
-      from (z ∷ zs) each = All-cons IsItem z zs (each z (at_first z zs)) (from zs (λ i k. each i (further z i zs k)))
+  -- the function of each method of a class stands among the pieces, so its name keeps the rule of names
+  named : (e : EmittedMethod) → Contains all e → IsName (member_name e.member)
+  named e i =
+      let d = defined w e.member e.definition (printable.are.bodies.found e i).found in
+      let known = subst (λ (u : Classes). class_of u e.member.class ≡ Some d.class) (sym printable.are.is_linked.world) d.is_class in
+      (All-contains IsPiece pieces (piece_of_member e) printable.rules (method_there printable.are.linked all pieces printable.are.are e i d.class known)).0
+
+  call_kept : (e : EntryPoint) → Contains entries e → IsItem (call_item_of e)
+  call_kept e i = let f = has_function-is all (initializer_member e) (entry w entries all printable.are.bodies e i) in (subst (λ (m : Member). IsName (member_name m)) f.is (named f.method f.listed), tt)
+
+  calls_kept : (es : List EntryPoint) → ((e : EntryPoint) → Contains es e → Contains entries e) → All IsItem (map call_item_of es)
+  calls_kept [] each = All-nil IsItem
+  calls_kept (e ∷ es) each = All-cons IsItem (call_item_of e) (map call_item_of es) (call_kept e (each e (at_first e es))) (calls_kept es (λ d i. each d (further e d es i)))
 
   pub rules_kept : (graph : Graph) (plan : List PlannedModule) → IsPlan sha1_digest graph entries Fewest plan → KeepRules pieces plan
-  rules_kept graph plan is = record {
-    of_pieces = are.rules;
-    of_calls = λ m h. last_all (map function_item_of all) (map call_item_of m.initializers) (modules_keep all m.initializers (subst (λ (ps : List Piece). All IsPiece ps) (sym are.pieces_are) are.rules) (all_have m.initializers (are_entries graph plan is m h))).1;
-  }
+  rules_kept graph plan is = record { of_pieces = printable.rules; of_calls = λ m h. calls_kept m.initializers (are_entries graph plan is m h) }
 
 -- a module of owned pieces and calls keeps the rules
 pub module_keeps : (planned : PlannedModule) (pieces : List Piece) → All IsPiece pieces → All IsItem (map call_item_of planned.initializers) → IsModule (module_of planned pieces)

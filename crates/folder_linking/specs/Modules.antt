@@ -1,26 +1,19 @@
 -- The module of pieces.
-use Rattle.std.specs.Prelude.{◌≡◌, Bool, List, [], ◌∷◌, ◌++◌, filter, map}
+use Rattle.std.specs.Prelude.{◌≡◌, List, [], ◌∷◌, map}
 use Rattle.std.specs.List.{All, Contains}
 use Rattle.js_mean.specs.Shows.{File}
 use Rattle.js_tree.specs.Rules.{IsItem, IsPiece}
 use Rattle.js_tree.specs.Spelling.{Spells}
-use Rattle.js_tree.specs.Terms.{Item, Piece, Module}
+use Rattle.js_tree.specs.Terms.{Piece, Module}
+use Rattle.proper_pieces.specs.Modules.{module_of as module_of_pieces}
 use Rattle.sj_proper.specs.Emitted.{call_item_of}
-use Rattle.sj_split.specs.Modules.{file, is_among}
+use Rattle.sj_split.specs.Modules.{file}
 use Rattle.sj_split.specs.declared.plans.PlannedModule.{PlannedModule}
-use Rattle.sj_world.specs.Known.{Name}
 use Rattle.folder_linking.specs.declared.files.ModuleFile.{ModuleFile}
-
-abbrev pub item_of : Piece → Item
-item_of p = p.item
-
--- one of the classes owns the piece
-abbrev pub is_owned : List Name → Piece → Bool
-is_owned classes p = is_among classes p.owner
 
 -- the pieces of the module's classes, and behind them the calls of its initializers
 abbrev pub module_of : PlannedModule → List Piece → Module
-module_of planned pieces = record { imports = []; items = map item_of (filter (is_owned planned.classes) pieces) ++ map call_item_of planned.initializers; exports = [] }
+module_of planned pieces = module_of_pieces planned.classes pieces planned.initializers
 
 -- the file that this module is printed to
 pub record IsPrinted (pieces : List Piece) (planned : PlannedModule) (one : ModuleFile) : Type 0 where

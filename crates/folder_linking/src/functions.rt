@@ -11,13 +11,11 @@ ghost use Rattle.sj_emit_expr.specs.Uses.{uses};
 ghost use Rattle.sj_pieces.specs.Owners.{BodyOnObjects};
 ghost use Rattle.js_tree.specs.Rules.{IsPiece};
 ghost use Rattle.sj_names.specs.declared.method_names.Member.{Member};
-ghost use Rattle.sj_world.specs.Known.{is_known};
 ghost use Rattle.sj_world.specs.Members.{IsMethodOf};
 ghost use Rattle.folder_verdicts.specs.Stages.{IsDefined};
 ghost use Rattle.folder_judging.specs.Counts.{members_of, bodies_among};
 ghost use Rattle.folder_linking.specs.Counts.{Emits};
-ghost use Rattle.folder_linking.specs.Functions as functions;
-ghost use Rattle.folder_linking.specs.Functions.{AreFunctions, AreInOrder, IsFunction, HasAncestors, IsStatic};
+ghost use Rattle.folder_linking.specs.Functions.{AreFunctions, IsFunction};
 
 use crate::members::needed_members;
 use folder_judging::definition_of;
@@ -25,47 +23,33 @@ use js_tree::{JsMember, JsPiece};
 use sj_ask::WorldOracle;
 use sj_core::CoreMethod;
 use sj_desugarer::desugar;
-use sj_names::{ClassName, Member, NoMemory};
+use sj_names::{Member, NoMemory};
 use sj_pieces::{desugared_fields_have_owners, desugared_members_have_keys, member_piece};
 use sj_recorder::Recorder;
 use sj_trees::MethodDef;
 use sj_workers::Workers;
 use sj_world::{LinkedWorld, World};
 use std::alloc::Global;
-use std::cmp::Ordering;
 
-/// The function of a needed body, and how many ancestors the class of its member has.
+/// The function of a needed body.
 #[derive(Drop)]
 pub struct Function<'w> {
     pub member: &'w Member,
-    pub ancestors: usize,
     pub piece: JsPiece,
 }
 
-/// The functions of the bodies that are needed, in the order in which a module has them. Each body is emitted once.
-pub fn functions_in_order<'w, W: Workers>(
+/// The functions of the bodies that are needed, in the order of the facts. Each body is emitted once.
+pub fn functions_of_bodies<'w, W: Workers>(
     alloc: Global,
     linked: &'w LinkedWorld,
     work: &mut W,
 ) -> Result<Vec<Function<'w>>, NoMemory>
-    requires defined { (k : Member) → Contains (members_of linked.now.facts) k → IsDefined linked.now.world k }
-    requires without_receiver { (k : Member) → Contains (members_of linked.now.facts) k → IsStatic linked.now.world k }
-    ensures functions { IfOk result (λ fs. AreInOrder linked.now.world (members_of linked.now.facts) fs.items) }
+    requires { (k : Member) → Contains (members_of linked.now.facts) k → IsDefined linked.now.world k }
+    ensures functions { IfOk result (λ fs. AreFunctions linked.now.world (members_of linked.now.facts) fs.items) }
     ensures counted { Emits (bodies_among linked.now.facts) result (W.meter work.old) (W.meter work.new) }
 {
     let members = needed_members(alloc, linked.facts())?;
-    let mut functions = functions_of(alloc, linked, &members, work)?;
-    functions.sort_by(|one, other| order(one, other))?;
-    Ok(functions)
-}
-
-fn order(one: &Function<'_>, other: &Function<'_>) -> Ordering
-    ensures { result ≡ functions.order one.now other.now }
-{
-    one.ancestors
-        .cmp(&other.ancestors)
-        .then(one.piece.owner.cmp(&other.piece.owner))
-        .then(one.piece.name.cmp(&other.piece.name))
+    functions_of(alloc, linked, &members, work)
 }
 
 fn functions_of<'w, W: Workers>(
@@ -74,8 +58,7 @@ fn functions_of<'w, W: Workers>(
     members: &[&'w Member],
     work: &mut W,
 ) -> Result<Vec<Function<'w>>, NoMemory>
-    requires defined { (k : Member) → Contains (map (λ m. m.now) members.now) k → IsDefined linked.now.world k }
-    requires without_receiver { (k : Member) → Contains (map (λ m. m.now) members.now) k → IsStatic linked.now.world k }
+    requires { (k : Member) → Contains (map (λ m. m.now) members.now) k → IsDefined linked.now.world k }
     ensures functions { IfOk result (λ fs. AreFunctions linked.now.world (map (λ m. m.now) members.now) fs.items) }
     ensures counted { Emits (length members.now) result (W.meter work.old) (W.meter work.new) }
 {
@@ -93,18 +76,13 @@ fn function_of<'w, W: Workers>(
     member: &'w Member,
     work: &mut W,
 ) -> Result<Function<'w>, NoMemory>
-    requires defined { IsDefined linked.now.world member.now }
-    requires without_receiver { IsStatic linked.now.world member.now }
+    requires { IsDefined linked.now.world member.now }
     ensures function { IfOk result (λ f. (f.member.now ≡ member.now) × IsFunction linked.now.world f) }
     ensures counted { Emits 1 result (W.meter work.old) (W.meter work.new) }
 {
     let definition = known_definition(linked.world(), member);
     let piece = emitted_piece(alloc, linked, member, definition, work)?;
-    Ok(Function {
-        member,
-        ancestors: ancestors_of(linked.world(), &member.class),
-        piece,
-    })
+    Ok(Function { member, piece })
 }
 
 // The piece of the member, which has this definition.
@@ -149,16 +127,6 @@ fn known_definition<'w>(world: &'w World, member: &Member) -> &'w MethodDef
 {
     match definition_of(world, member) {
         Some(definition) => definition,
-        None => unreachable!(),
-    }
-}
-
-fn ancestors_of(world: &World, class: &ClassName) -> usize
-    requires { is_known world.now class.now ≡ true }
-    ensures { HasAncestors world.now class.now result }
-{
-    match world.ancestors(class) {
-        Some(names) => names.len(),
         None => unreachable!(),
     }
 }

@@ -1,5 +1,5 @@
-//! Links a folder that is accepted: emits the functions of the bodies that are needed, by calls of an object that counts, and prints the modules
-//! that are planned for them.
+//! Links a folder that is accepted: emits the functions of the bodies that are needed, by calls of an object that counts, puts them among the pieces
+//! of their classes, and prints the modules that are planned for these.
 #![tactic(auto)]
 
 mod files;

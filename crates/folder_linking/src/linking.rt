@@ -1,15 +1,15 @@
 // A folder that is linked.
 ghost use Rattle.std.specs.Prelude.{◌≡◌, IfOk, map};
 ghost use Rattle.js_tree.specs.Views.{piece_view};
-ghost use Rattle.folder_judging.specs.Counts.{bodies_among};
+ghost use Rattle.folder_judging.specs.Counts.{bodies_among, members_of};
 ghost use Rattle.linked_folders.specs.Link.{IsLink};
 ghost use Rattle.folder_linking.specs.Counts.{Emits};
-ghost use Rattle.folder_linking.specs.Functions.{piece};
-ghost use Rattle.folder_linking.specs.Linking.{IsLinkable, ArePieces};
+ghost use Rattle.folder_linking.specs.Functions.{AreFunctions, piece};
+ghost use Rattle.folder_linking.specs.Linking.{IsLinkable, ArePrintable};
 ghost use Rattle.folder_linking.specs.Modules.{as_file};
 
 use crate::ModuleFile;
-use crate::functions::{Function, functions_in_order};
+use crate::functions::{Function, functions_of_bodies};
 use crate::modules::printed_files;
 use js_tree::JsPiece;
 use sj_graph::graph;
@@ -18,9 +18,10 @@ use sj_split::{Style, plan};
 use sj_workers::Workers;
 use sj_world::LinkedWorld;
 use std::alloc::Global;
+use world_pieces::world_pieces;
 
 /// The files of a folder that is accepted and whose needed bodies are of the forms that are built: those of the modules that are planned for the
-/// functions of its needed bodies, in the order of their names. Each function is emitted once, by `work`. Want of memory is the only error.
+/// pieces of its classes, in the order of their names. Each needed body is emitted once, by `work`. Want of memory is the only error.
 pub fn link<W: Workers>(
     alloc: Global,
     linked: &LinkedWorld,
@@ -41,7 +42,7 @@ fn link_pieces(
     linked: &LinkedWorld,
     entries: &Entries,
 ) -> Result<Vec<ModuleFile>, NoMemory>
-    requires { ArePieces linked.now.world entries.now (map piece_view pieces.now) }
+    requires { ArePrintable linked.now.world entries.now (map piece_view pieces.now) }
     ensures { IfOk result (λ files. IsLink linked.now.world entries.now (map as_file files.items)) }
 {
     let graph = graph(alloc, pieces)?;
@@ -49,7 +50,7 @@ fn link_pieces(
     printed_files(alloc, plan.modules(), pieces)
 }
 
-// The pieces of the needed bodies, in the order of a module.
+// The pieces of the classes, in the order of a module.
 fn pieces_in_order<W: Workers>(
     alloc: Global,
     linked: &LinkedWorld,
@@ -57,11 +58,25 @@ fn pieces_in_order<W: Workers>(
     work: &mut W,
 ) -> Result<Vec<JsPiece>, NoMemory>
     requires { IsLinkable entries.now linked.now }
-    ensures pieces { IfOk result (λ ps. ArePieces linked.now.world entries.now (map piece_view ps.items)) }
+    ensures pieces { IfOk result (λ ps. ArePrintable linked.now.world entries.now (map piece_view ps.items)) }
     ensures counted { Emits (bodies_among linked.now.facts) result (W.meter work.old) (W.meter work.new) }
 {
-    let functions = functions_in_order(alloc, linked, work)?;
-    pieces_of(alloc, functions)
+    let functions = functions_of_bodies(alloc, linked, work)?;
+    pieces_with(alloc, linked, entries, functions)
+}
+
+fn pieces_with(
+    alloc: Global,
+    linked: &LinkedWorld,
+    entries: &Entries,
+    functions: Vec<Function<'_>>,
+) -> Result<Vec<JsPiece>, NoMemory>
+    requires linkable { IsLinkable entries.now linked.now }
+    requires functions { AreFunctions linked.now.world (members_of linked.now.facts) functions.entry.items }
+    ensures { IfOk result (λ ps. ArePrintable linked.now.world entries.now (map piece_view ps.items)) }
+{
+    let pieces = pieces_of(alloc, functions)?;
+    world_pieces(alloc, linked, pieces)
 }
 
 fn pieces_of(alloc: Global, functions: Vec<Function<'_>>) -> Result<Vec<JsPiece>, NoMemory>

@@ -9,7 +9,8 @@ ghost use Rattle.sj_proper.specs.Emitted.{call_item_of};
 ghost use Rattle.sj_split.specs.Modules.{is_among};
 ghost use Rattle.sj_split.specs.Orders.{is_same};
 ghost use Rattle.folder_linking.specs.Modules as modules;
-ghost use Rattle.folder_linking.specs.Modules.{ArePrinted, IsPrinted, KeepRules, is_owned, item_of};
+ghost use Rattle.folder_linking.specs.Modules.{ArePrinted, IsPrinted, KeepRules};
+ghost use Rattle.proper_pieces.specs.Modules.{is_owned, item_of};
 
 use crate::ModuleFile;
 use indexmap::IndexSet;

@@ -87,7 +87,7 @@ one_edit entries files v u h k = by_edits entries files v u h k
 
 pub one_folder_link : FolderLinkIsOne
 one_folder_link entries files one other has h k =
-    one_link h.world entries one other has h.link (subst (λ (w : Classes). IsLink w entries other) (same_world entries files k.world h.world k.is_accepted h.is_accepted) k.link)
+    one_link entries files h.world one other h.is_accepted has h.link (subst (λ (w : Classes). IsLink w entries other) (same_world entries files k.world h.world k.is_accepted h.is_accepted) k.link)
 
 -- a list without one of its things
 data Without {X : Type 0} (x : X) : List X → List X → Type 0 where

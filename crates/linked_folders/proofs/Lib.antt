@@ -1,4 +1,5 @@
 pub mod Planned
+pub mod Live
 pub mod Links
 pub mod One
 pub mod Edits

@@ -1,109 +1,256 @@
--- Written bodies are closed under what their text calls, so their file agrees with the classes.
-use Rattle.std.proofs.Common.{◌≡◌, ℕ, Bool, true, false, List, [], ◌∷◌, ◌&&◌, Option, Some, refl, sym, subst, map, Contains, if◌then◌else◌}
-use Rattle.std.specs.Prelude.{not}
-use Rattle.std.proofs.lemmas.Bool.{and_parts, and_from}
-use Rattle.std.proofs.lemmas.List.Elements.{Contains-append_left}
-use Rattle.file_listings.specs.Listed.{AreBytes}
-use Rattle.ir_mean.specs.Shows.{initializers}
-use Rattle.js_mean.specs.Shows.{File, file_of}
-use Rattle.sj_agree.specs.Agrees.{Agrees}
-use Rattle.sj_names.specs.declared.folders.SourceFile.{SourceFile}
-use Rattle.sj_trees.specs.Term.{Term}
-use Rattle.sj_trees.specs.declared.classes.MethodDef.{MethodDef}
-use Rattle.js_tree.specs.declared.items.Binding.{Binding}
-use Rattle.sj_proper.specs.Emitted.{EmittedMethod, piece_of_method, initializer_member}
-use Rattle.sj_calls.specs.Files.{HasFunction}
-use Rattle.sj_desugar.specs.Desugar.{desugared, is_mutable_in, result_destination}
-use Rattle.sj_emit_expr.specs.Uses.{function_binding, uses_of_all, uses}
-use Rattle.sj_graph.specs.References.{reference, reference_by}
-use Rattle.sj_judged.proofs.Found.{here, there}
-use Rattle.sj_judged.proofs.Written.{files_agree}
-use Rattle.sj_names.specs.Same.{is_same_text}
-use Rattle.sj_names.specs.declared.entry_points.EntryPoint.{EntryPoint}
-use Rattle.sj_names.specs.declared.method_names.Member.{Member}
-use Rattle.sj_sound.proofs.Same.{has_function-is}
-use Rattle.sj_sound.specs.Linked.{has_function, have_functions, functions_of}
-use Rattle.sj_split.specs.Walks.{Refers, IsReached}
-use Rattle.body_rules.specs.Typing.{may_check, is_built_with}
-use Rattle.sure_receivers.specs.Sure.{sure_locals}
-use Rattle.built_forms.specs.Built.{yields_boxed, is_built, is_built_body, is_static, has_built_body, not_built}
-use Rattle.sj_world.specs.Known.{Classes}
-use Rattle.worklist.specs.Paths.{stay, on}
-use Rattle.folder_verdicts.proofs.EachTyped.{in_map}
+-- The written pieces are closed under what they use, so their file agrees with the classes.
+use Rattle.std.proofs.Common.{◌≡◌, ◌↔◌, ◌⊎◌, ◌++◌, ℕ, Bool, true, false, List, [], ◌∷◌, Option, Some, inl, inr, refl, sym, subst, map, Contains, if◌then◌else◌}
+use Rattle.std.specs.List.{flat_map}
+use Rattle.std.specs.Prelude.{not, is_some}
+use Rattle.std.proofs.lemmas.Bool.{and_from}
+use Rattle.std.proofs.lemmas.List.Elements.{Contains-append_left, Contains-append_right}
+use Rattle.accepted_folders.proofs.Calls.{needed, entry}
+use Rattle.accepted_folders.proofs.Members.{defined}
+use Rattle.accepted_folders.proofs.Worlds.{judged}
 use Rattle.accepted_folders.specs.Accepted.{IsAccepted}
 use Rattle.accepted_folders.specs.Bodies.{AreBodies}
-use Rattle.accepted_folders.proofs.Calls.{needed, calls_among, entry}
-use Rattle.accepted_folders.proofs.Members.{has_function-from, defined}
-use Rattle.accepted_folders.proofs.Worlds.{judged}
-use Rattle.body_uses.proofs.Given.{in_uses, all_from}
-use Rattle.body_uses.proofs.Statics.{statics_kept}
-use Rattle.linked_folders.specs.Link.{AreWritten, IsOneModule}
+use Rattle.body_soundness.proofs.Assembled.{laws_of}
+use Rattle.body_uses.proofs.Written.{accepted_bodies}
+use Rattle.body_uses.specs.Written.{AreWrittenWith}
+use Rattle.built_forms.specs.Built.{Usable, is_object_body, has_built_body, not_built}
+use Rattle.declared_pieces.proofs.Blocks.{method_there, helper_there}
+use Rattle.declared_pieces.proofs.Order.{pieces_are_declarations}
+use Rattle.declared_pieces.proofs.Whole.{pieces_declare}
+use Rattle.declared_pieces.specs.Closed.{IsClosed, items_of}
+use Rattle.declared_programs.proofs.Whole.{programs_agree}
+use Rattle.declared_programs.specs.Declared.{is_covered}
+use Rattle.declared_programs.specs.Files.{module_declaring, program_declaring}
+use Rattle.entry_rules.specs.Entries.{IsLive}
+use Rattle.file_listings.specs.Listed.{AreBytes}
+use Rattle.folder_verdicts.proofs.EachTyped.{in_all, in_map}
+use Rattle.helper_rules.specs.Helpers.{failure_class, helper_piece, init_name, of, used_helpers}
+use Rattle.helper_rules.specs.Words.{bound, class_name}
+use Rattle.helper_rules.specs.declared.kinds.Failure.{Failure}
+use Rattle.helper_rules.specs.declared.kinds.Helper.{Helper}
+use Rattle.helper_rules.specs.declared.kinds.Helper.TheVariants as helpers
+use Rattle.helper_rules.specs.declared.kinds.Kind.TheVariants as kinds
+use Rattle.helper_rules.specs.declared.kinds.Failure.TheVariants as failures
+use Rattle.ir_mean.specs.Shows.{initializers}
+use Rattle.js_mean.specs.Proper.{is_proper_module}
+use Rattle.js_mean.specs.Shows as js_showing
+use Rattle.js_mean.specs.Shows.{File, file_of}
+use Rattle.js_tree.specs.Spelling.{Spells}
+use Rattle.js_tree.specs.Terms.{Piece}
+use Rattle.js_tree.specs.declared.items.Binding.{Binding}
+use Rattle.linked_pieces.specs.Pieces.{piece_of_member, Block, IsBlock, AreBlocks, pieces_of_block, by_piece, by_helper, AreLinkedPieces}
+use Rattle.linked_pieces.specs.Used.{used_of, is_among}
+use Rattle.object_folders.proofs.Made as made
+use Rattle.object_folders.proofs.Worlds.{carry}
+use Rattle.object_folders.specs.Running.{CanBeThrown, CanRun}
+use Rattle.object_helpers.proofs.Pieces.{of_objects, reached}
+use Rattle.object_helpers.specs.Helpers.{is_object_helper}
+use Rattle.proper_pieces.proofs.Modules.{modules_of_pieces_are_proper}
+use Rattle.proper_pieces.specs.Laws.{AreNamed}
+use Rattle.proper_pieces.specs.Modules.{module_of}
+use Rattle.reach_rules.proofs.Derivations.{closed}
+use Rattle.reach_rules.specs.Reachable.{Reachable}
+use Rattle.reach_rules.specs.Rules.{message_constructor, the_object}
+use Rattle.sj_agree.specs.Agrees.{Agrees}
+use Rattle.sj_graph.specs.References.{reference, reference_by}
+use Rattle.sj_judged.proofs.Found.{OwnerOf, owner_of}
+use Rattle.sj_judged.proofs.Judged.{judged_plain}
+use Rattle.sj_kept.proofs.Classes.{class-keeps}
+use Rattle.sj_kept.proofs.Methods.{body_keeps}
+use Rattle.sj_names.proofs.Same.{impossible}
+use Rattle.sj_names.specs.Same.{is_same_text}
+use Rattle.sj_names.specs.WellKnown.{object}
+use Rattle.sj_names.specs.declared.entry_points.EntryPoint.{EntryPoint}
+use Rattle.sj_names.specs.declared.folders.SourceFile.{SourceFile}
+use Rattle.sj_names.specs.declared.method_names.Member.{Member}
+use Rattle.sj_proper.specs.Emitted.{EmittedMethod, initializer_member}
+use Rattle.sj_proper.specs.Once.{DefinesOnce}
+use Rattle.sj_sound.specs.Linked.{has_function}
+use Rattle.sj_split.proofs.Members.{at_first, further, cons_cases, into_map}
+use Rattle.sj_split.specs.Walks.{Refers}
+use Rattle.sj_trees.specs.Term.{Term}
+use Rattle.sj_trees.specs.declared.classes.ClassDef.{ClassDef}
+use Rattle.sj_trees.specs.declared.classes.MethodDef.{MethodDef}
+use Rattle.sj_world.proofs.OnCycles.{among}
+use Rattle.sj_world.specs.Known.{Name, Classes, class_of}
+use Rattle.sj_world.specs.Linked.{Linked}
+use Rattle.sj_world.specs.declared.facts.Fact.{Fact}
+use Rattle.sj_world.specs.declared.facts.Fact.TheVariants.{Needed, Made, Body}
+use Rattle.worklist.proofs.Inserted.{nothing_in}
+use Rattle.worklist.specs.Paths.{stay, on}
+use Rattle.sj_world.specs.Paths as climbs
+use Rattle.declared_pieces.proofs.Fields.{class_named}
+use Rattle.declared_pieces.proofs.Live.{classes_kept}
+use Rattle.linked_folders.specs.Link.{ArePieces, AreWritten, IsOneModule}
 use Rattle.linked_folders.specs.Edits.{AreBuilt}
+use Rattle.linked_folders.proofs.Live.{live, are_live}
 use Rattle.linked_folders.proofs.Planned.{one_file}
-use Rattle.linked_folders.specs.Laws.{WrittenBodiesAreClosed, InitializersAreWritten, LinkedFilesAgree}
+use Rattle.linked_folders.specs.Laws.{WrittenPiecesAreClosed, InitializersAreWritten, LinkedFilesAgree}
 
-initializers_all : (fs : List EmittedMethod) (id : List ℕ) (es : List EntryPoint) → ((e : EntryPoint) → Contains es e → has_function fs (initializer_member e) ≡ true) → have_functions fs (initializers es id) ≡ true
-initializers_all fs id [] h = refl
-initializers_all fs id (e ∷ es) h = step (is_same_text id e.module) (initializers_all fs id es (λ d i. h d (there e es d i)))
-  where
-    step : (b : Bool) → have_functions fs (initializers es id) ≡ true → have_functions fs (if b then (e ∷ initializers es id) else initializers es id) ≡ true
-    step true rest = and_from (has_function fs (initializer_member e)) (have_functions fs (initializers es id)) (h e (here e es)) rest
-    step false rest = rest
-
-module _ (w : Classes) (entries : List EntryPoint) (all fs : List EmittedMethod) (bodies : AreBodies w entries all) (written : AreWritten entries all fs) where
-  abbrev Reached : Member → Type 0
-  Reached m = IsReached written.graph.references entries m.class
-
-  has_written : (k : Member) → has_function all k ≡ true → Reached k → has_function fs k ≡ true
-  has_written k h r = let f : HasFunction all k = has_function-is all k h in has_function-from fs k (record { method = f.method; listed = (written.exact f.method).1 (f.listed, subst Reached (sym f.is) r); is = f.is })
-
-  module _ (e : EmittedMethod) (i : Contains fs e) where
-    listed : Contains all e
-    listed = ((written.exact e).0 i).0
-
-    abbrev used : List Binding
-    used = uses (desugared e.definition e.its_body).body
-
-    refers : (m : Member) → Contains used (function_binding m) → Refers written.graph.references e.member.class m.class
-    refers m h = (written.is_graph.references (reference e.member.class m.class)).1 (record { piece = piece_of_method e; among = in_map piece_of_method all e listed; refers = Contains-append_left (map (reference_by e.member.class) used) _ (reference e.member.class m.class) (in_map (reference_by e.member.class) used (function_binding m) h) })
-
-    reached : (m : Member) → Contains used (function_binding m) → Reached m
-    reached m h = let r : Reached e.member = ((written.exact e).0 i).1 in record { entry = r.entry; among = r.among; walk = on e.member.class m.class r.walk (refers m h) }
-
-    closed : is_built_body e.definition e.its_body ≡ true → is_built_with (functions_of fs) e.definition e.its_body ≡ true
-    closed k =
-        let q = and_parts (not (yields_boxed e.definition.result e.its_body)) (is_built (functions_of all) (may_check (functions_of all) (sure_locals e.its_body)) [] e.its_body) (calls_among w entries all e bodies listed k) in
-        let body = (desugared e.definition e.its_body).body in
-        and_from (not (yields_boxed e.definition.result e.its_body)) (is_built (functions_of fs) (may_check (functions_of fs) (sure_locals e.its_body)) [] e.its_body) q.0 (statics_kept (Contains used) (has_function all) (has_function fs) (sure_locals e.its_body) (λ m h u. has_written m h (reached m u)) (is_mutable_in e.definition e.its_body) e.its_body [] (result_destination e.definition.result) 1 [] q.1 (all_from (Contains used) (uses_of_all body) (in_uses body)))
-
-  starts : (id : List ℕ) → have_functions fs (initializers entries id) ≡ true
-  starts id = initializers_all fs id entries (λ e i. has_written (initializer_member e) (entry w entries all bodies e i) (record { entry = e; among = i; walk = stay }))
-
-pub bodies_closed : WrittenBodiesAreClosed
-bodies_closed w entries all fs e bodies written i k = closed w entries all fs bodies written e i k
+pub pieces_closed : WrittenPiecesAreClosed
+pieces_closed entries ps written are p i here b u =
+    let r = (are.exact p.owner).0 here in
+    let step : Refers are.graph.references p.owner b.owner = (are.is_graph.references (reference p.owner b.owner)).1 (record { piece = p; among = i; refers = Contains-append_left (map (reference_by p.owner) p.uses) (reference p.owner object ∷ []) (reference p.owner b.owner) (in_map (reference_by p.owner) p.uses b u) }) in
+    (are.exact b.owner).1 (record { entry = r.entry; among = r.among; walk = on p.owner b.owner r.walk step })
 
 pub initializers_written : InitializersAreWritten
-initializers_written w entries all fs id bodies written = starts w entries all fs bodies written id
+initializers_written entries ps written e are i = (are.exact e.class).1 (record { entry = e; among = i; walk = stay })
+
+initializers_among : (id : List ℕ) (es : List EntryPoint) (e : EntryPoint) → Contains (initializers es id) e → Contains es e
+initializers_among id [] e h = nothing_in e h
+initializers_among id (d ∷ es) e h = go (is_same_text id d.module) h (initializers_among id es e)
+  where
+    later : (d ≡ e) ⊎ Contains (initializers es id) e → (Contains (initializers es id) e → Contains es e) → Contains (d ∷ es) e
+    later (inl same) rest = subst (Contains (d ∷ es)) same (at_first d es)
+    later (inr i) rest = further d e es (rest i)
+
+    go : (b : Bool) → Contains (if b then (d ∷ initializers es id) else initializers es id) e → (Contains (initializers es id) e → Contains es e) → Contains (d ∷ es) e
+    go true i rest = later (cons_cases d e (initializers es id) i) rest
+    go false i rest = further d e es (rest i)
+
+covered : (h : Helper) → is_object_helper h ≡ true → is_covered h ≡ true
+covered helpers.NotNull e = refl
+covered helpers.IntQuotient e = refl
+covered helpers.IntRemainder e = refl
+covered helpers.LongQuotient e = refl
+covered helpers.LongRemainder e = refl
+covered helpers.BoxedChar e = refl
+covered (helpers.ConstantsOf kinds.Char) e = refl
+covered (helpers.ConstantsOf kinds.Undefined) e = impossible e
+covered (helpers.ConstantsOf kinds.Boolean) e = impossible e
+covered (helpers.ConstantsOf kinds.Byte) e = impossible e
+covered (helpers.ConstantsOf kinds.Short) e = impossible e
+covered (helpers.ConstantsOf kinds.Int) e = impossible e
+covered (helpers.ConstantsOf kinds.Long) e = impossible e
+covered (helpers.ConstantsOf kinds.Text) e = impossible e
+covered helpers.ArrayClass e = impossible e
+covered h e = refl
+
+module _ (entries : List EntryPoint) (files : List SourceFile) (l : Linked) (all : List EmittedMethod) (ps : List Piece) (bytes : (file : SourceFile) → Contains files file → AreBytes file.bytes) (a : IsAccepted entries files l.world) (bodies : AreBodies l.world entries all) (exact : (f : Fact) → Contains l.facts f ↔ Reachable l.world entries f) (objects : (e : EmittedMethod) → Contains all e → is_object_body e.definition e.its_body ≡ true) (p : AreLinkedPieces l all ps) (written : List Name) (are : AreWritten entries ps written) where
+  abbrev w : Classes
+  w = l.world
+
+  holds : (f : Fact) → Contains l.facts f → Reachable w entries f
+  holds f = (exact f).0
+
+  live_there : (c : Name) → IsLive w l.facts c → (k : ClassDef) × (class_of w c ≡ Some k)
+  live_there = made.live_there w entries a.resolved (classes_kept entries files w bytes a) l.facts holds
+
+  abbrev its_live : List Name
+  its_live = live l all live_there ps p
+
+  lives : (c : Name) → Contains its_live c ↔ IsLive w l.facts c
+  lives = are_live l all live_there ps p
+
+  abbrev has : Usable
+  has = used_of w all its_live p.helpers written
+
+  owned : IsClosed ps written
+  owned = pieces_closed entries ps written are
+
+  -- the function of a method stands among the pieces of its class
+  module _ (e : EmittedMethod) (i : Contains all e) where
+    owner : (k : ClassDef) × (class_of w e.member.class ≡ Some k)
+    owner = let d = defined w e.member e.definition (bodies.found e i).found in (d.class, d.is_class)
+
+    there : Contains ps (piece_of_member e)
+    there = method_there l all ps p e i owner.0 owner.1
+
+    in_blocks : Contains (flat_map pieces_of_block p.blocks) (piece_of_member e)
+    in_blocks = search p.classes p.blocks p.are_blocks ((p.are_classes.exact e.member.class).1 (known owner.0 owner.1))
+      where
+        known : (k : ClassDef) → class_of w e.member.class ≡ Some k → is_some (class_of w e.member.class) ≡ true
+        known k found = subst (λ (o : Option ClassDef). is_some o ≡ true) (sym found) refl
+
+        search : (cs : List Name) (bs : List Block) → AreBlocks l all cs bs → Contains cs e.member.class → Contains (flat_map pieces_of_block bs) (piece_of_member e)
+        search [] bs h j = nothing_in e.member.class j
+        search (c ∷ cs) [] h j = absurd h
+        search (c ∷ cs) (b ∷ bs) h j = go (cons_cases c e.member.class cs j) (search cs bs h.1)
+          where
+            own : c ≡ e.member.class → Contains (pieces_of_block b) (piece_of_member e)
+            own same = Contains-append_right b.own (map piece_of_member b.methods) (piece_of_member e) (into_map piece_of_member b.methods e ((h.0.methods.exact e).1 (i, sym same)))
+
+            go : (c ≡ e.member.class) ⊎ Contains cs e.member.class → (Contains cs e.member.class → Contains (flat_map pieces_of_block bs) (piece_of_member e)) → Contains (pieces_of_block b ++ flat_map pieces_of_block bs) (piece_of_member e)
+            go (inl same) rest = Contains-append_left (pieces_of_block b) (flat_map pieces_of_block bs) (piece_of_member e) (own same)
+            go (inr k) rest = Contains-append_right (pieces_of_block b) (flat_map pieces_of_block bs) (piece_of_member e) (rest k)
+
+    its_owner : OwnerOf w e.member e.definition
+    its_owner = owner_of w e.member e.definition (bodies.found e i).found
+
+    once : DefinesOnce e.definition e.its_body
+    once = body_keeps its_owner.owner e.definition e.its_body (bodies.found e i).has_body (class-keeps its_owner.owner (judged entries files w bytes a its_owner.owner its_owner.in_world).unbroken e.definition its_owner.listed)
+
+  uses : AreWrittenWith w entries all its_live p.helpers written
+  uses = record {
+    facts = l.facts;
+    are_facts = exact;
+    are_live = lives;
+    owned = λ e i here b u. owned (piece_of_member e) (there e i) here b u;
+    helped = λ e i here h u. (p.are_helpers.exact h).1 (by_piece (piece_of_member e) h (in_blocks e i) u);
+  }
+
+  thrown : (f : Failure) → Contains p.helpers (helpers.Throws f) → Contains written object → CanBeThrown all its_live written (failure_class f)
+  thrown f i here =
+      let c = failure_class f in
+      let r = reached entries files l all ps a bodies holds objects p f i in
+      let k = made.present w entries a.resolved (classes_kept entries files w bytes a) object (closed w entries (Needed object) the_object) in
+      record {
+        is_live = (lives c).1 (record { made = c; is_made = (exact (Made c)).1 r.0; on_chain = climbs.stay });
+        is_written = owned (helper_piece p.above (helpers.Throws f)) (helper_there l all ps p k.0 k.1 (helpers.Throws f) i) here (bound c (init_name c)) (at_first (bound c (init_name c)) (bound c (class_name c) ∷ map of (used_helpers (helpers.Throws f))));
+        constructor = (bodies.exact (message_constructor c)).1 r.1;
+      }
+
+  run : CanRun w entries l.facts all its_live p.helpers written
+  run = record {
+    reached = holds;
+    are_live = λ c. (lives c).0;
+    are_built = λ e i here. accepted_bodies entries files w all its_live p.helpers written a bodies uses e i here (objects e i);
+    closed = λ h g i u. (p.are_helpers.exact g).1 (by_helper h g ((p.are_helpers.exact h).0 i) u);
+    thrown = thrown;
+  }
+
+  all_covered : (h : Helper) → Contains p.helpers h → is_covered h ≡ true
+  all_covered h i = covered h (of_objects entries files l all ps a bodies holds objects p h i)
+
+  named : AreNamed w
+  named = record { kept = λ c i. (judged entries files w bytes a c i).unbroken; class_names = class_named entries files w bytes a }
+
+  starts : (id : List ℕ) (e : EntryPoint) → Contains (initializers entries id) e → has.linked (initializer_member e) ≡ true
+  starts id e i =
+      let j = initializers_among id entries e i in
+      and_from (is_among written e.class) (has_function all (initializer_member e)) ((among written e.class).1 (initializers_written entries ps written e are j)) (entry w entries all bodies e j)
+
+  proper : (id : List ℕ) → is_proper_module (module_of written ps (initializers entries id)) ≡ true
+  proper id = modules_of_pieces_are_proper l all ps written (initializers entries id) named once p
+
+  file_agrees : (id text : List ℕ) → Spells (module_of written ps (initializers entries id)) text → Agrees w entries (record { name = file_of id; bytes = text } ∷ []) id
+  file_agrees id text spelled = record {
+    program = program_declaring id (items_of written ps) (initializers entries id);
+    read = js_showing.one_more (record { name = file_of id; bytes = text }) (Some (module_declaring (items_of written ps) (initializers entries id))) [] [] spelled js_showing.no_files;
+    agree = programs_agree w (judged_plain w (judged entries files w bytes a)) entries id has (items_of written ps) (proper id) (pieces_are_declarations entries files l all written ps bytes a holds p owned all_covered) (pieces_declare entries files l all its_live written ps bytes a bodies p lives run owned all_covered) (laws_of w has (carry entries files w l.facts all its_live p.helpers written bytes a bodies run)) (starts id);
+  }
 
 not_false : (b : Bool) → not b ≡ false → b ≡ true
 not_false true e = refl
 not_false false e = sym e
 
 -- the definition of a needed body is of the forms that are built, and so is its body
-pub body_built : (d : MethodDef) (t : Term) → d.body ≡ Some t → not_built d ≡ false → is_built_body d t ≡ true
-body_built d t has h =
-    let q = and_parts (is_static d.namespace) (has_built_body d d.body) (not_false (is_static d.namespace && has_built_body d d.body) h) in
-    subst (λ (o : Option Term). has_built_body d o ≡ true) has q.1
+pub body_built : (d : MethodDef) (t : Term) → d.body ≡ Some t → not_built d ≡ false → is_object_body d t ≡ true
+body_built d t has h = subst (λ (o : Option Term). has_built_body d o ≡ true) has (not_false (has_built_body d d.body) h)
 
-module_agrees : (entries : List EntryPoint) (files : List SourceFile) (w : Classes) (id bytes : List ℕ) → ((file : SourceFile) → Contains files file → AreBytes file.bytes) → IsAccepted entries files w → AreBuilt w entries → IsOneModule w entries id bytes → Agrees w entries (record { name = file_of id; bytes = bytes } ∷ []) id
-module_agrees entries files w id bytes are_bytes a built link = files_agree w entries id link.fs bytes (judged entries files w are_bytes a) (λ e i. let j : Contains link.all e = ((link.written.exact e).0 i).0 in let has = defined w e.member e.definition (link.bodies.found e j).found in record {
-  found = (link.bodies.found e j).found;
-  has_body = (link.bodies.found e j).has_body;
-  typed = a.typed e.member e.definition (needed w entries link.all link.bodies e j) has;
-  built = bodies_closed w entries link.all link.fs e link.bodies link.written i (body_built e.definition e.its_body (link.bodies.found e j).has_body (built e.member e.definition (needed w entries link.all link.bodies e j) has));
-}) link.written.once (initializers_written w entries link.all link.fs id link.bodies link.written) link.spelled
+-- what is shown of the classes that these pieces are of
+abbrev Agreed : List EntryPoint → List SourceFile → List ℕ → List ℕ → List EmittedMethod → List Fact → Classes → Type 0
+Agreed entries files id text all facts w = IsAccepted entries files w → AreBuilt w entries → AreBodies w entries all → ((f : Fact) → Contains facts f ↔ Reachable w entries f) → Agrees w entries (record { name = file_of id; bytes = text } ∷ []) id
+
+module_agrees : (entries : List EntryPoint) (files : List SourceFile) (w : Classes) (id text : List ℕ) → ((file : SourceFile) → Contains files file → AreBytes file.bytes) → IsAccepted entries files w → AreBuilt w entries → IsOneModule w entries id text → Agrees w entries (record { name = file_of id; bytes = text } ∷ []) id
+module_agrees entries files w id text bytes a built link = subst (Agreed entries files id text pieces.all pieces.facts) pieces.is_linked.world at_linked a built pieces.bodies pieces.are_facts
+  where
+    pieces : ArePieces w entries link.pieces
+    pieces = link.are_pieces
+
+    at_linked : Agreed entries files id text pieces.all pieces.facts pieces.linked.world
+    at_linked accepted forms bodies facts = file_agrees entries files pieces.linked pieces.all link.pieces bytes accepted bodies (subst (λ (fs : List Fact). (f : Fact) → Contains fs f ↔ Reachable pieces.linked.world entries f) (sym pieces.is_linked.facts_are) facts) (λ e i. body_built e.definition e.its_body (bodies.found e i).has_body (forms e.member e.definition (needed pieces.linked.world entries pieces.all bodies e i) (defined pieces.linked.world e.member e.definition (bodies.found e i).found))) pieces.are link.written link.are_written id text link.spelled
 
 pub agree : LinkedFilesAgree
-agree entries files w id links are_bytes a one built link =
+agree entries files w id links bytes a one built link =
     let f = one_file w entries id links one link in
-    subst (λ (fs : List File). Agrees w entries fs id) (sym f.1) (module_agrees entries files w id f.0 are_bytes a built f.2)
+    subst (λ (fs : List File). Agrees w entries fs id) (sym f.1) (module_agrees entries files w id f.0 bytes a built f.2)

@@ -7,7 +7,7 @@ use Rattle.ir_mean.specs.Shows.{initializers}
 use Rattle.js_mean.specs.Shows.{File, file_of}
 use Rattle.js_tree.specs.Spelling.{Spells}
 use Rattle.module_names.specs.Names.{names_of, sha1_digest}
-use Rattle.sj_proper.specs.Emitted.{module_with}
+use Rattle.proper_pieces.specs.Modules.{module_of}
 use Rattle.sj_names.proofs.Same.{text-refl}
 use Rattle.sj_names.specs.Same.{is_same_text}
 use Rattle.sj_names.specs.declared.entry_points.EntryPoint.{EntryPoint}
@@ -15,8 +15,7 @@ use Rattle.sj_split.proofs.Least.{not_before_itself}
 use Rattle.sj_split.proofs.Members.{at_first, further, cons_cases, into_map, from_map, into_filter}
 use Rattle.sj_split.proofs.OnePlace.{placed}
 use Rattle.sj_split.specs.Homes.{AreHomes, home_of_tags, class_of}
-use Rattle.sj_graph.specs.declared.graphs.Graph.{Graph}
-use Rattle.sj_split.specs.Modules.{AreIds, AreKeys, is_public, classes_at, public_module, internal_modules, home_of, module_of, IsPlan}
+use Rattle.sj_split.specs.Modules.{AreIds, AreKeys, is_public, classes_at, public_module, internal_modules, initializers_of, home_of, module_of as module_id}
 use Rattle.sj_split.specs.Orders.{AreIncreasing, IsBefore, is_same}
 use Rattle.sj_split.specs.Walks.{Name, Id, References, IsReached, AreTags}
 use Rattle.sj_split.specs.declared.homes.Home.{Home}
@@ -77,10 +76,10 @@ module _ (references : References) (entries : List EntryPoint) (id : Id) (one : 
   tag_is class tags are x h = let r = (are.exact x).0 h in sym r.in_module ∙ one.each r.entry r.among
 
   ids_are : (ids : List Id) → AreIds entries ids → ids ≡ id ∷ []
-  ids_are ids are = one_text id ids are.increasing from ((are.exact id).1 (subst (λ (m : Id). Contains (map module_of entries) m) (one.each one.first one.among) (into_map module_of entries one.first one.among)))
+  ids_are ids are = one_text id ids are.increasing from ((are.exact id).1 (subst (λ (m : Id). Contains (map module_id entries) m) (one.each one.first one.among) (into_map module_id entries one.first one.among)))
     where
       from : (x : Id) → Contains ids x → x ≡ id
-      from x h = let m = from_map module_of entries x ((are.exact x).0 h) in sym m.is ∙ one.each m.item m.among
+      from x h = let m = from_map module_id entries x ((are.exact x).0 h) in sym m.is ∙ one.each m.item m.among
 
   module _ (homes : List Settled) (are : AreHomes references entries Fewest homes) where
     home_at : (s : Settled) → Contains homes s → s.home ≡ Public id
@@ -102,59 +101,48 @@ module _ (references : References) (entries : List EntryPoint) (id : Id) (one : 
             let passes : is_public id m.item.home ≡ true = subst (λ (h : Home). is_public id h ≡ true) (sym (home_at m.item m.among)) (text-refl id) in
             subst (λ (n : Name). Contains (classes_at (is_public id) homes) n) m.is (into_map class_of _ m.item (into_filter (λ (s : Settled). is_public id s.home) homes m.item m.among passes))
 
--- the plan has the public module alone, with all classes that are reached, and with all entries
-module _ (entries : List EntryPoint) (id : Id) (one : AreOfOne entries id) (graph : Graph) (plan : List PlannedModule) (is_plan : IsPlan sha1_digest graph entries Fewest plan) where
-  abbrev pub planned : PlannedModule
-  planned = public_module entries is_plan.homes id
+module _ (w : Classes) (entries : List EntryPoint) (id : Id) (files : List File) (one : AreOfOne entries id) (link : IsLink w entries files) where
+  abbrev references : References
+  references = link.graph.references
+
+  abbrev homes : List Settled
+  homes = link.is_plan.homes
+
+  abbrev planned : PlannedModule
+  planned = public_module entries homes id
 
   abbrev listed : List Id → List Id → List PlannedModule
-  listed ids keys = map (public_module entries is_plan.homes) ids ++ internal_modules graph.owners is_plan.homes keys (names_of sha1_digest keys)
+  listed ids keys = map (public_module entries homes) ids ++ internal_modules link.graph.owners homes keys (names_of sha1_digest keys)
 
-  pub plan_is : plan ≡ planned ∷ []
+  plan_is : link.plan ≡ planned ∷ []
   plan_is =
-      let ids = is_plan.ids in
-      let keys = is_plan.keys in
-      let first : ids ≡ id ∷ [] = ids_are graph.references entries id one ids is_plan.are_ids in
-      let none : keys ≡ [] = no_keys graph.references entries id one is_plan.homes is_plan.are_homes keys is_plan.are_keys in
+      let ids = link.is_plan.ids in
+      let keys = link.is_plan.keys in
+      let first : ids ≡ id ∷ [] = ids_are references entries id one ids link.is_plan.are_ids in
+      let none : keys ≡ [] = no_keys references entries id one homes link.is_plan.are_homes keys link.is_plan.are_keys in
       let same : listed ids keys ≡ planned ∷ [] = ap (λ (l : List Id). listed l keys) first ∙ ap (λ (l : List Id). listed (id ∷ []) l) none in
-      let moved : IsPermutation (planned ∷ []) plan = subst (λ (l : List PlannedModule). IsPermutation l plan) same is_plan.exact in
-      only planned plan (length_permutation (planned ∷ []) plan moved) (Contains-permutation (planned ∷ []) plan planned moved (at_first planned []))
+      let moved : IsPermutation (planned ∷ []) link.plan = subst (λ (l : List PlannedModule). IsPermutation l link.plan) same link.is_plan.exact in
+      only planned link.plan (length_permutation (planned ∷ []) link.plan moved) (Contains-permutation (planned ∷ []) link.plan planned moved (at_first planned []))
 
-  pub planned_classes : (class : Name) → Contains planned.classes class ↔ IsReached graph.references entries class
-  planned_classes = classes_are graph.references entries id one is_plan.homes is_plan.are_homes
-
-  pub initializers_are : planned.initializers ≡ initializers entries id
+  initializers_are : initializers_of id entries ≡ initializers entries id
   initializers_are = filtered (λ (e : EntryPoint). is_same e.module id) entries (λ e h. subst (λ (m : Id). is_same m id ≡ true) (sym (one.each e h)) (text-refl id)) ∙ sym (all_of_module id entries one.each)
 
-pub with_name : (id : Id) (f : File) → f.name ≡ file_of id → f ≡ record { name = file_of id; bytes = f.bytes }
-with_name id f e = (λ i. record { name = e i; bytes = f.bytes })
-
-module _ (w : Classes) (entries : List EntryPoint) (id : Id) (files : List File) (one : AreOfOne entries id) (link : IsLink w entries files) where
-  abbrev the_planned : PlannedModule
-  the_planned = planned entries id one link.graph link.plan link.is_plan
-
-  reached : (class : Name) → Contains the_planned.classes class ↔ IsReached link.graph.references entries class
-  reached = planned_classes entries id one link.graph link.plan link.is_plan
-
-  the_module : (f : File) → IsFileOf w link.all the_planned f → IsOneModule w entries id f.bytes
+  the_module : (f : File) → IsFileOf link.pieces planned f → IsOneModule w entries id f.bytes
   the_module f is = record {
-    all = link.all;
-    bodies = link.bodies;
-    fs = is.fs;
-    written = record {
-      graph = link.graph;
-      is_graph = link.is_graph;
-      exact = λ e. (λ h. (let q = (is.functions.exact e).0 h in (q.0, (reached e.member.class).0 q.1)), λ h. (is.functions.exact e).1 (h.0, (reached e.member.class).1 h.1));
-      once = is.functions.once;
-    };
-    in_order = is.functions.in_order;
-    spelled = subst (λ (es : List EntryPoint). Spells (module_with is.fs es) f.bytes) (initializers_are entries id one link.graph link.plan link.is_plan) is.spelled;
+    pieces = link.pieces;
+    are_pieces = link.are_pieces;
+    written = planned.classes;
+    are_written = record { graph = link.graph; is_graph = link.is_graph; exact = classes_are references entries id one homes link.is_plan.are_homes };
+    spelled = subst (λ (es : List EntryPoint). Spells (module_of planned.classes link.pieces es) f.bytes) initializers_are is.spelled;
   }
 
-  files_of_one : (fs : List File) → AreFilesOf w link.all (the_planned ∷ []) fs → (bytes : List ℕ) × (fs ≡ record { name = file_of id; bytes = bytes } ∷ []) × IsOneModule w entries id bytes
+  with_name : (f : File) → f.name ≡ file_of id → f ≡ record { name = file_of id; bytes = f.bytes }
+  with_name f e = (λ i. record { name = e i; bytes = f.bytes })
+
+  files_of_one : (fs : List File) → AreFilesOf link.pieces (planned ∷ []) fs → (bytes : List ℕ) × (fs ≡ record { name = file_of id; bytes = bytes } ∷ []) × IsOneModule w entries id bytes
   files_of_one [] are = absurd are
-  files_of_one (f ∷ []) are = (f.bytes, ap (λ (x : File). x ∷ []) (with_name id f are.0.named), the_module f are.0)
+  files_of_one (f ∷ []) are = (f.bytes, ap (λ (x : File). x ∷ []) (with_name f are.0.named), the_module f are.0)
   files_of_one (f ∷ g ∷ fs) are = absurd are.1
 
 pub one_file : LinksAreOneFile
-one_file w entries id files one link = files_of_one w entries id files one link files (subst (λ (plan : List PlannedModule). AreFilesOf w link.all plan files) (plan_is entries id one link.graph link.plan link.is_plan) link.files_are)
+one_file w entries id files one link = files_of_one w entries id files one link files (subst (λ (plan : List PlannedModule). AreFilesOf link.pieces plan files) (plan_is w entries id files one link) link.files_are)

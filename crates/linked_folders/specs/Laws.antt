@@ -2,30 +2,26 @@
 use Rattle.std.specs.Prelude.{◌≡◌, ℕ, true, List, [], ◌∷◌}
 use Rattle.std.specs.List.{Contains}
 use Rattle.file_listings.specs.Listed.{AreBytes}
-use Rattle.ir_mean.specs.Shows.{initializers}
+use Rattle.declared_pieces.specs.Closed.{IsClosed}
 use Rattle.js_mean.specs.Shows.{File, file_of}
+use Rattle.js_tree.specs.Terms.{Piece}
 use Rattle.sj_agree.specs.Agrees.{Agrees}
-use Rattle.sj_proper.specs.Emitted.{EmittedMethod}
 use Rattle.sj_names.specs.declared.counters.Meter.{Meter}
 use Rattle.sj_names.specs.declared.entry_points.EntryPoint.{EntryPoint}
 use Rattle.sj_names.specs.declared.folders.SourceFile.{SourceFile}
-use Rattle.sj_sound.specs.Linked.{functions_of, have_functions}
-use Rattle.built_forms.specs.Built.{is_built_body}
-use Rattle.body_rules.specs.Typing.{is_built_with}
-use Rattle.sj_world.specs.Known.{Classes}
+use Rattle.sj_world.specs.Known.{Name, Classes}
 use Rattle.folder_verdicts.specs.Verdicts.{Verdict}
 use Rattle.accepted_folders.specs.Accepted.{IsAccepted}
-use Rattle.accepted_folders.specs.Bodies.{AreBodies}
 use Rattle.linked_folders.specs.Link.{IsLink, AreOfOne, AreWritten, IsOneModule}
 use Rattle.linked_folders.specs.Edits.{AreBuilt, HaveOneModule, IsEditVerdict, IsLinkOf, IsWork}
 
--- what a written body calls is written, but for calls in a case without keys, which isn't written itself
-abbrev pub WrittenBodiesAreClosed : Type 0
-WrittenBodiesAreClosed = (w : Classes) (entries : List EntryPoint) (all fs : List EmittedMethod) (e : EmittedMethod) → AreBodies w entries all → AreWritten entries all fs → Contains fs e → is_built_body e.definition e.its_body ≡ true → is_built_with (functions_of fs) e.definition e.its_body ≡ true
+-- what the written pieces use is written
+abbrev pub WrittenPiecesAreClosed : Type 0
+WrittenPiecesAreClosed = (entries : List EntryPoint) (ps : List Piece) (written : List Name) → AreWritten entries ps written → IsClosed ps written
 
--- the method of each initializer is written
+-- the classes of the initializers are written
 abbrev pub InitializersAreWritten : Type 0
-InitializersAreWritten = (w : Classes) (entries : List EntryPoint) (all fs : List EmittedMethod) (id : List ℕ) → AreBodies w entries all → AreWritten entries all fs → have_functions fs (initializers entries id) ≡ true
+InitializersAreWritten = (entries : List EntryPoint) (ps : List Piece) (written : List Name) (e : EntryPoint) → AreWritten entries ps written → Contains entries e → Contains written e.class
 
 -- where all entries are of one public module, the classes are linked to its file alone
 abbrev pub LinksAreOneFile : Type 0
@@ -41,9 +37,9 @@ LinkedFilesAgree = (entries : List EntryPoint) (files : List SourceFile) (w : Cl
     → IsLink w entries links
     → Agrees w entries links id
 
--- classes are linked to one list of files at most, where all entries are of one public module
+-- the classes of an accepted folder are linked to one list of files at most, where all entries are of one public module
 abbrev pub LinkIsOne : Type 0
-LinkIsOne = (w : Classes) (entries : List EntryPoint) (one other : List File) → HaveOneModule entries → IsLink w entries one → IsLink w entries other → one ≡ other
+LinkIsOne = (entries : List EntryPoint) (files : List SourceFile) (w : Classes) (one other : List File) → IsAccepted entries files w → HaveOneModule entries → IsLink w entries one → IsLink w entries other → one ≡ other
 
 -- an edit has one verdict at most
 abbrev pub EditVerdictIsOne : Type 0

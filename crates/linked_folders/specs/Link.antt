@@ -1,65 +1,58 @@
 -- The files that the classes of an accepted folder are linked to, where it has one public module.
-use Rattle.std.specs.Prelude.{◌≡◌, ◌↔◌, ◌<◌, ℕ, List, [], ◌∷◌, length, map}
+use Rattle.std.specs.Prelude.{◌≡◌, ◌↔◌, ℕ, List, [], ◌∷◌}
 use Rattle.std.specs.List.{Contains}
+use Rattle.entry_rules.specs.Entries.{IsLinked}
 use Rattle.ir_mean.specs.Shows.{initializers}
 use Rattle.js_mean.specs.Shows.{File}
 use Rattle.js_tree.specs.Spelling.{Spells}
+use Rattle.js_tree.specs.Terms.{Piece}
+use Rattle.linked_pieces.specs.Pieces.{AreLinkedPieces}
 use Rattle.module_names.specs.Names.{sha1_digest}
-use Rattle.sj_proper.specs.Emitted.{EmittedMethod, piece_of_method, module_with}
-use Rattle.sj_emit_expr.specs.Templates.{member_name}
+use Rattle.proper_pieces.specs.Modules.{module_of}
+use Rattle.reach_rules.specs.Reachable.{Reachable}
 use Rattle.sj_graph.specs.References.{IsGraph}
 use Rattle.sj_graph.specs.declared.graphs.Graph.{Graph}
 use Rattle.sj_names.specs.declared.entry_points.EntryPoint.{EntryPoint}
-use Rattle.sj_proper.specs.Emitted.{HaveOwnMembers}
+use Rattle.sj_proper.specs.Emitted.{EmittedMethod}
 use Rattle.sj_split.specs.Modules.{IsPlan, file}
-use Rattle.sj_split.specs.Orders.{IsBefore}
 use Rattle.sj_split.specs.Walks.{IsReached}
 use Rattle.sj_split.specs.declared.plans.PlannedModule.{PlannedModule}
 use Rattle.sj_split.specs.declared.plans.Style.TheVariants.{Fewest}
 use Rattle.sj_world.specs.Known.{Name, Classes}
-use Rattle.sj_world.specs.Tables.{AreAncestors}
+use Rattle.sj_world.specs.Linked.{Linked}
+use Rattle.sj_world.specs.declared.facts.Fact.{Fact}
 use Rattle.accepted_folders.specs.Bodies.{AreBodies}
 
--- one function stands before another: its class has fewer ancestors, or as many and its name is less, or it is the same class, in which the
--- function's name is less
-pub data StandsBefore (w : Classes) (a b : EmittedMethod) : Type 0 where
-  by_ancestors : (above below : List Name) → AreAncestors w a.member.class above → AreAncestors w b.member.class below → length above < length below → StandsBefore w a b
-  by_class : (above below : List Name) → AreAncestors w a.member.class above → AreAncestors w b.member.class below → length above ≡ length below → IsBefore a.member.class b.member.class → StandsBefore w a b
-  by_name : a.member.class ≡ b.member.class → IsBefore (member_name a.member) (member_name b.member) → StandsBefore w a b
+-- the pieces of the classes: those of the linked world of what is reachable, with the functions of all needed bodies
+pub record ArePieces (w : Classes) (entries : List EntryPoint) (ps : List Piece) : Type 0 where
+  pub all : List EmittedMethod
+  pub bodies : AreBodies w entries all
+  pub facts : List Fact
+  pub are_facts : (f : Fact) → Contains facts f ↔ Reachable w entries f
+  pub linked : Linked
+  pub is_linked : IsLinked w facts linked
+  pub are : AreLinkedPieces linked all ps
 
--- each stands before those behind it
-abbrev pub AreInOrder : Classes → List EmittedMethod → Type 0
-AreInOrder w [] = Unit {0}
-AreInOrder w (e ∷ es) = ((o : EmittedMethod) → Contains es o → StandsBefore w e o) × AreInOrder w es
-
-module _ (w : Classes) (all : List EmittedMethod) where
-  -- the functions of these classes, in order
-  pub record AreFunctionsOf (classes : List Name) (fs : List EmittedMethod) : Type 0 where
-    pub exact : (e : EmittedMethod) → Contains fs e ↔ (Contains all e × Contains classes e.member.class)
-    pub once : HaveOwnMembers fs
-    pub in_order : AreInOrder w fs
-
-  -- the file of a module: the functions of its classes, and behind them the calls of its initializers
+module _ (ps : List Piece) where
+  -- the file of a module: the pieces of its classes, and behind them the calls of its initializers
   pub record IsFileOf (planned : PlannedModule) (one : File) : Type 0 where
-    pub fs : List EmittedMethod
-    pub functions : AreFunctionsOf planned.classes fs
     pub named : one.name ≡ file planned
-    pub spelled : Spells (module_with fs planned.initializers) one.bytes
+    pub spelled : Spells (module_of planned.classes ps planned.initializers) one.bytes
 
   abbrev pub AreFilesOf : List PlannedModule → List File → Type 0
   AreFilesOf [] [] = Unit {0}
   AreFilesOf (planned ∷ others) (one ∷ files) = IsFileOf planned one × AreFilesOf others files
   AreFilesOf _ _ = ⊥
 
--- the classes are linked to these files: those of the modules that are planned for the functions of all needed bodies
+-- the classes are linked to these files: those of the modules that are planned for their pieces
 pub record IsLink (w : Classes) (entries : List EntryPoint) (files : List File) : Type 0 where
-  pub all : List EmittedMethod
-  pub bodies : AreBodies w entries all
+  pub pieces : List Piece
+  pub are_pieces : ArePieces w entries pieces
   pub graph : Graph
-  pub is_graph : IsGraph (map piece_of_method all) graph
+  pub is_graph : IsGraph pieces graph
   pub plan : List PlannedModule
   pub is_plan : IsPlan sha1_digest graph entries Fewest plan
-  pub files_are : AreFilesOf w all plan files
+  pub files_are : AreFilesOf pieces plan files
 
 -- all entries are of the public module of this id
 pub record AreOfOne (entries : List EntryPoint) (id : List ℕ) : Type 0 where
@@ -67,18 +60,16 @@ pub record AreOfOne (entries : List EntryPoint) (id : List ℕ) : Type 0 where
   pub among : Contains entries first
   pub each : (e : EntryPoint) → Contains entries e → e.module ≡ id
 
--- the bodies whose functions are written: those of the classes to which the pieces of all needed bodies lead from the class of an initializer
-pub record AreWritten (entries : List EntryPoint) (all fs : List EmittedMethod) : Type 0 where
+-- the classes whose pieces are written: those to which the pieces lead from the class of an initializer
+pub record AreWritten (entries : List EntryPoint) (ps : List Piece) (written : List Name) : Type 0 where
   pub graph : Graph
-  pub is_graph : IsGraph (map piece_of_method all) graph
-  pub exact : (e : EmittedMethod) → Contains fs e ↔ (Contains all e × IsReached graph.references entries e.member.class)
-  pub once : HaveOwnMembers fs
+  pub is_graph : IsGraph ps graph
+  pub exact : (c : Name) → Contains written c ↔ IsReached graph.references entries c
 
--- the text of the public module, where it is the only one: the functions of the written bodies in order, and behind them the calls of the initializers
+-- the text of the public module, where it is the only one: the pieces of the written classes in order, and behind them the calls of the initializers
 pub record IsOneModule (w : Classes) (entries : List EntryPoint) (id bytes : List ℕ) : Type 0 where
-  pub all : List EmittedMethod
-  pub bodies : AreBodies w entries all
-  pub fs : List EmittedMethod
-  pub written : AreWritten entries all fs
-  pub in_order : AreInOrder w fs
-  pub spelled : Spells (module_with fs (initializers entries id)) bytes
+  pub pieces : List Piece
+  pub are_pieces : ArePieces w entries pieces
+  pub written : List Name
+  pub are_written : AreWritten entries pieces written
+  pub spelled : Spells (module_of written pieces (initializers entries id)) bytes

@@ -4,14 +4,14 @@
 //! their clauses are theorems.
 #![tactic(auto)]
 
-ghost use Rattle.linked_folders.specs.Laws.{WrittenBodiesAreClosed, InitializersAreWritten, LinksAreOneFile, LinkedFilesAgree, LinkIsOne, EditVerdictIsOne, FolderLinkIsOne, WorkIsOne};
+ghost use Rattle.linked_folders.specs.Laws.{WrittenPiecesAreClosed, InitializersAreWritten, LinksAreOneFile, LinkedFilesAgree, LinkIsOne, EditVerdictIsOne, FolderLinkIsOne, WorkIsOne};
 
-/// What a written body calls is written, but for calls in a case without keys, which isn't written itself.
-pub fn written_bodies_are_closed()
-    ensures { WrittenBodiesAreClosed }
+/// What a written piece uses is written.
+pub fn written_pieces_are_closed()
+    ensures { WrittenPiecesAreClosed }
 {}
 
-/// The methods of the initializers are written.
+/// The classes of the initializers are written.
 pub fn initializers_are_written()
     ensures { InitializersAreWritten }
 {}
@@ -27,7 +27,7 @@ pub fn linked_files_agree()
     ensures { LinkedFilesAgree }
 {}
 
-/// Classes are linked to one list of files at most.
+/// The classes of an accepted folder are linked to one list of files at most.
 pub fn link_is_one()
     ensures { LinkIsOne }
 {}

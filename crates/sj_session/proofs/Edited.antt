@@ -83,7 +83,7 @@ module _ (entries : List EntryPoint) (files : List SourceFile) (l : Linked) (jud
   by_built judged.NoMemory h = tt
 
   pub linkable : HaveOneModule entries × AreBuilt l.world entries → IsLinkable entries l
-  linkable forms = record { files = files; are_bytes = bytes; is_accepted = world_accepted; reached = reached; built = forms.1 }
+  linkable forms = record { files = files; are_bytes = bytes; is_accepted = world_accepted; reached = reached; method_entries = known.linked.linked.method_entries; built = forms.1 }
 
   all_checked : ChecksAtMost (AreFactsIn entries files) (bodies_among l.facts)
   all_checked = judging.bodies l.facts (bodies_among l.facts) facts_in (omega arith)

@@ -1,4 +1,0 @@
-pub mod Planned
-mod Live
-pub mod Links
-pub mod One

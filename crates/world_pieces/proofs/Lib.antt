@@ -1,0 +1,10 @@
+pub mod AboveKinds
+pub mod HelperTable
+pub mod InOrder
+pub mod Itself
+pub mod Linked
+pub mod Made
+pub mod Moved
+pub mod Placed
+pub mod UsedWords
+pub mod Used
