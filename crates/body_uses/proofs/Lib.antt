@@ -3,3 +3,14 @@ pub mod Standing
 pub mod Statics
 pub mod Uses
 pub mod Written
+pub use Rattle.accepted_folders.proofs.Calls
+pub use Rattle.accepted_folders.proofs.Members
+pub use Rattle.accepted_folders.proofs.EachTyped
+pub use Rattle.accepted_folders.proofs.Undenied
+pub use Rattle.accepted_folders.proofs.Derivations
+pub use Rattle.accepted_folders.proofs.Found
+pub use Rattle.accepted_folders.proofs.Classes
+pub use Rattle.accepted_folders.proofs.Equal
+pub use Rattle.accepted_folders.proofs.Distinct
+pub use Rattle.accepted_folders.proofs.Kept
+pub use Rattle.accepted_folders.proofs.Methods

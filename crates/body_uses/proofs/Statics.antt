@@ -2,9 +2,9 @@
 use Rattle.std.proofs.Common.{◌≡◌, ℕ, Bool, true, false, List, refl, sym}
 use Rattle.std.specs.Prelude.{◌||◌}
 use Rattle.std.specs.List.{All}
-use Rattle.body_rules.proofs.RulesGive.{no_division}
-use Rattle.body_rules.specs.Typing.{may_check}
-use Rattle.built_forms.specs.Built.{Usable, members_alone, is_built}
+use Rattle.accepted_folders.proofs.RulesGive.{no_division}
+use Rattle.accepted_folders.specs.Typing.{may_check}
+use Rattle.accepted_folders.specs.Built.{Usable, members_alone, is_built}
 use Rattle.js_tree.specs.declared.items.Binding.{Binding}
 use Rattle.sj_desugar.specs.Desugar.{Targets, into, member}
 use Rattle.sj_desugar.specs.Spill.{Destination}
@@ -17,7 +17,7 @@ use Rattle.sj_names.specs.declared.method_names.Namespace.{Namespace}
 use Rattle.sj_names.specs.declared.method_names.Namespace.TheVariants.{Constructor}
 use Rattle.sj_trees.specs.Term.{Term, new_object, select, apply_statically, apply_static, binary_op}
 use Rattle.sure_receivers.specs.Sure.{is_sure}
-use Rattle.typing_rules.specs.declared.labels.Label.{Label}
+use Rattle.accepted_folders.specs.Label.{Label}
 use Rattle.body_uses.proofs.Given.{all_from}
 use Rattle.body_uses.proofs.Uses.{Gives, GivesReceived, tree}
 

@@ -18,19 +18,19 @@ use Rattle.sj_desugar.specs.Texts.{operand_of}
 use Rattle.sj_emit_expr.specs.Templates.{check_name, is_nonzero_literal}
 use Rattle.sj_emit_expr.specs.Uses.{object_binding, function_binding, class_use, helper_of, uses_in, uses_in_all, uses_of, uses_of_all, uses_of_cases}
 use Rattle.sj_infos.specs.Trees.{trees, below, all_below, cases_below}
-use Rattle.sj_judged.proofs.Found.{here, there}
+use Rattle.accepted_folders.proofs.Found.{here, there}
 use Rattle.sj_names.proofs.Same.{impossible}
 use Rattle.sj_names.specs.declared.method_names.Member.{Member}
 use Rattle.sj_names.specs.declared.references.TypeRef.{TypeRef}
-use Rattle.body_rules.specs.Typing.{may_check}
-use Rattle.built_forms.specs.Built.{Usable, can_box, may_box, may_yield, may_leave, may_pass, is_boxed, yields_boxed, leaves_boxed, any_is_boxed, is_nonzero_int, is_nonzero_long, divides, is_operation, stands, is_built, are_built, are_built_cases}
+use Rattle.accepted_folders.specs.Typing.{may_check}
+use Rattle.accepted_folders.specs.Built.{Usable, can_box, may_box, may_yield, may_leave, may_pass, is_boxed, yields_boxed, leaves_boxed, any_is_boxed, is_nonzero_int, is_nonzero_long, divides, is_operation, stands, is_built, are_built, are_built_cases}
 use Rattle.sj_names.specs.declared.method_names.MethodName.{MethodName}
 use Rattle.sj_names.specs.declared.method_names.Namespace.{Namespace}
 use Rattle.sj_names.specs.declared.method_names.Namespace.TheVariants.{Public, Private, Constructor}
 use Rattle.sure_receivers.specs.Sure.{is_sure}
-use Rattle.typing_rules.specs.declared.labels.Label.{Label}
-use Rattle.typing_rules.specs.Labels.{type_of_label}
-use Rattle.typing_rules.specs.Nodes.{inside as inside_label}
+use Rattle.accepted_folders.specs.Label.{Label}
+use Rattle.accepted_folders.specs.Labels.{type_of_label}
+use Rattle.accepted_folders.specs.Nodes.{inside as inside_label}
 use Rattle.sj_trees.specs.Term.{Term, Terms, no_terms, more_terms, Cases, no_cases, more_cases, var_def, skip, block_of, labeled, assign, return_to, if_then, while_loop, do_while, match_on, throw, new_object, select, apply_statically, apply_static, unary_op, binary_op, undefined_literal, null_literal, boolean_literal, char_literal, byte_literal, short_literal, int_literal, long_literal, string_literal, var_ref, this_ref, log_line}
 use Rattle.sj_trees.specs.TypeOf.{type_of_term, unary_result, binary_result}
 use Rattle.sj_trees.specs.Types.{class_type, reference_type}

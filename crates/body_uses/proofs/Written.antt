@@ -6,17 +6,17 @@ use Rattle.std.specs.List.{All, list_any}
 use Rattle.std.proofs.lemmas.Bool.{and_from}
 use Rattle.std.proofs.lemmas.List.Elements.{All-head, All-tail}
 use Rattle.std.proofs.lemmas.List.Folds.{list_any_at}
-use Rattle.body_rules.specs.Typing.{is_built_with}
-use Rattle.built_forms.specs.Built.{Usable, is_object_body, is_static, has_no_value}
-use Rattle.folder_verdicts.proofs.EachTyped.{in_all}
-use Rattle.folder_verdicts.proofs.Undenied.{first_or_later}
+use Rattle.accepted_folders.specs.Typing.{is_built_with}
+use Rattle.accepted_folders.specs.Built.{Usable, is_object_body, is_static, has_no_value}
+use Rattle.accepted_folders.proofs.EachTyped.{in_all}
+use Rattle.accepted_folders.proofs.Undenied.{first_or_later}
 use Rattle.helper_rules.specs.Helpers.{helper_name}
 use Rattle.helper_rules.specs.declared.kinds.Helper.{Helper}
 use Rattle.helper_rules.specs.declared.kinds.Helper.TheVariants.{NotNull, IntQuotient, IntRemainder as IntRest, LongQuotient, LongRemainder as LongRest}
 use Rattle.js_tree.specs.declared.items.Binding.{Binding}
-use Rattle.reach_rules.proofs.Derivations.{closed}
-use Rattle.reach_rules.specs.Reachable.{Reachable}
-use Rattle.reach_rules.specs.Rules.{Reads, of_call, of_new, asked_body, new_made}
+use Rattle.accepted_folders.proofs.Derivations.{closed}
+use Rattle.accepted_folders.specs.Reachable.{Reachable}
+use Rattle.accepted_folders.specs.Rules.{Reads, of_call, of_new, asked_body, new_made}
 use Rattle.sj_desugar.specs.Desugar.{member}
 use Rattle.sj_emit_expr.specs.Templates.{check_name}
 use Rattle.sj_emit_expr.specs.Uses.{object_binding, function_binding, class_use}
@@ -25,7 +25,7 @@ use Rattle.sj_infos.specs.Sure.{sure_among}
 use Rattle.sj_infos.specs.Trees.{trees}
 use Rattle.sj_infos.specs.declared.infos.Info.{Info}
 use Rattle.sj_infos.specs.declared.infos.Info.TheVariants.{New, Static}
-use Rattle.sj_judged.proofs.Found.{here}
+use Rattle.accepted_folders.proofs.Found.{here}
 use Rattle.sj_names.proofs.Same.{text-refl}
 use Rattle.sj_names.specs.Same.{is_same_text}
 use Rattle.sj_names.specs.WellKnown.{object}
@@ -35,8 +35,8 @@ use Rattle.sj_names.specs.declared.method_names.Member.{Member}
 use Rattle.sj_names.specs.declared.method_names.MethodName.{MethodName}
 use Rattle.sj_names.specs.declared.method_names.Namespace.{Namespace}
 use Rattle.sj_names.specs.declared.method_names.Namespace.TheVariants.{Public, PublicStatic, Private, PrivateStatic, Constructor}
-use Rattle.sj_proper.specs.Emitted.{EmittedMethod}
-use Rattle.sj_sound.specs.Linked.{has_function}
+use Rattle.accepted_folders.specs.Emitted.{EmittedMethod}
+use Rattle.accepted_folders.specs.Linked.{has_function}
 use Rattle.sj_trees.proofs.SameTypes.{type-refl}
 use Rattle.sj_trees.specs.SameTypes.{is_same_type}
 use Rattle.sj_trees.specs.Term.{Term, new_object, select, apply_statically, apply_static, binary_op}
@@ -50,8 +50,8 @@ use Rattle.sj_world.proofs.Searches.{contains_at}
 use Rattle.sj_world.specs.Paths.{stay}
 use Rattle.sj_world.specs.Subtypes.{equal, from_nothing, to_any, null_to_class, null_to_array, class_to_class, primitive_to_class, arrays_alike, arrays_of_arrays}
 use Rattle.sj_world.specs.declared.facts.Fact.TheVariants.{Body, Made}
-use Rattle.typing_rules.specs.Rules.{Fits, HasFieldType, IsStatic, OperandsFit}
-use Rattle.typing_rules.specs.Typed.{MeetsThere}
+use Rattle.accepted_folders.specs.TypingRulesRules.{Fits, HasFieldType, IsStatic, OperandsFit}
+use Rattle.accepted_folders.specs.Typed.{MeetsThere}
 use Rattle.accepted_folders.specs.Accepted.{IsAccepted}
 use Rattle.accepted_folders.specs.Bodies.{AreBodies}
 use Rattle.accepted_folders.proofs.Calls.{needed}

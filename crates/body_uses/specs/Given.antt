@@ -1,6 +1,6 @@
 -- What a body is given: what its emitted code names is there.
 use Rattle.std.specs.Prelude.{◌≡◌, ◌⊎◌, ℕ, true, List, [], ◌∷◌, Contains, codes}
-use Rattle.built_forms.specs.Built.{Usable, has_no_value}
+use Rattle.accepted_folders.specs.Built.{Usable, has_no_value}
 use Rattle.js_tree.specs.declared.items.Binding.{Binding}
 use Rattle.sj_desugar.specs.Desugar.{member}
 use Rattle.sj_emit_expr.specs.Templates.{check_name}

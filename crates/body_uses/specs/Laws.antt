@@ -2,8 +2,8 @@
 use Rattle.std.specs.Prelude.{◌≡◌, true, List, Contains}
 use Rattle.accepted_folders.specs.Accepted.{IsAccepted}
 use Rattle.accepted_folders.specs.Bodies.{AreBodies}
-use Rattle.body_rules.specs.Typing.{is_built_with}
-use Rattle.built_forms.specs.Built.{Usable, is_object_body}
+use Rattle.accepted_folders.specs.Typing.{is_built_with}
+use Rattle.accepted_folders.specs.Built.{Usable, is_object_body}
 use Rattle.helper_rules.specs.declared.kinds.Helper.{Helper}
 use Rattle.js_tree.specs.declared.items.Binding.{Binding}
 use Rattle.sj_desugar.specs.Desugar.{desugared_member}
@@ -11,7 +11,7 @@ use Rattle.sj_emit_expr.specs.Uses.{uses}
 use Rattle.sj_infos.specs.Trees.{trees}
 use Rattle.sj_names.specs.declared.entry_points.EntryPoint.{EntryPoint}
 use Rattle.sj_names.specs.declared.folders.SourceFile.{SourceFile}
-use Rattle.sj_proper.specs.Emitted.{EmittedMethod}
+use Rattle.accepted_folders.specs.Emitted.{EmittedMethod}
 use Rattle.sj_trees.specs.Term.{Term}
 use Rattle.sj_trees.specs.declared.classes.MethodDef.{MethodDef}
 use Rattle.sj_world.specs.Known.{Name, Classes}

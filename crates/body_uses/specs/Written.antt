@@ -1,13 +1,13 @@
 -- What the written pieces of a world use is written.
 use Rattle.std.specs.Prelude.{◌↔◌, List, Contains}
-use Rattle.entry_rules.specs.Entries.{IsLive}
+use Rattle.accepted_folders.specs.Entries.{IsLive}
 use Rattle.helper_rules.specs.Helpers.{helper_name}
 use Rattle.helper_rules.specs.Words.{helper}
 use Rattle.helper_rules.specs.declared.kinds.Helper.{Helper}
 use Rattle.js_tree.specs.declared.items.Binding.{Binding}
-use Rattle.reach_rules.specs.Reachable.{Reachable}
+use Rattle.accepted_folders.specs.Reachable.{Reachable}
 use Rattle.sj_names.specs.declared.entry_points.EntryPoint.{EntryPoint}
-use Rattle.sj_proper.specs.Emitted.{EmittedMethod}
+use Rattle.accepted_folders.specs.Emitted.{EmittedMethod}
 use Rattle.sj_world.specs.Known.{Name, Classes}
 use Rattle.sj_world.specs.declared.facts.Fact.{Fact}
 use Rattle.linked_pieces.specs.Pieces.{piece_of_member}

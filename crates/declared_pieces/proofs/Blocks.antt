@@ -4,16 +4,16 @@ use Rattle.std.specs.Prelude.{is_some}
 use Rattle.std.specs.List.{Contains}
 use Rattle.std.proofs.lemmas.List.Elements.{Contains-append_left, Contains-append_right}
 use Rattle.declared_pieces.specs.Closed.{items_of}
-use Rattle.folder_verdicts.proofs.EachTyped.{in_all}
+use Rattle.object_folders.proofs.EachTyped.{in_all}
 use Rattle.helper_rules.specs.Helpers.{helper_piece}
 use Rattle.helper_rules.specs.declared.kinds.Helper.{Helper}
 use Rattle.js_tree.specs.Terms.{Name, Piece}
-use Rattle.linked_pieces.specs.Pieces.{piece_of_member, Block, IsBlock, AreBlocks, pieces_of_block, with_helpers, AreLinkedPieces}
-use Rattle.piece_rules.specs.Classes.{AreClassPieces, AreParts, absent, present}
-use Rattle.piece_rules.specs.Pieces.{Parts, pieces}
+use Rattle.object_folders.specs.Pieces.{piece_of_member, Block, IsBlock, AreBlocks, pieces_of_block, with_helpers, AreLinkedPieces}
+use Rattle.object_folders.specs.Classes.{AreClassPieces, AreParts, absent, present}
+use Rattle.object_folders.specs.PieceRulesPieces.{Parts, pieces}
 use Rattle.proper_pieces.specs.Modules.{item_of, is_owned}
 use Rattle.sj_names.specs.WellKnown.{is_object, object}
-use Rattle.sj_proper.specs.Emitted.{EmittedMethod}
+use Rattle.object_folders.specs.Emitted.{EmittedMethod}
 use Rattle.sj_split.proofs.Members.{at_first, further, cons_cases, into_map, into_filter}
 use Rattle.sj_trees.specs.declared.classes.ClassDef.{ClassDef}
 use Rattle.sj_world.proofs.OnCycles.{among}

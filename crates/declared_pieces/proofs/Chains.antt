@@ -1,9 +1,9 @@
 -- The chain of a class is declared, where each class that is good is declared and extends a good one.
 use Rattle.std.proofs.Common.{◌≡◌, ◌<◌, ◌||◌, ℕ, zero, suc, Bool, false, List, [], ◌∷◌, Option, Some, None, refl, sym, ap, subst, ◌∙◌, arith, if◌then◌else◌}
 use Rattle.std.specs.List.{list_any}
-use Rattle.body_soundness.proofs.Lengths.{unseen, less, all_unseen, not_behind}
-use Rattle.body_soundness.specs.Worlds.{AreClassesKept}
-use Rattle.built_forms.specs.Built.{Usable}
+use Rattle.object_folders.proofs.Lengths.{unseen, less, all_unseen, not_behind}
+use Rattle.object_folders.specs.Worlds.{AreClassesKept}
+use Rattle.object_folders.specs.Built.{Usable}
 use Rattle.declared_pieces.proofs.Live.{next_is}
 use Rattle.declared_programs.specs.Declared.{ClassDeclared, ChainDeclared, extends_none, extends_one, MadeDeclared}
 use Rattle.ir_mean.specs.Dispatch.{chain_from, longest}

@@ -6,7 +6,7 @@ use Rattle.body_uses.proofs.Given.{IsKept, kept}
 use Rattle.helper_rules.specs.Words.{class_name, bound}
 use Rattle.js_tree.specs.Terms.{Name, Piece}
 use Rattle.js_tree.specs.declared.items.Binding.{Binding}
-use Rattle.piece_rules.specs.Pieces.{Parts, pieces, when, constants_piece, class_piece, own_constants, uses_of_entries, parent_uses, class_uses, constants_of, class_of, all_statics, module_of, tests_of}
+use Rattle.object_folders.specs.PieceRulesPieces.{Parts, pieces, when, constants_piece, class_piece, own_constants, uses_of_entries, parent_uses, class_uses, constants_of, class_of, all_statics, module_of, tests_of}
 use Rattle.sj_emit_expr.specs.Uses.{once_each}
 use Rattle.sj_names.proofs.Same.{impossible}
 use Rattle.sj_split.proofs.Members.{at_first}

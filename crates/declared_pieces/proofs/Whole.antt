@@ -5,13 +5,13 @@ use Rattle.std.specs.List.{Contains, filter, list_any}
 use Rattle.std.proofs.lemmas.Bool.{and_parts, and_from}
 use Rattle.std.proofs.lemmas.List.Folds.{Any-from_list_any, list_any_at}
 use Rattle.std.proofs.lemmas.List.Sorted.{Contains-permutation, IsPermutation-sym}
-use Rattle.accepted_folders.proofs.Members.{same-class, defined}
-use Rattle.accepted_folders.specs.Accepted.{IsAccepted}
-use Rattle.accepted_folders.specs.Bodies.{AreBodies}
-use Rattle.body_rules.proofs.Plain.{class_found}
-use Rattle.body_rules.specs.Standing.{call_type}
-use Rattle.body_soundness.proofs.Chains.{byte_not}
-use Rattle.built_forms.specs.Built.{Usable, is_static, has_no_value}
+use Rattle.object_folders.proofs.Members.{same-class, defined}
+use Rattle.object_folders.specs.Accepted.{IsAccepted}
+use Rattle.object_folders.specs.Bodies.{AreBodies}
+use Rattle.object_folders.proofs.Plain.{class_found}
+use Rattle.object_folders.specs.Standing.{call_type}
+use Rattle.object_folders.proofs.Chains.{byte_not}
+use Rattle.object_folders.specs.Built.{Usable, is_static, has_no_value}
 use Rattle.class_code.proofs.Markers.{marked}
 use Rattle.declared_pieces.proofs.Blocks.{to_items, OwnPieces, own_pieces, method_there, helper_there}
 use Rattle.declared_pieces.proofs.Chains.{Stands, made_declared}
@@ -22,21 +22,21 @@ use Rattle.declared_pieces.proofs.Parts.{constants_there, class_there, uses_supe
 use Rattle.declared_pieces.specs.Closed.{IsClosed, items_of}
 use Rattle.declared_pieces.specs.Laws.{PiecesDeclare}
 use Rattle.declared_programs.specs.Declared.{Running, alone, on_receiver, completing, running, FunctionDeclared, ClassDeclared, MadeDeclared}
-use Rattle.entry_rules.specs.Entries.{IsLive}
+use Rattle.object_folders.specs.Entries.{IsLive}
 use Rattle.file_listings.specs.Listed.{AreBytes}
 use Rattle.helper_rules.specs.Helpers.{helper_name, helper_item, helper_piece}
 use Rattle.helper_rules.specs.Words.{class_name, bound}
 use Rattle.helper_rules.specs.declared.kinds.Helper.{Helper}
 use Rattle.js_tree.specs.Terms.{Item, Piece}
-use Rattle.linked_pieces.specs.Pieces.{piece_of_member, AreLinkedPieces}
-use Rattle.linked_pieces.specs.Used.{used_of, is_among, is_received, is_constructor, is_constructor_without_value}
+use Rattle.object_folders.specs.Pieces.{piece_of_member, AreLinkedPieces}
+use Rattle.object_folders.specs.Used.{used_of, is_among, is_received, is_constructor, is_constructor_without_value}
 use Rattle.object_folders.proofs.Made as made
 use Rattle.object_folders.proofs.Methods.{right_method}
 use Rattle.object_folders.specs.Running.{CanRun}
-use Rattle.piece_rules.specs.Classes.{AreSorted, is_own}
-use Rattle.piece_rules.specs.Pieces.{Parts, constants_piece, entry_member, class_piece}
-use Rattle.reach_rules.proofs.Derivations.{closed}
-use Rattle.reach_rules.specs.Rules.{the_object}
+use Rattle.object_folders.specs.Classes.{AreSorted, is_own}
+use Rattle.object_folders.specs.PieceRulesPieces.{Parts, constants_piece, entry_member, class_piece}
+use Rattle.object_folders.proofs.Derivations.{closed}
+use Rattle.object_folders.specs.Rules.{the_object}
 use Rattle.sj_names.proofs.Same.{impossible, text-same, text-refl}
 use Rattle.sj_names.specs.Grammar.{is_class_name}
 use Rattle.sj_names.specs.Same.{is_same_text}
@@ -48,9 +48,9 @@ use Rattle.sj_names.specs.declared.method_names.Namespace.{Namespace}
 use Rattle.sj_names.specs.declared.method_names.Namespace.TheVariants.{Public, PublicStatic, Private, PrivateStatic, Constructor}
 use Rattle.sj_names.specs.declared.references.TypeRef.{TypeRef}
 use Rattle.sj_names.specs.declared.references.TypeRef.TheVariants as References
-use Rattle.sj_proper.specs.Emitted.{EmittedMethod}
-use Rattle.sj_sound.proofs.Same.{has_function-is}
-use Rattle.sj_sound.specs.Linked.{has_function}
+use Rattle.object_folders.specs.Emitted.{EmittedMethod}
+use Rattle.object_folders.proofs.Same.{has_function-is}
+use Rattle.object_folders.specs.Linked.{has_function}
 use Rattle.sj_split.proofs.Members.{into_filter, from_filter}
 use Rattle.sj_trees.specs.declared.classes.FieldDef.{FieldDef}
 use Rattle.sj_trees.specs.declared.types.IrType.TheVariants.{NoType}

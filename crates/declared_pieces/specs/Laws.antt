@@ -1,22 +1,22 @@
 -- Laws of the pieces that some classes of a linked world own.
 use Rattle.std.specs.Prelude.{◌≡◌, ◌↔◌, true, List, []}
 use Rattle.std.specs.List.{Contains}
-use Rattle.accepted_folders.specs.Accepted.{IsAccepted}
-use Rattle.accepted_folders.specs.Bodies.{AreBodies}
+use Rattle.object_folders.specs.Accepted.{IsAccepted}
+use Rattle.object_folders.specs.Bodies.{AreBodies}
 use Rattle.declared_pieces.specs.Closed.{IsClosed, items_of}
 use Rattle.declared_programs.specs.Declarations.{declare}
 use Rattle.declared_programs.specs.Declared.{Declared, is_covered}
-use Rattle.entry_rules.specs.Entries.{IsLive}
+use Rattle.object_folders.specs.Entries.{IsLive}
 use Rattle.file_listings.specs.Listed.{AreBytes}
 use Rattle.helper_rules.specs.declared.kinds.Helper.{Helper}
 use Rattle.js_tree.specs.Terms.{Piece}
-use Rattle.linked_pieces.specs.Pieces.{AreLinkedPieces}
-use Rattle.linked_pieces.specs.Used.{used_of}
+use Rattle.object_folders.specs.Pieces.{AreLinkedPieces}
+use Rattle.object_folders.specs.Used.{used_of}
 use Rattle.object_folders.specs.Running.{CanRun}
-use Rattle.reach_rules.specs.Reachable.{Reachable}
+use Rattle.object_folders.specs.Reachable.{Reachable}
 use Rattle.sj_names.specs.declared.entry_points.EntryPoint.{EntryPoint}
 use Rattle.sj_names.specs.declared.folders.SourceFile.{SourceFile}
-use Rattle.sj_proper.specs.Emitted.{EmittedMethod}
+use Rattle.object_folders.specs.Emitted.{EmittedMethod}
 use Rattle.sj_world.specs.Known.{Name}
 use Rattle.sj_world.specs.Linked.{Linked}
 use Rattle.sj_world.specs.declared.facts.Fact.{Fact}

@@ -2,22 +2,22 @@
 use Rattle.std.proofs.Common.{◌≡◌, ◌++◌, ℕ, Bool, true, false, List, [], ◌∷◌, Option, Some, None, refl, sym, ap, subst, ◌∙◌, Contains}
 use Rattle.std.specs.List.{All}
 use Rattle.std.proofs.lemmas.List.Elements.{All-head, All-tail}
-use Rattle.accepted_folders.proofs.Calls.{needed}
-use Rattle.accepted_folders.proofs.Members.{defined}
-use Rattle.accepted_folders.proofs.Objects as objects
-use Rattle.accepted_folders.proofs.Worlds.{judged}
-use Rattle.accepted_folders.specs.Accepted.{IsAccepted}
-use Rattle.accepted_folders.specs.Bodies.{AreBodies}
+use Rattle.linked_folders.proofs.Calls.{needed}
+use Rattle.linked_folders.proofs.Members.{defined}
+use Rattle.linked_folders.proofs.Objects as objects
+use Rattle.linked_folders.proofs.Worlds.{judged}
+use Rattle.linked_folders.specs.Accepted.{IsAccepted}
+use Rattle.linked_folders.specs.Bodies.{AreBodies}
 use Rattle.body_soundness.proofs.Chains.{no_primitive}
 use Rattle.body_soundness.specs.Worlds.{AreClassesKept, HasFields}
-use Rattle.body_uses.proofs.Given.{all_from}
-use Rattle.body_uses.proofs.Standing.{Stands, each_stands}
-use Rattle.body_uses.proofs.Uses.{ahead, after}
-use Rattle.body_uses.proofs.Written as written
+use Rattle.linked_folders.proofs.Given.{all_from}
+use Rattle.linked_folders.proofs.Standing.{Stands, each_stands}
+use Rattle.linked_folders.proofs.Uses.{ahead, after}
+use Rattle.linked_folders.proofs.Written as written
 use Rattle.file_listings.specs.Listed.{AreBytes}
-use Rattle.linked_pieces.specs.Used.{has_field_in}
-use Rattle.object_folders.proofs.Fields.{field_there}
-use Rattle.reach_rules.specs.Refusals.{hijacked}
+use Rattle.linked_folders.specs.Used.{has_field_in}
+use Rattle.linked_folders.proofs.Fields.{field_there}
+use Rattle.linked_folders.specs.Refusals.{hijacked}
 use Rattle.sj_desugar.specs.Desugar.{desugared_member}
 use Rattle.sj_desugarer.specs.Methods.{desugared_with}
 use Rattle.sj_infos.specs.Trees.{trees, below, all_below, cases_below}
@@ -26,7 +26,7 @@ use Rattle.sj_names.specs.declared.entry_points.EntryPoint.{EntryPoint}
 use Rattle.sj_names.specs.declared.folders.SourceFile.{SourceFile}
 use Rattle.sj_pieces.specs.Keys.{HasKeys}
 use Rattle.sj_pieces.specs.Owners.{OnObjects, AllOnObjects, CasesOnObjects, BodyOnObjects, FieldsHaveOwners}
-use Rattle.sj_proper.specs.Emitted.{EmittedMethod}
+use Rattle.linked_folders.specs.Emitted.{EmittedMethod}
 use Rattle.sj_trees.specs.Term.{Term, Terms, no_terms, more_terms, Cases, no_cases, more_cases, var_def, block_of, labeled, assign, return_to, if_then, while_loop, do_while, throw, match_on, new_object, select, select_static, apply_statically, apply_static, unary_op, binary_op, var_ref, log_line}
 use Rattle.sj_trees.specs.TypeOf.{type_of_term}
 use Rattle.sj_trees.specs.Types.{class_type}
@@ -39,8 +39,8 @@ use Rattle.sj_names.specs.WellKnown.{is_hijacked}
 use Rattle.sj_world.specs.Known.{Name, Classes}
 use Rattle.sj_world.specs.Subtypes.{IsSub, hijacked_class}
 use Rattle.sure_receivers.specs.Sure.{is_sure_type}
-use Rattle.typing_rules.specs.Rules.{HasFieldType}
-use Rattle.typing_rules.specs.Typed.{MeetsThere}
+use Rattle.linked_folders.specs.Rules.{HasFieldType}
+use Rattle.linked_folders.specs.Typed.{MeetsThere}
 
 -- a field is one of no tree of a primitive type
 abbrev IsOfObject : Term → Type 0

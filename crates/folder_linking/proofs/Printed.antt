@@ -15,12 +15,12 @@ use Rattle.js_tree.specs.Views.{item_view}
 use Rattle.js_tree.specs.declared.items.JsItem.{JsItem}
 use Rattle.std.specs.declared.rc.Rc.{Rc}
 use Rattle.module_names.specs.Names.{Key, sha1_digest, names_of}
-use Rattle.sj_proper.specs.Emitted.{EmittedMethod, call_item_of, initializer_member}
+use Rattle.linked_folders.specs.Emitted.{EmittedMethod, call_item_of, initializer_member}
 use Rattle.sj_graph.specs.References.{IsGraph}
 use Rattle.sj_graph.specs.declared.graphs.Graph.{Graph}
 use Rattle.sj_names.specs.declared.entry_points.EntryPoint.{EntryPoint}
 use Rattle.sj_names.specs.declared.method_names.Member.{Member}
-use Rattle.sj_sound.proofs.Same.{has_function-is}
+use Rattle.linked_folders.proofs.Same.{has_function-is}
 use Rattle.sj_split.proofs.Members.{at_first, further, cons_cases, from_map, Mapped, into_filter, from_filter}
 use Rattle.sj_split.specs.Modules.{IsPlan, public_module, with_piece, has_piece, internal_modules, is_among, classes_at, is_internal}
 use Rattle.sj_split.specs.Orders.{Bytes, is_same}
@@ -31,16 +31,16 @@ use Rattle.sj_world.proofs.OnCycles.{among}
 use Rattle.sj_world.specs.Known.{Name, Classes, class_of}
 use Rattle.worklist.proofs.Inserted.{nothing_in, from-insert_all, each-insert_all}
 use Rattle.sj_names.proofs.Same.{text-same}
-use Rattle.accepted_folders.proofs.Calls.{entry}
-use Rattle.accepted_folders.proofs.Members.{defined}
-use Rattle.declared_pieces.proofs.Blocks.{method_there}
-use Rattle.linked_pieces.specs.Pieces.{piece_of_member}
+use Rattle.linked_folders.proofs.Calls.{entry}
+use Rattle.linked_folders.proofs.Members.{defined}
+use Rattle.linked_folders.proofs.Blocks.{method_there}
+use Rattle.linked_folders.specs.Pieces.{piece_of_member}
 use Rattle.sj_emit_expr.specs.Templates.{member_name}
 use Rattle.linked_folders.specs.Link.{AreFilesOf, IsLink}
 use Rattle.folder_linking.specs.declared.files.ModuleFile.{ModuleFile}
 use Rattle.folder_linking.specs.Linking.{ArePrintable}
 use Rattle.folder_linking.specs.Modules.{module_of, IsPrinted, ArePrinted, KeepRules, as_file}
-use Rattle.proper_pieces.specs.Modules.{item_of, is_owned}
+use Rattle.linked_folders.specs.Modules.{item_of, is_owned}
 use Rattle.folder_linking.proofs.Taken.{more_taken}
 
 -- two tests that pass for the same reasons are one

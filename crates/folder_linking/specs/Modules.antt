@@ -5,8 +5,8 @@ use Rattle.js_mean.specs.Shows.{File}
 use Rattle.js_tree.specs.Rules.{IsItem, IsPiece}
 use Rattle.js_tree.specs.Spelling.{Spells}
 use Rattle.js_tree.specs.Terms.{Piece, Module}
-use Rattle.proper_pieces.specs.Modules.{module_of as module_of_pieces}
-use Rattle.sj_proper.specs.Emitted.{call_item_of}
+use Rattle.linked_folders.specs.Modules.{module_of as module_of_pieces}
+use Rattle.linked_folders.specs.Emitted.{call_item_of}
 use Rattle.sj_split.specs.Modules.{file}
 use Rattle.sj_split.specs.declared.plans.PlannedModule.{PlannedModule}
 use Rattle.folder_linking.specs.declared.files.ModuleFile.{ModuleFile}

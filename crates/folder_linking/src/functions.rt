@@ -12,7 +12,7 @@ ghost use Rattle.sj_pieces.specs.Owners.{BodyOnObjects};
 ghost use Rattle.js_tree.specs.Rules.{IsPiece};
 ghost use Rattle.sj_names.specs.declared.method_names.Member.{Member};
 ghost use Rattle.sj_world.specs.Members.{IsMethodOf};
-ghost use Rattle.folder_verdicts.specs.Stages.{IsDefined};
+ghost use Rattle.linked_folders.specs.Stages.{IsDefined};
 ghost use Rattle.folder_judging.specs.Counts.{members_of, bodies_among};
 ghost use Rattle.folder_linking.specs.Counts.{Emits};
 ghost use Rattle.folder_linking.specs.Functions.{AreFunctions, IsFunction};

@@ -4,13 +4,13 @@ ghost use Rattle.std.specs.List.{All, list_any};
 ghost use Rattle.js_tree.specs.Rules.{IsItem, IsPiece};
 ghost use Rattle.js_tree.specs.Spelling.{Spells};
 ghost use Rattle.js_tree.specs.Views.{item_view, module_view, piece_view};
-ghost use Rattle.sj_proper.specs.Emitted as emitted;
-ghost use Rattle.sj_proper.specs.Emitted.{call_item_of};
+ghost use Rattle.linked_folders.specs.Emitted as emitted;
+ghost use Rattle.linked_folders.specs.Emitted.{call_item_of};
 ghost use Rattle.sj_split.specs.Modules.{is_among};
 ghost use Rattle.sj_split.specs.Orders.{is_same};
 ghost use Rattle.folder_linking.specs.Modules as modules;
 ghost use Rattle.folder_linking.specs.Modules.{ArePrinted, IsPrinted, KeepRules};
-ghost use Rattle.proper_pieces.specs.Modules.{is_owned, item_of};
+ghost use Rattle.linked_folders.specs.Modules.{is_owned, item_of};
 
 use crate::ModuleFile;
 use indexmap::IndexSet;

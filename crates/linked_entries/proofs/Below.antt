@@ -19,7 +19,7 @@ use Rattle.sj_world.specs.Under.{IsUnder, AreAlike, IsDeeper}
 use Rattle.linked_entries.proofs.Parents.{parent_cases, climbs}
 use Rattle.sj_world.proofs.LawsHold.{joined}
 use Rattle.sj_world.proofs.Subtyped.{parted}
-use Rattle.body_rules.proofs.Topped.{topped}
+use Rattle.accepted_folders.proofs.Topped.{topped}
 
 module _ (w : Classes) (none : HasNoCycle w) (plain : IsPlain w) where
   -- two paths of what is written, there and back

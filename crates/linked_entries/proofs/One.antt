@@ -7,17 +7,17 @@ use Rattle.std.specs.declared.cmp.Ordering.{Ordering}
 use Rattle.std.specs.declared.cmp.Ordering.TheVariants.{Less, Equal, Greater}
 use Rattle.std.proofs.lemmas.List.Sorted.{Contains-permutation, IsPermutation-sym}
 use Rattle.accepted_folders.specs.Accepted.{IsAccepted}
-use Rattle.body_rules.proofs.Plain.{plain_world}
-use Rattle.entry_rules.specs.Entries.{IsTarget, IsLive, IsWanted, IsInherited, IsDirect, IsReflective, IsProxy, IsMethodEntry, direct, proxy, entry_cmp, AreEntries}
-use Rattle.entry_rules.proofs.Owners.{one_owner}
+use Rattle.accepted_folders.proofs.Plain.{plain_world}
+use Rattle.accepted_folders.specs.Entries.{IsTarget, IsLive, IsWanted, IsInherited, IsDirect, IsReflective, IsProxy, IsMethodEntry, direct, proxy, entry_cmp, AreEntries}
+use Rattle.accepted_folders.proofs.Owners.{one_owner}
 use Rattle.entry_search.proofs.Reflective.{without_result}
-use Rattle.folder_verdicts.proofs.Firsts.{standing}
+use Rattle.accepted_folders.proofs.Firsts.{standing}
 use Rattle.linked_pieces.specs.Order.{AreInOrder}
 use Rattle.linked_pieces.proofs.Names.{tied_name}
 use Rattle.linked_pieces.proofs.Order.{one_order}
 use Rattle.proxy_targets.specs.Proxies.{IsTargetName}
-use Rattle.reach_rules.specs.Rules.{public_member}
-use Rattle.sj_kept.proofs.Classes.{keeps-superclass, keeps-hijacked, result-keeps}
+use Rattle.accepted_folders.specs.Rules.{public_member}
+use Rattle.accepted_folders.proofs.Classes.{keeps-superclass, keeps-hijacked, result-keeps}
 use Rattle.sj_local.specs.Broken.{FirstBroken}
 use Rattle.sj_names.proofs.Same.{impossible}
 use Rattle.sj_names.specs.MethodNames.{spelled_method}

@@ -1,6 +1,6 @@
 -- A path of parents from a class that isn't hijacked ends at `java.lang.Object`, or is one of what is written.
 use Rattle.std.proofs.Common.{◌≡◌, ◌⊎◌, Bool, true, false, Contains, Option, Some, None, refl, sym, ap, subst, inl, inr, cond}
-use Rattle.body_rules.proofs.Lists.{from_filter}
+use Rattle.accepted_folders.proofs.Lists.{from_filter}
 use Rattle.sj_trees.specs.declared.classes.ClassDef.{ClassDef}
 use Rattle.sj_world.specs.Known.{Name, Classes, class_of, is_known, is_hijacked, stands_as, object}
 use Rattle.sj_world.specs.Paths.{Path, stay, on}

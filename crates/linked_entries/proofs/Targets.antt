@@ -1,12 +1,12 @@
 -- A reflective name has one target in a class, and the name of each method that is found stands in its class.
 use Rattle.std.proofs.Common.{◌≡◌, true, Option, Some, None, sym, ap, subst, ◌∙◌, Contains}
 use Rattle.std.specs.Prelude.{is_some}
-use Rattle.body_rules.proofs.Plain.{class_found}
-use Rattle.entry_rules.specs.Entries.{IsTarget}
+use Rattle.accepted_folders.proofs.Plain.{class_found}
+use Rattle.accepted_folders.specs.Entries.{IsTarget}
 use Rattle.linked_pieces.proofs.Names.{tied_name}
 use Rattle.proxy_targets.specs.Proxies.{IsTargetName}
 use Rattle.proxy_targets.proofs.Named.{SomeChosen, chosen_named, not_lacking, one_passed, same_class}
-use Rattle.sj_kept.proofs.Classes.{result-keeps, signature-keeps}
+use Rattle.accepted_folders.proofs.Classes.{result-keeps, signature-keeps}
 use Rattle.sj_local.specs.Broken.{FirstBroken}
 use Rattle.sj_names.proofs.Same.{impossible}
 use Rattle.sj_names.specs.declared.method_names.MethodName.{MethodName}
@@ -20,7 +20,7 @@ use Rattle.sj_world.specs.Laws.{IsPlain}
 use Rattle.sj_world.specs.Paths.{IsFirst}
 use Rattle.sj_world.specs.Refusals.{HasNoCycle}
 use Rattle.sj_world.specs.Resolution.{IsBody, Answer, target, abstract, missing, Resolves, by_chain, by_ancestors, ResolvesAbove, by_default, undeclared, declared}
-use Rattle.typing_rules.specs.Rules.{call_type}
+use Rattle.accepted_folders.specs.TypingRulesRules.{call_type}
 use Rattle.linked_entries.proofs.Below.{one_type, one_reference}
 use Rattle.linked_entries.proofs.Names.{IsWideName, names_differ}
 

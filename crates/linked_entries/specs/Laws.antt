@@ -1,8 +1,8 @@
 -- Laws of the method entries of accepted folders.
 use Rattle.std.specs.Prelude.{◌≡◌, ◌↔◌, List, Contains}
 use Rattle.accepted_folders.specs.Accepted.{IsAccepted}
-use Rattle.entry_rules.specs.Entries.{AreEntries}
-use Rattle.reach_rules.specs.Reachable.{Reachable}
+use Rattle.accepted_folders.specs.Entries.{AreEntries}
+use Rattle.accepted_folders.specs.Reachable.{Reachable}
 use Rattle.sj_names.specs.declared.entry_points.EntryPoint.{EntryPoint}
 use Rattle.sj_names.specs.declared.folders.SourceFile.{SourceFile}
 use Rattle.sj_world.specs.Known.{Classes}

@@ -1,23 +1,23 @@
 -- An edit has one verdict, one list of files and one amount of work.
 use Rattle.std.proofs.Common.{◌≡◌, ◌≤◌, ℕ, suc, Bool, true, false, List, [], ◌∷◌, ◌⊎◌, inl, inr, refl, sym, ap, subst, ◌∙◌, Contains, length, arith}
-use Rattle.sj_proper.specs.Emitted.{EmittedMethod}
+use Rattle.declared_pieces.specs.Emitted.{EmittedMethod}
 use Rattle.sj_format.proofs.ExactFiles.{one_answer}
 use Rattle.sj_names.specs.declared.entry_points.EntryPoint.{EntryPoint}
 use Rattle.sj_names.specs.declared.folders.SourceFile.{SourceFile}
-use Rattle.sj_proper.specs.Emitted.{HaveOwnMembers}
+use Rattle.declared_pieces.specs.Emitted.{HaveOwnMembers}
 use Rattle.sj_split.proofs.Members.{at_first, further, cons_cases}
 use Rattle.sj_world.proofs.OneWorld.{one_world}
 use Rattle.sj_world.proofs.Orders.{same_name, differs_after}
 use Rattle.sj_world.specs.Known.{Name, Classes, is_same}
 use Rattle.sj_world.specs.Refusals.{is_before, IsWorldOf}
 use Rattle.worklist.proofs.Inserted.{nothing_in}
-use Rattle.folder_verdicts.proofs.Firsts.{standing, same_lists}
-use Rattle.folder_verdicts.proofs.Verdict.{one_verdict}
-use Rattle.folder_verdicts.specs.Stages.{AreRead}
-use Rattle.folder_verdicts.specs.Verdicts.{Verdict, accepted, refused, IsVerdict}
-use Rattle.accepted_folders.proofs.Worlds.{have_worlds}
-use Rattle.accepted_folders.specs.Accepted.{IsAccepted}
-use Rattle.accepted_folders.specs.Bodies.{AreBodies}
+use Rattle.declared_pieces.proofs.Firsts.{standing, same_lists}
+use Rattle.declared_pieces.proofs.Verdict.{one_verdict}
+use Rattle.declared_pieces.specs.Stages.{AreRead}
+use Rattle.declared_pieces.specs.Verdicts.{Verdict, accepted, refused, IsVerdict}
+use Rattle.declared_pieces.proofs.Worlds.{have_worlds}
+use Rattle.declared_pieces.specs.Accepted.{IsAccepted}
+use Rattle.declared_pieces.specs.Bodies.{AreBodies}
 use Rattle.linked_folders.proofs.One.{same_bodies, one_link}
 use Rattle.linked_folders.specs.Link.{IsLink}
 use Rattle.linked_folders.specs.Edits.{IsLeastUnbuilt, AreBuilt, IsEditVerdict, by_folder, several, unbuilt, built, not_built_code}

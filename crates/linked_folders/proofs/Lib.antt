@@ -4,3 +4,16 @@ pub mod Links
 pub mod One
 pub mod Edits
 pub mod Names
+pub use Rattle.declared_pieces.proofs.Same
+pub use Rattle.declared_pieces.proofs.Calls
+pub use Rattle.declared_pieces.proofs.Members
+pub use Rattle.declared_pieces.proofs.Blocks
+pub use Rattle.declared_pieces.proofs.Objects
+pub use Rattle.declared_pieces.proofs.Worlds
+pub use Rattle.declared_pieces.proofs.Given
+pub use Rattle.declared_pieces.proofs.Standing
+pub use Rattle.declared_pieces.proofs.Uses
+pub use Rattle.declared_pieces.proofs.Written
+pub use Rattle.declared_pieces.proofs.ObjectFoldersFields as Fields
+pub use Rattle.declared_pieces.proofs.Defined
+pub use Rattle.declared_pieces.proofs.Firsts

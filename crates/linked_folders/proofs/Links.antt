@@ -4,25 +4,25 @@ use Rattle.std.specs.List.{flat_map}
 use Rattle.std.specs.Prelude.{not, is_some}
 use Rattle.std.proofs.lemmas.Bool.{and_from}
 use Rattle.std.proofs.lemmas.List.Elements.{Contains-append_left, Contains-append_right}
-use Rattle.accepted_folders.proofs.Calls.{needed, entry}
-use Rattle.accepted_folders.proofs.Members.{defined}
-use Rattle.accepted_folders.proofs.Worlds.{judged}
-use Rattle.accepted_folders.specs.Accepted.{IsAccepted}
-use Rattle.accepted_folders.specs.Bodies.{AreBodies}
-use Rattle.body_soundness.proofs.Assembled.{laws_of}
-use Rattle.body_uses.proofs.Written.{accepted_bodies}
-use Rattle.body_uses.specs.Written.{AreWrittenWith}
-use Rattle.built_forms.specs.Built.{Usable, is_object_body, has_built_body, not_built}
+use Rattle.declared_pieces.proofs.Calls.{needed, entry}
+use Rattle.declared_pieces.proofs.Members.{defined}
+use Rattle.declared_pieces.proofs.Worlds.{judged}
+use Rattle.declared_pieces.specs.Accepted.{IsAccepted}
+use Rattle.declared_pieces.specs.Bodies.{AreBodies}
+use Rattle.declared_pieces.proofs.Assembled.{laws_of}
+use Rattle.declared_pieces.proofs.Written.{accepted_bodies}
+use Rattle.declared_pieces.specs.Written.{AreWrittenWith}
+use Rattle.declared_pieces.specs.Built.{Usable, is_object_body, has_built_body, not_built}
 use Rattle.declared_pieces.proofs.Blocks.{method_there, helper_there}
 use Rattle.declared_pieces.proofs.Order.{pieces_are_declarations}
 use Rattle.declared_pieces.proofs.Whole.{pieces_declare}
 use Rattle.declared_pieces.specs.Closed.{IsClosed, items_of}
-use Rattle.declared_programs.proofs.Whole.{programs_agree}
-use Rattle.declared_programs.specs.Declared.{is_covered}
-use Rattle.declared_programs.specs.Files.{module_declaring, program_declaring}
-use Rattle.entry_rules.specs.Entries.{IsLive}
+use Rattle.declared_pieces.proofs.DeclaredProgramsWhole.{programs_agree}
+use Rattle.declared_pieces.specs.DeclaredProgramsDeclared.{is_covered}
+use Rattle.declared_pieces.specs.DeclaredProgramsFiles.{module_declaring, program_declaring}
+use Rattle.declared_pieces.specs.Entries.{IsLive}
 use Rattle.file_listings.specs.Listed.{AreBytes}
-use Rattle.folder_verdicts.proofs.EachTyped.{in_all, in_map}
+use Rattle.declared_pieces.proofs.EachTyped.{in_all, in_map}
 use Rattle.helper_rules.specs.Helpers.{failure_class, helper_piece, init_name, of, used_helpers}
 use Rattle.helper_rules.specs.Words.{bound, class_name}
 use Rattle.helper_rules.specs.declared.kinds.Failure.{Failure}
@@ -37,34 +37,34 @@ use Rattle.js_mean.specs.Shows.{File, file_of}
 use Rattle.js_tree.specs.Spelling.{Spells}
 use Rattle.js_tree.specs.Terms.{Piece}
 use Rattle.js_tree.specs.declared.items.Binding.{Binding}
-use Rattle.linked_pieces.specs.Pieces.{piece_of_member, Block, IsBlock, AreBlocks, pieces_of_block, by_piece, by_helper, AreLinkedPieces}
-use Rattle.linked_pieces.specs.Used.{used_of, is_among}
-use Rattle.object_folders.proofs.Made as made
-use Rattle.object_folders.proofs.Worlds.{carry}
-use Rattle.object_folders.specs.Running.{CanBeThrown, CanRun}
+use Rattle.declared_pieces.specs.Pieces.{piece_of_member, Block, IsBlock, AreBlocks, pieces_of_block, by_piece, by_helper, AreLinkedPieces}
+use Rattle.declared_pieces.specs.Used.{used_of, is_among}
+use Rattle.declared_pieces.proofs.Made as made
+use Rattle.declared_pieces.proofs.ObjectFoldersWorlds.{carry}
+use Rattle.declared_pieces.specs.Running.{CanBeThrown, CanRun}
 use Rattle.object_helpers.proofs.Pieces.{of_objects, reached}
 use Rattle.object_helpers.specs.Helpers.{is_object_helper}
-use Rattle.proper_pieces.proofs.Modules.{modules_of_pieces_are_proper}
-use Rattle.proper_pieces.specs.Laws.{AreNamed}
-use Rattle.proper_pieces.specs.Modules.{module_of}
-use Rattle.reach_rules.proofs.Derivations.{closed}
-use Rattle.reach_rules.specs.Reachable.{Reachable}
-use Rattle.reach_rules.specs.Rules.{message_constructor, the_object}
+use Rattle.declared_pieces.proofs.Modules.{modules_of_pieces_are_proper}
+use Rattle.declared_pieces.specs.ProperPiecesLaws.{AreNamed}
+use Rattle.declared_pieces.specs.Modules.{module_of}
+use Rattle.declared_pieces.proofs.Derivations.{closed}
+use Rattle.declared_pieces.specs.Reachable.{Reachable}
+use Rattle.declared_pieces.specs.Rules.{message_constructor, the_object}
 use Rattle.sj_agree.specs.Agrees.{Agrees}
 use Rattle.sj_graph.specs.References.{reference, reference_by}
-use Rattle.sj_judged.proofs.Found.{OwnerOf, owner_of}
-use Rattle.sj_judged.proofs.Judged.{judged_plain}
-use Rattle.sj_kept.proofs.Classes.{class-keeps}
-use Rattle.sj_kept.proofs.Methods.{body_keeps}
+use Rattle.declared_pieces.proofs.Found.{OwnerOf, owner_of}
+use Rattle.declared_pieces.proofs.Judged.{judged_plain}
+use Rattle.declared_pieces.proofs.Classes.{class-keeps}
+use Rattle.declared_pieces.proofs.Methods.{body_keeps}
 use Rattle.sj_names.proofs.Same.{impossible}
 use Rattle.sj_names.specs.Same.{is_same_text}
 use Rattle.sj_names.specs.WellKnown.{object}
 use Rattle.sj_names.specs.declared.entry_points.EntryPoint.{EntryPoint}
 use Rattle.sj_names.specs.declared.folders.SourceFile.{SourceFile}
 use Rattle.sj_names.specs.declared.method_names.Member.{Member}
-use Rattle.sj_proper.specs.Emitted.{EmittedMethod, initializer_member}
-use Rattle.sj_proper.specs.Once.{DefinesOnce}
-use Rattle.sj_sound.specs.Linked.{has_function}
+use Rattle.declared_pieces.specs.Emitted.{EmittedMethod, initializer_member}
+use Rattle.declared_pieces.specs.Once.{DefinesOnce}
+use Rattle.declared_pieces.specs.Linked.{has_function}
 use Rattle.sj_split.proofs.Members.{at_first, further, cons_cases, into_map}
 use Rattle.sj_split.specs.Walks.{Refers}
 use Rattle.sj_trees.specs.Term.{Term}

@@ -1,11 +1,11 @@
 -- The live classes of a linked world are those whose pieces have a class.
 use Rattle.std.proofs.Common.{◌≡◌, ◌↔◌, ◌⊎◌, Bool, true, false, List, [], ◌∷◌, Some, None, inl, inr, refl, sym, subst, ◌∙◌, Contains}
-use Rattle.entry_rules.specs.Entries.{IsLive}
+use Rattle.declared_pieces.specs.Entries.{IsLive}
 use Rattle.js_tree.specs.Terms.{Piece}
-use Rattle.linked_pieces.specs.Pieces.{Block, AreBlocks, AreLinkedPieces}
-use Rattle.piece_rules.specs.Classes.{AreClassPieces, absent, present}
+use Rattle.declared_pieces.specs.Pieces.{Block, AreBlocks, AreLinkedPieces}
+use Rattle.declared_pieces.specs.Classes.{AreClassPieces, absent, present}
 use Rattle.sj_names.proofs.Same.{impossible}
-use Rattle.sj_proper.specs.Emitted.{EmittedMethod}
+use Rattle.declared_pieces.specs.Emitted.{EmittedMethod}
 use Rattle.sj_split.proofs.Members.{at_first, further, cons_cases}
 use Rattle.sj_trees.specs.declared.classes.ClassDef.{ClassDef}
 use Rattle.sj_world.specs.Known.{Name, class_of}

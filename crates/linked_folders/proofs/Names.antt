@@ -4,19 +4,19 @@ use Rattle.std.proofs.lemmas.List.Elements.{All-contains}
 use Rattle.file_listings.proofs.ListedClasses.{file_is_listed}
 use Rattle.file_listings.specs.Listed.{AreBytes}
 use Rattle.listing_spelling.specs.Rules.{HasListing, IsListedMethod}
-use Rattle.sj_proper.specs.Emitted.{EmittedMethod}
+use Rattle.declared_pieces.specs.Emitted.{EmittedMethod}
 use Rattle.sj_emit_expr.specs.Templates.{member_name}
-use Rattle.sj_judged.proofs.Found.{OwnerOf, owner_of}
-use Rattle.sj_judged.specs.Judged.{IsJudgedClass}
+use Rattle.declared_pieces.proofs.Found.{OwnerOf, owner_of}
+use Rattle.declared_pieces.specs.Judged.{IsJudgedClass}
 use Rattle.sj_mangling.proofs.FunctionNames.{function_names_differ}
 use Rattle.sj_names.specs.Grammar.{is_class_name}
 use Rattle.sj_names.specs.MethodNames.{IsMethodName}
 use Rattle.sj_names.specs.declared.entry_points.EntryPoint.{EntryPoint}
 use Rattle.sj_names.specs.declared.folders.SourceFile.{SourceFile}
 use Rattle.sj_world.specs.Known.{Classes}
-use Rattle.accepted_folders.proofs.Worlds.{judged}
-use Rattle.accepted_folders.specs.Accepted.{IsAccepted}
-use Rattle.accepted_folders.specs.Bodies.{AreBodies}
+use Rattle.declared_pieces.proofs.Worlds.{judged}
+use Rattle.declared_pieces.specs.Accepted.{IsAccepted}
+use Rattle.declared_pieces.specs.Bodies.{AreBodies}
 
 module _ (entries : List EntryPoint) (files : List SourceFile) (w : Classes) (all : List EmittedMethod) (are_bytes : (file : SourceFile) → Contains files file → AreBytes file.bytes) (a : IsAccepted entries files w) (bodies : AreBodies w entries all) where
   module _ (e : EmittedMethod) (i : Contains all e) where

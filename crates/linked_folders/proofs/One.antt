@@ -10,13 +10,13 @@ use Rattle.js_tree.specs.Spelling.{Spells}
 use Rattle.js_tree.specs.Terms.{Module, Piece}
 use Rattle.js_tree.proofs.Kept.{module_kept}
 use Rattle.js_tree.proofs.TextLaws.{module_spelled}
-use Rattle.linked_pieces.proofs.One.{are_one as pieces_are_one}
-use Rattle.linked_pieces.specs.Laws.{AreAlike}
-use Rattle.linked_pieces.specs.Used.{is_among}
+use Rattle.declared_pieces.proofs.One.{are_one as pieces_are_one}
+use Rattle.declared_pieces.specs.LinkedPiecesLaws.{AreAlike}
+use Rattle.declared_pieces.specs.Used.{is_among}
 use Rattle.linked_entries.proofs.One.{entries_one}
-use Rattle.proper_pieces.specs.Modules.{item_of, is_owned, module_of}
-use Rattle.sj_proper.specs.Emitted.{EmittedMethod, call_item_of}
-use Rattle.sj_calls.specs.Files.{HasFunction}
+use Rattle.declared_pieces.specs.Modules.{item_of, is_owned, module_of}
+use Rattle.declared_pieces.specs.Emitted.{EmittedMethod, call_item_of}
+use Rattle.declared_pieces.specs.Files.{HasFunction}
 use Rattle.sj_graph.specs.References.{IsGraph}
 use Rattle.sj_graph.specs.declared.graphs.Reference.{Reference}
 use Rattle.sj_local.specs.Broken.{FirstBroken}
@@ -29,8 +29,8 @@ use Rattle.sj_world.proofs.OnCycles.{among}
 use Rattle.sj_world.specs.Known.{Name, Classes}
 use Rattle.sj_world.specs.declared.facts.Fact.{Fact}
 use Rattle.worklist.specs.Paths.{stay, on}
-use Rattle.accepted_folders.specs.Accepted.{IsAccepted}
-use Rattle.accepted_folders.specs.Bodies.{IsFound, AreBodies}
+use Rattle.declared_pieces.specs.Accepted.{IsAccepted}
+use Rattle.declared_pieces.specs.Bodies.{IsFound, AreBodies}
 use Rattle.linked_folders.specs.Link.{ArePieces, AreWritten, IsOneModule}
 use Rattle.linked_folders.proofs.Planned.{one_file}
 use Rattle.linked_folders.specs.Laws.{LinkIsOne}

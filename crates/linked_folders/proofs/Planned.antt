@@ -7,7 +7,7 @@ use Rattle.ir_mean.specs.Shows.{initializers}
 use Rattle.js_mean.specs.Shows.{File, file_of}
 use Rattle.js_tree.specs.Spelling.{Spells}
 use Rattle.module_names.specs.Names.{names_of, sha1_digest}
-use Rattle.proper_pieces.specs.Modules.{module_of}
+use Rattle.declared_pieces.specs.Modules.{module_of}
 use Rattle.sj_names.proofs.Same.{text-refl}
 use Rattle.sj_names.specs.Same.{is_same_text}
 use Rattle.sj_names.specs.declared.entry_points.EntryPoint.{EntryPoint}

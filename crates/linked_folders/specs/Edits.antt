@@ -6,17 +6,17 @@ use Rattle.sj_names.specs.declared.entry_points.EntryPoint.{EntryPoint}
 use Rattle.sj_names.specs.declared.folders.SourceFile.{SourceFile}
 use Rattle.sj_names.specs.declared.method_names.Member.{Member}
 use Rattle.sj_trees.specs.declared.classes.MethodDef.{MethodDef}
-use Rattle.sj_proper.specs.Emitted.{EmittedMethod}
+use Rattle.declared_pieces.specs.Emitted.{EmittedMethod}
 use Rattle.sj_world.specs.Known.{Classes}
 use Rattle.sj_world.specs.Members.{IsMethodOf}
 use Rattle.sj_world.specs.Refusals.{is_before}
 use Rattle.sj_world.specs.declared.facts.Fact.TheVariants.{Body}
-use Rattle.reach_rules.specs.Reachable.{Reachable}
-use Rattle.reach_rules.specs.Refusals.{spelled_member}
-use Rattle.built_forms.specs.Built.{not_built}
-use Rattle.folder_verdicts.specs.Verdicts.{Verdict, accepted, refused, IsVerdict}
-use Rattle.accepted_folders.specs.Accepted.{IsAccepted}
-use Rattle.accepted_folders.specs.Bodies.{AreBodies}
+use Rattle.declared_pieces.specs.Reachable.{Reachable}
+use Rattle.declared_pieces.specs.Refusals.{spelled_member}
+use Rattle.declared_pieces.specs.Built.{not_built}
+use Rattle.declared_pieces.specs.Verdicts.{Verdict, accepted, refused, IsVerdict}
+use Rattle.declared_pieces.specs.Accepted.{IsAccepted}
+use Rattle.declared_pieces.specs.Bodies.{AreBodies}
 use Rattle.linked_folders.specs.Link.{IsLink, AreOfOne}
 
 -- the code of what isn't built yet

@@ -10,8 +10,8 @@ use Rattle.sj_names.specs.declared.counters.Meter.{Meter}
 use Rattle.sj_names.specs.declared.entry_points.EntryPoint.{EntryPoint}
 use Rattle.sj_names.specs.declared.folders.SourceFile.{SourceFile}
 use Rattle.sj_world.specs.Known.{Name, Classes}
-use Rattle.folder_verdicts.specs.Verdicts.{Verdict}
-use Rattle.accepted_folders.specs.Accepted.{IsAccepted}
+use Rattle.declared_pieces.specs.Verdicts.{Verdict}
+use Rattle.declared_pieces.specs.Accepted.{IsAccepted}
 use Rattle.linked_folders.specs.Link.{IsLink, AreOfOne, AreWritten, IsOneModule}
 use Rattle.linked_folders.specs.Edits.{AreBuilt, HaveOneModule, IsEditVerdict, IsLinkOf, IsWork}
 

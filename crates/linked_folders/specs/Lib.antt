@@ -1,3 +1,17 @@
 pub mod Link
 pub mod Edits
 pub mod Laws
+pub use Rattle.declared_pieces.specs.Stages
+pub use Rattle.declared_pieces.specs.Emitted
+pub use Rattle.declared_pieces.specs.Modules
+pub use Rattle.declared_pieces.specs.Entries
+pub use Rattle.declared_pieces.specs.Accepted
+pub use Rattle.declared_pieces.specs.Pieces
+pub use Rattle.declared_pieces.specs.Bodies
+pub use Rattle.declared_pieces.specs.Used
+pub use Rattle.declared_pieces.specs.Refusals
+pub use Rattle.declared_pieces.specs.TypingRulesRules as Rules
+pub use Rattle.declared_pieces.specs.Typed
+pub use Rattle.declared_pieces.specs.Files
+pub use Rattle.declared_pieces.specs.Reachable
+pub use Rattle.declared_pieces.specs.Verdicts

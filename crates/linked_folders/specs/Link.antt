@@ -1,19 +1,19 @@
 -- The files that the classes of an accepted folder are linked to, where it has one public module.
 use Rattle.std.specs.Prelude.{◌≡◌, ◌↔◌, ℕ, List, [], ◌∷◌}
 use Rattle.std.specs.List.{Contains}
-use Rattle.entry_rules.specs.Entries.{IsLinked}
+use Rattle.declared_pieces.specs.Entries.{IsLinked}
 use Rattle.ir_mean.specs.Shows.{initializers}
 use Rattle.js_mean.specs.Shows.{File}
 use Rattle.js_tree.specs.Spelling.{Spells}
 use Rattle.js_tree.specs.Terms.{Piece}
-use Rattle.linked_pieces.specs.Pieces.{AreLinkedPieces}
+use Rattle.declared_pieces.specs.Pieces.{AreLinkedPieces}
 use Rattle.module_names.specs.Names.{sha1_digest}
-use Rattle.proper_pieces.specs.Modules.{module_of}
-use Rattle.reach_rules.specs.Reachable.{Reachable}
+use Rattle.declared_pieces.specs.Modules.{module_of}
+use Rattle.declared_pieces.specs.Reachable.{Reachable}
 use Rattle.sj_graph.specs.References.{IsGraph}
 use Rattle.sj_graph.specs.declared.graphs.Graph.{Graph}
 use Rattle.sj_names.specs.declared.entry_points.EntryPoint.{EntryPoint}
-use Rattle.sj_proper.specs.Emitted.{EmittedMethod}
+use Rattle.declared_pieces.specs.Emitted.{EmittedMethod}
 use Rattle.sj_split.specs.Modules.{IsPlan, file}
 use Rattle.sj_split.specs.Walks.{IsReached}
 use Rattle.sj_split.specs.declared.plans.PlannedModule.{PlannedModule}
@@ -21,7 +21,7 @@ use Rattle.sj_split.specs.declared.plans.Style.TheVariants.{Fewest}
 use Rattle.sj_world.specs.Known.{Name, Classes}
 use Rattle.sj_world.specs.Linked.{Linked}
 use Rattle.sj_world.specs.declared.facts.Fact.{Fact}
-use Rattle.accepted_folders.specs.Bodies.{AreBodies}
+use Rattle.declared_pieces.specs.Bodies.{AreBodies}
 
 -- the pieces of the classes: those of the linked world of what is reachable, with the functions of all needed bodies
 pub record ArePieces (w : Classes) (entries : List EntryPoint) (ps : List Piece) : Type 0 where

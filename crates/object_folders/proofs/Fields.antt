@@ -5,17 +5,17 @@ use Rattle.std.specs.List.{list_any}
 use Rattle.std.proofs.lemmas.Bool.{and_parts, and_from}
 use Rattle.std.proofs.lemmas.List.Folds.{Any-from_list_any}
 use Rattle.accepted_folders.proofs.Members.{same-class}
-use Rattle.body_rules.proofs.Lists.{nothing_in, in_front_or_behind}
-use Rattle.body_rules.proofs.Plain.{class_found}
-use Rattle.body_rules.specs.Locals.{HasValue}
-use Rattle.body_soundness.proofs.Chains.{has_fields}
-use Rattle.body_soundness.specs.Worlds.{HasFields}
+use Rattle.accepted_folders.proofs.Lists.{nothing_in, in_front_or_behind}
+use Rattle.accepted_folders.proofs.Plain.{class_found}
+use Rattle.accepted_folders.specs.Locals.{HasValue}
+use Rattle.accepted_folders.proofs.Chains.{has_fields}
+use Rattle.accepted_folders.specs.Worlds.{HasFields}
 use Rattle.ir_mean.specs.World.{instance_zero, zeros_in, zero_of}
 use Rattle.ir_mean.specs.World as ir
 use Rattle.linked_pieces.proofs.Fields.{Apart, is_same_field, from_key, fields_apart}
 use Rattle.linked_pieces.specs.Used.{is_its_field, has_field_in}
-use Rattle.sj_kept.proofs.Classes.{none-each, none-passes, keeps-hijacked}
-use Rattle.sj_kept.proofs.Types.{empty-is}
+use Rattle.accepted_folders.proofs.Classes.{none-each, none-passes, keeps-hijacked}
+use Rattle.accepted_folders.proofs.Types.{empty-is}
 use Rattle.sj_local.specs.Broken.{FirstBroken, Breaks, all_rules, at_member}
 use Rattle.sj_local.specs.Firsts.{first_where}
 use Rattle.sj_local.specs.MemberRules.{breaks_field, has_no_fields, field_key}

@@ -7,31 +7,31 @@ use Rattle.accepted_folders.proofs.Members.{defined}
 use Rattle.accepted_folders.proofs.Worlds.{judged}
 use Rattle.accepted_folders.specs.Accepted.{IsAccepted}
 use Rattle.accepted_folders.specs.Bodies.{AreBodies}
-use Rattle.body_rules.proofs.RulesGive.{result_is}
-use Rattle.body_rules.specs.Standing.{call_type}
-use Rattle.body_rules.specs.Typing.{is_built_with}
-use Rattle.body_soundness.specs.Rules.{RightMember}
-use Rattle.built_forms.specs.Built.{Usable}
+use Rattle.accepted_folders.proofs.RulesGive.{result_is}
+use Rattle.accepted_folders.specs.Standing.{call_type}
+use Rattle.accepted_folders.specs.Typing.{is_built_with}
+use Rattle.accepted_folders.specs.BodySoundnessRules.{RightMember}
+use Rattle.accepted_folders.specs.Built.{Usable}
 use Rattle.file_listings.proofs.ListedClasses.{file_is_listed}
 use Rattle.file_listings.specs.Listed.{AreBytes}
 use Rattle.ir_mean.specs.World.{member_of}
 use Rattle.listing_spelling.specs.Rules.{HasListing, IsListedMethod, IsListedTree}
-use Rattle.sj_calls.specs.Files.{HasFunction}
-use Rattle.sj_judged.proofs.Found.{OwnerOf, owner_of}
-use Rattle.sj_judged.specs.Judged.{IsJudgedClass}
-use Rattle.sj_kept.proofs.Classes.{class-keeps, signature-keeps}
-use Rattle.sj_kept.proofs.Methods as methods
+use Rattle.accepted_folders.specs.Files.{HasFunction}
+use Rattle.accepted_folders.proofs.Found.{OwnerOf, owner_of}
+use Rattle.accepted_folders.specs.Judged.{IsJudgedClass}
+use Rattle.accepted_folders.proofs.Classes.{class-keeps, signature-keeps}
+use Rattle.accepted_folders.proofs.Methods as methods
 use Rattle.sj_names.specs.declared.entry_points.EntryPoint.{EntryPoint}
 use Rattle.sj_names.specs.declared.folders.SourceFile.{SourceFile}
 use Rattle.sj_names.specs.declared.method_names.Member.{Member}
 use Rattle.sj_names.specs.declared.method_names.MethodName.{MethodName}
-use Rattle.sj_proper.specs.Emitted.{EmittedMethod}
-use Rattle.sj_proper.specs.Methods.{HaveTypes, KeepsRules}
-use Rattle.sj_proper.specs.Once.{NamesOnce}
+use Rattle.accepted_folders.specs.Emitted.{EmittedMethod}
+use Rattle.accepted_folders.specs.Methods.{HaveTypes, KeepsRules}
+use Rattle.accepted_folders.specs.Once.{NamesOnce}
 use Rattle.sj_trees.specs.Term.{Term}
 use Rattle.sj_trees.specs.declared.classes.MethodDef.{MethodDef}
-use Rattle.sj_typed.proofs.Bodies.{rules_kept}
-use Rattle.sj_typed.proofs.Values.{parameters_have_values}
+use Rattle.accepted_folders.proofs.Bodies.{rules_kept}
+use Rattle.accepted_folders.proofs.Values.{parameters_have_values}
 use Rattle.sj_world.specs.Known.{Classes}
 
 module _ (entries : List EntryPoint) (files : List SourceFile) (w : Classes) (bytes : (file : SourceFile) → Contains files file → AreBytes file.bytes) (a : IsAccepted entries files w) where

@@ -4,9 +4,9 @@ use Rattle.std.specs.List.{list_any}
 use Rattle.std.proofs.lemmas.Bool.{and_parts, and_from}
 use Rattle.std.proofs.lemmas.List.Folds.{Any-from_list_any}
 use Rattle.accepted_folders.proofs.Members.{has_function-from}
-use Rattle.body_rules.proofs.Lists.{at_front}
-use Rattle.body_soundness.specs.Laws.{null_pointer, arithmetic}
-use Rattle.built_forms.specs.Built.{Usable, divides}
+use Rattle.accepted_folders.proofs.Lists.{at_front}
+use Rattle.accepted_folders.specs.BodySoundnessLaws.{null_pointer, arithmetic}
+use Rattle.accepted_folders.specs.Built.{Usable, divides}
 use Rattle.helper_rules.specs.Helpers.{helper_name, used_helpers, failure_class}
 use Rattle.helper_rules.specs.declared.kinds.Failure.{Failure}
 use Rattle.helper_rules.specs.declared.kinds.Failure.TheVariants.{NullReceiver, Division}
@@ -22,8 +22,8 @@ use Rattle.sj_names.specs.Same.{is_same_text}
 use Rattle.sj_names.specs.WellKnown.{object}
 use Rattle.sj_names.specs.declared.entry_points.EntryPoint.{EntryPoint}
 use Rattle.sj_names.specs.declared.method_names.Namespace.TheVariants.{Constructor}
-use Rattle.sj_proper.specs.Emitted.{EmittedMethod}
-use Rattle.sj_sound.specs.Linked.{has_function}
+use Rattle.accepted_folders.specs.Emitted.{EmittedMethod}
+use Rattle.accepted_folders.specs.Linked.{has_function}
 use Rattle.sj_trees.specs.declared.operators.BinaryOp.{BinaryOp}
 use Rattle.sj_trees.specs.declared.operators.BinaryOp.TheVariants.{IntDivide, IntRemainder as IntRest, LongDivide, LongRemainder as LongRest}
 use Rattle.sj_world.proofs.OnCycles.{among}

@@ -5,9 +5,9 @@ use Rattle.accepted_folders.proofs.Objects as objects
 use Rattle.accepted_folders.proofs.Worlds.{judged}
 use Rattle.accepted_folders.specs.Accepted.{IsAccepted}
 use Rattle.accepted_folders.specs.Bodies.{AreBodies}
-use Rattle.body_soundness.specs.Rules.{RightMember}
-use Rattle.body_soundness.specs.Worlds.{AreClassesKept}
-use Rattle.built_forms.specs.Built.{is_static}
+use Rattle.accepted_folders.specs.BodySoundnessRules.{RightMember}
+use Rattle.accepted_folders.specs.Worlds.{AreClassesKept}
+use Rattle.accepted_folders.specs.Built.{is_static}
 use Rattle.file_listings.specs.Listed.{AreBytes}
 use Rattle.helper_rules.specs.declared.kinds.Helper.{Helper}
 use Rattle.linked_pieces.specs.Used.{used_of, is_among, is_received, is_constructor_without_value}
@@ -17,14 +17,14 @@ use Rattle.object_folders.proofs.Methods.{once, right_member}
 use Rattle.object_folders.proofs.Throwing.{exceptions, division}
 use Rattle.object_folders.specs.Laws.{AcceptedFoldersCarryObjects, AcceptedFoldersLinkRightMembers}
 use Rattle.object_folders.specs.Running.{CanRun}
-use Rattle.reach_rules.specs.Refusals.{hijacked}
+use Rattle.accepted_folders.specs.Refusals.{hijacked}
 use Rattle.sj_local.specs.Broken.{FirstBroken}
 use Rattle.sj_names.specs.declared.entry_points.EntryPoint.{EntryPoint}
 use Rattle.sj_names.specs.declared.folders.SourceFile.{SourceFile}
 use Rattle.sj_names.specs.declared.method_names.Member.{Member}
-use Rattle.sj_proper.specs.Emitted.{EmittedMethod}
-use Rattle.sj_sound.proofs.Same.{has_function-is}
-use Rattle.sj_sound.specs.Linked.{has_function}
+use Rattle.accepted_folders.specs.Emitted.{EmittedMethod}
+use Rattle.accepted_folders.proofs.Same.{has_function-is}
+use Rattle.accepted_folders.specs.Linked.{has_function}
 use Rattle.sj_trees.specs.declared.classes.ClassDef.{ClassDef}
 use Rattle.sj_world.proofs.OnCycles.{among}
 use Rattle.sj_world.specs.Known.{Name, Classes}

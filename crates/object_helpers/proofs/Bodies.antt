@@ -4,7 +4,7 @@ use Rattle.std.specs.Prelude.{not}
 use Rattle.std.specs.List.{All, list_any}
 use Rattle.std.proofs.lemmas.List.Elements.{All-nil, All-cons, All-head, All-tail, All-contains, Contains-append_right}
 use Rattle.body_uses.proofs.Given.{all_from}
-use Rattle.folder_verdicts.proofs.EachTyped.{in_all}
+use Rattle.body_uses.proofs.EachTyped.{in_all}
 use Rattle.helper_rules.specs.Helpers.{helper_name}
 use Rattle.helper_rules.specs.Words.{helper}
 use Rattle.helper_rules.specs.declared.kinds.Helper.{Helper}
@@ -22,8 +22,8 @@ use Rattle.sj_infos.specs.Sure as infos_sure
 use Rattle.sj_infos.specs.Trees.{trees}
 use Rattle.sj_infos.specs.declared.infos.Info.{Info}
 use Rattle.sj_infos.specs.declared.infos.Info.TheVariants.{Field, Throws}
-use Rattle.sj_judged.proofs.Found.{here, there}
-use Rattle.sj_kept.specs.Kept.{KeepsTreeRules}
+use Rattle.body_uses.proofs.Found.{here, there}
+use Rattle.body_uses.specs.Kept.{KeepsTreeRules}
 use Rattle.sj_names.proofs.Same.{impossible}
 use Rattle.sj_names.specs.declared.method_names.Member.{Member}
 use Rattle.sj_names.specs.declared.method_names.Namespace.{Namespace}

@@ -4,13 +4,13 @@ use Rattle.std.specs.Prelude.{is_none}
 use Rattle.std.specs.List.{All, flat_map}
 use Rattle.std.proofs.lemmas.List.Elements.{All-nil, All-cons, All-contains, All-weaker, Contains-append_cases}
 use Rattle.std.proofs.lemmas.List.Sorted.{Contains-permutation, IsPermutation-sym}
-use Rattle.accepted_folders.proofs.Calls.{needed}
-use Rattle.accepted_folders.proofs.Members.{defined}
-use Rattle.accepted_folders.specs.Accepted.{IsAccepted}
-use Rattle.accepted_folders.specs.Bodies.{AreBodies}
+use Rattle.body_uses.proofs.Calls.{needed}
+use Rattle.body_uses.proofs.Members.{defined}
+use Rattle.body_uses.specs.Accepted.{IsAccepted}
+use Rattle.body_uses.specs.Bodies.{AreBodies}
 use Rattle.body_uses.proofs.Uses.{combine}
-use Rattle.folder_verdicts.proofs.EachTyped.{in_all}
-use Rattle.folder_verdicts.proofs.Undenied.{first_or_later}
+use Rattle.body_uses.proofs.EachTyped.{in_all}
+use Rattle.body_uses.proofs.Undenied.{first_or_later}
 use Rattle.helper_rules.specs.Helpers.{helper_name, used_helpers, failure_class}
 use Rattle.helper_rules.specs.Words.{bound, helper, all_kinds, class_name}
 use Rattle.helper_rules.specs.declared.kinds.Failure.{Failure}
@@ -21,13 +21,13 @@ use Rattle.helper_rules.specs.declared.kinds.Kind.{Kind}
 use Rattle.helper_rules.specs.declared.kinds.Kind.TheVariants as kinds
 use Rattle.js_tree.specs.Terms.{Name, Piece}
 use Rattle.js_tree.specs.declared.items.Binding.{Binding}
-use Rattle.linked_pieces.specs.Pieces.{piece_of_member, Block, IsBlock, AreBlocks, pieces_of_block, IsUsed, by_piece, by_helper, AreLinkedPieces}
-use Rattle.piece_rules.specs.Classes.{HasForm, AreParts, AreClassPieces, absent, present}
-use Rattle.piece_rules.specs.Pieces.{Parts, pieces, constants_piece, class_piece, class_uses, parent_uses, own_constants, uses_of_entries, entry_uses, box_uses, is_proxy, is_char, all_statics, variable_piece, setter_piece, when, cell_piece, cell_pieces, load_piece, store_piece, init, init_name, test_piece, test_uses, test_binding, cast_piece, kind_of_class, constants_of, class_of as class_pieces_of, module_of, tests_of}
+use Rattle.body_uses.specs.Pieces.{piece_of_member, Block, IsBlock, AreBlocks, pieces_of_block, IsUsed, by_piece, by_helper, AreLinkedPieces}
+use Rattle.body_uses.specs.Classes.{HasForm, AreParts, AreClassPieces, absent, present}
+use Rattle.body_uses.specs.PieceRulesPieces.{Parts, pieces, constants_piece, class_piece, class_uses, parent_uses, own_constants, uses_of_entries, entry_uses, box_uses, is_proxy, is_char, all_statics, variable_piece, setter_piece, when, cell_piece, cell_pieces, load_piece, store_piece, init, init_name, test_piece, test_uses, test_binding, cast_piece, kind_of_class, constants_of, class_of as class_pieces_of, module_of, tests_of}
 use Rattle.proper_pieces.proofs.Names.{function_rank}
-use Rattle.reach_rules.proofs.Derivations.{closed}
-use Rattle.reach_rules.specs.Reachable.{Reachable}
-use Rattle.reach_rules.specs.Rules.{Reads, message_constructor, of_throw, asked_body, throw_made}
+use Rattle.body_uses.proofs.Derivations.{closed}
+use Rattle.body_uses.specs.Reachable.{Reachable}
+use Rattle.body_uses.specs.Rules.{Reads, message_constructor, of_throw, asked_body, throw_made}
 use Rattle.sj_infos.specs.Forms.{form_of, of_base, of_test, of_cast, forms_by_body}
 use Rattle.sj_infos.specs.Forms as of_form
 use Rattle.sj_infos.specs.Infos as infos
@@ -37,8 +37,8 @@ use Rattle.sj_infos.specs.Trees.{trees}
 use Rattle.sj_infos.specs.declared.forms.BodyForm.TheVariants as forms
 use Rattle.sj_infos.specs.declared.infos.Info.{Info}
 use Rattle.sj_infos.specs.declared.infos.Info.TheVariants.{Class, Throws}
-use Rattle.sj_judged.proofs.Found.{owner_of, here, there}
-use Rattle.sj_kept.proofs.Classes.{class-keeps}
+use Rattle.body_uses.proofs.Found.{owner_of, here, there}
+use Rattle.body_uses.proofs.Classes.{class-keeps}
 use Rattle.sj_mangling.specs.Bindings.{class_binding, field_binding}
 use Rattle.sj_mangling.specs.declared.bindings.ClassBinding.TheVariants.{Instance, IsInstance}
 use Rattle.sj_mangling.specs.declared.bindings.FieldBinding.TheVariants.{Variable}
@@ -49,7 +49,7 @@ use Rattle.sj_names.specs.declared.method_names.MethodName.{MethodName}
 use Rattle.sj_names.specs.declared.method_names.Namespace.TheVariants.{Constructor}
 use Rattle.sj_names.specs.declared.references.BaseRef.{BaseRef}
 use Rattle.sj_emit_expr.specs.Templates.{member_name}
-use Rattle.sj_proper.specs.Emitted.{EmittedMethod}
+use Rattle.body_uses.specs.Emitted.{EmittedMethod}
 use Rattle.sj_split.proofs.Members.{from_map}
 use Rattle.sj_trees.specs.Term.{Term, load_module, store_module, apply, new_array, array_value, is_instance_of, as_instance_of}
 use Rattle.sj_trees.specs.declared.classes.FieldDef.{FieldDef}

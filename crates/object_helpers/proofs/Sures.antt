@@ -1,15 +1,15 @@
 -- A local that is sure where infos are asked for is sure in emitted code: no definition is inside that of a local which it names.
 use Rattle.std.proofs.Common.{◌≡◌, ℕ, Bool, true, false, ◌&&◌, ◌||◌, not, List, [], ◌∷◌, ◌++◌, ◌⊎◌, inl, inr, ⊎_elim, Some, None, Option, refl, sym, ap, ◌∙◌, subst, append-nil, map, if◌then◌else◌}
 use Rattle.std.proofs.lemmas.Bool.{and_from}
-use Rattle.body_rules.proofs.Equal.{differs}
+use Rattle.body_uses.proofs.Equal.{differs}
 use Rattle.body_uses.proofs.Uses.{or_first, or_second}
 use Rattle.sj_infos.specs.Sure as infos
 use Rattle.sj_infos.specs.Sure.{with_name, with_local, sure_among}
 use Rattle.sj_infos.specs.Trees.{trees, all_below as all_trees, cases_below as case_trees}
-use Rattle.sj_kept.proofs.Distinct.{Has, declares, Fresh, parts, in-left, in-right}
-use Rattle.sj_kept.proofs.Kept.{AllKeep, innermost-behind}
-use Rattle.sj_kept.proofs.Methods.{keep, apart, param_declarations}
-use Rattle.sj_kept.specs.Kept.{KeepsTreeRules}
+use Rattle.body_uses.proofs.Distinct.{Has, declares, Fresh, parts, in-left, in-right}
+use Rattle.body_uses.proofs.Kept.{AllKeep, innermost-behind}
+use Rattle.body_uses.proofs.Methods.{keep, apart, param_declarations}
+use Rattle.body_uses.specs.Kept.{KeepsTreeRules}
 use Rattle.sj_local.specs.Nodes.{Context, Node, node, inside, in_a_block, with_label, with_local as with_caught, caught, defined, behind, below, statements_below, all_below, cases_below}
 use Rattle.sj_local.specs.TreeRules.{last_some, innermost, has_type, breaks_variable, declarations, local_of, outermost}
 use Rattle.sj_local.specs.declared.walks.Declaration.{Declaration}
@@ -18,7 +18,7 @@ use Rattle.sj_local.specs.declared.walks.Local.{Local}
 use Rattle.sj_names.proofs.Same.{impossible, text-same, text-refl}
 use Rattle.sj_names.specs.Same.{is_same_text}
 use Rattle.sj_names.specs.declared.method_names.Namespace.{Namespace}
-use Rattle.sj_proper.specs.Once.{IsAmong}
+use Rattle.body_uses.specs.Once.{IsAmong}
 use Rattle.sj_trees.specs.Term.{Term, Terms, Cases, no_terms, more_terms, no_cases, more_cases, var_def, block_of, labeled, assign, return_to, if_then, while_loop, do_while, try_catch, try_finally, throw, match_on, new_object, load_module, store_module, select, apply, apply_statically, apply_static, unary_op, binary_op, new_array, array_value, array_length, array_select, is_instance_of, as_instance_of, var_ref, this_ref, log_line}
 use Rattle.sj_trees.specs.TypeOf.{type_of_term}
 use Rattle.sj_trees.specs.declared.classes.ClassDef.{ClassDef}

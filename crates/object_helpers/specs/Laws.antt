@@ -1,24 +1,24 @@
 -- Laws of the helpers that the pieces of a linked world use.
 use Rattle.std.specs.Prelude.{◌≡◌, true, List, Some, Contains}
-use Rattle.accepted_folders.specs.Accepted.{IsAccepted}
-use Rattle.accepted_folders.specs.Bodies.{AreBodies}
-use Rattle.built_forms.specs.Built.{is_object_body}
+use Rattle.body_uses.specs.Accepted.{IsAccepted}
+use Rattle.body_uses.specs.Bodies.{AreBodies}
+use Rattle.body_uses.specs.Built.{is_object_body}
 use Rattle.helper_rules.specs.Helpers.{helper_name, failure_class}
 use Rattle.helper_rules.specs.Words.{helper}
 use Rattle.helper_rules.specs.declared.kinds.Failure.{Failure}
 use Rattle.helper_rules.specs.declared.kinds.Helper.{Helper}
 use Rattle.helper_rules.specs.declared.kinds.Helper.TheVariants.{Throws}
 use Rattle.js_tree.specs.Terms.{Piece}
-use Rattle.linked_pieces.specs.Pieces.{AreLinkedPieces}
-use Rattle.reach_rules.specs.Reachable.{Reachable}
-use Rattle.reach_rules.specs.Rules.{message_constructor}
+use Rattle.body_uses.specs.Pieces.{AreLinkedPieces}
+use Rattle.body_uses.specs.Reachable.{Reachable}
+use Rattle.body_uses.specs.Rules.{message_constructor}
 use Rattle.sj_desugar.specs.Desugar.{desugared_member}
 use Rattle.sj_emit_expr.specs.Uses.{uses}
 use Rattle.sj_infos.specs.Infos.{asked_in}
-use Rattle.sj_kept.specs.Kept.{KeepsTreeRules}
+use Rattle.body_uses.specs.Kept.{KeepsTreeRules}
 use Rattle.sj_names.specs.declared.entry_points.EntryPoint.{EntryPoint}
 use Rattle.sj_names.specs.declared.folders.SourceFile.{SourceFile}
-use Rattle.sj_proper.specs.Emitted.{EmittedMethod}
+use Rattle.body_uses.specs.Emitted.{EmittedMethod}
 use Rattle.sj_trees.specs.Term.{Term}
 use Rattle.sj_trees.specs.declared.classes.ClassDef.{ClassDef}
 use Rattle.sj_trees.specs.declared.classes.MethodDef.{MethodDef}

@@ -3,14 +3,14 @@ use Rattle.std.proofs.Common.{◌≡◌, ◌<◌, ◌⊎◌, ◌++◌, ◌||◌,
 use Rattle.sj_mangling.proofs.Numerals.{numerals_differ}
 use Rattle.sj_mangling.specs.Numerals.{number_text}
 use Rattle.std.proofs.lemmas.List.Elements.{Contains-append_cases}
-use Rattle.body_rules.proofs.Equal.{differs}
+use Rattle.linked_pieces.proofs.Equal.{differs}
 use Rattle.helper_rules.specs.Words.{parameter, first_parameters}
 use Rattle.js_mean.specs.Proper.{is_among, are_distinct}
 use Rattle.js_tree.specs.Names.{is_same_text}
 use Rattle.js_tree.specs.Terms.{Name}
 use Rattle.linked_pieces.specs.Order.{AreInOrder}
 use Rattle.sj_names.proofs.Same.{impossible}
-use Rattle.sj_proper.proofs.Names.{tails}
+use Rattle.linked_pieces.proofs.ProperNames.{tails}
 use Rattle.sj_split.proofs.Members.{at_first, further, cons_cases}
 use Rattle.worklist.proofs.Inserted.{nothing_in}
 

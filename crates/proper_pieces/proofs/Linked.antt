@@ -4,7 +4,7 @@ use Rattle.std.specs.List.{flat_map}
 use Rattle.std.specs.Prelude.{is_some}
 use Rattle.std.proofs.lemmas.List.Elements.{Contains-append_cases}
 use Rattle.std.proofs.lemmas.List.Sorted.{Contains-permutation, IsPermutation-sym}
-use Rattle.body_rules.proofs.Plain.{class_found}
+use Rattle.linked_pieces.proofs.Plain.{class_found}
 use Rattle.helper_rules.specs.Helpers.{Above, helper_name, helper_piece}
 use Rattle.helper_rules.specs.declared.kinds.Helper.{Helper}
 use Rattle.helper_rules.specs.declared.kinds.Helper.TheVariants as helpers
@@ -15,15 +15,15 @@ use Rattle.linked_pieces.specs.Pieces.{piece_of_member, Block, IsBlock, AreBlock
 use Rattle.linked_pieces.proofs.Fields.{is_same_field, fields_apart, from_key, moved}
 use Rattle.linked_pieces.proofs.Names.{weaker}
 use Rattle.linked_pieces.proofs.One.{never_class, reached_apart, reached_static}
-use Rattle.piece_rules.specs.Classes.{AreClassPieces, AreParts, AreStatics, absent, present}
-use Rattle.piece_rules.specs.Pieces.{Parts, pieces}
+use Rattle.linked_pieces.specs.Classes.{AreClassPieces, AreParts, AreStatics, absent, present}
+use Rattle.linked_pieces.specs.PieceRulesPieces.{Parts, pieces}
 use Rattle.proper_pieces.specs.Laws.{AreNamed, NamesOfPiecesDiffer}
 use Rattle.proper_pieces.specs.Modules.{item_of}
 use Rattle.sj_emit_expr.specs.Templates.{member_name}
 use Rattle.sj_names.proofs.Same.{impossible}
 use Rattle.sj_names.specs.Grammar.{is_class_name}
 use Rattle.sj_names.specs.WellKnown.{is_object}
-use Rattle.sj_proper.specs.Emitted.{EmittedMethod}
+use Rattle.linked_pieces.specs.Emitted.{EmittedMethod}
 use Rattle.sj_split.proofs.Members.{at_first, further, Mapped, from_map}
 use Rattle.sj_split.proofs.Unique.{never_both}
 use Rattle.sj_split.specs.Orders.{IsBefore}

@@ -8,14 +8,14 @@ use Rattle.js_mean.specs.Proper.{are_distinct, is_proper_item, item_names}
 use Rattle.js_tree.specs.Terms.{Name, Piece}
 use Rattle.linked_pieces.specs.Order.{AreInOrder}
 use Rattle.linked_pieces.specs.Pieces.{piece_of_member, Block, IsBlock, AreBlocks, pieces_of_block, with_helpers, AreLinkedPieces}
-use Rattle.piece_rules.specs.Classes.{AreClassPieces, absent, present}
+use Rattle.linked_pieces.specs.Classes.{AreClassPieces, absent, present}
 use Rattle.proper_pieces.specs.Laws.{ModulesOfPiecesAreProper}
 use Rattle.proper_pieces.specs.Modules.{item_of, is_owned}
 use Rattle.sj_names.specs.WellKnown.{is_object}
 use Rattle.sj_names.specs.declared.entry_points.EntryPoint.{EntryPoint}
-use Rattle.sj_proper.proofs.Modules.{calls_proper, calls_named}
-use Rattle.sj_proper.specs.Emitted.{EmittedMethod, call_item_of}
-use Rattle.sj_proper.specs.Once.{DefinesOnce}
+use Rattle.linked_pieces.proofs.Modules.{calls_proper, calls_named}
+use Rattle.linked_pieces.specs.Emitted.{EmittedMethod, call_item_of}
+use Rattle.linked_pieces.specs.Once.{DefinesOnce}
 use Rattle.sj_split.proofs.Members.{at_first, further, from_map, from_filter}
 use Rattle.sj_world.specs.Linked.{Linked}
 use Rattle.worklist.proofs.Inserted.{nothing_in}

@@ -5,13 +5,13 @@ use Rattle.helper_rules.specs.declared.kinds.Helper.{Helper}
 use Rattle.js_mean.specs.Proper.{are_distinct, is_proper_item, item_names, is_proper_module}
 use Rattle.js_tree.specs.Terms.{Name, Piece}
 use Rattle.linked_pieces.specs.Pieces.{piece_of_member, AreLinkedPieces}
-use Rattle.piece_rules.specs.Pieces.{Parts, pieces}
+use Rattle.linked_pieces.specs.PieceRulesPieces.{Parts, pieces}
 use Rattle.proper_pieces.specs.Modules.{item_of, module_of}
 use Rattle.sj_local.specs.Broken.{FirstBroken}
 use Rattle.sj_names.specs.Grammar.{is_class_name}
 use Rattle.sj_names.specs.declared.entry_points.EntryPoint.{EntryPoint}
-use Rattle.sj_proper.specs.Emitted.{EmittedMethod}
-use Rattle.sj_proper.specs.Once.{DefinesOnce}
+use Rattle.linked_pieces.specs.Emitted.{EmittedMethod}
+use Rattle.linked_pieces.specs.Once.{DefinesOnce}
 use Rattle.sj_trees.specs.declared.classes.ClassDef.{ClassDef}
 use Rattle.sj_world.specs.Known.{Classes}
 use Rattle.sj_world.specs.Linked.{Linked}

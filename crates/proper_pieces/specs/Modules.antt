@@ -4,7 +4,7 @@ use Rattle.std.specs.List.{filter}
 use Rattle.js_tree.specs.Terms.{Name, Item, Piece, Module}
 use Rattle.linked_pieces.specs.Used.{is_among}
 use Rattle.sj_names.specs.declared.entry_points.EntryPoint.{EntryPoint}
-use Rattle.sj_proper.specs.Emitted.{call_item_of}
+use Rattle.linked_pieces.specs.Emitted.{call_item_of}
 
 abbrev pub item_of : Piece → Item
 item_of p = p.item

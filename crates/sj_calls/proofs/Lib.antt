@@ -13,3 +13,4 @@ pub mod Receivers
 pub mod Shapes
 pub mod Whole
 pub mod Zeros
+pub use Rattle.entry_rules.proofs.Owners

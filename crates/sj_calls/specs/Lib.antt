@@ -6,3 +6,6 @@ pub mod Methods
 pub mod Names
 pub mod Objects
 pub mod Worlds
+pub use Rattle.entry_rules.specs.Entries
+pub use Rattle.piece_rules.specs.Classes
+pub use Rattle.piece_rules.specs.Pieces

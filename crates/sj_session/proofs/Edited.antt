@@ -9,9 +9,9 @@ use Rattle.sj_names.specs.declared.folders.SourceFile.{SourceFile}
 use Rattle.sj_reach.specs.Answers.{AreReachable}
 use Rattle.sj_world.specs.Known.{Classes}
 use Rattle.sj_world.specs.Linked.{Linked}
-use Rattle.accepted_folders.proofs.Worlds.{have_worlds}
-use Rattle.accepted_folders.specs.Accepted.{IsAccepted}
-use Rattle.folder_verdicts.specs.Verdicts.{Verdict, accepted, refused, IsVerdict}
+use Rattle.folder_linking.proofs.Worlds.{have_worlds}
+use Rattle.folder_linking.specs.Accepted.{IsAccepted}
+use Rattle.folder_linking.specs.Verdicts.{Verdict, accepted, refused, IsVerdict}
 use Rattle.folder_judging.specs.Counts.{Counts, bodies_among, with_reads, with_checks, ChecksAtMost}
 use Rattle.folder_judging.specs.Counts as judging
 use Rattle.folder_judging.specs.Judging.{IsLinkedFolder, AreFactsIn}
@@ -19,11 +19,11 @@ use Rattle.folder_judging.specs.Reading.{HaveBytes}
 use Rattle.folder_judging.specs.Refusals.{IsRefusal}
 use Rattle.folder_judging.specs.declared.errors.JudgeError.{JudgeError}
 use Rattle.folder_judging.specs.declared.errors.JudgeError.TheVariants as judged
-use Rattle.linked_folders.proofs.Edits.{same_world, world_is}
-use Rattle.linked_folders.proofs.Links.{agree}
-use Rattle.linked_folders.proofs.Planned.{one_file}
-use Rattle.linked_folders.specs.Edits.{AreBuilt, HaveOneModule, IsEditVerdict, by_folder, several, unbuilt, built}
-use Rattle.linked_folders.specs.Link.{IsLink}
+use Rattle.folder_linking.proofs.Edits.{same_world, world_is}
+use Rattle.folder_linking.proofs.Links.{agree}
+use Rattle.folder_linking.proofs.Planned.{one_file}
+use Rattle.folder_linking.specs.Edits.{AreBuilt, HaveOneModule, IsEditVerdict, by_folder, several, unbuilt, built}
+use Rattle.folder_linking.specs.Link.{IsLink}
 use Rattle.folder_linking.proofs.Linked.{bodies_many}
 use Rattle.folder_linking.specs.Counts.{with_emits, EmitsAtMost}
 use Rattle.folder_linking.specs.Linking.{IsLinkable}

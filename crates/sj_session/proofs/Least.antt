@@ -13,8 +13,8 @@ use Rattle.sj_names.specs.declared.memory.NoMemory.{NoMemory}
 use Rattle.sj_names.specs.declared.method_names.Member.{Member}
 use Rattle.sj_trees.specs.declared.classes.MethodDef.{MethodDef}
 use Rattle.sj_reach.specs.Answers.{AreReachable}
-use Rattle.reach_rules.specs.Reachable.{Reachable}
-use Rattle.reach_rules.specs.Refusals.{spelled_member}
+use Rattle.folder_linking.specs.Reachable.{Reachable}
+use Rattle.folder_linking.specs.Refusals.{spelled_member}
 use Rattle.sj_split.proofs.Ids.{each_passes}
 use Rattle.sj_split.proofs.Members.{at_first, further}
 use Rattle.sj_world.proofs.Searches.{contains_at}
@@ -25,10 +25,10 @@ use Rattle.sj_world.specs.Refusals.{is_before}
 use Rattle.sj_world.specs.declared.facts.Fact.{Fact}
 use Rattle.sj_world.specs.declared.facts.Fact.TheVariants.{Body}
 use Rattle.worklist.proofs.Inserted.{nothing_in}
-use Rattle.accepted_folders.proofs.Members.{found-member}
+use Rattle.folder_linking.proofs.AcceptedFoldersMembers.{found-member}
 use Rattle.built_forms.specs.Built.{not_built}
 use Rattle.folder_linking.proofs.Taken.{more_taken}
-use Rattle.linked_folders.specs.Edits.{HaveOneModule, IsUnbuilt}
+use Rattle.folder_linking.specs.Edits.{HaveOneModule, IsUnbuilt}
 use Rattle.sj_session.specs.Unbuilt.{IsLeast, IsUnbuiltMember, first_of, lesser, IsWithMember, built, unbuilt, IsWithFact, body, other}
 
 -- all entries are of one module

@@ -4,10 +4,10 @@ use Rattle.sj_names.specs.declared.counters.Meter.{Meter}
 use Rattle.sj_names.specs.declared.entry_points.EntryPoint.{EntryPoint}
 use Rattle.sj_names.specs.declared.folders.SourceFile.{SourceFile}
 use Rattle.sj_world.specs.declared.facts.Fact.{Fact}
-use Rattle.folder_verdicts.specs.Verdicts.{accepted}
+use Rattle.folder_linking.specs.Verdicts.{accepted}
 use Rattle.folder_judging.specs.Counts.{raised_by, bodies_among, ChecksAtMost}
 use Rattle.folder_judging.specs.Judging.{AreFactsIn}
-use Rattle.linked_folders.specs.Edits.{IsEditVerdict}
+use Rattle.folder_linking.specs.Edits.{IsEditVerdict}
 use Rattle.sj_session.specs.declared.answers.Report.{Report}
 use Rattle.sj_session.specs.declared.editing.Edit.{Edit}
 use Rattle.folder_judging.specs.declared.errors.JudgeError.{JudgeError}

@@ -4,10 +4,10 @@ use Rattle.sj_agree.specs.Agrees.{Agrees}
 use Rattle.sj_names.specs.declared.entry_points.EntryPoint.{EntryPoint}
 use Rattle.sj_names.specs.declared.folders.SourceFile.{SourceFile}
 use Rattle.sj_world.specs.Known.{Classes}
-use Rattle.folder_verdicts.specs.Verdicts.{Verdict, accepted, refused}
-use Rattle.accepted_folders.specs.Accepted.{IsAccepted}
-use Rattle.linked_folders.specs.Link.{AreOfOne}
-use Rattle.linked_folders.specs.Edits.{IsEditVerdict, IsLinkOf, IsWork, IsLeastUnbuilt, HaveOneModule, not_built_code}
+use Rattle.folder_linking.specs.Verdicts.{Verdict, accepted, refused}
+use Rattle.folder_linking.specs.Accepted.{IsAccepted}
+use Rattle.folder_linking.specs.Link.{AreOfOne}
+use Rattle.folder_linking.specs.Edits.{IsEditVerdict, IsLinkOf, IsWork, IsLeastUnbuilt, HaveOneModule, not_built_code}
 use Rattle.folder_linking.specs.Modules.{as_file}
 use Rattle.sj_session.specs.Sessions.{work_told}
 use Rattle.sj_session.specs.declared.editing.Edit.{Edit}

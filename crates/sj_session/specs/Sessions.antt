@@ -6,10 +6,10 @@ use Rattle.sj_names.specs.declared.entry_points.EntryPoint.{EntryPoint}
 use Rattle.sj_names.specs.declared.folders.Folder.{Folder}
 use Rattle.sj_split.specs.declared.plans.Style.TheVariants.{Fewest}
 use Rattle.sj_world.specs.Known.{Classes}
-use Rattle.folder_verdicts.specs.Verdicts.{accepted, refused}
-use Rattle.accepted_folders.specs.Accepted.{IsAccepted}
-use Rattle.linked_folders.specs.Link.{AreOfOne}
-use Rattle.linked_folders.specs.Edits.{IsEditVerdict, IsLinkOf, IsWork}
+use Rattle.folder_linking.specs.Verdicts.{accepted, refused}
+use Rattle.folder_linking.specs.Accepted.{IsAccepted}
+use Rattle.folder_linking.specs.Link.{AreOfOne}
+use Rattle.folder_linking.specs.Edits.{IsEditVerdict, IsLinkOf, IsWork}
 use Rattle.folder_linking.specs.Modules.{as_file}
 use Rattle.folder_linking.specs.declared.files.ModuleFile.{ModuleFile}
 use Rattle.sj_session.specs.declared.options.Options.{Options}

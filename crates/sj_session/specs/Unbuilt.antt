@@ -8,9 +8,9 @@ use Rattle.sj_world.specs.Members.{IsMethodOf}
 use Rattle.sj_world.specs.Refusals.{is_before}
 use Rattle.sj_world.specs.declared.facts.Fact.{Fact}
 use Rattle.sj_world.specs.declared.facts.Fact.TheVariants.{Body}
-use Rattle.reach_rules.specs.Refusals.{spelled_member}
+use Rattle.folder_linking.specs.Refusals.{spelled_member}
 use Rattle.built_forms.specs.Built.{not_built}
-use Rattle.linked_folders.specs.Edits.{AreBuilt, IsLeastUnbuilt}
+use Rattle.folder_linking.specs.Edits.{AreBuilt, IsLeastUnbuilt}
 
 -- the least needed body that isn't built, if one isn't
 abbrev pub IsLeast : Classes → List EntryPoint → Option (List ℕ) → Type 0

@@ -2,7 +2,7 @@
 ghost use Rattle.std.specs.Prelude.{◌≡◌, ◌<◌, ◌^◌, MatchResult, length};
 ghost use Rattle.folder_judging.specs.Counts.{bodies_among};
 ghost use Rattle.folder_judging.specs.Refusals.{IsRefusal};
-ghost use Rattle.linked_folders.specs.Edits.{HaveOneModule, AreBuilt, IsEditVerdict};
+ghost use Rattle.folder_linking.specs.Edits.{HaveOneModule, AreBuilt, IsEditVerdict};
 ghost use Rattle.sj_reach.specs.Answers.{AreReachable};
 ghost use Rattle.sj_session.specs.Editing.{IsEdit, IsRefusedUnbuilt};
 ghost use Rattle.sj_session.specs.Counts as counts;

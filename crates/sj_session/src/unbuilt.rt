@@ -2,7 +2,7 @@
 ghost use Rattle.std.specs.Prelude.{◌≡◌, ◌↔◌, IfOk, IsTrue, nat_eq};
 ghost use Rattle.std.specs.Cmp.Lexicographic.{pointwise};
 ghost use Rattle.std.specs.List.{list_all};
-ghost use Rattle.linked_folders.specs.Edits.{HaveOneModule};
+ghost use Rattle.folder_linking.specs.Edits.{HaveOneModule};
 ghost use Rattle.sj_reach.specs.Answers.{AreReachable};
 ghost use Rattle.sj_session.specs.Unbuilt as spec;
 ghost use Rattle.sj_session.specs.Unbuilt.{IsLeast, IsUnbuiltMember, IsWithFact, IsWithMember};

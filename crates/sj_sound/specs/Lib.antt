@@ -1,2 +1,6 @@
 pub mod Linked
 pub mod Worked
+pub use Rattle.sj_calls.specs.Entries
+pub use Rattle.sj_calls.specs.Classes
+pub use Rattle.sj_calls.specs.Pieces
+pub use Rattle.sj_plain.specs.Settings

@@ -8,10 +8,10 @@ use Rattle.sj_names.specs.declared.folders.Folder.{Folder}
 use Rattle.sj_names.specs.declared.folders.SourceFile.{SourceFile}
 use Rattle.sj_outside.specs.Writing.{Event, line, WritesFront}
 use Rattle.sj_outside.specs.declared.answers.PutFile.{PutFile}
-use Rattle.folder_verdicts.specs.Verdicts.{accepted, refused}
-use Rattle.linked_folders.specs.Edits.{HaveOneModule, IsEditVerdict, built, IsLinkOf, IsWork}
-use Rattle.folder_linking.specs.Modules.{as_file}
-use Rattle.folder_linking.specs.declared.files.ModuleFile.{ModuleFile}
+use Rattle.sj_session.specs.Verdicts.{accepted, refused}
+use Rattle.sj_session.specs.Edits.{HaveOneModule, IsEditVerdict, built, IsLinkOf, IsWork}
+use Rattle.sj_session.specs.Modules.{as_file}
+use Rattle.sj_session.specs.ModuleFile.{ModuleFile}
 use Rattle.sj_session.specs.Sessions.{Standing, IsTaken, ShowTheSame, work_told}
 use Rattle.sj_session.specs.declared.answers.Report.{Report}
 use Rattle.sjslink.specs.Editing.{WrittenCut, PutsShown, none, links, IsShownEdit, front_of, EditEnds}

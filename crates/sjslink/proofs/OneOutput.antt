@@ -10,9 +10,9 @@ use Rattle.sj_outside.specs.Contents.{Parts, is_well}
 use Rattle.sj_outside.specs.Writing.{line}
 use Rattle.sj_words.specs.declared.commands.Command.{Command}
 use Rattle.sj_words.specs.declared.commands.Link.{Link}
-use Rattle.folder_verdicts.proofs.Firsts.{same_lists, standing}
-use Rattle.folder_verdicts.specs.Verdicts.{Verdict, accepted, refused}
-use Rattle.linked_folders.proofs.Edits.{one_edit, one_folder_link, one_work}
+use Rattle.sj_session.proofs.Firsts.{same_lists, standing}
+use Rattle.sj_session.specs.Verdicts.{Verdict, accepted, refused}
+use Rattle.sj_session.proofs.Edits.{one_edit, one_folder_link, one_work}
 use Rattle.entries_file.specs.EntriesFile.{entries_of}
 use Rattle.sjslink.specs.Headline.{HasOneOutput}
 use Rattle.sjslink.specs.Input.{IsLinkCommand, HasEntries}

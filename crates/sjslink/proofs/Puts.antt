@@ -5,8 +5,8 @@ use Rattle.std.specs.List.{flat_map}
 use Rattle.std.proofs.lemmas.Grind.{flat_map-append}
 use Rattle.std.proofs.lemmas.List.{map-append, take-append-drop}
 use Rattle.js_mean.specs.Shows.{File}
-use Rattle.folder_linking.specs.Modules.{as_file}
-use Rattle.folder_linking.specs.declared.files.ModuleFile.{ModuleFile}
+use Rattle.sj_session.specs.Modules.{as_file}
+use Rattle.sj_session.specs.ModuleFile.{ModuleFile}
 use Rattle.sj_outside.specs.Faults.{Rose}
 use Rattle.sj_outside.specs.Writing.{Appends, Event, put, line, put_in, text_in, Writes, WritesFront}
 use Rattle.sj_outside.specs.declared.answers.PutFile.{PutFile}

@@ -5,9 +5,9 @@ use Rattle.sj_names.specs.declared.folders.SourceFile.{SourceFile}
 use Rattle.sj_outside.specs.declared.answers.PutFile.{PutFile}
 use Rattle.sj_world.specs.Known.{Classes}
 use Rattle.folder_files.specs.Files.{IsReadOf}
-use Rattle.folder_verdicts.specs.Verdicts.{Verdict, accepted, refused}
-use Rattle.accepted_folders.specs.Accepted.{IsAccepted}
-use Rattle.linked_folders.specs.Edits.{IsEditVerdict, by_folder, several, unbuilt, built, IsLinkOf, IsWork}
+use Rattle.sj_session.specs.Verdicts.{Verdict, accepted, refused}
+use Rattle.sj_session.specs.Accepted.{IsAccepted}
+use Rattle.sj_session.specs.Edits.{IsEditVerdict, by_folder, several, unbuilt, built, IsLinkOf, IsWork}
 use Rattle.read_verdicts.proofs.Read.{same_verdict, whole_read}
 use Rattle.sjslink.specs.Editing.{PutsShown, none, links, IsShownEdit}
 use Rattle.sjslink.specs.Headline.{ShowFolder}

@@ -12,8 +12,8 @@ use Rattle.sj_outside.specs.declared.answers.PutFile.{PutFile}
 use Rattle.sj_words.specs.declared.commands.Link.{Link}
 use Rattle.sj_world.specs.Known.{Classes}
 use Rattle.folder_files.specs.Files.{AreFilesOf}
-use Rattle.accepted_folders.specs.Accepted.{IsAccepted}
-use Rattle.linked_folders.specs.Link.{AreOfOne}
+use Rattle.sj_session.specs.Accepted.{IsAccepted}
+use Rattle.sj_session.specs.Link.{AreOfOne}
 use Rattle.sjslink.specs.Input.{IsLinkCommand, HasEntries}
 use Rattle.sjslink.specs.Output.{Output, IsOutput, put_of}
 

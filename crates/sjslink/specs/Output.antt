@@ -11,8 +11,8 @@ use Rattle.sj_outside.specs.declared.answers.PutFile.{PutFile}
 use Rattle.sj_words.specs.Earlier.{first_command}
 use Rattle.sj_words.specs.declared.commands.Link.{Link}
 use Rattle.folder_files.specs.Files.{AreFilesOf}
-use Rattle.folder_verdicts.specs.Verdicts.{accepted, refused}
-use Rattle.linked_folders.specs.Edits.{IsEditVerdict, IsLinkOf, IsWork}
+use Rattle.sj_session.specs.Verdicts.{accepted, refused}
+use Rattle.sj_session.specs.Edits.{IsEditVerdict, IsLinkOf, IsWork}
 use Rattle.sjslink.specs.Input.{IsLinkCommand, HasEntries}
 use Rattle.sjslink.specs.declared.answers.Status.{Status}
 use Rattle.sjslink.specs.declared.answers.Status.TheVariants.{Done, SomeRefused, Usage, ReadFault, WriteFault, NoMemory, BadEntries}

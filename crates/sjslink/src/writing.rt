@@ -3,7 +3,7 @@ ghost use Rattle.std.specs.Prelude.{◌⊎◌, ◌≤◌, [], ◌∷◌, ◌++�
 ghost use Rattle.sj_outside.specs.Faults.{Rose};
 ghost use Rattle.sj_outside.specs.Writing.{Appends, Writes, WritesFront};
 ghost use Rattle.sj_outside.specs.Writing as events;
-ghost use Rattle.folder_linking.specs.Modules.{as_file};
+ghost use Rattle.sj_session.specs.Modules.{as_file};
 ghost use Rattle.sjslink.specs.Editing as editing;
 ghost use Rattle.sjslink.specs.Output as output;
 

@@ -1,6 +1,6 @@
 use Rattle.std.proofs.Common.{◌≡◌, ◌++◌, map, take}
 use Rattle.js_tree.specs.Views.{item_view}
-use Rattle.sj_proper.specs.Emitted.{call_item_of}
+use Rattle.linked_folders.specs.Emitted.{call_item_of}
 use Rattle.folder_linking.proofs.modules.add_calls.Given as goal
 
 abbrev pub invariant-loop-entry : goal.invariant-loop-entry

@@ -1,8 +1,8 @@
 use Rattle.std.proofs.Common.{List, map, subst}
 use Rattle.std.proofs.lemmas.List.{take_all}
 use Rattle.std.proofs.lemmas.Result.{err_from_is_err_and}
-use Rattle.folder_linking.specs.Modules.{as_file}
-use Rattle.folder_linking.specs.declared.files.ModuleFile.{ModuleFile}
+use Rattle.sj_session.specs.Modules.{as_file}
+use Rattle.sj_session.specs.ModuleFile.{ModuleFile}
 use Rattle.sj_outside.specs.Faults.{Rose}
 use Rattle.sj_outside.specs.Writing.{Appends}
 use Rattle.sjslink.specs.Output.{put_of}

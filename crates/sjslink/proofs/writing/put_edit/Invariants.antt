@@ -1,6 +1,6 @@
 use Rattle.std.proofs.Common.{◌≤◌, map, take}
 use Rattle.sj_outside.specs.Writing.{Appends}
-use Rattle.folder_linking.specs.Modules.{as_file}
+use Rattle.sj_session.specs.Modules.{as_file}
 use Rattle.sjslink.specs.Output.{put_of}
 use Rattle.sjslink.proofs.writing.put_edit.Given as goal
 
