@@ -11,7 +11,7 @@ use Rattle.std.specs.declared.cmp.Ordering.TheVariants.{Less, Equal, Greater}
 use Rattle.std.proofs.lemmas.List.Sorted.{sorted_far}
 use Rattle.std.proofs.lemmas.Map.Keys.{IsDistinct-head, IsDistinct-tail}
 use Rattle.std.proofs.lemmas.Slice.Eq.{bytes_eq-Decides}
-use Rattle.folder_verdicts.proofs.Firsts.{in_order as ordered}
+use Rattle.std.proofs.lemmas.Bool.{cases_order}
 use Rattle.linked_pieces.specs.Order.{AreInOrder}
 use Rattle.sj_split.proofs.Members.{Mapped, at_first, further, cons_cases, into_map, from_map, from_filter}
 use Rattle.sj_split.specs.Orders.{IsBefore}
@@ -23,7 +23,7 @@ abbrev pub text_cmp : Name → Name → Ordering
 text_cmp = slice_cmp nat_cmp
 
 pub less : (a b : ℕ) → nat_cmp a b ≡ Less → a < b
-less a b e = elim (ordered a b) [ inl l ↦ l | inr (inl l) ↦ absurd (not (nat_cmp_is a b Greater l)) | inr (inr s) ↦ absurd (not_equal (nat_cmp_is a b Equal s)) ]
+less a b e = elim (cases_order a b) [ inl s ↦ absurd (not_equal (nat_cmp_is a b Equal s)) | inr (inl l) ↦ l | inr (inr l) ↦ absurd (not (nat_cmp_is a b Greater l)) ]
   where
     not : Greater ≡ nat_cmp a b → ⊥
     not h = let w : Greater ≡ Less = h ∙ e in cc
@@ -32,7 +32,7 @@ less a b e = elim (ordered a b) [ inl l ↦ l | inr (inl l) ↦ absurd (not (nat
     not_equal h = let w : Equal ≡ Less = h ∙ e in cc
 
 pub equal : (a b : ℕ) → nat_cmp a b ≡ Equal → a ≡ b
-equal a b e = elim (ordered a b) [ inl l ↦ absurd (not_less (nat_cmp_is a b Less l)) | inr (inl l) ↦ absurd (not (nat_cmp_is a b Greater l)) | inr (inr s) ↦ s ]
+equal a b e = elim (cases_order a b) [ inl s ↦ s | inr (inl l) ↦ absurd (not_less (nat_cmp_is a b Less l)) | inr (inr l) ↦ absurd (not (nat_cmp_is a b Greater l)) ]
   where
     not : Greater ≡ nat_cmp a b → ⊥
     not h = let w : Greater ≡ Equal = h ∙ e in cc

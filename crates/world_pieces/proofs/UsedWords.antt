@@ -3,7 +3,6 @@ use Rattle.std.proofs.Common.{◌≡◌, ℕ, ◌≤◌, List, [], ◌∷◌, �
 use Rattle.std.specs.List.{flat_map}
 use Rattle.std.specs.Prelude.{◌↔◌, ◌⊎◌}
 use Rattle.std.proofs.lemmas.List.Elements.{Contains-append_left, Contains-append_right, Contains-append_cases}
-use Rattle.folder_verdicts.proofs.EachTyped.{in_all}
 use Rattle.helper_rules.specs.Helpers.{helper_name}
 use Rattle.helper_rules.specs.Words.{helper, object_class}
 use Rattle.helper_rules.specs.declared.kinds.Helper.{Helper}
@@ -13,7 +12,7 @@ use Rattle.js_tree.specs.declared.items.Binding.{Binding}
 use Rattle.js_tree.specs.declared.items.JsPiece.{JsPiece}
 use Rattle.sj_baselink.specs.Steps.{Puts, OfOne}
 use Rattle.sj_baselink.proofs.Putting.{OfFirst, adds_none, adds_as, adds_then, each_ends, only_these}
-use Rattle.sj_split.proofs.Members.{Mapped, into_map, from_map, at_first, further}
+use Rattle.sj_split.proofs.Members.{Mapped, into_map, from_map, at_first, further, cons_cases}
 use Rattle.worklist.proofs.Inserted.{nothing_in}
 use Rattle.world_pieces.specs.declared.blocks.Block.{Block}
 use Rattle.world_pieces.specs.declared.helpers.UsedHelper.{UsedHelper}
@@ -64,6 +63,13 @@ in_one {X} {Y} f (x ∷ xs) y h = go (Contains-append_cases (f x) (flat_map f xs
     go : Contains (f x) y ⊎ Contains (flat_map f xs) y → (Contains (flat_map f xs) y → InOne f xs y) → InOne f (x ∷ xs) y
     go (inl here) rest = record { item = x; among = at_first x xs; holds = here }
     go (inr later) rest = let r = rest later in record { item = r.item; among = further x r.item xs r.among; holds = r.holds }
+
+in_all : {X Y : Type 0} (f : X → List Y) (xs : List X) (x : X) (y : Y) → Contains xs x → Contains (f x) y → Contains (flat_map f xs) y
+in_all f [] x y h k = nothing_in x h
+in_all f (a ∷ xs) x y h k = elim (cons_cases a x xs h) [
+  | inl same ↦ Contains-append_left (f a) (flat_map f xs) y (subst (λ z. Contains (f z) y) (sym same) k)
+  | inr after ↦ Contains-append_right (f a) (flat_map f xs) y (in_all f xs x y after k)
+]
 
 pub words_of_blocks : (bs : List Block) (n : ℕ) (words : List Name) → length bs ≤ n → Puts (OfFirst bs n (λ b x. OfOne (pieces_in b) UsesWord x)) [] words → (x : Name) → Contains words x ↔ OfOne (flat_map pieces_in bs) UsesWord x
 words_of_blocks bs n words over f x = (λ h. to (those.0 h), λ q. those.1 (from q))
