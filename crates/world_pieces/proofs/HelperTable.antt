@@ -1,5 +1,5 @@
 -- Each helper stands in the table, and the table is in the order of names.
-use Rattle.std.proofs.Common.{◌≡◌, List, [], ◌∷◌, inl, inr, refl, subst, Contains}
+use Rattle.std.proofs.Common.{List, [], ◌∷◌, inl, inr, refl, subst, Contains}
 use Rattle.std.specs.Cmp.Lexicographic.{nat_list_cmp_total}
 use Rattle.helper_rules.specs.Helpers.{helper_name}
 use Rattle.helper_rules.specs.declared.kinds.Failure.{Failure}

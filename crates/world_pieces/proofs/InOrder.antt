@@ -1,11 +1,11 @@
 -- Lists that are sorted and have no two of a name stand in strict order.
-use Rattle.std.proofs.Common.{◌≡◌, ◌+◌, ◌<◌, ℕ, suc, Bool, true, false, List, [], ◌∷◌, inl, inr, refl, sym, ap, subst, ◌∙◌, map, length, Contains, cond, arith}
-use Rattle.std.specs.Cmp.{IsTotalOrder, IsStrictWeakOrder, nat_cmp_is}
+use Rattle.std.proofs.Common.{◌≡◌, ◌+◌, ◌<◌, ℕ, suc, Bool, true, false, List, [], ◌∷◌, inl, inr, refl, sym, subst, ◌∙◌, map, Contains, cond, arith}
+use Rattle.std.specs.Cmp.{IsStrictWeakOrder, nat_cmp_is}
 use Rattle.std.specs.Cmp.Lexicographic.{slice_cmp, nat_list_cmp_total}
 use Rattle.std.specs.List.{AllByRecursion, IsDistinct, filter}
 use Rattle.std.specs.List.Sorted.{IsSortedBy}
-use Rattle.std.specs.Ordering.{nat_cmp, ordering_then, ordering_reverse, is_lt}
-use Rattle.std.specs.Prelude.{get_or, ◌⊎◌}
+use Rattle.std.specs.Ordering.{nat_cmp, ordering_reverse, is_lt}
+use Rattle.std.specs.Prelude.{get_or}
 use Rattle.std.specs.declared.cmp.Ordering.{Ordering}
 use Rattle.std.specs.declared.cmp.Ordering.TheVariants.{Less, Equal, Greater}
 use Rattle.std.proofs.lemmas.List.Sorted.{sorted_far}
@@ -92,8 +92,8 @@ module _ {A : Type 0} (Before : A → A → Type 0) (is_less : A → A → Bool)
   pub sorted_stand : (xs : List A) → ((x : A) → Contains xs x → Is x) → IsSortedBy is_less xs → IsDistinct is_same (map name xs) → AreInOrder Before xs
   sorted_stand [] each sorted once = tt
   sorted_stand (x ∷ xs) each sorted once = (
-    λ y h. first x y (each x (at_first x xs)) (each y (further x y xs h)) (λ e. not_among (name x) (map name xs) (IsDistinct-head once) (subst (λ (n : Name). Contains (map name xs) n) (sym e) (into_map name xs y h))) (first_low is_less ranks x xs sorted y h),
-    sorted_stand xs (λ y h. each y (further x y xs h)) (rest_sorted is_less x xs sorted) (IsDistinct-tail once),
+    λ y h. first x y (each x (at_first x xs)) (each y (further x y xs h)) (λ e. not_among (name x) (map name xs) (IsDistinct-head is_same (name x) (map name xs) once) (subst (λ (n : Name). Contains (map name xs) n) (sym e) (into_map name xs y h))) (first_low is_less ranks x xs sorted y h),
+    sorted_stand xs (λ y h. each y (further x y xs h)) (rest_sorted is_less x xs sorted) (IsDistinct-tail is_same (name x) (map name xs) once),
   )
 
 -- the order of images

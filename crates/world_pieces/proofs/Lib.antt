@@ -4,6 +4,7 @@ pub mod InOrder
 pub mod Itself
 pub mod Linked
 pub mod Made
+mod Kept
 pub mod Moved
 pub mod Placed
 pub mod UsedWords

@@ -3,8 +3,7 @@ use Rattle.std.proofs.Common.{◌≡◌, Bool, true, false, List, [], ◌∷◌,
 use Rattle.std.specs.Cmp.{IsStrictWeakOrder}
 use Rattle.std.specs.Cmp.Lexicographic.{nat_list_cmp_total}
 use Rattle.std.specs.List.{AllByRecursion, IsDistinct, filter, flat_map}
-use Rattle.std.specs.List.Sorted.{IsPermutation}
-use Rattle.std.specs.Prelude.{◌↔◌, if◌then◌else◌}
+use Rattle.std.specs.Prelude.{if◌then◌else◌}
 use Rattle.std.proofs.lemmas.Cmp.{on_total}
 use Rattle.std.proofs.lemmas.List.MinMax.{ranks_by}
 use Rattle.std.proofs.lemmas.List.Sorted.{Contains-permutation, IsPermutation-map, IsPermutation-sym}
@@ -23,7 +22,7 @@ use Rattle.sj_names.specs.WellKnown.{is_object}
 use Rattle.sj_proper.specs.Emitted.{EmittedMethod, HaveOwnMembers}
 use Rattle.sj_split.proofs.Members.{at_first, further, into_filter, from_filter}
 use Rattle.sj_split.specs.Orders.{IsBefore}
-use Rattle.sj_world.specs.Known.{Name, Classes, is_same}
+use Rattle.sj_world.specs.Known.{Name, is_same}
 use Rattle.sj_world.specs.Linked.{Linked}
 use Rattle.world_pieces.specs.declared.blocks.Block.{Block}
 use Rattle.world_pieces.specs.Blocks.{IsMade, AreMade, class_of_block, pieces_in, with_helpers_in}
@@ -105,7 +104,7 @@ names_once : (es : List EmittedMethod) → HaveOwnMembers es → NamesTell es �
 names_once [] own tell = nothing_distinct
 names_once (e ∷ es) own tell = IsDistinct-cons is_same (name_in e) (map name_in es) (other_names e es (λ o h same. own.0 o h (tell e o (at_first e es) (further e o es h) same))) (names_once es own.1 (λ a b i j. tell a b (further e a es i) (further e b es j)))
 
-name_ranks : IsStrictWeakOrder has_lesser_name
+pub name_ranks : IsStrictWeakOrder has_lesser_name
 name_ranks = ranks_by (on_total (λ (p : JsPiece). p.name) nat_list_cmp_total) (λ (p : JsPiece). p)
 
 module _ (l : Linked) (functions : List JsPiece) (all : List EmittedMethod) (given : map piece_view functions ≡ map piece_of_member all) (own : HaveOwnMembers all) (tell : NamesTell all) where

@@ -1,8 +1,7 @@
 -- Blocks, one more.
 use Rattle.std.proofs.Common.{◌≡◌, ◌+◌, ℕ, zero, suc, Bool, true, false, List, [], ◌∷◌, ◌++◌, inl, inr, Some, None, refl, sym, ap, subst, ◌∙◌, map, take, slice_get, Contains}
 use Rattle.std.specs.List.{IsDistinct, filter}
-use Rattle.std.specs.List.Sorted.{IsPermutation}
-use Rattle.std.specs.Prelude.{◌⊎◌, All}
+use Rattle.std.specs.Prelude.{All}
 use Rattle.std.proofs.lemmas.List.{map-append}
 use Rattle.std.proofs.lemmas.List.Elements.{Contains-push_cases, Contains-push, Contains-append_left, All-nil, All-cons, All-append, All-contains}
 use Rattle.std.proofs.lemmas.List.Sorted.{Contains-permutation, IsPermutation-sym}
@@ -12,7 +11,7 @@ use Rattle.js_tree.specs.Rules.{IsPiece}
 use Rattle.js_tree.specs.Terms.{Piece}
 use Rattle.js_tree.specs.Views.{piece_view}
 use Rattle.js_tree.specs.declared.items.JsPiece.{JsPiece}
-use Rattle.sj_split.proofs.Members.{Mapped, Passed, at_first, further, cons_cases, into_map, from_map, from_filter}
+use Rattle.sj_split.proofs.Members.{Mapped, at_first, further, cons_cases, into_map, from_map, from_filter}
 use Rattle.sj_world.proofs.Names.{taken_more}
 use Rattle.sj_world.proofs.Searches.{contains_at}
 use Rattle.sj_world.specs.Known.{Name, is_same}
@@ -28,7 +27,7 @@ use Rattle.world_pieces.proofs.InOrder.{not_among}
 pub not_before : (names : List Name) (i : ℕ) (n : Name) → IsDistinct is_same names → slice_get names i ≡ Some n → Contains (take i names) n → ⊥
 not_before [] i n once at h = let none : None ≡ Some n = at in cc
 not_before (m ∷ ms) zero n once at h = nothing_in n h
-not_before (m ∷ ms) (suc i) n once at h = elim (cons_cases m n (take i ms) h) [ inl e ↦ not_among m ms (IsDistinct-head once) (subst (λ (x : Name). Contains ms x) (sym e) (contains_at ms i n at)) | inr later ↦ not_before ms i n (IsDistinct-tail once) at later ]
+not_before (m ∷ ms) (suc i) n once at h = elim (cons_cases m n (take i ms) h) [ inl e ↦ not_among m ms (IsDistinct-head is_same m ms once) (subst (λ (x : Name). Contains ms x) (sym e) (contains_at ms i n at)) | inr later ↦ not_before ms i n (IsDistinct-tail is_same m ms once) at later ]
 
 -- what stands neither among the first nor next
 pub not_yet : (names : List Name) (i : ℕ) (n c : Name) → slice_get names i ≡ Some n → (Contains (take (i + 1) names) c → ⊥) → Contains (take i names) c → ⊥
@@ -54,7 +53,7 @@ one_more l functions given names i n block old new at is taken made put are = re
 }
 
 -- each piece of a block keeps the rules
-all_from : {X : Type 0} (P : X → Type 0) (xs : List X) → ((x : X) → Contains xs x → P x) → All P xs
+pub all_from : {X : Type 0} (P : X → Type 0) (xs : List X) → ((x : X) → Contains xs x → P x) → All P xs
 all_from P [] each = All-nil P
 all_from P (x ∷ xs) each = All-cons P x xs (each x (at_first x xs)) (all_from P xs (λ y h. each y (further x y xs h)))
 

@@ -1,8 +1,10 @@
 -- The names that are put.
-use Rattle.std.proofs.Common.{◌≡◌, ℕ, ◌≤◌, List, [], ◌∷◌, ◌++◌, Contains, inl, inr, refl, sym, ap, subst, map, length}
-use Rattle.std.specs.List.{flat_map}
-use Rattle.std.specs.Prelude.{◌↔◌, ◌⊎◌}
+use Rattle.std.proofs.Common.{◌≡◌, ◌∙◌, ℕ, ◌≤◌, Bool, List, [], ◌∷◌, ◌++◌, Contains, inl, inr, refl, sym, ap, subst, map, length}
+use Rattle.std.specs.List.{flat_map, list_any}
+use Rattle.std.specs.Prelude.{◌↔◌, ◌⊎◌, IsTrue}
 use Rattle.std.proofs.lemmas.List.Elements.{Contains-append_left, Contains-append_right, Contains-append_cases}
+use Rattle.std.proofs.lemmas.Map.Made.{is_member-Decides}
+use Rattle.std.proofs.lemmas.Slice.Eq.{bytes_eq-Decides}
 use Rattle.helper_rules.specs.Helpers.{helper_name}
 use Rattle.helper_rules.specs.Words.{helper, object_class}
 use Rattle.helper_rules.specs.declared.kinds.Helper.{Helper}
@@ -12,6 +14,7 @@ use Rattle.js_tree.specs.declared.items.Binding.{Binding}
 use Rattle.js_tree.specs.declared.items.JsPiece.{JsPiece}
 use Rattle.sj_baselink.specs.Steps.{Puts, OfOne}
 use Rattle.sj_baselink.proofs.Putting.{OfFirst, adds_none, adds_as, adds_then, each_ends, only_these}
+use Rattle.sj_world.specs.Known.{is_same}
 use Rattle.sj_split.proofs.Members.{Mapped, into_map, from_map, at_first, further, cons_cases}
 use Rattle.worklist.proofs.Inserted.{nothing_in}
 use Rattle.world_pieces.specs.declared.blocks.Block.{Block}
@@ -19,6 +22,12 @@ use Rattle.world_pieces.specs.declared.helpers.UsedHelper.{UsedHelper}
 use Rattle.world_pieces.specs.Blocks.{pieces_in}
 use Rattle.world_pieces.specs.Helpers.{UsesWord, IsNamed, every_helper, as_used}
 use Rattle.world_pieces.proofs.HelperTable.{stands_in_table}
+
+pub word_among : (words : List Name) (x name : Name) (r : Bool) → name ≡ x → r ≡ list_any (is_same name) words → IsTrue r ↔ Contains words x
+word_among words x name r same is =
+    let test = is_member-Decides bytes_eq-Decides words x in
+    let all = is ∙ ap (λ (n : Name). list_any (is_same n) words) same in
+    (λ t. test.0 (sym all ∙ t), λ h. all ∙ test.1 h)
 
 -- a binding of `java.lang.Object`, and any other
 pub own_word : (b : Binding) (old new : List Name) → b.owner ≡ object_class → Puts (λ x. b.name ≡ x) old new → Puts (λ x. b ≡ helper x) old new

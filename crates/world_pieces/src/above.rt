@@ -45,11 +45,7 @@ pub fn above_kinds<'w>(alloc: Global, world: &'w World) -> Result<KindAncestors<
     })
 }
 
-fn above_kind<'w>(
-    alloc: Global,
-    world: &'w World,
-    kind: Kind,
-) -> Result<&'w [ClassName], NoMemory>
+fn above_kind<'w>(alloc: Global, world: &'w World, kind: Kind) -> Result<&'w [ClassName], NoMemory>
     ensures { IfOk result (λ names. AreAncestors world.now (kind_class kind) names.now) }
 {
     let class = ClassName::of_text(Text::from_str(alloc, class_of_kind(kind))?);
@@ -90,11 +86,7 @@ pub fn helper_pieces(
     Ok(pieces)
 }
 
-fn piece_of(
-    alloc: Global,
-    above: &KindAncestors<'_>,
-    helper: Helper,
-) -> Result<JsPiece, NoMemory>
+fn piece_of(alloc: Global, above: &KindAncestors<'_>, helper: Helper) -> Result<JsPiece, NoMemory>
     ensures piece { IfOk result (λ p. piece_view p ≡ rules.helper_piece (above_of above.now) helper) }
     ensures rules { IfOk result (λ p. IsPiece (piece_view p)) }
 {

@@ -14,9 +14,10 @@ use crate::above::{KindAncestors, above_kinds, helper_pieces};
 use crate::blocks::{Block, blocks_of};
 use crate::classes::classes_in_order;
 use crate::helpers::helpers_of;
+use crate::words::is_object;
 use helper_rules::Helper;
 use js_tree::JsPiece;
-use sj_names::{NoMemory, OBJECT};
+use sj_names::NoMemory;
 use sj_world::LinkedWorld;
 use std::alloc::Global;
 
@@ -68,7 +69,7 @@ fn put_block(
     ensures pieces { OnOk result (map piece_view pieces.new.items ≡ map piece_view pieces.old.items ++ with_helpers_in (map (helper_piece (above_of above.now)) helpers.now) block) }
     ensures rules { OnOk result (All IsPiece (pieces_in block) → All IsPiece (map piece_view pieces.old.items) → All IsPiece (map piece_view pieces.new.items)) }
 {
-    let is_object = block.class.text() == OBJECT;
+    let is_object = is_object(&block.class);
     put_pieces(block, pieces)?;
     if is_object {
         let mut those = helper_pieces(alloc, above, helpers)?;

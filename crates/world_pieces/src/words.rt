@@ -5,13 +5,14 @@ ghost use Rattle.helper_rules.specs.Words.{helper};
 ghost use Rattle.js_tree.specs.Terms.{Name};
 ghost use Rattle.js_tree.specs.Views.{piece_view};
 ghost use Rattle.sj_baselink.specs.Steps.{Puts, OfOne};
+ghost use Rattle.sj_names.specs.WellKnown as well_known;
 ghost use Rattle.world_pieces.specs.Blocks.{pieces_in};
 ghost use Rattle.world_pieces.specs.Helpers.{UsesWord};
 
 use crate::blocks::Block;
 use indexmap::IndexSet;
 use js_tree::{Binding, JsPiece};
-use sj_names::{NoMemory, OBJECT, Text};
+use sj_names::{ClassName, NoMemory, OBJECT, Text};
 use std::alloc::Global;
 
 /// The names of the bindings of `java.lang.Object` that the pieces of blocks use.
@@ -53,8 +54,15 @@ fn put_uses(bindings: &[Binding], words: &mut IndexSet<Text>) -> Result<(), NoMe
 fn put_use(binding: &Binding, words: &mut IndexSet<Text>) -> Result<(), NoMemory>
     ensures { OnOk result (Puts (λ x. binding.now ≡ helper x) words.old.keys words.new.keys) }
 {
-    if binding.owner.text() == OBJECT {
+    if is_object(&binding.owner) {
         words.insert(binding.name.copied()?)?;
     }
     Ok(())
+}
+
+/// Whether it is `java.lang.Object`.
+pub fn is_object(class: &ClassName) -> bool
+    ensures { result ≡ well_known.is_object class.now }
+{
+    class.text() == OBJECT
 }

@@ -1,6 +1,4 @@
-use Rattle.std.proofs.Common.{◌≡◌}
 use Rattle.std.proofs.lemmas.Result.{on_ok_weaker}
-use Rattle.js_tree.specs.Views.{piece_view}
 use Rattle.world_pieces.proofs.UsedWords.{words_of_both}
 use Rattle.world_pieces.proofs.words.put_words_of.Goals as goal
 

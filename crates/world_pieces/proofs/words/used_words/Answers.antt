@@ -8,7 +8,7 @@ use Rattle.world_pieces.proofs.UsedWords.{words_of_blocks}
 use Rattle.world_pieces.proofs.words.used_words.Goals as goal
 
 pub loop-block-init : goal.loop-block-init
-loop-block-init c = begins_empty _ _ _ c.new-words.ensures.keys
+loop-block-init c = begins_empty _ _ _ c.new-words.ensures.empty
 
 pub loop-block-preserved : goal.loop-block-preserved
 loop-block-preserved c = each_goes_on Contains (λ b x. OfOne (pieces_in b) UsesWord x) c.args.blocks.now c.loop-block.block-index c.block-item.result _ _ _ (slice_get_read c.args.blocks.now _ c.loop-block.block-index c.block-item.result refl (omega arith) c.block-item.is) c.loop-block.invariant c.in_ok-put_words_of.ensures
