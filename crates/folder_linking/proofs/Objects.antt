@@ -1,5 +1,5 @@
 -- Fields of typed bodies are those of objects, and what desugaring gives for a body can be printed.
-use Rattle.std.proofs.Common.{◌≡◌, ◌++◌, ℕ, Bool, true, false, List, [], ◌∷◌, Option, Some, None, refl, sym, ap, subst, ◌∙◌, Contains}
+use Rattle.std.proofs.Common.{◌≡◌, ◌++◌, Bool, true, false, List, [], ◌∷◌, Option, Some, None, refl, sym, subst, ◌∙◌, Contains}
 use Rattle.std.specs.List.{All}
 use Rattle.std.proofs.lemmas.List.Elements.{All-head, All-tail}
 use Rattle.linked_folders.proofs.Calls.{needed}
@@ -15,12 +15,11 @@ use Rattle.linked_folders.proofs.Standing.{Stands, each_stands}
 use Rattle.linked_folders.proofs.Uses.{ahead, after}
 use Rattle.linked_folders.proofs.Written as written
 use Rattle.file_listings.specs.Listed.{AreBytes}
-use Rattle.linked_folders.specs.Used.{has_field_in}
 use Rattle.linked_folders.proofs.Fields.{field_there}
 use Rattle.linked_folders.specs.Refusals.{hijacked}
 use Rattle.sj_desugar.specs.Desugar.{desugared_member}
 use Rattle.sj_desugarer.specs.Methods.{desugared_with}
-use Rattle.sj_infos.specs.Trees.{trees, below, all_below, cases_below}
+use Rattle.sj_infos.specs.Trees.{trees, all_below, cases_below}
 use Rattle.sj_names.proofs.Same.{impossible}
 use Rattle.sj_names.specs.declared.entry_points.EntryPoint.{EntryPoint}
 use Rattle.sj_names.specs.declared.folders.SourceFile.{SourceFile}
@@ -59,20 +58,20 @@ mutual
   on_objects (assign p (select q d c f t) e) h =
       let both = All-tail IsOfObject (assign p (select q d c f t) e) (trees (select q d c f t) ++ trees e) h in
       let own = ahead IsOfObject (trees (select q d c f t)) (trees e) both in
-      (All-head IsOfObject (select q d c f t) (trees d) own, (on_objects d (All-tail IsOfObject (select q d c f t) (trees d) own), on_objects e (after IsOfObject (trees (select q d c f t)) (trees e) both)))
+      (All-head IsOfObject (select q d c f t) (trees d) own, on_objects d (All-tail IsOfObject (select q d c f t) (trees d) own), on_objects e (after IsOfObject (trees (select q d c f t)) (trees e) both))
   on_objects (assign p (select_static q c f t) e) h = on_objects e (after IsOfObject (trees (select_static q c f t)) (trees e) (All-tail IsOfObject (assign p (select_static q c f t) e) (trees (select_static q c f t) ++ trees e) h))
   on_objects (return_to p e l) h = on_objects e (All-tail IsOfObject (return_to p e l) (trees e) h)
   on_objects (if_then p c a b t) h =
-      let all = All-tail IsOfObject (if_then p c a b t) (trees c ++ (trees a ++ trees b)) h in
-      let rest = after IsOfObject (trees c) (trees a ++ trees b) all in
-      (on_objects c (ahead IsOfObject (trees c) (trees a ++ trees b) all), (on_objects a (ahead IsOfObject (trees a) (trees b) rest), on_objects b (after IsOfObject (trees a) (trees b) rest)))
+      let all = All-tail IsOfObject (if_then p c a b t) ((trees c ++ trees a) ++ trees b) h in
+      let front = ahead IsOfObject (trees c ++ trees a) (trees b) all in
+      (on_objects c (ahead IsOfObject (trees c) (trees a) front), on_objects a (after IsOfObject (trees c) (trees a) front), on_objects b (after IsOfObject (trees c ++ trees a) (trees b) all))
   on_objects (while_loop p c b) h = let all = All-tail IsOfObject (while_loop p c b) (trees c ++ trees b) h in (on_objects c (ahead IsOfObject (trees c) (trees b) all), on_objects b (after IsOfObject (trees c) (trees b) all))
   on_objects (do_while p b c) h = let all = All-tail IsOfObject (do_while p b c) (trees b ++ trees c) h in (on_objects b (ahead IsOfObject (trees b) (trees c) all), on_objects c (after IsOfObject (trees b) (trees c) all))
   on_objects (throw p e) h = on_objects e (All-tail IsOfObject (throw p e) (trees e) h)
   on_objects (match_on p e cs d t) h =
-      let all = All-tail IsOfObject (match_on p e cs d t) (trees e ++ (cases_below cs ++ trees d)) h in
-      let rest = after IsOfObject (trees e) (cases_below cs ++ trees d) all in
-      (on_objects e (ahead IsOfObject (trees e) (cases_below cs ++ trees d) all), (cases_on_objects cs (ahead IsOfObject (cases_below cs) (trees d) rest), on_objects d (after IsOfObject (cases_below cs) (trees d) rest)))
+      let all = All-tail IsOfObject (match_on p e cs d t) ((trees e ++ cases_below cs) ++ trees d) h in
+      let front = ahead IsOfObject (trees e ++ cases_below cs) (trees d) all in
+      (on_objects e (ahead IsOfObject (trees e) (cases_below cs) front), cases_on_objects cs (after IsOfObject (trees e) (cases_below cs) front), on_objects d (after IsOfObject (trees e ++ cases_below cs) (trees d) all))
   on_objects (new_object p c m ts) h = all_on_objects ts (All-tail IsOfObject (new_object p c m ts) (all_below ts) h)
   on_objects (select p e c f t) h = (All-head IsOfObject (select p e c f t) (trees e) h, on_objects e (All-tail IsOfObject (select p e c f t) (trees e) h))
   on_objects (apply_statically p e c n m ts t) h = let all = All-tail IsOfObject (apply_statically p e c n m ts t) (trees e ++ all_below ts) h in (on_objects e (ahead IsOfObject (trees e) (all_below ts) all), all_on_objects ts (after IsOfObject (trees e) (all_below ts) all))

@@ -3,14 +3,12 @@ use Rattle.std.proofs.Common.{◌≡◌, ◌+◌, ◌≤◌, ℕ, Bool, true, fa
 use Rattle.std.specs.Prelude.{filter}
 use Rattle.std.proofs.Math.ListN.{drop_of_length-le}
 use Rattle.std.specs.List.{All, list_any}
-use Rattle.std.proofs.lemmas.Bool.{and_from}
 use Rattle.std.proofs.lemmas.List.{map-append, append-nil}
-use Rattle.std.proofs.lemmas.List.Elements.{All-nil, All-cons, All-head, All-tail, All-append, All-contains, Contains-append_right, Contains-append_cases, filter-append}
+use Rattle.std.proofs.lemmas.List.Elements.{All-nil, All-cons, All-head, All-tail, All-append, All-contains, Contains-append_cases, filter-append}
 use Rattle.std.proofs.lemmas.List.Sorted.{Contains-permutation, IsPermutation-sym}
 use Rattle.indexmap.specs.IndexSet.{insert_all}
 use Rattle.js_tree.specs.Rules.{IsName, IsImport, IsItem, IsPiece, IsModule}
-use Rattle.js_tree.specs.Terms.{Item, Piece, Module}
-use Rattle.js_tree.specs.Spelling.{Spells}
+use Rattle.js_tree.specs.Terms.{Item, Piece}
 use Rattle.js_tree.specs.Views.{item_view}
 use Rattle.js_tree.specs.declared.items.JsItem.{JsItem}
 use Rattle.std.specs.declared.rc.Rc.{Rc}
@@ -21,7 +19,7 @@ use Rattle.sj_graph.specs.declared.graphs.Graph.{Graph}
 use Rattle.sj_names.specs.declared.entry_points.EntryPoint.{EntryPoint}
 use Rattle.sj_names.specs.declared.method_names.Member.{Member}
 use Rattle.linked_folders.proofs.Same.{has_function-is}
-use Rattle.sj_split.proofs.Members.{at_first, further, cons_cases, from_map, Mapped, into_filter, from_filter}
+use Rattle.sj_split.proofs.Members.{at_first, further, cons_cases, from_map, Mapped, from_filter}
 use Rattle.sj_split.specs.Modules.{IsPlan, public_module, with_piece, has_piece, internal_modules, is_among, classes_at, is_internal}
 use Rattle.sj_split.specs.Orders.{Bytes, is_same}
 use Rattle.sj_split.specs.declared.homes.Settled.{Settled}

@@ -72,7 +72,7 @@ fn pieces_with(
     functions: Vec<Function<'_>>,
 ) -> Result<Vec<JsPiece>, NoMemory>
     requires linkable { IsLinkable entries.now linked.now }
-    requires functions { AreFunctions linked.now.world (members_of linked.now.facts) functions.entry.items }
+    requires functions { AreFunctions linked.now.world (members_of linked.now.facts) functions.items }
     ensures { IfOk result (λ ps. ArePrintable linked.now.world entries.now (map piece_view ps.items)) }
 {
     let pieces = pieces_of(alloc, functions)?;

@@ -1,6 +1,5 @@
 use Rattle.std.proofs.Common.{◌∙◌, ap, map, subst, Contains}
 use Rattle.folder_judging.specs.Counts.{members_of}
-use Rattle.folder_linking.specs.Functions.{AreFunctions}
 use Rattle.folder_linking.proofs.functions.functions_of_bodies.Goals as goal
 
 pub functions_of-requires : goal.functions_of-requires

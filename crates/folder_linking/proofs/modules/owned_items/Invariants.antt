@@ -1,7 +1,7 @@
 use Rattle.std.proofs.Common.{◌≡◌, map, take}
 use Rattle.std.specs.Prelude.{filter}
 use Rattle.js_tree.specs.Views.{item_view, piece_view}
-use Rattle.folder_linking.specs.Modules.{is_owned, item_of}
+use Rattle.linked_folders.specs.Modules.{is_owned, item_of}
 use Rattle.folder_linking.proofs.modules.owned_items.Given as goal
 
 abbrev pub invariant-loop-piece : goal.invariant-loop-piece
