@@ -124,9 +124,9 @@ module _ (entries : List EntryPoint) (files : List SourceFile) (l : Linked) (jud
         work = record {
           world = l.world;
           is_accepted = world_accepted;
-          all = link.all;
-          bodies = link.bodies;
-          is = ap work_told told ∙ ap (λ (n : ℕ). record { read = length files; checked = n; optimised = 0; emitted = n }) (sym (bodies_many l.world entries l.facts link.all reached link.bodies));
+          all = link.are_pieces.all;
+          bodies = link.are_pieces.bodies;
+          is = ap work_told told ∙ ap (λ (n : ℕ). record { read = length files; checked = n; optimised = 0; emitted = n }) (sym (bodies_many l.world entries l.facts link.are_pieces.all reached link.are_pieces.bodies));
         };
         agrees = λ w id a one. subst (λ (u : Classes). Agrees u entries (map as_file edit.files.items) id) (same_world entries files l.world w world_accepted a) (agree entries files l.world id (map as_file edit.files.items) bytes world_accepted one forms.1 moved);
       }
