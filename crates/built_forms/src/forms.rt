@@ -42,7 +42,7 @@ pub fn is_built(tree: &Tree, labels: &Labels) -> bool
             Tree::Select(_, object, _, _, tpe) => {
                 !is_boxed(tpe, value) && is_built(object, labels) && is_built(value, labels)
             }
-            Tree::SelectStatic(_, _, _, tpe) => { !is_boxed(tpe, value) && is_built(value, labels) }
+            Tree::SelectStatic(_, _, _, tpe) => !is_boxed(tpe, value) && is_built(value, labels),
             _ => false,
         },
         Tree::Return(_, value, label) => {
