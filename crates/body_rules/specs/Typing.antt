@@ -8,7 +8,7 @@ use Rattle.sj_names.specs.declared.method_names.Namespace.TheVariants.{PublicSta
 use Rattle.sure_receivers.specs.Sure.{is_sure, sure_locals}
 use Rattle.sj_names.specs.declared.references.TypeRef.{TypeRef}
 use Rattle.body_rules.specs.Locals.{Own, OwnAll, local_of, HasValue}
-use Rattle.sj_trees.specs.Term.{Term, Terms, no_terms, more_terms, Cases, no_cases, more_cases, var_def, block_of, labeled, assign, return_to, if_then, while_loop, do_while, match_on, throw, new_object, select, apply_statically, this_ref, apply_static, unary_op, binary_op, boolean_literal, char_literal, byte_literal, short_literal, int_literal, long_literal, var_ref, log_line}
+use Rattle.sj_trees.specs.Term.{Term, Terms, no_terms, more_terms, Cases, no_cases, more_cases, var_def, block_of, labeled, assign, return_to, if_then, while_loop, do_while, match_on, throw, new_object, select, select_static, apply_statically, this_ref, apply_static, unary_op, binary_op, boolean_literal, char_literal, byte_literal, short_literal, int_literal, long_literal, var_ref, log_line}
 use Rattle.sj_trees.specs.Types.{class_type, reference_type}
 use Rattle.sj_trees.specs.declared.classes.MethodDef.{MethodDef}
 use Rattle.sj_trees.specs.declared.classes.ParamDef.{ParamDef}
@@ -110,6 +110,7 @@ module _ (w : Classes) (has : Usable) where
     Typed s (labeled p l t e) = Here s (labeled p l t e) × Typed (in_label l t s) e
     Typed s (assign p (var_ref q x t) e) = Here s (assign p (var_ref q x t) e) × Typed s e
     Typed s (assign p (select q d c f t) e) = Here s (assign p (select q d c f t) e) × Typed s (select q d c f t) × Typed s e
+    Typed s (assign p (select_static q c f t) e) = Here s (assign p (select_static q c f t) e) × Typed s (select_static q c f t) × Typed s e
     Typed s (return_to p e l) = Here s (return_to p e l) × Typed s e
     Typed s (if_then p c a b t) = Here s (if_then p c a b t) × Typed s c × Typed s a × Typed s b
     Typed s (while_loop p c b) = Here s (while_loop p c b) × Typed s c × Typed s b

@@ -28,6 +28,8 @@ laws_of w has h = record {
   one_type = h.one_type;
   holders = λ c f t i d m sub. let its = h.made d m in chain_of_has w h.kept h.acyclic c d its.0 (on_chain w h.kept c d (h.fields c f t i).0 its.0 its.1 sub);
   strangers = λ c f t i o n its sub. no_primitive w h.kept c o n (h.fields c f t i).0 its (h.primitives n (class_hijacked w h.kept o n its)) sub;
+  statics = h.statics;
+  one_static = h.one_static;
   exceptions = h.exceptions;
   divisions = h.divisions;
 }

@@ -1,9 +1,9 @@
 -- What a public module shows is wrong at no bound, where its members keep the rules.
-use Rattle.std.proofs.Common.{◌≡◌, ℕ, Bool, true, false, List, [], ◌∷◌, Some, None, Option, slice_get, refl, Contains}
+use Rattle.std.proofs.Common.{◌≡◌, ℕ, Bool, true, false, List, [], ◌∷◌, Some, None, Option, slice_get, refl, sym, subst, Contains}
 use Rattle.body_rules.proofs.InWorld.{in_world}
 use Rattle.body_rules.proofs.Lists.{at_front, further_on}
 use Rattle.body_rules.proofs.RulesGive.{no_division}
-use Rattle.body_soundness.proofs.Right.{Comes, comes_then, CameRight, gave, left, threw, ObjectTyped, typed_object, HeapTyped, call_right, bodies_right, none_left, nothing_there, no_label, no_object, Ready}
+use Rattle.body_soundness.proofs.Right.{Comes, comes_then, CameRight, gave, left, threw, ObjectTyped, typed_object, HoldsType, holds_type, zero_type, HeapTyped, call_right, bodies_right, none_left, nothing_there, no_label, no_object, Ready}
 use Rattle.body_soundness.proofs.Values.{Classes, HasType, has_type, of_undefined, of_null, of_boolean, of_char, of_long, of_byte, of_short, of_int, of_text, of_object}
 use Rattle.body_soundness.specs.Laws.{ObjectLaws, HasReceivers, reads, calls}
 use Rattle.body_soundness.specs.Rules.{RightMember}
@@ -12,7 +12,7 @@ use Rattle.built_forms.specs.Built.{Usable, members_alone}
 use Rattle.ir_mean.specs.Meaning as ir_meaning
 use Rattle.ir_mean.specs.Shows as ir_showing
 use Rattle.ir_mean.specs.States as ir
-use Rattle.ir_mean.specs.World.{World, opening}
+use Rattle.ir_mean.specs.World.{World, opening, zero_of}
 use Rattle.outcomes.specs.Agreement.{IsNotWrong}
 use Rattle.outcomes.specs.Outcome.{End, Done, Going, Wrong}
 use Rattle.sj_names.proofs.Same.{impossible}
@@ -79,7 +79,7 @@ module _ (w : World) (plain : IsPlain w) (has : Usable) (laws : ObjectLaws w has
       next at others _ (threw k v env st a i j) = uncaught_fine k v st i j.heap
 
   pub never_wrong : (entries : List EntryPoint) (id : List ℕ) → ((e : EntryPoint) → Contains (ir_showing.initializers entries id) e → has.linked (initializer_member e) ≡ true) → (n : ℕ) → IsNotWrong (ir_showing.ir_shows w entries id n).end
-  never_wrong entries id l n = fine-not_wrong (ir_showing.ir_shows w entries id n).end (all_fine n (ir_showing.initializers entries id) l no_classes (opening w) (record { objects = λ i c e. absurd (no_class c e); made = λ i c e. absurd (no_class c e) }))
+  never_wrong entries id l n = fine-not_wrong (ir_showing.ir_shows w entries id n).end (all_fine n (ir_showing.initializers entries id) l no_classes (opening w) (record { objects = λ i c e. absurd (no_class c e); made = λ i c e. absurd (no_class c e); statics = λ c f t h. let its = laws.statics c f t h in subst (λ o. HoldsType w (in_world w plain) has no_classes o t) (sym its.1) (holds_type (zero_of t) t (zero_type w (in_world w plain) has no_classes t its.0)) }))
 
 no_receivers : {A : Type 0} (linked : Member → Bool) → HasReceivers (members_alone linked) → A
 no_receivers linked (reads c f t h) = impossible h
@@ -96,6 +96,8 @@ nothing_asked w linked = record {
   one_type = λ c f s t h k. impossible h;
   holders = λ c f t h d m s. impossible h;
   strangers = λ c f t h o n i s. impossible h;
+  statics = λ c f t h. impossible h;
+  one_static = λ c f s t h k. impossible h;
   exceptions = λ h. impossible h;
   divisions = λ o h. no_division (members_alone linked) (λ x. refl) o h;
 }

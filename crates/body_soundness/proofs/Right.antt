@@ -1,6 +1,6 @@
 -- A body that keeps the rules is never wrong by the IR; what it gives or throws is of its type, and each object keeps its class, with fields of their
 -- types.
-use Rattle.std.proofs.Common.{◌≡◌, ℕ, zero, suc, arith, codes, ◌++◌, ◌&&◌, ◌||◌, not, Bool, true, false, List, [], ◌∷◌, Some, None, Option, refl, sym, ap, ◌∙◌, subst, ◌⊎◌, inl, inr, ⊎_elim, if◌then◌else◌}
+use Rattle.std.proofs.Common.{◌≡◌, ℕ, zero, suc, arith, codes, ◌++◌, ◌&&◌, ◌||◌, Bool, true, false, List, [], ◌∷◌, Some, None, Option, refl, sym, ap, ◌∙◌, subst, ◌⊎◌, inl, inr, ⊎_elim, if◌then◌else◌}
 use Rattle.std.specs.Prelude.{nat_eq, slice_get, set, ◌==◌, is_some, ℤ, pos}
 use Rattle.std.proofs.lemmas.Bool.{and_parts}
 use Rattle.std.specs.Cmp.Lexicographic.{pointwise}
@@ -26,7 +26,7 @@ use Rattle.sj_names.specs.declared.method_names.Namespace.{Namespace}
 use Rattle.sj_names.specs.declared.method_names.Namespace.TheVariants.{Constructor}
 use Rattle.sj_names.specs.declared.method_names.Member.{Member}
 use Rattle.sj_names.specs.declared.references.TypeRef.{TypeRef}
-use Rattle.sj_trees.specs.Term.{Term, Terms, no_terms, more_terms, Cases, no_cases, more_cases, var_def, skip, block_of, labeled, assign, return_to, if_then, while_loop, do_while, throw, match_on, new_object, new_array, array_value, load_module, select, apply_statically, apply_static, unary_op, binary_op, undefined_literal, null_literal, boolean_literal, char_literal, byte_literal, short_literal, int_literal, long_literal, string_literal, var_ref, this_ref, log_line}
+use Rattle.sj_trees.specs.Term.{Term, Terms, no_terms, more_terms, Cases, no_cases, more_cases, var_def, skip, block_of, labeled, assign, return_to, if_then, while_loop, do_while, throw, match_on, new_object, new_array, array_value, load_module, select, select_static, apply_statically, apply_static, unary_op, binary_op, undefined_literal, null_literal, boolean_literal, char_literal, byte_literal, short_literal, int_literal, long_literal, string_literal, var_ref, this_ref, log_line}
 use Rattle.sj_trees.specs.TypeOf.{type_of_term, type_of_last, loop_type, unary_result, binary_result}
 use Rattle.sj_trees.specs.Types.{class_type, reference_type}
 use Rattle.sj_trees.specs.declared.classes.ClassDef.{ClassDef}
@@ -160,10 +160,11 @@ module _ (w : World) (law : IsSubtyping (IsSub w)) (has : Usable) where
     pub data ObjectTyped (c : List ℕ) : Option ir.Stored → Type 0 where
       typed_object : (fields : ir.Fields) → ((d f : List ℕ) (t : IrType) → list_any (is_same_text d) (chain_of w c) ≡ true → has.field d f t ≡ true → HoldsType (fields d f) t) → ObjectTyped c (Some (ir.object c fields))
 
-    -- an object of its class, which is made, stands at each address that has one
+    -- an object of its class, which is made, stands at each address that has one; and each static field that can be used holds a value of its type
     pub record HeapTyped (st : ir.State) : Type 0 where
       pub objects : (i : ℕ) (c : List ℕ) → at i ≡ Some c → ObjectTyped c (slice_get st.heap i)
       pub made : (i : ℕ) (c : List ℕ) → at i ≡ Some c → has.made c ≡ true
+      pub statics : (c f : List ℕ) (t : IrType) → has.static_field c f t ≡ true → HoldsType (st.statics c f) t
 
     -- the locals in scope and the heap hold what they may
     pub record Ready (f : Frame) (ds : List ParamDef) (env : ir.Env) (st : ir.State) : Type 0 where
@@ -464,7 +465,7 @@ module _ (w : World) (law : IsSubtyping (IsSub w)) (has : Usable) where
       back _ (threw k v en st a i j) = threw k v env st a i (again k st a j.heap)
 
   -- zeros are of the types of their fields
-  zero_type : (at : Classes) (t : IrType) → HasValue t → HasType (IsSub w) law at (zero_of t) t
+  pub zero_type : (at : Classes) (t : IrType) → HasValue t → HasType (IsSub w) law at (zero_of t) t
   zero_type at Any h = has_type Null of_null (to_any refl (λ e. cc))
   zero_type at Undefined h = has_type Undefined of_undefined (law.same Undefined)
   zero_type at Boolean h = has_type Boolean (of_boolean false) (law.same Boolean)
@@ -545,7 +546,7 @@ module _ (w : World) (law : IsSubtyping (IsSub w)) (has : Usable) where
     still i d _ e (typed_object fields h) = subst (ObjectTyped wider_classes d) (sym (get-front st.heap (ir.object c (new_fields w c) ∷ []) i (ir.object d fields) e)) (typed_object fields (λ b f t k is. holds-lift at wider_classes adds_one (fields b f) t (h b f t k is)))
 
     born_typed : HeapTyped wider_classes born
-    born_typed = record { objects = λ i d e. go i d (i == there) refl e; made = λ i d e. made i d (i == there) e }
+    born_typed = record { objects = λ i d e. go i d (i == there) refl e; made = λ i d e. made i d (i == there) e; statics = λ d f t l. holds-lift at wider_classes adds_one (st.statics d f) t (heap.statics d f t l) }
       where
         go : (i : ℕ) (d : List ℕ) (b : Bool) → (i == there) ≡ b → (if b then Some c else at i) ≡ Some d → ObjectTyped wider_classes d (slice_get born.heap i)
         go i d true k e = let same : c ≡ d = cc in subst (λ (j : ℕ). ObjectTyped wider_classes d (slice_get born.heap j)) (sym (numbers-same i there k)) (subst (ObjectTyped wider_classes d) (sym (get-end st.heap (ir.object c (new_fields w c)))) (subst (λ (n : List ℕ). ObjectTyped wider_classes n (Some (ir.object c (new_fields w c)))) same (typed_object (new_fields w c) zeros)))
@@ -569,7 +570,7 @@ module _ (w : World) (law : IsSubtyping (IsSub w)) (has : Usable) where
         go false e = typed b g u k is
 
     pub written : HeapTyped at (ir.at_address a (ir.object d (ir.with_field c f v fields)) st)
-    written = record { objects = λ j e k. go j e (j == a) refl k; made = heap.made }
+    written = record { objects = λ j e k. go j e (j == a) refl k; made = heap.made; statics = heap.statics }
       where
         other : (j : ℕ) → (j == a) ≡ false → j ≡ a → ⊥
         other j k e = impossible (sym k ∙ subst (λ (n : ℕ). (n == a) ≡ true) (sym e) (numbers-equal a))
@@ -778,6 +779,27 @@ module _ (w : World) (law : IsSubtyping (IsSub w)) (has : Usable) where
         stored : (a : ℕ) (d : List ℕ) → at a ≡ Some d → list_any (is_same_text c) (chain_of w d) ≡ true → (q : Option ir.Stored) → slice_get st.heap a ≡ q → ObjectTyped at d q → Right at s NoType (ir_meaning.assigned (ir_meaning.set_field c f x a q st) env st)
         stored a d known k _ stands (typed_object fields g) = there (fields c f) (ir.at_address a (ir.object d (ir.with_field c f x fields)) st) (g c f t k is) (written laws at st e.heap a d known fields stands g c f t is x i)
 
+    -- an assignment to a static field
+    static_set_right : (at : Classes) (s : Scene) (c f : List ℕ) (t : IrType) (x : ir.Value) (env : ir.Env) (st : ir.State) → has.static_field c f t ≡ true → HasType (IsSub w) law at x t → Ready at (frame_of s) s.locals env st → Right at s NoType (ir_meaning.assign_static c f (x ∷ []) env st)
+    static_set_right at s c f t x env st is i e = there (st.statics c f) (e.heap.statics c f t is)
+      where
+        next : ir.State
+        next = ir.with_static c f x st
+
+        typed : (b g : List ℕ) (u : IrType) → has.static_field b g u ≡ true → HoldsType at (next.statics b g) u
+        typed b g u l = go (is_same_text b c && is_same_text g f) refl
+          where
+            go : (q : Bool) → (is_same_text b c && is_same_text g f) ≡ q → HoldsType at (if q then Some x else st.statics b g) u
+            go true k =
+                let parts = and_parts (is_same_text b c) (is_same_text g f) k in
+                let one : has.static_field c g u ≡ true = subst (λ (n : List ℕ). has.static_field n g u ≡ true) (text-same b c parts.0) l in
+                let two : has.static_field c f u ≡ true = subst (λ (n : List ℕ). has.static_field c n u ≡ true) (text-same g f parts.1) one in
+                holds_type x u (subst (HasType (IsSub w) law at x) (laws.one_static c f t u is two) i)
+            go false k = e.heap.statics b g u l
+
+        there : (o : Option ir.Value) → HoldsType at o t → Right at s NoType (ir_meaning.assigned (ir_meaning.if_there o next) env st)
+        there _ (holds_type y _ j) = here at s s.locals NoType ir.undefined env next (inl refl) (record { locals = e.locals; heap = record { objects = e.heap.objects; made = e.heap.made; statics = typed } })
+
     -- an assignment to the field of a receiver
     pub field_set_right : (p q : Position) (d : Term) (c f : List ℕ) (t : IrType) (e : Term) → TreeRight d → TreeRight e → (s : Scene) → InScope (frame_of s) s.locals → has.field c f t ≡ true → may_check has s.sure d ≡ true → IsSub w (type_of_term d) (class_type c) → IsSub w (type_of_term e) t → Typed w has s d → Typed w has s e → Fresh s (Own (assign p (select q d c f t) e)) → Sures s (definitions (assign p (select q d c f t) e)) → (at : Classes) (env : ir.Env) (st : ir.State) → Ready at (frame_of s) s.locals env st → Right at s NoType (step (assign p (select q d c f t) e) env st)
     field_set_right p q d c f t e first second s v is check own fits h k fresh u at env st i = go_on_both at s s.locals (type_of_term d) s.locals NoType Full (ir_meaning.receiving w (is_sure env.sure d) low (step d) env st) (λ a. ir_meaning.assign_on c f (step e) (a ∷ [])) (receiver_right (reads c f t is) d s h (check_there d s check) at env st i (first s v h (λ x o. fresh x (inl o)) parts.0 at env st i)) (λ y b a env st g n i. let on = operand-type y a (type_of_term d) (class_type c) g own (value-not (class_type c) (class_has_value c)) in holder_right y c f t a st is on n i.heap (λ o b same known l. subst (λ (x : ir.Value). Right y s NoType (ir_meaning.assign_on c f (step e) (x ∷ []) env st)) (sym same) (behind y o env st (subst (λ (x : ir.Value). HasType (IsSub w) law y x (class_type c)) same on) (subst Full same n) i)))
@@ -879,6 +901,7 @@ module _ (w : World) (law : IsSubtyping (IsSub w)) (has : Usable) where
       tree_right (labeled p l t e) = λ s v h fresh u at env st i. comes_then (CameRight at (in_label l t s) s.locals (type_of_term e)) (CameRight at s s.locals t) (step e env st) (ir_meaning.arrive l) (tree_right e (in_label l t s) v h.1 fresh u at env st i) (arrives-right at s l e t (yields_there w has e t h.0.built h.0.meets))
       tree_right (assign p (var_ref q x t) e) = λ s v h fresh u at env st i. operand_right e at s NoType t (ir_meaning.define x) env st (tree_right e s v h.1 fresh u at env st i) h.0.meets.1 (value-not t (subst HasValue h.0.finds.type_is (v.values x h.0.finds.local h.0.finds.is))) (λ y b a env st k i. here y s s.locals NoType ir.undefined (ir_meaning.set_local x a env) st (inl refl) (assign-ready y (frame_of s) s.locals x h.0.finds.local env st a h.0.finds.is (subst (HasType (IsSub w) law y a) (sym h.0.finds.type_is) k) (λ r q. impossible (sym (v.fixed r x h.0.finds.local h.0.finds.is q) ∙ h.0.finds.mutable)) i))
       tree_right (assign p (select q d c f t) e) = λ s v h fresh u at env st i. let its = and_parts (has.field c f t) (may_check has s.sure d && may_box has t e) h.0.built in field_set_right p q d c f t e (tree_right d) (tree_right e) s v its.0 (and_parts (may_check has s.sure d) (may_box has t e) its.1).0 h.1.0.meets.0 h.0.meets.1 h.1.1 h.2 fresh u at env st i
+      tree_right (assign p (select_static q c f t) e) = λ s v h fresh u at env st i. let its = and_parts (has.static_field c f t) (may_box has t e) h.0.built in operand_right e at s NoType t (ir_meaning.assign_static c f) env st (tree_right e s v h.2 fresh u at env st i) h.0.meets.1 (value-not t (laws.statics c f t its.0).0) (λ y b x env st k i. static_set_right y s c f t x env st its.0 k i)
       tree_right (return_to p e l) = λ s v h fresh u at env st i. one_right at s s.locals (type_of_term e) Nothing (step e) (ir_meaning.leave l) env st (tree_right e s v h.1 fresh u at env st i) (λ y b a env st g i. left y l a env st h.0.meets.tpe (adds-refl y) h.0.meets.is_type (gives-yield y a e h.0.meets.tpe g (leaves_there w has s.labels l e h.0.built h.0.meets)) i)
       tree_right (if_then p c a b t) = λ s v h fresh u at env st i. operand_right c at s t Boolean (ir_meaning.branch (step a) (step b)) env st (tree_right c s v h.1 (λ x o. fresh x (inl o)) (sures-parts s (definitions c) (definitions a) (sures-parts s (definitions c ++ definitions a) (definitions b) u).0).0 at env st i) h.0.meets.0 boolean_not (λ y n q env st k i. branch_right y s t (step a) (step b) q env st (as_boolean (IsSub w) law y q k) (yields-right y s s.locals a t (step a env st).end (one_yields w has a b t h.0.built h.0.meets.1) (tree_right a s v h.2 (λ x o. fresh x (inr (inl o))) (sures-parts s (definitions c) (definitions a) (sures-parts s (definitions c ++ definitions a) (definitions b) u).0).1 y env st i)) (yields-right y s s.locals b t (step b env st).end (other_yields w has a b t h.0.built h.0.meets.2) (tree_right b s v h.3 (λ x o. fresh x (inr (inr o))) (sures-parts s (definitions c ++ definitions a) (definitions b) u).1 y env st i)))
       tree_right (while_loop p c b) = λ s v h fresh u at env st i. comes_then (Turned at s (loop_type c)) (CameRight at s s.locals (loop_type c)) (ir_meaning.in_order (step c ∷ []) (ir_meaning.branch (step b) (λ env s. record { lines = []; end = Done (ir.ends ir.stops env s) })) env st) (ir_meaning.after_turn (low (while_loop p c b))) (while_turn p c b (tree_right c) (tree_right b) s v h fresh u (true-or-none c) at env st i) (turn_right at s (loop_type c) (low (while_loop p c b)) (right (while_loop p c b) s v h fresh u))
@@ -892,6 +915,7 @@ module _ (w : World) (law : IsSubtyping (IsSub w)) (has : Usable) where
       tree_right (apply_statically p e c Namespace.Public m ts t) = λ s v h fresh u at env st i. let its = received_parts e c Namespace.Public m ts s h.0.built in let parts = sures-parts s (definitions e) (definitions_in ts) u in go_on_both at s s.locals (type_of_term e) s.locals t Full (ir_meaning.receiving w (is_sure env.sure e) low (step e) env st) (λ a. ir_meaning.in_order (ir_meaning.operands w low ts) (λ vs. ir_meaning.call_on w low (ir_meaning.static_target w c Namespace.Public m) (a ∷ vs))) (receiver_right (calls (member c Namespace.Public m) its.0) e s h.1 (check_there e s its.1) at env st i (tree_right e s v h.1 (λ x o. fresh x (inl o)) parts.0 at env st i)) (λ y b a env st g n i. arguments_right ts m.params s t v (arguments_there w has true ts m.params its.2 h.0.finds h.0.meets.3) h.2 (λ x o. fresh x (inr o)) parts.1 y (λ vs. ir_meaning.call_on w low (ir_meaning.static_target w c Namespace.Public m) (a ∷ vs)) env st i (λ z d vs env st k i. received_right c Namespace.Public m (laws.received (member c Namespace.Public m) its.0) s t (type_of_term e) h.0.meets.1 h.0.meets.2 y a g n z d vs env st k i))
       tree_right (apply_statically p e c Constructor m ts t) = λ s v h fresh u at env st i. let its = constructor_parts c m ts t h.0.built in let parts = sures-parts s (definitions e) (definitions_in ts) u in go_on_both at s s.locals (type_of_term e) s.locals t Full (ir_meaning.receiving w (is_sure env.sure e) low (step e) env st) (λ a. ir_meaning.in_order (ir_meaning.operands w low ts) (λ vs. ir_meaning.call_on w low (member_of w c Constructor m) (a ∷ vs))) (own_right e s h.0.meets.0 h.1 at env st i) (λ y b a env st g n i. arguments_right ts m.params s t v (arguments_there w has true ts m.params its.1 h.0.finds h.0.meets.3) h.2 (λ x o. fresh x (inr o)) parts.1 y (λ vs. ir_meaning.call_on w low (member_of w c Constructor m) (a ∷ vs)) env st i (λ z d vs env st k i. received_right c Constructor m (laws.built (member c Constructor m) its.0) s t (type_of_term e) h.0.meets.1 h.0.meets.2 y a g n z d vs env st k i))
       tree_right (apply_statically p e c n m ts t) = λ s v h fresh u at env st i. impossible h.0.built
+      tree_right (select_static p c f t) = λ s v h fresh u at env st i. there_right at s t (st.statics c f) env st (i.heap.statics c f t h.built) i
       tree_right (this_ref p t) = λ s v h fresh u at env st i. only_right (CameRight at s s.locals t) Full (ir_meaning.local_value env.this_value env st).end (this_right at s t s.owner env.this_value env st h.finds.1 (i.locals.this h.finds.0) i)
       tree_right (unary_op p o e) = λ s v h fresh u at env st i. operand_right e at s (unary_result o) (unary_operand o) (ir_meaning.unary w low o) env st (tree_right e s v h.1 fresh u at env st i) h.0.meets (value-not (unary_operand o) (unary-operand-value o)) (λ y b q env st k i. value_right y low s (unary_result o) (unary_value o q) env st (unary_gives (IsSub w) law y o q k) i)
       tree_right (binary_op p o e d) = λ s v h fresh u at env st i. ⊎_elim (λ takes. binary_right o e d at s takes env st (tree_right e s v h.1 (λ x o. fresh x (inl o)) (sures-parts s (definitions e) (definitions d) u).0 at env st i) (λ k env st i. tree_right d s v h.2 (λ x o. fresh x (inr o)) (sures-parts s (definitions e) (definitions d) u).1 k env st i)) (λ divides. division_right o e d at s divides.0 divides.1 env st (tree_right e s v h.1 (λ x o. fresh x (inl o)) (sures-parts s (definitions e) (definitions d) u).0 at env st i)) (operation w has s o e d h.0.built h.2 h.0.meets)

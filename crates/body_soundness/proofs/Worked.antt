@@ -197,6 +197,8 @@ object_laws = record {
   one_type = λ c f s t h k. same_types c f s t (field_is c f s h) (field_is c f t k);
   holders = λ c f t h d m sub. on_chain c f t d (field_is c f t h) (made_is d m) sub;
   strangers = λ c f t h o n its sub. none_below c f t o n (field_is c f t h) its sub;
+  statics = λ c f t h. impossible h;
+  one_static = λ c f s t h k. impossible h;
   exceptions = λ h. impossible h;
   divisions = λ o h. no_division object_use (λ x. refl) o h;
 }

@@ -7,7 +7,7 @@ use Rattle.body_soundness.specs.Rules.{RightMember}
 use Rattle.built_forms.specs.Built.{Usable, divides}
 use Rattle.ir_mean.specs.Dispatch.{chain_of}
 use Rattle.ir_mean.specs.Meaning.{with_message}
-use Rattle.ir_mean.specs.World.{World, class_of, member_of, zeros_in, zero_of}
+use Rattle.ir_mean.specs.World.{World, class_of, member_of, zeros_in, statics_in, zero_of}
 use Rattle.sj_trees.specs.Term.{Term}
 use Rattle.sj_trees.specs.declared.classes.MethodDef.{MethodDef}
 use Rattle.sj_proper.specs.Once.{NamesOnce}
@@ -35,7 +35,7 @@ arithmetic = codes "java.lang.ArithmeticException"
 
 -- Members that run on an object and constructors keep the rules; where there are receivers, bodies define no local twice; objects of a class that is made
 -- stand at no bare type. A field that can be read has one type, with values, and is an instance field of its class, which stands on the chain of
--- superclasses of each class that is made below it; no primitive type is below it. Where the null check can be used, its exception is
+-- superclasses of each class that is made below it; no primitive type is below it. A static field that can be used has one type, with values, and is one of its class. Where the null check can be used, its exception is
 -- made, and so is that of a division whose helper can be used.
 pub record ObjectLaws (w : World) (has : Usable) : Type 0 where
   pub received : (m : Member) → has.received m ≡ true → RightMember w has m
@@ -46,5 +46,7 @@ pub record ObjectLaws (w : World) (has : Usable) : Type 0 where
   pub one_type : (c f : List ℕ) (s t : IrType) → has.field c f s ≡ true → has.field c f t ≡ true → s ≡ t
   pub holders : (c f : List ℕ) (t : IrType) → has.field c f t ≡ true → (d : List ℕ) → has.made d ≡ true → IsSub w (Class d) (class_type c) → list_any (is_same_text c) (chain_of w d) ≡ true
   pub strangers : (c f : List ℕ) (t : IrType) → has.field c f t ≡ true → (o : IrType) (h : List ℕ) → hijacked_class o ≡ Some h → IsSub w o (class_type c) → ⊥
+  pub statics : (c f : List ℕ) (t : IrType) → has.static_field c f t ≡ true → HasValue t × (statics_in (class_of w c) f ≡ Some (zero_of t))
+  pub one_static : (c f : List ℕ) (s t : IrType) → has.static_field c f s ≡ true → has.static_field c f t ≡ true → s ≡ t
   pub exceptions : has.helper check_name ≡ true → (has.made null_pointer ≡ true) × (has.built (member null_pointer Constructor with_message) ≡ true)
   pub divisions : (o : BinaryOp) → divides has o ≡ true → (has.made arithmetic ≡ true) × (has.built (member arithmetic Constructor with_message) ≡ true)

@@ -6,7 +6,7 @@ use Rattle.body_soundness.specs.Laws.{HasReceivers, null_pointer, arithmetic}
 use Rattle.body_soundness.specs.Rules.{RightMember}
 use Rattle.built_forms.specs.Built.{Usable, divides}
 use Rattle.ir_mean.specs.Meaning.{with_message}
-use Rattle.ir_mean.specs.World.{member_of, zeros_in, zero_of}
+use Rattle.ir_mean.specs.World.{member_of, zeros_in, statics_in, zero_of}
 use Rattle.ir_mean.specs.World as ir_world
 use Rattle.sj_desugar.specs.Desugar.{member}
 use Rattle.sj_emit_expr.specs.Templates.{check_name}
@@ -44,7 +44,7 @@ abbrev pub WritesInterfaces : Classes → Name → Type 0
 WritesInterfaces w d = (b : Name) → Path (IsParent w) d b → (class : ClassDef) → class_of w (stands_as b) ≡ Some class → (i : Name) (face : ClassDef) → Contains class.interfaces i → class_of w i ≡ Some face → is_interface face.kind ≡ true
 
 -- what is asked of a world, and of what bodies use there, by the rules of its classes: the members that can be called keep the rules; what is made isn't hijacked;
--- what can be read is a field of a class with fields; and whatever is written as an interface above these and above the hijacked classes is one
+-- what can be read is a field of a class with fields, and what is static is a static field of its class; and whatever is written as an interface above these and above the hijacked classes is one
 pub record ObjectWorld (w : Classes) (has : Usable) : Type 0 where
   pub kept : AreClassesKept w
   pub acyclic : HasNoCycle w
@@ -55,5 +55,7 @@ pub record ObjectWorld (w : Classes) (has : Usable) : Type 0 where
   pub primitives : (h : Name) → is_hijacked h ≡ true → WritesInterfaces w h
   pub fields : (c f : Name) (t : IrType) → has.field c f t ≡ true → HasFields w c × HasValue t × (zeros_in (ir_world.class_of w c) f ≡ Some (zero_of t))
   pub one_type : (c f : Name) (s t : IrType) → has.field c f s ≡ true → has.field c f t ≡ true → s ≡ t
+  pub statics : (c f : Name) (t : IrType) → has.static_field c f t ≡ true → HasValue t × (statics_in (ir_world.class_of w c) f ≡ Some (zero_of t))
+  pub one_static : (c f : Name) (s t : IrType) → has.static_field c f s ≡ true → has.static_field c f t ≡ true → s ≡ t
   pub exceptions : has.helper check_name ≡ true → (has.made null_pointer ≡ true) × (has.built (member null_pointer Constructor with_message) ≡ true)
   pub divisions : (o : BinaryOp) → divides has o ≡ true → (has.made arithmetic ≡ true) × (has.built (member arithmetic Constructor with_message) ≡ true)

@@ -17,7 +17,7 @@ use Rattle.sj_names.specs.declared.method_names.Namespace.{Namespace}
 use Rattle.sj_names.specs.declared.method_names.Namespace.TheVariants.{Public, PublicStatic, Private, PrivateStatic, Constructor}
 use Rattle.accepted_folders.specs.Typing.{may_check, is_built_with}
 use Rattle.accepted_folders.specs.Built.{Usable, can_box, may_yield, yields_boxed, is_built, any_object, is_object_body}
-use Rattle.sj_trees.specs.Term.{Term, Terms, new_object, select, apply_statically, apply_static, binary_op}
+use Rattle.sj_trees.specs.Term.{Term, Terms, new_object, select, select_static, apply_statically, apply_static, binary_op}
 use Rattle.sj_trees.specs.declared.classes.MethodDef.{MethodDef}
 use Rattle.sj_trees.specs.declared.positions.Position.{Position}
 use Rattle.sj_trees.specs.declared.types.IrType.{IrType}
@@ -89,6 +89,7 @@ module _ (has : Usable) (used : List Binding) where
   gives (apply_statically p e c n m ts t) g = call_given p e c n m ts t g
   gives (new_object p c m ts) g = λ h k f u. g k f u
   gives (select p e c f t) g = λ h. g
+  gives (select_static p c f t) g = λ h u. g u
   gives (binary_op p o e d) g = λ h. g
   gives t g = tt
 

@@ -16,7 +16,7 @@ use Rattle.sj_desugar.specs.Plain.{is_no_type, is_plain, are_plain, is_fixed}
 use Rattle.sj_desugar.specs.Spill.{Destination, discard, to_variable, to_result, Code, one, put_first, Operand, all_plain, texts, Spilled, spill, spill_case, then_use}
 use Rattle.sj_desugar.specs.Texts.{operand_of}
 use Rattle.sj_emit_expr.specs.Templates.{check_name, is_nonzero_literal}
-use Rattle.sj_emit_expr.specs.Uses.{object_binding, function_binding, class_use, helper_of, uses_in, uses_in_all, uses_of, uses_of_all, uses_of_cases}
+use Rattle.sj_emit_expr.specs.Uses.{object_binding, function_binding, class_use, static_use, setter_use, helper_of, uses_in, uses_in_all, uses_of, uses_of_all, uses_of_cases}
 use Rattle.sj_infos.specs.Trees.{trees, below, all_below, cases_below}
 use Rattle.accepted_folders.proofs.Found.{here, there}
 use Rattle.sj_names.proofs.Same.{impossible}
@@ -31,7 +31,7 @@ use Rattle.sure_receivers.specs.Sure.{is_sure}
 use Rattle.accepted_folders.specs.Label.{Label}
 use Rattle.accepted_folders.specs.Labels.{type_of_label}
 use Rattle.accepted_folders.specs.Nodes.{inside as inside_label}
-use Rattle.sj_trees.specs.Term.{Term, Terms, no_terms, more_terms, Cases, no_cases, more_cases, var_def, skip, block_of, labeled, assign, return_to, if_then, while_loop, do_while, match_on, throw, new_object, select, apply_statically, apply_static, unary_op, binary_op, undefined_literal, null_literal, boolean_literal, char_literal, byte_literal, short_literal, int_literal, long_literal, string_literal, var_ref, this_ref, log_line}
+use Rattle.sj_trees.specs.Term.{Term, Terms, no_terms, more_terms, Cases, no_cases, more_cases, var_def, skip, block_of, labeled, assign, return_to, if_then, while_loop, do_while, match_on, throw, new_object, select, select_static, apply_statically, apply_static, unary_op, binary_op, undefined_literal, null_literal, boolean_literal, char_literal, byte_literal, short_literal, int_literal, long_literal, string_literal, var_ref, this_ref, log_line}
 use Rattle.sj_trees.specs.TypeOf.{type_of_term, unary_result, binary_result}
 use Rattle.sj_trees.specs.Types.{class_type, reference_type}
 use Rattle.sj_trees.specs.declared.operators.BinaryOp.{BinaryOp}
@@ -271,6 +271,7 @@ module _ (U : Binding → Type 0) where
     Gives (apply_statically p e c n m ts t) = GivesReceived n c m
     Gives (new_object p c m ts) = from.made c ≡ true → from.built (member c Constructor m) ≡ true → U (function_binding (member c Constructor m)) → U (class_use c) → (has.built (member c Constructor m) ≡ true) × (has.made c ≡ true)
     Gives (select p e c f t) = from.field c f t ≡ true → has.field c f t ≡ true
+    Gives (select_static p c f t) = from.static_field c f t ≡ true → U (static_use c f) ⊎ U (setter_use c f) → has.static_field c f t ≡ true
     Gives (binary_op p o e d) = divides from o ≡ true → FitsDivision o d
     Gives _ = Unit {0}
 
@@ -375,6 +376,7 @@ module _ (U : Binding → Type 0) where
     literal (apply_statically p e c n m ts t) ls q k l = impossible l
     literal (new_object p c m ts) ls q k l = impossible l
     literal (select p e c f t) ls q k l = impossible l
+    literal (select_static p c f t) ls q k l = impossible l
     literal (unary_op p o e) ls q k l = impossible l
     literal (binary_op p o e d) ls q k l = impossible l
     literal (var_ref p x t) ls q k l = impossible l
@@ -501,6 +503,7 @@ module _ (U : Binding → Type 0) where
           let tree = select p e c f t in
           let k0 = and_parts (stands from checked ls tree) (old ls e) k in
           and_from (stands has checks ls tree) (new ls e) (select_there c f t e (All-head Found tree (below tree) g) (checked_in (is_sure sure e) (expression_of sure e) h) k0.0) (plain e ls q k0.1 (inner tree g) (received_in (is_sure sure e) (expression_of sure e) h))
+      plain (select_static p c f t) ls q k g h = All-head Found (select_static p c f t) [] g k (inl (All-head U (static_use c f) [] h))
       plain (unary_op p o e) ls q k g h = plain e ls q k (inner (unary_op p o e) g) h
       plain (binary_op p o e d) ls q k g h =
           let q0 = and_parts (is_plain e) (is_plain d) q in
@@ -630,6 +633,17 @@ module _ (U : Binding → Type 0) where
             let g0 = two (select v d c f t) e (inner (assign p (select v d c f t) e) g) in
             let target = receiver_built d (tree d) ts ls k1.0 (inner (select v d c f t) g0.0) written.0 in
             and_from (has.field c f t && (checks d && may_box has t e)) (new ls d && new ls e) (assign_there c f t d e (All-head Found (select v d c f t) (trees d) g0.0) target.1 k0.0) (and_from (new ls d) (new ls e) target.0 (operand_built e (tree e) ts ls k1.1 g0.1 written.1.0))
+        tree (assign p (select_static v c f t) e) ts k j ls q g h =
+            let r = and_parts (from.static_field c f t && may_box from t e) (old ls e) q in
+            let r0 = and_parts (from.static_field c f t) (may_box from t e) r.0 in
+            let s : Spilled = spill (one_of ts e) j in
+            let value = coerced t (type_of_term e) (first_of s.expressions) in
+            let last = core.assign_static (Some p) c f value in
+            let parts = followed_parts s.statements (core.statement last core.no_statements) h in
+            let inside = only last parts.1 in
+            let g0 = two (select_static v c f t) e (inner (assign p (select_static v c f t) e) g) in
+            let there = All-head Found (select_static v c f t) [] g0.0 r0.0 (inr (All-head U (setter_use c f) (uses_in value) inside)) in
+            and_from (has.static_field c f t && may_box has t e) (new ls e) (and_from (has.static_field c f t) (may_box has t e) there (boxes (not (is_boxed t e)) r0.1)) (act e (tree e) ts ls j r.1 g0.1 parts.0 (uncoerced t (type_of_term e) (first_of s.expressions) (All-tail U (setter_use c f) (uses_in value) inside)))
         tree (return_to p e l) ts k j ls q g h =
             let r = and_parts (may_leave from (type_of_label ls l) e) (old ls e) q in
             and_from (may_leave has (type_of_label ls l) e) (new ls e) (boxes (not (leaves_boxed (type_of_label ls l) e)) r.0) (tree e ts (target_of ts l) j ls r.1 (inner (return_to p e l) g) (leaving_in (target_of ts l) p l (into is_mutable sure ts (target_of ts l) j e) h))
@@ -721,6 +735,7 @@ module _ (U : Binding → Type 0) where
             let written = spill_in os j parts.0 (one_in s.expressions (spill_count os j) (finished k p t read s.next parts.1)) in
             let start = receiver_built e (tree e) ts ls k0.1 (inner own g) written.0 in
             and_from (has.field c f t && checks e) (new ls e) (select_there c f t e (All-head Found own (below own) g) start.1 k0.0) start.0
+        tree (select_static p c f t) ts k j ls q g h = All-head Found (select_static p c f t) [] g q (inl (All-head U (static_use c f) [] (finished k p t (core.static_of c f) j h)))
         tree (this_ref p t) ts k j ls q g h = objects q
         tree (unary_op p o e) ts k j ls q g h =
             let s : Spilled = spill (one_of ts e) j in

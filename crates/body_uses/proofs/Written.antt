@@ -16,15 +16,15 @@ use Rattle.helper_rules.specs.declared.kinds.Helper.TheVariants.{NotNull, IntQuo
 use Rattle.js_tree.specs.declared.items.Binding.{Binding}
 use Rattle.accepted_folders.proofs.Derivations.{closed}
 use Rattle.accepted_folders.specs.Reachable.{Reachable}
-use Rattle.accepted_folders.specs.Rules.{Reads, of_call, of_new, asked_body, new_made}
+use Rattle.accepted_folders.specs.Rules.{Reads, of_call, of_new, asked_body, new_made, field_needed}
 use Rattle.sj_desugar.specs.Desugar.{member}
 use Rattle.sj_emit_expr.specs.Templates.{check_name}
-use Rattle.sj_emit_expr.specs.Uses.{object_binding, function_binding, class_use}
+use Rattle.sj_emit_expr.specs.Uses.{object_binding, function_binding, class_use, static_use, setter_use}
 use Rattle.sj_infos.specs.Infos.{asks, asked_by_body, asked_in, of_receiver}
 use Rattle.sj_infos.specs.Sure.{sure_among}
 use Rattle.sj_infos.specs.Trees.{trees}
 use Rattle.sj_infos.specs.declared.infos.Info.{Info}
-use Rattle.sj_infos.specs.declared.infos.Info.TheVariants.{New, Static}
+use Rattle.sj_infos.specs.declared.infos.Info.TheVariants.{New, Static, Field}
 use Rattle.accepted_folders.proofs.Found.{here}
 use Rattle.sj_names.proofs.Same.{text-refl}
 use Rattle.sj_names.specs.Same.{is_same_text}
@@ -39,7 +39,7 @@ use Rattle.accepted_folders.specs.Emitted.{EmittedMethod}
 use Rattle.accepted_folders.specs.Linked.{has_function}
 use Rattle.sj_trees.proofs.SameTypes.{type-refl}
 use Rattle.sj_trees.specs.SameTypes.{is_same_type}
-use Rattle.sj_trees.specs.Term.{Term, new_object, select, apply_statically, apply_static, binary_op}
+use Rattle.sj_trees.specs.Term.{Term, new_object, select, select_static, apply_statically, apply_static, binary_op}
 use Rattle.sj_trees.specs.declared.classes.ClassDef.{ClassDef}
 use Rattle.sj_trees.specs.declared.operators.BinaryOp.{BinaryOp}
 use Rattle.sj_trees.specs.declared.operators.BinaryOp.TheVariants.{IntDivide, IntRemainder, LongDivide, LongRemainder}
@@ -49,14 +49,15 @@ use Rattle.sj_world.specs.Known.{Name, Classes, class_of}
 use Rattle.sj_world.proofs.Searches.{contains_at}
 use Rattle.sj_world.specs.Paths.{stay}
 use Rattle.sj_world.specs.Subtypes.{equal, from_nothing, to_any, null_to_class, null_to_array, class_to_class, primitive_to_class, arrays_alike, arrays_of_arrays}
-use Rattle.sj_world.specs.declared.facts.Fact.TheVariants.{Body, Made}
+use Rattle.sj_world.specs.declared.facts.Fact.{Fact}
+use Rattle.sj_world.specs.declared.facts.Fact.TheVariants.{Body, Made, NeededField}
 use Rattle.accepted_folders.specs.TypingRulesRules.{Fits, HasFieldType, IsStatic, OperandsFit}
 use Rattle.accepted_folders.specs.Typed.{MeetsThere}
 use Rattle.accepted_folders.specs.Accepted.{IsAccepted}
 use Rattle.accepted_folders.specs.Bodies.{AreBodies}
 use Rattle.accepted_folders.proofs.Calls.{needed}
 use Rattle.accepted_folders.proofs.Members.{has_function-from, defined}
-use Rattle.linked_pieces.specs.Used.{used_of, is_among, is_its_field, has_field_in}
+use Rattle.linked_pieces.specs.Used.{used_of, is_among, is_its_field, has_field_in, is_its_static, has_static_in, needs_static}
 use Rattle.body_uses.specs.Given.{Given, HelpersGiven, FitsDivision, HasType}
 use Rattle.body_uses.specs.Laws.{used_by, AcceptedBodiesUseWhatIsWritten}
 use Rattle.body_uses.specs.Written.{AreWrittenWith}
@@ -118,6 +119,14 @@ module _ (w : Classes) where
       let no_mark : not h.field.is_static ≡ true = subst (λ (b : Bool). not b ≡ true) (sym own.first.has.mark_is) refl in
       subst (λ (o : Option ClassDef). has_field_in o f t ≡ true) (sym own.is_class) (any_of (is_its_field f t) own.class.fields h.field (contains_at own.class.fields own.first.place h.field own.first.stands) (and_from (not h.field.is_static) (is_same_text f h.field.name && is_same_type t h.field.tpe) no_mark (and_from (is_same_text f h.field.name) (is_same_type t h.field.tpe) same_name same_type)))
 
+  -- and a static one is a static field of the world
+  pub static_field_there : (c f : Name) (t : IrType) → HasFieldType w c f true t → has_static_in (class_of w c) f t ≡ true
+  static_field_there c f t h =
+      let own = h.is_field in
+      let same_name : is_same_text f h.field.name ≡ true = subst (λ (x : Name). is_same_text f x ≡ true) (sym own.first.has.name_is) (text-refl f) in
+      let same_type : is_same_type t h.field.tpe ≡ true = subst (λ (x : IrType). is_same_type t x ≡ true) (sym h.type_is) (type-refl t) in
+      subst (λ (o : Option ClassDef). has_static_in o f t ≡ true) (sym own.is_class) (any_of (is_its_static f t) own.class.fields h.field (contains_at own.class.fields own.first.place h.field own.first.stands) (and_from h.field.is_static (is_same_text f h.field.name && is_same_type t h.field.tpe) own.first.has.mark_is (and_from (is_same_text f h.field.name) (is_same_type t h.field.tpe) same_name same_type)))
+
 static_there : (n : Namespace) → IsStatic n → is_static n ≡ true
 static_there PublicStatic h = refl
 static_there PrivateStatic h = refl
@@ -125,9 +134,9 @@ static_there Public h = absurd h
 static_there Private h = absurd h
 static_there Constructor h = absurd h
 
-module _ (entries : List EntryPoint) (files : List SourceFile) (w : Classes) (all : List EmittedMethod) (live : List Name) (helpers : List Helper) (written : List Name) (accepted : IsAccepted entries files w) (bodies : AreBodies w entries all) (uses : AreWrittenWith w entries all live helpers written) (e : EmittedMethod) (i : Contains all e) (here_written : Contains written e.member.class) where
+module _ (entries : List EntryPoint) (files : List SourceFile) (w : Classes) (facts : List Fact) (all : List EmittedMethod) (live : List Name) (helpers : List Helper) (written : List Name) (accepted : IsAccepted entries files w) (bodies : AreBodies w entries all) (uses : AreWrittenWith w entries facts all live helpers written) (e : EmittedMethod) (i : Contains all e) (here_written : Contains written e.member.class) where
   abbrev has : Usable
-  has = used_of w all live helpers written
+  has = used_of w facts all live helpers written
 
   abbrev used : List Binding
   used = used_by e.definition e.its_body
@@ -164,6 +173,13 @@ module _ (entries : List EntryPoint) (files : List SourceFile) (w : Classes) (al
       let is_live = (uses.are_live c).1 (record { made = c; is_made = is_made; on_chain = stay }) in
       (and_from (has_no_value m.result) (is_among written c && has_function all k) v (and_from (is_among written c) (has_function all k) (in_written (function_binding k) f) own), and_from (is_among written c) (is_among live c) (in_written (class_use c) u) (among_names live c is_live))
 
+  -- a static field is there where its class is written
+  static_given : (c f : Name) (t : IrType) → HasFieldType w c f true t → Reads w entries (Reachable w entries) (Field c f true) → is_among written c ≡ true → has.static_field c f t ≡ true
+  static_given c f t h r here =
+      let needed_there = (uses.are_facts (NeededField c f true)).1 (closed w entries (NeededField c f true) (field_needed c f true r)) in
+      let needs = any_of (needs_static c f) facts (NeededField c f true) needed_there (and_from (is_same_text c c) (is_same_text f f) (text-refl c) (text-refl f)) in
+      and_from (is_among written c) (list_any (needs_static c f) facts && has_static_in (class_of w c) f t) here (and_from (list_any (needs_static c f) facts) (has_static_in (class_of w c) f t) needs (static_field_there w c f t h))
+
   tree_given : (t : Term) → Contains (trees e.its_body) t → Stands (MeetsThere w e.definition.namespace) t → Given has used t
   tree_given (apply_static p c n m ts t) among s = λ u. in_used (member c n m) (is_static n) (static_there n s.asked.0) (asked (apply_static p c n m ts t) among (Static (member c n m)) (here (Static (member c n m)) [])) u
   tree_given (apply_statically p d c Private m ts t) among s = λ u. in_used (member c Private m) true refl (asked (apply_statically p d c Private m ts t) among (Static (member c Private m)) (here (Static (member c Private m)) (of_receiver (sure_among [] (trees e.its_body)) d))) u
@@ -173,6 +189,7 @@ module _ (entries : List EntryPoint) (files : List SourceFile) (w : Classes) (al
   tree_given (apply_statically p d c PrivateStatic m ts t) among s = tt
   tree_given (new_object p c m ts) among s = λ v f u. made_there c m v (asked (new_object p c m ts) among (New c m) (here (New c m) [])) f u
   tree_given (select p d c f t) among s = field_there w c f t s.asked.1
+  tree_given (select_static p c f t) among s = λ u. static_given c f t s.asked (asked (select_static p c f t) among (Field c f true) (here (Field c f true) [])) (elim u [ inl v ↦ in_written (static_use c f) v | inr v ↦ in_written (setter_use c f) v ])
   tree_given (binary_op p o a b) among s = divisor w o a b s.asked
   tree_given t among s = tt
 
@@ -209,4 +226,4 @@ module _ (entries : List EntryPoint) (files : List SourceFile) (w : Classes) (al
       given has e.definition e.its_body refl k helpers_given (λ t among. tree_given t among (all_at (Stands (MeetsThere w e.definition.namespace)) (trees e.its_body) stands t among))
 
 pub accepted_bodies : AcceptedBodiesUseWhatIsWritten
-accepted_bodies entries files w all live helpers written accepted bodies uses e i here_written k = body_built entries files w all live helpers written accepted bodies uses e i here_written k
+accepted_bodies entries files w facts all live helpers written accepted bodies uses e i here_written k = body_built entries files w facts all live helpers written accepted bodies uses e i here_written k

@@ -15,6 +15,7 @@ use Rattle.accepted_folders.specs.Emitted.{EmittedMethod}
 use Rattle.sj_trees.specs.Term.{Term}
 use Rattle.sj_trees.specs.declared.classes.MethodDef.{MethodDef}
 use Rattle.sj_world.specs.Known.{Name, Classes}
+use Rattle.sj_world.specs.declared.facts.Fact.{Fact}
 use Rattle.linked_pieces.specs.Used.{used_of}
 use Rattle.body_uses.specs.Given.{Given, HelpersGiven}
 use Rattle.body_uses.specs.Written.{AreWrittenWith}
@@ -34,12 +35,12 @@ BodiesUseWhatIsGiven = (has : Usable) (d : MethodDef) (e : Term)
 
 -- a body of the forms with objects that is needed in an accepted folder, of a class whose pieces are written, is built with what is written
 abbrev pub AcceptedBodiesUseWhatIsWritten : Type 0
-AcceptedBodiesUseWhatIsWritten = (entries : List EntryPoint) (files : List SourceFile) (w : Classes) (all : List EmittedMethod) (live : List Name) (helpers : List Helper) (written : List Name)
+AcceptedBodiesUseWhatIsWritten = (entries : List EntryPoint) (files : List SourceFile) (w : Classes) (facts : List Fact) (all : List EmittedMethod) (live : List Name) (helpers : List Helper) (written : List Name)
     → IsAccepted entries files w
     → AreBodies w entries all
-    → AreWrittenWith w entries all live helpers written
+    → AreWrittenWith w entries facts all live helpers written
     → (e : EmittedMethod)
     → Contains all e
     → Contains written e.member.class
     → is_object_body e.definition e.its_body ≡ true
-    → is_built_with (used_of w all live helpers written) e.definition e.its_body ≡ true
+    → is_built_with (used_of w facts all live helpers written) e.definition e.its_body ≡ true

@@ -12,10 +12,9 @@ use Rattle.sj_world.specs.Known.{Name, Classes}
 use Rattle.sj_world.specs.declared.facts.Fact.{Fact}
 use Rattle.linked_pieces.specs.Pieces.{piece_of_member}
 
--- the pieces of these classes are written, in a world with these methods, live classes and helpers: what the methods of the classes use is of one of them, and each
+-- the pieces of these classes are written, in a world with these facts, methods, live classes and helpers: what the methods of the classes use is of one of them, and each
 -- helper that they use is there
-pub record AreWrittenWith (w : Classes) (entries : List EntryPoint) (all : List EmittedMethod) (live : List Name) (helpers : List Helper) (written : List Name) : Type 0 where
-  pub facts : List Fact
+pub record AreWrittenWith (w : Classes) (entries : List EntryPoint) (facts : List Fact) (all : List EmittedMethod) (live : List Name) (helpers : List Helper) (written : List Name) : Type 0 where
   pub are_facts : (f : Fact) → Contains facts f ↔ Reachable w entries f
   pub are_live : (c : Name) → Contains live c ↔ IsLive w facts c
   pub owned : (e : EmittedMethod) → Contains all e → Contains written e.member.class → (b : Binding) → Contains (piece_of_member e).uses b → Contains written b.owner

@@ -16,7 +16,7 @@ use Rattle.body_rules.specs.Locals.{local_of}
 use Rattle.sj_proper.specs.Once.{Once, OnceAll, OnceCases}
 use Rattle.sj_trees.proofs.SameTypes.{type-same}
 use Rattle.sj_trees.specs.SameTypes.{is_same_type}
-use Rattle.sj_trees.specs.Term.{Term, Terms, no_terms, more_terms, Cases, no_cases, more_cases, var_def, skip, block_of, labeled, assign, return_to, if_then, while_loop, do_while, match_on, throw, new_object, select, apply_statically, this_ref, apply_static, unary_op, binary_op, undefined_literal, null_literal, boolean_literal, char_literal, byte_literal, short_literal, int_literal, long_literal, string_literal, var_ref, log_line}
+use Rattle.sj_trees.specs.Term.{Term, Terms, no_terms, more_terms, Cases, no_cases, more_cases, var_def, skip, block_of, labeled, assign, return_to, if_then, while_loop, do_while, match_on, throw, new_object, select, select_static, apply_statically, this_ref, apply_static, unary_op, binary_op, undefined_literal, null_literal, boolean_literal, char_literal, byte_literal, short_literal, int_literal, long_literal, string_literal, var_ref, log_line}
 use Rattle.sj_trees.specs.TypeOf.{type_of_term}
 use Rattle.sj_trees.specs.Types.{reference_type}
 use Rattle.sj_trees.specs.declared.classes.ParamDef.{ParamDef}
@@ -344,6 +344,7 @@ module _ (w : Classes) (has : Usable) where
     typed ar s (binary_op p q e d) o h = let k = and_parts (is_here has s (binary_op p q e d)) (is_typed has s e && is_typed has s d) h in let parts = and_parts (is_typed has s e) (is_typed has s d) k.1 in (here ar s (binary_op p q e d) o k.0, typed ar s e o.0 parts.0, typed ar s d o.1 parts.1)
     typed ar s (log_line p e) o h = with_one ar ar s s (log_line p e) e o (typed ar s e) o h
     typed ar s (assign p (select q d c f t) e) o h = impossible h
+    typed ar s (assign p (select_static q c f t) e) o h = impossible h
     typed ar s (throw p e) o h = impossible h
     typed ar s (new_object p c m ts) o h = impossible h
     typed ar s (select p e c f t) o h = impossible h

@@ -13,7 +13,7 @@ use Rattle.sj_names.specs.declared.method_names.Member.{Member}
 use Rattle.typing_rules.specs.declared.labels.Label.{Label}
 use Rattle.typing_rules.specs.Labels.{type_of_label}
 use Rattle.typing_rules.specs.Nodes.{inside}
-use Rattle.sj_trees.specs.Term.{Term, Terms, no_terms, more_terms, Cases, no_cases, more_cases, var_def, skip, block_of, labeled, assign, return_to, if_then, while_loop, do_while, match_on, throw, new_object, select, apply_statically, this_ref, apply_static, unary_op, binary_op, undefined_literal, null_literal, boolean_literal, char_literal, byte_literal, short_literal, int_literal, long_literal, string_literal, var_ref, log_line}
+use Rattle.sj_trees.specs.Term.{Term, Terms, no_terms, more_terms, Cases, no_cases, more_cases, var_def, skip, block_of, labeled, assign, return_to, if_then, while_loop, do_while, match_on, throw, new_object, select, select_static, apply_statically, this_ref, apply_static, unary_op, binary_op, undefined_literal, null_literal, boolean_literal, char_literal, byte_literal, short_literal, int_literal, long_literal, string_literal, var_ref, log_line}
 use Rattle.sj_trees.specs.TypeOf.{type_of_term}
 use Rattle.sj_trees.specs.Types.{reference_type}
 use Rattle.sj_trees.specs.declared.classes.MethodDef.{MethodDef}
@@ -50,13 +50,14 @@ is_nonzero_long (long_literal p z) = not (int_eq z (pos 0))
 is_nonzero_long _ = false
 
 -- what a body can use: the static members that are linked, and those that run on a receiver; the constructors that are; the classes of which objects are
--- made; their fields, with their types; helpers, by their names; and whether it can throw, and name the object that it runs on
+-- made; their fields and the static fields, with their types; helpers, by their names; and whether it can throw, and name the object that it runs on
 pub record Usable : Type 0 where
   pub linked : Member → Bool
   pub received : Member → Bool
   pub built : Member → Bool
   pub made : List ℕ → Bool
   pub field : List ℕ → List ℕ → IrType → Bool
+  pub static_field : List ℕ → List ℕ → IrType → Bool
   pub helper : List ℕ → Bool
   pub objects : Bool
 
@@ -80,7 +81,7 @@ may_pass has rs es = can_box has || not (any_is_boxed rs es)
 
 -- these static members and nothing else
 abbrev pub members_alone : (Member → Bool) → Usable
-members_alone linked = record { linked = linked; received = λ m. false; built = λ m. false; made = λ c. false; field = λ c f t. false; helper = λ x. false; objects = false }
+members_alone linked = record { linked = linked; received = λ m. false; built = λ m. false; made = λ c. false; field = λ c f t. false; static_field = λ c f t. false; helper = λ x. false; objects = false }
 
 -- the operator is a division whose helper can be used
 abbrev pub divides : Usable → BinaryOp → Bool
@@ -111,6 +112,7 @@ module _ (has : Usable) (checked : Term → Bool) where
   stands ls (labeled p l t e) = may_yield has t e
   stands ls (assign p (var_ref q x t) e) = may_box has t e
   stands ls (assign p (select q d c f t) e) = has.field c f t && (checked d && may_box has t e)
+  stands ls (assign p (select_static q c f t) e) = has.static_field c f t && may_box has t e
   stands ls (return_to p e l) = may_leave has (type_of_label ls l) e
   stands ls (if_then p c a b t) = may_yield has t a && may_yield has t b
   stands ls (while_loop p c b) = true
@@ -119,6 +121,7 @@ module _ (has : Usable) (checked : Term → Bool) where
   stands ls (match_on p e cs d t) = may_yield has t d
   stands ls (new_object p c m ts) = has.made c && (has.built (member c Constructor m) && may_pass has m.params ts)
   stands ls (select p e c f t) = has.field c f t && checked e
+  stands ls (select_static p c f t) = has.static_field c f t
   stands ls (apply_statically p e c Private m ts t) = has.received (member c Private m) && (checked e && (may_box has Any e && may_pass has m.params ts))
   stands ls (apply_statically p e c Public m ts t) = has.received (member c Public m) && (checked e && (may_box has Any e && may_pass has m.params ts))
   stands ls (apply_statically p e c Constructor m ts t) = has.built (member c Constructor m) && (is_no_type t && may_pass has m.params ts)
@@ -147,6 +150,7 @@ module _ (has : Usable) (checked : Term → Bool) where
     is_built ls (labeled p l t e) = stands ls (labeled p l t e) && is_built (inside l t ls) e
     is_built ls (assign p (var_ref q x t) e) = stands ls (assign p (var_ref q x t) e) && is_built ls e
     is_built ls (assign p (select q d c f t) e) = stands ls (assign p (select q d c f t) e) && (is_built ls d && is_built ls e)
+    is_built ls (assign p (select_static q c f t) e) = stands ls (assign p (select_static q c f t) e) && is_built ls e
     is_built ls (return_to p e l) = stands ls (return_to p e l) && is_built ls e
     is_built ls (if_then p c a b t) = stands ls (if_then p c a b t) && (is_built ls c && (is_built ls a && is_built ls b))
     is_built ls (while_loop p c b) = is_built ls c && is_built ls b
@@ -191,7 +195,7 @@ has_no_value _ = false
 
 -- whatever is made and used of objects, but for objects that hold chars, for public members that run on a receiver, and for constructors with a value
 abbrev pub any_object : Usable
-any_object = record { linked = λ m. true; received = λ m. is_private m.namespace; built = λ m. has_no_value m.method.result; made = λ c. true; field = λ c f t. true; helper = λ x. not (is_same_text x (codes "$C")); objects = true }
+any_object = record { linked = λ m. true; received = λ m. is_private m.namespace; built = λ m. has_no_value m.method.result; made = λ c. true; field = λ c f t. true; static_field = λ c f t. true; helper = λ x. not (is_same_text x (codes "$C")); objects = true }
 
 -- the body is of these forms, whatever it calls, makes and reads
 abbrev pub is_object_body : MethodDef → Term → Bool

@@ -66,11 +66,11 @@ case (k ∷ ks) body = match_on nowhere (number 1) (more_cases (pos k ∷ []) bo
 
 -- a field can be used, whatever its class, its name and its type are
 abbrev pub with_fields : Usable
-with_fields = record { linked = λ m. true; received = λ m. false; built = λ m. false; made = λ c. false; field = λ c f t. true; helper = λ x. false; objects = false }
+with_fields = record { linked = λ m. true; received = λ m. false; built = λ m. false; made = λ c. false; field = λ c f t. true; static_field = λ c f t. false; helper = λ x. false; objects = false }
 
 -- objects that hold chars can be made
 abbrev pub with_boxes : Usable
-with_boxes = record { linked = λ m. true; received = λ m. false; built = λ m. false; made = λ c. false; field = λ c f t. true; helper = λ x. true; objects = false }
+with_boxes = record { linked = λ m. true; received = λ m. false; built = λ m. false; made = λ c. false; field = λ c f t. true; static_field = λ c f t. false; helper = λ x. true; objects = false }
 
 -- an assignment to a field of this type
 abbrev pub setting : IrType → Term → Term
@@ -87,7 +87,11 @@ pub record WorkedForms : Type 0 where
   pub makes_an_object_of_a_char : not_built (static (new_object nowhere (codes "A") (method_name TypeRef.Int) (more_terms letter no_terms))) ≡ true
   pub sets_a_field : not_built (static (assign nowhere (select nowhere object (codes "A") (codes "f") Int) (number 1))) ≡ false
   pub sets_a_field_to_a_char : not_built (static (assign nowhere (select nowhere object (codes "A") (codes "f") Any) letter)) ≡ true
-  pub sets_a_static_field : not_built (static (assign nowhere (select_static nowhere (codes "A") (codes "f") Int) (number 1))) ≡ true
+  pub sets_a_static_field : not_built (static (assign nowhere (select_static nowhere (codes "A") (codes "f") Int) (number 1))) ≡ false
+  pub sets_a_static_field_to_a_char : not_built (static (assign nowhere (select_static nowhere (codes "A") (codes "f") Any) letter)) ≡ true
+  pub sets_a_static_field_to_what_is_not_built : not_built (static (assign nowhere (select_static nowhere (codes "A") (codes "f") Any) unbuilt)) ≡ true
+  pub reads_a_static_field : not_built (static (select_static nowhere (codes "A") (codes "f") Int)) ≡ false
+  pub reads_a_static_field_it_can_not_use : is_built with_fields (λ e. true) [] (select_static nowhere (codes "A") (codes "f") Int) ≡ false
   pub reads_a_field : not_built (static (select nowhere object (codes "A") (codes "f") Int)) ≡ false
   pub reads_a_field_of_what_is_not_built : not_built (static (select nowhere unbuilt (codes "A") (codes "f") Int)) ≡ true
   pub throws : not_built (static (throw nowhere object)) ≡ false

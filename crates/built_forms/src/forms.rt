@@ -30,6 +30,7 @@ pub fn is_built(tree: &Tree, labels: &Labels) -> bool
         | Tree::LongLiteral(_, _)
         | Tree::StringLiteral(_, _)
         | Tree::VarRef(_, _, _)
+        | Tree::SelectStatic(_, _, _, _)
         | Tree::This(_, _) => true,
         Tree::VarDef(_, _, tpe, _, value) => !is_boxed(tpe, value) && is_built(value, labels),
         Tree::Block(_, trees) => are_built(trees, labels),
@@ -41,6 +42,7 @@ pub fn is_built(tree: &Tree, labels: &Labels) -> bool
             Tree::Select(_, object, _, _, tpe) => {
                 !is_boxed(tpe, value) && is_built(object, labels) && is_built(value, labels)
             }
+            Tree::SelectStatic(_, _, _, tpe) => !is_boxed(tpe, value) && is_built(value, labels),
             _ => false,
         },
         Tree::Return(_, value, label) => {
@@ -86,7 +88,6 @@ pub fn is_built(tree: &Tree, labels: &Labels) -> bool
         | Tree::TryFinally(_, _, _)
         | Tree::LoadModule(_, _)
         | Tree::StoreModule(_, _, _)
-        | Tree::SelectStatic(_, _, _, _)
         | Tree::Apply(_, _, _, _, _)
         | Tree::NewArray(_, _, _)
         | Tree::ArrayValue(_, _, _)

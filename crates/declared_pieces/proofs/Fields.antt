@@ -10,15 +10,15 @@ use Rattle.declared_programs.specs.Declared.{FieldsAreKept}
 use Rattle.file_listings.proofs.ListedClasses.{file_is_listed}
 use Rattle.file_listings.specs.Listed.{AreBytes}
 use Rattle.object_folders.proofs.LinkedPiecesFields.{fields_apart}
-use Rattle.object_folders.specs.Used.{has_field_in}
+use Rattle.object_folders.specs.Used.{has_field_in, has_static_in}
 use Rattle.listing_spelling.specs.Rules.{HasListing, IsListedField}
-use Rattle.object_folders.proofs.Fields.{field_keeps, has_value, field_found, one_field, key_of}
+use Rattle.object_folders.proofs.Fields.{field_keeps, has_value, field_found, static_found, one_field, key_of}
 use Rattle.object_folders.specs.Judged.{IsJudgedClass}
 use Rattle.sj_names.proofs.Same.{impossible}
 use Rattle.sj_names.specs.Grammar.{is_class_name, is_plain_name}
 use Rattle.sj_names.specs.declared.entry_points.EntryPoint.{EntryPoint}
 use Rattle.sj_names.specs.declared.folders.SourceFile.{SourceFile}
-use Rattle.object_folders.specs.Settings.{IsField}
+use Rattle.object_folders.specs.Settings.{IsField, IsStaticField}
 use Rattle.sj_trees.specs.declared.classes.ClassDef.{ClassDef}
 use Rattle.sj_trees.specs.declared.classes.FieldDef.{FieldDef}
 use Rattle.sj_trees.specs.declared.types.IrType.{IrType}
@@ -33,6 +33,15 @@ field_there w c f t h = go (class_of w c) refl h
     go (Some class) e k =
         let its = field_found class.fields f t k in
         record { definition = class; field = its.field; found = same-class w c ∙ e; among = its.among; of_objects = its.instance; named = sym its.name_is; typed = sym its.type_is }
+
+pub static_there : (w : Classes) (c f : Name) (t : IrType) → has_static_in (class_of w c) f t ≡ true → IsStaticField w c f t
+static_there w c f t h = go (class_of w c) refl h
+  where
+    go : (o : Option ClassDef) → class_of w c ≡ o → has_static_in o f t ≡ true → IsStaticField w c f t
+    go None e k = impossible k
+    go (Some class) e k =
+        let its = static_found class.fields f t k in
+        record { definition = class; field = its.field; found = same-class w c ∙ e; among = its.among; of_class = its.static; named = sym its.name_is; typed = sym its.type_is }
 
 nothing_has : HasValue Nothing → ⊥
 nothing_has h = impossible (sym h)
@@ -54,6 +63,6 @@ module _ (entries : List EntryPoint) (files : List SourceFile) (w : Classes) (by
   fields_kept = record {
     class_names = class_named;
     field_names = field_named;
-    once = λ d f g i j k m n e. one_field d.fields (fields_apart d (its d i).unbroken) f g j k (key_of f f.name m refl ∙ sym (key_of g f.name n e));
+    once = λ d f g i j k m e. one_field d.fields (fields_apart d (its d i).unbroken) f g j k (key_of f f.name g.is_static m refl ∙ sym (key_of g f.name g.is_static refl e));
     values = λ d f i k e. nothing_has (subst HasValue e (has_value d f (field_keeps d (its d i).unbroken f k)));
   }

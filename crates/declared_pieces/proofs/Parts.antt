@@ -1,15 +1,20 @@
 -- The constants and the class of a class that is live are among its pieces, and what the class uses.
-use Rattle.std.proofs.Common.{◌≡◌, ◌++◌, ◌||◌, Bool, true, List, [], ◌∷◌, Option, Some, inl, inr, sym, subst}
+use Rattle.std.proofs.Common.{◌≡◌, ◌++◌, ◌||◌, ◌⊎◌, Bool, true, List, [], ◌∷◌, Option, Some, inl, inr, sym, subst}
 use Rattle.std.specs.List.{Contains}
-use Rattle.std.proofs.lemmas.List.Elements.{Contains-append_left, Contains-append_right}
+use Rattle.std.proofs.lemmas.List.Elements.{Contains-append_left, Contains-append_right, Contains-append_cases}
 use Rattle.body_uses.proofs.Given.{IsKept, kept}
 use Rattle.helper_rules.specs.Words.{class_name, bound}
 use Rattle.js_tree.specs.Terms.{Name, Piece}
 use Rattle.js_tree.specs.declared.items.Binding.{Binding}
-use Rattle.object_folders.specs.PieceRulesPieces.{Parts, pieces, when, constants_piece, class_piece, own_constants, uses_of_entries, parent_uses, class_uses, constants_of, class_of, all_statics, module_of, tests_of}
+use Rattle.object_folders.specs.PieceRulesPieces.{Parts, pieces, when, constants_piece, class_piece, own_constants, uses_of_entries, parent_uses, class_uses, constants_of, class_of, all_statics, variable_piece, setter_piece, module_of, tests_of}
 use Rattle.sj_emit_expr.specs.Uses.{once_each}
 use Rattle.sj_names.proofs.Same.{impossible}
-use Rattle.sj_split.proofs.Members.{at_first}
+use Rattle.object_folders.specs.Classes.{AreReached, none_yet, reached, other}
+use Rattle.sj_split.proofs.Members.{at_first, further, cons_cases}
+use Rattle.sj_trees.specs.declared.classes.FieldDef.{FieldDef}
+use Rattle.sj_world.specs.declared.facts.Fact.{Fact}
+use Rattle.sj_world.specs.declared.facts.Fact.TheVariants.{NeededField}
+use Rattle.worklist.proofs.Inserted.{nothing_in}
 use Rattle.sj_world.specs.declared.linked.MethodEntry.{MethodEntry}
 
 module _ (p : Parts) (live : p.is_live ≡ true) where
@@ -30,6 +35,39 @@ module _ (p : Parts) (live : p.is_live ≡ true) where
 
   pub class_there : Contains (pieces p) its_class
   class_there = in_front its_class (Contains-append_right (constants_of p) (class_of p) its_class (subst (λ (b : Bool). Contains (when b (its_class ∷ [])) its_class) (sym live) (at_first its_class [])))
+
+-- and so are the variables of the static fields that are reached, and the functions that set them
+pub statics_among : (p : Parts) (q : Piece) → Contains (all_statics p.class.name p.statics) q → Contains (pieces p) q
+statics_among p q i =
+    Contains-append_left (constants_of p ++ class_of p ++ all_statics p.class.name p.statics ++ module_of p) (tests_of p) q
+    (Contains-append_left (constants_of p ++ class_of p ++ all_statics p.class.name p.statics) (module_of p) q
+    (Contains-append_right (constants_of p ++ class_of p) (all_statics p.class.name p.statics) q i))
+
+pub in_statics : (c : Name) (fs : List FieldDef) (d : FieldDef) → Contains fs d → Contains (all_statics c fs) (variable_piece c d) × Contains (all_statics c fs) (setter_piece c d)
+in_statics c [] d i = nothing_in d i
+in_statics c (f ∷ fs) d i = go (cons_cases f d fs i) (in_statics c fs d)
+  where
+    behind : (q : Piece) → Contains (all_statics c fs) q → Contains (all_statics c (f ∷ fs)) q
+    behind q j = further (variable_piece c f) q (setter_piece c f ∷ all_statics c fs) (further (setter_piece c f) q (all_statics c fs) j)
+
+    go : (f ≡ d) ⊎ Contains fs d → (Contains fs d → Contains (all_statics c fs) (variable_piece c d) × Contains (all_statics c fs) (setter_piece c d)) → Contains (all_statics c (f ∷ fs)) (variable_piece c d) × Contains (all_statics c (f ∷ fs)) (setter_piece c d)
+    go (inl same) later = subst (λ (x : FieldDef). Contains (all_statics c (f ∷ fs)) (variable_piece c x) × Contains (all_statics c (f ∷ fs)) (setter_piece c x)) same (at_first (variable_piece c f) (setter_piece c f ∷ all_statics c fs), further (variable_piece c f) (setter_piece c f) (setter_piece c f ∷ all_statics c fs) (at_first (setter_piece c f) (all_statics c fs)))
+    go (inr rest) later = let both = later rest in (behind (variable_piece c d) both.0, behind (setter_piece c d) both.1)
+
+-- a static field that is needed is reached
+pub is_reached : (known : List Fact) (c : Name) (fs gs : List FieldDef) → AreReached known c fs gs → (d : FieldDef) → Contains fs d → d.is_static ≡ true → Contains known (NeededField c d.name true) → Contains gs d
+is_reached known c _ _ none_yet d i mark need = nothing_in d i
+is_reached known c _ _ (reached f fs gs h is_static there) d i mark need = elim (Contains-append_cases fs (f ∷ []) d i) [
+  | inl first ↦ Contains-append_left gs (f ∷ []) d (is_reached known c fs gs h d first mark need)
+  | inr last ↦ Contains-append_right gs (f ∷ []) d last
+]
+is_reached known c _ _ (other f fs gs h never) d i mark need = elim (Contains-append_cases fs (f ∷ []) d i) [
+  | inl first ↦ is_reached known c fs gs h d first mark need
+  | inr last ↦ elim (cons_cases f d [] last) [
+    | inl same ↦ absurd (never (subst (λ (x : FieldDef). x.is_static ≡ true) (sym same) mark) (subst (λ (x : FieldDef). Contains known (NeededField c x.name true)) (sym same) need))
+    | inr none ↦ nothing_in d none
+  ]
+]
 
 in_once : (bs : List Binding) (b : Binding) → Contains bs b → Contains (once_each [] bs) b
 in_once bs b i = go (kept bs [] b i)

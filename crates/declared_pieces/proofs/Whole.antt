@@ -15,13 +15,13 @@ use Rattle.object_folders.specs.Built.{Usable, is_static, has_no_value}
 use Rattle.class_code.proofs.Markers.{marked}
 use Rattle.declared_pieces.proofs.Blocks.{to_items, OwnPieces, own_pieces, method_there, helper_there}
 use Rattle.declared_pieces.proofs.Chains.{Stands, made_declared}
-use Rattle.declared_pieces.proofs.Fields.{field_there, class_named, fields_kept}
+use Rattle.declared_pieces.proofs.Fields.{field_there, static_there, class_named, fields_kept}
 use Rattle.declared_pieces.proofs.HelperNames.{one_helper}
 use Rattle.declared_pieces.proofs.Live.{next_is, live_next, classes_kept, live_free, live_there}
-use Rattle.declared_pieces.proofs.Parts.{constants_there, class_there, uses_superclass}
+use Rattle.declared_pieces.proofs.Parts.{constants_there, class_there, statics_among, in_statics, is_reached, uses_superclass}
 use Rattle.declared_pieces.specs.Closed.{IsClosed, items_of}
 use Rattle.declared_pieces.specs.Laws.{PiecesDeclare}
-use Rattle.declared_programs.specs.Declared.{Running, alone, on_receiver, completing, running, FunctionDeclared, ClassDeclared, MadeDeclared}
+use Rattle.declared_programs.specs.Declared.{Running, alone, on_receiver, completing, running, FunctionDeclared, ClassDeclared, MadeDeclared, StaticDeclared}
 use Rattle.object_folders.specs.Entries.{IsLive}
 use Rattle.file_listings.specs.Listed.{AreBytes}
 use Rattle.helper_rules.specs.Helpers.{helper_name, helper_item, helper_piece}
@@ -29,12 +29,13 @@ use Rattle.helper_rules.specs.Words.{class_name, bound}
 use Rattle.helper_rules.specs.declared.kinds.Helper.{Helper}
 use Rattle.js_tree.specs.Terms.{Item, Piece}
 use Rattle.object_folders.specs.Pieces.{piece_of_member, AreLinkedPieces}
-use Rattle.object_folders.specs.Used.{used_of, is_among, is_received, is_constructor, is_constructor_without_value}
+use Rattle.object_folders.specs.Used.{used_of, is_among, is_received, is_constructor, is_constructor_without_value, has_static_in, needs_static}
+use Rattle.object_folders.specs.Settings.{IsStaticField}
 use Rattle.object_folders.proofs.Made as made
 use Rattle.object_folders.proofs.Methods.{right_method}
 use Rattle.object_folders.specs.Running.{CanRun}
 use Rattle.object_folders.specs.Classes.{AreSorted, is_own}
-use Rattle.object_folders.specs.PieceRulesPieces.{Parts, constants_piece, entry_member, class_piece}
+use Rattle.object_folders.specs.PieceRulesPieces.{Parts, constants_piece, entry_member, class_piece, all_statics, variable_piece, setter_piece}
 use Rattle.object_folders.proofs.Derivations.{closed}
 use Rattle.object_folders.specs.Rules.{the_object}
 use Rattle.sj_names.proofs.Same.{impossible, text-same, text-refl}
@@ -53,13 +54,16 @@ use Rattle.object_folders.proofs.Same.{has_function-is}
 use Rattle.object_folders.specs.Linked.{has_function}
 use Rattle.sj_split.proofs.Members.{into_filter, from_filter}
 use Rattle.sj_trees.specs.declared.classes.FieldDef.{FieldDef}
+use Rattle.sj_trees.specs.declared.classes.ClassDef.{ClassDef}
+use Rattle.sj_trees.specs.declared.types.IrType.{IrType}
 use Rattle.sj_trees.specs.declared.types.IrType.TheVariants.{NoType}
 use Rattle.sj_world.proofs.OnCycles.{among}
 use Rattle.sj_world.specs.Ancestors.{IsNext}
-use Rattle.sj_world.specs.Known.{Name, Classes, is_hijacked}
+use Rattle.sj_world.specs.Known.{Name, Classes, class_of, is_hijacked}
 use Rattle.sj_world.specs.Linked.{Linked}
 use Rattle.sj_world.specs.Members.{IsMethodOf}
-use Rattle.sj_world.specs.declared.facts.Fact.TheVariants.{Needed}
+use Rattle.sj_world.specs.declared.facts.Fact.{Fact}
+use Rattle.sj_world.specs.declared.facts.Fact.TheVariants.{Needed as NeededClass, NeededField}
 
 static_alone : (n : Namespace) → is_static n ≡ true → running n ≡ alone
 static_alone PublicStatic h = refl
@@ -102,6 +106,15 @@ no_value (Some (References.Class c)) h = impossible h
 no_value (Some (References.Array r)) h = impossible h
 no_value None h = impossible h
 
+some_class : (a b : ClassDef) → ◌≡◌ {A = Option ClassDef} (Some a) (Some b) → a ≡ b
+some_class a b e = cc
+
+-- the fact that says so
+need_is : (c f : Name) (x : Fact) → needs_static c f x ≡ true → x ≡ NeededField c f true
+need_is c f (NeededField d g true) h = let q = and_parts (is_same_text c d) (is_same_text f g) h in ap (λ n. NeededField n g true) (sym (text-same c d q.0)) ∙ ap (λ n. NeededField c n true) (sym (text-same f g q.1))
+need_is c f (NeededField d g false) h = impossible h
+need_is c f _ h = impossible h
+
 -- the fields of the parts are those of instances
 own_fields : (given sorted : List FieldDef) → AreSorted (filter is_own given) sorted → (f : FieldDef) → Contains sorted f → Contains given f × (f.is_static ≡ false)
 own_fields given sorted h f i = let p = from_filter is_own given f (Contains-permutation sorted (filter is_own given) f (IsPermutation-sym (filter is_own given) sorted h.exact) i) in (p.among, no_mark f.is_static p.passes)
@@ -114,7 +127,7 @@ module _ (entries : List EntryPoint) (files : List SourceFile) (l : Linked) (all
   w = l.world
 
   abbrev has : Usable
-  has = used_of w all live p.helpers written
+  has = used_of w l.facts all live p.helpers written
 
   abbrev items : List Item
   items = items_of written ps
@@ -225,6 +238,51 @@ module _ (entries : List EntryPoint) (files : List SourceFile) (l : Linked) (all
   class_made : (c : Name) → (is_among written c && is_among live c) ≡ true → MadeDeclared w has items c
   class_made c h = let q = and_parts (is_among written c) (is_among live c) h in made_declared w (classes_kept entries files w bytes a) a.world.no_cycle has items Good stands c (record { is_live = (among live c).0 q.1; is_written = (among written c).0 q.0 })
 
+  -- static fields
+
+  record Needed (c f : Name) (t : IrType) : Type 0 where
+    here : Contains written c
+    fact : Contains l.facts (NeededField c f true)
+    field : IsStaticField w c f t
+
+  needed_static : (c f : Name) (t : IrType) → has.static_field c f t ≡ true → Needed c f t
+  needed_static c f t h =
+      let q = and_parts (is_among written c) (list_any (needs_static c f) l.facts && has_static_in (class_of w c) f t) h in
+      let r = and_parts (list_any (needs_static c f) l.facts) (has_static_in (class_of w c) f t) q.1 in
+      let found = Any-from_list_any (needs_static c f) l.facts r.0 in
+      record { here = (among written c).0 q.0; fact = subst (Contains l.facts) (need_is c f found.1 found.4) (found.0, found.2, found.3); field = static_there w c f t r.1 }
+
+  static_declared : (c f : Name) (t : IrType) → has.static_field c f t ≡ true → StaticDeclared w items c f t
+  static_declared c f t h = record {
+    field = need.field;
+    variable = to_items written ps (variable_piece c d) (subst (λ (n : Name). Contains ps (variable_piece n d)) named (own.there (variable_piece its.class.name d) (statics_among its (variable_piece its.class.name d) there.0))) need.here;
+    setter = to_items written ps (setter_piece c d) (subst (λ (n : Name). Contains ps (setter_piece n d)) named (own.there (setter_piece its.class.name d) (statics_among its (setter_piece its.class.name d) there.1))) need.here;
+  }
+    where
+      need : Needed c f t
+      need = needed_static c f t h
+
+      d : FieldDef
+      d = need.field.field
+
+      found : class_of w c ≡ Some need.field.definition
+      found = sym (same-class w c) ∙ need.field.found
+
+      own : OwnPieces l all ps p c
+      own = own_pieces l all ps p c need.field.definition found
+
+      its : Parts
+      its = own.parts
+
+      named : its.class.name ≡ c
+      named = (class_found w c its.class own.are.class_is).1
+
+      among_fields : Contains its.class.fields d
+      among_fields = subst (λ (k : ClassDef). Contains k.fields d) (some_class need.field.definition its.class (sym found ∙ own.are.class_is)) need.field.among
+
+      there : Contains (all_statics its.class.name its.statics) (variable_piece its.class.name d) × Contains (all_statics its.class.name its.statics) (setter_piece its.class.name d)
+      there = in_statics its.class.name its.statics d (Contains-permutation own.are.statics.reached its.statics d own.are.statics.sorted.exact (is_reached l.facts c its.class.fields own.are.statics.reached own.are.statics.are_reached d among_fields need.field.of_class (subst (λ (n : Name). Contains l.facts (NeededField c n true)) (sym need.field.named) need.fact)))
+
   -- helpers
 
   abbrev IsNamed : Name → Helper → Bool
@@ -248,7 +306,7 @@ module _ (entries : List EntryPoint) (files : List SourceFile) (l : Linked) (all
 
   helper_here : (h : Helper) → IsWritten h → Contains items (helper_item p.above h)
   helper_here h i =
-      let k = made.present w entries a.resolved (classes_kept entries files w bytes a) object (closed w entries (Needed object) the_object) in
+      let k = made.present w entries a.resolved (classes_kept entries files w bytes a) object (closed w entries (NeededClass object) the_object) in
       to_items written ps (helper_piece p.above h) (helper_there l all ps p k.0 k.1 h i.among_helpers) i.with_object
 
 pub pieces_declare : PiecesDeclare
@@ -258,11 +316,12 @@ pieces_declare entries files l all live written ps bytes a bodies p are_live run
   built = constructor_declared entries files l all live written ps bytes a bodies p are_live run owned;
   made = class_made entries files l all live written ps bytes a bodies p are_live run owned;
   field = field_there l.world;
+  static_field = static_declared entries files l all live written ps bytes a bodies p are_live run owned;
   kept = fields_kept entries files l.world bytes a;
   ancestors = p.above;
   helper = λ h e. let i = written_there h e in (covered h i.among_helpers, helper_here entries files l all live written ps bytes a bodies p are_live run owned h i);
   helpers = λ h k e used. let i = written_there h e in helper_had entries files l all live written ps bytes a bodies p are_live run owned k (record { among_helpers = run.closed h k i.among_helpers used; with_object = i.with_object });
 }
   where
-    written_there : (h : Helper) → (used_of l.world all live p.helpers written).helper (helper_name h) ≡ true → IsWritten entries files l all live written ps bytes a bodies p are_live run owned h
+    written_there : (h : Helper) → (used_of l.world l.facts all live p.helpers written).helper (helper_name h) ≡ true → IsWritten entries files l all live written ps bytes a bodies p are_live run owned h
     written_there h e = helper_written entries files l all live written ps bytes a bodies p are_live run owned h e

@@ -32,7 +32,7 @@ PiecesDeclare = (entries : List EntryPoint) (files : List SourceFile) (l : Linke
     → CanRun l.world entries l.facts all live p.helpers written
     → IsClosed ps written
     → ((h : Helper) → Contains p.helpers h → is_covered h ≡ true)
-    → Declared l.world (used_of l.world all live p.helpers written) (items_of written ps)
+    → Declared l.world (used_of l.world l.facts all live p.helpers written) (items_of written ps)
 
 -- and they do nothing but declare
 abbrev pub PiecesAreDeclarations : Type 0

@@ -1,5 +1,5 @@
 -- A file that declares what can be used: its state behind the declarations stands for the opening of the IR, and it has what objects ask.
-use Rattle.std.proofs.Common.{◌≡◌, ◌≤◌, ℕ, zero, suc, ◌+◌, Bool, true, false, List, [], ◌∷◌, ◌++◌, ◌&&◌, length, map, slice_get, refl, sym, ap, ◌∙◌, subst, Contains, ◌⊎◌, inl, inr, ⊎_elim, Option, Some, None, cond, codes, arith}
+use Rattle.std.proofs.Common.{◌≡◌, ◌≤◌, ℕ, zero, suc, Bool, true, false, List, [], ◌∷◌, ◌++◌, ◌&&◌, length, map, slice_get, refl, sym, ap, ◌∙◌, subst, Contains, inl, inr, ⊎_elim, Option, Some, None, cond, codes, arith}
 use Rattle.std.specs.Prelude.{nat_eq, pos}
 use Rattle.std.specs.List.{list_all, list_any}
 use Rattle.std.specs.Cmp.Lexicographic.{pointwise}
@@ -11,8 +11,8 @@ use Rattle.body_rules.proofs.Lists.{nothing_in, in_front_or_behind, at_front, fu
 use Rattle.body_rules.specs.Standing.{is_bare}
 use Rattle.body_soundness.specs.Laws.{ObjectLaws}
 use Rattle.built_forms.specs.Built.{Usable, can_box, divides}
-use Rattle.file_tops.proofs.Run.{each, some_same}
-use Rattle.file_tops.specs.Tops.{literal_properties, link}
+use Rattle.file_tops.proofs.Run.{some_same}
+use Rattle.file_tops.specs.Tops.{literal_value, literal_properties, link}
 use Rattle.helper_rules.specs.Helpers.{helper_name, helper_item, used_helpers, constants, marker_property, box_constructor}
 use Rattle.helper_rules.specs.Words.{class_name, constants_name, marker}
 use Rattle.helper_rules.specs.declared.kinds.Failure.TheVariants.{NullReceiver, Division}
@@ -29,22 +29,23 @@ use Rattle.js_mean.specs.Objects.{with_property, no_properties}
 use Rattle.js_mean.specs.Proper.{are_distinct, item_names, is_proper_item, is_proper_module}
 use Rattle.js_mean.specs.Shows.{object_shown, char_shown}
 use Rattle.js_mean.specs.States as js
-use Rattle.js_tree.specs.Terms.{Name, Statements, Member, constructor_of, Item, function_item, object_item, Module}
+use Rattle.js_tree.specs.Terms.{Name, Statements, Member, constructor_of, Item, function_item, object_item, let_item, Module}
 use Rattle.js_tree.specs.Views.{statements_of}
-use Rattle.piece_rules.specs.Pieces.{class_item_of, constructor_body}
-use Rattle.sj_calls.proofs.Shapes.{stands_there}
+use Rattle.piece_rules.specs.Pieces.{class_item_of, constructor_body, setter, zero_of as zero_literal}
+use Rattle.sj_calls.proofs.Shapes.{stands_there, zero_alike}
 use Rattle.sj_calls.proofs.Whole.{module_there, own_name, alone, place_of}
 use Rattle.sj_calls.specs.Chains as chains
 use Rattle.sj_calls.specs.Helpers.{HelperStands, BoxStands, failing_code, checking_code, division_code}
 use Rattle.sj_calls.specs.Methods.{Linked, parameters_in, function_of}
 use Rattle.sj_calls.specs.Objects.{RunsOn, Constructs, function_on, body_of}
 use Rattle.sj_calls.specs.Objects as on_objects
-use Rattle.sj_calls.specs.Worlds.{IsMade, CanCheck, CanDivide, HasObjects}
+use Rattle.sj_calls.specs.Made.{zero_value}
+use Rattle.sj_calls.specs.Worlds.{IsMade, CanCheck, CanDivide, StaticStands, setter_code, HasObjects}
 use Rattle.sj_core.specs.Terms.{named, receiver}
 use Rattle.sj_desugar.specs.Desugar.{is_mutable_in, names_of, body_code, completed, desugared_member}
 use Rattle.sj_emit_expr.specs.Members.{with_receiver, member_piece}
 use Rattle.sj_emit_expr.specs.Names.{variable_name, label_name}
-use Rattle.sj_emit_expr.specs.Templates.{check_name, member_name, parameter_names, statement_templates}
+use Rattle.sj_emit_expr.specs.Templates.{check_name, member_name, static_name, setter_name, parameter_names, statement_templates}
 use Rattle.sj_mangling.specs.Bindings.{class_binding}
 use Rattle.sj_mangling.specs.declared.bindings.ClassBinding.TheVariants.{Marker}
 use Rattle.sj_names.proofs.Same.{impossible}
@@ -52,7 +53,7 @@ use Rattle.sj_names.specs.declared.entry_points.EntryPoint.{EntryPoint}
 use Rattle.sj_names.specs.declared.method_names.Member.{Member as MemberName}
 use Rattle.sj_names.specs.declared.method_names.Namespace.{Namespace}
 use Rattle.sj_names.specs.declared.method_names.Namespace.TheVariants.{Public, PublicStatic, Private, PrivateStatic, Constructor}
-use Rattle.sj_plain.specs.Settings.{Place, Top, a_function, a_method, a_constructor, a_class, some_constants, a_helper, top_name, is_usable, IsField, HasField, HoldsConstants, TopHolds, SameHeap, SameState, Reaches, link_of, division_helper}
+use Rattle.sj_plain.specs.Settings.{Place, Top, a_function, a_method, a_constructor, a_class, some_constants, a_static, a_setter, a_helper, top_name, is_usable, IsField, HasField, Holding, holding, HoldsConstants, TopHolds, SameHeap, SameState, Reaches, link_of, division_helper}
 use Rattle.sj_plain.specs.Worlds.{World}
 use Rattle.sj_proper.specs.Emitted.{call_item_of}
 use Rattle.sj_trees.specs.Term.{Term}
@@ -63,12 +64,12 @@ use Rattle.sj_trees.specs.declared.classes.MethodDef.{MethodDef}
 use Rattle.sj_trees.specs.declared.operators.BinaryOp.{BinaryOp}
 use Rattle.sj_trees.specs.declared.operators.BinaryOp.TheVariants.{IntDivide, IntRemainder, LongDivide, LongRemainder}
 use Rattle.sj_trees.specs.declared.types.IrType.{IrType}
-use Rattle.sj_trees.specs.declared.types.IrType.TheVariants.{Any, Class}
+use Rattle.sj_trees.specs.declared.types.IrType.TheVariants.{Any, Class, Undefined, Boolean, Char, Byte, Short, Int, Long, String}
 use Rattle.declared_programs.specs.Declarations.{Holds, behind, AllHold}
 use Rattle.declared_programs.specs.Declared as declared
 use Rattle.declared_programs.specs.Declared.{Running, alone as by_itself, on_receiver, completing, running, FunctionDeclared, ClassDeclared, ChainDeclared, Declared}
 use Rattle.declared_programs.specs.Files.{module_declaring}
-use Rattle.declared_programs.proofs.Fields.{fields_differ, begins}
+use Rattle.declared_programs.proofs.Fields.{fields_differ, begins, statics_differ, static_begins}
 use Rattle.declared_programs.proofs.Items.{IsClassItem, alone as class_alone, extending, code_found, members_found}
 
 -- an item among those that hold what they are to hold
@@ -95,6 +96,18 @@ chain_length w (suc k) seen c = go (list_any (is_same c) seen) (next_on_chain w 
     go true o below = omega arith
     go false None below = omega arith
     go false (Some d) below = let h : length (chain_from w k (c ∷ seen) d) ≤ k = below d in omega (arith, h)
+
+-- what the variable of a static field begins with
+zero_literal_is : (t : IrType) → literal_value (zero_literal t) ≡ Some (zero_value t)
+zero_literal_is Boolean = refl
+zero_literal_is Char = refl
+zero_literal_is Byte = refl
+zero_literal_is Short = refl
+zero_literal_is Int = refl
+zero_literal_is Long = refl
+zero_literal_is String = refl
+zero_literal_is Undefined = refl
+zero_literal_is _ = refl
 
 module _ (w : ir_world.World) (f : Name) (has : Usable) (is : List Item) (es : List EntryPoint) where
   abbrev module_here : Module
@@ -233,6 +246,14 @@ module _ (w : ir_world.World) (f : Name) (has : Usable) (is : List Item) (es : L
       field_here : (c g : Name) (t : IrType) → has.field c g t ≡ true → HasField place c g t
       field_here c g t l = record { field = can.field c g t l; value = (laws.fields c g t l).0; differ = fields_differ place can.kept }
 
+      static_here : (c g : Name) (t : IrType) → has.static_field c g t ≡ true → StaticStands place c g t
+      static_here c g t l = let its = can.static_field c g t l in record {
+        field = record { field = its.field; value = (laws.statics c g t l).0; differ = statics_differ place can.kept };
+        beside = refl;
+        sets = function_there (setter_name c g) (setter_code c g).parameters (setter_code c g).body (subst (λ n. Contains is (setter (setter_name c n) (static_name c n))) its.field.named its.setter);
+        owned = own_name f module_here (static_name c g) refl;
+      }
+
       check_here : has.helper check_name ≡ true → CanCheck place
       check_here l = let t = can.helpers helpers.NotNull (helpers.Throws NullReceiver) l (at_front (helpers.Throws NullReceiver) []) in record {
         check = function_there (helper_name helpers.NotNull) checking_code.parameters checking_code.body (failing_here helpers.NotNull l);
@@ -274,7 +295,7 @@ module _ (w : ir_world.World) (f : Name) (has : Usable) (is : List Item) (es : L
       }
 
       pub has_objects : HasObjects place
-      has_objects = record { linked = λ g m l. linked_here m l; received = λ g m l. runs_here m l; built = λ g m l. constructs_here m l; made = λ g c l. made_here c l; objects = λ g c l. object_here c l; field = λ g c x t l. field_here c x t l; checked = λ g l. check_here l; divided = λ g o l. divided_here o l; boxes = λ g l. box_here l; each = omega arith; beyond = omega arith }
+      has_objects = record { linked = λ g m l. linked_here m l; received = λ g m l. runs_here m l; built = λ g m l. constructs_here m l; made = λ g c l. made_here c l; objects = λ g c l. object_here c l; field = λ g c x t l. field_here c x t l; statics = λ g c x t l. static_here c x t l; checked = λ g l. check_here l; divided = λ g o l. divided_here o l; boxes = λ g l. box_here l; each = omega arith; beyond = omega arith }
 
     -- the state behind the declarations
     module _ (t : js.State) (hold : AllHold f t 0 is) where
@@ -329,7 +350,19 @@ module _ (w : ir_world.World) (f : Name) (has : Usable) (is : List Item) (es : L
       top_held (a_constructor m) l = (held_in (member_item (can.built m l).0) (can.built m l).0.function).1
       top_held (a_class c) l = let k = can.made c l in class_held c k.above k.classes ∙ ap (λ cs. js.holds false (js.class (map (link_of place) cs))) (sym k.chain)
       top_held (some_constants c) l = let k = can.made c l in first_constants c k.above k.classes
+      top_held (a_static c g k) l = tt
+      top_held (a_setter c g k) l = let its = can.static_field c g k l in (held_in (setter (setter_name c g) (static_name c g)) (subst (λ n. Contains is (setter (setter_name c n) (static_name c n))) its.field.named its.setter)).1
       top_held (a_helper h) l = let k = can.helper h l in helper_held h k.0 k.1
 
+      -- the variable of a static field holds the zero of its type
+      static_held : (c g : Name) (k : IrType) → has.static_field c g k ≡ true → Holding begun k (ir_world.statics_in (ir_world.class_of w c) g) (t.tops f (static_name c g))
+      static_held c g k l =
+          let its = can.static_field c g k l in
+          let its_zero = static_begins place can.kept c g k its.field in
+          let item = let_item (static_name c its.field.field.name) (zero_literal its.field.field.tpe) in
+          let held = (held_in item its.variable).1 in
+          let same = some_same held.value (zero_value k) (sym held.literal ∙ ap (λ u. literal_value (zero_literal u)) its.field.typed ∙ zero_literal_is k) in
+          subst (λ o. Holding begun k o (t.tops f (static_name c g))) (sym its_zero.zero) (subst (Holding begun k (Some (ir_world.zero_of k))) (sym (ap (λ n. t.tops f (static_name c n)) (sym its.field.named) ∙ held.held ∙ ap (js.holds false) same)) (holding (ir_world.zero_of k) (zero_value k) (zero_alike begun k its_zero.values)))
+
       pub same_begins : SameState place begun (ir_world.opening w) t
-      same_begins = record { heaps = heaps_begin; tops = λ g x l. top_held x l }
+      same_begins = record { heaps = heaps_begin; tops = λ g x l. top_held x l; statics = λ g c x k l. static_held c x k l }

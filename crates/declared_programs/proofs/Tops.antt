@@ -1,5 +1,5 @@
 -- Declarations come to a state in which each binding holds what it is to hold.
-use Rattle.std.proofs.Common.{◌≡◌, ℕ, zero, suc, ◌+◌, Bool, true, false, List, [], ◌∷◌, ◌++◌, ◌||◌, length, slice_get, Option, Some, None, is_some, refl, sym, ap, ◌∙◌, subst, Contains, ◌⊎◌, inl, inr, ⊎_elim, cond}
+use Rattle.std.proofs.Common.{◌≡◌, ℕ, zero, suc, Bool, true, false, List, [], ◌∷◌, ◌++◌, ◌||◌, length, slice_get, Option, Some, None, is_some, refl, sym, ap, ◌∙◌, subst, Contains, ◌⊎◌, inl, inr, ⊎_elim, cond}
 use Rattle.std.specs.List.{list_all}
 use Rattle.std.proofs.lemmas.Bool.{and_parts, or_cases}
 use Rattle.std.proofs.lemmas.List.Elements.{Contains-append_left}

@@ -106,7 +106,7 @@ fields_kept : FieldsAreKept object_world
 fields_kept = record {
   class_names = each_class (λ d. IsTrue (is_class_name d.name)) refl refl;
   field_names = λ d f i h. each_field (λ x. IsTrue (is_plain_name x.name)) refl d i f h;
-  once = λ d f g i h k s t e. sym (the_only_field d i f h) ∙ the_only_field d i g k;
+  once = λ d f g i h k s e. sym (the_only_field d i f h) ∙ the_only_field d i g k;
   values = λ d f i h e. let none : Int ≡ Nothing = ap (λ (x : FieldDef). x.tpe) (the_only_field d i f h) ∙ e in cc;
 }
 
@@ -120,6 +120,7 @@ all_declared = record {
   built = λ m h. subst Completes (sym (member-same m (member class_name Constructor init_name) h)) (init_declared, refl);
   made = λ c h. made_declared c (made_is c h);
   field = λ c f t h. field_declared c f t (field_is c f t h);
+  static_field = λ c f t h. impossible h;
   kept = fields_kept;
   ancestors = λ k. [];
   helper = λ h l. impossible l;

@@ -13,7 +13,7 @@ use Rattle.ir_mean.specs.World.{World, class_of}
 use Rattle.js_mean.specs.Shows.{class_marked}
 use Rattle.js_tree.specs.Terms.{Name, Item, Member, constructor_of}
 use Rattle.js_tree.specs.Views.{statements_of}
-use Rattle.piece_rules.specs.Pieces.{constants_piece, class_item_of, constructor_body}
+use Rattle.piece_rules.specs.Pieces.{constants_piece, class_item_of, constructor_body, variable_piece, setter_piece}
 use Rattle.sj_desugar.specs.Desugar.{desugared_member}
 use Rattle.sj_emit_expr.specs.Members.{member_piece}
 use Rattle.sj_names.specs.Grammar.{is_class_name, is_plain_name}
@@ -21,7 +21,7 @@ use Rattle.sj_names.specs.Same.{is_same_text}
 use Rattle.sj_names.specs.declared.method_names.Member.{Member as MemberName}
 use Rattle.sj_names.specs.declared.method_names.Namespace.{Namespace}
 use Rattle.sj_names.specs.declared.method_names.Namespace.TheVariants.{Public, PublicStatic, Private, PrivateStatic, Constructor}
-use Rattle.sj_plain.specs.Settings.{IsField}
+use Rattle.sj_plain.specs.Settings.{IsField, IsStaticField}
 use Rattle.sj_trees.specs.declared.classes.ClassDef.{ClassDef}
 use Rattle.sj_trees.specs.declared.classes.FieldDef.{FieldDef}
 use Rattle.sj_trees.specs.declared.types.IrType.{IrType}
@@ -78,21 +78,29 @@ is_covered (ConstantsOf _) = false
 is_covered ArrayClass = false
 is_covered _ = true
 
--- names of classes and fields are in their grammar; an instance field has its own name in its class, and a type of which there are values
+-- names of classes and fields are in their grammar; a field has its own name in its class, among the instance fields or the static ones, and a type of which there are
+-- values
 pub record FieldsAreKept (w : World) : Type 0 where
   pub class_names : (d : ClassDef) → Contains w d → IsTrue (is_class_name d.name)
   pub field_names : (d : ClassDef) (f : FieldDef) → Contains w d → Contains d.fields f → IsTrue (is_plain_name f.name)
-  pub once : (d : ClassDef) (f g : FieldDef) → Contains w d → Contains d.fields f → Contains d.fields g → f.is_static ≡ false → g.is_static ≡ false → f.name ≡ g.name → f ≡ g
+  pub once : (d : ClassDef) (f g : FieldDef) → Contains w d → Contains d.fields f → Contains d.fields g → f.is_static ≡ g.is_static → f.name ≡ g.name → f ≡ g
   pub values : (d : ClassDef) (f : FieldDef) → Contains w d → Contains d.fields f → f.tpe ≡ Nothing → ⊥
 
--- all that can be used is declared by these items: each member as it runs, a constructor without a value; each class that is made; each field; and each helper, with those
--- that it uses
+-- a static field of the class, its variable, which begins at the zero of its type, and the function that sets it
+pub record StaticDeclared (w : World) (is : List Item) (c f : Name) (t : IrType) : Type 0 where
+  pub field : IsStaticField w c f t
+  pub variable : Contains is (variable_piece c field.field).item
+  pub setter : Contains is (setter_piece c field.field).item
+
+-- all that can be used is declared by these items: each member as it runs, a constructor without a value; each class that is made; each field and each static field; and each
+-- helper, with those that it uses
 pub record Declared (w : World) (has : Usable) (is : List Item) : Type 0 where
   pub linked : (m : MemberName) → has.linked m ≡ true → FunctionDeclared w has is alone m
   pub received : (m : MemberName) → has.received m ≡ true → FunctionDeclared w has is on_receiver m
   pub built : (m : MemberName) → has.built m ≡ true → (b : FunctionDeclared w has is completing m) × (b.right.definition.result ≡ NoType)
   pub made : (c : Name) → has.made c ≡ true → MadeDeclared w has is c
   pub field : (c f : Name) (t : IrType) → has.field c f t ≡ true → IsField w c f t
+  pub static_field : (c f : Name) (t : IrType) → has.static_field c f t ≡ true → StaticDeclared w is c f t
   pub kept : FieldsAreKept w
   pub ancestors : Above
   pub helper : (h : Helper) → has.helper (helper_name h) ≡ true → (is_covered h ≡ true) × Contains is (helper_item ancestors h)

@@ -142,7 +142,7 @@ module _ (entries : List EntryPoint) (files : List SourceFile) (l : Linked) (all
   lives = are_live l all live_there ps p
 
   abbrev has : Usable
-  has = used_of w all its_live p.helpers written
+  has = used_of w l.facts all its_live p.helpers written
 
   owned : IsClosed ps written
   owned = pieces_closed entries ps written are
@@ -179,9 +179,8 @@ module _ (entries : List EntryPoint) (files : List SourceFile) (l : Linked) (all
     once : DefinesOnce e.definition e.its_body
     once = body_keeps its_owner.owner e.definition e.its_body (bodies.found e i).has_body (class-keeps its_owner.owner (judged entries files w bytes a its_owner.owner its_owner.in_world).unbroken e.definition its_owner.listed)
 
-  uses : AreWrittenWith w entries all its_live p.helpers written
+  uses : AreWrittenWith w entries l.facts all its_live p.helpers written
   uses = record {
-    facts = l.facts;
     are_facts = exact;
     are_live = lives;
     owned = λ e i here b u. owned (piece_of_member e) (there e i) here b u;
@@ -203,7 +202,7 @@ module _ (entries : List EntryPoint) (files : List SourceFile) (l : Linked) (all
   run = record {
     reached = holds;
     are_live = λ c. (lives c).0;
-    are_built = λ e i here. accepted_bodies entries files w all its_live p.helpers written a bodies uses e i here (objects e i);
+    are_built = λ e i here. accepted_bodies entries files w l.facts all its_live p.helpers written a bodies uses e i here (objects e i);
     closed = λ h g i u. (p.are_helpers.exact g).1 (by_helper h g ((p.are_helpers.exact h).0 i) u);
     thrown = thrown;
   }

@@ -16,6 +16,8 @@ use Rattle.sj_trees.specs.declared.classes.ClassDef.{ClassDef}
 use Rattle.sj_trees.specs.declared.classes.FieldDef.{FieldDef}
 use Rattle.sj_trees.specs.declared.types.IrType.{IrType}
 use Rattle.sj_world.specs.Known.{Name, Classes, class_of}
+use Rattle.sj_world.specs.declared.facts.Fact.{Fact}
+use Rattle.sj_world.specs.declared.facts.Fact.TheVariants.{NeededField}
 
 abbrev pub is_among : List Name → Name → Bool
 is_among names name = list_any (is_same_text name) names
@@ -40,15 +42,29 @@ abbrev pub has_field_in : Option ClassDef → Name → IrType → Bool
 has_field_in None f t = false
 has_field_in (Some c) f t = list_any (is_its_field f t) c.fields
 
--- what the code can use, of a world with these methods, live classes and helpers, where the pieces of these classes are written: their members and
--- their constructors that have no value, their objects, each instance field of the world, and the helpers
-abbrev pub used_of : Classes → List EmittedMethod → List Name → List Helper → List Name → Usable
-used_of w all live helpers written = record {
+-- a static field of this name and type
+abbrev pub is_its_static : Name → IrType → FieldDef → Bool
+is_its_static f t d = d.is_static && (is_same_text f d.name && is_same_type t d.tpe)
+
+abbrev pub has_static_in : Option ClassDef → Name → IrType → Bool
+has_static_in None f t = false
+has_static_in (Some c) f t = list_any (is_its_static f t) c.fields
+
+-- that this static field is needed
+abbrev pub needs_static : Name → Name → Fact → Bool
+needs_static c f (NeededField d g is_static) = is_static && (is_same_text c d && is_same_text f g)
+needs_static c f _ = false
+
+-- what the code can use, of a world with these facts, methods, live classes and helpers, where the pieces of these classes are written: their members and
+-- their constructors that have no value, their objects, each instance field of the world, their static fields that are needed, and the helpers
+abbrev pub used_of : Classes → List Fact → List EmittedMethod → List Name → List Helper → List Name → Usable
+used_of w facts all live helpers written = record {
   linked = λ m. is_static m.namespace && (is_among written m.class && has_function all m);
   received = λ m. is_received m.namespace && (is_among written m.class && has_function all m);
   built = λ m. is_constructor_without_value m && (is_among written m.class && has_function all m);
   made = λ c. is_among written c && is_among live c;
   field = λ c f t. has_field_in (class_of w c) f t;
+  static_field = λ c f t. is_among written c && (list_any (needs_static c f) facts && has_static_in (class_of w c) f t);
   helper = λ x. is_among written object && list_any (λ h. is_same_text x (helper_name h)) helpers;
   objects = true;
 }

@@ -1,4 +1,4 @@
--- The instance fields of a class that keeps the local rules.
+-- The fields of a class that keeps the local rules.
 use Rattle.std.proofs.Common.{◌≡◌, ◌⊎◌, ◌&&◌, ◌||◌, not, ℕ, Bool, true, false, List, [], ◌∷◌, Option, Some, None, inl, inr, refl, sym, ap, subst, ◌∙◌, Contains, arith, if◌then◌else◌}
 use Rattle.std.specs.Prelude.{option_map}
 use Rattle.std.specs.List.{list_any}
@@ -10,10 +10,10 @@ use Rattle.accepted_folders.proofs.Plain.{class_found}
 use Rattle.accepted_folders.specs.Locals.{HasValue}
 use Rattle.accepted_folders.proofs.Chains.{has_fields}
 use Rattle.accepted_folders.specs.Worlds.{HasFields}
-use Rattle.ir_mean.specs.World.{instance_zero, zeros_in, zero_of}
+use Rattle.ir_mean.specs.World.{instance_zero, zeros_in, static_zero, statics_in, zero_of}
 use Rattle.ir_mean.specs.World as ir
 use Rattle.linked_pieces.proofs.Fields.{Apart, is_same_field, from_key, fields_apart}
-use Rattle.linked_pieces.specs.Used.{is_its_field, has_field_in}
+use Rattle.linked_pieces.specs.Used.{is_its_field, has_field_in, is_its_static, has_static_in}
 use Rattle.accepted_folders.proofs.Classes.{none-each, none-passes, keeps-hijacked}
 use Rattle.accepted_folders.proofs.Types.{empty-is}
 use Rattle.sj_local.specs.Broken.{FirstBroken, Breaks, all_rules, at_member}
@@ -64,6 +64,21 @@ field_found fs f t h =
     let q = and_parts (is_same_text f a.1.name) (is_same_type t a.1.tpe) p.1 in
     record { field = a.1; among = (a.0, a.2, a.3); instance = not_true a.1.is_static p.0; name_is = text-same f a.1.name q.0; type_is = type-same t a.1.tpe q.1 }
 
+-- a static field of this name and type among fields
+pub record IsStaticAmong (fs : List FieldDef) (f : Name) (t : IrType) : Type 0 where
+  pub field : FieldDef
+  pub among : Contains fs field
+  pub static : field.is_static ≡ true
+  pub name_is : f ≡ field.name
+  pub type_is : t ≡ field.tpe
+
+pub static_found : (fs : List FieldDef) (f : Name) (t : IrType) → list_any (is_its_static f t) fs ≡ true → IsStaticAmong fs f t
+static_found fs f t h =
+    let a = Any-from_list_any (is_its_static f t) fs h in
+    let p = and_parts a.1.is_static (is_same_text f a.1.name && is_same_type t a.1.tpe) a.4 in
+    let q = and_parts (is_same_text f a.1.name) (is_same_type t a.1.tpe) p.1 in
+    record { field = a.1; among = (a.0, a.2, a.3); static = p.0; name_is = text-same f a.1.name q.0; type_is = type-same t a.1.tpe q.1 }
+
 -- two fields that are apart have two keys
 pub one_field : (fs : List FieldDef) → Apart fs → (a b : FieldDef) → Contains fs a → Contains fs b → field_key a ≡ field_key b → a ≡ b
 one_field [] h a b i k e = nothing_in a i
@@ -75,8 +90,8 @@ one_field (x ∷ xs) h a b i k e = go (in_front_or_behind x xs a i) (in_front_or
     go (inr p) (inl q) later = impossible (sym (h.0 a p) ∙ subst (λ (y : FieldDef). is_same_field y a ≡ true) (sym q) (from_key b a (sym e)))
     go (inr p) (inr q) later = later p q
 
-pub key_of : (d : FieldDef) (f : Name) → d.is_static ≡ false → f ≡ d.name → field_key d ≡ record { is_static = false; name = f }
-key_of d f mark name = (λ i. record { is_static = mark i; name = sym name i })
+pub key_of : (d : FieldDef) (f : Name) (b : Bool) → d.is_static ≡ b → f ≡ d.name → field_key d ≡ record { is_static = b; name = f }
+key_of d f b mark name = (λ i. record { is_static = mark i; name = sym name i })
 
 -- among fields that are apart, an instance field is at first at the zero of its type
 zero_there : (fs : List FieldDef) → Apart fs → (d : FieldDef) (f : Name) → Contains fs d → d.is_static ≡ false → f ≡ d.name → instance_zero fs f ≡ Some (zero_of d.tpe)
@@ -87,9 +102,26 @@ zero_there (x ∷ xs) h d f i mark name = go (not x.is_static && is_same_text f 
     tested e = subst (λ (y : FieldDef). (not y.is_static && is_same_text f y.name) ≡ true) (sym e) (and_from (not d.is_static) (is_same_text f d.name) (ap not mark) (subst (λ (n : Name). is_same_text f n ≡ true) name (text-refl f)))
 
     same : (not x.is_static && is_same_text f x.name) ≡ true → field_key x ≡ field_key d
-    same t = let p = and_parts (not x.is_static) (is_same_text f x.name) t in key_of x f (not_true x.is_static p.0) (text-same f x.name p.1) ∙ sym (key_of d f mark name)
+    same t = let p = and_parts (not x.is_static) (is_same_text f x.name) t in key_of x f false (not_true x.is_static p.0) (text-same f x.name p.1) ∙ sym (key_of d f false mark name)
 
     go : (b : Bool) → (not x.is_static && is_same_text f x.name) ≡ b → (x ≡ d) ⊎ Contains xs d → (Contains xs d → d.is_static ≡ false → f ≡ d.name → instance_zero xs f ≡ Some (zero_of d.tpe)) → (if b then Some (zero_of x.tpe) else instance_zero xs f) ≡ Some (zero_of d.tpe)
+    go true t (inl e) later = ap (λ (y : FieldDef). Some (zero_of y.tpe)) e
+    go true t (inr k) later = impossible (sym (h.0 d k) ∙ from_key x d (same t))
+    go false t (inl e) later = impossible (sym t ∙ tested e)
+    go false t (inr k) later = later k mark name
+
+-- and so is a static one
+static_zero_there : (fs : List FieldDef) → Apart fs → (d : FieldDef) (f : Name) → Contains fs d → d.is_static ≡ true → f ≡ d.name → static_zero fs f ≡ Some (zero_of d.tpe)
+static_zero_there [] h d f i mark name = nothing_in d i
+static_zero_there (x ∷ xs) h d f i mark name = go (x.is_static && is_same_text f x.name) refl (in_front_or_behind x xs d i) (static_zero_there xs h.1 d f)
+  where
+    tested : x ≡ d → (x.is_static && is_same_text f x.name) ≡ true
+    tested e = subst (λ (y : FieldDef). (y.is_static && is_same_text f y.name) ≡ true) (sym e) (and_from d.is_static (is_same_text f d.name) mark (subst (λ (n : Name). is_same_text f n ≡ true) name (text-refl f)))
+
+    same : (x.is_static && is_same_text f x.name) ≡ true → field_key x ≡ field_key d
+    same t = let p = and_parts x.is_static (is_same_text f x.name) t in key_of x f true p.0 (text-same f x.name p.1) ∙ sym (key_of d f true mark name)
+
+    go : (b : Bool) → (x.is_static && is_same_text f x.name) ≡ b → (x ≡ d) ⊎ Contains xs d → (Contains xs d → d.is_static ≡ true → f ≡ d.name → static_zero xs f ≡ Some (zero_of d.tpe)) → (if b then Some (zero_of x.tpe) else static_zero xs f) ≡ Some (zero_of d.tpe)
     go true t (inl e) later = ap (λ (y : FieldDef). Some (zero_of y.tpe)) e
     go true t (inr k) later = impossible (sym (h.0 d k) ∙ from_key x d (same t))
     go false t (inl e) later = impossible (sym t ∙ tested e)
@@ -119,5 +151,30 @@ module _ (w : Classes) (unbroken : (c : ClassDef) → Contains w c → FirstBrok
       go (Some class) e i j =
           let one = field_found class.fields f s i in
           let other = field_found class.fields f t j in
-          let same : one.field ≡ other.field = one_field class.fields (fields_apart class (unbroken class (class_found w c class e).0)) one.field other.field one.among other.among (key_of one.field f one.instance one.name_is ∙ sym (key_of other.field f other.instance other.name_is)) in
+          let same : one.field ≡ other.field = one_field class.fields (fields_apart class (unbroken class (class_found w c class e).0)) one.field other.field one.among other.among (key_of one.field f false one.instance one.name_is ∙ sym (key_of other.field f false other.instance other.name_is)) in
+          one.type_is ∙ ap (λ (d : FieldDef). d.tpe) same ∙ sym other.type_is
+
+  -- a static field that can be used is one of its class
+  pub static_there : (c f : Name) (t : IrType) → has_static_in (class_of w c) f t ≡ true → HasValue t × (statics_in (ir.class_of w c) f ≡ Some (zero_of t))
+  static_there c f t h = go (class_of w c) refl h
+    where
+      go : (o : Option ClassDef) → class_of w c ≡ o → has_static_in o f t ≡ true → HasValue t × (statics_in (ir.class_of w c) f ≡ Some (zero_of t))
+      go None e k = impossible k
+      go (Some class) e k =
+          let at = class_found w c class e in
+          let its = static_found class.fields f t k in
+          let keeps = field_keeps class (unbroken class at.0) its.field its.among in
+          let zero : static_zero class.fields f ≡ Some (zero_of its.field.tpe) = static_zero_there class.fields (fields_apart class (unbroken class at.0)) its.field f its.among its.static its.name_is in
+          (subst HasValue (sym its.type_is) (has_value class its.field keeps), ap (λ (o : Option ClassDef). statics_in o f) (same-class w c ∙ e) ∙ subst (λ (u : IrType). static_zero class.fields f ≡ Some (zero_of u)) (sym its.type_is) zero)
+
+  -- it has one type
+  pub static_type_there : (c f : Name) (s t : IrType) → has_static_in (class_of w c) f s ≡ true → has_static_in (class_of w c) f t ≡ true → s ≡ t
+  static_type_there c f s t h k = go (class_of w c) refl h k
+    where
+      go : (o : Option ClassDef) → class_of w c ≡ o → has_static_in o f s ≡ true → has_static_in o f t ≡ true → s ≡ t
+      go None e i j = impossible i
+      go (Some class) e i j =
+          let one = static_found class.fields f s i in
+          let other = static_found class.fields f t j in
+          let same : one.field ≡ other.field = one_field class.fields (fields_apart class (unbroken class (class_found w c class e).0)) one.field other.field one.among other.among (key_of one.field f true one.static one.name_is ∙ sym (key_of other.field f true other.static other.name_is)) in
           one.type_is ∙ ap (λ (d : FieldDef). d.tpe) same ∙ sym other.type_is

@@ -68,7 +68,7 @@ divisions _ e = impossible e
 
 module _ (w : Classes) (entries : List EntryPoint) (facts : List Fact) (all : List EmittedMethod) (live : List Name) (helpers : List Helper) (written : List Name) (run : CanRun w entries facts all live helpers written) where
   abbrev has : Usable
-  has = used_of w all live helpers written
+  has = used_of w facts all live helpers written
 
   -- an exception of this class can be made
   abbrev Makes : Name → Type 0

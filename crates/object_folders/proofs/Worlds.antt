@@ -1,6 +1,7 @@
 -- The world of an accepted folder has what the laws on objects ask.
 use Rattle.std.proofs.Common.{◌≡◌, ◌&&◌, Bool, true, List, None, sym, subst, Contains}
 use Rattle.std.proofs.lemmas.Bool.{and_parts}
+use Rattle.std.specs.List.{list_any}
 use Rattle.accepted_folders.proofs.Objects as objects
 use Rattle.accepted_folders.proofs.Worlds.{judged}
 use Rattle.accepted_folders.specs.Accepted.{IsAccepted}
@@ -10,8 +11,8 @@ use Rattle.accepted_folders.specs.Worlds.{AreClassesKept}
 use Rattle.accepted_folders.specs.Built.{is_static}
 use Rattle.file_listings.specs.Listed.{AreBytes}
 use Rattle.helper_rules.specs.declared.kinds.Helper.{Helper}
-use Rattle.linked_pieces.specs.Used.{used_of, is_among, is_received, is_constructor_without_value}
-use Rattle.object_folders.proofs.Fields.{field_there, type_there}
+use Rattle.linked_pieces.specs.Used.{used_of, is_among, is_received, is_constructor_without_value, has_static_in, needs_static}
+use Rattle.object_folders.proofs.Fields.{field_there, type_there, static_there, static_type_there}
 use Rattle.object_folders.proofs.Made.{live_free}
 use Rattle.object_folders.proofs.Methods.{once, right_member}
 use Rattle.object_folders.proofs.Throwing.{exceptions, division}
@@ -26,18 +27,19 @@ use Rattle.accepted_folders.specs.Emitted.{EmittedMethod}
 use Rattle.accepted_folders.proofs.Same.{has_function-is}
 use Rattle.accepted_folders.specs.Linked.{has_function}
 use Rattle.sj_trees.specs.declared.classes.ClassDef.{ClassDef}
+use Rattle.sj_trees.specs.declared.types.IrType.{IrType}
 use Rattle.sj_world.proofs.OnCycles.{among}
-use Rattle.sj_world.specs.Known.{Name, Classes}
+use Rattle.sj_world.specs.Known.{Name, Classes, class_of}
 use Rattle.sj_world.specs.declared.facts.Fact.{Fact}
 
 -- a member that is written and has a method keeps the rules, of whatever members it is asked
-pub member_right : (entries : List EntryPoint) (files : List SourceFile) (w : Classes) (facts : List Fact) (all : List EmittedMethod) (live : List Name) (helpers : List Helper) (written : List Name) → ((file : SourceFile) → Contains files file → AreBytes file.bytes) → IsAccepted entries files w → AreBodies w entries all → CanRun w entries facts all live helpers written → (test : Member → Bool) (m : Member) → (test m && (is_among written m.class && has_function all m)) ≡ true → RightMember w (used_of w all live helpers written) m
+pub member_right : (entries : List EntryPoint) (files : List SourceFile) (w : Classes) (facts : List Fact) (all : List EmittedMethod) (live : List Name) (helpers : List Helper) (written : List Name) → ((file : SourceFile) → Contains files file → AreBytes file.bytes) → IsAccepted entries files w → AreBodies w entries all → CanRun w entries facts all live helpers written → (test : Member → Bool) (m : Member) → (test m && (is_among written m.class && has_function all m)) ≡ true → RightMember w (used_of w facts all live helpers written) m
 member_right entries files w facts all live helpers written bytes a bodies run test m h =
     let p = and_parts (test m) (is_among written m.class && has_function all m) h in
     let q = and_parts (is_among written m.class) (has_function all m) p.1 in
     let f = has_function-is all m q.1 in
     let is_written : Contains written f.method.member.class = subst (λ (k : Member). Contains written k.class) (sym f.is) ((among written m.class).0 q.0) in
-    right_member entries files w bytes a all bodies (used_of w all live helpers written) m f (run.are_built f.method f.listed is_written)
+    right_member entries files w bytes a all bodies (used_of w facts all live helpers written) m f (run.are_built f.method f.listed is_written)
 
 pub link_right : AcceptedFoldersLinkRightMembers
 link_right entries files w facts all live helpers written bytes a bodies run = member_right entries files w facts all live helpers written bytes a bodies run (λ m. is_static m.namespace)
@@ -53,10 +55,15 @@ carry entries files w facts all live helpers written bytes a bodies run = record
   primitives = λ h is. objects.write_interfaces entries files w a h (hijacked is);
   fields = field_there w unbroken;
   one_type = type_there w unbroken;
+  statics = λ c f t h. static_there w unbroken c f t (has_static c f t h);
+  one_static = λ c f s t h k. static_type_there w unbroken c f s t (has_static c f s h) (has_static c f t k);
   exceptions = exceptions w entries facts all live helpers written run;
   divisions = division w entries facts all live helpers written run;
 }
   where
+    has_static : (c f : Name) (t : IrType) → (is_among written c && (list_any (needs_static c f) facts && has_static_in (class_of w c) f t)) ≡ true → has_static_in (class_of w c) f t ≡ true
+    has_static c f t h = (and_parts (list_any (needs_static c f) facts) (has_static_in (class_of w c) f t) (and_parts (is_among written c) (list_any (needs_static c f) facts && has_static_in (class_of w c) f t) h).1).1
+
     kept : AreClassesKept w
     kept = objects.kept entries files w bytes a
 

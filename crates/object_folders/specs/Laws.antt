@@ -23,7 +23,7 @@ AcceptedFoldersCarryObjects = (entries : List EntryPoint) (files : List SourceFi
     → IsAccepted entries files w
     → AreBodies w entries all
     → CanRun w entries facts all live helpers written
-    → ObjectWorld w (used_of w all live helpers written)
+    → ObjectWorld w (used_of w facts all live helpers written)
 
 -- and the static members that are linked there keep the rules
 abbrev pub AcceptedFoldersLinkRightMembers : Type 0
@@ -32,4 +32,4 @@ AcceptedFoldersLinkRightMembers = (entries : List EntryPoint) (files : List Sour
     → IsAccepted entries files w
     → AreBodies w entries all
     → CanRun w entries facts all live helpers written
-    → (m : Member) → (used_of w all live helpers written).linked m ≡ true → RightMember w (used_of w all live helpers written) m
+    → (m : Member) → (used_of w facts all live helpers written).linked m ≡ true → RightMember w (used_of w facts all live helpers written) m

@@ -28,6 +28,6 @@ pub record CanBeThrown (all : List EmittedMethod) (live written : List Name) (c 
 pub record CanRun (w : Classes) (entries : List EntryPoint) (facts : List Fact) (all : List EmittedMethod) (live : List Name) (helpers : List Helper) (written : List Name) : Type 0 where
   pub reached : (f : Fact) → Contains facts f → Reachable w entries f
   pub are_live : (c : Name) → Contains live c → IsLive w facts c
-  pub are_built : (e : EmittedMethod) → Contains all e → Contains written e.member.class → is_built_with (used_of w all live helpers written) e.definition e.its_body ≡ true
+  pub are_built : (e : EmittedMethod) → Contains all e → Contains written e.member.class → is_built_with (used_of w facts all live helpers written) e.definition e.its_body ≡ true
   pub closed : (h g : Helper) → Contains helpers h → Contains (used_helpers h) g → Contains helpers g
   pub thrown : (f : Failure) → Contains helpers (Throws f) → Contains written object → CanBeThrown all live written (failure_class f)

@@ -12,7 +12,7 @@ use Rattle.sj_core.specs.Terms as core
 use Rattle.sj_desugar.specs.Coercions.{coerced}
 use Rattle.sj_desugar.specs.Desugar.{target_of, member, into, block, first_of, second_of, finish, branches, cases, switch_code}
 use Rattle.sj_desugar.specs.Spill.{Destination, discard, to_variable, Code, one}
-use Rattle.sj_trees.specs.Term.{Term, Terms, no_terms, more_terms, Cases, no_cases, more_cases, var_def, skip, block_of, labeled, assign, return_to, if_then, while_loop, do_while, throw, match_on, new_object, select, apply_statically, this_ref, apply_static, unary_op, binary_op, undefined_literal, null_literal, boolean_literal, char_literal, byte_literal, short_literal, int_literal, long_literal, string_literal, var_ref, log_line}
+use Rattle.sj_trees.specs.Term.{Term, Terms, no_terms, more_terms, Cases, no_cases, more_cases, var_def, skip, block_of, labeled, assign, return_to, if_then, while_loop, do_while, throw, match_on, new_object, select, select_static, apply_statically, this_ref, apply_static, unary_op, binary_op, undefined_literal, null_literal, boolean_literal, char_literal, byte_literal, short_literal, int_literal, long_literal, string_literal, var_ref, log_line}
 use Rattle.sj_trees.specs.TypeOf.{type_of_term, type_of_last, unary_result, binary_result}
 use Rattle.sj_trees.specs.declared.operators.BinaryOp.{BinaryOp}
 use Rattle.sj_trees.specs.declared.operators.UnaryOp.{UnaryOp}
@@ -53,7 +53,8 @@ use Rattle.sj_proper.specs.Once.{Once, OnceAll, OnceCases}
 use Rattle.sj_bodies.proofs.Trees.{written, written_cases, LowAlike, outside-part, behind, go_on-given, FineHere, TreeDoes, piece, operand_does, define_does, quiet, value_of, local_at, finish_one, list_of, call_does, division_does}
 use Rattle.sj_names.proofs.Same.{impossible}
 use Rattle.sj_plain.proofs.Plain.{unary_alike, binary_alike}
-use Rattle.sj_bodies.proofs.ObjectTrees.{receiver_piece, receiver_does, select_does, set_does, set_spilled, new_does, this_does, throw_does, receive_does, construct_does}
+use Rattle.sj_plain.proofs.Objects.{static_alike}
+use Rattle.sj_bodies.proofs.ObjectTrees.{receiver_piece, receiver_does, select_does, set_static_final, set_does, set_spilled, new_does, this_does, throw_does, receive_does, construct_does}
 use Rattle.sj_bodies.proofs.Spills.{Does, OperandDoes, OperandsDo, numbered-named}
 use Rattle.sj_bodies.proofs.Statements.{run-followed, came_then, finish_alike, Ends}
 use Rattle.sj_bodies.proofs.Turns.{while_does, do_does}
@@ -228,6 +229,18 @@ module _ (z : Setting) (lawful : Lawful z) (low : LowAlike z) where
       by (inl h) = set_does z lawful low p q c j o d f t e sound ahead there.0 fit h.plain h object
       by (inr h) = set_spilled z lawful low p q c j o d f t e sound ahead there.0 fit h.0 object (operand_does z lawful low c j e does_e (outside-part c (Own (assign p (select q o d f t) e)) (Own e) (λ x i. inr i) out) (inr h))
 
+  static_by : (p : Position) (d f : List ℕ) (t : IrType) → TreeDoes z lawful low (select_static p d f t)
+  static_by p d f t c k j sound ahead out wr fine w env s sc u r same = finish_alike z lawful c k p t (core.static_of d f) j sound wr (fits-value z.place.classes lawful.base.ordered (usable z) k t fine.asks (lawful.base.statics d f t fine.typed.built).value) w w sc env (ir_meaning.value_or_wrong (s.statics d f) env s) sc u (grows-refl w) (keeps-refl z c.kept sc) r s same (static_alike z lawful.base d f t fine.typed.built w env s sc u r.sees.inside same)
+
+  set_static_by : (p q : Position) (d f : List ℕ) (t : IrType) (e : Term) → TreeDoes z lawful low e → (c : Context) (k : Destination) (j : ℕ) → Sound z.is_mutable c → Ahead c j → Outside c (Own e) → FineHere z lawful low c k (assign p (select_static q d f t) e) → IsDiscard k → Does z lawful c k j (assign p (select_static q d f t) e)
+  set_static_by p q d f t e does c _ j sound ahead out fine is_discard = of_operands z lawful c discard (piece z lawful low c.targets e ∷ []) j (ir_meaning.assign_static d f) (λ es. one (core.assign_static (Some p) d f (coerced t (type_of_term e) (first_of es)))) sound ahead (operand_does z lawful low c j e does out (part_of c fine.scene fine.amid e fine.written t own.0 (lawful.base.statics d f t there.0).value fine.typed.2 fine.around fine.once), tt) (one_final z lawful c discard j (type_of_term e) (ir_meaning.assign_static d f) (λ es. one (core.assign_static (Some p) d f (coerced t (type_of_term e) (first_of es)))) (set_static_final z lawful low c p j d f t (type_of_term e) there.0 (stands-for z lawful t (type_of_term e) own.0 own.1)))
+    where
+      there : ((usable z).static_field d f t ≡ true) × (may_box (usable z) t e ≡ true)
+      there = and_parts ((usable z).static_field d f t) (may_box (usable z) t e) fine.typed.0.built
+
+      own : FitsType z.place.classes (usable z) e t
+      own = fits_there z.place.classes (usable z) e t there.1 fine.typed.0.meets.1
+
   new_by : (p : Position) (d : List ℕ) (m : MethodName) (ts : Terms) → OperandsFine ts → TreeDoes z lawful low (new_object p d m ts)
   new_by p d m ts do_all c k j sound ahead out wr fine = new_does z lawful low p c k j d m ts sound ahead wr (fits-value z.place.classes lawful.base.ordered (usable z) k (class_type d) fine.asks (class_has_value d)) (is_linked z.place.classes (usable z) ((usable z).built (member d Constructor m)) ts m.params its.1) its.0 (lawful.base.objects d its.0) (stand-for-all z lawful ts m.params arguments) (do_all c j out fine.scene fine.amid fine.written m.params arguments fine.typed.1 fine.around fine.once)
     where
@@ -267,6 +280,7 @@ module _ (z : Setting) (lawful : Lawful z) (low : LowAlike z) where
     does (labeled p l t e) = labeled_does p l t e (does e)
     does (assign p (var_ref q x t) e) = λ c k j sound ahead out wr fine. assign_by p q x t e (does e) c k j sound ahead out fine (given_up z.place.classes lawful.base.ordered (usable z) k fine.asks)
     does (assign p (select q o d f t) e) = λ c k j sound ahead out wr fine. set_by p q o d f t e (does o) (does e) c k j sound ahead out fine (given_up z.place.classes lawful.base.ordered (usable z) k fine.asks)
+    does (assign p (select_static q d f t) e) = λ c k j sound ahead out wr fine. set_static_by p q d f t e (does e) c k j sound ahead out fine (given_up z.place.classes lawful.base.ordered (usable z) k fine.asks)
     does (return_to p e l) = return_does p e l (does e)
     does (if_then p a b d t) = if_does p a b d t (does a) (does b) (does d)
     does (while_loop p a b) = while_does z lawful low p a b (does a) (does b)
@@ -276,6 +290,7 @@ module _ (z : Setting) (lawful : Lawful z) (low : LowAlike z) where
     does (new_object p d m ts) = new_by p d m ts (operands_do ts)
     does (select p e d f t) = select_by p e d f t (does e)
     does (apply_statically p e d n m ts t) = statically_does p e d n m ts t (does e) (operands_do ts)
+    does (select_static p d f t) = static_by p d f t
     does (this_ref p t) = this_by p t
     does (apply_static p cn n m ts t) = λ c k j sound ahead out wr fine. call_does z lawful low p c k j m cn n ts t sound ahead wr (fits z.place.classes lawful.base.ordered (usable z) k t fine.asks (result_is m.result t fine.typed.0.meets.1)) (is_linked z.place.classes (usable z) ((usable z).linked (member cn n m)) ts m.params fine.typed.0.built) fine.typed.0.meets.1 (stand-for-all z lawful ts m.params (arguments_there z.place.classes (usable z) ((usable z).linked (member cn n m)) ts m.params fine.typed.0.built fine.typed.0.finds fine.typed.0.meets.2)) (operands_do ts c j out fine.scene fine.amid fine.written m.params (arguments_there z.place.classes (usable z) ((usable z).linked (member cn n m)) ts m.params fine.typed.0.built fine.typed.0.finds fine.typed.0.meets.2) fine.typed.1 fine.around fine.once)
     does (unary_op p o e) = unary_does p o e (does e)

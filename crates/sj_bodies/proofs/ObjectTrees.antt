@@ -27,11 +27,11 @@ use Rattle.sj_trees.specs.TypeOf.{type_of_term}
 use Rattle.sj_trees.specs.Types.{class_type}
 use Rattle.sj_trees.specs.declared.positions.Position.{Position}
 use Rattle.sj_trees.specs.declared.types.IrType.{IrType}
-use Rattle.sj_trees.specs.declared.types.IrType.TheVariants.{Any, Nothing}
+use Rattle.sj_trees.specs.declared.types.IrType.TheVariants.{Any, Nothing, NoType}
 use Rattle.sure_receivers.specs.Sure.{is_sure}
 use Rattle.body_rules.specs.Standing.{is_bare, Fits, types_referred, call_type}
 use Rattle.sj_plain.specs.Settings.{Setting, shown, SameState, Valued, Lawful, Inside, Receiving, no_receiver, on_receiver, Sees, usable}
-use Rattle.sj_plain.proofs.Objects.{null_act, select_alike, field_written, new_alike, received_call_alike, checked_alike}
+use Rattle.sj_plain.proofs.Objects.{null_act, select_alike, setter_text, static_set_alike, field_written, new_alike, received_call_alike, checked_alike}
 use Rattle.sj_plain.proofs.Told.{tells}
 use Rattle.sj_plain.proofs.Orders.{OperandAlike, OperandsAlike, text_of, no_operands, more_operands}
 use Rattle.body_rules.proofs.Fitting.{stands-same}
@@ -49,7 +49,7 @@ use Rattle.sj_bodies.proofs.Contexts.{Context, Writes, Sound, Ahead, Ready, read
 use Rattle.sj_bodies.proofs.Forms.{sound-writing, ahead-writing, outside-writing, of_operands, one_final, act_alike, quiet_alike, OneFinal}
 use Rattle.sj_proper.proofs.Good.{no_name, finish-good}
 use Rattle.sj_bodies.proofs.Spills.{keeping, writing, extends-refl, Does, Final, Piece, OperandDoes, OperandsDo, operands-later, runs, operands_in, types, Lasting, Onwards, first_code, first-is, first_does, spill_does}
-use Rattle.sj_bodies.proofs.Statements.{finish_alike, valued_then, value_statement, throws-on, ends-one, Ends}
+use Rattle.sj_bodies.proofs.Statements.{finish_alike, valued_then, valued_done, value_statement, throws-on, ends-one, Ends}
 use Rattle.sj_bodies.proofs.Trees.{written, LowAlike, TreeDoes, FineHere, piece, operand_does, list_of, operands-list, runs-list, types-list}
 
 -- a receiver is of its type, checked or not
@@ -163,6 +163,19 @@ module _ (z : Setting) (lawful : Lawful z) (low : LowAlike z) where
 
   pub throw_does : (p : Position) (c : Context) (k : Destination) (j : ℕ) (e : Term) → Sound z.is_mutable c → Ahead c j → StandsFor z Any (type_of_term e) → OperandDoes z lawful c j (piece z lawful low c.targets e) → Does z lawful c k j (throw p e)
   throw_does p c k j e sound ahead any operand = of_operands z lawful c k (piece z lawful low c.targets e ∷ []) j ir_meaning.throw_value (λ es. one (core.throw_of (Some p) (coerced Any (type_of_term e) (first_of es)))) sound ahead (operand, tt) (one_final z lawful c k j (type_of_term e) ir_meaning.throw_value (λ es. one (core.throw_of (Some p) (coerced Any (type_of_term e) (first_of es)))) (throw_final c k p j (type_of_term e) any))
+
+  -- an assignment to a static field: its right side, and a call of the function that sets the variable
+  pub set_static_final : (c : Context) (p : Position) (j : ℕ) (d f : List ℕ) (t own : IrType) → (usable z).static_field d f t ≡ true → StandsFor z t own → (w : World) (sc : js.Scope) → OneFinal z lawful c discard w sc j own (ir_meaning.assign_static d f) (λ es. one (core.assign_static (Some p) d f (coerced t own (first_of es))))
+  set_static_final c p j d f t own has fits from before n r x w env s sc u ahead l g ready ks same (more_operands _ _ _ _ _ _ told alike no_operands) = ends-one z lawful c c.scope discard from before (ir_meaning.in_order (r ∷ []) act env s) (core.assign_static (Some p) d f set) sc u (subst (λ o. Sim z.direction F o (then_do (setter_text z lawful.base d f set sc u) (js.in_statement sc (λ v. js_meaning.nothing sc)))) (then_do-right (ir_meaning.in_order (r ∷ []) act env s)) (sim_then z.direction (Valued z.place w env NoType) F (ir_meaning.in_order (r ∷ []) act env s) (setter_text z lawful.base d f set sc u) done (js.in_statement sc (λ v. js_meaning.nothing sc)) (static_set_alike z lawful.base d f t (stood t own fits.0) r set has (stood-fits t own fits.0) w env s sc u ready.sees.inside (more_operands (stood t own fits.0) r set [] [] [] (stood_told z lawful.base w env sc ready.sees.inside t own fits.0 x told) (stood_alike z lawful.base w env sc ready.sees.inside t own fits.0 fits.1 r x alike) no_operands) same) (valued_done z lawful F w env NoType sc (λ v. js_meaning.nothing sc) (throws-on z lawful c c.scope discard from w before env sc g ks ready) (λ y v q s u h a states. sim_done z.direction F (ir.ends (ir.gives v) env s) (js.ends js.normally sc u) (gave y v env s sc u js.normally (grows-trans from w y g h) let_go (ready-lift z c.scope c.writable w y env sc h ready) (keeps-less z c.kept discard before sc ks) states)))))
+    where
+      F : ir.Ended → js.StatementEnd → Type 0
+      F = Came z.place z.code c c.scope discard from before
+
+      act : List ir.Value → ir.Run
+      act = ir_meaning.assign_static d f
+
+      set : core.Expression
+      set = coerced t own x
 
   -- an assignment to a field of an object: behind the object its right side, and then the field is written
   set_alike : (c : Context) (p : Position) (own : IrType) (d f : List ℕ) (t i : IrType) → (usable z).field d f t ≡ true → Fits t i → (from : World) (before : js.Scope) (w : World) (env : ir.Env) (s : ir.State) (sc : js.Scope) (u : js.State) → Grows from w → Ready z.place z.code c.scope c.writable w env sc → Keeps z.place c.kept before sc → SameState z.place w s u → (r q : ir.Run) (x g : core.Expression) → OperandsAlike z w env sc (own ∷ []) (r ∷ []) (x ∷ []) → tells i (text_of z g) ≡ true → OperandAlike z w env sc i q (shown z g) → Ends z lawful c c.scope discard from before (ir_meaning.in_order (r ∷ []) (ir_meaning.assign_on d f q) env s) (core.statement (core.assign_field (Some p) x d f g) core.no_statements) sc u

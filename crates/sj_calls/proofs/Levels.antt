@@ -60,6 +60,8 @@ module _ (p : Place) (ordered : IsSubtyping (IsSub p.classes)) (names : NamesDif
     names = names;
     reaches = reaches;
     fields = λ c g t i. impossible (sym (alone.field f.file c g t) ∙ i);
+    statics = λ c g t i. impossible (sym (alone.static_field f.file c g t) ∙ i);
+    sets = λ c g t i. impossible (sym (alone.static_field f.file c g t) ∙ i);
     calls = λ m l. member_alike d n k (levels k h) m (linked f.file m l);
     receives = λ m l. impossible (sym (alone.received f.file m) ∙ l);
     builds = λ m l. impossible (sym (alone.built f.file m) ∙ l);

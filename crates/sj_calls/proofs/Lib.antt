@@ -10,6 +10,7 @@ pub mod Names
 pub mod News
 pub mod ObjectLevels
 pub mod Receivers
+pub mod Setters
 pub mod Shapes
 pub mod Whole
 pub mod Zeros

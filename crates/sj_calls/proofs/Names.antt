@@ -1,5 +1,5 @@
 -- The names of the emitted code differ.
-use Rattle.std.proofs.Common.{◌≡◌, ◌≤◌, ℕ, List, ◌∷◌, refl, ap, sym, ◌∙◌, arith}
+use Rattle.std.proofs.Common.{◌≡◌, ◌≤◌, ℕ, Bool, true, false, List, ◌∷◌, refl, ap, sym, ◌∙◌, arith}
 use Rattle.std.specs.Prelude.{codes}
 use Rattle.helper_rules.specs.Helpers.{helper_name}
 use Rattle.helper_rules.specs.declared.kinds.Helper.{Helper}
@@ -11,16 +11,17 @@ use Rattle.js_mean.specs.States as js
 use Rattle.js_tree.specs.Terms.{Name}
 use Rattle.sj_core.specs.Terms.{Variable, named, numbered, receiver}
 use Rattle.sj_emit_expr.specs.Names.{variable_name}
-use Rattle.sj_emit_expr.specs.Templates.{member_name}
+use Rattle.sj_emit_expr.specs.Templates.{member_name, static_name, setter_name}
 use Rattle.sj_mangling.specs.Bindings.{function_name, class_binding}
 use Rattle.sj_mangling.specs.declared.bindings.ClassBinding.TheVariants.{Class, Constants}
 use Rattle.sj_mangling.specs.Mangling.{mangled}
 use Rattle.sj_mangling.specs.Numerals.{number_text}
+use Rattle.sj_names.proofs.Same.{impossible}
 use Rattle.sj_names.specs.declared.method_names.Member.{Member}
 use Rattle.sj_names.specs.declared.method_names.MethodName.{MethodName}
 use Rattle.sj_names.specs.declared.method_names.Namespace.{Namespace}
 use Rattle.sj_names.specs.declared.method_names.Namespace.TheVariants.{Public, PublicStatic, Private, PrivateStatic, Constructor}
-use Rattle.sj_plain.specs.Settings.{Top, a_function, a_method, a_constructor, a_class, some_constants, a_helper, top_name, NamesDiffer}
+use Rattle.sj_plain.specs.Settings.{Top, a_function, a_method, a_constructor, a_class, some_constants, a_static, a_setter, a_helper, top_name, NamesDiffer}
 use Rattle.sj_proper.proofs.Names.{first, heads, tails, low-numeral, variables-differ, labels-differ}
 use Rattle.sj_calls.specs.Names.{emitted_in}
 use Rattle.built_forms.specs.Built.{Usable}
@@ -49,6 +50,17 @@ no_constants : (c : List ℕ) (x : Variable) → variable_name x ≡ class_bindi
 no_constants c (named x) e = let h : ◌≡◌ {A = ℕ} 118 107 = ap first e in absurd (omega arith)
 no_constants c receiver e = let h : ◌≡◌ {A = ℕ} 36 107 = ap first e in absurd (omega arith)
 no_constants c (numbered n) e = let h : ◌≡◌ {A = ℕ} 36 107 = ap first e in absurd (omega arith)
+
+-- the name of the variable of a static field begins with `t`, and that of the function that sets it with `u`
+no_static : (c f : List ℕ) (x : Variable) → variable_name x ≡ static_name c f → ⊥
+no_static c f (named x) e = let h : ◌≡◌ {A = ℕ} 118 116 = ap first e in absurd (omega arith)
+no_static c f receiver e = let h : ◌≡◌ {A = ℕ} 36 116 = ap first e in absurd (omega arith)
+no_static c f (numbered n) e = let h : ◌≡◌ {A = ℕ} 36 116 = ap first e in absurd (omega arith)
+
+no_setter : (c f : List ℕ) (x : Variable) → variable_name x ≡ setter_name c f → ⊥
+no_setter c f (named x) e = let h : ◌≡◌ {A = ℕ} 118 117 = ap first e in absurd (omega arith)
+no_setter c f receiver e = let h : ◌≡◌ {A = ℕ} 36 117 = ap first e in absurd (omega arith)
+no_setter c f (numbered n) e = let h : ◌≡◌ {A = ℕ} 36 117 = ap first e in absurd (omega arith)
 
 -- the name of a helper is `$` and a letter, and more
 pub record BeginsSo (name : Name) : Type 0 where
@@ -99,7 +111,28 @@ no_top (a_method m) = no_function m
 no_top (a_constructor m) = no_function m
 no_top (a_class c) = no_class c
 no_top (some_constants c) = no_constants c
+no_top (a_static c f t) = no_static c f
+no_top (a_setter c f t) = no_setter c f
 no_top (a_helper h) = no_helper h
 
 pub emitted_names_differ : (classes : ir_world.World) (program : js.Program) (home : Top → Name) (has : Name → Usable) (room : Room) → NamesDiffer (emitted_in classes program home has room)
 emitted_names_differ classes program home has room = record { variables = variables-differ; labels = labels-differ; tops = no_top }
+
+-- any binding but the variable of a static field
+abbrev pub is_static_variable : Top → Bool
+is_static_variable (a_static c f t) = true
+is_static_variable _ = false
+
+no_member : (m : Member) (c f : List ℕ) → member_name m ≡ static_name c f → ⊥
+no_member m c f e = let h = begins m.namespace m.class m.method 116 _ (sym e) in let k : 116 ≤ 115 = h.1 in omega arith
+
+-- it has no name of a static field's variable
+pub static_apart : (t : Top) (c f : List ℕ) → is_static_variable t ≡ false → top_name t ≡ static_name c f → ⊥
+static_apart (a_function m) c f h e = no_member m c f e
+static_apart (a_method m) c f h e = no_member m c f e
+static_apart (a_constructor m) c f h e = no_member m c f e
+static_apart (a_class d) c f h e = let k : ◌≡◌ {A = ℕ} 99 116 = ap first e in absurd (omega arith)
+static_apart (some_constants d) c f h e = let k : ◌≡◌ {A = ℕ} 107 116 = ap first e in absurd (omega arith)
+static_apart (a_static d g t) c f h e = impossible (sym h)
+static_apart (a_setter d g t) c f h e = let k : ◌≡◌ {A = ℕ} 117 116 = ap first e in absurd (omega arith)
+static_apart (a_helper k) c f h e = let b = helper-begins k in let n : ◌≡◌ {A = ℕ} 36 116 = heads 36 116 (b.letter ∷ b.rest) _ (sym b.is ∙ e) in absurd (omega arith)

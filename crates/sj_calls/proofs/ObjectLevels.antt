@@ -17,7 +17,7 @@ use Rattle.sj_desugar.specs.Desugar.{into, is_mutable_in}
 use Rattle.sj_emit_expr.specs.Templates.{statement_templates}
 use Rattle.sj_names.specs.declared.method_names.Member.{Member}
 use Rattle.sure_receivers.specs.Sure.{sure_locals}
-use Rattle.sj_plain.specs.Settings.{Place, Code, a_function, a_method, a_constructor, a_helper, division_helper, Setting, SameState, Valued, Built, NamesDiffer, Reaches, Based, Lawful, BuildsAlike, ReceivesAlike, ChecksAlike, DividesAlike}
+use Rattle.sj_plain.specs.Settings.{Place, Code, a_function, a_method, a_constructor, a_setter, a_helper, division_helper, Setting, SameState, Valued, Built, NamesDiffer, Reaches, Based, Lawful, BuildsAlike, ReceivesAlike, SetsAlike, ChecksAlike, DividesAlike}
 use Rattle.body_rules.specs.Standing.{is_bare, Fits, types_referred, call_type}
 use Rattle.built_forms.specs.Built.{divides}
 use Rattle.ir_mean.specs.Operators.{binary_value}
@@ -26,7 +26,8 @@ use Rattle.sj_names.specs.declared.method_names.Namespace.TheVariants.{Construct
 use Rattle.sj_trees.specs.TypeOf.{binary_result}
 use Rattle.sj_trees.specs.Types.{class_type}
 use Rattle.sj_trees.specs.declared.operators.BinaryOp.{BinaryOp}
-use Rattle.sj_trees.specs.declared.types.IrType.TheVariants.{Any}
+use Rattle.sj_trees.specs.declared.types.IrType.{IrType}
+use Rattle.sj_trees.specs.declared.types.IrType.TheVariants.{Any, NoType}
 use Rattle.sj_plain.proofs.Worlds.{World, SameValues}
 use Rattle.sj_bodies.proofs.Contexts.{Came}
 use Rattle.sj_bodies.proofs.Main.{does}
@@ -43,6 +44,7 @@ use Rattle.sj_calls.proofs.Dividing.{divides_alike}
 use Rattle.sj_calls.proofs.Helps.{FailsAt, fails_alike, checks_alike, in_helper}
 use Rattle.sj_calls.proofs.News.{made_alike}
 use Rattle.sj_calls.proofs.Receivers.{receive_alike, build_alike}
+use Rattle.sj_calls.proofs.Setters.{sets_alike}
 
 module _ (p : Place) (ordered : IsSubtyping (IsSub p.classes)) (names : NamesDiffer p) (has : HasObjects p) where
   -- a body in a file of the place, with what the levels of these bounds give
@@ -87,6 +89,11 @@ module _ (p : Place) (ordered : IsSubtyping (IsSub p.classes)) (names : NamesDif
   enough_for forward n k c made h e = let l = made.depth in omega (arith, l, h)
   enough_for backward n k c made h e = absurd (cc)
 
+  set_alike : (f : Code) (is_mutable : List ℕ → Bool) (d : Direction) (n k : ℕ) → Enough p.room 0 d n k → (c g : List ℕ) (t : IrType) → (p.has f.file).static_field c g t ≡ true → SetsAlike (within f d is_mutable n k) c g t
+  set_alike f is_mutable d n (suc k) h c g t l = sets_alike d p has.statics c g t (has.statics f.file c g t l) f.file l k
+  set_alike f is_mutable forward n zero h c g t l = let e = has.beyond in absurd (omega (arith, e, h))
+  set_alike f is_mutable backward n zero h c g t l = λ w v x env s u a same. subst (λ o. Sim backward (Valued p w env NoType) (ir_meaning.assign_static c g (v ∷ []) env s) o) (sym (ap (λ o. js_meaning.code_call (js_meaning.below p.program 0) (p.home (a_setter c g t)) o (x ∷ []) u) (has.statics f.file c g t l).sets)) (sim_going (Valued p w env NoType) (ir_meaning.assign_static c g (v ∷ []) env s))
+
   based : (d : Direction) (n k : ℕ) → Levels d n → Enough p.room 0 d n k → (f : Code) → Reaches p f.file → (is_mutable : List ℕ → Bool) → Based (within f d is_mutable n k)
   based d n k levels h f reaches is_mutable = record {
     ordered = ordered;
@@ -94,6 +101,8 @@ module _ (p : Place) (ordered : IsSubtyping (IsSub p.classes)) (names : NamesDif
     reaches = reaches;
     objects = has.objects f.file;
     fields = has.field f.file;
+    statics = λ c g t l. (has.statics f.file c g t l).field;
+    sets = λ c g t l. set_alike f is_mutable d n k h c g t l;
     calls = λ m l. member_alike d n k (levels k h) m (has.linked f.file m l);
     receives = λ m l. method_alike f is_mutable d n k (levels k h) m (has.received f.file m l);
     builds = λ m l. constructor_alike f is_mutable d n k h (levels k h) m (has.built f.file m l);

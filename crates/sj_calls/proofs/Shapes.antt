@@ -21,7 +21,7 @@ use Rattle.sj_calls.proofs.Chains.{made_by}
 use Rattle.sj_calls.proofs.Zeros.{zeros}
 
 -- the zero of a type of which there are values
-zero_alike : (w : World) (t : IrType) → (t ≡ Types.Nothing → ⊥) → SameValue w t (ir_world.zero_of t) (zero_value t)
+pub zero_alike : (w : World) (t : IrType) → (t ≡ Types.Nothing → ⊥) → SameValue w t (ir_world.zero_of t) (zero_value t)
 zero_alike w Types.Boolean h = record { stands = same_boolean false; suits = refl }
 zero_alike w Types.Char h = record { stands = same_char refl 0 (omega arith); suits = refl }
 zero_alike w Types.Byte h = record { stands = same_number (pos 0) (record { sfits = omega arith }); suits = refl }

@@ -28,7 +28,7 @@ use Rattle.sj_desugar.specs.Desugar.{desugared}
 use Rattle.sj_emit_expr.specs.Templates.{member_name, parameter_names}
 use Rattle.sj_names.specs.declared.entry_points.EntryPoint.{EntryPoint}
 use Rattle.sj_names.specs.declared.method_names.Member.{Member}
-use Rattle.sj_plain.specs.Settings.{some_constants, links_of, SameStored, same_object, a_method, a_constructor, a_helper, Place, Top, a_function, a_class, top_name, is_usable, TopHolds, SameHeap, SameState, Valued, valued, thrown, NamesDiffer}
+use Rattle.sj_plain.specs.Settings.{some_constants, a_static, a_setter, links_of, SameStored, same_object, a_method, a_constructor, a_helper, Place, Top, a_function, a_class, top_name, is_usable, TopHolds, SameHeap, SameState, Valued, valued, thrown, NamesDiffer}
 use Rattle.sj_plain.specs.Worlds.{World, nothing_made, Stands, same_undefined, same_null, same_boolean, same_char, same_box, IsBox, same_number, same_long, same_text, same_reference, no_values}
 use Rattle.sj_plain.specs.Standing.{suits}
 use Rattle.sj_names.proofs.Same.{impossible}
@@ -270,7 +270,7 @@ module _ (w : ir_world.World) (id : List ℕ) (fs : List EmittedMethod) (es : Li
     linked m l = let h = functions m l in subst (Linked place) h.is (linked_by proper h.method h.listed (emitted h.method h.listed))
 
     opening_same : SameState place nothing_made (ir_world.opening w) (js_meaning.opening program)
-    opening_same = record { heaps = no_heaps place; tops = λ f t h. top_there t h }
+    opening_same = record { heaps = no_heaps place; tops = λ f t h. top_there t h; statics = λ f c g t h. impossible h }
       where
         top_there : (t : Top) → is_usable has t ≡ true → TopHolds place nothing_made.owned t ((js_meaning.opening program).tops file (top_name t))
         top_there (a_function m) l = let h = functions m l in ap (λ o. js_meaning.module_cell file o (member_name m)) (module_there file (module_with fs es)) ∙ subst (λ x. js_meaning.items_cell file (map function_item_of fs ++ map call_item_of es) (member_name x) ≡ js.holds false (js.function file (member_name x))) h.is (cell_found file fs (map call_item_of es) h.method h.listed)
@@ -278,10 +278,12 @@ module _ (w : ir_world.World) (id : List ℕ) (fs : List EmittedMethod) (es : Li
         top_there (a_constructor m) l = impossible l
         top_there (a_class c) l = impossible l
         top_there (some_constants c) l = impossible l
+        top_there (a_static c g t) l = impossible l
+        top_there (a_setter c g t) l = impossible l
         top_there (a_helper h) l = impossible l
 
     no_objects : CallsAlone place
-    no_objects = record { received = λ f m. refl; built = λ f m. refl; made = λ f c. refl; field = λ f c g t. refl; helper = λ f x. refl }
+    no_objects = record { received = λ f m. refl; built = λ f m. refl; made = λ f c. refl; field = λ f c g t. refl; static_field = λ f c g t. refl; helper = λ f x. refl }
 
     names : NamesDiffer place
     names = emitted_names_differ w program (λ t. file) (λ f. has) no_room

@@ -1,4 +1,4 @@
--- What the code of a program has of objects: members that run on receivers, constructors, classes, fields, the null check, divisions and objects that hold chars,
+-- What the code of a program has of objects: members that run on receivers, constructors, classes, fields, static fields, the null check, divisions and objects that hold chars,
 -- each where code can use it.
 use Rattle.std.specs.Prelude.{◌≡◌, ℕ, ◌≤◌, true, false, List, length, codes, Option, Some}
 use Rattle.built_forms.specs.Built.{can_box, divides}
@@ -9,19 +9,21 @@ use Rattle.ir_mean.specs.Dispatch.{chain_of}
 use Rattle.ir_mean.specs.Meaning.{with_message}
 use Rattle.ir_mean.specs.States as ir
 use Rattle.js_mean.specs.Files.{owner}
+use Rattle.js_mean.specs.Meaning as js_meaning
 use Rattle.js_mean.specs.States as js
 use Rattle.js_tree.specs.Terms.{Name}
 use Rattle.sj_desugar.specs.Desugar.{member}
-use Rattle.sj_emit_expr.specs.Templates.{check_name}
+use Rattle.piece_rules.specs.Pieces.{setter}
+use Rattle.sj_emit_expr.specs.Templates.{check_name, static_name, setter_name}
 use Rattle.sj_names.specs.declared.method_names.Member.{Member}
 use Rattle.sj_names.specs.declared.method_names.Namespace.TheVariants.{Constructor}
 use Rattle.sj_trees.specs.declared.operators.BinaryOp.{BinaryOp}
 use Rattle.sj_trees.specs.declared.types.IrType.{IrType}
-use Rattle.sj_plain.specs.Settings.{Place, SameState, SameStored, HasField, Reaches, a_helper, division_helper, top_function, link_of, links_of, zeroed}
+use Rattle.sj_plain.specs.Settings.{Place, SameState, SameStored, HasField, HasStatic, Reaches, a_static, a_setter, a_helper, division_helper, top_function, link_of, links_of, zeroed}
 use Rattle.body_rules.specs.Standing.{is_bare}
 use Rattle.sj_plain.specs.Worlds.{World}
 use Rattle.sj_trees.specs.Types.{class_type}
-use Rattle.sj_calls.specs.Helpers.{HelperStands, BoxStands, helper_code, checking_code, division_code}
+use Rattle.sj_calls.specs.Helpers.{HelperStands, BoxStands, code_of_item, helper_code, checking_code, division_code}
 use Rattle.sj_calls.specs.Made.{Makers}
 use Rattle.sj_calls.specs.Methods.{Linked}
 use Rattle.sj_calls.specs.Objects.{RunsOn, Constructs}
@@ -57,6 +59,17 @@ pub record CanDivide (p : Place) (o : BinaryOp) : Type 0 where
   pub built : (p.has (p.home (a_helper (Throws Division)))).built (member (codes "java.lang.ArithmeticException") Constructor with_message) ≡ true
   pub made : (p.has (p.home (a_helper (Throws Division)))).made (codes "java.lang.ArithmeticException") ≡ true
 
+-- the function that sets a variable, by its item
+abbrev pub setter_code : List ℕ → List ℕ → js_meaning.Code
+setter_code c f = code_of_item (setter (setter_name c f) (static_name c f))
+
+-- the classes have the static field; its variable, and the function that sets it, stand in one file, which has the variable for its own
+pub record StaticStands (p : Place) (c f : List ℕ) (t : IrType) : Type 0 where
+  pub field : HasStatic p c f t
+  pub beside : p.home (a_static c f t) ≡ p.home (a_setter c f t)
+  pub sets : js_meaning.code_of p.program (p.home (a_setter c f t)) (setter_name c f) ≡ Some (setter_code c f)
+  pub owned : owner p.program (p.home (a_setter c f t)) (static_name c f) ≡ Some (p.home (a_setter c f t))
+
 -- what the code of any file can use is there; an object stands at its class; and around a call there are two units for a helper, and one beyond those of the IR
 pub record HasObjects (p : Place) : Type 0 where
   pub linked : (f : Name) (m : Member) → (p.has f).linked m ≡ true → Linked p m
@@ -65,6 +78,7 @@ pub record HasObjects (p : Place) : Type 0 where
   pub made : (f : Name) (c : List ℕ) → (p.has f).made c ≡ true → IsMade p c
   pub objects : (f : Name) (c : List ℕ) → (p.has f).made c ≡ true → is_bare (class_type c) ≡ false
   pub field : (f : Name) (c g : List ℕ) (t : IrType) → (p.has f).field c g t ≡ true → HasField p c g t
+  pub statics : (f : Name) (c g : List ℕ) (t : IrType) → (p.has f).static_field c g t ≡ true → StaticStands p c g t
   pub checked : (f : Name) → (p.has f).helper check_name ≡ true → CanCheck p
   pub divided : (f : Name) (o : BinaryOp) → divides (p.has f) o ≡ true → CanDivide p o
   pub boxes : (f : Name) → can_box (p.has f) ≡ true → BoxStands p

@@ -34,10 +34,11 @@ use Rattle.sj_trees.specs.declared.types.IrType.TheVariants.{Any, Char, Class}
 use Rattle.sj_world.specs.Known.{Classes}
 use Rattle.sj_world.specs.Laws.{IsPlain}
 use Rattle.sj_world.specs.Subtypes.{IsSub}
-use Rattle.sj_plain.specs.Settings.{Place, Setting, shown, usable, Top, a_helper, some_constants, TopHolds, top_name, box_link, SameState, Valued, valued, thrown, Based, Lawful, Inside, BoxesAlike, MayBox}
+use Rattle.sj_plain.specs.Settings.{Place, Setting, shown, usable, Top, a_static, a_helper, some_constants, TopHolds, top_name, box_link, SameState, Valued, valued, thrown, Based, Lawful, Inside, BoxesAlike, MayBox}
 use Rattle.sj_plain.specs.Standing.{suits, Takes}
 use Rattle.sj_plain.specs.Worlds.{with_owned}
-use Rattle.sj_plain.proofs.Heaps.{owned-still, owns}
+use Rattle.sj_emit_expr.specs.Templates.{static_name}
+use Rattle.sj_plain.proofs.Heaps.{holding-carry, owned-still, owns}
 use Rattle.sj_plain.proofs.Orders.{OperandAlike, OperandsAlike, no_operands, more_operands, text_of, valued-weaken, valued-fits}
 use Rattle.sj_plain.proofs.Standing.{suits_open}
 use Rattle.sj_plain.proofs.Told.{tells}
@@ -56,7 +57,7 @@ module _ (p : Place) (w : World) (s : ir.State) (u : js.State) (same : SameState
   more_owned = with_owned (js_objects.next_address u) o w
 
   pub state-owns : SameState p more_owned s (js_objects.with_stored o u)
-  state-owns = record { heaps = owns p w s.heap u.heap same.heaps o; tops = λ f t h. top-carry p w.owned more_owned.owned (owned-still p w s.heap u.heap same.heaps o) t (u.tops (p.home t) (top_name t)) (same.tops f t h) }
+  state-owns = record { heaps = owns p w s.heap u.heap same.heaps o; tops = λ f t h. top-carry p w.owned more_owned.owned (owned-still p w s.heap u.heap same.heaps o) t (u.tops (p.home t) (top_name t)) (same.tops f t h); statics = λ f c n t h. holding-carry w more_owned t (λ i a e. e) (owned-still p w s.heap u.heap same.heaps o) (s.statics c n) (u.tops (p.home (a_static c n t)) (static_name c n)) (same.statics f c n t h) }
 
   pub grows-owned : Grows w more_owned
   grows-owned = record { places = λ i a e. e; owns = owned-still p w s.heap u.heap same.heaps o; pends = λ a b e. e }

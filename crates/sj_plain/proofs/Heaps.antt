@@ -8,7 +8,7 @@ use Rattle.js_tree.specs.Terms.{Name}
 use Rattle.sj_mangling.specs.Bindings.{field_binding}
 use Rattle.sj_mangling.specs.declared.bindings.FieldBinding.TheVariants.{Property}
 use Rattle.sj_trees.specs.declared.types.IrType.{IrType}
-use Rattle.sj_plain.specs.Settings.{Place, link_of, TellsClass, SameField, same_field, no_field, SameStored, same_object, SameHeap}
+use Rattle.sj_plain.specs.Settings.{Place, link_of, TellsClass, SameField, same_field, no_field, SameStored, same_object, SameHeap, Holding, holding}
 use Rattle.sj_plain.specs.Worlds.{with_pending, with_owned, with_born}
 use Rattle.sj_plain.proofs.Worlds.{World, value-carry}
 
@@ -51,6 +51,10 @@ numbers-apart a b f e = grind arith
 pub field-carry : (w y : World) (t : IrType) → ((i a : ℕ) → w.place i ≡ Some a → y.place i ≡ Some a) → ((a : ℕ) (o : js.Stored) → w.owned a ≡ Some o → y.owned a ≡ Some o) → (o : Option ir.Value) (q : Option js.Value) → SameField w t o q → SameField y t o q
 field-carry w y t g h _ _ (same_field v x a) = same_field v x (value-carry w y t v x g h a)
 field-carry w y t g h _ _ (no_field x) = no_field x
+
+-- what a variable holds
+pub holding-carry : (w y : World) (t : IrType) → ((i a : ℕ) → w.place i ≡ Some a → y.place i ≡ Some a) → ((a : ℕ) (o : js.Stored) → w.owned a ≡ Some o → y.owned a ≡ Some o) → (o : Option ir.Value) (cell : js.Cell) → Holding w t o cell → Holding y t o cell
+holding-carry w y t g h _ _ (holding v x a) = holding v x (value-carry w y t v x g h a)
 
 tells-carry : (w y : World) (c : List ℕ) (properties : Name → Option js.Value) → ((a : ℕ) (o : js.Stored) → w.owned a ≡ Some o → y.owned a ≡ Some o) → TellsClass w c properties → TellsClass y c properties
 tells-carry w y c properties g h = record { address = h.address; constants = h.constants; held = h.held; owned = g h.address (js.plain [] h.constants) h.owned; marked = h.marked; known = h.known }

@@ -17,7 +17,7 @@ use Rattle.js_tree.specs.Terms as tree
 use Rattle.sj_core.specs.Terms as core
 use Rattle.sj_core.specs.Views.{expressions_of}
 use Rattle.sj_desugar.specs.Desugar.{member}
-use Rattle.sj_emit_expr.specs.Templates.{check_name, property_name, class_name, expression_templates}
+use Rattle.sj_emit_expr.specs.Templates.{check_name, property_name, class_name, static_name, setter_name, expression_template, expression_templates}
 use Rattle.sj_mangling.specs.Bindings.{field_binding}
 use Rattle.sj_mangling.specs.declared.bindings.FieldBinding.TheVariants.{Property}
 use Rattle.sj_desugar.specs.Coercions.{is_char}
@@ -28,10 +28,11 @@ use Rattle.sj_names.specs.declared.method_names.MethodName.{MethodName}
 use Rattle.sj_names.specs.declared.method_names.Namespace.TheVariants.{Constructor}
 use Rattle.sj_trees.specs.Types.{class_type}
 use Rattle.sj_trees.specs.declared.types.IrType.{IrType}
-use Rattle.sj_plain.specs.Settings.{Setting, shown, usable, IsField, FieldsDiffer, SameField, same_field, no_field, SameStored, same_object, SameHeap, SameState, Valued, valued, thrown, Based, Lawful, a_constructor, a_class, a_method, a_helper, top_function, top_call, links_of, Inside, Makes, makes, Built, built, failed, zeroed, IsReceiver}
+use Rattle.sj_trees.specs.declared.types.IrType.TheVariants.{NoType}
+use Rattle.sj_plain.specs.Settings.{Setting, shown, usable, IsField, FieldsDiffer, SameField, same_field, no_field, SameStored, same_object, SameHeap, SameState, Valued, valued, thrown, Based, Lawful, a_constructor, a_class, a_method, a_static, a_setter, a_helper, Holding, holding, top_function, top_call, links_of, Inside, Makes, makes, Built, built, failed, zeroed, IsReceiver}
 use Rattle.body_rules.specs.Standing.{is_bare, Fits, FitAll, types_referred, call_type}
 use Rattle.sj_plain.specs.Worlds.{with_pending, with_born}
-use Rattle.sj_plain.proofs.Heaps.{writes, births, stored-carry, numbers-same, place-there}
+use Rattle.sj_plain.proofs.Heaps.{writes, births, stored-carry, holding-carry, numbers-same, place-there}
 use Rattle.sj_plain.proofs.Orders.{ActsAlike, OperandAlike, OperandsAlike, all_shown, in_order_alike, valued-weaken}
 use Rattle.sj_plain.proofs.Standing.{open-refers}
 use Rattle.sj_plain.proofs.Tops.{row_shown, top_seen}
@@ -65,6 +66,30 @@ module _ (z : Setting) (law : Based z) where
   pub select_alike : (w : World) (env : ir.Env) (s : ir.State) (sc : js.Scope) (u : js.State) (own : IrType) (r : ir.Run) (e : core.Expression) (c f : List ℕ) (t : IrType) → IsField z.place.classes c f t → OperandsAlike z w env sc (own ∷ []) (r ∷ []) (e ∷ []) → SameState z.place w s u → Sim z.direction (Valued z.place w env t) (ir_meaning.in_order (r ∷ []) (ir_meaning.select_field c f) env s) (shown z (core.field_of e c f) sc u)
   select_alike w env s sc u own r e c f t has operands same = in_order_alike z w w env sc w (own ∷ []) t (r ∷ []) (e ∷ []) (ir_meaning.select_field c f) (js_meaning.read_property z.place.program (property_name c f)) operands (select_acts w env sc own c f t has) w s u (grows-refl w) (grows-refl w) (grows-refl w) same
 
+  -- a static field that is read
+  pub static_alike : (c f : List ℕ) (t : IrType) → (usable z).static_field c f t ≡ true → (w : World) (env : ir.Env) (s : ir.State) (sc : js.Scope) (u : js.State) → Inside z.place z.code sc → SameState z.place w s u → Sim z.direction (Valued z.place w env t) (ir_meaning.value_or_wrong (s.statics c f) env s) (shown z (core.static_of c f) sc u)
+  static_alike c f t has w env s sc u inside same = go (s.statics c f) (u.tops (z.place.home (a_static c f t)) (static_name c f)) refl (same.statics z.code.file c f t has)
+    where
+      go : (o : Option ir.Value) (cell : js.Cell) → u.tops (z.place.home (a_static c f t)) (static_name c f) ≡ cell → Holding w t o cell → Sim z.direction (Valued z.place w env t) (ir_meaning.value_or_wrong o env s) (shown z (core.static_of c f) sc u)
+      go _ _ e (holding v x a) = subst (λ q. Sim z.direction (Valued z.place w env t) (done (ir.ends (ir.gives v) env s)) q) (sym (top_seen z law (a_static c f t) x sc u has inside e)) (sim_done z.direction (Valued z.place w env t) (ir.ends (ir.gives v) env s) (js.gives x u) (valued w v x s u (grows-refl w) a same))
+
+  -- one that is set, by the function that sets its variable
+  set_acts : (c f : List ℕ) (t own : IrType) → Fits t own → (base : World) (env : ir.Env) (sc : js.Scope) → (usable z).static_field c f t ≡ true → ActsAlike z base base env (own ∷ []) NoType (ir_meaning.assign_static c f) (js_meaning.call z.place.program z.js_low (top_function z.place (a_setter c f t))) sc
+  set_acts c f t own fit base env sc has y _ _ s u g (one_more _ v x _ _ _ a no_values) same = sim_weaken z.direction (Valued z.place y env NoType) (Valued z.place base env NoType) _ _ (λ a b. valued-weaken z base y env NoType a b g) (law.sets c f t has y v x env s u (value-fits y t own v x fit a) same)
+
+  -- the call of that function with an expression
+  abbrev pub setter_text : List ℕ → List ℕ → core.Expression → js.Evaluation
+  setter_text c f e = js_meaning.evaluate z.place.program z.js_low (tree.call_of (setter_name c f) (tree.expression (expression_template z.place.name z.place.label e) tree.no_expressions))
+
+  pub static_set_alike : (c f : List ℕ) (t own : IrType) (r : ir.Run) (e : core.Expression) → (usable z).static_field c f t ≡ true → Fits t own → (w : World) (env : ir.Env) (s : ir.State) (sc : js.Scope) (u : js.State) → Inside z.place z.code sc → OperandsAlike z w env sc (own ∷ []) (r ∷ []) (e ∷ []) → SameState z.place w s u → Sim z.direction (Valued z.place w env NoType) (ir_meaning.in_order (r ∷ []) (ir_meaning.assign_static c f) env s) (setter_text c f e sc u)
+  static_set_alike c f t own r e has fit w env s sc u inside operand same = subst (λ o. Sim z.direction (Valued z.place w env NoType) (ir_meaning.in_order (r ∷ []) (ir_meaning.assign_static c f) env s) o) (sym js_is) (in_order_alike z w w env sc w (own ∷ []) NoType (r ∷ []) (e ∷ []) (ir_meaning.assign_static c f) (js_meaning.call z.place.program z.js_low fun) operand (set_acts c f t own fit w env sc has) w s u (grows-refl w) (grows-refl w) (grows-refl w) same)
+    where
+      fun : js.Value
+      fun = top_function z.place (a_setter c f t)
+
+      js_is : setter_text c f e sc u ≡ js_meaning.in_order (shown z e ∷ []) (js_meaning.call z.place.program z.js_low fun) sc u
+      js_is = ap (λ o. then_do o (js.with_value (λ g. js_meaning.in_order (shown z e ∷ []) (js_meaning.call z.place.program z.js_low g) sc))) (top_seen z law (a_setter c f t) fun sc u has inside (same.tops z.code.file (a_setter c f t) has))
+
   -- a field that is written
   written : FieldsDiffer z.place → (y : World) (v : ir.Value) (x : js.Value) (c f : List ℕ) (t : IrType) (fields : ir.Fields) (properties : Name → Option js.Value) → IsField z.place.classes c f t → SameValue y t v x → ((d g : List ℕ) (i : IrType) → IsField z.place.classes d g i → SameField y i (fields d g) (properties (field_binding Property d g))) → (d g : List ℕ) (i : IrType) → IsField z.place.classes d g i → SameField y i (ir.with_field c f v fields d g) (js_objects.with_property (property_name c f) x properties (field_binding Property d g))
   written differ y v x c f t fields properties has a fs d g i there = subst (λ b. SameField y i (ir.with_field c f v fields d g) (if b then Some x else properties (field_binding Property d g))) (sym (differ.properties c f d g t i has there)) (go (is_same_text d c && is_same_text g f) refl)
@@ -81,7 +106,7 @@ module _ (z : Setting) (law : Based z) where
 
       by : (old : Option ir.Value) → Sim z.direction F (ir_meaning.assigned (ir_meaning.if_there old (ir.at_address i (ir.object d (ir.with_field c f v fields)) s)) env s) (done (js.ends js.normally sc (js_objects.at_address a with_it u)))
       by None = sim_wrong z.direction F _
-      by (Some old) = sim_done z.direction F (ir.ends (ir.gives ir.undefined) env (ir.at_address i (ir.object d (ir.with_field c f v fields)) s)) (js.ends js.normally sc (js_objects.at_address a with_it u)) (goes _ _ (record { heaps = writes z.place y s.heap u.heap same.heaps i a (ir.object d (ir.with_field c f v fields)) with_it there (same_object d (ir.with_field c f v fields) (js_objects.with_property (property_name c f) x properties) (record { address = told.address; constants = told.constants; held = told.held; owned = told.owned; marked = told.marked; known = told.known }) (written differ y v x c f t fields properties has alike fs)); tops = same.tops }))
+      by (Some old) = sim_done z.direction F (ir.ends (ir.gives ir.undefined) env (ir.at_address i (ir.object d (ir.with_field c f v fields)) s)) (js.ends js.normally sc (js_objects.at_address a with_it u)) (goes _ _ (record { heaps = writes z.place y s.heap u.heap same.heaps i a (ir.object d (ir.with_field c f v fields)) with_it there (same_object d (ir.with_field c f v fields) (js_objects.with_property (property_name c f) x properties) (record { address = told.address; constants = told.constants; held = told.held; owned = told.owned; marked = told.marked; known = told.known }) (written differ y v x c f t fields properties has alike fs)); tops = same.tops; statics = same.statics }))
 
   -- a field of an object is written: the IR gives undef, and the statement ends normally, in states that stand for each other
   pub field_written : FieldsDiffer z.place → (F : ir.Ended → js.StatementEnd → Type 0) (y : World) (env : ir.Env) (sc : js.Scope) (s : ir.State) (u : js.State) (own : IrType) (r v : ir.Value) (q x : js.Value) (c f : List ℕ) (t : IrType) → IsField z.place.classes c f t → SameValue y own r q → SameValue y t v x → SameState z.place y s u → ((s : ir.State) (u : js.State) → SameState z.place y s u → F (ir.ends (ir.gives ir.undefined) env s) (js.ends js.normally sc u)) → Sim z.direction F (ir_meaning.assign_field c f (r ∷ v ∷ []) env s) (js_meaning.with_state (js_objects.set_property q (property_name c f) x u) sc u)
@@ -127,7 +152,7 @@ module _ (z : Setting) (law : Based z) where
       placed j b e = placed-still y s.heap u.heap same.heaps j b a e (j == i) refl
 
       states : SameState z.place born (ir.with_stored (zeroed z.place c) s) u
-      states = record { heaps = births z.place y s.heap u.heap same.heaps a o (zeroed z.place c) (g.pends a o (here-some a o (w.pending a))) (stored-carry z.place w y g.places g.owns (Some (zeroed z.place c)) (Some o) shape); tops = same.tops }
+      states = record { heaps = births z.place y s.heap u.heap same.heaps a o (zeroed z.place c) (g.pends a o (here-some a o (w.pending a))) (stored-carry z.place w y g.places g.owns (Some (zeroed z.place c)) (Some o) shape); tops = same.tops; statics = λ q d n t l. holding-carry y born t placed (λ b d e. e) (s.statics d n) (u.tops (z.place.home (a_static d n t)) (static_name d n)) (same.statics q d n t l) }
 
       grown : Grows w born
       grown = record { places = λ j b e. placed j b (g.places j b e); owns = g.owns; pends = λ b d e. pending-left w y a b d fresh e (g.pends b d (pending-kept w a b o d fresh e (b == a) refl)) (b == a) refl }

@@ -33,7 +33,7 @@ use Rattle.sj_desugar.specs.Texts.{operand_of}
 use Rattle.sj_emit_expr.specs.Templates.{check_name, member_name, expression_template, expression_templates, binary_template, unary_template, is_nonzero_literal}
 use Rattle.sj_names.proofs.Same.{impossible}
 use Rattle.sj_names.specs.declared.method_names.Member.{Member}
-use Rattle.sj_trees.specs.Term.{Term, Terms, no_terms, more_terms, var_def, skip, block_of, labeled, assign, return_to, if_then, while_loop, do_while, throw, match_on, new_object, select, apply_statically, this_ref, apply_static, unary_op, binary_op, log_line, undefined_literal, null_literal, boolean_literal, char_literal, byte_literal, short_literal, int_literal, long_literal, string_literal, var_ref}
+use Rattle.sj_trees.specs.Term.{Term, Terms, no_terms, more_terms, var_def, skip, block_of, labeled, assign, return_to, if_then, while_loop, do_while, throw, match_on, new_object, select, select_static, apply_statically, this_ref, apply_static, unary_op, binary_op, log_line, undefined_literal, null_literal, boolean_literal, char_literal, byte_literal, short_literal, int_literal, long_literal, string_literal, var_ref}
 use Rattle.sj_trees.specs.TypeOf.{type_of_term, unary_result, binary_result}
 use Rattle.sj_trees.specs.declared.operators.BinaryOp.{BinaryOp}
 use Rattle.sj_trees.specs.declared.operators.BinaryOp.TheVariants.{StrictEqual, StrictNotEqual, StringConcatenate, IntDivide, IntRemainder, LongDivide, LongRemainder, LongShiftLeft, LongShiftRightLogical, LongShiftRightArithmetic}
@@ -53,7 +53,7 @@ use Rattle.body_rules.specs.Standing.{Fits, FitAll, types_referred, call_type}
 use Rattle.sj_plain.proofs.Divided.{divided_operands}
 use Rattle.sj_plain.proofs.Divisions.{division_alike, dividend_alone}
 use Rattle.sj_plain.proofs.Operators.{template_value, is_direct}
-use Rattle.sj_plain.proofs.Objects.{select_alike, new_alike, received_call_alike, checked_alike}
+use Rattle.sj_plain.proofs.Objects.{select_alike, static_alike, new_alike, received_call_alike, checked_alike}
 use Rattle.sure_receivers.specs.Sure.{is_sure}
 use Rattle.sj_names.specs.declared.method_names.Namespace.TheVariants.{Public, Private, Constructor}
 use Rattle.sj_plain.proofs.Received.{value_none, not_none, class_value, value_below, value_apart, may_be_checked, Received, received}
@@ -389,6 +389,7 @@ module _ (z : Setting) (lawful : Lawful z) (scope : Scope) where
       tree_alike (new_object p c m ts) h k v = let x = and_parts ((usable z).made c) ((usable z).built (member c Constructor m) && may_pass (usable z) m.params ts) h.0.built in new_tree p c m ts h (trees_alike ts m.params h.1 k (arguments_there z.place.classes (usable z) ((usable z).built (member c Constructor m)) ts m.params x.1 h.0.finds h.0.meets.1))
       tree_alike (select p e c f t) h k v = select_tree p e c f t h (tree_alike e h.1 k (value_apart z.place.classes (usable z) scene e h.1 (value_below z.place.classes law (type_of_term e) (class_type c) h.0.meets.0 (class_value c))))
       tree_alike (apply_statically p e c n m ts t) h k v = let x = and_parts (is_plain e) (are_plain ts) k in receiving_tree p e c n m ts t h v (tree_alike e h.1 x.0 (value_apart z.place.classes (usable z) scene e h.1 (value_below z.place.classes law (type_of_term e) (class_type c) h.0.meets.2 (class_value c)))) (trees_alike ts m.params h.2 x.1)
+      tree_alike (select_static p c f t) h k v = record { alike = λ w env s sc u sees same. static_alike z lawful.base c f t h.built w env s sc u sees.inside same; told = refl }
       tree_alike (this_ref p t) h k v = this_tree p t h
       tree_alike (apply_static p c n m ts t) h k v = call_tree p c n m ts t h (trees_alike ts m.params h.1 k (arguments_there z.place.classes (usable z) ((usable z).linked (member c n m)) ts m.params h.0.built h.0.finds h.0.meets.2))
       tree_alike (unary_op p o e) h k v = unary_tree p o e (fits-unary z.place.classes law o (type_of_term e) h.0.meets) (tree_alike e h.1 k (value_apart z.place.classes (usable z) scene e h.1 (value_below z.place.classes law (type_of_term e) (unary_operand o) h.0.meets (value_none (unary_operand o) (unary-operand-value o)))))

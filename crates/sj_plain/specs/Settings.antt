@@ -22,7 +22,7 @@ use Rattle.js_mean.specs.Shows.{object_shown, class_marked}
 use Rattle.outcomes.specs.Shown as shown_ends
 use Rattle.sj_core.specs.Terms as core
 use Rattle.sj_desugar.specs.Coercions.{is_char}
-use Rattle.sj_emit_expr.specs.Templates.{check_name, member_name, expression_template, statement_templates}
+use Rattle.sj_emit_expr.specs.Templates.{check_name, member_name, static_name, setter_name, expression_template, statement_templates}
 use Rattle.sj_mangling.specs.Bindings.{class_binding, field_binding}
 use Rattle.sj_mangling.specs.declared.bindings.ClassBinding.TheVariants.{Class, Constants, Marker}
 use Rattle.sj_mangling.specs.declared.bindings.FieldBinding.TheVariants.{Property}
@@ -43,16 +43,18 @@ use Rattle.sj_trees.specs.declared.operators.BinaryOp.{BinaryOp}
 use Rattle.sj_trees.specs.declared.operators.BinaryOp.TheVariants.{IntDivide, IntRemainder, LongDivide}
 use Rattle.typing_rules.specs.Rules.{left_operand, right_operand}
 use Rattle.sj_trees.specs.declared.types.IrType.{IrType}
-use Rattle.sj_trees.specs.declared.types.IrType.TheVariants.{Any}
+use Rattle.sj_trees.specs.declared.types.IrType.TheVariants.{Any, NoType}
 
 -- a binding at the top of a file of the emitted code: the function of a static member, of one that runs on a receiver, and of a constructor; a class, and
--- its constants; and a helper
+-- its constants; the variable of a static field of this type, and the function that sets it; and a helper
 pub data Top : Type 0 where
   a_function : Member → Top
   a_method : Member → Top
   a_constructor : Member → Top
   a_class : List ℕ → Top
   some_constants : List ℕ → Top
+  a_static : List ℕ → List ℕ → IrType → Top
+  a_setter : List ℕ → List ℕ → IrType → Top
   a_helper : Helper → Top
 
 abbrev pub top_name : Top → Name
@@ -61,6 +63,8 @@ top_name (a_method m) = member_name m
 top_name (a_constructor m) = member_name m
 top_name (a_class c) = class_binding Class c
 top_name (some_constants c) = class_binding Constants c
+top_name (a_static c f t) = static_name c f
+top_name (a_setter c f t) = setter_name c f
 top_name (a_helper h) = helper_name h
 
 -- the code that can use this can use the binding
@@ -70,6 +74,8 @@ is_usable has (a_method m) = has.received m
 is_usable has (a_constructor m) = has.built m
 is_usable has (a_class c) = has.made c
 is_usable has (some_constants c) = has.made c
+is_usable has (a_static c f t) = has.static_field c f t
+is_usable has (a_setter c f t) = has.static_field c f t
 is_usable has (a_helper h) = has.helper (helper_name h)
 
 -- what is fixed: the two programs, the names that stand for variables and labels, the file of each binding, what the code of each file can use, and the
@@ -134,6 +140,16 @@ pub record IsField (classes : ir_world.World) (c f : List ℕ) (t : IrType) : Ty
   pub named : field.name ≡ f
   pub typed : field.tpe ≡ t
 
+-- the class has a static field of this name and type
+pub record IsStaticField (classes : ir_world.World) (c f : List ℕ) (t : IrType) : Type 0 where
+  pub definition : ClassDef
+  pub field : FieldDef
+  pub found : ir_world.class_of classes c ≡ Some definition
+  pub among : Contains definition.fields field
+  pub of_class : field.is_static ≡ true
+  pub named : field.name ≡ f
+  pub typed : field.tpe ≡ t
+
 -- what a field of the type holds, and the property that stands for it; where there is no such field the IR is wrong
 pub data SameField (w : World) (t : IrType) : Option ir.Value → Option js.Value → Type 0 where
   same_field : (v : ir.Value) (x : js.Value) → SameValue w t v x → SameField w t (Some v) (Some x)
@@ -194,19 +210,27 @@ pub record HoldsCharConstants (owned : ℕ → Option js.Stored) (cell : js.Cell
 abbrev pub box_link : Place → js.ClassLink
 box_link p = record { file = p.home (a_helper BoxedChar); name = helper_name BoxedChar }
 
--- what a binding at the top holds once its file has run, by what the emitted code has for itself
+-- what a local or a static field of this type holds, and the binding that stands for it
+pub data Holding (w : World) (t : IrType) : Option ir.Value → js.Cell → Type 0 where
+  holding : (v : ir.Value) (x : js.Value) → SameValue w t v x → Holding w t (Some v) (js.holds false x)
+
+-- what a binding at the top holds once its file has run, by what the emitted code has for itself; the variable of a static field changes, so that it is asked for
+-- by itself
 abbrev pub TopHolds : Place → (ℕ → Option js.Stored) → Top → js.Cell → Type 0
 TopHolds p owned (a_function m) cell = cell ≡ js.holds false (function_of_member p m)
 TopHolds p owned (a_class c) cell = cell ≡ js.holds false (js.class (links_of p c))
 TopHolds p owned (some_constants c) cell = HoldsConstants owned c cell
+TopHolds p owned (a_static c f t) cell = Unit {0}
 TopHolds p owned (a_helper BoxedChar) cell = cell ≡ js.holds false (js.class (box_link p ∷ []))
 TopHolds p owned (a_helper (ConstantsOf kinds.Char)) cell = HoldsCharConstants owned cell
 TopHolds p owned t cell = cell ≡ js.holds false (top_function p t)
 
--- the states stand for each other: the heaps do, and what the code of some file can use holds what it is to hold
+-- the states stand for each other: the heaps do; what the code of some file can use holds what it is to hold; and so do the static fields that it can use, each in
+-- its variable
 pub record SameState (p : Place) (w : World) (s : ir.State) (u : js.State) : Type 0 where
   pub heaps : SameHeap p w s.heap u.heap
   pub tops : (f : Name) (t : Top) → is_usable (p.has f) t ≡ true → TopHolds p w.owned t (u.tops (p.home t) (top_name t))
+  pub statics : (g : Name) (c f : List ℕ) (t : IrType) → (p.has g).static_field c f t ≡ true → Holding w t (s.statics c f) (u.tops (p.home (a_static c f t)) (static_name c f))
 
 -- a name that no variable has: those of functions, and of whatever else stands at the top of a file
 abbrev pub OfNoVariable : Place → Name → Type 0
@@ -266,6 +290,10 @@ BuildsAlike z m = (w : World) (v : ir.Value) (x : js.Value) (vs : List ir.Value)
 abbrev pub ReceivesAlike : Setting → Member → Type 0
 ReceivesAlike z m = (w : World) (v : ir.Value) (x : js.Value) (vs : List ir.Value) (xs : List js.Value) (env : ir.Env) (s : ir.State) (u : js.State) → IsReceiver w m.class v x → SameValues w (types_referred m.method.params) vs xs → SameState z.place w s u → Sim z.direction (Valued z.place w env (call_type m.method.result)) (ir_meaning.call z.low (ir_meaning.static_target z.place.classes m.class m.namespace m.method) (Some v) vs env s) (top_call z.place z.js_low (a_method m) (x ∷ xs) u)
 
+-- an assignment to a static field of this type, and a call of the function that sets its variable
+abbrev pub SetsAlike : Setting → List ℕ → List ℕ → IrType → Type 0
+SetsAlike z c f t = (w : World) (v : ir.Value) (x : js.Value) (env : ir.Env) (s : ir.State) (u : js.State) → SameValue w t v x → SameState z.place w s u → Sim z.direction (Valued z.place w env NoType) (ir_meaning.assign_static c f (v ∷ []) env s) (top_call z.place z.js_low (a_setter c f t) (x ∷ []) u)
+
 -- two fields of the classes have two properties, and a field has one type
 pub record FieldsDiffer (p : Place) : Type 0 where
   pub properties : (c f d g : List ℕ) (s t : IrType) → IsField p.classes c f s → IsField p.classes d g t → pointwise nat_eq (field_binding Property d g) (field_binding Property c f) ≡ (is_same_text d c && is_same_text g f)
@@ -277,12 +305,25 @@ pub record HasField (p : Place) (c f : List ℕ) (t : IrType) : Type 0 where
   pub value : HasValue t
   pub differ : FieldsDiffer p
 
--- subtyping is ordered, and what the levels below give of what is called and made; an object stands at its class
+-- two static fields of the classes have two variables, and a static field has one type
+pub record StaticsDiffer (p : Place) : Type 0 where
+  pub variables : (c f d g : List ℕ) (s t : IrType) → IsStaticField p.classes c f s → IsStaticField p.classes d g t → pointwise nat_eq (static_name d g) (static_name c f) ≡ (is_same_text d c && is_same_text g f)
+  pub types : (c f : List ℕ) (s t : IrType) → IsStaticField p.classes c f s → IsStaticField p.classes c f t → s ≡ t
+
+-- the class has the static field, of a type with values, and static fields differ
+pub record HasStatic (p : Place) (c f : List ℕ) (t : IrType) : Type 0 where
+  pub field : IsStaticField p.classes c f t
+  pub value : HasValue t
+  pub differ : StaticsDiffer p
+
+-- subtyping is ordered, and what the levels below give of what is called, set and made; an object stands at its class
 pub record Based (z : Setting) : Type 0 where
   pub ordered : IsSubtyping (IsSub z.place.classes)
   pub names : NamesDiffer z.place
   pub reaches : Reaches z.place z.code.file
   pub fields : (c f : List ℕ) (t : IrType) → (usable z).field c f t ≡ true → HasField z.place c f t
+  pub statics : (c f : List ℕ) (t : IrType) → (usable z).static_field c f t ≡ true → HasStatic z.place c f t
+  pub sets : (c f : List ℕ) (t : IrType) → (usable z).static_field c f t ≡ true → SetsAlike z c f t
   pub calls : (m : Member) → (usable z).linked m ≡ true → CallsAlike z m
   pub receives : (m : Member) → (usable z).received m ≡ true → ReceivesAlike z m
   pub builds : (m : Member) → (usable z).built m ≡ true → BuildsAlike z m
@@ -317,10 +358,6 @@ pub record Lawful (z : Setting) : Type 0 where
   pub checks : (usable z).helper check_name ≡ true → ChecksAlike z
   pub divisions : (o : BinaryOp) → divides (usable z) o ≡ true → DividesAlike z o
   pub boxes : can_box (usable z) ≡ true → BoxesAlike z
-
--- what a local of this type holds, and the binding that stands for it
-pub data Holding (w : World) (t : IrType) : Option ir.Value → js.Cell → Type 0 where
-  holding : (v : ir.Value) (x : js.Value) → SameValue w t v x → Holding w t (Some v) (js.holds false x)
 
 -- This, in a method of the class, if there is one, and the binding that stands for it
 pub data Receiving (w : World) (c : List ℕ) : Option ir.Value → js.Cell → Type 0 where

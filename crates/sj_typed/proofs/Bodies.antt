@@ -22,7 +22,7 @@ use Rattle.body_rules.specs.Locals.{local_of, HasValue}
 use Rattle.body_rules.specs.Typing as scenes
 use Rattle.sj_proper.specs.Once.{Once, OnceAll, OnceCases}
 use Rattle.sj_proper.specs.Methods.{scene_of, KeepsRules}
-use Rattle.sj_trees.specs.Term.{Term, Terms, no_terms, more_terms, Cases, no_cases, more_cases, var_def, skip, block_of, labeled, assign, return_to, if_then, while_loop, do_while, throw, match_on, new_object, select, apply_statically, apply_static, unary_op, binary_op, undefined_literal, null_literal, boolean_literal, char_literal, byte_literal, short_literal, int_literal, long_literal, string_literal, var_ref, this_ref, log_line}
+use Rattle.sj_trees.specs.Term.{Term, Terms, no_terms, more_terms, Cases, no_cases, more_cases, var_def, skip, block_of, labeled, assign, return_to, if_then, while_loop, do_while, throw, match_on, new_object, select, select_static, apply_statically, apply_static, unary_op, binary_op, undefined_literal, null_literal, boolean_literal, char_literal, byte_literal, short_literal, int_literal, long_literal, string_literal, var_ref, this_ref, log_line}
 use Rattle.sj_trees.specs.declared.classes.ClassDef.{ClassDef}
 use Rattle.sj_trees.specs.declared.classes.MethodDef.{MethodDef}
 use Rattle.sj_trees.specs.declared.classes.ParamDef.{ParamDef}
@@ -100,6 +100,11 @@ module _ (w : Classes) (has : Usable) where
         let parts = and_parts (is_built has (may_check has s.sure) s.labels d) (is_built has (may_check has s.sure) s.labels e) q.1 in
         let read = and_from (stands has (may_check has s.sure) s.labels (select r d cn f t)) (is_built has (may_check has s.sure) s.labels d) known parts.0 in
         (record { meets = own s.space s.labels n (assign p (select r d cn f t) e) all; built = q.0; finds = tt }, typed (select r d cn f t) x x s a (n + 1) refl c h.0 (keep-front s.owner s.space (below x (select r d cn f t)) (At x e) h.1) o.0 read listed.0 (one s.space s.labels (n + 1) (select r d cn f t) e met), typed e x x s a (n + 1 + size (select r d cn f t)) refl c later.0 later.1 o.1 parts.1 listed.1 (other s.space s.labels (n + 1) (select r d cn f t) e met))
+    typed (assign p (select_static r cn f t) e) x y s a n z c k h o built listed all =
+        let met = inner s.space s.labels n (assign p (select_static r cn f t) e) all in
+        let q = and_parts (has.static_field cn f t && may_box has t e) (is_built has (may_check has s.sure) s.labels e) built in
+        let known = (and_parts (has.static_field cn f t) (may_box has t e) q.0).0 in
+        (record { meets = own s.space s.labels n (assign p (select_static r cn f t) e) all; built = q.0; finds = tt }, record { meets = own s.space s.labels (n + 1) (select_static r cn f t) (one s.space s.labels (n + 1) (select_static r cn f t) e met); built = known; finds = tt }, typed e x x s a (n + 1 + size (select_static r cn f t)) refl c h.1.0 h.1.1 o q.1 listed.1 (other s.space s.labels (n + 1) (select_static r cn f t) e met))
     typed (throw p e) x y s a n z c k h o built listed all =
         let q = and_parts (has.objects && may_box has Any e) (is_built has (may_check has s.sure) s.labels e) built in
         (record { meets = own s.space s.labels n (throw p e) all; built = q.0; finds = tt }, typed e x x s a (n + 1) refl c h.0 h.1 o q.1 listed (inner s.space s.labels n (throw p e) all))
@@ -166,6 +171,7 @@ module _ (w : Classes) (has : Usable) where
     typed (long_literal p u) x y s a n z c k h o built listed all = record { meets = tt; built = refl; finds = fits_long u listed }
     typed (string_literal p us) x y s a n z c k h o built listed all = record { meets = tt; built = refl; finds = tt }
     typed (var_ref p v t) x y s a n z c k h o built listed all = record { meets = tt; built = refl; finds = local-is s v t (innermost x.scope v) (local_of s.locals v) refl (c.same v) (not_false (has_type t (innermost x.scope v)) (subst (λ i. not (has_type t (innermost i v)) ≡ false) z k.variable)) }
+    typed (select_static p cn f t) x y s a n z c k h o built listed all = record { meets = own s.space s.labels n (select_static p cn f t) all; built = built; finds = tt }
     typed (this_ref p t) x y s a n z c k h o built listed all = record { meets = tt; built = built; finds = k.this }
     typed (log_line p e) x y s a n z c k h o built listed all = (record { meets = own s.space s.labels n (log_line p e) all; built = refl; finds = tt }, typed e x x s a (n + 1) refl c h.0 h.1 o built listed (inner s.space s.labels n (log_line p e) all))
     typed _ x y s a n z c k h o built listed all = impossible built

@@ -7,11 +7,11 @@ use Rattle.built_forms.proofs.forms.+forms.Goals as goal
 use Rattle.built_forms.proofs.forms.+forms.Goals.{is_built-then-not-is_boxed-3, is_built-else-not-is_boxed-3, is_built-then-is_direct_call, is_built-else-is_direct_call}
 use Rattle.sj_names.proofs.Same.{impossible}
 use Rattle.sj_trees.proofs.trees.Tree.TheLaws.{the_size}
-use Rattle.sj_trees.specs.Term.{Term, var_ref, assign, select, apply_statically}
+use Rattle.sj_trees.specs.Term.{Term, var_ref, assign, select, select_static, apply_statically}
 use Rattle.sj_trees.specs.View.{view, terms_view, view_step, case_step, Case}
 use Rattle.sj_trees.specs.declared.trees.Tree.TheFolds.{fold-roll-Tree}
 use Rattle.sj_trees.specs.declared.trees.Tree.TheOpen.{Tree-F}
-use Rattle.sj_trees.specs.declared.trees.Tree.TheVariants.{rolls-Assign, rolls-VarRef, rolls-Select, rolls-ApplyStatically}
+use Rattle.sj_trees.specs.declared.trees.Tree.TheVariants.{rolls-Assign, rolls-VarRef, rolls-Select, rolls-SelectStatic, rolls-ApplyStatically}
 use Rattle.sj_trees.specs.declared.trees.Tree.TheViews.{sized-Match}
 
 -- a value that is built, as it is set to a field of an object
@@ -55,6 +55,16 @@ is_built-returns-then-not-is_boxed-2 t c =
     let v : view c.args.tree.now ≡ assign n.field-0 (var_ref r.field-0 r.field-1 r.tpe) (view n.value.value) = ap view (n.is ∙ sym (rolls-Assign n.field-0 n.target n.value)) ∙ fold-roll-Tree Term Case view_step case_step (Tree-F.Assign n.field-0 n.target n.value) ∙ ap (λ x. assign n.field-0 x (view n.value.value)) there in
     let fits : false ≡ is_boxed r.tpe (view n.value.value) = sym c.if-not-is_boxed-2.true ∙ c.is_boxed-in-VarRef.ensures ∙ ap (λ x. is_boxed r.tpe (view x)) c.deref-in-VarRef.ensures in
     let own : c.is_built-then-not-is_boxed-2.result ≡ is_built any_object (λ e. true) (labels_view c.args.labels.now) (view n.value.value) = c.is_built-then-not-is_boxed-2.ensures ∙ ap (λ x. is_built any_object (λ e. true) (labels_view c.args.labels.now) (view x)) c.deref-then-not-is_boxed-2.ensures in
+    own ∙ ap (λ b. not b && is_built any_object (λ e. true) (labels_view c.args.labels.now) (view n.value.value)) fits ∙ ap (is_built any_object (λ e. true) (labels_view c.args.labels.now)) (sym v)
+
+pub is_built-returns-then-not-is_boxed-4 : goal.is_built-returns-then-not-is_boxed-4
+is_built-returns-then-not-is_boxed-4 t c =
+    let n = c.in-Assign in
+    let r = c.in-SelectStatic in
+    let there : view n.target.value ≡ select_static r.field-0 r.field-1 r.field-2 r.tpe = ap view (sym c.deref-in-Assign.ensures ∙ r.is ∙ sym (rolls-SelectStatic r.field-0 r.field-1 r.field-2 r.tpe)) ∙ fold-roll-Tree Term Case view_step case_step (Tree-F.SelectStatic r.field-0 r.field-1 r.field-2 r.tpe) in
+    let v : view c.args.tree.now ≡ assign n.field-0 (select_static r.field-0 r.field-1 r.field-2 r.tpe) (view n.value.value) = ap view (n.is ∙ sym (rolls-Assign n.field-0 n.target n.value)) ∙ fold-roll-Tree Term Case view_step case_step (Tree-F.Assign n.field-0 n.target n.value) ∙ ap (λ x. assign n.field-0 x (view n.value.value)) there in
+    let fits : false ≡ is_boxed r.tpe (view n.value.value) = sym c.if-not-is_boxed-4.true ∙ c.is_boxed-in-SelectStatic.ensures ∙ ap (λ x. is_boxed r.tpe (view x)) c.deref-in-SelectStatic.ensures in
+    let own : c.is_built-then-not-is_boxed-4.result ≡ is_built any_object (λ e. true) (labels_view c.args.labels.now) (view n.value.value) = c.is_built-then-not-is_boxed-4.ensures ∙ ap (λ x. is_built any_object (λ e. true) (labels_view c.args.labels.now) (view x)) c.deref-then-not-is_boxed-4.ensures in
     own ∙ ap (λ b. not b && is_built any_object (λ e. true) (labels_view c.args.labels.now) (view n.value.value)) fits ∙ ap (is_built any_object (λ e. true) (labels_view c.args.labels.now)) (sym v)
 
 pub are_built_cases-returns-then-not-is_built_case : goal.are_built_cases-returns-then-not-is_built_case
