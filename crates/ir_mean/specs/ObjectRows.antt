@@ -16,8 +16,11 @@ use Rattle.sj_trees.specs.declared.types.IrType.{IrType}
 use Rattle.sj_trees.specs.declared.types.IrType.TheVariants as types
 use Rattle.sj_trees.specs.Term.{Term, Terms, no_terms, more_terms, var_def, skip, block_of, labeled, assign, return_to, try_catch, try_finally, throw, new_object, load_module, store_module, select, select_static, apply, apply_statically, binary_op, new_array, array_value, array_length, array_select, is_instance_of, as_instance_of, undefined_literal, null_literal, char_literal, int_literal, long_literal, string_literal, var_ref, this_ref, log_line}
 use Rattle.ir_mean.specs.Rows.{nowhere, object_name, object_with, static_method, logs, once}
-use Rattle.ir_mean.specs.Shows.{ir_shows}
-use Rattle.ir_mean.specs.World.{World}
+use Rattle.ir_mean.specs.Meaning.{meaning}
+use Rattle.ir_mean.specs.Shows.{ir_shows, outside}
+use Rattle.ir_mean.specs.States.{Value, Ended, ends, gives}
+use Rattle.ir_mean.specs.World.{World, opening}
+use Rattle.outcomes.specs.Outcome.{End, Done}
 use Rattle.outcomes.specs.Shown.{Shown}
 
 -- a class
@@ -132,6 +135,26 @@ all_caught = all_of (each_caught raises)
 -- nothing catches it
 abbrev pub uncaught : Term
 uncaught = x_of null
+
+-- arguments come behind the check of their receiver
+abbrev pub sent_to_null : Term
+sent_to_null = apply_statically nowhere null (codes "java.lang.NullPointerException") Namespace.Constructor init_text (block (all_of (logs (codes "late") ∷ word [] ∷ []) ∷ [])) types.NoType
+
+-- an object is made behind the arguments of its constructor, so one that is made among these has the lesser address
+abbrev pub made_last : Term
+made_last = new_object nowhere (codes "java.lang.NullPointerException") init_text (block (all_of (new_of (codes "A") ∷ word [] ∷ []) ∷ []))
+
+-- a field of what is no object: its right side isn't evaluated
+abbrev pub set_on_text : Term
+set_on_text = assign nowhere (x_of (word (codes "w"))) (all_of (logs (codes "late") ∷ whole 1 ∷ []))
+
+abbrev value_in : End Ended → Option Value
+value_in (Done (ends (gives v) env s)) = Some v
+value_in _ = None
+
+-- what a tree by itself gives within this bound, if it gives a value
+abbrev pub given : Term → ℕ → Option Value
+given t n = value_in (meaning (world (skip nowhere)) n t outside (opening (world (skip nowhere)))).end
 
 -- null where the receiver is sure is wrong: an immutable local is as sure as what it was defined as
 abbrev pub sure_local : Bool → Term

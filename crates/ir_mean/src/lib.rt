@@ -4,12 +4,12 @@
 //! tree is wrong; no tree of a program that is accepted comes to such a place. The functions here are laws.
 #![tactic(auto)]
 
-ghost use Rattle.std.specs.Prelude.{◌≡◌, true, false, List, [], ◌∷◌, ℤ, pos, negsuc, codes};
+ghost use Rattle.std.specs.Prelude.{◌≡◌, true, false, List, [], ◌∷◌, ℤ, pos, negsuc, codes, Some};
 ghost use Rattle.outcomes.specs.Outcome.{Out, Going, Wrong, Done, done, going};
 ghost use Rattle.outcomes.specs.Shown.{Shown, normal, uncaught, object_of};
 ghost use Rattle.ir_mean.specs.Shows.{ir_shows};
 ghost use Rattle.ir_mean.specs.Shows.{outside};
-ghost use Rattle.ir_mean.specs.States.{Ended, ends, gives, number};
+ghost use Rattle.ir_mean.specs.States.{Ended, ends, gives, number, reference};
 ghost use Rattle.ir_mean.specs.World.{opening};
 ghost use Rattle.ir_mean.specs.Values.{values, expected};
 ghost use Rattle.ir_mean.specs.ObjectRows as objects;
@@ -77,7 +77,7 @@ pub fn worked_trees()
 {}
 
 /// Worked bodies of `main` with objects. A constructor costs a unit, also that of an exception, whose message it is handed; making the object costs
-/// none. A call goes by the class of the value, and a sure receiver isn't checked. A constructor of a module class runs once. An index is checked
+/// none, and comes behind the constructor's arguments. A call goes by the class of the value, a sure receiver isn't checked, and a check comes in front of arguments. A constructor of a module class runs once. An index is checked
 /// behind the value that is stored, and an element behind the index. A finalizer's own end takes the place of its block's.
 pub fn worked_objects()
     ensures fields { objects.shown (objects.fields) 2 ≡ record { lines = codes "1" ∷ codes "0" ∷ codes "7" ∷ codes "0" ∷ codes "8" ∷ []; end = Done normal } }
@@ -86,6 +86,9 @@ pub fn worked_objects()
     ensures all_caught { objects.shown (objects.all_caught) 2 ≡ record { lines = codes "null" ∷ codes "/ by zero" ∷ codes "/ by zero" ∷ codes "B" ∷ codes "[[I" ∷ codes "undef" ∷ codes "1" ∷ codes "-1" ∷ codes "-3" ∷ codes "bad element" ∷ codes "gone;I;R" ∷ []; end = Done normal } }
     ensures exception_going { objects.shown (objects.all_caught) 1 ≡ record { lines = []; end = Going } }
     ensures uncaught { objects.shown (objects.uncaught) 2 ≡ record { lines = codes "null" ∷ []; end = Done (uncaught (object_of (codes "java.lang.NullPointerException"))) } }
+    ensures sent_to_null { objects.shown (objects.sent_to_null) 2 ≡ record { lines = codes "null" ∷ []; end = Done (uncaught (object_of (codes "java.lang.NullPointerException"))) } }
+    ensures made_last { objects.given (objects.made_last) 2 ≡ Some (reference 1) }
+    ensures set_on_text { objects.shown (objects.set_on_text) 2 ≡ record { lines = []; end = Wrong } }
     ensures mutable_local { objects.shown (objects.sure_local true) 2 ≡ record { lines = codes "null" ∷ []; end = Done (uncaught (object_of (codes "java.lang.NullPointerException"))) } }
     ensures sure_local { objects.shown (objects.sure_local false) 2 ≡ record { lines = []; end = Wrong } }
     ensures order { objects.shown (objects.order) 2 ≡ record { lines = codes "index" ∷ codes "value" ∷ codes "0" ∷ []; end = Done (uncaught (object_of (codes "java.lang.ArrayIndexOutOfBoundsException"))) } }
