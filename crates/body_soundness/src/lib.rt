@@ -59,7 +59,7 @@ pub fn classes_with_an_instance_field_have_fields()
 {}
 
 /// The laws on objects hold in a world whose classes keep the local rules and stand on no cycle, where what is made isn't hijacked, what can be read is a field
-/// of a class with fields, and whatever is written as an interface above these and above the hijacked classes is one.
+/// of a class with fields or a static field of its class, and whatever is written as an interface above these and above the hijacked classes is one.
 pub fn object_worlds_have_the_laws()
     ensures { (w : Classes) (has : Usable) → ObjectWorld w has → ObjectLaws w has }
 {}

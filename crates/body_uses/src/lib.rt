@@ -5,7 +5,7 @@
 
 ghost use Rattle.body_uses.specs.Laws.{BodiesUseWhatIsGiven, AcceptedBodiesUseWhatIsWritten};
 
-/// Take a body of the forms with objects. Where the members and the classes that its code names are there, and so are its fields and the helpers that its code names,
+/// Take a body of the forms with objects. Where the members, the classes and the static fields that its code names are there, and so are its fields and the helpers that its code names,
 /// and each divisor is of the type that is divided, the body is built with what is there.
 pub fn bodies_use_what_is_given()
     ensures { BodiesUseWhatIsGiven }

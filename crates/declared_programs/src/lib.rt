@@ -33,8 +33,8 @@ pub fn declarations_hold()
 {}
 
 /// The theorem on files with objects: take a module that declares and then calls the initializers of a public module, and that has no early error. Let all that bodies can use
-/// be declared by it, as it is in the classes: functions of members whose bodies keep the rules, constructors, classes with those that they extend and with their constants, fields
-/// and helpers. Let the classes have what the laws on objects ask, and let no class write a hijacked class or stand above `java.lang.Object`. Then the file shows of the public module what
+/// be declared by it, as it is in the classes: functions of members whose bodies keep the rules, constructors, classes with those that they extend and with their constants, fields,
+/// static fields with their variables and the functions that set these, and helpers. Let the classes have what the laws on objects ask, and let no class write a hijacked class or stand above `java.lang.Object`. Then the file shows of the public module what
 /// the classes show: what the one shows within any bound the other shows within some bound, and the other way round, and neither is wrong at any bound.
 pub fn declared_programs_agree()
     ensures { (w : World) → IsPlain w → (entries : List EntryPoint) (id : List ℕ) (has : Usable) (is : List Item) → is_proper_module (module_declaring is (initializers entries id)) ≡ true → declare [] is ≡ true → Declared w has is → ObjectLaws w has → ((e : EntryPoint) → Contains (initializers entries id) e → has.linked (initializer_member e) ≡ true) → Agree (ir_shows w entries id) (js_shows (program_declaring id is (initializers entries id)) id) }
