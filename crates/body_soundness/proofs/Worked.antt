@@ -16,7 +16,7 @@ use Rattle.body_soundness.specs.Worlds.{AreClassesKept, HasFields, WritesInterfa
 use Rattle.ir_mean.specs.Dispatch.{chain_of}
 use Rattle.ir_mean.specs.Rows.{nowhere, object_name, object_with, main_entry, once}
 use Rattle.ir_mean.specs.Shows.{initializers, ir_shows}
-use Rattle.ir_mean.specs.World.{World, member_of, method_among, method_in, opening, zeros_in, zero_of}
+use Rattle.ir_mean.specs.World.{World, member_of, method_among, method_in, zeros_in, zero_of}
 use Rattle.ir_mean.specs.World as ir_world
 use Rattle.outcomes.specs.Agreement.{IsNotWrong}
 use Rattle.sj_desugar.specs.Desugar.{member}

@@ -22,22 +22,20 @@ use Rattle.declared_pieces.specs.DeclaredProgramsDeclared.{is_covered}
 use Rattle.declared_pieces.specs.DeclaredProgramsFiles.{module_declaring, program_declaring}
 use Rattle.declared_pieces.specs.Entries.{IsLive}
 use Rattle.file_listings.specs.Listed.{AreBytes}
-use Rattle.declared_pieces.proofs.EachTyped.{in_all, in_map}
+use Rattle.declared_pieces.proofs.EachTyped.{in_map}
 use Rattle.helper_rules.specs.Helpers.{failure_class, helper_piece, init_name, of, used_helpers}
 use Rattle.helper_rules.specs.Words.{bound, class_name}
 use Rattle.helper_rules.specs.declared.kinds.Failure.{Failure}
 use Rattle.helper_rules.specs.declared.kinds.Helper.{Helper}
 use Rattle.helper_rules.specs.declared.kinds.Helper.TheVariants as helpers
 use Rattle.helper_rules.specs.declared.kinds.Kind.TheVariants as kinds
-use Rattle.helper_rules.specs.declared.kinds.Failure.TheVariants as failures
 use Rattle.ir_mean.specs.Shows.{initializers}
 use Rattle.js_mean.specs.Proper.{is_proper_module}
 use Rattle.js_mean.specs.Shows as js_showing
 use Rattle.js_mean.specs.Shows.{File, file_of}
 use Rattle.js_tree.specs.Spelling.{Spells}
 use Rattle.js_tree.specs.Terms.{Piece}
-use Rattle.js_tree.specs.declared.items.Binding.{Binding}
-use Rattle.declared_pieces.specs.Pieces.{piece_of_member, Block, IsBlock, AreBlocks, pieces_of_block, by_piece, by_helper, AreLinkedPieces}
+use Rattle.declared_pieces.specs.Pieces.{piece_of_member, Block, AreBlocks, pieces_of_block, by_piece, by_helper, AreLinkedPieces}
 use Rattle.declared_pieces.specs.Used.{used_of, is_among}
 use Rattle.declared_pieces.proofs.Made as made
 use Rattle.declared_pieces.proofs.ObjectFoldersWorlds.{carry}
@@ -61,7 +59,6 @@ use Rattle.sj_names.specs.Same.{is_same_text}
 use Rattle.sj_names.specs.WellKnown.{object}
 use Rattle.sj_names.specs.declared.entry_points.EntryPoint.{EntryPoint}
 use Rattle.sj_names.specs.declared.folders.SourceFile.{SourceFile}
-use Rattle.sj_names.specs.declared.method_names.Member.{Member}
 use Rattle.declared_pieces.specs.Emitted.{EmittedMethod, initializer_member}
 use Rattle.declared_pieces.specs.Once.{DefinesOnce}
 use Rattle.declared_pieces.specs.Linked.{has_function}
@@ -74,7 +71,7 @@ use Rattle.sj_world.proofs.OnCycles.{among}
 use Rattle.sj_world.specs.Known.{Name, Classes, class_of}
 use Rattle.sj_world.specs.Linked.{Linked}
 use Rattle.sj_world.specs.declared.facts.Fact.{Fact}
-use Rattle.sj_world.specs.declared.facts.Fact.TheVariants.{Needed, Made, Body}
+use Rattle.sj_world.specs.declared.facts.Fact.TheVariants.{Needed, Made}
 use Rattle.worklist.proofs.Inserted.{nothing_in}
 use Rattle.worklist.specs.Paths.{stay, on}
 use Rattle.sj_world.specs.Paths as climbs

@@ -1,5 +1,5 @@
 -- Laws of linked folders.
-use Rattle.std.specs.Prelude.{◌≡◌, ℕ, true, List, [], ◌∷◌}
+use Rattle.std.specs.Prelude.{◌≡◌, ℕ, List, [], ◌∷◌}
 use Rattle.std.specs.List.{Contains}
 use Rattle.file_listings.specs.Listed.{AreBytes}
 use Rattle.declared_pieces.specs.Closed.{IsClosed}
