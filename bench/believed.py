@@ -33,9 +33,22 @@ CLAIMS = [
 ]
 
 
+def handed_on(crate):
+    """The modules that a crate hands on: by the name that they have there, the name of each, as sj_ask.specs.Laws."""
+    lib = CRATES / crate / "specs" / "Lib.antt"
+    text = lib.read_text() if lib.is_file() else ""
+    found = re.findall(r"^pub use Rattle\.(\S+?)(?: as (\w+))?$", text, re.MULTILINE)
+    return {name or module.split(".")[-1]: module for module, name in found}
+
+
+HANDED_ON = {crate.name: handed_on(crate.name) for crate in CRATES.iterdir()}
+
+
 def spec_file(name):
-    """The file of specs/ that a name such as Rattle.sj_ask.specs.Laws stands for, if it is one."""
+    """The file of specs/ that a name such as sj_ask.specs.Laws stands for, if it is one."""
     parts = name.split(".")
+    while len(parts) > 2 and parts[2] in HANDED_ON.get(parts[0], {}):
+        parts = [*HANDED_ON[parts[0]][parts[2]].split("."), *parts[3:]]
     if len(parts) < 3 or parts[1] != "specs" or parts[2] == "declared":
         return None
     for end in (len(parts), len(parts) - 1):
