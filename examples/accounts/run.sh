@@ -1,0 +1,22 @@
+#!/usr/bin/env bash
+# Makes the class files of the listings in this folder, links them, and runs the module that is written under node, or prints it where there
+# is no node.
+set -euo pipefail
+cd "$(dirname "${BASH_SOURCE[0]}")"
+
+out="$(mktemp -d)"
+trap 'rm -rf "$out"' EXIT
+
+mkdir "$out/classes"
+for listing in listings/*.listing; do
+  ../../sjsir.sh make "$listing" "$out/classes/$(basename "$listing" .listing).sjsir"
+done
+../../sjslink.sh link --optimize off entries "$out" "$out/classes"
+
+# The program ends by an exception that nothing catches.
+if command -v node > /dev/null; then
+  cp "$out/1/main.js" "$out/main.mjs"
+  node "$out/main.mjs" 2> "$out/thrown" || grep -o 'c_java_lang_NullPointerException\|NullPointerException' "$out/thrown" | head -n 1
+else
+  cat "$out/1/main.js"
+fi
