@@ -1,0 +1,12 @@
+//! The module of a planned module, made of pieces.
+#![tactic(auto)]
+
+mod exports;
+mod files;
+mod groups;
+mod imports;
+mod items;
+mod modules;
+mod orders;
+
+pub use modules::module;
