@@ -1,17 +1,15 @@
 -- The module of a plan that has no other.
-use Rattle.std.proofs.Common.{◌≡◌, Bool, true, false, Option, Some, None, List, [], ◌∷◌, ◌++◌, Contains, refl, sym, ap, subst, ◌∙◌, map, cond}
+use Rattle.std.proofs.Common.{◌≡◌, Bool, true, false, Option, Some, None, List, [], ◌∷◌, ◌++◌, Contains, refl, sym, ap, map}
 use Rattle.std.specs.Prelude.{filter, if◌then◌else◌}
-use Rattle.js_tree.specs.Terms.{Name, Item, Piece, Module}
-use Rattle.js_tree.specs.declared.items.Binding.{Binding}
-use Rattle.js_tree.specs.declared.items.JsImport.{JsImport}
+use Rattle.js_tree.specs.Terms.{Name, Piece}
 use Rattle.sj_names.proofs.Same.{text-refl}
 use Rattle.sj_split.proofs.Members.{at_first}
 use Rattle.sj_split.specs.Modules.{file, is_among}
 use Rattle.sj_split.specs.Orders.{Bytes}
 use Rattle.sj_split.specs.declared.plans.PlannedModule.{PlannedModule}
-use Rattle.module_rules.proofs.Chosen.{from_sources, from_exported, another_is}
+use Rattle.module_rules.proofs.Chosen.{from_sources, from_exported}
 use Rattle.module_rules.specs.Calls.{call_item_of}
-use Rattle.module_rules.specs.Laws.{LoneModulesHaveNoLines, IsUse, is_owned, module_alone}
+use Rattle.module_rules.specs.Laws.{LoneModulesHaveNoLines, is_owned, module_alone}
 use Rattle.module_rules.specs.Modules.{file_with, is_this, item_of, name_of, is_owned_in, imported, exported, files_of, import_line, import_lines, module_of}
 use Rattle.module_rules.specs.Order.{each_once_in_order}
 

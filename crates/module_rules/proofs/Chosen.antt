@@ -1,12 +1,12 @@
 -- Which bindings are imported and exported.
 use Rattle.std.proofs.Common.{◌≡◌, Bool, true, false, Option, Some, None, List, [], ◌∷◌, Contains, inl, inr, refl, sym, ap, subst, ◌∙◌, map}
-use Rattle.std.specs.Prelude.{◌⊎◌, ◌↔◌, not, filter}
+use Rattle.std.specs.Prelude.{not, filter}
 use Rattle.std.specs.List.{cons_option, flat_map}
 use Rattle.std.proofs.lemmas.List.Elements.{Contains-append_left, Contains-append_right, Contains-append_cases}
 use Rattle.std.proofs.lemmas.Slice.Eq.{bytes_eq-Decides}
 use Rattle.js_tree.specs.Terms.{Name, Piece}
 use Rattle.js_tree.specs.declared.items.Binding.{Binding}
-use Rattle.sj_split.proofs.Members.{at_first, further, cons_cases, into_map, from_map, into_filter, from_filter, Mapped}
+use Rattle.sj_split.proofs.Members.{at_first, further, cons_cases, into_map, from_map, into_filter, from_filter}
 use Rattle.sj_split.specs.Orders.{Bytes, is_same}
 use Rattle.sj_split.specs.declared.plans.PlannedModule.{PlannedModule}
 use Rattle.worklist.proofs.Inserted.{nothing_in}

@@ -1,24 +1,24 @@
 -- Laws of the lines of modules.
-use Rattle.std.proofs.Common.{◌≡◌, Bool, true, false, Option, Some, None, List, [], ◌∷◌, ◌++◌, Contains, inl, inr, refl, sym, ap, subst, ◌∙◌, map}
+use Rattle.std.proofs.Common.{◌≡◌, Bool, true, false, Option, Some, None, List, [], ◌∷◌, Contains, inl, inr, refl, sym, ap, subst, ◌∙◌, map}
 use Rattle.std.specs.Prelude.{◌⊎◌, filter, if◌then◌else◌}
 use Rattle.std.proofs.lemmas.List.Elements.{Contains-append_left}
 use Rattle.std.specs.Cmp.Lexicographic.{nat_list_eq_equiv}
 use Rattle.std.proofs.lemmas.Map.Views.{Contains-from_any, list_any-from_Contains}
 use Rattle.std.proofs.lemmas.Slice.Eq.{bytes_eq-Decides}
-use Rattle.js_tree.specs.Terms.{Name, Item, Module, Piece}
+use Rattle.js_tree.specs.Terms.{Name, Piece}
 use Rattle.js_tree.specs.declared.items.Binding.{Binding}
 use Rattle.js_tree.specs.declared.items.JsImport.{JsImport}
 use Rattle.sj_split.proofs.Members.{at_first, further, cons_cases, into_map, from_map, into_filter, Mapped}
 use Rattle.sj_split.proofs.OnePlace.{classes_have_one_place}
 use Rattle.sj_split.specs.Modules.{file, is_among}
-use Rattle.sj_split.specs.Orders.{Bytes, is_same}
+use Rattle.sj_split.specs.Orders.{Bytes}
 use Rattle.sj_split.specs.declared.plans.PlannedModule.{PlannedModule}
 use Rattle.worklist.proofs.Inserted.{nothing_in}
-use Rattle.module_rules.proofs.Chosen.{this_is, is_it, another_is, from_imported, into_imported, from_sources, into_sources, from_exported, into_exported}
-use Rattle.module_rules.proofs.InOrder.{are_these, from_each, into_each}
+use Rattle.module_rules.proofs.Chosen.{is_it, from_imported, into_imported, from_sources, into_sources, from_exported, into_exported}
+use Rattle.module_rules.proofs.InOrder.{are_these, from_each}
 use Rattle.module_rules.specs.Calls.{call_item_of}
-use Rattle.module_rules.specs.Laws.{ModulesAreOne, IsIn, FilesAreThoseOfPlans, AreThese, IsUse, IsSource, IsWanted, source_of, AreImportLines, ModulesHaveTheirLines, HasFile, FindsExport, ImportsFindExports, IsDeclared, AreClosed, IsNameIn, ExportsAreDeclared}
-use Rattle.module_rules.specs.Modules.{file_with, item_of, name_of, is_owned_in, imported, exported, files_of, names_in, import_line, import_lines, module_of, IsModuleOf}
+use Rattle.module_rules.specs.Laws.{ModulesAreOne, IsIn, FilesAreThoseOfPlans, AreThese, IsUse, IsSource, IsWanted, source_of, AreImportLines, ModulesHaveTheirLines, ImportsFindExports, ExportsAreDeclared}
+use Rattle.module_rules.specs.Modules.{file_with, item_of, name_of, is_owned_in, imported, exported, files_of, names_in, import_line, import_lines, module_of}
 use Rattle.module_rules.specs.Order.{each_once_in_order}
 
 one_some : {X : Type 0} (x y : X) → Some x ≡ Some y → x ≡ y

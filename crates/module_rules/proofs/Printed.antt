@@ -1,9 +1,9 @@
 -- Modules keep the rules of printing.
-use Rattle.std.proofs.Common.{◌≡◌, Bool, true, false, not, List, [], ◌∷◌, ◌++◌, Contains, refl, sym, ap, subst, ◌∙◌, map}
+use Rattle.std.proofs.Common.{not, List, [], ◌∷◌, Contains, refl, subst, map}
 use Rattle.std.specs.Prelude.{All, IsTrue, filter}
 use Rattle.std.proofs.lemmas.List.Elements.{All-nil, All-cons, All-append, All-contains}
 use Rattle.js_tree.specs.Names.{is_file, is_empty}
-use Rattle.js_tree.specs.Rules.{IsName, IsBinding, IsItem, IsPiece, IsImport, IsModule}
+use Rattle.js_tree.specs.Rules.{IsName, IsBinding, IsItem, IsPiece, IsImport}
 use Rattle.js_tree.specs.Terms.{Name, Item, Piece}
 use Rattle.js_tree.specs.declared.items.JsImport.{JsImport}
 use Rattle.sj_split.proofs.Members.{at_first, further, into_map, from_map, from_filter}
@@ -14,7 +14,7 @@ use Rattle.worklist.proofs.Inserted.{nothing_in}
 use Rattle.module_rules.proofs.Lines.{imports_are, exports_are, in_module}
 use Rattle.module_rules.specs.Calls.{call_item_of}
 use Rattle.module_rules.specs.Laws.{IsUse, ModulesKeepRules, source_of}
-use Rattle.module_rules.specs.Modules.{file_with, item_of, name_of, is_owned_in, imported, exported, import_lines, module_of}
+use Rattle.module_rules.specs.Modules.{file_with, item_of, name_of, is_owned_in, imported, exported, import_lines}
 use Rattle.module_rules.specs.Order.{each_once_in_order}
 
 all_from : {X : Type 0} (P : X → Type 0) (xs : List X) → ((x : X) → Contains xs x → P x) → All P xs
@@ -34,8 +34,7 @@ module _ (modules : List PlannedModule) (planned : PlannedModule) (ps : List Pie
       let i = imports_are modules ps (file planned) in
       let s = (i.sources.exact line.file).0 (into_map source_of (import_lines (file_with modules) (imported (file_with modules) (file planned) ps)) line h) in
       let n = i.names line h in
-      let there = in_module modules s.uses.binding.owner line.file s.uses.bound in
-      (
+      let there = in_module modules s.uses.binding.owner line.file s.uses.bound in (
         some_names line.names s.name ((n.exact s.name).1 s.uses),
         all_from IsName line.names (λ x k. name_keeps (file planned) line.file x ((n.exact x).0 k)),
         subst (λ (f : Bytes). IsTrue (is_file f)) there.named (files there.planned there.among),

@@ -1,7 +1,7 @@
 -- Groups that hold names of bindings.
 use Rattle.std.proofs.Common.{◌≡◌, Bool, true, false, List, [], ◌∷◌, ◌++◌, Option, Some, inl, inr, refl, sym, ap, subst, ◌∙◌, map, cond, Contains, append-nil}
-use Rattle.std.specs.Prelude.{◌⊎◌, not, filter, if◌then◌else◌}
-use Rattle.std.specs.List.{cons_option, filter_map}
+use Rattle.std.specs.Prelude.{◌⊎◌, filter, if◌then◌else◌}
+use Rattle.std.specs.List.{cons_option}
 use Rattle.std.specs.Cmp.Lexicographic.{nat_list_eq_equiv}
 use Rattle.std.proofs.lemmas.List.{map-append}
 use Rattle.std.proofs.lemmas.List.Elements.{filter-append, filter_map-append}
@@ -10,7 +10,7 @@ use Rattle.indexmap.specs.IndexSet.{insert_all, insert_key}
 use Rattle.js_tree.specs.Terms.{Name}
 use Rattle.js_tree.specs.declared.items.Binding.{Binding}
 use Rattle.module_rules.proofs.InOrder.{same_in_order}
-use Rattle.module_rules.specs.Modules.{name_of, is_this, is_another, is_bound_in, is_bound_elsewhere, files_of, names_in}
+use Rattle.module_rules.specs.Modules.{name_of, is_this, is_bound_in, is_bound_elsewhere, files_of, names_in}
 use Rattle.module_rules.specs.Order.{each_once_in_order}
 use Rattle.sj_emit_module.specs.Groups.{HoldNames, names_at}
 use Rattle.sj_emit_module.specs.declared.groups.NameGroups.{NameGroups}

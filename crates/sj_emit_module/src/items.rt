@@ -9,9 +9,7 @@ ghost use Rattle.sj_emit_module.specs.Files.{file_in};
 use crate::files::ClassFiles;
 use js_tree::{JsExpr, JsItem, JsPiece};
 use sj_mangling::function_name;
-use sj_names::{
-    EntryPoint, Member, MethodName, Namespace, NoMemory, Shared, Text, TypeRef,
-};
+use sj_names::{EntryPoint, Member, MethodName, Namespace, NoMemory, Shared, Text, TypeRef};
 use std::alloc::Global;
 use std::rc::Rc;
 

@@ -1,7 +1,7 @@
 use Rattle.std.proofs.Common.{◌≡◌, ◌++◌, ◌<◌, ◌∙◌, ap, length, List, map, refl, Some, subst, sym}
 use Rattle.std.specs.Prelude.{codes, slice_get}
 use Rattle.std.proofs.lemmas.Option.{slice_get_read}
-use Rattle.js_tree.specs.Views.{item_view, module_view, piece_view}
+use Rattle.js_tree.specs.Views.{module_view, piece_view}
 use Rattle.module_rules.specs.Calls.{call_item_of}
 use Rattle.module_rules.specs.Modules.{file_with}
 use Rattle.sj_emit_module.specs.Files.{file_in}

@@ -1,4 +1,4 @@
-use Rattle.std.proofs.Common.{◌≡◌, ◌++◌, ◌∙◌, arith, ap, refl, Some, None, if◌then◌else◌, List}
+use Rattle.std.proofs.Common.{◌++◌, ◌∙◌, arith, ap, refl, Some, None, if◌then◌else◌, List}
 use Rattle.std.specs.Prelude.{codes}
 use Rattle.std.proofs.lemmas.Option.{slice_get_read}
 use Rattle.js_tree.specs.Terms.{Name}
