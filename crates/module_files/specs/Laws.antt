@@ -1,0 +1,32 @@
+-- Laws of the files of the modules of a plan.
+use Rattle.std.specs.Prelude.{◌≡◌, true, List, [], ◌∷◌, Some, Contains}
+use Rattle.js_mean.specs.Files.{is_good_file, owner}
+use Rattle.js_mean.specs.Shows.{File, IsRead}
+use Rattle.js_tree.specs.Terms.{Piece}
+use Rattle.js_tree.specs.declared.items.Binding.{Binding}
+use Rattle.module_rules.specs.Modules.{file_with, module_of}
+use Rattle.proper_pieces.specs.Modules.{module_of as module_of_pieces}
+use Rattle.sj_split.specs.Modules.{file}
+use Rattle.sj_split.specs.Orders.{Bytes}
+use Rattle.sj_split.specs.declared.plans.PlannedModule.{PlannedModule}
+use Rattle.module_files.specs.Files.{program_of, AreFilesOf, StandTogether, AreProper}
+
+-- the module of a plan that has no other is that of the pieces that its classes own
+abbrev pub LoneModulesAreOfPieces : Type 0
+LoneModulesAreOfPieces = (planned : PlannedModule) (ps : List Piece) → module_of (planned ∷ []) planned ps ≡ module_of_pieces planned.classes ps planned.initializers
+
+-- the files of the modules are read as their program
+abbrev pub FilesAreRead : Type 0
+FilesAreRead = (modules : List PlannedModule) (ps : List Piece) (files : List File) → AreFilesOf modules ps modules files → IsRead files (program_of modules ps)
+
+-- the name of a piece belongs to the file in which the piece stands
+abbrev pub NamesAreOwned : Type 0
+NamesAreOwned = (modules : List PlannedModule) (ps : List Piece) → StandTogether modules ps → (p : Piece) (f : Bytes) → Contains ps p → file_with modules p.owner ≡ Some f → owner (program_of modules ps) f p.name ≡ Some f
+
+-- a name that a piece uses belongs, where the piece stands, to the file of its owner
+abbrev pub UsesAreOwned : Type 0
+UsesAreOwned = (modules : List PlannedModule) (ps : List Piece) → StandTogether modules ps → (p : Piece) (b : Binding) (f g : Bytes) → Contains ps p → Contains p.uses b → file_with modules p.owner ≡ Some f → file_with modules b.owner ≡ Some g → owner (program_of modules ps) f b.name ≡ Some g
+
+-- each file is good
+abbrev pub FilesAreGood : Type 0
+FilesAreGood = (modules : List PlannedModule) (ps : List Piece) → AreProper modules ps → (m : PlannedModule) → Contains modules m → is_good_file (program_of modules ps) (file m) ≡ true

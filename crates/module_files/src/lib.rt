@@ -1,0 +1,31 @@
+//! The files that spell the modules of a plan, by the meaning of files: whose the names are that their items use, and that each is good.
+//!
+//! The functions here are laws: they do nothing when they run, and their clauses are theorems.
+#![tactic(auto)]
+
+ghost use Rattle.module_files.specs.Laws.{FilesAreGood, FilesAreRead, LoneModulesAreOfPieces, NamesAreOwned, UsesAreOwned};
+
+/// The module of a plan that has no other is that of the pieces that its classes own.
+pub fn lone_modules_are_of_pieces()
+    ensures { LoneModulesAreOfPieces }
+{}
+
+/// Files that spell the modules of a plan are read as their program.
+pub fn files_are_read()
+    ensures { FilesAreRead }
+{}
+
+/// The name of a piece belongs to the file in which the piece stands.
+pub fn names_are_owned()
+    ensures { NamesAreOwned }
+{}
+
+/// A name that a piece uses belongs, where the piece stands, to the file of its owner.
+pub fn uses_are_owned()
+    ensures { UsesAreOwned }
+{}
+
+/// Each file is good: it has no early error, and finds what it imports.
+pub fn files_are_good()
+    ensures { FilesAreGood }
+{}
