@@ -56,26 +56,31 @@ imported_by (l ∷ ls) x g line h i only = go (is_among l.names x) refl (cons_ca
     go false e (inl same) rest = absurd (here same e)
     go false e (inr later) rest = rest later
 
+module _ (p : Piece) (ps : List Piece) (own : HaveOwnNames (p ∷ ps)) where
+  parts : (not (is_among (map piece_name ps) p.name) ≡ true) × HaveOwnNames ps
+  parts = and_parts (not (is_among (map piece_name ps) p.name)) (are_distinct (map piece_name ps)) own
+
+  apart : (b : Bool) → not b ≡ true → b ≡ true → ⊥
+  apart true n y = cc
+  apart false n y = cc
+
+  -- the first piece has another name than those behind it
+  pub first_differs : (q : Piece) → Contains ps q → p.name ≡ q.name → ⊥
+  first_differs q h e = apart (is_among (map piece_name ps) p.name) parts.0 (among_is (map piece_name ps) p.name (subst (Contains (map piece_name ps)) (sym e) (into_map piece_name ps q h)))
+
+  pub rest_own : HaveOwnNames ps
+  rest_own = parts.1
+
 -- pieces of one name are one
 same_piece : (ps : List Piece) → HaveOwnNames ps → (p q : Piece) → Contains ps p → Contains ps q → p.name ≡ q.name → p ≡ q
 same_piece [] own p q h i e = nothing_in p h
-same_piece (r ∷ rs) own p q h i e = go (cons_cases r p rs h) (cons_cases r q rs i)
+same_piece (r ∷ rs) own p q h i e = go (cons_cases r p rs h) (cons_cases r q rs i) (λ j k. same_piece rs (rest_own r rs own) p q j k e)
   where
-    parts : (not (is_among (map piece_name rs) r.name) ≡ true) × (are_distinct (map piece_name rs) ≡ true)
-    parts = and_parts (not (is_among (map piece_name rs) r.name)) (are_distinct (map piece_name rs)) own
-
-    apart : (b : Bool) → not b ≡ true → b ≡ true → ⊥
-    apart true n y = cc
-    apart false n y = cc
-
-    clash : (s : Piece) → Contains rs s → r.name ≡ s.name → ⊥
-    clash s j f = apart (is_among (map piece_name rs) r.name) parts.0 (among_is (map piece_name rs) r.name (subst (Contains (map piece_name rs)) (sym f) (into_map piece_name rs s j)))
-
-    go : (r ≡ p) ⊎ Contains rs p → (r ≡ q) ⊎ Contains rs q → p ≡ q
-    go (inl a) (inl b) = sym a ∙ b
-    go (inl a) (inr j) = absurd (clash q j (ap piece_name a ∙ e))
-    go (inr j) (inl b) = absurd (clash p j (ap piece_name b ∙ sym e))
-    go (inr j) (inr k) = same_piece rs parts.1 p q j k e
+    go : (r ≡ p) ⊎ Contains rs p → (r ≡ q) ⊎ Contains rs q → (Contains rs p → Contains rs q → p ≡ q) → p ≡ q
+    go (inl a) (inl b) rest = sym a ∙ b
+    go (inl a) (inr j) rest = absurd (first_differs r rs own q j (ap piece_name a ∙ e))
+    go (inr j) (inl b) rest = absurd (first_differs r rs own p j (ap piece_name b ∙ sym e))
+    go (inr j) (inr k) rest = rest j k
 
 -- a module that is found under a file
 pub record Found (modules : List PlannedModule) (ps : List Piece) (p : Program) (f : Bytes) : Type 0 where
@@ -85,13 +90,13 @@ pub record Found (modules : List PlannedModule) (ps : List Piece) (p : Program) 
   pub is : module_among p f ≡ Some (module_of modules planned ps)
 
 module _ (modules : List PlannedModule) (ps : List Piece) where
-  abbrev program : Program
+  abbrev pub program : Program
   program = program_of modules ps
 
-  abbrev lines_of : Bytes → List JsImport
+  abbrev pub lines_of : Bytes → List JsImport
   lines_of f = import_lines (file_with modules) (imported (file_with modules) f ps)
 
-  abbrev exports_of : Bytes → List Name
+  abbrev pub exports_of : Bytes → List Name
   exports_of f = each_once_in_order (map name_of (exported (file_with modules) f ps))
 
   found_among : (ms : List PlannedModule) (m : PlannedModule) (f : Bytes) → Contains ms m → file m ≡ f → ((n : PlannedModule) → Contains ms n → Contains modules n) → Found modules ps (map (files.source_of modules ps) ms) f
@@ -136,6 +141,12 @@ module _ (modules : List PlannedModule) (ps : List Piece) where
   one_file : (f g : Bytes) → Some f ≡ Some g → f ≡ g
   one_file f g e = cc
 
+  -- a file uses one name of one file
+  pub one_source : StandTogether modules ps → (f g h : Bytes) (x : Name) → IsUse modules ps f g x → IsUse modules ps f h x → g ≡ h
+  one_source together f g h x u v =
+      let d = together.closed u.piece u.among f u.stands u.binding u.used in
+      one_file g h (sym (use_owner together f g x u d.piece d.among (d.named ∙ u.named)) ∙ use_owner together f h x v d.piece d.among (d.named ∙ u.named))
+
   -- a file imports no name that a piece of it has
   pub not_from_elsewhere : StandTogether modules ps → (p : Piece) (f : Bytes) → Contains ps p → file_with modules p.owner ≡ Some f → (line : JsImport) → Contains (lines_of f) line → Contains line.names p.name → ⊥
   not_from_elsewhere together p f h stands line i j =
@@ -156,10 +167,7 @@ module _ (modules : List PlannedModule) (ps : List Piece) where
       let lines : AreImportLines modules ps f (lines_of f) = imports_are modules ps f in
       let source : IsSource modules ps f g = record { other = other; name = x; uses = u } in
       let m = from_map source_of (lines_of f) g ((lines.sources.exact g).1 source) in
-      let d = together.closed u.piece u.among f u.stands u.binding u.used in
-      imported_by (lines_of f) x g m.item m.among (((lines.names m.item m.among).exact x).1 (subst (λ (h : Bytes). IsUse modules ps f h x) (sym m.is) u)) (λ line i j.
-        let v = ((lines.names line i).exact x).0 j in
-        one_file line.file g (sym (use_owner together f line.file x v d.piece d.among (d.named ∙ u.named)) ∙ use_owner together f g x u d.piece d.among (d.named ∙ u.named)))
+      imported_by (lines_of f) x g m.item m.among (((lines.names m.item m.among).exact x).1 (subst (λ (h : Bytes). IsUse modules ps f h x) (sym m.is) u)) (λ line i j. one_source together f line.file g x (((lines.names line i).exact x).0 j) u)
 
   other_owned : StandTogether modules ps → (f g : Bytes) (x : Name) → (f ≡ g → ⊥) → IsUse modules ps f g x → owner program f x ≡ Some g
   other_owned together f g x other u =

@@ -56,9 +56,8 @@ pub record StandTogether (modules : List PlannedModule) (ps : List Piece) : Type
   pub closed : AreClosed modules ps
   pub names : HaveOwnNames ps
 
--- such pieces, which besides declare themselves and have no early error, where all that is used stands in files
+-- such pieces, which besides declare themselves and have no early error
 pub record AreProper (modules : List PlannedModule) (ps : List Piece) : Type 0 where
   pub together : StandTogether modules ps
-  pub whole : AreWhole modules ps
   pub declare : (p : Piece) → Contains ps p → DeclaresItself p
   pub proper : (p : Piece) → Contains ps p → is_proper_item p.item ≡ true
