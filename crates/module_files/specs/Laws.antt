@@ -4,12 +4,18 @@ use Rattle.js_mean.specs.Files.{is_good_file, owner}
 use Rattle.js_mean.specs.Shows.{File, IsRead}
 use Rattle.js_tree.specs.Terms.{Piece}
 use Rattle.js_tree.specs.declared.items.Binding.{Binding}
+use Rattle.module_names.specs.Names.{Key, Digest}
+use Rattle.module_rules.specs.Laws.{AreClosed}
 use Rattle.module_rules.specs.Modules.{file_with, module_of}
 use Rattle.proper_pieces.specs.Modules.{module_of as module_of_pieces}
-use Rattle.sj_split.specs.Modules.{file}
+use Rattle.sj_graph.specs.References.{IsGraph}
+use Rattle.sj_graph.specs.declared.graphs.Graph.{Graph}
+use Rattle.sj_names.specs.declared.entry_points.EntryPoint.{EntryPoint}
+use Rattle.sj_split.specs.Modules.{IsPlan, file}
 use Rattle.sj_split.specs.Orders.{Bytes}
 use Rattle.sj_split.specs.declared.plans.PlannedModule.{PlannedModule}
-use Rattle.module_files.specs.Files.{program_of, AreFilesOf, StandTogether, AreProper}
+use Rattle.sj_split.specs.declared.plans.Style.{Style}
+use Rattle.module_files.specs.Files.{program_of, AreFilesOf, AreWhole, StandTogether, AreProper}
 
 -- the module of a plan that has no other is that of the pieces that its classes own
 abbrev pub LoneModulesAreOfPieces : Type 0
@@ -26,6 +32,10 @@ NamesAreOwned = (modules : List PlannedModule) (ps : List Piece) → StandTogeth
 -- a name that a piece uses belongs, where the piece stands, to the file of its owner
 abbrev pub UsesAreOwned : Type 0
 UsesAreOwned = (modules : List PlannedModule) (ps : List Piece) → StandTogether modules ps → (p : Piece) (b : Binding) (f g : Bytes) → Contains ps p → Contains p.uses b → file_with modules p.owner ≡ Some f → file_with modules b.owner ≡ Some g → owner (program_of modules ps) f b.name ≡ Some g
+
+-- in a plan of closed pieces the class of whatever they use stands in a file
+abbrev pub PlansAreWhole : Type 0
+PlansAreWhole = (digest_of : Key → Digest) (graph : Graph) (entries : List EntryPoint) (style : Style) (modules : List PlannedModule) (ps : List Piece) → IsGraph ps graph → IsPlan digest_of graph entries style modules → AreClosed modules ps → AreWhole modules ps
 
 -- each file is good
 abbrev pub FilesAreGood : Type 0

@@ -3,7 +3,7 @@
 //! The functions here are laws: they do nothing when they run, and their clauses are theorems.
 #![tactic(auto)]
 
-ghost use Rattle.module_files.specs.Laws.{FilesAreGood, FilesAreRead, LoneModulesAreOfPieces, NamesAreOwned, UsesAreOwned};
+ghost use Rattle.module_files.specs.Laws.{FilesAreGood, FilesAreRead, LoneModulesAreOfPieces, NamesAreOwned, PlansAreWhole, UsesAreOwned};
 
 /// The module of a plan that has no other is that of the pieces that its classes own.
 pub fn lone_modules_are_of_pieces()
@@ -23,6 +23,11 @@ pub fn names_are_owned()
 /// A name that a piece uses belongs, where the piece stands, to the file of its owner.
 pub fn uses_are_owned()
     ensures { UsesAreOwned }
+{}
+
+/// In a plan of closed pieces the class of whatever they use stands in a file.
+pub fn plans_are_whole()
+    ensures { PlansAreWhole }
 {}
 
 /// Each file is good: it has no early error, and finds what it imports.
