@@ -1,6 +1,6 @@
 -- What the files of a plan import and export, as the meaning finds it.
-use Rattle.std.proofs.Common.{◌≡◌, Bool, true, false, List, [], ◌∷◌, Option, Some, None, Contains, inl, inr, refl, sym, ap, subst, ◌∙◌, map, if◌then◌else◌}
-use Rattle.std.specs.Prelude.{◌⊎◌, ◌&&◌, not}
+use Rattle.std.proofs.Common.{◌≡◌, Bool, true, false, List, [], ◌∷◌, Some, None, Contains, inl, inr, refl, sym, ap, subst, ◌∙◌, map, if◌then◌else◌}
+use Rattle.std.specs.Prelude.{◌⊎◌, not}
 use Rattle.std.specs.Cmp.Lexicographic.{nat_list_eq_equiv}
 use Rattle.std.proofs.lemmas.Bool.{and_parts}
 use Rattle.std.proofs.lemmas.Map.Views.{Contains-from_any, list_any-from_Contains}
@@ -10,11 +10,10 @@ use Rattle.js_mean.specs.Files.{module_among, imports_in, exports_in, imported_f
 use Rattle.js_mean.specs.Proper.{is_among, are_distinct}
 use Rattle.js_mean.specs.States.{Program}
 use Rattle.js_tree.specs.Names.{is_same_text}
-use Rattle.js_tree.specs.Terms.{Name, Module, Piece}
-use Rattle.js_tree.specs.declared.items.Binding.{Binding}
+use Rattle.js_tree.specs.Terms.{Name, Piece}
 use Rattle.js_tree.specs.declared.items.JsImport.{JsImport}
 use Rattle.module_rules.proofs.Lines.{imports_are, exports_are, in_module}
-use Rattle.module_rules.specs.Laws.{AreClosed, AreImportLines, IsDeclared, IsUse, IsSource, source_of}
+use Rattle.module_rules.specs.Laws.{AreImportLines, IsDeclared, IsUse, IsSource, source_of}
 use Rattle.module_rules.specs.Modules.{file_with, name_of, imported, exported, import_lines, module_of}
 use Rattle.module_rules.specs.Order.{each_once_in_order}
 use Rattle.sj_split.proofs.Members.{at_first, further, cons_cases, into_map, from_map}

@@ -1,10 +1,10 @@
 -- Each file of a plan is good.
-use Rattle.std.proofs.Common.{◌≡◌, ◌++◌, ◌&&◌, Bool, true, false, List, [], ◌∷◌, Option, Some, None, Contains, inl, inr, refl, sym, ap, subst, ◌∙◌, map, cond}
+use Rattle.std.proofs.Common.{◌≡◌, ◌++◌, Bool, true, false, List, [], ◌∷◌, Some, Contains, inl, inr, refl, sym, ap, subst, ◌∙◌, map, cond}
 use Rattle.std.specs.Prelude.{◌⊎◌, filter, is_some}
 use Rattle.std.specs.List.{list_all}
 use Rattle.std.proofs.lemmas.List.Elements.{Contains-append_right, Contains-append_cases}
-use Rattle.js_mean.specs.Files.{is_good_file, is_good_module, owner}
-use Rattle.js_mean.specs.Proper.{is_among, are_distinct, is_proper_item, item_names, imported_names, top_names, is_proper_module}
+use Rattle.js_mean.specs.Files.{is_good_module, owner}
+use Rattle.js_mean.specs.Proper.{is_among, are_distinct, is_proper_item, item_names, imported_names, is_proper_module}
 use Rattle.js_tree.specs.Terms.{Name, Item, Piece}
 use Rattle.js_tree.specs.declared.items.JsImport.{JsImport}
 use Rattle.module_rules.proofs.Chosen.{this_is, is_it}
@@ -15,7 +15,7 @@ use Rattle.module_rules.specs.Modules.{file_with, is_owned_in, item_of, module_o
 use Rattle.proper_pieces.proofs.Apart.{AreApart, Differ, both, order_joined, told_apart}
 use Rattle.sj_names.specs.declared.entry_points.EntryPoint.{EntryPoint}
 use Rattle.sj_split.proofs.Least.{not_before_itself}
-use Rattle.sj_split.proofs.Members.{at_first, further, cons_cases, into_map, from_map, into_filter, from_filter}
+use Rattle.sj_split.proofs.Members.{at_first, further, into_map, from_map, into_filter, from_filter}
 use Rattle.sj_split.proofs.Unique.{below_each, first_of_increasing, rest_of_increasing}
 use Rattle.sj_split.specs.Modules.{file}
 use Rattle.sj_split.specs.Orders.{Bytes, IsBefore, AreIncreasing}
@@ -124,8 +124,8 @@ module _ (modules : List PlannedModule) (ps : List Piece) (are : AreProper modul
 
     exports_declared : list_all (is_among (imported_names (lines_of modules ps f) ++ item_names items)) (exports_of modules ps f) ≡ true
     exports_declared = all_pass (is_among (imported_names (lines_of modules ps f) ++ item_names items)) (exports_of modules ps f) (λ x h.
-      let d = exports_are_declared modules planned ps x together.closed h in
-      among_is (imported_names (lines_of modules ps f) ++ item_names items) x (Contains-append_right (imported_names (lines_of modules ps f)) (item_names items) x (subst (λ (ns : List Name). Contains ns x) (sym names_are) (named x d.piece d.among d.stands d.named))))
+        let d = exports_are_declared modules planned ps x together.closed h in
+        among_is (imported_names (lines_of modules ps f) ++ item_names items) x (Contains-append_right (imported_names (lines_of modules ps f)) (item_names items) x (subst (λ (ns : List Name). Contains ns x) (sym names_are) (named x d.piece d.among d.stands d.named))))
       where
         named : (x : Name) (p : Piece) → Contains ps p → file_with modules p.owner ≡ Some f → p.name ≡ x → Contains (map piece_name owned) x
         named x p h stands e = subst (Contains (map piece_name owned)) e (into_map piece_name owned p (into_filter (is_owned_in (file_with modules) f) ps p h (is_it f (file_with modules p.owner) stands)))

@@ -1,11 +1,9 @@
 -- The files of a plan are read as its program, and the file of a plan of one module is that of pieces.
-use Rattle.std.proofs.Common.{◌≡◌, List, [], ◌∷◌, Option, Some, sym, subst, map}
+use Rattle.std.proofs.Common.{List, [], ◌∷◌, Some, subst, map}
 use Rattle.js_mean.specs.Shows.{File, IsRead, no_files, one_more}
-use Rattle.js_mean.specs.States.{Program, Source}
-use Rattle.js_tree.specs.Terms.{Module, Piece}
+use Rattle.js_tree.specs.Terms.{Piece}
 use Rattle.module_rules.proofs.Alone.{alone}
 use Rattle.module_rules.specs.Modules.{module_of}
-use Rattle.sj_split.specs.Modules.{file}
 use Rattle.sj_split.specs.Orders.{Bytes}
 use Rattle.sj_split.specs.declared.plans.PlannedModule.{PlannedModule}
 use Rattle.module_files.specs.Files.{source_of, AreFilesOf}
