@@ -3,3 +3,4 @@ pub mod Chosen
 pub mod Lines
 pub mod Alone
 pub mod Printed
+pub mod FileNames

@@ -5,8 +5,9 @@ use Rattle.js_tree.specs.Rules.{IsItem, IsPiece, IsModule}
 use Rattle.js_tree.specs.Terms.{Name, Piece, Module}
 use Rattle.js_tree.specs.declared.items.Binding.{Binding}
 use Rattle.js_tree.specs.declared.items.JsImport.{JsImport}
-use Rattle.module_names.specs.Names.{Key, Digest}
+use Rattle.module_names.specs.Names.{Key, Digest, sha1_digest}
 use Rattle.sj_graph.specs.declared.graphs.Graph.{Graph}
+use Rattle.sj_names.specs.EntryPoints.{AreEntries}
 use Rattle.sj_names.specs.declared.entry_points.EntryPoint.{EntryPoint}
 use Rattle.sj_split.specs.Modules.{IsPlan, file, is_among}
 use Rattle.sj_split.specs.Orders.{Bytes, AreIncreasing}
@@ -130,3 +131,7 @@ ModulesKeepRules = (modules : List PlannedModule) (planned : PlannedModule) (ps 
     → All IsItem (map call_item_of planned.initializers)
     → ((m : PlannedModule) → Contains modules m → IsTrue (is_file (file m)))
     → IsModule (module_of modules planned ps)
+
+-- in a plan of the entry points of a command each module has a file that import lines can name
+abbrev pub PlansNameFiles : Type 0
+PlansNameFiles = (graph : Graph) (entries : List EntryPoint) (style : Style) (modules : List PlannedModule) → AreEntries entries → IsPlan sha1_digest graph entries style modules → (m : PlannedModule) → Contains modules m → IsTrue (is_file (file m))

@@ -1,5 +1,5 @@
 // Laws of the modules of a plan.
-ghost use Rattle.module_rules.specs.Laws.{ExportsAreDeclared, FilesAreThoseOfPlans, ImportsFindExports, LoneModulesHaveNoLines, ModulesAreOne, ModulesHaveTheirLines, ModulesKeepRules};
+ghost use Rattle.module_rules.specs.Laws.{ExportsAreDeclared, FilesAreThoseOfPlans, ImportsFindExports, LoneModulesHaveNoLines, ModulesAreOne, ModulesHaveTheirLines, ModulesKeepRules, PlansNameFiles};
 
 /// A planned module has one module.
 pub fn modules_are_one()
@@ -35,4 +35,9 @@ pub fn exports_are_declared()
 /// A module keeps the rules of printing where its pieces, its calls and the names of the files do.
 pub fn modules_keep_rules()
     ensures { ModulesKeepRules }
+{}
+
+/// In a plan of the entry points of a command each module has a file that import lines can name.
+pub fn plans_name_files()
+    ensures { PlansNameFiles }
 {}

@@ -9,5 +9,6 @@ mod rows;
 pub use laws::{
     exports_are_declared, files_are_those_of_plans, imports_find_exports,
     lone_modules_have_no_lines, modules_are_one, modules_have_their_lines, modules_keep_rules,
+    plans_name_files,
 };
 pub use rows::{worked_order, worked_sharing};
