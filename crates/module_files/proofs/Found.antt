@@ -122,7 +122,7 @@ module _ (modules : List PlannedModule) (ps : List Piece) where
   found_class : (class : Name) (f : Bytes) → file_with modules class ≡ Some f → Found modules ps program f
   found_class class f e = let i = in_module modules class f e in found i.planned f i.among i.named
 
-  imports_found : (f : Bytes) → Found modules ps program f → imports_in (module_among program f) ≡ lines_of f
+  pub imports_found : (f : Bytes) → Found modules ps program f → imports_in (module_among program f) ≡ lines_of f
   imports_found f m = ap imports_in m.is ∙ ap lines_of m.named
 
   exports_found : (f : Bytes) → Found modules ps program f → exports_in (module_among program f) ≡ exports_of f

@@ -25,7 +25,7 @@ use Rattle.module_files.proofs.Found.{among_is, first_differs, rest_own, program
 use Rattle.module_files.specs.Files.{piece_name, HaveOwnNames, DeclaresItself, StandTogether, AreProper}
 use Rattle.module_files.specs.Laws.{FilesAreGood}
 
-all_pass : {X : Type 0} (test : X → Bool) (xs : List X) → ((x : X) → Contains xs x → test x ≡ true) → list_all test xs ≡ true
+pub all_pass : {X : Type 0} (test : X → Bool) (xs : List X) → ((x : X) → Contains xs x → test x ≡ true) → list_all test xs ≡ true
 all_pass test [] each = refl
 all_pass test (x ∷ xs) each = both (test x) (list_all test xs) (each x (at_first x xs)) (all_pass test xs (λ y h. each y (further x y xs h)))
 

@@ -2,3 +2,5 @@ pub mod Found
 pub mod Read
 pub mod Good
 pub mod Whole
+pub mod Reached
+pub mod Circles

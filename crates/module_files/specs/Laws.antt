@@ -1,20 +1,24 @@
 -- Laws of the files of the modules of a plan.
 use Rattle.std.specs.Prelude.{◌≡◌, true, List, [], ◌∷◌, Some, Contains}
-use Rattle.js_mean.specs.Files.{is_good_file, owner}
+use Rattle.std.specs.List.{list_all}
+use Rattle.js_mean.specs.Files.{is_good_file, owner, running_order}
 use Rattle.js_mean.specs.Shows.{File, IsRead}
 use Rattle.js_tree.specs.Terms.{Piece}
 use Rattle.js_tree.specs.declared.items.Binding.{Binding}
 use Rattle.module_names.specs.Names.{Key, Digest}
-use Rattle.module_rules.specs.Laws.{AreClosed}
+use Rattle.module_rules.specs.Laws.{AreClosed, IsSource}
 use Rattle.module_rules.specs.Modules.{file_with, module_of}
+use Rattle.plan_laws.specs.Laws.{KeepsNamesApart}
 use Rattle.proper_pieces.specs.Modules.{module_of as module_of_pieces}
 use Rattle.sj_graph.specs.References.{IsGraph}
 use Rattle.sj_graph.specs.declared.graphs.Graph.{Graph}
+use Rattle.sj_names.specs.EntryPoints.{AreEntries}
 use Rattle.sj_names.specs.declared.entry_points.EntryPoint.{EntryPoint}
 use Rattle.sj_split.specs.Modules.{IsPlan, file}
 use Rattle.sj_split.specs.Orders.{Bytes}
 use Rattle.sj_split.specs.declared.plans.PlannedModule.{PlannedModule}
 use Rattle.sj_split.specs.declared.plans.Style.{Style}
+use Rattle.worklist.specs.Paths.{Path}
 use Rattle.module_files.specs.Files.{program_of, AreFilesOf, AreWhole, StandTogether, AreProper}
 
 -- the module of a plan that has no other is that of the pieces that its classes own
@@ -40,3 +44,16 @@ PlansAreWhole = (digest_of : Key → Digest) (graph : Graph) (entries : List Ent
 -- each file is good
 abbrev pub FilesAreGood : Type 0
 FilesAreGood = (modules : List PlannedModule) (ps : List Piece) → AreProper modules ps → (m : PlannedModule) → Contains modules m → is_good_file (program_of modules ps) (file m) ≡ true
+
+-- the files that a file reaches by imports are good
+abbrev pub ReachedFilesAreGood : Type 0
+ReachedFilesAreGood = (modules : List PlannedModule) (ps : List Piece) → AreProper modules ps → (m : PlannedModule) → Contains modules m → list_all (is_good_file (program_of modules ps)) (running_order (program_of modules ps) (file m)) ≡ true
+
+-- in a plan for the graph of the pieces no imports lead from a file to another and back
+abbrev pub ImportsGoInNoCircle : Type 0
+ImportsGoInNoCircle = (digest_of : Key → Digest) (graph : Graph) (entries : List EntryPoint) (style : Style) (modules : List PlannedModule) (ps : List Piece)
+    → AreEntries entries
+    → KeepsNamesApart digest_of graph entries
+    → IsGraph ps graph
+    → IsPlan digest_of graph entries style modules
+    → (f g : Bytes) → Path (IsSource modules ps) f g → Path (IsSource modules ps) g f → f ≡ g

@@ -3,7 +3,7 @@
 //! The functions here are laws: they do nothing when they run, and their clauses are theorems.
 #![tactic(auto)]
 
-ghost use Rattle.module_files.specs.Laws.{FilesAreGood, FilesAreRead, LoneModulesAreOfPieces, NamesAreOwned, PlansAreWhole, UsesAreOwned};
+ghost use Rattle.module_files.specs.Laws.{FilesAreGood, FilesAreRead, ImportsGoInNoCircle, LoneModulesAreOfPieces, NamesAreOwned, PlansAreWhole, ReachedFilesAreGood, UsesAreOwned};
 
 /// The module of a plan that has no other is that of the pieces that its classes own.
 pub fn lone_modules_are_of_pieces()
@@ -33,4 +33,14 @@ pub fn plans_are_whole()
 /// Each file is good: it has no early error, and finds what it imports.
 pub fn files_are_good()
     ensures { FilesAreGood }
+{}
+
+/// The files that a file reaches by imports are good.
+pub fn reached_files_are_good()
+    ensures { ReachedFilesAreGood }
+{}
+
+/// In a plan for the graph of the pieces no imports lead from a file to another and back.
+pub fn imports_go_in_no_circle()
+    ensures { ImportsGoInNoCircle }
 {}
