@@ -1,29 +1,24 @@
 -- The imports of a plan go in no circle.
-use Rattle.std.proofs.Common.{◌≡◌, ◌++◌, List, [], ◌∷◌, Some, Contains, inl, inr, refl, sym, ap, subst, ◌∙◌, map}
+use Rattle.std.proofs.Common.{◌≡◌, List, [], ◌∷◌, Some, Contains, inl, inr, refl, sym, ap, subst, ◌∙◌, map}
 use Rattle.std.specs.Prelude.{◌⊎◌, codes}
 use Rattle.std.specs.List.{IsDistinct}
 use Rattle.std.proofs.lemmas.List.{append_cancel_right}
 use Rattle.std.proofs.lemmas.List.Elements.{Contains-append_left}
 use Rattle.js_tree.specs.Terms.{Piece}
-use Rattle.js_tree.specs.declared.items.Binding.{Binding}
-use Rattle.module_names.specs.Names.{Key, Digest}
 use Rattle.module_rules.proofs.Lines.{in_module}
-use Rattle.module_rules.specs.Laws.{IsIn, IsSource}
+use Rattle.module_rules.specs.Laws.{IsSource}
 use Rattle.module_rules.specs.Modules.{file_with}
 use Rattle.plan_laws.proofs.Apart.{apart_head, apart_tail, new_is_not}
 use Rattle.plan_laws.proofs.Names.{names_differ}
 use Rattle.plan_laws.proofs.Placing.{modules_are_components, modules_are_tags}
-use Rattle.plan_laws.specs.Laws.{KeepsNamesApart, name_of}
+use Rattle.plan_laws.specs.Laws.{name_of}
 use Rattle.sj_graph.specs.References.{IsGraph, object, reference, reference_by}
 use Rattle.sj_graph.specs.declared.graphs.Graph.{Graph}
-use Rattle.sj_names.specs.EntryPoints.{AreEntries}
-use Rattle.sj_names.specs.declared.entry_points.EntryPoint.{EntryPoint}
 use Rattle.sj_split.proofs.Members.{cons_cases, into_map}
-use Rattle.sj_split.specs.Modules.{IsPlan, file}
+use Rattle.sj_split.specs.Modules.{file}
 use Rattle.sj_split.specs.Orders.{Bytes, is_same}
 use Rattle.sj_split.specs.Walks.{Name, Id, Refers, Reaches, Walk}
 use Rattle.sj_split.specs.declared.plans.PlannedModule.{PlannedModule}
-use Rattle.sj_split.specs.declared.plans.Style.{Style}
 use Rattle.sj_split.specs.declared.plans.Style.TheVariants.{Fewest, Smallest}
 use Rattle.worklist.proofs.Inserted.{nothing_in}
 use Rattle.worklist.specs.Paths.{Path, stay, on}

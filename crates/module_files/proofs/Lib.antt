@@ -4,3 +4,4 @@ pub mod Good
 pub mod Whole
 pub mod Reached
 pub mod Circles
+pub mod Running

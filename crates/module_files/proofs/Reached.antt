@@ -1,6 +1,5 @@
 -- The files that a file reaches by imports are files of the plan.
-use Rattle.std.proofs.Common.{◌≡◌, ◌++◌, ℕ, zero, suc, Bool, true, false, List, [], ◌∷◌, Contains, inl, inr, refl, sym, subst, length}
-use Rattle.std.specs.Prelude.{◌⊎◌}
+use Rattle.std.proofs.Common.{◌≡◌, ℕ, zero, suc, Bool, true, false, List, [], ◌∷◌, Contains, inl, inr, refl, subst, length}
 use Rattle.std.proofs.lemmas.List.Elements.{Contains-push_cases}
 use Rattle.js_mean.specs.Files.{Visited, enter, finish, visit, visit_all, imports_in, module_among, is_good_file, running_order}
 use Rattle.js_mean.specs.Proper.{is_among}
@@ -46,5 +45,5 @@ module _ (modules : List PlannedModule) (ps : List Piece) where
 
 pub reached_files_are_good : ReachedFilesAreGood
 reached_files_are_good modules ps are m h = all_pass (is_good_file (program modules ps)) (running_order (program modules ps) (file m)) (λ f i.
-  let k = visit_keeps modules ps (suc (length (program modules ps))) (file m) (record { entered = []; finished = [] }) (record { planned = m; among = h; named = refl }) (λ g j. nothing_in g j) f i in
-  subst (λ (g : Bytes). is_good_file (program modules ps) g ≡ true) k.named (files_are_good modules ps are k.planned k.among))
+    let k = visit_keeps modules ps (suc (length (program modules ps))) (file m) (record { entered = []; finished = [] }) (record { planned = m; among = h; named = refl }) (λ g j. nothing_in g j) f i in
+    subst (λ (g : Bytes). is_good_file (program modules ps) g ≡ true) k.named (files_are_good modules ps are k.planned k.among))

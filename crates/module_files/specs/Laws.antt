@@ -1,9 +1,9 @@
 -- Laws of the files of the modules of a plan.
-use Rattle.std.specs.Prelude.{◌≡◌, true, List, [], ◌∷◌, Some, Contains}
+use Rattle.std.specs.Prelude.{◌≡◌, true, List, [], ◌∷◌, ◌++◌, Some, Contains}
 use Rattle.std.specs.List.{list_all}
 use Rattle.js_mean.specs.Files.{is_good_file, owner, running_order}
 use Rattle.js_mean.specs.Shows.{File, IsRead}
-use Rattle.js_tree.specs.Terms.{Piece}
+use Rattle.js_tree.specs.Terms.{Name, Piece}
 use Rattle.js_tree.specs.declared.items.Binding.{Binding}
 use Rattle.module_names.specs.Names.{Key, Digest}
 use Rattle.module_rules.specs.Laws.{AreClosed, IsSource}
@@ -57,3 +57,17 @@ ImportsGoInNoCircle = (digest_of : Key → Digest) (graph : Graph) (entries : Li
     → IsGraph ps graph
     → IsPlan digest_of graph entries style modules
     → (f g : Bytes) → Path (IsSource modules ps) f g → Path (IsSource modules ps) g f → f ≡ g
+
+-- in such a plan a file runs behind those from which it imports
+abbrev pub ImportsRunFirst : Type 0
+ImportsRunFirst = (digest_of : Key → Digest) (graph : Graph) (entries : List EntryPoint) (style : Style) (modules : List PlannedModule) (ps : List Piece)
+    → AreEntries entries
+    → KeepsNamesApart digest_of graph entries
+    → IsGraph ps graph
+    → IsPlan digest_of graph entries style modules
+    → (m : PlannedModule)
+    → Contains modules m
+    → (front behind : List Name) (f g : Name)
+    → running_order (program_of modules ps) (file m) ≡ front ++ f ∷ behind
+    → IsSource modules ps f g
+    → Contains front g

@@ -3,7 +3,7 @@
 //! The functions here are laws: they do nothing when they run, and their clauses are theorems.
 #![tactic(auto)]
 
-ghost use Rattle.module_files.specs.Laws.{FilesAreGood, FilesAreRead, ImportsGoInNoCircle, LoneModulesAreOfPieces, NamesAreOwned, PlansAreWhole, ReachedFilesAreGood, UsesAreOwned};
+ghost use Rattle.module_files.specs.Laws.{FilesAreGood, FilesAreRead, ImportsGoInNoCircle, ImportsRunFirst, LoneModulesAreOfPieces, NamesAreOwned, PlansAreWhole, ReachedFilesAreGood, UsesAreOwned};
 
 /// The module of a plan that has no other is that of the pieces that its classes own.
 pub fn lone_modules_are_of_pieces()
@@ -43,4 +43,9 @@ pub fn reached_files_are_good()
 /// In a plan for the graph of the pieces no imports lead from a file to another and back.
 pub fn imports_go_in_no_circle()
     ensures { ImportsGoInNoCircle }
+{}
+
+/// In such a plan a file runs behind those from which it imports.
+pub fn imports_run_first()
+    ensures { ImportsRunFirst }
 {}
