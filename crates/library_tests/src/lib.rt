@@ -5,4 +5,6 @@
 #[cfg(test)]
 mod lanes;
 #[cfg(test)]
+mod modules;
+#[cfg(test)]
 mod outside;
