@@ -18,7 +18,7 @@ use Rattle.module_rules.proofs.Chosen.{is_it, from_imported, into_imported, from
 use Rattle.module_rules.proofs.InOrder.{are_these, from_each}
 use Rattle.module_rules.specs.Calls.{call_item_of}
 use Rattle.module_rules.specs.Laws.{ModulesAreOne, IsIn, FilesAreThoseOfPlans, AreThese, IsUse, IsSource, IsWanted, source_of, AreImportLines, ModulesHaveTheirLines, ImportsFindExports, ExportsAreDeclared}
-use Rattle.module_rules.specs.Modules.{file_with, item_of, name_of, is_owned_in, imported, exported, files_of, names_in, import_line, import_lines, module_of}
+use Rattle.module_rules.specs.Modules.{file_with, called_in, called_elsewhere, item_of, name_of, is_owned_in, imported, exported, files_of, names_in, import_line, import_lines, module_of}
 use Rattle.module_rules.specs.Order.{each_once_in_order}
 
 one_some : {X : Type 0} (x y : X) → Some x ≡ Some y → x ≡ y
@@ -34,7 +34,7 @@ sources_are file_of bs (f ∷ fs) = ap (λ (l : List Bytes). f ∷ l) (sources_a
 
 module _ (modules : List PlannedModule) (ps : List Piece) (f : Bytes) where
   abbrev bindings : List Binding
-  bindings = imported (file_with modules) f ps
+  bindings = imported (file_with modules) f ps (called_in modules f)
 
   abbrev lines : List JsImport
   lines = import_lines (file_with modules) bindings
@@ -62,8 +62,8 @@ module _ (modules : List PlannedModule) (ps : List Piece) (f : Bytes) where
     names = names_of_line;
   }
 
-  pub exports_are : AreThese (IsWanted modules ps f) (each_once_in_order (map name_of (exported (file_with modules) f ps)))
-  exports_are = are_these (IsWanted modules ps f) (map name_of (exported (file_with modules) f ps)) (λ x. (λ i. from_exported modules ps f x i, λ w. into_exported modules ps f x w))
+  pub exports_are : AreThese (IsWanted modules ps f) (each_once_in_order (map name_of (exported (file_with modules) f ps (called_elsewhere modules f))))
+  exports_are = are_these (IsWanted modules ps f) (map name_of (exported (file_with modules) f ps (called_elsewhere modules f))) (λ x. (λ i. from_exported modules ps f x i, λ w. into_exported modules ps f x w))
 
 pub modules_have_their_lines : ModulesHaveTheirLines
 modules_have_their_lines modules planned ps = record { imports = imports_are modules ps (file planned); exports = exports_are modules ps (file planned) }
@@ -121,14 +121,14 @@ imports_find_exports modules planned ps line x h i =
     let there = in_module modules s.uses.binding.owner line.file s.uses.bound in
     record {
       there = record { planned = there.planned; among = there.among; named = there.named };
-      exports = λ exporter is. subst (λ (f : Bytes). Contains (each_once_in_order (map name_of (exported (file_with modules) f ps))) x) (sym is) (((exports_are modules ps line.file).exact x).1 (record { from = file planned; other = s.other; uses = u }));
+      exports = λ exporter is. subst (λ (f : Bytes). Contains (each_once_in_order (map name_of (exported (file_with modules) f ps (called_elsewhere modules f)))) x) (sym is) (((exports_are modules ps line.file).exact x).1 (record { from = file planned; other = s.other; uses = u }));
     }
 
 pub exports_are_declared : ExportsAreDeclared
 exports_are_declared modules planned ps x closed h =
     let w = ((exports_are modules ps (file planned)).exact x).0 h in
     let u = w.uses in
-    let d = closed u.piece u.among w.from u.stands u.binding u.used in
+    let d = closed w.from u.binding u.used in
     let stands : file_with modules d.piece.owner ≡ Some (file planned) = ap (file_with modules) d.owned ∙ u.bound in
     record {
       piece = d.piece;

@@ -13,7 +13,7 @@ use Rattle.sj_split.specs.Modules.{IsPlan, file, is_among}
 use Rattle.sj_split.specs.Orders.{Bytes, AreIncreasing}
 use Rattle.sj_split.specs.declared.plans.PlannedModule.{PlannedModule}
 use Rattle.sj_split.specs.declared.plans.Style.{Style}
-use Rattle.module_rules.specs.Calls.{call_item_of}
+use Rattle.module_rules.specs.Calls.{call_item_of, called}
 use Rattle.module_rules.specs.Modules.{file_with, item_of, module_of, IsModuleOf}
 
 -- a planned module has one module
@@ -48,13 +48,15 @@ pub record AreThese (Is : Bytes → Type 0) (texts : List Bytes) : Type 0 where
   pub in_order : AreIncreasing texts
   pub exact : (x : Bytes) → Contains texts x ↔ Is x
 
--- a piece in the one file uses a binding of the other that has this name
+-- a piece in this file uses the binding, or an initializer of a module with this file calls it
+pub data Uses (modules : List PlannedModule) (ps : List Piece) (f : Bytes) : Binding → Type 0 where
+  by_piece : (p : Piece) (b : Binding) → Contains ps p → file_with modules p.owner ≡ Some f → Contains p.uses b → Uses modules ps f b
+  by_call : (m : PlannedModule) (e : EntryPoint) → Contains modules m → file m ≡ f → Contains m.initializers e → Uses modules ps f (called e)
+
+-- the one file uses a binding of the other that has this name
 pub record IsUse (modules : List PlannedModule) (ps : List Piece) (from to : Bytes) (x : Name) : Type 0 where
-  pub piece : Piece
-  pub among : Contains ps piece
-  pub stands : file_with modules piece.owner ≡ Some from
   pub binding : Binding
-  pub used : Contains piece.uses binding
+  pub used : Uses modules ps from binding
   pub bound : file_with modules binding.owner ≡ Some to
   pub named : binding.name ≡ x
 
@@ -108,9 +110,9 @@ pub record IsDeclared (ps : List Piece) (b : Binding) : Type 0 where
   pub owned : piece.owner ≡ b.owner
   pub named : piece.name ≡ b.name
 
--- what the pieces use that stand in files is declared
+-- what files use is declared
 abbrev pub AreClosed : List PlannedModule → List Piece → Type 0
-AreClosed modules ps = (p : Piece) → Contains ps p → (f : Bytes) → file_with modules p.owner ≡ Some f → (b : Binding) → Contains p.uses b → IsDeclared ps b
+AreClosed modules ps = (f : Bytes) (b : Binding) → Uses modules ps f b → IsDeclared ps b
 
 -- the name is that of a piece of the module
 pub record IsNameIn (modules : List PlannedModule) (planned : PlannedModule) (ps : List Piece) (x : Name) : Type 0 where
@@ -127,8 +129,9 @@ ExportsAreDeclared = (modules : List PlannedModule) (planned : PlannedModule) (p
 -- where pieces, calls and files keep the rules of printing, so do modules
 abbrev pub ModulesKeepRules : Type 0
 ModulesKeepRules = (modules : List PlannedModule) (planned : PlannedModule) (ps : List Piece)
+    → Contains modules planned
     → All IsPiece ps
-    → All IsItem (map call_item_of planned.initializers)
+    → ((m : PlannedModule) → Contains modules m → All IsItem (map call_item_of m.initializers))
     → ((m : PlannedModule) → Contains modules m → IsTrue (is_file (file m)))
     → IsModule (module_of modules planned ps)
 

@@ -70,3 +70,16 @@ ordering_pieces =
     ∷ piece (codes "B") (codes "y") []
     ∷ piece (codes "U") (codes "u") (binding (codes "A") (codes "x") ∷ binding (codes "B") (codes "y") ∷ binding (codes "A") (codes "X") ∷ [])
     ∷ []
+
+-- a public module that holds its initializer alone
+abbrev pub alone : PlannedModule
+alone = planned_as (codes "main") [] (entry (codes "main") (codes "M") ∷ [])
+
+abbrev pub within : PlannedModule
+within = planned_as (codes "internal-1") (codes "M" ∷ []) []
+
+abbrev pub calling : List PlannedModule
+calling = within ∷ alone ∷ []
+
+abbrev pub calling_pieces : List Piece
+calling_pieces = piece (codes "M") (codes "s_M__main$$V") [] ∷ piece (codes "M") (codes "m") (binding (codes "M") (codes "s_M__main$$V") ∷ []) ∷ []

@@ -11,4 +11,4 @@ pub use laws::{
     lone_modules_have_no_lines, modules_are_one, modules_have_their_lines, modules_keep_rules,
     plans_name_files,
 };
-pub use rows::{worked_order, worked_sharing};
+pub use rows::{worked_calls, worked_order, worked_sharing};
