@@ -11,10 +11,14 @@ use Rattle.js_tree.specs.Terms.{Name, Piece}
 use Rattle.js_tree.specs.Views.{piece_view}
 use Rattle.js_tree.specs.declared.items.Binding.{Binding}
 use Rattle.js_tree.specs.declared.items.JsPiece.{JsPiece}
-use Rattle.module_rules.specs.Modules.{uses_of, item_of, name_of, is_owned_in, is_owned_elsewhere, is_bound_in, is_bound_elsewhere, imported, exported}
+use Rattle.module_rules.specs.Calls.{called}
+use Rattle.module_rules.specs.Modules.{is_this, is_another, initializers_of, called_in, called_elsewhere, uses_of, item_of, name_of, is_owned_in, is_owned_elsewhere, is_bound_in, is_bound_elsewhere}
 use Rattle.sj_emit_module.specs.Groups.{HoldNames}
+use Rattle.sj_emit_module.specs.Pieces.{pieces_import, pieces_export}
 use Rattle.sj_emit_module.specs.declared.groups.NameGroups.{NameGroups}
+use Rattle.sj_split.specs.Modules.{file}
 use Rattle.sj_split.specs.Orders.{Bytes}
+use Rattle.sj_split.specs.declared.plans.PlannedModule.{PlannedModule}
 use Rattle.worklist.proofs.Inserted.{insert_all-append}
 
 pub more_taken : {X : Type 0} (xs : List X) (n : ℕ) (x : X) → slice_get xs n ≡ Some x → take (n + 1) xs ≡ take n xs ++ x ∷ []
@@ -54,11 +58,11 @@ module _ (file_of : Name → Option Bytes) (f : Bytes) where
       ∙ ap (filter second) (flat_map-append uses_of (filter first ps) (filter first qs))
       ∙ filter-append second (flat_map uses_of (filter first ps)) (flat_map uses_of (filter first qs))
 
-  pub imported_join : Joins (λ (ps : List JsPiece). imported file_of f (map piece_view ps))
+  pub imported_join : Joins (λ (ps : List JsPiece). pieces_import file_of f (map piece_view ps))
   imported_join xs ys = chosen_join (is_owned_in file_of f) (is_bound_elsewhere file_of f) xs ys
 
-  pub exported_join : Joins (λ (ps : List JsPiece). map name_of (exported file_of f (map piece_view ps)))
-  exported_join xs ys = ap (map name_of) (chosen_join (is_owned_elsewhere file_of f) (is_bound_in file_of f) xs ys) ∙ map-append name_of (exported file_of f (map piece_view xs)) (exported file_of f (map piece_view ys))
+  pub exported_join : Joins (λ (ps : List JsPiece). map name_of (pieces_export file_of f (map piece_view ps)))
+  exported_join xs ys = ap (map name_of) (chosen_join (is_owned_elsewhere file_of f) (is_bound_in file_of f) xs ys) ∙ map-append name_of (pieces_export file_of f (map piece_view xs)) (pieces_export file_of f (map piece_view ys))
 
   pub items_join : Joins (λ (ps : List JsPiece). map item_of (filter (is_owned_in file_of f) (map piece_view ps)))
   items_join xs ys =
@@ -66,3 +70,17 @@ module _ (file_of : Name → Option Bytes) (f : Bytes) where
       ap (λ (l : List Piece). map item_of (filter test l)) (map-append piece_view xs ys)
       ∙ ap (map item_of) (filter-append test (map piece_view xs) (map piece_view ys))
       ∙ map-append item_of (filter test (map piece_view xs)) (filter test (map piece_view ys))
+
+-- what the initializers of modules call
+module _ (f : Bytes) where
+  called_join : (test : PlannedModule → Bool) (ms ns : List PlannedModule) → map called (flat_map initializers_of (filter test (ms ++ ns))) ≡ map called (flat_map initializers_of (filter test ms)) ++ map called (flat_map initializers_of (filter test ns))
+  called_join test ms ns =
+      ap (λ (l : List PlannedModule). map called (flat_map initializers_of l)) (filter-append test ms ns)
+      ∙ ap (map called) (flat_map-append initializers_of (filter test ms) (filter test ns))
+      ∙ map-append called (flat_map initializers_of (filter test ms)) (flat_map initializers_of (filter test ns))
+
+  pub own_join : Joins (λ (ms : List PlannedModule). called_in ms f)
+  own_join ms ns = called_join (λ m. is_this f (Some (file m))) ms ns
+
+  pub others_join : Joins (λ (ms : List PlannedModule). called_elsewhere ms f)
+  others_join ms ns = called_join (λ m. is_another f (Some (file m))) ms ns

@@ -5,6 +5,7 @@ ghost use Rattle.js_tree.specs.Views.{piece_view};
 ghost use Rattle.module_rules.specs.Modules.{exported, is_bound_in, name_of};
 ghost use Rattle.module_rules.specs.Order.{each_once_in_order};
 ghost use Rattle.sj_emit_module.specs.Files.{file_in};
+ghost use Rattle.sj_emit_module.specs.Pieces.{pieces_export};
 ghost use Rattle.sj_split.specs.Orders.{is_same};
 
 use crate::files::ClassFiles;
@@ -14,16 +15,17 @@ use js_tree::{Binding, JsPiece};
 use sj_names::{NoMemory, Text};
 use std::alloc::Global;
 
-/// The names of the bindings of this file that the pieces of others use.
+/// The names of the bindings of this file that the pieces of others use, or these calls.
 pub fn exports(
     alloc: Global,
     files: &ClassFiles,
     file: &Text,
     pieces: &[JsPiece],
+    calls: &[Binding],
 ) -> Result<Vec<Text>, NoMemory>
-    ensures { IfOk result (λ names. names.items ≡ each_once_in_order (map name_of (exported (file_in files.now) file.now (map piece_view pieces.now)))) }
+    ensures { IfOk result (λ names. names.items ≡ each_once_in_order (map name_of (exported (file_in files.now) file.now (map piece_view pieces.now) calls.now))) }
 {
-    let names = used_names(alloc, files, file, pieces)?;
+    let names = used_names(alloc, files, file, pieces, calls)?;
     in_order(alloc, &names)
 }
 
@@ -32,8 +34,22 @@ fn used_names(
     files: &ClassFiles,
     file: &Text,
     pieces: &[JsPiece],
+    calls: &[Binding],
 ) -> Result<IndexSet<Text>, NoMemory>
-    ensures { IfOk result (λ names. names.keys ≡ insert_all is_same [] (map name_of (exported (file_in files.now) file.now (map piece_view pieces.now)))) }
+    ensures { IfOk result (λ names. names.keys ≡ insert_all is_same [] (map name_of (exported (file_in files.now) file.now (map piece_view pieces.now) calls.now))) }
+{
+    let mut names = names_of_pieces(alloc, files, file, pieces)?;
+    add_uses(files, file, calls, &mut names)?;
+    Ok(names)
+}
+
+fn names_of_pieces(
+    alloc: Global,
+    files: &ClassFiles,
+    file: &Text,
+    pieces: &[JsPiece],
+) -> Result<IndexSet<Text>, NoMemory>
+    ensures { IfOk result (λ names. names.keys ≡ insert_all is_same [] (map name_of (pieces_export (file_in files.now) file.now (map piece_view pieces.now)))) }
 {
     let mut names = IndexSet::new(alloc);
     for piece in pieces {
@@ -49,7 +65,7 @@ fn add_piece(
     piece: &JsPiece,
     names: &mut IndexSet<Text>,
 ) -> Result<(), NoMemory>
-    ensures { OnOk result (names.new.keys ≡ insert_all is_same names.old.keys (map name_of (exported (file_in files.now) file.now (piece_view piece.now ∷ [])))) }
+    ensures { OnOk result (names.new.keys ≡ insert_all is_same names.old.keys (map name_of (pieces_export (file_in files.now) file.now (piece_view piece.now ∷ [])))) }
 {
     if files.is_elsewhere(&piece.owner, file) {
         add_uses(files, file, piece.uses.as_slice(), names)?;

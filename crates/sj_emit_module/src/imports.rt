@@ -7,6 +7,7 @@ ghost use Rattle.module_rules.specs.Modules as rules;
 ghost use Rattle.module_rules.specs.Modules.{imported, is_bound_elsewhere, import_lines};
 ghost use Rattle.sj_emit_module.specs.Files.{file_in};
 ghost use Rattle.sj_emit_module.specs.Groups.{HoldNames};
+ghost use Rattle.sj_emit_module.specs.Pieces.{pieces_import};
 ghost use Rattle.sj_split.specs.Orders.{Bytes};
 
 use crate::files::ClassFiles;
@@ -15,16 +16,17 @@ use js_tree::{Binding, JsImport, JsPiece};
 use sj_names::{Items, NoMemory, Text};
 use std::alloc::Global;
 
-/// A line for each other file of which the pieces of this one use bindings.
+/// A line for each other file of which the pieces of this one use bindings, or these calls.
 pub fn imports(
     alloc: Global,
     files: &ClassFiles,
     file: &Text,
     pieces: &[JsPiece],
+    calls: &[Binding],
 ) -> Result<Vec<JsImport>, NoMemory>
-    ensures { IfOk result (λ lines. lines.items ≡ import_lines (file_in files.now) (imported (file_in files.now) file.now (map piece_view pieces.now))) }
+    ensures { IfOk result (λ lines. lines.items ≡ import_lines (file_in files.now) (imported (file_in files.now) file.now (map piece_view pieces.now) calls.now)) }
 {
-    let groups = used_names(alloc, files, file, pieces)?;
+    let groups = used_names(alloc, files, file, pieces, calls)?;
     let sources = groups.files(alloc)?;
     lines(alloc, &groups, &sources)
 }
@@ -49,14 +51,28 @@ fn import_line(alloc: Global, groups: &NameGroups, source: &Text) -> Result<JsIm
     })
 }
 
-// The names of the bindings of other files that the pieces of this one use.
+// The names of the bindings of other files that the pieces of this one use, or these calls.
 fn used_names(
     alloc: Global,
     files: &ClassFiles,
     file: &Text,
     pieces: &[JsPiece],
+    calls: &[Binding],
 ) -> Result<NameGroups, NoMemory>
-    ensures { IfOk result (λ groups. HoldNames (file_in files.now) (imported (file_in files.now) file.now (map piece_view pieces.now)) groups) }
+    ensures { IfOk result (λ groups. HoldNames (file_in files.now) (imported (file_in files.now) file.now (map piece_view pieces.now) calls.now) groups) }
+{
+    let mut groups = names_of_pieces(alloc, files, file, pieces)?;
+    add_uses(alloc, files, file, calls, &mut groups)?;
+    Ok(groups)
+}
+
+fn names_of_pieces(
+    alloc: Global,
+    files: &ClassFiles,
+    file: &Text,
+    pieces: &[JsPiece],
+) -> Result<NameGroups, NoMemory>
+    ensures { IfOk result (λ groups. HoldNames (file_in files.now) (pieces_import (file_in files.now) file.now (map piece_view pieces.now)) groups) }
 {
     let mut groups = NameGroups::new(alloc);
     for piece in pieces {
@@ -73,7 +89,7 @@ fn add_piece(
     piece: &JsPiece,
     groups: &mut NameGroups,
 ) -> Result<(), NoMemory>
-    ensures { OnOk result ((bs : List Bound) → HoldNames (file_in files.now) bs groups.old → HoldNames (file_in files.now) (bs ++ imported (file_in files.now) file.now (piece_view piece.now ∷ [])) groups.new) }
+    ensures { OnOk result ((bs : List Bound) → HoldNames (file_in files.now) bs groups.old → HoldNames (file_in files.now) (bs ++ pieces_import (file_in files.now) file.now (piece_view piece.now ∷ [])) groups.new) }
 {
     if files.is_in(&piece.owner, file) {
         add_uses(alloc, files, file, piece.uses.as_slice(), groups)?;

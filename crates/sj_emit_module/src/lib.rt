@@ -1,6 +1,7 @@
 //! The module of a planned module, made of pieces.
 #![tactic(auto)]
 
+mod calls;
 mod exports;
 mod files;
 mod groups;

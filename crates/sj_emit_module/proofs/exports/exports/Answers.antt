@@ -7,4 +7,4 @@ use Rattle.sj_emit_module.proofs.Held.{set_in_order}
 use Rattle.sj_emit_module.proofs.exports.exports.Goals as goal
 
 pub returns : goal.returns
-returns c = IfOk-weaker c.in_order.result _ _ (λ names is. is ∙ set_in_order c.in_ok-names.names.keys (map name_of (exported (file_in c.args.files.now) c.args.file.now (map piece_view c.args.pieces.now))) c.in_ok-names.ensures) c.in_order.ensures
+returns c = IfOk-weaker c.in_order.result _ _ (λ names is. is ∙ set_in_order c.in_ok-names.names.keys (map name_of (exported (file_in c.args.files.now) c.args.file.now (map piece_view c.args.pieces.now) c.args.calls.now)) c.in_ok-names.ensures) c.in_order.ensures

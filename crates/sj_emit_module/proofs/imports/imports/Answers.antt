@@ -8,5 +8,5 @@ use Rattle.sj_emit_module.proofs.imports.imports.Goals as goal
 
 pub returns : goal.returns
 returns c =
-    let bs = imported (file_in c.args.files.now) c.args.file.now (map piece_view c.args.pieces.now) in
+    let bs = imported (file_in c.args.files.now) c.args.file.now (map piece_view c.args.pieces.now) c.args.calls.now in
     IfOk-weaker c.lines.result _ _ (λ lines is. is (file_in c.args.files.now) bs c.in_ok-groups.ensures ∙ ap (map (import_line (file_in c.args.files.now) bs)) (c.deref.ensures.value ∙ c.in_ok-sources.ensures ∙ set_in_order c.in_ok-groups.groups.files.keys (files_of (file_in c.args.files.now) bs) c.in_ok-groups.ensures.files)) c.lines.ensures
