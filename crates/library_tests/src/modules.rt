@@ -10,12 +10,7 @@ use std::rc::Rc;
 use std::test::Fail;
 
 // A variable of a class, which uses these bindings.
-fn piece(
-    alloc: Global,
-    owner: &str,
-    name: &str,
-    uses: Vec<Binding>,
-) -> Result<JsPiece, Fail> {
+fn piece(alloc: Global, owner: &str, name: &str, uses: Vec<Binding>) -> Result<JsPiece, Fail> {
     let item = JsItem::Let {
         name: Text::from_str(alloc, name)?,
         value: JsExpr::Null,
@@ -84,18 +79,38 @@ fn all_shown(alloc: Global, plan: &Plan, pieces: &[JsPiece]) -> Result<String, F
     Ok(text)
 }
 
-#[test]
-fn modules_import_what_they_share(rt: HostRuntime) -> Result<(), Fail> {
-    let alloc = rt.alloc();
+fn linked(alloc: Global, style: Style) -> Result<String, Fail> {
     let pieces = pieces(alloc)?;
     let graph = graph(alloc, &pieces)?;
     let entries = entries_of(alloc, b"left L main\nright R main\n")?;
-    let plan = plan(alloc, &graph, &entries, Style::Fewest)?;
-    let text = all_shown(alloc, &plan, &pieces)?;
+    let plan = plan(alloc, &graph, &entries, style)?;
+    all_shown(alloc, &plan, &pieces)
+}
+
+#[test]
+fn modules_import_what_they_share(rt: HostRuntime) -> Result<(), Fail> {
+    let alloc = rt.alloc();
+    let text = linked(alloc, Style::Fewest)?;
     let shared = "item, item, r s | ";
     let left = "s from internal-f5e441f369f3c4aff58c2fda780c6a2bac39ef04.js, item, item, | ";
     let right = "r from internal-f5e441f369f3c4aff58c2fda780c6a2bac39ef04.js, item, item, | ";
     let expected = format!(in alloc; "{shared}{left}{right}")?;
+    assert!(rt; text == expected);
+    Ok(())
+}
+
+#[test]
+fn public_modules_import_what_they_call(rt: HostRuntime) -> Result<(), Fail> {
+    let alloc = rt.alloc();
+    let text = linked(alloc, Style::Smallest)?;
+    let shared = "item, item, r s | ";
+    let of_right =
+        "r from internal-02aa629c8b16cd17a44f3a0efec2feed43937642.js, item, s_R__main$$V | ";
+    let of_left =
+        "s from internal-02aa629c8b16cd17a44f3a0efec2feed43937642.js, item, s_L__main$$V | ";
+    let left = "s_L__main$$V from internal-d160e0986aca4714714a16f29ec605af90be704d.js, item, | ";
+    let right = "s_R__main$$V from internal-06576556d1ad802f247cad11ae748be47b70cd9c.js, item, | ";
+    let expected = format!(in alloc; "{shared}{of_right}{of_left}{left}{right}")?;
     assert!(rt; text == expected);
     Ok(())
 }

@@ -12,9 +12,10 @@ use Rattle.js_mean.specs.States.{Program}
 use Rattle.js_tree.specs.Names.{is_same_text}
 use Rattle.js_tree.specs.Terms.{Name, Piece}
 use Rattle.js_tree.specs.declared.items.JsImport.{JsImport}
+use Rattle.module_rules.proofs.Chosen.{UseFile, of_class, of_module, use_file}
 use Rattle.module_rules.proofs.Lines.{imports_are, exports_are, in_module}
 use Rattle.module_rules.specs.Laws.{AreImportLines, IsDeclared, IsUse, IsSource, source_of}
-use Rattle.module_rules.specs.Modules.{file_with, name_of, imported, exported, import_lines, module_of}
+use Rattle.module_rules.specs.Modules.{file_with, called_in, called_elsewhere, name_of, imported, exported, import_lines, module_of}
 use Rattle.module_rules.specs.Order.{each_once_in_order}
 use Rattle.sj_split.proofs.Members.{at_first, further, cons_cases, into_map, from_map}
 use Rattle.sj_split.specs.Modules.{file}
@@ -93,10 +94,10 @@ module _ (modules : List PlannedModule) (ps : List Piece) where
   program = program_of modules ps
 
   abbrev pub lines_of : Bytes → List JsImport
-  lines_of f = import_lines (file_with modules) (imported (file_with modules) f ps)
+  lines_of f = import_lines (file_with modules) (imported (file_with modules) f ps (called_in modules f))
 
   abbrev pub exports_of : Bytes → List Name
-  exports_of f = each_once_in_order (map name_of (exported (file_with modules) f ps))
+  exports_of f = each_once_in_order (map name_of (exported (file_with modules) f ps (called_elsewhere modules f)))
 
   found_among : (ms : List PlannedModule) (m : PlannedModule) (f : Bytes) → Contains ms m → file m ≡ f → ((n : PlannedModule) → Contains ms n → Contains modules n) → Found modules ps (map (files.source_of modules ps) ms) f
   found_among [] m f h e all = nothing_in m h
@@ -122,6 +123,10 @@ module _ (modules : List PlannedModule) (ps : List Piece) where
   found_class : (class : Name) (f : Bytes) → file_with modules class ≡ Some f → Found modules ps program f
   found_class class f e = let i = in_module modules class f e in found i.planned f i.among i.named
 
+  found_use : (f : Bytes) → UseFile modules ps f → Found modules ps program f
+  found_use f (of_class class e) = found_class class f e
+  found_use f (of_module m h e) = found m f h e
+
   pub imports_found : (f : Bytes) → Found modules ps program f → imports_in (module_among program f) ≡ lines_of f
   imports_found f m = ap imports_in m.is ∙ ap lines_of m.named
 
@@ -134,7 +139,7 @@ module _ (modules : List PlannedModule) (ps : List Piece) where
   -- two uses of one name are of one owner
   use_owner : StandTogether modules ps → (f g : Bytes) (x : Name) (u : IsUse modules ps f g x) (q : Piece) → Contains ps q → q.name ≡ x → file_with modules q.owner ≡ Some g
   use_owner together f g x u q h e =
-      let d = together.closed u.piece u.among f u.stands u.binding u.used in
+      let d = together.closed f u.binding u.used in
       ap (file_with modules) (same_owner together q d.piece h d.among (e ∙ sym u.named ∙ sym d.named) ∙ d.owned) ∙ u.bound
 
   one_file : (f g : Bytes) → Some f ≡ Some g → f ≡ g
@@ -143,7 +148,7 @@ module _ (modules : List PlannedModule) (ps : List Piece) where
   -- a file uses one name of one file
   pub one_source : StandTogether modules ps → (f g h : Bytes) (x : Name) → IsUse modules ps f g x → IsUse modules ps f h x → g ≡ h
   one_source together f g h x u v =
-      let d = together.closed u.piece u.among f u.stands u.binding u.used in
+      let d = together.closed f u.binding u.used in
       one_file g h (sym (use_owner together f g x u d.piece d.among (d.named ∙ u.named)) ∙ use_owner together f h x v d.piece d.among (d.named ∙ u.named))
 
   -- a file imports no name that a piece of it has
@@ -170,8 +175,8 @@ module _ (modules : List PlannedModule) (ps : List Piece) where
 
   other_owned : StandTogether modules ps → (f g : Bytes) (x : Name) → (f ≡ g → ⊥) → IsUse modules ps f g x → owner program f x ≡ Some g
   other_owned together f g x other u =
-      let d = together.closed u.piece u.among f u.stands u.binding u.used in
-      let here = found_class u.piece.owner f u.stands in
+      let d = together.closed f u.binding u.used in
+      let here = found_use f (use_file modules ps f u.binding u.used) in
       let there = found_class u.binding.owner g u.bound in
       let stands : file_with modules d.piece.owner ≡ Some g = ap (file_with modules) d.owned ∙ u.bound in
       let named : d.piece.name ≡ x = d.named ∙ u.named in
@@ -184,7 +189,7 @@ module _ (modules : List PlannedModule) (ps : List Piece) where
   use_owned together f g x u = go (is_same_text f g) refl
     where
       d : IsDeclared ps u.binding
-      d = together.closed u.piece u.among f u.stands u.binding u.used
+      d = together.closed f u.binding u.used
 
       one : f ≡ g → owner program f x ≡ Some g
       one e = subst (λ (y : Name). owner program f y ≡ Some g) (d.named ∙ u.named) (name_owned together d.piece f d.among (ap (file_with modules) d.owned ∙ u.bound ∙ ap Some (sym e)) ∙ ap Some e)
@@ -200,4 +205,4 @@ pub names_are_owned : NamesAreOwned
 names_are_owned modules ps together p f h stands = name_owned modules ps together p f h stands
 
 pub uses_are_owned : UsesAreOwned
-uses_are_owned modules ps together p b f g h u stands bound = use_owned modules ps together f g b.name (record { piece = p; among = h; stands = stands; binding = b; used = u; bound = bound; named = refl })
+uses_are_owned modules ps together f g b u bound = use_owned modules ps together f g b.name (record { binding = b; used = u; bound = bound; named = refl })

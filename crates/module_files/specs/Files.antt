@@ -6,7 +6,7 @@ use Rattle.js_mean.specs.States.{Source, Program}
 use Rattle.js_tree.specs.Spelling.{Spells}
 use Rattle.js_tree.specs.Terms.{Name, Item, Piece}
 use Rattle.js_tree.specs.declared.items.Binding.{Binding}
-use Rattle.module_rules.specs.Laws.{AreClosed}
+use Rattle.module_rules.specs.Laws.{Uses, AreClosed}
 use Rattle.module_rules.specs.Modules.{file_with, module_of}
 use Rattle.sj_split.specs.Modules.{file}
 use Rattle.sj_split.specs.Orders.{Bytes}
@@ -36,9 +36,9 @@ module _ (modules : List PlannedModule) (ps : List Piece) where
     pub its_file : Bytes
     pub is : file_with modules class ≡ Some its_file
 
-  -- what the pieces use that stand in files is of classes that stand in files
+  -- what files use is of classes that stand in files
   abbrev pub AreWhole : Type 0
-  AreWhole = (p : Piece) → Contains ps p → (f : Bytes) → file_with modules p.owner ≡ Some f → (b : Binding) → Contains p.uses b → StandsIn b.owner
+  AreWhole = (f : Bytes) (b : Binding) → Uses modules ps f b → StandsIn b.owner
 
 abbrev pub piece_name : Piece → Name
 piece_name p = p.name

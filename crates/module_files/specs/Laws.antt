@@ -6,7 +6,7 @@ use Rattle.js_mean.specs.Shows.{File, IsRead}
 use Rattle.js_tree.specs.Terms.{Name, Piece}
 use Rattle.js_tree.specs.declared.items.Binding.{Binding}
 use Rattle.module_names.specs.Names.{Key, Digest}
-use Rattle.module_rules.specs.Laws.{AreClosed, IsSource}
+use Rattle.module_rules.specs.Laws.{Uses, AreClosed, IsSource}
 use Rattle.module_rules.specs.Modules.{file_with, module_of}
 use Rattle.plan_laws.specs.Laws.{KeepsNamesApart}
 use Rattle.proper_pieces.specs.Modules.{module_of as module_of_pieces}
@@ -33,11 +33,11 @@ FilesAreRead = (modules : List PlannedModule) (ps : List Piece) (files : List Fi
 abbrev pub NamesAreOwned : Type 0
 NamesAreOwned = (modules : List PlannedModule) (ps : List Piece) → StandTogether modules ps → (p : Piece) (f : Bytes) → Contains ps p → file_with modules p.owner ≡ Some f → owner (program_of modules ps) f p.name ≡ Some f
 
--- a name that a piece uses belongs, where the piece stands, to the file of its owner
+-- a name that a file uses, by a piece or by the call of an initializer, belongs there to the file of its owner
 abbrev pub UsesAreOwned : Type 0
-UsesAreOwned = (modules : List PlannedModule) (ps : List Piece) → StandTogether modules ps → (p : Piece) (b : Binding) (f g : Bytes) → Contains ps p → Contains p.uses b → file_with modules p.owner ≡ Some f → file_with modules b.owner ≡ Some g → owner (program_of modules ps) f b.name ≡ Some g
+UsesAreOwned = (modules : List PlannedModule) (ps : List Piece) → StandTogether modules ps → (f g : Bytes) (b : Binding) → Uses modules ps f b → file_with modules b.owner ≡ Some g → owner (program_of modules ps) f b.name ≡ Some g
 
--- in a plan of closed pieces the class of whatever they use stands in a file
+-- in a plan for the graph of the pieces, where what files use is declared, it is of classes that stand in files
 abbrev pub PlansAreWhole : Type 0
 PlansAreWhole = (digest_of : Key → Digest) (graph : Graph) (entries : List EntryPoint) (style : Style) (modules : List PlannedModule) (ps : List Piece) → IsGraph ps graph → IsPlan digest_of graph entries style modules → AreClosed modules ps → AreWhole modules ps
 

@@ -20,7 +20,7 @@ pub fn names_are_owned()
     ensures { NamesAreOwned }
 {}
 
-/// A name that a piece uses belongs, where the piece stands, to the file of its owner.
+/// A name that a file uses, by a piece or by the call of an initializer, belongs there to the file of its owner.
 pub fn uses_are_owned()
     ensures { UsesAreOwned }
 {}
