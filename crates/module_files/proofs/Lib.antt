@@ -6,3 +6,4 @@ pub mod Whole
 pub mod Reached
 pub mod Circles
 pub mod Running
+pub mod FromLinked

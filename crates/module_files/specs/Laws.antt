@@ -5,10 +5,14 @@ use Rattle.js_mean.specs.Files.{is_good_file, owner, running_order}
 use Rattle.js_mean.specs.Shows.{File, IsRead}
 use Rattle.js_tree.specs.Terms.{Name, Piece}
 use Rattle.js_tree.specs.declared.items.Binding.{Binding}
+use Rattle.linked_pieces.specs.Emitted.{EmittedMethod}
+use Rattle.linked_pieces.specs.Once.{DefinesOnce}
+use Rattle.linked_pieces.specs.Pieces.{AreLinkedPieces}
 use Rattle.module_names.specs.Names.{Key, Digest}
 use Rattle.module_rules.specs.Laws.{Uses, AreClosed, IsSource}
 use Rattle.module_rules.specs.Modules.{file_with, module_of}
 use Rattle.plan_laws.specs.Laws.{KeepsNamesApart}
+use Rattle.proper_pieces.specs.Laws.{AreNamed}
 use Rattle.proper_pieces.specs.Modules.{module_of as module_of_pieces}
 use Rattle.sj_graph.specs.References.{IsGraph}
 use Rattle.sj_graph.specs.declared.graphs.Graph.{Graph}
@@ -18,6 +22,7 @@ use Rattle.sj_split.specs.Modules.{IsPlan, file}
 use Rattle.sj_split.specs.Orders.{Bytes}
 use Rattle.sj_split.specs.declared.plans.PlannedModule.{PlannedModule}
 use Rattle.sj_split.specs.declared.plans.Style.{Style}
+use Rattle.sj_world.specs.Linked.{Linked}
 use Rattle.worklist.specs.Paths.{Path}
 use Rattle.module_files.specs.Files.{program_of, AreFilesOf, AreWhole, StandTogether, AreProper}
 
@@ -71,3 +76,12 @@ ImportsRunFirst = (digest_of : Key → Digest) (graph : Graph) (entries : List E
     → running_order (program_of modules ps) (file m) ≡ front ++ f ∷ behind
     → IsSource modules ps f g
     → Contains front g
+
+-- the pieces of a linked world, where what files use of them is declared, are proper
+abbrev pub LinkedPiecesAreProper : Type 0
+LinkedPiecesAreProper = (l : Linked) (all : List EmittedMethod) (ps : List Piece) (modules : List PlannedModule)
+    → AreNamed l.world
+    → ((e : EmittedMethod) → Contains all e → DefinesOnce e.definition e.its_body)
+    → AreLinkedPieces l all ps
+    → AreClosed modules ps
+    → AreProper modules ps

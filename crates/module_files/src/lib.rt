@@ -3,7 +3,7 @@
 //! The functions here are laws: they do nothing when they run, and their clauses are theorems.
 #![tactic(auto)]
 
-ghost use Rattle.module_files.specs.Laws.{FilesAreGood, FilesAreRead, ImportsGoInNoCircle, ImportsRunFirst, LoneModulesAreOfPieces, NamesAreOwned, PlansAreWhole, ReachedFilesAreGood, UsesAreOwned};
+ghost use Rattle.module_files.specs.Laws.{FilesAreGood, FilesAreRead, ImportsGoInNoCircle, ImportsRunFirst, LinkedPiecesAreProper, LoneModulesAreOfPieces, NamesAreOwned, PlansAreWhole, ReachedFilesAreGood, UsesAreOwned};
 
 /// The module of a plan that has no other is that of the pieces that its classes own.
 pub fn lone_modules_are_of_pieces()
@@ -48,4 +48,9 @@ pub fn imports_go_in_no_circle()
 /// In such a plan a file runs behind those from which it imports.
 pub fn imports_run_first()
     ensures { ImportsRunFirst }
+{}
+
+/// The pieces of a linked world are proper, where what files use of them is declared.
+pub fn linked_pieces_are_proper()
+    ensures { LinkedPiecesAreProper }
 {}
