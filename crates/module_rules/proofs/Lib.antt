@@ -1,0 +1,6 @@
+pub mod InOrder
+pub mod Chosen
+pub mod Lines
+pub mod Alone
+pub mod Printed
+pub mod FileNames

@@ -1,0 +1,4 @@
+pub mod Added
+pub mod Held
+pub mod Stored
+pub mod Whole
