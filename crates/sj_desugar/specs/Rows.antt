@@ -1,0 +1,37 @@
+-- Fields and calls on receivers, and what is written for them.
+use Rattle.std.specs.Prelude.{◌≡◌, ℕ, Bool, false, List, [], ◌∷◌, Some, codes, pos}
+use Rattle.sj_core.specs.Terms as core
+use Rattle.sj_core.specs.Terms.{Statements, statement, no_statements, named, numbered, variable_use, field_of, checked_value, receiver_call, number_value, expression, no_expressions, constant_of, assign_to, return_of}
+use Rattle.sj_desugar.specs.Desugar.{into, member}
+use Rattle.sj_desugar.specs.Spill.{to_result}
+use Rattle.sj_names.specs.Same.{is_same_text}
+use Rattle.sj_names.specs.declared.method_names.MethodName.{MethodName}
+use Rattle.sj_names.specs.declared.method_names.Namespace.TheVariants.{Private}
+use Rattle.sj_names.specs.declared.references.TypeRef.{TypeRef}
+use Rattle.sj_trees.specs.Erase.{nowhere}
+use Rattle.sj_trees.specs.Term.{Term, no_terms, more_terms, skip, block_of, select, apply_statically, int_literal, var_ref}
+use Rattle.sj_trees.specs.declared.types.IrType.TheVariants.{Class, Int}
+
+-- the local `a` is never null, and `b` may be
+abbrev is_a : List ℕ → Bool
+is_a x = is_same_text x (codes "a")
+
+-- the statements that return the value of a tree
+abbrev returned : Term → Statements
+returned t = (into (λ x. false) is_a [] (to_result Int) 1 t).statements
+
+abbrev use_of : List ℕ → Term
+use_of x = var_ref nowhere x (Class (codes "A"))
+
+abbrev takes_int : MethodName
+takes_int = record { simple = codes "m"; params = TypeRef.Int ∷ []; result = Some TypeRef.Int }
+
+-- a block that ends with a number, which isn't plain
+abbrev block : Term
+block = block_of nowhere (more_terms (skip nowhere) (more_terms (int_literal nowhere (pos 4)) no_terms))
+
+-- a receiver that is never null is read as it is, any other through its check, which comes in front of the arguments
+pub record ReceiversAreChecked : Type 0 where
+  pub of_a : returned (select nowhere (use_of (codes "a")) (codes "A") (codes "f") Int) ≡ statement (return_of (Some nowhere) (field_of (variable_use (named (codes "a"))) (codes "A") (codes "f"))) no_statements
+  pub of_b : returned (select nowhere (use_of (codes "b")) (codes "A") (codes "f") Int) ≡ statement (return_of (Some nowhere) (field_of (checked_value (variable_use (named (codes "b")))) (codes "A") (codes "f"))) no_statements
+  pub in_front : returned (apply_statically nowhere (use_of (codes "b")) (codes "A") Private takes_int (more_terms block no_terms) Int) ≡ statement (constant_of (Some nowhere) (numbered 1) (checked_value (variable_use (named (codes "b"))))) (statement (core.declare_of (Some nowhere) (numbered 2)) (statement (assign_to (Some nowhere) (numbered 2) (number_value (pos 4))) (statement (return_of (Some nowhere) (receiver_call (member (codes "A") Private takes_int) (variable_use (numbered 1)) (expression (variable_use (numbered 2)) no_expressions))) no_statements)))
