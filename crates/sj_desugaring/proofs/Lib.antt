@@ -1,4 +1,2 @@
-pub mod Arguments
 pub mod Lists
-pub mod Names
-pub mod Sures
+pub use Rattle.plain_desugaring.proofs.Arguments

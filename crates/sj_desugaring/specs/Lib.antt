@@ -1,5 +1,4 @@
-pub mod Arguments
-pub mod Definitions
 pub mod Forms
 pub mod Placing
 pub mod Views
+pub use Rattle.plain_desugaring.specs.Arguments

@@ -13,12 +13,10 @@ ghost use Rattle.sj_trees.specs.View.{view};
 ghost use Rattle.sj_trees.specs.declared.operators.UnaryOp.TheVariants.{BooleanNot};
 ghost use Rattle.sj_desugaring.specs.Views.{destination_view, code_view, placed_view, all_view, branches_view};
 
-use crate::coercions::coerced;
 use crate::destinations::{Destination, copied_variable};
-use crate::expressions::{expression_of, static_call};
 use crate::placing::{Placed, PlacedAll};
-use crate::texts::operand_of;
 use crate::writing::{Written, joined, nothing, one, put_first};
+use plain_desugaring::{coerced, expression_of, operand_of, static_call};
 use sj_core::{CoreCase, CoreExpression, CoreStatement, CoreVariable};
 use sj_names::{ClassName, Items, LocalName, MethodName, Namespace, NoMemory};
 use sj_trees::{BinaryOp, IrType, Position, Tree, UnaryOp, type_of};

@@ -13,13 +13,13 @@ ghost use Rattle.sj_trees.specs.View.{view};
 ghost use Rattle.sj_trees.specs.declared.types.IrType.TheVariants.{Any};
 ghost use Rattle.sj_desugaring.specs.Views.{destination_view, code_view, placed_view, all_view};
 
-use crate::coercions::coerced;
 use crate::destinations::Destination;
-use crate::expressions::{checked, coerced_receiver, field_of, made, receiver_call};
 use crate::forms::{Callee, finish};
 use crate::placing::{Placed, PlacedAll};
-use crate::positions::position_of;
 use crate::writing::{Written, joined, one};
+use plain_desugaring::{
+    checked, coerced, coerced_receiver, field_of, made, position_of, receiver_call,
+};
 use sj_core::{CoreExpression, CoreStatement};
 use sj_names::{ClassName, FieldName, MethodName, NoMemory};
 use sj_trees::{IrType, Position, Tree, type_of};

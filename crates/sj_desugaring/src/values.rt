@@ -8,9 +8,9 @@ ghost use Rattle.sj_trees.specs.View.{view};
 ghost use Rattle.sj_trees.specs.declared.types.IrType.TheVariants.{String};
 
 use crate::destinations::Destination;
-use crate::expressions::{local_use, static_field};
 use crate::forms::finish;
 use crate::writing::{Written, nothing};
+use plain_desugaring::{local_use, static_field};
 use sj_core::{CoreExpression, CoreVariable};
 use sj_names::{LocalName, NoMemory};
 use sj_trees::{IrType, Position, Tree};

@@ -2,7 +2,7 @@
 use Rattle.std.proofs.Common.{◌≡◌, ◌∙◌, ◌<◌, ◌+◌, ℕ, suc, Bool, true, false, ◌&&◌, ◌||◌, not, List, [], ◌∷◌, ◌++◌, refl, ap, sym, length, get_or, drop, add-one, append_assoc, if◌then◌else◌}
 use Rattle.std.proofs.Math.Seq.{drop-cons, drop-length}
 use Rattle.sj_desugar.specs.Plain.{is_among}
-use Rattle.sj_desugaring.specs.Definitions.{with_local, sure_in, sure_in_all, sure_in_cases}
+use Rattle.plain_desugaring.specs.Definitions.{with_local, sure_in, sure_in_all, sure_in_cases}
 use Rattle.sj_names.specs.Same.{is_same_text}
 use Rattle.sj_trees.specs.Term.{Term, Terms, no_terms, more_terms, Cases, no_cases, more_cases, apply, apply_static, apply_statically, array_length, array_select, array_value, as_instance_of, assign, binary_op, block_of, do_while, if_then, is_instance_of, labeled, log_line, match_on, new_array, new_object, return_to, select, store_module, throw, try_catch, try_finally, unary_op, var_def, while_loop, skip, load_module, select_static, undefined_literal, null_literal, boolean_literal, char_literal, byte_literal, short_literal, int_literal, long_literal, string_literal, var_ref, this_ref}
 use Rattle.sj_trees.specs.View.{view, terms_view, cases_view, view_case}

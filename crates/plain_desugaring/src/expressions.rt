@@ -5,7 +5,7 @@ ghost use Rattle.sj_desugar.specs.Coercions as coercions;
 ghost use Rattle.sj_desugar.specs.Desugar as desugar;
 ghost use Rattle.sj_desugar.specs.Plain as plain;
 ghost use Rattle.sj_desugar.specs.Texts as texts;
-ghost use Rattle.sj_desugaring.specs.Arguments as arguments;
+ghost use Rattle.plain_desugaring.specs.Arguments as arguments;
 ghost use Rattle.sj_trees.specs.TypeOf.{type_of_term};
 ghost use Rattle.sj_trees.specs.View.{view, terms_view};
 ghost use Rattle.sj_core.specs.Terms as terms;

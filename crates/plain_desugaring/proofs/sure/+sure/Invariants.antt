@@ -1,6 +1,6 @@
 use Rattle.std.proofs.Common.{◌≡◌, drop}
-use Rattle.sj_desugaring.proofs.sure.+sure.Given as goal
-use Rattle.sj_desugaring.specs.Definitions.{sure_in_all, sure_in_cases}
+use Rattle.plain_desugaring.proofs.sure.+sure.Given as goal
+use Rattle.plain_desugaring.specs.Definitions.{sure_in_all, sure_in_cases}
 use Rattle.sj_trees.specs.View.{terms_view, cases_view}
 
 abbrev pub invariant-add_all_sure-loop-each : goal.invariant-add_all_sure-loop-each

@@ -1,8 +1,8 @@
 use Rattle.std.proofs.Common.{◌≡◌, ◌∙◌, ap}
 use Rattle.sj_desugar.specs.Plain.{is_among}
-use Rattle.sj_desugaring.proofs.Sures.{sure-listed}
-use Rattle.sj_desugaring.proofs.sure.sure_locals.Goals as goal
-use Rattle.sj_desugaring.specs.Definitions.{sure_in}
+use Rattle.plain_desugaring.proofs.Sures.{sure-listed}
+use Rattle.plain_desugaring.proofs.sure.sure_locals.Goals as goal
+use Rattle.plain_desugaring.specs.Definitions.{sure_in}
 use Rattle.sj_trees.specs.View.{view}
 
 pub returns : goal.returns

@@ -3,7 +3,7 @@ use Rattle.sj_core.specs.Views.{expression_view}
 use Rattle.sj_desugar.specs.Coercions.{coerced_arguments}
 use Rattle.sj_desugar.specs.Desugar.{types_of, all_expressions}
 use Rattle.sj_desugar.specs.Plain.{is_among}
-use Rattle.sj_desugaring.proofs.expressions.+expression.Given as goal
+use Rattle.plain_desugaring.proofs.expressions.+expression.Given as goal
 use Rattle.sj_trees.specs.View.{terms_view}
 
 abbrev pub invariant-arguments_of-loop-each : goal.invariant-arguments_of-loop-each

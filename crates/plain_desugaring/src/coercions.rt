@@ -2,7 +2,7 @@
 ghost use Rattle.std.specs.Prelude.{◌≡◌, IfOk};
 ghost use Rattle.sj_core.specs.Views.{expression_view};
 ghost use Rattle.sj_desugar.specs.Coercions as coercions;
-ghost use Rattle.sj_desugaring.specs.Arguments.{coerced_argument};
+ghost use Rattle.plain_desugaring.specs.Arguments.{coerced_argument};
 ghost use Rattle.sj_trees.specs.Types.{reference_type};
 
 use sj_core::CoreExpression;

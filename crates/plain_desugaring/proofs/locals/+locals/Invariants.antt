@@ -1,6 +1,6 @@
 use Rattle.std.proofs.Common.{◌≡◌, ◌≤◌, drop, length, reverse}
 use Rattle.sj_desugar.specs.Plain.{mutable_in_all, mutable_in_cases}
-use Rattle.sj_desugaring.proofs.locals.+locals.Given as goal
+use Rattle.plain_desugaring.proofs.locals.+locals.Given as goal
 use Rattle.sj_trees.specs.View.{terms_view, cases_view}
 
 abbrev pub invariant-add_all_mutable-loop-left : goal.invariant-add_all_mutable-loop-left

@@ -4,7 +4,7 @@ ghost use Rattle.sj_desugar.specs.Plain as plain;
 ghost use Rattle.sj_trees.specs.TypeOf.{type_of_term};
 ghost use Rattle.sj_trees.specs.View.{view, terms_view, cases_view};
 ghost use Rattle.sure_receivers.specs.Sure as receivers;
-ghost use Rattle.sj_desugaring.specs.Definitions as sures;
+ghost use Rattle.plain_desugaring.specs.Definitions as sures;
 
 use crate::plain::is_among;
 use sj_names::{LocalName, NoMemory};

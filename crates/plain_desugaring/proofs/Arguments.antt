@@ -2,7 +2,7 @@
 use Rattle.std.proofs.Common.{◌≡◌, List, [], ◌∷◌, refl}
 use Rattle.sj_core.specs.Terms.{Expression}
 use Rattle.sj_desugar.specs.Coercions.{coerced_arguments}
-use Rattle.sj_desugaring.specs.Arguments.{coerced_argument, without_first}
+use Rattle.plain_desugaring.specs.Arguments.{coerced_argument, without_first}
 use Rattle.sj_names.specs.declared.references.TypeRef.{TypeRef}
 use Rattle.sj_trees.specs.declared.types.IrType.{IrType}
 

@@ -1,6 +1,6 @@
 use Rattle.std.proofs.Common.{◌≡◌, drop}
 use Rattle.sj_desugar.specs.Plain.{are_plain}
-use Rattle.sj_desugaring.proofs.plain.+plain.Given as goal
+use Rattle.plain_desugaring.proofs.plain.+plain.Given as goal
 use Rattle.sj_trees.specs.View.{terms_view}
 
 abbrev pub invariant-are_plain-loop-each : goal.invariant-are_plain-loop-each

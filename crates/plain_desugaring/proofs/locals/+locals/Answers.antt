@@ -1,5 +1,5 @@
 use Rattle.std.proofs.Common.{◌∙◌, ap, arith}
-use Rattle.sj_desugaring.proofs.locals.+locals.Goals as goal
+use Rattle.plain_desugaring.proofs.locals.+locals.Goals as goal
 use Rattle.sj_trees.proofs.trees.Tree.TheLaws.{the_size}
 use Rattle.sj_trees.specs.declared.trees.Tree.TheViews.{sized-Match}
 
