@@ -1,4 +1,4 @@
-use Rattle.std.proofs.Common.{◌≡◌, ◌∙◌, ap}
+use Rattle.std.proofs.Common.{◌∙◌, ap}
 use Rattle.sj_desugar.specs.Plain.{is_among}
 use Rattle.plain_desugaring.proofs.Sures.{sure-listed}
 use Rattle.plain_desugaring.proofs.sure.sure_locals.Goals as goal
