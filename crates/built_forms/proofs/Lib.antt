@@ -1,4 +1,3 @@
-pub mod Arguments
-pub mod Cases
 pub mod Around
+pub mod Cases
 pub mod Rows
