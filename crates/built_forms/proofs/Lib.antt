@@ -1,3 +1,4 @@
 pub mod Around
 pub mod Cases
 pub mod Rows
+pub mod Targets
