@@ -103,10 +103,6 @@ module _ (w : Classes) (has : Usable) where
   abbrev pub FitsType : Term → IrType → Type 0
   FitsType e t = IsSub w (type_of_term e) t × MayStand has t (type_of_term e)
 
-  -- there is no value to yield, or the tree stands where it is expected
-  abbrev pub Yields : Term → IrType → Type 0
-  Yields e t = (t ≡ NoType) ⊎ IsSub w (type_of_term e) t
-
   -- arguments are as many as the parameters, of which each has a value, and fit their types
   abbrev pub ArgumentsFit : Terms → List TypeRef → Type 0
   ArgumentsFit no_terms [] = Unit {0}
@@ -115,10 +111,6 @@ module _ (w : Classes) (has : Usable) where
 
   pub fits_there : (e : Term) (t : IrType) → may_make has (is_boxed t e) ≡ true → IsSub w (type_of_term e) t → FitsType e t
   fits_there e t may fits = (fits, may)
-
-  pub yields_there : (e : Term) (t : IrType) → rules.Yields w e t → Yields e t
-  yields_there e t (rules.nothing_wanted none) = inl none
-  yields_there e t (rules.fitting fits) = inr fits
 
   pub arguments_there : (es : Terms) (rs : List TypeRef) → may_make has (any_is_boxed rs es) ≡ true → AllHaveValues rs → rules.ArgumentsFit w es rs → ArgumentsFit es rs
   arguments_there no_terms [] may values fits = tt

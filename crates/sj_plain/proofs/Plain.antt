@@ -4,7 +4,7 @@ use Rattle.std.specs.Prelude.{ℤ, pos, negsuc, FitsSigned, ℕ, ◌&&◌, ◌||
 use Rattle.std.proofs.lemmas.Bool.{and_parts}
 use Rattle.body_rules.proofs.Fitting.{fits-unary, fits-dividend, operates, not_no_type, unary-operand-value, left-operand-value, right-operand-value}
 use Rattle.body_rules.proofs.Locals.{there}
-use Rattle.body_rules.proofs.RulesGive.{when_not, Yields, ArgumentsFit, Takes, its_types, texts, of_division, each_made, yields_there, arguments_there, operation}
+use Rattle.body_rules.proofs.RulesGive.{when_not, ArgumentsFit, Takes, its_types, texts, of_division, each_made, arguments_there, operation}
 use Rattle.body_rules.specs.Subtyping.{IsSubtyping}
 use Rattle.body_rules.specs.Typing.{Scene, Typed, TypedAll, may_check}
 use Rattle.built_forms.specs.Boxes.{is_boxed, any_is_boxed, boxes_as_text, any_boxes_as_text}
@@ -45,7 +45,7 @@ use Rattle.sj_trees.specs.declared.types.IrType.{IrType}
 use Rattle.sj_trees.specs.Types.{class_type, reference_type}
 use Rattle.sj_trees.specs.declared.types.IrType.TheVariants.{Any, Undefined, Null, Boolean, Char, Byte, Short, Int, Long, String}
 use Rattle.body_rules.specs.Operators.{is_simple, Operates, of_its_types, joins, divided, a_quotient, a_remainder, a_long_quotient, a_long_remainder, DividesBy, by_int, by_long}
-use Rattle.typing_rules.specs.Rules.{left_operand, right_operand, unary_operand}
+use Rattle.typing_rules.specs.Rules.{left_operand, right_operand, unary_operand, Yields, nothing_wanted, fitting}
 use Rattle.sj_plain.specs.Conditions.{InScope, IsNoConstruction, Plain}
 use Rattle.body_rules.specs.Locals.{Scope}
 use Rattle.sj_plain.specs.Settings.{Setting, shown, SameState, Inside, Valued, valued, Lawful, Holding, holding, Sees, Receiving, no_receiver, on_receiver, usable, a_function, function_of_member, function_call}
@@ -295,17 +295,17 @@ module _ (z : Setting) (lawful : Lawful z) (scope : Scope) where
     abbrev IsValue : Term → Type 0
     IsValue t = is_no_type (type_of_term t) ≡ false
 
-    value_yielded : (e : Term) (t : IrType) → is_no_type t ≡ false → Yields z.place.classes (usable z) e t → IsValue e
-    value_yielded e t n (inl i) = impossible (sym n ∙ ap is_no_type i)
-    value_yielded e t n (inr f) = value_below z.place.classes law (type_of_term e) t f n
+    value_yielded : (e : Term) (t : IrType) → is_no_type t ≡ false → Yields z.place.classes e t → IsValue e
+    value_yielded e t n (nothing_wanted i) = impossible (sym n ∙ ap is_no_type i)
+    value_yielded e t n (fitting f) = value_below z.place.classes law (type_of_term e) t f n
 
-    yielded_stands : (e : Term) (t : IrType) → is_no_type t ≡ false → Makes (is_boxed t e) → Yields z.place.classes (usable z) e t → StandsFor z t (type_of_term e)
-    yielded_stands e t n may (inl i) = impossible (sym n ∙ ap is_no_type i)
-    yielded_stands e t n may (inr f) = stands-for z lawful t (type_of_term e) f may
+    yielded_stands : (e : Term) (t : IrType) → is_no_type t ≡ false → Makes (is_boxed t e) → Yields z.place.classes e t → StandsFor z t (type_of_term e)
+    yielded_stands e t n may (nothing_wanted i) = impossible (sym n ∙ ap is_no_type i)
+    yielded_stands e t n may (fitting f) = stands-for z lawful t (type_of_term e) f may
 
     if_tree : (p : Position) (c a b : Term) (t : IrType) → Kept (if_then p c a b t) → Makes (is_boxed t a) → Makes (is_boxed t b) → is_no_type t ≡ false → TreeAlike c → TreeAlike a → TreeAlike b → TreeAlike (if_then p c a b t)
     if_tree p c a b t h first second value hc ha hb = record {
-      alike = λ w env s sc u sees same. if_alike c a b t hc.alike ha.alike hb.alike (yielded_stands a t value first (yields_there z.place.classes (usable z) a t h.0.meets.1)) (yielded_stands b t value second (yields_there z.place.classes (usable z) b t h.0.meets.2)) hc.told w env s sc u sees same;
+      alike = λ w env s sc u sees same. if_alike c a b t hc.alike ha.alike hb.alike (yielded_stands a t value first h.0.meets.1) (yielded_stands b t value second h.0.meets.2) hc.told w env s sc u sees same;
       told = refl;
     }
 
@@ -394,7 +394,7 @@ module _ (z : Setting) (lawful : Lawful z) (scope : Scope) where
           let branches = each_made (usable z) (is_boxed t a || boxes_as_text a) (is_boxed t b || boxes_as_text b) parts.1 in
           let first = each_made (usable z) (is_boxed t a) (boxes_as_text a) branches.0 in
           let second = each_made (usable z) (is_boxed t b) (boxes_as_text b) branches.1 in
-          if_tree p c a b t h first.0 second.0 (when_not (is_no_type t) q.0) (tree_alike c h.1 parts.0 q.1 (value_apart z.place.classes (usable z) scene c h.1 (value_below z.place.classes law (type_of_term c) Boolean h.0.meets.0 refl))) (tree_alike a h.2 first.1 y.1 (value_apart z.place.classes (usable z) scene a h.2 (value_yielded a t (when_not (is_no_type t) q.0) (yields_there z.place.classes (usable z) a t h.0.meets.1)))) (tree_alike b h.3 second.1 x.1 (value_apart z.place.classes (usable z) scene b h.3 (value_yielded b t (when_not (is_no_type t) q.0) (yields_there z.place.classes (usable z) b t h.0.meets.2))))
+          if_tree p c a b t h first.0 second.0 (when_not (is_no_type t) q.0) (tree_alike c h.1 parts.0 q.1 (value_apart z.place.classes (usable z) scene c h.1 (value_below z.place.classes law (type_of_term c) Boolean h.0.meets.0 refl))) (tree_alike a h.2 first.1 y.1 (value_apart z.place.classes (usable z) scene a h.2 (value_yielded a t (when_not (is_no_type t) q.0) h.0.meets.1))) (tree_alike b h.3 second.1 x.1 (value_apart z.place.classes (usable z) scene b h.3 (value_yielded b t (when_not (is_no_type t) q.0) h.0.meets.2)))
       tree_alike (new_object p c m ts) h boxed k v = let parts = each_made (usable z) (any_is_boxed m.params ts) (any_boxes_as_text ts) boxed in new_tree p c m ts h parts.0 (trees_alike ts m.params h.1 parts.1 k (arguments_there z.place.classes (usable z) ts m.params parts.0 h.0.finds h.0.meets.1))
       tree_alike (select p e c f t) h boxed k v = select_tree p e c f t h (tree_alike e h.1 boxed k (value_apart z.place.classes (usable z) scene e h.1 (value_below z.place.classes law (type_of_term e) (class_type c) h.0.meets.0 (class_value c))))
       tree_alike (apply_statically p e c n m ts t) h boxed k v =
