@@ -311,19 +311,19 @@ module _ (U : Binding → Type 0) where
     three a b c g = let first = two a b (ahead Found (trees a ++ trees b) (trees c) g) in (first.0, (first.1, after Found (trees a ++ trees b) (trees c) g))
 
     in_check : Contains body_helpers check_name
-    in_check = here check_name (codes "$id" ∷ codes "$im" ∷ codes "$ld" ∷ codes "$lm" ∷ [])
+    in_check = here check_name (codes "$id" ∷ codes "$im" ∷ codes "$ld" ∷ codes "$lm" ∷ codes "$C" ∷ [])
 
     in_int_quotient : Contains body_helpers (codes "$id")
-    in_int_quotient = there check_name (codes "$id" ∷ codes "$im" ∷ codes "$ld" ∷ codes "$lm" ∷ []) (codes "$id") (here (codes "$id") (codes "$im" ∷ codes "$ld" ∷ codes "$lm" ∷ []))
+    in_int_quotient = there check_name (codes "$id" ∷ codes "$im" ∷ codes "$ld" ∷ codes "$lm" ∷ codes "$C" ∷ []) (codes "$id") (here (codes "$id") (codes "$im" ∷ codes "$ld" ∷ codes "$lm" ∷ codes "$C" ∷ []))
 
     in_int_remainder : Contains body_helpers (codes "$im")
-    in_int_remainder = there check_name (codes "$id" ∷ codes "$im" ∷ codes "$ld" ∷ codes "$lm" ∷ []) (codes "$im") (there (codes "$id") (codes "$im" ∷ codes "$ld" ∷ codes "$lm" ∷ []) (codes "$im") (here (codes "$im") (codes "$ld" ∷ codes "$lm" ∷ [])))
+    in_int_remainder = there check_name (codes "$id" ∷ codes "$im" ∷ codes "$ld" ∷ codes "$lm" ∷ codes "$C" ∷ []) (codes "$im") (there (codes "$id") (codes "$im" ∷ codes "$ld" ∷ codes "$lm" ∷ codes "$C" ∷ []) (codes "$im") (here (codes "$im") (codes "$ld" ∷ codes "$lm" ∷ codes "$C" ∷ [])))
 
     in_long_quotient : Contains body_helpers (codes "$ld")
-    in_long_quotient = there check_name (codes "$id" ∷ codes "$im" ∷ codes "$ld" ∷ codes "$lm" ∷ []) (codes "$ld") (there (codes "$id") (codes "$im" ∷ codes "$ld" ∷ codes "$lm" ∷ []) (codes "$ld") (there (codes "$im") (codes "$ld" ∷ codes "$lm" ∷ []) (codes "$ld") (here (codes "$ld") (codes "$lm" ∷ []))))
+    in_long_quotient = there check_name (codes "$id" ∷ codes "$im" ∷ codes "$ld" ∷ codes "$lm" ∷ codes "$C" ∷ []) (codes "$ld") (there (codes "$id") (codes "$im" ∷ codes "$ld" ∷ codes "$lm" ∷ codes "$C" ∷ []) (codes "$ld") (there (codes "$im") (codes "$ld" ∷ codes "$lm" ∷ codes "$C" ∷ []) (codes "$ld") (here (codes "$ld") (codes "$lm" ∷ codes "$C" ∷ []))))
 
     in_long_remainder : Contains body_helpers (codes "$lm")
-    in_long_remainder = there check_name (codes "$id" ∷ codes "$im" ∷ codes "$ld" ∷ codes "$lm" ∷ []) (codes "$lm") (there (codes "$id") (codes "$im" ∷ codes "$ld" ∷ codes "$lm" ∷ []) (codes "$lm") (there (codes "$im") (codes "$ld" ∷ codes "$lm" ∷ []) (codes "$lm") (there (codes "$ld") (codes "$lm" ∷ []) (codes "$lm") (here (codes "$lm") []))))
+    in_long_remainder = there check_name (codes "$id" ∷ codes "$im" ∷ codes "$ld" ∷ codes "$lm" ∷ codes "$C" ∷ []) (codes "$lm") (there (codes "$id") (codes "$im" ∷ codes "$ld" ∷ codes "$lm" ∷ codes "$C" ∷ []) (codes "$lm") (there (codes "$im") (codes "$ld" ∷ codes "$lm" ∷ codes "$C" ∷ []) (codes "$lm") (there (codes "$ld") (codes "$lm" ∷ codes "$C" ∷ []) (codes "$lm") (here (codes "$lm") (codes "$C" ∷ [])))))
 
     -- the check of null is used unless the receiver is sure
     abbrev IsChecked : Term → Type 0
