@@ -1,9 +1,8 @@
 -- What the rules of trees give where a char stands in place of another type only if an object can hold it.
-use Rattle.std.proofs.Common.{◌≡◌, ℕ, Bool, true, false, List, [], ◌∷◌, codes, Option, Some, None, refl, sym, ◌∙◌, subst, inl, inr, ⊎_elim, if◌then◌else◌}
-use Rattle.std.specs.Prelude.{◌⊎◌, ◌≢◌, ◌&&◌, ◌||◌, ℤ, pos, not, nat_eq}
+use Rattle.std.proofs.Common.{◌≡◌, ℕ, Bool, true, false, List, [], ◌∷◌, codes, Option, Some, None, refl, sym, ◌∙◌, subst, inl, inr, if◌then◌else◌}
+use Rattle.std.specs.Prelude.{◌⊎◌, ◌≢◌, ◌||◌, ℤ, pos, not, nat_eq}
 use Rattle.std.specs.Cmp.Lexicographic.{pointwise}
 use Rattle.std.specs.Ordering.{int_eq}
-use Rattle.std.proofs.lemmas.Bool.{and_parts}
 use Rattle.built_forms.specs.Boxes.{is_boxed, any_is_boxed}
 use Rattle.built_forms.specs.Built.{Usable, can_box, may_make, is_nonzero_int, is_nonzero_long, divides, is_operation, members_alone}
 use Rattle.sj_desugar.specs.Desugar.{has_no_value}
@@ -11,7 +10,7 @@ use Rattle.sj_names.proofs.Same.{impossible}
 use Rattle.sj_names.specs.declared.method_names.Member.{Member}
 use Rattle.sj_names.specs.declared.references.TypeRef.{TypeRef}
 use Rattle.body_rules.specs.Operators.{is_simple, IsDivision, a_quotient, a_remainder, IsLongDivision, a_long_quotient, a_long_remainder, DividesBy, by_int, by_long}
-use Rattle.typing_rules.specs.Rules.{left_operand, right_operand, call_type, IsText, OperandsFit, ReturnsTo}
+use Rattle.typing_rules.specs.Rules.{left_operand, right_operand, call_type, IsText, OperandsFit}
 use Rattle.body_rules.specs.Standing.{MayStand}
 use Rattle.body_rules.specs.Typing.{Scene, IsResult, AllHaveValues, Typed}
 use Rattle.body_rules.specs.Locals.{HasValue}
@@ -21,11 +20,8 @@ use Rattle.sj_trees.specs.Types.{class_type, reference_type}
 use Rattle.sj_trees.specs.declared.operators.BinaryOp.{BinaryOp}
 use Rattle.sj_trees.specs.declared.operators.BinaryOp.TheVariants.{StrictEqual, StrictNotEqual, StringConcatenate, IntDivide, IntRemainder, LongDivide, LongRemainder}
 use Rattle.sj_trees.specs.declared.types.IrType.{IrType}
-use Rattle.sj_trees.specs.declared.types.IrType.TheVariants.{NoType}
 use Rattle.sj_world.specs.Known.{Classes}
 use Rattle.sj_world.specs.Subtypes.{IsSub}
-use Rattle.typing_rules.specs.declared.labels.Label.{Label}
-use Rattle.typing_rules.specs.Labels.{type_of_label}
 use Rattle.typing_rules.specs.Rules as rules
 
 -- the operands of an operator: of its own types, texts that are joined, or those of a division whose helper can be used

@@ -1,5 +1,5 @@
 -- Code that makes an object for a char uses the class of such objects.
-use Rattle.std.proofs.Common.{◌≡◌, ℕ, Bool, true, false, List, [], ◌∷◌, ◌++◌, ◌||◌, ◌⊎◌, inl, inr, Some, None, refl, sym, ◌∙◌, subst, length, arith, codes, Contains}
+use Rattle.std.proofs.Common.{◌≡◌, ℕ, Bool, true, false, List, [], ◌∷◌, ◌++◌, ◌||◌, inl, inr, Some, None, refl, sym, subst, length, arith, codes, Contains}
 use Rattle.std.specs.Prelude.{if◌then◌else◌, not, ◌&&◌, pos}
 use Rattle.std.specs.List.{All}
 use Rattle.std.proofs.lemmas.Bool.{and_parts}
@@ -12,16 +12,16 @@ use Rattle.sj_core.specs.Terms as core
 use Rattle.sj_core.specs.Terms.{Expression, boxed_char, checked_value, followed}
 use Rattle.sj_core.specs.Views.{expressions_of}
 use Rattle.sj_desugar.specs.Coercions.{is_char, coerced, coerced_arguments, coerced_receiver}
-use Rattle.sj_desugar.specs.Desugar.{operand, receiver, received, received_text, into, block, operands, cases, finish, has_no_value, target_of, Targets, expression_of, all_expressions, wrapped, break_unless, first_of, second_of, rest_of, member, types_of}
+use Rattle.sj_desugar.specs.Desugar.{operand, receiver, received, received_text, into, block, operands, cases, finish, target_of, Targets, expression_of, all_expressions, wrapped, break_unless, first_of, second_of, rest_of, member, types_of}
 use Rattle.sj_desugar.specs.Plain.{is_no_type, is_plain, are_plain}
 use Rattle.sj_desugar.specs.Spill.{Destination, discard, to_variable, to_result, Code, one, put_first, Operand, Spilled, spill, then_use}
 use Rattle.sj_desugar.specs.Texts.{operand_of}
 use Rattle.sj_emit_expr.specs.Templates.{check_name, is_nonzero_literal}
-use Rattle.sj_emit_expr.specs.Uses.{object_binding, function_binding, class_use, static_use, setter_use, helper_of, uses_in, uses_in_all, uses_of, uses_of_all, uses_of_cases}
+use Rattle.sj_emit_expr.specs.Uses.{object_binding, function_binding, class_use, setter_use, helper_of, uses_in, uses_in_all, uses_of, uses_of_all, uses_of_cases}
 use Rattle.sj_names.proofs.Same.{impossible}
 use Rattle.sj_names.specs.declared.method_names.Namespace.TheVariants.{Constructor}
 use Rattle.sj_names.specs.declared.references.TypeRef.{TypeRef}
-use Rattle.sj_trees.specs.Term.{Term, Terms, no_terms, more_terms, Cases, no_cases, more_cases, var_def, skip, block_of, labeled, assign, return_to, if_then, while_loop, do_while, match_on, throw, new_object, select, select_static, apply_statically, apply_static, unary_op, binary_op, char_literal, var_ref, this_ref, log_line}
+use Rattle.sj_trees.specs.Term.{Term, Terms, no_terms, more_terms, Cases, no_cases, more_cases, var_def, block_of, labeled, assign, return_to, if_then, while_loop, do_while, match_on, throw, new_object, select, select_static, apply_statically, apply_static, unary_op, binary_op, char_literal, var_ref, this_ref, log_line}
 use Rattle.sj_trees.specs.TypeOf.{type_of_term, unary_result, binary_result}
 use Rattle.sj_trees.specs.Types.{class_type, reference_type}
 use Rattle.sj_trees.specs.declared.positions.Position.{Position}

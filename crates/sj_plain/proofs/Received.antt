@@ -1,6 +1,6 @@
 -- What the rules give: which trees have a value, and what holds of a call on a receiver.
 use Rattle.std.proofs.Common.{◌≡◌, ℕ, Bool, true, false, ◌&&◌, ◌⊎◌, inl, inr, List, refl, sym, ap, ◌∙◌, subst}
-use Rattle.std.specs.Prelude.{not, ◌||◌}
+use Rattle.std.specs.Prelude.{◌||◌}
 use Rattle.std.proofs.lemmas.Bool.{and_parts}
 use Rattle.body_rules.proofs.RulesGive.{class_has_value, ArgumentsFit, arguments_there, each_made}
 use Rattle.body_rules.specs.Standing.{MayStand}
