@@ -1,5 +1,5 @@
 -- What the bodies call that are needed is among them.
-use Rattle.std.proofs.Common.{◌≡◌, Bool, true, false, List, [], ◌∷◌, ◌++◌, ◌&&◌, ◌||◌, Option, Some, refl, sym, subst, Contains, if◌then◌else◌}
+use Rattle.std.proofs.Common.{◌≡◌, Bool, true, false, List, [], ◌∷◌, ◌++◌, ◌&&◌, Option, Some, refl, sym, subst, Contains, if◌then◌else◌}
 use Rattle.std.specs.Prelude.{ℕ, not}
 use Rattle.std.specs.List.{All}
 use Rattle.std.proofs.lemmas.Bool.{and_parts, and_from}
@@ -18,12 +18,9 @@ use Rattle.sj_names.specs.declared.entry_points.EntryPoint.{EntryPoint}
 use Rattle.sj_names.specs.declared.method_names.Member.{Member}
 use Rattle.built_forms.specs.Built.{Usable}
 use Rattle.sj_sound.specs.Linked.{has_function, have_functions, functions_of}
-use Rattle.typing_rules.specs.declared.labels.Label.{Label}
-use Rattle.typing_rules.specs.Labels.{type_of_label}
-use Rattle.typing_rules.specs.Nodes.{inside as inside_label}
 use Rattle.sj_trees.specs.Term.{Term, Terms, no_terms, more_terms, Cases, no_cases, more_cases, var_def, skip, block_of, labeled, assign, return_to, if_then, while_loop, do_while, match_on, apply_statically, apply_static, unary_op, binary_op, undefined_literal, null_literal, boolean_literal, char_literal, byte_literal, short_literal, int_literal, long_literal, string_literal, var_ref, log_line}
 use Rattle.sj_trees.specs.declared.types.IrType.{IrType}
-use Rattle.built_forms.specs.Built.{can_box, may_box, may_yield, may_leave, may_pass, is_boxed, yields_boxed, leaves_boxed, any_is_boxed, is_operation, is_built, are_built, are_built_cases, anything, is_built_body}
+use Rattle.built_forms.specs.Built.{is_operation, is_built, are_built, are_built_cases, anything, body_boxes, is_built_body}
 use Rattle.body_rules.proofs.RulesGive.{operation_kept}
 use Rattle.body_rules.specs.Typing.{may_check, is_built_with}
 use Rattle.sure_receivers.specs.Sure.{sure_locals}
@@ -65,82 +62,64 @@ module _ (has : Usable) (checked : Term → Bool) where
   two a b h = (front (trees a) (trees b) h, back (trees a) (trees b) h)
 
   -- no member runs on an object
-  no_call : {A : Type 0} (p : Position) (e : Term) (c : List ℕ) (n : Namespace) (m : MethodName) (ts : Terms) (t : IrType) (ls : List Label) → is_built anything (λ e. true) ls (apply_statically p e c n m ts t) ≡ true → A
-  no_call p e c Public m ts t ls k = impossible k
-  no_call p e c Private m ts t ls k = impossible k
-  no_call p e c Constructor m ts t ls k = impossible k
-  no_call p e c n m ts t ls k = impossible k
-
-  -- what isn't boxed stands, whatever can be boxed
-  boxes : (b : Bool) → b ≡ true → (can_box has || b) ≡ true
-  boxes b h = go (can_box has)
-    where
-      go : (a : Bool) → (a || b) ≡ true
-      go true = refl
-      go false = h
-
-  two_boxes : (a b : Bool) → (a && b) ≡ true → ((can_box has || a) && (can_box has || b)) ≡ true
-  two_boxes a b h = let q = and_parts a b h in and_from (can_box has || a) (can_box has || b) (boxes a q.0) (boxes b q.1)
+  no_call : {A : Type 0} (p : Position) (e : Term) (c : List ℕ) (n : Namespace) (m : MethodName) (ts : Terms) (t : IrType) → is_built anything (λ e. true) (apply_statically p e c n m ts t) ≡ true → A
+  no_call p e c Public m ts t k = impossible k
+  no_call p e c Private m ts t k = impossible k
+  no_call p e c Constructor m ts t k = impossible k
+  no_call p e c n m ts t k = impossible k
 
   mutual
-    built : (t : Term) (ls : List Label) → is_built anything (λ e. true) ls t ≡ true → Each (trees t) → is_built has checked ls t ≡ true
-    built (var_def p x t b e) ls k h = let q = and_parts (not (is_boxed t e)) (is_built anything (λ e. true) ls e) k in and_from (may_box has t e) (is_built has checked ls e) (boxes (not (is_boxed t e)) q.0) (built e ls q.1 (inner (var_def p x t b e) h))
-    built (skip p) ls k h = refl
-    built (block_of p ts) ls k h = all_built ts ls k (inner (block_of p ts) h)
-    built (labeled p l t e) ls k h = let q = and_parts (not (yields_boxed t e)) (is_built anything (λ e. true) (inside_label l t ls) e) k in and_from (may_yield has t e) (is_built has checked (inside_label l t ls) e) (boxes (not (yields_boxed t e)) q.0) (built e (inside_label l t ls) q.1 (inner (labeled p l t e) h))
-    built (assign p (var_ref q x t) e) ls k h = let r = and_parts (not (is_boxed t e)) (is_built anything (λ e. true) ls e) k in and_from (may_box has t e) (is_built has checked ls e) (boxes (not (is_boxed t e)) r.0) (built e ls r.1 (two (var_ref q x t) e (inner (assign p (var_ref q x t) e) h)).1)
-    built (return_to p e l) ls k h = let q = and_parts (not (leaves_boxed (type_of_label ls l) e)) (is_built anything (λ e. true) ls e) k in and_from (may_leave has (type_of_label ls l) e) (is_built has checked ls e) (boxes (not (leaves_boxed (type_of_label ls l) e)) q.0) (built e ls q.1 (inner (return_to p e l) h))
-    built (if_then p c a b t) ls k h =
-        let q = and_parts (not (yields_boxed t a) && not (yields_boxed t b)) (is_built anything (λ e. true) ls c && (is_built anything (λ e. true) ls a && is_built anything (λ e. true) ls b)) k in
-        let r = and_parts (is_built anything (λ e. true) ls c) (is_built anything (λ e. true) ls a && is_built anything (λ e. true) ls b) q.1 in
-        let s = and_parts (is_built anything (λ e. true) ls a) (is_built anything (λ e. true) ls b) r.1 in
+    built : (t : Term) → is_built anything (λ e. true) t ≡ true → Each (trees t) → is_built has checked t ≡ true
+    built (var_def p x t b e) k h = built e k (inner (var_def p x t b e) h)
+    built (skip p) k h = refl
+    built (block_of p ts) k h = all_built ts k (inner (block_of p ts) h)
+    built (labeled p l t e) k h = built e k (inner (labeled p l t e) h)
+    built (assign p (var_ref q x t) e) k h = built e k (two (var_ref q x t) e (inner (assign p (var_ref q x t) e) h)).1
+    built (return_to p e l) k h = built e k (inner (return_to p e l) h)
+    built (if_then p c a b t) k h =
+        let r = and_parts (is_built anything (λ e. true) c) (is_built anything (λ e. true) a && is_built anything (λ e. true) b) k in
+        let s = and_parts (is_built anything (λ e. true) a) (is_built anything (λ e. true) b) r.1 in
         let inside : Each (trees c ++ trees a ++ trees b) = inner (if_then p c a b t) h in
         let head = two c a (front (trees c ++ trees a) (trees b) inside) in
         let last = back (trees c ++ trees a) (trees b) inside in
-        and_from (may_yield has t a && may_yield has t b) (is_built has checked ls c && (is_built has checked ls a && is_built has checked ls b)) (two_boxes (not (yields_boxed t a)) (not (yields_boxed t b)) q.0) (and_from (is_built has checked ls c) (is_built has checked ls a && is_built has checked ls b) (built c ls r.0 head.0) (and_from (is_built has checked ls a) (is_built has checked ls b) (built a ls s.0 head.1) (built b ls s.1 last)))
-    built (while_loop p c b) ls k h = let q = and_parts (is_built anything (λ e. true) ls c) (is_built anything (λ e. true) ls b) k in let parts = two c b (inner (while_loop p c b) h) in and_from (is_built has checked ls c) (is_built has checked ls b) (built c ls q.0 parts.0) (built b ls q.1 parts.1)
-    built (do_while p b c) ls k h = let q = and_parts (is_built anything (λ e. true) ls b) (is_built anything (λ e. true) ls c) k in let parts = two b c (inner (do_while p b c) h) in and_from (is_built has checked ls b) (is_built has checked ls c) (built b ls q.0 parts.0) (built c ls q.1 parts.1)
-    built (match_on p e cs d t) ls k h =
-        let q = and_parts (not (yields_boxed t d)) (is_built anything (λ e. true) ls e && (are_built_cases anything (λ e. true) ls t cs && is_built anything (λ e. true) ls d)) k in
-        let r = and_parts (is_built anything (λ e. true) ls e) (are_built_cases anything (λ e. true) ls t cs && is_built anything (λ e. true) ls d) q.1 in
-        let s = and_parts (are_built_cases anything (λ e. true) ls t cs) (is_built anything (λ e. true) ls d) r.1 in
+        and_from (is_built has checked c) (is_built has checked a && is_built has checked b) (built c r.0 head.0) (and_from (is_built has checked a) (is_built has checked b) (built a s.0 head.1) (built b s.1 last))
+    built (while_loop p c b) k h = let q = and_parts (is_built anything (λ e. true) c) (is_built anything (λ e. true) b) k in let parts = two c b (inner (while_loop p c b) h) in and_from (is_built has checked c) (is_built has checked b) (built c q.0 parts.0) (built b q.1 parts.1)
+    built (do_while p b c) k h = let q = and_parts (is_built anything (λ e. true) b) (is_built anything (λ e. true) c) k in let parts = two b c (inner (do_while p b c) h) in and_from (is_built has checked b) (is_built has checked c) (built b q.0 parts.0) (built c q.1 parts.1)
+    built (match_on p e cs d t) k h =
+        let r = and_parts (is_built anything (λ e. true) e) (are_built_cases anything (λ e. true) cs && is_built anything (λ e. true) d) k in
+        let s = and_parts (are_built_cases anything (λ e. true) cs) (is_built anything (λ e. true) d) r.1 in
         let inside : Each (trees e ++ cases_below cs ++ trees d) = inner (match_on p e cs d t) h in
         let head : Each (trees e ++ cases_below cs) = front (trees e ++ cases_below cs) (trees d) inside in
-        and_from (may_yield has t d) (is_built has checked ls e && (are_built_cases has checked ls t cs && is_built has checked ls d)) (boxes (not (yields_boxed t d)) q.0) (and_from (is_built has checked ls e) (are_built_cases has checked ls t cs && is_built has checked ls d) (built e ls r.0 (front (trees e) (cases_below cs) head)) (and_from (are_built_cases has checked ls t cs) (is_built has checked ls d) (cases_built cs ls t s.0 (back (trees e) (cases_below cs) head)) (built d ls s.1 (back (trees e ++ cases_below cs) (trees d) inside))))
-    built (apply_static p c n m ts t) ls k h =
-        let q = and_parts (not (any_is_boxed m.params ts)) (are_built anything (λ e. true) ls ts) k in
-        and_from (has.linked (member c n m)) (may_pass has m.params ts && are_built has checked ls ts) (All-head Calls (apply_static p c n m ts t) (all_below ts) h) (and_from (may_pass has m.params ts) (are_built has checked ls ts) (boxes (not (any_is_boxed m.params ts)) q.0) (all_built ts ls q.1 (inner (apply_static p c n m ts t) h)))
-    built (unary_op p o e) ls k h = built e ls k (inner (unary_op p o e) h)
-    built (binary_op p o e d) ls k h =
-        let q = and_parts (is_operation anything o d) (is_built anything (λ e. true) ls e && is_built anything (λ e. true) ls d) k in
-        let r = and_parts (is_built anything (λ e. true) ls e) (is_built anything (λ e. true) ls d) q.1 in
+        and_from (is_built has checked e) (are_built_cases has checked cs && is_built has checked d) (built e r.0 (front (trees e) (cases_below cs) head)) (and_from (are_built_cases has checked cs) (is_built has checked d) (cases_built cs s.0 (back (trees e) (cases_below cs) head)) (built d s.1 (back (trees e ++ cases_below cs) (trees d) inside)))
+    built (apply_static p c n m ts t) k h = and_from (has.linked (member c n m)) (are_built has checked ts) (All-head Calls (apply_static p c n m ts t) (all_below ts) h) (all_built ts k (inner (apply_static p c n m ts t) h))
+    built (unary_op p o e) k h = built e k (inner (unary_op p o e) h)
+    built (binary_op p o e d) k h =
+        let q = and_parts (is_operation anything o d) (is_built anything (λ e. true) e && is_built anything (λ e. true) d) k in
+        let r = and_parts (is_built anything (λ e. true) e) (is_built anything (λ e. true) d) q.1 in
         let parts = two e d (inner (binary_op p o e d) h) in
-        and_from (is_operation has o d) (is_built has checked ls e && is_built has checked ls d) (operation_kept (λ m. true) has o d q.0) (and_from (is_built has checked ls e) (is_built has checked ls d) (built e ls r.0 parts.0) (built d ls r.1 parts.1))
-    built (undefined_literal p) ls k h = refl
-    built (null_literal p) ls k h = refl
-    built (boolean_literal p b) ls k h = refl
-    built (char_literal p z) ls k h = refl
-    built (byte_literal p z) ls k h = refl
-    built (short_literal p z) ls k h = refl
-    built (int_literal p z) ls k h = refl
-    built (long_literal p z) ls k h = refl
-    built (string_literal p us) ls k h = refl
-    built (var_ref p x t) ls k h = refl
-    built (log_line p e) ls k h = built e ls k (inner (log_line p e) h)
-    built (apply_statically p e c n m ts t) ls k h = no_call p e c n m ts t ls k
-    built t ls k h = impossible k
+        and_from (is_operation has o d) (is_built has checked e && is_built has checked d) (operation_kept (λ m. true) has o d q.0) (and_from (is_built has checked e) (is_built has checked d) (built e r.0 parts.0) (built d r.1 parts.1))
+    built (undefined_literal p) k h = refl
+    built (null_literal p) k h = refl
+    built (boolean_literal p b) k h = refl
+    built (char_literal p z) k h = refl
+    built (byte_literal p z) k h = refl
+    built (short_literal p z) k h = refl
+    built (int_literal p z) k h = refl
+    built (long_literal p z) k h = refl
+    built (string_literal p us) k h = refl
+    built (var_ref p x t) k h = refl
+    built (log_line p e) k h = built e k (inner (log_line p e) h)
+    built (apply_statically p e c n m ts t) k h = no_call p e c n m ts t k
+    built t k h = impossible k
 
-    all_built : (ts : Terms) (ls : List Label) → are_built anything (λ e. true) ls ts ≡ true → Each (all_below ts) → are_built has checked ls ts ≡ true
-    all_built no_terms ls k h = refl
-    all_built (more_terms t ts) ls k h = let q = and_parts (is_built anything (λ e. true) ls t) (are_built anything (λ e. true) ls ts) k in and_from (is_built has checked ls t) (are_built has checked ls ts) (built t ls q.0 (front (trees t) (all_below ts) h)) (all_built ts ls q.1 (back (trees t) (all_below ts) h))
+    all_built : (ts : Terms) → are_built anything (λ e. true) ts ≡ true → Each (all_below ts) → are_built has checked ts ≡ true
+    all_built no_terms k h = refl
+    all_built (more_terms t ts) k h = let q = and_parts (is_built anything (λ e. true) t) (are_built anything (λ e. true) ts) k in and_from (is_built has checked t) (are_built has checked ts) (built t q.0 (front (trees t) (all_below ts) h)) (all_built ts q.1 (back (trees t) (all_below ts) h))
 
-    cases_built : (cs : Cases) (ls : List Label) (t : IrType) → are_built_cases anything (λ e. true) ls t cs ≡ true → Each (cases_below cs) → are_built_cases has checked ls t cs ≡ true
-    cases_built no_cases ls t k h = refl
-    cases_built (more_cases [] e cs) ls t k h = cases_built cs ls t k (back (trees e) (cases_below cs) h)
-    cases_built (more_cases (key ∷ keys) e cs) ls t k h =
-        let q = and_parts (not (yields_boxed t e)) (is_built anything (λ e. true) ls e && are_built_cases anything (λ e. true) ls t cs) k in
-        let r = and_parts (is_built anything (λ e. true) ls e) (are_built_cases anything (λ e. true) ls t cs) q.1 in
-        and_from (may_yield has t e) (is_built has checked ls e && are_built_cases has checked ls t cs) (boxes (not (yields_boxed t e)) q.0) (and_from (is_built has checked ls e) (are_built_cases has checked ls t cs) (built e ls r.0 (front (trees e) (cases_below cs) h)) (cases_built cs ls t r.1 (back (trees e) (cases_below cs) h)))
+    cases_built : (cs : Cases) → are_built_cases anything (λ e. true) cs ≡ true → Each (cases_below cs) → are_built_cases has checked cs ≡ true
+    cases_built no_cases k h = refl
+    cases_built (more_cases [] e cs) k h = cases_built cs k (back (trees e) (cases_below cs) h)
+    cases_built (more_cases (key ∷ keys) e cs) k h = let r = and_parts (is_built anything (λ e. true) e) (are_built_cases anything (λ e. true) cs) k in and_from (is_built has checked e) (are_built_cases has checked cs) (built e r.0 (front (trees e) (cases_below cs) h)) (cases_built cs r.1 (back (trees e) (cases_below cs) h))
 
 all-from : {X : Type 0} (P : X → Type 0) (xs : List X) → ((x : X) → Contains xs x → P x) → All P xs
 all-from P [] h = All-nil P
@@ -166,7 +145,7 @@ module _ (w : Classes) (entries : List EntryPoint) (fs : List EmittedMethod) (bo
     each x among = tt
 
     among_bodies : is_built_body e.definition e.its_body ≡ true → is_built_with (functions_of fs) e.definition e.its_body ≡ true
-    among_bodies k = let q = and_parts (not (yields_boxed e.definition.result e.its_body)) (is_built anything (λ e. true) [] e.its_body) k in and_from (not (yields_boxed e.definition.result e.its_body)) (is_built (functions_of fs) checks [] e.its_body) q.0 (built (functions_of fs) checks e.its_body [] q.1 (all-from (Calls (functions_of fs) checks) (trees e.its_body) each))
+    among_bodies k = let q = and_parts (not (body_boxes e.definition e.its_body)) (is_built anything (λ e. true) e.its_body) k in and_from (not (body_boxes e.definition e.its_body)) (is_built (functions_of fs) checks e.its_body) q.0 (built (functions_of fs) checks e.its_body q.1 (all-from (Calls (functions_of fs) checks) (trees e.its_body) each))
 
   pub entry : (e : EntryPoint) → Contains entries e → has_function fs (initializer_member e) ≡ true
   entry e i = has-body (entry_member e) (closed w entries (Body (entry_member e)) (asked_body (entry_member e) (of_entry e i)))

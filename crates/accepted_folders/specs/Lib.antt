@@ -7,6 +7,7 @@ pub use Rattle.reach_rules.specs.Reachable
 pub use Rattle.sj_proper.specs.Emitted
 pub use Rattle.body_rules.specs.Typing
 pub use Rattle.built_forms.specs.Built
+pub use Rattle.built_forms.specs.Boxes
 pub use Rattle.typing_rules.specs.declared.labels.Label
 pub use Rattle.reach_rules.specs.Rules
 pub use Rattle.sj_sound.specs.Linked

@@ -54,13 +54,6 @@ right-operand-value _ = refl
 pub not_no_type : (t : IrType) → IsText t → t ≡ NoType → ⊥
 not_no_type t h e = subst IsText e h
 
--- what may stand on one way and on the next may on both
-pub box-further : (q a b c : Bool) → (q || not (a && not b)) ≡ true → (q || not (b && not c)) ≡ true → (q || not (a && not c)) ≡ true
-box-further true a b c h k = refl
-box-further false false b c h k = refl
-box-further false true false c h k = impossible h
-box-further false true true c h k = k
-
 -- each type may stand at itself
 pub stands-same : (q a : Bool) → (q || not (a && not a)) ≡ true
 stands-same true a = refl

@@ -1,16 +1,16 @@
 -- What the rules of trees give where a char stands in place of another type only if an object can hold it.
-use Rattle.std.proofs.Common.{◌≡◌, ℕ, Bool, true, false, List, [], ◌∷◌, codes, Option, Some, None, refl, sym, ◌∙◌, subst, inl, inr, ⊎_elim, if◌then◌else◌}
-use Rattle.std.specs.Prelude.{◌⊎◌, ◌≢◌, ◌&&◌, ◌||◌, ℤ, pos, not, nat_eq}
+use Rattle.std.proofs.Common.{◌≡◌, ℕ, Bool, true, false, List, [], ◌∷◌, codes, Option, Some, None, refl, sym, ◌∙◌, subst, inl, inr, if◌then◌else◌}
+use Rattle.std.specs.Prelude.{◌⊎◌, ◌≢◌, ◌||◌, ℤ, pos, not, nat_eq}
 use Rattle.std.specs.Cmp.Lexicographic.{pointwise}
 use Rattle.std.specs.Ordering.{int_eq}
-use Rattle.std.proofs.lemmas.Bool.{and_parts}
-use Rattle.built_forms.specs.Built.{Usable, can_box, may_box, may_yield, may_leave, may_pass, is_boxed, any_is_boxed, is_nonzero_int, is_nonzero_long, divides, is_operation, members_alone}
+use Rattle.built_forms.specs.Boxes.{is_boxed, any_is_boxed}
+use Rattle.built_forms.specs.Built.{Usable, can_box, may_make, is_nonzero_int, is_nonzero_long, divides, is_operation, members_alone}
 use Rattle.sj_desugar.specs.Desugar.{has_no_value}
 use Rattle.sj_names.proofs.Same.{impossible}
 use Rattle.sj_names.specs.declared.method_names.Member.{Member}
 use Rattle.sj_names.specs.declared.references.TypeRef.{TypeRef}
 use Rattle.body_rules.specs.Operators.{is_simple, IsDivision, a_quotient, a_remainder, IsLongDivision, a_long_quotient, a_long_remainder, DividesBy, by_int, by_long}
-use Rattle.typing_rules.specs.Rules.{left_operand, right_operand, call_type, IsText, OperandsFit, ReturnsTo}
+use Rattle.typing_rules.specs.Rules.{left_operand, right_operand, call_type, IsText, OperandsFit}
 use Rattle.body_rules.specs.Standing.{MayStand}
 use Rattle.body_rules.specs.Typing.{Scene, IsResult, AllHaveValues, Typed}
 use Rattle.body_rules.specs.Locals.{HasValue}
@@ -20,11 +20,8 @@ use Rattle.sj_trees.specs.Types.{class_type, reference_type}
 use Rattle.sj_trees.specs.declared.operators.BinaryOp.{BinaryOp}
 use Rattle.sj_trees.specs.declared.operators.BinaryOp.TheVariants.{StrictEqual, StrictNotEqual, StringConcatenate, IntDivide, IntRemainder, LongDivide, LongRemainder}
 use Rattle.sj_trees.specs.declared.types.IrType.{IrType}
-use Rattle.sj_trees.specs.declared.types.IrType.TheVariants.{NoType}
 use Rattle.sj_world.specs.Known.{Classes}
 use Rattle.sj_world.specs.Subtypes.{IsSub}
-use Rattle.typing_rules.specs.declared.labels.Label.{Label}
-use Rattle.typing_rules.specs.Labels.{type_of_label}
 use Rattle.typing_rules.specs.Rules as rules
 
 -- the operands of an operator: of its own types, texts that are joined, or those of a division whose helper can be used
@@ -67,15 +64,13 @@ result_value (Some (TypeRef.Array r)) = inr refl
 pub result_is : (o : Option TypeRef) (t : IrType) → t ≡ call_type o → IsResult t
 result_is o t is = subst IsResult (sym is) (result_value o)
 
--- there is no value to yield, or it may stand where its type is expected
-yielded_stands : (has : Usable) (t : IrType) (e : Term) → may_yield has t e ≡ true → (t ≡ NoType) ⊎ MayStand has t (type_of_term e)
-yielded_stands has NoType e h = inl refl
-yielded_stands has t e h = inr h
-
--- the first argument and the others
-first_passes : (b x y : Bool) → (b || not (x || y)) ≡ true → ((b || not x) ≡ true) × ((b || not y) ≡ true)
-first_passes true x y h = (refl, refl)
-first_passes false x y h = neither x y h
+-- where objects can be made or neither part makes one, neither does
+pub each_made : (has : Usable) (x y : Bool) → may_make has (x || y) ≡ true → (may_make has x ≡ true) × (may_make has y ≡ true)
+each_made has x y h = go (can_box has) h
+  where
+    go : (b : Bool) → (b || not (x || y)) ≡ true → ((b || not x) ≡ true) × ((b || not y) ≡ true)
+    go true k = (refl, refl)
+    go false k = neither x y k
 
 -- where no helper can be used, no division has one
 pub no_division : {A : Type 0} (has : Usable) → ((x : List ℕ) → has.helper x ≡ false) → (o : BinaryOp) → divides has o ≡ true → A
@@ -104,45 +99,20 @@ module _ (w : Classes) (has : Usable) where
   abbrev pub FitsType : Term → IrType → Type 0
   FitsType e t = IsSub w (type_of_term e) t × MayStand has t (type_of_term e)
 
-  -- there is no value to yield, or the tree's fits
-  abbrev pub Yields : Term → IrType → Type 0
-  Yields e t = (t ≡ NoType) ⊎ FitsType e t
-
   -- arguments are as many as the parameters, of which each has a value, and fit their types
   abbrev pub ArgumentsFit : Terms → List TypeRef → Type 0
   ArgumentsFit no_terms [] = Unit {0}
   ArgumentsFit (more_terms e es) (r ∷ rs) = FitsType e (reference_type r) × HasValue (reference_type r) × ArgumentsFit es rs
   ArgumentsFit _ _ = ⊥
 
-  pub fits_there : (e : Term) (t : IrType) → may_box has t e ≡ true → IsSub w (type_of_term e) t → FitsType e t
+  pub fits_there : (e : Term) (t : IrType) → may_make has (is_boxed t e) ≡ true → IsSub w (type_of_term e) t → FitsType e t
   fits_there e t may fits = (fits, may)
 
-  pub yields_there : (e : Term) (t : IrType) → may_yield has t e ≡ true → rules.Yields w e t → Yields e t
-  yields_there e t may (rules.nothing_wanted none) = inl none
-  yields_there e t may (rules.fitting fits) = ⊎_elim (λ none. inl none) (λ own. inr (fits, own)) (yielded_stands has t e may)
-
-  -- both branches of a choice
-  pub one_yields : (a b : Term) (t : IrType) → (may_yield has t a && may_yield has t b) ≡ true → rules.Yields w a t → Yields a t
-  one_yields a b t may yields = yields_there a t (and_parts (may_yield has t a) (may_yield has t b) may).0 yields
-
-  pub other_yields : (a b : Term) (t : IrType) → (may_yield has t a && may_yield has t b) ≡ true → rules.Yields w b t → Yields b t
-  other_yields a b t may yields = yields_there b t (and_parts (may_yield has t a) (may_yield has t b) may).1 yields
-
-  pub leaves_there : (ls : List Label) (l : List ℕ) (e : Term) → may_leave has (type_of_label ls l) e ≡ true → (r : ReturnsTo w ls l e) → Yields e r.tpe
-  leaves_there ls l e may r = yields_there e r.tpe (subst (λ (o : Option IrType). may_leave has o e ≡ true) r.is_type may) r.yields
-
-  arguments_are : (es : Terms) (rs : List TypeRef) → may_pass has rs es ≡ true → AllHaveValues rs → rules.ArgumentsFit w es rs → ArgumentsFit es rs
-  arguments_are no_terms [] may values fits = tt
-  arguments_are no_terms (r ∷ rs) may values fits = absurd fits
-  arguments_are (more_terms e es) [] may values fits = absurd fits
-  arguments_are (more_terms e es) (r ∷ rs) may values fits = let own = first_passes (can_box has) (is_boxed (reference_type r) e) (any_is_boxed rs es) may in (fits_there e (reference_type r) own.0 fits.0, values.0, arguments_are es rs own.1 values.1 fits.1)
-
-  -- those of a call that is linked
-  pub arguments_there : (linked : Bool) (es : Terms) (rs : List TypeRef) → (linked && may_pass has rs es) ≡ true → AllHaveValues rs → rules.ArgumentsFit w es rs → ArgumentsFit es rs
-  arguments_there linked es rs may values fits = arguments_are es rs (and_parts linked (may_pass has rs es) may).1 values fits
-
-  pub is_linked : (linked : Bool) (es : Terms) (rs : List TypeRef) → (linked && may_pass has rs es) ≡ true → linked ≡ true
-  is_linked linked es rs may = (and_parts linked (may_pass has rs es) may).0
+  pub arguments_there : (es : Terms) (rs : List TypeRef) → may_make has (any_is_boxed rs es) ≡ true → AllHaveValues rs → rules.ArgumentsFit w es rs → ArgumentsFit es rs
+  arguments_there no_terms [] may values fits = tt
+  arguments_there no_terms (r ∷ rs) may values fits = absurd fits
+  arguments_there (more_terms e es) [] may values fits = absurd fits
+  arguments_there (more_terms e es) (r ∷ rs) may values fits = let own = each_made has (is_boxed (reference_type r) e) (any_is_boxed rs es) may in (fits_there e (reference_type r) own.0 fits.0, values.0, arguments_there es rs own.1 values.1 fits.1)
 
   module _ (s : Scene) where
     int_divisor : (o : BinaryOp) (d : Term) → IsDivision o → is_nonzero_int d ≡ true → Typed w has s d → DividesBy o d

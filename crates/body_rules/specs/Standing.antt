@@ -2,7 +2,7 @@
 -- apart. A char that stands where another type is expected becomes an object that holds it, where one can be made.
 pub use Rattle.typing_rules.specs.Rules.{call_type}
 use Rattle.std.specs.Prelude.{◌≡◌, Bool, true, false, ◌&&◌, ◌||◌, not, List, [], ◌∷◌, codes}
-use Rattle.built_forms.specs.Built.{Usable, can_box}
+use Rattle.built_forms.specs.Built.{Usable, may_make}
 use Rattle.sj_desugar.specs.Coercions.{is_char}
 use Rattle.sj_names.specs.Same.{is_same_text}
 use Rattle.sj_names.specs.declared.references.TypeRef.{TypeRef}
@@ -56,7 +56,7 @@ types_referred (r ∷ rs) = reference_type r ∷ types_referred rs
 
 -- no char stands where another type is expected, or an object can be made that holds it
 abbrev pub MayStand : Usable → IrType → IrType → Type 0
-MayStand has expected own = (can_box has || not (is_char own && not (is_char expected))) ≡ true
+MayStand has expected own = may_make has (is_char own && not (is_char expected)) ≡ true
 
 -- no char stands where another type is expected
 abbrev pub NoBox : IrType → IrType → Type 0

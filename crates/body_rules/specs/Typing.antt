@@ -1,7 +1,7 @@
 -- The rules of bodies, in one statement: each tree meets the rule of its form, is of the forms that are built, and finds what it uses around it.
 use Rattle.std.specs.Prelude.{◌≡◌, ℕ, ◌^◌, ◌<◌, true, List, [], ◌∷◌, ◌⊎◌, FitsSigned, Some, Bool, ◌||◌}
 use Rattle.std.specs.Int.{w32, w64}
-use Rattle.built_forms.specs.Built.{Usable, may_yield, stands, is_built_method}
+use Rattle.built_forms.specs.Built.{Usable, stands, is_built_method}
 use Rattle.sj_emit_expr.specs.Templates.{check_name}
 use Rattle.sj_names.specs.declared.method_names.Namespace.{Namespace}
 use Rattle.sj_names.specs.declared.method_names.Namespace.TheVariants.{PublicStatic, PrivateStatic}
@@ -100,7 +100,7 @@ module _ (w : Classes) (has : Usable) where
   -- what is asked at a tree, beside what is asked at those in it
   pub record Here (s : Scene) (t : Term) : Type 0 where
     pub meets : Meets w s.space s.labels t
-    pub built : stands has (may_check has s.sure) s.labels t ≡ true
+    pub built : stands has (may_check has s.sure) t ≡ true
     pub finds : Finds s t
 
   abbrev mutual
@@ -141,4 +141,4 @@ module _ (w : Classes) (has : Usable) where
     pub TypedCases : Scene → IrType → Cases → Type 0
     TypedCases s t no_cases = Unit {0}
     TypedCases s t (more_cases [] e cs) = TypedCases s t cs
-    TypedCases s t (more_cases (n ∷ ns) e cs) = (Yields w e t × (may_yield has t e ≡ true)) × Typed s e × TypedCases s t cs
+    TypedCases s t (more_cases (n ∷ ns) e cs) = Yields w e t × Typed s e × TypedCases s t cs

@@ -36,11 +36,11 @@ use Rattle.sj_trees.specs.declared.operators.BinaryOp.{BinaryOp}
 use Rattle.sj_trees.specs.declared.positions.Position.{Position}
 use Rattle.sj_trees.specs.declared.types.IrType.{IrType}
 use Rattle.sj_trees.specs.declared.types.IrType.TheVariants.{Any, Class, Array, Undefined, Null, Boolean, Byte, Short, Int, String, NoType, Nothing, Char, Long}
-use Rattle.typing_rules.specs.Rules.{IsStatic, IsReceiver, unary_operand, left_operand, right_operand, IsText as IsJoined}
+use Rattle.typing_rules.specs.Rules.{IsStatic, IsReceiver, ArgumentsFit, Yields, nothing_wanted, fitting, unary_operand, left_operand, right_operand, IsText as IsJoined}
 use Rattle.body_rules.specs.Operators.{IsDivision, a_quotient, a_remainder, IsLongDivision, a_long_quotient, a_long_remainder, DividesBy, by_int, by_long}
-use Rattle.built_forms.specs.Built.{Usable, may_box, may_pass}
+use Rattle.built_forms.specs.Built.{Usable}
 use Rattle.body_rules.specs.Standing.{call_type}
-use Rattle.body_rules.specs.Typing.{RunsOnObject, may_check, IsTrueLiteral, true_literal, Scene, behind, in_label, Typed, TypedBlock, TypedAll, TypedCases}
+use Rattle.body_rules.specs.Typing.{RunsOnObject, AllHaveValues, may_check, IsTrueLiteral, true_literal, Scene, behind, in_label, Typed, TypedBlock, TypedAll, TypedCases}
 use Rattle.body_rules.specs.Locals.{Own, OwnAll, OwnCases, IsParameter, local_of, HasValue, HaveValues}
 use Rattle.body_rules.proofs.Equal.{is-equal}
 use Rattle.sj_names.proofs.Same.{impossible, text-same, namespace-same}
@@ -48,7 +48,7 @@ use Rattle.body_soundness.specs.Rules.{RightMember}
 use Rattle.sj_proper.specs.Methods.{HaveTypes, scene_of}
 use Rattle.sj_proper.specs.Once.{NamesOnce}
 use Rattle.body_rules.specs.Subtyping.{IsSubtyping}
-use Rattle.body_rules.proofs.RulesGive.{class_has_value, Yields, ArgumentsFit, Takes, its_types, texts, of_division, yields_there, one_yields, other_yields, leaves_there, arguments_there, is_linked, operation}
+use Rattle.body_rules.proofs.RulesGive.{class_has_value, Takes, its_types, texts, of_division, operation}
 use Rattle.built_forms.proofs.Around.{type_inside}
 use Rattle.sj_world.specs.Ancestors.{by_path}
 use Rattle.sj_world.specs.Known as known
@@ -212,10 +212,10 @@ module _ (w : World) (law : IsSubtyping (IsSub w)) (has : Usable) where
     assign-ready : (f : Frame) (ds : List ParamDef) (x : List ℕ) (d : ParamDef) (env : ir.Env) (st : ir.State) (v : ir.Value) → local_of ds x ≡ Some d → HasType (IsSub w) law at v d.tpe → (HasReceivers has → f.sure x ≡ true → v ≡ ir.null → ⊥) → Ready f ds env st → Ready f ds (ir_meaning.set_local x v env) st
     assign-ready f ds x d env st v there i n h = record { locals = env-assign f ds x d env v there i n h.locals; heap = h.heap }
 
-    gives-yield : (v : ir.Value) (e : Term) (t : IrType) → GivesType v (type_of_term e) → Yields w has e t → GivesType v t
-    gives-yield v e t g (inl none) = inl none
-    gives-yield v e t (inl none) (inr f) = inl (law.from_none t (subst (λ s. IsSub w s t) none f.0))
-    gives-yield v e t (inr h) (inr f) = inr (wider (IsSub w) law at v (type_of_term e) t f.0 h)
+    gives-yield : (v : ir.Value) (e : Term) (t : IrType) → GivesType v (type_of_term e) → Yields w e t → GivesType v t
+    gives-yield v e t g (nothing_wanted none) = inl none
+    gives-yield v e t (inl none) (fitting f) = inl (law.from_none t (subst (λ s. IsSub w s t) none f))
+    gives-yield v e t (inr h) (fitting f) = inr (wider (IsSub w) law at v (type_of_term e) t f h)
 
     operand-type : (v : ir.Value) (s t : IrType) → GivesType v s → IsSub w s t → (t ≡ NoType → ⊥) → HasType (IsSub w) law at v t
     operand-type v s t (inl none) f n = absurd (n (law.from_none t (subst (λ a. IsSub w a t) none f)))
@@ -317,7 +317,7 @@ module _ (w : World) (law : IsSubtyping (IsSub w)) (has : Usable) where
   branch_right at s t first second _ env st (a_boolean true) h k = h
   branch_right at s t first second _ env st (a_boolean false) h k = k
 
-  yields-right : (at : Classes) (s : Scene) (inner : List ParamDef) (e : Term) (t : IrType) (a : End ir.Ended) → Yields w has e t → Comes (CameRight at s inner (type_of_term e)) a → Comes (CameRight at s inner t) a
+  yields-right : (at : Classes) (s : Scene) (inner : List ParamDef) (e : Term) (t : IrType) (a : End ir.Ended) → Yields w e t → Comes (CameRight at s inner (type_of_term e)) a → Comes (CameRight at s inner t) a
   yields-right at s inner e t a y = comes_weaken (CameRight at s inner (type_of_term e)) (CameRight at s inner t) a each
     where
       each : (a : ir.Ended) → CameRight at s inner (type_of_term e) a → CameRight at s inner t a
@@ -345,7 +345,7 @@ module _ (w : World) (law : IsSubtyping (IsSub w)) (has : Usable) where
       each _ (threw k v env st b i j) = threw k v env st b i (narrow-ready k (frame_of s) s.locals d env st fresh j)
 
   -- a label is reached
-  arrives-right : (at : Classes) (s : Scene) (l : List ℕ) (e : Term) (t : IrType) → Yields w has e t → (a : ir.Ended) → CameRight at (in_label l t s) s.locals (type_of_term e) a → Right at s t (ir_meaning.arrive l a)
+  arrives-right : (at : Classes) (s : Scene) (l : List ℕ) (e : Term) (t : IrType) → Yields w e t → (a : ir.Ended) → CameRight at (in_label l t s) s.locals (type_of_term e) a → Right at s t (ir_meaning.arrive l a)
   arrives-right at s l e t y _ (gave k v env st b g i) = gave k v env st b (gives-yield k v e t g y) i
   arrives-right at s l e t y _ (threw k v env st b i j) = threw k v env st b i j
   arrives-right at s l e t y _ (left k m v env st r b i g j) = go (pointwise nat_eq m l) (sym (type_inside l t s.labels m) ∙ i)
@@ -428,7 +428,7 @@ module _ (w : World) (law : IsSubtyping (IsSub w)) (has : Usable) where
   no_label l r e = impossible (cc)
 
   pub call_right : ObjectLaws w has → (low : ir_meaning.Low) → LowRight low → (m : Member) → RightMember w has m → (s : Scene) (t : IrType) → t ≡ call_type m.method.result → (at : Classes) (vs : List ir.Value) → ValuesFit at vs m.method.params → (this : Option ir.Value) → (RunsOnObject m.namespace → HoldsObject at this m.class) → (env : ir.Env) (st : ir.State) → Ready at (frame_of s) s.locals env st → Right at s t (ir_meaning.call low (member_of w m.class m.namespace m.method) this vs env st)
-  call_right laws low right m l s t is at vs fit this object env st e = subst (λ o. Right at s t o) (sym called) (comes_then (CameRight at scene l.definition.params l.definition.result) (CameRight at s s.locals t) (low l.its_body inner st) (ir_meaning.returned l.definition.result env) (yields-right at scene l.definition.params l.its_body l.definition.result (low l.its_body inner st).end yielded (right l.its_body scene scope l.rules.typed l.rules.once.fresh (λ r. body-sured l.its_body (names r).once) at inner st (record { locals = record { holds = b.hold; full = λ r x d i k. absurd (unsure r x d i k); this = λ r. object (subst RunsOnObject (namespace_found w m.class m.namespace m.method l.definition l.found) r); sure = refl }; heap = e.heap }))) back)
+  call_right laws low right m l s t is at vs fit this object env st e = subst (λ o. Right at s t o) (sym called) (comes_then (CameRight at scene l.definition.params l.definition.result) (CameRight at s s.locals t) (low l.its_body inner st) (ir_meaning.returned l.definition.result env) (yields-right at scene l.definition.params l.its_body l.definition.result (low l.its_body inner st).end l.rules.yields (right l.its_body scene scope l.rules.typed l.rules.once.fresh (λ r. body-sured l.its_body (names r).once) at inner st (record { locals = record { holds = b.hold; full = λ r x d i k. absurd (unsure r x d i k); this = λ r. object (subst RunsOnObject (namespace_found w m.class m.namespace m.method l.definition l.found) r); sure = refl }; heap = e.heap }))) back)
     where
       scene : Scene
       scene = scene_of m.class l.definition l.its_body
@@ -442,9 +442,6 @@ module _ (w : World) (law : IsSubtyping (IsSub w)) (has : Usable) where
 
       scope : InScope (frame_of scene) l.definition.params
       scope = record { values = l.rules.values; fixed = λ r x d i k. absurd (unsure r x d i k) }
-
-      yielded : Yields w has l.its_body l.definition.result
-      yielded = yields_there w has l.its_body l.definition.result l.rules.unboxed l.rules.yields
 
       b : Bound at l.definition.params vs
       b = bound at l.definition.params m.method.params vs l.parameters fit
@@ -490,17 +487,14 @@ module _ (w : World) (law : IsSubtyping (IsSub w)) (has : Usable) where
   fit-lift h k a _ _ (one_fits v r vs rs i rest) = one_fits v r vs rs (type-lift (IsSub w) law h k a v (reference_type r) i) (fit-lift h k a vs rs rest)
 
   -- what is asked of the forms on receivers
-  new_parts : (c : List ℕ) (m : MethodName) (ts : Terms) → (has.made c && (has.built (member c Constructor m) && may_pass has m.params ts)) ≡ true → (has.made c ≡ true) × ((has.built (member c Constructor m) && may_pass has m.params ts) ≡ true)
-  new_parts c m ts h = and_parts (has.made c) (has.built (member c Constructor m) && may_pass has m.params ts) h
+  new_parts : (c : List ℕ) (m : MethodName) → (has.made c && has.built (member c Constructor m)) ≡ true → (has.made c ≡ true) × (has.built (member c Constructor m) ≡ true)
+  new_parts c m h = and_parts (has.made c) (has.built (member c Constructor m)) h
 
-  received_parts : (e : Term) (c : List ℕ) (n : Namespace) (m : MethodName) (ts : Terms) (s : Scene) → (has.received (member c n m) && (may_check has s.sure e && (may_box has Any e && may_pass has m.params ts))) ≡ true → (has.received (member c n m) ≡ true) × (may_check has s.sure e ≡ true) × (may_pass has m.params ts ≡ true)
-  received_parts e c n m ts s h =
-      let first = and_parts (has.received (member c n m)) (may_check has s.sure e && (may_box has Any e && may_pass has m.params ts)) h in
-      let second = and_parts (may_check has s.sure e) (may_box has Any e && may_pass has m.params ts) first.1 in
-      (first.0, second.0, (and_parts (may_box has Any e) (may_pass has m.params ts) second.1).1)
+  received_parts : (e : Term) (c : List ℕ) (n : Namespace) (m : MethodName) (s : Scene) → (has.received (member c n m) && may_check has s.sure e) ≡ true → (has.received (member c n m) ≡ true) × (may_check has s.sure e ≡ true)
+  received_parts e c n m s h = and_parts (has.received (member c n m)) (may_check has s.sure e) h
 
-  constructor_parts : (c : List ℕ) (m : MethodName) (ts : Terms) (t : IrType) → (has.built (member c Constructor m) && (is_no_type t && may_pass has m.params ts)) ≡ true → (has.built (member c Constructor m) ≡ true) × (may_pass has m.params ts ≡ true)
-  constructor_parts c m ts t h = let first = and_parts (has.built (member c Constructor m)) (is_no_type t && may_pass has m.params ts) h in (first.0, (and_parts (is_no_type t) (may_pass has m.params ts) first.1).1)
+  constructor_there : (c : List ℕ) (m : MethodName) (t : IrType) → (has.built (member c Constructor m) && is_no_type t) ≡ true → has.built (member c Constructor m) ≡ true
+  constructor_there c m t h = (and_parts (has.built (member c Constructor m)) (is_no_type t) h).0
 
   check_there : (e : Term) (s : Scene) → may_check has s.sure e ≡ true → is_sure s.sure e ≡ false → has.helper check_name ≡ true
   check_there e s h k = go (is_sure s.sure e) h k
@@ -898,22 +892,22 @@ module _ (w : World) (law : IsSubtyping (IsSub w)) (has : Usable) where
       tree_right (var_def p x t b e) = λ s v h fresh u at env st i. narrow-right at s (record { name = x; «mutable» = b; tpe = t }) NoType (step (var_def p x t b e) env st).end (fresh x (inl refl)) (definition_right p x t b e (tree_right e) s v h fresh u at env st i)
       tree_right (skip p) = λ s v h fresh u at env st i. here at s s.locals NoType ir.undefined env st (inl refl) i
       tree_right (block_of p ts) = λ s v h fresh u at env st i. block_right ts s v h fresh u at env st i NoType
-      tree_right (labeled p l t e) = λ s v h fresh u at env st i. comes_then (CameRight at (in_label l t s) s.locals (type_of_term e)) (CameRight at s s.locals t) (step e env st) (ir_meaning.arrive l) (tree_right e (in_label l t s) v h.1 fresh u at env st i) (arrives-right at s l e t (yields_there w has e t h.0.built h.0.meets))
+      tree_right (labeled p l t e) = λ s v h fresh u at env st i. comes_then (CameRight at (in_label l t s) s.locals (type_of_term e)) (CameRight at s s.locals t) (step e env st) (ir_meaning.arrive l) (tree_right e (in_label l t s) v h.1 fresh u at env st i) (arrives-right at s l e t h.0.meets)
       tree_right (assign p (var_ref q x t) e) = λ s v h fresh u at env st i. operand_right e at s NoType t (ir_meaning.define x) env st (tree_right e s v h.1 fresh u at env st i) h.0.meets.1 (value-not t (subst HasValue h.0.finds.type_is (v.values x h.0.finds.local h.0.finds.is))) (λ y b a env st k i. here y s s.locals NoType ir.undefined (ir_meaning.set_local x a env) st (inl refl) (assign-ready y (frame_of s) s.locals x h.0.finds.local env st a h.0.finds.is (subst (HasType (IsSub w) law y a) (sym h.0.finds.type_is) k) (λ r q. impossible (sym (v.fixed r x h.0.finds.local h.0.finds.is q) ∙ h.0.finds.mutable)) i))
-      tree_right (assign p (select q d c f t) e) = λ s v h fresh u at env st i. let its = and_parts (has.field c f t) (may_check has s.sure d && may_box has t e) h.0.built in field_set_right p q d c f t e (tree_right d) (tree_right e) s v its.0 (and_parts (may_check has s.sure d) (may_box has t e) its.1).0 h.1.0.meets.0 h.0.meets.1 h.1.1 h.2 fresh u at env st i
-      tree_right (assign p (select_static q c f t) e) = λ s v h fresh u at env st i. let its = and_parts (has.static_field c f t) (may_box has t e) h.0.built in operand_right e at s NoType t (ir_meaning.assign_static c f) env st (tree_right e s v h.2 fresh u at env st i) h.0.meets.1 (value-not t (laws.statics c f t its.0).0) (λ y b x env st k i. static_set_right y s c f t x env st its.0 k i)
-      tree_right (return_to p e l) = λ s v h fresh u at env st i. one_right at s s.locals (type_of_term e) Nothing (step e) (ir_meaning.leave l) env st (tree_right e s v h.1 fresh u at env st i) (λ y b a env st g i. left y l a env st h.0.meets.tpe (adds-refl y) h.0.meets.is_type (gives-yield y a e h.0.meets.tpe g (leaves_there w has s.labels l e h.0.built h.0.meets)) i)
-      tree_right (if_then p c a b t) = λ s v h fresh u at env st i. operand_right c at s t Boolean (ir_meaning.branch (step a) (step b)) env st (tree_right c s v h.1 (λ x o. fresh x (inl o)) (sures-parts s (definitions c) (definitions a) (sures-parts s (definitions c ++ definitions a) (definitions b) u).0).0 at env st i) h.0.meets.0 boolean_not (λ y n q env st k i. branch_right y s t (step a) (step b) q env st (as_boolean (IsSub w) law y q k) (yields-right y s s.locals a t (step a env st).end (one_yields w has a b t h.0.built h.0.meets.1) (tree_right a s v h.2 (λ x o. fresh x (inr (inl o))) (sures-parts s (definitions c) (definitions a) (sures-parts s (definitions c ++ definitions a) (definitions b) u).0).1 y env st i)) (yields-right y s s.locals b t (step b env st).end (other_yields w has a b t h.0.built h.0.meets.2) (tree_right b s v h.3 (λ x o. fresh x (inr (inr o))) (sures-parts s (definitions c ++ definitions a) (definitions b) u).1 y env st i)))
+      tree_right (assign p (select q d c f t) e) = λ s v h fresh u at env st i. let its = and_parts (has.field c f t) (may_check has s.sure d) h.0.built in field_set_right p q d c f t e (tree_right d) (tree_right e) s v its.0 its.1 h.1.0.meets.0 h.0.meets.1 h.1.1 h.2 fresh u at env st i
+      tree_right (assign p (select_static q c f t) e) = λ s v h fresh u at env st i. operand_right e at s NoType t (ir_meaning.assign_static c f) env st (tree_right e s v h.2 fresh u at env st i) h.0.meets.1 (value-not t (laws.statics c f t h.0.built).0) (λ y b x env st k i. static_set_right y s c f t x env st h.0.built k i)
+      tree_right (return_to p e l) = λ s v h fresh u at env st i. one_right at s s.locals (type_of_term e) Nothing (step e) (ir_meaning.leave l) env st (tree_right e s v h.1 fresh u at env st i) (λ y b a env st g i. left y l a env st h.0.meets.tpe (adds-refl y) h.0.meets.is_type (gives-yield y a e h.0.meets.tpe g h.0.meets.yields) i)
+      tree_right (if_then p c a b t) = λ s v h fresh u at env st i. operand_right c at s t Boolean (ir_meaning.branch (step a) (step b)) env st (tree_right c s v h.1 (λ x o. fresh x (inl o)) (sures-parts s (definitions c) (definitions a) (sures-parts s (definitions c ++ definitions a) (definitions b) u).0).0 at env st i) h.0.meets.0 boolean_not (λ y n q env st k i. branch_right y s t (step a) (step b) q env st (as_boolean (IsSub w) law y q k) (yields-right y s s.locals a t (step a env st).end h.0.meets.1 (tree_right a s v h.2 (λ x o. fresh x (inr (inl o))) (sures-parts s (definitions c) (definitions a) (sures-parts s (definitions c ++ definitions a) (definitions b) u).0).1 y env st i)) (yields-right y s s.locals b t (step b env st).end h.0.meets.2 (tree_right b s v h.3 (λ x o. fresh x (inr (inr o))) (sures-parts s (definitions c ++ definitions a) (definitions b) u).1 y env st i)))
       tree_right (while_loop p c b) = λ s v h fresh u at env st i. comes_then (Turned at s (loop_type c)) (CameRight at s s.locals (loop_type c)) (ir_meaning.in_order (step c ∷ []) (ir_meaning.branch (step b) (λ env s. record { lines = []; end = Done (ir.ends ir.stops env s) })) env st) (ir_meaning.after_turn (low (while_loop p c b))) (while_turn p c b (tree_right c) (tree_right b) s v h fresh u (true-or-none c) at env st i) (turn_right at s (loop_type c) (low (while_loop p c b)) (right (while_loop p c b) s v h fresh u))
       tree_right (do_while p b c) = λ s v h fresh u at env st i. comes_then (Turned at s (loop_type c)) (CameRight at s s.locals (loop_type c)) (ir.go_on (step b env st) (λ v. ir_meaning.in_order (step c ∷ []) (ir_meaning.branch (ir.given ir.undefined) (λ env s. record { lines = []; end = Done (ir.ends ir.stops env s) })))) (ir_meaning.after_turn (low (do_while p b c))) (do_turn p b c (tree_right b) (tree_right c) s v h fresh u at env st i) (turn_right at s (loop_type c) (low (do_while p b c)) (right (do_while p b c) s v h fresh u))
-      tree_right (match_on p e cs d t) = λ s v h fresh u at env st i. operand_right e at s t Int (ir_meaning.choose (ir_meaning.branches w low cs) (step d)) env st (tree_right e s v h.1 (λ x o. fresh x (inl o)) (sures-parts s (definitions e) (definitions_of_cases cs) (sures-parts s (definitions e ++ definitions_of_cases cs) (definitions d) u).0).0 at env st i) h.0.meets.0 int_not (λ y b q env st k i. chosen_right y s t (ir_meaning.branches w low cs) (step d) q env st (as_int (IsSub w) law y q k) (λ n. cases_right cs s t v h.2 (λ x o. fresh x (inr (inl o))) (sures-parts s (definitions e) (definitions_of_cases cs) (sures-parts s (definitions e ++ definitions_of_cases cs) (definitions d) u).0).1 (step d) n y env st i (yields-right y s s.locals d t (step d env st).end (yields_there w has d t h.0.built h.0.meets.2) (tree_right d s v h.3 (λ x o. fresh x (inr (inr o))) (sures-parts s (definitions e ++ definitions_of_cases cs) (definitions d) u).1 y env st i))))
-      tree_right (apply_static p c n m ts t) = λ s v h fresh u at env st i. arguments_right ts m.params s t v (arguments_there w has (has.linked (member c n m)) ts m.params h.0.built h.0.finds h.0.meets.2) h.1 fresh u at (ir_meaning.call low (member_of w c n m) None) env st i (λ y b vs env st k i. call_right laws low right (member c n m) (members (member c n m) (is_linked w has (has.linked (member c n m)) ts m.params h.0.built)) s t h.0.meets.1 y vs k None (λ r. absurd (no_object n h.0.meets.0 r)) env st i)
+      tree_right (match_on p e cs d t) = λ s v h fresh u at env st i. operand_right e at s t Int (ir_meaning.choose (ir_meaning.branches w low cs) (step d)) env st (tree_right e s v h.1 (λ x o. fresh x (inl o)) (sures-parts s (definitions e) (definitions_of_cases cs) (sures-parts s (definitions e ++ definitions_of_cases cs) (definitions d) u).0).0 at env st i) h.0.meets.0 int_not (λ y b q env st k i. chosen_right y s t (ir_meaning.branches w low cs) (step d) q env st (as_int (IsSub w) law y q k) (λ n. cases_right cs s t v h.2 (λ x o. fresh x (inr (inl o))) (sures-parts s (definitions e) (definitions_of_cases cs) (sures-parts s (definitions e ++ definitions_of_cases cs) (definitions d) u).0).1 (step d) n y env st i (yields-right y s s.locals d t (step d env st).end h.0.meets.2 (tree_right d s v h.3 (λ x o. fresh x (inr (inr o))) (sures-parts s (definitions e ++ definitions_of_cases cs) (definitions d) u).1 y env st i))))
+      tree_right (apply_static p c n m ts t) = λ s v h fresh u at env st i. arguments_right ts m.params s t v h.0.meets.2 h.0.finds h.1 fresh u at (ir_meaning.call low (member_of w c n m) None) env st i (λ y b vs env st k i. call_right laws low right (member c n m) (members (member c n m) h.0.built) s t h.0.meets.1 y vs k None (λ r. absurd (no_object n h.0.meets.0 r)) env st i)
       tree_right (throw p e) = λ s v h fresh u at env st i. operand_right e at s Nothing Any ir_meaning.throw_value env st (tree_right e s v h.1 fresh u at env st i) h.0.meets (value-not Any refl) (λ y b a env st k i. threw y a env st (adds-refl y) k i)
-      tree_right (new_object p c m ts) = λ s v h fresh u at env st i. let its = new_parts c m ts h.0.built in arguments_right ts m.params s (class_type c) v (arguments_there w has (has.built (member c Constructor m)) ts m.params its.1 h.0.finds h.0.meets.1) h.1 fresh u at (ir_meaning.construct w low c m) env st i (λ y b vs env st k i. construct_right c m its.0 (is_linked w has (has.built (member c Constructor m)) ts m.params its.1) s y vs k env st i)
+      tree_right (new_object p c m ts) = λ s v h fresh u at env st i. let its = new_parts c m h.0.built in arguments_right ts m.params s (class_type c) v h.0.meets.1 h.0.finds h.1 fresh u at (ir_meaning.construct w low c m) env st i (λ y b vs env st k i. construct_right c m its.0 its.1 s y vs k env st i)
       tree_right (select p e c f t) = λ s v h fresh u at env st i. let its = and_parts (has.field c f t) (may_check has s.sure e) h.0.built in go_on_both at s s.locals (type_of_term e) s.locals t Full (ir_meaning.receiving w (is_sure env.sure e) low (step e) env st) (λ a. ir_meaning.in_order [] (λ vs. ir_meaning.select_field c f (a ∷ vs))) (receiver_right (reads c f t its.0) e s h.1 (check_there e s its.1) at env st i (tree_right e s v h.1 fresh u at env st i)) (λ y b a env st g n i. field_right y s c f t a env st its.0 (operand-type y a (type_of_term e) (class_type c) g h.0.meets.0 (value-not (class_type c) (class_has_value c))) n i)
-      tree_right (apply_statically p e c Namespace.Private m ts t) = λ s v h fresh u at env st i. let its = received_parts e c Namespace.Private m ts s h.0.built in let parts = sures-parts s (definitions e) (definitions_in ts) u in go_on_both at s s.locals (type_of_term e) s.locals t Full (ir_meaning.receiving w (is_sure env.sure e) low (step e) env st) (λ a. ir_meaning.in_order (ir_meaning.operands w low ts) (λ vs. ir_meaning.call_on w low (ir_meaning.static_target w c Namespace.Private m) (a ∷ vs))) (receiver_right (calls (member c Namespace.Private m) its.0) e s h.1 (check_there e s its.1) at env st i (tree_right e s v h.1 (λ x o. fresh x (inl o)) parts.0 at env st i)) (λ y b a env st g n i. arguments_right ts m.params s t v (arguments_there w has true ts m.params its.2 h.0.finds h.0.meets.3) h.2 (λ x o. fresh x (inr o)) parts.1 y (λ vs. ir_meaning.call_on w low (ir_meaning.static_target w c Namespace.Private m) (a ∷ vs)) env st i (λ z d vs env st k i. received_right c Namespace.Private m (laws.received (member c Namespace.Private m) its.0) s t (type_of_term e) h.0.meets.1 h.0.meets.2 y a g n z d vs env st k i))
-      tree_right (apply_statically p e c Namespace.Public m ts t) = λ s v h fresh u at env st i. let its = received_parts e c Namespace.Public m ts s h.0.built in let parts = sures-parts s (definitions e) (definitions_in ts) u in go_on_both at s s.locals (type_of_term e) s.locals t Full (ir_meaning.receiving w (is_sure env.sure e) low (step e) env st) (λ a. ir_meaning.in_order (ir_meaning.operands w low ts) (λ vs. ir_meaning.call_on w low (ir_meaning.static_target w c Namespace.Public m) (a ∷ vs))) (receiver_right (calls (member c Namespace.Public m) its.0) e s h.1 (check_there e s its.1) at env st i (tree_right e s v h.1 (λ x o. fresh x (inl o)) parts.0 at env st i)) (λ y b a env st g n i. arguments_right ts m.params s t v (arguments_there w has true ts m.params its.2 h.0.finds h.0.meets.3) h.2 (λ x o. fresh x (inr o)) parts.1 y (λ vs. ir_meaning.call_on w low (ir_meaning.static_target w c Namespace.Public m) (a ∷ vs)) env st i (λ z d vs env st k i. received_right c Namespace.Public m (laws.received (member c Namespace.Public m) its.0) s t (type_of_term e) h.0.meets.1 h.0.meets.2 y a g n z d vs env st k i))
-      tree_right (apply_statically p e c Constructor m ts t) = λ s v h fresh u at env st i. let its = constructor_parts c m ts t h.0.built in let parts = sures-parts s (definitions e) (definitions_in ts) u in go_on_both at s s.locals (type_of_term e) s.locals t Full (ir_meaning.receiving w (is_sure env.sure e) low (step e) env st) (λ a. ir_meaning.in_order (ir_meaning.operands w low ts) (λ vs. ir_meaning.call_on w low (member_of w c Constructor m) (a ∷ vs))) (own_right e s h.0.meets.0 h.1 at env st i) (λ y b a env st g n i. arguments_right ts m.params s t v (arguments_there w has true ts m.params its.1 h.0.finds h.0.meets.3) h.2 (λ x o. fresh x (inr o)) parts.1 y (λ vs. ir_meaning.call_on w low (member_of w c Constructor m) (a ∷ vs)) env st i (λ z d vs env st k i. received_right c Constructor m (laws.built (member c Constructor m) its.0) s t (type_of_term e) h.0.meets.1 h.0.meets.2 y a g n z d vs env st k i))
+      tree_right (apply_statically p e c Namespace.Private m ts t) = λ s v h fresh u at env st i. let its = received_parts e c Namespace.Private m s h.0.built in let parts = sures-parts s (definitions e) (definitions_in ts) u in go_on_both at s s.locals (type_of_term e) s.locals t Full (ir_meaning.receiving w (is_sure env.sure e) low (step e) env st) (λ a. ir_meaning.in_order (ir_meaning.operands w low ts) (λ vs. ir_meaning.call_on w low (ir_meaning.static_target w c Namespace.Private m) (a ∷ vs))) (receiver_right (calls (member c Namespace.Private m) its.0) e s h.1 (check_there e s its.1) at env st i (tree_right e s v h.1 (λ x o. fresh x (inl o)) parts.0 at env st i)) (λ y b a env st g n i. arguments_right ts m.params s t v h.0.meets.3 h.0.finds h.2 (λ x o. fresh x (inr o)) parts.1 y (λ vs. ir_meaning.call_on w low (ir_meaning.static_target w c Namespace.Private m) (a ∷ vs)) env st i (λ z d vs env st k i. received_right c Namespace.Private m (laws.received (member c Namespace.Private m) its.0) s t (type_of_term e) h.0.meets.1 h.0.meets.2 y a g n z d vs env st k i))
+      tree_right (apply_statically p e c Namespace.Public m ts t) = λ s v h fresh u at env st i. let its = received_parts e c Namespace.Public m s h.0.built in let parts = sures-parts s (definitions e) (definitions_in ts) u in go_on_both at s s.locals (type_of_term e) s.locals t Full (ir_meaning.receiving w (is_sure env.sure e) low (step e) env st) (λ a. ir_meaning.in_order (ir_meaning.operands w low ts) (λ vs. ir_meaning.call_on w low (ir_meaning.static_target w c Namespace.Public m) (a ∷ vs))) (receiver_right (calls (member c Namespace.Public m) its.0) e s h.1 (check_there e s its.1) at env st i (tree_right e s v h.1 (λ x o. fresh x (inl o)) parts.0 at env st i)) (λ y b a env st g n i. arguments_right ts m.params s t v h.0.meets.3 h.0.finds h.2 (λ x o. fresh x (inr o)) parts.1 y (λ vs. ir_meaning.call_on w low (ir_meaning.static_target w c Namespace.Public m) (a ∷ vs)) env st i (λ z d vs env st k i. received_right c Namespace.Public m (laws.received (member c Namespace.Public m) its.0) s t (type_of_term e) h.0.meets.1 h.0.meets.2 y a g n z d vs env st k i))
+      tree_right (apply_statically p e c Constructor m ts t) = λ s v h fresh u at env st i. let parts = sures-parts s (definitions e) (definitions_in ts) u in go_on_both at s s.locals (type_of_term e) s.locals t Full (ir_meaning.receiving w (is_sure env.sure e) low (step e) env st) (λ a. ir_meaning.in_order (ir_meaning.operands w low ts) (λ vs. ir_meaning.call_on w low (member_of w c Constructor m) (a ∷ vs))) (own_right e s h.0.meets.0 h.1 at env st i) (λ y b a env st g n i. arguments_right ts m.params s t v h.0.meets.3 h.0.finds h.2 (λ x o. fresh x (inr o)) parts.1 y (λ vs. ir_meaning.call_on w low (member_of w c Constructor m) (a ∷ vs)) env st i (λ z d vs env st k i. received_right c Constructor m (laws.built (member c Constructor m) (constructor_there c m t h.0.built)) s t (type_of_term e) h.0.meets.1 h.0.meets.2 y a g n z d vs env st k i))
       tree_right (apply_statically p e c n m ts t) = λ s v h fresh u at env st i. impossible h.0.built
       tree_right (select_static p c f t) = λ s v h fresh u at env st i. there_right at s t (st.statics c f) env st (i.heap.statics c f t h.built) i
       tree_right (this_ref p t) = λ s v h fresh u at env st i. only_right (CameRight at s s.locals t) Full (ir_meaning.local_value env.this_value env st).end (this_right at s t s.owner env.this_value env st h.finds.1 (i.locals.this h.finds.0) i)
@@ -938,16 +932,16 @@ module _ (w : World) (law : IsSubtyping (IsSub w)) (has : Usable) where
       block_right (more_terms (var_def p x t b e) (more_terms n1 us)) s v h fresh u at env st i q = go_on_right at s (record { name = x; «mutable» = b; tpe = t } ∷ s.locals) NoType s.locals (type_of_last (type_of_term n1) us) (step (var_def p x t b e) env st) (ir_meaning.rest w low (more_terms n1 us)) (definition_right p x t b e (tree_right e) s v h.0 (λ y o. fresh y (inl o)) (sures-parts s (definitions (var_def p x t b e)) (definitions_in (more_terms n1 us)) u).0 at env st i) (λ z n a env st g i. leave-right z s (record { name = x; «mutable» = b; tpe = t }) (type_of_last (type_of_term n1) us) (ir_meaning.block w low (more_terms n1 us) env st).end (fresh x (inl (inl refl))) (block_right (more_terms n1 us) (behind (var_def p x t b e) s) (scope-behind (frame_of s) s.locals (record { name = x; «mutable» = b; tpe = t }) v h.0.0.finds.0 (λ r k. (((sures-parts s (definitions e) (record { name = x; is_mutable = b; value = e } ∷ []) (sures-parts s (definitions (var_def p x t b e)) (definitions_in (more_terms n1 us)) u).0).1 r).0 k).0)) h.2 (λ y o j. ⊎_elim (λ same. h.1 x refl (subst (OwnAll (more_terms n1 us)) same o)) (λ there. fresh y (inr o) there) j) (sures-parts s (definitions (var_def p x t b e)) (definitions_in (more_terms n1 us)) u).1 z env st i NoType))
       block_right (more_terms t (more_terms n1 us)) s v h fresh u at env st i q = go_on_right at s s.locals (type_of_term t) s.locals (type_of_last (type_of_term n1) us) (step t env st) (ir_meaning.rest w low (more_terms n1 us)) (tree_right t s v h.0 (λ x o. fresh x (inl o)) (sures-parts s (definitions t) (definitions_in (more_terms n1 us)) u).0 at env st i) (λ z n a env st g i. block_right (more_terms n1 us) s v h.2 (λ x o. fresh x (inr o)) (sures-parts s (definitions t) (definitions_in (more_terms n1 us)) u).1 z env st i NoType)
 
-      arguments_right : (ts : Terms) (rs : List TypeRef) (s : Scene) (t : IrType) → InScope (frame_of s) s.locals → ArgumentsFit w has ts rs → TypedAll w has s ts → Fresh s (OwnAll ts) → Sures s (definitions_in ts) → (at : Classes) (act : List ir.Value → ir.Run) (env : ir.Env) (st : ir.State) → Ready at (frame_of s) s.locals env st → ((k : Classes) → Adds at k → (vs : List ir.Value) (env : ir.Env) (st : ir.State) → ValuesFit k vs rs → Ready k (frame_of s) s.locals env st → Right k s t (act vs env st)) → Right at s t (ir_meaning.in_order (ir_meaning.operands w low ts) act env st)
-      arguments_right no_terms [] s t v f h fresh u at act env st i on = on at (adds-refl at) [] env st none_left i
-      arguments_right no_terms (r ∷ rs) s t v f h fresh u at act env st i on = absurd f
-      arguments_right (more_terms e es) [] s t v f h fresh u at act env st i on = absurd f
-      arguments_right (more_terms e es) (r ∷ rs) s t v f h fresh u at act env st i on = go_on_right at s s.locals (type_of_term e) s.locals t (step e env st) (λ a. ir_meaning.in_order (ir_meaning.operands w low es) (λ vs. act (a ∷ vs))) (tree_right e s v h.0 (λ x o. fresh x (inl o)) (sures-parts s (definitions e) (definitions_in es) u).0 at env st i) (λ y b a env st g i. arguments_right es rs s t v f.2 h.1 (λ x o. fresh x (inr o)) (sures-parts s (definitions e) (definitions_in es) u).1 y (λ vs. act (a ∷ vs)) env st i (λ z n vs env st k i. on z (adds-trans at y z b n) (a ∷ vs) env st (one_fits a r vs rs (type-lift (IsSub w) law y z n a (reference_type r) (operand-type y a (type_of_term e) (reference_type r) g f.0.0 (value-not (reference_type r) f.1))) k) i))
+      arguments_right : (ts : Terms) (rs : List TypeRef) (s : Scene) (t : IrType) → InScope (frame_of s) s.locals → ArgumentsFit w ts rs → AllHaveValues rs → TypedAll w has s ts → Fresh s (OwnAll ts) → Sures s (definitions_in ts) → (at : Classes) (act : List ir.Value → ir.Run) (env : ir.Env) (st : ir.State) → Ready at (frame_of s) s.locals env st → ((k : Classes) → Adds at k → (vs : List ir.Value) (env : ir.Env) (st : ir.State) → ValuesFit k vs rs → Ready k (frame_of s) s.locals env st → Right k s t (act vs env st)) → Right at s t (ir_meaning.in_order (ir_meaning.operands w low ts) act env st)
+      arguments_right no_terms [] s t v f values h fresh u at act env st i on = on at (adds-refl at) [] env st none_left i
+      arguments_right no_terms (r ∷ rs) s t v f values h fresh u at act env st i on = absurd f
+      arguments_right (more_terms e es) [] s t v f values h fresh u at act env st i on = absurd f
+      arguments_right (more_terms e es) (r ∷ rs) s t v f values h fresh u at act env st i on = go_on_right at s s.locals (type_of_term e) s.locals t (step e env st) (λ a. ir_meaning.in_order (ir_meaning.operands w low es) (λ vs. act (a ∷ vs))) (tree_right e s v h.0 (λ x o. fresh x (inl o)) (sures-parts s (definitions e) (definitions_in es) u).0 at env st i) (λ y b a env st g i. arguments_right es rs s t v f.1 values.1 h.1 (λ x o. fresh x (inr o)) (sures-parts s (definitions e) (definitions_in es) u).1 y (λ vs. act (a ∷ vs)) env st i (λ z n vs env st k i. on z (adds-trans at y z b n) (a ∷ vs) env st (one_fits a r vs rs (type-lift (IsSub w) law y z n a (reference_type r) (operand-type y a (type_of_term e) (reference_type r) g f.0 (value-not (reference_type r) values.0))) k) i))
 
       cases_right : (cs : Cases) (s : Scene) (t : IrType) → InScope (frame_of s) s.locals → TypedCases w has s t cs → Fresh s (OwnCases cs) → Sures s (definitions_of_cases cs) → (d : ir.Run) (n : ℤ) (at : Classes) (env : ir.Env) (st : ir.State) → Ready at (frame_of s) s.locals env st → Right at s t (d env st) → Right at s t (ir_meaning.branch_of (ir_meaning.branches w low cs) d n env st)
       cases_right no_cases s t v h fresh u d n at env st i k = k
       cases_right (more_cases [] e cs) s t v h fresh u d n at env st i k = cases_right cs s t v h (λ x o. fresh x (inr o)) (sures-parts s (definitions e) (definitions_of_cases cs) u).1 d n at env st i k
-      cases_right (more_cases (m ∷ ns) e cs) s t v h fresh u d n at env st i k = one_or_later at s t (list_any (int_eq n) (m ∷ ns)) (step e) (ir_meaning.branch_of (ir_meaning.branches w low cs) d n) env st (yields-right at s s.locals e t (step e env st).end (yields_there w has e t h.0.1 h.0.0) (tree_right e s v h.1 (λ x o. fresh x (inl o)) (sures-parts s (definitions e) (definitions_of_cases cs) u).0 at env st i)) (cases_right cs s t v h.2 (λ x o. fresh x (inr o)) (sures-parts s (definitions e) (definitions_of_cases cs) u).1 d n at env st i k)
+      cases_right (more_cases (m ∷ ns) e cs) s t v h fresh u d n at env st i k = one_or_later at s t (list_any (int_eq n) (m ∷ ns)) (step e) (ir_meaning.branch_of (ir_meaning.branches w low cs) d n) env st (yields-right at s s.locals e t (step e env st).end h.0 (tree_right e s v h.1 (λ x o. fresh x (inl o)) (sures-parts s (definitions e) (definitions_of_cases cs) u).0 at env st i)) (cases_right cs s t v h.2 (λ x o. fresh x (inr o)) (sures-parts s (definitions e) (definitions_of_cases cs) u).1 d n at env st i k)
 
   pub bodies_right : ObjectLaws w has → ((m : Member) → has.linked m ≡ true → RightMember w has m) → (n : ℕ) → LowRight (ir_meaning.below w n)
   bodies_right laws members zero t s v h fresh u at env st i = tt

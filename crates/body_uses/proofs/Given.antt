@@ -1,6 +1,5 @@
 -- Each body of the forms with objects is built with what it is given.
-use Rattle.std.proofs.Common.{◌≡◌, ℕ, Bool, true, false, List, [], ◌∷◌, ◌||◌, ◌⊎◌, inl, inr, None, refl, sym, subst, Contains, if◌then◌else◌}
-use Rattle.std.specs.Prelude.{not}
+use Rattle.std.proofs.Common.{◌≡◌, ℕ, Bool, true, false, List, [], ◌∷◌, ◌||◌, ◌⊎◌, inl, inr, None, refl, sym, subst, codes, Contains, if◌then◌else◌}
 use Rattle.std.specs.List.{All, list_any}
 use Rattle.std.proofs.lemmas.Bool.{and_parts, and_from}
 use Rattle.std.proofs.lemmas.List.Elements.{All-nil, All-cons}
@@ -16,7 +15,7 @@ use Rattle.sj_names.specs.declared.method_names.MethodName.{MethodName}
 use Rattle.sj_names.specs.declared.method_names.Namespace.{Namespace}
 use Rattle.sj_names.specs.declared.method_names.Namespace.TheVariants.{Public, PublicStatic, Private, PrivateStatic, Constructor}
 use Rattle.accepted_folders.specs.Typing.{may_check, is_built_with}
-use Rattle.accepted_folders.specs.Built.{Usable, can_box, may_yield, yields_boxed, is_built, any_object, is_object_body}
+use Rattle.accepted_folders.specs.Built.{Usable, can_box, may_make, is_built, any_object, body_boxes, is_object_body}
 use Rattle.sj_trees.specs.Term.{Term, Terms, new_object, select, select_static, apply_statically, apply_static, binary_op}
 use Rattle.sj_trees.specs.declared.classes.MethodDef.{MethodDef}
 use Rattle.sj_trees.specs.declared.positions.Position.{Position}
@@ -26,7 +25,8 @@ use Rattle.worklist.proofs.Inserted.{nothing_in}
 use Rattle.accepted_folders.proofs.Undenied.{first_or_later}
 use Rattle.body_uses.specs.Given.{Given, HelpersGiven}
 use Rattle.body_uses.specs.Laws.{BodiesUseWhatIsGiven, used_by}
-use Rattle.body_uses.proofs.Uses.{Gives, GivesReceived, followed_parts, or_second, tree}
+use Rattle.body_uses.proofs.Boxes.{box_used, box_among}
+use Rattle.body_uses.proofs.Uses.{Gives, GivesReceived, followed_parts, or_first, or_second, tree}
 
 same_binding : (a b : Binding) → is_same_binding a b ≡ true → a ≡ b
 same_binding a b h = let q = and_parts (is_same_text a.owner b.owner) (is_same_text a.name b.name) h in (λ i. record { owner = text-same a.owner b.owner q.0 i; name = text-same a.name b.name q.1 i })
@@ -75,9 +75,6 @@ module _ (has : Usable) (used : List Binding) where
   abbrev U : Binding → Type 0
   U = Contains used
 
-  box : false ≡ true → can_box has ≡ true
-  box h = impossible h
-
   call_given : (p : Position) (e : Term) (c : List ℕ) (n : Namespace) (m : MethodName) (ts : Terms) (t : IrType) → Given has used (apply_statically p e c n m ts t) → GivesReceived U any_object has n c m
   call_given p e c Constructor m ts t g = λ h u. g h u
   call_given p e c Private m ts t g = λ h u. g u
@@ -93,15 +90,20 @@ module _ (has : Usable) (used : List Binding) where
   gives (binary_op p o e d) g = λ h. g
   gives t g = tt
 
+-- objects that hold chars can be made, or the code makes none
+may_make_those : (has : Usable) (boxed : Bool) → (boxed ≡ true → can_box has ≡ true) → may_make has boxed ≡ true
+may_make_those has true h = or_first (can_box has) false (h refl)
+may_make_those has false h = or_second (can_box has) true refl
+
 body_given : (has : Usable) (d : MethodDef) (e : Term) → has.objects ≡ true → is_object_body d e ≡ true → HelpersGiven has (used_by d e) → ((t : Term) → Contains (trees e) t → Given has (used_by d e) t) → is_built_with has d e ≡ true
 body_given has d e objects k helpers given =
     let sure = sure_locals e in
     let used = used_by d e in
-    let q = and_parts (may_yield any_object d.result e) (is_built any_object (λ e. true) [] e) k in
     let code = body_code (is_mutable_in d e) d.result e in
     let within = completed_uses (Contains used) d.namespace code (all_from (Contains used) (uses_of_all (desugared_member d e).body) (in_uses (desugared_member d e).body)) in
     let each = all_from (Gives (Contains used) any_object has) (trees e) (λ t i. gives has used t (given t i)) in
-    and_from (may_yield has d.result e) (is_built has (may_check has sure) [] e) (or_second (can_box has) (not (yields_boxed d.result e)) q.0) (tree (Contains used) any_object has (λ e. true) sure (box has used) (λ h. objects) (λ x i f u. helpers x i u) (λ e h n. refl) (is_mutable_in d e) e [] (result_destination d.result) 1 [] q.1 each within)
+    let made = may_make_those has (body_boxes d e) (λ h. helpers (codes "$C") box_among (box_used (Contains used) sure (is_mutable_in d e) e [] (result_destination d.result) 1 within h)) in
+    and_from (may_make has (body_boxes d e)) (is_built has (may_check has sure) e) made (tree (Contains used) any_object has (λ e. true) sure (λ h. objects) (λ x i f u. helpers x i u) (λ e h n. refl) (is_mutable_in d e) e [] (result_destination d.result) 1 k each within)
 
 pub given : BodiesUseWhatIsGiven
 given has d e = body_given has d e

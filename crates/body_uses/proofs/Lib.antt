@@ -1,3 +1,4 @@
+pub mod Boxes
 pub mod Given
 pub mod Standing
 pub mod Statics

@@ -17,7 +17,6 @@ use Rattle.sj_names.specs.declared.method_names.Namespace.{Namespace}
 use Rattle.sj_names.specs.declared.method_names.Namespace.TheVariants.{Constructor}
 use Rattle.sj_trees.specs.Term.{Term, new_object, select, select_static, apply_statically, apply_static, binary_op}
 use Rattle.sure_receivers.specs.Sure.{is_sure}
-use Rattle.accepted_folders.specs.Label.{Label}
 use Rattle.body_uses.proofs.Given.{all_from}
 use Rattle.body_uses.proofs.Uses.{Gives, GivesReceived, tree}
 
@@ -48,5 +47,5 @@ module _ (U : Binding → Type 0) (linked_from linked_here : Member → Bool) (s
       go true n h = sym n
       go false n h = h
 
-  pub statics_kept : (is_mutable : List ℕ → Bool) (t : Term) (ts : Targets) (k : Destination) (j : ℕ) (ls : List Label) → is_built from (may_check from sure) ls t ≡ true → All U (uses_of_all (into is_mutable sure ts k j t).statements) → is_built has (may_check has sure) ls t ≡ true
-  statics_kept is_mutable t ts k j ls q h = tree U from has (may_check from sure) sure (λ h. h) (λ h. h) (λ x i h u. impossible h) never_checked is_mutable t ts k j ls q (all_from (Gives U from has) (trees t) (λ x i. gives x)) h
+  pub statics_kept : (is_mutable : List ℕ → Bool) (t : Term) (ts : Targets) (k : Destination) (j : ℕ) → is_built from (may_check from sure) t ≡ true → All U (uses_of_all (into is_mutable sure ts k j t).statements) → is_built has (may_check has sure) t ≡ true
+  statics_kept is_mutable t ts k j q h = tree U from has (may_check from sure) sure (λ h. h) (λ x i h u. impossible h) never_checked is_mutable t ts k j q (all_from (Gives U from has) (trees t) (λ x i. gives x)) h

@@ -23,14 +23,11 @@ use Rattle.sj_names.proofs.Same.{impossible}
 use Rattle.sj_names.specs.declared.method_names.Member.{Member}
 use Rattle.sj_names.specs.declared.references.TypeRef.{TypeRef}
 use Rattle.accepted_folders.specs.Typing.{may_check}
-use Rattle.accepted_folders.specs.Built.{Usable, can_box, may_box, may_yield, may_leave, may_pass, is_boxed, yields_boxed, leaves_boxed, any_is_boxed, is_nonzero_int, is_nonzero_long, divides, is_operation, stands, is_built, are_built, are_built_cases}
+use Rattle.accepted_folders.specs.Built.{Usable, is_nonzero_int, is_nonzero_long, divides, is_operation, stands, is_built, are_built, are_built_cases}
 use Rattle.sj_names.specs.declared.method_names.MethodName.{MethodName}
 use Rattle.sj_names.specs.declared.method_names.Namespace.{Namespace}
 use Rattle.sj_names.specs.declared.method_names.Namespace.TheVariants.{Public, Private, Constructor}
 use Rattle.sure_receivers.specs.Sure.{is_sure}
-use Rattle.accepted_folders.specs.Label.{Label}
-use Rattle.accepted_folders.specs.Labels.{type_of_label}
-use Rattle.accepted_folders.specs.Nodes.{inside as inside_label}
 use Rattle.sj_trees.specs.Term.{Term, Terms, no_terms, more_terms, Cases, no_cases, more_cases, var_def, skip, block_of, labeled, assign, return_to, if_then, while_loop, do_while, match_on, throw, new_object, select, select_static, apply_statically, apply_static, unary_op, binary_op, undefined_literal, null_literal, boolean_literal, char_literal, byte_literal, short_literal, int_literal, long_literal, string_literal, var_ref, this_ref, log_line}
 use Rattle.sj_trees.specs.TypeOf.{type_of_term, unary_result, binary_result}
 use Rattle.sj_trees.specs.Types.{class_type, reference_type}
@@ -47,7 +44,7 @@ operand_same StringConcatenate Char e = refl
 operand_same StringConcatenate t e = refl
 operand_same o t e = refl
 
-fixed_plain : (m : List ℕ → Bool) (t : Term) → is_fixed m t ≡ true → is_plain t ≡ true
+pub fixed_plain : (m : List ℕ → Bool) (t : Term) → is_fixed m t ≡ true → is_plain t ≡ true
 fixed_plain m (undefined_literal p) h = refl
 fixed_plain m (null_literal p) h = refl
 fixed_plain m (boolean_literal p b) h = refl
@@ -72,7 +69,7 @@ case_count false false true o os j rest = ap suc (rest (suc j))
 case_count false false false o os j rest = ap suc (rest (o.code (to_variable (core.numbered j) o.tpe) (suc j)).next)
 
 -- each operand has its expression
-spill_count : (os : List Operand) (j : ℕ) → length (spill os j).expressions ≡ length os
+pub spill_count : (os : List Operand) (j : ℕ) → length (spill os j).expressions ≡ length os
 spill_count [] j = refl
 spill_count (o ∷ os) j = case_count (o.plain && all_plain os) o.fixed o.plain o os j (spill_count os)
 
@@ -146,54 +143,54 @@ module _ {X : Type 0} (P : X → Type 0) where
   combine (x ∷ xs) ys h k = All-cons P x (xs ++ ys) (All-head P x xs h) (combine xs ys (All-tail P x xs h) k)
 
 module _ (U : Binding → Type 0) where
-  front : (xs ys : List Binding) → All U (xs ++ ys) → All U xs
+  pub front : (xs ys : List Binding) → All U (xs ++ ys) → All U xs
   front = ahead U
 
-  back : (xs ys : List Binding) → All U (xs ++ ys) → All U ys
+  pub back : (xs ys : List Binding) → All U (xs ++ ys) → All U ys
   back = after U
 
   join : (xs ys : List Binding) → All U xs → All U ys → All U (xs ++ ys)
   join = combine U
 
-  abbrev In : Expression → Type 0
+  abbrev pub In : Expression → Type 0
   In e = All U (uses_in e)
 
-  abbrev InAll : List Expression → Type 0
+  abbrev pub InAll : List Expression → Type 0
   InAll [] = Unit {0}
   InAll (e ∷ es) = In e × InAll es
 
-  abbrev Within : core.Statements → Type 0
+  abbrev pub Within : core.Statements → Type 0
   Within ss = All U (uses_of_all ss)
 
-  only : (s : core.Statement) → Within (core.statement s core.no_statements) → All U (uses_of s)
+  pub only : (s : core.Statement) → Within (core.statement s core.no_statements) → All U (uses_of s)
   only s h = front (uses_of s) [] h
 
   pub followed_parts : (a b : core.Statements) → Within (followed a b) → Within a × Within b
   followed_parts core.no_statements b h = (All-nil U, h)
   followed_parts (core.statement s ss) b h = let p = followed_parts ss b (back (uses_of s) (uses_of_all (followed ss b)) h) in (join (uses_of s) (uses_of_all ss) (front (uses_of s) (uses_of_all (followed ss b)) h) p.0, p.1)
 
-  uncoerced : (expected own : IrType) (e : Expression) → In (coerced expected own e) → In e
+  pub uncoerced : (expected own : IrType) (e : Expression) → In (coerced expected own e) → In e
   uncoerced expected own e = go (is_char own && not (is_char expected))
     where
       go : (b : Bool) → In (if b then boxed_char e else e) → In e
       go true h = back (uses_in (boxed_char core.undefined_value)) (uses_in e) h
       go false h = h
 
-  arguments_in : (rs : List TypeRef) (ts : List IrType) (es : List Expression) → All U (uses_in_all (expressions_of (coerced_arguments rs ts es))) → InAll es
+  pub arguments_in : (rs : List TypeRef) (ts : List IrType) (es : List Expression) → All U (uses_in_all (expressions_of (coerced_arguments rs ts es))) → InAll es
   arguments_in rs ts [] h = tt
   arguments_in (r ∷ rs) (t ∷ ts) (e ∷ es) h = let rest = coerced_arguments rs ts es in (uncoerced (reference_type r) t e (front (uses_in (coerced (reference_type r) t e)) (uses_in_all (expressions_of rest)) h), arguments_in rs ts es (back (uses_in (coerced (reference_type r) t e)) (uses_in_all (expressions_of rest)) h))
   arguments_in [] ts (e ∷ es) h = (front (uses_in e) (uses_in_all (expressions_of es)) h, arguments_in [] ts es (back (uses_in e) (uses_in_all (expressions_of es)) h))
   arguments_in (r ∷ rs) [] (e ∷ es) h = (front (uses_in e) (uses_in_all (expressions_of es)) h, arguments_in (r ∷ rs) [] es (back (uses_in e) (uses_in_all (expressions_of es)) h))
 
-  operand_in : (o : BinaryOp) (t : IrType) (e : Expression) → In (operand_of o t e) → In e
+  pub operand_in : (o : BinaryOp) (t : IrType) (e : Expression) → In (operand_of o t e) → In e
   operand_in o t e h = subst (All U) (operand_same o t e) h
 
   -- an operand's expression or its statements are within
-  data Written (o : Operand) : Type 0 where
+  pub data Written (o : Operand) : Type 0 where
     as_text : ((o.plain ≡ true) ⊎ (o.fixed ≡ true)) → In o.text → Written o
-    as_code : (x : core.Variable) (t : IrType) (j : ℕ) → Within (o.code (to_variable x t) j).statements → Written o
+    as_code : o.plain ≡ false → (x : core.Variable) (j : ℕ) → Within (o.code (to_variable x o.tpe) j).statements → Written o
 
-  abbrev AllWritten : List Operand → Type 0
+  abbrev pub AllWritten : List Operand → Type 0
   AllWritten [] = Unit {0}
   AllWritten (o ∷ os) = Written o × AllWritten os
 
@@ -211,28 +208,28 @@ module _ (U : Binding → Type 0) where
   case_in false false false o os j a f p rest hs he =
       let c : Code = o.code (to_variable (core.numbered j) o.tpe) (suc j) in
       let q = followed_parts c.statements (spill os c.next).statements hs in
-      (as_code (core.numbered j) o.tpe (suc j) q.0, rest c.next q.1 he.1)
+      (as_code p (core.numbered j) (suc j) q.0, rest c.next q.1 he.1)
 
-  spill_in : (os : List Operand) → SpillIn os
+  pub spill_in : (os : List Operand) → SpillIn os
   spill_in [] j hs he = tt
   spill_in (o ∷ os) j hs he = case_in (o.plain && all_plain os) o.fixed o.plain o os j refl refl refl (spill_in os) hs he
 
-  one_in : (es : List Expression) → length es ≡ 1 → In (first_of es) → InAll es
+  pub one_in : (es : List Expression) → length es ≡ 1 → In (first_of es) → InAll es
   one_in [] l h = tt
   one_in (e ∷ []) l h = (h, tt)
   one_in (e ∷ f ∷ es) l h = absurd (omega (arith, l))
 
-  two_in : (es : List Expression) → length es ≡ 2 → In (first_of es) → In (second_of es) → InAll es
+  pub two_in : (es : List Expression) → length es ≡ 2 → In (first_of es) → In (second_of es) → InAll es
   two_in [] l h k = tt
   two_in (e ∷ []) l h k = absurd (omega (arith, l))
   two_in (e ∷ f ∷ []) l h k = (h, (k, tt))
   two_in (e ∷ f ∷ g ∷ es) l h k = absurd (omega (arith, l))
 
-  first_and_rest : (es : List Expression) → In (first_of es) → InAll (rest_of es) → InAll es
+  pub first_and_rest : (es : List Expression) → In (first_of es) → InAll (rest_of es) → InAll es
   first_and_rest [] h k = tt
   first_and_rest (e ∷ es) h k = (h, k)
 
-  finished : (k : Destination) (p : Position) (t : IrType) (e : Expression) (j : ℕ) → Within (finish k p t false e j).statements → In e
+  pub finished : (k : Destination) (p : Position) (t : IrType) (e : Expression) (j : ℕ) → Within (finish k p t false e j).statements → In e
   finished discard p t e j h = only (core.evaluate_of (Some p) e) h
   finished (to_variable x expected) p t e j h = go (has_no_value t) h
     where
@@ -245,17 +242,17 @@ module _ (U : Binding → Type 0) where
       go true h = only (core.evaluate_of (Some p) e) h
       go false h = uncoerced expected t e (only (core.return_of (Some p) (coerced expected t e)) h)
 
-  labeled_in : (k : Destination) (p : Position) (l : List ℕ) (c : Code) → Within (labeled_code k p l c).statements → Within c.statements
+  pub labeled_in : (k : Destination) (p : Position) (l : List ℕ) (c : Code) → Within (labeled_code k p l c).statements → Within c.statements
   labeled_in (to_result t) p l c h = h
   labeled_in discard p l c h = only (core.labeled_of (Some p) l c.statements) h
   labeled_in (to_variable x t) p l c h = only (core.labeled_of (Some p) l c.statements) h
 
-  leaving_in : (k : Destination) (p : Position) (l : List ℕ) (c : Code) → Within (leaving_code k p l c).statements → Within c.statements
+  pub leaving_in : (k : Destination) (p : Position) (l : List ℕ) (c : Code) → Within (leaving_code k p l c).statements → Within c.statements
   leaving_in (to_result t) p l c h = h
   leaving_in discard p l c h = (followed_parts c.statements (core.statement (core.leave_label (Some p) l) core.no_statements) h).0
   leaving_in (to_variable x t) p l c h = (followed_parts c.statements (core.statement (core.leave_label (Some p) l) core.no_statements) h).0
 
-  break_in : (e : Expression) → All U (uses_of (break_unless e)) → In e
+  pub break_in : (e : Expression) → All U (uses_of (break_unless e)) → In e
   break_in e h = front (uses_in e) [] (front (uses_in e ++ []) [] h)
 
   -- where what code that can use the one uses is there for the other
@@ -276,26 +273,26 @@ module _ (U : Binding → Type 0) where
     Gives _ = Unit {0}
 
   -- where code that can use the one is given what it uses by the other
-  module _ (from has : Usable) (checked : Term → Bool) (sure : List ℕ → Bool) (box : can_box from ≡ true → can_box has ≡ true) (objects : from.objects ≡ true → has.objects ≡ true) (helpers : (x : List ℕ) → Contains body_helpers x → from.helper x ≡ true → U (object_binding x) → has.helper x ≡ true) (nulls : (e : Term) → checked e ≡ true → is_sure sure e ≡ false → from.helper check_name ≡ true) where
-    abbrev old : List Label → Term → Bool
+  module _ (from has : Usable) (checked : Term → Bool) (sure : List ℕ → Bool) (objects : from.objects ≡ true → has.objects ≡ true) (helpers : (x : List ℕ) → Contains body_helpers x → from.helper x ≡ true → U (object_binding x) → has.helper x ≡ true) (nulls : (e : Term) → checked e ≡ true → is_sure sure e ≡ false → from.helper check_name ≡ true) where
+    abbrev old : Term → Bool
     old = is_built from checked
 
-    abbrev olds : List Label → Terms → Bool
+    abbrev olds : Terms → Bool
     olds = are_built from checked
 
-    abbrev old_cases : List Label → IrType → Cases → Bool
+    abbrev old_cases : Cases → Bool
     old_cases = are_built_cases from checked
 
     abbrev checks : Term → Bool
     checks = may_check has sure
 
-    abbrev new : List Label → Term → Bool
+    abbrev new : Term → Bool
     new = is_built has checks
 
-    abbrev news : List Label → Terms → Bool
+    abbrev news : Terms → Bool
     news = are_built has checks
 
-    abbrev new_cases : List Label → IrType → Cases → Bool
+    abbrev new_cases : Cases → Bool
     new_cases = are_built_cases has checks
 
     abbrev Found : Term → Type 0
@@ -313,30 +310,20 @@ module _ (U : Binding → Type 0) where
     three : (a b c : Term) → Each (trees a ++ trees b ++ trees c) → Each (trees a) × (Each (trees b) × Each (trees c))
     three a b c g = let first = two a b (ahead Found (trees a ++ trees b) (trees c) g) in (first.0, (first.1, after Found (trees a ++ trees b) (trees c) g))
 
-    boxes : (x : Bool) → (can_box from || x) ≡ true → (can_box has || x) ≡ true
-    boxes x k = go (can_box from) refl k
-      where
-        go : (b : Bool) → can_box from ≡ b → (b || x) ≡ true → (can_box has || x) ≡ true
-        go true f k = or_first (can_box has) x (box f)
-        go false f k = or_second (can_box has) x k
-
-    passes : (rs : List TypeRef) (es : Terms) → may_pass from rs es ≡ true → may_pass has rs es ≡ true
-    passes rs es k = boxes (not (any_is_boxed rs es)) k
-
     in_check : Contains body_helpers check_name
-    in_check = here check_name (codes "$id" ∷ codes "$im" ∷ codes "$ld" ∷ codes "$lm" ∷ [])
+    in_check = here check_name (codes "$id" ∷ codes "$im" ∷ codes "$ld" ∷ codes "$lm" ∷ codes "$C" ∷ [])
 
     in_int_quotient : Contains body_helpers (codes "$id")
-    in_int_quotient = there check_name (codes "$id" ∷ codes "$im" ∷ codes "$ld" ∷ codes "$lm" ∷ []) (codes "$id") (here (codes "$id") (codes "$im" ∷ codes "$ld" ∷ codes "$lm" ∷ []))
+    in_int_quotient = there check_name (codes "$id" ∷ codes "$im" ∷ codes "$ld" ∷ codes "$lm" ∷ codes "$C" ∷ []) (codes "$id") (here (codes "$id") (codes "$im" ∷ codes "$ld" ∷ codes "$lm" ∷ codes "$C" ∷ []))
 
     in_int_remainder : Contains body_helpers (codes "$im")
-    in_int_remainder = there check_name (codes "$id" ∷ codes "$im" ∷ codes "$ld" ∷ codes "$lm" ∷ []) (codes "$im") (there (codes "$id") (codes "$im" ∷ codes "$ld" ∷ codes "$lm" ∷ []) (codes "$im") (here (codes "$im") (codes "$ld" ∷ codes "$lm" ∷ [])))
+    in_int_remainder = there check_name (codes "$id" ∷ codes "$im" ∷ codes "$ld" ∷ codes "$lm" ∷ codes "$C" ∷ []) (codes "$im") (there (codes "$id") (codes "$im" ∷ codes "$ld" ∷ codes "$lm" ∷ codes "$C" ∷ []) (codes "$im") (here (codes "$im") (codes "$ld" ∷ codes "$lm" ∷ codes "$C" ∷ [])))
 
     in_long_quotient : Contains body_helpers (codes "$ld")
-    in_long_quotient = there check_name (codes "$id" ∷ codes "$im" ∷ codes "$ld" ∷ codes "$lm" ∷ []) (codes "$ld") (there (codes "$id") (codes "$im" ∷ codes "$ld" ∷ codes "$lm" ∷ []) (codes "$ld") (there (codes "$im") (codes "$ld" ∷ codes "$lm" ∷ []) (codes "$ld") (here (codes "$ld") (codes "$lm" ∷ []))))
+    in_long_quotient = there check_name (codes "$id" ∷ codes "$im" ∷ codes "$ld" ∷ codes "$lm" ∷ codes "$C" ∷ []) (codes "$ld") (there (codes "$id") (codes "$im" ∷ codes "$ld" ∷ codes "$lm" ∷ codes "$C" ∷ []) (codes "$ld") (there (codes "$im") (codes "$ld" ∷ codes "$lm" ∷ codes "$C" ∷ []) (codes "$ld") (here (codes "$ld") (codes "$lm" ∷ codes "$C" ∷ []))))
 
     in_long_remainder : Contains body_helpers (codes "$lm")
-    in_long_remainder = there check_name (codes "$id" ∷ codes "$im" ∷ codes "$ld" ∷ codes "$lm" ∷ []) (codes "$lm") (there (codes "$id") (codes "$im" ∷ codes "$ld" ∷ codes "$lm" ∷ []) (codes "$lm") (there (codes "$im") (codes "$ld" ∷ codes "$lm" ∷ []) (codes "$lm") (there (codes "$ld") (codes "$lm" ∷ []) (codes "$lm") (here (codes "$lm") []))))
+    in_long_remainder = there check_name (codes "$id" ∷ codes "$im" ∷ codes "$ld" ∷ codes "$lm" ∷ codes "$C" ∷ []) (codes "$lm") (there (codes "$id") (codes "$im" ∷ codes "$ld" ∷ codes "$lm" ∷ codes "$C" ∷ []) (codes "$lm") (there (codes "$im") (codes "$ld" ∷ codes "$lm" ∷ codes "$C" ∷ []) (codes "$lm") (there (codes "$ld") (codes "$lm" ∷ codes "$C" ∷ []) (codes "$lm") (here (codes "$lm") (codes "$C" ∷ [])))))
 
     -- the check of null is used unless the receiver is sure
     abbrev IsChecked : Term → Type 0
@@ -361,50 +348,50 @@ module _ (U : Binding → Type 0) where
     unreceived own e h = uncoerced (IrType.Class (codes "java.lang.Character")) own e h
 
     -- a literal in emitted code is one of its own type
-    literal : (d : Term) (ls : List Label) → is_plain d ≡ true → old ls d ≡ true → is_nonzero_literal (expression_of sure d) ≡ true → (may_be_int (type_of_term d) ≡ true → is_nonzero_int d ≡ true) × (may_be_long (type_of_term d) ≡ true → is_nonzero_long d ≡ true)
-    literal (int_literal p z) ls q k l = (λ t. nonzero z (λ e. impossible (subst (λ (y : ℤ). is_nonzero_literal (core.number_value y) ≡ true) e l)), λ t. impossible t)
-    literal (long_literal p z) ls q k l = (λ t. impossible t, λ t. nonzero z (λ e. impossible (subst (λ (y : ℤ). is_nonzero_literal (core.long_value y) ≡ true) e l)))
-    literal (undefined_literal p) ls q k l = (λ t. impossible t, λ t. impossible t)
-    literal (null_literal p) ls q k l = (λ t. impossible t, λ t. impossible t)
-    literal (boolean_literal p b) ls q k l = (λ t. impossible t, λ t. impossible t)
-    literal (char_literal p z) ls q k l = (λ t. impossible t, λ t. impossible t)
-    literal (byte_literal p z) ls q k l = (λ t. impossible t, λ t. impossible t)
-    literal (short_literal p z) ls q k l = (λ t. impossible t, λ t. impossible t)
-    literal (string_literal p us) ls q k l = (λ t. impossible t, λ t. impossible t)
-    literal (if_then p c a b t) ls q k l = impossible l
-    literal (apply_static p c n m ts t) ls q k l = impossible l
-    literal (apply_statically p e c n m ts t) ls q k l = impossible l
-    literal (new_object p c m ts) ls q k l = impossible l
-    literal (select p e c f t) ls q k l = impossible l
-    literal (select_static p c f t) ls q k l = impossible l
-    literal (unary_op p o e) ls q k l = impossible l
-    literal (binary_op p o e d) ls q k l = impossible l
-    literal (var_ref p x t) ls q k l = impossible l
-    literal (this_ref p t) ls q k l = impossible l
-    literal (var_def p x t b e) ls q k l = impossible q
-    literal (skip p) ls q k l = impossible q
-    literal (block_of p ts) ls q k l = impossible q
-    literal (labeled p n t e) ls q k l = impossible q
-    literal (assign p d e) ls q k l = impossible q
-    literal (return_to p e n) ls q k l = impossible q
-    literal (while_loop p c b) ls q k l = impossible q
-    literal (do_while p b c) ls q k l = impossible q
-    literal (match_on p e cs d t) ls q k l = impossible q
-    literal (throw p e) ls q k l = impossible q
-    literal (log_line p e) ls q k l = impossible q
-    literal t ls q k l = impossible k
+    literal : (d : Term) → is_plain d ≡ true → old d ≡ true → is_nonzero_literal (expression_of sure d) ≡ true → (may_be_int (type_of_term d) ≡ true → is_nonzero_int d ≡ true) × (may_be_long (type_of_term d) ≡ true → is_nonzero_long d ≡ true)
+    literal (int_literal p z) q k l = (λ t. nonzero z (λ e. impossible (subst (λ (y : ℤ). is_nonzero_literal (core.number_value y) ≡ true) e l)), λ t. impossible t)
+    literal (long_literal p z) q k l = (λ t. impossible t, λ t. nonzero z (λ e. impossible (subst (λ (y : ℤ). is_nonzero_literal (core.long_value y) ≡ true) e l)))
+    literal (undefined_literal p) q k l = (λ t. impossible t, λ t. impossible t)
+    literal (null_literal p) q k l = (λ t. impossible t, λ t. impossible t)
+    literal (boolean_literal p b) q k l = (λ t. impossible t, λ t. impossible t)
+    literal (char_literal p z) q k l = (λ t. impossible t, λ t. impossible t)
+    literal (byte_literal p z) q k l = (λ t. impossible t, λ t. impossible t)
+    literal (short_literal p z) q k l = (λ t. impossible t, λ t. impossible t)
+    literal (string_literal p us) q k l = (λ t. impossible t, λ t. impossible t)
+    literal (if_then p c a b t) q k l = impossible l
+    literal (apply_static p c n m ts t) q k l = impossible l
+    literal (apply_statically p e c n m ts t) q k l = impossible l
+    literal (new_object p c m ts) q k l = impossible l
+    literal (select p e c f t) q k l = impossible l
+    literal (select_static p c f t) q k l = impossible l
+    literal (unary_op p o e) q k l = impossible l
+    literal (binary_op p o e d) q k l = impossible l
+    literal (var_ref p x t) q k l = impossible l
+    literal (this_ref p t) q k l = impossible l
+    literal (var_def p x t b e) q k l = impossible q
+    literal (skip p) q k l = impossible q
+    literal (block_of p ts) q k l = impossible q
+    literal (labeled p n t e) q k l = impossible q
+    literal (assign p d e) q k l = impossible q
+    literal (return_to p e n) q k l = impossible q
+    literal (while_loop p c b) q k l = impossible q
+    literal (do_while p b c) q k l = impossible q
+    literal (match_on p e cs d t) q k l = impossible q
+    literal (throw p e) q k l = impossible q
+    literal (log_line p e) q k l = impossible q
+    literal t q k l = impossible k
 
     -- the expression of a right operand is its own, or it is no literal
     abbrev IsRight : Term → Expression → Type 0
     IsRight d e = ((is_plain d ≡ true) × (e ≡ expression_of sure d)) ⊎ (is_nonzero_literal e ≡ false)
 
-    int_divisor : (d : Term) (ls : List Label) (e : Expression) → IsRight d e → old ls d ≡ true → HasType Int d → is_nonzero_literal e ≡ true → is_nonzero_int d ≡ true
-    int_divisor d ls e (inl q) k t l = (literal d ls q.0 k (subst (λ (y : Expression). is_nonzero_literal y ≡ true) q.1 l)).0 (as_int d t)
-    int_divisor d ls e (inr n) k t l = impossible (sym n ∙ l)
+    int_divisor : (d : Term) (e : Expression) → IsRight d e → old d ≡ true → HasType Int d → is_nonzero_literal e ≡ true → is_nonzero_int d ≡ true
+    int_divisor d e (inl q) k t l = (literal d q.0 k (subst (λ (y : Expression). is_nonzero_literal y ≡ true) q.1 l)).0 (as_int d t)
+    int_divisor d e (inr n) k t l = impossible (sym n ∙ l)
 
-    long_divisor : (d : Term) (ls : List Label) (e : Expression) → IsRight d e → old ls d ≡ true → HasType Long d → is_nonzero_literal e ≡ true → is_nonzero_long d ≡ true
-    long_divisor d ls e (inl q) k t l = (literal d ls q.0 k (subst (λ (y : Expression). is_nonzero_literal y ≡ true) q.1 l)).1 (as_long d t)
-    long_divisor d ls e (inr n) k t l = impossible (sym n ∙ l)
+    long_divisor : (d : Term) (e : Expression) → IsRight d e → old d ≡ true → HasType Long d → is_nonzero_literal e ≡ true → is_nonzero_long d ≡ true
+    long_divisor d e (inl q) k t l = (literal d q.0 k (subst (λ (y : Expression). is_nonzero_literal y ≡ true) q.1 l)).1 (as_long d t)
+    long_divisor d e (inr n) k t l = impossible (sym n ∙ l)
 
     -- a divisor is a literal, or its helper is used
     division : (x : List ℕ) → Contains body_helpers x → (nonzero b : Bool) → (b ≡ true → from.helper x ≡ true → nonzero ≡ true) → (b ≡ false → U (object_binding x)) → (from.helper x || nonzero) ≡ true → (has.helper x || nonzero) ≡ true
@@ -418,134 +405,115 @@ module _ (U : Binding → Type 0) where
     first_used : (b : Bool) (f : Bool → List Binding) (y : Binding) → f false ≡ y ∷ [] → All U (f b) → b ≡ false → U y
     first_used b f y is h e = All-head U y [] (subst (All U) is (subst (λ (c : Bool). All U (f c)) e h))
 
-    operation_there : (o : BinaryOp) (d : Term) (ls : List Label) (e : Expression) → IsRight d e → old ls d ≡ true → (divides from o ≡ true → FitsDivision o d) → All U (helper_of (is_nonzero_literal (operand_of o (type_of_term d) e)) o) → is_operation from o d ≡ true → is_operation has o d ≡ true
-    operation_there StrictEqual d ls e r k g h q = impossible q
-    operation_there StrictNotEqual d ls e r k g h q = impossible q
-    operation_there IntDivide d ls e r k g h q = division (codes "$id") in_int_quotient (is_nonzero_int d) (is_nonzero_literal e) (λ l f. int_divisor d ls e r k (g f) l) (first_used (is_nonzero_literal e) (λ c. helper_of c IntDivide) (object_binding (codes "$id")) refl h) q
-    operation_there IntRemainder d ls e r k g h q = division (codes "$im") in_int_remainder (is_nonzero_int d) (is_nonzero_literal e) (λ l f. int_divisor d ls e r k (g f) l) (first_used (is_nonzero_literal e) (λ c. helper_of c IntRemainder) (object_binding (codes "$im")) refl h) q
-    operation_there LongDivide d ls e r k g h q = division (codes "$ld") in_long_quotient (is_nonzero_long d) (is_nonzero_literal e) (λ l f. long_divisor d ls e r k (g f) l) (first_used (is_nonzero_literal e) (λ c. helper_of c LongDivide) (object_binding (codes "$ld")) refl h) q
-    operation_there LongRemainder d ls e r k g h q = division (codes "$lm") in_long_remainder (is_nonzero_long d) (is_nonzero_literal e) (λ l f. long_divisor d ls e r k (g f) l) (first_used (is_nonzero_literal e) (λ c. helper_of c LongRemainder) (object_binding (codes "$lm")) refl h) q
-    operation_there _ d ls e r k g h q = refl
+    operation_there : (o : BinaryOp) (d : Term) (e : Expression) → IsRight d e → old d ≡ true → (divides from o ≡ true → FitsDivision o d) → All U (helper_of (is_nonzero_literal (operand_of o (type_of_term d) e)) o) → is_operation from o d ≡ true → is_operation has o d ≡ true
+    operation_there StrictEqual d e r k g h q = impossible q
+    operation_there StrictNotEqual d e r k g h q = impossible q
+    operation_there IntDivide d e r k g h q = division (codes "$id") in_int_quotient (is_nonzero_int d) (is_nonzero_literal e) (λ l f. int_divisor d e r k (g f) l) (first_used (is_nonzero_literal e) (λ c. helper_of c IntDivide) (object_binding (codes "$id")) refl h) q
+    operation_there IntRemainder d e r k g h q = division (codes "$im") in_int_remainder (is_nonzero_int d) (is_nonzero_literal e) (λ l f. int_divisor d e r k (g f) l) (first_used (is_nonzero_literal e) (λ c. helper_of c IntRemainder) (object_binding (codes "$im")) refl h) q
+    operation_there LongDivide d e r k g h q = division (codes "$ld") in_long_quotient (is_nonzero_long d) (is_nonzero_literal e) (λ l f. long_divisor d e r k (g f) l) (first_used (is_nonzero_literal e) (λ c. helper_of c LongDivide) (object_binding (codes "$ld")) refl h) q
+    operation_there LongRemainder d e r k g h q = division (codes "$lm") in_long_remainder (is_nonzero_long d) (is_nonzero_literal e) (λ l f. long_divisor d e r k (g f) l) (first_used (is_nonzero_literal e) (λ c. helper_of c LongRemainder) (object_binding (codes "$lm")) refl h) q
+    operation_there _ d e r k g h q = refl
 
     -- a field is there and its receiver is checked
     select_there : (c f : List ℕ) (t : IrType) (e : Term) → (from.field c f t ≡ true → has.field c f t ≡ true) → IsChecked e → (from.field c f t && checked e) ≡ true → (has.field c f t && checks e) ≡ true
     select_there c f t e g u k = let q = and_parts (from.field c f t) (checked e) k in and_from (has.field c f t) (checks e) (g q.0) (check_there e q.1 u)
 
-    assign_there : (c f : List ℕ) (t : IrType) (d e : Term) → (from.field c f t ≡ true → has.field c f t ≡ true) → IsChecked d → (from.field c f t && (checked d && may_box from t e)) ≡ true → (has.field c f t && (checks d && may_box has t e)) ≡ true
-    assign_there c f t d e g u k =
-        let q = and_parts (from.field c f t) (checked d && may_box from t e) k in
-        let r = and_parts (checked d) (may_box from t e) q.1 in
-        and_from (has.field c f t) (checks d && may_box has t e) (g q.0) (and_from (checks d) (may_box has t e) (check_there d r.0 u) (boxes (not (is_boxed t e)) r.1))
+    method_there : (k : Member) (e : Term) → (from.received k ≡ true → U (function_binding k) → has.received k ≡ true) → IsChecked e → U (function_binding k) → (from.received k && checked e) ≡ true → (has.received k && checks e) ≡ true
+    method_there k e g u f h = let q = and_parts (from.received k) (checked e) h in and_from (has.received k) (checks e) (g q.0 f) (check_there e q.1 u)
 
-    method_there : (k : Member) (rs : List TypeRef) (e : Term) (ts : Terms) → (from.received k ≡ true → U (function_binding k) → has.received k ≡ true) → IsChecked e → U (function_binding k) → (from.received k && (checked e && (may_box from Any e && may_pass from rs ts))) ≡ true → (has.received k && (checks e && (may_box has Any e && may_pass has rs ts))) ≡ true
-    method_there k rs e ts g u f h =
-        let q = and_parts (from.received k) (checked e && (may_box from Any e && may_pass from rs ts)) h in
-        let r = and_parts (checked e) (may_box from Any e && may_pass from rs ts) q.1 in
-        let s = and_parts (may_box from Any e) (may_pass from rs ts) r.1 in
-        and_from (has.received k) (checks e && (may_box has Any e && may_pass has rs ts)) (g q.0 f) (and_from (checks e) (may_box has Any e && may_pass has rs ts) (check_there e r.0 u) (and_from (may_box has Any e) (may_pass has rs ts) (boxes (not (is_boxed Any e)) s.0) (passes rs ts s.1)))
+    call_there : (p : Position) (e : Term) (c : List ℕ) (n : Namespace) (m : MethodName) (ts : Terms) (t : IrType) → GivesReceived from has n c m → IsChecked e → U (function_binding (member c n m)) → stands from checked (apply_statically p e c n m ts t) ≡ true → stands has checks (apply_statically p e c n m ts t) ≡ true
+    call_there p e c Public m ts t g u f h = method_there (member c Public m) e g u f h
+    call_there p e c Private m ts t g u f h = method_there (member c Private m) e g u f h
+    call_there p e c Constructor m ts t g u f h = let q = and_parts (from.built (member c Constructor m)) (is_no_type t) h in and_from (has.built (member c Constructor m)) (is_no_type t) (g q.0 f) q.1
+    call_there p e c n m ts t g u f h = impossible h
 
-    call_there : (p : Position) (e : Term) (c : List ℕ) (n : Namespace) (m : MethodName) (ts : Terms) (t : IrType) (ls : List Label) → GivesReceived from has n c m → IsChecked e → U (function_binding (member c n m)) → stands from checked ls (apply_statically p e c n m ts t) ≡ true → stands has checks ls (apply_statically p e c n m ts t) ≡ true
-    call_there p e c Public m ts t ls g u f h = method_there (member c Public m) m.params e ts g u f h
-    call_there p e c Private m ts t ls g u f h = method_there (member c Private m) m.params e ts g u f h
-    call_there p e c Constructor m ts t ls g u f h =
-        let q = and_parts (from.built (member c Constructor m)) (is_no_type t && may_pass from m.params ts) h in
-        let r = and_parts (is_no_type t) (may_pass from m.params ts) q.1 in
-        and_from (has.built (member c Constructor m)) (is_no_type t && may_pass has m.params ts) (g q.0 f) (and_from (is_no_type t) (may_pass has m.params ts) r.0 (passes m.params ts r.1))
-    call_there p e c n m ts t ls g u f h = impossible h
-
-    new_there : (p : Position) (c : List ℕ) (m : MethodName) (ts : Terms) (ls : List Label) → Found (new_object p c m ts) → U (function_binding (member c Constructor m)) → U (class_use c) → stands from checked ls (new_object p c m ts) ≡ true → stands has checks ls (new_object p c m ts) ≡ true
-    new_there p c m ts ls g f u h =
-        let q = and_parts (from.made c) (from.built (member c Constructor m) && may_pass from m.params ts) h in
-        let r = and_parts (from.built (member c Constructor m)) (may_pass from m.params ts) q.1 in
-        let there = g q.0 r.0 f u in
-        and_from (has.made c) (has.built (member c Constructor m) && may_pass has m.params ts) there.1 (and_from (has.built (member c Constructor m)) (may_pass has m.params ts) there.0 (passes m.params ts r.1))
-
-    yields_there : (a b : Term) (t : IrType) → (may_yield from t a && may_yield from t b) ≡ true → (may_yield has t a && may_yield has t b) ≡ true
-    yields_there a b t k = let q = and_parts (may_yield from t a) (may_yield from t b) k in and_from (may_yield has t a) (may_yield has t b) (boxes (not (yields_boxed t a)) q.0) (boxes (not (yields_boxed t b)) q.1)
+    new_there : (p : Position) (c : List ℕ) (m : MethodName) (ts : Terms) → Found (new_object p c m ts) → U (function_binding (member c Constructor m)) → U (class_use c) → stands from checked (new_object p c m ts) ≡ true → stands has checks (new_object p c m ts) ≡ true
+    new_there p c m ts g f u h =
+        let q = and_parts (from.made c) (from.built (member c Constructor m)) h in
+        let there = g q.0 q.1 f u in
+        and_from (has.made c) (has.built (member c Constructor m)) there.1 there.0
 
     mutual
-      plain : (t : Term) (ls : List Label) → is_plain t ≡ true → old ls t ≡ true → Each (trees t) → In (expression_of sure t) → new ls t ≡ true
-      plain (if_then p c a b t) ls q k g h =
+      plain : (t : Term) → is_plain t ≡ true → old t ≡ true → Each (trees t) → In (expression_of sure t) → new t ≡ true
+      plain (if_then p c a b t) q k g h =
           let q2 = and_parts ((not (is_no_type t) && is_plain c) && is_plain a) (is_plain b) q in
           let q1 = and_parts (not (is_no_type t) && is_plain c) (is_plain a) q2.0 in
           let q0 = and_parts (not (is_no_type t)) (is_plain c) q1.0 in
-          let k0 = and_parts (may_yield from t a && may_yield from t b) (old ls c && (old ls a && old ls b)) k in
-          let k1 = and_parts (old ls c) (old ls a && old ls b) k0.1 in
-          let k2 = and_parts (old ls a) (old ls b) k1.1 in
+          let k1 = and_parts (old c) (old a && old b) k in
+          let k2 = and_parts (old a) (old b) k1.1 in
           let left = coerced t (type_of_term a) (expression_of sure a) in
           let right = coerced t (type_of_term b) (expression_of sure b) in
           let h0 = front (uses_in (expression_of sure c) ++ uses_in left) (uses_in right) h in
           let g0 = three c a b (inner (if_then p c a b t) g) in
-          and_from (may_yield has t a && may_yield has t b) (new ls c && (new ls a && new ls b)) (yields_there a b t k0.0) (and_from (new ls c) (new ls a && new ls b) (plain c ls q0.1 k1.0 g0.0 (front (uses_in (expression_of sure c)) (uses_in left) h0)) (and_from (new ls a) (new ls b) (plain a ls q1.1 k2.0 g0.1.0 (uncoerced t (type_of_term a) (expression_of sure a) (back (uses_in (expression_of sure c)) (uses_in left) h0))) (plain b ls q2.1 k2.1 g0.1.1 (uncoerced t (type_of_term b) (expression_of sure b) (back (uses_in (expression_of sure c) ++ uses_in left) (uses_in right) h)))))
-      plain (apply_static p c n m ts t) ls q k g h =
-          let k0 = and_parts (from.linked (member c n m)) (may_pass from m.params ts && olds ls ts) k in
-          let k1 = and_parts (may_pass from m.params ts) (olds ls ts) k0.1 in
+          and_from (new c) (new a && new b) (plain c q0.1 k1.0 g0.0 (front (uses_in (expression_of sure c)) (uses_in left) h0)) (and_from (new a) (new b) (plain a q1.1 k2.0 g0.1.0 (uncoerced t (type_of_term a) (expression_of sure a) (back (uses_in (expression_of sure c)) (uses_in left) h0))) (plain b q2.1 k2.1 g0.1.1 (uncoerced t (type_of_term b) (expression_of sure b) (back (uses_in (expression_of sure c) ++ uses_in left) (uses_in right) h))))
+      plain (apply_static p c n m ts t) q k g h =
+          let k0 = and_parts (from.linked (member c n m)) (olds ts) k in
           let inside = uses_in_all (expressions_of (coerced_arguments m.params (types_of ts) (all_expressions sure ts))) in
-          and_from (has.linked (member c n m)) (may_pass has m.params ts && news ls ts) (All-head Found (apply_static p c n m ts t) (all_below ts) g k0.0 (All-head U (function_binding (member c n m)) inside h)) (and_from (may_pass has m.params ts) (news ls ts) (passes m.params ts k1.0) (all_plain_built ts ls q k1.1 (inner (apply_static p c n m ts t) g) (arguments_in m.params (types_of ts) (all_expressions sure ts) (All-tail U (function_binding (member c n m)) inside h))))
-      plain (apply_statically p e c n m ts t) ls q k g h =
+          and_from (has.linked (member c n m)) (news ts) (All-head Found (apply_static p c n m ts t) (all_below ts) g k0.0 (All-head U (function_binding (member c n m)) inside h)) (all_plain_built ts q k0.1 (inner (apply_static p c n m ts t) g) (arguments_in m.params (types_of ts) (all_expressions sure ts) (All-tail U (function_binding (member c n m)) inside h)))
+      plain (apply_statically p e c n m ts t) q k g h =
           let tree = apply_statically p e c n m ts t in
           let q0 = and_parts (is_plain e) (are_plain ts) q in
-          let k0 = and_parts (stands from checked ls tree) (old ls e && olds ls ts) k in
-          let k1 = and_parts (old ls e) (olds ls ts) k0.1 in
+          let k0 = and_parts (stands from checked tree) (old e && olds ts) k in
+          let k1 = and_parts (old e) (olds ts) k0.1 in
           let text = received_text (is_sure sure e) (expression_of sure e) in
           let target = coerced_receiver (type_of_term e) text in
           let inside = uses_in_all (expressions_of (coerced_arguments m.params (types_of ts) (all_expressions sure ts))) in
           let behind = All-tail U (function_binding (member c n m)) (uses_in target ++ inside) h in
           let own = unreceived (type_of_term e) text (front (uses_in target) inside behind) in
-          and_from (stands has checks ls tree) (new ls e && news ls ts) (call_there p e c n m ts t ls (All-head Found tree (below tree) g) (checked_in (is_sure sure e) (expression_of sure e) own) (All-head U (function_binding (member c n m)) (uses_in target ++ inside) h) k0.0) (and_from (new ls e) (news ls ts) (plain e ls q0.0 k1.0 (ahead Found (trees e) (all_below ts) (inner tree g)) (received_in (is_sure sure e) (expression_of sure e) own)) (all_plain_built ts ls q0.1 k1.1 (after Found (trees e) (all_below ts) (inner tree g)) (arguments_in m.params (types_of ts) (all_expressions sure ts) (back (uses_in target) inside behind))))
-      plain (new_object p c m ts) ls q k g h =
+          and_from (stands has checks tree) (new e && news ts) (call_there p e c n m ts t (All-head Found tree (below tree) g) (checked_in (is_sure sure e) (expression_of sure e) own) (All-head U (function_binding (member c n m)) (uses_in target ++ inside) h) k0.0) (and_from (new e) (news ts) (plain e q0.0 k1.0 (ahead Found (trees e) (all_below ts) (inner tree g)) (received_in (is_sure sure e) (expression_of sure e) own)) (all_plain_built ts q0.1 k1.1 (after Found (trees e) (all_below ts) (inner tree g)) (arguments_in m.params (types_of ts) (all_expressions sure ts) (back (uses_in target) inside behind))))
+      plain (new_object p c m ts) q k g h =
           let tree = new_object p c m ts in
-          let k0 = and_parts (stands from checked ls tree) (olds ls ts) k in
+          let k0 = and_parts (stands from checked tree) (olds ts) k in
           let inside = uses_in_all (expressions_of (coerced_arguments m.params (types_of ts) (all_expressions sure ts))) in
           let behind = All-tail U (function_binding (member c Constructor m)) (class_use c ∷ inside) h in
-          and_from (stands has checks ls tree) (news ls ts) (new_there p c m ts ls (All-head Found tree (all_below ts) g) (All-head U (function_binding (member c Constructor m)) (class_use c ∷ inside) h) (All-head U (class_use c) inside behind) k0.0) (all_plain_built ts ls q k0.1 (inner tree g) (arguments_in m.params (types_of ts) (all_expressions sure ts) (All-tail U (class_use c) inside behind)))
-      plain (select p e c f t) ls q k g h =
+          and_from (stands has checks tree) (news ts) (new_there p c m ts (All-head Found tree (all_below ts) g) (All-head U (function_binding (member c Constructor m)) (class_use c ∷ inside) h) (All-head U (class_use c) inside behind) k0.0) (all_plain_built ts q k0.1 (inner tree g) (arguments_in m.params (types_of ts) (all_expressions sure ts) (All-tail U (class_use c) inside behind)))
+      plain (select p e c f t) q k g h =
           let tree = select p e c f t in
-          let k0 = and_parts (stands from checked ls tree) (old ls e) k in
-          and_from (stands has checks ls tree) (new ls e) (select_there c f t e (All-head Found tree (below tree) g) (checked_in (is_sure sure e) (expression_of sure e) h) k0.0) (plain e ls q k0.1 (inner tree g) (received_in (is_sure sure e) (expression_of sure e) h))
-      plain (select_static p c f t) ls q k g h = All-head Found (select_static p c f t) [] g k (inl (All-head U (static_use c f) [] h))
-      plain (unary_op p o e) ls q k g h = plain e ls q k (inner (unary_op p o e) g) h
-      plain (binary_op p o e d) ls q k g h =
+          let k0 = and_parts (stands from checked tree) (old e) k in
+          and_from (stands has checks tree) (new e) (select_there c f t e (All-head Found tree (below tree) g) (checked_in (is_sure sure e) (expression_of sure e) h) k0.0) (plain e q k0.1 (inner tree g) (received_in (is_sure sure e) (expression_of sure e) h))
+      plain (select_static p c f t) q k g h = All-head Found (select_static p c f t) [] g k (inl (All-head U (static_use c f) [] h))
+      plain (unary_op p o e) q k g h = plain e q k (inner (unary_op p o e) g) h
+      plain (binary_op p o e d) q k g h =
           let q0 = and_parts (is_plain e) (is_plain d) q in
-          let k0 = and_parts (is_operation from o d) (old ls e && old ls d) k in
-          let k1 = and_parts (old ls e) (old ls d) k0.1 in
+          let k0 = and_parts (is_operation from o d) (old e && old d) k in
+          let k1 = and_parts (old e) (old d) k0.1 in
           let left = operand_of o (type_of_term e) (expression_of sure e) in
           let right = operand_of o (type_of_term d) (expression_of sure d) in
           let helper = helper_of (is_nonzero_literal right) o in
           let h0 = front (helper ++ uses_in left) (uses_in right) h in
           let g0 = two e d (inner (binary_op p o e d) g) in
-          and_from (is_operation has o d) (new ls e && new ls d) (operation_there o d ls (expression_of sure d) (inl (q0.1, refl)) k1.1 (All-head Found (binary_op p o e d) (trees e ++ trees d) g) (front helper (uses_in left) h0) k0.0) (and_from (new ls e) (new ls d) (plain e ls q0.0 k1.0 g0.0 (operand_in o (type_of_term e) (expression_of sure e) (back helper (uses_in left) h0))) (plain d ls q0.1 k1.1 g0.1 (operand_in o (type_of_term d) (expression_of sure d) (back (helper ++ uses_in left) (uses_in right) h))))
-      plain (undefined_literal p) ls q k g h = refl
-      plain (null_literal p) ls q k g h = refl
-      plain (boolean_literal p b) ls q k g h = refl
-      plain (char_literal p z) ls q k g h = refl
-      plain (byte_literal p z) ls q k g h = refl
-      plain (short_literal p z) ls q k g h = refl
-      plain (int_literal p z) ls q k g h = refl
-      plain (long_literal p z) ls q k g h = refl
-      plain (string_literal p us) ls q k g h = refl
-      plain (var_ref p x t) ls q k g h = refl
-      plain (this_ref p t) ls q k g h = objects k
-      plain (var_def p x t b e) ls q k g h = impossible q
-      plain (skip p) ls q k g h = refl
-      plain (block_of p ts) ls q k g h = impossible q
-      plain (labeled p l t e) ls q k g h = impossible q
-      plain (assign p d e) ls q k g h = impossible q
-      plain (return_to p e l) ls q k g h = impossible q
-      plain (while_loop p c b) ls q k g h = impossible q
-      plain (do_while p b c) ls q k g h = impossible q
-      plain (match_on p e cs d t) ls q k g h = impossible q
-      plain (log_line p e) ls q k g h = impossible q
-      plain (throw p e) ls q k g h = impossible q
-      plain t ls q k g h = impossible k
+          and_from (is_operation has o d) (new e && new d) (operation_there o d (expression_of sure d) (inl (q0.1, refl)) k1.1 (All-head Found (binary_op p o e d) (trees e ++ trees d) g) (front helper (uses_in left) h0) k0.0) (and_from (new e) (new d) (plain e q0.0 k1.0 g0.0 (operand_in o (type_of_term e) (expression_of sure e) (back helper (uses_in left) h0))) (plain d q0.1 k1.1 g0.1 (operand_in o (type_of_term d) (expression_of sure d) (back (helper ++ uses_in left) (uses_in right) h))))
+      plain (undefined_literal p) q k g h = refl
+      plain (null_literal p) q k g h = refl
+      plain (boolean_literal p b) q k g h = refl
+      plain (char_literal p z) q k g h = refl
+      plain (byte_literal p z) q k g h = refl
+      plain (short_literal p z) q k g h = refl
+      plain (int_literal p z) q k g h = refl
+      plain (long_literal p z) q k g h = refl
+      plain (string_literal p us) q k g h = refl
+      plain (var_ref p x t) q k g h = refl
+      plain (this_ref p t) q k g h = objects k
+      plain (var_def p x t b e) q k g h = impossible q
+      plain (skip p) q k g h = refl
+      plain (block_of p ts) q k g h = impossible q
+      plain (labeled p l t e) q k g h = impossible q
+      plain (assign p d e) q k g h = impossible q
+      plain (return_to p e l) q k g h = impossible q
+      plain (while_loop p c b) q k g h = impossible q
+      plain (do_while p b c) q k g h = impossible q
+      plain (match_on p e cs d t) q k g h = impossible q
+      plain (log_line p e) q k g h = impossible q
+      plain (throw p e) q k g h = impossible q
+      plain t q k g h = impossible k
 
-      all_plain_built : (ts : Terms) (ls : List Label) → are_plain ts ≡ true → olds ls ts ≡ true → Each (all_below ts) → InAll (all_expressions sure ts) → news ls ts ≡ true
-      all_plain_built no_terms ls q k g h = refl
-      all_plain_built (more_terms t ts) ls q k g h = let q0 = and_parts (is_plain t) (are_plain ts) q in let k0 = and_parts (old ls t) (olds ls ts) k in and_from (new ls t) (news ls ts) (plain t ls q0.0 k0.0 (ahead Found (trees t) (all_below ts) g) h.0) (all_plain_built ts ls q0.1 k0.1 (after Found (trees t) (all_below ts) g) h.1)
+      all_plain_built : (ts : Terms) → are_plain ts ≡ true → olds ts ≡ true → Each (all_below ts) → InAll (all_expressions sure ts) → news ts ≡ true
+      all_plain_built no_terms q k g h = refl
+      all_plain_built (more_terms t ts) q k g h = let q0 = and_parts (is_plain t) (are_plain ts) q in let k0 = and_parts (old t) (olds ts) k in and_from (new t) (news ts) (plain t q0.0 k0.0 (ahead Found (trees t) (all_below ts) g) h.0) (all_plain_built ts q0.1 k0.1 (after Found (trees t) (all_below ts) g) h.1)
 
     module _ (is_mutable : List ℕ → Bool) where
       abbrev TreeBuilt : Term → Type 0
-      TreeBuilt t = (ts : Targets) (k : Destination) (j : ℕ) (ls : List Label) → old ls t ≡ true → Each (trees t) → Within (into is_mutable sure ts k j t).statements → new ls t ≡ true
+      TreeBuilt t = (ts : Targets) (k : Destination) (j : ℕ) → old t ≡ true → Each (trees t) → Within (into is_mutable sure ts k j t).statements → new t ≡ true
 
       abbrev operand_for : Targets → Term → Operand
       operand_for ts e = operand is_mutable sure e (λ k j. into is_mutable sure ts k j e)
@@ -556,29 +524,29 @@ module _ (U : Binding → Type 0) where
       abbrev one_of : Targets → Term → List Operand
       one_of ts e = operand_for ts e ∷ []
 
-      operand_built : (e : Term) → TreeBuilt e → (ts : Targets) (ls : List Label) → old ls e ≡ true → Each (trees e) → Written (operand_for ts e) → new ls e ≡ true
-      operand_built e tree ts ls k g (as_text (inl p) h) = plain e ls p k g h
-      operand_built e tree ts ls k g (as_text (inr f) h) = plain e ls (fixed_plain is_mutable e f) k g h
-      operand_built e tree ts ls k g (as_code x t j h) = tree ts (to_variable x t) j ls k g h
+      operand_built : (e : Term) → TreeBuilt e → (ts : Targets) → old e ≡ true → Each (trees e) → Written (operand_for ts e) → new e ≡ true
+      operand_built e tree ts k g (as_text (inl p) h) = plain e p k g h
+      operand_built e tree ts k g (as_text (inr f) h) = plain e (fixed_plain is_mutable e f) k g h
+      operand_built e tree ts k g (as_code n x j h) = tree ts (to_variable x (type_of_term e)) j k g h
 
       -- one operand, whose expression is within where what is made of it is
-      act : (e : Term) → TreeBuilt e → (ts : Targets) (ls : List Label) (j : ℕ) → old ls e ≡ true → Each (trees e) → Within (spill (one_of ts e) j).statements → In (first_of (spill (one_of ts e) j).expressions) → new ls e ≡ true
-      act e tree ts ls j k g hs he = operand_built e tree ts ls k g (spill_in (one_of ts e) j hs (one_in (spill (one_of ts e) j).expressions (spill_count (one_of ts e) j) he)).0
+      act : (e : Term) → TreeBuilt e → (ts : Targets) (j : ℕ) → old e ≡ true → Each (trees e) → Within (spill (one_of ts e) j).statements → In (first_of (spill (one_of ts e) j).expressions) → new e ≡ true
+      act e tree ts j k g hs he = operand_built e tree ts k g (spill_in (one_of ts e) j hs (one_in (spill (one_of ts e) j).expressions (spill_count (one_of ts e) j) he)).0
 
       -- a receiver is built, and its check is used unless it is sure
-      receiver_built : (e : Term) → TreeBuilt e → (ts : Targets) (ls : List Label) → old ls e ≡ true → Each (trees e) → Written (receiver_for ts e) → (new ls e ≡ true) × IsChecked e
-      receiver_built e tree ts ls k g w = go (is_sure sure e) refl w
+      receiver_built : (e : Term) → TreeBuilt e → (ts : Targets) → old e ≡ true → Each (trees e) → Written (receiver_for ts e) → (new e ≡ true) × IsChecked e
+      receiver_built e tree ts k g w = go (is_sure sure e) refl w
         where
-          go : (b : Bool) → is_sure sure e ≡ b → Written (received b (operand_for ts e)) → (new ls e ≡ true) × IsChecked e
-          go true f w = (operand_built e tree ts ls k g w, λ n. impossible (sym n ∙ f))
-          go false f (as_text (inl p) h) = (plain e ls p k g (All-tail U (object_binding check_name) (uses_in (expression_of sure e)) h), λ n. All-head U (object_binding check_name) (uses_in (expression_of sure e)) h)
+          go : (b : Bool) → is_sure sure e ≡ b → Written (received b (operand_for ts e)) → (new e ≡ true) × IsChecked e
+          go true f w = (operand_built e tree ts k g w, λ n. impossible (sym n ∙ f))
+          go false f (as_text (inl p) h) = (plain e p k g (All-tail U (object_binding check_name) (uses_in (expression_of sure e)) h), λ n. All-head U (object_binding check_name) (uses_in (expression_of sure e)) h)
           go false f (as_text (inr x) h) = impossible x
-          go false f (as_code x t j h) =
+          go false f (as_code n x j h) =
               let s : Spilled = spill (one_of ts e) j in
               let text = first_of s.expressions in
-              let parts = followed_parts s.statements (finish (to_variable x t) (operand_for ts e).at (type_of_term e) false (checked_value text) s.next).statements h in
-              let inside = finished (to_variable x t) (operand_for ts e).at (type_of_term e) (checked_value text) s.next parts.1 in
-              (act e tree ts ls j k g parts.0 (All-tail U (object_binding check_name) (uses_in text) inside), λ n. All-head U (object_binding check_name) (uses_in text) inside)
+              let parts = followed_parts s.statements (finish (to_variable x (type_of_term e)) (operand_for ts e).at (type_of_term e) false (checked_value text) s.next).statements h in
+              let inside = finished (to_variable x (type_of_term e)) (operand_for ts e).at (type_of_term e) (checked_value text) s.next parts.1 in
+              (act e tree ts j k g parts.0 (All-tail U (object_binding check_name) (uses_in text) inside), λ n. All-head U (object_binding check_name) (uses_in text) inside)
 
       plain_there : (d : Term) → (is_plain d ≡ true) ⊎ (is_fixed is_mutable d ≡ true) → is_plain d ≡ true
       plain_there d (inl p) = p
@@ -588,41 +556,35 @@ module _ (U : Binding → Type 0) where
       is_right d ts e (inl q) = inl (plain_there d q.0, q.1)
       is_right d ts e (inr n) = inr n
 
-      defined_built : (p : Position) (x : List ℕ) (t : IrType) (e : Term) (ts : Targets) (j : ℕ) (ls : List Label) (b : Bool) → is_plain e ≡ b → old ls e ≡ true → Each (trees e) → TreeBuilt e → Within (elim b as (λ b. Code) [ true ↦ one (core.define_of (Some p) (core.named x) (coerced t (type_of_term e) (expression_of sure e))) j | false ↦ put_first (core.declare_of (Some p) (core.named x)) (into is_mutable sure ts (to_variable (core.named x) t) j e) ]).statements → new ls e ≡ true
-      defined_built p x t e ts j ls true f q g tree h = plain e ls f q g (uncoerced t (type_of_term e) (expression_of sure e) (only (core.define_of (Some p) (core.named x) (coerced t (type_of_term e) (expression_of sure e))) h))
-      defined_built p x t e ts j ls false f q g tree h = tree ts (to_variable (core.named x) t) j ls q g h
+      defined_built : (p : Position) (x : List ℕ) (t : IrType) (e : Term) (ts : Targets) (j : ℕ) (b : Bool) → is_plain e ≡ b → old e ≡ true → Each (trees e) → TreeBuilt e → Within (elim b as (λ b. Code) [ true ↦ one (core.define_of (Some p) (core.named x) (coerced t (type_of_term e) (expression_of sure e))) j | false ↦ put_first (core.declare_of (Some p) (core.named x)) (into is_mutable sure ts (to_variable (core.named x) t) j e) ]).statements → new e ≡ true
+      defined_built p x t e ts j true f q g tree h = plain e f q g (uncoerced t (type_of_term e) (expression_of sure e) (only (core.define_of (Some p) (core.named x) (coerced t (type_of_term e) (expression_of sure e))) h))
+      defined_built p x t e ts j false f q g tree h = tree ts (to_variable (core.named x) t) j q g h
 
-      while_built : (p : Position) (c b : Term) (ts : Targets) (j : ℕ) (ls : List Label) (v : Bool) → is_plain c ≡ v → old ls c ≡ true → old ls b ≡ true → Each (trees c) → Each (trees b) → TreeBuilt c → TreeBuilt b → Within (elim v as (λ v. Code) [ true ↦ wrapped (core.while_of (Some p) (expression_of sure c)) (into is_mutable sure ts discard j b) | false ↦ wrapped (core.while_of (Some p) (core.boolean_value true)) (then_use (spill (one_of ts c) j) (λ es j. put_first (break_unless (first_of es)) (into is_mutable sure ts discard j b))) ]).statements → (new ls c ≡ true) × (new ls b ≡ true)
-      while_built p c b ts j ls true f q r g i test body h =
+      while_built : (p : Position) (c b : Term) (ts : Targets) (j : ℕ) (v : Bool) → is_plain c ≡ v → old c ≡ true → old b ≡ true → Each (trees c) → Each (trees b) → TreeBuilt c → TreeBuilt b → Within (elim v as (λ v. Code) [ true ↦ wrapped (core.while_of (Some p) (expression_of sure c)) (into is_mutable sure ts discard j b) | false ↦ wrapped (core.while_of (Some p) (core.boolean_value true)) (then_use (spill (one_of ts c) j) (λ es j. put_first (break_unless (first_of es)) (into is_mutable sure ts discard j b))) ]).statements → (new c ≡ true) × (new b ≡ true)
+      while_built p c b ts j true f q r g i test body h =
           let inside = only (core.while_of (Some p) (expression_of sure c) (into is_mutable sure ts discard j b).statements) h in
-          (plain c ls f q g (front (uses_in (expression_of sure c)) (uses_of_all (into is_mutable sure ts discard j b).statements) inside), body ts discard j ls r i (back (uses_in (expression_of sure c)) (uses_of_all (into is_mutable sure ts discard j b).statements) inside))
-      while_built p c b ts j ls false f q r g i test body h =
+          (plain c f q g (front (uses_in (expression_of sure c)) (uses_of_all (into is_mutable sure ts discard j b).statements) inside), body ts discard j r i (back (uses_in (expression_of sure c)) (uses_of_all (into is_mutable sure ts discard j b).statements) inside))
+      while_built p c b ts j false f q r g i test body h =
           let s : Spilled = spill (one_of ts c) j in
           let first = break_unless (first_of s.expressions) in
           let rest : Code = into is_mutable sure ts discard s.next b in
           let parts = followed_parts s.statements (core.statement first rest.statements) (only (core.while_of (Some p) (core.boolean_value true) (followed s.statements (core.statement first rest.statements))) h) in
-          (act c test ts ls j q g parts.0 (break_in (first_of s.expressions) (front (uses_of first) (uses_of_all rest.statements) parts.1)), body ts discard s.next ls r i (back (uses_of first) (uses_of_all rest.statements) parts.1))
+          (act c test ts j q g parts.0 (break_in (first_of s.expressions) (front (uses_of first) (uses_of_all rest.statements) parts.1)), body ts discard s.next r i (back (uses_of first) (uses_of_all rest.statements) parts.1))
 
       mutual
         pub tree : (t : Term) → TreeBuilt t
-        tree (var_def p x t b e) ts k j ls q g h =
-            let r = and_parts (may_box from t e) (old ls e) q in
-            and_from (may_box has t e) (new ls e) (boxes (not (is_boxed t e)) r.0) (defined_built p x t e ts j ls (is_plain e) refl r.1 (inner (var_def p x t b e) g) (tree e) h)
-        tree (skip p) ts k j ls q g h = refl
-        tree (block_of p es) ts k j ls q g h = block_built es ts k j ls q (inner (block_of p es) g) h
-        tree (labeled p l t e) ts k j ls q g h =
-            let within : Targets = record { label = l; goes_to = k } ∷ ts in
-            let r = and_parts (may_yield from t e) (old (inside_label l t ls) e) q in
-            and_from (may_yield has t e) (new (inside_label l t ls) e) (boxes (not (yields_boxed t e)) r.0) (tree e within k j (inside_label l t ls) r.1 (inner (labeled p l t e) g) (labeled_in k p l (into is_mutable sure within k j e) h))
-        tree (assign p (var_ref v x t) e) ts k j ls q g h =
-            let r = and_parts (may_box from t e) (old ls e) q in
+        tree (var_def p x t b e) ts k j q g h = defined_built p x t e ts j (is_plain e) refl q (inner (var_def p x t b e) g) (tree e) h
+        tree (skip p) ts k j q g h = refl
+        tree (block_of p es) ts k j q g h = block_built es ts k j q (inner (block_of p es) g) h
+        tree (labeled p l t e) ts k j q g h = let within : Targets = record { label = l; goes_to = k } ∷ ts in tree e within k j q (inner (labeled p l t e) g) (labeled_in k p l (into is_mutable sure within k j e) h)
+        tree (assign p (var_ref v x t) e) ts k j q g h =
             let s : Spilled = spill (one_of ts e) j in
             let last = core.assign_to (Some p) (core.named x) (coerced t (type_of_term e) (first_of s.expressions)) in
             let parts = followed_parts s.statements (core.statement last core.no_statements) h in
-            and_from (may_box has t e) (new ls e) (boxes (not (is_boxed t e)) r.0) (act e (tree e) ts ls j r.1 (two (var_ref v x t) e (inner (assign p (var_ref v x t) e) g)).1 parts.0 (uncoerced t (type_of_term e) (first_of s.expressions) (only last parts.1)))
-        tree (assign p (select v d c f t) e) ts k j ls q g h =
-            let k0 = and_parts (from.field c f t && (checked d && may_box from t e)) (old ls d && old ls e) q in
-            let k1 = and_parts (old ls d) (old ls e) k0.1 in
+            act e (tree e) ts j q (two (var_ref v x t) e (inner (assign p (var_ref v x t) e) g)).1 parts.0 (uncoerced t (type_of_term e) (first_of s.expressions) (only last parts.1))
+        tree (assign p (select v d c f t) e) ts k j q g h =
+            let k0 = and_parts (from.field c f t && checked d) (old d && old e) q in
+            let k1 = and_parts (old d) (old e) k0.1 in
             let os : List Operand = receiver_for ts d ∷ one_of ts e in
             let s : Spilled = spill os j in
             let value = coerced t (type_of_term e) (second_of s.expressions) in
@@ -631,26 +593,22 @@ module _ (U : Binding → Type 0) where
             let inside = only last parts.1 in
             let written = spill_in os j parts.0 (two_in s.expressions (spill_count os j) (front (uses_in (first_of s.expressions)) (uses_in value) inside) (uncoerced t (type_of_term e) (second_of s.expressions) (back (uses_in (first_of s.expressions)) (uses_in value) inside))) in
             let g0 = two (select v d c f t) e (inner (assign p (select v d c f t) e) g) in
-            let target = receiver_built d (tree d) ts ls k1.0 (inner (select v d c f t) g0.0) written.0 in
-            and_from (has.field c f t && (checks d && may_box has t e)) (new ls d && new ls e) (assign_there c f t d e (All-head Found (select v d c f t) (trees d) g0.0) target.1 k0.0) (and_from (new ls d) (new ls e) target.0 (operand_built e (tree e) ts ls k1.1 g0.1 written.1.0))
-        tree (assign p (select_static v c f t) e) ts k j ls q g h =
-            let r = and_parts (from.static_field c f t && may_box from t e) (old ls e) q in
-            let r0 = and_parts (from.static_field c f t) (may_box from t e) r.0 in
+            let target = receiver_built d (tree d) ts k1.0 (inner (select v d c f t) g0.0) written.0 in
+            and_from (has.field c f t && checks d) (new d && new e) (select_there c f t d (All-head Found (select v d c f t) (trees d) g0.0) target.1 k0.0) (and_from (new d) (new e) target.0 (operand_built e (tree e) ts k1.1 g0.1 written.1.0))
+        tree (assign p (select_static v c f t) e) ts k j q g h =
+            let r = and_parts (from.static_field c f t) (old e) q in
             let s : Spilled = spill (one_of ts e) j in
             let value = coerced t (type_of_term e) (first_of s.expressions) in
             let last = core.assign_static (Some p) c f value in
             let parts = followed_parts s.statements (core.statement last core.no_statements) h in
             let inside = only last parts.1 in
             let g0 = two (select_static v c f t) e (inner (assign p (select_static v c f t) e) g) in
-            let there = All-head Found (select_static v c f t) [] g0.0 r0.0 (inr (All-head U (setter_use c f) (uses_in value) inside)) in
-            and_from (has.static_field c f t && may_box has t e) (new ls e) (and_from (has.static_field c f t) (may_box has t e) there (boxes (not (is_boxed t e)) r0.1)) (act e (tree e) ts ls j r.1 g0.1 parts.0 (uncoerced t (type_of_term e) (first_of s.expressions) (All-tail U (setter_use c f) (uses_in value) inside)))
-        tree (return_to p e l) ts k j ls q g h =
-            let r = and_parts (may_leave from (type_of_label ls l) e) (old ls e) q in
-            and_from (may_leave has (type_of_label ls l) e) (new ls e) (boxes (not (leaves_boxed (type_of_label ls l) e)) r.0) (tree e ts (target_of ts l) j ls r.1 (inner (return_to p e l) g) (leaving_in (target_of ts l) p l (into is_mutable sure ts (target_of ts l) j e) h))
-        tree (if_then p c a b t) ts k j ls q g h =
-            let k0 = and_parts (may_yield from t a && may_yield from t b) (old ls c && (old ls a && old ls b)) q in
-            let k1 = and_parts (old ls c) (old ls a && old ls b) k0.1 in
-            let k2 = and_parts (old ls a) (old ls b) k1.1 in
+            let there = All-head Found (select_static v c f t) [] g0.0 r.0 (inr (All-head U (setter_use c f) (uses_in value) inside)) in
+            and_from (has.static_field c f t) (new e) there (act e (tree e) ts j r.1 g0.1 parts.0 (uncoerced t (type_of_term e) (first_of s.expressions) (All-tail U (setter_use c f) (uses_in value) inside)))
+        tree (return_to p e l) ts k j q g h = tree e ts (target_of ts l) j q (inner (return_to p e l) g) (leaving_in (target_of ts l) p l (into is_mutable sure ts (target_of ts l) j e) h)
+        tree (if_then p c a b t) ts k j q g h =
+            let k1 = and_parts (old c) (old a && old b) q in
+            let k2 = and_parts (old a) (old b) k1.1 in
             let s : Spilled = spill (one_of ts c) j in
             let one : Code = into is_mutable sure ts k s.next a in
             let two : Code = into is_mutable sure ts k one.next b in
@@ -659,28 +617,26 @@ module _ (U : Binding → Type 0) where
             let inside = only choice parts.1 in
             let head = front (uses_in (first_of s.expressions) ++ uses_of_all one.statements) (uses_of_all two.statements) inside in
             let g0 = three c a b (inner (if_then p c a b t) g) in
-            and_from (may_yield has t a && may_yield has t b) (new ls c && (new ls a && new ls b)) (yields_there a b t k0.0) (and_from (new ls c) (new ls a && new ls b) (act c (tree c) ts ls j k1.0 g0.0 parts.0 (front (uses_in (first_of s.expressions)) (uses_of_all one.statements) head)) (and_from (new ls a) (new ls b) (tree a ts k s.next ls k2.0 g0.1.0 (back (uses_in (first_of s.expressions)) (uses_of_all one.statements) head)) (tree b ts k one.next ls k2.1 g0.1.1 (back (uses_in (first_of s.expressions) ++ uses_of_all one.statements) (uses_of_all two.statements) inside))))
-        tree (while_loop p c b) ts k j ls q g h = let r = and_parts (old ls c) (old ls b) q in let g0 = two c b (inner (while_loop p c b) g) in let parts = while_built p c b ts j ls (is_plain c) refl r.0 r.1 g0.0 g0.1 (tree c) (tree b) h in and_from (new ls c) (new ls b) parts.0 parts.1
-        tree (do_while p b c) ts k j ls q g h =
-            let r = and_parts (old ls b) (old ls c) q in
+            and_from (new c) (new a && new b) (act c (tree c) ts j k1.0 g0.0 parts.0 (front (uses_in (first_of s.expressions)) (uses_of_all one.statements) head)) (and_from (new a) (new b) (tree a ts k s.next k2.0 g0.1.0 (back (uses_in (first_of s.expressions)) (uses_of_all one.statements) head)) (tree b ts k one.next k2.1 g0.1.1 (back (uses_in (first_of s.expressions) ++ uses_of_all one.statements) (uses_of_all two.statements) inside)))
+        tree (while_loop p c b) ts k j q g h = let r = and_parts (old c) (old b) q in let g0 = two c b (inner (while_loop p c b) g) in let parts = while_built p c b ts j (is_plain c) refl r.0 r.1 g0.0 g0.1 (tree c) (tree b) h in and_from (new c) (new b) parts.0 parts.1
+        tree (do_while p b c) ts k j q g h =
+            let r = and_parts (old b) (old c) q in
             let body : Code = into is_mutable sure ts discard j b in
             let s : Spilled = spill (one_of ts c) body.next in
             let test = break_unless (first_of s.expressions) in
             let parts = followed_parts body.statements (followed s.statements (core.statement test core.no_statements)) (only (core.loop_of (Some p) (followed body.statements (followed s.statements (core.statement test core.no_statements)))) h) in
             let last = followed_parts s.statements (core.statement test core.no_statements) parts.1 in
             let g0 = two b c (inner (do_while p b c) g) in
-            and_from (new ls b) (new ls c) (tree b ts discard j ls r.0 g0.0 parts.0) (act c (tree c) ts ls body.next r.1 g0.1 last.0 (break_in (first_of s.expressions) (only test last.1)))
-        tree (throw p e) ts k j ls q g h =
-            let k0 = and_parts (from.objects && may_box from Any e) (old ls e) q in
-            let k1 = and_parts (from.objects) (may_box from Any e) k0.0 in
+            and_from (new b) (new c) (tree b ts discard j r.0 g0.0 parts.0) (act c (tree c) ts body.next r.1 g0.1 last.0 (break_in (first_of s.expressions) (only test last.1)))
+        tree (throw p e) ts k j q g h =
+            let k0 = and_parts (from.objects) (old e) q in
             let s : Spilled = spill (one_of ts e) j in
             let last = core.throw_of (Some p) (coerced Any (type_of_term e) (first_of s.expressions)) in
             let parts = followed_parts s.statements (core.statement last core.no_statements) h in
-            and_from (has.objects && may_box has Any e) (new ls e) (and_from (has.objects) (may_box has Any e) (objects k1.0) (boxes (not (is_boxed Any e)) k1.1)) (act e (tree e) ts ls j k0.1 (inner (throw p e) g) parts.0 (uncoerced Any (type_of_term e) (first_of s.expressions) (only last parts.1)))
-        tree (match_on p e cs d t) ts k j ls q g h =
-            let k0 = and_parts (may_yield from t d) (old ls e && (old_cases ls t cs && old ls d)) q in
-            let k1 = and_parts (old ls e) (old_cases ls t cs && old ls d) k0.1 in
-            let k2 = and_parts (old_cases ls t cs) (old ls d) k1.1 in
+            and_from (has.objects) (new e) (objects k0.0) (act e (tree e) ts j k0.1 (inner (throw p e) g) parts.0 (uncoerced Any (type_of_term e) (first_of s.expressions) (only last parts.1)))
+        tree (match_on p e cs d t) ts k j q g h =
+            let k1 = and_parts (old e) (old_cases cs && old d) q in
+            let k2 = and_parts (old_cases cs) (old d) k1.1 in
             let s : Spilled = spill (one_of ts e) j in
             let bs = cases is_mutable sure ts k s.next cs in
             let rest : Code = into is_mutable sure ts k bs.next d in
@@ -690,20 +646,19 @@ module _ (U : Binding → Type 0) where
             let head = front (uses_in (first_of s.expressions) ++ uses_of_cases bs.cases) (uses_of_all rest.statements) inside in
             let g0 : Each (trees e ++ cases_below cs ++ trees d) = inner (match_on p e cs d t) g in
             let g1 : Each (trees e ++ cases_below cs) = ahead Found (trees e ++ cases_below cs) (trees d) g0 in
-            and_from (may_yield has t d) (new ls e && (new_cases ls t cs && new ls d)) (boxes (not (yields_boxed t d)) k0.0) (and_from (new ls e) (new_cases ls t cs && new ls d) (act e (tree e) ts ls j k1.0 (ahead Found (trees e) (cases_below cs) g1) parts.0 (front (uses_in (first_of s.expressions)) (uses_of_cases bs.cases) head)) (and_from (new_cases ls t cs) (new ls d) (cases_built cs ts k s.next ls t k2.0 (after Found (trees e) (cases_below cs) g1) (back (uses_in (first_of s.expressions)) (uses_of_cases bs.cases) head)) (tree d ts k bs.next ls k2.1 (after Found (trees e ++ cases_below cs) (trees d) g0) (back (uses_in (first_of s.expressions) ++ uses_of_cases bs.cases) (uses_of_all rest.statements) inside))))
-        tree (apply_static p c n m es t) ts k j ls q g h =
-            let k0 = and_parts (from.linked (member c n m)) (may_pass from m.params es && olds ls es) q in
-            let k1 = and_parts (may_pass from m.params es) (olds ls es) k0.1 in
+            and_from (new e) (new_cases cs && new d) (act e (tree e) ts j k1.0 (ahead Found (trees e) (cases_below cs) g1) parts.0 (front (uses_in (first_of s.expressions)) (uses_of_cases bs.cases) head)) (and_from (new_cases cs) (new d) (cases_built cs ts k s.next k2.0 (after Found (trees e) (cases_below cs) g1) (back (uses_in (first_of s.expressions)) (uses_of_cases bs.cases) head)) (tree d ts k bs.next k2.1 (after Found (trees e ++ cases_below cs) (trees d) g0) (back (uses_in (first_of s.expressions) ++ uses_of_cases bs.cases) (uses_of_all rest.statements) inside)))
+        tree (apply_static p c n m es t) ts k j q g h =
+            let k0 = and_parts (from.linked (member c n m)) (olds es) q in
             let s : Spilled = spill (operands is_mutable sure ts es) j in
             let arguments = expressions_of (coerced_arguments m.params (types_of es) s.expressions) in
             let call = core.static_call (member c n m) arguments in
             let parts = followed_parts s.statements (finish k p t false call s.next).statements h in
             let inside = finished k p t call s.next parts.1 in
-            and_from (has.linked (member c n m)) (may_pass has m.params es && news ls es) (All-head Found (apply_static p c n m es t) (all_below es) g k0.0 (All-head U (function_binding (member c n m)) (uses_in_all arguments) inside)) (and_from (may_pass has m.params es) (news ls es) (passes m.params es k1.0) (operands_built es ts ls k1.1 (inner (apply_static p c n m es t) g) (spill_in (operands is_mutable sure ts es) j parts.0 (arguments_in m.params (types_of es) s.expressions (All-tail U (function_binding (member c n m)) (uses_in_all arguments) inside)))))
-        tree (apply_statically p e c n m es t) ts k j ls q g h =
+            and_from (has.linked (member c n m)) (news es) (All-head Found (apply_static p c n m es t) (all_below es) g k0.0 (All-head U (function_binding (member c n m)) (uses_in_all arguments) inside)) (operands_built es ts k0.1 (inner (apply_static p c n m es t) g) (spill_in (operands is_mutable sure ts es) j parts.0 (arguments_in m.params (types_of es) s.expressions (All-tail U (function_binding (member c n m)) (uses_in_all arguments) inside))))
+        tree (apply_statically p e c n m es t) ts k j q g h =
             let own = apply_statically p e c n m es t in
-            let k0 = and_parts (stands from checked ls own) (old ls e && olds ls es) q in
-            let k1 = and_parts (old ls e) (olds ls es) k0.1 in
+            let k0 = and_parts (stands from checked own) (old e && olds es) q in
+            let k1 = and_parts (old e) (olds es) k0.1 in
             let os : List Operand = receiver_for ts e ∷ operands is_mutable sure ts es in
             let s : Spilled = spill os j in
             let target = coerced_receiver (type_of_term e) (first_of s.expressions) in
@@ -713,37 +668,37 @@ module _ (U : Binding → Type 0) where
             let inside = finished k p t call s.next parts.1 in
             let behind = All-tail U (function_binding (member c n m)) (uses_in target ++ uses_in_all arguments) inside in
             let written = spill_in os j parts.0 (first_and_rest s.expressions (unreceived (type_of_term e) (first_of s.expressions) (front (uses_in target) (uses_in_all arguments) behind)) (arguments_in m.params (types_of es) (rest_of s.expressions) (back (uses_in target) (uses_in_all arguments) behind))) in
-            let start = receiver_built e (tree e) ts ls k1.0 (ahead Found (trees e) (all_below es) (inner own g)) written.0 in
-            and_from (stands has checks ls own) (new ls e && news ls es) (call_there p e c n m es t ls (All-head Found own (below own) g) start.1 (All-head U (function_binding (member c n m)) (uses_in target ++ uses_in_all arguments) inside) k0.0) (and_from (new ls e) (news ls es) start.0 (operands_built es ts ls k1.1 (after Found (trees e) (all_below es) (inner own g)) written.1))
-        tree (new_object p c m es) ts k j ls q g h =
+            let start = receiver_built e (tree e) ts k1.0 (ahead Found (trees e) (all_below es) (inner own g)) written.0 in
+            and_from (stands has checks own) (new e && news es) (call_there p e c n m es t (All-head Found own (below own) g) start.1 (All-head U (function_binding (member c n m)) (uses_in target ++ uses_in_all arguments) inside) k0.0) (and_from (new e) (news es) start.0 (operands_built es ts k1.1 (after Found (trees e) (all_below es) (inner own g)) written.1))
+        tree (new_object p c m es) ts k j q g h =
             let own = new_object p c m es in
-            let k0 = and_parts (stands from checked ls own) (olds ls es) q in
+            let k0 = and_parts (stands from checked own) (olds es) q in
             let s : Spilled = spill (operands is_mutable sure ts es) j in
             let arguments = expressions_of (coerced_arguments m.params (types_of es) s.expressions) in
             let call = core.made_of (member c Constructor m) arguments in
             let parts = followed_parts s.statements (finish k p (class_type c) false call s.next).statements h in
             let inside = finished k p (class_type c) call s.next parts.1 in
             let behind = All-tail U (function_binding (member c Constructor m)) (class_use c ∷ uses_in_all arguments) inside in
-            and_from (stands has checks ls own) (news ls es) (new_there p c m es ls (All-head Found own (all_below es) g) (All-head U (function_binding (member c Constructor m)) (class_use c ∷ uses_in_all arguments) inside) (All-head U (class_use c) (uses_in_all arguments) behind) k0.0) (operands_built es ts ls k0.1 (inner own g) (spill_in (operands is_mutable sure ts es) j parts.0 (arguments_in m.params (types_of es) s.expressions (All-tail U (class_use c) (uses_in_all arguments) behind))))
-        tree (select p e c f t) ts k j ls q g h =
+            and_from (stands has checks own) (news es) (new_there p c m es (All-head Found own (all_below es) g) (All-head U (function_binding (member c Constructor m)) (class_use c ∷ uses_in_all arguments) inside) (All-head U (class_use c) (uses_in_all arguments) behind) k0.0) (operands_built es ts k0.1 (inner own g) (spill_in (operands is_mutable sure ts es) j parts.0 (arguments_in m.params (types_of es) s.expressions (All-tail U (class_use c) (uses_in_all arguments) behind))))
+        tree (select p e c f t) ts k j q g h =
             let own = select p e c f t in
-            let k0 = and_parts (from.field c f t && checked e) (old ls e) q in
+            let k0 = and_parts (from.field c f t && checked e) (old e) q in
             let os : List Operand = receiver_for ts e ∷ [] in
             let s : Spilled = spill os j in
             let read = core.field_of (first_of s.expressions) c f in
             let parts = followed_parts s.statements (finish k p t false read s.next).statements h in
             let written = spill_in os j parts.0 (one_in s.expressions (spill_count os j) (finished k p t read s.next parts.1)) in
-            let start = receiver_built e (tree e) ts ls k0.1 (inner own g) written.0 in
-            and_from (has.field c f t && checks e) (new ls e) (select_there c f t e (All-head Found own (below own) g) start.1 k0.0) start.0
-        tree (select_static p c f t) ts k j ls q g h = All-head Found (select_static p c f t) [] g q (inl (All-head U (static_use c f) [] (finished k p t (core.static_of c f) j h)))
-        tree (this_ref p t) ts k j ls q g h = objects q
-        tree (unary_op p o e) ts k j ls q g h =
+            let start = receiver_built e (tree e) ts k0.1 (inner own g) written.0 in
+            and_from (has.field c f t && checks e) (new e) (select_there c f t e (All-head Found own (below own) g) start.1 k0.0) start.0
+        tree (select_static p c f t) ts k j q g h = All-head Found (select_static p c f t) [] g q (inl (All-head U (static_use c f) [] (finished k p t (core.static_of c f) j h)))
+        tree (this_ref p t) ts k j q g h = objects q
+        tree (unary_op p o e) ts k j q g h =
             let s : Spilled = spill (one_of ts e) j in
             let parts = followed_parts s.statements (finish k p (unary_result o) false (core.unary_of o (first_of s.expressions)) s.next).statements h in
-            act e (tree e) ts ls j q (inner (unary_op p o e) g) parts.0 (finished k p (unary_result o) (core.unary_of o (first_of s.expressions)) s.next parts.1)
-        tree (binary_op p o e d) ts k j ls q g h =
-            let k0 = and_parts (is_operation from o d) (old ls e && old ls d) q in
-            let k1 = and_parts (old ls e) (old ls d) k0.1 in
+            act e (tree e) ts j q (inner (unary_op p o e) g) parts.0 (finished k p (unary_result o) (core.unary_of o (first_of s.expressions)) s.next parts.1)
+        tree (binary_op p o e d) ts k j q g h =
+            let k0 = and_parts (is_operation from o d) (old e && old d) q in
+            let k1 = and_parts (old e) (old d) k0.1 in
             let os : List Operand = operand_for ts e ∷ one_of ts d in
             let s : Spilled = spill os j in
             let left = operand_of o (type_of_term e) (first_of s.expressions) in
@@ -754,44 +709,43 @@ module _ (U : Binding → Type 0) where
             let head = front (helper ++ uses_in left) (uses_in right) inside in
             let written = spill_in os j parts.0 (two_in s.expressions (spill_count os j) (operand_in o (type_of_term e) (first_of s.expressions) (back helper (uses_in left) head)) (operand_in o (type_of_term d) (second_of s.expressions) (back (helper ++ uses_in left) (uses_in right) inside))) in
             let g0 = two e d (inner (binary_op p o e d) g) in
-            and_from (is_operation has o d) (new ls e && new ls d) (operation_there o d ls (second_of s.expressions) (is_right d ts (second_of s.expressions) (second_text (operand_for ts e) (operand_for ts d) j)) k1.1 (All-head Found (binary_op p o e d) (trees e ++ trees d) g) (front helper (uses_in left) head) k0.0) (and_from (new ls e) (new ls d) (operand_built e (tree e) ts ls k1.0 g0.0 written.0) (operand_built d (tree d) ts ls k1.1 g0.1 written.1.0))
-        tree (undefined_literal p) ts k j ls q g h = refl
-        tree (null_literal p) ts k j ls q g h = refl
-        tree (boolean_literal p b) ts k j ls q g h = refl
-        tree (char_literal p z) ts k j ls q g h = refl
-        tree (byte_literal p z) ts k j ls q g h = refl
-        tree (short_literal p z) ts k j ls q g h = refl
-        tree (int_literal p z) ts k j ls q g h = refl
-        tree (long_literal p z) ts k j ls q g h = refl
-        tree (string_literal p us) ts k j ls q g h = refl
-        tree (var_ref p x t) ts k j ls q g h = refl
-        tree (log_line p e) ts k j ls q g h =
+            and_from (is_operation has o d) (new e && new d) (operation_there o d (second_of s.expressions) (is_right d ts (second_of s.expressions) (second_text (operand_for ts e) (operand_for ts d) j)) k1.1 (All-head Found (binary_op p o e d) (trees e ++ trees d) g) (front helper (uses_in left) head) k0.0) (and_from (new e) (new d) (operand_built e (tree e) ts k1.0 g0.0 written.0) (operand_built d (tree d) ts k1.1 g0.1 written.1.0))
+        tree (undefined_literal p) ts k j q g h = refl
+        tree (null_literal p) ts k j q g h = refl
+        tree (boolean_literal p b) ts k j q g h = refl
+        tree (char_literal p z) ts k j q g h = refl
+        tree (byte_literal p z) ts k j q g h = refl
+        tree (short_literal p z) ts k j q g h = refl
+        tree (int_literal p z) ts k j q g h = refl
+        tree (long_literal p z) ts k j q g h = refl
+        tree (string_literal p us) ts k j q g h = refl
+        tree (var_ref p x t) ts k j q g h = refl
+        tree (log_line p e) ts k j q g h =
             let s : Spilled = spill (one_of ts e) j in
             let last = core.log_of (Some p) (first_of s.expressions) in
             let parts = followed_parts s.statements (core.statement last core.no_statements) h in
-            act e (tree e) ts ls j q (inner (log_line p e) g) parts.0 (only last parts.1)
-        tree t ts k j ls q g h = impossible q
+            act e (tree e) ts j q (inner (log_line p e) g) parts.0 (only last parts.1)
+        tree t ts k j q g h = impossible q
 
-        block_built : (es : Terms) (ts : Targets) (k : Destination) (j : ℕ) (ls : List Label) → olds ls es ≡ true → Each (all_below es) → Within (block is_mutable sure ts k j es).statements → news ls es ≡ true
-        block_built no_terms ts k j ls q g h = refl
-        block_built (more_terms t no_terms) ts k j ls q g h = and_from (new ls t) true (tree t ts k j ls (and_parts (old ls t) true q).0 (ahead Found (trees t) [] g) h) refl
-        block_built (more_terms t (more_terms u us)) ts k j ls q g h =
-            let r = and_parts (old ls t) (olds ls (more_terms u us)) q in
+        block_built : (es : Terms) (ts : Targets) (k : Destination) (j : ℕ) → olds es ≡ true → Each (all_below es) → Within (block is_mutable sure ts k j es).statements → news es ≡ true
+        block_built no_terms ts k j q g h = refl
+        block_built (more_terms t no_terms) ts k j q g h = and_from (new t) true (tree t ts k j (and_parts (old t) true q).0 (ahead Found (trees t) [] g) h) refl
+        block_built (more_terms t (more_terms u us)) ts k j q g h =
+            let r = and_parts (old t) (olds (more_terms u us)) q in
             let first : Code = into is_mutable sure ts discard j t in
             let parts = followed_parts first.statements (block is_mutable sure ts k first.next (more_terms u us)).statements h in
-            and_from (new ls t) (news ls (more_terms u us)) (tree t ts discard j ls r.0 (ahead Found (trees t) (all_below (more_terms u us)) g) parts.0) (block_built (more_terms u us) ts k first.next ls r.1 (after Found (trees t) (all_below (more_terms u us)) g) parts.1)
+            and_from (new t) (news (more_terms u us)) (tree t ts discard j r.0 (ahead Found (trees t) (all_below (more_terms u us)) g) parts.0) (block_built (more_terms u us) ts k first.next r.1 (after Found (trees t) (all_below (more_terms u us)) g) parts.1)
 
-        operands_built : (es : Terms) (ts : Targets) (ls : List Label) → olds ls es ≡ true → Each (all_below es) → AllWritten (operands is_mutable sure ts es) → news ls es ≡ true
-        operands_built no_terms ts ls q g h = refl
-        operands_built (more_terms t es) ts ls q g h = let r = and_parts (old ls t) (olds ls es) q in and_from (new ls t) (news ls es) (operand_built t (tree t) ts ls r.0 (ahead Found (trees t) (all_below es) g) h.0) (operands_built es ts ls r.1 (after Found (trees t) (all_below es) g) h.1)
+        operands_built : (es : Terms) (ts : Targets) → olds es ≡ true → Each (all_below es) → AllWritten (operands is_mutable sure ts es) → news es ≡ true
+        operands_built no_terms ts q g h = refl
+        operands_built (more_terms t es) ts q g h = let r = and_parts (old t) (olds es) q in and_from (new t) (news es) (operand_built t (tree t) ts r.0 (ahead Found (trees t) (all_below es) g) h.0) (operands_built es ts r.1 (after Found (trees t) (all_below es) g) h.1)
 
-        cases_built : (cs : Cases) (ts : Targets) (k : Destination) (j : ℕ) (ls : List Label) (t : IrType) → old_cases ls t cs ≡ true → Each (cases_below cs) → All U (uses_of_cases (cases is_mutable sure ts k j cs).cases) → new_cases ls t cs ≡ true
-        cases_built no_cases ts k j ls t q g h = refl
-        cases_built (more_cases [] e cs) ts k j ls t q g h = cases_built cs ts k j ls t q (after Found (trees e) (cases_below cs) g) h
-        cases_built (more_cases (key ∷ keys) e cs) ts k j ls t q g h =
-            let k0 = and_parts (may_yield from t e) (old ls e && old_cases ls t cs) q in
-            let k1 = and_parts (old ls e) (old_cases ls t cs) k0.1 in
+        cases_built : (cs : Cases) (ts : Targets) (k : Destination) (j : ℕ) → old_cases cs ≡ true → Each (cases_below cs) → All U (uses_of_cases (cases is_mutable sure ts k j cs).cases) → new_cases cs ≡ true
+        cases_built no_cases ts k j q g h = refl
+        cases_built (more_cases [] e cs) ts k j q g h = cases_built cs ts k j q (after Found (trees e) (cases_below cs) g) h
+        cases_built (more_cases (key ∷ keys) e cs) ts k j q g h =
+            let k1 = and_parts (old e) (old_cases cs) q in
             let body : Code = into is_mutable sure ts k j e in
             let end = core.statement (core.break_nearest None) core.no_statements in
             let rest = uses_of_cases (cases is_mutable sure ts k body.next cs).cases in
-            and_from (may_yield has t e) (new ls e && new_cases ls t cs) (boxes (not (yields_boxed t e)) k0.0) (and_from (new ls e) (new_cases ls t cs) (tree e ts k j ls k1.0 (ahead Found (trees e) (cases_below cs) g) (followed_parts body.statements end (front (uses_of_all (followed body.statements end)) rest h)).0) (cases_built cs ts k body.next ls t k1.1 (after Found (trees e) (cases_below cs) g) (back (uses_of_all (followed body.statements end)) rest h)))
+            and_from (new e) (new_cases cs) (tree e ts k j k1.0 (ahead Found (trees e) (cases_below cs) g) (followed_parts body.statements end (front (uses_of_all (followed body.statements end)) rest h)).0) (cases_built cs ts k body.next k1.1 (after Found (trees e) (cases_below cs) g) (back (uses_of_all (followed body.statements end)) rest h))

@@ -12,7 +12,7 @@ use Rattle.accepted_folders.proofs.EachTyped.{in_all}
 use Rattle.accepted_folders.proofs.Undenied.{first_or_later}
 use Rattle.helper_rules.specs.Helpers.{helper_name}
 use Rattle.helper_rules.specs.declared.kinds.Helper.{Helper}
-use Rattle.helper_rules.specs.declared.kinds.Helper.TheVariants.{NotNull, IntQuotient, IntRemainder as IntRest, LongQuotient, LongRemainder as LongRest}
+use Rattle.helper_rules.specs.declared.kinds.Helper.TheVariants.{NotNull, IntQuotient, IntRemainder as IntRest, LongQuotient, LongRemainder as LongRest, BoxedChar}
 use Rattle.js_tree.specs.declared.items.Binding.{Binding}
 use Rattle.accepted_folders.proofs.Derivations.{closed}
 use Rattle.accepted_folders.specs.Reachable.{Reachable}
@@ -201,17 +201,20 @@ module _ (entries : List EntryPoint) (files : List SourceFile) (w : Classes) (fa
   is_helper h x same u = subst (λ (y : Name). has.helper y ≡ true) same (helper_there h (subst (λ (y : Name). Contains used (object_binding y)) (sym same) u))
 
   helpers_given : HelpersGiven has used
-  helpers_given x among u = elim (first_or_later check_name (codes "$id" ∷ codes "$im" ∷ codes "$ld" ∷ codes "$lm" ∷ []) x among) [
+  helpers_given x among u = elim (first_or_later check_name (codes "$id" ∷ codes "$im" ∷ codes "$ld" ∷ codes "$lm" ∷ codes "$C" ∷ []) x among) [
     | inl same ↦ is_helper NotNull x same u
-    | inr more ↦ elim (first_or_later (codes "$id") (codes "$im" ∷ codes "$ld" ∷ codes "$lm" ∷ []) x more) [
+    | inr more ↦ elim (first_or_later (codes "$id") (codes "$im" ∷ codes "$ld" ∷ codes "$lm" ∷ codes "$C" ∷ []) x more) [
       | inl same ↦ is_helper IntQuotient x same u
-      | inr more ↦ elim (first_or_later (codes "$im") (codes "$ld" ∷ codes "$lm" ∷ []) x more) [
+      | inr more ↦ elim (first_or_later (codes "$im") (codes "$ld" ∷ codes "$lm" ∷ codes "$C" ∷ []) x more) [
         | inl same ↦ is_helper IntRest x same u
-        | inr more ↦ elim (first_or_later (codes "$ld") (codes "$lm" ∷ []) x more) [
+        | inr more ↦ elim (first_or_later (codes "$ld") (codes "$lm" ∷ codes "$C" ∷ []) x more) [
           | inl same ↦ is_helper LongQuotient x same u
-          | inr more ↦ elim (first_or_later (codes "$lm") [] x more) [
+          | inr more ↦ elim (first_or_later (codes "$lm") (codes "$C" ∷ []) x more) [
             | inl same ↦ is_helper LongRest x same u
-            | inr more ↦ nothing_in x more
+            | inr more ↦ elim (first_or_later (codes "$C") [] x more) [
+              | inl same ↦ is_helper BoxedChar x same u
+              | inr more ↦ nothing_in x more
+            ]
           ]
         ]
       ]

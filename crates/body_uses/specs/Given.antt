@@ -25,9 +25,9 @@ FitsDivision LongDivide d = HasType Long d
 FitsDivision LongRemainder d = HasType Long d
 FitsDivision _ d = Unit {0}
 
--- the check of null, and the divisions
+-- the check of null, the divisions, and the class of objects that hold chars
 abbrev pub body_helpers : List (List ℕ)
-body_helpers = check_name ∷ codes "$id" ∷ codes "$im" ∷ codes "$ld" ∷ codes "$lm" ∷ []
+body_helpers = check_name ∷ codes "$id" ∷ codes "$im" ∷ codes "$ld" ∷ codes "$lm" ∷ codes "$C" ∷ []
 
 -- where these bindings are used
 module _ (has : Usable) (used : List Binding) where

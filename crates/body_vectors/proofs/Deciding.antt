@@ -3,7 +3,7 @@ use Rattle.std.proofs.Common.{◌≡◌, ◌⊎◌, ◌<◌, ◌^◌, ℕ, Bool,
 use Rattle.std.specs.Prelude.{ℤ, pos, negsuc, nat_lt, FitsSigned}
 use Rattle.std.specs.Int.{w32, w64}
 use Rattle.std.proofs.lemmas.Bool.{and_parts}
-use Rattle.built_forms.specs.Built.{Usable, may_yield, stands}
+use Rattle.built_forms.specs.Built.{Usable, stands}
 use Rattle.sj_desugar.specs.Desugar.{has_no_value}
 use Rattle.sj_names.proofs.Same.{impossible, text-same}
 use Rattle.sj_names.specs.Same.{is_same_text}
@@ -147,7 +147,7 @@ is_found s _ = true
 
 module _ (has : Usable) where
   abbrev is_here : Scene → Term → Bool
-  is_here s t = is_met s.labels t && (stands has (may_check has s.sure) s.labels t && is_found s t)
+  is_here s t = is_met s.labels t && (stands has (may_check has s.sure) t && is_found s t)
 
   abbrev mutual
     pub is_typed : Scene → Term → Bool
@@ -178,7 +178,7 @@ module _ (has : Usable) where
     pub are_typed_cases : Scene → IrType → Cases → Bool
     are_typed_cases s t no_cases = true
     are_typed_cases s t (more_cases [] e cs) = are_typed_cases s t cs
-    are_typed_cases s t (more_cases (n ∷ ns) e cs) = (yields_there e t && may_yield has t e) && (is_typed s e && are_typed_cases s t cs)
+    are_typed_cases s t (more_cases (n ∷ ns) e cs) = yields_there e t && (is_typed s e && are_typed_cases s t cs)
 
 -- ---- what the tests tell
 
@@ -314,7 +314,7 @@ module _ (w : Classes) (has : Usable) where
   met space ls _ h = impossible h
 
   here : (around : List (List ℕ)) (s : Scene) (t : Term) → Once around t → is_here has s t ≡ true → Here w has s t
-  here around s t o h = let k = and_parts (is_met s.labels t) (stands has (may_check has s.sure) s.labels t && is_found s t) h in let rest = and_parts (stands has (may_check has s.sure) s.labels t) (is_found s t) k.1 in record { meets = met s.space s.labels t k.0; built = rest.0; finds = found around s t o rest.1 }
+  here around s t o h = let k = and_parts (is_met s.labels t) (stands has (may_check has s.sure) t && is_found s t) h in let rest = and_parts (stands has (may_check has s.sure) t) (is_found s t) k.1 in record { meets = met s.space s.labels t k.0; built = rest.0; finds = found around s t o rest.1 }
 
   -- a tree with one tree in it
   with_one : (around inner : List (List ℕ)) (s r : Scene) (t e : Term) → Once around t → (Once inner e → is_typed has r e ≡ true → Typed w has r e) → Once inner e → (is_here has s t && is_typed has r e) ≡ true → Here w has s t × Typed w has r e
@@ -364,7 +364,6 @@ module _ (w : Classes) (has : Usable) where
     typed_cases ar s t no_cases o h = tt
     typed_cases ar s t (more_cases [] e cs) o h = typed_cases ar s t cs o.1 h
     typed_cases ar s t (more_cases (n ∷ ns) e cs) o h =
-        let k = and_parts (yields_there e t && may_yield has t e) (is_typed has s e && are_typed_cases has s t cs) h in
-        let own = and_parts (yields_there e t) (may_yield has t e) k.0 in
+        let k = and_parts (yields_there e t) (is_typed has s e && are_typed_cases has s t cs) h in
         let parts = and_parts (is_typed has s e) (are_typed_cases has s t cs) k.1 in
-        ((yields_type e t own.0, own.1), typed ar s e o.0 parts.0, typed_cases ar s t cs o.1 parts.1)
+        (yields_type e t k.0, typed ar s e o.0 parts.0, typed_cases ar s t cs o.1 parts.1)

@@ -34,7 +34,7 @@ use Rattle.sj_names.proofs.Same.{impossible}
 use Rattle.sj_sound.specs.Linked.{have_functions, functions_of}
 use Rattle.body_rules.proofs.Plain.{plain_world}
 use Rattle.built_forms.specs.Built.{Usable}
-use Rattle.built_forms.specs.Built.{yields_boxed}
+use Rattle.built_forms.specs.Built.{body_boxes}
 use Rattle.body_rules.specs.Locals.{local_of, HasValue}
 use Rattle.sj_proper.specs.Methods.{scene_of}
 use Rattle.sj_sound.specs.Worked.{emitted}
@@ -157,7 +157,7 @@ well_named m h =
     record { simple = k.0; params = parameters m.params rest.0; result = result_named m.result rest.1 }
 
 abbrev is_accepted : Usable → MethodDef → Bool
-is_accepted has d = is_typed has (scene_of object_name d (body_in d)) (body_in d) && (yields_there (body_in d) d.result && (not (yields_boxed d.result (body_in d)) && ((is_none d.result || not (has_no_value d.result)) && (are_values d.params && is_well_named d.name))))
+is_accepted has d = is_typed has (scene_of object_name d (body_in d)) (body_in d) && (yields_there (body_in d) d.result && (not (body_boxes d (body_in d)) && ((is_none d.result || not (has_no_value d.result)) && (are_values d.params && is_well_named d.name))))
 
 -- a method of `java.lang.Object` that the class gives for its member
 record IsFound (c : ClassDef) (d : MethodDef) : Type 0 where
@@ -167,9 +167,9 @@ record IsFound (c : ClassDef) (d : MethodDef) : Type 0 where
 
 accepted : (c : ClassDef) (fs : List EmittedMethod) (d : MethodDef) → FirstBroken c None → IsFound c d → is_accepted (functions_of fs) d ≡ true → IsAccepted (c ∷ []) fs (emitted d (body_in d))
 accepted c fs d unbroken there h =
-    let body = and_parts (is_typed (functions_of fs) (scene_of object_name d (body_in d)) (body_in d)) (yields_there (body_in d) d.result && (not (yields_boxed d.result (body_in d)) && ((is_none d.result || not (has_no_value d.result)) && (are_values d.params && is_well_named d.name)))) h in
-    let value = and_parts (yields_there (body_in d) d.result) (not (yields_boxed d.result (body_in d)) && ((is_none d.result || not (has_no_value d.result)) && (are_values d.params && is_well_named d.name))) body.1 in
-    let raw = and_parts (not (yields_boxed d.result (body_in d))) ((is_none d.result || not (has_no_value d.result)) && (are_values d.params && is_well_named d.name)) value.1 in
+    let body = and_parts (is_typed (functions_of fs) (scene_of object_name d (body_in d)) (body_in d)) (yields_there (body_in d) d.result && (not (body_boxes d (body_in d)) && ((is_none d.result || not (has_no_value d.result)) && (are_values d.params && is_well_named d.name)))) h in
+    let value = and_parts (yields_there (body_in d) d.result) (not (body_boxes d (body_in d)) && ((is_none d.result || not (has_no_value d.result)) && (are_values d.params && is_well_named d.name))) body.1 in
+    let raw = and_parts (not (body_boxes d (body_in d))) ((is_none d.result || not (has_no_value d.result)) && (are_values d.params && is_well_named d.name)) value.1 in
     let result = and_parts (is_none d.result || not (has_no_value d.result)) (are_values d.params && is_well_named d.name) raw.1 in
     let names = and_parts (are_values d.params) (is_well_named d.name) result.1 in
     let once = body_keeps c d (body_in d) there.has_body (class-keeps c unbroken d there.listed) in
@@ -183,7 +183,7 @@ accepted c fs d unbroken there h =
       rules = record {
         typed = typed (c ∷ []) (functions_of fs) [] (scene_of object_name d (body_in d)) (body_in d) once.once body.0;
         yields = yields_type (c ∷ []) (functions_of fs) (body_in d) d.result value.0;
-        unboxed = raw.0;
+        boxed = raw.0;
         result = result_is d.result result.0;
         values = have_values d.params names.0;
         once = once;

@@ -1,4 +1,4 @@
-pub mod Arguments
-pub mod Cases
 pub mod Around
+pub mod Cases
 pub mod Rows
+pub mod Targets

@@ -1,3 +1,3 @@
+pub mod Boxes
 pub mod Built
-pub mod Labels
 pub mod Rows

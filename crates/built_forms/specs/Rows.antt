@@ -1,17 +1,17 @@
 -- Small methods: which are built.
-use Rattle.std.specs.Prelude.{◌≡◌, ℕ, pos, true, false, List, [], ◌∷◌, Option, Some, None, codes}
+use Rattle.std.specs.Prelude.{◌≡◌, ℕ, pos, Bool, true, false, List, [], ◌∷◌, Option, Some, None, codes}
 use Rattle.sj_names.specs.declared.method_names.MethodName.{MethodName}
 use Rattle.sj_names.specs.declared.method_names.Namespace.{Namespace}
 use Rattle.sj_names.specs.declared.method_names.Namespace.TheVariants.{Public, PublicStatic, Private, PrivateStatic, Constructor}
 use Rattle.sj_names.specs.declared.references.TypeRef.{TypeRef}
 use Rattle.sj_trees.specs.Erase.{nowhere}
-use Rattle.sj_trees.specs.Term.{Term, no_terms, more_terms, no_cases, more_cases, skip, block_of, labeled, assign, return_to, if_then, match_on, throw, new_object, select, select_static, apply, apply_statically, apply_static, this_ref, binary_op, char_literal, int_literal, long_literal, var_ref}
+use Rattle.sj_trees.specs.Term.{Term, no_terms, more_terms, no_cases, more_cases, var_def, skip, block_of, labeled, assign, return_to, if_then, match_on, throw, new_object, select, select_static, apply, apply_statically, apply_static, this_ref, binary_op, char_literal, int_literal, long_literal, var_ref}
 use Rattle.sj_trees.specs.declared.classes.MethodDef.{MethodDef}
 use Rattle.sj_trees.specs.declared.operators.BinaryOp.{BinaryOp}
 use Rattle.sj_trees.specs.declared.operators.BinaryOp.TheVariants.{StrictEqual, IntDivide, LongRemainder}
 use Rattle.sj_trees.specs.declared.types.IrType.{IrType}
 use Rattle.sj_trees.specs.declared.types.IrType.TheVariants.{Any, Boolean, Char, Int, Long, NoType}
-use Rattle.built_forms.specs.Built.{Usable, is_built, not_built}
+use Rattle.built_forms.specs.Built.{Usable, is_built, is_built_method, not_built, body_boxes}
 
 abbrev pub method_name : TypeRef → MethodName
 method_name param = record { simple = codes "m"; params = param ∷ []; result = Some TypeRef.Void }
@@ -72,6 +72,24 @@ with_fields = record { linked = λ m. true; received = λ m. false; built = λ m
 abbrev pub with_boxes : Usable
 with_boxes = record { linked = λ m. true; received = λ m. false; built = λ m. false; made = λ c. false; field = λ c f t. true; static_field = λ c f t. false; helper = λ x. true; objects = false }
 
+-- the code of a method that gives a value of this type makes an object that holds a char
+abbrev pub makes_box : IrType → Term → Bool
+makes_box result body = body_boxes (giving result body) body
+
+abbrev pub two : Term → Term → Term
+two a b = block_of nowhere (more_terms a (more_terms b no_terms))
+
+abbrev pub choice : IrType → Term → Term → Term
+choice t a b = if_then nowhere (var_ref nowhere (codes "b") Boolean) a b t
+
+-- a call for a value of this type
+abbrev pub call_for : IrType → TypeRef → Term → Term
+call_for t param argument = apply_static nowhere (codes "A") PublicStatic (method_name param) (more_terms argument no_terms) t
+
+-- a local of this type
+abbrev pub local : IrType → Term → Term
+local t value = var_def nowhere (codes "x") t false value
+
 -- an assignment to a field of this type
 abbrev pub setting : IrType → Term → Term
 setting t value = assign nowhere (select nowhere (var_ref nowhere (codes "x") Any) (codes "A") (codes "f") t) value
@@ -84,20 +102,20 @@ pub record WorkedForms : Type 0 where
   pub method_on_objects : not_built (method Public NoType (Some nothing)) ≡ false
   pub abstract_method : not_built (method Public NoType None) ≡ false
   pub makes_an_object : not_built (static object) ≡ false
-  pub makes_an_object_of_a_char : not_built (static (new_object nowhere (codes "A") (method_name TypeRef.Int) (more_terms letter no_terms))) ≡ true
+  pub makes_an_object_of_a_char : not_built (static (new_object nowhere (codes "A") (method_name TypeRef.Int) (more_terms letter no_terms))) ≡ false
   pub sets_a_field : not_built (static (assign nowhere (select nowhere object (codes "A") (codes "f") Int) (number 1))) ≡ false
-  pub sets_a_field_to_a_char : not_built (static (assign nowhere (select nowhere object (codes "A") (codes "f") Any) letter)) ≡ true
+  pub sets_a_field_to_a_char : not_built (static (assign nowhere (select nowhere object (codes "A") (codes "f") Any) letter)) ≡ false
   pub sets_a_static_field : not_built (static (assign nowhere (select_static nowhere (codes "A") (codes "f") Int) (number 1))) ≡ false
-  pub sets_a_static_field_to_a_char : not_built (static (assign nowhere (select_static nowhere (codes "A") (codes "f") Any) letter)) ≡ true
+  pub sets_a_static_field_to_a_char : not_built (static (assign nowhere (select_static nowhere (codes "A") (codes "f") Any) letter)) ≡ false
   pub sets_a_static_field_to_what_is_not_built : not_built (static (assign nowhere (select_static nowhere (codes "A") (codes "f") Any) unbuilt)) ≡ true
   pub reads_a_static_field : not_built (static (select_static nowhere (codes "A") (codes "f") Int)) ≡ false
-  pub reads_a_static_field_it_can_not_use : is_built with_fields (λ e. true) [] (select_static nowhere (codes "A") (codes "f") Int) ≡ false
+  pub reads_a_static_field_it_can_not_use : is_built with_fields (λ e. true) (select_static nowhere (codes "A") (codes "f") Int) ≡ false
   pub reads_a_field : not_built (static (select nowhere object (codes "A") (codes "f") Int)) ≡ false
   pub reads_a_field_of_what_is_not_built : not_built (static (select nowhere unbuilt (codes "A") (codes "f") Int)) ≡ true
   pub throws : not_built (static (throw nowhere object)) ≡ false
-  pub throws_a_char : not_built (static (throw nowhere letter)) ≡ true
+  pub throws_a_char : not_built (static (throw nowhere letter)) ≡ false
   pub calls_a_private_method : not_built (static (direct Private object NoType)) ≡ false
-  pub calls_a_private_method_on_a_char : not_built (static (direct Private letter NoType)) ≡ true
+  pub calls_a_private_method_on_a_char : not_built (static (direct Private letter NoType)) ≡ false
   pub calls_a_private_method_on_what_is_not_built : not_built (static (direct Private unbuilt NoType)) ≡ true
   pub calls_a_public_method : not_built (static (direct Public object NoType)) ≡ true
   pub calls_a_constructor : not_built (static (direct Constructor object NoType)) ≡ false
@@ -106,31 +124,56 @@ pub record WorkedForms : Type 0 where
   pub makes_an_object_by_a_constructor_that_has_a_value : not_built (static (new_object nowhere (codes "A") (record { simple = codes "m"; params = []; result = Some TypeRef.Int }) no_terms)) ≡ true
   pub names_its_receiver : not_built (method Public NoType (Some (this_ref nowhere Any))) ≡ false
   pub calls_a_method_that_is_looked_up : not_built (static unbuilt) ≡ true
-  pub sets_a_field_it_can_use : is_built with_fields (λ e. true) [] (setting Int (number 1)) ≡ true
-  pub char_in_a_field : is_built with_fields (λ e. true) [] (setting Any letter) ≡ false
-  pub field_set_by_a_call : is_built with_fields (λ e. true) [] (setting Int (apply_static nowhere (codes "A") PublicStatic (method_name TypeRef.Int) (more_terms (number 1) no_terms) Int)) ≡ true
-  pub char_that_becomes_an_object : is_built with_boxes (λ e. true) [] (setting Any letter) ≡ true
-  pub field_of_an_unchecked_object : is_built with_fields (λ e. false) [] (setting Int (number 1)) ≡ false
+  pub sets_a_field_it_can_use : is_built with_fields (λ e. true) (setting Int (number 1)) ≡ true
+  pub field_set_by_a_call : is_built with_fields (λ e. true) (setting Int (apply_static nowhere (codes "A") PublicStatic (method_name TypeRef.Int) (more_terms (number 1) no_terms) Int)) ≡ true
+  pub field_of_an_unchecked_object : is_built with_fields (λ e. false) (setting Int (number 1)) ≡ false
   pub identity : not_built (static (operation StrictEqual Any (number 1))) ≡ true
   pub by_two : not_built (static (operation IntDivide Int (number 2))) ≡ false
   pub by_zero : not_built (static (operation IntDivide Int (number 0))) ≡ false
   pub by_a_local : not_built (static (operation IntDivide Int (var_ref nowhere (codes "y") Int))) ≡ false
-  pub by_a_local_without_a_helper : is_built with_fields (λ e. true) [] (operation IntDivide Int (var_ref nowhere (codes "y") Int)) ≡ false
-  pub by_zero_without_a_helper : is_built with_fields (λ e. true) [] (operation IntDivide Int (number 0)) ≡ false
-  pub by_two_without_a_helper : is_built with_fields (λ e. true) [] (operation IntDivide Int (number 2)) ≡ true
+  pub by_a_local_without_a_helper : is_built with_fields (λ e. true) (operation IntDivide Int (var_ref nowhere (codes "y") Int)) ≡ false
+  pub by_zero_without_a_helper : is_built with_fields (λ e. true) (operation IntDivide Int (number 0)) ≡ false
+  pub by_two_without_a_helper : is_built with_fields (λ e. true) (operation IntDivide Int (number 2)) ≡ true
   pub long_by_two : not_built (static (operation LongRemainder Long (long_literal nowhere (pos 2)))) ≡ false
-  pub long_by_an_int_without_a_helper : is_built with_fields (λ e. true) [] (operation LongRemainder Long (number 2)) ≡ false
-  pub char_as_a_char : not_built (giving Char letter) ≡ false
-  pub char_given_up : not_built (static letter) ≡ false
-  pub char_as_a_value : not_built (giving Any letter) ≡ true
-  pub last_is_a_char : not_built (giving Any (block_of nowhere (more_terms nothing (more_terms letter no_terms)))) ≡ true
-  pub branch_is_a_char : not_built (giving Any (if_then nowhere (var_ref nowhere (codes "b") Boolean) letter (number 1) Any)) ≡ true
-  pub argument_is_a_char : not_built (static (call TypeRef.Int letter)) ≡ true
-  pub argument_for_a_char : not_built (static (call TypeRef.Char letter)) ≡ false
-  pub leaves_as_a_char : not_built (static (inside Char (leave letter))) ≡ false
-  pub leaves_as_a_value : not_built (static (inside Any (leave letter))) ≡ true
-  pub leaves_the_inner_block : not_built (static (inside Any (inside Char (leave letter)))) ≡ true
-  pub leaves_the_inner_block_alone : not_built (static (inside Int (block_of nowhere (more_terms (inside Char (leave letter)) (more_terms (number 1) no_terms))))) ≡ false
-  pub leaves_no_block : not_built (static (leave letter)) ≡ false
+  pub long_by_an_int_without_a_helper : is_built with_fields (λ e. true) (operation LongRemainder Long (number 2)) ≡ false
+  pub char_as_a_value : not_built (giving Any letter) ≡ false
   pub case_with_a_key : not_built (static (case (1 ∷ []) unbuilt)) ≡ true
   pub case_without_keys : not_built (static (case [] unbuilt)) ≡ false
+  pub needs_a_box : is_built_method with_fields (λ e. true) (giving Any letter) letter ≡ false
+  pub has_a_box : is_built_method with_boxes (λ e. true) (giving Any letter) letter ≡ true
+  pub needs_no_box : is_built_method with_fields (λ e. true) (giving Char letter) letter ≡ true
+  pub char_as_a_char : makes_box Char letter ≡ false
+  pub char_given_up : makes_box NoType letter ≡ false
+  pub char_at_any : makes_box Any letter ≡ true
+  pub last_is_a_char : makes_box Any (two nothing letter) ≡ true
+  pub first_is_a_char : makes_box Any (two letter (number 1)) ≡ false
+  pub char_that_only_throws : makes_box Any (inside Char (throw nowhere object)) ≡ false
+  pub char_that_throws_or_gives : makes_box Any (choice Char (throw nowhere object) letter) ≡ true
+  pub throws_a_char_itself : makes_box NoType (throw nowhere letter) ≡ true
+  pub branch_is_a_char : makes_box Any (choice Any letter (number 1)) ≡ true
+  pub branch_is_a_char_given_up : makes_box NoType (choice Any (two nothing letter) (number 1)) ≡ false
+  pub char_in_an_expression : makes_box NoType (operation IntDivide Int (choice Any letter (number 1))) ≡ true
+  pub choice_between_chars_at_any : makes_box Any (choice Char letter letter) ≡ true
+  pub choice_between_chars : makes_box Char (choice Char letter letter) ≡ false
+  pub operand_that_is_a_choice_between_chars : makes_box NoType (setting Any (choice Char letter letter)) ≡ true
+  pub condition_with_a_char : makes_box NoType (if_then nowhere (call_for Boolean TypeRef.Int letter) nothing nothing NoType) ≡ true
+  pub argument_is_a_char : makes_box NoType (call TypeRef.Int letter) ≡ true
+  pub argument_for_a_char : makes_box NoType (call TypeRef.Char letter) ≡ false
+  pub argument_in_pieces_for_a_char : makes_box NoType (call TypeRef.Char (two nothing letter)) ≡ false
+  pub argument_in_pieces : makes_box NoType (call TypeRef.Int (two nothing letter)) ≡ true
+  pub receiver_is_a_char : makes_box NoType (direct Private letter NoType) ≡ true
+  pub call_that_gives_a_char : makes_box Any (call_for Char TypeRef.Int (number 1)) ≡ true
+  pub call_that_gives_a_char_up : makes_box NoType (call_for Char TypeRef.Int (number 1)) ≡ false
+  pub char_in_a_field : makes_box NoType (setting Any letter) ≡ true
+  pub char_in_a_field_of_chars : makes_box NoType (setting Char letter) ≡ false
+  pub char_in_a_static_field : makes_box NoType (assign nowhere (select_static nowhere (codes "A") (codes "f") Any) letter) ≡ true
+  pub plain_value_of_a_local : makes_box NoType (local Any letter) ≡ true
+  pub value_of_a_local_that_throws : makes_box NoType (local Any (inside Char (throw nowhere object))) ≡ false
+  pub value_of_a_local_in_pieces : makes_box NoType (local Any (two nothing letter)) ≡ true
+  pub leaves_to_a_value : makes_box Any (inside Char (leave letter)) ≡ true
+  pub leaves_to_a_char : makes_box Char (inside Any (leave letter)) ≡ false
+  pub leaves_to_what_is_given_up : makes_box NoType (inside Any (leave letter)) ≡ false
+  pub leaves_the_inner_block : makes_box Any (inside Any (two (inside Char (leave letter)) (number 1))) ≡ false
+  pub leaves_no_block : makes_box Any (leave letter) ≡ false
+  pub case_with_a_char : makes_box Any (case (1 ∷ []) letter) ≡ true
+  pub case_with_a_char_without_keys : makes_box Any (case [] letter) ≡ false

@@ -3,9 +3,7 @@
 //! The theorems on bodies stand on the definition.
 #![tactic(auto)]
 
-mod chars;
 mod forms;
-mod labels;
 mod laws;
 mod methods;
 mod operators;

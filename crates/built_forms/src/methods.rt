@@ -1,18 +1,15 @@
 // Methods.
 ghost use Rattle.std.specs.Prelude.{◌≡◌};
 ghost use Rattle.built_forms.specs.Built as built;
-ghost use Rattle.sj_trees.specs.View.{view};
 
-use crate::chars::yields_boxed;
 use crate::forms::is_built;
-use crate::labels::Labels;
-use sj_trees::{MethodDef, Tree};
+use sj_trees::MethodDef;
 
 /// Whether the linker doesn't build the method yet: its body isn't of the forms that are built. A method without a body is built. It takes no memory.
 ///
 /// These forms are built: locals that are defined, read and assigned, blocks with and without labels, `Return`, `If`, both loops, `Match`, calls of static
 /// methods, of constructors and of private methods, `New`, `This`, fields of instances and static fields that are read and assigned, `Throw`, operators, literals, and `Log`. Of these,
-/// no operator of identity is built; nor is a char where a value of another type is wanted. What a case without keys has isn't asked for.
+/// no operator of identity is built. What a case without keys has isn't asked for.
 pub fn not_built(m: &MethodDef) -> bool
     ensures { result ≡ built.not_built m.now }
 {
@@ -23,13 +20,7 @@ fn has_built_body(m: &MethodDef) -> bool
     ensures { result ≡ built.has_built_body m.now m.now.body }
 {
     match &m.body {
-        Some(body) => is_built_body(m, body.tree()),
+        Some(body) => is_built(body.tree()),
         None => true,
     }
-}
-
-fn is_built_body(m: &MethodDef, body: &Tree) -> bool
-    ensures { result ≡ built.is_object_body m.now (view body.now) }
-{
-    !yields_boxed(&m.result, body) && is_built(body, &Labels::Outside)
 }

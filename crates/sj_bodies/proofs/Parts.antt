@@ -1,9 +1,8 @@
 -- What a tree that keeps the rules gives where it is written: what is asked of its parts.
 use Rattle.std.proofs.Common.{◌≡◌, ℕ, Bool, true, false, List, ◌∷◌, Some, refl, sym, ◌∙◌, subst, ◌⊎◌, inl, inr, ⊎_elim, if◌then◌else◌}
-use Rattle.std.specs.Prelude.{nat_eq}
+use Rattle.std.specs.Prelude.{nat_eq, ◌||◌}
 use Rattle.std.specs.Cmp.Lexicographic.{pointwise}
 use Rattle.sj_core.specs.Terms as core
-use Rattle.sj_desugar.specs.Coercions.{is_char}
 use Rattle.sj_desugar.specs.Desugar.{Targets, target_of}
 use Rattle.sj_desugar.specs.Plain.{is_plain, is_fixed, mutable_in}
 use Rattle.sj_desugar.specs.Spill.{Destination, discard, to_variable, to_result}
@@ -13,22 +12,24 @@ use Rattle.sj_trees.specs.declared.operators.BinaryOp.{BinaryOp}
 use Rattle.sj_trees.specs.declared.positions.Position.{Position}
 use Rattle.sj_trees.specs.declared.types.IrType.{IrType}
 use Rattle.sj_trees.specs.declared.types.IrType.TheVariants.{NoType}
-use Rattle.typing_rules.specs.Rules.{left_operand, right_operand, IsText}
+use Rattle.typing_rules.specs.Rules.{left_operand, right_operand, IsText, Yields}
+use Rattle.typing_rules.specs.Rules as rules
 use Rattle.sj_plain.specs.Conditions.{IsNoConstruction, Plain}
 use Rattle.sj_plain.specs.Settings.{Code}
 use Rattle.sj_plain.proofs.Boxes.{takes-below}
 use Rattle.sj_plain.proofs.Received.{value_none, not_none, value_below, value_apart}
-use Rattle.built_forms.specs.Built.{Usable, can_box}
+use Rattle.built_forms.specs.Boxes.{is_boxed, brought_to, goal_of, goals_of, is_boxed_at, boxes_as_text, boxes, operand_boxes}
+use Rattle.built_forms.specs.Built.{Usable, may_make}
 use Rattle.body_rules.specs.Locals.{Scope, Mutable, with_local, HasValue}
 use Rattle.body_rules.specs.Standing.{MayStand}
-use Rattle.body_rules.proofs.Fitting.{value-not, not_no_type, box-further, stands-same, left-operand-value, right-operand-value}
+use Rattle.body_rules.proofs.Fitting.{value-not, not_no_type, left-operand-value, right-operand-value}
 use Rattle.sj_proper.specs.Once.{Once}
 use Rattle.body_rules.proofs.Locals.{values-behind, mutable-behind}
 use Rattle.sj_bodies.specs.Fine.{Around, with_label, IsDiscard, is_discard, FitsIn, FineOperand, Fine, Amid, Asks}
 use Rattle.sj_names.proofs.Same.{impossible}
 use Rattle.body_rules.specs.Subtyping.{IsSubtyping}
 use Rattle.body_rules.specs.Typing.{Scene, IsResult, in_label, Typed}
-use Rattle.body_rules.proofs.RulesGive.{Takes, its_types, texts, of_division, Yields, fits_there}
+use Rattle.body_rules.proofs.RulesGive.{Takes, its_types, texts, of_division, each_made}
 use Rattle.sj_world.specs.Known.{Classes}
 use Rattle.sj_world.specs.Subtypes.{IsSub}
 use Rattle.typing_rules.specs.declared.labels.Label.{Label}
@@ -52,65 +53,70 @@ not_fixed is_mutable (this_ref p t) h = impossible (sym h)
 not_fixed is_mutable (var_ref p x t) h = impossible (sym h)
 not_fixed is_mutable _ h = refl
 
-module _ (w : Classes) (law : IsSubtyping (IsSub w)) (has : Usable) where
-  pub given_up : (k : Destination) → Asks w has k NoType → IsDiscard k
+module _ (w : Classes) (law : IsSubtyping (IsSub w)) where
+  pub given_up : (k : Destination) → Asks w k NoType → IsDiscard k
   given_up discard h = is_discard
-  given_up (to_variable x i) h = absurd (h.1 (law.from_none i h.0.0))
-  given_up (to_result i) h = absurd (h.1 (law.from_none i h.0.0))
+  given_up (to_variable x i) h = absurd (h.1 (law.from_none i h.0))
+  given_up (to_result i) h = absurd (h.1 (law.from_none i h.0))
 
-  asks-narrow : (k : Destination) (s t : IrType) → IsSub w s t → MayStand has t s → Asks w has k t → Asks w has k s
-  asks-narrow discard s t f n h = tt
-  asks-narrow (to_variable x i) s t f n h = ((law.further s t i f h.0.0, box-further (can_box has) (is_char s) (is_char t) (is_char i) n h.0.1), h.1)
-  asks-narrow (to_result i) s t f n h = ((law.further s t i f h.0.0, box-further (can_box has) (is_char s) (is_char t) (is_char i) n h.0.1), h.1)
+  asks-narrow : (k : Destination) (s t : IrType) → IsSub w s t → Asks w k t → Asks w k s
+  asks-narrow discard s t f h = tt
+  asks-narrow (to_variable x i) s t f h = (law.further s t i f h.0, h.1)
+  asks-narrow (to_result i) s t f h = (law.further s t i f h.0, h.1)
 
-  asks-none : (k : Destination) (s : IrType) → Asks w has k NoType → Asks w has k s
+  asks-none : (k : Destination) (s : IrType) → Asks w k NoType → Asks w k s
   asks-none discard s h = tt
-  asks-none (to_variable x i) s h = absurd (h.1 (law.from_none i h.0.0))
-  asks-none (to_result i) s h = absurd (h.1 (law.from_none i h.0.0))
+  asks-none (to_variable x i) s h = absurd (h.1 (law.from_none i h.0))
+  asks-none (to_result i) s h = absurd (h.1 (law.from_none i h.0))
 
-  pub yields : (k : Destination) (e : Term) (t : IrType) → Asks w has k t → Yields w has e t → Asks w has k (type_of_term e)
-  yields k e t h (inl none) = asks-none k (type_of_term e) (subst (Asks w has k) none h)
-  yields k e t h (inr f) = asks-narrow k (type_of_term e) t f.0 f.1 h
-
-  pub fits-value : (k : Destination) (t : IrType) → Asks w has k t → HasValue t → FitsIn has k t
-  fits-value discard t a h = tt
-  fits-value (to_variable x i) t a h = (h, takes-below w law i t a.0.0, a.0.1)
-  fits-value (to_result i) t a h = (h, takes-below w law i t a.0.0, a.0.1)
-
-  pub fits : (k : Destination) (t : IrType) → Asks w has k t → IsResult t → FitsIn has k t
-  fits discard t a r = tt
-  fits (to_variable x i) t a (inl e) = absurd (a.1 (law.from_none i (subst (λ s. IsSub w s i) e a.0.0)))
-  fits (to_variable x i) t a (inr h) = fits-value (to_variable x i) t a h
-  fits (to_result i) t a (inl e) = absurd (a.1 (law.from_none i (subst (λ s. IsSub w s i) e a.0.0)))
-  fits (to_result i) t a (inr h) = fits-value (to_result i) t a h
+  pub yields : (k : Destination) (e : Term) (t : IrType) → Asks w k t → Yields w e t → Asks w k (type_of_term e)
+  yields k e t h (rules.nothing_wanted none) = asks-none k (type_of_term e) (subst (Asks w k) none h)
+  yields k e t h (rules.fitting f) = asks-narrow k (type_of_term e) t f h
 
   -- a tree that fits a type with values goes to a variable of its own type
-  pub asks-own : (y : core.Variable) (s t : IrType) → IsSub w s t → (t ≡ NoType → ⊥) → Asks w has (to_variable y s) s
-  asks-own y s t f h = ((law.same s, stands-same (can_box has) (is_char s)), λ e. h (law.from_none t (subst (λ a. IsSub w a t) e f)))
+  pub asks-own : (y : core.Variable) (s t : IrType) → IsSub w s t → (t ≡ NoType → ⊥) → Asks w (to_variable y s) s
+  asks-own y s t f h = (law.same s, λ e. h (law.from_none t (subst (λ a. IsSub w a t) e f)))
 
-  asks-text : (y : core.Variable) (s : IrType) → IsText s → Asks w has (to_variable y s) s
-  asks-text y s h = ((law.same s, stands-same (can_box has) (is_char s)), not_no_type s h)
-
-  pub asks-left : (y : core.Variable) (o : BinaryOp) (e d : Term) → Takes w has o e d → Asks w has (to_variable y (type_of_term e)) (type_of_term e)
-  asks-left y o e d (its_types h f g) = asks-own y (type_of_term e) (left_operand o) f (value-not (left_operand o) (left-operand-value o))
-  asks-left y o e d (of_division h f g) = asks-own y (type_of_term e) (left_operand o) f (value-not (left_operand o) (left-operand-value o))
-  asks-left y o e d (texts is f g) = asks-text y (type_of_term e) f
-
-  pub asks-right : (y : core.Variable) (o : BinaryOp) (e d : Term) → Takes w has o e d → Asks w has (to_variable y (type_of_term d)) (type_of_term d)
-  asks-right y o e d (its_types h f g) = asks-own y (type_of_term d) (right_operand o) g (value-not (right_operand o) (right-operand-value o))
-  asks-right y o e d (of_division h f g) = asks-own y (type_of_term d) (right_operand o) g (value-not (right_operand o) (right-operand-value o))
-  asks-right y o e d (texts is f g) = asks-text y (type_of_term d) g
+  asks-text : (y : core.Variable) (s : IrType) → IsText s → Asks w (to_variable y s) s
+  asks-text y s h = (law.same s, not_no_type s h)
 
   -- the values that leave to a label go where they are of its type
   abbrev pub Reach : List Label → Targets → Type 0
-  Reach bs ts = (l : List ℕ) (t : IrType) → type_of_label bs l ≡ Some t → Asks w has (target_of ts l) t
+  Reach bs ts = (l : List ℕ) (t : IrType) → type_of_label bs l ≡ Some t → Asks w (target_of ts l) t
 
-  pub reach-inside : (bs : List Label) (ts : Targets) (l : List ℕ) (t : IrType) (k : Destination) → Asks w has k t → Reach bs ts → Reach (inside l t bs) (record { label = l; goes_to = k } ∷ ts)
+  pub reach-inside : (bs : List Label) (ts : Targets) (l : List ℕ) (t : IrType) (k : Destination) → Asks w k t → Reach bs ts → Reach (inside l t bs) (record { label = l; goes_to = k } ∷ ts)
   reach-inside bs ts l t k asks reach m q e = go (pointwise nat_eq m l) (sym (type_inside l t bs m) ∙ e)
     where
-      go : (c : Bool) → (if c then Some t else type_of_label bs m) ≡ Some q → Asks w has (if c then k else target_of ts m) q
-      go true i = let same : t ≡ q = cc in subst (Asks w has k) same asks
+      go : (c : Bool) → (if c then Some t else type_of_label bs m) ≡ Some q → Asks w (if c then k else target_of ts m) q
+      go true i = let same : t ≡ q = cc in subst (Asks w k) same asks
       go false i = reach m q i
+
+  module _ (has : Usable) where
+    -- a value of this type comes to the destination as an object that holds a char only if one can be made
+    abbrev pub MayCome : Destination → IrType → Type 0
+    MayCome k t = may_make has (is_boxed_at (goal_of k) t) ≡ true
+
+    pub fits-value : (k : Destination) (t : IrType) → Asks w k t → HasValue t → MayCome k t → FitsIn has k t
+    fits-value discard t a h may = tt
+    fits-value (to_variable x i) t a h may = (h, takes-below w law i t a.0, may)
+    fits-value (to_result i) t a h may = (h, takes-below w law i t a.0, may)
+
+    pub fits : (k : Destination) (t : IrType) → Asks w k t → IsResult t → MayCome k t → FitsIn has k t
+    fits discard t a r may = tt
+    fits (to_variable x i) t a (inl e) may = absurd (a.1 (law.from_none i (subst (λ s. IsSub w s i) e a.0)))
+    fits (to_variable x i) t a (inr h) may = fits-value (to_variable x i) t a h may
+    fits (to_result i) t a (inl e) may = absurd (a.1 (law.from_none i (subst (λ s. IsSub w s i) e a.0)))
+    fits (to_result i) t a (inr h) may = fits-value (to_result i) t a h may
+
+    pub asks-left : (y : core.Variable) (o : BinaryOp) (e d : Term) → Takes w has o e d → Asks w (to_variable y (type_of_term e)) (type_of_term e)
+    asks-left y o e d (its_types h f g) = asks-own y (type_of_term e) (left_operand o) f (value-not (left_operand o) (left-operand-value o))
+    asks-left y o e d (of_division h f g) = asks-own y (type_of_term e) (left_operand o) f (value-not (left_operand o) (left-operand-value o))
+    asks-left y o e d (texts is f g) = asks-text y (type_of_term e) f
+
+    pub asks-right : (y : core.Variable) (o : BinaryOp) (e d : Term) → Takes w has o e d → Asks w (to_variable y (type_of_term d)) (type_of_term d)
+    asks-right y o e d (its_types h f g) = asks-own y (type_of_term d) (right_operand o) g (value-not (right_operand o) (right-operand-value o))
+    asks-right y o e d (of_division h f g) = asks-own y (type_of_term d) (right_operand o) g (value-not (right_operand o) (right-operand-value o))
+    asks-right y o e d (texts is f g) = asks-text y (type_of_term d) g
 
 -- of two trees one after the other
 pub one_mutable : (is_mutable : List ℕ → Bool) (a b : Term) → Mutable is_mutable (λ xs. mutable_in a (mutable_in b xs)) → Mutable is_mutable (mutable_in a)
@@ -120,8 +126,8 @@ pub other_mutable : (is_mutable : List ℕ → Bool) (a b : Term) → Mutable is
 other_mutable is_mutable a b = of_second is_mutable (mutable_in a) (mutable_in b) (front a)
 
 -- a definition in front, and a label around
-pub amid-behind : (w : Classes) (is_mutable : List ℕ → Bool) (has : Usable) (here : Code) (g : Scope) (ls : Around) (s : Scene) (x : List ℕ) (t : IrType) (b : Bool) → Amid w is_mutable has here g ls s → HasValue t → (b ≡ true → is_mutable x ≡ true) → Amid w is_mutable has here (with_local x t g) ls (record { owner = s.owner; space = s.space; sure = s.sure; locals = record { name = x; «mutable» = b; tpe = t } ∷ s.locals; labels = s.labels })
-amid-behind w is_mutable has here g ls s x t b a v m = record {
+pub amid-behind : (w : Classes) (is_mutable : List ℕ → Bool) (here : Code) (g : Scope) (ls : Around) (s : Scene) (x : List ℕ) (t : IrType) (b : Bool) → Amid w is_mutable here g ls s → HasValue t → (b ≡ true → is_mutable x ≡ true) → Amid w is_mutable here (with_local x t g) ls (record { owner = s.owner; space = s.space; sure = s.sure; locals = record { name = x; «mutable» = b; tpe = t } ∷ s.locals; labels = s.labels })
+amid-behind w is_mutable here g ls s x t b a v m = record {
   surely = a.surely;
   owned = a.owned;
   seen = λ y i h. ⊎_elim (λ e. inl e) (λ r. inr (r.0, a.seen y i r.1)) h;
@@ -131,14 +137,14 @@ amid-behind w is_mutable has here g ls s x t b a v m = record {
   reaches = a.reaches;
 }
 
-pub amid-inside : (w : Classes) → IsSubtyping (IsSub w) → (is_mutable : List ℕ → Bool) (has : Usable) (here : Code) (g : Scope) (ls : Around) (s : Scene) (l : List ℕ) (t : IrType) (k : Destination) → Amid w is_mutable has here g ls s → Asks w has k t → Amid w is_mutable has here g (with_label l k ls) (in_label l t s)
-amid-inside w law is_mutable has here g ls s l t k a asks = record {
+pub amid-inside : (w : Classes) → IsSubtyping (IsSub w) → (is_mutable : List ℕ → Bool) (here : Code) (g : Scope) (ls : Around) (s : Scene) (l : List ℕ) (t : IrType) (k : Destination) → Amid w is_mutable here g ls s → Asks w k t → Amid w is_mutable here g (with_label l k ls) (in_label l t s)
+amid-inside w law is_mutable here g ls s l t k a asks = record {
   surely = a.surely;
   owned = a.owned;
   seen = a.seen;
   values = a.values;
   changing = a.changing;
-  targets = reach-inside w law has s.labels ls.targets l t k asks a.targets;
+  targets = reach-inside w law s.labels ls.targets l t k asks a.targets;
   reaches = λ m. inr (a.reaches m);
 }
 
@@ -150,34 +156,35 @@ module _ (w : Classes) (law : IsSubtyping (IsSub w)) (is_mutable : List ℕ → 
   OperandAt e = FineOperand w is_mutable has here g e (λ y. FineAt (to_variable y (type_of_term e)) e)
 
   abbrev Here : Scene → Type 0
-  Here s = Amid w is_mutable has here g ls s
+  Here s = Amid w is_mutable here g ls s
 
-  pub plain_at : (s : Scene) → Here s → (e : Term) → Typed w has s e → is_plain e ≡ true → IsNoConstruction e → Plain w has here g e
-  plain_at s a e h i apart = record { scene = s; surely = a.surely; owned = a.owned; seen = a.seen; typed = h; plain = i; apart = apart }
+  -- objects that hold chars can be made, or none is
+  abbrev Makes : Bool → Type 0
+  Makes boxed = may_make has boxed ≡ true
+
+  pub plain_at : (s : Scene) → Here s → (e : Term) → Typed w has s e → Makes (boxes_as_text e) → is_plain e ≡ true → IsNoConstruction e → Plain w has here g e
+  plain_at s a e h boxed i apart = record { scene = s; surely = a.surely; owned = a.owned; seen = a.seen; typed = h; boxed = boxed; plain = i; apart = apart }
 
   -- a tree in this scene
-  pub tree_in : (s : Scene) → Here s → (k : Destination) (e : Term) → Mutable is_mutable (mutable_in e) → Asks w has k (type_of_term e) → Typed w has s e → (around : List (List ℕ)) → Once around e → FineAt k e
-  tree_in s a k e m asks h around once = record { scene = s; amid = a; around = around; once = once; written = m; asks = asks; typed = h }
+  pub tree_in : (s : Scene) → Here s → (k : Destination) (e : Term) → Mutable is_mutable (mutable_in e) → Asks w k (type_of_term e) → Typed w has s e → Makes (boxes (goals_of ls.targets) (goal_of k) e) → (around : List (List ℕ)) → Once around e → FineAt k e
+  tree_in s a k e m asks h boxed around once = record { scene = s; amid = a; around = around; once = once; written = m; asks = asks; typed = h; boxed = boxed }
 
   -- an operand, by whether it is plain
-  pub operand_by : (s : Scene) → Here s → (e : Term) → Mutable is_mutable (mutable_in e) → ((y : core.Variable) → Asks w has (to_variable y (type_of_term e)) (type_of_term e)) → Typed w has s e → (around : List (List ℕ)) → Once around e → OperandAt e
-  operand_by s a e m asks h around once = go (is_plain e) refl
+  pub operand_by : (s : Scene) → Here s → (e : Term) → Mutable is_mutable (mutable_in e) → ((y : core.Variable) → Asks w (to_variable y (type_of_term e)) (type_of_term e)) → Typed w has s e → Makes (operand_boxes (goals_of ls.targets) e) → (around : List (List ℕ)) → Once around e → OperandAt e
+  operand_by s a e m asks h boxed around once = go (is_plain e) refl boxed
     where
-      go : (b : Bool) → is_plain e ≡ b → OperandAt e
-      go true i = inl (plain_at s a e h i (value_apart w has s e h (not_none (type_of_term e) (asks (core.numbered 0)).1)))
-      go false i = inr (i, not_fixed is_mutable e i, λ y. tree_in s a (to_variable y (type_of_term e)) e m (asks y) h around once)
+      go : (b : Bool) → is_plain e ≡ b → Makes (if b then boxes_as_text e else boxes (goals_of ls.targets) (brought_to (type_of_term e)) e) → OperandAt e
+      go true i may = inl (plain_at s a e h may i (value_apart w has s e h (not_none (type_of_term e) (asks (core.numbered 0)).1)))
+      go false i may = inr (i, not_fixed is_mutable e i, λ y. tree_in s a (to_variable y (type_of_term e)) e m (asks y) h may around once)
 
   -- one that fits a type with values
-  pub operand_in : (s : Scene) → Here s → (e : Term) → Mutable is_mutable (mutable_in e) → (t : IrType) → IsSub w (type_of_term e) t → HasValue t → Typed w has s e → (around : List (List ℕ)) → Once around e → OperandAt e
-  operand_in s a e m t fits value h around once = operand_by s a e m (λ y. asks-own w law has y (type_of_term e) t fits (value-not t value)) h around once
+  pub operand_in : (s : Scene) → Here s → (e : Term) → Mutable is_mutable (mutable_in e) → (t : IrType) → IsSub w (type_of_term e) t → HasValue t → Typed w has s e → Makes (operand_boxes (goals_of ls.targets) e) → (around : List (List ℕ)) → Once around e → OperandAt e
+  operand_in s a e m t fits value h boxed around once = operand_by s a e m (λ y. asks-own w law y (type_of_term e) t fits (value-not t value)) h boxed around once
 
   -- the right side of a definition
   pub definition_of : (k : Destination) (p : Position) (x : List ℕ) (t : IrType) (b : Bool) (e : Term) → FineAt k (var_def p x t b e) → (Plain w has here g e × IsSub w (type_of_term e) t × MayStand has t (type_of_term e)) ⊎ ((is_plain e ≡ false) × FineAt (to_variable (core.named x) t) e)
-  definition_of k p x t b e f = go (is_plain e) refl
+  definition_of k p x t b e f = go (is_plain e) refl f.boxed
     where
-      own : IsSub w (type_of_term e) t × MayStand has t (type_of_term e)
-      own = fits_there w has e t f.typed.0.built f.typed.0.meets
-
-      go : (c : Bool) → is_plain e ≡ c → (Plain w has here g e × IsSub w (type_of_term e) t × MayStand has t (type_of_term e)) ⊎ ((is_plain e ≡ false) × FineAt (to_variable (core.named x) t) e)
-      go true i = inl (plain_at f.scene f.amid e f.typed.1 i (value_apart w has f.scene e f.typed.1 (value_below w law (type_of_term e) t own.0 (value_none t f.typed.0.finds.0))), own.0, own.1)
-      go false i = inr (i, tree_in f.scene f.amid (to_variable (core.named x) t) e (of_value is_mutable b x (mutable_in e) f.written) (own, value-not t f.typed.0.finds.0) f.typed.1 f.around f.once.1)
+      go : (c : Bool) → is_plain e ≡ c → Makes (if c then is_boxed t e || boxes_as_text e else boxes (goals_of ls.targets) (brought_to t) e) → (Plain w has here g e × IsSub w (type_of_term e) t × MayStand has t (type_of_term e)) ⊎ ((is_plain e ≡ false) × FineAt (to_variable (core.named x) t) e)
+      go true i may = let parts = each_made has (is_boxed t e) (boxes_as_text e) may in inl (plain_at f.scene f.amid e f.typed.1 parts.1 i (value_apart w has f.scene e f.typed.1 (value_below w law (type_of_term e) t f.typed.0.meets (value_none t f.typed.0.finds.0))), f.typed.0.meets, parts.0)
+      go false i may = inr (i, tree_in f.scene f.amid (to_variable (core.named x) t) e (of_value is_mutable b x (mutable_in e) f.written) (f.typed.0.meets, value-not t f.typed.0.finds.0) f.typed.1 may f.around f.once.1)

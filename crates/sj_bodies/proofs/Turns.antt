@@ -16,7 +16,9 @@ use Rattle.sj_trees.specs.declared.positions.Position.{Position}
 use Rattle.sj_plain.specs.Settings.{Setting, run, SameState, Lawful, usable}
 use Rattle.sj_bodies.proofs.Blocks.{Outside, Undeclared, undeclared}
 use Rattle.sj_bodies.proofs.Contexts.{around, Context, Writes, Sound, Ahead, Ready, Came}
+use Rattle.body_rules.proofs.RulesGive.{each_made}
 use Rattle.body_rules.specs.Locals.{Own}
+use Rattle.built_forms.specs.Boxes.{Goal, goals_of, boxes, operand_boxes}
 use Rattle.sj_bodies.specs.Fine.{IsDiscard, is_discard, FineOperand, Fine, Asks}
 use Rattle.body_rules.specs.Typing.{IsTrueLiteral, true_literal}
 use Rattle.sj_bodies.proofs.Forms.{of_operands, one_final, silent, rebased, ahead-later}
@@ -38,19 +40,19 @@ outside-turn c k own out = record { scope = out.scope; writable = out.writable; 
 module _ (z : Setting) (lawful : Lawful z) (low : LowAlike z) where
   -- what the rules give of the parts of a loop
   while_body : (p : Position) (cond b : Term) (c : Context) (k : Destination) → Fine z.place.classes z.is_mutable (usable z) z.code c.scope (around c) k (while_loop p cond b) → Fine z.place.classes z.is_mutable (usable z) z.code c.scope (around c) discard b
-  while_body p cond b c k f = tree_in z.place.classes lawful.base.ordered z.is_mutable (usable z) z.code c.scope (around c) f.scene f.amid discard b (other_mutable z.is_mutable cond b f.written) tt f.typed.2 f.around f.once.1
+  while_body p cond b c k f = tree_in z.place.classes lawful.base.ordered z.is_mutable (usable z) z.code c.scope (around c) f.scene f.amid discard b (other_mutable z.is_mutable cond b f.written) tt f.typed.2 (each_made (usable z) (operand_boxes (goals_of c.targets) cond) (boxes (goals_of c.targets) Goal.given_up b) f.boxed).1 f.around f.once.1
 
   do_body : (p : Position) (b cond : Term) (c : Context) (k : Destination) → Fine z.place.classes z.is_mutable (usable z) z.code c.scope (around c) k (do_while p b cond) → Fine z.place.classes z.is_mutable (usable z) z.code c.scope (around c) discard b
-  do_body p b cond c k f = tree_in z.place.classes lawful.base.ordered z.is_mutable (usable z) z.code c.scope (around c) f.scene f.amid discard b (one_mutable z.is_mutable b cond f.written) tt f.typed.1 f.around f.once.0
+  do_body p b cond c k f = tree_in z.place.classes lawful.base.ordered z.is_mutable (usable z) z.code c.scope (around c) f.scene f.amid discard b (one_mutable z.is_mutable b cond f.written) tt f.typed.1 (each_made (usable z) (boxes (goals_of c.targets) Goal.given_up b) (operand_boxes (goals_of c.targets) cond) f.boxed).0 f.around f.once.0
 
   abbrev LoopFine : Context → Destination → Term → Type 0
   LoopFine c k cond = (IsDiscard k × FineOperand z.place.classes z.is_mutable (usable z) z.code c.scope cond (λ y. Fine z.place.classes z.is_mutable (usable z) z.code c.scope (around c) (to_variable y (type_of_term cond)) cond)) ⊎ IsTrueLiteral cond
 
   while_test : (p : Position) (cond b : Term) (c : Context) (k : Destination) → Fine z.place.classes z.is_mutable (usable z) z.code c.scope (around c) k (while_loop p cond b) → LoopFine c k cond
-  while_test p cond b c k f = ⊎_elim (λ e. inl (given_up z.place.classes lawful.base.ordered (usable z) k (subst (Asks z.place.classes (usable z) k) e f.asks), operand_in z.place.classes lawful.base.ordered z.is_mutable (usable z) z.code c.scope (around c) f.scene f.amid cond (one_mutable z.is_mutable cond b f.written) Boolean f.typed.0.meets refl f.typed.1 f.around f.once.0)) (λ i. inr i) (true-or-none cond)
+  while_test p cond b c k f = ⊎_elim (λ e. inl (given_up z.place.classes lawful.base.ordered k (subst (Asks z.place.classes k) e f.asks), operand_in z.place.classes lawful.base.ordered z.is_mutable (usable z) z.code c.scope (around c) f.scene f.amid cond (one_mutable z.is_mutable cond b f.written) Boolean f.typed.0.meets refl f.typed.1 (each_made (usable z) (operand_boxes (goals_of c.targets) cond) (boxes (goals_of c.targets) Goal.given_up b) f.boxed).0 f.around f.once.0)) (λ i. inr i) (true-or-none cond)
 
   do_test : (p : Position) (b cond : Term) (c : Context) (k : Destination) → Fine z.place.classes z.is_mutable (usable z) z.code c.scope (around c) k (do_while p b cond) → LoopFine c k cond
-  do_test p b cond c k f = ⊎_elim (λ e. inl (given_up z.place.classes lawful.base.ordered (usable z) k (subst (Asks z.place.classes (usable z) k) e f.asks), operand_in z.place.classes lawful.base.ordered z.is_mutable (usable z) z.code c.scope (around c) f.scene f.amid cond (other_mutable z.is_mutable b cond f.written) Boolean f.typed.0.meets refl f.typed.2 f.around f.once.1)) (λ i. inr i) (true-or-none cond)
+  do_test p b cond c k f = ⊎_elim (λ e. inl (given_up z.place.classes lawful.base.ordered k (subst (Asks z.place.classes k) e f.asks), operand_in z.place.classes lawful.base.ordered z.is_mutable (usable z) z.code c.scope (around c) f.scene f.amid cond (other_mutable z.is_mutable b cond f.written) Boolean f.typed.0.meets refl f.typed.2 (each_made (usable z) (boxes (goals_of c.targets) Goal.given_up b) (operand_boxes (goals_of c.targets) cond) f.boxed).1 f.around f.once.1)) (λ i. inr i) (true-or-none cond)
 
   -- the body of a loop in its turn
   body_alike : (b : Term) → TreeDoes z lawful low b → (c : Context) (k : Destination) (i : ℕ) → Sound z.is_mutable c → Ahead (in_turn c k) i → Outside c (Own b) → Fine z.place.classes z.is_mutable (usable z) z.code c.scope (around c) discard b → Alike z lawful (in_turn c k) discard (ir_meaning.step z.place.classes z.low b) (run z (into z.is_mutable z.code.sure c.targets discard i b).statements)

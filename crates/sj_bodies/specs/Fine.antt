@@ -1,6 +1,6 @@
 -- What is asked of a tree where it is written: it keeps the rules of bodies in a scene whose locals and labels are those around it, and what it comes to
 -- may be brought to its destination.
-use Rattle.std.specs.Prelude.{◌≡◌, ℕ, Bool, false, List, [], ◌∷◌, ◌⊎◌, Some}
+use Rattle.std.specs.Prelude.{◌≡◌, ℕ, Bool, true, false, List, [], ◌∷◌, ◌⊎◌, Some}
 use Rattle.sj_core.specs.Terms as core
 use Rattle.sj_desugar.specs.Desugar.{Targets, target_of, has_no_value}
 use Rattle.sj_desugar.specs.Plain.{is_plain, is_fixed, mutable_in}
@@ -15,7 +15,8 @@ use Rattle.sj_proper.specs.Once.{Once}
 use Rattle.body_rules.specs.Locals.{HaveValues, AreMutable, Mutable, Scope}
 use Rattle.body_rules.specs.Standing.{MayStand}
 use Rattle.sj_plain.specs.Standing.{Takes}
-use Rattle.built_forms.specs.Built.{Usable}
+use Rattle.built_forms.specs.Boxes.{boxes, goal_of, goals_of}
+use Rattle.built_forms.specs.Built.{Usable, may_make}
 use Rattle.body_rules.specs.Typing.{Scene, Typed}
 use Rattle.sj_world.specs.Known.{Classes}
 use Rattle.sj_world.specs.Subtypes.{IsSub}
@@ -44,31 +45,33 @@ abbrev pub no_labels : Around
 no_labels = record { targets = []; reaches = λ l. Unit {0} }
 
 -- a type that may be brought to a destination: it is given up, or stands for one that has values
-abbrev pub Asks : Classes → Usable → Destination → IrType → Type 0
-Asks w has discard t = Unit {0}
-Asks w has (to_variable x i) t = (IsSub w t i × MayStand has i t) × (i ≡ NoType → ⊥)
-Asks w has (to_result i) t = (IsSub w t i × MayStand has i t) × (i ≡ NoType → ⊥)
+abbrev pub Asks : Classes → Destination → IrType → Type 0
+Asks w discard t = Unit {0}
+Asks w (to_variable x i) t = IsSub w t i × (i ≡ NoType → ⊥)
+Asks w (to_result i) t = IsSub w t i × (i ≡ NoType → ⊥)
 
 -- what is around a tree is what its scene says: its method is that of the code at hand; the locals of the scene are in scope, have values, and are taken for mutable where they
 -- are; and the values that leave to a label go where they are of its type
-pub record Amid (w : Classes) (is_mutable : List ℕ → Bool) (has : Usable) (here : Code) (g : Scope) (ls : Around) (s : Scene) : Type 0 where
+pub record Amid (w : Classes) (is_mutable : List ℕ → Bool) (here : Code) (g : Scope) (ls : Around) (s : Scene) : Type 0 where
   pub surely : s.sure ≡ here.sure
   pub owned : s.owner ≡ here.owner
   pub seen : InScope s g
   pub values : HaveValues s.locals
   pub changing : AreMutable is_mutable s.locals
-  pub targets : (l : List ℕ) (t : IrType) → type_of_label s.labels l ≡ Some t → Asks w has (target_of ls.targets l) t
+  pub targets : (l : List ℕ) (t : IrType) → type_of_label s.labels l ≡ Some t → Asks w (target_of ls.targets l) t
   pub reaches : (l : List ℕ) → ls.reaches l
 
--- a tree that keeps the rules where it is written, defines each local once, and may be brought to its destination
+-- a tree that keeps the rules where it is written, defines each local once, may be brought to its destination, and whose code makes objects that hold chars only
+-- if they can be made
 pub record Fine (w : Classes) (is_mutable : List ℕ → Bool) (has : Usable) (here : Code) (g : Scope) (ls : Around) (k : Destination) (t : Term) : Type 0 where
   pub scene : Scene
-  pub amid : Amid w is_mutable has here g ls scene
+  pub amid : Amid w is_mutable here g ls scene
   pub around : List (List ℕ)
   pub once : Once around t
   pub written : Mutable is_mutable (mutable_in t)
-  pub asks : Asks w has k (type_of_term t)
+  pub asks : Asks w k (type_of_term t)
   pub typed : Typed w has scene t
+  pub boxed : may_make has (boxes (goals_of ls.targets) (goal_of k) t) ≡ true
 
 -- an operand is plain, or it may be brought to any variable of its type
 abbrev pub FineOperand : Classes → (List ℕ → Bool) → Usable → Code → Scope → Term → (core.Variable → Type 0) → Type 0

@@ -36,13 +36,13 @@ use Rattle.sj_proper.specs.Methods.{HaveTypes, scene_of, KeepsRules}
 use Rattle.sj_names.specs.declared.references.TypeRef.{TypeRef}
 use Rattle.body_rules.specs.Standing.{types_referred, call_type}
 use Rattle.body_rules.proofs.Mutable.{mutable-known, parameter-known}
-use Rattle.body_rules.proofs.RulesGive.{Yields, yields_there}
 use Rattle.built_forms.specs.Built.{Usable}
 use Rattle.sj_bodies.specs.Fine.{Fine, Asks, no_labels}
 use Rattle.sj_trees.specs.Term.{Term}
 use Rattle.sj_trees.specs.declared.classes.MethodDef.{MethodDef}
 use Rattle.sj_trees.specs.TypeOf.{type_of_term}
 use Rattle.sj_world.specs.Known.{Classes}
+use Rattle.typing_rules.specs.Rules.{Yields, nothing_wanted, fitting}
 
 pub named_parameter : (ds : List ParamDef) (x : List ℕ) (t : IrType) → parameters_of ds x t → IsParameter ds x
 named_parameter [] x t h = h
@@ -100,10 +100,10 @@ result-same NoType v h = impossible (sym h)
 result-same t v h = refl
 
 -- what the body of a method comes to may be brought out of it, as its result
-asks-result : (w : Classes) (has : Usable) (e : Term) (t : IrType) (k : Destination) → Way t k → Yields w has e t → Asks w has k (type_of_term e)
-asks-result w has e _ _ gives_up y = tt
-asks-result w has e _ _ (hands_on t h) (inl none) = impossible (sym h ∙ ap is_no_type none)
-asks-result w has e _ _ (hands_on t h) (inr f) = (f, λ none. impossible (sym h ∙ ap is_no_type none))
+asks-result : (w : Classes) (e : Term) (t : IrType) (k : Destination) → Way t k → Yields w e t → Asks w k (type_of_term e)
+asks-result w e _ _ gives_up y = tt
+asks-result w e _ _ (hands_on t h) (nothing_wanted none) = impossible (sym h ∙ ap is_no_type none)
+asks-result w e _ _ (hands_on t h) (fitting f) = (f, λ none. impossible (sym h ∙ ap is_no_type none))
 
 no_type : {A : Type 0} {t : IrType} → ◌≡◌ {A = Option IrType} None (Some t) → A
 no_type e = impossible (cc)
@@ -115,8 +115,9 @@ body-fine w has file c d e r = record {
   once = r.once.once;
   amid = record { surely = refl; owned = refl; seen = λ x t h. h; values = r.values; changing = λ x p i m. parameter-known d e x p i m; targets = λ l t e. no_type e; reaches = λ l. tt };
   written = mutable-known d e;
-  asks = asks-result w has e d.result (result_destination d.result) (way d.result) (yields_there w has e d.result r.unboxed r.yields);
+  asks = asks-result w e d.result (result_destination d.result) (way d.result) r.yields;
   typed = r.typed;
+  boxed = r.boxed;
 }
 
 -- the end of a body is the end of its call

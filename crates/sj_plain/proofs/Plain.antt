@@ -1,13 +1,14 @@
 -- A plain tree and its expression are alike.
 use Rattle.std.proofs.Common.{◌≡◌, zero, suc, Bool, true, false, List, [], ◌∷◌, None, Option, refl, sym, ap, ◌∙◌, subst, inl, inr, if◌then◌else◌, ⊎_elim}
-use Rattle.std.specs.Prelude.{ℤ, pos, negsuc, FitsSigned, ℕ, ◌&&◌, ◌⊎◌, not}
+use Rattle.std.specs.Prelude.{ℤ, pos, negsuc, FitsSigned, ℕ, ◌&&◌, ◌||◌, ◌⊎◌, not}
 use Rattle.std.proofs.lemmas.Bool.{and_parts}
 use Rattle.body_rules.proofs.Fitting.{fits-unary, fits-dividend, operates, not_no_type, unary-operand-value, left-operand-value, right-operand-value}
 use Rattle.body_rules.proofs.Locals.{there}
-use Rattle.body_rules.proofs.RulesGive.{when_not, Yields, ArgumentsFit, Takes, its_types, texts, of_division, one_yields, other_yields, arguments_there, is_linked, operation}
+use Rattle.body_rules.proofs.RulesGive.{when_not, ArgumentsFit, Takes, its_types, texts, of_division, each_made, arguments_there, operation}
 use Rattle.body_rules.specs.Subtyping.{IsSubtyping}
 use Rattle.body_rules.specs.Typing.{Scene, Typed, TypedAll, may_check}
-use Rattle.built_forms.specs.Built.{Usable, may_pass, divides}
+use Rattle.built_forms.specs.Boxes.{is_boxed, any_is_boxed, boxes_as_text, any_boxes_as_text}
+use Rattle.built_forms.specs.Built.{Usable, may_make, divides}
 use Rattle.sj_desugar.specs.Plain.{is_plain, are_plain, is_no_type}
 use Rattle.sj_names.specs.declared.method_names.Namespace.{Namespace}
 use Rattle.sj_names.specs.declared.method_names.MethodName.{MethodName}
@@ -42,9 +43,9 @@ use Rattle.sj_trees.specs.declared.operators.UnaryOp.TheVariants.{CharToInt, Byt
 use Rattle.sj_trees.specs.declared.positions.Position.{Position}
 use Rattle.sj_trees.specs.declared.types.IrType.{IrType}
 use Rattle.sj_trees.specs.Types.{class_type, reference_type}
-use Rattle.sj_trees.specs.declared.types.IrType.TheVariants.{Undefined, Null, Boolean, Char, Byte, Short, Int, Long, String}
+use Rattle.sj_trees.specs.declared.types.IrType.TheVariants.{Any, Undefined, Null, Boolean, Char, Byte, Short, Int, Long, String}
 use Rattle.body_rules.specs.Operators.{is_simple, Operates, of_its_types, joins, divided, a_quotient, a_remainder, a_long_quotient, a_long_remainder, DividesBy, by_int, by_long}
-use Rattle.typing_rules.specs.Rules.{left_operand, right_operand, unary_operand}
+use Rattle.typing_rules.specs.Rules.{left_operand, right_operand, unary_operand, Yields, nothing_wanted, fitting}
 use Rattle.sj_plain.specs.Conditions.{InScope, IsNoConstruction, Plain}
 use Rattle.body_rules.specs.Locals.{Scope}
 use Rattle.sj_plain.specs.Settings.{Setting, shown, SameState, Inside, Valued, valued, Lawful, Holding, holding, Sees, Receiving, no_receiver, on_receiver, usable, a_function, function_of_member, function_call}
@@ -287,29 +288,33 @@ module _ (z : Setting) (lawful : Lawful z) (scope : Scope) where
     abbrev Kept : Term → Type 0
     Kept t = Typed z.place.classes (usable z) scene t
 
+    -- objects that hold chars can be made, or none is
+    abbrev Makes : Bool → Type 0
+    Makes boxed = may_make (usable z) boxed ≡ true
+
     abbrev IsValue : Term → Type 0
     IsValue t = is_no_type (type_of_term t) ≡ false
 
-    value_yielded : (e : Term) (t : IrType) → is_no_type t ≡ false → Yields z.place.classes (usable z) e t → IsValue e
-    value_yielded e t n (inl i) = impossible (sym n ∙ ap is_no_type i)
-    value_yielded e t n (inr f) = value_below z.place.classes law (type_of_term e) t f.0 n
+    value_yielded : (e : Term) (t : IrType) → is_no_type t ≡ false → Yields z.place.classes e t → IsValue e
+    value_yielded e t n (nothing_wanted i) = impossible (sym n ∙ ap is_no_type i)
+    value_yielded e t n (fitting f) = value_below z.place.classes law (type_of_term e) t f n
 
-    yielded_stands : (e : Term) (t : IrType) → is_no_type t ≡ false → Yields z.place.classes (usable z) e t → StandsFor z t (type_of_term e)
-    yielded_stands e t n (inl i) = impossible (sym n ∙ ap is_no_type i)
-    yielded_stands e t n (inr f) = stands-for z lawful t (type_of_term e) f.0 f.1
+    yielded_stands : (e : Term) (t : IrType) → is_no_type t ≡ false → Makes (is_boxed t e) → Yields z.place.classes e t → StandsFor z t (type_of_term e)
+    yielded_stands e t n may (nothing_wanted i) = impossible (sym n ∙ ap is_no_type i)
+    yielded_stands e t n may (fitting f) = stands-for z lawful t (type_of_term e) f may
 
-    if_tree : (p : Position) (c a b : Term) (t : IrType) → Kept (if_then p c a b t) → is_no_type t ≡ false → TreeAlike c → TreeAlike a → TreeAlike b → TreeAlike (if_then p c a b t)
-    if_tree p c a b t h value hc ha hb = record {
-      alike = λ w env s sc u sees same. if_alike c a b t hc.alike ha.alike hb.alike (yielded_stands a t value (one_yields z.place.classes (usable z) a b t h.0.built h.0.meets.1)) (yielded_stands b t value (other_yields z.place.classes (usable z) a b t h.0.built h.0.meets.2)) hc.told w env s sc u sees same;
+    if_tree : (p : Position) (c a b : Term) (t : IrType) → Kept (if_then p c a b t) → Makes (is_boxed t a) → Makes (is_boxed t b) → is_no_type t ≡ false → TreeAlike c → TreeAlike a → TreeAlike b → TreeAlike (if_then p c a b t)
+    if_tree p c a b t h first second value hc ha hb = record {
+      alike = λ w env s sc u sees same. if_alike c a b t hc.alike ha.alike hb.alike (yielded_stands a t value first h.0.meets.1) (yielded_stands b t value second h.0.meets.2) hc.told w env s sc u sees same;
       told = refl;
     }
 
     abbrev RowAlike : Terms → Type 0
     RowAlike ts = (w : World) (env : ir.Env) (sc : js.Scope) → Sees z.place z.code scope w env sc → OperandsAlike z w env sc (types_of ts) (ir_meaning.operands z.place.classes z.low ts) (all_expressions z.code.sure ts)
 
-    call_tree : (p : Position) (c : List ℕ) (n : Namespace) (m : MethodName) (ts : Terms) (t : IrType) → Kept (apply_static p c n m ts t) → RowAlike ts → TreeAlike (apply_static p c n m ts t)
-    call_tree p c n m ts t h operands = record {
-      alike = λ w env s sc u sees same. call_plain p (member c n m) ts t h.0.meets.1 (is_linked z.place.classes (usable z) ((usable z).linked (member c n m)) ts m.params h.0.built) (stand-for-all z lawful ts m.params (arguments_there z.place.classes (usable z) ((usable z).linked (member c n m)) ts m.params h.0.built h.0.finds h.0.meets.2)) w env s sc u sees (operands w env sc sees) same;
+    call_tree : (p : Position) (c : List ℕ) (n : Namespace) (m : MethodName) (ts : Terms) (t : IrType) → Kept (apply_static p c n m ts t) → Makes (any_is_boxed m.params ts) → RowAlike ts → TreeAlike (apply_static p c n m ts t)
+    call_tree p c n m ts t h may operands = record {
+      alike = λ w env s sc u sees same. call_plain p (member c n m) ts t h.0.meets.1 h.0.built (stand-for-all z lawful ts m.params (arguments_there z.place.classes (usable z) ts m.params may h.0.finds h.0.meets.2)) w env s sc u sees (operands w env sc sees) same;
       told = refl;
     }
 
@@ -323,17 +328,17 @@ module _ (z : Setting) (lawful : Lawful z) (scope : Scope) where
       told = refl;
     }
 
-    new_tree : (p : Position) (c : List ℕ) (m : MethodName) (ts : Terms) → Kept (new_object p c m ts) → RowAlike ts → TreeAlike (new_object p c m ts)
-    new_tree p c m ts h operands = record {
-      alike = λ w env s sc u sees same. new_alike z lawful.base c m (all_stood (types_referred m.params) (types_of ts) fit.0) (ir_meaning.operands z.place.classes z.low ts) (coerced_arguments m.params (types_of ts) (all_expressions z.code.sure ts)) (coerced_arguments m.params (types_of ts) (all_expressions z.code.sure ts)) refl (is_linked z.place.classes (usable z) ((usable z).built (member c Constructor m)) ts m.params its.1) its.0 (lawful.base.objects c its.0) (all-stood-fit (types_referred m.params) (types_of ts) fit.0) w env s sc u sees.inside (passed m.params ts fit w env sc sees.inside (operands w env sc sees)) same;
+    new_tree : (p : Position) (c : List ℕ) (m : MethodName) (ts : Terms) → Kept (new_object p c m ts) → Makes (any_is_boxed m.params ts) → RowAlike ts → TreeAlike (new_object p c m ts)
+    new_tree p c m ts h may operands = record {
+      alike = λ w env s sc u sees same. new_alike z lawful.base c m (all_stood (types_referred m.params) (types_of ts) fit.0) (ir_meaning.operands z.place.classes z.low ts) (coerced_arguments m.params (types_of ts) (all_expressions z.code.sure ts)) (coerced_arguments m.params (types_of ts) (all_expressions z.code.sure ts)) refl its.1 its.0 (lawful.base.objects c its.0) (all-stood-fit (types_referred m.params) (types_of ts) fit.0) w env s sc u sees.inside (passed m.params ts fit w env sc sees.inside (operands w env sc sees)) same;
       told = refl;
     }
       where
-        its : ((usable z).made c ≡ true) × (((usable z).built (member c Constructor m) && may_pass (usable z) m.params ts) ≡ true)
-        its = and_parts ((usable z).made c) ((usable z).built (member c Constructor m) && may_pass (usable z) m.params ts) h.0.built
+        its : ((usable z).made c ≡ true) × ((usable z).built (member c Constructor m) ≡ true)
+        its = and_parts ((usable z).made c) ((usable z).built (member c Constructor m)) h.0.built
 
         fit : StandForAll z (types_referred m.params) (types_of ts)
-        fit = stand-for-all z lawful ts m.params (arguments_there z.place.classes (usable z) ((usable z).built (member c Constructor m)) ts m.params its.1 h.0.finds h.0.meets.1)
+        fit = stand-for-all z lawful ts m.params (arguments_there z.place.classes (usable z) ts m.params may h.0.finds h.0.meets.1)
 
     -- a receiver as it is coerced
     receiver_stood : (c : List ℕ) (own : IrType) (h : StandsFor z (class_type c) own) (r : ir.Run) (e : core.Expression) (w : World) (env : ir.Env) (sc : js.Scope) → Inside z.place z.code sc → OperandsAlike z w env sc (own ∷ []) (r ∷ []) (e ∷ []) → OperandsAlike z w env sc (stood (class_type c) own h.0 ∷ []) (r ∷ []) (coerced (class_type c) own e ∷ [])
@@ -372,55 +377,63 @@ module _ (z : Setting) (lawful : Lawful z) (scope : Scope) where
         right_value (texts is f g) = not_none (type_of_term d) (not_no_type (type_of_term d) g)
 
     -- a call on a receiver: of a private or a public member, as that of a constructor has no value
-    receiving_tree : (p : Position) (e : Term) (c : List ℕ) (n : Namespace) (m : MethodName) (ts : Terms) (t : IrType) → Kept (apply_statically p e c n m ts t) → IsNoConstruction (apply_statically p e c n m ts t) → TreeAlike e → (ArgumentsFit z.place.classes (usable z) ts m.params → RowAlike ts) → TreeAlike (apply_statically p e c n m ts t)
-    receiving_tree p e c Private m ts t h v one others = let its = received z.place.classes (usable z) (may_check (usable z) scene.sure) e c Private m ts h.0.built h.0.finds h.0.meets.2 h.0.meets.3 in receive_tree p e c Private m ts t its h one (others its.arguments)
-    receiving_tree p e c Public m ts t h v one others = let its = received z.place.classes (usable z) (may_check (usable z) scene.sure) e c Public m ts h.0.built h.0.finds h.0.meets.2 h.0.meets.3 in receive_tree p e c Public m ts t its h one (others its.arguments)
-    receiving_tree p e c Constructor m ts t h v one others = absurd v
-    receiving_tree p e c n m ts t h v one others = impossible h.0.built
+    receiving_tree : (p : Position) (e : Term) (c : List ℕ) (n : Namespace) (m : MethodName) (ts : Terms) (t : IrType) → Kept (apply_statically p e c n m ts t) → Makes (is_boxed Any e || any_is_boxed m.params ts) → IsNoConstruction (apply_statically p e c n m ts t) → TreeAlike e → (ArgumentsFit z.place.classes (usable z) ts m.params → RowAlike ts) → TreeAlike (apply_statically p e c n m ts t)
+    receiving_tree p e c Private m ts t h may v one others = let its = received z.place.classes (usable z) (may_check (usable z) scene.sure) e c Private m ts h.0.built may h.0.finds h.0.meets.2 h.0.meets.3 in receive_tree p e c Private m ts t its h one (others its.arguments)
+    receiving_tree p e c Public m ts t h may v one others = let its = received z.place.classes (usable z) (may_check (usable z) scene.sure) e c Public m ts h.0.built may h.0.finds h.0.meets.2 h.0.meets.3 in receive_tree p e c Public m ts t its h one (others its.arguments)
+    receiving_tree p e c Constructor m ts t h may v one others = absurd v
+    receiving_tree p e c n m ts t h may v one others = impossible h.0.built
 
     mutual
       -- both directions at once: what a plain tree comes to, its expression comes to
-      tree_alike : (t : Term) → Kept t → is_plain t ≡ true → IsNoConstruction t → TreeAlike t
-      tree_alike (if_then p c a b t) h k v =
+      tree_alike : (t : Term) → Kept t → Makes (boxes_as_text t) → is_plain t ≡ true → IsNoConstruction t → TreeAlike t
+      tree_alike (if_then p c a b t) h boxed k v =
           let x = and_parts (not (is_no_type t) && is_plain c && is_plain a) (is_plain b) k in
           let y = and_parts (not (is_no_type t) && is_plain c) (is_plain a) x.0 in
           let q = and_parts (not (is_no_type t)) (is_plain c) y.0 in
-          if_tree p c a b t h (when_not (is_no_type t) q.0) (tree_alike c h.1 q.1 (value_apart z.place.classes (usable z) scene c h.1 (value_below z.place.classes law (type_of_term c) Boolean h.0.meets.0 refl))) (tree_alike a h.2 y.1 (value_apart z.place.classes (usable z) scene a h.2 (value_yielded a t (when_not (is_no_type t) q.0) (one_yields z.place.classes (usable z) a b t h.0.built h.0.meets.1)))) (tree_alike b h.3 x.1 (value_apart z.place.classes (usable z) scene b h.3 (value_yielded b t (when_not (is_no_type t) q.0) (other_yields z.place.classes (usable z) a b t h.0.built h.0.meets.2))))
-      tree_alike (new_object p c m ts) h k v = let x = and_parts ((usable z).made c) ((usable z).built (member c Constructor m) && may_pass (usable z) m.params ts) h.0.built in new_tree p c m ts h (trees_alike ts m.params h.1 k (arguments_there z.place.classes (usable z) ((usable z).built (member c Constructor m)) ts m.params x.1 h.0.finds h.0.meets.1))
-      tree_alike (select p e c f t) h k v = select_tree p e c f t h (tree_alike e h.1 k (value_apart z.place.classes (usable z) scene e h.1 (value_below z.place.classes law (type_of_term e) (class_type c) h.0.meets.0 (class_value c))))
-      tree_alike (apply_statically p e c n m ts t) h k v = let x = and_parts (is_plain e) (are_plain ts) k in receiving_tree p e c n m ts t h v (tree_alike e h.1 x.0 (value_apart z.place.classes (usable z) scene e h.1 (value_below z.place.classes law (type_of_term e) (class_type c) h.0.meets.2 (class_value c)))) (trees_alike ts m.params h.2 x.1)
-      tree_alike (select_static p c f t) h k v = record { alike = λ w env s sc u sees same. static_alike z lawful.base c f t h.built w env s sc u sees.inside same; told = refl }
-      tree_alike (this_ref p t) h k v = this_tree p t h
-      tree_alike (apply_static p c n m ts t) h k v = call_tree p c n m ts t h (trees_alike ts m.params h.1 k (arguments_there z.place.classes (usable z) ((usable z).linked (member c n m)) ts m.params h.0.built h.0.finds h.0.meets.2))
-      tree_alike (unary_op p o e) h k v = unary_tree p o e (fits-unary z.place.classes law o (type_of_term e) h.0.meets) (tree_alike e h.1 k (value_apart z.place.classes (usable z) scene e h.1 (value_below z.place.classes law (type_of_term e) (unary_operand o) h.0.meets (value_none (unary_operand o) (unary-operand-value o)))))
-      tree_alike (binary_op p o e d) h k v = let x = and_parts (is_plain e) (is_plain d) k in operation_tree p o e d h (λ v. tree_alike e h.1 x.0 (value_apart z.place.classes (usable z) scene e h.1 v)) (λ v. tree_alike d h.2 x.1 (value_apart z.place.classes (usable z) scene d h.2 v))
-      tree_alike (undefined_literal p) h k v = record { alike = λ w env s sc u sees same. literal_alike w env Undefined s u ir.undefined js.undefined same_undefined refl same; told = refl }
-      tree_alike (null_literal p) h k v = record { alike = λ w env s sc u sees same. literal_alike w env Null s u ir.null js.null same_null refl same; told = refl }
-      tree_alike (boolean_literal p b) h k v = record { alike = λ w env s sc u sees same. literal_alike w env Boolean s u (ir.boolean b) (js.boolean b) (same_boolean b) refl same; told = refl }
-      tree_alike (char_literal p n) h k v = record { alike = λ w env s sc u sees same. number_alike w env Char s sc u (ir.char n) (pos n) (unit_is_int n h.finds) (same_char refl n h.finds) refl same; told = refl }
-      tree_alike (byte_literal p n) h k v = record { alike = λ w env s sc u sees same. number_alike w env Byte s sc u (ir.number n) n h.finds (same_number n h.finds) refl same; told = refl }
-      tree_alike (short_literal p n) h k v = record { alike = λ w env s sc u sees same. number_alike w env Short s sc u (ir.number n) n h.finds (same_number n h.finds) refl same; told = refl }
-      tree_alike (int_literal p n) h k v = record { alike = λ w env s sc u sees same. number_alike w env Int s sc u (ir.number n) n h.finds (same_number n h.finds) refl same; told = refl }
-      tree_alike (long_literal p n) h k v = record { alike = λ w env s sc u sees same. long_alike w env s sc u n h.finds same; told = refl }
-      tree_alike (string_literal p us) h k v = record { alike = λ w env s sc u sees same. literal_alike w env String s u (ir.text us) (js.text us) (same_text us) refl same; told = refl }
-      tree_alike (var_ref p x t) h k v = record { alike = λ w env s sc u sees same. local_alike w env t s u (env.locals x) (sc.bindings (z.place.name (core.named x))) (js_meaning.top_cell (owner z.place.program sc.file (z.place.name (core.named x))) (z.place.name (core.named x)) u) (sees.locals x t (seen x t (there scene x t h.finds))) same; told = refl }
-      tree_alike (var_def p x t b e) h k v = impossible k
-      tree_alike (skip p) h k v = impossible k
-      tree_alike (block_of p ts) h k v = impossible k
-      tree_alike (labeled p l t e) h k v = impossible k
-      tree_alike (assign p e d) h k v = impossible k
-      tree_alike (return_to p e l) h k v = impossible k
-      tree_alike (while_loop p c b) h k v = impossible k
-      tree_alike (do_while p b c) h k v = impossible k
-      tree_alike (throw p e) h k v = impossible k
-      tree_alike (match_on p e cs d t) h k v = impossible k
-      tree_alike (log_line p e) h k v = impossible k
-      tree_alike _ h k v = impossible h.built
+          let parts = each_made (usable z) (boxes_as_text c) ((is_boxed t a || boxes_as_text a) || (is_boxed t b || boxes_as_text b)) boxed in
+          let branches = each_made (usable z) (is_boxed t a || boxes_as_text a) (is_boxed t b || boxes_as_text b) parts.1 in
+          let first = each_made (usable z) (is_boxed t a) (boxes_as_text a) branches.0 in
+          let second = each_made (usable z) (is_boxed t b) (boxes_as_text b) branches.1 in
+          if_tree p c a b t h first.0 second.0 (when_not (is_no_type t) q.0) (tree_alike c h.1 parts.0 q.1 (value_apart z.place.classes (usable z) scene c h.1 (value_below z.place.classes law (type_of_term c) Boolean h.0.meets.0 refl))) (tree_alike a h.2 first.1 y.1 (value_apart z.place.classes (usable z) scene a h.2 (value_yielded a t (when_not (is_no_type t) q.0) h.0.meets.1))) (tree_alike b h.3 second.1 x.1 (value_apart z.place.classes (usable z) scene b h.3 (value_yielded b t (when_not (is_no_type t) q.0) h.0.meets.2)))
+      tree_alike (new_object p c m ts) h boxed k v = let parts = each_made (usable z) (any_is_boxed m.params ts) (any_boxes_as_text ts) boxed in new_tree p c m ts h parts.0 (trees_alike ts m.params h.1 parts.1 k (arguments_there z.place.classes (usable z) ts m.params parts.0 h.0.finds h.0.meets.1))
+      tree_alike (select p e c f t) h boxed k v = select_tree p e c f t h (tree_alike e h.1 boxed k (value_apart z.place.classes (usable z) scene e h.1 (value_below z.place.classes law (type_of_term e) (class_type c) h.0.meets.0 (class_value c))))
+      tree_alike (apply_statically p e c n m ts t) h boxed k v =
+          let x = and_parts (is_plain e) (are_plain ts) k in
+          let parts = each_made (usable z) (is_boxed Any e || any_is_boxed m.params ts) (boxes_as_text e || any_boxes_as_text ts) boxed in
+          let operands = each_made (usable z) (boxes_as_text e) (any_boxes_as_text ts) parts.1 in
+          receiving_tree p e c n m ts t h parts.0 v (tree_alike e h.1 operands.0 x.0 (value_apart z.place.classes (usable z) scene e h.1 (value_below z.place.classes law (type_of_term e) (class_type c) h.0.meets.2 (class_value c)))) (trees_alike ts m.params h.2 operands.1 x.1)
+      tree_alike (select_static p c f t) h boxed k v = record { alike = λ w env s sc u sees same. static_alike z lawful.base c f t h.built w env s sc u sees.inside same; told = refl }
+      tree_alike (this_ref p t) h boxed k v = this_tree p t h
+      tree_alike (apply_static p c n m ts t) h boxed k v = let parts = each_made (usable z) (any_is_boxed m.params ts) (any_boxes_as_text ts) boxed in call_tree p c n m ts t h parts.0 (trees_alike ts m.params h.1 parts.1 k (arguments_there z.place.classes (usable z) ts m.params parts.0 h.0.finds h.0.meets.2))
+      tree_alike (unary_op p o e) h boxed k v = unary_tree p o e (fits-unary z.place.classes law o (type_of_term e) h.0.meets) (tree_alike e h.1 boxed k (value_apart z.place.classes (usable z) scene e h.1 (value_below z.place.classes law (type_of_term e) (unary_operand o) h.0.meets (value_none (unary_operand o) (unary-operand-value o)))))
+      tree_alike (binary_op p o e d) h boxed k v = let x = and_parts (is_plain e) (is_plain d) k in let parts = each_made (usable z) (boxes_as_text e) (boxes_as_text d) boxed in operation_tree p o e d h (λ v. tree_alike e h.1 parts.0 x.0 (value_apart z.place.classes (usable z) scene e h.1 v)) (λ v. tree_alike d h.2 parts.1 x.1 (value_apart z.place.classes (usable z) scene d h.2 v))
+      tree_alike (undefined_literal p) h boxed k v = record { alike = λ w env s sc u sees same. literal_alike w env Undefined s u ir.undefined js.undefined same_undefined refl same; told = refl }
+      tree_alike (null_literal p) h boxed k v = record { alike = λ w env s sc u sees same. literal_alike w env Null s u ir.null js.null same_null refl same; told = refl }
+      tree_alike (boolean_literal p b) h boxed k v = record { alike = λ w env s sc u sees same. literal_alike w env Boolean s u (ir.boolean b) (js.boolean b) (same_boolean b) refl same; told = refl }
+      tree_alike (char_literal p n) h boxed k v = record { alike = λ w env s sc u sees same. number_alike w env Char s sc u (ir.char n) (pos n) (unit_is_int n h.finds) (same_char refl n h.finds) refl same; told = refl }
+      tree_alike (byte_literal p n) h boxed k v = record { alike = λ w env s sc u sees same. number_alike w env Byte s sc u (ir.number n) n h.finds (same_number n h.finds) refl same; told = refl }
+      tree_alike (short_literal p n) h boxed k v = record { alike = λ w env s sc u sees same. number_alike w env Short s sc u (ir.number n) n h.finds (same_number n h.finds) refl same; told = refl }
+      tree_alike (int_literal p n) h boxed k v = record { alike = λ w env s sc u sees same. number_alike w env Int s sc u (ir.number n) n h.finds (same_number n h.finds) refl same; told = refl }
+      tree_alike (long_literal p n) h boxed k v = record { alike = λ w env s sc u sees same. long_alike w env s sc u n h.finds same; told = refl }
+      tree_alike (string_literal p us) h boxed k v = record { alike = λ w env s sc u sees same. literal_alike w env String s u (ir.text us) (js.text us) (same_text us) refl same; told = refl }
+      tree_alike (var_ref p x t) h boxed k v = record { alike = λ w env s sc u sees same. local_alike w env t s u (env.locals x) (sc.bindings (z.place.name (core.named x))) (js_meaning.top_cell (owner z.place.program sc.file (z.place.name (core.named x))) (z.place.name (core.named x)) u) (sees.locals x t (seen x t (there scene x t h.finds))) same; told = refl }
+      tree_alike (var_def p x t b e) h boxed k v = impossible k
+      tree_alike (skip p) h boxed k v = impossible k
+      tree_alike (block_of p ts) h boxed k v = impossible k
+      tree_alike (labeled p l t e) h boxed k v = impossible k
+      tree_alike (assign p e d) h boxed k v = impossible k
+      tree_alike (return_to p e l) h boxed k v = impossible k
+      tree_alike (while_loop p c b) h boxed k v = impossible k
+      tree_alike (do_while p b c) h boxed k v = impossible k
+      tree_alike (throw p e) h boxed k v = impossible k
+      tree_alike (match_on p e cs d t) h boxed k v = impossible k
+      tree_alike (log_line p e) h boxed k v = impossible k
+      tree_alike _ h boxed k v = impossible h.built
 
-      trees_alike : (ts : Terms) (rs : List TypeRef) → TypedAll z.place.classes (usable z) scene ts → are_plain ts ≡ true → ArgumentsFit z.place.classes (usable z) ts rs → RowAlike ts
-      trees_alike no_terms rs h k fit w env sc sees = no_operands
-      trees_alike (more_terms t ts) [] h k fit w env sc sees = absurd fit
-      trees_alike (more_terms t ts) (r ∷ rs) h k fit w env sc sees = let x = and_parts (is_plain t) (are_plain ts) k in with_tree t (tree_alike t h.0 x.0 (value_apart z.place.classes (usable z) scene t h.0 (value_below z.place.classes law (type_of_term t) (reference_type r) fit.0.0 (value_none (reference_type r) fit.1)))) w env sc sees _ _ _ (trees_alike ts rs h.1 x.1 fit.2 w env sc sees)
+      trees_alike : (ts : Terms) (rs : List TypeRef) → TypedAll z.place.classes (usable z) scene ts → Makes (any_boxes_as_text ts) → are_plain ts ≡ true → ArgumentsFit z.place.classes (usable z) ts rs → RowAlike ts
+      trees_alike no_terms rs h boxed k fit w env sc sees = no_operands
+      trees_alike (more_terms t ts) [] h boxed k fit w env sc sees = absurd fit
+      trees_alike (more_terms t ts) (r ∷ rs) h boxed k fit w env sc sees = let x = and_parts (is_plain t) (are_plain ts) k in let parts = each_made (usable z) (boxes_as_text t) (any_boxes_as_text ts) boxed in with_tree t (tree_alike t h.0 parts.0 x.0 (value_apart z.place.classes (usable z) scene t h.0 (value_below z.place.classes law (type_of_term t) (reference_type r) fit.0.0 (value_none (reference_type r) fit.1)))) w env sc sees _ _ _ (trees_alike ts rs h.1 parts.1 x.1 fit.2 w env sc sees)
 
   pub plain_alike : (t : Term) → Plain z.place.classes (usable z) z.code scope t → TreeAlike t
-  plain_alike t p = tree_alike p.scene p.seen p.surely p.owned t p.typed p.plain p.apart
+  plain_alike t p = tree_alike p.scene p.seen p.surely p.owned t p.typed p.boxed p.plain p.apart

@@ -1,22 +1,23 @@
 -- What the rules give: which trees have a value, and what holds of a call on a receiver.
 use Rattle.std.proofs.Common.{◌≡◌, ℕ, Bool, true, false, ◌&&◌, ◌⊎◌, inl, inr, List, refl, sym, ap, ◌∙◌, subst}
-use Rattle.std.specs.Prelude.{not, ◌||◌}
+use Rattle.std.specs.Prelude.{◌||◌}
 use Rattle.std.proofs.lemmas.Bool.{and_parts}
-use Rattle.body_rules.proofs.RulesGive.{class_has_value, ArgumentsFit, arguments_there}
+use Rattle.body_rules.proofs.RulesGive.{class_has_value, ArgumentsFit, arguments_there, each_made}
 use Rattle.body_rules.specs.Standing.{MayStand}
 use Rattle.body_rules.specs.Subtyping.{IsSubtyping}
 use Rattle.body_rules.specs.Typing.{Scene, Typed, AllHaveValues, may_check}
 use Rattle.body_rules.specs.Locals.{HasValue}
 use Rattle.sj_emit_expr.specs.Templates.{check_name}
 use Rattle.sure_receivers.specs.Sure.{is_sure}
-use Rattle.built_forms.specs.Built.{Usable, can_box, may_box, may_pass}
+use Rattle.built_forms.specs.Boxes.{is_boxed, any_is_boxed}
+use Rattle.built_forms.specs.Built.{Usable, may_make}
 use Rattle.sj_desugar.specs.Desugar.{has_no_value, member}
 use Rattle.sj_desugar.specs.Plain.{is_no_type}
 use Rattle.sj_names.proofs.Same.{impossible}
 use Rattle.sj_names.specs.declared.method_names.MethodName.{MethodName}
 use Rattle.sj_names.specs.declared.method_names.Namespace.{Namespace}
 use Rattle.sj_names.specs.declared.method_names.Namespace.TheVariants.{Constructor}
-use Rattle.sj_plain.proofs.Boxes.{class-no-char, stands-at-class}
+use Rattle.sj_plain.proofs.Boxes.{stands-at-class}
 use Rattle.sj_plain.specs.Conditions.{IsNoConstruction}
 use Rattle.sj_trees.specs.Term.{Term, Terms, apply_statically, this_ref}
 use Rattle.sj_trees.specs.TypeOf.{type_of_term}
@@ -48,7 +49,7 @@ pub value_apart : (w : Classes) (has : Usable) (s : Scene) (t : Term) → Typed 
 value_apart w has s (apply_statically p e c n m ts t) h v = by n h
   where
     by : (n : Namespace) → Typed w has s (apply_statically p e c n m ts t) → IsNoConstruction (apply_statically p e c n m ts t)
-    by Constructor h = impossible (sym v ∙ (and_parts (is_no_type t) (may_pass has m.params ts) (and_parts (has.built (member c Constructor m)) (is_no_type t && may_pass has m.params ts) h.0.built).1).0)
+    by Constructor h = impossible (sym v ∙ (and_parts (has.built (member c Constructor m)) (is_no_type t) h.0.built).1)
     by _ h = tt
 value_apart w has s _ h v = tt
 
@@ -59,20 +60,20 @@ pub record Received (w : Classes) (has : Usable) (checked : Term → Bool) (e : 
   pub stands : MayStand has (class_type c) (type_of_term e)
   pub arguments : ArgumentsFit w has ts m.params
 
-pub received : (w : Classes) (has : Usable) (checked : Term → Bool) (e : Term) (c : List ℕ) (n : Namespace) (m : MethodName) (ts : Terms) → (has.received (member c n m) && (checked e && (may_box has Any e && may_pass has m.params ts))) ≡ true → AllHaveValues m.params → rules.Fits w e (class_type c) → rules.ArgumentsFit w ts m.params → Received w has checked e c n m ts
-received w has checked e c n m ts built values on fits = record {
+pub received : (w : Classes) (has : Usable) (checked : Term → Bool) (e : Term) (c : List ℕ) (n : Namespace) (m : MethodName) (ts : Terms) → (has.received (member c n m) && checked e) ≡ true → may_make has (is_boxed Any e || any_is_boxed m.params ts) ≡ true → AllHaveValues m.params → rules.Fits w e (class_type c) → rules.ArgumentsFit w ts m.params → Received w has checked e c n m ts
+received w has checked e c n m ts built boxed values on fits = record {
   there = its.0;
-  may_be = others.0;
+  may_be = its.1;
   below = on;
-  stands = stands-at-class has c (type_of_term e) (and_parts (may_box has Any e) (may_pass has m.params ts) others.1).0;
-  arguments = arguments_there w has (may_box has Any e) ts m.params others.1 values fits;
+  stands = stands-at-class has c (type_of_term e) may.0;
+  arguments = arguments_there w has ts m.params may.1 values fits;
 }
   where
-    its : (has.received (member c n m) ≡ true) × ((checked e && (may_box has Any e && may_pass has m.params ts)) ≡ true)
-    its = and_parts (has.received (member c n m)) (checked e && (may_box has Any e && may_pass has m.params ts)) built
+    its : (has.received (member c n m) ≡ true) × (checked e ≡ true)
+    its = and_parts (has.received (member c n m)) (checked e) built
 
-    others : (checked e ≡ true) × ((may_box has Any e && may_pass has m.params ts) ≡ true)
-    others = and_parts (checked e) (may_box has Any e && may_pass has m.params ts) its.1
+    may : (may_make has (is_boxed Any e) ≡ true) × (may_make has (any_is_boxed m.params ts) ≡ true)
+    may = each_made has (is_boxed Any e) (any_is_boxed m.params ts) boxed
 
 -- a receiver that may be checked is never null, or its check is there
 pub may_be_checked : (has : Usable) (sure : List ℕ → Bool) (e : Term) → may_check has sure e ≡ true → (is_sure sure e ≡ true) ⊎ (has.helper check_name ≡ true)
@@ -98,14 +99,6 @@ pub record Constructed (w : Classes) (has : Usable) (s : Scene) (e : Term) (c : 
   pub stands : MayStand has (class_type c) (type_of_term e)
   pub arguments : ArgumentsFit w has ts m.params
 
--- an object of a class may stand anywhere
-class_stands : (has : Usable) (c : List ℕ) → MayStand has Any (class_type c)
-class_stands has c = subst (λ (x : Bool). (can_box has || not (x && true)) ≡ true) (sym (class-no-char c)) (either (can_box has))
-  where
-    either : (b : Bool) → (b || true) ≡ true
-    either true = refl
-    either false = refl
-
 on_this : (w : Classes) (has : Usable) (s : Scene) (e : Term) → rules.IsReceiver Constructor e → Typed w has s e → (is_sure s.sure e ≡ true) × (type_of_term e ≡ class_type s.owner)
 on_this w has s (this_ref q i) r h = (refl, h.finds.1)
 on_this w has s _ r h = absurd r
@@ -114,22 +107,22 @@ is_none : (t : IrType) → is_no_type t ≡ true → t ≡ NoType
 is_none NoType h = refl
 is_none _ h = impossible h
 
-pub constructed : (w : Classes) (has : Usable) (s : Scene) (p : Position) (e : Term) (c : List ℕ) (m : MethodName) (ts : Terms) (t : IrType) → Typed w has s (apply_statically p e c Constructor m ts t) → Constructed w has s e c m ts t
-constructed w has s p e c m ts t h = record {
+pub constructed : (w : Classes) (has : Usable) (s : Scene) (p : Position) (e : Term) (c : List ℕ) (m : MethodName) (ts : Terms) (t : IrType) → may_make has (is_boxed Any e || any_is_boxed m.params ts) ≡ true → Typed w has s (apply_statically p e c Constructor m ts t) → Constructed w has s e c m ts t
+constructed w has s p e c m ts t boxed h = record {
   there = its.0;
-  none = is_none t others.0;
+  none = is_none t its.1;
   surely = this.0;
   value = subst HasValue (sym this.1) (class_has_value s.owner);
   below = h.0.meets.2;
-  stands = stands-at-class has c (type_of_term e) (subst (MayStand has Any) (sym this.1) (class_stands has s.owner));
-  arguments = arguments_there w has (is_no_type t) ts m.params its.1 h.0.finds h.0.meets.3;
+  stands = stands-at-class has c (type_of_term e) may.0;
+  arguments = arguments_there w has ts m.params may.1 h.0.finds h.0.meets.3;
 }
   where
-    its : (has.built (member c Constructor m) ≡ true) × ((is_no_type t && may_pass has m.params ts) ≡ true)
-    its = and_parts (has.built (member c Constructor m)) (is_no_type t && may_pass has m.params ts) h.0.built
+    its : (has.built (member c Constructor m) ≡ true) × (is_no_type t ≡ true)
+    its = and_parts (has.built (member c Constructor m)) (is_no_type t) h.0.built
 
-    others : (is_no_type t ≡ true) × (may_pass has m.params ts ≡ true)
-    others = and_parts (is_no_type t) (may_pass has m.params ts) its.1
+    may : (may_make has (is_boxed Any e) ≡ true) × (may_make has (any_is_boxed m.params ts) ≡ true)
+    may = each_made has (is_boxed Any e) (any_is_boxed m.params ts) boxed
 
     this : (is_sure s.sure e ≡ true) × (type_of_term e ≡ class_type s.owner)
     this = on_this w has s e h.0.meets.0 h.1

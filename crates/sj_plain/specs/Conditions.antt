@@ -2,7 +2,8 @@
 use Rattle.std.specs.Prelude.{◌≡◌, ℕ, true, List}
 use Rattle.body_rules.specs.Locals.{Scope, parameters_of}
 use Rattle.body_rules.specs.Typing.{Scene, Typed}
-use Rattle.built_forms.specs.Built.{Usable}
+use Rattle.built_forms.specs.Boxes.{boxes_as_text}
+use Rattle.built_forms.specs.Built.{Usable, may_make}
 use Rattle.sj_desugar.specs.Plain.{is_plain}
 use Rattle.sj_names.specs.declared.method_names.Namespace.TheVariants.{Constructor}
 use Rattle.sj_trees.specs.Term.{Term, apply_statically}
@@ -19,12 +20,14 @@ abbrev pub IsNoConstruction : Term → Type 0
 IsNoConstruction (apply_statically p e c Constructor m ts t) = ⊥
 IsNoConstruction _ = Unit {0}
 
--- a plain tree that keeps the rules in a scene of the code at hand, whose locals are in scope
+-- a plain tree that keeps the rules in a scene of the code at hand, whose locals are in scope, and whose expression makes objects that hold chars only if they
+-- can be made
 pub record Plain (w : Classes) (has : Usable) (here : Code) (g : Scope) (t : Term) : Type 0 where
   pub scene : Scene
   pub surely : scene.sure ≡ here.sure
   pub owned : scene.owner ≡ here.owner
   pub seen : InScope scene g
   pub typed : Typed w has scene t
+  pub boxed : may_make has (boxes_as_text t) ≡ true
   pub plain : is_plain t ≡ true
   pub apart : IsNoConstruction t

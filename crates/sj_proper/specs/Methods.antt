@@ -3,7 +3,7 @@ use Rattle.std.specs.Prelude.{◌≡◌, ℕ, true, List, [], ◌∷◌}
 use Rattle.body_rules.specs.Locals.{HaveValues}
 use Rattle.sj_proper.specs.Once.{DefinesOnce}
 use Rattle.body_rules.specs.Typing.{Scene, IsResult, Typed}
-use Rattle.built_forms.specs.Built.{Usable, may_yield}
+use Rattle.built_forms.specs.Built.{Usable, may_make, body_boxes}
 use Rattle.sure_receivers.specs.Sure.{sure_locals}
 use Rattle.sj_names.specs.declared.references.TypeRef.{TypeRef}
 use Rattle.sj_trees.specs.Term.{Term}
@@ -24,11 +24,12 @@ abbrev pub scene_of : List ℕ → MethodDef → Term → Scene
 scene_of c d e = record { owner = c; space = d.namespace; sure = sure_locals e; locals = d.params; labels = [] }
 
 -- the body of a method of this class keeps the rules with the parameters in scope and yields the result as what it is; each local is defined once; there are values of each
--- parameter's type, and of the result's unless it is none
+-- parameter's type, and of the result's unless it is none; and its code makes objects that hold chars
+-- only if they can be made
 pub record KeepsRules (w : Classes) (has : Usable) (c : List ℕ) (d : MethodDef) (e : Term) : Type 0 where
   pub typed : Typed w has (scene_of c d e) e
   pub yields : Yields w e d.result
-  pub unboxed : may_yield has d.result e ≡ true
+  pub boxed : may_make has (body_boxes d e) ≡ true
   pub result : IsResult d.result
   pub values : HaveValues d.params
   pub once : DefinesOnce d e

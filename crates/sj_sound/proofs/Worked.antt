@@ -41,7 +41,7 @@ main_rules : KeepsRules worked_world linked object_name main_method tests_it
 main_rules = record {
   typed = (record { meets = (equal refl, nothing_wanted refl, nothing_wanted refl); built = refl; finds = tt }, (record { meets = (equal refl, equal refl); built = refl; finds = tt }, (record { meets = (tt, refl, (equal refl, tt)); built = refl; finds = (refl, tt) }, (number_here (scene_of object_name main_method tests_it) 1 (omega arith), tt)), number_here (scene_of object_name main_method tests_it) 27 (omega arith)), (record { meets = equal refl; built = refl; finds = tt }, record { meets = tt; built = refl; finds = tt }), (record { meets = equal refl; built = refl; finds = tt }, record { meets = tt; built = refl; finds = tt }));
   yields = nothing_wanted refl;
-  unboxed = refl;
+  boxed = refl;
   result = inl refl;
   values = λ x p e. impossible (cc);
   once = record { once = (((tt, tt, λ x o k. k), tt, λ x o k. k), tt, tt, (λ x o k. k), (λ x o k. k), (λ x o k. k)); parameters = tt; fresh = λ x o i. i };
@@ -70,7 +70,7 @@ tripling_rules : KeepsRules worked_world linked object_name tripling_method trip
 tripling_rules = record {
   typed = ((record { meets = equal refl; built = refl; finds = tt }, (record { meets = (equal refl, equal refl); built = refl; finds = tt }, p_here, number_here (scene_of object_name tripling_method triples) 10 (omega arith)), (record { meets = (tt, equal refl); built = refl; finds = p_variable }, (record { meets = (equal refl, equal refl); built = refl; finds = tt }, p_here, number_here (scene_of object_name tripling_method triples) 3 (omega arith)))), (λ x d o. d), p_here);
   yields = fitting (equal refl);
-  unboxed = refl;
+  boxed = refl;
   result = inr refl;
   values = only_parameter;
   once = record { once = (((tt, tt, λ x o k. k), ((tt, tt, λ x o k. k)), λ x o k. ⊎_elim (λ i. i) (λ i. i) k), (tt, tt, λ x o k. k), λ x o k. ⊎_elim (λ i. i) (λ i. i) k); parameters = ((λ i. i), tt); fresh = λ x o i. no_local x o };
