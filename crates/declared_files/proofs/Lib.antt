@@ -1,1 +1,4 @@
+pub mod Calls
+pub mod Place
 pub mod Tops
+pub mod Whole

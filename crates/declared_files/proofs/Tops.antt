@@ -186,7 +186,7 @@ behind_distinct : (xs ys : List Name) → are_distinct (xs ++ ys) ≡ true → a
 behind_distinct [] ys h = h
 behind_distinct (x ∷ xs) ys h = behind_distinct xs ys (and_parts (not (is_among (xs ++ ys) x)) (are_distinct (xs ++ ys)) h).1
 
-all_pass : {A : Type 0} (test : A → Bool) (xs : List A) (x : A) → list_all test xs ≡ true → Contains xs x → test x ≡ true
+pub all_pass : {A : Type 0} (test : A → Bool) (xs : List A) (x : A) → list_all test xs ≡ true → Contains xs x → test x ≡ true
 all_pass test [] x h c = nothing_in x c
 all_pass test (y ∷ ys) x h c = let k = and_parts (test y) (list_all test ys) h in ⊎_elim (λ same. ap test (sym same) ∙ k.0) (λ later. all_pass test ys x k.1 later) (in_front_or_behind y ys x c)
 

@@ -125,7 +125,7 @@ box_alike p q d w s u n a heaps below box = subst (λ o. Sim d ◌≡◌ (done (
     is : js_showing.thrown q u (js.object a) ≡ Some (shown.char n)
     is = ap by_stored (heaps.owned a (js.plain box.links box.properties) box.owned) ∙ ap (λ m. js_showing.object_shown (js_showing.class_shown m) (own (box.properties (codes "c")) (codes "c"))) marker_is ∙ ap (λ v. js_showing.char_shown (own v (codes "c"))) box.char ∙ ap (λ (t : Bool). if t then Some (shown.char n) else None) (char_below n below)
 
-uncaught_alike : (place : Place) (p : js.Program) (d : Direction) (w : World) (v : ir.Value) (x : js.Value) (s : ir.State) (u : js.State) → SameState place w s u → Stands w false v x → suits Any v ≡ true → Sim d ◌≡◌ (ir_showing.uncaught_or_wrong (ir_showing.thrown s v)) (js_showing.uncaught_or_wrong (js_showing.thrown p u x))
+pub uncaught_alike : (place : Place) (p : js.Program) (d : Direction) (w : World) (v : ir.Value) (x : js.Value) (s : ir.State) (u : js.State) → SameState place w s u → Stands w false v x → suits Any v ≡ true → Sim d ◌≡◌ (ir_showing.uncaught_or_wrong (ir_showing.thrown s v)) (js_showing.uncaught_or_wrong (js_showing.thrown p u x))
 uncaught_alike place p d w _ _ s u same same_undefined h = sim_done d ◌≡◌ (uncaught shown.undefined) (uncaught shown.undefined) refl
 uncaught_alike place p d w _ _ s u same same_null h = sim_done d ◌≡◌ (uncaught shown.null) (uncaught shown.null) refl
 uncaught_alike place p d w _ _ s u same (same_boolean b) h = sim_done d ◌≡◌ (uncaught (shown.boolean b)) (uncaught (shown.boolean b)) refl
