@@ -26,7 +26,7 @@ use Rattle.sj_names.specs.Same.{is_same_text}
 use Rattle.sj_names.specs.declared.entry_points.EntryPoint.{EntryPoint}
 use Rattle.sj_names.specs.declared.method_names.Member.{Member as MemberName}
 use Rattle.sj_names.specs.declared.method_names.Namespace.TheVariants.{Constructor}
-use Rattle.sj_plain.specs.Settings.{Top, a_function, a_method, a_constructor, a_class, some_constants, a_static, a_setter, a_helper, top_name, is_usable, IsField, IsStaticField}
+use Rattle.sj_plain.specs.Settings.{Top, a_function, a_method, a_constructor, a_class, some_constants, a_static, a_setter, a_helper, top_name, is_usable, is_named, IsField, IsStaticField}
 use Rattle.sj_proper.specs.Emitted.{initializer_member, call_item_of}
 use Rattle.sj_trees.specs.declared.classes.ClassDef.{ClassDef}
 use Rattle.sj_trees.specs.declared.classes.FieldDef.{FieldDef}
@@ -103,10 +103,10 @@ pub record StaticDeclared (z : Spread) (c f : Name) (t : IrType) : Type 0 where
   pub beside : z.home (a_static c f t) ≡ z.home (a_setter c f t)
   pub leads : Leads z (z.home (a_setter c f t)) (a_static c f t)
 
--- all that the code of some file can use is declared, and its file leads to it by its name: each member as it runs, a constructor without a value; each class that is
+-- all that the code of some file can use is declared, and its file leads to what it names: each member as it runs, a constructor without a value; each class that is
 -- made; each field and each static field; and each helper, whose file can use those that it uses, and that of a failure the exception of it
 pub record Declared (z : Spread) : Type 0 where
-  pub leads : (f : Name) (t : Top) → is_usable (z.has f) t ≡ true → Leads z f t
+  pub leads : (f : Name) (t : Top) → is_named (z.has f) t ≡ true → Leads z f t
   pub linked : (f : Name) (m : MemberName) → (z.has f).linked m ≡ true → FunctionDeclared z (a_function m) alone m
   pub received : (f : Name) (m : MemberName) → (z.has f).received m ≡ true → FunctionDeclared z (a_method m) on_receiver m
   pub built : (f : Name) (m : MemberName) → (z.has f).built m ≡ true → (b : FunctionDeclared z (a_constructor m) completing m) × (b.right.definition.result ≡ NoType)
