@@ -4,13 +4,18 @@
 //! theorems.
 #![tactic(auto)]
 
-ghost use Rattle.std.specs.Prelude.{◌≡◌, ℕ, List};
+ghost use Rattle.std.specs.Prelude.{◌≡◌, ℕ, List, [], codes};
+ghost use Rattle.body_soundness.specs.Worked.{object_world, object_use};
 ghost use Rattle.built_forms.specs.Built.{Usable};
 ghost use Rattle.declared_files.specs.Declared.{Spread, Declared, IsPublic, IsLawful};
 ghost use Rattle.declared_files.specs.Placed.{DeclarationsOfFilesHold};
+ghost use Rattle.declared_files.specs.Worked.{two_files, spread};
+ghost use Rattle.ir_mean.specs.Rows.{once};
 ghost use Rattle.ir_mean.specs.Shows.{initializers, ir_shows};
 ghost use Rattle.js_mean.specs.Shows.{js_shows};
 ghost use Rattle.outcomes.specs.Agreement.{Agree};
+ghost use Rattle.outcomes.specs.Outcome.{Done, Going};
+ghost use Rattle.outcomes.specs.Shown.{normal};
 ghost use Rattle.sj_names.specs.declared.entry_points.EntryPoint.{EntryPoint};
 ghost use Rattle.sj_world.specs.Laws.{IsPlain};
 
@@ -25,4 +30,16 @@ pub fn declarations_of_files_hold()
 /// module what the classes show: what the one shows within any bound the other shows within some bound, and the other way round, and neither is wrong at any bound.
 pub fn declared_files_agree()
     ensures { (z : Spread) (all : Usable) (entries : List EntryPoint) (id : List ℕ) → IsPlain z.classes → IsPublic z id (initializers entries id) → Declared z → IsLawful z all → Agree (ir_shows z.classes entries id) (js_shows z.program id) }
+{}
+
+/// The premises can be met by two files: one has a class, the other makes an object of it and calls a method on it that gives its field. They declare what the code of each
+/// uses, and show what the classes show. The classes end within the bound 2, one unit for `main` and one for the constructor; the files end within the bound 3, since the
+/// constructor of the class calls that of the class above it.
+pub fn worked_program_of_files()
+    ensures declared { Declared spread }
+    ensures public { IsPublic spread (codes "main") once }
+    ensures lawful { IsLawful spread object_use }
+    ensures agrees { Agree (ir_shows object_world once (codes "main")) (js_shows two_files (codes "main")) }
+    ensures files_within_2 { js_shows two_files (codes "main") 2 ≡ record { lines = []; end = Going } }
+    ensures files_within_3 { js_shows two_files (codes "main") 3 ≡ record { lines = []; end = Done normal } }
 {}
