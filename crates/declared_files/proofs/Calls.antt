@@ -1,5 +1,5 @@
 -- The last of files that run in order calls initializers: what it shows is what these show.
-use Rattle.std.proofs.Common.{◌≡◌, ℕ, List, [], ◌∷◌, ◌++◌, map, true, refl, sym, ap, ◌∙◌, subst, Contains, Option, Some, if◌then◌else◌}
+use Rattle.std.proofs.Common.{◌≡◌, ℕ, List, [], ◌∷◌, ◌++◌, map, true, refl, sym, ap, ◌∙◌, subst, Contains, Some, if◌then◌else◌}
 use Rattle.std.specs.List.{list_all}
 use Rattle.body_rules.proofs.Lists.{at_front, further_on}
 use Rattle.file_tops.proofs.Run.{declarations_run, files_declare}

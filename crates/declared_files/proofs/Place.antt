@@ -1,7 +1,6 @@
 -- Files that declare what can be used: their state behind the declarations stands for the opening of the IR, and they have what objects ask.
 use Rattle.std.proofs.Common.{◌≡◌, ◌≤◌, ℕ, suc, Bool, true, false, List, [], ◌∷◌, ◌++◌, length, map, slice_get, refl, sym, ap, ◌∙◌, subst, Contains, inl, inr, ⊎_elim, Option, Some, None, cond, codes, arith}
 use Rattle.std.specs.Prelude.{nat_eq}
-use Rattle.std.specs.List.{list_all}
 use Rattle.std.specs.Cmp.Lexicographic.{pointwise}
 use Rattle.body_rules.proofs.Lists.{nothing_in, in_front_or_behind, at_front, further_on}
 use Rattle.body_rules.specs.Standing.{is_bare}
@@ -22,7 +21,7 @@ use Rattle.helper_rules.specs.declared.kinds.Kind.TheVariants as kinds
 use Rattle.ir_mean.specs.Dispatch.{chain_of, longest}
 use Rattle.ir_mean.specs.World as ir_world
 use Rattle.js_mean.specs.Classes.{members_in, members_of}
-use Rattle.js_mean.specs.Files.{module_among, items_in}
+use Rattle.js_mean.specs.Files.{items_in}
 use Rattle.js_mean.specs.Meaning as js_meaning
 use Rattle.js_mean.specs.Shows.{object_shown, char_shown}
 use Rattle.js_mean.specs.States as js
@@ -65,7 +64,7 @@ use Rattle.declared_files.specs.Declared as declared
 use Rattle.declared_files.specs.Declared.{Spread, all_items, Stands, FunctionDeclared, ClassDeclared, ChainDeclared, Declared, IsLawful}
 use Rattle.declared_files.specs.Placed.{Placed, placed, Holds, AllHold, RunInOrder}
 use Rattle.declared_files.proofs.Tops.{good_module, stands_in, all_pass, HasModule}
-use Rattle.js_mean.specs.Files.{is_good_file, owner}
+use Rattle.js_mean.specs.Files.{is_good_file}
 
 -- an item among those that hold what they are to hold
 held_among : (p : js.Program) (t : js.State) (ls : List Placed) (n : ℕ) → AllHold p t n ls → (l : Placed) → Contains ls l → (k : ℕ) × Holds p t k l.file l.item

@@ -1,5 +1,5 @@
 -- Declarations of files come to a state in which each binding holds what it is to hold.
-use Rattle.std.proofs.Common.{◌≡◌, ℕ, Bool, true, false, List, [], ◌∷◌, ◌++◌, ◌||◌, ◌&&◌, not, map, length, slice_get, Option, Some, None, is_some, refl, sym, ap, ◌∙◌, subst, Contains, ◌⊎◌, inl, inr, ⊎_elim, cond}
+use Rattle.std.proofs.Common.{◌≡◌, Bool, true, false, List, [], ◌∷◌, ◌++◌, ◌||◌, ◌&&◌, not, map, length, Option, Some, None, is_some, refl, sym, ap, ◌∙◌, subst, Contains, ◌⊎◌, inl, inr, ⊎_elim, cond}
 use Rattle.std.specs.List.{list_all}
 use Rattle.std.proofs.lemmas.Bool.{and_parts, or_cases, or_left, or_right, not-true}
 use Rattle.std.proofs.lemmas.List.Elements.{Contains-append_left, Contains-append_cases}
@@ -9,7 +9,7 @@ use Rattle.declared_programs.proofs.Items.{name_of, among, first_apart, rest_dis
 use Rattle.declared_programs.proofs.Tops.{not_declared, known, properties_known, get_in_front, get_last, length_last, HeapKept, HasClass}
 use Rattle.declared_programs.specs.Declarations.{HoldsLiteral, behind}
 use Rattle.file_tops.proofs.Run.{each, some_same, others_stay}
-use Rattle.file_tops.specs.Tops.{literal_value, literal_properties, with_each, started, link, classes_in, after_item, after_items, after_files}
+use Rattle.file_tops.specs.Tops.{literal_value, with_each, started, link, classes_in, after_item, after_items, after_files}
 use Rattle.js_mean.specs.Files.{module_among, items_in, is_good_file, is_good_module, owner}
 use Rattle.js_mean.specs.Meaning.{opening, module_cell, top_cell, binding}
 use Rattle.js_mean.specs.Objects.{no_properties, allocated, next_address}
@@ -17,7 +17,7 @@ use Rattle.js_mean.specs.Proper.{is_among, are_distinct, item_names, imported_na
 use Rattle.js_mean.specs.States.{Value, object, function, class, ClassLink, holds, plain, State, Program}
 use Rattle.js_tree.specs.Names.{is_same_text}
 use Rattle.js_tree.specs.Terms.{Name, Expression, Statements, Item, const_item, object_item, let_item, expression_item, function_item, class_item, subclass_item, Module}
-use Rattle.declared_files.specs.Placed.{Placed, placed, items_until, with_class, is_one_of, leads_to, declares, declare, Holds, AllHold, RunInOrder, DeclaredAt, DeclarationsOfFilesHold}
+use Rattle.declared_files.specs.Placed.{Placed, placed, items_until, with_class, is_one_of, leads_to, declares, declare, Holds, AllHold, DeclarationsOfFilesHold}
 
 -- none of these items declares the name in the file
 abbrev Free : List Placed → Name → Name → Type 0

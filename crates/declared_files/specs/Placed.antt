@@ -2,7 +2,7 @@
 use Rattle.std.specs.Prelude.{◌≡◌, ℕ, Bool, true, false, ◌&&◌, List, [], ◌∷◌, ◌++◌, map, Option, Some, None}
 use Rattle.std.specs.List.{list_all, list_any}
 use Rattle.declared_programs.specs.Declarations.{declares as declares_alone, Holds as HoldsAlone, behind}
-use Rattle.file_tops.specs.Tops.{with_each, after_item, after_items, after_files, link}
+use Rattle.file_tops.specs.Tops.{after_items, after_files, link}
 use Rattle.js_mean.specs.Files.{module_among, items_in, is_good_file, owner}
 use Rattle.js_mean.specs.Meaning.{opening}
 use Rattle.js_mean.specs.Proper.{are_distinct}
