@@ -1,4 +1,5 @@
 pub mod Calls
+pub mod Once
 pub mod Place
 pub mod Tops
 pub mod Whole

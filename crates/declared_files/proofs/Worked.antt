@@ -241,7 +241,8 @@ pub is_public : IsPublic spread (codes "main") once
 is_public = record {
   last = refl;
   order = refl;
-  runs = record { good = refl; once = refl; items = refl };
+  good = refl;
+  items = refl;
   declares = refl;
   linked = λ e i. ⊎_elim (λ same. subst (λ (x : EntryPoint). main_use.linked (initializer_member x) ≡ true) same refl) (λ none. nothing_in e none) (in_front_or_behind main_entry [] e i);
 }

@@ -1,6 +1,6 @@
 -- What the code of bodies can use in a world, as the items of several files declare it.
 use Rattle.std.specs.Prelude.{◌≡◌, ℕ, true, false, List, [], ◌∷◌, ◌++◌, map, Option, Some, None, codes}
-use Rattle.std.specs.List.{Contains}
+use Rattle.std.specs.List.{Contains, list_all}
 use Rattle.body_soundness.specs.Laws.{ObjectLaws, null_pointer, arithmetic}
 use Rattle.body_soundness.specs.Rules.{RightMember}
 use Rattle.built_forms.specs.Built.{Usable, divides}
@@ -13,7 +13,7 @@ use Rattle.helper_rules.specs.declared.kinds.Helper.TheVariants.{Throws}
 use Rattle.ir_mean.specs.Dispatch.{chain_of}
 use Rattle.ir_mean.specs.Meaning.{with_message}
 use Rattle.ir_mean.specs.World.{World, class_of}
-use Rattle.js_mean.specs.Files.{owner, running_order}
+use Rattle.js_mean.specs.Files.{module_among, items_in, is_good_file, owner, running_order}
 use Rattle.js_mean.specs.Shows.{class_marked, file_of}
 use Rattle.js_mean.specs.States.{Program}
 use Rattle.js_tree.specs.Terms.{Name, Item, Member, constructor_of}
@@ -33,7 +33,7 @@ use Rattle.sj_trees.specs.declared.classes.FieldDef.{FieldDef}
 use Rattle.sj_trees.specs.declared.operators.BinaryOp.{BinaryOp}
 use Rattle.sj_trees.specs.declared.types.IrType.{IrType}
 use Rattle.sj_trees.specs.declared.types.IrType.TheVariants.{NoType}
-use Rattle.declared_files.specs.Placed.{Placed, placed, items_until, declare, RunInOrder}
+use Rattle.declared_files.specs.Placed.{Placed, placed, items_until, declare}
 
 -- the classes, the program, the file of each binding at a top, what the code of each file can use; and the files that declare it: some that run in front of the last, and
 -- the declarations of the last
@@ -125,12 +125,13 @@ pub record IsAmong (has all : Usable) : Type 0 where
   pub tops : (t : Top) → is_usable has t ≡ true → is_usable all t ≡ true
   pub fields : (c f : Name) (t : IrType) → has.field c f t ≡ true → all.field c f t ≡ true
 
--- the public module of this id: its file runs behind these files and is the last, where the calls of these initializers stand behind what it declares; and each
--- class is declared behind the one that it extends
+-- the public module of this id: its file runs behind these files, all of them good, and calls these initializers behind what it declares; and each class is declared
+-- behind the one that it extends
 pub record IsPublic (z : Spread) (id : List ℕ) (es : List EntryPoint) : Type 0 where
   pub last : z.last ≡ file_of id
   pub order : running_order z.program z.last ≡ z.front ++ z.last ∷ []
-  pub runs : RunInOrder z.program z.front z.last z.declared (map call_item_of es)
+  pub good : list_all (is_good_file z.program) (running_order z.program z.last) ≡ true
+  pub items : items_in (module_among z.program z.last) ≡ z.declared ++ map call_item_of es
   pub declares : declare z.program [] (all_items z) ≡ true
   pub linked : (e : EntryPoint) → Contains es e → (z.has z.last).linked (initializer_member e) ≡ true
 

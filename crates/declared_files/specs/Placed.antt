@@ -3,12 +3,21 @@ use Rattle.std.specs.Prelude.{◌≡◌, ℕ, Bool, true, false, ◌&&◌, List,
 use Rattle.std.specs.List.{list_all, list_any}
 use Rattle.declared_programs.specs.Declarations.{declares as declares_alone, Holds as HoldsAlone, behind}
 use Rattle.file_tops.specs.Tops.{after_items, after_files, link}
-use Rattle.js_mean.specs.Files.{module_among, items_in, is_good_file, owner}
+use Rattle.js_mean.specs.Files.{module_among, items_in, is_good_file, owner, running_order}
 use Rattle.js_mean.specs.Meaning.{opening}
 use Rattle.js_mean.specs.Proper.{are_distinct}
 use Rattle.js_mean.specs.States.{class, ClassLink, holds, State, Program}
 use Rattle.js_tree.specs.Names.{is_same_text}
 use Rattle.js_tree.specs.Terms.{Name, Item, class_item, subclass_item}
+
+-- a file runs last of those that it reaches by imports, and each of these runs once
+pub record RunsLast (p : Program) (f : Name) : Type 0 where
+  pub front : List Name
+  pub order : running_order p f ≡ front ++ f ∷ []
+  pub once : are_distinct (running_order p f) ≡ true
+
+abbrev pub FilesRunLast : Type 0
+FilesRunLast = (p : Program) (f : Name) → RunsLast p f
 
 -- an item, and the file in which it stands
 pub record Placed : Type 0 where
