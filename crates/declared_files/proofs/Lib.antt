@@ -1,5 +1,6 @@
 pub mod Calls
 pub mod Once
+pub mod Order
 pub mod Place
 pub mod Tops
 pub mod Whole

@@ -1,6 +1,6 @@
 -- The items of files that run one behind another, and what the binding of each holds once they have run.
 use Rattle.std.specs.Prelude.{◌≡◌, ℕ, Bool, true, false, ◌&&◌, List, [], ◌∷◌, ◌++◌, map, Option, Some, None}
-use Rattle.std.specs.List.{list_all, list_any}
+use Rattle.std.specs.List.{Contains, list_all, list_any}
 use Rattle.declared_programs.specs.Declarations.{declares as declares_alone, Holds as HoldsAlone, behind}
 use Rattle.file_tops.specs.Tops.{after_items, after_files, link}
 use Rattle.js_mean.specs.Files.{module_among, items_in, is_good_file, owner, running_order}
@@ -54,6 +54,29 @@ declares p cs f i = declares_alone [] i
 abbrev pub declare : Program → List ClassLink → List Placed → Bool
 declare p cs [] = true
 declare p cs (l ∷ ls) = declares p cs l.file l.item && declare p (with_class l.file l.item cs) ls
+
+-- the item is the class of this name
+abbrev pub is_class : Name → Item → Bool
+is_class y (class_item x ms) = is_same_text y x
+is_class y (subclass_item x z ms) = is_same_text y x
+is_class y _ = false
+
+-- the class of this name and file is declared in one of these files, or by one of these items of the file at hand
+pub data IsInFront (p : Program) (fs : List Name) (f : Name) (front : List Item) (g y : Name) : Type 0 where
+  in_a_file : (i : Item) → Contains fs g → Contains (items_in (module_among p g)) i → is_class y i ≡ true → IsInFront p fs f front g y
+  in_this_file : (i : Item) → f ≡ g → Contains front i → is_class y i ≡ true → IsInFront p fs f front g y
+
+-- an item of a file only declares, where these files and these items of its own stand in front of it
+abbrev pub DeclaresBehind : Program → List Name → Name → List Item → Item → Type 0
+DeclaresBehind p fs f front (subclass_item x y ms) = (g : Name) × (owner p f y ≡ Some g) × IsInFront p fs f front g y
+DeclaresBehind p fs f front i = declares_alone [] i ≡ true
+
+-- where each item does so in its place, the items of the files do
+abbrev pub FilesDeclareInOrder : Type 0
+FilesDeclareInOrder = (p : Program) (fs : List Name) (f : Name) (is : List Item)
+    → ((before after : List Name) (g : Name) → fs ≡ before ++ g ∷ after → (front behind : List Item) (i : Item) → items_in (module_among p g) ≡ front ++ i ∷ behind → DeclaresBehind p before g front i)
+    → ((front behind : List Item) (i : Item) → is ≡ front ++ i ∷ behind → DeclaresBehind p fs f front i)
+    → declare p [] (items_until p fs f is) ≡ true
 
 -- a class that extends another: it holds itself in front of what the other holds, in the file of the other
 pub record HoldsClass (p : Program) (f x y : Name) (t : State) : Type 0 where

@@ -8,7 +8,7 @@ ghost use Rattle.std.specs.Prelude.{◌≡◌, ℕ, List, [], codes};
 ghost use Rattle.body_soundness.specs.Worked.{object_world, object_use};
 ghost use Rattle.built_forms.specs.Built.{Usable};
 ghost use Rattle.declared_files.specs.Declared.{Spread, Declared, IsPublic, IsLawful};
-ghost use Rattle.declared_files.specs.Placed.{DeclarationsOfFilesHold, FilesRunLast};
+ghost use Rattle.declared_files.specs.Placed.{DeclarationsOfFilesHold, FilesDeclareInOrder, FilesRunLast};
 ghost use Rattle.declared_files.specs.Worked.{two_files, spread};
 ghost use Rattle.ir_mean.specs.Rows.{once};
 ghost use Rattle.ir_mean.specs.Shows.{initializers, ir_shows};
@@ -22,6 +22,11 @@ ghost use Rattle.sj_world.specs.Laws.{IsPlain};
 /// A file runs last of those that it reaches by imports, and each of these runs once.
 pub fn files_run_last()
     ensures { FilesRunLast }
+{}
+
+/// Items of files only declare where each does so in its place, a class behind the one that it extends: in a file in front of its own, or in its own.
+pub fn files_declare_in_order()
+    ensures { FilesDeclareInOrder }
 {}
 
 /// Files of declarations that run one behind another come to one state, at every bound and without a line, in which each function, class, object and variable holds what it is to hold:
