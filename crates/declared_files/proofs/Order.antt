@@ -1,5 +1,5 @@
 -- Items of files only declare where each does so in its place.
-use Rattle.std.proofs.Common.{◌≡◌, Bool, true, false, List, [], ◌∷◌, ◌++◌, ◌&&◌, map, append_assoc, Some, refl, sym, ap, ◌∙◌, subst, Contains, ⊎_elim}
+use Rattle.std.proofs.Common.{◌≡◌, true, List, [], ◌∷◌, ◌++◌, ◌&&◌, map, append_assoc, refl, sym, ap, ◌∙◌, subst, Contains, ⊎_elim}
 use Rattle.std.proofs.lemmas.Bool.{and_from, or_left, or_right}
 use Rattle.std.proofs.lemmas.List.Elements.{Contains-append_cases}
 use Rattle.body_rules.proofs.Equal.{equals}
