@@ -13,6 +13,7 @@ use Rattle.outcomes.proofs.Simulation.{agree-from_sim}
 use Rattle.outcomes.specs.Agreement.{Direction, Enough, Sim, Agree}
 use Rattle.sj_calls.proofs.Names.{emitted_names_differ}
 use Rattle.sj_calls.proofs.ObjectLevels as levels
+use Rattle.sj_calls.proofs.Whole.{InitializersAgreeAt}
 use Rattle.sj_names.specs.declared.entry_points.EntryPoint.{EntryPoint}
 use Rattle.sj_plain.specs.Settings.{a_function, NamesDiffer}
 use Rattle.sj_plain.specs.Worlds.{no_values}
@@ -20,7 +21,7 @@ use Rattle.sj_proper.specs.Emitted.{initializer_member, call_item_of}
 use Rattle.sj_world.specs.Laws.{IsPlain}
 use Rattle.declared_files.specs.Declared.{Spread, Declared, IsPublic, IsLawful}
 use Rattle.declared_files.specs.Placed.{RunInOrder, DeclaredAt}
-use Rattle.declared_files.proofs.Calls.{InitializersAgree, order_shows, files_alike}
+use Rattle.declared_files.proofs.Calls.{order_shows, files_alike}
 use Rattle.declared_files.proofs.Once.{files_run_last}
 use Rattle.declared_files.proofs.Place.{room, place, reaches, has_objects, begun, same_begins}
 use Rattle.declared_files.proofs.Tops.{declarations_of_files_hold}
@@ -41,7 +42,7 @@ module _ (z : Spread) (all : Usable) (entries : List EntryPoint) (id : List ℕ)
   tops : DeclaredAt z.program z.front z.last z.declared
   tops = declarations_of_files_hold z.program z.front z.last z.declared calls runs public.declares
 
-  agree : InitializersAgree (place z) z.last (reaches z calls runs can z.last)
+  agree : InitializersAgreeAt (place z) z.last (reaches z calls runs can z.last)
   agree e l y s u same = levels.calls_agree (place z) (in_world z.classes plain) names (has_objects z calls runs can all laws) z.last (initializer_member e) l y [] [] ir_showing.outside s u no_values same
 
   order_is : running_order z.program (js_showing.file_of id) ≡ z.front ++ z.last ∷ []
