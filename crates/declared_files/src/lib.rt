@@ -1,7 +1,7 @@
 //! Files that declare the code of objects run one behind another to a state that stands for the opening of the IR, and the calls in the last show what the classes show.
 //!
-//! `specs/` has what the items of several files declare, and when they declare all that bodies can use. The functions here are laws: they do nothing when they run, and their clauses are
-//! theorems.
+//! `specs/` has what the items of several files declare, and when they declare all that bodies can use. The functions here are laws: they do nothing when they run, and their
+//! clauses are theorems.
 #![tactic(auto)]
 
 ghost use Rattle.std.specs.Prelude.{◌≡◌, ℕ, List, [], codes};
@@ -29,22 +29,22 @@ pub fn files_declare_in_order()
     ensures { FilesDeclareInOrder }
 {}
 
-/// Files of declarations that run one behind another come to one state, at every bound and without a line, in which each function, class, object and variable holds what it is to hold:
-/// a class itself and those that it extends, in whatever file these stand, and each object its own address.
+/// Files of declarations that run one behind another come to one state, at every bound and without a line, in which each function, class, object and variable holds what it is
+/// to hold: a class itself and those that it extends, in whatever file these stand, and each object its own address.
 pub fn declarations_of_files_hold()
     ensures { DeclarationsOfFilesHold }
 {}
 
-/// The theorem on files with objects: take good files that declare and run in order, of which the last then calls the initializers of a public module. Let all that
-/// the code of each can use be declared in the file of its binding, and let its name lead there. Let the classes have what the laws on objects ask. Then the program shows of the public
-/// module what the classes show: what the one shows within any bound the other shows within some bound, and the other way round, and neither is wrong at any bound.
+/// The theorem on files with objects: take good files that declare and run in order, of which the last then calls the initializers of a public module. Let all that the code of
+/// each can use be declared in the file of its binding, and let the file lead to what its code names. Let the classes have what the laws on objects ask. Then the program shows
+/// of the public module what the classes show: what the one shows within any bound the other shows within some bound, and the other way round, and neither is wrong at any
+/// bound.
 pub fn declared_files_agree()
     ensures { (z : Spread) (all : Usable) (entries : List EntryPoint) (id : List ℕ) → IsPlain z.classes → IsPublic z id (initializers entries id) → Declared z → IsLawful z all → Agree (ir_shows z.classes entries id) (js_shows z.program id) }
 {}
 
 /// The premises can be met by two files: one has a class, the other makes an object of it and calls a method on it that gives its field. They declare what the code of each
-/// uses, and show what the classes show. The classes end within the bound 2, one unit for `main` and one for the constructor; the files end within the bound 3, since the
-/// constructor of the class calls that of the class above it.
+/// uses, and show what the classes show. They end within the bound 3, as the one file of the same classes does.
 pub fn worked_program_of_files()
     ensures declared { Declared spread }
     ensures public { IsPublic spread (codes "main") once }
