@@ -59,7 +59,7 @@ rest_distinct i is h = by (name_of i) (ap are_distinct (sym (names_step i is)) �
 pub first_apart : (i : Item) (is : List Item) (x : Name) → are_distinct (item_names (i ∷ is)) ≡ true → name_of i ≡ Some x → is_among (item_names is) x ≡ false
 first_apart i is x h e = not-true (is_among (item_names is) x) (and_parts (not (is_among (item_names is) x)) (are_distinct (item_names is)) (ap are_distinct (ap (λ o. with_name o (item_names is)) (sym e) ∙ sym (names_step i is)) ∙ h)).0
 
-not_both : (b : Bool) → b ≡ true → b ≡ false → ⊥
+pub not_both : (b : Bool) → b ≡ true → b ≡ false → ⊥
 not_both true h k = cc
 not_both false h k = cc
 

@@ -82,13 +82,13 @@ markers_stay : (names : List Name) (own all : Name → Option js.Value) → lite
 markers_stay [] own all h = ap (λ (o : Name → Option js.Value). o (codes "s")) (sym (some_same own all h))
 markers_stay (a ∷ names) own all h = markers_stay names (with_property (marker a) (js.number (pos 1)) own) all h
 
-marker_held : (c : Name) (names : List Name) (all : Name → Option js.Value) → literal_properties (constants c names) no_properties ≡ Some all → all (codes "s") ≡ Some (js.text (class_binding Marker c))
+pub marker_held : (c : Name) (names : List Name) (all : Name → Option js.Value) → literal_properties (constants c names) no_properties ≡ Some all → all (codes "s") ≡ Some (js.text (class_binding Marker c))
 marker_held c names all h = markers_stay names (with_property (codes "s") (js.text (marker c)) no_properties) all h
 
-same_classes : (a b : List js.ClassLink) → js.holds false (js.class a) ≡ js.holds false (js.class b) → a ≡ b
+pub same_classes : (a b : List js.ClassLink) → js.holds false (js.class a) ≡ js.holds false (js.class b) → a ≡ b
 same_classes a b e = cc
 
-chain_length : (w : ir_world.World) (k : ℕ) (seen : List Name) (c : Name) → length (chain_from w k seen c) ≤ k
+pub chain_length : (w : ir_world.World) (k : ℕ) (seen : List Name) (c : Name) → length (chain_from w k seen c) ≤ k
 chain_length w zero seen c = omega arith
 chain_length w (suc k) seen c = go (list_any (is_same c) seen) (next_on_chain w c) (λ d. chain_length w k (c ∷ seen) d)
   where
@@ -98,7 +98,7 @@ chain_length w (suc k) seen c = go (list_any (is_same c) seen) (next_on_chain w 
     go false (Some d) below = let h : length (chain_from w k (c ∷ seen) d) ≤ k = below d in omega (arith, h)
 
 -- what the variable of a static field begins with
-zero_literal_is : (t : IrType) → literal_value (zero_literal t) ≡ Some (zero_value t)
+pub zero_literal_is : (t : IrType) → literal_value (zero_literal t) ≡ Some (zero_value t)
 zero_literal_is Boolean = refl
 zero_literal_is Char = refl
 zero_literal_is Byte = refl

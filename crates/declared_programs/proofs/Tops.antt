@@ -34,7 +34,7 @@ other_names i is y h = (rest (is_among (item_names is) y) refl, λ z e. name z e
     name z e false k = k
     name z e true k = absurd (not_there (is_among (item_names (i ∷ is)) y) (among_first i is y (e ∙ ap Some (sym (is-equal y z k)))) h)
 
-not_declared : (i : Item) (y : Name) → ((z : Name) → name_of i ≡ Some z → is_same_text y z ≡ false) → declares_name i y ≡ false
+pub not_declared : (i : Item) (y : Name) → ((z : Name) → name_of i ≡ Some z → is_same_text y z ≡ false) → declares_name i y ≡ false
 not_declared (const_item x e) y h = h x refl
 not_declared (object_item x ps) y h = h x refl
 not_declared (let_item x e) y h = h x refl
@@ -48,11 +48,11 @@ not_started [] y h = refl
 not_started (i ∷ is) y h = let k = other_names i is y h in ap (λ b. b || start_name is y) (not_declared i y k.1) ∙ not_started is y k.0
 
 -- what a test knows
-known : {A : Type 0} (o : Option A) → is_some o ≡ true → (a : A) × (o ≡ Some a)
+pub known : {A : Type 0} (o : Option A) → is_some o ≡ true → (a : A) × (o ≡ Some a)
 known None h = cc
 known (Some a) h = (a, refl)
 
-properties_known : (ps : List Property) (own : Name → Option Value) → list_all (λ (q : Property). is_some (literal_value q.value)) ps ≡ true → (all : Name → Option Value) × (literal_properties ps own ≡ Some all)
+pub properties_known : (ps : List Property) (own : Name → Option Value) → list_all (λ (q : Property). is_some (literal_value q.value)) ps ≡ true → (all : Name → Option Value) × (literal_properties ps own ≡ Some all)
 properties_known [] own h = (own, refl)
 properties_known (q ∷ ps) own h =
     let k = and_parts (is_some (literal_value q.value)) (list_all (λ (r : Property). is_some (literal_value r.value)) ps) h in
@@ -61,16 +61,16 @@ properties_known (q ∷ ps) own h =
     (rest.0, ap (λ o. with_each o (λ w. literal_properties ps (with_property q.name w own))) v.1 ∙ rest.1)
 
 -- heaps grow at their end
-get_in_front : (h : List Stored) (z : Stored) (a : ℕ) (y : Stored) → slice_get h a ≡ Some y → slice_get (h ++ z ∷ []) a ≡ Some y
+pub get_in_front : (h : List Stored) (z : Stored) (a : ℕ) (y : Stored) → slice_get h a ≡ Some y → slice_get (h ++ z ∷ []) a ≡ Some y
 get_in_front [] z a y e = cc
 get_in_front (x ∷ h) z zero y e = e
 get_in_front (x ∷ h) z (suc a) y e = get_in_front h z a y e
 
-get_last : (h : List Stored) (z : Stored) → slice_get (h ++ z ∷ []) (length h) ≡ Some z
+pub get_last : (h : List Stored) (z : Stored) → slice_get (h ++ z ∷ []) (length h) ≡ Some z
 get_last [] z = refl
 get_last (x ∷ h) z = get_last h z
 
-length_last : (h : List Stored) (z : Stored) → length (h ++ z ∷ []) ≡ suc (length h)
+pub length_last : (h : List Stored) (z : Stored) → length (h ++ z ∷ []) ≡ suc (length h)
 length_last [] z = refl
 length_last (x ∷ h) z = ap suc (length_last h z)
 
@@ -78,7 +78,7 @@ abbrev pub HeapKept : State → State → Type 0
 HeapKept s t = (a : ℕ) (y : Stored) → slice_get s.heap a ≡ Some y → slice_get t.heap a ≡ Some y
 
 -- a binding holds a class
-abbrev HasClass : Cell → Type 0
+abbrev pub HasClass : Cell → Type 0
 HasClass c = (ls : List ClassLink) × (c ≡ holds false (class ls))
 
 module _ (p : Program) (f : Name) (owned : (x : Name) → owner p f x ≡ Some f) where

@@ -4,7 +4,7 @@ use Rattle.std.specs.Int.{w32, w64}
 use Rattle.std.specs.Prelude.{ℤ, pos, negsuc, codes, FitsSigned, nat_lt}
 use Rattle.std.specs.List.{list_all}
 use Rattle.std.proofs.lemmas.Bool.{and_parts}
-use Rattle.std.proofs.lemmas.List.Elements.{Contains-append_left, Contains-append_right, Contains-push}
+use Rattle.body_rules.proofs.Lists.{at_front, further_on}
 use Rattle.outcomes.specs.Outcome.{Out, done, wrong, then_do}
 use Rattle.outcomes.specs.Shown as shown
 use Rattle.outcomes.specs.Shown.{normal, uncaught, Shown}
@@ -28,7 +28,7 @@ use Rattle.sj_desugar.specs.Desugar.{desugared}
 use Rattle.sj_emit_expr.specs.Templates.{member_name, parameter_names}
 use Rattle.sj_names.specs.declared.entry_points.EntryPoint.{EntryPoint}
 use Rattle.sj_names.specs.declared.method_names.Member.{Member}
-use Rattle.sj_plain.specs.Settings.{some_constants, a_static, a_setter, links_of, SameStored, same_object, a_method, a_constructor, a_helper, Place, Top, a_function, a_class, top_name, is_usable, TopHolds, SameHeap, SameState, Valued, valued, thrown, NamesDiffer}
+use Rattle.sj_plain.specs.Settings.{some_constants, a_static, a_setter, links_of, SameStored, same_object, a_method, a_constructor, a_helper, Place, Top, a_function, a_class, top_name, is_usable, TopHolds, SameHeap, SameState, Valued, valued, thrown, NamesDiffer, Reaches}
 use Rattle.sj_plain.specs.Worlds.{World, nothing_made, Stands, same_undefined, same_null, same_boolean, same_char, same_box, IsBox, same_number, same_long, same_text, same_reference, no_values}
 use Rattle.sj_plain.specs.Standing.{suits}
 use Rattle.sj_names.proofs.Same.{impossible}
@@ -136,30 +136,67 @@ uncaught_alike place p d w _ _ s u same (same_long n f) h = subst (λ (b : Bool)
 uncaught_alike place p d w _ _ s u same (same_text us) h = sim_done d ◌≡◌ (uncaught (shown.text us)) (uncaught (shown.text us)) refl
 uncaught_alike place p d w _ _ s u same (same_reference i a e) h = stored_alike place p d w s.heap u same.heaps (slice_get s.heap i) (slice_get u.heap a) (same.heaps.objects i a e)
 
--- a file that calls initializers behind what it declares
-module _ (w : ir_world.World) (f : Name) (m : Module) (none : m.imports ≡ []) (usable : Usable) (room : Room) where
-  abbrev pub place_of : Place
-  place_of = emitted_in w (alone f m) (λ t. f) (λ g. usable) room
-
+-- calls of initializers in a file that reaches them by name
+module _ (p : Place) (f : Name) (reaches : Reaches p f) where
   -- an initializer, and the item that calls it
   abbrev item_run : EntryPoint → ℕ → js.State → Out js.ExpressionEnd
-  item_run e k u = js_meaning.evaluate (alone f m) (js_meaning.below (alone f m) k) (call_of (member_name (initializer_member e)) no_expressions) (js_meaning.top_scope (alone f m) f) u
+  item_run e k u = js_meaning.evaluate p.program (js_meaning.below p.program k) (call_of (member_name (initializer_member e)) no_expressions) (js_meaning.top_scope p.program f) u
 
-  item_is : (e : EntryPoint) (k : ℕ) (y : World) (s : ir.State) (u : js.State) → usable.linked (initializer_member e) ≡ true → SameState place_of y s u → item_run e k u ≡ js_call place_of (initializer_member e) [] u k
-  item_is e k y s u l same = ap (λ o. called (js_meaning.top_cell o name u)) (own_name f m name none) ∙ ap called (same.tops f (a_function (initializer_member e)) l)
+  item_is : (e : EntryPoint) (k : ℕ) (y : World) (s : ir.State) (u : js.State) → (p.has f).linked (initializer_member e) ≡ true → SameState p y s u → item_run e k u ≡ js_call p (initializer_member e) [] u k
+  item_is e k y s u l same = ap (λ o. called (js_meaning.top_cell o name u)) (reaches (a_function (initializer_member e)) l) ∙ ap called (same.tops f (a_function (initializer_member e)) l)
     where
       name : Name
       name = member_name (initializer_member e)
 
       called : js.Cell → Out js.ExpressionEnd
-      called cell = then_do (js_meaning.cell_value cell u) (js.with_value (λ g. js_meaning.in_order [] (js_meaning.call (alone f m) (js_meaning.below (alone f m) k) g) (js_meaning.top_scope (alone f m) f)))
+      called cell = then_do (js_meaning.cell_value cell u) (js.with_value (λ g. js_meaning.in_order [] (js_meaning.call p.program (js_meaning.below p.program k) g) (js_meaning.top_scope p.program f)))
 
-  -- the end of the file
-  abbrev ended : ℕ → Out js.ExpressionEnd → Shown
-  ended k o = then_do (then_do o (js.with_value (λ v. js_meaning.run_files (alone f m) k []))) (js_showing.ending (alone f m))
+  abbrev pub calls_at : List EntryPoint → ℕ → js.State → Out js.ExpressionEnd
+  calls_at es k u = js_meaning.run_items p.program k f (map call_item_of es) u
+
+  -- the end of the files
+  abbrev pub ended : ℕ → Out js.ExpressionEnd → Shown
+  ended k o = then_do (then_do o (js.with_value (λ v. js_meaning.run_files p.program k []))) (js_showing.ending p.program)
+
+  -- each initializer and its call agree
+  abbrev pub InitializersAgreeAt : Type 0
+  InitializersAgreeAt = (e : EntryPoint) → (p.has f).linked (initializer_member e) ≡ true → (y : World) (s : ir.State) (u : js.State) → SameState p y s u → CallsAgree p (initializer_member e) y [] [] ir_showing.outside s u
+
+  module _ (agree : InitializersAgreeAt) where
+    item_alike : (d : Direction) (n k : ℕ) → Enough p.room 0 d n k → (e : EntryPoint) → (p.has f).linked (initializer_member e) ≡ true → (y : World) (s : ir.State) (u : js.State) → SameState p y s u → Sim d (Valued p y ir_showing.outside NoType) (ir_call p (initializer_member e) [] ir_showing.outside s n) (item_run e k u)
+    item_alike forward n k h e l y s u same = subst (λ o. Sim forward (Valued p y ir_showing.outside NoType) (ir_call p (initializer_member e) [] ir_showing.outside s n) o) (sym (item_is e k y s u l same)) ((agree e l y s u same).there n k h)
+    item_alike backward n k h e l y s u same = subst (λ o. Sim backward (Valued p y ir_showing.outside NoType) (ir_call p (initializer_member e) [] ir_showing.outside s n) o) (sym (item_is e k y s u l same)) ((agree e l y s u same).back n k h)
+
+    pub calls_alike : (d : Direction) (n k : ℕ) → Enough p.room 0 d n k → (es : List EntryPoint) → ((e : EntryPoint) → Contains es e → (p.has f).linked (initializer_member e) ≡ true) → (y : World) (s : ir.State) (u : js.State) → SameState p y s u → Sim d ◌≡◌ (ir_showing.all_show p.classes n es s) (ended k (calls_at es k u))
+    calls_alike d n k h [] all y s u same = sim_done d ◌≡◌ normal normal refl
+    calls_alike d n k h (e ∷ es) all y s u same = subst (λ o. Sim d ◌≡◌ (ir_showing.all_show p.classes n (e ∷ es) s) o) (sym regrouped) (sim_then d (Valued p y ir_showing.outside NoType) ◌≡◌ (ir_call p (initializer_member e) [] ir_showing.outside s n) (item_run e k u) (ir_showing.next_or_end (ir_showing.all_show p.classes n es)) behind (item_alike d n k h e (all e (at_front e es)) y s u same) (next d n k es y (λ z v s u same. calls_alike d n k h es (λ x i. all x (further_on e es x i)) z s u same)))
+      where
+        rest : js.ExpressionEnd → Out js.ExpressionEnd
+        rest = js.with_value (λ v. js_meaning.run_items p.program k f (map call_item_of es))
+
+        end : js.ExpressionEnd → Out js.ExpressionEnd
+        end = js.with_value (λ v. js_meaning.run_files p.program k [])
+
+        behind : js.ExpressionEnd → Shown
+        behind b = then_do (then_do (rest b) end) (js_showing.ending p.program)
+
+        regrouped : ended k (calls_at (e ∷ es) k u) ≡ then_do (item_run e k u) behind
+        regrouped = ap (λ o. then_do o (js_showing.ending p.program)) (then_do-associative (item_run e k u) rest end) ∙ then_do-associative (item_run e k u) (λ b. then_do (rest b) end) (js_showing.ending p.program)
+
+        next : (d : Direction) (n k : ℕ) (es : List EntryPoint) (y : World) → ((z : World) (v : ir.Value) (s : ir.State) (u : js.State) → SameState p z s u → Sim d ◌≡◌ (ir_showing.all_show p.classes n es s) (ended k (calls_at es k u))) → (a : ir.Ended) (b : js.ExpressionEnd) → Valued p y ir_showing.outside NoType a b → Sim d ◌≡◌ (ir_showing.next_or_end (ir_showing.all_show p.classes n es) a) (then_do (then_do (js.with_value (λ v. js_meaning.run_items p.program k f (map call_item_of es)) b) (js.with_value (λ v. js_meaning.run_files p.program k []))) (js_showing.ending p.program))
+        next d n k es y others _ _ (valued z v x s u g a same) = others z v s u same
+        next d n k es y others _ _ (thrown z v x s u g a same) = uncaught_alike p p.program d z v x s u same a.stands a.suits
+
+-- a file that calls initializers behind what it declares
+module _ (w : ir_world.World) (f : Name) (m : Module) (none : m.imports ≡ []) (usable : Usable) (room : Room) where
+  abbrev pub place_of : Place
+  place_of = emitted_in w (alone f m) (λ t. f) (λ g. usable) room
+
+  pub reaches : Reaches place_of f
+  reaches t u = own_name f m (top_name t) none
 
   abbrev pub calls : List EntryPoint → ℕ → js.State → Out js.ExpressionEnd
-  calls is k u = js_meaning.run_items (alone f m) k f (map call_item_of is) u
+  calls = calls_at place_of f reaches
 
   abbrev pub order_shows : ℕ → List Name → Shown
   order_shows k names = if list_all (files.is_good_file (alone f m)) names then then_do (js_meaning.run_files (alone f m) k names (js_meaning.opening (alone f m))) (js_showing.ending (alone f m)) else wrong
@@ -169,42 +206,18 @@ module _ (w : ir_world.World) (f : Name) (m : Module) (none : m.imports ≡ []) 
 
   -- each initializer and its call agree
   abbrev pub InitializersAgree : Type 0
-  InitializersAgree = (e : EntryPoint) → usable.linked (initializer_member e) ≡ true → (y : World) (s : ir.State) (u : js.State) → SameState place_of y s u → CallsAgree place_of (initializer_member e) y [] [] ir_showing.outside s u
+  InitializersAgree = InitializersAgreeAt place_of f reaches
 
   module _ (agree : InitializersAgree) where
-    item_alike : (d : Direction) (n k : ℕ) → Enough room 0 d n k → (e : EntryPoint) → usable.linked (initializer_member e) ≡ true → (y : World) (s : ir.State) (u : js.State) → SameState place_of y s u → Sim d (Valued place_of y ir_showing.outside NoType) (ir_call place_of (initializer_member e) [] ir_showing.outside s n) (item_run e k u)
-    item_alike forward n k h e l y s u same = subst (λ o. Sim forward (Valued place_of y ir_showing.outside NoType) (ir_call place_of (initializer_member e) [] ir_showing.outside s n) o) (sym (item_is e k y s u l same)) ((agree e l y s u same).there n k h)
-    item_alike backward n k h e l y s u same = subst (λ o. Sim backward (Valued place_of y ir_showing.outside NoType) (ir_call place_of (initializer_member e) [] ir_showing.outside s n) o) (sym (item_is e k y s u l same)) ((agree e l y s u same).back n k h)
-
-    calls_alike : (d : Direction) (n k : ℕ) → Enough room 0 d n k → (is : List EntryPoint) → ((e : EntryPoint) → Contains is e → usable.linked (initializer_member e) ≡ true) → (y : World) (s : ir.State) (u : js.State) → SameState place_of y s u → Sim d ◌≡◌ (ir_showing.all_show w n is s) (ended k (calls is k u))
-    calls_alike d n k h [] all y s u same = sim_done d ◌≡◌ normal normal refl
-    calls_alike d n k h (e ∷ is) all y s u same = subst (λ o. Sim d ◌≡◌ (ir_showing.all_show w n (e ∷ is) s) o) (sym regrouped) (sim_then d (Valued place_of y ir_showing.outside NoType) ◌≡◌ (ir_call place_of (initializer_member e) [] ir_showing.outside s n) (item_run e k u) (ir_showing.next_or_end (ir_showing.all_show w n is)) behind (item_alike d n k h e (all e (Contains-append_left (e ∷ []) is e (Contains-push [] e))) y s u same) (next d n k is y (λ z v s u same. calls_alike d n k h is (λ x i. all x (Contains-append_right (e ∷ []) is x i)) z s u same)))
-      where
-        rest : js.ExpressionEnd → Out js.ExpressionEnd
-        rest = js.with_value (λ v. js_meaning.run_items (alone f m) k f (map call_item_of is))
-
-        end : js.ExpressionEnd → Out js.ExpressionEnd
-        end = js.with_value (λ v. js_meaning.run_files (alone f m) k [])
-
-        behind : js.ExpressionEnd → Shown
-        behind b = then_do (then_do (rest b) end) (js_showing.ending (alone f m))
-
-        regrouped : ended k (calls (e ∷ is) k u) ≡ then_do (item_run e k u) behind
-        regrouped = ap (λ o. then_do o (js_showing.ending (alone f m))) (then_do-associative (item_run e k u) rest end) ∙ then_do-associative (item_run e k u) (λ b. then_do (rest b) end) (js_showing.ending (alone f m))
-
-        next : (d : Direction) (n k : ℕ) (is : List EntryPoint) (y : World) → ((z : World) (v : ir.Value) (s : ir.State) (u : js.State) → SameState place_of z s u → Sim d ◌≡◌ (ir_showing.all_show w n is s) (ended k (calls is k u))) → (a : ir.Ended) (b : js.ExpressionEnd) → Valued place_of y ir_showing.outside NoType a b → Sim d ◌≡◌ (ir_showing.next_or_end (ir_showing.all_show w n is) a) (then_do (then_do (js.with_value (λ v. js_meaning.run_items (alone f m) k f (map call_item_of is)) b) (js.with_value (λ v. js_meaning.run_files (alone f m) k []))) (js_showing.ending (alone f m)))
-        next d n k is y others _ _ (valued z v x s u g a same) = others z v s u same
-        next d n k is y others _ _ (thrown z v x s u g a same) = uncaught_alike place_of (alone f m) d z v x s u same a.stands a.suits
-
     -- what the file shows, where its items come to a state that stands for the opening, and the calls of these initializers go on from it
     pub file_alike : is_proper_module m ≡ true → (es : List EntryPoint) (y : World) (u : js.State) → ((k : ℕ) → js_meaning.run_items (alone f m) k f m.items (js_meaning.opening (alone f m)) ≡ calls es k u) → SameState place_of y (ir_world.opening w) u → ((e : EntryPoint) → Contains es e → usable.linked (initializer_member e) ≡ true) → (d : Direction) (n k : ℕ) → Enough room 0 d n k → Sim d ◌≡◌ (ir_showing.all_show w n es (ir_world.opening w)) (order_shows k (files.running_order (alone f m) f))
-    file_alike proper es y u runs same all d n k h = subst (λ o. Sim d ◌≡◌ (ir_showing.all_show w n es (ir_world.opening w)) o) (sym js_is) (calls_alike d n k h es all y (ir_world.opening w) u same)
+    file_alike proper es y u runs same all d n k h = subst (λ o. Sim d ◌≡◌ (ir_showing.all_show w n es (ir_world.opening w)) o) (sym js_is) (calls_alike place_of f reaches agree d n k h es all y (ir_world.opening w) u same)
       where
         judged : files.is_good_module (alone f m) f (Some m) ≡ true
         judged = ap (λ b. b && list_all (λ x. is_some (files.owner (alone f m) f x)) (imported_names m.imports)) proper ∙ ap (λ is. list_all (λ x. is_some (files.owner (alone f m) f x)) (imported_names is)) none
 
-        js_is : order_shows k (files.running_order (alone f m) f) ≡ ended k (calls es k u)
-        js_is = ap (order_shows k) (order_is f m none) ∙ ap (content_shows k) (module_there f m) ∙ (λ i. if (judged i && true) then ended k (runs k i) else wrong)
+        js_is : order_shows k (files.running_order (alone f m) f) ≡ ended place_of f reaches k (calls es k u)
+        js_is = ap (order_shows k) (order_is f m none) ∙ ap (content_shows k) (module_there f m) ∙ (λ i. if (judged i && true) then ended place_of f reaches k (runs k i) else wrong)
 
 -- functions do nothing as items
 past_functions : (p : js.Program) (k : ℕ) (f : Name) (fs : List EmittedMethod) (is : List Item) (u : js.State) → js_meaning.run_items p k f (map function_item_of fs ++ is) u ≡ js_meaning.run_items p k f is u

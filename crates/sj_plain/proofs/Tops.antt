@@ -7,13 +7,13 @@ use Rattle.js_mean.specs.States as js
 use Rattle.sj_core.specs.Terms as core
 use Rattle.sj_core.specs.Views.{expressions_of}
 use Rattle.sj_emit_expr.specs.Templates.{expression_templates}
-use Rattle.sj_plain.specs.Settings.{Setting, shown, Based, Inside, Top, top_name, is_usable, usable}
+use Rattle.sj_plain.specs.Settings.{Setting, shown, Based, Inside, Top, top_name, is_named, usable}
 use Rattle.sj_plain.proofs.Orders.{all_shown}
 
 pub row_shown : (z : Setting) (es : List core.Expression) → js_meaning.arguments z.place.program z.js_low (expression_templates z.place.name z.place.label (expressions_of es)) ≡ all_shown z es
 row_shown z [] = refl
 row_shown z (e ∷ es) = ap (λ rest. shown z e ∷ rest) (row_shown z es)
 
--- what the code at hand can use it reaches by its name
-pub top_seen : (z : Setting) → Based z → (t : Top) (v : js.Value) (sc : js.Scope) (u : js.State) → is_usable (usable z) t ≡ true → Inside z.place z.code sc → u.tops (z.place.home t) (top_name t) ≡ js.holds false v → js_meaning.name_value z.place.program (top_name t) sc u ≡ done (js.gives v u)
+-- what the code at hand names it reaches by its name
+pub top_seen : (z : Setting) → Based z → (t : Top) (v : js.Value) (sc : js.Scope) (u : js.State) → is_named (usable z) t ≡ true → Inside z.place z.code sc → u.tops (z.place.home t) (top_name t) ≡ js.holds false v → js_meaning.name_value z.place.program (top_name t) sc u ≡ done (js.gives v u)
 top_seen z law t v sc u there inside held = (λ i. js_meaning.cell_value (js_meaning.or_outer (inside.free (top_name t) (law.names.tops t) i) (js_meaning.top_cell (owner z.place.program (inside.file i) (top_name t)) (top_name t) u)) u) ∙ (λ i. js_meaning.cell_value (js_meaning.top_cell (law.reaches t there i) (top_name t) u) u) ∙ (λ i. js_meaning.cell_value (held i) u)

@@ -78,6 +78,11 @@ is_usable has (a_static c f t) = has.static_field c f t
 is_usable has (a_setter c f t) = has.static_field c f t
 is_usable has (a_helper h) = has.helper (helper_name h)
 
+-- and names it: any but the constants of a class, which the class alone names
+abbrev pub is_named : Usable → Top → Bool
+is_named has (some_constants c) = false
+is_named has t = is_usable has t
+
 -- what is fixed: the two programs, the names that stand for variables and labels, the file of each binding, what the code of each file can use, and the
 -- units that the emitted code may take beyond those of the IR
 pub record Place : Type 0 where
@@ -257,9 +262,9 @@ pub record NamesDiffer (p : Place) : Type 0 where
   pub labels : (l m : List ℕ) → p.label l ≡ p.label m → l ≡ m
   pub tops : (t : Top) → OfNoVariable p (top_name t)
 
--- what the code of this file can use it reaches by its name, in the file that has it
+-- what the code of this file names it reaches by its name, in the file that has it
 abbrev pub Reaches : Place → Name → Type 0
-Reaches p f = (t : Top) → is_usable (p.has f) t ≡ true → owner p.program f (top_name t) ≡ Some (p.home t)
+Reaches p f = (t : Top) → is_named (p.has f) t ≡ true → owner p.program f (top_name t) ≡ Some (p.home t)
 
 -- an object of the class with its fields at the zeros of their types
 abbrev pub zeroed : Place → List ℕ → ir.Stored

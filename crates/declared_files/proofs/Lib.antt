@@ -1,0 +1,7 @@
+pub mod Calls
+pub mod Once
+pub mod Order
+pub mod Place
+pub mod Tops
+pub mod Whole
+pub mod Worked

@@ -1,0 +1,326 @@
+-- Files that declare what can be used: their state behind the declarations stands for the opening of the IR, and they have what objects ask.
+use Rattle.std.proofs.Common.{◌≡◌, ◌≤◌, ℕ, suc, Bool, true, false, List, [], ◌∷◌, ◌++◌, length, map, slice_get, refl, sym, ap, ◌∙◌, subst, Contains, inl, inr, ⊎_elim, Option, Some, None, cond, codes, arith}
+use Rattle.std.specs.Prelude.{nat_eq}
+use Rattle.std.specs.Cmp.Lexicographic.{pointwise}
+use Rattle.body_rules.proofs.Lists.{nothing_in, in_front_or_behind, at_front, further_on}
+use Rattle.body_rules.specs.Standing.{is_bare}
+use Rattle.built_forms.specs.Built.{can_box, divides}
+use Rattle.declared_programs.proofs.Fields.{fields_differ, begins, statics_differ, static_begins}
+use Rattle.declared_programs.proofs.Items.{IsClassItem, alone as class_alone, extending, code_found, members_found}
+use Rattle.declared_programs.proofs.Place.{marker_held, same_classes, chain_length, zero_literal_is}
+use Rattle.declared_programs.specs.Declarations.{behind}
+use Rattle.declared_programs.specs.Declared.{Running, alone as by_itself, on_receiver, completing, running, is_covered}
+use Rattle.file_tops.proofs.Run.{some_same}
+use Rattle.file_tops.specs.Tops.{literal_value, link}
+use Rattle.helper_rules.specs.Helpers.{helper_name, helper_item, used_helpers, constants, box_constructor}
+use Rattle.helper_rules.specs.Words.{class_name, constants_name}
+use Rattle.helper_rules.specs.declared.kinds.Failure.TheVariants.{NullReceiver, Division}
+use Rattle.helper_rules.specs.declared.kinds.Helper.{Helper}
+use Rattle.helper_rules.specs.declared.kinds.Helper.TheVariants as helpers
+use Rattle.helper_rules.specs.declared.kinds.Kind.TheVariants as kinds
+use Rattle.ir_mean.specs.Dispatch.{chain_of, longest}
+use Rattle.ir_mean.specs.World as ir_world
+use Rattle.js_mean.specs.Classes.{members_in, members_of}
+use Rattle.js_mean.specs.Files.{items_in}
+use Rattle.js_mean.specs.Meaning as js_meaning
+use Rattle.js_mean.specs.Shows.{object_shown, char_shown}
+use Rattle.js_mean.specs.States as js
+use Rattle.js_tree.specs.Terms.{Name, Statements, Member, constructor_of, Item, function_item, object_item, let_item}
+use Rattle.js_tree.specs.Views.{statements_of}
+use Rattle.outcomes.specs.Agreement.{Room}
+use Rattle.outcomes.specs.Shown as shown_ends
+use Rattle.piece_rules.specs.Pieces.{class_item_of, constructor_body, setter, zero_of as zero_literal}
+use Rattle.sj_calls.proofs.Shapes.{stands_there, zero_alike}
+use Rattle.sj_calls.specs.Chains as chains
+use Rattle.sj_calls.specs.Helpers.{HelperStands, BoxStands, failing_code, checking_code, division_code}
+use Rattle.sj_calls.specs.Made.{zero_value}
+use Rattle.sj_calls.specs.Methods.{Linked, parameters_in, function_of}
+use Rattle.sj_calls.specs.Names.{emitted_in}
+use Rattle.sj_calls.specs.Objects.{RunsOn, Constructs, function_on, body_of}
+use Rattle.sj_calls.specs.Objects as on_objects
+use Rattle.sj_calls.specs.Worlds.{IsMade, CanCheck, CanDivide, StaticStands, setter_code, HasObjects}
+use Rattle.sj_core.specs.Terms.{named, receiver}
+use Rattle.sj_desugar.specs.Desugar.{is_mutable_in, names_of, body_code, completed, desugared_member}
+use Rattle.sj_emit_expr.specs.Members.{with_receiver, member_piece}
+use Rattle.sj_emit_expr.specs.Names.{variable_name, label_name}
+use Rattle.sj_emit_expr.specs.Templates.{check_name, member_name, static_name, setter_name, parameter_names, statement_templates}
+use Rattle.sj_names.proofs.Same.{impossible}
+use Rattle.sj_names.specs.declared.method_names.Member.{Member as MemberName}
+use Rattle.sj_names.specs.declared.method_names.Namespace.{Namespace}
+use Rattle.sj_names.specs.declared.method_names.Namespace.TheVariants.{Public, PublicStatic, Private, PrivateStatic, Constructor}
+use Rattle.sj_plain.specs.Settings.{Place, Top, a_function, a_method, a_constructor, a_class, some_constants, a_static, a_setter, a_helper, top_name, is_usable, IsField, HasField, Holding, holding, HoldsConstants, TopHolds, SameHeap, SameState, Reaches, link_of, division_helper}
+use Rattle.sj_plain.specs.Worlds.{World}
+use Rattle.sj_trees.specs.Term.{Term}
+use Rattle.sj_trees.specs.Types.{class_type}
+use Rattle.sj_trees.specs.declared.classes.ClassDef.{ClassDef}
+use Rattle.sj_trees.specs.declared.classes.FieldDef.{FieldDef}
+use Rattle.sj_trees.specs.declared.classes.MethodDef.{MethodDef}
+use Rattle.sj_trees.specs.declared.operators.BinaryOp.{BinaryOp}
+use Rattle.sj_trees.specs.declared.operators.BinaryOp.TheVariants.{IntDivide, IntRemainder, LongDivide, LongRemainder}
+use Rattle.sj_trees.specs.declared.types.IrType.{IrType}
+use Rattle.sj_trees.specs.declared.types.IrType.TheVariants.{Any, Class}
+use Rattle.built_forms.specs.Built.{Usable}
+use Rattle.declared_files.specs.Declared as declared
+use Rattle.declared_files.specs.Declared.{Spread, all_items, Stands, FunctionDeclared, ClassDeclared, ChainDeclared, Declared, IsLawful}
+use Rattle.declared_files.specs.Placed.{Placed, placed, Holds, AllHold, RunInOrder}
+use Rattle.declared_files.proofs.Tops.{good_module, stands_in, all_pass, HasModule}
+use Rattle.js_mean.specs.Files.{is_good_file}
+
+-- an item among those that hold what they are to hold
+held_among : (p : js.Program) (t : js.State) (ls : List Placed) (n : ℕ) → AllHold p t n ls → (l : Placed) → Contains ls l → (k : ℕ) × Holds p t k l.file l.item
+held_among p t [] n h l c = nothing_in l c
+held_among p t (m ∷ ms) n h l c = ⊎_elim (λ same. (n, subst (λ (o : Placed). Holds p t n o.file o.item) same h.0)) (λ later. held_among p t ms (behind n m.item) h.1 l later) (in_front_or_behind m ms l c)
+
+module _ (z : Spread) where
+  -- each chain has room, and so has a helper
+  abbrev pub room : Room
+  room = record { each = 2; beyond = suc (longest z.classes) }
+
+  abbrev pub place : Place
+  place = emitted_in z.classes z.program z.home z.has room
+
+  module _ (rest : List Item) (run : RunInOrder z.program z.front z.last z.declared rest) (can : Declared z) where
+    pub reaches : (f : Name) → Reaches place f
+    reaches f t u = can.leads f t u
+
+    -- an item stands in a good file
+    module_with : (f : Name) (i : Item) → Contains (all_items z) (placed f i) → HasModule z.program f
+    module_with f i h = good_module z.program f (all_pass (is_good_file z.program) (z.front ++ z.last ∷ []) f run.good (stands_in z.program z.front z.last z.declared rest run.items (placed f i) h).0)
+
+    among_its : (f : Name) (i : Item) (h : Contains (all_items z) (placed f i)) → Contains (module_with f i h).its_module.items i
+    among_its f i h = subst (λ o. Contains (items_in o) i) (module_with f i h).there (stands_in z.program z.front z.last z.declared rest run.items (placed f i) h).1
+
+    function_there : (f x : Name) (xs : List Name) (ss : Statements) → Contains (all_items z) (placed f (function_item x xs ss)) → js_meaning.code_of z.program f x ≡ Some (record { parameters = xs; body = ss })
+    function_there f x xs ss h = let m = module_with f (function_item x xs ss) h in ap (λ o. js_meaning.code_in o x) m.there ∙ code_found m.its_module.items x xs ss m.distinct (among_its f (function_item x xs ss) h)
+
+    members_there : (f x : Name) (ms : List Member) (c : Item) → IsClassItem x ms c → Contains (all_items z) (placed f c) → members_of z.program (link f x) ≡ Some ms
+    members_there f x ms c k h = let m = module_with f c h in ap (λ o. members_in o x) m.there ∙ members_found m.its_module.items x ms c k m.distinct (among_its f c h)
+
+    -- the functions of members
+    parameters-are : (xs : List (List ℕ)) → parameter_names xs ≡ parameters_in place xs
+    parameters-are [] = refl
+    parameters-are (x ∷ xs) = ap (λ ns. place.name (named x) ∷ ns) (parameters-are xs)
+
+    abbrev code_at : Namespace → MethodDef → Term → js_meaning.Code
+    code_at n d e = record { parameters = with_receiver n (parameter_names (names_of d.params)); body = statement_templates variable_name label_name (completed n (body_code (is_mutable_in d e) d.result e)) }
+
+    alone_code : (n : Namespace) (d : MethodDef) (e : Term) → running n ≡ by_itself → code_at n d e ≡ function_of place d e
+    alone_code PublicStatic d e r = λ i. record { parameters = parameters-are (names_of d.params) i; body = (code_at PublicStatic d e).body }
+    alone_code PrivateStatic d e r = λ i. record { parameters = parameters-are (names_of d.params) i; body = (code_at PublicStatic d e).body }
+    alone_code Public d e r = cc
+    alone_code Private d e r = cc
+    alone_code Constructor d e r = cc
+
+    received_code : (n : Namespace) (d : MethodDef) (e : Term) → running n ≡ on_receiver → code_at n d e ≡ function_on place d (body_of d e)
+    received_code Public d e r = λ i. record { parameters = variable_name receiver ∷ parameters-are (names_of d.params) i; body = (code_at Public d e).body }
+    received_code Private d e r = λ i. record { parameters = variable_name receiver ∷ parameters-are (names_of d.params) i; body = (code_at Public d e).body }
+    received_code PublicStatic d e r = cc
+    received_code PrivateStatic d e r = cc
+    received_code Constructor d e r = cc
+
+    completing_code : (n : Namespace) (d : MethodDef) (e : Term) → running n ≡ completing → code_at n d e ≡ function_on place d (on_objects.constructor_body d e)
+    completing_code Constructor d e r = λ i. record { parameters = variable_name receiver ∷ parameters-are (names_of d.params) i; body = (code_at Constructor d e).body }
+    completing_code Public d e r = cc
+    completing_code Private d e r = cc
+    completing_code PublicStatic d e r = cc
+    completing_code PrivateStatic d e r = cc
+
+    code_there : (t : Top) (r : Running) (m : MemberName) (d : FunctionDeclared z t r m) → js_meaning.code_of z.program (z.home t) (member_name m) ≡ Some (code_at d.right.definition.namespace d.right.definition d.right.its_body)
+    code_there t r m d = let n = d.right.definition.namespace in let k = d.right.definition in let c = code_at n k d.right.its_body in function_there (z.home t) (member_name m) c.parameters c.body d.function
+
+    abbrev member_item : {t : Top} {r : Running} {m : MemberName} → FunctionDeclared z t r m → Item
+    member_item {t} {r} {m} d = (member_piece m (desugared_member d.right.definition d.right.its_body)).item
+
+    linked_here : (f : Name) (m : MemberName) → (z.has f).linked m ≡ true → Linked place m
+    linked_here f m l = let d = can.linked f m l in record { definition = d.right.definition; its_body = d.right.its_body; found = d.right.found; has_body = d.right.has_body; parameters = d.right.parameters; result_is = d.right.result_is; emitted = code_there (a_function m) by_itself m d ∙ ap Some (alone_code d.right.definition.namespace d.right.definition d.right.its_body d.runs); rules = d.right.rules; reaches = reaches (z.home (a_function m)) }
+
+    runs_here : (f : Name) (m : MemberName) → (z.has f).received m ≡ true → RunsOn place m
+    runs_here f m l = let d = can.received f m l in record { definition = d.right.definition; its_body = d.right.its_body; found = d.right.found; has_body = d.right.has_body; parameters = d.right.parameters; result_is = d.right.result_is; emitted = code_there (a_method m) on_receiver m d ∙ ap Some (received_code d.right.definition.namespace d.right.definition d.right.its_body d.runs); rules = d.right.rules; reaches = reaches (z.home (a_method m)) }
+
+    constructs_here : (f : Name) (m : MemberName) → (z.has f).built m ≡ true → Constructs place m
+    constructs_here f m l = let k = can.built f m l in let d = k.0 in record { definition = d.right.definition; its_body = d.right.its_body; found = d.right.found; has_body = d.right.has_body; parameters = d.right.parameters; result_is = k.1; emitted = code_there (a_constructor m) completing m d ∙ ap Some (completing_code d.right.definition.namespace d.right.definition d.right.its_body d.runs); rules = d.right.rules; reaches = reaches (z.home (a_constructor m)) }
+
+    -- the classes of a chain
+    class_item_is : (c : Name) (superclass : Option Name) (ms : List Member) → IsClassItem (class_name c) ms (class_item_of c superclass ms)
+    class_item_is c None ms = class_alone
+    class_item_is c (Some d) ms = extending (class_name d)
+
+    abbrev its_members : (c : Name) (superclass : Option Name) → ClassDeclared z c superclass → List Member
+    its_members c superclass k = constructor_of [] (statements_of (constructor_body c superclass k.fields)) ∷ k.others
+
+    abbrev class_stands : (c : Name) (superclass : Option Name) (k : ClassDeclared z c superclass) → chains.ClassStands place c superclass k.fields
+    class_stands c superclass k = record {
+      others = k.others;
+      members_are = members_there (z.home (a_class c)) (class_name c) (its_members c superclass k) (class_item_of c superclass (its_members c superclass k)) (class_item_is c superclass (its_members c superclass k)) k.class;
+      reached = k.leads;
+      user = k.user;
+      usable = k.made;
+    }
+
+    abbrev chain_stands : (cs : List Name) → ChainDeclared z cs → chains.ChainStands place cs
+    chain_stands _ (declared.extends_none c k) = chains.extends_none c k.fields (class_stands c None k)
+    chain_stands _ (declared.extends_one c d ds k to rest) = chains.extends_one c d ds k.fields (class_stands c (Some d) k) (chain_stands (d ∷ ds) rest)
+
+    all_fields : (c : Name) (fs : List FieldDef) → ((g : FieldDef) → Contains fs g → IsField z.classes c g.name g.tpe) → chains.AllFields place c fs
+    all_fields c [] h = tt
+    all_fields c (g ∷ gs) h = (h g (at_front g gs), all_fields c gs (λ x i. h x (further_on g gs x i)))
+
+    has_among : (fs : List FieldDef) (g : FieldDef) → Contains fs g → chains.HasAmong fs g.name g.tpe
+    has_among [] g h = nothing_in g h
+    has_among (x ∷ xs) g h = ⊎_elim (λ same. inl (ap (λ (y : FieldDef). y.name) same, ap (λ (y : FieldDef). y.tpe) same)) (λ later. inr (has_among xs g later)) (in_front_or_behind x xs g h)
+
+    own_fields : (c : Name) (superclass : Option Name) (k : ClassDeclared z c superclass) → chains.AllFields place c k.fields × ((g : Name) (t : IrType) → IsField z.classes c g t → chains.HasAmong k.fields g t)
+    own_fields c superclass k = (all_fields c k.fields (λ g i. let o = k.own g i in record { definition = k.definition; field = g; found = k.found; among = o.0; of_objects = o.1; named = refl; typed = refl }), λ g t i. among g t i)
+      where
+        among : (g : Name) (t : IrType) → IsField z.classes c g t → chains.HasAmong k.fields g t
+        among g t i = subst (λ n. chains.HasAmong k.fields n t) i.named (subst (λ u. chains.HasAmong k.fields i.field.name u) i.typed (has_among k.fields i.field (k.whole i.field (subst (λ (d : ClassDef). Contains d.fields i.field) (some_same i.definition k.definition (sym i.found ∙ k.found)) i.among) i.of_objects)))
+
+    chain_fields : (cs : List Name) (k : ChainDeclared z cs) → chains.ChainFields place cs (chain_stands cs k)
+    chain_fields _ (declared.extends_none c k) = own_fields c None k
+    chain_fields _ (declared.extends_one c d ds k to rest) = let o = own_fields c (Some d) k in (o.0, o.1, chain_fields (d ∷ ds) rest)
+
+    made_here : (f c : Name) → (z.has f).made c ≡ true → IsMade place c
+    made_here f c l = let k = can.made f c l in record {
+      depth = let h : length (chain_of z.classes c) ≤ longest z.classes = chain_length z.classes (longest z.classes) [] c in omega (arith, h);
+      stands = λ y s u same. stands_there place (fields_differ place can.kept) (begins place can.kept) c k.above (chain_stands (c ∷ k.above) k.classes) (chain_fields (c ∷ k.above) k.classes) k.chain y s u same;
+    }
+
+    -- helpers
+    helper_there : (f : Name) (h : Helper) → (z.has f).helper (helper_name h) ≡ true → Stands z (a_helper h) (helper_item can.ancestors h)
+    helper_there f h l = (can.helper f h l).1
+
+    module _ (all : Usable) (laws : IsLawful z all) where
+      object_here : (f c : Name) → (z.has f).made c ≡ true → is_bare (class_type c) ≡ false
+      object_here f c l = go (pointwise nat_eq c (codes "java.lang.Object"))
+        where
+          go : (b : Bool) → is_bare (cond b Any (Class c)) ≡ false
+          go true = refl
+          go false = laws.objects.made c ((laws.among f).tops (a_class c) l)
+
+      field_here : (f c g : Name) (t : IrType) → (z.has f).field c g t ≡ true → HasField place c g t
+      field_here f c g t l = record { field = can.field f c g t l; value = (laws.objects.fields c g t ((laws.among f).fields c g t l)).0; differ = fields_differ place can.kept }
+
+      static_here : (f c g : Name) (t : IrType) → (z.has f).static_field c g t ≡ true → StaticStands place c g t
+      static_here f c g t l = let its = can.static_field f c g t l in record {
+        field = record { field = its.field; value = (laws.objects.statics c g t ((laws.among f).tops (a_static c g t) l)).0; differ = statics_differ place can.kept };
+        beside = its.beside;
+        sets = function_there (z.home (a_setter c g t)) (setter_name c g) (setter_code c g).parameters (setter_code c g).body (subst (λ n. Stands z (a_setter c g t) (setter (setter_name c n) (static_name c n))) its.field.named its.setter);
+        owned = its.leads ∙ ap Some its.beside;
+      }
+
+      check_here : (f : Name) → (z.has f).helper check_name ≡ true → CanCheck place
+      check_here f l = let t = can.helpers f helpers.NotNull (helpers.Throws NullReceiver) l (at_front (helpers.Throws NullReceiver) []) in let g = z.home (a_helper helpers.NotNull) in record {
+        check = function_there g (helper_name helpers.NotNull) checking_code.parameters checking_code.body (helper_there f helpers.NotNull l);
+        failure = function_there (z.home (a_helper (helpers.Throws NullReceiver))) (helper_name (helpers.Throws NullReceiver)) [] (failing_code (codes "java.lang.NullPointerException") (codes "null")).body (helper_there g (helpers.Throws NullReceiver) t);
+        owned = reaches g (a_helper (helpers.Throws NullReceiver)) t;
+        held = λ y s u same. same.tops g (a_helper (helpers.Throws NullReceiver)) t;
+        reaches = reaches (z.home (a_helper (helpers.Throws NullReceiver)));
+        built = (can.exceptions f l).1;
+        made = (can.exceptions f l).0;
+      }
+
+      divide_here : (f : Name) (o : BinaryOp) → (z.has (z.home (a_helper (division_helper o)))).helper (helper_name (helpers.Throws Division)) ≡ true → HelperStands place (division_helper o) (division_code o) → divides (z.has f) o ≡ true → CanDivide place o
+      divide_here f o t stands d = let g = z.home (a_helper (division_helper o)) in record {
+        division = stands;
+        failure = function_there (z.home (a_helper (helpers.Throws Division))) (helper_name (helpers.Throws Division)) [] (failing_code (codes "java.lang.ArithmeticException") (codes "/ by zero")).body (helper_there g (helpers.Throws Division) t);
+        owned = reaches g (a_helper (helpers.Throws Division)) t;
+        held = λ y s u same. same.tops g (a_helper (helpers.Throws Division)) t;
+        reaches = reaches (z.home (a_helper (helpers.Throws Division)));
+        built = (can.divisions f o d).1;
+        made = (can.divisions f o d).0;
+      }
+
+      throws_too : (f : Name) (h : Helper) → (z.has f).helper (helper_name h) ≡ true → Contains (used_helpers h) (helpers.Throws Division) → (z.has (z.home (a_helper h))).helper (helper_name (helpers.Throws Division)) ≡ true
+      throws_too f h l u = can.helpers f h (helpers.Throws Division) l u
+
+      divided_here : (f : Name) (o : BinaryOp) → divides (z.has f) o ≡ true → CanDivide place o
+      divided_here f IntDivide l = divide_here f IntDivide (throws_too f helpers.IntQuotient l (at_front (helpers.Throws Division) [])) (function_there (z.home (a_helper helpers.IntQuotient)) (helper_name helpers.IntQuotient) (division_code IntDivide).parameters (division_code IntDivide).body (helper_there f helpers.IntQuotient l)) l
+      divided_here f IntRemainder l = divide_here f IntRemainder (throws_too f helpers.IntRemainder l (at_front (helpers.Throws Division) [])) (function_there (z.home (a_helper helpers.IntRemainder)) (helper_name helpers.IntRemainder) (division_code IntRemainder).parameters (division_code IntRemainder).body (helper_there f helpers.IntRemainder l)) l
+      divided_here f LongDivide l = divide_here f LongDivide (throws_too f helpers.LongQuotient l (at_front (helpers.Throws Division) [])) (function_there (z.home (a_helper helpers.LongQuotient)) (helper_name helpers.LongQuotient) (division_code LongDivide).parameters (division_code LongDivide).body (helper_there f helpers.LongQuotient l)) l
+      divided_here f LongRemainder l = divide_here f LongRemainder (throws_too f helpers.LongRemainder l (at_front (helpers.Throws Division) [])) (function_there (z.home (a_helper helpers.LongRemainder)) (helper_name helpers.LongRemainder) (division_code LongRemainder).parameters (division_code LongRemainder).body (helper_there f helpers.LongRemainder l)) l
+      divided_here f _ l = impossible l
+
+      box_here : (f : Name) → can_box (z.has f) ≡ true → BoxStands place
+      box_here f l = let g = z.home (a_helper helpers.BoxedChar) in let u = can.helpers f helpers.BoxedChar (helpers.ConstantsOf kinds.Char) l (at_front (helpers.ConstantsOf kinds.Char) []) in record {
+        members_are = members_there g (helper_name helpers.BoxedChar) (box_constructor ∷ []) (helper_item can.ancestors helpers.BoxedChar) class_alone (helper_there f helpers.BoxedChar l);
+        reached = reaches g (a_helper (helpers.ConstantsOf kinds.Char)) u;
+        user = g;
+        usable = u;
+      }
+
+      pub has_objects : HasObjects place
+      has_objects = record { linked = linked_here; received = runs_here; built = constructs_here; made = made_here; objects = object_here; field = field_here; statics = static_here; checked = check_here; divided = divided_here; boxes = box_here; each = omega arith; beyond = omega arith }
+
+    -- the state behind the declarations
+    module _ (t : js.State) (hold : AllHold z.program t 0 (all_items z)) where
+      held_in : (f : Name) (i : Item) → Contains (all_items z) (placed f i) → (k : ℕ) × Holds z.program t k f i
+      held_in f i h = held_among z.program t (all_items z) 0 hold (placed f i) h
+
+      -- nothing is made, and what stands on the heap is the emitted code's own
+      abbrev pub begun : World
+      begun = record { place = λ i. None; owned = λ a. slice_get t.heap a; pending = λ a. None }
+
+      none_there : {A : Type 0} (o : A) → None ≡ Some o → ⊥
+      none_there o e = cc
+
+      heaps_begin : SameHeap place begun [] t.heap
+      heaps_begin = record {
+        objects = λ i a e. absurd (none_there a e);
+        differ = λ i j a e g. absurd (none_there a e);
+        owned = λ a o e. e;
+        pending = λ a o e. absurd (none_there o e);
+        apart = λ i a o e g. none_there a e;
+        unborn = λ i a o e g. none_there a e;
+        separate = λ a o b e g. none_there b g;
+      }
+
+      class_held : (c : Name) (cs : List Name) → ChainDeclared z (c ∷ cs) → t.tops (z.home (a_class c)) (class_name c) ≡ js.holds false (js.class (map (link_of place) (c ∷ cs)))
+      class_held _ _ (declared.extends_none c k) = (held_in (z.home (a_class c)) (class_item_of c None (its_members c None k)) k.class).1
+      class_held _ _ (declared.extends_one c d ds k to rest) =
+          let h = (held_in (z.home (a_class c)) (class_item_of c (Some d) (its_members c (Some d) k)) k.class).1 in
+          let from : h.from ≡ z.home (a_class d) = some_same h.from (z.home (a_class d)) (sym h.owned ∙ to) in
+          h.held ∙ ap (λ ls. js.holds false (js.class (link (z.home (a_class c)) (class_name c) ∷ ls))) (same_classes h.above (map (link_of place) (d ∷ ds)) (sym h.held_above ∙ ap (λ g. t.tops g (class_name d)) from ∙ class_held d ds rest))
+
+      constants_held : (c : Name) (superclass : Option Name) (k : ClassDeclared z c superclass) → HoldsConstants begun.owned c (t.tops (z.home (some_constants c)) (constants_name c))
+      constants_held c superclass k = let h = held_in (z.home (some_constants c)) (object_item (constants_name c) (constants c k.ancestors)) k.constants in record {
+        address = h.0;
+        constants = h.1.properties;
+        held = h.1.held;
+        owned_there = h.1.there;
+        marked = marker_held c k.ancestors h.1.properties h.1.literal;
+        known = λ v. ap (λ o. object_shown o v) k.marked ∙ ap (λ (b : Bool). cond b (char_shown v) (Some (shown_ends.object_of c))) k.no_char;
+      }
+
+      first_constants : (c : Name) (cs : List Name) → ChainDeclared z (c ∷ cs) → HoldsConstants begun.owned c (t.tops (z.home (some_constants c)) (constants_name c))
+      first_constants _ _ (declared.extends_none c k) = constants_held c None k
+      first_constants _ _ (declared.extends_one c d ds k to rest) = constants_held c (Some d) k
+
+      helper_held : (h : Helper) → is_covered h ≡ true → Stands z (a_helper h) (helper_item can.ancestors h) → TopHolds place begun.owned (a_helper h) (t.tops (z.home (a_helper h)) (helper_name h))
+      helper_held (helpers.ConstantsOf kinds.Char) covered i = let h = held_in (z.home (a_helper (helpers.ConstantsOf kinds.Char))) (helper_item can.ancestors (helpers.ConstantsOf kinds.Char)) i in record { address = h.0; constants = h.1.properties; held = h.1.held; owned_there = h.1.there; marked = marker_held (codes "java.lang.Character") (can.ancestors kinds.Char) h.1.properties h.1.literal }
+      helper_held (helpers.ConstantsOf _) covered i = impossible covered
+      helper_held helpers.ArrayClass covered i = impossible covered
+      helper_held h covered i = (held_in (z.home (a_helper h)) (helper_item can.ancestors h) i).1
+
+      top_held : (f : Name) (x : Top) → is_usable (z.has f) x ≡ true → TopHolds place begun.owned x (t.tops (z.home x) (top_name x))
+      top_held f (a_function m) l = let d = can.linked f m l in (held_in (z.home (a_function m)) (member_item d) d.function).1
+      top_held f (a_method m) l = let d = can.received f m l in (held_in (z.home (a_method m)) (member_item d) d.function).1
+      top_held f (a_constructor m) l = let d = (can.built f m l).0 in (held_in (z.home (a_constructor m)) (member_item d) d.function).1
+      top_held f (a_class c) l = let k = can.made f c l in class_held c k.above k.classes ∙ ap (λ cs. js.holds false (js.class (map (link_of place) cs))) (sym k.chain)
+      top_held f (some_constants c) l = let k = can.made f c l in first_constants c k.above k.classes
+      top_held f (a_static c g k) l = tt
+      top_held f (a_setter c g k) l = let its = can.static_field f c g k l in (held_in (z.home (a_setter c g k)) (setter (setter_name c g) (static_name c g)) (subst (λ n. Stands z (a_setter c g k) (setter (setter_name c n) (static_name c n))) its.field.named its.setter)).1
+      top_held f (a_helper h) l = let k = can.helper f h l in helper_held h k.0 k.1
+
+      -- the variable of a static field holds the zero of its type
+      static_held : (f c g : Name) (k : IrType) → (z.has f).static_field c g k ≡ true → Holding begun k (ir_world.statics_in (ir_world.class_of z.classes c) g) (t.tops (z.home (a_static c g k)) (static_name c g))
+      static_held f c g k l =
+          let home = z.home (a_static c g k) in
+          let its = can.static_field f c g k l in
+          let its_zero = static_begins place can.kept c g k its.field in
+          let item = let_item (static_name c its.field.field.name) (zero_literal its.field.field.tpe) in
+          let held = (held_in home item its.variable).1 in
+          let same = some_same held.value (zero_value k) (sym held.literal ∙ ap (λ u. literal_value (zero_literal u)) its.field.typed ∙ zero_literal_is k) in
+          subst (λ o. Holding begun k o (t.tops home (static_name c g))) (sym its_zero.zero) (subst (Holding begun k (Some (ir_world.zero_of k))) (sym (ap (λ n. t.tops home (static_name c n)) (sym its.field.named) ∙ held.held ∙ ap (js.holds false) same)) (holding (ir_world.zero_of k) (zero_value k) (zero_alike begun k its_zero.values)))
+
+      pub same_begins : SameState place begun (ir_world.opening z.classes) t
+      same_begins = record { heaps = heaps_begin; tops = top_held; statics = static_held }

@@ -1,0 +1,251 @@
+-- The two files declare what their code uses.
+use Rattle.std.proofs.Common.{◌≡◌, ◌<◌, ℕ, zero, suc, Bool, true, false, List, [], ◌∷◌, Some, None, codes, refl, sym, ap, subst, ⊎_elim, inl, inr, Contains, cond, slice_get, arith}
+use Rattle.outcomes.specs.Agreement.{Agree}
+use Rattle.body_rules.proofs.Equal.{is-equal}
+use Rattle.body_rules.proofs.Lists.{nothing_in, in_front_or_behind, at_front, further_on}
+use Rattle.body_rules.proofs.RulesGive.{no_division}
+use Rattle.body_soundness.proofs.Worked.{member-same, main_right as main_right_at_all, plain, object_laws}
+use Rattle.body_soundness.specs.Laws.{null_pointer, arithmetic}
+use Rattle.body_soundness.specs.Rules.{RightMember}
+use Rattle.body_soundness.specs.Worked.{class_name, field_name, init_name, get_name, init_method, get_method, main_method, gets, gets_field, its_field, object_world, main_member, object_use}
+use Rattle.body_soundness.specs.Worked as worked
+use Rattle.built_forms.specs.Built.{Usable, members_alone, divides}
+use Rattle.declared_programs.proofs.Worked.{all_declared as declared_alone}
+use Rattle.declared_programs.specs.Declared.{alone, on_receiver, completing, is_covered}
+use Rattle.declared_programs.specs.Worked.{object_constants, object_class, its_constants, its_class, init_function, get_function, main_function}
+use Rattle.file_tops.proofs.Run.{some_same}
+use Rattle.helper_rules.specs.Helpers.{helper_name, helper_item, used_helpers}
+use Rattle.helper_rules.specs.declared.kinds.Failure.TheVariants.{NullReceiver, Division}
+use Rattle.helper_rules.specs.declared.kinds.Helper.{Helper}
+use Rattle.helper_rules.specs.declared.kinds.Helper.TheVariants.{Throws}
+use Rattle.ir_mean.specs.Meaning.{with_message}
+use Rattle.ir_mean.specs.Rows.{nowhere, object_name, object_with, main_entry, once}
+use Rattle.ir_mean.specs.Shows.{ir_shows}
+use Rattle.js_mean.specs.Shows.{js_shows}
+use Rattle.js_tree.specs.Names.{is_same_text}
+use Rattle.js_tree.specs.Terms.{Name}
+use Rattle.sj_desugar.specs.Desugar.{member}
+use Rattle.sj_emit_expr.specs.Templates.{check_name}
+use Rattle.sj_names.proofs.Same.{impossible}
+use Rattle.sj_names.specs.declared.entry_points.EntryPoint.{EntryPoint}
+use Rattle.sj_names.specs.declared.method_names.Member.{Member}
+use Rattle.sj_names.specs.declared.method_names.Namespace.TheVariants.{Private, Constructor}
+use Rattle.sj_plain.specs.Settings.{Top, a_function, a_method, a_constructor, a_class, some_constants, a_static, a_setter, a_helper, is_named, is_usable, IsField}
+use Rattle.sj_proper.specs.Emitted.{initializer_member}
+use Rattle.sj_proper.specs.Methods.{KeepsRules}
+use Rattle.sj_trees.specs.Term.{skip}
+use Rattle.sj_trees.specs.declared.classes.FieldDef.{FieldDef}
+use Rattle.sj_trees.specs.declared.operators.BinaryOp.{BinaryOp}
+use Rattle.sj_trees.specs.declared.types.IrType.{IrType}
+use Rattle.sj_trees.specs.declared.types.IrType.TheVariants.{Int, NoType}
+use Rattle.sj_world.specs.Subtypes.{equal}
+use Rattle.typing_rules.specs.Rules.{nothing_wanted, fitting, HasFieldType}
+use Rattle.declared_files.specs.Declared.{Leads, Stands, Uses, FunctionDeclared, ClassDeclared, extends_none, extends_one, MadeDeclared, StaticDeclared, Declared, IsAmong, IsPublic, IsLawful, all_items}
+use Rattle.declared_files.specs.Placed.{Placed, placed}
+use Rattle.declared_files.specs.Worked.{main_file, class_file, main_use, class_use, use_of, two_files, spread}
+use Rattle.declared_files.proofs.Whole.{files_agree}
+
+-- what holds of the code of each file, and of code that uses nothing, holds of that of any
+abbrev nothing : Usable
+nothing = members_alone (λ m. false)
+
+by_file : (P : Name → Usable → Type 0) → P main_file main_use → P class_file class_use → ((f : Name) → P f nothing) → (f : Name) → P f (use_of f)
+by_file P main class none f = go (is_same_text f main_file) refl (is_same_text f class_file) refl
+  where
+    go : (a : Bool) → is_same_text f main_file ≡ a → (b : Bool) → is_same_text f class_file ≡ b → P f (cond a main_use (cond b class_use nothing))
+    go true e b k = subst (λ x. P x main_use) (sym (is-equal f main_file e)) main
+    go false e true k = subst (λ x. P x class_use) (sym (is-equal f class_file k)) class
+    go false e false k = none f
+
+-- what each file names leads to its file
+main_leads : (t : Top) → is_named main_use t ≡ true → Leads spread main_file t
+main_leads (a_function m) h = subst (λ k. Leads spread main_file (a_function k)) (sym (member-same m main_member h)) refl
+main_leads (a_method m) h = subst (λ k. Leads spread main_file (a_method k)) (sym (member-same m (member class_name Private get_name) h)) refl
+main_leads (a_constructor m) h = subst (λ k. Leads spread main_file (a_constructor k)) (sym (member-same m (member class_name Constructor init_name) h)) refl
+main_leads (a_class c) h = subst (λ k. Leads spread main_file (a_class k)) (is-equal class_name c h) refl
+main_leads (some_constants c) h = impossible h
+main_leads (a_static c g t) h = impossible h
+main_leads (a_setter c g t) h = impossible h
+main_leads (a_helper k) h = impossible h
+
+class_leads : (t : Top) → is_named class_use t ≡ true → Leads spread class_file t
+class_leads (a_function m) h = impossible h
+class_leads (a_method m) h = impossible h
+class_leads (a_constructor m) h = impossible h
+class_leads (a_class c) h = subst (λ k. Leads spread class_file (a_class k)) (is-equal object_name c h) refl
+class_leads (some_constants c) h = impossible h
+class_leads (a_static c g t) h = impossible h
+class_leads (a_setter c g t) h = impossible h
+class_leads (a_helper k) h = impossible h
+
+nothing_leads : (f : Name) (t : Top) → is_named nothing t ≡ true → Leads spread f t
+nothing_leads f (a_function m) h = impossible h
+nothing_leads f (a_method m) h = impossible h
+nothing_leads f (a_constructor m) h = impossible h
+nothing_leads f (a_class c) h = impossible h
+nothing_leads f (some_constants c) h = impossible h
+nothing_leads f (a_static c g t) h = impossible h
+nothing_leads f (a_setter c g t) h = impossible h
+nothing_leads f (a_helper k) h = impossible h
+
+-- the field of the class
+no_place : (i : ℕ) → i < 0 → ⊥
+no_place i h = omega (arith, h)
+
+field_type : HasFieldType object_world class_name field_name false Int
+field_type = record { field = its_field; is_field = record { class = worked.its_class; is_class = refl; first = record { place = 0; stands = refl; has = record { name_is = refl; mark_is = refl }; none_before = λ i y h s k. no_place i h } }; type_is = refl }
+
+-- each member keeps the rules by what its file can use
+main_rules : KeepsRules object_world main_use object_name main_method gets
+main_rules = record { typed = (record { meets = (tt, refl, equal refl, tt); built = refl; finds = tt }, (record { meets = (refl, tt); built = refl; finds = tt }, tt), tt); yields = nothing_wanted refl; unboxed = refl; result = inl refl; values = λ x p e. impossible (cc); once = record { once = (tt, tt, λ x o i. i); parameters = tt; fresh = λ x o i. i } }
+
+abbrev main_right : RightMember object_world main_use main_member
+main_right = record { definition = main_method; its_body = gets; found = refl; has_body = refl; rules = main_rules; parameters = tt; result_is = refl }
+
+get_rules : KeepsRules object_world class_use class_name get_method gets_field
+get_rules = record { typed = (record { meets = (equal refl, field_type); built = refl; finds = tt }, record { meets = tt; built = refl; finds = (tt, refl) }); yields = fitting (equal refl); unboxed = refl; result = inr refl; values = λ x p e. impossible (cc); once = record { once = tt; parameters = tt; fresh = λ x o i. i } }
+
+abbrev get_right : RightMember object_world class_use (member class_name Private get_name)
+get_right = record { definition = get_method; its_body = gets_field; found = refl; has_body = refl; rules = get_rules; parameters = tt; result_is = refl }
+
+init_rules : KeepsRules object_world class_use class_name init_method (skip nowhere)
+init_rules = record { typed = record { meets = tt; built = refl; finds = tt }; yields = nothing_wanted refl; unboxed = refl; result = inl refl; values = λ x p e. impossible (cc); once = record { once = tt; parameters = tt; fresh = λ x o i. i } }
+
+abbrev init_right : RightMember object_world class_use (member class_name Constructor init_name)
+init_right = record { definition = init_method; its_body = skip nowhere; found = refl; has_body = refl; rules = init_rules; parameters = tt; result_is = refl }
+
+-- where each item stands
+stands_at : (ls : List Placed) (n : ℕ) (l : Placed) → slice_get ls n ≡ Some l → Contains ls l
+stands_at [] n l e = cc
+stands_at (m ∷ ms) zero l e = subst (Contains (m ∷ ms)) (some_same m l e) (at_front m ms)
+stands_at (m ∷ ms) (suc n) l e = further_on m ms l (stands_at ms n l e)
+
+stands : (n : ℕ) (l : Placed) → slice_get (all_items spread) n ≡ Some l → Contains (all_items spread) l
+stands n l e = stands_at (all_items spread) n l e
+
+-- each member has its function
+main_declared : FunctionDeclared spread (a_function main_member) alone main_member
+main_declared = record { right = main_right; runs = refl; function = stands 6 (placed main_file main_function) refl }
+
+get_declared : FunctionDeclared spread (a_method (member class_name Private get_name)) on_receiver (member class_name Private get_name)
+get_declared = record { right = get_right; runs = refl; function = stands 5 (placed class_file get_function) refl }
+
+abbrev init_declared : FunctionDeclared spread (a_constructor (member class_name Constructor init_name)) completing (member class_name Constructor init_name)
+init_declared = record { right = init_right; runs = refl; function = stands 4 (placed class_file init_function) refl }
+
+abbrev Completes : Member → Type 0
+Completes m = (b : FunctionDeclared spread (a_constructor m) completing m) × (b.right.definition.result ≡ NoType)
+
+-- each class that is made has its constants and its class
+object_declared : ClassDeclared spread object_name None
+object_declared = record {
+  user = class_file;
+  made = refl;
+  definition = object_with (main_method ∷ []);
+  found = refl;
+  fields = [];
+  own = λ f h. nothing_in f h;
+  whole = λ f h s. nothing_in f h;
+  ancestors = object_name ∷ [];
+  constants = stands 0 (placed class_file object_constants) refl;
+  leads = refl;
+  others = [];
+  class = stands 1 (placed class_file object_class) refl;
+  marked = refl;
+  no_char = refl;
+}
+
+own_field : (f : FieldDef) → Contains (its_field ∷ []) f → its_field ≡ f
+own_field f h = ⊎_elim (λ same. same) (λ none. nothing_in f none) (in_front_or_behind its_field [] f h)
+
+its_declared : ClassDeclared spread class_name (Some object_name)
+its_declared = record {
+  user = main_file;
+  made = refl;
+  definition = worked.its_class;
+  found = refl;
+  fields = its_field ∷ [];
+  own = λ f h. (h, ap (λ (x : FieldDef). x.is_static) (sym (own_field f h)));
+  whole = λ f h s. h;
+  ancestors = class_name ∷ object_name ∷ [];
+  constants = stands 2 (placed class_file its_constants) refl;
+  leads = refl;
+  others = [];
+  class = stands 3 (placed class_file its_class) refl;
+  marked = refl;
+  no_char = refl;
+}
+
+main_makes : (c : Name) → class_name ≡ c → MadeDeclared spread c
+main_makes c e = subst (MadeDeclared spread) e (record { above = object_name ∷ []; chain = refl; classes = extends_one class_name object_name [] its_declared refl (extends_none object_name object_declared) })
+
+class_makes : (c : Name) → object_name ≡ c → MadeDeclared spread c
+class_makes c e = subst (MadeDeclared spread) e (record { above = []; chain = refl; classes = extends_none object_name object_declared })
+
+pub all_declared : Declared spread
+all_declared = record {
+  leads = by_file (λ f u. (t : Top) → is_named u t ≡ true → Leads spread f t) main_leads class_leads nothing_leads;
+  linked = by_file (λ f u. (m : Member) → u.linked m ≡ true → FunctionDeclared spread (a_function m) alone m) (λ m h. subst (λ k. FunctionDeclared spread (a_function k) alone k) (sym (member-same m main_member h)) main_declared) (λ m h. impossible h) (λ f m h. impossible h);
+  received = by_file (λ f u. (m : Member) → u.received m ≡ true → FunctionDeclared spread (a_method m) on_receiver m) (λ m h. subst (λ k. FunctionDeclared spread (a_method k) on_receiver k) (sym (member-same m (member class_name Private get_name) h)) get_declared) (λ m h. impossible h) (λ f m h. impossible h);
+  built = by_file (λ f u. (m : Member) → u.built m ≡ true → Completes m) (λ m h. subst Completes (sym (member-same m (member class_name Constructor init_name) h)) (init_declared, refl)) (λ m h. impossible h) (λ f m h. impossible h);
+  made = by_file (λ f u. (c : Name) → u.made c ≡ true → MadeDeclared spread c) (λ c h. main_makes c (is-equal class_name c h)) (λ c h. class_makes c (is-equal object_name c h)) (λ f c h. impossible h);
+  field = by_file (λ f u. (c g : Name) (t : IrType) → u.field c g t ≡ true → IsField object_world c g t) (λ c g t h. impossible h) (λ c g t h. declared_alone.field c g t h) (λ f c g t h. impossible h);
+  static_field = by_file (λ f u. (c g : Name) (t : IrType) → u.static_field c g t ≡ true → StaticDeclared spread c g t) (λ c g t h. impossible h) (λ c g t h. impossible h) (λ f c g t h. impossible h);
+  kept = declared_alone.kept;
+  ancestors = λ k. [];
+  helper = by_file (λ f u. (h : Helper) → u.helper (helper_name h) ≡ true → (is_covered h ≡ true) × Stands spread (a_helper h) (helper_item (λ k. []) h)) (λ h l. impossible l) (λ h l. impossible l) (λ f h l. impossible l);
+  helpers = by_file (λ f u. (h k : Helper) → u.helper (helper_name h) ≡ true → Contains (used_helpers h) k → Uses spread (a_helper h) (a_helper k)) (λ h k l c. impossible l) (λ h k l c. impossible l) (λ f h k l c. impossible l);
+  exceptions = by_file (λ f u. u.helper check_name ≡ true → Uses spread (a_helper (Throws NullReceiver)) (a_class null_pointer) × Uses spread (a_helper (Throws NullReceiver)) (a_constructor (member null_pointer Constructor with_message))) (λ h. impossible h) (λ h. impossible h) (λ f h. impossible h);
+  divisions = by_file (λ f u. (o : BinaryOp) → divides u o ≡ true → Uses spread (a_helper (Throws Division)) (a_class arithmetic) × Uses spread (a_helper (Throws Division)) (a_constructor (member arithmetic Constructor with_message))) (λ o h. no_division main_use (λ x. refl) o h) (λ o h. no_division class_use (λ x. refl) o h) (λ f o h. no_division nothing (λ x. refl) o h);
+}
+
+-- what each file can use can be used of the classes
+main_among : (t : Top) → is_usable main_use t ≡ true → is_usable object_use t ≡ true
+main_among (a_function m) h = h
+main_among (a_method m) h = h
+main_among (a_constructor m) h = h
+main_among (a_class c) h = subst (λ k. object_use.made k ≡ true) (is-equal class_name c h) refl
+main_among (some_constants c) h = subst (λ k. object_use.made k ≡ true) (is-equal class_name c h) refl
+main_among (a_static c g t) h = impossible h
+main_among (a_setter c g t) h = impossible h
+main_among (a_helper k) h = impossible h
+
+class_among : (t : Top) → is_usable class_use t ≡ true → is_usable object_use t ≡ true
+class_among (a_function m) h = impossible h
+class_among (a_method m) h = impossible h
+class_among (a_constructor m) h = impossible h
+class_among (a_class c) h = subst (λ k. object_use.made k ≡ true) (is-equal object_name c h) refl
+class_among (some_constants c) h = subst (λ k. object_use.made k ≡ true) (is-equal object_name c h) refl
+class_among (a_static c g t) h = impossible h
+class_among (a_setter c g t) h = impossible h
+class_among (a_helper k) h = impossible h
+
+none_among : (t : Top) → is_usable nothing t ≡ true → is_usable object_use t ≡ true
+none_among (a_function m) h = impossible h
+none_among (a_method m) h = impossible h
+none_among (a_constructor m) h = impossible h
+none_among (a_class c) h = impossible h
+none_among (some_constants c) h = impossible h
+none_among (a_static c g t) h = impossible h
+none_among (a_setter c g t) h = impossible h
+none_among (a_helper k) h = impossible h
+
+pub lawful : IsLawful spread object_use
+lawful = record {
+  among = by_file (λ f u. IsAmong u object_use) (record { tops = main_among; fields = λ c g t h. impossible h }) (record { tops = class_among; fields = λ c g t h. h }) (λ f. record { tops = none_among; fields = λ c g t h. impossible h });
+  objects = object_laws;
+  linked = λ m h. subst (RightMember object_world object_use) (sym (member-same m main_member h)) main_right_at_all;
+}
+
+pub is_public : IsPublic spread (codes "main") once
+is_public = record {
+  last = refl;
+  order = refl;
+  good = refl;
+  items = refl;
+  declares = refl;
+  linked = λ e i. ⊎_elim (λ same. subst (λ (x : EntryPoint). main_use.linked (initializer_member x) ≡ true) same refl) (λ none. nothing_in e none) (in_front_or_behind main_entry [] e i);
+}
+
+pub gets_alike : Agree (ir_shows object_world once (codes "main")) (js_shows two_files (codes "main"))
+gets_alike = files_agree spread object_use once (codes "main") plain is_public all_declared lawful

@@ -1,0 +1,142 @@
+-- What the code of bodies can use in a world, as the items of several files declare it.
+use Rattle.std.specs.Prelude.{◌≡◌, ℕ, true, false, List, [], ◌∷◌, ◌++◌, map, Option, Some, None, codes}
+use Rattle.std.specs.List.{Contains, list_all}
+use Rattle.body_soundness.specs.Laws.{ObjectLaws, null_pointer, arithmetic}
+use Rattle.body_soundness.specs.Rules.{RightMember}
+use Rattle.built_forms.specs.Built.{Usable, divides}
+use Rattle.declared_programs.specs.Declared.{Running, alone, on_receiver, completing, running, is_covered, FieldsAreKept}
+use Rattle.helper_rules.specs.Helpers.{Above, helper_name, helper_item, used_helpers}
+use Rattle.helper_rules.specs.Words.{marker}
+use Rattle.helper_rules.specs.declared.kinds.Failure.TheVariants.{NullReceiver, Division}
+use Rattle.helper_rules.specs.declared.kinds.Helper.{Helper}
+use Rattle.helper_rules.specs.declared.kinds.Helper.TheVariants.{Throws}
+use Rattle.ir_mean.specs.Dispatch.{chain_of}
+use Rattle.ir_mean.specs.Meaning.{with_message}
+use Rattle.ir_mean.specs.World.{World, class_of}
+use Rattle.js_mean.specs.Files.{module_among, items_in, is_good_file, owner, running_order}
+use Rattle.js_mean.specs.Shows.{class_marked, file_of}
+use Rattle.js_mean.specs.States.{Program}
+use Rattle.js_tree.specs.Terms.{Name, Item, Member, constructor_of}
+use Rattle.js_tree.specs.Views.{statements_of}
+use Rattle.piece_rules.specs.Pieces.{constants_piece, class_item_of, constructor_body, variable_piece, setter_piece}
+use Rattle.sj_desugar.specs.Desugar.{desugared_member, member}
+use Rattle.sj_emit_expr.specs.Members.{member_piece}
+use Rattle.sj_emit_expr.specs.Templates.{check_name}
+use Rattle.sj_names.specs.Same.{is_same_text}
+use Rattle.sj_names.specs.declared.entry_points.EntryPoint.{EntryPoint}
+use Rattle.sj_names.specs.declared.method_names.Member.{Member as MemberName}
+use Rattle.sj_names.specs.declared.method_names.Namespace.TheVariants.{Constructor}
+use Rattle.sj_plain.specs.Settings.{Top, a_function, a_method, a_constructor, a_class, some_constants, a_static, a_setter, a_helper, top_name, is_usable, is_named, IsField, IsStaticField}
+use Rattle.sj_proper.specs.Emitted.{initializer_member, call_item_of}
+use Rattle.sj_trees.specs.declared.classes.ClassDef.{ClassDef}
+use Rattle.sj_trees.specs.declared.classes.FieldDef.{FieldDef}
+use Rattle.sj_trees.specs.declared.operators.BinaryOp.{BinaryOp}
+use Rattle.sj_trees.specs.declared.types.IrType.{IrType}
+use Rattle.sj_trees.specs.declared.types.IrType.TheVariants.{NoType}
+use Rattle.declared_files.specs.Placed.{Placed, placed, items_until, declare}
+
+-- the classes, the program, the file of each binding at a top, what the code of each file can use; and the files that declare it: some that run in front of the last, and
+-- the declarations of the last
+pub record Spread : Type 0 where
+  pub classes : World
+  pub program : Program
+  pub home : Top → Name
+  pub has : Name → Usable
+  pub front : List Name
+  pub last : Name
+  pub declared : List Item
+
+abbrev pub all_items : Spread → List Placed
+all_items z = items_until z.program z.front z.last z.declared
+
+-- the name of the binding leads from this file to the file of the binding
+abbrev pub Leads : Spread → Name → Top → Type 0
+Leads z f t = owner z.program f (top_name t) ≡ Some (z.home t)
+
+-- the code of the file of the one binding can use the other
+abbrev pub Uses : Spread → Top → Top → Type 0
+Uses z t u = is_usable (z.has (z.home t)) u ≡ true
+
+-- the item stands in the file of the binding
+abbrev pub Stands : Spread → Top → Item → Type 0
+Stands z t i = Contains (all_items z) (placed (z.home t) i)
+
+-- a member with a body that keeps the rules by what its file can use, which runs so, and its function
+pub record FunctionDeclared (z : Spread) (t : Top) (r : Running) (m : MemberName) : Type 0 where
+  pub right : RightMember z.classes (z.has (z.home t)) m
+  pub runs : running right.definition.namespace ≡ r
+  pub function : Stands z t (member_piece m (desugared_member right.definition right.its_body)).item
+
+-- a class whose objects the code of some file can make, its constants, to which its file leads, and its class with the constructor of its own fields, which extends
+-- this one, if there is one
+pub record ClassDeclared (z : Spread) (c : Name) (superclass : Option Name) : Type 0 where
+  pub user : Name
+  pub made : (z.has user).made c ≡ true
+  pub definition : ClassDef
+  pub found : class_of z.classes c ≡ Some definition
+  pub fields : List FieldDef
+  pub own : (f : FieldDef) → Contains fields f → Contains definition.fields f × (f.is_static ≡ false)
+  pub whole : (f : FieldDef) → Contains definition.fields f → f.is_static ≡ false → Contains fields f
+  pub ancestors : List Name
+  pub constants : Stands z (some_constants c) (constants_piece c ancestors).item
+  pub leads : Leads z (z.home (a_class c)) (some_constants c)
+  pub others : List Member
+  pub class : Stands z (a_class c) (class_item_of c superclass (constructor_of [] (statements_of (constructor_body c superclass fields)) ∷ others))
+  pub marked : class_marked (marker c) ≡ Some c
+  pub no_char : is_same_text c (codes "java.lang.Character") ≡ false
+
+-- each class of a chain with the one that it extends, to which its file leads
+pub data ChainDeclared (z : Spread) : List Name → Type 0 where
+  extends_none : (c : Name) → ClassDeclared z c None → ChainDeclared z (c ∷ [])
+  extends_one : (c d : Name) (ds : List Name) → ClassDeclared z c (Some d) → Leads z (z.home (a_class c)) (a_class d) → ChainDeclared z (d ∷ ds) → ChainDeclared z (c ∷ d ∷ ds)
+
+pub record MadeDeclared (z : Spread) (c : Name) : Type 0 where
+  pub above : List Name
+  pub chain : chain_of z.classes c ≡ c ∷ above
+  pub classes : ChainDeclared z (c ∷ above)
+
+-- a static field of the class, its variable, which begins at the zero of its type, and in the same file the function that sets it
+pub record StaticDeclared (z : Spread) (c f : Name) (t : IrType) : Type 0 where
+  pub field : IsStaticField z.classes c f t
+  pub variable : Stands z (a_static c f t) (variable_piece c field.field).item
+  pub setter : Stands z (a_setter c f t) (setter_piece c field.field).item
+  pub beside : z.home (a_static c f t) ≡ z.home (a_setter c f t)
+  pub leads : Leads z (z.home (a_setter c f t)) (a_static c f t)
+
+-- all that the code of some file can use is declared, and its file leads to what it names: each member as it runs, a constructor without a value; each class that is
+-- made; each field and each static field; and each helper, whose file can use those that it uses, and that of a failure the exception of it
+pub record Declared (z : Spread) : Type 0 where
+  pub leads : (f : Name) (t : Top) → is_named (z.has f) t ≡ true → Leads z f t
+  pub linked : (f : Name) (m : MemberName) → (z.has f).linked m ≡ true → FunctionDeclared z (a_function m) alone m
+  pub received : (f : Name) (m : MemberName) → (z.has f).received m ≡ true → FunctionDeclared z (a_method m) on_receiver m
+  pub built : (f : Name) (m : MemberName) → (z.has f).built m ≡ true → (b : FunctionDeclared z (a_constructor m) completing m) × (b.right.definition.result ≡ NoType)
+  pub made : (f c : Name) → (z.has f).made c ≡ true → MadeDeclared z c
+  pub field : (f c g : Name) (t : IrType) → (z.has f).field c g t ≡ true → IsField z.classes c g t
+  pub static_field : (f c g : Name) (t : IrType) → (z.has f).static_field c g t ≡ true → StaticDeclared z c g t
+  pub kept : FieldsAreKept z.classes
+  pub ancestors : Above
+  pub helper : (f : Name) (h : Helper) → (z.has f).helper (helper_name h) ≡ true → (is_covered h ≡ true) × Stands z (a_helper h) (helper_item ancestors h)
+  pub helpers : (f : Name) (h k : Helper) → (z.has f).helper (helper_name h) ≡ true → Contains (used_helpers h) k → Uses z (a_helper h) (a_helper k)
+  pub exceptions : (f : Name) → (z.has f).helper check_name ≡ true → Uses z (a_helper (Throws NullReceiver)) (a_class null_pointer) × Uses z (a_helper (Throws NullReceiver)) (a_constructor (member null_pointer Constructor with_message))
+  pub divisions : (f : Name) (o : BinaryOp) → divides (z.has f) o ≡ true → Uses z (a_helper (Throws Division)) (a_class arithmetic) × Uses z (a_helper (Throws Division)) (a_constructor (member arithmetic Constructor with_message))
+
+-- what can be used is among what can be used of the classes at all
+pub record IsAmong (has all : Usable) : Type 0 where
+  pub tops : (t : Top) → is_usable has t ≡ true → is_usable all t ≡ true
+  pub fields : (c f : Name) (t : IrType) → has.field c f t ≡ true → all.field c f t ≡ true
+
+-- the public module of this id: its file runs behind these files, all of them good, and calls these initializers behind what it declares; and each class is declared
+-- behind the one that it extends
+pub record IsPublic (z : Spread) (id : List ℕ) (es : List EntryPoint) : Type 0 where
+  pub last : z.last ≡ file_of id
+  pub order : running_order z.program z.last ≡ z.front ++ z.last ∷ []
+  pub good : list_all (is_good_file z.program) (running_order z.program z.last) ≡ true
+  pub items : items_in (module_among z.program z.last) ≡ z.declared ++ map call_item_of es
+  pub declares : declare z.program [] (all_items z) ≡ true
+  pub linked : (e : EntryPoint) → Contains es e → (z.has z.last).linked (initializer_member e) ≡ true
+
+-- what the code of the files can use is among this; of it the classes have what the laws on objects ask, and members that keep the rules by it
+pub record IsLawful (z : Spread) (all : Usable) : Type 0 where
+  pub among : (f : Name) → IsAmong (z.has f) all
+  pub objects : ObjectLaws z.classes all
+  pub linked : (m : MemberName) → all.linked m ≡ true → RightMember z.classes all m
