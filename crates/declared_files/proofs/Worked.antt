@@ -1,4 +1,4 @@
--- The two files declare what their code uses.
+-- The three files declare what their code uses.
 use Rattle.std.proofs.Common.{◌≡◌, ◌<◌, ℕ, zero, suc, Bool, true, false, List, [], ◌∷◌, Some, None, codes, refl, sym, ap, subst, ⊎_elim, inl, inr, Contains, cond, slice_get, arith}
 use Rattle.outcomes.specs.Agreement.{Agree}
 use Rattle.body_rules.proofs.Equal.{is-equal}
@@ -42,7 +42,7 @@ use Rattle.sj_world.specs.Subtypes.{equal}
 use Rattle.typing_rules.specs.Rules.{nothing_wanted, fitting, HasFieldType}
 use Rattle.declared_files.specs.Declared.{Leads, Stands, Uses, FunctionDeclared, ClassDeclared, extends_none, extends_one, MadeDeclared, StaticDeclared, Declared, IsAmong, IsPublic, IsLawful, all_items}
 use Rattle.declared_files.specs.Placed.{Placed, placed}
-use Rattle.declared_files.specs.Worked.{main_file, class_file, main_use, class_use, use_of, two_files, spread}
+use Rattle.declared_files.specs.Worked.{main_file, class_file, object_file, main_use, class_use, use_of, three_files, spread}
 use Rattle.declared_files.proofs.Whole.{files_agree}
 
 -- what holds of the code of each file, and of code that uses nothing, holds of that of any
@@ -147,10 +147,10 @@ object_declared = record {
   own = λ f h. nothing_in f h;
   whole = λ f h s. nothing_in f h;
   ancestors = object_name ∷ [];
-  constants = stands 0 (placed class_file object_constants) refl;
+  constants = stands 0 (placed object_file object_constants) refl;
   leads = refl;
   others = [];
-  class = stands 1 (placed class_file object_class) refl;
+  class = stands 1 (placed object_file object_class) refl;
   marked = refl;
   no_char = refl;
 }
@@ -247,5 +247,5 @@ is_public = record {
   linked = λ e i. ⊎_elim (λ same. subst (λ (x : EntryPoint). main_use.linked (initializer_member x) ≡ true) same refl) (λ none. nothing_in e none) (in_front_or_behind main_entry [] e i);
 }
 
-pub gets_alike : Agree (ir_shows object_world once (codes "main")) (js_shows two_files (codes "main"))
+pub gets_alike : Agree (ir_shows object_world once (codes "main")) (js_shows three_files (codes "main"))
 gets_alike = files_agree spread object_use once (codes "main") plain is_public all_declared lawful

@@ -1,4 +1,4 @@
--- The worked world with objects, `new A().get()`, as two files: one has the class, and the other has `main` and calls it.
+-- The worked world with objects, `new A().get()`, as three files: one has `java.lang.Object`, one has the class, and one has `main` and calls it.
 use Rattle.std.specs.Prelude.{List, [], ◌∷◌, map, codes, false, true, ◌&&◌, if◌then◌else◌, Some}
 use Rattle.body_soundness.specs.Worked.{class_name, field_name, init_name, get_name, object_world, main_member, is_member}
 use Rattle.built_forms.specs.Built.{Usable, members_alone}
@@ -7,10 +7,10 @@ use Rattle.ir_mean.specs.Rows.{object_name, once}
 use Rattle.js_mean.specs.Shows.{file_of}
 use Rattle.js_mean.specs.States.{Program}
 use Rattle.js_tree.specs.Names.{is_same_text}
-use Rattle.js_tree.specs.Terms.{Name, Item, Module}
+use Rattle.js_tree.specs.Terms.{Name, Module}
 use Rattle.sj_desugar.specs.Desugar.{member}
 use Rattle.sj_names.specs.declared.method_names.Namespace.TheVariants.{Private, Constructor}
-use Rattle.sj_plain.specs.Settings.{Top, a_function}
+use Rattle.sj_plain.specs.Settings.{Top, a_function, a_class, some_constants}
 use Rattle.sj_proper.specs.Emitted.{call_item_of}
 use Rattle.sj_trees.specs.SameTypes.{is_same_type}
 use Rattle.sj_trees.specs.declared.types.IrType.TheVariants.{Int}
@@ -22,21 +22,28 @@ main_file = file_of (codes "main")
 abbrev pub class_file : Name
 class_file = file_of (codes "class")
 
+abbrev pub object_file : Name
+object_file = file_of (codes "object")
+
+-- what the class names: the one that it extends
+abbrev pub names_of_object : List Name
+names_of_object = codes "c_java_lang_Object" ∷ []
+
 -- what `main` names: the class, its constructor, and its method
 abbrev pub names_of_class : List Name
 names_of_class = codes "c_A" ∷ codes "ct_A__$3cinit$3e$$V" ∷ codes "p_A__get$$I" ∷ []
 
-abbrev pub class_items : List Item
-class_items = object_constants ∷ object_class ∷ its_constants ∷ its_class ∷ init_function ∷ get_function ∷ []
+abbrev pub object_module : Module
+object_module = record { imports = []; items = object_constants ∷ object_class ∷ []; exports = names_of_object }
 
 abbrev pub class_module : Module
-class_module = record { imports = []; items = class_items; exports = names_of_class }
+class_module = record { imports = record { names = names_of_object; file = object_file } ∷ []; items = its_constants ∷ its_class ∷ init_function ∷ get_function ∷ []; exports = names_of_class }
 
 abbrev pub main_module : Module
 main_module = record { imports = record { names = names_of_class; file = class_file } ∷ []; items = main_function ∷ map call_item_of once; exports = [] }
 
-abbrev pub two_files : Program
-two_files = record { file = main_file; content = Some main_module } ∷ record { file = class_file; content = Some class_module } ∷ []
+abbrev pub three_files : Program
+three_files = record { file = main_file; content = Some main_module } ∷ record { file = class_file; content = Some class_module } ∷ record { file = object_file; content = Some object_module } ∷ []
 
 -- what the code of each file can use
 abbrev pub main_use : Usable
@@ -66,10 +73,15 @@ class_use = record {
 abbrev pub use_of : Name → Usable
 use_of f = if is_same_text f main_file then main_use else (if is_same_text f class_file then class_use else members_alone (λ m. false))
 
--- `main` is in its own file, and all else in that of the class
+-- `main` is in its own file, `java.lang.Object` with its constants too, and all else in that of the class
+abbrev pub file_of_class : Name → Name
+file_of_class c = if is_same_text c object_name then object_file else class_file
+
 abbrev pub home_of : Top → Name
 home_of (a_function m) = main_file
+home_of (a_class c) = file_of_class c
+home_of (some_constants c) = file_of_class c
 home_of t = class_file
 
 abbrev pub spread : Spread
-spread = record { classes = object_world; program = two_files; home = home_of; has = use_of; front = class_file ∷ []; last = main_file; declared = main_function ∷ [] }
+spread = record { classes = object_world; program = three_files; home = home_of; has = use_of; front = object_file ∷ class_file ∷ []; last = main_file; declared = main_function ∷ [] }

@@ -9,7 +9,7 @@ ghost use Rattle.body_soundness.specs.Worked.{object_world, object_use};
 ghost use Rattle.built_forms.specs.Built.{Usable};
 ghost use Rattle.declared_files.specs.Declared.{Spread, Declared, IsPublic, IsLawful};
 ghost use Rattle.declared_files.specs.Placed.{DeclarationsOfFilesHold, FilesDeclareInOrder, FilesRunLast};
-ghost use Rattle.declared_files.specs.Worked.{two_files, spread};
+ghost use Rattle.declared_files.specs.Worked.{three_files, spread};
 ghost use Rattle.ir_mean.specs.Rows.{once};
 ghost use Rattle.ir_mean.specs.Shows.{initializers, ir_shows};
 ghost use Rattle.js_mean.specs.Shows.{js_shows};
@@ -43,13 +43,13 @@ pub fn declared_files_agree()
     ensures { (z : Spread) (all : Usable) (entries : List EntryPoint) (id : List ℕ) → IsPlain z.classes → IsPublic z id (initializers entries id) → Declared z → IsLawful z all → Agree (ir_shows z.classes entries id) (js_shows z.program id) }
 {}
 
-/// The premises can be met by two files: one has a class, the other makes an object of it and calls a method on it that gives its field. They declare what the code of each
-/// uses, and show what the classes show. They end within the bound 3, as the one file of the same classes does.
+/// The premises can be met by three files: one has a class that extends that of another, and the last makes an object of it and calls a method on it that gives its field. They
+/// declare what the code of each uses, and show what the classes show. They end within the bound 3, as the one file of the same classes does.
 pub fn worked_program_of_files()
     ensures declared { Declared spread }
     ensures public { IsPublic spread (codes "main") once }
     ensures lawful { IsLawful spread object_use }
-    ensures agrees { Agree (ir_shows object_world once (codes "main")) (js_shows two_files (codes "main")) }
-    ensures files_within_2 { js_shows two_files (codes "main") 2 ≡ record { lines = []; end = Going } }
-    ensures files_within_3 { js_shows two_files (codes "main") 3 ≡ record { lines = []; end = Done normal } }
+    ensures agrees { Agree (ir_shows object_world once (codes "main")) (js_shows three_files (codes "main")) }
+    ensures files_within_2 { js_shows three_files (codes "main") 2 ≡ record { lines = []; end = Going } }
+    ensures files_within_3 { js_shows three_files (codes "main") 3 ≡ record { lines = []; end = Done normal } }
 {}
