@@ -97,19 +97,19 @@ field_type = record { field = its_field; is_field = record { class = worked.its_
 
 -- each member keeps the rules by what its file can use
 main_rules : KeepsRules object_world main_use object_name main_method gets
-main_rules = record { typed = (record { meets = (tt, refl, equal refl, tt); built = refl; finds = tt }, (record { meets = (refl, tt); built = refl; finds = tt }, tt), tt); yields = nothing_wanted refl; unboxed = refl; result = inl refl; values = λ x p e. impossible (cc); once = record { once = (tt, tt, λ x o i. i); parameters = tt; fresh = λ x o i. i } }
+main_rules = record { typed = (record { meets = (tt, refl, equal refl, tt); built = refl; finds = tt }, (record { meets = (refl, tt); built = refl; finds = tt }, tt), tt); yields = nothing_wanted refl; boxed = refl; result = inl refl; values = λ x p e. impossible (cc); once = record { once = (tt, tt, λ x o i. i); parameters = tt; fresh = λ x o i. i } }
 
 abbrev main_right : RightMember object_world main_use main_member
 main_right = record { definition = main_method; its_body = gets; found = refl; has_body = refl; rules = main_rules; parameters = tt; result_is = refl }
 
 get_rules : KeepsRules object_world class_use class_name get_method gets_field
-get_rules = record { typed = (record { meets = (equal refl, field_type); built = refl; finds = tt }, record { meets = tt; built = refl; finds = (tt, refl) }); yields = fitting (equal refl); unboxed = refl; result = inr refl; values = λ x p e. impossible (cc); once = record { once = tt; parameters = tt; fresh = λ x o i. i } }
+get_rules = record { typed = (record { meets = (equal refl, field_type); built = refl; finds = tt }, record { meets = tt; built = refl; finds = (tt, refl) }); yields = fitting (equal refl); boxed = refl; result = inr refl; values = λ x p e. impossible (cc); once = record { once = tt; parameters = tt; fresh = λ x o i. i } }
 
 abbrev get_right : RightMember object_world class_use (member class_name Private get_name)
 get_right = record { definition = get_method; its_body = gets_field; found = refl; has_body = refl; rules = get_rules; parameters = tt; result_is = refl }
 
 init_rules : KeepsRules object_world class_use class_name init_method (skip nowhere)
-init_rules = record { typed = record { meets = tt; built = refl; finds = tt }; yields = nothing_wanted refl; unboxed = refl; result = inl refl; values = λ x p e. impossible (cc); once = record { once = tt; parameters = tt; fresh = λ x o i. i } }
+init_rules = record { typed = record { meets = tt; built = refl; finds = tt }; yields = nothing_wanted refl; boxed = refl; result = inl refl; values = λ x p e. impossible (cc); once = record { once = tt; parameters = tt; fresh = λ x o i. i } }
 
 abbrev init_right : RightMember object_world class_use (member class_name Constructor init_name)
 init_right = record { definition = init_method; its_body = skip nowhere; found = refl; has_body = refl; rules = init_rules; parameters = tt; result_is = refl }
