@@ -7,16 +7,13 @@ cd "$(dirname "${BASH_SOURCE[0]}")"
 out="$(mktemp -d)"
 trap 'rm -rf "$out"' EXIT
 
-mkdir "$out/classes"
-for listing in listings/*.listing; do
-  ../../sjsir.sh make "$listing" "$out/classes/$(basename "$listing" .listing).sjsir"
-done
+../make.sh listings "$out/classes"
 ../../sjslink.sh link --optimize off entries "$out" "$out/classes"
 
-# The program ends by an exception that nothing catches.
+# The program ends by an exception that nothing catches; node names its class.
 if command -v node > /dev/null; then
   cp "$out/1/main.js" "$out/main.mjs"
-  node "$out/main.mjs" 2> "$out/thrown" || grep -o 'c_java_lang_NullPointerException\|NullPointerException' "$out/thrown" | head -n 1
+  node "$out/main.mjs" 2> "$out/thrown" || grep -o -m 1 'c_java_lang_NullPointerException' "$out/thrown"
 else
   cat "$out/1/main.js"
 fi

@@ -6,9 +6,5 @@ cd "$(dirname "${BASH_SOURCE[0]}")"
 out="$(mktemp -d)"
 trap 'rm -rf "$out"' EXIT
 
-mkdir "$out/classes"
-for listing in listings/*.listing; do
-  name="$(basename "$listing" .listing)"
-  ../../sjsir.sh make "$listing" "$out/classes/$name.sjsir"
-done
+../make.sh listings "$out/classes"
 ../../sjsir.sh print "$out"/classes/*.sjsir

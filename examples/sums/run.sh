@@ -7,19 +7,11 @@ cd "$(dirname "${BASH_SOURCE[0]}")"
 out="$(mktemp -d)"
 trap 'rm -rf "$out"' EXIT
 
-# make FROM INTO: makes the class files of the listings of a folder.
-make() {
-  mkdir -p "$2"
-  for listing in "$1"/*.listing; do
-    ../../sjsir.sh make "$listing" "$2/$(basename "$listing" .listing).sjsir"
-  done
-}
-
-make first "$out/classes-1"
+../make.sh first "$out/classes-1"
 cp -R "$out/classes-1" "$out/classes-2"
-make second "$out/classes-2"
+../make.sh second "$out/classes-2"
 cp -R "$out/classes-2" "$out/classes-3"
-make third "$out/classes-3"
+../make.sh third "$out/classes-3"
 
 # The last folder is refused, so the run ends with status 1.
 status=0
