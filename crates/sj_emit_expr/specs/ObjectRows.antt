@@ -1,8 +1,10 @@
 -- Methods with objects, and the functions that are written for them.
-use Rattle.std.specs.Prelude.{ℕ, true, false, List, [], ◌∷◌, pos, codes, Some, None}
+use Rattle.std.specs.Prelude.{ℕ, true, false, List, [], ◌∷◌, pos, codes, Some, None, if◌then◌else◌}
 use Rattle.js_tree.specs.Terms.{Piece}
 use Rattle.sj_desugar.specs.Desugar.{desugared_member}
 use Rattle.sj_emit_expr.specs.Members.{member_piece}
+use Rattle.sj_names.specs.Same.{is_same_text}
+use Rattle.sj_names.specs.declared.method_names.Member.{Member}
 use Rattle.sj_names.specs.declared.method_names.MethodName.{MethodName}
 use Rattle.sj_names.specs.declared.method_names.Namespace.{Namespace}
 use Rattle.sj_names.specs.declared.method_names.Namespace.TheVariants.{Public, PublicStatic, Private, PrivateStatic, Constructor}
@@ -47,9 +49,13 @@ field e = select nowhere e a_name (codes "f") Types.Int
 abbrev pub this : Term
 this = this_ref nowhere a_class
 
--- the piece of a method of the class A with this body
+-- the piece of a method of the class A with this body, by what a call of a member on a receiver runs
+abbrev pub piece_by : (Member → Member) → Namespace → MethodName → List ParamDef → IrType → Term → Piece
+piece_by target n m params result body = member_piece target (record { class = a_name; namespace = n; method = m }) (desugared_member (record { pos = nowhere; namespace = n; name = m; params = params; result = result; body = Some body; hash = None }) body)
+
+-- the same where each member is its own target
 abbrev pub piece : Namespace → MethodName → List ParamDef → IrType → Term → Piece
-piece n m params result body = member_piece (record { class = a_name; namespace = n; method = m }) (desugared_member (record { pos = nowhere; namespace = n; name = m; params = params; result = result; body = Some body; hash = None }) body)
+piece = piece_by (λ m. m)
 
 abbrev pub block : List Term → Term
 block ts = block_of nowhere (all ts)
@@ -88,3 +94,13 @@ others_piece = piece PublicStatic (named (codes "others") (TypeRef.Class a_name 
   where
     static : Term
     static = select_static nowhere a_name (codes "s") Types.Int
+
+-- a public method of a class that inherits it: the function that is called is that of the class A, and behind it one whose target is its own
+abbrev pub inherited : Member → Member
+inherited m = if is_same_text m.class (codes "B") then record m { class = a_name } else m
+
+abbrev pub called_piece : Piece
+called_piece = piece_by inherited PublicStatic (named (codes "called") (TypeRef.Class a_name ∷ []) TypeRef.Void) (param (codes "q") a_class ∷ []) Types.NoType (block (call (codes "B") ∷ call (codes "C") ∷ []))
+  where
+    call : List ℕ → Term
+    call c = apply_statically nowhere (use_of (codes "q") a_class) c Public (named (codes "m") [] TypeRef.Void) no_terms Types.NoType

@@ -11,5 +11,5 @@ use Rattle.sj_names.specs.declared.method_names.Member.{Member}
 abbrev pub function_piece : Member → List Name → Statements → List Binding → Piece
 function_piece m params body used = record { owner = m.class; name = member_name m; uses = used; item = function_item (member_name m) params body }
 
-abbrev pub piece_of : Member → Method → Piece
-piece_of m c = function_piece m (parameter_names c.params) (body_template c) (uses c.body)
+abbrev pub piece_of : (Member → Member) → Member → Method → Piece
+piece_of target m c = function_piece m (parameter_names c.params) (body_template target c) (uses target c.body)

@@ -20,8 +20,8 @@ abbrev pub piece_of : MethodDef → Term → Piece
 piece_of d e = record {
   owner = codes "A";
   name = member_name (record { class = codes "A"; namespace = d.namespace; method = d.name });
-  uses = uses (desugared d e).body;
-  item = function_item (member_name (record { class = codes "A"; namespace = d.namespace; method = d.name })) (parameter_names (names_of d.params)) (body_template (desugared d e));
+  uses = uses (λ m. m) (desugared d e).body;
+  item = function_item (member_name (record { class = codes "A"; namespace = d.namespace; method = d.name })) (parameter_names (names_of d.params)) (body_template (λ m. m) (desugared d e));
 }
 
 abbrev pub p_use : Term

@@ -139,8 +139,8 @@ abbrev pub choice_template : js.Expression → js.Statements → js.Statements �
 choice_template c ss js.no_statements = if_only c ss
 choice_template c ss (js.statement t ts) = if_else c ss (js.statement t ts)
 
--- for any names of variables and labels
-module _ (name : Variable → Name) (label : List ℕ → Name) where
+-- for any names of variables and labels, and for what a call of a member on a receiver runs
+module _ (name : Variable → Name) (label : List ℕ → Name) (target : Member → Member) where
   abbrev mutual
     pub expression_template : core.Expression → js.Expression
     expression_template undefined_value = undefined_literal
@@ -159,7 +159,7 @@ module _ (name : Variable → Name) (label : List ℕ → Name) where
     expression_template (static_of c f) = name_use (static_name c f)
     expression_template (checked_value e) = call_of check_name (js.expression (expression_template e) js.no_expressions)
     expression_template (made_of m es) = call_of (member_name m) (js.expression (new_of (class_name m.class) js.no_expressions) (expression_templates es))
-    expression_template (receiver_call m e es) = call_of (member_name m) (js.expression (expression_template e) (expression_templates es))
+    expression_template (receiver_call m e es) = call_of (member_name (target m)) (js.expression (expression_template e) (expression_templates es))
     expression_template (core.unary_of o e) = unary_template o (expression_template e)
     expression_template (core.binary_of o e g) = binary_template (is_nonzero_literal g) o (expression_template e) (expression_template g)
 
@@ -200,5 +200,5 @@ abbrev pub parameter_names : List (List ℕ) → List Name
 parameter_names [] = []
 parameter_names (x ∷ xs) = variable_name (core.named x) ∷ parameter_names xs
 
-abbrev pub body_template : Method → js.Statements
-body_template m = statement_templates variable_name label_name m.body
+abbrev pub body_template : (Member → Member) → Method → js.Statements
+body_template target m = statement_templates variable_name label_name target m.body

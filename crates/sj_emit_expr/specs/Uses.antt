@@ -32,54 +32,56 @@ helper_of false LongDivide = object_binding (codes "$ld") ∷ []
 helper_of false LongRemainder = object_binding (codes "$lm") ∷ []
 helper_of _ _ = []
 
-abbrev mutual
-  -- each use in the order of the text
-  pub uses_in : Expression → List Binding
-  uses_in (boxed_char e) = object_binding (codes "$C") ∷ uses_in e
-  uses_in (char_text e) = uses_in e
-  uses_in (value_text e) = uses_in e
-  uses_in (choice_of c e g) = uses_in c ++ uses_in e ++ uses_in g
-  uses_in (static_call m es) = function_binding m ∷ uses_in_all es
-  uses_in (field_of e c f) = uses_in e
-  uses_in (static_of c f) = static_use c f ∷ []
-  uses_in (checked_value e) = object_binding check_name ∷ uses_in e
-  uses_in (made_of m es) = function_binding m ∷ class_use m.class ∷ uses_in_all es
-  uses_in (receiver_call m e es) = function_binding m ∷ uses_in e ++ uses_in_all es
-  uses_in (unary_of o e) = uses_in e
-  uses_in (binary_of o e g) = helper_of (is_nonzero_literal g) o ++ uses_in e ++ uses_in g
-  uses_in _ = []
+-- by what a call of a member on a receiver runs
+module _ (target : Member → Member) where
+  abbrev mutual
+    -- each use in the order of the text
+    pub uses_in : Expression → List Binding
+    uses_in (boxed_char e) = object_binding (codes "$C") ∷ uses_in e
+    uses_in (char_text e) = uses_in e
+    uses_in (value_text e) = uses_in e
+    uses_in (choice_of c e g) = uses_in c ++ uses_in e ++ uses_in g
+    uses_in (static_call m es) = function_binding m ∷ uses_in_all es
+    uses_in (field_of e c f) = uses_in e
+    uses_in (static_of c f) = static_use c f ∷ []
+    uses_in (checked_value e) = object_binding check_name ∷ uses_in e
+    uses_in (made_of m es) = function_binding m ∷ class_use m.class ∷ uses_in_all es
+    uses_in (receiver_call m e es) = function_binding (target m) ∷ uses_in e ++ uses_in_all es
+    uses_in (unary_of o e) = uses_in e
+    uses_in (binary_of o e g) = helper_of (is_nonzero_literal g) o ++ uses_in e ++ uses_in g
+    uses_in _ = []
 
-  pub uses_in_all : Expressions → List Binding
-  uses_in_all no_expressions = []
-  uses_in_all (expression e es) = uses_in e ++ uses_in_all es
+    pub uses_in_all : Expressions → List Binding
+    uses_in_all no_expressions = []
+    uses_in_all (expression e es) = uses_in e ++ uses_in_all es
 
-abbrev mutual
-  pub uses_of : Statement → List Binding
-  uses_of (constant_of p x e) = uses_in e
-  uses_of (define_of p x e) = uses_in e
-  uses_of (declare_of p x) = []
-  uses_of (assign_to p x e) = uses_in e
-  uses_of (evaluate_of p e) = uses_in e
-  uses_of (return_of p e) = uses_in e
-  uses_of (log_of p e) = uses_in e
-  uses_of (assign_field p e c f g) = uses_in e ++ uses_in g
-  uses_of (assign_static p c f e) = setter_use c f ∷ uses_in e
-  uses_of (throw_of p e) = uses_in e
-  uses_of (leave_label p l) = []
-  uses_of (break_nearest p) = []
-  uses_of (if_of p c ss ts) = uses_in c ++ uses_of_all ss ++ uses_of_all ts
-  uses_of (while_of p c ss) = uses_in c ++ uses_of_all ss
-  uses_of (loop_of p ss) = uses_of_all ss
-  uses_of (labeled_of p l ss) = uses_of_all ss
-  uses_of (switch_of p e cs ss) = uses_in e ++ uses_of_cases cs ++ uses_of_all ss
+  abbrev mutual
+    pub uses_of : Statement → List Binding
+    uses_of (constant_of p x e) = uses_in e
+    uses_of (define_of p x e) = uses_in e
+    uses_of (declare_of p x) = []
+    uses_of (assign_to p x e) = uses_in e
+    uses_of (evaluate_of p e) = uses_in e
+    uses_of (return_of p e) = uses_in e
+    uses_of (log_of p e) = uses_in e
+    uses_of (assign_field p e c f g) = uses_in e ++ uses_in g
+    uses_of (assign_static p c f e) = setter_use c f ∷ uses_in e
+    uses_of (throw_of p e) = uses_in e
+    uses_of (leave_label p l) = []
+    uses_of (break_nearest p) = []
+    uses_of (if_of p c ss ts) = uses_in c ++ uses_of_all ss ++ uses_of_all ts
+    uses_of (while_of p c ss) = uses_in c ++ uses_of_all ss
+    uses_of (loop_of p ss) = uses_of_all ss
+    uses_of (labeled_of p l ss) = uses_of_all ss
+    uses_of (switch_of p e cs ss) = uses_in e ++ uses_of_cases cs ++ uses_of_all ss
 
-  pub uses_of_all : Statements → List Binding
-  uses_of_all no_statements = []
-  uses_of_all (statement s ss) = uses_of s ++ uses_of_all ss
+    pub uses_of_all : Statements → List Binding
+    uses_of_all no_statements = []
+    uses_of_all (statement s ss) = uses_of s ++ uses_of_all ss
 
-  pub uses_of_cases : Cases → List Binding
-  uses_of_cases no_cases = []
-  uses_of_cases (switch_case ks ss cs) = uses_of_all ss ++ uses_of_cases cs
+    pub uses_of_cases : Cases → List Binding
+    uses_of_cases no_cases = []
+    uses_of_cases (switch_case ks ss cs) = uses_of_all ss ++ uses_of_cases cs
 
 abbrev pub is_same_binding : Binding → Binding → Bool
 is_same_binding a b = pointwise nat_eq a.owner b.owner && pointwise nat_eq a.name b.name
@@ -89,5 +91,5 @@ abbrev pub once_each : List Binding → List Binding → List Binding
 once_each seen [] = []
 once_each seen (b ∷ bs) = if list_any (is_same_binding b) seen then once_each seen bs else (b ∷ once_each (b ∷ seen) bs)
 
-abbrev pub uses : Statements → List Binding
-uses ss = once_each [] (uses_of_all ss)
+abbrev pub uses : (Member → Member) → Statements → List Binding
+uses target ss = once_each [] (uses_of_all target ss)

@@ -42,3 +42,11 @@ returns-clause-sum_uses c = refl
 pub returns-clause-others_uses : goal.returns-clause-others_uses
 unfolding put digits
 returns-clause-others_uses c = refl
+
+pub returns-clause-called : goal.returns-clause-called
+unfolding put digits
+returns-clause-called c = refl
+
+pub returns-clause-called_uses : goal.returns-clause-called_uses
+unfolding put digits
+returns-clause-called_uses c = refl

@@ -1,0 +1,31 @@
+-- Targets as the meaning of the IR works them out, as a world has them, and as emission finds them.
+use Rattle.std.specs.Prelude.{◌≡◌, List, Option, Some, None, Result, Ok}
+use Rattle.emit_questions.specs.Task.{Emitted, emitted, emit_task}
+use Rattle.ir_mean.specs.Dispatch.{Found, resolved}
+use Rattle.sj_ask.specs.Answers.{IsAnswer}
+use Rattle.sj_ask.specs.Apart.{Exchange}
+use Rattle.sj_ask.specs.Runs.{Comes}
+use Rattle.sj_ask.specs.Stands.{Stand}
+use Rattle.sj_core.specs.Terms.{Method}
+use Rattle.sj_names.specs.declared.method_names.Member.{Member}
+use Rattle.sj_names.specs.declared.method_names.MethodName.{MethodName}
+use Rattle.sj_world.specs.Known.{Name, Classes}
+use Rattle.sj_world.specs.Resolution.{Answer, target, abstract, missing, Resolves}
+use Rattle.dispatch_laws.specs.Targets.{target_in, IsTargetOf}
+
+abbrev pub found_by : Answer → Option Found
+found_by (target d owner) = Some (record { owner = owner; method = d })
+found_by abstract = None
+found_by missing = None
+
+-- what a call resolves to in a world is what the meaning of the IR works out
+abbrev pub TargetsAreWorkedOut : Type 0
+TargetsAreWorkedOut = (w : Classes) (c : Name) (m : MethodName) (r : Answer) → Resolves w c m r → resolved w c m ≡ found_by r
+
+-- the target of a member is what the IR runs where the member is called
+abbrev pub TargetsRun : Type 0
+TargetsRun = (w : Classes) (k : Member) → IsTargetOf w k (target_in w k)
+
+-- what emission comes to by the answers of a world is the emitted function by the targets of that world
+abbrev pub EmissionFindsTargets : Type 0
+EmissionFindsTargets = {E : Type 0} (s : Stand) (m : Method) (e : Emitted) (log : List Exchange) → Comes {E = E} (IsAnswer s) (emit_task m) (Ok e) log → e ≡ emitted (target_in s.classes) m

@@ -1,0 +1,22 @@
+//! Which method a call runs: as a world resolves it, as the meaning of the IR works it out, and as the emission of the call finds it.
+//!
+//! The functions here are laws: they do nothing when they run, and their clauses are theorems.
+#![tactic(auto)]
+
+ghost use Rattle.dispatch_laws.specs.Laws.{TargetsAreWorkedOut, TargetsRun, EmissionFindsTargets};
+
+/// What a public method name resolves to for a class of a world is what the meaning of the IR works out for it: the nearest body on the chain of
+/// superclasses, else the least of the interfaces above with a body that no other overrides.
+pub fn targets_are_worked_out()
+    ensures { TargetsAreWorkedOut }
+{}
+
+/// Where a member is called on a receiver, the IR runs the body of its target, in a class at or above its own.
+pub fn targets_run()
+    ensures { TargetsRun }
+{}
+
+/// Emission by the answers of a world gives the function whose calls run the targets of that world.
+pub fn emission_finds_targets()
+    ensures { EmissionFindsTargets }
+{}

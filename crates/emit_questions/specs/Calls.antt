@@ -1,0 +1,62 @@
+-- The calls of a body whose targets have to be asked for.
+use Rattle.std.specs.Prelude.{List, [], ◌∷◌, ◌++◌}
+use Rattle.sj_core.specs.Terms.{Expression, boxed_char, char_text, value_text, choice_of, static_call, field_of, checked_value, made_of, receiver_call, unary_of, binary_of, Expressions, no_expressions, expression, Statement, constant_of, define_of, declare_of, assign_to, evaluate_of, return_of, log_of, assign_field, assign_static, throw_of, leave_label, break_nearest, if_of, while_of, loop_of, labeled_of, switch_of, Statements, no_statements, statement, Cases, no_cases, switch_case}
+use Rattle.sj_names.specs.declared.method_names.Member.{Member}
+use Rattle.sj_names.specs.declared.method_names.Namespace.{Namespace}
+use Rattle.sj_names.specs.declared.method_names.Namespace.TheVariants.{Public}
+
+-- a public member may be one that the class inherits; another is the class's own
+abbrev pub if_public : Namespace → Member → List Member
+if_public Public m = m ∷ []
+if_public _ m = []
+
+abbrev pub own_call : Member → List Member
+own_call m = if_public m.namespace m
+
+abbrev mutual
+  -- the public members that are called on receivers, in the order of the text: those in the receiver and in the arguments before the call
+  pub calls_in : Expression → List Member
+  calls_in (boxed_char e) = calls_in e
+  calls_in (char_text e) = calls_in e
+  calls_in (value_text e) = calls_in e
+  calls_in (choice_of c e g) = calls_in c ++ calls_in e ++ calls_in g
+  calls_in (static_call m es) = calls_in_all es
+  calls_in (field_of e c f) = calls_in e
+  calls_in (checked_value e) = calls_in e
+  calls_in (made_of m es) = calls_in_all es
+  calls_in (receiver_call m e es) = calls_in e ++ calls_in_all es ++ own_call m
+  calls_in (unary_of o e) = calls_in e
+  calls_in (binary_of o e g) = calls_in e ++ calls_in g
+  calls_in _ = []
+
+  pub calls_in_all : Expressions → List Member
+  calls_in_all no_expressions = []
+  calls_in_all (expression e es) = calls_in e ++ calls_in_all es
+
+abbrev mutual
+  pub calls_of : Statement → List Member
+  calls_of (constant_of p x e) = calls_in e
+  calls_of (define_of p x e) = calls_in e
+  calls_of (declare_of p x) = []
+  calls_of (assign_to p x e) = calls_in e
+  calls_of (evaluate_of p e) = calls_in e
+  calls_of (return_of p e) = calls_in e
+  calls_of (log_of p e) = calls_in e
+  calls_of (assign_field p e c f g) = calls_in e ++ calls_in g
+  calls_of (assign_static p c f e) = calls_in e
+  calls_of (throw_of p e) = calls_in e
+  calls_of (leave_label p l) = []
+  calls_of (break_nearest p) = []
+  calls_of (if_of p c ss ts) = calls_in c ++ calls_of_all ss ++ calls_of_all ts
+  calls_of (while_of p c ss) = calls_in c ++ calls_of_all ss
+  calls_of (loop_of p ss) = calls_of_all ss
+  calls_of (labeled_of p l ss) = calls_of_all ss
+  calls_of (switch_of p e cs ss) = calls_in e ++ calls_of_cases cs ++ calls_of_all ss
+
+  pub calls_of_all : Statements → List Member
+  calls_of_all no_statements = []
+  calls_of_all (statement s ss) = calls_of s ++ calls_of_all ss
+
+  pub calls_of_cases : Cases → List Member
+  calls_of_cases no_cases = []
+  calls_of_cases (switch_case ks ss cs) = calls_of_all ss ++ calls_of_cases cs
