@@ -28,4 +28,4 @@ TargetsRun = (w : Classes) (k : Member) → IsTargetOf w k (target_in w k)
 
 -- what emission comes to by the answers of a world is the emitted function by the targets of that world
 abbrev pub EmissionFindsTargets : Type 0
-EmissionFindsTargets = {E : Type 0} (s : Stand) (m : Method) (e : Emitted) (log : List Exchange) → Comes {E = E} (IsAnswer s) (emit_task m) (Ok e) log → e ≡ emitted (target_in s.classes) m
+EmissionFindsTargets = (E : Type 0) (s : Stand) (m : Method) (e : Emitted) (log : List Exchange) → Comes {E = E} (IsAnswer s) (emit_task m) (Ok e) log → e ≡ emitted (target_in s.classes) m
