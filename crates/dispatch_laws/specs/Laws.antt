@@ -7,6 +7,7 @@ use Rattle.sj_ask.specs.Apart.{Exchange}
 use Rattle.sj_ask.specs.Runs.{Comes}
 use Rattle.sj_ask.specs.Stands.{Stand}
 use Rattle.sj_core.specs.Terms.{Method}
+use Rattle.sj_names.specs.declared.memory.NoMemory.{NoMemory}
 use Rattle.sj_names.specs.declared.method_names.Member.{Member}
 use Rattle.sj_names.specs.declared.method_names.MethodName.{MethodName}
 use Rattle.sj_world.specs.Known.{Name, Classes}
@@ -28,4 +29,4 @@ TargetsRun = (w : Classes) (k : Member) → IsTargetOf w k (target_in w k)
 
 -- what emission comes to by the answers of a world is the emitted function by the targets of that world
 abbrev pub EmissionFindsTargets : Type 0
-EmissionFindsTargets = (E : Type 0) (s : Stand) (m : Method) (e : Emitted) (log : List Exchange) → Comes {E = E} (IsAnswer s) (emit_task m) (Ok e) log → e ≡ emitted (target_in s.classes) m
+EmissionFindsTargets = (s : Stand) (m : Method) (e : Emitted) (log : List Exchange) → Comes {E = NoMemory} (IsAnswer s) (emit_task m) (Ok e) log → e ≡ emitted (target_in s.classes) m
