@@ -21,6 +21,7 @@ not_bare c free = go (is_bare (Class c)) refl
 pub laws_of : (w : Classes) (has : Usable) → ObjectWorld w has → ObjectLaws w has
 laws_of w has h = record {
   received = h.received;
+  targets = h.targets;
   built = h.built;
   once = h.once;
   made = λ c m. not_bare c (h.made c m).0;

@@ -89,6 +89,7 @@ no_receivers linked (calls m h) = impossible h
 pub nothing_asked : (w : World) (linked : Member → Bool) → ObjectLaws w (members_alone linked)
 nothing_asked w linked = record {
   received = λ m h. impossible h;
+  targets = λ m h. impossible h;
   built = λ m h. impossible h;
   once = λ r m d e f b. no_receivers linked r;
   made = λ c h. impossible h;

@@ -7,7 +7,7 @@ use Rattle.std.specs.Cmp.Lexicographic.{pointwise}
 use Rattle.std.specs.List.{list_any}
 use Rattle.std.specs.Ordering.{int_eq}
 use Rattle.outcomes.specs.Outcome.{Lines, End, Done, Going, Wrong, Out, then_do, after}
-use Rattle.ir_mean.proofs.TargetsFound.{target_found}
+use Rattle.dispatch_laws.proofs.OwnTargets.{own_target}
 use Rattle.ir_mean.specs.Dispatch.{chain_of}
 use Rattle.ir_mean.specs.Meaning as ir_meaning
 use Rattle.ir_mean.specs.Operators.{Answer, unary_value, binary_value}
@@ -15,10 +15,11 @@ use Rattle.ir_mean.specs.States as ir
 use Rattle.sure_receivers.specs.Sure.{is_sure_type, is_sure, Definition, definitions, definitions_in, definitions_of_cases, sure_locals}
 use Rattle.body_soundness.proofs.Heaps.{get-end, get-front, not-past, get-set, get-set_other}
 use Rattle.body_soundness.proofs.Sured.{Sured, sured-parts, sure-named, body-sured}
+use Rattle.dispatch_laws.specs.Targets.{IsTargetOf}
 use Rattle.body_soundness.specs.Laws.{HasReceivers, reads, calls, null_pointer, arithmetic, ObjectLaws}
 use Rattle.ir_mean.specs.World.{World, class_of, method_among, method_in, member_of, zeros_in, zero_of, new_fields}
 use Rattle.sj_desugar.specs.Desugar.{member, has_no_value}
-use Rattle.sj_emit_expr.specs.Templates.{check_name}
+use Rattle.sj_emit_expr.specs.Templates.{check_name, called_member}
 use Rattle.sj_desugar.specs.Plain.{is_no_type}
 use Rattle.sj_names.specs.Same.{is_same_text, is_same_namespace, is_same_method}
 use Rattle.sj_names.specs.declared.method_names.MethodName.{MethodName}
@@ -490,8 +491,8 @@ module _ (w : World) (law : IsSubtyping (IsSub w)) (has : Usable) where
   new_parts : (c : List ℕ) (m : MethodName) → (has.made c && has.built (member c Constructor m)) ≡ true → (has.made c ≡ true) × (has.built (member c Constructor m) ≡ true)
   new_parts c m h = and_parts (has.made c) (has.built (member c Constructor m)) h
 
-  received_parts : (e : Term) (c : List ℕ) (n : Namespace) (m : MethodName) (s : Scene) → (has.received (member c n m) && may_check has s.sure e) ≡ true → (has.received (member c n m) ≡ true) × (may_check has s.sure e ≡ true)
-  received_parts e c n m s h = and_parts (has.received (member c n m)) (may_check has s.sure e) h
+  received_parts : (e : Term) (c : List ℕ) (n : Namespace) (m : MethodName) (s : Scene) → (has.received (called_member has.target n (member c n m)) && may_check has s.sure e) ≡ true → (has.received (called_member has.target n (member c n m)) ≡ true) × (may_check has s.sure e ≡ true)
+  received_parts e c n m s h = and_parts (has.received (called_member has.target n (member c n m))) (may_check has s.sure e) h
 
   constructor_there : (c : List ℕ) (m : MethodName) (t : IrType) → (has.built (member c Constructor m) && is_no_type t) ≡ true → has.built (member c Constructor m) ≡ true
   constructor_there c m t h = (and_parts (has.built (member c Constructor m)) (is_no_type t) h).0
@@ -809,8 +810,8 @@ module _ (w : World) (law : IsSubtyping (IsSub w)) (has : Usable) where
     called_on d v vs env st n = refl
 
     -- a call on a receiver
-    received_right : (c : List ℕ) (n : Namespace) (m : MethodName) → RightMember w has (member c n m) → (s : Scene) (t own : IrType) → t ≡ call_type m.result → IsSub w own (class_type c) → (k : Classes) (v : ir.Value) → GivesType k v own → Full v → (y : Classes) → Adds k y → (vs : List ir.Value) (env : ir.Env) (st : ir.State) → ValuesFit y vs m.params → Ready y (frame_of s) s.locals env st → Right y s t (ir_meaning.call_on w low (ir_meaning.static_target w c n m) (v ∷ vs) env st)
-    received_right c n m l s t own is sub k v g full y b vs env st q i = subst (λ (o : Out ir.Ended). Right y s t o) (sym (ap (λ (d : Option MethodDef). ir_meaning.call_on w low d (v ∷ vs) env st) (target_found w c n m l.definition l.its_body l.has_body l.found) ∙ called_on (Some l.definition) v vs env st full ∙ ap (λ (d : Option MethodDef). ir_meaning.call low d (Some v) vs env st) (sym l.found))) (call_right laws low right (member c n m) l s t is y vs q (Some v) (λ r. holds_object v c (type-lift (IsSub w) law k y b v (class_type c) (operand-type k v own (class_type c) g sub (value-not (class_type c) (class_has_value c)))) full) env st i)
+    received_right : (c : List ℕ) (n : Namespace) (m : MethodName) (o : Member) → RightMember w has o → IsTargetOf w (member c n m) o → (s : Scene) (t own : IrType) → t ≡ call_type m.result → IsSub w own (class_type c) → (k : Classes) (v : ir.Value) → GivesType k v own → Full v → (y : Classes) → Adds k y → (vs : List ir.Value) (env : ir.Env) (st : ir.State) → ValuesFit y vs m.params → Ready y (frame_of s) s.locals env st → Right y s t (ir_meaning.call_on w low (ir_meaning.static_target w c n m) (v ∷ vs) env st)
+    received_right c n m o l its s t own is sub k v g full y b vs env st q i = subst (λ (e : Out ir.Ended). Right y s t e) (sym (ap (λ (d : Option MethodDef). ir_meaning.call_on w low d (v ∷ vs) env st) (its.runs l.definition l.its_body l.has_body l.found) ∙ called_on (Some l.definition) v vs env st full ∙ ap (λ (d : Option MethodDef). ir_meaning.call low d (Some v) vs env st) (sym l.found))) (call_right laws low right o l s t (is ∙ ap (λ (f : MethodName). call_type f.result) (sym its.method)) y vs (subst (λ (f : MethodName). ValuesFit y vs f.params) (sym its.method) q) (Some v) (λ r. holds_object v o.class (type-lift (IsSub w) law k y b v (class_type o.class) (operand-type k v own (class_type o.class) g (law.further own (class_type c) (class_type o.class) sub its.above) (value-not (class_type o.class) (class_has_value o.class)))) full) env st i)
 
     -- a definition: the local is in scope behind it
     definition_right : (p : Position) (x : List ℕ) (t : IrType) (b : Bool) (e : Term) → TreeRight e → (s : Scene) → InScope (frame_of s) s.locals → Typed w has s (var_def p x t b e) → Fresh s (Own (var_def p x t b e)) → Sures s (definitions (var_def p x t b e)) → (at : Classes) (env : ir.Env) (st : ir.State) → Ready at (frame_of s) s.locals env st → Comes (CameRight at s (record { name = x; «mutable» = b; tpe = t } ∷ s.locals) NoType) (step (var_def p x t b e) env st).end
@@ -905,9 +906,9 @@ module _ (w : World) (law : IsSubtyping (IsSub w)) (has : Usable) where
       tree_right (throw p e) = λ s v h fresh u at env st i. operand_right e at s Nothing Any ir_meaning.throw_value env st (tree_right e s v h.1 fresh u at env st i) h.0.meets (value-not Any refl) (λ y b a env st k i. threw y a env st (adds-refl y) k i)
       tree_right (new_object p c m ts) = λ s v h fresh u at env st i. let its = new_parts c m h.0.built in arguments_right ts m.params s (class_type c) v h.0.meets.1 h.0.finds h.1 fresh u at (ir_meaning.construct w low c m) env st i (λ y b vs env st k i. construct_right c m its.0 its.1 s y vs k env st i)
       tree_right (select p e c f t) = λ s v h fresh u at env st i. let its = and_parts (has.field c f t) (may_check has s.sure e) h.0.built in go_on_both at s s.locals (type_of_term e) s.locals t Full (ir_meaning.receiving w (is_sure env.sure e) low (step e) env st) (λ a. ir_meaning.in_order [] (λ vs. ir_meaning.select_field c f (a ∷ vs))) (receiver_right (reads c f t its.0) e s h.1 (check_there e s its.1) at env st i (tree_right e s v h.1 fresh u at env st i)) (λ y b a env st g n i. field_right y s c f t a env st its.0 (operand-type y a (type_of_term e) (class_type c) g h.0.meets.0 (value-not (class_type c) (class_has_value c))) n i)
-      tree_right (apply_statically p e c Namespace.Private m ts t) = λ s v h fresh u at env st i. let its = received_parts e c Namespace.Private m s h.0.built in let parts = sures-parts s (definitions e) (definitions_in ts) u in go_on_both at s s.locals (type_of_term e) s.locals t Full (ir_meaning.receiving w (is_sure env.sure e) low (step e) env st) (λ a. ir_meaning.in_order (ir_meaning.operands w low ts) (λ vs. ir_meaning.call_on w low (ir_meaning.static_target w c Namespace.Private m) (a ∷ vs))) (receiver_right (calls (member c Namespace.Private m) its.0) e s h.1 (check_there e s its.1) at env st i (tree_right e s v h.1 (λ x o. fresh x (inl o)) parts.0 at env st i)) (λ y b a env st g n i. arguments_right ts m.params s t v h.0.meets.3 h.0.finds h.2 (λ x o. fresh x (inr o)) parts.1 y (λ vs. ir_meaning.call_on w low (ir_meaning.static_target w c Namespace.Private m) (a ∷ vs)) env st i (λ z d vs env st k i. received_right c Namespace.Private m (laws.received (member c Namespace.Private m) its.0) s t (type_of_term e) h.0.meets.1 h.0.meets.2 y a g n z d vs env st k i))
-      tree_right (apply_statically p e c Namespace.Public m ts t) = λ s v h fresh u at env st i. let its = received_parts e c Namespace.Public m s h.0.built in let parts = sures-parts s (definitions e) (definitions_in ts) u in go_on_both at s s.locals (type_of_term e) s.locals t Full (ir_meaning.receiving w (is_sure env.sure e) low (step e) env st) (λ a. ir_meaning.in_order (ir_meaning.operands w low ts) (λ vs. ir_meaning.call_on w low (ir_meaning.static_target w c Namespace.Public m) (a ∷ vs))) (receiver_right (calls (member c Namespace.Public m) its.0) e s h.1 (check_there e s its.1) at env st i (tree_right e s v h.1 (λ x o. fresh x (inl o)) parts.0 at env st i)) (λ y b a env st g n i. arguments_right ts m.params s t v h.0.meets.3 h.0.finds h.2 (λ x o. fresh x (inr o)) parts.1 y (λ vs. ir_meaning.call_on w low (ir_meaning.static_target w c Namespace.Public m) (a ∷ vs)) env st i (λ z d vs env st k i. received_right c Namespace.Public m (laws.received (member c Namespace.Public m) its.0) s t (type_of_term e) h.0.meets.1 h.0.meets.2 y a g n z d vs env st k i))
-      tree_right (apply_statically p e c Constructor m ts t) = λ s v h fresh u at env st i. let parts = sures-parts s (definitions e) (definitions_in ts) u in go_on_both at s s.locals (type_of_term e) s.locals t Full (ir_meaning.receiving w (is_sure env.sure e) low (step e) env st) (λ a. ir_meaning.in_order (ir_meaning.operands w low ts) (λ vs. ir_meaning.call_on w low (member_of w c Constructor m) (a ∷ vs))) (own_right e s h.0.meets.0 h.1 at env st i) (λ y b a env st g n i. arguments_right ts m.params s t v h.0.meets.3 h.0.finds h.2 (λ x o. fresh x (inr o)) parts.1 y (λ vs. ir_meaning.call_on w low (member_of w c Constructor m) (a ∷ vs)) env st i (λ z d vs env st k i. received_right c Constructor m (laws.built (member c Constructor m) (constructor_there c m t h.0.built)) s t (type_of_term e) h.0.meets.1 h.0.meets.2 y a g n z d vs env st k i))
+      tree_right (apply_statically p e c Namespace.Private m ts t) = λ s v h fresh u at env st i. let its = received_parts e c Namespace.Private m s h.0.built in let parts = sures-parts s (definitions e) (definitions_in ts) u in go_on_both at s s.locals (type_of_term e) s.locals t Full (ir_meaning.receiving w (is_sure env.sure e) low (step e) env st) (λ a. ir_meaning.in_order (ir_meaning.operands w low ts) (λ vs. ir_meaning.call_on w low (ir_meaning.static_target w c Namespace.Private m) (a ∷ vs))) (receiver_right (calls (member c Namespace.Private m) its.0) e s h.1 (check_there e s its.1) at env st i (tree_right e s v h.1 (λ x o. fresh x (inl o)) parts.0 at env st i)) (λ y b a env st g n i. arguments_right ts m.params s t v h.0.meets.3 h.0.finds h.2 (λ x o. fresh x (inr o)) parts.1 y (λ vs. ir_meaning.call_on w low (ir_meaning.static_target w c Namespace.Private m) (a ∷ vs)) env st i (λ z d vs env st k i. received_right c Namespace.Private m (member c Namespace.Private m) (laws.received (member c Namespace.Private m) its.0) (own_target w (member c Namespace.Private m)) s t (type_of_term e) h.0.meets.1 h.0.meets.2 y a g n z d vs env st k i))
+      tree_right (apply_statically p e c Namespace.Public m ts t) = λ s v h fresh u at env st i. let its = received_parts e c Namespace.Public m s h.0.built in let parts = sures-parts s (definitions e) (definitions_in ts) u in go_on_both at s s.locals (type_of_term e) s.locals t Full (ir_meaning.receiving w (is_sure env.sure e) low (step e) env st) (λ a. ir_meaning.in_order (ir_meaning.operands w low ts) (λ vs. ir_meaning.call_on w low (ir_meaning.static_target w c Namespace.Public m) (a ∷ vs))) (receiver_right (calls (has.target (member c Namespace.Public m)) its.0) e s h.1 (check_there e s its.1) at env st i (tree_right e s v h.1 (λ x o. fresh x (inl o)) parts.0 at env st i)) (λ y b a env st g n i. arguments_right ts m.params s t v h.0.meets.3 h.0.finds h.2 (λ x o. fresh x (inr o)) parts.1 y (λ vs. ir_meaning.call_on w low (ir_meaning.static_target w c Namespace.Public m) (a ∷ vs)) env st i (λ z d vs env st k i. received_right c Namespace.Public m (has.target (member c Namespace.Public m)) (laws.received (has.target (member c Namespace.Public m)) its.0) (laws.targets (member c Namespace.Public m) its.0) s t (type_of_term e) h.0.meets.1 h.0.meets.2 y a g n z d vs env st k i))
+      tree_right (apply_statically p e c Constructor m ts t) = λ s v h fresh u at env st i. let parts = sures-parts s (definitions e) (definitions_in ts) u in go_on_both at s s.locals (type_of_term e) s.locals t Full (ir_meaning.receiving w (is_sure env.sure e) low (step e) env st) (λ a. ir_meaning.in_order (ir_meaning.operands w low ts) (λ vs. ir_meaning.call_on w low (member_of w c Constructor m) (a ∷ vs))) (own_right e s h.0.meets.0 h.1 at env st i) (λ y b a env st g n i. arguments_right ts m.params s t v h.0.meets.3 h.0.finds h.2 (λ x o. fresh x (inr o)) parts.1 y (λ vs. ir_meaning.call_on w low (member_of w c Constructor m) (a ∷ vs)) env st i (λ z d vs env st k i. received_right c Constructor m (member c Constructor m) (laws.built (member c Constructor m) (constructor_there c m t h.0.built)) (own_target w (member c Constructor m)) s t (type_of_term e) h.0.meets.1 h.0.meets.2 y a g n z d vs env st k i))
       tree_right (apply_statically p e c n m ts t) = λ s v h fresh u at env st i. impossible h.0.built
       tree_right (select_static p c f t) = λ s v h fresh u at env st i. there_right at s t (st.statics c f) env st (i.heap.statics c f t h.built) i
       tree_right (this_ref p t) = λ s v h fresh u at env st i. only_right (CameRight at s s.locals t) Full (ir_meaning.local_value env.this_value env st).end (this_right at s t s.owner env.this_value env st h.finds.1 (i.locals.this h.finds.0) i)

@@ -7,6 +7,7 @@ use Rattle.body_rules.proofs.Plain.{class_found, plain_world}
 use Rattle.body_rules.specs.Locals.{HasValue}
 use Rattle.body_rules.specs.Standing.{is_bare}
 use Rattle.body_rules.proofs.RulesGive.{no_division}
+use Rattle.dispatch_laws.proofs.OwnTargets.{own_target}
 use Rattle.body_soundness.proofs.Modules.{never_wrong}
 use Rattle.body_soundness.proofs.Chains.{no_primitive, on_chain as below_on_chain}
 use Rattle.body_soundness.specs.Laws.{ObjectLaws}
@@ -190,6 +191,7 @@ names m d e found body = go (ir_world.class_of object_world m.class) refl found
 pub object_laws : ObjectLaws object_world object_use
 object_laws = record {
   received = received_right;
+  targets = λ m h. own_target object_world m;
   built = built_right;
   once = λ r m d e found body. names m d e found body;
   made = λ c h. none_bare c (made_is c h);

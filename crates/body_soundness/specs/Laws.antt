@@ -5,6 +5,7 @@ use Rattle.body_rules.specs.Locals.{HasValue}
 use Rattle.body_rules.specs.Standing.{is_bare}
 use Rattle.body_soundness.specs.Rules.{RightMember}
 use Rattle.built_forms.specs.Built.{Usable, divides}
+use Rattle.dispatch_laws.specs.Targets.{IsTargetOf}
 use Rattle.ir_mean.specs.Dispatch.{chain_of}
 use Rattle.ir_mean.specs.Meaning.{with_message}
 use Rattle.ir_mean.specs.World.{World, class_of, member_of, zeros_in, statics_in, zero_of}
@@ -33,12 +34,13 @@ null_pointer = codes "java.lang.NullPointerException"
 abbrev pub arithmetic : List ℕ
 arithmetic = codes "java.lang.ArithmeticException"
 
--- Members that run on an object and constructors keep the rules; where there are receivers, bodies define no local twice; objects of a class that is made
+-- Members that run on an object and constructors keep the rules, and what a call of a member runs is its target; where there are receivers, bodies define no local twice; objects of a class that is made
 -- stand at no bare type. A field that can be read has one type, with values, and is an instance field of its class, which stands on the chain of
 -- superclasses of each class that is made below it; no primitive type is below it. A static field that can be used has one type, with values, and is one of its class. Where the null check can be used, its exception is
 -- made, and so is that of a division whose helper can be used.
 pub record ObjectLaws (w : World) (has : Usable) : Type 0 where
   pub received : (m : Member) → has.received m ≡ true → RightMember w has m
+  pub targets : (m : Member) → has.received (has.target m) ≡ true → IsTargetOf w m (has.target m)
   pub built : (m : Member) → has.built m ≡ true → RightMember w has m
   pub once : HasReceivers has → (m : Member) (d : MethodDef) (e : Term) → member_of w m.class m.namespace m.method ≡ Some d → d.body ≡ Some e → NamesOnce d e
   pub made : (c : List ℕ) → has.made c ≡ true → is_bare (Class c) ≡ false

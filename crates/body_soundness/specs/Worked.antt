@@ -71,6 +71,7 @@ is_member k m = is_same_text m.class k.class && (is_same_namespace m.namespace k
 abbrev pub object_use : Usable
 object_use = record {
   linked = is_member main_member;
+  target = λ m. m;
   received = is_member (member class_name Private get_name);
   built = is_member (member class_name Constructor init_name);
   made = λ c. is_same_text c class_name || is_same_text c object_name;

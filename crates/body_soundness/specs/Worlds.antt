@@ -5,6 +5,7 @@ use Rattle.body_rules.specs.Locals.{HasValue}
 use Rattle.body_soundness.specs.Laws.{HasReceivers, null_pointer, arithmetic}
 use Rattle.body_soundness.specs.Rules.{RightMember}
 use Rattle.built_forms.specs.Built.{Usable, divides}
+use Rattle.dispatch_laws.specs.Targets.{IsTargetOf}
 use Rattle.ir_mean.specs.Meaning.{with_message}
 use Rattle.ir_mean.specs.World.{member_of, zeros_in, statics_in, zero_of}
 use Rattle.ir_mean.specs.World as ir_world
@@ -43,12 +44,13 @@ pub record HasFields (w : Classes) (c : Name) : Type 0 where
 abbrev pub WritesInterfaces : Classes → Name → Type 0
 WritesInterfaces w d = (b : Name) → Path (IsParent w) d b → (class : ClassDef) → class_of w (stands_as b) ≡ Some class → (i : Name) (face : ClassDef) → Contains class.interfaces i → class_of w i ≡ Some face → is_interface face.kind ≡ true
 
--- what is asked of a world, and of what bodies use there, by the rules of its classes: the members that can be called keep the rules; what is made isn't hijacked;
+-- what is asked of a world, and of what bodies use there, by the rules of its classes: the members that can be called keep the rules, and what a call of a member runs is its target; what is made isn't hijacked;
 -- what can be read is a field of a class with fields, and what is static is a static field of its class; and whatever is written as an interface above these and above the hijacked classes is one
 pub record ObjectWorld (w : Classes) (has : Usable) : Type 0 where
   pub kept : AreClassesKept w
   pub acyclic : HasNoCycle w
   pub received : (m : Member) → has.received m ≡ true → RightMember w has m
+  pub targets : (m : Member) → has.received (has.target m) ≡ true → IsTargetOf w m (has.target m)
   pub built : (m : Member) → has.built m ≡ true → RightMember w has m
   pub once : HasReceivers has → (m : Member) (d : MethodDef) (e : Term) → member_of w m.class m.namespace m.method ≡ Some d → d.body ≡ Some e → NamesOnce d e
   pub made : (c : Name) → has.made c ≡ true → (is_hijacked c ≡ false) × WritesInterfaces w c

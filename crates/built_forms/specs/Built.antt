@@ -24,10 +24,12 @@ abbrev pub is_nonzero_long : Term → Bool
 is_nonzero_long (long_literal p z) = not (int_eq z (pos 0))
 is_nonzero_long _ = false
 
--- what a body can use: the static members that are linked, and those that run on a receiver; the constructors that are; the classes of which objects are
--- made; their fields and the static fields, with their types; helpers, by their names; and whether it can throw, and name the object that it runs on
+-- what a body can use: the static members that are linked, and those that run on a receiver, with what a call of a public one runs; the constructors that
+-- are linked; the classes of which objects are made; their fields and the static fields, with their types; helpers, by their names; and whether it can throw,
+-- and name the object that it runs on
 pub record Usable : Type 0 where
   pub linked : Member → Bool
+  pub target : Member → Member
   pub received : Member → Bool
   pub built : Member → Bool
   pub made : List ℕ → Bool
@@ -46,7 +48,7 @@ may_make has boxed = can_box has || not boxed
 
 -- these static members and nothing else
 abbrev pub members_alone : (Member → Bool) → Usable
-members_alone linked = record { linked = linked; received = λ m. false; built = λ m. false; made = λ c. false; field = λ c f t. false; static_field = λ c f t. false; helper = λ x. false; objects = false }
+members_alone linked = record { linked = linked; target = λ m. m; received = λ m. false; built = λ m. false; made = λ c. false; field = λ c f t. false; static_field = λ c f t. false; helper = λ x. false; objects = false }
 
 -- the operator is a division whose helper can be used
 abbrev pub divides : Usable → BinaryOp → Bool
@@ -88,7 +90,7 @@ module _ (has : Usable) (checked : Term → Bool) where
   stands (select p e c f t) = has.field c f t && checked e
   stands (select_static p c f t) = has.static_field c f t
   stands (apply_statically p e c Private m ts t) = has.received (member c Private m) && checked e
-  stands (apply_statically p e c Public m ts t) = has.received (member c Public m) && checked e
+  stands (apply_statically p e c Public m ts t) = has.received (has.target (member c Public m)) && checked e
   stands (apply_statically p e c Constructor m ts t) = has.built (member c Constructor m) && is_no_type t
   stands (apply_static p c n m ts t) = has.linked (member c n m)
   stands (unary_op p o e) = true
@@ -153,18 +155,14 @@ is_built_method has checked d e = may_make has (body_boxes d e) && is_built has 
 abbrev pub anything : Usable
 anything = members_alone (λ m. true)
 
-abbrev pub is_private : Namespace → Bool
-is_private Private = true
-is_private _ = false
-
 -- a method of which this is the result has no value
 abbrev pub has_no_value : Option TypeRef → Bool
 has_no_value (Some Void) = true
 has_no_value _ = false
 
--- whatever is made and used of objects, but for public members that run on a receiver and for constructors with a value
+-- whatever is made and used of objects, but for constructors with a value
 abbrev pub any_object : Usable
-any_object = record { linked = λ m. true; received = λ m. is_private m.namespace; built = λ m. has_no_value m.method.result; made = λ c. true; field = λ c f t. true; static_field = λ c f t. true; helper = λ x. true; objects = true }
+any_object = record { linked = λ m. true; target = λ m. m; received = λ m. true; built = λ m. has_no_value m.method.result; made = λ c. true; field = λ c f t. true; static_field = λ c f t. true; helper = λ x. true; objects = true }
 
 -- the body is of these forms, whatever it calls, makes and reads
 abbrev pub is_object_body : MethodDef → Term → Bool

@@ -66,11 +66,11 @@ case (k ∷ ks) body = match_on nowhere (number 1) (more_cases (pos k ∷ []) bo
 
 -- a field can be used, whatever its class, its name and its type are
 abbrev pub with_fields : Usable
-with_fields = record { linked = λ m. true; received = λ m. false; built = λ m. false; made = λ c. false; field = λ c f t. true; static_field = λ c f t. false; helper = λ x. false; objects = false }
+with_fields = record { linked = λ m. true; target = λ m. m; received = λ m. false; built = λ m. false; made = λ c. false; field = λ c f t. true; static_field = λ c f t. false; helper = λ x. false; objects = false }
 
 -- objects that hold chars can be made
 abbrev pub with_boxes : Usable
-with_boxes = record { linked = λ m. true; received = λ m. false; built = λ m. false; made = λ c. false; field = λ c f t. true; static_field = λ c f t. false; helper = λ x. true; objects = false }
+with_boxes = record { linked = λ m. true; target = λ m. m; received = λ m. false; built = λ m. false; made = λ c. false; field = λ c f t. true; static_field = λ c f t. false; helper = λ x. true; objects = false }
 
 -- the code of a method that gives a value of this type makes an object that holds a char
 abbrev pub makes_box : IrType → Term → Bool
@@ -117,7 +117,7 @@ pub record WorkedForms : Type 0 where
   pub calls_a_private_method : not_built (static (direct Private object NoType)) ≡ false
   pub calls_a_private_method_on_a_char : not_built (static (direct Private letter NoType)) ≡ false
   pub calls_a_private_method_on_what_is_not_built : not_built (static (direct Private unbuilt NoType)) ≡ true
-  pub calls_a_public_method : not_built (static (direct Public object NoType)) ≡ true
+  pub calls_a_public_method : not_built (static (direct Public object NoType)) ≡ false
   pub calls_a_constructor : not_built (static (direct Constructor object NoType)) ≡ false
   pub calls_a_constructor_for_a_value : not_built (static (direct Constructor object Int)) ≡ true
   pub calls_a_constructor_that_has_a_value : not_built (static (apply_statically nowhere object (codes "A") Constructor (record { simple = codes "m"; params = []; result = Some TypeRef.Int }) no_terms NoType)) ≡ true

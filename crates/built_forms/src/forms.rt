@@ -106,14 +106,14 @@ fn is_built_case(case: &MatchCase) -> bool
     case.keys.as_slice().is_empty() || is_built(&case.body)
 }
 
-// A call without a lookup is built of a private method, and of a constructor, which has no value.
+// A call without a lookup is built of a public or private method, and of a constructor, which has no value.
 fn is_direct_call(namespace: Namespace, method: &MethodName, tpe: &IrType) -> bool
     ensures { (p : Position) (e : Term) (c : List ℕ) (ts : Terms) → result ≡ built.stands built.any_object (λ e. true) (apply_statically p e c namespace method.now ts tpe.now) }
 {
     match namespace {
-        Namespace::Private => true,
+        Namespace::Public | Namespace::Private => true,
         Namespace::Constructor => has_no_value(&method.result) && matches!(tpe, IrType::NoType),
-        Namespace::Public | Namespace::PublicStatic | Namespace::PrivateStatic => false,
+        Namespace::PublicStatic | Namespace::PrivateStatic => false,
     }
 }
 

@@ -17,7 +17,7 @@ use Rattle.sj_desugar.specs.Coercions.{coerced, coerced_arguments, coerced_recei
 use Rattle.sj_desugar.specs.Desugar.{Targets, into, operand, receiver, received, expression_of, first_of, second_of, rest_of, finish, member, types_of, position_of, has_no_value}
 use Rattle.sj_desugar.specs.Plain.{is_plain}
 use Rattle.sj_desugar.specs.Spill.{Destination, discard, to_variable, Code, one, Operand, spill, spill_case, then_use}
-use Rattle.sj_emit_expr.specs.Templates.{check_name, property_name}
+use Rattle.sj_emit_expr.specs.Templates.{called_member, check_name, property_name}
 use Rattle.sj_names.proofs.Same.{impossible}
 use Rattle.sj_names.specs.declared.method_names.MethodName.{MethodName}
 use Rattle.sj_names.specs.declared.method_names.Namespace.{Namespace}
@@ -254,7 +254,7 @@ module _ (z : Setting) (lawful : Lawful z) (low : LowAlike z) where
       own = received-type (is_sure z.code.sure e) (operand z.is_mutable z.code.sure e (λ k j. into z.is_mutable z.code.sure c.targets k j e))
 
   -- a call of a private or a public member on a receiver
-  pub receive_does : (p : Position) (c : Context) (k : Destination) (j : ℕ) (e : Term) (d : List ℕ) (n : Namespace) (m : MethodName) (ts : Terms) (t : IrType) → Sound z.is_mutable c → Ahead c j → Writes c.writable k → FitsIn (usable z) k t → (usable z).received (member d n m) ≡ true → t ≡ call_type m.result → StandsFor z (class_type d) (type_of_term e) → StandForAll z (types_referred m.params) (types_of ts) → OperandsDo z lawful c j (receiver_piece c.targets e ∷ list_of z lawful low c.targets ts) → Does z lawful c k j (apply_statically p e d n m ts t)
+  pub receive_does : (p : Position) (c : Context) (k : Destination) (j : ℕ) (e : Term) (d : List ℕ) (n : Namespace) (m : MethodName) (ts : Terms) (t : IrType) → Sound z.is_mutable c → Ahead c j → Writes c.writable k → FitsIn (usable z) k t → (usable z).received (called_member (usable z).target n (member d n m)) ≡ true → t ≡ call_type m.result → StandsFor z (class_type d) (type_of_term e) → StandForAll z (types_referred m.params) (types_of ts) → OperandsDo z lawful c j (receiver_piece c.targets e ∷ list_of z lawful low c.targets ts) → Does z lawful c k j (apply_statically p e d n m ts t)
   receive_does p c k j e d n m ts t sound ahead wr fits there is on fit ds w env s sc u r same = subst (λ o. Ends z lawful c c.scope k w sc o (into z.is_mutable z.code.sure c.targets k j (apply_statically p e d n m ts t)).statements sc u) (sym (sure_run e act (ir_meaning.operands z.place.classes z.low ts) w env s sc c.scope r.sees)) (subst (λ os. Ends z lawful c c.scope k w sc (ir_meaning.in_order ((receiver_piece c.targets e).run ∷ ir_meaning.operands z.place.classes z.low ts) act env s) (then_use (spill ((receiver_piece c.targets e).here ∷ os) j) (λ es. finish k p t false (text es))).statements sc u) (sym (operands-list z lawful low c.targets ts)) (subst (λ rs. Ends z lawful c c.scope k w sc (ir_meaning.in_order ((receiver_piece c.targets e).run ∷ rs) act env s) (then_use (spill (operands_in z lawful (receiver_piece c.targets e ∷ list_of z lawful low c.targets ts)) j) (λ es. finish k p t false (text es))).statements sc u) (sym (runs-list z lawful low c.targets ts)) (expression_does c k j (receiver_piece c.targets e ∷ list_of z lawful low c.targets ts) t p act text sound ahead wr fits ds given w env s sc u r same)))
     where
       act : List ir.Value → ir.Run
@@ -283,7 +283,7 @@ module _ (z : Setting) (lawful : Lawful z) (low : LowAlike z) where
       text_is g gs = ap (λ x. core.receiver_call (member d Constructor m) x (expressions_of (coerced_arguments m.params (types_of ts) gs))) (receiver-coerced d (type_of_term e) g)
 
       final : (w : World) (sc : js.Scope) → Final z lawful c discard w sc c.kept j sc w (types z lawful (receiver_piece c.targets e ∷ list_of z lawful low c.targets ts)) act (λ es. finish discard p t false (text es))
-      final from before q i _ _ w env s sc u more so ah l g ready kb ks same (more_operands own a f _ qs gs told one others) = subst (λ o. Ends z lawful c c.scope discard from before (ir_meaning.in_order (a ∷ qs) act env s) (core.statement (core.evaluate_of (Some p) o) core.no_statements) sc u) (sym (text_is f gs)) (ends-one z lawful c c.scope discard from before (ir_meaning.in_order (a ∷ qs) act env s) (core.evaluate_of (Some p) (core.receiver_call (member d Constructor m) (coerced (class_type d) (type_of_term e) f) (expressions_of (coerced_arguments m.params (types_of ts) gs)))) sc u (subst (λ o. Sim z.direction (Came z.place z.code c c.scope discard from before) o (then_do (shown z (core.receiver_call (member d Constructor m) (coerced (class_type d) (type_of_term e) f) (expressions_of (coerced_arguments m.params (types_of ts) gs))) sc u) (js.in_statement sc (λ v. js_meaning.nothing sc)))) (then_do-right (ir_meaning.in_order (a ∷ qs) act env s)) (sim_then z.direction (Ran z.place w env) (Came z.place z.code c c.scope discard from before) (ir_meaning.in_order (a ∷ qs) act env s) (shown z (core.receiver_call (member d Constructor m) (coerced (class_type d) (type_of_term e) f) (expressions_of (coerced_arguments m.params (types_of ts) gs))) sc u) done (js.in_statement sc (λ v. js_meaning.nothing sc)) (constructor_runs z lawful.base (member d Constructor m) (stood (class_type d) (type_of_term e) on.0) (all_stood (types_referred m.params) (types_of ts) fit.0) a qs (coerced (class_type d) (type_of_term e) f) (coerced_arguments m.params (types_of ts) gs) there (stood-fits (class_type d) (type_of_term e) on.0) (all-stood-fit (types_referred m.params) (types_of ts) fit.0) w env s sc u ready.sees.inside (called_with c e d m ts on fit w env sc ready.sees.inside a qs f gs told one others) same) each)))
+      final from before q i _ _ w env s sc u more so ah l g ready kb ks same (more_operands own a f _ qs gs told one others) = subst (λ o. Ends z lawful c c.scope discard from before (ir_meaning.in_order (a ∷ qs) act env s) (core.statement (core.evaluate_of (Some p) o) core.no_statements) sc u) (sym (text_is f gs)) (ends-one z lawful c c.scope discard from before (ir_meaning.in_order (a ∷ qs) act env s) (core.evaluate_of (Some p) (core.receiver_call (member d Constructor m) (coerced (class_type d) (type_of_term e) f) (expressions_of (coerced_arguments m.params (types_of ts) gs)))) sc u (subst (λ o. Sim z.direction (Came z.place z.code c c.scope discard from before) o (then_do (shown z (core.receiver_call (member d Constructor m) (coerced (class_type d) (type_of_term e) f) (expressions_of (coerced_arguments m.params (types_of ts) gs))) sc u) (js.in_statement sc (λ v. js_meaning.nothing sc)))) (then_do-right (ir_meaning.in_order (a ∷ qs) act env s)) (sim_then z.direction (Ran z.place w env) (Came z.place z.code c c.scope discard from before) (ir_meaning.in_order (a ∷ qs) act env s) (shown z (core.receiver_call (member d Constructor m) (coerced (class_type d) (type_of_term e) f) (expressions_of (coerced_arguments m.params (types_of ts) gs))) sc u) done (js.in_statement sc (λ v. js_meaning.nothing sc)) (constructor_runs z lawful.base d m (stood (class_type d) (type_of_term e) on.0) (all_stood (types_referred m.params) (types_of ts) fit.0) a qs (coerced (class_type d) (type_of_term e) f) (coerced_arguments m.params (types_of ts) gs) there (stood-fits (class_type d) (type_of_term e) on.0) (all-stood-fit (types_referred m.params) (types_of ts) fit.0) w env s sc u ready.sees.inside (called_with c e d m ts on fit w env sc ready.sees.inside a qs f gs told one others) same) each)))
         where
           each : (a : ir.Ended) (b : js.ExpressionEnd) → Ran z.place w env a b → Sim z.direction (Came z.place z.code c c.scope discard from before) (done a) (js.in_statement sc (λ v. js_meaning.nothing sc) b)
           each _ _ (ran y v x s u h states) = sim_done z.direction (Came z.place z.code c c.scope discard from before) (ir.ends (ir.gives v) env s) (js.ends js.normally sc u) (gave y v env s sc u js.normally (grows-trans from w y g h) let_go (ready-lift z c.scope c.writable w y env sc h ready) (keeps-less z c.kept discard before sc kb) states)

@@ -11,7 +11,7 @@ use Rattle.sj_trees.specs.Term.{Term}
 
 -- the file `main.js` with the function `f` of the parameter `p` and the statements of this body
 abbrev pub int_program : Term → js.Program
-int_program body = record { file = codes "main.js"; content = Some (record { imports = []; items = function_item (codes "f") (parameter_names (names_of (int_method body).params)) (body_template (desugared (int_method body) body)) ∷ []; exports = [] }) } ∷ []
+int_program body = record { file = codes "main.js"; content = Some (record { imports = []; items = function_item (codes "f") (parameter_names (names_of (int_method body).params)) (body_template (λ m. m) (desugared (int_method body) body)) ∷ []; exports = [] }) } ∷ []
 
 -- what a call of it comes to within this bound
 abbrev pub int_function_result : Term → ℕ → ℤ → Out js.ExpressionEnd

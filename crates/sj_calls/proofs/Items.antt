@@ -17,7 +17,7 @@ abbrev name_of : EmittedMethod → Name
 name_of e = member_name e.member
 
 abbrev pub code_with : EmittedMethod → Code
-code_with e = record { parameters = parameter_names (desugared e.definition e.its_body).params; body = body_template (desugared e.definition e.its_body) }
+code_with e = record { parameters = parameter_names (desugared e.definition e.its_body).params; body = body_template (λ m. m) (desugared e.definition e.its_body) }
 
 first_too : (a b : Bool) → a ≡ true → (a || b) ≡ true
 first_too true b h = refl

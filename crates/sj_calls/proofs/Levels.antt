@@ -3,7 +3,7 @@
 use Rattle.std.specs.Prelude.{◌+◌, ◌*◌, codes}
 use Rattle.std.proofs.Common.{◌≡◌, ℕ, zero, suc, Bool, true, List, arith, sym, ◌∙◌}
 use Rattle.sj_names.proofs.Same.{impossible}
-use Rattle.sj_emit_expr.specs.Templates.{check_name, statement_templates}
+use Rattle.sj_emit_expr.specs.Templates.{called_member, check_name, statement_templates}
 use Rattle.sure_receivers.specs.Sure.{sure_locals}
 use Rattle.outcomes.specs.Agreement.{Direction, forward, backward, Enough, Sim}
 use Rattle.outcomes.proofs.Simulation.{sim_over, sim_going}
@@ -63,7 +63,7 @@ module _ (p : Place) (ordered : IsSubtyping (IsSub p.classes)) (names : NamesDif
     statics = λ c g t i. impossible (sym (alone.static_field f.file c g t) ∙ i);
     sets = λ c g t i. impossible (sym (alone.static_field f.file c g t) ∙ i);
     calls = λ m l. member_alike d n k (levels k h) m (linked f.file m l);
-    receives = λ m l. impossible (sym (alone.received f.file m) ∙ l);
+    receives = λ m l. impossible (sym (alone.received f.file (called_member (p.has f.file).target m.namespace m)) ∙ l);
     builds = λ m l. impossible (sym (alone.built f.file m) ∙ l);
     makes = λ c l. impossible (sym (alone.made f.file c) ∙ l);
     objects = λ c l. impossible (sym (alone.made f.file c) ∙ l);
@@ -76,7 +76,7 @@ module _ (p : Place) (ordered : IsSubtyping (IsSub p.classes)) (names : NamesDif
   next d n k levels h f reaches is_mutable c q j t sound ahead out wr fine w env s sc u ready same = does (within f d is_mutable n k) (lawful d n k levels h f reaches is_mutable) (levels k (fewer d p.room.each n k h) f reaches is_mutable) t c q j sound ahead out wr fine w env s sc u ready same
 
   pub levels : (d : Direction) (n : ℕ) → Levels d n
-  levels forward zero k h = λ f reaches is_mutable c q j t sound ahead out wr fine w env s sc u ready same. sim_over (Came p f c c.scope q w sc) (js_meaning.below p.program k (statement_templates p.name p.label (into is_mutable f.sure c.targets q j t).statements) sc u)
+  levels forward zero k h = λ f reaches is_mutable c q j t sound ahead out wr fine w env s sc u ready same. sim_over (Came p f c c.scope q w sc) (js_meaning.below p.program k (statement_templates p.name p.label (p.has f.file).target (into is_mutable f.sure c.targets q j t).statements) sc u)
   levels backward n zero h = λ f reaches is_mutable c q j t sound ahead out wr fine w env s sc u ready same. sim_going (Came p f c c.scope q w sc) (ir_meaning.below p.classes n t env s)
   levels forward (suc n) zero h = absurd (omega arith)
   levels backward zero (suc k) h = absurd (omega arith)

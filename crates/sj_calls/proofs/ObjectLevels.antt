@@ -1,11 +1,13 @@
 -- All levels, where code makes objects and uses them: trees and calls are alike at bounds that stand to each other as the direction says.
-use Rattle.std.specs.Prelude.{◌+◌, ◌*◌, ◌≤◌, codes}
+use Rattle.std.specs.Prelude.{◌+◌, ◌*◌, ◌≤◌, ◌&&◌, not, codes}
 use Rattle.std.proofs.Common.{◌≡◌, ℕ, zero, suc, Bool, true, false, List, [], ◌∷◌, Some, length, refl, sym, ap, subst, arith}
 use Rattle.outcomes.specs.Agreement.{Direction, forward, backward, Enough, Sim}
 use Rattle.outcomes.proofs.Simulation.{sim_over, sim_going}
 use Rattle.helper_rules.specs.declared.kinds.Failure.TheVariants.{NullReceiver, Division}
 use Rattle.helper_rules.specs.declared.kinds.Helper.{Helper}
 use Rattle.helper_rules.specs.declared.kinds.Helper.TheVariants.{NotNull, Throws}
+use Rattle.dispatch_laws.proofs.OwnTargets.{called_target}
+use Rattle.dispatch_laws.specs.Targets.{IsTargetOf}
 use Rattle.ir_mean.specs.Dispatch.{chain_of}
 use Rattle.ir_mean.specs.Meaning as ir_meaning
 use Rattle.ir_mean.specs.States as ir
@@ -14,10 +16,14 @@ use Rattle.js_mean.specs.Meaning as js_meaning
 use Rattle.js_mean.specs.States as js
 use Rattle.js_tree.specs.Terms.{Name}
 use Rattle.sj_desugar.specs.Desugar.{into, is_mutable_in}
-use Rattle.sj_emit_expr.specs.Templates.{statement_templates}
+use Rattle.sj_emit_expr.specs.Templates.{called_member, statement_templates}
 use Rattle.sj_names.specs.declared.method_names.Member.{Member}
+use Rattle.sj_names.specs.declared.method_names.MethodName.{MethodName}
+use Rattle.sj_desugar.specs.Coercions.{is_char}
+use Rattle.body_rules.proofs.Fitting.{fits-sub}
+use Rattle.sj_plain.proofs.Boxes.{class-no-char}
 use Rattle.sure_receivers.specs.Sure.{sure_locals}
-use Rattle.sj_plain.specs.Settings.{Place, Code, a_function, a_method, a_constructor, a_setter, a_helper, division_helper, Setting, SameState, Valued, Built, NamesDiffer, Reaches, Based, Lawful, BuildsAlike, ReceivesAlike, SetsAlike, ChecksAlike, DividesAlike}
+use Rattle.sj_plain.specs.Settings.{Place, Code, a_function, a_method, a_constructor, a_setter, a_helper, division_helper, Setting, SameState, Valued, Built, NamesDiffer, Reaches, Based, Lawful, BuildsAlike, ReceivesAlike, SetsAlike, ChecksAlike, DividesAlike, IsReceiver, top_call}
 use Rattle.body_rules.specs.Standing.{is_bare, Fits, types_referred, call_type}
 use Rattle.built_forms.specs.Built.{divides}
 use Rattle.ir_mean.specs.Operators.{binary_value}
@@ -28,7 +34,7 @@ use Rattle.sj_trees.specs.Types.{class_type}
 use Rattle.sj_trees.specs.declared.operators.BinaryOp.{BinaryOp}
 use Rattle.sj_trees.specs.declared.types.IrType.{IrType}
 use Rattle.sj_trees.specs.declared.types.IrType.TheVariants.{Any, NoType}
-use Rattle.sj_plain.proofs.Worlds.{World, SameValues}
+use Rattle.sj_plain.proofs.Worlds.{World, SameValues, value-fits}
 use Rattle.sj_bodies.proofs.Contexts.{Came}
 use Rattle.sj_bodies.proofs.Main.{does}
 use Rattle.sj_bodies.proofs.Trees.{LowAlike}
@@ -77,8 +83,15 @@ module _ (p : Place) (ordered : IsSubtyping (IsSub p.classes)) (names : NamesDif
   member_alike : (d : Direction) (n k : ℕ) → Level d n k → (m : Member) → Linked p m → (w : World) (vs : List ir.Value) (xs : List js.Value) (env : ir.Env) (s : ir.State) (u : js.State) → SameValues w (types_referred m.method.params) vs xs → SameState p w s u → Sim d (Valued p w env (call_type m.method.result)) (ir_call p m vs env s n) (js_call p m xs u k)
   member_alike d n k level m l = call_alike p names d (ir_meaning.below p.classes n) (js_meaning.below p.program k) m l (level (record { file = p.home (a_function m); owner = m.class; sure = sure_locals l.its_body }) l.reaches (is_mutable_in l.definition l.its_body))
 
-  method_alike : (f : Code) (is_mutable : List ℕ → Bool) (d : Direction) (n k : ℕ) → Level d n k → (m : Member) → RunsOn p m → ReceivesAlike (within f d is_mutable n k) m
-  method_alike f is_mutable d n k level m l = receive_alike p names d (ir_meaning.below p.classes n) (js_meaning.below p.program k) m l (level (record { file = p.home (a_method m); owner = m.class; sure = sure_locals l.its_body }) l.reaches (is_mutable_in l.definition l.its_body))
+  -- what a member may run on, its target may
+  taken_by : (w : World) (m o : Member) (v : ir.Value) (x : js.Value) → IsTargetOf p.classes m o → IsReceiver w m.class v x → IsReceiver w o.class v x
+  taken_by w m o v x its this = record { stands = value-fits w (class_type o.class) (class_type m.class) v x (fits-sub p.classes ordered (class_type o.class) (class_type m.class) its.above (ap (λ b. b && not (is_char (class_type o.class))) (class-no-char m.class))) this.stands; there = this.there }
+
+  method_alike : (f : Code) (is_mutable : List ℕ → Bool) (d : Direction) (n k : ℕ) → Level d n k → (m : Member) → IsTargetOf p.classes m (called_member (p.has f.file).target m.namespace m) → RunsOn p (called_member (p.has f.file).target m.namespace m) → ReceivesAlike (within f d is_mutable n k) m
+  method_alike f is_mutable d n k level m its l w v x vs xs env s u this values same = subst (λ (g : MethodName). Sim d (Valued p w env (call_type g.result)) (ir_meaning.call (ir_meaning.below p.classes n) (ir_meaning.static_target p.classes m.class m.namespace m.method) (Some v) vs env s) (top_call p (js_meaning.below p.program k) (a_method o) (x ∷ xs) u)) its.method (receive_alike p names d (ir_meaning.below p.classes n) (js_meaning.below p.program k) o l (ir_meaning.static_target p.classes m.class m.namespace m.method) (its.runs l.definition l.its_body l.has_body l.found) (level (record { file = p.home (a_method o); owner = o.class; sure = sure_locals l.its_body }) l.reaches (is_mutable_in l.definition l.its_body)) w v x vs xs env s u (taken_by w m o v x its this) (subst (λ (g : MethodName). SameValues w (types_referred g.params) vs xs) (sym its.method) values) same)
+    where
+      o : Member
+      o = called_member (p.has f.file).target m.namespace m
 
   constructor_alike : (f : Code) (is_mutable : List ℕ → Bool) (d : Direction) (n k : ℕ) → Enough p.room 0 d n k → Level d n k → (m : Member) → Constructs p m → BuildsAlike (within f d is_mutable n k) m
   constructor_alike f is_mutable d n (suc k) h level m l = build_alike p names d (ir_meaning.below p.classes n) k m l (level (record { file = p.home (a_constructor m); owner = m.class; sure = sure_locals l.its_body }) l.reaches (is_mutable_in l.definition l.its_body))
@@ -104,7 +117,7 @@ module _ (p : Place) (ordered : IsSubtyping (IsSub p.classes)) (names : NamesDif
     statics = λ c g t l. (has.statics f.file c g t l).field;
     sets = λ c g t l. set_alike f is_mutable d n k h c g t l;
     calls = λ m l. member_alike d n k (levels k h) m (has.linked f.file m l);
-    receives = λ m l. method_alike f is_mutable d n k (levels k h) m (has.received f.file m l);
+    receives = λ m l. method_alike f is_mutable d n k (levels k h) m (called_target p.classes (p.has f.file).target (λ o. (p.has f.file).received o ≡ true) (λ o i. has.targets f.file o i) m.namespace m l) (has.received f.file (called_member (p.has f.file).target m.namespace m) l);
     builds = λ m l. constructor_alike f is_mutable d n k h (levels k h) m (has.built f.file m l);
     makes = λ c l w env s u same. let made = has.made f.file c l in made_alike d p c k (enough_for d n k c made h) w env s u (made.stands w s u same) same;
   }
@@ -137,7 +150,7 @@ module _ (p : Place) (ordered : IsSubtyping (IsSub p.classes)) (names : NamesDif
   next d n k levels h f reaches is_mutable c q j t sound ahead out wr fine w env s sc u ready same = does (within f d is_mutable n k) (lawful d n k levels h f reaches is_mutable) (levels k (fewer d p.room.each n k h) f reaches is_mutable) t c q j sound ahead out wr fine w env s sc u ready same
 
   pub levels : (d : Direction) (n : ℕ) → Levels d n
-  levels forward zero k h = λ f reaches is_mutable c q j t sound ahead out wr fine w env s sc u ready same. sim_over (Came p f c c.scope q w sc) (js_meaning.below p.program k (statement_templates p.name p.label (into is_mutable f.sure c.targets q j t).statements) sc u)
+  levels forward zero k h = λ f reaches is_mutable c q j t sound ahead out wr fine w env s sc u ready same. sim_over (Came p f c c.scope q w sc) (js_meaning.below p.program k (statement_templates p.name p.label (p.has f.file).target (into is_mutable f.sure c.targets q j t).statements) sc u)
   levels backward n zero h = λ f reaches is_mutable c q j t sound ahead out wr fine w env s sc u ready same. sim_going (Came p f c c.scope q w sc) (ir_meaning.below p.classes n t env s)
   levels forward (suc n) zero h = absurd (omega arith)
   levels backward zero (suc k) h = absurd (omega arith)

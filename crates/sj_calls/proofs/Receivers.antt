@@ -1,12 +1,11 @@
 -- A call on a receiver: the receiver is the first parameter of the function, and This of the body. A constructor gives the object that it ran on.
-use Rattle.std.proofs.Common.{◌≡◌, ℕ, suc, Bool, false, List, [], ◌∷◌, Some, None, refl, sym, ap, ◌∙◌, subst, if◌then◌else◌}
+use Rattle.std.proofs.Common.{◌≡◌, ℕ, suc, Bool, false, List, [], ◌∷◌, Option, Some, None, refl, sym, ap, ◌∙◌, subst, if◌then◌else◌}
 use Rattle.outcomes.specs.Outcome.{Out, done, then_do}
 use Rattle.outcomes.specs.Agreement.{Direction, Sim}
 use Rattle.outcomes.proofs.Simulation.{sim_done, sim_wrong, sim_then}
 use Rattle.outcomes.proofs.Sequence.{then_do-associative}
 use Rattle.ir_mean.specs.Meaning as ir_meaning
 use Rattle.ir_mean.specs.States as ir
-use Rattle.ir_mean.proofs.TargetsFound.{target_found}
 use Rattle.ir_mean.specs.World.{member_of}
 use Rattle.js_mean.specs.Files.{owner}
 use Rattle.js_mean.specs.Meaning as js_meaning
@@ -17,6 +16,7 @@ use Rattle.sj_desugar.specs.Desugar.{into, is_mutable_in, result_destination, na
 use Rattle.sj_desugar.specs.Spill.{Destination, discard}
 use Rattle.sj_emit_expr.specs.Templates.{statement_templates}
 use Rattle.sj_names.specs.declared.method_names.Member.{Member}
+use Rattle.sj_trees.specs.declared.classes.MethodDef.{MethodDef}
 use Rattle.sj_trees.specs.declared.types.IrType.{IrType}
 use Rattle.body_rules.specs.Locals.{parameters_of, Own, Scope}
 use Rattle.sj_plain.specs.Settings.{Place, Code, Receiving, on_receiver, IsReceiver, Setting, SameState, Valued, Built, built, failed, run, NamesDiffer, OfNoVariable, Holding, a_method, a_constructor, top_call}
@@ -49,9 +49,9 @@ module _ (p : Place) (names : NamesDiffer p) where
   free_there : (x : js.Value) (b : Name → js.Cell) (y : Name) → OfNoVariable p y → js_meaning.binding (p.name core.receiver) (js.holds false x) b y ≡ b y
   free_there x b y none = ap (λ (t : Bool). if t then js.holds false x else b y) (differs y (p.name core.receiver) (λ e. none core.receiver (sym e)))
 
-  -- a call of a member that runs on a receiver, and of its function, are alike where the levels below are
-  pub receive_alike : (d : Direction) (low : ir_meaning.Low) (js_low : js_meaning.Low) (m : Member) (l : RunsOn p m) → LowAlike (record { place = p; code = record { file = p.home (a_method m); owner = m.class; sure = sure_locals l.its_body }; direction = d; is_mutable = is_mutable_in l.definition l.its_body; low = low; js_low = js_low }) → (w : World) (v : ir.Value) (x : js.Value) (vs : List ir.Value) (xs : List js.Value) (env : ir.Env) (s : ir.State) (u : js.State) → IsReceiver w m.class v x → SameValues w (types_referred m.method.params) vs xs → SameState p w s u → Sim d (Valued p w env (call_type m.method.result)) (ir_meaning.call low (ir_meaning.static_target p.classes m.class m.namespace m.method) (Some v) vs env s) (top_call p js_low (a_method m) (x ∷ xs) u)
-  receive_alike d low js_low m l below w v x vs xs env s u this values same = subst (λ t. Sim d (Valued p w env t) (ir_meaning.call low (ir_meaning.static_target p.classes m.class m.namespace m.method) (Some v) vs env s) (top_call p js_low (a_method m) (x ∷ xs) u)) l.result_is (subst (λ o. Sim d (Valued p w env l.definition.result) o (top_call p js_low (a_method m) (x ∷ xs) u)) (sym ir_is) (subst (λ o. Sim d (Valued p w env l.definition.result) (ir_meaning.body_call low l.definition.result (Some l.its_body) (Some v) (ir_meaning.parameters l.definition.params vs) env s) o) (sym js_is) (locals (bound p names w l.definition.params m.method.params vs xs names_declared l.parameters values))))
+  -- a call that runs a member on a receiver, and one of the member's function, are alike where the levels below are
+  pub receive_alike : (d : Direction) (low : ir_meaning.Low) (js_low : js_meaning.Low) (m : Member) (l : RunsOn p m) (called : Option MethodDef) → called ≡ Some l.definition → LowAlike (record { place = p; code = record { file = p.home (a_method m); owner = m.class; sure = sure_locals l.its_body }; direction = d; is_mutable = is_mutable_in l.definition l.its_body; low = low; js_low = js_low }) → (w : World) (v : ir.Value) (x : js.Value) (vs : List ir.Value) (xs : List js.Value) (env : ir.Env) (s : ir.State) (u : js.State) → IsReceiver w m.class v x → SameValues w (types_referred m.method.params) vs xs → SameState p w s u → Sim d (Valued p w env (call_type m.method.result)) (ir_meaning.call low called (Some v) vs env s) (top_call p js_low (a_method m) (x ∷ xs) u)
+  receive_alike d low js_low m l called runs below w v x vs xs env s u this values same = subst (λ t. Sim d (Valued p w env t) (ir_meaning.call low called (Some v) vs env s) (top_call p js_low (a_method m) (x ∷ xs) u)) l.result_is (subst (λ o. Sim d (Valued p w env l.definition.result) o (top_call p js_low (a_method m) (x ∷ xs) u)) (sym ir_is) (subst (λ o. Sim d (Valued p w env l.definition.result) (ir_meaning.body_call low l.definition.result (Some l.its_body) (Some v) (ir_meaning.parameters l.definition.params vs) env s) o) (sym js_is) (locals (bound p names w l.definition.params m.method.params vs xs names_declared l.parameters values))))
     where
       is_mutable : List ℕ → Bool
       is_mutable = is_mutable_in l.definition l.its_body
@@ -69,7 +69,7 @@ module _ (p : Place) (names : NamesDiffer p) where
       k = result_destination l.definition.result
 
       code : js_meaning.Code
-      code = function_on p l.definition (body_of l.definition l.its_body)
+      code = function_on p (p.home (a_method m)) l.definition (body_of l.definition l.its_body)
 
       names_declared : Name → js.Cell
       names_declared = js_meaning.bind_declared code.body (λ x. js.absent)
@@ -80,8 +80,8 @@ module _ (p : Place) (names : NamesDiffer p) where
       js_body : Out js.ExpressionEnd
       js_body = then_do (js_low code.body sc u) js_meaning.returned
 
-      ir_is : ir_meaning.call low (ir_meaning.static_target p.classes m.class m.namespace m.method) (Some v) vs env s ≡ ir_meaning.body_call low l.definition.result (Some l.its_body) (Some v) (ir_meaning.parameters l.definition.params vs) env s
-      ir_is = ap (λ o. ir_meaning.call low o (Some v) vs env s) (target_found p.classes m.class m.namespace m.method l.definition l.its_body l.has_body l.found) ∙ ap (λ o. ir_meaning.body_call low l.definition.result o (Some v) (ir_meaning.parameters l.definition.params vs) env s) l.has_body
+      ir_is : ir_meaning.call low called (Some v) vs env s ≡ ir_meaning.body_call low l.definition.result (Some l.its_body) (Some v) (ir_meaning.parameters l.definition.params vs) env s
+      ir_is = ap (λ o. ir_meaning.call low o (Some v) vs env s) runs ∙ ap (λ o. ir_meaning.body_call low l.definition.result o (Some v) (ir_meaning.parameters l.definition.params vs) env s) l.has_body
 
       js_is : top_call p js_low (a_method m) (x ∷ xs) u ≡ js_body
       js_is = ap (λ o. js_meaning.code_call js_low (p.home (a_method m)) o (x ∷ xs) u) l.emitted
@@ -96,11 +96,11 @@ module _ (p : Place) (names : NamesDiffer p) where
           inner = record { this_value = Some v; locals = h.locals; sure = sure_locals l.its_body }
 
           ready : Ready p here scope (λ y. ⊥) w inner sc
-          ready = record { sees = record { inside = record { file = refl; free = λ y none. free_there x outer y none ∙ parameters-free p names (names_of l.definition.params) xs names_declared y none (body-free p names (body_of l.definition l.its_body) y none) }; this = subst (Receiving w m.class (Some v)) (sym (receiver_here x outer)) (on_receiver v x this); sure = refl; locals = λ y t i. subst (Holding w t (h.locals y)) (sym (local_there x outer y)) (h.hold y t i) }; «open» = λ y wr. absurd wr }
+          ready = record { sees = record { inside = record { file = refl; free = λ y none. free_there x outer y none ∙ parameters-free p names (names_of l.definition.params) xs names_declared y none (body-free p names (p.has here.file).target (body_of l.definition l.its_body) y none) }; this = subst (Receiving w m.class (Some v)) (sym (receiver_here x outer)) (on_receiver v x this); sure = refl; locals = λ y t i. subst (Holding w t (h.locals y)) (sym (local_there x outer y)) (h.hold y t i) }; «open» = λ y wr. absurd wr }
 
   -- behind the body of a constructor its function gives the object that it ran on
-  comes_out : (d : Direction) (js_low : js_meaning.Low) (c : Context) (scope : Scope) (here : Code) (w : World) (before : js.Scope) (x : js.Value) (t : IrType) (env : ir.Env) → c.kept core.receiver → before.bindings (p.name core.receiver) ≡ js.holds false x → (a : ir.Ended) (b : js.StatementEnd) → Came p here c scope discard w before a b → Sim d (Built p w env x) (ir_meaning.returned t env a) (then_do (js.next_statement (js_meaning.execute_all p.program js_low (statement_templates p.name p.label (core.statement (core.return_of None (core.variable_use core.receiver)) core.no_statements))) b) js_meaning.returned)
-  comes_out d js_low c scope here w before x t env kept held _ _ (gave y v inner s sc u _ g let_go r ks same) = subst (λ (cell : js.Cell). Sim d (Built p w env x) (ir.given (ir_meaning.result_value t v) env s) (then_do (then_do (then_do (js_meaning.cell_value (js_meaning.or_outer cell (js_meaning.top_cell (owner p.program sc.file (p.name core.receiver)) (p.name core.receiver) u)) u) (js.in_statement sc (λ v s. done (js.ends (js.returns v) sc s)))) (js.next_statement (js_meaning.execute_all p.program js_low (statement_templates p.name p.label core.no_statements)))) js_meaning.returned)) (sym (ks.same core.receiver (kept, λ e. e) ∙ held)) (sim_done d (Built p w env x) (ir.ends (ir.gives (ir_meaning.result_value t v)) env s) (js.gives x u) (built y (ir_meaning.result_value t v) s u g same))
+  comes_out : (d : Direction) (js_low : js_meaning.Low) (c : Context) (scope : Scope) (here : Code) (w : World) (before : js.Scope) (x : js.Value) (t : IrType) (env : ir.Env) → c.kept core.receiver → before.bindings (p.name core.receiver) ≡ js.holds false x → (a : ir.Ended) (b : js.StatementEnd) → Came p here c scope discard w before a b → Sim d (Built p w env x) (ir_meaning.returned t env a) (then_do (js.next_statement (js_meaning.execute_all p.program js_low (statement_templates p.name p.label (p.has here.file).target (core.statement (core.return_of None (core.variable_use core.receiver)) core.no_statements))) b) js_meaning.returned)
+  comes_out d js_low c scope here w before x t env kept held _ _ (gave y v inner s sc u _ g let_go r ks same) = subst (λ (cell : js.Cell). Sim d (Built p w env x) (ir.given (ir_meaning.result_value t v) env s) (then_do (then_do (then_do (js_meaning.cell_value (js_meaning.or_outer cell (js_meaning.top_cell (owner p.program sc.file (p.name core.receiver)) (p.name core.receiver) u)) u) (js.in_statement sc (λ v s. done (js.ends (js.returns v) sc s)))) (js.next_statement (js_meaning.execute_all p.program js_low (statement_templates p.name p.label (p.has here.file).target core.no_statements)))) js_meaning.returned)) (sym (ks.same core.receiver (kept, λ e. e) ∙ held)) (sim_done d (Built p w env x) (ir.ends (ir.gives (ir_meaning.result_value t v)) env s) (js.gives x u) (built y (ir_meaning.result_value t v) s u g same))
   comes_out d js_low c scope here w before x t env kept held _ _ (left y l v inner s sc u e reach g a r ks same) = sim_wrong d (Built p w env x) _
   comes_out d js_low c scope here w before x t env kept held _ _ (threw y v q inner s sc u g a r ks same) = sim_done d (Built p w env x) (ir.ends (ir.throws v) env s) (js.throws q u) (failed y v q s u g a same)
   comes_out d js_low c scope here w before x t env kept held _ _ (stopped y inner s sc u q g r ks same) = sim_wrong d (Built p w env x) _
@@ -131,7 +131,7 @@ module _ (p : Place) (names : NamesDiffer p) where
       gives_this = core.statement (core.return_of None (core.variable_use core.receiver)) core.no_statements
 
       code : js_meaning.Code
-      code = function_on p l.definition (constructor_body l.definition l.its_body)
+      code = function_on p (p.home (a_constructor m)) l.definition (constructor_body l.definition l.its_body)
 
       names_declared : Name → js.Cell
       names_declared = js_meaning.bind_declared code.body (λ x. js.absent)
@@ -158,7 +158,7 @@ module _ (p : Place) (names : NamesDiffer p) where
           inner = record { this_value = Some v; locals = h.locals; sure = sure_locals l.its_body }
 
           ready : Ready p here scope (λ y. ⊥) w inner sc
-          ready = record { sees = record { inside = record { file = refl; free = λ y none. free_there x outer y none ∙ parameters-free p names (names_of l.definition.params) xs names_declared y none (body-free p names (constructor_body l.definition l.its_body) y none) }; this = subst (Receiving w m.class (Some v)) (sym (receiver_here x outer)) (on_receiver v x this); sure = refl; locals = λ y t i. subst (Holding w t (h.locals y)) (sym (local_there x outer y)) (h.hold y t i) }; «open» = λ y wr. absurd wr }
+          ready = record { sees = record { inside = record { file = refl; free = λ y none. free_there x outer y none ∙ parameters-free p names (names_of l.definition.params) xs names_declared y none (body-free p names (p.has here.file).target (constructor_body l.definition l.its_body) y none) }; this = subst (Receiving w m.class (Some v)) (sym (receiver_here x outer)) (on_receiver v x this); sure = refl; locals = λ y t i. subst (Holding w t (h.locals y)) (sym (local_there x outer y)) (h.hold y t i) }; «open» = λ y wr. absurd wr }
 
           gone : result_destination l.definition.result ≡ discard
           gone = ap result_destination l.result_is

@@ -256,7 +256,7 @@ module _ (w : ir_world.World) (id : List ℕ) (fs : List EmittedMethod) (es : Li
   parameters-are [] = refl
   parameters-are (x ∷ xs) = ap (λ ns. place.name (named x) ∷ ns) (parameters-are xs)
 
-  pub code-is : (e : EmittedMethod) → code_with e ≡ function_of place e.definition e.its_body
+  pub code-is : (e : EmittedMethod) → code_with e ≡ function_of place file e.definition e.its_body
   code-is e = λ i. record { parameters = parameters-are (desugared e.definition e.its_body).params i; body = (code_with e).body }
 
   linked_by : is_proper_module (module_with fs es) ≡ true → (e : EmittedMethod) → Contains fs e → IsEmitted w has e → Linked place e.member

@@ -27,9 +27,9 @@ abbrev pub parameters_in : Place → List (List ℕ) → List Name
 parameters_in p [] = []
 parameters_in p (x ∷ xs) = p.name (named x) ∷ parameters_in p xs
 
--- the emitted function of a method with this body
-abbrev pub function_of : Place → MethodDef → Term → js_meaning.Code
-function_of p d e = record { parameters = parameters_in p (desugared d e).params; body = statement_templates p.name p.label (desugared d e).body }
+-- the emitted function of a method with this body, in this file
+abbrev pub function_of : Place → Name → MethodDef → Term → js_meaning.Code
+function_of p f d e = record { parameters = parameters_in p (desugared d e).params; body = statement_templates p.name p.label (p.has f).target (desugared d e).body }
 
 -- a member of the classes with the types that its name tells and a body that keeps the rules by what the code of its file can use, whose function stands
 -- in that file; and what can be used there is reached there
@@ -40,7 +40,7 @@ pub record Linked (p : Place) (m : Member) : Type 0 where
   pub has_body : definition.body ≡ Some its_body
   pub parameters : HaveTypes definition.params m.method.params
   pub result_is : definition.result ≡ call_type m.method.result
-  pub emitted : js_meaning.code_of p.program (p.home (a_function m)) (member_name m) ≡ Some (function_of p definition its_body)
+  pub emitted : js_meaning.code_of p.program (p.home (a_function m)) (member_name m) ≡ Some (function_of p (p.home (a_function m)) definition its_body)
   pub rules : KeepsRules p.classes (p.has (p.home (a_function m))) m.class definition its_body
   pub reaches : Reaches p (p.home (a_function m))
 

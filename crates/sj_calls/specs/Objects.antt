@@ -2,6 +2,7 @@
 use Rattle.std.specs.Prelude.{◌≡◌, ◌∷◌, Some, None}
 use Rattle.ir_mean.specs.World.{member_of}
 use Rattle.js_mean.specs.Meaning as js_meaning
+use Rattle.js_tree.specs.Terms.{Name}
 use Rattle.sj_core.specs.Terms as core
 use Rattle.sj_desugar.specs.Desugar.{is_mutable_in, names_of, body_code}
 use Rattle.sj_emit_expr.specs.Templates.{member_name, statement_templates}
@@ -14,9 +15,9 @@ use Rattle.body_rules.specs.Standing.{call_type}
 use Rattle.sj_calls.specs.Methods.{parameters_in}
 use Rattle.sj_trees.specs.declared.types.IrType.TheVariants.{NoType}
 
--- the emitted function of a method that runs on a receiver, with this body: the receiver is its first parameter
-abbrev pub function_on : Place → MethodDef → core.Statements → js_meaning.Code
-function_on p d ss = record { parameters = p.name core.receiver ∷ parameters_in p (names_of d.params); body = statement_templates p.name p.label ss }
+-- the emitted function of a method that runs on a receiver, with this body, in this file: the receiver is its first parameter
+abbrev pub function_on : Place → Name → MethodDef → core.Statements → js_meaning.Code
+function_on p f d ss = record { parameters = p.name core.receiver ∷ parameters_in p (names_of d.params); body = statement_templates p.name p.label (p.has f).target ss }
 
 -- the body of a method with this tree, and that of a constructor, which gives the object that it ran on
 abbrev pub body_of : MethodDef → Term → core.Statements
@@ -33,7 +34,7 @@ pub record RunsOn (p : Place) (m : Member) : Type 0 where
   pub has_body : definition.body ≡ Some its_body
   pub parameters : HaveTypes definition.params m.method.params
   pub result_is : definition.result ≡ call_type m.method.result
-  pub emitted : js_meaning.code_of p.program (p.home (a_method m)) (member_name m) ≡ Some (function_on p definition (body_of definition its_body))
+  pub emitted : js_meaning.code_of p.program (p.home (a_method m)) (member_name m) ≡ Some (function_on p (p.home (a_method m)) definition (body_of definition its_body))
   pub rules : KeepsRules p.classes (p.has (p.home (a_method m))) m.class definition its_body
   pub reaches : Reaches p (p.home (a_method m))
 
@@ -45,6 +46,6 @@ pub record Constructs (p : Place) (m : Member) : Type 0 where
   pub has_body : definition.body ≡ Some its_body
   pub parameters : HaveTypes definition.params m.method.params
   pub result_is : definition.result ≡ NoType
-  pub emitted : js_meaning.code_of p.program (p.home (a_constructor m)) (member_name m) ≡ Some (function_on p definition (constructor_body definition its_body))
+  pub emitted : js_meaning.code_of p.program (p.home (a_constructor m)) (member_name m) ≡ Some (function_on p (p.home (a_constructor m)) definition (constructor_body definition its_body))
   pub rules : KeepsRules p.classes (p.has (p.home (a_constructor m))) m.class definition its_body
   pub reaches : Reaches p (p.home (a_constructor m))

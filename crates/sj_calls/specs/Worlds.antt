@@ -2,6 +2,7 @@
 -- each where code can use it.
 use Rattle.std.specs.Prelude.{◌≡◌, ℕ, ◌≤◌, true, false, List, length, codes, Option, Some}
 use Rattle.built_forms.specs.Built.{can_box, divides}
+use Rattle.dispatch_laws.specs.Targets.{IsTargetOf}
 use Rattle.helper_rules.specs.Helpers.{helper_name}
 use Rattle.helper_rules.specs.declared.kinds.Failure.TheVariants.{NullReceiver, Division}
 use Rattle.helper_rules.specs.declared.kinds.Helper.TheVariants.{NotNull, Throws}
@@ -70,10 +71,11 @@ pub record StaticStands (p : Place) (c f : List ℕ) (t : IrType) : Type 0 where
   pub sets : js_meaning.code_of p.program (p.home (a_setter c f t)) (setter_name c f) ≡ Some (setter_code c f)
   pub owned : owner p.program (p.home (a_setter c f t)) (static_name c f) ≡ Some (p.home (a_setter c f t))
 
--- what the code of any file can use is there; an object stands at its class; and around a call there are two units for a helper, and one beyond those of the IR
+-- what the code of any file can use is there, and what a call of a public member runs is its target; an object stands at its class; and around a call there are two units for a helper, and one beyond those of the IR
 pub record HasObjects (p : Place) : Type 0 where
   pub linked : (f : Name) (m : Member) → (p.has f).linked m ≡ true → Linked p m
   pub received : (f : Name) (m : Member) → (p.has f).received m ≡ true → RunsOn p m
+  pub targets : (f : Name) (m : Member) → (p.has f).received ((p.has f).target m) ≡ true → IsTargetOf p.classes m ((p.has f).target m)
   pub built : (f : Name) (m : Member) → (p.has f).built m ≡ true → Constructs p m
   pub made : (f : Name) (c : List ℕ) → (p.has f).made c ≡ true → IsMade p c
   pub objects : (f : Name) (c : List ℕ) → (p.has f).made c ≡ true → is_bare (class_type c) ≡ false

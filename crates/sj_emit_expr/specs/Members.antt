@@ -19,6 +19,6 @@ with_receiver _ xs = variable_name receiver ∷ xs
 abbrev pub function_parameters : Method → List Name
 function_parameters m = with_receiver m.namespace (parameter_names m.params)
 
--- by what a call of a member on a receiver runs
+-- by the targets of public members
 abbrev pub member_piece : (Member → Member) → Member → Method → Piece
 member_piece target m c = function_piece m (function_parameters c) (body_template target c) (uses target c.body)

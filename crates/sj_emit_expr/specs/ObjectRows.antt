@@ -49,7 +49,7 @@ field e = select nowhere e a_name (codes "f") Types.Int
 abbrev pub this : Term
 this = this_ref nowhere a_class
 
--- the piece of a method of the class A with this body, by what a call of a member on a receiver runs
+-- the piece of a method of the class A with this body, by the targets of public members
 abbrev pub piece_by : (Member → Member) → Namespace → MethodName → List ParamDef → IrType → Term → Piece
 piece_by target n m params result body = member_piece target (record { class = a_name; namespace = n; method = m }) (desugared_member (record { pos = nowhere; namespace = n; name = m; params = params; result = result; body = Some body; hash = None }) body)
 
@@ -95,12 +95,12 @@ others_piece = piece PublicStatic (named (codes "others") (TypeRef.Class a_name 
     static : Term
     static = select_static nowhere a_name (codes "s") Types.Int
 
--- a public method of a class that inherits it: the function that is called is that of the class A, and behind it one whose target is its own
+-- calls of a public method of a class that inherits it, of one that is its own target, and of a private one
 abbrev pub inherited : Member → Member
 inherited m = if is_same_text m.class (codes "B") then record m { class = a_name } else m
 
 abbrev pub called_piece : Piece
-called_piece = piece_by inherited PublicStatic (named (codes "called") (TypeRef.Class a_name ∷ []) TypeRef.Void) (param (codes "q") a_class ∷ []) Types.NoType (block (call (codes "B") ∷ call (codes "C") ∷ []))
+called_piece = piece_by inherited PublicStatic (named (codes "called") (TypeRef.Class a_name ∷ []) TypeRef.Void) (param (codes "q") a_class ∷ []) Types.NoType (block (call (codes "B") Public ∷ call (codes "C") Public ∷ call (codes "B") Private ∷ []))
   where
-    call : List ℕ → Term
-    call c = apply_statically nowhere (use_of (codes "q") a_class) c Public (named (codes "m") [] TypeRef.Void) no_terms Types.NoType
+    call : List ℕ → Namespace → Term
+    call c n = apply_statically nowhere (use_of (codes "q") a_class) c n (named (codes "m") [] TypeRef.Void) no_terms Types.NoType

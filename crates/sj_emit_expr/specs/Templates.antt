@@ -13,6 +13,8 @@ use Rattle.sj_mangling.specs.Bindings.{function_name, class_binding, field_bindi
 use Rattle.sj_mangling.specs.declared.bindings.ClassBinding.TheVariants.{Class}
 use Rattle.sj_mangling.specs.declared.bindings.FieldBinding.TheVariants.{Property, Variable as StaticField, Setter}
 use Rattle.sj_names.specs.declared.method_names.Member.{Member}
+use Rattle.sj_names.specs.declared.method_names.Namespace.{Namespace}
+use Rattle.sj_names.specs.declared.method_names.Namespace.TheVariants.{Public}
 use Rattle.sj_trees.specs.declared.operators.BinaryOp.{BinaryOp}
 use Rattle.sj_trees.specs.declared.operators.BinaryOp.TheVariants.{StringConcatenate, BooleanEqual, BooleanNotEqual, BooleanOr, BooleanAnd, IntAdd, IntSubtract, IntMultiply, IntDivide, IntRemainder, IntOr, IntAnd, IntXor, IntShiftLeft, IntShiftRightLogical, IntShiftRightArithmetic, IntEqual, IntNotEqual, IntLess, IntLessOrEqual, IntGreater, IntGreaterOrEqual, LongAdd, LongSubtract, LongMultiply, LongDivide, LongRemainder, LongOr, LongAnd, LongXor, LongShiftLeft, LongShiftRightLogical, LongShiftRightArithmetic, LongEqual, LongNotEqual, LongLess, LongLessOrEqual, LongGreater, LongGreaterOrEqual}
 use Rattle.sj_trees.specs.declared.operators.UnaryOp.{UnaryOp}
@@ -139,7 +141,12 @@ abbrev pub choice_template : js.Expression → js.Statements → js.Statements �
 choice_template c ss js.no_statements = if_only c ss
 choice_template c ss (js.statement t ts) = if_else c ss (js.statement t ts)
 
--- for any names of variables and labels, and for what a call of a member on a receiver runs
+-- what a call of a member on a receiver runs, by the targets of public members: a public one may be a member that the class inherits, and any other is its own
+abbrev pub called_member : (Member → Member) → Namespace → Member → Member
+called_member target Public m = target m
+called_member target _ m = m
+
+-- for any names of variables and labels, and any targets of public members
 module _ (name : Variable → Name) (label : List ℕ → Name) (target : Member → Member) where
   abbrev mutual
     pub expression_template : core.Expression → js.Expression
@@ -159,7 +166,7 @@ module _ (name : Variable → Name) (label : List ℕ → Name) (target : Member
     expression_template (static_of c f) = name_use (static_name c f)
     expression_template (checked_value e) = call_of check_name (js.expression (expression_template e) js.no_expressions)
     expression_template (made_of m es) = call_of (member_name m) (js.expression (new_of (class_name m.class) js.no_expressions) (expression_templates es))
-    expression_template (receiver_call m e es) = call_of (member_name (target m)) (js.expression (expression_template e) (expression_templates es))
+    expression_template (receiver_call m e es) = call_of (member_name (called_member target m.namespace m)) (js.expression (expression_template e) (expression_templates es))
     expression_template (core.unary_of o e) = unary_template o (expression_template e)
     expression_template (core.binary_of o e g) = binary_template (is_nonzero_literal g) o (expression_template e) (expression_template g)
 

@@ -4,7 +4,7 @@ use Rattle.std.specs.Cmp.Lexicographic.{pointwise}
 use Rattle.std.specs.List.{list_any}
 use Rattle.js_tree.specs.declared.items.Binding.{Binding}
 use Rattle.sj_core.specs.Terms.{Expression, boxed_char, char_text, value_text, choice_of, static_call, field_of, static_of, checked_value, made_of, receiver_call, unary_of, binary_of, Expressions, no_expressions, expression, Statement, constant_of, define_of, declare_of, assign_to, evaluate_of, return_of, log_of, assign_field, assign_static, throw_of, leave_label, break_nearest, if_of, while_of, loop_of, labeled_of, switch_of, Statements, no_statements, statement, Cases, no_cases, switch_case}
-use Rattle.sj_emit_expr.specs.Templates.{member_name, class_name, static_name, setter_name, check_name, is_nonzero_literal}
+use Rattle.sj_emit_expr.specs.Templates.{called_member, member_name, class_name, static_name, setter_name, check_name, is_nonzero_literal}
 use Rattle.sj_names.specs.declared.method_names.Member.{Member}
 use Rattle.sj_trees.specs.declared.operators.BinaryOp.{BinaryOp}
 use Rattle.sj_trees.specs.declared.operators.BinaryOp.TheVariants.{IntDivide, IntRemainder, LongDivide, LongRemainder}
@@ -32,7 +32,7 @@ helper_of false LongDivide = object_binding (codes "$ld") ∷ []
 helper_of false LongRemainder = object_binding (codes "$lm") ∷ []
 helper_of _ _ = []
 
--- by what a call of a member on a receiver runs
+-- by the targets of public members
 module _ (target : Member → Member) where
   abbrev mutual
     -- each use in the order of the text
@@ -46,7 +46,7 @@ module _ (target : Member → Member) where
     uses_in (static_of c f) = static_use c f ∷ []
     uses_in (checked_value e) = object_binding check_name ∷ uses_in e
     uses_in (made_of m es) = function_binding m ∷ class_use m.class ∷ uses_in_all es
-    uses_in (receiver_call m e es) = function_binding (target m) ∷ uses_in e ++ uses_in_all es
+    uses_in (receiver_call m e es) = function_binding (called_member target m.namespace m) ∷ uses_in e ++ uses_in_all es
     uses_in (unary_of o e) = uses_in e
     uses_in (binary_of o e g) = helper_of (is_nonzero_literal g) o ++ uses_in e ++ uses_in g
     uses_in _ = []

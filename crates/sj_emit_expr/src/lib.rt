@@ -19,7 +19,7 @@ pub fn worked_functions()
 /// Worked methods of the class `A` on objects. A constructor runs on an object that is there, and gives it. A method that isn't static has This as its
 /// first parameter. A receiver has its null check, but where it
 /// is This, or an immutable local that is defined as a new object; where a later operand isn't plain, the check comes in front of it; and a receiver
-/// that isn't plain is spilled for its check. A call on a receiver runs the function of its target. `uses` names the functions, classes, static fields and
+/// that isn't plain is spilled for its check. A call of a public method runs the function of its target, and any other the one that it names. `uses` names the functions, classes, static fields and
 /// helpers of a text in its order.
 pub fn worked_objects()
     ensures constructor { piece_text constructor_piece ≡ codes "function ct_A__$3cinit$3e$$I$$V($this, v_x) {\n  ct_java_lang_Object__$3cinit$3e$$V($this);\n  $this.f_A__f = v_x;\n  return $this;\n}\n" }
@@ -32,6 +32,6 @@ pub fn worked_objects()
     ensures constructor_uses { constructor_piece.uses ≡ record { owner = codes "java.lang.Object"; name = codes "ct_java_lang_Object__$3cinit$3e$$V" } ∷ [] }
     ensures sum_uses { sum_piece.uses ≡ record { owner = codes "A"; name = codes "ct_A__$3cinit$3e$$I$$V" } ∷ record { owner = codes "A"; name = codes "c_A" } ∷ record { owner = codes "java.lang.Object"; name = codes "$nn" } ∷ [] }
     ensures others_uses { others_piece.uses ≡ record { owner = codes "A"; name = codes "u_A__s" } ∷ record { owner = codes "java.lang.Object"; name = codes "$id" } ∷ record { owner = codes "A"; name = codes "t_A__s" } ∷ record { owner = codes "java.lang.Object"; name = codes "$lm" } ∷ record { owner = codes "A"; name = codes "p_A__m$$I$$V" } ∷ record { owner = codes "java.lang.Object"; name = codes "$nn" } ∷ [] }
-    ensures called { piece_text called_piece ≡ codes "function s_A__called$$LA$$V(v_q) {\n  f_A__m$$V($nn(v_q));\n  f_C__m$$V($nn(v_q));\n}\n" }
-    ensures called_uses { called_piece.uses ≡ record { owner = codes "A"; name = codes "f_A__m$$V" } ∷ record { owner = codes "java.lang.Object"; name = codes "$nn" } ∷ record { owner = codes "C"; name = codes "f_C__m$$V" } ∷ [] }
+    ensures called { piece_text called_piece ≡ codes "function s_A__called$$LA$$V(v_q) {\n  f_A__m$$V($nn(v_q));\n  f_C__m$$V($nn(v_q));\n  p_B__m$$V($nn(v_q));\n}\n" }
+    ensures called_uses { called_piece.uses ≡ record { owner = codes "A"; name = codes "f_A__m$$V" } ∷ record { owner = codes "java.lang.Object"; name = codes "$nn" } ∷ record { owner = codes "C"; name = codes "f_C__m$$V" } ∷ record { owner = codes "B"; name = codes "p_B__m$$V" } ∷ [] }
 {}

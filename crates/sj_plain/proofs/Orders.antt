@@ -16,7 +16,7 @@ use Rattle.sj_core.specs.Terms as core
 use Rattle.js_tree.specs.Terms as tree
 use Rattle.sj_emit_expr.specs.Templates.{expression_template}
 use Rattle.sj_trees.specs.declared.types.IrType.{IrType}
-use Rattle.sj_plain.specs.Settings.{Setting, shown, SameState, Valued, valued, thrown}
+use Rattle.sj_plain.specs.Settings.{Setting, shown, SameState, Valued, valued, thrown, usable}
 
 -- values of these types that operands gave, in a world that has grown from the second, and what is done with them, which gives one of this
 -- type in a world that has grown from the first
@@ -29,7 +29,7 @@ OperandAlike z from env sc t r e = (w : World) (s : ir.State) (u : js.State) →
 
 -- the text of an expression
 abbrev pub text_of : Setting → core.Expression → tree.Expression
-text_of z e = expression_template z.place.name z.place.label e
+text_of z e = expression_template z.place.name z.place.label (usable z).target e
 
 abbrev pub all_shown : Setting → List core.Expression → List js.Evaluation
 all_shown z [] = []

@@ -122,7 +122,7 @@ module _ (z : Setting) (lawful : Lawful z) (scope : Scope) where
       by _ _ (same_boolean false) = weaker w y env t (second env s) (other sc u) h (g y s u h same)
       by _ _ _ = sim_wrong z.direction (Valued z.place w env t) _
 
-  arguments_shown : (es : List core.Expression) → js_meaning.arguments z.place.program z.js_low (expression_templates z.place.name z.place.label (expressions_of es)) ≡ all_shown z es
+  arguments_shown : (es : List core.Expression) → js_meaning.arguments z.place.program z.js_low (expression_templates z.place.name z.place.label (usable z).target (expressions_of es)) ≡ all_shown z es
   arguments_shown [] = refl
   arguments_shown (e ∷ es) = ap (λ rest. shown z e ∷ rest) (arguments_shown es)
 
@@ -139,21 +139,21 @@ module _ (z : Setting) (lawful : Lawful z) (scope : Scope) where
   standing_operand : (t : Term) (expected : IrType) → StandsFor z expected (type_of_term t) → PlainAlike t → (w : World) (env : ir.Env) (sc : js.Scope) → Sees z.place z.code scope w env sc → OperandAlike z w env sc expected (ir_meaning.step z.place.classes z.low t) (shown z (coerced expected (type_of_term t) (expression_of z.code.sure t)))
   standing_operand t expected f h w env sc sees = operand_coerced z lawful.base expected (type_of_term t) f.0 f.1 w env sc sees.inside (ir_meaning.step z.place.classes z.low t) (expression_of z.code.sure t) (as_operand t h w env sc sees)
 
-  if_alike : (c a b : Term) (t : IrType) → PlainAlike c → PlainAlike a → PlainAlike b → StandsFor z t (type_of_term a) → StandsFor z t (type_of_term b) → tells (type_of_term c) (expression_template z.place.name z.place.label (expression_of z.code.sure c)) ≡ true → (w : World) (env : ir.Env) (s : ir.State) (sc : js.Scope) (u : js.State) → Sees z.place z.code scope w env sc → SameState z.place w s u → Sim z.direction (Valued z.place w env t) (ir_meaning.in_order (ir_meaning.step z.place.classes z.low c ∷ []) (ir_meaning.branch (ir_meaning.step z.place.classes z.low a) (ir_meaning.step z.place.classes z.low b)) env s) (shown z (core.choice_of (expression_of z.code.sure c) (coerced t (type_of_term a) (expression_of z.code.sure a)) (coerced t (type_of_term b) (expression_of z.code.sure b))) sc u)
+  if_alike : (c a b : Term) (t : IrType) → PlainAlike c → PlainAlike a → PlainAlike b → StandsFor z t (type_of_term a) → StandsFor z t (type_of_term b) → tells (type_of_term c) (expression_template z.place.name z.place.label (usable z).target (expression_of z.code.sure c)) ≡ true → (w : World) (env : ir.Env) (s : ir.State) (sc : js.Scope) (u : js.State) → Sees z.place z.code scope w env sc → SameState z.place w s u → Sim z.direction (Valued z.place w env t) (ir_meaning.in_order (ir_meaning.step z.place.classes z.low c ∷ []) (ir_meaning.branch (ir_meaning.step z.place.classes z.low a) (ir_meaning.step z.place.classes z.low b)) env s) (shown z (core.choice_of (expression_of z.code.sure c) (coerced t (type_of_term a) (expression_of z.code.sure a)) (coerced t (type_of_term b) (expression_of z.code.sure b))) sc u)
   if_alike c a b t hc ha hb fa fb told w env s sc u sees same = in_order_alike z w w env sc w (type_of_term c ∷ []) t (ir_meaning.step z.place.classes z.low c ∷ []) (expression_of z.code.sure c ∷ []) (ir_meaning.branch (ir_meaning.step z.place.classes z.low a) (ir_meaning.step z.place.classes z.low b)) (js_meaning.chosen (shown z (coerced t (type_of_term a) (expression_of z.code.sure a))) (shown z (coerced t (type_of_term b) (expression_of z.code.sure b)))) (more_operands _ _ _ _ _ _ told (as_operand c hc w env sc sees) no_operands) (branch_acts w env sc (type_of_term c) t (ir_meaning.step z.place.classes z.low a) (ir_meaning.step z.place.classes z.low b) (shown z (coerced t (type_of_term a) (expression_of z.code.sure a))) (shown z (coerced t (type_of_term b) (expression_of z.code.sure b))) (standing_operand a t fa ha w env sc sees) (standing_operand b t fb hb w env sc sees)) w s u (grows-refl w) (grows-refl w) (grows-refl w) same
 
   pub call_alike : (m : Member) (ts : List IrType) (rs : List ir.Run) (es es' : List core.Expression) → es ≡ es' → (usable z).linked m ≡ true → FitAll (types_referred m.method.params) ts → (w : World) (env : ir.Env) (s : ir.State) (sc : js.Scope) (u : js.State) → Inside z.place z.code sc → OperandsAlike z w env sc ts rs es' → SameState z.place w s u → Sim z.direction (Valued z.place w env (call_type m.method.result)) (ir_meaning.in_order rs (ir_meaning.call z.low (ir_world.member_of z.place.classes m.class m.namespace m.method) None) env s) (shown z (core.static_call m (expressions_of es)) sc u)
-  call_alike m ts rs es es' e linked fit w env s sc u inside operands same = by_equal w env (call_type m.method.result) _ _ _ _ refl (ap (λ o. then_do o (js.with_value (λ f. js_meaning.in_order (js_meaning.arguments z.place.program z.js_low (expression_templates z.place.name z.place.label (expressions_of es))) (js_meaning.call z.place.program z.js_low f) sc))) (name_shown m w s sc u linked inside same) ∙ ap (λ args. js_meaning.in_order args (js_meaning.call z.place.program z.js_low (function_of_member z.place m)) sc u) (arguments_shown es ∙ ap (all_shown z) e)) (in_order_alike z w w env sc w ts (call_type m.method.result) rs es' (ir_meaning.call z.low (ir_world.member_of z.place.classes m.class m.namespace m.method) None) (js_meaning.call z.place.program z.js_low (function_of_member z.place m)) operands (call_acts m ts w env sc linked fit) w s u (grows-refl w) (grows-refl w) (grows-refl w) same)
+  call_alike m ts rs es es' e linked fit w env s sc u inside operands same = by_equal w env (call_type m.method.result) _ _ _ _ refl (ap (λ o. then_do o (js.with_value (λ f. js_meaning.in_order (js_meaning.arguments z.place.program z.js_low (expression_templates z.place.name z.place.label (usable z).target (expressions_of es))) (js_meaning.call z.place.program z.js_low f) sc))) (name_shown m w s sc u linked inside same) ∙ ap (λ args. js_meaning.in_order args (js_meaning.call z.place.program z.js_low (function_of_member z.place m)) sc u) (arguments_shown es ∙ ap (all_shown z) e)) (in_order_alike z w w env sc w ts (call_type m.method.result) rs es' (ir_meaning.call z.low (ir_world.member_of z.place.classes m.class m.namespace m.method) None) (js_meaning.call z.place.program z.js_low (function_of_member z.place m)) operands (call_acts m ts w env sc linked fit) w s u (grows-refl w) (grows-refl w) (grows-refl w) same)
 
   pub unary_alike : (o : UnaryOp) (own : IrType) (r : ir.Run) (e : core.Expression) → Fits (unary_operand o) own → (w : World) (env : ir.Env) (s : ir.State) (sc : js.Scope) (u : js.State) → OperandsAlike z w env sc (own ∷ []) (r ∷ []) (e ∷ []) → SameState z.place w s u → Sim z.direction (Valued z.place w env (unary_result o)) (ir_meaning.in_order (r ∷ []) (ir_meaning.unary z.place.classes z.low o) env s) (shown z (core.unary_of o e) sc u)
-  unary_alike o own r e fit w env s sc u operand same = by_equal w env (unary_result o) _ _ _ _ refl (unary_shown z.place.program z.js_low (expression_template z.place.name z.place.label e) sc u o) (in_order_alike z w w env sc w (own ∷ []) (unary_result o) (r ∷ []) (e ∷ []) (ir_meaning.unary z.place.classes z.low o) (by_one_value (one_template_value o)) operand (unary_acts z w env sc o own fit) w s u (grows-refl w) (grows-refl w) (grows-refl w) same)
+  unary_alike o own r e fit w env s sc u operand same = by_equal w env (unary_result o) _ _ _ _ refl (unary_shown z.place.program z.js_low (expression_template z.place.name z.place.label (usable z).target e) sc u o) (in_order_alike z w w env sc w (own ∷ []) (unary_result o) (r ∷ []) (e ∷ []) (ir_meaning.unary z.place.classes z.low o) (by_one_value (one_template_value o)) operand (unary_acts z w env sc o own fit) w s u (grows-refl w) (grows-refl w) (grows-refl w) same)
 
   -- an operator whose template takes the operands' values as they are
   direct_alike : (o : BinaryOp) (left right : IrType) (r q : ir.Run) (e d : core.Expression) → is_direct o ≡ true → Fits (left_operand o) left → Fits (right_operand o) right → (w : World) (env : ir.Env) (s : ir.State) (sc : js.Scope) (u : js.State) → OperandsAlike z w env sc (left ∷ right ∷ []) (r ∷ q ∷ []) (e ∷ d ∷ []) → SameState z.place w s u → Sim z.direction (Valued z.place w env (binary_result o)) (ir_meaning.in_order (r ∷ q ∷ []) (ir_meaning.binary z.place.classes z.low o) env s) (shown z (core.binary_of o e d) sc u)
-  direct_alike o left right r q e d direct f g w env s sc u operands same = by_equal w env (binary_result o) _ _ _ _ refl (binary_shown z.place.program z.js_low (is_nonzero_literal d) (expression_template z.place.name z.place.label e) (expression_template z.place.name z.place.label d) (not_ratio operands) sc u o direct) (in_order_alike z w w env sc w (left ∷ right ∷ []) (binary_result o) (r ∷ q ∷ []) (e ∷ d ∷ []) (ir_meaning.binary z.place.classes z.low o) (by_value (template_value o)) operands (binary_acts z w env sc o left right direct) w s u (grows-refl w) (grows-refl w) (grows-refl w) same)
+  direct_alike o left right r q e d direct f g w env s sc u operands same = by_equal w env (binary_result o) _ _ _ _ refl (binary_shown z.place.program z.js_low (is_nonzero_literal d) (expression_template z.place.name z.place.label (usable z).target e) (expression_template z.place.name z.place.label (usable z).target d) (not_ratio operands) sc u o direct) (in_order_alike z w w env sc w (left ∷ right ∷ []) (binary_result o) (r ∷ q ∷ []) (e ∷ d ∷ []) (ir_meaning.binary z.place.classes z.low o) (by_value (template_value o)) operands (binary_acts z w env sc o left right direct) w s u (grows-refl w) (grows-refl w) (grows-refl w) same)
     where
-      not_ratio : OperandsAlike z w env sc (left ∷ right ∷ []) (r ∷ q ∷ []) (e ∷ d ∷ []) → js_meaning.over_zero (expression_template z.place.name z.place.label d) (js_meaning.ratio_of z.place.program z.js_low (expression_template z.place.name z.place.label e)) ≡ None
-      not_ratio (more_operands _ _ _ _ _ _ h one (more_operands _ _ _ _ _ _ k other no_operands)) = no_ratio z.place.program z.js_low o direct left right (expression_template z.place.name z.place.label e) (expression_template z.place.name z.place.label d) f g h k
+      not_ratio : OperandsAlike z w env sc (left ∷ right ∷ []) (r ∷ q ∷ []) (e ∷ d ∷ []) → js_meaning.over_zero (expression_template z.place.name z.place.label (usable z).target d) (js_meaning.ratio_of z.place.program z.js_low (expression_template z.place.name z.place.label (usable z).target e)) ≡ None
+      not_ratio (more_operands _ _ _ _ _ _ h one (more_operands _ _ _ _ _ _ k other no_operands)) = no_ratio z.place.program z.js_low o direct left right (expression_template z.place.name z.place.label (usable z).target e) (expression_template z.place.name z.place.label (usable z).target d) f g h k
 
   abbrev TwoAlike : BinaryOp → IrType → IrType → core.Expression → core.Expression → ir.Run → ir.Run → core.Expression → World → ir.Env → ir.State → js.Scope → js.State → Type 0
   TwoAlike o left right e d r q made w env s sc u = OperandsAlike z w env sc (left ∷ right ∷ []) (r ∷ q ∷ []) (e ∷ d ∷ []) → SameState z.place w s u → Sim z.direction (Valued z.place w env (binary_result o)) (ir_meaning.in_order (r ∷ q ∷ []) (ir_meaning.binary z.place.classes z.low o) env s) (shown z made sc u)
@@ -172,7 +172,7 @@ module _ (z : Setting) (lawful : Lawful z) (scope : Scope) where
   binary_alike _ _ _ r q e d (divided o left right h f g) w env s sc u inside operands same = by_equal w env (binary_result o) _ _ _ _ refl (λ i. shown z (taken_as_they_are (usable z) o h left right e d i) sc u) (divided_operands z lawful o h left right r q e d f g w env s sc u inside operands same)
 
   abbrev text_of_tree : Term → tree.Expression
-  text_of_tree t = expression_template z.place.name z.place.label (expression_of z.code.sure t)
+  text_of_tree t = expression_template z.place.name z.place.label (usable z).target (expression_of z.code.sure t)
 
   -- what the text of a plain tree tells of its type
   not_long : (expected own : IrType) → is_narrow expected ≡ true → Fits expected own → is_long own ≡ false
@@ -261,7 +261,7 @@ module _ (z : Setting) (lawful : Lawful z) (scope : Scope) where
   division_tree : (p : Position) (o : BinaryOp) (e d : Term) → DividesBy o d → Fits (left_operand o) (type_of_term e) → TreeAlike e → TreeAlike (binary_op p o e d)
   division_tree p o e d by fit h = record {
     alike = λ w env s sc u sees same. by_equal w env (binary_result o) _ _ _ _ (dividend_alone z o d by (ir_meaning.step z.place.classes z.low e) env s) (λ i. shown z (division_same o d by (type_of_term e) (type_of_term d) (expression_of z.code.sure e) (expression_of z.code.sure d) i) sc u) (division_alike z o d by (type_of_term e) fit (ir_meaning.step z.place.classes z.low e) (expression_of z.code.sure e) w env s sc u (with_tree e h w env sc sees [] [] [] no_operands) same);
-    told = subst (λ x. tells (binary_result o) (expression_template z.place.name z.place.label x) ≡ true) (sym (division_same o d by (type_of_term e) (type_of_term d) (expression_of z.code.sure e) (expression_of z.code.sure d))) (division_tells o d by (text_of_tree e));
+    told = subst (λ x. tells (binary_result o) (expression_template z.place.name z.place.label (usable z).target x) ≡ true) (sym (division_same o d by (type_of_term e) (type_of_term d) (expression_of z.code.sure e) (expression_of z.code.sure d))) (division_tells o d by (text_of_tree e));
   }
 
   -- arguments as they are coerced

@@ -22,7 +22,7 @@ use Rattle.js_mean.specs.Shows.{object_shown, class_marked}
 use Rattle.outcomes.specs.Shown as shown_ends
 use Rattle.sj_core.specs.Terms as core
 use Rattle.sj_desugar.specs.Coercions.{is_char}
-use Rattle.sj_emit_expr.specs.Templates.{check_name, member_name, static_name, setter_name, expression_template, statement_templates}
+use Rattle.sj_emit_expr.specs.Templates.{called_member, check_name, member_name, static_name, setter_name, expression_template, statement_templates}
 use Rattle.sj_mangling.specs.Bindings.{class_binding, field_binding}
 use Rattle.sj_mangling.specs.declared.bindings.ClassBinding.TheVariants.{Class, Constants, Marker}
 use Rattle.sj_mangling.specs.declared.bindings.FieldBinding.TheVariants.{Property}
@@ -130,10 +130,10 @@ usable z = z.place.has z.code.file
 
 -- the statements and expressions of this setting
 abbrev pub shown : Setting → core.Expression → js.Evaluation
-shown z e = js_meaning.evaluate z.place.program z.js_low (expression_template z.place.name z.place.label e)
+shown z e = js_meaning.evaluate z.place.program z.js_low (expression_template z.place.name z.place.label (usable z).target e)
 
 abbrev pub run : Setting → core.Statements → js.Execution
-run z ss = js_meaning.execute_all z.place.program z.js_low (statement_templates z.place.name z.place.label ss)
+run z ss = js_meaning.execute_all z.place.program z.js_low (statement_templates z.place.name z.place.label (usable z).target ss)
 
 -- the class has an instance field of this name and type
 pub record IsField (classes : ir_world.World) (c f : List ℕ) (t : IrType) : Type 0 where
@@ -291,9 +291,9 @@ pub record IsReceiver (w : World) (c : List ℕ) (v : ir.Value) (x : js.Value) :
 abbrev pub BuildsAlike : Setting → Member → Type 0
 BuildsAlike z m = (w : World) (v : ir.Value) (x : js.Value) (vs : List ir.Value) (xs : List js.Value) (env : ir.Env) (s : ir.State) (u : js.State) → IsReceiver w m.class v x → SameValues w (types_referred m.method.params) vs xs → SameState z.place w s u → Sim z.direction (Built z.place w env x) (ir_meaning.call z.low (ir_world.member_of z.place.classes m.class m.namespace m.method) (Some v) vs env s) (top_call z.place z.js_low (a_constructor m) (x ∷ xs) u)
 
--- a member on a receiver, as a call in its class finds it, and its function
+-- a member on a receiver, as a call in its class finds it, and the function of its target
 abbrev pub ReceivesAlike : Setting → Member → Type 0
-ReceivesAlike z m = (w : World) (v : ir.Value) (x : js.Value) (vs : List ir.Value) (xs : List js.Value) (env : ir.Env) (s : ir.State) (u : js.State) → IsReceiver w m.class v x → SameValues w (types_referred m.method.params) vs xs → SameState z.place w s u → Sim z.direction (Valued z.place w env (call_type m.method.result)) (ir_meaning.call z.low (ir_meaning.static_target z.place.classes m.class m.namespace m.method) (Some v) vs env s) (top_call z.place z.js_low (a_method m) (x ∷ xs) u)
+ReceivesAlike z m = (w : World) (v : ir.Value) (x : js.Value) (vs : List ir.Value) (xs : List js.Value) (env : ir.Env) (s : ir.State) (u : js.State) → IsReceiver w m.class v x → SameValues w (types_referred m.method.params) vs xs → SameState z.place w s u → Sim z.direction (Valued z.place w env (call_type m.method.result)) (ir_meaning.call z.low (ir_meaning.static_target z.place.classes m.class m.namespace m.method) (Some v) vs env s) (top_call z.place z.js_low (a_method (called_member (usable z).target m.namespace m)) (x ∷ xs) u)
 
 -- an assignment to a static field of this type, and a call of the function that sets its variable
 abbrev pub SetsAlike : Setting → List ℕ → List ℕ → IrType → Type 0
@@ -330,7 +330,7 @@ pub record Based (z : Setting) : Type 0 where
   pub statics : (c f : List ℕ) (t : IrType) → (usable z).static_field c f t ≡ true → HasStatic z.place c f t
   pub sets : (c f : List ℕ) (t : IrType) → (usable z).static_field c f t ≡ true → SetsAlike z c f t
   pub calls : (m : Member) → (usable z).linked m ≡ true → CallsAlike z m
-  pub receives : (m : Member) → (usable z).received m ≡ true → ReceivesAlike z m
+  pub receives : (m : Member) → (usable z).received (called_member (usable z).target m.namespace m) ≡ true → ReceivesAlike z m
   pub builds : (m : Member) → (usable z).built m ≡ true → BuildsAlike z m
   pub makes : (c : List ℕ) → (usable z).made c ≡ true → MakesAlike z c
   pub objects : (c : List ℕ) → (usable z).made c ≡ true → is_bare (class_type c) ≡ false

@@ -10,6 +10,7 @@ use Rattle.sj_emit_expr.specs.Templates.{statement_templates}
 pub use Rattle.body_rules.specs.Locals.{Own, OwnAll, OwnCases}
 use Rattle.body_rules.proofs.Equal.{is-equal}
 use Rattle.sj_names.proofs.Same.{impossible}
+use Rattle.sj_names.specs.declared.method_names.Member.{Member}
 
 abbrev pub DeclaresOne : core.Statement → core.Variable → Type 0
 DeclaresOne (core.constant_of p x e) y = x ≡ y
@@ -28,29 +29,29 @@ declares-followed (core.statement s ss) b y (inl h) = inl (inl h)
 declares-followed (core.statement s ss) b y (inr h) = ⊎_elim (λ i. inl (inr i)) (λ i. inr i) (declares-followed ss b y h)
 
 -- the variable that a declared name stands for
-pub record Named (name_of : core.Variable → Name) (label_of : List ℕ → Name) (ss : core.Statements) (n : Name) : Type 0 where
+pub record Named (name_of : core.Variable → Name) (label_of : List ℕ → Name) (target : Member → Member) (ss : core.Statements) (n : Name) : Type 0 where
   pub variable : core.Variable
   pub name : name_of variable ≡ n
   pub declares : Declares ss variable
 
-later : (name_of : core.Variable → Name) (label_of : List ℕ → Name) (s : core.Statement) (ss : core.Statements) (n : Name) → Named name_of label_of ss n → Named name_of label_of (core.statement s ss) n
-later name_of label_of s ss n h = record { variable = h.variable; name = h.name; declares = inr h.declares }
+later : (name_of : core.Variable → Name) (label_of : List ℕ → Name) (target : Member → Member) (s : core.Statement) (ss : core.Statements) (n : Name) → Named name_of label_of target ss n → Named name_of label_of target (core.statement s ss) n
+later name_of label_of target s ss n h = record { variable = h.variable; name = h.name; declares = inr h.declares }
 
-here_or_later : (name_of : core.Variable → Name) (label_of : List ℕ → Name) (s : core.Statement) (ss : core.Statements) (n : Name) (x : core.Variable) (rest : Bool) → DeclaresOne s x → (pointwise nat_eq n (name_of x) || rest) ≡ true → (rest ≡ true → Named name_of label_of ss n) → Named name_of label_of (core.statement s ss) n
-here_or_later name_of label_of s ss n x rest d h k = go (pointwise nat_eq n (name_of x)) refl h
+here_or_later : (name_of : core.Variable → Name) (label_of : List ℕ → Name) (target : Member → Member) (s : core.Statement) (ss : core.Statements) (n : Name) (x : core.Variable) (rest : Bool) → DeclaresOne s x → (pointwise nat_eq n (name_of x) || rest) ≡ true → (rest ≡ true → Named name_of label_of target ss n) → Named name_of label_of target (core.statement s ss) n
+here_or_later name_of label_of target s ss n x rest d h k = go (pointwise nat_eq n (name_of x)) refl h
   where
-    go : (b : Bool) → pointwise nat_eq n (name_of x) ≡ b → (b || rest) ≡ true → Named name_of label_of (core.statement s ss) n
+    go : (b : Bool) → pointwise nat_eq n (name_of x) ≡ b → (b || rest) ≡ true → Named name_of label_of target (core.statement s ss) n
     go true e h = record { variable = x; name = sym (is-equal n (name_of x) e); declares = inl d }
-    go false e h = later name_of label_of s ss n (k h)
+    go false e h = later name_of label_of target s ss n (k h)
 
-pub declared-named : (name_of : core.Variable → Name) (label_of : List ℕ → Name) (ss : core.Statements) (n : Name) → is_among (declared (statement_templates name_of label_of ss)) n ≡ true → Named name_of label_of ss n
-declared-named name_of label_of core.no_statements n h = impossible h
-declared-named name_of label_of (core.statement (core.constant_of p x e) ss) n h = here_or_later name_of label_of (core.constant_of p x e) ss n x (is_among (declared (statement_templates name_of label_of ss)) n) refl h (declared-named name_of label_of ss n)
-declared-named name_of label_of (core.statement (core.define_of p x e) ss) n h = here_or_later name_of label_of (core.define_of p x e) ss n x (is_among (declared (statement_templates name_of label_of ss)) n) refl h (declared-named name_of label_of ss n)
-declared-named name_of label_of (core.statement (core.declare_of p x) ss) n h = here_or_later name_of label_of (core.declare_of p x) ss n x (is_among (declared (statement_templates name_of label_of ss)) n) refl h (declared-named name_of label_of ss n)
-declared-named name_of label_of (core.statement (core.if_of p c a core.no_statements) ss) n h = later name_of label_of (core.if_of p c a core.no_statements) ss n (declared-named name_of label_of ss n h)
-declared-named name_of label_of (core.statement (core.if_of p c a (core.statement t ts)) ss) n h = later name_of label_of (core.if_of p c a (core.statement t ts)) ss n (declared-named name_of label_of ss n h)
-declared-named name_of label_of (core.statement s ss) n h = later name_of label_of s ss n (declared-named name_of label_of ss n h)
+pub declared-named : (name_of : core.Variable → Name) (label_of : List ℕ → Name) (target : Member → Member) (ss : core.Statements) (n : Name) → is_among (declared (statement_templates name_of label_of target ss)) n ≡ true → Named name_of label_of target ss n
+declared-named name_of label_of target core.no_statements n h = impossible h
+declared-named name_of label_of target (core.statement (core.constant_of p x e) ss) n h = here_or_later name_of label_of target (core.constant_of p x e) ss n x (is_among (declared (statement_templates name_of label_of target ss)) n) refl h (declared-named name_of label_of target ss n)
+declared-named name_of label_of target (core.statement (core.define_of p x e) ss) n h = here_or_later name_of label_of target (core.define_of p x e) ss n x (is_among (declared (statement_templates name_of label_of target ss)) n) refl h (declared-named name_of label_of target ss n)
+declared-named name_of label_of target (core.statement (core.declare_of p x) ss) n h = here_or_later name_of label_of target (core.declare_of p x) ss n x (is_among (declared (statement_templates name_of label_of target ss)) n) refl h (declared-named name_of label_of target ss n)
+declared-named name_of label_of target (core.statement (core.if_of p c a core.no_statements) ss) n h = later name_of label_of target (core.if_of p c a core.no_statements) ss n (declared-named name_of label_of target ss n h)
+declared-named name_of label_of target (core.statement (core.if_of p c a (core.statement t ts)) ss) n h = later name_of label_of target (core.if_of p c a (core.statement t ts)) ss n (declared-named name_of label_of target ss n h)
+declared-named name_of label_of target (core.statement s ss) n h = later name_of label_of target s ss n (declared-named name_of label_of target ss n h)
 
 -- a local of these, or a variable for an operand from this number on
 abbrev pub IsNew : (List ℕ → Type 0) → ℕ → core.Variable → Type 0

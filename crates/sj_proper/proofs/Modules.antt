@@ -10,11 +10,13 @@ use Rattle.sj_core.specs.Terms as core
 use Rattle.sj_desugar.specs.Desugar.{desugared, desugared_member, completed, body_code, names_of, is_mutable_in, into, result_destination}
 use Rattle.sj_emit_expr.specs.Members.{with_receiver, member_piece}
 use Rattle.sj_emit_expr.specs.Names.{variable_name, label_name}
+use Rattle.sj_emit_expr.specs.Pieces.{piece_of}
 use Rattle.sj_emit_expr.specs.Templates.{member_name, statement_templates, parameter_names}
 use Rattle.sj_proper.specs.Once.{DefinesOnce, IsAmong, AreDistinct}
 use Rattle.sj_proper.proofs.Names.{variables-differ, labels-differ}
 use Rattle.sj_mangling.proofs.FunctionNames.{function_names_differ}
 use Rattle.sj_names.specs.declared.entry_points.EntryPoint.{EntryPoint}
+use Rattle.sj_names.specs.declared.method_names.Member.{Member}
 use Rattle.sj_names.specs.declared.method_names.Namespace.{Namespace}
 use Rattle.sj_names.specs.declared.method_names.Namespace.TheVariants.{Public, PublicStatic, Private, PrivateStatic, Constructor}
 use Rattle.sj_trees.specs.declared.classes.ParamDef.{ParamDef}
@@ -48,73 +50,78 @@ parameter-among (d ∷ ds) x (inr h) = inr (parameter-among ds x h)
 named-same : (x y : List ℕ) → core.named x ≡ core.named y → x ≡ y
 named-same x y e = cc
 
-abbrev declares_names : core.Statements → List Name
-declares_names ss = declared (statement_templates variable_name label_name ss)
+-- whatever calls of members on receivers run
+module _ (target : Member → Member) where
+  abbrev declares_names : core.Statements → List Name
+  declares_names ss = declared (statement_templates variable_name label_name target ss)
 
-no_parameter : (x : List ℕ) (ns : List (List ℕ)) (ss : core.Statements) → (IsAmong ns x → ⊥) → (Declares ss (core.named x) → ⊥) → is_among (parameter_names ns ++ declares_names ss) (variable_name (core.named x)) ≡ false
-no_parameter x [] ss h k = not_again variable_name label_name variables-differ labels-differ (core.named x) ss k
-no_parameter x (n ∷ ns) ss h k = neither (pointwise nat_eq (variable_name (core.named x)) (variable_name (core.named n))) (is_among (parameter_names ns ++ declares_names ss) (variable_name (core.named x))) (differs (variable_name (core.named x)) (variable_name (core.named n)) (λ e. h (inl (named-same x n (variables-differ (core.named x) (core.named n) e))))) (no_parameter x ns ss (λ i. h (inr i)) k)
+  no_parameter : (x : List ℕ) (ns : List (List ℕ)) (ss : core.Statements) → (IsAmong ns x → ⊥) → (Declares ss (core.named x) → ⊥) → is_among (parameter_names ns ++ declares_names ss) (variable_name (core.named x)) ≡ false
+  no_parameter x [] ss h k = not_again variable_name label_name target variables-differ labels-differ (core.named x) ss k
+  no_parameter x (n ∷ ns) ss h k = neither (pointwise nat_eq (variable_name (core.named x)) (variable_name (core.named n))) (is_among (parameter_names ns ++ declares_names ss) (variable_name (core.named x))) (differs (variable_name (core.named x)) (variable_name (core.named n)) (λ e. h (inl (named-same x n (variables-differ (core.named x) (core.named n) e))))) (no_parameter x ns ss (λ i. h (inr i)) k)
 
-distinct_names : (ns : List (List ℕ)) (ss : core.Statements) → AreDistinct ns → ((x : List ℕ) → IsAmong ns x → Declares ss (core.named x) → ⊥) → Distinct ss → are_distinct (parameter_names ns ++ declares_names ss) ≡ true
-distinct_names [] ss h k d = distinct-templates variable_name label_name variables-differ labels-differ ss d
-distinct_names (n ∷ ns) ss h k d = both (not (is_among (parameter_names ns ++ declares_names ss) (variable_name (core.named n)))) (are_distinct (parameter_names ns ++ declares_names ss)) (not_is (is_among (parameter_names ns ++ declares_names ss) (variable_name (core.named n))) (no_parameter n ns ss h.0 (k n (inl refl)))) (distinct_names ns ss h.1 (λ x i. k x (inr i)) d)
+  distinct_names : (ns : List (List ℕ)) (ss : core.Statements) → AreDistinct ns → ((x : List ℕ) → IsAmong ns x → Declares ss (core.named x) → ⊥) → Distinct ss → are_distinct (parameter_names ns ++ declares_names ss) ≡ true
+  distinct_names [] ss h k d = distinct-templates variable_name label_name target variables-differ labels-differ ss d
+  distinct_names (n ∷ ns) ss h k d = both (not (is_among (parameter_names ns ++ declares_names ss) (variable_name (core.named n)))) (are_distinct (parameter_names ns ++ declares_names ss)) (not_is (is_among (parameter_names ns ++ declares_names ss) (variable_name (core.named n))) (no_parameter n ns ss h.0 (k n (inl refl)))) (distinct_names ns ss h.1 (λ x i. k x (inr i)) d)
 
--- the function of a method
+  -- the function of a method
+  function_proper : (e : EmittedMethod) → DefinesOnce e.definition e.its_body → is_proper_item (piece_of target e.member (desugared e.definition e.its_body)).item ≡ true
+  function_proper e h = both (are_distinct (parameter_names (names_of e.definition.params) ++ declares_names body)) (are_proper (record { labels = []; breakable = false; super_allowed = false }) (statement_templates variable_name label_name target body)) (distinct_names (names_of e.definition.params) body h.parameters (λ x i k. h.fresh x (g.fresh (core.named x) k) (parameter-among e.definition.params x i)) g.distinct) (proper-templates variable_name label_name target variables-differ labels-differ [] false body g.proper)
+    where
+      body : core.Statements
+      body = (desugared e.definition e.its_body).body
+
+      g : Good (Own e.its_body) [] false 1 (into (is_mutable_in e.definition e.its_body) (sure_locals e.its_body) [] (result_destination e.definition.result) 1 e.its_body)
+      g = good (is_mutable_in e.definition e.its_body) (sure_locals e.its_body) e.its_body [] [] [] false (result_destination e.definition.result) 1 h.once (record { has = λ l i k. absurd i; outer = λ l i. i })
+
+  -- a name that no local has, in front of the parameters
+  no_receiver : (ns : List (List ℕ)) (ss : core.Statements) → (Declares ss core.receiver → ⊥) → is_among (parameter_names ns ++ declares_names ss) (variable_name core.receiver) ≡ false
+  no_receiver [] ss k = not_again variable_name label_name target variables-differ labels-differ core.receiver ss k
+  no_receiver (n ∷ ns) ss k = neither (pointwise nat_eq (variable_name core.receiver) (variable_name (core.named n))) (is_among (parameter_names ns ++ declares_names ss) (variable_name core.receiver)) (differs (variable_name core.receiver) (variable_name (core.named n)) (λ e. let no : core.receiver ≡ core.named n = variables-differ core.receiver (core.named n) e in absurd (cc))) (no_receiver ns ss k)
+
+  received : (n : Namespace) (ns : List (List ℕ)) (ss : core.Statements) → (Declares ss core.receiver → ⊥) → are_distinct (parameter_names ns ++ declares_names ss) ≡ true → are_distinct (with_receiver n (parameter_names ns) ++ declares_names ss) ≡ true
+  received PublicStatic ns ss h k = k
+  received PrivateStatic ns ss h k = k
+  received Public ns ss h k = both (not (is_among (parameter_names ns ++ declares_names ss) (variable_name core.receiver))) (are_distinct (parameter_names ns ++ declares_names ss)) (not_is (is_among (parameter_names ns ++ declares_names ss) (variable_name core.receiver)) (no_receiver ns ss h)) k
+  received Private ns ss h k = both (not (is_among (parameter_names ns ++ declares_names ss) (variable_name core.receiver))) (are_distinct (parameter_names ns ++ declares_names ss)) (not_is (is_among (parameter_names ns ++ declares_names ss) (variable_name core.receiver)) (no_receiver ns ss h)) k
+  received Constructor ns ss h k = both (not (is_among (parameter_names ns ++ declares_names ss) (variable_name core.receiver))) (are_distinct (parameter_names ns ++ declares_names ss)) (not_is (is_among (parameter_names ns ++ declares_names ss) (variable_name core.receiver)) (no_receiver ns ss h)) k
+
+  -- what holds of statements that end a constructor or not
+  record Ended (own : List ℕ → Type 0) (ss : core.Statements) : Type 0 where
+    pub fresh : (x : List ℕ) → Declares ss (core.named x) → own x
+    pub unreceived : Declares ss core.receiver → ⊥
+    pub distinct : Distinct ss
+    pub proper : Proper [] false ss
+
+  ended : (own : List ℕ → Type 0) (n : Namespace) (ss : core.Statements) → Ended own ss → Ended own (completed n ss)
+  ended own Public ss h = h
+  ended own PublicStatic ss h = h
+  ended own Private ss h = h
+  ended own PrivateStatic ss h = h
+  ended own Constructor ss h = record {
+    fresh = λ x d. ⊎_elim (λ i. h.fresh x i) (λ i. ⊎_elim (λ k. absurd k) (λ k. absurd k) i) (declares-followed ss last (core.named x) d);
+    unreceived = λ d. ⊎_elim (λ i. h.unreceived i) (λ i. ⊎_elim (λ k. k) (λ k. k) i) (declares-followed ss last core.receiver d);
+    distinct = distinct-followed ss last h.distinct ((λ y d e. e), tt) (λ y d e. ⊎_elim (λ k. k) (λ k. k) e);
+    proper = proper-followed [] false ss last h.proper (tt, tt);
+  }
+    where
+      last : core.Statements
+      last = core.statement (core.return_of None (core.variable_use core.receiver)) core.no_statements
+
+  -- the function of any method
+  pub member_proper : (e : EmittedMethod) → DefinesOnce e.definition e.its_body → is_proper_item (member_piece target e.member (desugared_member e.definition e.its_body)).item ≡ true
+  member_proper e h = both (are_distinct (with_receiver e.definition.namespace (parameter_names (names_of e.definition.params)) ++ declares_names body)) (are_proper (record { labels = []; breakable = false; super_allowed = false }) (statement_templates variable_name label_name target body)) (received e.definition.namespace (names_of e.definition.params) body k.unreceived (distinct_names (names_of e.definition.params) body h.parameters (λ x i d. h.fresh x (k.fresh x d) (parameter-among e.definition.params x i)) k.distinct)) (proper-templates variable_name label_name target variables-differ labels-differ [] false body k.proper)
+    where
+      body : core.Statements
+      body = (desugared_member e.definition e.its_body).body
+
+      g : Good (Own e.its_body) [] false 1 (into (is_mutable_in e.definition e.its_body) (sure_locals e.its_body) [] (result_destination e.definition.result) 1 e.its_body)
+      g = good (is_mutable_in e.definition e.its_body) (sure_locals e.its_body) e.its_body [] [] [] false (result_destination e.definition.result) 1 h.once (record { has = λ l i k. absurd i; outer = λ l i. i })
+
+      k : Ended (Own e.its_body) body
+      k = ended (Own e.its_body) e.definition.namespace (body_code (is_mutable_in e.definition e.its_body) e.definition.result e.its_body) (record { fresh = λ x d. g.fresh (core.named x) d; unreceived = λ d. g.fresh core.receiver d; distinct = g.distinct; proper = g.proper })
+
 pub item_proper : (e : EmittedMethod) → DefinesOnce e.definition e.its_body → is_proper_item (function_item_of e) ≡ true
-item_proper e h = both (are_distinct (parameter_names (names_of e.definition.params) ++ declares_names body)) (are_proper (record { labels = []; breakable = false; super_allowed = false }) (statement_templates variable_name label_name body)) (distinct_names (names_of e.definition.params) body h.parameters (λ x i k. h.fresh x (g.fresh (core.named x) k) (parameter-among e.definition.params x i)) g.distinct) (proper-templates variable_name label_name variables-differ labels-differ [] false body g.proper)
-  where
-    body : core.Statements
-    body = (desugared e.definition e.its_body).body
-
-    g : Good (Own e.its_body) [] false 1 (into (is_mutable_in e.definition e.its_body) (sure_locals e.its_body) [] (result_destination e.definition.result) 1 e.its_body)
-    g = good (is_mutable_in e.definition e.its_body) (sure_locals e.its_body) e.its_body [] [] [] false (result_destination e.definition.result) 1 h.once (record { has = λ l i k. absurd i; outer = λ l i. i })
-
--- a name that no local has, in front of the parameters
-no_receiver : (ns : List (List ℕ)) (ss : core.Statements) → (Declares ss core.receiver → ⊥) → is_among (parameter_names ns ++ declares_names ss) (variable_name core.receiver) ≡ false
-no_receiver [] ss k = not_again variable_name label_name variables-differ labels-differ core.receiver ss k
-no_receiver (n ∷ ns) ss k = neither (pointwise nat_eq (variable_name core.receiver) (variable_name (core.named n))) (is_among (parameter_names ns ++ declares_names ss) (variable_name core.receiver)) (differs (variable_name core.receiver) (variable_name (core.named n)) (λ e. let no : core.receiver ≡ core.named n = variables-differ core.receiver (core.named n) e in absurd (cc))) (no_receiver ns ss k)
-
-received : (n : Namespace) (ns : List (List ℕ)) (ss : core.Statements) → (Declares ss core.receiver → ⊥) → are_distinct (parameter_names ns ++ declares_names ss) ≡ true → are_distinct (with_receiver n (parameter_names ns) ++ declares_names ss) ≡ true
-received PublicStatic ns ss h k = k
-received PrivateStatic ns ss h k = k
-received Public ns ss h k = both (not (is_among (parameter_names ns ++ declares_names ss) (variable_name core.receiver))) (are_distinct (parameter_names ns ++ declares_names ss)) (not_is (is_among (parameter_names ns ++ declares_names ss) (variable_name core.receiver)) (no_receiver ns ss h)) k
-received Private ns ss h k = both (not (is_among (parameter_names ns ++ declares_names ss) (variable_name core.receiver))) (are_distinct (parameter_names ns ++ declares_names ss)) (not_is (is_among (parameter_names ns ++ declares_names ss) (variable_name core.receiver)) (no_receiver ns ss h)) k
-received Constructor ns ss h k = both (not (is_among (parameter_names ns ++ declares_names ss) (variable_name core.receiver))) (are_distinct (parameter_names ns ++ declares_names ss)) (not_is (is_among (parameter_names ns ++ declares_names ss) (variable_name core.receiver)) (no_receiver ns ss h)) k
-
--- what holds of statements that end a constructor or not
-record Ended (own : List ℕ → Type 0) (ss : core.Statements) : Type 0 where
-  pub fresh : (x : List ℕ) → Declares ss (core.named x) → own x
-  pub unreceived : Declares ss core.receiver → ⊥
-  pub distinct : Distinct ss
-  pub proper : Proper [] false ss
-
-ended : (own : List ℕ → Type 0) (n : Namespace) (ss : core.Statements) → Ended own ss → Ended own (completed n ss)
-ended own Public ss h = h
-ended own PublicStatic ss h = h
-ended own Private ss h = h
-ended own PrivateStatic ss h = h
-ended own Constructor ss h = record {
-  fresh = λ x d. ⊎_elim (λ i. h.fresh x i) (λ i. ⊎_elim (λ k. absurd k) (λ k. absurd k) i) (declares-followed ss last (core.named x) d);
-  unreceived = λ d. ⊎_elim (λ i. h.unreceived i) (λ i. ⊎_elim (λ k. k) (λ k. k) i) (declares-followed ss last core.receiver d);
-  distinct = distinct-followed ss last h.distinct ((λ y d e. e), tt) (λ y d e. ⊎_elim (λ k. k) (λ k. k) e);
-  proper = proper-followed [] false ss last h.proper (tt, tt);
-}
-  where
-    last : core.Statements
-    last = core.statement (core.return_of None (core.variable_use core.receiver)) core.no_statements
-
--- the function of any method
-pub member_proper : (e : EmittedMethod) → DefinesOnce e.definition e.its_body → is_proper_item (member_piece e.member (desugared_member e.definition e.its_body)).item ≡ true
-member_proper e h = both (are_distinct (with_receiver e.definition.namespace (parameter_names (names_of e.definition.params)) ++ declares_names body)) (are_proper (record { labels = []; breakable = false; super_allowed = false }) (statement_templates variable_name label_name body)) (received e.definition.namespace (names_of e.definition.params) body k.unreceived (distinct_names (names_of e.definition.params) body h.parameters (λ x i d. h.fresh x (k.fresh x d) (parameter-among e.definition.params x i)) k.distinct)) (proper-templates variable_name label_name variables-differ labels-differ [] false body k.proper)
-  where
-    body : core.Statements
-    body = (desugared_member e.definition e.its_body).body
-
-    g : Good (Own e.its_body) [] false 1 (into (is_mutable_in e.definition e.its_body) (sure_locals e.its_body) [] (result_destination e.definition.result) 1 e.its_body)
-    g = good (is_mutable_in e.definition e.its_body) (sure_locals e.its_body) e.its_body [] [] [] false (result_destination e.definition.result) 1 h.once (record { has = λ l i k. absurd i; outer = λ l i. i })
-
-    k : Ended (Own e.its_body) body
-    k = ended (Own e.its_body) e.definition.namespace (body_code (is_mutable_in e.definition e.its_body) e.definition.result e.its_body) (record { fresh = λ x d. g.fresh (core.named x) d; unreceived = λ d. g.fresh core.receiver d; distinct = g.distinct; proper = g.proper })
+item_proper = function_proper (λ m. m)
 
 -- items, and the names that they declare
 pub calls_proper : (is : List EntryPoint) → list_all is_proper_item (map call_item_of is) ≡ true

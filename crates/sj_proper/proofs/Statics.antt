@@ -32,8 +32,8 @@ static_parameters Constructor xs h = impossible h
 pub desugared_static : (d : MethodDef) (e : Term) → is_static d.namespace ≡ true → desugared_member d e ≡ desugared d e
 desugared_static d e h = ap (λ (ss : Statements). record { namespace = d.namespace; params = names_of d.params; body = ss }) (static_completed d.namespace (body_code (is_mutable_in d e) d.result e) h)
 
-pub piece_static : (m : Member) (c : Method) → is_static c.namespace ≡ true → member_piece m c ≡ piece_of m c
-piece_static m c h = ap (λ (xs : List Name). function_piece m xs (body_template c) (uses c.body)) (static_parameters c.namespace (parameter_names c.params) h)
+pub piece_static : (target : Member → Member) (m : Member) (c : Method) → is_static c.namespace ≡ true → member_piece target m c ≡ piece_of target m c
+piece_static target m c h = ap (λ (xs : List Name). function_piece m xs (body_template target c) (uses target c.body)) (static_parameters c.namespace (parameter_names c.params) h)
 
-pub static_piece : (m : Member) (d : MethodDef) (e : Term) → is_static d.namespace ≡ true → member_piece m (desugared_member d e) ≡ piece_of m (desugared d e)
-static_piece m d e h = ap (member_piece m) (desugared_static d e h) ∙ piece_static m (desugared d e) h
+pub static_piece : (target : Member → Member) (m : Member) (d : MethodDef) (e : Term) → is_static d.namespace ≡ true → member_piece target m (desugared_member d e) ≡ piece_of target m (desugared d e)
+static_piece target m d e h = ap (member_piece target m) (desugared_static d e h) ∙ piece_static target m (desugared d e) h

@@ -21,9 +21,9 @@ pub record EmittedMethod : Type 0 where
   pub definition : MethodDef
   pub its_body : Term
 
--- its piece, and the item in it
+-- its piece, where each member that is called on a receiver is its own target, and the item in it
 abbrev pub piece_of_method : EmittedMethod → Piece
-piece_of_method e = piece_of e.member (desugared e.definition e.its_body)
+piece_of_method e = piece_of (λ m. m) e.member (desugared e.definition e.its_body)
 
 abbrev pub function_item_of : EmittedMethod → Item
 function_item_of e = (piece_of_method e).item
