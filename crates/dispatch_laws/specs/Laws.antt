@@ -11,6 +11,7 @@ use Rattle.sj_names.specs.declared.memory.NoMemory.{NoMemory}
 use Rattle.sj_names.specs.declared.method_names.Member.{Member}
 use Rattle.sj_names.specs.declared.method_names.MethodName.{MethodName}
 use Rattle.sj_world.specs.Known.{Name, Classes}
+use Rattle.sj_world.specs.Laws.{IsTopped}
 use Rattle.sj_world.specs.Resolution.{Answer, target, abstract, missing, Resolves}
 use Rattle.dispatch_laws.specs.Targets.{target_in, IsTargetOf}
 
@@ -23,9 +24,9 @@ found_by missing = None
 abbrev pub TargetsAreWorkedOut : Type 0
 TargetsAreWorkedOut = (w : Classes) (c : Name) (m : MethodName) (r : Answer) → Resolves w c m r → resolved w c m ≡ found_by r
 
--- the target of a member is what the IR runs where the member is called
+-- the target of a member is what the IR runs where the member is called, if nothing stands above `java.lang.Object`
 abbrev pub TargetsRun : Type 0
-TargetsRun = (w : Classes) (k : Member) → IsTargetOf w k (target_in w k)
+TargetsRun = (w : Classes) → IsTopped w → (k : Member) → IsTargetOf w k (target_in w k)
 
 -- what emission comes to by the answers of a world is the emitted function by the targets of that world
 abbrev pub EmissionFindsTargets : Type 0

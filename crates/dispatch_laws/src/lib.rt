@@ -11,7 +11,8 @@ pub fn targets_are_worked_out()
     ensures { TargetsAreWorkedOut }
 {}
 
-/// Where a member is called on a receiver, the IR runs the body of its target, in a class at or above its own.
+/// Where a member is called on a receiver, the IR runs the body of its target, in a class at or above its own, if nothing stands above
+/// `java.lang.Object`.
 pub fn targets_run()
     ensures { TargetsRun }
 {}

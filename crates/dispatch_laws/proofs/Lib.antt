@@ -1,0 +1,6 @@
+pub mod Lists
+pub mod SameNames
+pub mod Bodies
+pub mod Chains
+pub mod Defaults
+pub mod Running
