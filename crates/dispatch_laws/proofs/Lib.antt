@@ -4,3 +4,4 @@ pub mod Bodies
 pub mod Chains
 pub mod Defaults
 pub mod Running
+pub mod WorkedOut

@@ -12,6 +12,7 @@ use Rattle.sj_names.specs.declared.method_names.Member.{Member}
 use Rattle.sj_names.specs.declared.method_names.MethodName.{MethodName}
 use Rattle.sj_world.specs.Known.{Name, Classes}
 use Rattle.sj_world.specs.Laws.{IsTopped}
+use Rattle.sj_world.specs.Refusals.{IsInOrder}
 use Rattle.sj_world.specs.Resolution.{Answer, target, abstract, missing, Resolves}
 use Rattle.dispatch_laws.specs.Targets.{target_in, IsTargetOf}
 
@@ -20,9 +21,9 @@ found_by (target d owner) = Some (record { owner = owner; method = d })
 found_by abstract = None
 found_by missing = None
 
--- what a call resolves to in a world is what the meaning of the IR works out
+-- what a call resolves to in a world, of whose classes no two have one name, is what the meaning of the IR works out
 abbrev pub TargetsAreWorkedOut : Type 0
-TargetsAreWorkedOut = (w : Classes) (c : Name) (m : MethodName) (r : Answer) → Resolves w c m r → resolved w c m ≡ found_by r
+TargetsAreWorkedOut = (w : Classes) → IsInOrder w → (c : Name) (m : MethodName) (r : Answer) → Resolves w c m r → resolved w c m ≡ found_by r
 
 -- the target of a member is what the IR runs where the member is called, if nothing stands above `java.lang.Object`
 abbrev pub TargetsRun : Type 0
