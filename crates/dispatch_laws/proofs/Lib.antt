@@ -5,3 +5,4 @@ pub mod Chains
 pub mod Defaults
 pub mod Running
 pub mod WorkedOut
+pub mod Emission

@@ -1,11 +1,8 @@
 -- The target of a member is what the IR runs where the member is called.
-use Rattle.std.proofs.Common.{◌≡◌, ℕ, suc, ◌+◌, List, [], ◌∷◌, length, Contains, Option, Some, None, refl, sym, ap, ◌∙◌, subst, inl, inr, arith, Bool, true, false, ◌&&◌, if◌then◌else◌}
-use Rattle.std.specs.Prelude.{filter}
-use Rattle.std.proofs.lemmas.Bool.{and_parts}
-use Rattle.ir_mean.specs.Dispatch.{chain_from, chain_of, longest, Found, body_at, or_found, nearest, is_ancestor, is_default, candidates, lesser_class, least_class, default_of, or_default, resolved}
+use Rattle.std.proofs.Common.{◌≡◌, ℕ, suc, ◌+◌, List, [], ◌∷◌, length, Option, Some, None, refl, sym, ap, ◌∙◌, subst, arith, Bool, true, false, if◌then◌else◌}
+use Rattle.ir_mean.specs.Dispatch.{chain_from, chain_of, longest, Found, body_at, or_found, nearest, candidates, least_class, default_of, or_default, resolved}
 use Rattle.ir_mean.specs.Meaning.{method_found, static_target}
 use Rattle.ir_mean.specs.World.{member_of}
-use Rattle.ir_mean.proofs.AncestorsFound.{ancestors_are_worked_out}
 use Rattle.ir_mean.proofs.TargetsFound.{target_found}
 use Rattle.sj_names.specs.declared.method_names.Member.{Member}
 use Rattle.sj_names.specs.declared.method_names.MethodName.{MethodName}
@@ -19,7 +16,6 @@ use Rattle.sj_trees.specs.declared.classes.ClassDef.{ClassDef}
 use Rattle.sj_trees.specs.declared.classes.MethodDef.{MethodDef}
 use Rattle.sj_world.specs.Ancestors.{IsAncestor, next_on_chain}
 use Rattle.sj_world.specs.Known.{Name, Classes, is_same, object}
-use Rattle.sj_world.specs.Refusals.{is_before}
 use Rattle.sj_world.specs.Resolution.{IsBodyAt}
 use Rattle.sj_world.specs.Laws.{IsTopped}
 use Rattle.sj_world.specs.Subtypes.{IsSub, equal, to_any, class_to_class}
@@ -27,7 +23,7 @@ use Rattle.sj_world.proofs.Orders.{same_name}
 use Rattle.dispatch_laws.specs.Laws.{TargetsRun}
 use Rattle.dispatch_laws.specs.Targets.{at_owner, target_from, IsTargetOf}
 use Rattle.dispatch_laws.proofs.Bodies.{body_at-right}
-use Rattle.dispatch_laws.proofs.Chains.{IsFoundAmong, nearest_found, chain_of-right, chain_rises}
+use Rattle.dispatch_laws.proofs.Chains.{nearest_found, chain_of-right, chain_rises}
 use Rattle.dispatch_laws.proofs.Defaults.{least_stands, candidate_above}
 
 abbrev type_by : Bool → Name → IrType

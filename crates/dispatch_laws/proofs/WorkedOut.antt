@@ -1,6 +1,6 @@
 -- What a method name resolves to in a class is what is worked out for it.
-use Rattle.std.proofs.Common.{◌≡◌, None, Some, ap, ◌∙◌}
-use Rattle.ir_mean.specs.Dispatch.{nearest, chain_of, least_class, candidates, default_of, or_default, resolved}
+use Rattle.std.proofs.Common.{◌≡◌, ap, ◌∙◌}
+use Rattle.ir_mean.specs.Dispatch.{least_class, candidates, default_of, or_default}
 use Rattle.sj_names.specs.declared.method_names.MethodName.{MethodName}
 use Rattle.sj_world.specs.Ancestors.{IsAncestor}
 use Rattle.sj_world.specs.Known.{Name, Classes}
