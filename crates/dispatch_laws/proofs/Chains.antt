@@ -25,6 +25,17 @@ use Rattle.worklist.proofs.Inserted.{nothing_in}
 use Rattle.dispatch_laws.proofs.Bodies.{body_found, none_found}
 use Rattle.dispatch_laws.proofs.Lists.{first_stands, stands_behind, first_or_behind, is_kept}
 
+abbrev Among : Name → List Name → Type 0
+Among x xs = list_any (is_same x) xs ≡ true
+
+differ : (c : Name) (xs : List Name) → list_any (is_same c) xs ≡ false → AllByRecursion (λ (y : Name). is_same c y ≡ false) xs
+differ c [] h = tt
+differ c (y ∷ ys) h = let p = or_parts (is_same c y) (list_any (is_same c) ys) h in (p.0, differ c ys p.1)
+
+names_length : (v : Classes) → length (names_of v ++ hijacked) ≡ length v + 8
+names_length [] = refl
+names_length (c ∷ v) = let rest = names_length v in omega (arith, rest)
+
 module _ (w : Classes) where
   -- where a chain comes to a class of the world, its first class is known
   begins_known : (c o : Name) (class : ClassDef) → IsOnChain w c o → class_of w o ≡ Some class → is_known w c ≡ true
@@ -69,6 +80,20 @@ module _ (w : Classes) where
 
   pub chain_of-right : (c x : Name) → Contains (chain_of w c) x → IsOnChain w c x
   chain_of-right c x h = on_chain (longest w) [] c x h
+
+  -- each of these names is known
+  abbrev AreKnown : List Name → Type 0
+  AreKnown seen = (q : Name) → Among q seen → Among q (names_of w ++ hijacked)
+
+  another_known : (c : Name) (seen : List Name) → is_known w c ≡ true → AreKnown seen → AreKnown (c ∷ seen)
+  another_known c seen k known q i = go (or_cases (is_same q c) (list_any (is_same q) seen) i)
+    where
+      go : (is_same q c ≡ true) ⊎ Among q seen → Among q (names_of w ++ hijacked)
+      go (inl e) = subst (λ (n : Name). Among n (names_of w ++ hijacked)) (sym (same_name q c e)) ((among (names_of w ++ hijacked) c).1 (known_named w c k))
+      go (inr j) = known q j
+
+  few : (seen : List Name) → IsDistinct is_same seen → AreKnown seen → length seen ≤ length w + 8
+  few seen once known = let most : length seen ≤ length (names_of w ++ hijacked) = length-le_from_is_member nat_list_eq_equiv seen (names_of w ++ hijacked) once known in omega (arith, most, names_length w)
 
   -- the first of names with a body
   module _ (m : MethodName) where
@@ -115,9 +140,6 @@ module _ (w : Classes) where
     Trail c [] = Unit {0}
     Trail c (s ∷ ss) = HasNoBody w m s × IsNext w s c × Trail s ss
 
-    abbrev Among : Name → List Name → Type 0
-    Among x xs = list_any (is_same x) xs ≡ true
-
     behind : (c : Name) (seen : List Name) → Trail c seen → (y : Name) → Among y seen → HasNoBody w m y × ((z : Name) → IsNext w y z → Among z (c ∷ seen))
     behind c [] t y h = impossible h
     behind c (s ∷ ss) t y h = go (or_cases (is_same y s) (list_any (is_same y) ss) h) (λ i. behind s ss t.2 y i)
@@ -137,28 +159,6 @@ module _ (w : Classes) where
         go : (is_same d c ≡ true) ⊎ Among d seen → Among d seen
         go (inl e) = subst (λ (n : Name). Among n seen) (sym (same_name d c e)) back
         go (inr j) = j
-
-    differ : (c : Name) (xs : List Name) → list_any (is_same c) xs ≡ false → AllByRecursion (λ (y : Name). is_same c y ≡ false) xs
-    differ c [] h = tt
-    differ c (y ∷ ys) h = let p = or_parts (is_same c y) (list_any (is_same c) ys) h in (p.0, differ c ys p.1)
-
-    names_length : (v : Classes) → length (names_of v ++ hijacked) ≡ length v + 8
-    names_length [] = refl
-    names_length (c ∷ v) = let rest = names_length v in omega (arith, rest)
-
-    -- each of these names is known
-    abbrev AreKnown : List Name → Type 0
-    AreKnown seen = (q : Name) → Among q seen → Among q (names_of w ++ hijacked)
-
-    another_known : (c : Name) (seen : List Name) → is_known w c ≡ true → AreKnown seen → AreKnown (c ∷ seen)
-    another_known c seen k known q i = go (or_cases (is_same q c) (list_any (is_same q) seen) i)
-      where
-        go : (is_same q c ≡ true) ⊎ Among q seen → Among q (names_of w ++ hijacked)
-        go (inl e) = subst (λ (n : Name). Among n (names_of w ++ hijacked)) (sym (same_name q c e)) ((among (names_of w ++ hijacked) c).1 (known_named w c k))
-        go (inr j) = known q j
-
-    few : (seen : List Name) → IsDistinct is_same seen → AreKnown seen → length seen ≤ length w + 8
-    few seen once known = let most : length seen ≤ length (names_of w ++ hijacked) = length-le_from_is_member nat_list_eq_equiv seen (names_of w ++ hijacked) once known in omega (arith, most, names_length w)
 
     -- the class itself has the body, or the rest of the chain
     steps : (k : ℕ) (seen : List Name) (c o : Name) (d : MethodDef) → IsBodyAt w m o d → Front c o → ((x : Name) → HasNoBody w m c → IsNext w c x → Front x o → nearest w m (chain_from w k (c ∷ seen) x) ≡ Some (record { owner = o; method = d })) → nearest w m (c ∷ onward k (c ∷ seen) (next_on_chain w c)) ≡ Some (record { owner = o; method = d })
