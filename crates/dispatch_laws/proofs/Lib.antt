@@ -1,1 +1,9 @@
+pub mod Lists
+pub mod SameNames
 pub mod OwnTargets
+pub mod Bodies
+pub mod Chains
+pub mod Defaults
+pub mod Running
+pub mod WorkedOut
+pub mod Emission

@@ -1,5 +1,5 @@
 -- Targets as the meaning of the IR works them out, as a world has them, and as emission finds them.
-use Rattle.std.specs.Prelude.{◌≡◌, List, Option, Some, None, Result, Ok}
+use Rattle.std.specs.Prelude.{◌≡◌, List, Option, Some, None, Ok}
 use Rattle.emit_questions.specs.Task.{Emitted, emitted, emit_task}
 use Rattle.ir_mean.specs.Dispatch.{Found, resolved}
 use Rattle.sj_ask.specs.Answers.{IsAnswer}
@@ -11,6 +11,8 @@ use Rattle.sj_names.specs.declared.memory.NoMemory.{NoMemory}
 use Rattle.sj_names.specs.declared.method_names.Member.{Member}
 use Rattle.sj_names.specs.declared.method_names.MethodName.{MethodName}
 use Rattle.sj_world.specs.Known.{Name, Classes}
+use Rattle.sj_world.specs.Laws.{IsTopped}
+use Rattle.sj_world.specs.Refusals.{IsInOrder}
 use Rattle.sj_world.specs.Resolution.{Answer, target, abstract, missing, Resolves}
 use Rattle.dispatch_laws.specs.Targets.{target_in, IsTargetOf}
 
@@ -19,14 +21,14 @@ found_by (target d owner) = Some (record { owner = owner; method = d })
 found_by abstract = None
 found_by missing = None
 
--- what a call resolves to in a world is what the meaning of the IR works out
+-- what a call resolves to in a world in order is what the meaning of the IR works out
 abbrev pub TargetsAreWorkedOut : Type 0
-TargetsAreWorkedOut = (w : Classes) (c : Name) (m : MethodName) (r : Answer) → Resolves w c m r → resolved w c m ≡ found_by r
+TargetsAreWorkedOut = (w : Classes) → IsInOrder w → (c : Name) (m : MethodName) (r : Answer) → Resolves w c m r → resolved w c m ≡ found_by r
 
--- the target of a member is what the IR runs where the member is called
+-- the target of a member is what the IR runs where the member is called, if nothing stands above `java.lang.Object`
 abbrev pub TargetsRun : Type 0
-TargetsRun = (w : Classes) (k : Member) → IsTargetOf w k (target_in w k)
+TargetsRun = (w : Classes) → IsTopped w → (k : Member) → IsTargetOf w k (target_in w k)
 
--- what emission comes to by the answers of a world is the emitted function by the targets of that world
+-- what emission comes to by the answers of a world in order is the emitted function by the targets of that world
 abbrev pub EmissionFindsTargets : Type 0
-EmissionFindsTargets = (s : Stand) (m : Method) (e : Emitted) (log : List Exchange) → Comes {E = NoMemory} (IsAnswer s) (emit_task m) (Ok e) log → e ≡ emitted (target_in s.classes) m
+EmissionFindsTargets = (s : Stand) → IsInOrder s.classes → (m : Method) (e : Emitted) (log : List Exchange) → Comes {E = NoMemory} (IsAnswer s) (emit_task m) (Ok e) log → e ≡ emitted (target_in s.classes) m

@@ -6,17 +6,18 @@
 ghost use Rattle.dispatch_laws.specs.Laws.{TargetsAreWorkedOut, TargetsRun, EmissionFindsTargets};
 
 /// What a public method name resolves to for a class of a world is what the meaning of the IR works out for it: the nearest body on the chain of
-/// superclasses, else the least of the interfaces above with a body that no other overrides.
+/// superclasses, else the least of the interfaces above with a body that no other overrides. The world's classes stand in order, no name twice.
 pub fn targets_are_worked_out()
     ensures { TargetsAreWorkedOut }
 {}
 
-/// Where a member is called on a receiver, the IR runs the body of its target, in a class at or above its own.
+/// Where a member is called on a receiver, the IR runs the body of its target, in a class at or above its own, if nothing stands above
+/// `java.lang.Object`.
 pub fn targets_run()
     ensures { TargetsRun }
 {}
 
-/// Emission by the answers of a world gives the function whose calls run the targets of that world.
+/// Emission by the answers of a world, whose classes stand in order, no name twice, gives the function whose calls run the targets of that world.
 pub fn emission_finds_targets()
     ensures { EmissionFindsTargets }
 {}

@@ -1,0 +1,3 @@
+pub mod PublicCalls
+pub mod Agree
+pub mod AlikeQuestions
