@@ -56,10 +56,6 @@ module _ (w : Classes) where
   target_of-public : (k : Member) → k.namespace ≡ Public → target_in w k ≡ at_owner k (resolved w k.class k.method)
   target_of-public k e = ap (λ (n : Namespace). target_from w n k) e
 
-  own_elsewhere : (k : Member) (n : Namespace) → if_public n k ≡ [] → target_from w n k ≡ k
-  own_elsewhere k Public e = absurd (cc)
-  own_elsewhere k _ e = refl
-
   -- what was answered for a member: its target, or none, and then it is its own
   abbrev Tells : Member → Option Member → Type 0
   Tells k None = target_in w k ≡ k
@@ -115,4 +111,4 @@ module _ (s : Stand) (sorted : IsInOrder s.classes) (f : Targets → Emitted) (e
 pub emission_finds_targets : EmissionFindsTargets
 emission_finds_targets s sorted m e log c =
     let r = asked s sorted (λ found. emitted (target_by found) m) e (calls_of_all m.body) [] log (public_of_all m.body) tt c in
-    r.gives ∙ same_emitted (target_by r.found) (target_in s.classes) (λ k own. own_known s.classes r.found k r.right (own_elsewhere s.classes k k.namespace own)) m r.known
+    r.gives ∙ same_emitted (target_by r.found) (target_in s.classes) m r.known

@@ -20,6 +20,7 @@ use Rattle.sj_world.specs.Resolution.{IsBodyAt}
 use Rattle.sj_world.specs.Laws.{IsTopped}
 use Rattle.sj_world.specs.Subtypes.{IsSub, equal, to_any, class_to_class}
 use Rattle.sj_world.proofs.Orders.{same_name}
+use Rattle.dispatch_laws.proofs.OwnTargets.{own_target}
 use Rattle.dispatch_laws.specs.Laws.{TargetsRun}
 use Rattle.dispatch_laws.specs.Targets.{at_owner, target_from, IsTargetOf}
 use Rattle.dispatch_laws.proofs.Bodies.{body_at-right}
@@ -86,11 +87,8 @@ module _ (w : Classes) where
   same_method : (c : Name) (m : MethodName) (d x : MethodDef) (e : Term) → body_at w m c ≡ Some x → d.body ≡ Some e → member_of w c Public m ≡ Some d → Some x ≡ Some d
   same_method c m d x e b has found = sym (ap method_found (resolves_to_own c m x b)) ∙ target_found w c Public m d e has found
 
-  itself : (k : Member) → IsTargetOf w k k
-  itself k = record { namespace = refl; method = refl; above = equal refl; runs = λ d e has found. target_found w k.class k.namespace k.method d e has found }
-
   at_found : IsTopped w → (k : Member) → k.namespace ≡ Public → (o : Option Found) → resolved w k.class k.method ≡ o → IsTargetOf w k (at_owner k o)
-  at_found topped k public None r = itself k
+  at_found topped k public None r = own_target w k
   at_found topped k public (Some f) r =
       let a = is_above k.class k.method f r in
       record {
@@ -105,7 +103,7 @@ module _ (w : Classes) where
 
   target_from-right : IsTopped w → (k : Member) (n : Namespace) → k.namespace ≡ n → IsTargetOf w k (target_from w n k)
   target_from-right topped k Public e = at_found topped k e (resolved w k.class k.method) refl
-  target_from-right topped k _ e = itself k
+  target_from-right topped k _ e = own_target w k
 
 pub targets_run : TargetsRun
 targets_run w topped k = target_from-right w topped k k.namespace refl

@@ -7,7 +7,7 @@ use Rattle.js_tree.specs.declared.operators.HostFunction.TheVariants.{StringFrom
 use Rattle.sj_core.specs.Terms.{Expression, boxed_char, char_text, value_text, choice_of, static_call, field_of, checked_value, made_of, receiver_call, unary_of, binary_of, Expressions, no_expressions, expression, Statement, constant_of, define_of, declare_of, assign_to, evaluate_of, return_of, log_of, assign_field, assign_static, throw_of, leave_label, break_nearest, if_of, while_of, loop_of, labeled_of, switch_of, Statements, no_statements, statement, Cases, no_cases, switch_case, Method}
 use Rattle.sj_emit_expr.specs.Members.{function_parameters}
 use Rattle.sj_emit_expr.specs.Names.{variable_name, label_name}
-use Rattle.sj_emit_expr.specs.Templates.{as_text, unary_template, binary_template, is_nonzero_literal, member_name, class_name, property_name, setter_name, check_name, choice_template, expression_template, expression_templates, statement_template, statement_templates, case_templates}
+use Rattle.sj_emit_expr.specs.Templates.{called_member, as_text, unary_template, binary_template, is_nonzero_literal, member_name, class_name, property_name, setter_name, check_name, choice_template, expression_template, expression_templates, statement_template, statement_templates, case_templates}
 use Rattle.sj_emit_expr.specs.Uses.{object_binding, function_binding, class_use, setter_use, helper_of, uses_in, uses_in_all, uses_of, uses_of_all, uses_of_cases, once_each}
 use Rattle.sj_names.specs.declared.method_names.Member.{Member}
 use Rattle.sj_names.specs.declared.method_names.Namespace.{Namespace}
@@ -21,121 +21,116 @@ module _ (f g : Member → Member) where
   abbrev pub Agree : List Member → Type 0
   Agree ks = (k : Member) → Contains ks k → f k ≡ g k
 
-  -- calls that aren't public run the same
-  abbrev pub AgreeElsewhere : Type 0
-  AgreeElsewhere = (k : Member) → own_call k ≡ [] → f k ≡ g k
-
   front : (xs ys : List Member) → Agree (xs ++ ys) → Agree xs
   front xs ys h k i = h k (Contains-append_left xs ys k i)
 
   back : (xs ys : List Member) → Agree (xs ++ ys) → Agree ys
   back xs ys h k i = h k (Contains-append_right xs ys k i)
 
-  module _ (elsewhere : AgreeElsewhere) where
-    own_agrees : (k : Member) (n : Namespace) → k.namespace ≡ n → Agree (if_public n k) → if_public n k ≡ own_call k → f k ≡ g k
-    own_agrees k Public e h s = h k (0, omega arith, refl)
-    own_agrees k _ e h s = elsewhere k (sym s)
+  own_agrees : (n : Namespace) (k : Member) → Agree (if_public n k) → called_member f n k ≡ called_member g n k
+  own_agrees Public k h = h k (0, omega arith, refl)
+  own_agrees _ k h = refl
 
-    abbrev SameExpression : Expression → Type 0
-    SameExpression e = (expression_template variable_name label_name f e ≡ expression_template variable_name label_name g e) × (uses_in f e ≡ uses_in g e)
+  abbrev SameExpression : Expression → Type 0
+  SameExpression e = (expression_template variable_name label_name f e ≡ expression_template variable_name label_name g e) × (uses_in f e ≡ uses_in g e)
 
-    abbrev SameExpressions : Expressions → Type 0
-    SameExpressions es = (expression_templates variable_name label_name f es ≡ expression_templates variable_name label_name g es) × (uses_in_all f es ≡ uses_in_all g es)
+  abbrev SameExpressions : Expressions → Type 0
+  SameExpressions es = (expression_templates variable_name label_name f es ≡ expression_templates variable_name label_name g es) × (uses_in_all f es ≡ uses_in_all g es)
 
-    mutual
-      same_in : (e : Expression) → Agree (calls_in e) → SameExpression e
-      same_in (boxed_char e) h = let a = same_in e h in (λ i. new_of (codes "$C") (js.expression (a.0 i) js.no_expressions), λ i. object_binding (codes "$C") ∷ a.1 i)
-      same_in (char_text e) h = let a = same_in e h in (λ i. host_call StringFromCharCode (a.0 i), a.1)
-      same_in (value_text e) h = let a = same_in e h in (λ i. as_text (a.0 i), a.1)
-      same_in (choice_of c e d) h =
-          let former = front (calls_in c ++ calls_in e) (calls_in d) h in
-          let x = same_in c (front (calls_in c) (calls_in e) former) in
-          let y = same_in e (back (calls_in c) (calls_in e) former) in
-          let z = same_in d (back (calls_in c ++ calls_in e) (calls_in d) h) in
-          (λ i. conditional_of (x.0 i) (y.0 i) (z.0 i), λ i. x.1 i ++ y.1 i ++ z.1 i)
-      same_in (static_call m es) h = let a = same_in_all es h in (λ i. call_of (member_name m) (a.0 i), λ i. function_binding m ∷ a.1 i)
-      same_in (field_of e c x) h = let a = same_in e h in (λ i. property_of (a.0 i) (property_name c x), a.1)
-      same_in (checked_value e) h = let a = same_in e h in (λ i. call_of check_name (js.expression (a.0 i) js.no_expressions), λ i. object_binding check_name ∷ a.1 i)
-      same_in (made_of m es) h = let a = same_in_all es h in (λ i. call_of (member_name m) (js.expression (new_of (class_name m.class) js.no_expressions) (a.0 i)), λ i. function_binding m ∷ class_use m.class ∷ a.1 i)
-      same_in (receiver_call m e es) h =
-          let former = front (calls_in e ++ calls_in_all es) (own_call m) h in
-          let x = same_in e (front (calls_in e) (calls_in_all es) former) in
-          let y = same_in_all es (back (calls_in e) (calls_in_all es) former) in
-          let z : f m ≡ g m = own_agrees m m.namespace refl (back (calls_in e ++ calls_in_all es) (own_call m) h) refl in
-          (λ i. call_of (member_name (z i)) (js.expression (x.0 i) (y.0 i)), λ i. function_binding (z i) ∷ x.1 i ++ y.1 i)
-      same_in (unary_of o e) h = let a = same_in e h in (λ i. unary_template o (a.0 i), a.1)
-      same_in (binary_of o e d) h =
-          let x = same_in e (front (calls_in e) (calls_in d) h) in
-          let y = same_in d (back (calls_in e) (calls_in d) h) in
-          (λ i. binary_template (is_nonzero_literal d) o (x.0 i) (y.0 i), λ i. helper_of (is_nonzero_literal d) o ++ x.1 i ++ y.1 i)
-      same_in _ h = (refl, refl)
+  mutual
+    same_in : (e : Expression) → Agree (calls_in e) → SameExpression e
+    same_in (boxed_char e) h = let a = same_in e h in (λ i. new_of (codes "$C") (js.expression (a.0 i) js.no_expressions), λ i. object_binding (codes "$C") ∷ a.1 i)
+    same_in (char_text e) h = let a = same_in e h in (λ i. host_call StringFromCharCode (a.0 i), a.1)
+    same_in (value_text e) h = let a = same_in e h in (λ i. as_text (a.0 i), a.1)
+    same_in (choice_of c e d) h =
+        let former = front (calls_in c ++ calls_in e) (calls_in d) h in
+        let x = same_in c (front (calls_in c) (calls_in e) former) in
+        let y = same_in e (back (calls_in c) (calls_in e) former) in
+        let z = same_in d (back (calls_in c ++ calls_in e) (calls_in d) h) in
+        (λ i. conditional_of (x.0 i) (y.0 i) (z.0 i), λ i. x.1 i ++ y.1 i ++ z.1 i)
+    same_in (static_call m es) h = let a = same_in_all es h in (λ i. call_of (member_name m) (a.0 i), λ i. function_binding m ∷ a.1 i)
+    same_in (field_of e c x) h = let a = same_in e h in (λ i. property_of (a.0 i) (property_name c x), a.1)
+    same_in (checked_value e) h = let a = same_in e h in (λ i. call_of check_name (js.expression (a.0 i) js.no_expressions), λ i. object_binding check_name ∷ a.1 i)
+    same_in (made_of m es) h = let a = same_in_all es h in (λ i. call_of (member_name m) (js.expression (new_of (class_name m.class) js.no_expressions) (a.0 i)), λ i. function_binding m ∷ class_use m.class ∷ a.1 i)
+    same_in (receiver_call m e es) h =
+        let former = front (calls_in e ++ calls_in_all es) (own_call m) h in
+        let x = same_in e (front (calls_in e) (calls_in_all es) former) in
+        let y = same_in_all es (back (calls_in e) (calls_in_all es) former) in
+        let z : called_member f m.namespace m ≡ called_member g m.namespace m = own_agrees m.namespace m (back (calls_in e ++ calls_in_all es) (own_call m) h) in
+        (λ i. call_of (member_name (z i)) (js.expression (x.0 i) (y.0 i)), λ i. function_binding (z i) ∷ x.1 i ++ y.1 i)
+    same_in (unary_of o e) h = let a = same_in e h in (λ i. unary_template o (a.0 i), a.1)
+    same_in (binary_of o e d) h =
+        let x = same_in e (front (calls_in e) (calls_in d) h) in
+        let y = same_in d (back (calls_in e) (calls_in d) h) in
+        (λ i. binary_template (is_nonzero_literal d) o (x.0 i) (y.0 i), λ i. helper_of (is_nonzero_literal d) o ++ x.1 i ++ y.1 i)
+    same_in _ h = (refl, refl)
 
-      same_in_all : (es : Expressions) → Agree (calls_in_all es) → SameExpressions es
-      same_in_all no_expressions h = (refl, refl)
-      same_in_all (expression e es) h =
-          let x = same_in e (front (calls_in e) (calls_in_all es) h) in
-          let y = same_in_all es (back (calls_in e) (calls_in_all es) h) in
-          (λ i. js.expression (x.0 i) (y.0 i), λ i. x.1 i ++ y.1 i)
+    same_in_all : (es : Expressions) → Agree (calls_in_all es) → SameExpressions es
+    same_in_all no_expressions h = (refl, refl)
+    same_in_all (expression e es) h =
+        let x = same_in e (front (calls_in e) (calls_in_all es) h) in
+        let y = same_in_all es (back (calls_in e) (calls_in_all es) h) in
+        (λ i. js.expression (x.0 i) (y.0 i), λ i. x.1 i ++ y.1 i)
 
-    abbrev SameStatement : Statement → Type 0
-    SameStatement s = (statement_template variable_name label_name f s ≡ statement_template variable_name label_name g s) × (uses_of f s ≡ uses_of g s)
+  abbrev SameStatement : Statement → Type 0
+  SameStatement s = (statement_template variable_name label_name f s ≡ statement_template variable_name label_name g s) × (uses_of f s ≡ uses_of g s)
 
-    abbrev SameStatements : Statements → Type 0
-    SameStatements ss = (statement_templates variable_name label_name f ss ≡ statement_templates variable_name label_name g ss) × (uses_of_all f ss ≡ uses_of_all g ss)
+  abbrev SameStatements : Statements → Type 0
+  SameStatements ss = (statement_templates variable_name label_name f ss ≡ statement_templates variable_name label_name g ss) × (uses_of_all f ss ≡ uses_of_all g ss)
 
-    abbrev SameCases : Cases → Type 0
-    SameCases cs = (case_templates variable_name label_name f cs ≡ case_templates variable_name label_name g cs) × (uses_of_cases f cs ≡ uses_of_cases g cs)
+  abbrev SameCases : Cases → Type 0
+  SameCases cs = (case_templates variable_name label_name f cs ≡ case_templates variable_name label_name g cs) × (uses_of_cases f cs ≡ uses_of_cases g cs)
 
-    mutual
-      same_of : (s : Statement) → Agree (calls_of s) → SameStatement s
-      same_of (constant_of p x e) h = let a = same_in e h in (λ i. const_of (variable_name x) (a.0 i), a.1)
-      same_of (define_of p x e) h = let a = same_in e h in (λ i. let_of (variable_name x) (a.0 i), a.1)
-      same_of (declare_of p x) h = (refl, refl)
-      same_of (assign_to p x e) h = let a = same_in e h in (λ i. assign_name (variable_name x) (a.0 i), a.1)
-      same_of (evaluate_of p e) h = let a = same_in e h in (λ i. expression_statement (a.0 i), a.1)
-      same_of (return_of p e) h = let a = same_in e h in (λ i. js.return_of (a.0 i), a.1)
-      same_of (log_of p e) h = let a = same_in e h in (λ i. expression_statement (host_call ConsoleLog (a.0 i)), a.1)
-      same_of (assign_field p e c x d) h =
-          let a = same_in e (front (calls_in e) (calls_in d) h) in
-          let b = same_in d (back (calls_in e) (calls_in d) h) in
-          (λ i. assign_property (a.0 i) (property_name c x) (b.0 i), λ i. a.1 i ++ b.1 i)
-      same_of (assign_static p c x e) h = let a = same_in e h in (λ i. expression_statement (call_of (setter_name c x) (js.expression (a.0 i) js.no_expressions)), λ i. setter_use c x ∷ a.1 i)
-      same_of (throw_of p e) h = let a = same_in e h in (λ i. js.throw_of (a.0 i), a.1)
-      same_of (leave_label p l) h = (refl, refl)
-      same_of (break_nearest p) h = (refl, refl)
-      same_of (if_of p c ss ts) h =
-          let former = front (calls_in c ++ calls_of_all ss) (calls_of_all ts) h in
-          let x = same_in c (front (calls_in c) (calls_of_all ss) former) in
-          let y = same_of_all ss (back (calls_in c) (calls_of_all ss) former) in
-          let z = same_of_all ts (back (calls_in c ++ calls_of_all ss) (calls_of_all ts) h) in
-          (λ i. choice_template (x.0 i) (y.0 i) (z.0 i), λ i. x.1 i ++ y.1 i ++ z.1 i)
-      same_of (while_of p c ss) h =
-          let x = same_in c (front (calls_in c) (calls_of_all ss) h) in
-          let y = same_of_all ss (back (calls_in c) (calls_of_all ss) h) in
-          (λ i. js.while_of (x.0 i) (y.0 i), λ i. x.1 i ++ y.1 i)
-      same_of (loop_of p ss) h = let a = same_of_all ss h in (λ i. do_forever (a.0 i), a.1)
-      same_of (labeled_of p l ss) h = let a = same_of_all ss h in (λ i. js.labeled_of (label_name l) (a.0 i), a.1)
-      same_of (switch_of p e cs ss) h =
-          let former = front (calls_in e ++ calls_of_cases cs) (calls_of_all ss) h in
-          let x = same_in e (front (calls_in e) (calls_of_cases cs) former) in
-          let y = same_of_cases cs (back (calls_in e) (calls_of_cases cs) former) in
-          let z = same_of_all ss (back (calls_in e ++ calls_of_cases cs) (calls_of_all ss) h) in
-          (λ i. switch_on (x.0 i) (y.0 i) (z.0 i), λ i. x.1 i ++ y.1 i ++ z.1 i)
+  mutual
+    same_of : (s : Statement) → Agree (calls_of s) → SameStatement s
+    same_of (constant_of p x e) h = let a = same_in e h in (λ i. const_of (variable_name x) (a.0 i), a.1)
+    same_of (define_of p x e) h = let a = same_in e h in (λ i. let_of (variable_name x) (a.0 i), a.1)
+    same_of (declare_of p x) h = (refl, refl)
+    same_of (assign_to p x e) h = let a = same_in e h in (λ i. assign_name (variable_name x) (a.0 i), a.1)
+    same_of (evaluate_of p e) h = let a = same_in e h in (λ i. expression_statement (a.0 i), a.1)
+    same_of (return_of p e) h = let a = same_in e h in (λ i. js.return_of (a.0 i), a.1)
+    same_of (log_of p e) h = let a = same_in e h in (λ i. expression_statement (host_call ConsoleLog (a.0 i)), a.1)
+    same_of (assign_field p e c x d) h =
+        let a = same_in e (front (calls_in e) (calls_in d) h) in
+        let b = same_in d (back (calls_in e) (calls_in d) h) in
+        (λ i. assign_property (a.0 i) (property_name c x) (b.0 i), λ i. a.1 i ++ b.1 i)
+    same_of (assign_static p c x e) h = let a = same_in e h in (λ i. expression_statement (call_of (setter_name c x) (js.expression (a.0 i) js.no_expressions)), λ i. setter_use c x ∷ a.1 i)
+    same_of (throw_of p e) h = let a = same_in e h in (λ i. js.throw_of (a.0 i), a.1)
+    same_of (leave_label p l) h = (refl, refl)
+    same_of (break_nearest p) h = (refl, refl)
+    same_of (if_of p c ss ts) h =
+        let former = front (calls_in c ++ calls_of_all ss) (calls_of_all ts) h in
+        let x = same_in c (front (calls_in c) (calls_of_all ss) former) in
+        let y = same_of_all ss (back (calls_in c) (calls_of_all ss) former) in
+        let z = same_of_all ts (back (calls_in c ++ calls_of_all ss) (calls_of_all ts) h) in
+        (λ i. choice_template (x.0 i) (y.0 i) (z.0 i), λ i. x.1 i ++ y.1 i ++ z.1 i)
+    same_of (while_of p c ss) h =
+        let x = same_in c (front (calls_in c) (calls_of_all ss) h) in
+        let y = same_of_all ss (back (calls_in c) (calls_of_all ss) h) in
+        (λ i. js.while_of (x.0 i) (y.0 i), λ i. x.1 i ++ y.1 i)
+    same_of (loop_of p ss) h = let a = same_of_all ss h in (λ i. do_forever (a.0 i), a.1)
+    same_of (labeled_of p l ss) h = let a = same_of_all ss h in (λ i. js.labeled_of (label_name l) (a.0 i), a.1)
+    same_of (switch_of p e cs ss) h =
+        let former = front (calls_in e ++ calls_of_cases cs) (calls_of_all ss) h in
+        let x = same_in e (front (calls_in e) (calls_of_cases cs) former) in
+        let y = same_of_cases cs (back (calls_in e) (calls_of_cases cs) former) in
+        let z = same_of_all ss (back (calls_in e ++ calls_of_cases cs) (calls_of_all ss) h) in
+        (λ i. switch_on (x.0 i) (y.0 i) (z.0 i), λ i. x.1 i ++ y.1 i ++ z.1 i)
 
-      same_of_all : (ss : Statements) → Agree (calls_of_all ss) → SameStatements ss
-      same_of_all no_statements h = (refl, refl)
-      same_of_all (statement s ss) h =
-          let x = same_of s (front (calls_of s) (calls_of_all ss) h) in
-          let y = same_of_all ss (back (calls_of s) (calls_of_all ss) h) in
-          (λ i. js.statement (x.0 i) (y.0 i), λ i. x.1 i ++ y.1 i)
+    same_of_all : (ss : Statements) → Agree (calls_of_all ss) → SameStatements ss
+    same_of_all no_statements h = (refl, refl)
+    same_of_all (statement s ss) h =
+        let x = same_of s (front (calls_of s) (calls_of_all ss) h) in
+        let y = same_of_all ss (back (calls_of s) (calls_of_all ss) h) in
+        (λ i. js.statement (x.0 i) (y.0 i), λ i. x.1 i ++ y.1 i)
 
-      same_of_cases : (cs : Cases) → Agree (calls_of_cases cs) → SameCases cs
-      same_of_cases no_cases h = (refl, refl)
-      same_of_cases (switch_case ks ss cs) h =
-          let x = same_of_all ss (front (calls_of_all ss) (calls_of_cases cs) h) in
-          let y = same_of_cases cs (back (calls_of_all ss) (calls_of_cases cs) h) in
-          (λ i. js.switch_case ks (x.0 i) (y.0 i), λ i. x.1 i ++ y.1 i)
+    same_of_cases : (cs : Cases) → Agree (calls_of_cases cs) → SameCases cs
+    same_of_cases no_cases h = (refl, refl)
+    same_of_cases (switch_case ks ss cs) h =
+        let x = same_of_all ss (front (calls_of_all ss) (calls_of_cases cs) h) in
+        let y = same_of_cases cs (back (calls_of_all ss) (calls_of_cases cs) h) in
+        (λ i. js.switch_case ks (x.0 i) (y.0 i), λ i. x.1 i ++ y.1 i)
 
-    -- the emitted function is the same
-    pub same_emitted : (m : Method) → Agree (calls_of_all m.body) → emitted f m ≡ emitted g m
-    same_emitted m h = let a = same_of_all m.body h in λ i. record { params = function_parameters m; body = a.0 i; uses = once_each [] (a.1 i) }
+  -- the emitted function is the same
+  pub same_emitted : (m : Method) → Agree (calls_of_all m.body) → emitted f m ≡ emitted g m
+  same_emitted m h = let a = same_of_all m.body h in λ i. record { params = function_parameters m; body = a.0 i; uses = once_each [] (a.1 i) }
