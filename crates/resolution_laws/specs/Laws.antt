@@ -1,5 +1,4 @@
 -- Each call of a public method resolves.
-use Rattle.std.specs.Prelude.{◌≡◌}
 use Rattle.sj_names.specs.declared.method_names.MethodName.{MethodName}
 use Rattle.sj_world.specs.Known.{Name, Classes}
 use Rattle.sj_world.specs.Refusals.{IsInOrder}
