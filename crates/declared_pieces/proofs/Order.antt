@@ -173,8 +173,8 @@ module _ (written : List Name) where
       tested : Piece
       tested = test_piece c p.instances (kind_of_class c all_kinds)
 
-  methods_each : (fs : List Name) (es : List EmittedMethod) → Each fs (map (piece_of_member w) es)
-  methods_each fs es q i own = let m = from_map (piece_of_member w) es q i in subst (λ (x : Piece). declares fs x.item ≡ true) m.is refl
+  methods_each : (w : Classes) (fs : List Name) (es : List EmittedMethod) → Each fs (map (piece_of_member w) es)
+  methods_each w fs es q i own = let m = from_map (piece_of_member w) es q i in subst (λ (x : Piece). declares fs x.item ≡ true) m.is refl
 
   helpers_each : (fs : List Name) (above : Above) (hs : List Helper) → ((h : Helper) → Contains hs h → is_covered h ≡ true) → Each fs (map (helper_piece above) hs)
   helpers_each fs above hs covered q i own = let m = from_map (helper_piece above) hs q i in subst (λ (x : Piece). declares fs x.item ≡ true) m.is (helper_declares fs above m.item (covered m.item m.among))
@@ -243,7 +243,7 @@ module _ (written : List Name) where
       block_each = go (is_object b.class)
         where
           block_itself : Each fs (pieces_of_block w b)
-          block_itself = each_joined fs b.own (map (piece_of_member w) b.methods) (own_each_there block.own) (methods_each fs b.methods)
+          block_itself = each_joined fs b.own (map (piece_of_member w) b.methods) (own_each_there block.own) (methods_each w fs b.methods)
 
           go : (t : Bool) → Each fs (if t then pieces_of_block w b ++ its_helpers else pieces_of_block w b)
           go true = each_joined fs (pieces_of_block w b) its_helpers block_itself (helpers_each fs above hs covered)
