@@ -1,5 +1,5 @@
 -- What the emission of a body gives, and that its targets have names of bytes.
-use Rattle.std.proofs.Common.{◌≡◌, Bool, true, false, List, [], ◌∷◌, Option, Some, None, Result, Ok, Err, IfOk, All, refl, sym, ap, subst, ◌∙◌, if◌then◌else◌}
+use Rattle.std.proofs.Common.{◌≡◌, Bool, true, false, List, [], ◌∷◌, Option, Some, None, Result, Ok, Err, IfOk, All, filter, refl, subst, if◌then◌else◌}
 use Rattle.std.proofs.lemmas.List.Elements.{All-head, All-tail}
 use Rattle.dispatch_laws.proofs.Emission.{emission_finds_targets}
 use Rattle.dispatch_laws.specs.Targets.{at_owner, target_from, target_in}
@@ -25,18 +25,21 @@ use Rattle.sj_world.specs.Known.{Name, Classes, class_of, is_same, names_of}
 use Rattle.sj_world.specs.Refusals.{IsInOrder}
 
 -- emission by the answers of a world gives the function whose calls run the targets of the world
-pub function_found : (s : Stand) → IsInOrder s.classes → (m : Method) (r : Result JsMember NoMemory) (before after : Told) → AsEmitted (IsAnswer s) m r before after → IfOk r (λ e. emitted_view e ≡ emitted (target_in s.classes) m)
-function_found s sorted m (Ok e) before after ran = emission_finds_targets s sorted m (emitted_view e) ran.log ran.comes
-function_found s sorted m (Err e) before after ran = tt
+found_there : (s : Stand) → IsInOrder s.classes → (m : Method) (r : Result JsMember NoMemory) (before after : Told) → AsEmitted (IsAnswer s) m r before after → IfOk r (λ e. emitted_view e ≡ emitted (target_in s.classes) m)
+found_there s sorted m (Ok e) before after ran = emission_finds_targets s sorted m (emitted_view e) ran.log ran.comes
+found_there s sorted m (Err e) before after ran = tt
+
+pub function_found : (s t : Stand) → s ≡ t → IsInOrder t.classes → (m : Method) (r : Result JsMember NoMemory) (before after : Told) → AsEmitted (IsAnswer s) m r before after → IfOk r (λ e. emitted_view e ≡ emitted (target_in t.classes) m)
+function_found s t same sorted m r before after ran = found_there t sorted m r before after (subst (λ (o : Stand). AsEmitted (IsAnswer o) m r before after) same ran)
 
 -- a name under which a class is found is one of the names of the classes
 found_fits : (w : Classes) (c : Name) (class : ClassDef) → class_of w c ≡ Some class → All AreBytes (names_of w) → AreBytes c
 found_fits [] c class e h = absurd (cc)
-found_fits (k ∷ w) c class e h = go (is_same k.name c) refl e
+found_fits (k ∷ w) c class e h = go (is_same k.name c) refl e (λ found. found_fits w c class found (All-tail AreBytes k.name (names_of w) h))
   where
-    go : (b : Bool) → is_same k.name c ≡ b → (if b then Some k else class_of w c) ≡ Some class → AreBytes c
-    go true same found = subst AreBytes (same_name k.name c same) (All-head AreBytes k.name (names_of w) h)
-    go false other found = found_fits w c class found (All-tail AreBytes k.name (names_of w) h)
+    go : (b : Bool) → is_same k.name c ≡ b → (if b then Some k else class_of w c) ≡ Some class → (class_of w c ≡ Some class → AreBytes c) → AreBytes c
+    go true same found later = subst AreBytes (same_name k.name c same) (All-head AreBytes k.name (names_of w) h)
+    go false other found later = later found
 
 module _ (w : Classes) (names : All AreBytes (names_of w)) (m : MethodName) where
   -- a class that has a body is one of the world
@@ -47,7 +50,7 @@ module _ (w : Classes) (names : All AreBytes (names_of w)) (m : MethodName) wher
       go None none found = absurd (cc)
       go (Some class) is found = found_fits w c class is names
 
-  Fit : Option Found → Type 0
+  abbrev Fit : Option Found → Type 0
   Fit None = Unit {0}
   Fit (Some f) = AreBytes f.owner
 
