@@ -110,7 +110,7 @@ module _ (w : Classes) (has : Usable) where
     Typed s (labeled p l t e) = Here s (labeled p l t e) × Typed (in_label l t s) e
     Typed s (assign p (var_ref q x t) e) = Here s (assign p (var_ref q x t) e) × Typed s e
     Typed s (assign p (select q d c f t) e) = Here s (assign p (select q d c f t) e) × Typed s (select q d c f t) × Typed s e
-    Typed s (assign p (select_static q c f t) e) = Here s (assign p (select_static q c f t) e) × Typed s (select_static q c f t) × Typed s e
+    Typed s (assign p (select_static q c f t) e) = Here s (assign p (select_static q c f t) e) × Meets w s.space s.labels (select_static q c f t) × Typed s e
     Typed s (return_to p e l) = Here s (return_to p e l) × Typed s e
     Typed s (if_then p c a b t) = Here s (if_then p c a b t) × Typed s c × Typed s a × Typed s b
     Typed s (while_loop p c b) = Here s (while_loop p c b) × Typed s c × Typed s b

@@ -39,7 +39,8 @@ use Rattle.sj_trees.specs.declared.types.IrType.{IrType}
 use Rattle.sj_trees.specs.declared.types.IrType.TheVariants.{Any, Class, Array, Undefined, Null, Boolean, Byte, Short, Int, String, NoType, Nothing, Char, Long}
 use Rattle.typing_rules.specs.Rules.{IsStatic, IsReceiver, ArgumentsFit, Yields, nothing_wanted, fitting, unary_operand, left_operand, right_operand, IsText as IsJoined}
 use Rattle.body_rules.specs.Operators.{IsDivision, a_quotient, a_remainder, IsLongDivision, a_long_quotient, a_long_remainder, DividesBy, by_int, by_long}
-use Rattle.built_forms.specs.Built.{Usable}
+use Rattle.built_forms.proofs.Statics.{read_static, set_static}
+use Rattle.built_forms.specs.Built.{Usable, has_static}
 use Rattle.body_rules.specs.Standing.{call_type}
 use Rattle.body_rules.specs.Typing.{RunsOnObject, AllHaveValues, may_check, IsTrueLiteral, true_literal, Scene, behind, in_label, Typed, TypedBlock, TypedAll, TypedCases}
 use Rattle.body_rules.specs.Locals.{Own, OwnAll, OwnCases, IsParameter, local_of, HasValue, HaveValues}
@@ -165,7 +166,7 @@ module _ (w : World) (law : IsSubtyping (IsSub w)) (has : Usable) where
     pub record HeapTyped (st : ir.State) : Type 0 where
       pub objects : (i : ℕ) (c : List ℕ) → at i ≡ Some c → ObjectTyped c (slice_get st.heap i)
       pub made : (i : ℕ) (c : List ℕ) → at i ≡ Some c → has.made c ≡ true
-      pub statics : (c f : List ℕ) (t : IrType) → has.static_field c f t ≡ true → HoldsType (st.statics c f) t
+      pub statics : (c f : List ℕ) (t : IrType) → has_static has c f t ≡ true → HoldsType (st.statics c f) t
 
     -- the locals in scope and the heap hold what they may
     pub record Ready (f : Frame) (ds : List ParamDef) (env : ir.Env) (st : ir.State) : Type 0 where
@@ -775,20 +776,20 @@ module _ (w : World) (law : IsSubtyping (IsSub w)) (has : Usable) where
         stored a d known k _ stands (typed_object fields g) = there (fields c f) (ir.at_address a (ir.object d (ir.with_field c f x fields)) st) (g c f t k is) (written laws at st e.heap a d known fields stands g c f t is x i)
 
     -- an assignment to a static field
-    static_set_right : (at : Classes) (s : Scene) (c f : List ℕ) (t : IrType) (x : ir.Value) (env : ir.Env) (st : ir.State) → has.static_field c f t ≡ true → HasType (IsSub w) law at x t → Ready at (frame_of s) s.locals env st → Right at s NoType (ir_meaning.assign_static c f (x ∷ []) env st)
+    static_set_right : (at : Classes) (s : Scene) (c f : List ℕ) (t : IrType) (x : ir.Value) (env : ir.Env) (st : ir.State) → has_static has c f t ≡ true → HasType (IsSub w) law at x t → Ready at (frame_of s) s.locals env st → Right at s NoType (ir_meaning.assign_static c f (x ∷ []) env st)
     static_set_right at s c f t x env st is i e = there (st.statics c f) (e.heap.statics c f t is)
       where
         next : ir.State
         next = ir.with_static c f x st
 
-        typed : (b g : List ℕ) (u : IrType) → has.static_field b g u ≡ true → HoldsType at (next.statics b g) u
+        typed : (b g : List ℕ) (u : IrType) → has_static has b g u ≡ true → HoldsType at (next.statics b g) u
         typed b g u l = go (is_same_text b c && is_same_text g f) refl
           where
             go : (q : Bool) → (is_same_text b c && is_same_text g f) ≡ q → HoldsType at (if q then Some x else st.statics b g) u
             go true k =
                 let parts = and_parts (is_same_text b c) (is_same_text g f) k in
-                let one : has.static_field c g u ≡ true = subst (λ (n : List ℕ). has.static_field n g u ≡ true) (text-same b c parts.0) l in
-                let two : has.static_field c f u ≡ true = subst (λ (n : List ℕ). has.static_field c n u ≡ true) (text-same g f parts.1) one in
+                let one : has_static has c g u ≡ true = subst (λ (n : List ℕ). has_static has n g u ≡ true) (text-same b c parts.0) l in
+                let two : has_static has c f u ≡ true = subst (λ (n : List ℕ). has_static has c n u ≡ true) (text-same g f parts.1) one in
                 holds_type x u (subst (HasType (IsSub w) law at x) (laws.one_static c f t u is two) i)
             go false k = e.heap.statics b g u l
 
@@ -896,7 +897,7 @@ module _ (w : World) (law : IsSubtyping (IsSub w)) (has : Usable) where
       tree_right (labeled p l t e) = λ s v h fresh u at env st i. comes_then (CameRight at (in_label l t s) s.locals (type_of_term e)) (CameRight at s s.locals t) (step e env st) (ir_meaning.arrive l) (tree_right e (in_label l t s) v h.1 fresh u at env st i) (arrives-right at s l e t h.0.meets)
       tree_right (assign p (var_ref q x t) e) = λ s v h fresh u at env st i. operand_right e at s NoType t (ir_meaning.define x) env st (tree_right e s v h.1 fresh u at env st i) h.0.meets.1 (value-not t (subst HasValue h.0.finds.type_is (v.values x h.0.finds.local h.0.finds.is))) (λ y b a env st k i. here y s s.locals NoType ir.undefined (ir_meaning.set_local x a env) st (inl refl) (assign-ready y (frame_of s) s.locals x h.0.finds.local env st a h.0.finds.is (subst (HasType (IsSub w) law y a) (sym h.0.finds.type_is) k) (λ r q. impossible (sym (v.fixed r x h.0.finds.local h.0.finds.is q) ∙ h.0.finds.mutable)) i))
       tree_right (assign p (select q d c f t) e) = λ s v h fresh u at env st i. let its = and_parts (has.field c f t) (may_check has s.sure d) h.0.built in field_set_right p q d c f t e (tree_right d) (tree_right e) s v its.0 its.1 h.1.0.meets.0 h.0.meets.1 h.1.1 h.2 fresh u at env st i
-      tree_right (assign p (select_static q c f t) e) = λ s v h fresh u at env st i. operand_right e at s NoType t (ir_meaning.assign_static c f) env st (tree_right e s v h.2 fresh u at env st i) h.0.meets.1 (value-not t (laws.statics c f t h.0.built).0) (λ y b x env st k i. static_set_right y s c f t x env st h.0.built k i)
+      tree_right (assign p (select_static q c f t) e) = λ s v h fresh u at env st i. operand_right e at s NoType t (ir_meaning.assign_static c f) env st (tree_right e s v h.2 fresh u at env st i) h.0.meets.1 (value-not t (laws.statics c f t (set_static has c f t h.0.built)).0) (λ y b x env st k i. static_set_right y s c f t x env st (set_static has c f t h.0.built) k i)
       tree_right (return_to p e l) = λ s v h fresh u at env st i. one_right at s s.locals (type_of_term e) Nothing (step e) (ir_meaning.leave l) env st (tree_right e s v h.1 fresh u at env st i) (λ y b a env st g i. left y l a env st h.0.meets.tpe (adds-refl y) h.0.meets.is_type (gives-yield y a e h.0.meets.tpe g h.0.meets.yields) i)
       tree_right (if_then p c a b t) = λ s v h fresh u at env st i. operand_right c at s t Boolean (ir_meaning.branch (step a) (step b)) env st (tree_right c s v h.1 (λ x o. fresh x (inl o)) (sures-parts s (definitions c) (definitions a) (sures-parts s (definitions c ++ definitions a) (definitions b) u).0).0 at env st i) h.0.meets.0 boolean_not (λ y n q env st k i. branch_right y s t (step a) (step b) q env st (as_boolean (IsSub w) law y q k) (yields-right y s s.locals a t (step a env st).end h.0.meets.1 (tree_right a s v h.2 (λ x o. fresh x (inr (inl o))) (sures-parts s (definitions c) (definitions a) (sures-parts s (definitions c ++ definitions a) (definitions b) u).0).1 y env st i)) (yields-right y s s.locals b t (step b env st).end h.0.meets.2 (tree_right b s v h.3 (λ x o. fresh x (inr (inr o))) (sures-parts s (definitions c ++ definitions a) (definitions b) u).1 y env st i)))
       tree_right (while_loop p c b) = λ s v h fresh u at env st i. comes_then (Turned at s (loop_type c)) (CameRight at s s.locals (loop_type c)) (ir_meaning.in_order (step c ∷ []) (ir_meaning.branch (step b) (λ env s. record { lines = []; end = Done (ir.ends ir.stops env s) })) env st) (ir_meaning.after_turn (low (while_loop p c b))) (while_turn p c b (tree_right c) (tree_right b) s v h fresh u (true-or-none c) at env st i) (turn_right at s (loop_type c) (low (while_loop p c b)) (right (while_loop p c b) s v h fresh u))
@@ -910,7 +911,7 @@ module _ (w : World) (law : IsSubtyping (IsSub w)) (has : Usable) where
       tree_right (apply_statically p e c Namespace.Public m ts t) = λ s v h fresh u at env st i. let its = received_parts e c Namespace.Public m s h.0.built in let parts = sures-parts s (definitions e) (definitions_in ts) u in go_on_both at s s.locals (type_of_term e) s.locals t Full (ir_meaning.receiving w (is_sure env.sure e) low (step e) env st) (λ a. ir_meaning.in_order (ir_meaning.operands w low ts) (λ vs. ir_meaning.call_on w low (ir_meaning.static_target w c Namespace.Public m) (a ∷ vs))) (receiver_right (calls (has.target (member c Namespace.Public m)) its.0) e s h.1 (check_there e s its.1) at env st i (tree_right e s v h.1 (λ x o. fresh x (inl o)) parts.0 at env st i)) (λ y b a env st g n i. arguments_right ts m.params s t v h.0.meets.3 h.0.finds h.2 (λ x o. fresh x (inr o)) parts.1 y (λ vs. ir_meaning.call_on w low (ir_meaning.static_target w c Namespace.Public m) (a ∷ vs)) env st i (λ z d vs env st k i. received_right c Namespace.Public m (has.target (member c Namespace.Public m)) (laws.received (has.target (member c Namespace.Public m)) its.0) (laws.targets (member c Namespace.Public m) its.0) s t (type_of_term e) h.0.meets.1 h.0.meets.2 y a g n z d vs env st k i))
       tree_right (apply_statically p e c Constructor m ts t) = λ s v h fresh u at env st i. let parts = sures-parts s (definitions e) (definitions_in ts) u in go_on_both at s s.locals (type_of_term e) s.locals t Full (ir_meaning.receiving w (is_sure env.sure e) low (step e) env st) (λ a. ir_meaning.in_order (ir_meaning.operands w low ts) (λ vs. ir_meaning.call_on w low (member_of w c Constructor m) (a ∷ vs))) (own_right e s h.0.meets.0 h.1 at env st i) (λ y b a env st g n i. arguments_right ts m.params s t v h.0.meets.3 h.0.finds h.2 (λ x o. fresh x (inr o)) parts.1 y (λ vs. ir_meaning.call_on w low (member_of w c Constructor m) (a ∷ vs)) env st i (λ z d vs env st k i. received_right c Constructor m (member c Constructor m) (laws.built (member c Constructor m) (constructor_there c m t h.0.built)) (own_target w (member c Constructor m)) s t (type_of_term e) h.0.meets.1 h.0.meets.2 y a g n z d vs env st k i))
       tree_right (apply_statically p e c n m ts t) = λ s v h fresh u at env st i. impossible h.0.built
-      tree_right (select_static p c f t) = λ s v h fresh u at env st i. there_right at s t (st.statics c f) env st (i.heap.statics c f t h.built) i
+      tree_right (select_static p c f t) = λ s v h fresh u at env st i. there_right at s t (st.statics c f) env st (i.heap.statics c f t (read_static has c f t h.built)) i
       tree_right (this_ref p t) = λ s v h fresh u at env st i. only_right (CameRight at s s.locals t) Full (ir_meaning.local_value env.this_value env st).end (this_right at s t s.owner env.this_value env st h.finds.1 (i.locals.this h.finds.0) i)
       tree_right (unary_op p o e) = λ s v h fresh u at env st i. operand_right e at s (unary_result o) (unary_operand o) (ir_meaning.unary w low o) env st (tree_right e s v h.1 fresh u at env st i) h.0.meets (value-not (unary_operand o) (unary-operand-value o)) (λ y b q env st k i. value_right y low s (unary_result o) (unary_value o q) env st (unary_gives (IsSub w) law y o q k) i)
       tree_right (binary_op p o e d) = λ s v h fresh u at env st i. ⊎_elim (λ takes. binary_right o e d at s takes env st (tree_right e s v h.1 (λ x o. fresh x (inl o)) (sures-parts s (definitions e) (definitions d) u).0 at env st i) (λ k env st i. tree_right d s v h.2 (λ x o. fresh x (inr o)) (sures-parts s (definitions e) (definitions d) u).1 k env st i)) (λ divides. division_right o e d at s divides.0 divides.1 env st (tree_right e s v h.1 (λ x o. fresh x (inl o)) (sures-parts s (definitions e) (definitions d) u).0 at env st i)) (operation w has s o e d h.0.built h.2 h.0.meets)

@@ -4,7 +4,7 @@ use Rattle.std.specs.List.{list_any}
 use Rattle.body_rules.specs.Locals.{HasValue}
 use Rattle.body_rules.specs.Standing.{is_bare}
 use Rattle.body_soundness.specs.Rules.{RightMember}
-use Rattle.built_forms.specs.Built.{Usable, divides}
+use Rattle.built_forms.specs.Built.{Usable, has_static, divides}
 use Rattle.dispatch_laws.specs.Targets.{IsTargetOf}
 use Rattle.ir_mean.specs.Dispatch.{chain_of}
 use Rattle.ir_mean.specs.Meaning.{with_message}
@@ -48,7 +48,7 @@ pub record ObjectLaws (w : World) (has : Usable) : Type 0 where
   pub one_type : (c f : List ℕ) (s t : IrType) → has.field c f s ≡ true → has.field c f t ≡ true → s ≡ t
   pub holders : (c f : List ℕ) (t : IrType) → has.field c f t ≡ true → (d : List ℕ) → has.made d ≡ true → IsSub w (Class d) (class_type c) → list_any (is_same_text c) (chain_of w d) ≡ true
   pub strangers : (c f : List ℕ) (t : IrType) → has.field c f t ≡ true → (o : IrType) (h : List ℕ) → hijacked_class o ≡ Some h → IsSub w o (class_type c) → ⊥
-  pub statics : (c f : List ℕ) (t : IrType) → has.static_field c f t ≡ true → HasValue t × (statics_in (class_of w c) f ≡ Some (zero_of t))
-  pub one_static : (c f : List ℕ) (s t : IrType) → has.static_field c f s ≡ true → has.static_field c f t ≡ true → s ≡ t
+  pub statics : (c f : List ℕ) (t : IrType) → has_static has c f t ≡ true → HasValue t × (statics_in (class_of w c) f ≡ Some (zero_of t))
+  pub one_static : (c f : List ℕ) (s t : IrType) → has_static has c f s ≡ true → has_static has c f t ≡ true → s ≡ t
   pub exceptions : has.helper check_name ≡ true → (has.made null_pointer ≡ true) × (has.built (member null_pointer Constructor with_message) ≡ true)
   pub divisions : (o : BinaryOp) → divides has o ≡ true → (has.made arithmetic ≡ true) × (has.built (member arithmetic Constructor with_message) ≡ true)

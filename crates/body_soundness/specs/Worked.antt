@@ -77,6 +77,7 @@ object_use = record {
   made = λ c. is_same_text c class_name || is_same_text c object_name;
   field = λ c f t. is_same_text c class_name && (is_same_text f field_name && is_same_type t Int);
   static_field = λ c f t. false;
+  static_setter = λ c f t. false;
   helper = λ x. false;
   objects = true;
 }

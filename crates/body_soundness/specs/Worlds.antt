@@ -4,7 +4,7 @@ use Rattle.std.specs.List.{Contains}
 use Rattle.body_rules.specs.Locals.{HasValue}
 use Rattle.body_soundness.specs.Laws.{HasReceivers, null_pointer, arithmetic}
 use Rattle.body_soundness.specs.Rules.{RightMember}
-use Rattle.built_forms.specs.Built.{Usable, divides}
+use Rattle.built_forms.specs.Built.{Usable, has_static, divides}
 use Rattle.dispatch_laws.specs.Targets.{IsTargetOf}
 use Rattle.ir_mean.specs.Meaning.{with_message}
 use Rattle.ir_mean.specs.World.{member_of, zeros_in, statics_in, zero_of}
@@ -57,7 +57,7 @@ pub record ObjectWorld (w : Classes) (has : Usable) : Type 0 where
   pub primitives : (h : Name) → is_hijacked h ≡ true → WritesInterfaces w h
   pub fields : (c f : Name) (t : IrType) → has.field c f t ≡ true → HasFields w c × HasValue t × (zeros_in (ir_world.class_of w c) f ≡ Some (zero_of t))
   pub one_type : (c f : Name) (s t : IrType) → has.field c f s ≡ true → has.field c f t ≡ true → s ≡ t
-  pub statics : (c f : Name) (t : IrType) → has.static_field c f t ≡ true → HasValue t × (statics_in (ir_world.class_of w c) f ≡ Some (zero_of t))
-  pub one_static : (c f : Name) (s t : IrType) → has.static_field c f s ≡ true → has.static_field c f t ≡ true → s ≡ t
+  pub statics : (c f : Name) (t : IrType) → has_static has c f t ≡ true → HasValue t × (statics_in (ir_world.class_of w c) f ≡ Some (zero_of t))
+  pub one_static : (c f : Name) (s t : IrType) → has_static has c f s ≡ true → has_static has c f t ≡ true → s ≡ t
   pub exceptions : has.helper check_name ≡ true → (has.made null_pointer ≡ true) × (has.built (member null_pointer Constructor with_message) ≡ true)
   pub divisions : (o : BinaryOp) → divides has o ≡ true → (has.made arithmetic ≡ true) × (has.built (member arithmetic Constructor with_message) ≡ true)

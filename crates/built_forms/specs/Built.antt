@@ -25,7 +25,7 @@ is_nonzero_long (long_literal p z) = not (int_eq z (pos 0))
 is_nonzero_long _ = false
 
 -- what a body can use: the static members that are linked, and those that run on a receiver, with what a call of a public one runs; the constructors that
--- are linked; the classes of which objects are made; their fields and the static fields, with their types; helpers, by their names; and whether it can throw,
+-- are linked; the classes of which objects are made; their fields and the static fields that can be read and those that can be set, with their types; helpers, by their names; and whether it can throw,
 -- and name the object that it runs on
 pub record Usable : Type 0 where
   pub linked : Member → Bool
@@ -35,6 +35,7 @@ pub record Usable : Type 0 where
   pub made : List ℕ → Bool
   pub field : List ℕ → List ℕ → IrType → Bool
   pub static_field : List ℕ → List ℕ → IrType → Bool
+  pub static_setter : List ℕ → List ℕ → IrType → Bool
   pub helper : List ℕ → Bool
   pub objects : Bool
 
@@ -48,7 +49,11 @@ may_make has boxed = can_box has || not boxed
 
 -- these static members and nothing else
 abbrev pub members_alone : (Member → Bool) → Usable
-members_alone linked = record { linked = linked; target = λ m. m; received = λ m. false; built = λ m. false; made = λ c. false; field = λ c f t. false; static_field = λ c f t. false; helper = λ x. false; objects = false }
+members_alone linked = record { linked = linked; target = λ m. m; received = λ m. false; built = λ m. false; made = λ c. false; field = λ c f t. false; static_field = λ c f t. false; static_setter = λ c f t. false; helper = λ x. false; objects = false }
+
+-- a static field can be read or set
+abbrev pub has_static : Usable → List ℕ → List ℕ → IrType → Bool
+has_static has c f t = has.static_field c f t || has.static_setter c f t
 
 -- the operator is a division whose helper can be used
 abbrev pub divides : Usable → BinaryOp → Bool
@@ -79,7 +84,7 @@ module _ (has : Usable) (checked : Term → Bool) where
   stands (labeled p l t e) = true
   stands (assign p (var_ref q x t) e) = true
   stands (assign p (select q d c f t) e) = has.field c f t && checked d
-  stands (assign p (select_static q c f t) e) = has.static_field c f t
+  stands (assign p (select_static q c f t) e) = has.static_setter c f t
   stands (return_to p e l) = true
   stands (if_then p c a b t) = true
   stands (while_loop p c b) = true
@@ -162,7 +167,7 @@ has_no_value _ = false
 
 -- whatever is made and used of objects, but for constructors with a value
 abbrev pub any_object : Usable
-any_object = record { linked = λ m. true; target = λ m. m; received = λ m. true; built = λ m. has_no_value m.method.result; made = λ c. true; field = λ c f t. true; static_field = λ c f t. true; helper = λ x. true; objects = true }
+any_object = record { linked = λ m. true; target = λ m. m; received = λ m. true; built = λ m. has_no_value m.method.result; made = λ c. true; field = λ c f t. true; static_field = λ c f t. true; static_setter = λ c f t. true; helper = λ x. true; objects = true }
 
 -- the body is of these forms, whatever it calls, makes and reads
 abbrev pub is_object_body : MethodDef → Term → Bool

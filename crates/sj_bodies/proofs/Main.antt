@@ -28,6 +28,7 @@ use Rattle.sj_bodies.proofs.Contexts.{around, Context, Writes, Sound, Ahead, Rea
 use Rattle.sj_bodies.specs.Fine.{IsDiscard, is_discard, FitsIn, FineOperand, Amid, Asks}
 use Rattle.sj_plain.proofs.Boxes.{StandsFor, stands-for, stand-for-all}
 use Rattle.sj_plain.proofs.Received.{may_be_checked, value_or_nothing, Received, received, Constructed, constructed}
+use Rattle.built_forms.proofs.Statics.{read_static, set_static}
 use Rattle.built_forms.proofs.Targets.{target_goal}
 use Rattle.built_forms.specs.Boxes.{Goal, goal_of, goals_of, is_boxed, any_is_boxed, is_boxed_at, boxes_as_text, boxes, last_boxes, operand_boxes, operands_box, cases_box}
 use Rattle.built_forms.specs.Built.{can_box, may_make}
@@ -274,10 +275,10 @@ module _ (z : Setting) (lawful : Lawful z) (low : LowAlike z) where
       by (inr h) = set_spilled z lawful low p q c j o d f t e sound ahead there.0 fit h.0 object (operand_does z lawful low c j e does_e (outside-part c (Own (assign p (select q o d f t) e)) (Own e) (λ x i. inr i) out) (inr h))
 
   static_by : (p : Position) (d f : List ℕ) (t : IrType) → TreeDoes z lawful low (select_static p d f t)
-  static_by p d f t c k j sound ahead out wr fine w env s sc u r same = finish_alike z lawful c k p t (core.static_of d f) j sound wr (fits-value z.place.classes lawful.base.ordered (usable z) k t fine.asks (lawful.base.statics d f t fine.typed.built).value fine.boxed) w w sc env (ir_meaning.value_or_wrong (s.statics d f) env s) sc u (grows-refl w) (keeps-refl z c.kept sc) r s same (static_alike z lawful.base d f t fine.typed.built w env s sc u r.sees.inside same)
+  static_by p d f t c k j sound ahead out wr fine w env s sc u r same = finish_alike z lawful c k p t (core.static_of d f) j sound wr (fits-value z.place.classes lawful.base.ordered (usable z) k t fine.asks (lawful.base.statics d f t (read_static (usable z) d f t fine.typed.built)).value fine.boxed) w w sc env (ir_meaning.value_or_wrong (s.statics d f) env s) sc u (grows-refl w) (keeps-refl z c.kept sc) r s same (static_alike z lawful.base d f t fine.typed.built w env s sc u r.sees.inside same)
 
   set_static_by : (p q : Position) (d f : List ℕ) (t : IrType) (e : Term) → TreeDoes z lawful low e → (c : Context) (k : Destination) (j : ℕ) → Sound z.is_mutable c → Ahead c j → Outside c (Own e) → FineHere z lawful low c k (assign p (select_static q d f t) e) → IsDiscard k → Does z lawful c k j (assign p (select_static q d f t) e)
-  set_static_by p q d f t e does c _ j sound ahead out fine is_discard = of_operands z lawful c discard (piece z lawful low c.targets e ∷ []) j (ir_meaning.assign_static d f) (λ es. one (core.assign_static (Some p) d f (coerced t (type_of_term e) (first_of es)))) sound ahead (operand_does z lawful low c j e does out (part_of c fine.scene fine.amid e fine.written t own.0 (lawful.base.statics d f t fine.typed.0.built).value fine.typed.2 parts.1 fine.around fine.once), tt) (one_final z lawful c discard j (type_of_term e) (ir_meaning.assign_static d f) (λ es. one (core.assign_static (Some p) d f (coerced t (type_of_term e) (first_of es)))) (set_static_final z lawful low c p j d f t (type_of_term e) fine.typed.0.built (stands-for z lawful t (type_of_term e) own.0 own.1)))
+  set_static_by p q d f t e does c _ j sound ahead out fine is_discard = of_operands z lawful c discard (piece z lawful low c.targets e ∷ []) j (ir_meaning.assign_static d f) (λ es. one (core.assign_static (Some p) d f (coerced t (type_of_term e) (first_of es)))) sound ahead (operand_does z lawful low c j e does out (part_of c fine.scene fine.amid e fine.written t own.0 (lawful.base.statics d f t (set_static (usable z) d f t fine.typed.0.built)).value fine.typed.2 parts.1 fine.around fine.once), tt) (one_final z lawful c discard j (type_of_term e) (ir_meaning.assign_static d f) (λ es. one (core.assign_static (Some p) d f (coerced t (type_of_term e) (first_of es)))) (set_static_final z lawful low c p j d f t (type_of_term e) fine.typed.0.built (stands-for z lawful t (type_of_term e) own.0 own.1)))
     where
       parts : Makes (is_boxed t e) × Makes (operand_boxes (goals_of c.targets) e)
       parts = each (is_boxed t e) (operand_boxes (goals_of c.targets) e) fine.boxed

@@ -165,7 +165,7 @@ module _ (z : Setting) (lawful : Lawful z) (low : LowAlike z) where
   throw_does p c k j e sound ahead any operand = of_operands z lawful c k (piece z lawful low c.targets e ∷ []) j ir_meaning.throw_value (λ es. one (core.throw_of (Some p) (coerced Any (type_of_term e) (first_of es)))) sound ahead (operand, tt) (one_final z lawful c k j (type_of_term e) ir_meaning.throw_value (λ es. one (core.throw_of (Some p) (coerced Any (type_of_term e) (first_of es)))) (throw_final c k p j (type_of_term e) any))
 
   -- an assignment to a static field: its right side, and a call of the function that sets the variable
-  pub set_static_final : (c : Context) (p : Position) (j : ℕ) (d f : List ℕ) (t own : IrType) → (usable z).static_field d f t ≡ true → StandsFor z t own → (w : World) (sc : js.Scope) → OneFinal z lawful c discard w sc j own (ir_meaning.assign_static d f) (λ es. one (core.assign_static (Some p) d f (coerced t own (first_of es))))
+  pub set_static_final : (c : Context) (p : Position) (j : ℕ) (d f : List ℕ) (t own : IrType) → (usable z).static_setter d f t ≡ true → StandsFor z t own → (w : World) (sc : js.Scope) → OneFinal z lawful c discard w sc j own (ir_meaning.assign_static d f) (λ es. one (core.assign_static (Some p) d f (coerced t own (first_of es))))
   set_static_final c p j d f t own has fits from before n r x w env s sc u ahead l g ready ks same (more_operands _ _ _ _ _ _ told alike no_operands) = ends-one z lawful c c.scope discard from before (ir_meaning.in_order (r ∷ []) act env s) (core.assign_static (Some p) d f set) sc u (subst (λ o. Sim z.direction F o (then_do (setter_text z lawful.base d f set sc u) (js.in_statement sc (λ v. js_meaning.nothing sc)))) (then_do-right (ir_meaning.in_order (r ∷ []) act env s)) (sim_then z.direction (Valued z.place w env NoType) F (ir_meaning.in_order (r ∷ []) act env s) (setter_text z lawful.base d f set sc u) done (js.in_statement sc (λ v. js_meaning.nothing sc)) (static_set_alike z lawful.base d f t (stood t own fits.0) r set has (stood-fits t own fits.0) w env s sc u ready.sees.inside (more_operands (stood t own fits.0) r set [] [] [] (stood_told z lawful.base w env sc ready.sees.inside t own fits.0 x told) (stood_alike z lawful.base w env sc ready.sees.inside t own fits.0 fits.1 r x alike) no_operands) same) (valued_done z lawful F w env NoType sc (λ v. js_meaning.nothing sc) (throws-on z lawful c c.scope discard from w before env sc g ks ready) (λ y v q s u h a states. sim_done z.direction F (ir.ends (ir.gives v) env s) (js.ends js.normally sc u) (gave y v env s sc u js.normally (grows-trans from w y g h) let_go (ready-lift z c.scope c.writable w y env sc h ready) (keeps-less z c.kept discard before sc ks) states)))))
     where
       F : ir.Ended → js.StatementEnd → Type 0

@@ -19,6 +19,7 @@ use Rattle.sj_bodies.proofs.Contexts.{Came}
 use Rattle.sj_bodies.proofs.Main.{does}
 use Rattle.sj_bodies.proofs.Trees.{LowAlike}
 use Rattle.sj_plain.proofs.Worlds.{World, SameValues}
+use Rattle.std.proofs.lemmas.Bool.{or_from}
 use Rattle.body_rules.specs.Standing.{types_referred, call_type}
 use Rattle.sj_calls.specs.Methods.{Linked, CallsAlone, CallsAgree, ir_call, js_call}
 use Rattle.sj_calls.proofs.Calls.{call_alike}
@@ -60,8 +61,8 @@ module _ (p : Place) (ordered : IsSubtyping (IsSub p.classes)) (names : NamesDif
     names = names;
     reaches = reaches;
     fields = λ c g t i. impossible (sym (alone.field f.file c g t) ∙ i);
-    statics = λ c g t i. impossible (sym (alone.static_field f.file c g t) ∙ i);
-    sets = λ c g t i. impossible (sym (alone.static_field f.file c g t) ∙ i);
+    statics = λ c g t i. impossible (sym (or_from ((p.has f.file).static_field c g t) ((p.has f.file).static_setter c g t) (alone.static_field f.file c g t) (alone.static_setter f.file c g t)) ∙ i);
+    sets = λ c g t i. impossible (sym (alone.static_setter f.file c g t) ∙ i);
     calls = λ m l. member_alike d n k (levels k h) m (linked f.file m l);
     receives = λ m l. impossible (sym (alone.received f.file (called_member (p.has f.file).target m.namespace m)) ∙ l);
     builds = λ m l. impossible (sym (alone.built f.file m) ∙ l);

@@ -25,6 +25,7 @@ use Rattle.sj_plain.proofs.Boxes.{class-no-char}
 use Rattle.sure_receivers.specs.Sure.{sure_locals}
 use Rattle.sj_plain.specs.Settings.{Place, Code, a_function, a_method, a_constructor, a_setter, a_helper, division_helper, Setting, SameState, Valued, Built, NamesDiffer, Reaches, Based, Lawful, BuildsAlike, ReceivesAlike, SetsAlike, ChecksAlike, DividesAlike, IsReceiver, top_call}
 use Rattle.body_rules.specs.Standing.{is_bare, Fits, types_referred, call_type}
+use Rattle.built_forms.proofs.Statics.{set_static}
 use Rattle.built_forms.specs.Built.{divides}
 use Rattle.ir_mean.specs.Operators.{binary_value}
 use Rattle.sj_desugar.specs.Desugar.{member}
@@ -102,10 +103,10 @@ module _ (p : Place) (ordered : IsSubtyping (IsSub p.classes)) (names : NamesDif
   enough_for forward n k c made h e = let l = made.depth in omega (arith, l, h)
   enough_for backward n k c made h e = absurd (cc)
 
-  set_alike : (f : Code) (is_mutable : List ℕ → Bool) (d : Direction) (n k : ℕ) → Enough p.room 0 d n k → (c g : List ℕ) (t : IrType) → (p.has f.file).static_field c g t ≡ true → SetsAlike (within f d is_mutable n k) c g t
-  set_alike f is_mutable d n (suc k) h c g t l = sets_alike d p has.statics c g t (has.statics f.file c g t l) f.file l k
+  set_alike : (f : Code) (is_mutable : List ℕ → Bool) (d : Direction) (n k : ℕ) → Enough p.room 0 d n k → (c g : List ℕ) (t : IrType) → (p.has f.file).static_setter c g t ≡ true → SetsAlike (within f d is_mutable n k) c g t
+  set_alike f is_mutable d n (suc k) h c g t l = let can = set_static (p.has f.file) c g t l in sets_alike d p has.statics c g t (has.statics f.file c g t can) f.file can k
   set_alike f is_mutable forward n zero h c g t l = let e = has.beyond in absurd (omega (arith, e, h))
-  set_alike f is_mutable backward n zero h c g t l = λ w v x env s u a same. subst (λ o. Sim backward (Valued p w env NoType) (ir_meaning.assign_static c g (v ∷ []) env s) o) (sym (ap (λ o. js_meaning.code_call (js_meaning.below p.program 0) (p.home (a_setter c g t)) o (x ∷ []) u) (has.statics f.file c g t l).sets)) (sim_going (Valued p w env NoType) (ir_meaning.assign_static c g (v ∷ []) env s))
+  set_alike f is_mutable backward n zero h c g t l = λ w v x env s u a same. subst (λ o. Sim backward (Valued p w env NoType) (ir_meaning.assign_static c g (v ∷ []) env s) o) (sym (ap (λ o. js_meaning.code_call (js_meaning.below p.program 0) (p.home (a_setter c g t)) o (x ∷ []) u) (has.statics f.file c g t (set_static (p.has f.file) c g t l)).sets)) (sim_going (Valued p w env NoType) (ir_meaning.assign_static c g (v ∷ []) env s))
 
   based : (d : Direction) (n k : ℕ) → Levels d n → Enough p.room 0 d n k → (f : Code) → Reaches p f.file → (is_mutable : List ℕ → Bool) → Based (within f d is_mutable n k)
   based d n k levels h f reaches is_mutable = record {

@@ -2,6 +2,7 @@
 use Rattle.std.proofs.Common.{◌≡◌, ℕ, suc, Bool, true, false, List, [], ◌∷◌, Option, Some, refl, sym, ap, ◌∙◌, subst, if◌then◌else◌}
 use Rattle.std.specs.Prelude.{◌&&◌}
 use Rattle.std.proofs.lemmas.Bool.{and_parts}
+use Rattle.built_forms.specs.Built.{has_static}
 use Rattle.body_rules.proofs.Equal.{differs, equals, is-equal}
 use Rattle.outcomes.specs.Outcome.{Out, done, then_do}
 use Rattle.outcomes.specs.Agreement.{Direction, Sim}
@@ -57,7 +58,7 @@ module _ (p : Place) (c f : List ℕ) (t : IrType) (stands : StaticStands p c f 
       behind : Out js.StatementEnd → Out js.ExpressionEnd
       behind o = then_do (then_do o (js.next_statement (js_meaning.execute_all p.program (js_meaning.below p.program m) no_statements))) js_meaning.returned
 
-module _ (d : Direction) (p : Place) (all : (g : Name) (c f : List ℕ) (t : IrType) → (p.has g).static_field c f t ≡ true → StaticStands p c f t) (c f : List ℕ) (t : IrType) (stands : StaticStands p c f t) where
+module _ (d : Direction) (p : Place) (all : (g : Name) (c f : List ℕ) (t : IrType) → has_static (p.has g) c f t ≡ true → StaticStands p c f t) (c f : List ℕ) (t : IrType) (stands : StaticStands p c f t) where
   abbrev here : Name
   here = p.home (a_setter c f t)
 
@@ -73,7 +74,7 @@ module _ (d : Direction) (p : Place) (all : (g : Name) (c f : List ℕ) (t : IrT
     top_stays g top l false e = subst (TopHolds p w.owned top) (sym (other-stays here name x u (p.home top) (top_name top) (differs (top_name top) name (static_apart top c f e)))) (same.tops g top l)
     top_stays g _ l true e = absurd (cc)
 
-    static_there : (g : Name) (b n : List ℕ) (k : IrType) → (p.has g).static_field b n k ≡ true → Holding w k (ir.with_field c f v s.statics b n) (after.tops (p.home (a_static b n k)) (static_name b n))
+    static_there : (g : Name) (b n : List ℕ) (k : IrType) → has_static (p.has g) b n k ≡ true → Holding w k (ir.with_field c f v s.statics b n) (after.tops (p.home (a_static b n k)) (static_name b n))
     static_there g b n k l = go (is_same_text b c && is_same_text n f) refl
       where
         its : StaticStands p b n k
@@ -104,7 +105,7 @@ module _ (d : Direction) (p : Place) (all : (g : Name) (c f : List ℕ) (t : IrT
     states : SameState p w (ir.with_static c f v s) after
     states = record { heaps = same.heaps; tops = λ g top l. top_stays g top l (is_static_variable top) refl; statics = static_there }
 
-  pub sets_alike : (g : Name) → (p.has g).static_field c f t ≡ true → (m : ℕ) (w : World) (v : ir.Value) (x : js.Value) (env : ir.Env) (s : ir.State) (u : js.State) → SameValue w t v x → SameState p w s u → Sim d (Valued p w env NoType) (ir_meaning.assign_static c f (v ∷ []) env s) (top_call p (js_meaning.below p.program (suc m)) (a_setter c f t) (x ∷ []) u)
+  pub sets_alike : (g : Name) → has_static (p.has g) c f t ≡ true → (m : ℕ) (w : World) (v : ir.Value) (x : js.Value) (env : ir.Env) (s : ir.State) (u : js.State) → SameValue w t v x → SameState p w s u → Sim d (Valued p w env NoType) (ir_meaning.assign_static c f (v ∷ []) env s) (top_call p (js_meaning.below p.program (suc m)) (a_setter c f t) (x ∷ []) u)
   sets_alike g there m w v x env s u alike same = go (s.statics c f) (u.tops (p.home (a_static c f t)) name) refl refl (same.statics g c f t there)
     where
       go : (o : Option ir.Value) (cell : js.Cell) → s.statics c f ≡ o → u.tops (p.home (a_static c f t)) name ≡ cell → Holding w t o cell → Sim d (Valued p w env NoType) (ir_meaning.assigned (ir_meaning.if_there (s.statics c f) (ir.with_static c f v s)) env s) (top_call p (js_meaning.below p.program (suc m)) (a_setter c f t) (x ∷ []) u)

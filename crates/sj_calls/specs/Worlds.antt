@@ -1,7 +1,7 @@
 -- What the code of a program has of objects: members that run on receivers, constructors, classes, fields, static fields, the null check, divisions and objects that hold chars,
 -- each where code can use it.
 use Rattle.std.specs.Prelude.{◌≡◌, ℕ, ◌≤◌, true, false, List, length, codes, Option, Some}
-use Rattle.built_forms.specs.Built.{can_box, divides}
+use Rattle.built_forms.specs.Built.{has_static, can_box, divides}
 use Rattle.dispatch_laws.specs.Targets.{IsTargetOf}
 use Rattle.helper_rules.specs.Helpers.{helper_name}
 use Rattle.helper_rules.specs.declared.kinds.Failure.TheVariants.{NullReceiver, Division}
@@ -80,7 +80,7 @@ pub record HasObjects (p : Place) : Type 0 where
   pub made : (f : Name) (c : List ℕ) → (p.has f).made c ≡ true → IsMade p c
   pub objects : (f : Name) (c : List ℕ) → (p.has f).made c ≡ true → is_bare (class_type c) ≡ false
   pub field : (f : Name) (c g : List ℕ) (t : IrType) → (p.has f).field c g t ≡ true → HasField p c g t
-  pub statics : (f : Name) (c g : List ℕ) (t : IrType) → (p.has f).static_field c g t ≡ true → StaticStands p c g t
+  pub statics : (f : Name) (c g : List ℕ) (t : IrType) → has_static (p.has f) c g t ≡ true → StaticStands p c g t
   pub checked : (f : Name) → (p.has f).helper check_name ≡ true → CanCheck p
   pub divided : (f : Name) (o : BinaryOp) → divides (p.has f) o ≡ true → CanDivide p o
   pub boxes : (f : Name) → can_box (p.has f) ≡ true → BoxStands p

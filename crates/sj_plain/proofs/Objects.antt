@@ -29,6 +29,7 @@ use Rattle.sj_names.specs.declared.method_names.Namespace.TheVariants.{Construct
 use Rattle.sj_trees.specs.Types.{class_type}
 use Rattle.sj_trees.specs.declared.types.IrType.{IrType}
 use Rattle.sj_trees.specs.declared.types.IrType.TheVariants.{NoType}
+use Rattle.built_forms.proofs.Statics.{read_static}
 use Rattle.sj_plain.specs.Settings.{Setting, shown, usable, IsField, FieldsDiffer, SameField, same_field, no_field, SameStored, same_object, SameHeap, SameState, Valued, valued, thrown, Based, Lawful, a_constructor, a_class, a_method, a_static, a_setter, a_helper, Holding, holding, top_function, top_call, links_of, Inside, Makes, makes, Built, built, failed, zeroed, IsReceiver}
 use Rattle.body_rules.specs.Standing.{is_bare, Fits, FitAll, types_referred, call_type}
 use Rattle.sj_plain.specs.Worlds.{with_pending, with_born}
@@ -68,20 +69,20 @@ module _ (z : Setting) (law : Based z) where
 
   -- a static field that is read
   pub static_alike : (c f : List ℕ) (t : IrType) → (usable z).static_field c f t ≡ true → (w : World) (env : ir.Env) (s : ir.State) (sc : js.Scope) (u : js.State) → Inside z.place z.code sc → SameState z.place w s u → Sim z.direction (Valued z.place w env t) (ir_meaning.value_or_wrong (s.statics c f) env s) (shown z (core.static_of c f) sc u)
-  static_alike c f t has w env s sc u inside same = go (s.statics c f) (u.tops (z.place.home (a_static c f t)) (static_name c f)) refl (same.statics z.code.file c f t has)
+  static_alike c f t has w env s sc u inside same = go (s.statics c f) (u.tops (z.place.home (a_static c f t)) (static_name c f)) refl (same.statics z.code.file c f t (read_static (usable z) c f t has))
     where
       go : (o : Option ir.Value) (cell : js.Cell) → u.tops (z.place.home (a_static c f t)) (static_name c f) ≡ cell → Holding w t o cell → Sim z.direction (Valued z.place w env t) (ir_meaning.value_or_wrong o env s) (shown z (core.static_of c f) sc u)
       go _ _ e (holding v x a) = subst (λ q. Sim z.direction (Valued z.place w env t) (done (ir.ends (ir.gives v) env s)) q) (sym (top_seen z law (a_static c f t) x sc u has inside e)) (sim_done z.direction (Valued z.place w env t) (ir.ends (ir.gives v) env s) (js.gives x u) (valued w v x s u (grows-refl w) a same))
 
   -- one that is set, by the function that sets its variable
-  set_acts : (c f : List ℕ) (t own : IrType) → Fits t own → (base : World) (env : ir.Env) (sc : js.Scope) → (usable z).static_field c f t ≡ true → ActsAlike z base base env (own ∷ []) NoType (ir_meaning.assign_static c f) (js_meaning.call z.place.program z.js_low (top_function z.place (a_setter c f t))) sc
+  set_acts : (c f : List ℕ) (t own : IrType) → Fits t own → (base : World) (env : ir.Env) (sc : js.Scope) → (usable z).static_setter c f t ≡ true → ActsAlike z base base env (own ∷ []) NoType (ir_meaning.assign_static c f) (js_meaning.call z.place.program z.js_low (top_function z.place (a_setter c f t))) sc
   set_acts c f t own fit base env sc has y _ _ s u g (one_more _ v x _ _ _ a no_values) same = sim_weaken z.direction (Valued z.place y env NoType) (Valued z.place base env NoType) _ _ (λ a b. valued-weaken z base y env NoType a b g) (law.sets c f t has y v x env s u (value-fits y t own v x fit a) same)
 
   -- the call of that function with an expression
   abbrev pub setter_text : List ℕ → List ℕ → core.Expression → js.Evaluation
   setter_text c f e = js_meaning.evaluate z.place.program z.js_low (tree.call_of (setter_name c f) (tree.expression (expression_template z.place.name z.place.label (usable z).target e) tree.no_expressions))
 
-  pub static_set_alike : (c f : List ℕ) (t own : IrType) (r : ir.Run) (e : core.Expression) → (usable z).static_field c f t ≡ true → Fits t own → (w : World) (env : ir.Env) (s : ir.State) (sc : js.Scope) (u : js.State) → Inside z.place z.code sc → OperandsAlike z w env sc (own ∷ []) (r ∷ []) (e ∷ []) → SameState z.place w s u → Sim z.direction (Valued z.place w env NoType) (ir_meaning.in_order (r ∷ []) (ir_meaning.assign_static c f) env s) (setter_text c f e sc u)
+  pub static_set_alike : (c f : List ℕ) (t own : IrType) (r : ir.Run) (e : core.Expression) → (usable z).static_setter c f t ≡ true → Fits t own → (w : World) (env : ir.Env) (s : ir.State) (sc : js.Scope) (u : js.State) → Inside z.place z.code sc → OperandsAlike z w env sc (own ∷ []) (r ∷ []) (e ∷ []) → SameState z.place w s u → Sim z.direction (Valued z.place w env NoType) (ir_meaning.in_order (r ∷ []) (ir_meaning.assign_static c f) env s) (setter_text c f e sc u)
   static_set_alike c f t own r e has fit w env s sc u inside operand same = subst (λ o. Sim z.direction (Valued z.place w env NoType) (ir_meaning.in_order (r ∷ []) (ir_meaning.assign_static c f) env s) o) (sym js_is) (in_order_alike z w w env sc w (own ∷ []) NoType (r ∷ []) (e ∷ []) (ir_meaning.assign_static c f) (js_meaning.call z.place.program z.js_low fun) operand (set_acts c f t own fit w env sc has) w s u (grows-refl w) (grows-refl w) (grows-refl w) same)
     where
       fun : js.Value

@@ -32,7 +32,7 @@ use Rattle.body_rules.specs.Subtyping.{IsSubtyping}
 use Rattle.sj_plain.specs.Standing.{suits}
 use Rattle.sj_plain.specs.Worlds.{World, with_pending, Grows, SameValue, SameValues}
 use Rattle.sj_world.specs.Subtypes.{IsSub}
-use Rattle.built_forms.specs.Built.{Usable, can_box, divides}
+use Rattle.built_forms.specs.Built.{Usable, has_static, can_box, divides}
 use Rattle.body_rules.specs.Locals.{Scope, HasValue}
 use Rattle.body_rules.specs.Standing.{is_bare, types_referred, call_type}
 use Rattle.sj_trees.specs.declared.classes.ClassDef.{ClassDef}
@@ -75,7 +75,7 @@ is_usable has (a_constructor m) = has.built m
 is_usable has (a_class c) = has.made c
 is_usable has (some_constants c) = has.made c
 is_usable has (a_static c f t) = has.static_field c f t
-is_usable has (a_setter c f t) = has.static_field c f t
+is_usable has (a_setter c f t) = has.static_setter c f t
 is_usable has (a_helper h) = has.helper (helper_name h)
 
 -- and names it: any but the constants of a class, which the class alone names
@@ -235,7 +235,7 @@ TopHolds p owned t cell = cell ≡ js.holds false (top_function p t)
 pub record SameState (p : Place) (w : World) (s : ir.State) (u : js.State) : Type 0 where
   pub heaps : SameHeap p w s.heap u.heap
   pub tops : (f : Name) (t : Top) → is_usable (p.has f) t ≡ true → TopHolds p w.owned t (u.tops (p.home t) (top_name t))
-  pub statics : (g : Name) (c f : List ℕ) (t : IrType) → (p.has g).static_field c f t ≡ true → Holding w t (s.statics c f) (u.tops (p.home (a_static c f t)) (static_name c f))
+  pub statics : (g : Name) (c f : List ℕ) (t : IrType) → has_static (p.has g) c f t ≡ true → Holding w t (s.statics c f) (u.tops (p.home (a_static c f t)) (static_name c f))
 
 -- a name that no variable has: those of functions, and of whatever else stands at the top of a file
 abbrev pub OfNoVariable : Place → Name → Type 0
@@ -327,8 +327,8 @@ pub record Based (z : Setting) : Type 0 where
   pub names : NamesDiffer z.place
   pub reaches : Reaches z.place z.code.file
   pub fields : (c f : List ℕ) (t : IrType) → (usable z).field c f t ≡ true → HasField z.place c f t
-  pub statics : (c f : List ℕ) (t : IrType) → (usable z).static_field c f t ≡ true → HasStatic z.place c f t
-  pub sets : (c f : List ℕ) (t : IrType) → (usable z).static_field c f t ≡ true → SetsAlike z c f t
+  pub statics : (c f : List ℕ) (t : IrType) → has_static (usable z) c f t ≡ true → HasStatic z.place c f t
+  pub sets : (c f : List ℕ) (t : IrType) → (usable z).static_setter c f t ≡ true → SetsAlike z c f t
   pub calls : (m : Member) → (usable z).linked m ≡ true → CallsAlike z m
   pub receives : (m : Member) → (usable z).received (called_member (usable z).target m.namespace m) ≡ true → ReceivesAlike z m
   pub builds : (m : Member) → (usable z).built m ≡ true → BuildsAlike z m

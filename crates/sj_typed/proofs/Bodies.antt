@@ -95,8 +95,8 @@ module _ (w : Classes) (has : Usable) where
         (record { meets = own s.space s.labels n (assign p (select r d cn f t) e) all; built = q.0; finds = tt }, typed (select r d cn f t) x x s a (n + 1) refl c h.0 (keep-front s.owner s.space (below x (select r d cn f t)) (At x e) h.1) o.0 read listed.0 (one s.space s.labels (n + 1) (select r d cn f t) e met), typed e x x s a (n + 1 + size (select r d cn f t)) refl c later.0 later.1 o.1 parts.1 listed.1 (other s.space s.labels (n + 1) (select r d cn f t) e met))
     typed (assign p (select_static r cn f t) e) x y s a n z c k h o built listed all =
         let met = inner s.space s.labels n (assign p (select_static r cn f t) e) all in
-        let q = and_parts (has.static_field cn f t) (is_built has (may_check has s.sure) e) built in
-        (record { meets = own s.space s.labels n (assign p (select_static r cn f t) e) all; built = q.0; finds = tt }, record { meets = own s.space s.labels (n + 1) (select_static r cn f t) (one s.space s.labels (n + 1) (select_static r cn f t) e met); built = q.0; finds = tt }, typed e x x s a (n + 1 + size (select_static r cn f t)) refl c h.1.0 h.1.1 o q.1 listed.1 (other s.space s.labels (n + 1) (select_static r cn f t) e met))
+        let q = and_parts (has.static_setter cn f t) (is_built has (may_check has s.sure) e) built in
+        (record { meets = own s.space s.labels n (assign p (select_static r cn f t) e) all; built = q.0; finds = tt }, own s.space s.labels (n + 1) (select_static r cn f t) (one s.space s.labels (n + 1) (select_static r cn f t) e met), typed e x x s a (n + 1 + size (select_static r cn f t)) refl c h.1.0 h.1.1 o q.1 listed.1 (other s.space s.labels (n + 1) (select_static r cn f t) e met))
     typed (throw p e) x y s a n z c k h o built listed all =
         let q = and_parts has.objects (is_built has (may_check has s.sure) e) built in
         (record { meets = own s.space s.labels n (throw p e) all; built = q.0; finds = tt }, typed e x x s a (n + 1) refl c h.0 h.1 o q.1 listed (inner s.space s.labels n (throw p e) all))
