@@ -87,7 +87,7 @@ module _ (has : Usable) (used : List Binding) where
   gives (apply_statically p e c n m ts t) g = call_given p e c n m ts t g
   gives (new_object p c m ts) g = λ h k f u. g k f u
   gives (select p e c f t) g = λ h. g
-  gives (select_static p c f t) g = λ h u. g u
+  gives (select_static p c f t) g = (λ h u. g.0 u, λ h u. g.1 u)
   gives (binary_op p o e d) g = λ h. g
   gives t g = tt
 

@@ -38,7 +38,7 @@ module _ (U : Binding → Type 0) (runs : Member → Member) (linked_from linked
   gives (apply_statically p e c n m ts t) = no_receiver c n m
   gives (new_object p c m ts) = λ h k f u. impossible h
   gives (select p e c f t) = λ h. impossible h
-  gives (select_static p c f t) = λ h u. impossible h
+  gives (select_static p c f t) = (λ h u. impossible h, λ h u. impossible h)
   gives (binary_op p o e d) = λ h. no_division from (λ x. refl) o h
   gives t = tt
 

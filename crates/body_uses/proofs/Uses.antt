@@ -270,7 +270,7 @@ module _ (U : Binding → Type 0) (runs : Member → Member) where
     Gives (apply_statically p e c n m ts t) = GivesReceived n c m
     Gives (new_object p c m ts) = from.made c ≡ true → from.built (member c Constructor m) ≡ true → U (function_binding (member c Constructor m)) → U (class_use c) → (has.built (member c Constructor m) ≡ true) × (has.made c ≡ true)
     Gives (select p e c f t) = from.field c f t ≡ true → has.field c f t ≡ true
-    Gives (select_static p c f t) = from.static_field c f t ≡ true → U (static_use c f) ⊎ U (setter_use c f) → has.static_field c f t ≡ true
+    Gives (select_static p c f t) = (from.static_field c f t ≡ true → U (static_use c f) → has.static_field c f t ≡ true) × (from.static_setter c f t ≡ true → U (setter_use c f) → has.static_setter c f t ≡ true)
     Gives (binary_op p o e d) = divides from o ≡ true → FitsDivision o d
     Gives _ = Unit {0}
 
@@ -473,7 +473,7 @@ module _ (U : Binding → Type 0) (runs : Member → Member) where
           let tree = select p e c f t in
           let k0 = and_parts (stands from checked tree) (old e) k in
           and_from (stands has checks tree) (new e) (select_there c f t e (All-head Found tree (below tree) g) (checked_in (is_sure sure e) (expression_of sure e) h) k0.0) (plain e q k0.1 (inner tree g) (received_in (is_sure sure e) (expression_of sure e) h))
-      plain (select_static p c f t) q k g h = All-head Found (select_static p c f t) [] g k (inl (All-head U (static_use c f) [] h))
+      plain (select_static p c f t) q k g h = (All-head Found (select_static p c f t) [] g).0 k (All-head U (static_use c f) [] h)
       plain (unary_op p o e) q k g h = plain e q k (inner (unary_op p o e) g) h
       plain (binary_op p o e d) q k g h =
           let q0 = and_parts (is_plain e) (is_plain d) q in
@@ -598,15 +598,15 @@ module _ (U : Binding → Type 0) (runs : Member → Member) where
             let target = receiver_built d (tree d) ts k1.0 (inner (select v d c f t) g0.0) written.0 in
             and_from (has.field c f t && checks d) (new d && new e) (select_there c f t d (All-head Found (select v d c f t) (trees d) g0.0) target.1 k0.0) (and_from (new d) (new e) target.0 (operand_built e (tree e) ts k1.1 g0.1 written.1.0))
         tree (assign p (select_static v c f t) e) ts k j q g h =
-            let r = and_parts (from.static_field c f t) (old e) q in
+            let r = and_parts (from.static_setter c f t) (old e) q in
             let s : Spilled = spill (one_of ts e) j in
             let value = coerced t (type_of_term e) (first_of s.expressions) in
             let last = core.assign_static (Some p) c f value in
             let parts = followed_parts s.statements (core.statement last core.no_statements) h in
             let inside = only last parts.1 in
             let g0 = two (select_static v c f t) e (inner (assign p (select_static v c f t) e) g) in
-            let there = All-head Found (select_static v c f t) [] g0.0 r.0 (inr (All-head U (setter_use c f) (uses_in runs value) inside)) in
-            and_from (has.static_field c f t) (new e) there (act e (tree e) ts j r.1 g0.1 parts.0 (uncoerced t (type_of_term e) (first_of s.expressions) (All-tail U (setter_use c f) (uses_in runs value) inside)))
+            let there = (All-head Found (select_static v c f t) [] g0.0).1 r.0 (All-head U (setter_use c f) (uses_in runs value) inside) in
+            and_from (has.static_setter c f t) (new e) there (act e (tree e) ts j r.1 g0.1 parts.0 (uncoerced t (type_of_term e) (first_of s.expressions) (All-tail U (setter_use c f) (uses_in runs value) inside)))
         tree (return_to p e l) ts k j q g h = tree e ts (target_of ts l) j q (inner (return_to p e l) g) (leaving_in (target_of ts l) p l (into is_mutable sure ts (target_of ts l) j e) h)
         tree (if_then p c a b t) ts k j q g h =
             let k1 = and_parts (old c) (old a && old b) q in
@@ -692,7 +692,7 @@ module _ (U : Binding → Type 0) (runs : Member → Member) where
             let written = spill_in os j parts.0 (one_in s.expressions (spill_count os j) (finished k p t read s.next parts.1)) in
             let start = receiver_built e (tree e) ts k0.1 (inner own g) written.0 in
             and_from (has.field c f t && checks e) (new e) (select_there c f t e (All-head Found own (below own) g) start.1 k0.0) start.0
-        tree (select_static p c f t) ts k j q g h = All-head Found (select_static p c f t) [] g q (inl (All-head U (static_use c f) [] (finished k p t (core.static_of c f) j h)))
+        tree (select_static p c f t) ts k j q g h = (All-head Found (select_static p c f t) [] g).0 q (All-head U (static_use c f) [] (finished k p t (core.static_of c f) j h))
         tree (this_ref p t) ts k j q g h = objects q
         tree (unary_op p o e) ts k j q g h =
             let s : Spilled = spill (one_of ts e) j in

@@ -182,7 +182,7 @@ module _ (entries : List EntryPoint) (files : List SourceFile) (w : Classes) (fa
       (and_from (has_no_value m.result) (is_among written c && has_function all k) v (and_from (is_among written c) (has_function all k) (in_written (function_binding k) f) own), and_from (is_among written c) (is_among live c) (in_written (class_use c) u) (among_names live c is_live))
 
   -- a static field is there where its class is written
-  static_given : (c f : Name) (t : IrType) → HasFieldType w c f true t → Reads w entries (Reachable w entries) (Field c f true) → is_among written c ≡ true → has.static_field c f t ≡ true
+  static_given : (c f : Name) (t : IrType) → HasFieldType w c f true t → Reads w entries (Reachable w entries) (Field c f true) → is_among written c ≡ true → (is_among written c && (list_any (needs_static c f) facts && has_static_in (class_of w c) f t)) ≡ true
   static_given c f t h r here =
       let needed_there = (uses.are_facts (NeededField c f true)).1 (closed w entries (NeededField c f true) (field_needed c f true r)) in
       let needs = any_of (needs_static c f) facts (NeededField c f true) needed_there (and_from (is_same_text c c) (is_same_text f f) (text-refl c) (text-refl f)) in
@@ -220,7 +220,9 @@ module _ (entries : List EntryPoint) (files : List SourceFile) (w : Classes) (fa
   tree_given (apply_statically p d c PrivateStatic m ts t) among s = tt
   tree_given (new_object p c m ts) among s = λ v f u. made_there c m v (asked (new_object p c m ts) among (New c m) (here (New c m) [])) f u
   tree_given (select p d c f t) among s = field_there w c f t s.asked.1
-  tree_given (select_static p c f t) among s = λ u. static_given c f t s.asked (asked (select_static p c f t) among (Field c f true) (here (Field c f true) [])) (elim u [ inl v ↦ in_written (static_use c f) v | inr v ↦ in_written (setter_use c f) v ])
+  tree_given (select_static p c f t) among s =
+      let there = static_given c f t s.asked (asked (select_static p c f t) among (Field c f true) (here (Field c f true) [])) in
+      (λ u. there (in_written (static_use c f) u), λ u. there (in_written (setter_use c f) u))
   tree_given (binary_op p o a b) among s = divisor w o a b s.asked
   tree_given t among s = tt
 

@@ -40,7 +40,7 @@ module _ (has : Usable) (used : List Binding) where
   Given (apply_statically p e c Constructor m ts t) = has_no_value m.result ≡ true → Contains used (function_binding (member c Constructor m)) → has.built (member c Constructor m) ≡ true
   Given (new_object p c m ts) = has_no_value m.result ≡ true → Contains used (function_binding (member c Constructor m)) → Contains used (class_use c) → (has.built (member c Constructor m) ≡ true) × (has.made c ≡ true)
   Given (select p e c f t) = has.field c f t ≡ true
-  Given (select_static p c f t) = Contains used (static_use c f) ⊎ Contains used (setter_use c f) → has.static_field c f t ≡ true
+  Given (select_static p c f t) = (Contains used (static_use c f) → has.static_field c f t ≡ true) × (Contains used (setter_use c f) → has.static_setter c f t ≡ true)
   Given (binary_op p o e d) = FitsDivision o d
   Given _ = Unit {0}
 

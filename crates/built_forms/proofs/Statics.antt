@@ -1,6 +1,6 @@
 -- A static field that can be read, or set, can be used.
-use Rattle.std.proofs.Common.{◌≡◌, ℕ, List, true}
-use Rattle.std.proofs.lemmas.Bool.{or_left, or_right}
+use Rattle.std.proofs.Common.{◌≡◌, ◌⊎◌, inl, inr, ℕ, List, true}
+use Rattle.std.proofs.lemmas.Bool.{or_cases, or_left, or_right}
 use Rattle.built_forms.specs.Built.{Usable, has_static}
 use Rattle.sj_trees.specs.declared.types.IrType.{IrType}
 
@@ -9,3 +9,11 @@ read_static has c f t h = or_left (has.static_field c f t) (has.static_setter c 
 
 pub set_static : (has : Usable) (c f : List ℕ) (t : IrType) → has.static_setter c f t ≡ true → has_static has c f t ≡ true
 set_static has c f t h = or_right (has.static_field c f t) (has.static_setter c f t) h
+
+-- what can be used of static fields here can be used there
+pub static_among : (has all : Usable) (c f : List ℕ) (t : IrType) → (has.static_field c f t ≡ true → all.static_field c f t ≡ true) → (has.static_setter c f t ≡ true → all.static_setter c f t ≡ true) → has_static has c f t ≡ true → has_static all c f t ≡ true
+static_among has all c f t read set h = go (or_cases (has.static_field c f t) (has.static_setter c f t) h)
+  where
+    go : (has.static_field c f t ≡ true) ⊎ (has.static_setter c f t ≡ true) → has_static all c f t ≡ true
+    go (inl l) = read_static all c f t (read l)
+    go (inr l) = set_static all c f t (set l)

@@ -4,7 +4,8 @@ use Rattle.std.specs.Prelude.{nat_eq}
 use Rattle.std.specs.Cmp.Lexicographic.{pointwise}
 use Rattle.body_rules.proofs.Lists.{nothing_in, in_front_or_behind, at_front, further_on}
 use Rattle.body_rules.specs.Standing.{is_bare}
-use Rattle.built_forms.specs.Built.{can_box, divides}
+use Rattle.built_forms.proofs.Statics.{set_static, static_among}
+use Rattle.built_forms.specs.Built.{has_static, can_box, divides}
 use Rattle.declared_programs.proofs.Fields.{fields_differ, begins, statics_differ, static_begins}
 use Rattle.declared_programs.proofs.Items.{IsClassItem, alone as class_alone, extending, code_found, members_found}
 use Rattle.declared_programs.proofs.Place.{marker_held, same_classes, chain_length, zero_literal_is}
@@ -201,9 +202,9 @@ module _ (z : Spread) where
       field_here : (f c g : Name) (t : IrType) → (z.has f).field c g t ≡ true → HasField place c g t
       field_here f c g t l = record { field = can.field f c g t l; value = (laws.objects.fields c g t ((laws.among f).fields c g t l)).0; differ = fields_differ place can.kept }
 
-      static_here : (f c g : Name) (t : IrType) → (z.has f).static_field c g t ≡ true → StaticStands place c g t
+      static_here : (f c g : Name) (t : IrType) → has_static (z.has f) c g t ≡ true → StaticStands place c g t
       static_here f c g t l = let its = can.static_field f c g t l in record {
-        field = record { field = its.field; value = (laws.objects.statics c g t ((laws.among f).tops (a_static c g t) l)).0; differ = statics_differ place can.kept };
+        field = record { field = its.field; value = (laws.objects.statics c g t (static_among (z.has f) all c g t ((laws.among f).tops (a_static c g t)) ((laws.among f).tops (a_setter c g t)) l)).0; differ = statics_differ place can.kept };
         beside = its.beside;
         sets = function_there (z.home (a_setter c g t)) (setter_name c g) (setter_code c g).parameters (setter_code c g).body (subst (λ n. Stands z (a_setter c g t) (setter (setter_name c n) (static_name c n))) its.field.named its.setter);
         owned = its.leads ∙ ap Some its.beside;
@@ -313,11 +314,11 @@ module _ (z : Spread) where
       top_held f (a_class c) l = let k = can.made f c l in class_held c k.above k.classes ∙ ap (λ cs. js.holds false (js.class (map (link_of place) cs))) (sym k.chain)
       top_held f (some_constants c) l = let k = can.made f c l in first_constants c k.above k.classes
       top_held f (a_static c g k) l = tt
-      top_held f (a_setter c g k) l = let its = can.static_field f c g k l in (held_in (z.home (a_setter c g k)) (setter (setter_name c g) (static_name c g)) (subst (λ n. Stands z (a_setter c g k) (setter (setter_name c n) (static_name c n))) its.field.named its.setter)).1
+      top_held f (a_setter c g k) l = let its = can.static_field f c g k (set_static (z.has f) c g k l) in (held_in (z.home (a_setter c g k)) (setter (setter_name c g) (static_name c g)) (subst (λ n. Stands z (a_setter c g k) (setter (setter_name c n) (static_name c n))) its.field.named its.setter)).1
       top_held f (a_helper h) l = let k = can.helper f h l in helper_held h k.0 k.1
 
       -- the variable of a static field holds the zero of its type
-      static_held : (f c g : Name) (k : IrType) → (z.has f).static_field c g k ≡ true → Holding begun k (ir_world.statics_in (ir_world.class_of z.classes c) g) (t.tops (z.home (a_static c g k)) (static_name c g))
+      static_held : (f c g : Name) (k : IrType) → has_static (z.has f) c g k ≡ true → Holding begun k (ir_world.statics_in (ir_world.class_of z.classes c) g) (t.tops (z.home (a_static c g k)) (static_name c g))
       static_held f c g k l =
           let home = z.home (a_static c g k) in
           let its = can.static_field f c g k l in

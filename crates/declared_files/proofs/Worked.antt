@@ -9,7 +9,7 @@ use Rattle.body_soundness.specs.Laws.{null_pointer, arithmetic}
 use Rattle.body_soundness.specs.Rules.{RightMember}
 use Rattle.body_soundness.specs.Worked.{class_name, field_name, init_name, get_name, init_method, get_method, main_method, gets, gets_field, its_field, object_world, main_member, object_use}
 use Rattle.body_soundness.specs.Worked as worked
-use Rattle.built_forms.specs.Built.{Usable, members_alone, divides}
+use Rattle.built_forms.specs.Built.{Usable, has_static, members_alone, divides}
 use Rattle.declared_programs.proofs.Worked.{all_declared as declared_alone}
 use Rattle.declared_programs.specs.Declared.{alone, on_receiver, completing, is_covered}
 use Rattle.declared_programs.specs.Worked.{object_constants, object_class, its_constants, its_class, init_function, get_function, main_function}
@@ -190,7 +190,7 @@ all_declared = record {
   built = by_file (λ f u. (m : Member) → u.built m ≡ true → Completes m) (λ m h. subst Completes (sym (member-same m (member class_name Constructor init_name) h)) (init_declared, refl)) (λ m h. impossible h) (λ f m h. impossible h);
   made = by_file (λ f u. (c : Name) → u.made c ≡ true → MadeDeclared spread c) (λ c h. main_makes c (is-equal class_name c h)) (λ c h. class_makes c (is-equal object_name c h)) (λ f c h. impossible h);
   field = by_file (λ f u. (c g : Name) (t : IrType) → u.field c g t ≡ true → IsField object_world c g t) (λ c g t h. impossible h) (λ c g t h. declared_alone.field c g t h) (λ f c g t h. impossible h);
-  static_field = by_file (λ f u. (c g : Name) (t : IrType) → u.static_field c g t ≡ true → StaticDeclared spread c g t) (λ c g t h. impossible h) (λ c g t h. impossible h) (λ f c g t h. impossible h);
+  static_field = by_file (λ f u. (c g : Name) (t : IrType) → has_static u c g t ≡ true → StaticDeclared spread c g t) (λ c g t h. impossible h) (λ c g t h. impossible h) (λ f c g t h. impossible h);
   kept = declared_alone.kept;
   ancestors = λ k. [];
   helper = by_file (λ f u. (h : Helper) → u.helper (helper_name h) ≡ true → (is_covered h ≡ true) × Stands spread (a_helper h) (helper_item (λ k. []) h)) (λ h l. impossible l) (λ h l. impossible l) (λ f h l. impossible l);

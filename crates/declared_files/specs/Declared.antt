@@ -3,7 +3,7 @@ use Rattle.std.specs.Prelude.{◌≡◌, ℕ, true, false, List, [], ◌∷◌, 
 use Rattle.std.specs.List.{Contains, list_all}
 use Rattle.body_soundness.specs.Laws.{ObjectLaws, null_pointer, arithmetic}
 use Rattle.body_soundness.specs.Rules.{RightMember}
-use Rattle.built_forms.specs.Built.{Usable, divides}
+use Rattle.built_forms.specs.Built.{Usable, has_static, divides}
 use Rattle.declared_programs.specs.Declared.{Running, alone, on_receiver, completing, running, is_covered, FieldsAreKept}
 use Rattle.helper_rules.specs.Helpers.{Above, helper_name, helper_item, used_helpers}
 use Rattle.helper_rules.specs.Words.{marker}
@@ -112,7 +112,7 @@ pub record Declared (z : Spread) : Type 0 where
   pub built : (f : Name) (m : MemberName) → (z.has f).built m ≡ true → (b : FunctionDeclared z (a_constructor m) completing m) × (b.right.definition.result ≡ NoType)
   pub made : (f c : Name) → (z.has f).made c ≡ true → MadeDeclared z c
   pub field : (f c g : Name) (t : IrType) → (z.has f).field c g t ≡ true → IsField z.classes c g t
-  pub static_field : (f c g : Name) (t : IrType) → (z.has f).static_field c g t ≡ true → StaticDeclared z c g t
+  pub static_field : (f c g : Name) (t : IrType) → has_static (z.has f) c g t ≡ true → StaticDeclared z c g t
   pub kept : FieldsAreKept z.classes
   pub ancestors : Above
   pub helper : (f : Name) (h : Helper) → (z.has f).helper (helper_name h) ≡ true → (is_covered h ≡ true) × Stands z (a_helper h) (helper_item ancestors h)

@@ -55,6 +55,7 @@ main_use = record {
   made = is_same_text class_name;
   field = λ c f t. false;
   static_field = λ c f t. false;
+  static_setter = λ c f t. false;
   helper = λ x. false;
   objects = true;
 }
@@ -68,6 +69,7 @@ class_use = record {
   made = is_same_text object_name;
   field = λ c f t. is_same_text c class_name && (is_same_text f field_name && is_same_type t Int);
   static_field = λ c f t. false;
+  static_setter = λ c f t. false;
   helper = λ x. false;
   objects = true;
 }

@@ -10,7 +10,8 @@ use Rattle.outcomes.specs.Shown as shown_ends
 use Rattle.body_rules.proofs.Lists.{nothing_in, in_front_or_behind, at_front, further_on}
 use Rattle.body_rules.specs.Standing.{is_bare}
 use Rattle.body_soundness.specs.Laws.{ObjectLaws}
-use Rattle.built_forms.specs.Built.{Usable, can_box, divides}
+use Rattle.built_forms.proofs.Statics.{set_static}
+use Rattle.built_forms.specs.Built.{Usable, has_static, can_box, divides}
 use Rattle.file_tops.proofs.Run.{some_same}
 use Rattle.file_tops.specs.Tops.{literal_value, literal_properties, link}
 use Rattle.helper_rules.specs.Helpers.{helper_name, helper_item, used_helpers, constants, marker_property, box_constructor}
@@ -246,7 +247,7 @@ module _ (w : ir_world.World) (f : Name) (has : Usable) (is : List Item) (es : L
       field_here : (c g : Name) (t : IrType) → has.field c g t ≡ true → HasField place c g t
       field_here c g t l = record { field = can.field c g t l; value = (laws.fields c g t l).0; differ = fields_differ place can.kept }
 
-      static_here : (c g : Name) (t : IrType) → has.static_field c g t ≡ true → StaticStands place c g t
+      static_here : (c g : Name) (t : IrType) → has_static has c g t ≡ true → StaticStands place c g t
       static_here c g t l = let its = can.static_field c g t l in record {
         field = record { field = its.field; value = (laws.statics c g t l).0; differ = statics_differ place can.kept };
         beside = refl;
@@ -351,11 +352,11 @@ module _ (w : ir_world.World) (f : Name) (has : Usable) (is : List Item) (es : L
       top_held (a_class c) l = let k = can.made c l in class_held c k.above k.classes ∙ ap (λ cs. js.holds false (js.class (map (link_of place) cs))) (sym k.chain)
       top_held (some_constants c) l = let k = can.made c l in first_constants c k.above k.classes
       top_held (a_static c g k) l = tt
-      top_held (a_setter c g k) l = let its = can.static_field c g k l in (held_in (setter (setter_name c g) (static_name c g)) (subst (λ n. Contains is (setter (setter_name c n) (static_name c n))) its.field.named its.setter)).1
+      top_held (a_setter c g k) l = let its = can.static_field c g k (set_static has c g k l) in (held_in (setter (setter_name c g) (static_name c g)) (subst (λ n. Contains is (setter (setter_name c n) (static_name c n))) its.field.named its.setter)).1
       top_held (a_helper h) l = let k = can.helper h l in helper_held h k.0 k.1
 
       -- the variable of a static field holds the zero of its type
-      static_held : (c g : Name) (k : IrType) → has.static_field c g k ≡ true → Holding begun k (ir_world.statics_in (ir_world.class_of w c) g) (t.tops f (static_name c g))
+      static_held : (c g : Name) (k : IrType) → has_static has c g k ≡ true → Holding begun k (ir_world.statics_in (ir_world.class_of w c) g) (t.tops f (static_name c g))
       static_held c g k l =
           let its = can.static_field c g k l in
           let its_zero = static_begins place can.kept c g k its.field in

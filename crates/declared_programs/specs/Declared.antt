@@ -2,7 +2,7 @@
 use Rattle.std.specs.Prelude.{◌≡◌, Bool, true, false, List, [], ◌∷◌, Option, Some, None, codes, IsTrue}
 use Rattle.std.specs.List.{Contains}
 use Rattle.body_soundness.specs.Rules.{RightMember}
-use Rattle.built_forms.specs.Built.{Usable}
+use Rattle.built_forms.specs.Built.{Usable, has_static}
 use Rattle.helper_rules.specs.Helpers.{Above, helper_name, helper_item, used_helpers}
 use Rattle.helper_rules.specs.Words.{marker}
 use Rattle.helper_rules.specs.declared.kinds.Helper.{Helper}
@@ -100,7 +100,7 @@ pub record Declared (w : World) (has : Usable) (is : List Item) : Type 0 where
   pub built : (m : MemberName) → has.built m ≡ true → (b : FunctionDeclared w has is completing m) × (b.right.definition.result ≡ NoType)
   pub made : (c : Name) → has.made c ≡ true → MadeDeclared w has is c
   pub field : (c f : Name) (t : IrType) → has.field c f t ≡ true → IsField w c f t
-  pub static_field : (c f : Name) (t : IrType) → has.static_field c f t ≡ true → StaticDeclared w is c f t
+  pub static_field : (c f : Name) (t : IrType) → has_static has c f t ≡ true → StaticDeclared w is c f t
   pub kept : FieldsAreKept w
   pub ancestors : Above
   pub helper : (h : Helper) → has.helper (helper_name h) ≡ true → (is_covered h ≡ true) × Contains is (helper_item ancestors h)

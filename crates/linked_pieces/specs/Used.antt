@@ -67,6 +67,7 @@ used_of w facts all live helpers written = record {
   made = λ c. is_among written c && is_among live c;
   field = λ c f t. has_field_in (class_of w c) f t;
   static_field = λ c f t. is_among written c && (list_any (needs_static c f) facts && has_static_in (class_of w c) f t);
+  static_setter = λ c f t. is_among written c && (list_any (needs_static c f) facts && has_static_in (class_of w c) f t);
   helper = λ x. is_among written object && list_any (λ h. is_same_text x (helper_name h)) helpers;
   objects = true;
 }
