@@ -1,3 +1,5 @@
+pub mod Asked
 pub mod Choices
 pub mod Collected
 pub mod Lists
+pub mod SameMembers

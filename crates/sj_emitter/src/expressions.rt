@@ -4,12 +4,14 @@ ghost use Rattle.js_tree.specs.Views as js;
 ghost use Rattle.sj_core.specs.Views as core;
 ghost use Rattle.sj_emit_expr.specs.Names.{variable_name, label_name};
 ghost use Rattle.sj_emit_expr.specs.Templates as templates;
+ghost use Rattle.sj_emitter.specs.Targets.{target_of};
 
 use crate::calls::{call_of_one, call_on, new_object};
 use crate::names::variable_name;
 use crate::operators::{
     as_text, binary_template, boxed_char, host_call, is_nonzero_literal, unary_template,
 };
+use crate::targets::CallTargets;
 use js_tree::{HostFunction, JsExpr};
 use sj_core::CoreExpression;
 use sj_mangling::{ClassBinding, FieldBinding, class_binding, field_binding, function_name};
@@ -18,8 +20,12 @@ use std::alloc::Global;
 
 /// The expression that an expression of the core is emitted as.
 #[cycle(expression)]
-pub fn emit_expression(alloc: Global, expression: &CoreExpression) -> Result<JsExpr, NoMemory>
-    ensures { IfOk result (λ e. js.expression_view e ≡ templates.expression_template variable_name label_name (core.expression_view expression.now)) }
+pub fn emit_expression(
+    alloc: Global,
+    targets: &CallTargets,
+    expression: &CoreExpression,
+) -> Result<JsExpr, NoMemory>
+    ensures { IfOk result (λ e. js.expression_view e ≡ templates.expression_template variable_name label_name (target_of targets.now) (core.expression_view expression.now)) }
 {
     match expression {
         CoreExpression::Undefined => Ok(JsExpr::Undefined),
@@ -30,26 +36,26 @@ pub fn emit_expression(alloc: Global, expression: &CoreExpression) -> Result<JsE
         CoreExpression::Text(units) => Ok(JsExpr::Text(units.copied()?)),
         CoreExpression::Variable(variable) => Ok(JsExpr::Name(variable_name(alloc, variable)?)),
         CoreExpression::Boxed(operand) => {
-            let operand = emit_expression(alloc, operand)?;
+            let operand = emit_expression(alloc, targets, operand)?;
             boxed_char(alloc, operand)
         }
         CoreExpression::CharText(operand) => {
-            let operand = emit_expression(alloc, operand)?;
+            let operand = emit_expression(alloc, targets, operand)?;
             host_call(alloc, HostFunction::StringFromCharCode, operand)
         }
         CoreExpression::ValueText(operand) => {
-            let operand = emit_expression(alloc, operand)?;
+            let operand = emit_expression(alloc, targets, operand)?;
             as_text(alloc, operand)
         }
         CoreExpression::Choice(test, yes, no) => {
-            let test = emit_boxed(alloc, test)?;
-            let yes = emit_boxed(alloc, yes)?;
-            let no = emit_boxed(alloc, no)?;
+            let test = emit_boxed(alloc, targets, test)?;
+            let yes = emit_boxed(alloc, targets, yes)?;
+            let no = emit_boxed(alloc, targets, no)?;
             Ok(JsExpr::Conditional { test, yes, no })
         }
         CoreExpression::StaticCall(member, arguments) => {
             let function = function_name(alloc, member)?;
-            let arguments = emit_expressions(alloc, arguments)?;
+            let arguments = emit_expressions(alloc, targets, arguments)?;
             Ok(JsExpr::Call {
                 function,
                 arguments,
@@ -57,7 +63,7 @@ pub fn emit_expression(alloc: Global, expression: &CoreExpression) -> Result<JsE
         }
         CoreExpression::Field(object, class, field) => {
             let property = field_binding(alloc, FieldBinding::Property, class, field)?;
-            let object = emit_boxed(alloc, object)?;
+            let object = emit_boxed(alloc, targets, object)?;
             Ok(JsExpr::Property { object, property })
         }
         CoreExpression::StaticField(class, field) => Ok(JsExpr::Name(field_binding(
@@ -68,49 +74,57 @@ pub fn emit_expression(alloc: Global, expression: &CoreExpression) -> Result<JsE
         )?)),
         CoreExpression::Checked(operand) => {
             let check = Text::from_str(alloc, "$nn")?;
-            let operand = emit_expression(alloc, operand)?;
+            let operand = emit_expression(alloc, targets, operand)?;
             call_of_one(alloc, check, operand)
         }
         CoreExpression::Made(member, arguments) => {
             let constructor = function_name(alloc, member)?;
             let class = class_binding(alloc, ClassBinding::Class, &member.class)?;
-            let arguments = emit_expressions(alloc, arguments)?;
+            let arguments = emit_expressions(alloc, targets, arguments)?;
             call_on(alloc, constructor, new_object(alloc, class), arguments)
         }
         CoreExpression::ReceiverCall(member, receiver, arguments) => {
-            let function = function_name(alloc, member)?;
-            let receiver = emit_expression(alloc, receiver)?;
-            let arguments = emit_expressions(alloc, arguments)?;
+            let function = function_name(alloc, targets.target(member))?;
+            let receiver = emit_expression(alloc, targets, receiver)?;
+            let arguments = emit_expressions(alloc, targets, arguments)?;
             call_on(alloc, function, receiver, arguments)
         }
         CoreExpression::Unary(op, operand) => {
-            let operand = emit_expression(alloc, operand)?;
+            let operand = emit_expression(alloc, targets, operand)?;
             unary_template(alloc, *op, operand)
         }
         CoreExpression::Binary(op, left, right) => {
             let nonzero = is_nonzero_literal(right);
-            let left = emit_expression(alloc, left)?;
-            let right = emit_expression(alloc, right)?;
+            let left = emit_expression(alloc, targets, left)?;
+            let right = emit_expression(alloc, targets, right)?;
             binary_template(alloc, nonzero, *op, left, right)
         }
     }
 }
 
 #[cycle(expression)]
-fn emit_boxed(alloc: Global, expression: &CoreExpression) -> Result<Box<JsExpr>, NoMemory>
-    ensures { IfOk result (λ e. js.expression_view e.value ≡ templates.expression_template variable_name label_name (core.expression_view expression.now)) }
+fn emit_boxed(
+    alloc: Global,
+    targets: &CallTargets,
+    expression: &CoreExpression,
+) -> Result<Box<JsExpr>, NoMemory>
+    ensures { IfOk result (λ e. js.expression_view e.value ≡ templates.expression_template variable_name label_name (target_of targets.now) (core.expression_view expression.now)) }
 {
-    Ok(Box::new(alloc, emit_expression(alloc, expression)?)?)
+    Ok(Box::new(alloc, emit_expression(alloc, targets, expression)?)?)
 }
 
 #[cycle(expression)]
 #[tactic(auto, using(std::proofs::lemmas::Grind::common_steps, crate::proofs::Lists::pushes))]
-fn emit_expressions(alloc: Global, expressions: &[CoreExpression]) -> Result<Vec<JsExpr>, NoMemory>
-    ensures { IfOk result (λ es. js.expressions_view es.items ≡ templates.expression_templates variable_name label_name (core.expressions_view expressions.now)) }
+fn emit_expressions(
+    alloc: Global,
+    targets: &CallTargets,
+    expressions: &[CoreExpression],
+) -> Result<Vec<JsExpr>, NoMemory>
+    ensures { IfOk result (λ es. js.expressions_view es.items ≡ templates.expression_templates variable_name label_name (target_of targets.now) (core.expressions_view expressions.now)) }
 {
     let mut emitted = Vec::new(alloc);
     for each in expressions {
-        emitted.push(emit_expression(alloc, each)?)?;
+        emitted.push(emit_expression(alloc, targets, each)?)?;
     }
     Ok(emitted)
 }

@@ -6,11 +6,13 @@ ghost use Rattle.sj_core.specs.Views as core;
 ghost use Rattle.sj_emit_expr.specs.Names as names;
 ghost use Rattle.sj_emit_expr.specs.Templates as templates;
 ghost use Rattle.sj_emitter.specs.Cases.{case_template};
+ghost use Rattle.sj_emitter.specs.Targets.{target_of};
 
 use crate::calls::call_of_one;
 use crate::expressions::emit_expression;
 use crate::names::{label_name, variable_name};
 use crate::operators::host_call;
+use crate::targets::CallTargets;
 use js_tree::{HostFunction, JsExpr, JsStmt, SwitchCase};
 use sj_core::{CoreCase, CoreExpression, CoreStatement, CoreVariable};
 use sj_mangling::{FieldBinding, field_binding};
@@ -20,13 +22,14 @@ use std::alloc::Global;
 // A variable's name, and the text of the value that it gets.
 fn variable_and_value(
     alloc: Global,
+    targets: &CallTargets,
     variable: &CoreVariable,
     value: &CoreExpression,
 ) -> Result<(Text, JsExpr), NoMemory>
-    ensures { IfOk result (λ x. (x.0 ≡ names.variable_name (core.variable_view variable.now)) × (js.expression_view x.1 ≡ templates.expression_template names.variable_name names.label_name (core.expression_view value.now))) }
+    ensures { IfOk result (λ x. (x.0 ≡ names.variable_name (core.variable_view variable.now)) × (js.expression_view x.1 ≡ templates.expression_template names.variable_name names.label_name (target_of targets.now) (core.expression_view value.now))) }
 {
     let name = variable_name(alloc, variable)?;
-    let value = emit_expression(alloc, value)?;
+    let value = emit_expression(alloc, targets, value)?;
     Ok((name, value))
 }
 
@@ -43,38 +46,44 @@ fn choice(test: JsExpr, yes: Vec<JsStmt>, no: Vec<JsStmt>) -> JsStmt
 
 /// The statement that a statement of the core is emitted as.
 #[cycle(statement)]
-fn emit_statement(alloc: Global, statement: &CoreStatement) -> Result<JsStmt, NoMemory>
-    ensures { IfOk result (λ s. js.statement_view s ≡ templates.statement_template names.variable_name names.label_name (core.statement_view statement.now)) }
+fn emit_statement(
+    alloc: Global,
+    targets: &CallTargets,
+    statement: &CoreStatement,
+) -> Result<JsStmt, NoMemory>
+    ensures { IfOk result (λ s. js.statement_view s ≡ templates.statement_template names.variable_name names.label_name (target_of targets.now) (core.statement_view statement.now)) }
 {
     match statement {
         CoreStatement::Constant(_, variable, value) => {
-            let (name, value) = variable_and_value(alloc, variable, value)?;
+            let (name, value) = variable_and_value(alloc, targets, variable, value)?;
             Ok(JsStmt::Const { name, value })
         }
         CoreStatement::Define(_, variable, value) => {
-            let (name, value) = variable_and_value(alloc, variable, value)?;
+            let (name, value) = variable_and_value(alloc, targets, variable, value)?;
             Ok(JsStmt::Let { name, value })
         }
         CoreStatement::Declare(_, variable) => {
             Ok(JsStmt::Declare(variable_name(alloc, variable)?))
         }
         CoreStatement::Assign(_, variable, value) => {
-            let (name, value) = variable_and_value(alloc, variable, value)?;
+            let (name, value) = variable_and_value(alloc, targets, variable, value)?;
             Ok(JsStmt::Assign { name, value })
         }
         CoreStatement::Evaluate(_, value) => {
-            Ok(JsStmt::Expression(emit_expression(alloc, value)?))
+            Ok(JsStmt::Expression(emit_expression(alloc, targets, value)?))
         }
-        CoreStatement::Return(_, value) => Ok(JsStmt::Return(emit_expression(alloc, value)?)),
+        CoreStatement::Return(_, value) => Ok(JsStmt::Return(emit_expression(
+            alloc, targets, value,
+        )?)),
         CoreStatement::Log(_, text) => {
-            let text = emit_expression(alloc, text)?;
+            let text = emit_expression(alloc, targets, text)?;
             let call = host_call(alloc, HostFunction::ConsoleLog, text)?;
             Ok(JsStmt::Expression(call))
         }
         CoreStatement::AssignField(_, object, class, field, value) => {
             let property = field_binding(alloc, FieldBinding::Property, class, field)?;
-            let object = emit_expression(alloc, object)?;
-            let value = emit_expression(alloc, value)?;
+            let object = emit_expression(alloc, targets, object)?;
+            let value = emit_expression(alloc, targets, value)?;
             Ok(JsStmt::AssignProperty {
                 object,
                 property,
@@ -83,33 +92,37 @@ fn emit_statement(alloc: Global, statement: &CoreStatement) -> Result<JsStmt, No
         }
         CoreStatement::AssignStatic(_, class, field, value) => {
             let setter = field_binding(alloc, FieldBinding::Setter, class, field)?;
-            let value = emit_expression(alloc, value)?;
+            let value = emit_expression(alloc, targets, value)?;
             Ok(JsStmt::Expression(call_of_one(alloc, setter, value)?))
         }
-        CoreStatement::Throw(_, value) => Ok(JsStmt::Throw(emit_expression(alloc, value)?)),
+        CoreStatement::Throw(_, value) => Ok(JsStmt::Throw(emit_expression(
+            alloc, targets, value,
+        )?)),
         CoreStatement::Leave(_, label) => Ok(JsStmt::BreakTo(label_name(alloc, label)?)),
         CoreStatement::Break(_) => Ok(JsStmt::Break),
         CoreStatement::If(_, test, yes, no) => {
-            let test = emit_expression(alloc, test)?;
-            let yes = emit_statements(alloc, yes)?;
-            let no = emit_statements(alloc, no)?;
+            let test = emit_expression(alloc, targets, test)?;
+            let yes = emit_statements(alloc, targets, yes)?;
+            let no = emit_statements(alloc, targets, no)?;
             Ok(choice(test, yes, no))
         }
         CoreStatement::While(_, test, body) => {
-            let test = emit_expression(alloc, test)?;
-            let body = emit_statements(alloc, body)?;
+            let test = emit_expression(alloc, targets, test)?;
+            let body = emit_statements(alloc, targets, body)?;
             Ok(JsStmt::While { test, body })
         }
-        CoreStatement::Loop(_, body) => Ok(JsStmt::DoForever(emit_statements(alloc, body)?)),
+        CoreStatement::Loop(_, body) => Ok(JsStmt::DoForever(emit_statements(
+            alloc, targets, body,
+        )?)),
         CoreStatement::Labeled(_, label, body) => {
             let label = label_name(alloc, label)?;
-            let body = emit_statements(alloc, body)?;
+            let body = emit_statements(alloc, targets, body)?;
             Ok(JsStmt::Labeled { label, body })
         }
         CoreStatement::Switch(_, selector, cases, default) => {
-            let selector = emit_expression(alloc, selector)?;
-            let cases = emit_cases(alloc, cases)?;
-            let default = emit_statements(alloc, default)?;
+            let selector = emit_expression(alloc, targets, selector)?;
+            let cases = emit_cases(alloc, targets, cases)?;
+            let default = emit_statements(alloc, targets, default)?;
             Ok(JsStmt::Switch {
                 selector,
                 cases,
@@ -122,34 +135,42 @@ fn emit_statement(alloc: Global, statement: &CoreStatement) -> Result<JsStmt, No
 /// The statements that statements of the core are emitted as.
 #[cycle(statement)]
 #[tactic(auto, using(std::proofs::lemmas::Grind::common_steps, crate::proofs::Lists::pushes))]
-pub fn emit_statements(alloc: Global, statements: &[CoreStatement]) -> Result<Vec<JsStmt>, NoMemory>
-    ensures { IfOk result (λ ss. js.statements_view ss.items ≡ templates.statement_templates names.variable_name names.label_name (core.statements_view statements.now)) }
+pub fn emit_statements(
+    alloc: Global,
+    targets: &CallTargets,
+    statements: &[CoreStatement],
+) -> Result<Vec<JsStmt>, NoMemory>
+    ensures { IfOk result (λ ss. js.statements_view ss.items ≡ templates.statement_templates names.variable_name names.label_name (target_of targets.now) (core.statements_view statements.now)) }
 {
     let mut emitted = Vec::new(alloc);
     for each in statements {
-        emitted.push(emit_statement(alloc, each)?)?;
+        emitted.push(emit_statement(alloc, targets, each)?)?;
     }
     Ok(emitted)
 }
 
 #[cycle(statement)]
 #[tactic(auto, using(std::proofs::lemmas::Grind::common_steps, crate::proofs::Lists::pushes))]
-fn emit_cases(alloc: Global, cases: &[CoreCase]) -> Result<Vec<SwitchCase>, NoMemory>
-    ensures { IfOk result (λ cs. js.cases_view cs.items ≡ templates.case_templates names.variable_name names.label_name (core.cases_view cases.now)) }
+fn emit_cases(
+    alloc: Global,
+    targets: &CallTargets,
+    cases: &[CoreCase],
+) -> Result<Vec<SwitchCase>, NoMemory>
+    ensures { IfOk result (λ cs. js.cases_view cs.items ≡ templates.case_templates names.variable_name names.label_name (target_of targets.now) (core.cases_view cases.now)) }
 {
     let mut emitted = Vec::new(alloc);
     for each in cases {
-        emitted.push(emit_case(alloc, each)?)?;
+        emitted.push(emit_case(alloc, targets, each)?)?;
     }
     Ok(emitted)
 }
 
 #[cycle(statement)]
-fn emit_case(alloc: Global, case: &CoreCase) -> Result<SwitchCase, NoMemory>
-    ensures { IfOk result (λ c. js.case_view c ≡ case_template (core.case_view case.now)) }
+fn emit_case(alloc: Global, targets: &CallTargets, case: &CoreCase) -> Result<SwitchCase, NoMemory>
+    ensures { IfOk result (λ c. js.case_view c ≡ case_template (target_of targets.now) (core.case_view case.now)) }
 {
     let keys = copied_keys(alloc, case.keys.as_slice())?;
-    let body = emit_statements(alloc, &case.body)?;
+    let body = emit_statements(alloc, targets, &case.body)?;
     Ok(SwitchCase { keys, body })
 }
 

@@ -4,8 +4,10 @@ ghost use Rattle.std.specs.List.{list_any};
 ghost use Rattle.sj_core.specs.Views as core;
 ghost use Rattle.sj_emit_expr.specs.Uses as uses;
 ghost use Rattle.sj_emitter.specs.Collecting.{with_use, with_uses};
+ghost use Rattle.sj_emitter.specs.Targets.{target_of};
 
 use crate::operators::is_nonzero_literal;
+use crate::targets::CallTargets;
 use js_tree::Binding;
 use sj_core::{CoreCase, CoreExpression, CoreStatement};
 use sj_mangling::{ClassBinding, FieldBinding, class_binding, field_binding, function_name};
@@ -103,51 +105,52 @@ fn add_helper(
 #[tactic(auto, using(std::proofs::lemmas::Grind::common_steps, crate::proofs::Collected::steps))]
 fn add_uses_in(
     alloc: Global,
+    targets: &CallTargets,
     expression: &CoreExpression,
     bindings: &mut Vec<Binding>,
 ) -> Result<(), NoMemory>
-    ensures { OnOk result (bindings.new.items ≡ with_uses bindings.old.items (uses.uses_in (core.expression_view expression.now))) }
+    ensures { OnOk result (bindings.new.items ≡ with_uses bindings.old.items (uses.uses_in (target_of targets.now) (core.expression_view expression.now))) }
 {
     match expression {
         CoreExpression::Boxed(operand) => {
             add(bindings, object_binding(alloc, "$C")?)?;
-            add_uses_in(alloc, operand, bindings)
+            add_uses_in(alloc, targets, operand, bindings)
         }
         CoreExpression::Choice(test, yes, no) => {
-            add_uses_in(alloc, test, bindings)?;
-            add_uses_in(alloc, yes, bindings)?;
-            add_uses_in(alloc, no, bindings)
+            add_uses_in(alloc, targets, test, bindings)?;
+            add_uses_in(alloc, targets, yes, bindings)?;
+            add_uses_in(alloc, targets, no, bindings)
         }
         CoreExpression::StaticCall(member, arguments) => {
             add(bindings, function_binding(alloc, member)?)?;
-            add_all_uses_in(alloc, arguments, bindings)
+            add_all_uses_in(alloc, targets, arguments, bindings)
         }
         CoreExpression::StaticField(class, field) => {
             add(bindings, static_use(alloc, class, field)?)
         }
         CoreExpression::Checked(operand) => {
             add(bindings, object_binding(alloc, "$nn")?)?;
-            add_uses_in(alloc, operand, bindings)
+            add_uses_in(alloc, targets, operand, bindings)
         }
         CoreExpression::Made(member, arguments) => {
             add(bindings, function_binding(alloc, member)?)?;
             add(bindings, class_use(alloc, &member.class)?)?;
-            add_all_uses_in(alloc, arguments, bindings)
+            add_all_uses_in(alloc, targets, arguments, bindings)
         }
         CoreExpression::ReceiverCall(member, receiver, arguments) => {
-            let function = function_binding(alloc, member)?;
+            let function = function_binding(alloc, targets.target(member))?;
             add(bindings, function)?;
-            add_uses_in(alloc, receiver, bindings)?;
-            add_all_uses_in(alloc, arguments, bindings)
+            add_uses_in(alloc, targets, receiver, bindings)?;
+            add_all_uses_in(alloc, targets, arguments, bindings)
         }
         CoreExpression::CharText(operand)
         | CoreExpression::Field(operand, _, _)
         | CoreExpression::ValueText(operand)
-        | CoreExpression::Unary(_, operand) => add_uses_in(alloc, operand, bindings),
+        | CoreExpression::Unary(_, operand) => add_uses_in(alloc, targets, operand, bindings),
         CoreExpression::Binary(op, left, right) => {
             add_helper(alloc, is_nonzero_literal(right), *op, bindings)?;
-            add_uses_in(alloc, left, bindings)?;
-            add_uses_in(alloc, right, bindings)
+            add_uses_in(alloc, targets, left, bindings)?;
+            add_uses_in(alloc, targets, right, bindings)
         }
         CoreExpression::Undefined
         | CoreExpression::Null
@@ -163,13 +166,14 @@ fn add_uses_in(
 #[tactic(auto, using(std::proofs::lemmas::Grind::common_steps, crate::proofs::Collected::steps))]
 fn add_all_uses_in(
     alloc: Global,
+    targets: &CallTargets,
     expressions: &[CoreExpression],
     bindings: &mut Vec<Binding>,
 ) -> Result<(), NoMemory>
-    ensures { OnOk result (bindings.new.items ≡ with_uses bindings.old.items (uses.uses_in_all (core.expressions_view expressions.now))) }
+    ensures { OnOk result (bindings.new.items ≡ with_uses bindings.old.items (uses.uses_in_all (target_of targets.now) (core.expressions_view expressions.now))) }
 {
     for each in expressions {
-        add_uses_in(alloc, each, bindings)?;
+        add_uses_in(alloc, targets, each, bindings)?;
     }
     Ok(())
 }
@@ -178,10 +182,11 @@ fn add_all_uses_in(
 #[tactic(auto, using(std::proofs::lemmas::Grind::common_steps, crate::proofs::Collected::steps))]
 fn add_uses_of(
     alloc: Global,
+    targets: &CallTargets,
     statement: &CoreStatement,
     bindings: &mut Vec<Binding>,
 ) -> Result<(), NoMemory>
-    ensures { OnOk result (bindings.new.items ≡ with_uses bindings.old.items (uses.uses_of (core.statement_view statement.now))) }
+    ensures { OnOk result (bindings.new.items ≡ with_uses bindings.old.items (uses.uses_of (target_of targets.now) (core.statement_view statement.now))) }
 {
     match statement {
         CoreStatement::Constant(_, _, value)
@@ -190,34 +195,34 @@ fn add_uses_of(
         | CoreStatement::Evaluate(_, value)
         | CoreStatement::Return(_, value)
         | CoreStatement::Throw(_, value)
-        | CoreStatement::Log(_, value) => add_uses_in(alloc, value, bindings),
+        | CoreStatement::Log(_, value) => add_uses_in(alloc, targets, value, bindings),
         CoreStatement::Declare(_, _) | CoreStatement::Leave(_, _) | CoreStatement::Break(_) => {
             Ok(())
         }
         CoreStatement::AssignField(_, object, _, _, value) => {
-            add_uses_in(alloc, object, bindings)?;
-            add_uses_in(alloc, value, bindings)
+            add_uses_in(alloc, targets, object, bindings)?;
+            add_uses_in(alloc, targets, value, bindings)
         }
         CoreStatement::AssignStatic(_, class, field, value) => {
             add(bindings, setter_use(alloc, class, field)?)?;
-            add_uses_in(alloc, value, bindings)
+            add_uses_in(alloc, targets, value, bindings)
         }
         CoreStatement::If(_, test, yes, no) => {
-            add_uses_in(alloc, test, bindings)?;
-            add_uses_of_all(alloc, yes, bindings)?;
-            add_uses_of_all(alloc, no, bindings)
+            add_uses_in(alloc, targets, test, bindings)?;
+            add_uses_of_all(alloc, targets, yes, bindings)?;
+            add_uses_of_all(alloc, targets, no, bindings)
         }
         CoreStatement::While(_, test, body) => {
-            add_uses_in(alloc, test, bindings)?;
-            add_uses_of_all(alloc, body, bindings)
+            add_uses_in(alloc, targets, test, bindings)?;
+            add_uses_of_all(alloc, targets, body, bindings)
         }
         CoreStatement::Loop(_, body) | CoreStatement::Labeled(_, _, body) => {
-            add_uses_of_all(alloc, body, bindings)
+            add_uses_of_all(alloc, targets, body, bindings)
         }
         CoreStatement::Switch(_, selector, cases, default) => {
-            add_uses_in(alloc, selector, bindings)?;
-            add_uses_of_cases(alloc, cases, bindings)?;
-            add_uses_of_all(alloc, default, bindings)
+            add_uses_in(alloc, targets, selector, bindings)?;
+            add_uses_of_cases(alloc, targets, cases, bindings)?;
+            add_uses_of_all(alloc, targets, default, bindings)
         }
     }
 }
@@ -226,13 +231,14 @@ fn add_uses_of(
 #[tactic(auto, using(std::proofs::lemmas::Grind::common_steps, crate::proofs::Collected::steps))]
 fn add_uses_of_all(
     alloc: Global,
+    targets: &CallTargets,
     statements: &[CoreStatement],
     bindings: &mut Vec<Binding>,
 ) -> Result<(), NoMemory>
-    ensures { OnOk result (bindings.new.items ≡ with_uses bindings.old.items (uses.uses_of_all (core.statements_view statements.now))) }
+    ensures { OnOk result (bindings.new.items ≡ with_uses bindings.old.items (uses.uses_of_all (target_of targets.now) (core.statements_view statements.now))) }
 {
     for each in statements {
-        add_uses_of(alloc, each, bindings)?;
+        add_uses_of(alloc, targets, each, bindings)?;
     }
     Ok(())
 }
@@ -241,13 +247,14 @@ fn add_uses_of_all(
 #[tactic(auto, using(std::proofs::lemmas::Grind::common_steps, crate::proofs::Collected::steps))]
 fn add_uses_of_cases(
     alloc: Global,
+    targets: &CallTargets,
     cases: &[CoreCase],
     bindings: &mut Vec<Binding>,
 ) -> Result<(), NoMemory>
-    ensures { OnOk result (bindings.new.items ≡ with_uses bindings.old.items (uses.uses_of_cases (core.cases_view cases.now))) }
+    ensures { OnOk result (bindings.new.items ≡ with_uses bindings.old.items (uses.uses_of_cases (target_of targets.now) (core.cases_view cases.now))) }
 {
     for each in cases {
-        add_uses_of_case(alloc, each, bindings)?;
+        add_uses_of_case(alloc, targets, each, bindings)?;
     }
     Ok(())
 }
@@ -255,20 +262,25 @@ fn add_uses_of_cases(
 #[cycle(statement_uses)]
 fn add_uses_of_case(
     alloc: Global,
+    targets: &CallTargets,
     case: &CoreCase,
     bindings: &mut Vec<Binding>,
 ) -> Result<(), NoMemory>
-    ensures { OnOk result (bindings.new.items ≡ with_uses bindings.old.items (uses.uses_of_all (core.case_view case.now).1)) }
+    ensures { OnOk result (bindings.new.items ≡ with_uses bindings.old.items (uses.uses_of_all (target_of targets.now) (core.case_view case.now).1)) }
 {
-    add_uses_of_all(alloc, &case.body, bindings)
+    add_uses_of_all(alloc, targets, &case.body, bindings)
 }
 
 /// The bindings that statements use, each once, in order of first use.
 #[tactic(auto, using(std::proofs::lemmas::Grind::common_steps, crate::proofs::Collected::once))]
-pub fn uses_of(alloc: Global, statements: &[CoreStatement]) -> Result<Items<Binding>, NoMemory>
-    ensures { IfOk result (λ bs. bs ≡ uses.uses (core.statements_view statements.now)) }
+pub fn uses_of(
+    alloc: Global,
+    targets: &CallTargets,
+    statements: &[CoreStatement],
+) -> Result<Items<Binding>, NoMemory>
+    ensures { IfOk result (λ bs. bs ≡ uses.uses (target_of targets.now) (core.statements_view statements.now)) }
 {
     let mut bindings = Vec::new(alloc);
-    add_uses_of_all(alloc, statements, &mut bindings)?;
+    add_uses_of_all(alloc, targets, statements, &mut bindings)?;
     Ok(Items::from_vec(bindings))
 }

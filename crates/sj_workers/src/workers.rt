@@ -1,6 +1,5 @@
 // Who reads, checks and emits.
-ghost use Rattle.std.specs.Prelude.{◌≡◌, IfOk, IsSome};
-ghost use Rattle.js_tree.specs.Views.{body_view};
+ghost use Rattle.std.specs.Prelude.{◌≡◌, IsSome};
 ghost use Rattle.sj_names.specs.Counting.{raised};
 ghost use Rattle.sj_names.specs.declared.counters.Meter.{Meter};
 ghost use Rattle.sj_format.specs.Answers.{Reads};
@@ -8,9 +7,7 @@ ghost use Rattle.sj_ask.specs.Answers.{IsAnswer};
 ghost use Rattle.typing_rules.specs.Answered.{AsRun, agreed, IsVerdict};
 ghost use Rattle.typing_rules.specs.Checks.{check_task};
 ghost use Rattle.sj_core.specs.Views.{method_view};
-ghost use Rattle.sj_emit_expr.specs.Members.{function_parameters};
-ghost use Rattle.sj_emit_expr.specs.Templates.{body_template};
-ghost use Rattle.sj_emit_expr.specs.Uses.{uses};
+ghost use Rattle.emit_questions.specs.Laws.{AsEmitted};
 
 use js_tree::JsMember;
 use sj_ask::{Oracle, TypeError, WorldOracle};
@@ -45,17 +42,14 @@ pub trait Workers {
         ensures told { AsRun (IsAnswer (⟦<Recorder<WorldOracle<'static>> as Oracle>⟧.stand oracle.old)) (check_task m.now m.now.body) (agreed result) (⟦<Recorder<WorldOracle<'static>> as Oracle>⟧.told oracle.old) (⟦<Recorder<WorldOracle<'static>> as Oracle>⟧.told oracle.new) }
         ensures counted { meter self.new ≡ record (meter self.old) { checked = raised (meter self.old).checked } };
 
-    /// Emits the function of a method, as `sj_emitter::emit_member` does. No form that is built asks a question.
+    /// Emits the function of a method, as `sj_emitter::emit_member` does.
     fn emit_member(
         &mut self,
         alloc: Global,
         m: &CoreMethod,
         oracle: &mut Recorder<WorldOracle<'_>>,
     ) -> Result<JsMember, NoMemory>
-        ensures params { IfOk result (λ e. e.params ≡ function_parameters (method_view m.now)) }
-        ensures body { IfOk result (λ e. body_view e.body ≡ body_template (method_view m.now)) }
-        ensures used { IfOk result (λ e. e.uses ≡ uses (method_view m.now).body) }
         ensures stand { ⟦<Recorder<WorldOracle<'static>> as Oracle>⟧.stand oracle.new ≡ ⟦<Recorder<WorldOracle<'static>> as Oracle>⟧.stand oracle.old }
-        ensures told { ⟦<Recorder<WorldOracle<'static>> as Oracle>⟧.told oracle.new ≡ ⟦<Recorder<WorldOracle<'static>> as Oracle>⟧.told oracle.old }
+        ensures told { AsEmitted (IsAnswer (⟦<Recorder<WorldOracle<'static>> as Oracle>⟧.stand oracle.old)) (method_view m.now) result (⟦<Recorder<WorldOracle<'static>> as Oracle>⟧.told oracle.old) (⟦<Recorder<WorldOracle<'static>> as Oracle>⟧.told oracle.new) }
         ensures counted { meter self.new ≡ record (meter self.old) { emitted = raised (meter self.old).emitted } };
 }

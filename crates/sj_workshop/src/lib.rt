@@ -36,8 +36,8 @@ impl Workers for Workshop {
         &mut self,
         alloc: Global,
         m: &CoreMethod,
-        _oracle: &mut Recorder<WorldOracle<'_>>,
+        oracle: &mut Recorder<WorldOracle<'_>>,
     ) -> Result<JsMember, NoMemory> {
-        sj_emitter::emit_member(alloc, m, &mut self.meter)
+        sj_emitter::emit_member(alloc, m, oracle, &mut self.meter)
     }
 }

@@ -1,4 +1,4 @@
-use Rattle.std.proofs.Common.{◌≡◌, ◌∷◌, sym, ap, ◌∙◌}
+use Rattle.std.proofs.Common.{◌∷◌, sym, ap, ◌∙◌}
 use Rattle.sj_mangling.proofs.Numerals.{number_text-decimal}
 use Rattle.sj_emitter.proofs.names.numbered_name.Goals as goal
 
