@@ -1,4 +1,5 @@
 -- Code that makes an object for a char uses the class of such objects.
+use Rattle.sj_names.specs.declared.method_names.Member.{Member}
 use Rattle.std.proofs.Common.{◌≡◌, ℕ, Bool, true, false, List, [], ◌∷◌, ◌++◌, ◌||◌, inl, inr, Some, None, refl, sym, subst, length, arith, codes, Contains}
 use Rattle.std.specs.Prelude.{if◌then◌else◌, not, ◌&&◌, pos}
 use Rattle.std.specs.List.{All}
@@ -16,7 +17,7 @@ use Rattle.sj_desugar.specs.Desugar.{operand, receiver, received, received_text,
 use Rattle.sj_desugar.specs.Plain.{is_no_type, is_plain, are_plain}
 use Rattle.sj_desugar.specs.Spill.{Destination, discard, to_variable, to_result, Code, one, put_first, Operand, Spilled, spill, then_use}
 use Rattle.sj_desugar.specs.Texts.{operand_of}
-use Rattle.sj_emit_expr.specs.Templates.{check_name, is_nonzero_literal}
+use Rattle.sj_emit_expr.specs.Templates.{check_name, is_nonzero_literal, called_member}
 use Rattle.sj_emit_expr.specs.Uses.{object_binding, function_binding, class_use, setter_use, helper_of, uses_in, uses_in_all, uses_of, uses_of_all, uses_of_cases}
 use Rattle.sj_names.proofs.Same.{impossible}
 use Rattle.sj_names.specs.declared.method_names.Namespace.TheVariants.{Constructor}
@@ -53,91 +54,91 @@ all_expressed : (sure : List ℕ → Bool) (ts : Terms) → AsMany ts (all_expre
 all_expressed sure no_terms = tt
 all_expressed sure (more_terms t ts) = all_expressed sure ts
 
-module _ (U : Binding → Type 0) where
+module _ (U : Binding → Type 0) (runs : Member → Member) where
   -- the class of objects that hold chars is used
   abbrev Boxed : Type 0
   Boxed = U (object_binding (codes "$C"))
 
-  coerced_box : (expected own : IrType) (e : Expression) → In U (coerced expected own e) → (is_char own && not (is_char expected)) ≡ true → Boxed
+  coerced_box : (expected own : IrType) (e : Expression) → In U runs (coerced expected own e) → (is_char own && not (is_char expected)) ≡ true → Boxed
   coerced_box expected own e h k = go (is_char own && not (is_char expected)) h k
     where
-      go : (b : Bool) → In U (if b then boxed_char e else e) → b ≡ true → Boxed
-      go true h k = All-head U (object_binding (codes "$C")) (uses_in e) h
+      go : (b : Bool) → In U runs (if b then boxed_char e else e) → b ≡ true → Boxed
+      go true h k = All-head U (object_binding (codes "$C")) (uses_in runs e) h
       go false h k = impossible k
 
-  arguments_box : (rs : List TypeRef) (ts : Terms) (es : List Expression) → AsMany ts es → All U (uses_in_all (expressions_of (coerced_arguments rs (types_of ts) es))) → any_is_boxed rs ts ≡ true → Boxed
+  arguments_box : (rs : List TypeRef) (ts : Terms) (es : List Expression) → AsMany ts es → All U (uses_in_all runs (expressions_of (coerced_arguments rs (types_of ts) es))) → any_is_boxed rs ts ≡ true → Boxed
   arguments_box [] no_terms es m h k = impossible k
   arguments_box [] (more_terms t ts) es m h k = impossible k
   arguments_box (r ∷ rs) no_terms es m h k = impossible k
   arguments_box (r ∷ rs) (more_terms t ts) [] m h k = absurd m
   arguments_box (r ∷ rs) (more_terms t ts) (e ∷ es) m h k =
       let own = coerced (reference_type r) (type_of_term t) e in
-      let rest = uses_in_all (expressions_of (coerced_arguments rs (types_of ts) es)) in
-      either (is_boxed (reference_type r) t) (any_is_boxed rs ts) k (coerced_box (reference_type r) (type_of_term t) e (front U (uses_in own) rest h)) (arguments_box rs ts es m (back U (uses_in own) rest h))
+      let rest = uses_in_all runs (expressions_of (coerced_arguments rs (types_of ts) es)) in
+      either (is_boxed (reference_type r) t) (any_is_boxed rs ts) k (coerced_box (reference_type r) (type_of_term t) e (front U runs (uses_in runs own) rest h)) (arguments_box rs ts es m (back U runs (uses_in runs own) rest h))
 
-  finish_box : (k : Destination) (p : Position) (t : IrType) (quiet : Bool) (e : Expression) (j : ℕ) → Within U (finish k p t quiet e j).statements → is_boxed_at (goal_of k) t ≡ true → Boxed
+  finish_box : (k : Destination) (p : Position) (t : IrType) (quiet : Bool) (e : Expression) (j : ℕ) → Within U runs (finish k p t quiet e j).statements → is_boxed_at (goal_of k) t ≡ true → Boxed
   finish_box discard p t quiet e j h b = impossible b
-  finish_box (to_variable x i) p Char quiet e j h b = coerced_box i Char e (only U (core.assign_to (Some p) x (coerced i Char e)) h) b
+  finish_box (to_variable x i) p Char quiet e j h b = coerced_box i Char e (only U runs (core.assign_to (Some p) x (coerced i Char e)) h) b
   finish_box (to_variable x i) p t quiet e j h b = impossible b
-  finish_box (to_result i) p Char quiet e j h b = coerced_box i Char e (only U (core.return_of (Some p) (coerced i Char e)) h) b
+  finish_box (to_result i) p Char quiet e j h b = coerced_box i Char e (only U runs (core.return_of (Some p) (coerced i Char e)) h) b
   finish_box (to_result i) p t quiet e j h b = impossible b
 
   module _ (sure : List ℕ → Bool) where
-    received_in : (b : Bool) (e : Expression) → In U (received_text b e) → In U e
+    received_in : (b : Bool) (e : Expression) → In U runs (received_text b e) → In U runs e
     received_in true e h = h
-    received_in false e h = All-tail U (object_binding check_name) (uses_in e) h
+    received_in false e h = All-tail U (object_binding check_name) (uses_in runs e) h
 
-    unreceived : (own : IrType) (e : Expression) → In U (coerced_receiver own e) → In U e
-    unreceived own e h = uncoerced U (IrType.Class (codes "java.lang.Character")) own e h
+    unreceived : (own : IrType) (e : Expression) → In U runs (coerced_receiver own e) → In U runs e
+    unreceived own e h = uncoerced U runs (IrType.Class (codes "java.lang.Character")) own e h
 
     mutual
-      text_box : (t : Term) → is_plain t ≡ true → In U (expression_of sure t) → boxes_as_text t ≡ true → Boxed
+      text_box : (t : Term) → is_plain t ≡ true → In U runs (expression_of sure t) → boxes_as_text t ≡ true → Boxed
       text_box (if_then p c a b t) q h k =
           let q2 = and_parts ((not (is_no_type t) && is_plain c) && is_plain a) (is_plain b) q in
           let q1 = and_parts (not (is_no_type t) && is_plain c) (is_plain a) q2.0 in
           let q0 = and_parts (not (is_no_type t)) (is_plain c) q1.0 in
-          let test = uses_in (expression_of sure c) in
+          let test = uses_in runs (expression_of sure c) in
           let left = coerced t (type_of_term a) (expression_of sure a) in
           let right = coerced t (type_of_term b) (expression_of sure b) in
-          let h0 = front U (test ++ uses_in left) (uses_in right) h in
-          let of_left = back U test (uses_in left) h0 in
-          let of_right = back U (test ++ uses_in left) (uses_in right) h in
-          either (boxes_as_text c) ((is_boxed t a || boxes_as_text a) || (is_boxed t b || boxes_as_text b)) k (text_box c q0.1 (front U test (uses_in left) h0)) (λ i. either (is_boxed t a || boxes_as_text a) (is_boxed t b || boxes_as_text b) i (λ i. either (is_boxed t a) (boxes_as_text a) i (coerced_box t (type_of_term a) (expression_of sure a) of_left) (text_box a q1.1 (uncoerced U t (type_of_term a) (expression_of sure a) of_left))) (λ i. either (is_boxed t b) (boxes_as_text b) i (coerced_box t (type_of_term b) (expression_of sure b) of_right) (text_box b q2.1 (uncoerced U t (type_of_term b) (expression_of sure b) of_right))))
+          let h0 = front U runs (test ++ uses_in runs left) (uses_in runs right) h in
+          let of_left = back U runs test (uses_in runs left) h0 in
+          let of_right = back U runs (test ++ uses_in runs left) (uses_in runs right) h in
+          either (boxes_as_text c) ((is_boxed t a || boxes_as_text a) || (is_boxed t b || boxes_as_text b)) k (text_box c q0.1 (front U runs test (uses_in runs left) h0)) (λ i. either (is_boxed t a || boxes_as_text a) (is_boxed t b || boxes_as_text b) i (λ i. either (is_boxed t a) (boxes_as_text a) i (coerced_box t (type_of_term a) (expression_of sure a) of_left) (text_box a q1.1 (uncoerced U runs t (type_of_term a) (expression_of sure a) of_left))) (λ i. either (is_boxed t b) (boxes_as_text b) i (coerced_box t (type_of_term b) (expression_of sure b) of_right) (text_box b q2.1 (uncoerced U runs t (type_of_term b) (expression_of sure b) of_right))))
       text_box (new_object p c m ts) q h k =
-          let inside = uses_in_all (expressions_of (coerced_arguments m.params (types_of ts) (all_expressions sure ts))) in
+          let inside = uses_in_all runs (expressions_of (coerced_arguments m.params (types_of ts) (all_expressions sure ts))) in
           let passed = All-tail U (class_use c) inside (All-tail U (function_binding (member c Constructor m)) (class_use c ∷ inside) h) in
-          either (any_is_boxed m.params ts) (any_boxes_as_text ts) k (arguments_box m.params ts (all_expressions sure ts) (all_expressed sure ts) passed) (texts_box ts q (arguments_in U m.params (types_of ts) (all_expressions sure ts) passed))
+          either (any_is_boxed m.params ts) (any_boxes_as_text ts) k (arguments_box m.params ts (all_expressions sure ts) (all_expressed sure ts) passed) (texts_box ts q (arguments_in U runs m.params (types_of ts) (all_expressions sure ts) passed))
       text_box (select p e c f t) q h k = text_box e q (received_in (is_sure sure e) (expression_of sure e) h) k
       text_box (apply_statically p e c n m ts t) q h k =
           let q0 = and_parts (is_plain e) (are_plain ts) q in
           let text = received_text (is_sure sure e) (expression_of sure e) in
           let target = coerced_receiver (type_of_term e) text in
-          let inside = uses_in_all (expressions_of (coerced_arguments m.params (types_of ts) (all_expressions sure ts))) in
-          let behind = All-tail U (function_binding (member c n m)) (uses_in target ++ inside) h in
-          let own = front U (uses_in target) inside behind in
-          let passed = back U (uses_in target) inside behind in
-          either (is_boxed Any e || any_is_boxed m.params ts) (boxes_as_text e || any_boxes_as_text ts) k (λ i. either (is_boxed Any e) (any_is_boxed m.params ts) i (coerced_box (IrType.Class (codes "java.lang.Character")) (type_of_term e) text own) (arguments_box m.params ts (all_expressions sure ts) (all_expressed sure ts) passed)) (λ i. either (boxes_as_text e) (any_boxes_as_text ts) i (text_box e q0.0 (received_in (is_sure sure e) (expression_of sure e) (unreceived (type_of_term e) text own))) (texts_box ts q0.1 (arguments_in U m.params (types_of ts) (all_expressions sure ts) passed)))
+          let inside = uses_in_all runs (expressions_of (coerced_arguments m.params (types_of ts) (all_expressions sure ts))) in
+          let behind = All-tail U (function_binding (called_member runs n (member c n m))) (uses_in runs target ++ inside) h in
+          let own = front U runs (uses_in runs target) inside behind in
+          let passed = back U runs (uses_in runs target) inside behind in
+          either (is_boxed Any e || any_is_boxed m.params ts) (boxes_as_text e || any_boxes_as_text ts) k (λ i. either (is_boxed Any e) (any_is_boxed m.params ts) i (coerced_box (IrType.Class (codes "java.lang.Character")) (type_of_term e) text own) (arguments_box m.params ts (all_expressions sure ts) (all_expressed sure ts) passed)) (λ i. either (boxes_as_text e) (any_boxes_as_text ts) i (text_box e q0.0 (received_in (is_sure sure e) (expression_of sure e) (unreceived (type_of_term e) text own))) (texts_box ts q0.1 (arguments_in U runs m.params (types_of ts) (all_expressions sure ts) passed)))
       text_box (apply_static p c n m ts t) q h k =
-          let inside = uses_in_all (expressions_of (coerced_arguments m.params (types_of ts) (all_expressions sure ts))) in
+          let inside = uses_in_all runs (expressions_of (coerced_arguments m.params (types_of ts) (all_expressions sure ts))) in
           let passed = All-tail U (function_binding (member c n m)) inside h in
-          either (any_is_boxed m.params ts) (any_boxes_as_text ts) k (arguments_box m.params ts (all_expressions sure ts) (all_expressed sure ts) passed) (texts_box ts q (arguments_in U m.params (types_of ts) (all_expressions sure ts) passed))
+          either (any_is_boxed m.params ts) (any_boxes_as_text ts) k (arguments_box m.params ts (all_expressions sure ts) (all_expressed sure ts) passed) (texts_box ts q (arguments_in U runs m.params (types_of ts) (all_expressions sure ts) passed))
       text_box (unary_op p o e) q h k = text_box e q h k
       text_box (binary_op p o e d) q h k =
           let q0 = and_parts (is_plain e) (is_plain d) q in
           let left = operand_of o (type_of_term e) (expression_of sure e) in
           let right = operand_of o (type_of_term d) (expression_of sure d) in
           let helper = helper_of (is_nonzero_literal right) o in
-          let h0 = front U (helper ++ uses_in left) (uses_in right) h in
-          either (boxes_as_text e) (boxes_as_text d) k (text_box e q0.0 (operand_in U o (type_of_term e) (expression_of sure e) (back U helper (uses_in left) h0))) (text_box d q0.1 (operand_in U o (type_of_term d) (expression_of sure d) (back U (helper ++ uses_in left) (uses_in right) h)))
+          let h0 = front U runs (helper ++ uses_in runs left) (uses_in runs right) h in
+          either (boxes_as_text e) (boxes_as_text d) k (text_box e q0.0 (operand_in U runs o (type_of_term e) (expression_of sure e) (back U runs helper (uses_in runs left) h0))) (text_box d q0.1 (operand_in U runs o (type_of_term d) (expression_of sure d) (back U runs (helper ++ uses_in runs left) (uses_in runs right) h)))
       text_box _ q h k = impossible k
 
-      texts_box : (ts : Terms) → are_plain ts ≡ true → InAll U (all_expressions sure ts) → any_boxes_as_text ts ≡ true → Boxed
+      texts_box : (ts : Terms) → are_plain ts ≡ true → InAll U runs (all_expressions sure ts) → any_boxes_as_text ts ≡ true → Boxed
       texts_box no_terms q h k = impossible k
       texts_box (more_terms t ts) q h k = let q0 = and_parts (is_plain t) (are_plain ts) q in either (boxes_as_text t) (any_boxes_as_text ts) k (text_box t q0.0 h.0) (texts_box ts q0.1 h.1)
 
     module _ (is_mutable : List ℕ → Bool) where
       abbrev TreeBoxes : Term → Type 0
-      TreeBoxes t = (ts : Targets) (k : Destination) (j : ℕ) → Within U (into is_mutable sure ts k j t).statements → boxes (goals_of ts) (goal_of k) t ≡ true → Boxed
+      TreeBoxes t = (ts : Targets) (k : Destination) (j : ℕ) → Within U runs (into is_mutable sure ts k j t).statements → boxes (goals_of ts) (goal_of k) t ≡ true → Boxed
 
       abbrev operand_for : Targets → Term → Operand
       operand_for ts e = operand is_mutable sure e (λ k j. into is_mutable sure ts k j e)
@@ -151,27 +152,27 @@ module _ (U : Binding → Type 0) where
       abbrev ByForm : Targets → Term → Bool → Type 0
       ByForm ts e plain = (if plain then boxes_as_text e else boxes (goals_of ts) (Goal.brought_to (type_of_term e)) e) ≡ true
 
-      operand_box : (e : Term) → TreeBoxes e → (ts : Targets) → Written U (operand_for ts e) → operand_boxes (goals_of ts) e ≡ true → Boxed
+      operand_box : (e : Term) → TreeBoxes e → (ts : Targets) → Written U runs (operand_for ts e) → operand_boxes (goals_of ts) e ≡ true → Boxed
       operand_box e tree ts (as_text (inl p) h) k = text_box e p h (subst (ByForm ts e) p k)
       operand_box e tree ts (as_text (inr f) h) k = let p = fixed_plain is_mutable e f in text_box e p h (subst (ByForm ts e) p k)
       operand_box e tree ts (as_code n x j h) k = tree ts (to_variable x (type_of_term e)) j h (subst (ByForm ts e) n k)
 
       -- one operand, whose expression is within where what is made of it is
-      act : (e : Term) → TreeBoxes e → (ts : Targets) (j : ℕ) → Within U (spill (one_of ts e) j).statements → In U (first_of (spill (one_of ts e) j).expressions) → operand_boxes (goals_of ts) e ≡ true → Boxed
-      act e tree ts j hs he k = operand_box e tree ts (spill_in U (one_of ts e) j hs (one_in U (spill (one_of ts e) j).expressions (spill_count (one_of ts e) j) he)).0 k
+      act : (e : Term) → TreeBoxes e → (ts : Targets) (j : ℕ) → Within U runs (spill (one_of ts e) j).statements → In U runs (first_of (spill (one_of ts e) j).expressions) → operand_boxes (goals_of ts) e ≡ true → Boxed
+      act e tree ts j hs he k = operand_box e tree ts (spill_in U runs (one_of ts e) j hs (one_in U runs (spill (one_of ts e) j).expressions (spill_count (one_of ts e) j) he)).0 k
 
-      receiver_box : (e : Term) → TreeBoxes e → (ts : Targets) → Written U (receiver_for ts e) → operand_boxes (goals_of ts) e ≡ true → Boxed
+      receiver_box : (e : Term) → TreeBoxes e → (ts : Targets) → Written U runs (receiver_for ts e) → operand_boxes (goals_of ts) e ≡ true → Boxed
       receiver_box e tree ts w k = go (is_sure sure e) w
         where
-          go : (b : Bool) → Written U (received b (operand_for ts e)) → Boxed
+          go : (b : Bool) → Written U runs (received b (operand_for ts e)) → Boxed
           go true w = operand_box e tree ts w k
-          go false (as_text (inl p) h) = text_box e p (All-tail U (object_binding check_name) (uses_in (expression_of sure e)) h) (subst (ByForm ts e) p k)
+          go false (as_text (inl p) h) = text_box e p (All-tail U (object_binding check_name) (uses_in runs (expression_of sure e)) h) (subst (ByForm ts e) p k)
           go false (as_text (inr x) h) = impossible x
           go false (as_code n x j h) =
               let s : Spilled = spill (one_of ts e) j in
               let text = first_of s.expressions in
-              let parts = followed_parts U s.statements (finish (to_variable x (type_of_term e)) (operand_for ts e).at (type_of_term e) false (checked_value text) s.next).statements h in
-              act e tree ts j parts.0 (All-tail U (object_binding check_name) (uses_in text) (finished U (to_variable x (type_of_term e)) (operand_for ts e).at (type_of_term e) (checked_value text) s.next parts.1)) k
+              let parts = followed_parts U runs s.statements (finish (to_variable x (type_of_term e)) (operand_for ts e).at (type_of_term e) false (checked_value text) s.next).statements h in
+              act e tree ts j parts.0 (All-tail U (object_binding check_name) (uses_in runs text) (finished U runs (to_variable x (type_of_term e)) (operand_for ts e).at (type_of_term e) (checked_value text) s.next parts.1)) k
 
       operands_expressed : (ts : Targets) (es : Terms) (xs : List Expression) → length xs ≡ length (operands is_mutable sure ts es) → AsMany es xs
       operands_expressed ts no_terms [] l = tt
@@ -184,123 +185,123 @@ module _ (U : Binding → Type 0) where
       rest_expressed ts o es [] l = absurd (omega (arith, l))
       rest_expressed ts o es (x ∷ xs) l = operands_expressed ts es xs (omega (arith, l))
 
-      defined_box : (p : Position) (x : List ℕ) (t : IrType) (e : Term) (ts : Targets) (j : ℕ) (b : Bool) → is_plain e ≡ b → TreeBoxes e → Within U (elim b as (λ b. Code) [ true ↦ one (core.define_of (Some p) (core.named x) (coerced t (type_of_term e) (expression_of sure e))) j | false ↦ put_first (core.declare_of (Some p) (core.named x)) (into is_mutable sure ts (to_variable (core.named x) t) j e) ]).statements → (if b then is_boxed t e || boxes_as_text e else boxes (goals_of ts) (Goal.brought_to t) e) ≡ true → Boxed
-      defined_box p x t e ts j true f tree h k = let value = only U (core.define_of (Some p) (core.named x) (coerced t (type_of_term e) (expression_of sure e))) h in either (is_boxed t e) (boxes_as_text e) k (coerced_box t (type_of_term e) (expression_of sure e) value) (text_box e f (uncoerced U t (type_of_term e) (expression_of sure e) value))
+      defined_box : (p : Position) (x : List ℕ) (t : IrType) (e : Term) (ts : Targets) (j : ℕ) (b : Bool) → is_plain e ≡ b → TreeBoxes e → Within U runs (elim b as (λ b. Code) [ true ↦ one (core.define_of (Some p) (core.named x) (coerced t (type_of_term e) (expression_of sure e))) j | false ↦ put_first (core.declare_of (Some p) (core.named x)) (into is_mutable sure ts (to_variable (core.named x) t) j e) ]).statements → (if b then is_boxed t e || boxes_as_text e else boxes (goals_of ts) (Goal.brought_to t) e) ≡ true → Boxed
+      defined_box p x t e ts j true f tree h k = let value = only U runs (core.define_of (Some p) (core.named x) (coerced t (type_of_term e) (expression_of sure e))) h in either (is_boxed t e) (boxes_as_text e) k (coerced_box t (type_of_term e) (expression_of sure e) value) (text_box e f (uncoerced U runs t (type_of_term e) (expression_of sure e) value))
       defined_box p x t e ts j false f tree h k = tree ts (to_variable (core.named x) t) j h k
 
-      while_box : (p : Position) (c b : Term) (ts : Targets) (j : ℕ) (v : Bool) → is_plain c ≡ v → TreeBoxes c → TreeBoxes b → Within U (elim v as (λ v. Code) [ true ↦ wrapped (core.while_of (Some p) (expression_of sure c)) (into is_mutable sure ts discard j b) | false ↦ wrapped (core.while_of (Some p) (core.boolean_value true)) (then_use (spill (one_of ts c) j) (λ es j. put_first (break_unless (first_of es)) (into is_mutable sure ts discard j b))) ]).statements → (operand_boxes (goals_of ts) c || boxes (goals_of ts) Goal.given_up b) ≡ true → Boxed
+      while_box : (p : Position) (c b : Term) (ts : Targets) (j : ℕ) (v : Bool) → is_plain c ≡ v → TreeBoxes c → TreeBoxes b → Within U runs (elim v as (λ v. Code) [ true ↦ wrapped (core.while_of (Some p) (expression_of sure c)) (into is_mutable sure ts discard j b) | false ↦ wrapped (core.while_of (Some p) (core.boolean_value true)) (then_use (spill (one_of ts c) j) (λ es j. put_first (break_unless (first_of es)) (into is_mutable sure ts discard j b))) ]).statements → (operand_boxes (goals_of ts) c || boxes (goals_of ts) Goal.given_up b) ≡ true → Boxed
       while_box p c b ts j true f test body h k =
-          let test_uses = uses_in (expression_of sure c) in
-          let body_uses = uses_of_all (into is_mutable sure ts discard j b).statements in
-          let inside = only U (core.while_of (Some p) (expression_of sure c) (into is_mutable sure ts discard j b).statements) h in
-          either (operand_boxes (goals_of ts) c) (boxes (goals_of ts) Goal.given_up b) k (λ i. text_box c f (front U test_uses body_uses inside) (subst (ByForm ts c) f i)) (body ts discard j (back U test_uses body_uses inside))
+          let test_uses = uses_in runs (expression_of sure c) in
+          let body_uses = uses_of_all runs (into is_mutable sure ts discard j b).statements in
+          let inside = only U runs (core.while_of (Some p) (expression_of sure c) (into is_mutable sure ts discard j b).statements) h in
+          either (operand_boxes (goals_of ts) c) (boxes (goals_of ts) Goal.given_up b) k (λ i. text_box c f (front U runs test_uses body_uses inside) (subst (ByForm ts c) f i)) (body ts discard j (back U runs test_uses body_uses inside))
       while_box p c b ts j false f test body h k =
           let s : Spilled = spill (one_of ts c) j in
           let first = break_unless (first_of s.expressions) in
           let rest : Code = into is_mutable sure ts discard s.next b in
-          let parts = followed_parts U s.statements (core.statement first rest.statements) (only U (core.while_of (Some p) (core.boolean_value true) (followed s.statements (core.statement first rest.statements))) h) in
-          either (operand_boxes (goals_of ts) c) (boxes (goals_of ts) Goal.given_up b) k (act c test ts j parts.0 (break_in U (first_of s.expressions) (front U (uses_of first) (uses_of_all rest.statements) parts.1))) (body ts discard s.next (back U (uses_of first) (uses_of_all rest.statements) parts.1))
+          let parts = followed_parts U runs s.statements (core.statement first rest.statements) (only U runs (core.while_of (Some p) (core.boolean_value true) (followed s.statements (core.statement first rest.statements))) h) in
+          either (operand_boxes (goals_of ts) c) (boxes (goals_of ts) Goal.given_up b) k (act c test ts j parts.0 (break_in U runs (first_of s.expressions) (front U runs (uses_of runs first) (uses_of_all runs rest.statements) parts.1))) (body ts discard s.next (back U runs (uses_of runs first) (uses_of_all runs rest.statements) parts.1))
 
       mutual
         tree : (t : Term) → TreeBoxes t
         tree (var_def p x t b e) ts k j h i = defined_box p x t e ts j (is_plain e) refl (tree e) h i
         tree (block_of p es) ts k j h i = block_box es ts k j h i
-        tree (labeled p l t e) ts k j h i = let within : Targets = record { label = l; goes_to = k } ∷ ts in tree e within k j (labeled_in U k p l (into is_mutable sure within k j e) h) i
+        tree (labeled p l t e) ts k j h i = let within : Targets = record { label = l; goes_to = k } ∷ ts in tree e within k j (labeled_in U runs k p l (into is_mutable sure within k j e) h) i
         tree (assign p (var_ref v x t) e) ts k j h i =
             let s : Spilled = spill (one_of ts e) j in
             let last = core.assign_to (Some p) (core.named x) (coerced t (type_of_term e) (first_of s.expressions)) in
-            let parts = followed_parts U s.statements (core.statement last core.no_statements) h in
-            let value = only U last parts.1 in
-            either (is_boxed t e) (operand_boxes (goals_of ts) e) i (coerced_box t (type_of_term e) (first_of s.expressions) value) (act e (tree e) ts j parts.0 (uncoerced U t (type_of_term e) (first_of s.expressions) value))
+            let parts = followed_parts U runs s.statements (core.statement last core.no_statements) h in
+            let value = only U runs last parts.1 in
+            either (is_boxed t e) (operand_boxes (goals_of ts) e) i (coerced_box t (type_of_term e) (first_of s.expressions) value) (act e (tree e) ts j parts.0 (uncoerced U runs t (type_of_term e) (first_of s.expressions) value))
         tree (assign p (select v d c f t) e) ts k j h i =
             let os : List Operand = receiver_for ts d ∷ one_of ts e in
             let s : Spilled = spill os j in
             let value = coerced t (type_of_term e) (second_of s.expressions) in
             let last = core.assign_field (Some p) (first_of s.expressions) c f value in
-            let parts = followed_parts U s.statements (core.statement last core.no_statements) h in
-            let inside = only U last parts.1 in
-            let of_value = back U (uses_in (first_of s.expressions)) (uses_in value) inside in
-            let written = spill_in U os j parts.0 (two_in U s.expressions (spill_count os j) (front U (uses_in (first_of s.expressions)) (uses_in value) inside) (uncoerced U t (type_of_term e) (second_of s.expressions) of_value)) in
+            let parts = followed_parts U runs s.statements (core.statement last core.no_statements) h in
+            let inside = only U runs last parts.1 in
+            let of_value = back U runs (uses_in runs (first_of s.expressions)) (uses_in runs value) inside in
+            let written = spill_in U runs os j parts.0 (two_in U runs s.expressions (spill_count os j) (front U runs (uses_in runs (first_of s.expressions)) (uses_in runs value) inside) (uncoerced U runs t (type_of_term e) (second_of s.expressions) of_value)) in
             either (is_boxed t e) (operand_boxes (goals_of ts) d || operand_boxes (goals_of ts) e) i (coerced_box t (type_of_term e) (second_of s.expressions) of_value) (λ i. either (operand_boxes (goals_of ts) d) (operand_boxes (goals_of ts) e) i (receiver_box d (tree d) ts written.0) (operand_box e (tree e) ts written.1.0))
         tree (assign p (select_static v c f t) e) ts k j h i =
             let s : Spilled = spill (one_of ts e) j in
             let value = coerced t (type_of_term e) (first_of s.expressions) in
             let last = core.assign_static (Some p) c f value in
-            let parts = followed_parts U s.statements (core.statement last core.no_statements) h in
-            let of_value = All-tail U (setter_use c f) (uses_in value) (only U last parts.1) in
-            either (is_boxed t e) (operand_boxes (goals_of ts) e) i (coerced_box t (type_of_term e) (first_of s.expressions) of_value) (act e (tree e) ts j parts.0 (uncoerced U t (type_of_term e) (first_of s.expressions) of_value))
-        tree (return_to p e l) ts k j h i = tree e ts (target_of ts l) j (leaving_in U (target_of ts l) p l (into is_mutable sure ts (target_of ts l) j e) h) (subst (λ (g : Goal). boxes (goals_of ts) g e ≡ true) (sym (target_goal ts l)) i)
+            let parts = followed_parts U runs s.statements (core.statement last core.no_statements) h in
+            let of_value = All-tail U (setter_use c f) (uses_in runs value) (only U runs last parts.1) in
+            either (is_boxed t e) (operand_boxes (goals_of ts) e) i (coerced_box t (type_of_term e) (first_of s.expressions) of_value) (act e (tree e) ts j parts.0 (uncoerced U runs t (type_of_term e) (first_of s.expressions) of_value))
+        tree (return_to p e l) ts k j h i = tree e ts (target_of ts l) j (leaving_in U runs (target_of ts l) p l (into is_mutable sure ts (target_of ts l) j e) h) (subst (λ (g : Goal). boxes (goals_of ts) g e ≡ true) (sym (target_goal ts l)) i)
         tree (if_then p c a b t) ts k j h i =
             let s : Spilled = spill (one_of ts c) j in
             let one : Code = into is_mutable sure ts k s.next a in
             let two : Code = into is_mutable sure ts k one.next b in
             let choice = core.if_of (Some p) (first_of s.expressions) one.statements two.statements in
-            let parts = followed_parts U s.statements (core.statement choice core.no_statements) h in
-            let inside = only U choice parts.1 in
-            let head = front U (uses_in (first_of s.expressions) ++ uses_of_all one.statements) (uses_of_all two.statements) inside in
-            either (operand_boxes (goals_of ts) c) (boxes (goals_of ts) (goal_of k) a || boxes (goals_of ts) (goal_of k) b) i (act c (tree c) ts j parts.0 (front U (uses_in (first_of s.expressions)) (uses_of_all one.statements) head)) (λ i. either (boxes (goals_of ts) (goal_of k) a) (boxes (goals_of ts) (goal_of k) b) i (tree a ts k s.next (back U (uses_in (first_of s.expressions)) (uses_of_all one.statements) head)) (tree b ts k one.next (back U (uses_in (first_of s.expressions) ++ uses_of_all one.statements) (uses_of_all two.statements) inside)))
+            let parts = followed_parts U runs s.statements (core.statement choice core.no_statements) h in
+            let inside = only U runs choice parts.1 in
+            let head = front U runs (uses_in runs (first_of s.expressions) ++ uses_of_all runs one.statements) (uses_of_all runs two.statements) inside in
+            either (operand_boxes (goals_of ts) c) (boxes (goals_of ts) (goal_of k) a || boxes (goals_of ts) (goal_of k) b) i (act c (tree c) ts j parts.0 (front U runs (uses_in runs (first_of s.expressions)) (uses_of_all runs one.statements) head)) (λ i. either (boxes (goals_of ts) (goal_of k) a) (boxes (goals_of ts) (goal_of k) b) i (tree a ts k s.next (back U runs (uses_in runs (first_of s.expressions)) (uses_of_all runs one.statements) head)) (tree b ts k one.next (back U runs (uses_in runs (first_of s.expressions) ++ uses_of_all runs one.statements) (uses_of_all runs two.statements) inside)))
         tree (while_loop p c b) ts k j h i = while_box p c b ts j (is_plain c) refl (tree c) (tree b) h i
         tree (do_while p b c) ts k j h i =
             let body : Code = into is_mutable sure ts discard j b in
             let s : Spilled = spill (one_of ts c) body.next in
             let test = break_unless (first_of s.expressions) in
-            let parts = followed_parts U body.statements (followed s.statements (core.statement test core.no_statements)) (only U (core.loop_of (Some p) (followed body.statements (followed s.statements (core.statement test core.no_statements)))) h) in
-            let last = followed_parts U s.statements (core.statement test core.no_statements) parts.1 in
-            either (boxes (goals_of ts) Goal.given_up b) (operand_boxes (goals_of ts) c) i (tree b ts discard j parts.0) (act c (tree c) ts body.next last.0 (break_in U (first_of s.expressions) (only U test last.1)))
+            let parts = followed_parts U runs body.statements (followed s.statements (core.statement test core.no_statements)) (only U runs (core.loop_of (Some p) (followed body.statements (followed s.statements (core.statement test core.no_statements)))) h) in
+            let last = followed_parts U runs s.statements (core.statement test core.no_statements) parts.1 in
+            either (boxes (goals_of ts) Goal.given_up b) (operand_boxes (goals_of ts) c) i (tree b ts discard j parts.0) (act c (tree c) ts body.next last.0 (break_in U runs (first_of s.expressions) (only U runs test last.1)))
         tree (throw p e) ts k j h i =
             let s : Spilled = spill (one_of ts e) j in
             let last = core.throw_of (Some p) (coerced Any (type_of_term e) (first_of s.expressions)) in
-            let parts = followed_parts U s.statements (core.statement last core.no_statements) h in
-            let value = only U last parts.1 in
-            either (is_boxed Any e) (operand_boxes (goals_of ts) e) i (coerced_box Any (type_of_term e) (first_of s.expressions) value) (act e (tree e) ts j parts.0 (uncoerced U Any (type_of_term e) (first_of s.expressions) value))
+            let parts = followed_parts U runs s.statements (core.statement last core.no_statements) h in
+            let value = only U runs last parts.1 in
+            either (is_boxed Any e) (operand_boxes (goals_of ts) e) i (coerced_box Any (type_of_term e) (first_of s.expressions) value) (act e (tree e) ts j parts.0 (uncoerced U runs Any (type_of_term e) (first_of s.expressions) value))
         tree (match_on p e cs d t) ts k j h i =
             let s : Spilled = spill (one_of ts e) j in
             let bs = cases is_mutable sure ts k s.next cs in
             let rest : Code = into is_mutable sure ts k bs.next d in
             let switch = core.switch_of (Some p) (first_of s.expressions) bs.cases rest.statements in
-            let parts = followed_parts U s.statements (core.statement switch core.no_statements) h in
-            let inside = only U switch parts.1 in
-            let head = front U (uses_in (first_of s.expressions) ++ uses_of_cases bs.cases) (uses_of_all rest.statements) inside in
-            either (operand_boxes (goals_of ts) e) (cases_box (goals_of ts) (goal_of k) cs || boxes (goals_of ts) (goal_of k) d) i (act e (tree e) ts j parts.0 (front U (uses_in (first_of s.expressions)) (uses_of_cases bs.cases) head)) (λ i. either (cases_box (goals_of ts) (goal_of k) cs) (boxes (goals_of ts) (goal_of k) d) i (of_cases cs ts k s.next (back U (uses_in (first_of s.expressions)) (uses_of_cases bs.cases) head)) (tree d ts k bs.next (back U (uses_in (first_of s.expressions) ++ uses_of_cases bs.cases) (uses_of_all rest.statements) inside)))
+            let parts = followed_parts U runs s.statements (core.statement switch core.no_statements) h in
+            let inside = only U runs switch parts.1 in
+            let head = front U runs (uses_in runs (first_of s.expressions) ++ uses_of_cases runs bs.cases) (uses_of_all runs rest.statements) inside in
+            either (operand_boxes (goals_of ts) e) (cases_box (goals_of ts) (goal_of k) cs || boxes (goals_of ts) (goal_of k) d) i (act e (tree e) ts j parts.0 (front U runs (uses_in runs (first_of s.expressions)) (uses_of_cases runs bs.cases) head)) (λ i. either (cases_box (goals_of ts) (goal_of k) cs) (boxes (goals_of ts) (goal_of k) d) i (of_cases cs ts k s.next (back U runs (uses_in runs (first_of s.expressions)) (uses_of_cases runs bs.cases) head)) (tree d ts k bs.next (back U runs (uses_in runs (first_of s.expressions) ++ uses_of_cases runs bs.cases) (uses_of_all runs rest.statements) inside)))
         tree (apply_static p c n m es t) ts k j h i =
             let s : Spilled = spill (operands is_mutable sure ts es) j in
             let arguments = expressions_of (coerced_arguments m.params (types_of es) s.expressions) in
             let call = core.static_call (member c n m) arguments in
-            let parts = followed_parts U s.statements (finish k p t false call s.next).statements h in
-            let passed = All-tail U (function_binding (member c n m)) (uses_in_all arguments) (finished U k p t call s.next parts.1) in
-            either (is_boxed_at (goal_of k) t) (any_is_boxed m.params es || operands_box (goals_of ts) es) i (finish_box k p t false call s.next parts.1) (λ i. either (any_is_boxed m.params es) (operands_box (goals_of ts) es) i (arguments_box m.params es s.expressions (operands_expressed ts es s.expressions (spill_count (operands is_mutable sure ts es) j)) passed) (of_operands es ts (spill_in U (operands is_mutable sure ts es) j parts.0 (arguments_in U m.params (types_of es) s.expressions passed))))
+            let parts = followed_parts U runs s.statements (finish k p t false call s.next).statements h in
+            let passed = All-tail U (function_binding (member c n m)) (uses_in_all runs arguments) (finished U runs k p t call s.next parts.1) in
+            either (is_boxed_at (goal_of k) t) (any_is_boxed m.params es || operands_box (goals_of ts) es) i (finish_box k p t false call s.next parts.1) (λ i. either (any_is_boxed m.params es) (operands_box (goals_of ts) es) i (arguments_box m.params es s.expressions (operands_expressed ts es s.expressions (spill_count (operands is_mutable sure ts es) j)) passed) (of_operands es ts (spill_in U runs (operands is_mutable sure ts es) j parts.0 (arguments_in U runs m.params (types_of es) s.expressions passed))))
         tree (apply_statically p e c n m es t) ts k j h i =
             let os : List Operand = receiver_for ts e ∷ operands is_mutable sure ts es in
             let s : Spilled = spill os j in
             let target = coerced_receiver (type_of_term e) (first_of s.expressions) in
             let arguments = expressions_of (coerced_arguments m.params (types_of es) (rest_of s.expressions)) in
             let call = core.receiver_call (member c n m) target arguments in
-            let parts = followed_parts U s.statements (finish k p t false call s.next).statements h in
-            let behind = All-tail U (function_binding (member c n m)) (uses_in target ++ uses_in_all arguments) (finished U k p t call s.next parts.1) in
-            let of_target = front U (uses_in target) (uses_in_all arguments) behind in
-            let passed = back U (uses_in target) (uses_in_all arguments) behind in
-            let written = spill_in U os j parts.0 (first_and_rest U s.expressions (unreceived (type_of_term e) (first_of s.expressions) of_target) (arguments_in U m.params (types_of es) (rest_of s.expressions) passed)) in
+            let parts = followed_parts U runs s.statements (finish k p t false call s.next).statements h in
+            let behind = All-tail U (function_binding (called_member runs n (member c n m))) (uses_in runs target ++ uses_in_all runs arguments) (finished U runs k p t call s.next parts.1) in
+            let of_target = front U runs (uses_in runs target) (uses_in_all runs arguments) behind in
+            let passed = back U runs (uses_in runs target) (uses_in_all runs arguments) behind in
+            let written = spill_in U runs os j parts.0 (first_and_rest U runs s.expressions (unreceived (type_of_term e) (first_of s.expressions) of_target) (arguments_in U runs m.params (types_of es) (rest_of s.expressions) passed)) in
             either (is_boxed_at (goal_of k) t) ((is_boxed Any e || any_is_boxed m.params es) || (operand_boxes (goals_of ts) e || operands_box (goals_of ts) es)) i (finish_box k p t false call s.next parts.1) (λ i. either (is_boxed Any e || any_is_boxed m.params es) (operand_boxes (goals_of ts) e || operands_box (goals_of ts) es) i (λ i. either (is_boxed Any e) (any_is_boxed m.params es) i (coerced_box (IrType.Class (codes "java.lang.Character")) (type_of_term e) (first_of s.expressions) of_target) (arguments_box m.params es (rest_of s.expressions) (rest_expressed ts (receiver_for ts e) es s.expressions (spill_count os j)) passed)) (λ i. either (operand_boxes (goals_of ts) e) (operands_box (goals_of ts) es) i (receiver_box e (tree e) ts written.0) (of_operands es ts written.1)))
         tree (new_object p c m es) ts k j h i =
             let s : Spilled = spill (operands is_mutable sure ts es) j in
             let arguments = expressions_of (coerced_arguments m.params (types_of es) s.expressions) in
             let call = core.made_of (member c Constructor m) arguments in
-            let parts = followed_parts U s.statements (finish k p (class_type c) false call s.next).statements h in
-            let passed = All-tail U (class_use c) (uses_in_all arguments) (All-tail U (function_binding (member c Constructor m)) (class_use c ∷ uses_in_all arguments) (finished U k p (class_type c) call s.next parts.1)) in
-            either (is_boxed_at (goal_of k) (class_type c)) (any_is_boxed m.params es || operands_box (goals_of ts) es) i (finish_box k p (class_type c) false call s.next parts.1) (λ i. either (any_is_boxed m.params es) (operands_box (goals_of ts) es) i (arguments_box m.params es s.expressions (operands_expressed ts es s.expressions (spill_count (operands is_mutable sure ts es) j)) passed) (of_operands es ts (spill_in U (operands is_mutable sure ts es) j parts.0 (arguments_in U m.params (types_of es) s.expressions passed))))
+            let parts = followed_parts U runs s.statements (finish k p (class_type c) false call s.next).statements h in
+            let passed = All-tail U (class_use c) (uses_in_all runs arguments) (All-tail U (function_binding (member c Constructor m)) (class_use c ∷ uses_in_all runs arguments) (finished U runs k p (class_type c) call s.next parts.1)) in
+            either (is_boxed_at (goal_of k) (class_type c)) (any_is_boxed m.params es || operands_box (goals_of ts) es) i (finish_box k p (class_type c) false call s.next parts.1) (λ i. either (any_is_boxed m.params es) (operands_box (goals_of ts) es) i (arguments_box m.params es s.expressions (operands_expressed ts es s.expressions (spill_count (operands is_mutable sure ts es) j)) passed) (of_operands es ts (spill_in U runs (operands is_mutable sure ts es) j parts.0 (arguments_in U runs m.params (types_of es) s.expressions passed))))
         tree (select p e c f t) ts k j h i =
             let os : List Operand = receiver_for ts e ∷ [] in
             let s : Spilled = spill os j in
             let read = core.field_of (first_of s.expressions) c f in
-            let parts = followed_parts U s.statements (finish k p t false read s.next).statements h in
-            let written = spill_in U os j parts.0 (one_in U s.expressions (spill_count os j) (finished U k p t read s.next parts.1)) in
+            let parts = followed_parts U runs s.statements (finish k p t false read s.next).statements h in
+            let written = spill_in U runs os j parts.0 (one_in U runs s.expressions (spill_count os j) (finished U runs k p t read s.next parts.1)) in
             either (is_boxed_at (goal_of k) t) (operand_boxes (goals_of ts) e) i (finish_box k p t false read s.next parts.1) (receiver_box e (tree e) ts written.0)
         tree (select_static p c f t) ts k j h i = finish_box k p t false (core.static_of c f) j h i
         tree (unary_op p o e) ts k j h i =
             let s : Spilled = spill (one_of ts e) j in
             let made = core.unary_of o (first_of s.expressions) in
-            let parts = followed_parts U s.statements (finish k p (unary_result o) false made s.next).statements h in
-            either (is_boxed_at (goal_of k) (unary_result o)) (operand_boxes (goals_of ts) e) i (finish_box k p (unary_result o) false made s.next parts.1) (act e (tree e) ts j parts.0 (finished U k p (unary_result o) made s.next parts.1))
+            let parts = followed_parts U runs s.statements (finish k p (unary_result o) false made s.next).statements h in
+            either (is_boxed_at (goal_of k) (unary_result o)) (operand_boxes (goals_of ts) e) i (finish_box k p (unary_result o) false made s.next parts.1) (act e (tree e) ts j parts.0 (finished U runs k p (unary_result o) made s.next parts.1))
         tree (binary_op p o e d) ts k j h i =
             let os : List Operand = operand_for ts e ∷ one_of ts d in
             let s : Spilled = spill os j in
@@ -308,10 +309,10 @@ module _ (U : Binding → Type 0) where
             let right = operand_of o (type_of_term d) (second_of s.expressions) in
             let made = core.binary_of o left right in
             let helper = helper_of (is_nonzero_literal right) o in
-            let parts = followed_parts U s.statements (finish k p (binary_result o) false made s.next).statements h in
-            let inside = finished U k p (binary_result o) made s.next parts.1 in
-            let head = front U (helper ++ uses_in left) (uses_in right) inside in
-            let written = spill_in U os j parts.0 (two_in U s.expressions (spill_count os j) (operand_in U o (type_of_term e) (first_of s.expressions) (back U helper (uses_in left) head)) (operand_in U o (type_of_term d) (second_of s.expressions) (back U (helper ++ uses_in left) (uses_in right) inside))) in
+            let parts = followed_parts U runs s.statements (finish k p (binary_result o) false made s.next).statements h in
+            let inside = finished U runs k p (binary_result o) made s.next parts.1 in
+            let head = front U runs (helper ++ uses_in runs left) (uses_in runs right) inside in
+            let written = spill_in U runs os j parts.0 (two_in U runs s.expressions (spill_count os j) (operand_in U runs o (type_of_term e) (first_of s.expressions) (back U runs helper (uses_in runs left) head)) (operand_in U runs o (type_of_term d) (second_of s.expressions) (back U runs (helper ++ uses_in runs left) (uses_in runs right) inside))) in
             either (is_boxed_at (goal_of k) (binary_result o)) (operand_boxes (goals_of ts) e || operand_boxes (goals_of ts) d) i (finish_box k p (binary_result o) false made s.next parts.1) (λ i. either (operand_boxes (goals_of ts) e) (operand_boxes (goals_of ts) d) i (operand_box e (tree e) ts written.0) (operand_box d (tree d) ts written.1.0))
         tree (char_literal p u) ts k j h i = finish_box k p Char true (core.number_value (pos u)) j h i
         tree (var_ref p x t) ts k j h i = finish_box k p t true (core.variable_use (core.named x)) j h i
@@ -319,30 +320,30 @@ module _ (U : Binding → Type 0) where
         tree (log_line p e) ts k j h i =
             let s : Spilled = spill (one_of ts e) j in
             let last = core.log_of (Some p) (first_of s.expressions) in
-            let parts = followed_parts U s.statements (core.statement last core.no_statements) h in
-            act e (tree e) ts j parts.0 (only U last parts.1) i
+            let parts = followed_parts U runs s.statements (core.statement last core.no_statements) h in
+            act e (tree e) ts j parts.0 (only U runs last parts.1) i
         tree _ ts k j h i = impossible i
 
-        block_box : (es : Terms) (ts : Targets) (k : Destination) (j : ℕ) → Within U (block is_mutable sure ts k j es).statements → last_boxes (goals_of ts) (goal_of k) es ≡ true → Boxed
+        block_box : (es : Terms) (ts : Targets) (k : Destination) (j : ℕ) → Within U runs (block is_mutable sure ts k j es).statements → last_boxes (goals_of ts) (goal_of k) es ≡ true → Boxed
         block_box no_terms ts k j h i = impossible i
         block_box (more_terms t no_terms) ts k j h i = tree t ts k j h i
         block_box (more_terms t (more_terms u us)) ts k j h i =
             let first : Code = into is_mutable sure ts discard j t in
-            let parts = followed_parts U first.statements (block is_mutable sure ts k first.next (more_terms u us)).statements h in
+            let parts = followed_parts U runs first.statements (block is_mutable sure ts k first.next (more_terms u us)).statements h in
             either (boxes (goals_of ts) Goal.given_up t) (last_boxes (goals_of ts) (goal_of k) (more_terms u us)) i (tree t ts discard j parts.0) (block_box (more_terms u us) ts k first.next parts.1)
 
-        of_operands : (es : Terms) (ts : Targets) → AllWritten U (operands is_mutable sure ts es) → operands_box (goals_of ts) es ≡ true → Boxed
+        of_operands : (es : Terms) (ts : Targets) → AllWritten U runs (operands is_mutable sure ts es) → operands_box (goals_of ts) es ≡ true → Boxed
         of_operands no_terms ts h i = impossible i
         of_operands (more_terms e es) ts h i = either (operand_boxes (goals_of ts) e) (operands_box (goals_of ts) es) i (operand_box e (tree e) ts h.0) (of_operands es ts h.1)
 
-        of_cases : (cs : Cases) (ts : Targets) (k : Destination) (j : ℕ) → All U (uses_of_cases (cases is_mutable sure ts k j cs).cases) → cases_box (goals_of ts) (goal_of k) cs ≡ true → Boxed
+        of_cases : (cs : Cases) (ts : Targets) (k : Destination) (j : ℕ) → All U (uses_of_cases runs (cases is_mutable sure ts k j cs).cases) → cases_box (goals_of ts) (goal_of k) cs ≡ true → Boxed
         of_cases no_cases ts k j h i = impossible i
         of_cases (more_cases [] e cs) ts k j h i = of_cases cs ts k j h i
         of_cases (more_cases (key ∷ keys) e cs) ts k j h i =
             let body : Code = into is_mutable sure ts k j e in
             let end = core.statement (core.break_nearest None) core.no_statements in
-            let rest = uses_of_cases (cases is_mutable sure ts k body.next cs).cases in
-            either (boxes (goals_of ts) (goal_of k) e) (cases_box (goals_of ts) (goal_of k) cs) i (tree e ts k j (followed_parts U body.statements end (front U (uses_of_all (followed body.statements end)) rest h)).0) (of_cases cs ts k body.next (back U (uses_of_all (followed body.statements end)) rest h))
+            let rest = uses_of_cases runs (cases is_mutable sure ts k body.next cs).cases in
+            either (boxes (goals_of ts) (goal_of k) e) (cases_box (goals_of ts) (goal_of k) cs) i (tree e ts k j (followed_parts U runs body.statements end (front U runs (uses_of_all runs (followed body.statements end)) rest h)).0) (of_cases cs ts k body.next (back U runs (uses_of_all runs (followed body.statements end)) rest h))
 
       -- code that makes an object for a char, all of whose uses are these
       pub box_used : (t : Term) → TreeBoxes t

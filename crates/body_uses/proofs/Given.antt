@@ -1,4 +1,5 @@
 -- Each body of the forms with objects is built with what it is given.
+use Rattle.sj_names.specs.declared.method_names.Member.{Member}
 use Rattle.std.proofs.Common.{◌≡◌, ℕ, Bool, true, false, List, [], ◌∷◌, ◌||◌, ◌⊎◌, inl, inr, None, refl, sym, subst, codes, Contains, if◌then◌else◌}
 use Rattle.std.specs.List.{All, list_any}
 use Rattle.std.proofs.lemmas.Bool.{and_parts, and_from}
@@ -53,10 +54,10 @@ pub kept : (bs seen : List Binding) (b : Binding) → Contains bs b → IsKept s
 kept [] seen b h = nothing_in b h
 kept (c ∷ bs) seen b h = kept_step c bs seen b (list_any (is_same_binding c) seen) refl (first_or_later c bs b h) (kept bs seen b) (kept bs (c ∷ seen) b)
 
-pub in_uses : (ss : core.Statements) (b : Binding) → Contains (uses_of_all ss) b → Contains (uses ss) b
-in_uses ss b h = go (kept (uses_of_all ss) [] b h)
+pub in_uses : (runs : Member → Member) (ss : core.Statements) (b : Binding) → Contains (uses_of_all runs ss) b → Contains (uses runs ss) b
+in_uses runs ss b h = go (kept (uses_of_all runs ss) [] b h)
   where
-    go : IsKept [] (uses_of_all ss) b → Contains (uses ss) b
+    go : IsKept [] (uses_of_all runs ss) b → Contains (uses runs ss) b
     go (inl t) = impossible t
     go (inr k) = k
 
@@ -64,24 +65,24 @@ pub all_from : {X : Type 0} (P : X → Type 0) (xs : List X) → ((x : X) → Co
 all_from P [] h = All-nil P
 all_from P (x ∷ xs) h = All-cons P x xs (h x (here x xs)) (all_from P xs (λ y i. h y (there x xs y i)))
 
-completed_uses : (U : Binding → Type 0) (n : Namespace) (ss : core.Statements) → All U (uses_of_all (completed n ss)) → All U (uses_of_all ss)
-completed_uses U Constructor ss h = (followed_parts U ss (core.statement (core.return_of None (core.variable_use core.receiver)) core.no_statements) h).0
-completed_uses U Public ss h = h
-completed_uses U PublicStatic ss h = h
-completed_uses U Private ss h = h
-completed_uses U PrivateStatic ss h = h
+completed_uses : (U : Binding → Type 0) (runs : Member → Member) (n : Namespace) (ss : core.Statements) → All U (uses_of_all runs (completed n ss)) → All U (uses_of_all runs ss)
+completed_uses U runs Constructor ss h = (followed_parts U runs ss (core.statement (core.return_of None (core.variable_use core.receiver)) core.no_statements) h).0
+completed_uses U runs Public ss h = h
+completed_uses U runs PublicStatic ss h = h
+completed_uses U runs Private ss h = h
+completed_uses U runs PrivateStatic ss h = h
 
 module _ (has : Usable) (used : List Binding) where
   abbrev U : Binding → Type 0
   U = Contains used
 
-  call_given : (p : Position) (e : Term) (c : List ℕ) (n : Namespace) (m : MethodName) (ts : Terms) (t : IrType) → Given has used (apply_statically p e c n m ts t) → GivesReceived U any_object has n c m
+  call_given : (p : Position) (e : Term) (c : List ℕ) (n : Namespace) (m : MethodName) (ts : Terms) (t : IrType) → Given has used (apply_statically p e c n m ts t) → GivesReceived U has.target any_object has n c m
   call_given p e c Constructor m ts t g = λ h u. g h u
   call_given p e c Private m ts t g = λ h u. g u
-  call_given p e c Public m ts t g = λ h u. impossible h
-  call_given p e c n m ts t g = λ h u. impossible h
+  call_given p e c Public m ts t g = λ h u. g u
+  call_given p e c n m ts t g = tt
 
-  gives : (t : Term) → Given has used t → Gives U any_object has t
+  gives : (t : Term) → Given has used t → Gives U has.target any_object has t
   gives (apply_static p c n m ts t) g = λ h u. g u
   gives (apply_statically p e c n m ts t) g = call_given p e c n m ts t g
   gives (new_object p c m ts) g = λ h k f u. g k f u
@@ -95,15 +96,15 @@ may_make_those : (has : Usable) (boxed : Bool) → (boxed ≡ true → can_box h
 may_make_those has true h = or_first (can_box has) false (h refl)
 may_make_those has false h = or_second (can_box has) true refl
 
-body_given : (has : Usable) (d : MethodDef) (e : Term) → has.objects ≡ true → is_object_body d e ≡ true → HelpersGiven has (used_by d e) → ((t : Term) → Contains (trees e) t → Given has (used_by d e) t) → is_built_with has d e ≡ true
+body_given : (has : Usable) (d : MethodDef) (e : Term) → has.objects ≡ true → is_object_body d e ≡ true → HelpersGiven has (used_by has.target d e) → ((t : Term) → Contains (trees e) t → Given has (used_by has.target d e) t) → is_built_with has d e ≡ true
 body_given has d e objects k helpers given =
     let sure = sure_locals e in
-    let used = used_by d e in
+    let used = used_by has.target d e in
     let code = body_code (is_mutable_in d e) d.result e in
-    let within = completed_uses (Contains used) d.namespace code (all_from (Contains used) (uses_of_all (desugared_member d e).body) (in_uses (desugared_member d e).body)) in
-    let each = all_from (Gives (Contains used) any_object has) (trees e) (λ t i. gives has used t (given t i)) in
-    let made = may_make_those has (body_boxes d e) (λ h. helpers (codes "$C") box_among (box_used (Contains used) sure (is_mutable_in d e) e [] (result_destination d.result) 1 within h)) in
-    and_from (may_make has (body_boxes d e)) (is_built has (may_check has sure) e) made (tree (Contains used) any_object has (λ e. true) sure (λ h. objects) (λ x i f u. helpers x i u) (λ e h n. refl) (is_mutable_in d e) e [] (result_destination d.result) 1 k each within)
+    let within = completed_uses (Contains used) has.target d.namespace code (all_from (Contains used) (uses_of_all has.target (desugared_member d e).body) (in_uses has.target (desugared_member d e).body)) in
+    let each = all_from (Gives (Contains used) has.target any_object has) (trees e) (λ t i. gives has used t (given t i)) in
+    let made = may_make_those has (body_boxes d e) (λ h. helpers (codes "$C") box_among (box_used (Contains used) has.target sure (is_mutable_in d e) e [] (result_destination d.result) 1 within h)) in
+    and_from (may_make has (body_boxes d e)) (is_built has (may_check has sure) e) made (tree (Contains used) has.target any_object has (λ e. true) sure (λ h. objects) (λ x i f u. helpers x i u) (λ e h n. refl) (is_mutable_in d e) e [] (result_destination d.result) 1 k each within)
 
 pub given : BodiesUseWhatIsGiven
 given has d e = body_given has d e

@@ -14,24 +14,26 @@ use Rattle.sj_names.proofs.Same.{impossible}
 use Rattle.sj_names.specs.declared.method_names.Member.{Member}
 use Rattle.sj_names.specs.declared.method_names.MethodName.{MethodName}
 use Rattle.sj_names.specs.declared.method_names.Namespace.{Namespace}
-use Rattle.sj_names.specs.declared.method_names.Namespace.TheVariants.{Constructor}
+use Rattle.sj_names.specs.declared.method_names.Namespace.TheVariants.{Constructor, Public, Private}
 use Rattle.sj_trees.specs.Term.{Term, new_object, select, select_static, apply_statically, apply_static, binary_op}
 use Rattle.sure_receivers.specs.Sure.{is_sure}
 use Rattle.body_uses.proofs.Given.{all_from}
 use Rattle.body_uses.proofs.Uses.{Gives, GivesReceived, tree}
 
-module _ (U : Binding → Type 0) (linked_from linked_here : Member → Bool) (sure : List ℕ → Bool) (known : (m : Member) → linked_from m ≡ true → U (function_binding m) → linked_here m ≡ true) where
+module _ (U : Binding → Type 0) (runs : Member → Member) (linked_from linked_here : Member → Bool) (sure : List ℕ → Bool) (known : (m : Member) → linked_from m ≡ true → U (function_binding m) → linked_here m ≡ true) where
   abbrev from : Usable
   from = members_alone linked_from
 
   abbrev has : Usable
   has = members_alone linked_here
 
-  no_receiver : (c : List ℕ) (n : Namespace) (m : MethodName) → GivesReceived U from has n c m
+  no_receiver : (c : List ℕ) (n : Namespace) (m : MethodName) → GivesReceived U runs from has n c m
   no_receiver c Constructor m = λ h u. impossible h
-  no_receiver c n m = λ h u. impossible h
+  no_receiver c Public m = λ h u. impossible h
+  no_receiver c Private m = λ h u. impossible h
+  no_receiver c n m = tt
 
-  gives : (t : Term) → Gives U from has t
+  gives : (t : Term) → Gives U runs from has t
   gives (apply_static p c n m ts t) = known (member c n m)
   gives (apply_statically p e c n m ts t) = no_receiver c n m
   gives (new_object p c m ts) = λ h k f u. impossible h
@@ -47,5 +49,5 @@ module _ (U : Binding → Type 0) (linked_from linked_here : Member → Bool) (s
       go true n h = sym n
       go false n h = h
 
-  pub statics_kept : (is_mutable : List ℕ → Bool) (t : Term) (ts : Targets) (k : Destination) (j : ℕ) → is_built from (may_check from sure) t ≡ true → All U (uses_of_all (into is_mutable sure ts k j t).statements) → is_built has (may_check has sure) t ≡ true
-  statics_kept is_mutable t ts k j q h = tree U from has (may_check from sure) sure (λ h. h) (λ x i h u. impossible h) never_checked is_mutable t ts k j q (all_from (Gives U from has) (trees t) (λ x i. gives x)) h
+  pub statics_kept : (is_mutable : List ℕ → Bool) (t : Term) (ts : Targets) (k : Destination) (j : ℕ) → is_built from (may_check from sure) t ≡ true → All U (uses_of_all runs (into is_mutable sure ts k j t).statements) → is_built has (may_check has sure) t ≡ true
+  statics_kept is_mutable t ts k j q h = tree U runs from has (may_check from sure) sure (λ h. h) (λ x i h u. impossible h) never_checked is_mutable t ts k j q (all_from (Gives U runs from has) (trees t) (λ x i. gives x)) h

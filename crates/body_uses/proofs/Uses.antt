@@ -15,7 +15,7 @@ use Rattle.sj_desugar.specs.Desugar.{operand, receiver, received, received_text,
 use Rattle.sj_desugar.specs.Plain.{is_no_type, is_plain, are_plain, is_fixed}
 use Rattle.sj_desugar.specs.Spill.{Destination, discard, to_variable, to_result, Code, one, put_first, Operand, all_plain, texts, Spilled, spill, spill_case, then_use}
 use Rattle.sj_desugar.specs.Texts.{operand_of}
-use Rattle.sj_emit_expr.specs.Templates.{check_name, is_nonzero_literal}
+use Rattle.sj_emit_expr.specs.Templates.{check_name, is_nonzero_literal, called_member}
 use Rattle.sj_emit_expr.specs.Uses.{object_binding, function_binding, class_use, static_use, setter_use, helper_of, uses_in, uses_in_all, uses_of, uses_of_all, uses_of_cases}
 use Rattle.sj_infos.specs.Trees.{trees, below, all_below, cases_below}
 use Rattle.accepted_folders.proofs.Found.{here, there}
@@ -38,11 +38,11 @@ use Rattle.sj_trees.specs.declared.types.IrType.{IrType}
 use Rattle.sj_trees.specs.declared.types.IrType.TheVariants.{Any, Char, Int, Long, Nothing, String}
 use Rattle.body_uses.specs.Given.{FitsDivision, HasType, body_helpers}
 
-operand_same : (o : BinaryOp) (t : IrType) (e : Expression) → uses_in (operand_of o t e) ≡ uses_in e
-operand_same StringConcatenate String e = refl
-operand_same StringConcatenate Char e = refl
-operand_same StringConcatenate t e = refl
-operand_same o t e = refl
+operand_same : (runs : Member → Member) (o : BinaryOp) (t : IrType) (e : Expression) → uses_in runs (operand_of o t e) ≡ uses_in runs e
+operand_same runs StringConcatenate String e = refl
+operand_same runs StringConcatenate Char e = refl
+operand_same runs StringConcatenate t e = refl
+operand_same runs o t e = refl
 
 pub fixed_plain : (m : List ℕ → Bool) (t : Term) → is_fixed m t ≡ true → is_plain t ≡ true
 fixed_plain m (undefined_literal p) h = refl
@@ -142,7 +142,7 @@ module _ {X : Type 0} (P : X → Type 0) where
   combine [] ys h k = k
   combine (x ∷ xs) ys h k = All-cons P x (xs ++ ys) (All-head P x xs h) (combine xs ys (All-tail P x xs h) k)
 
-module _ (U : Binding → Type 0) where
+module _ (U : Binding → Type 0) (runs : Member → Member) where
   pub front : (xs ys : List Binding) → All U (xs ++ ys) → All U xs
   front = ahead U
 
@@ -153,37 +153,37 @@ module _ (U : Binding → Type 0) where
   join = combine U
 
   abbrev pub In : Expression → Type 0
-  In e = All U (uses_in e)
+  In e = All U (uses_in runs e)
 
   abbrev pub InAll : List Expression → Type 0
   InAll [] = Unit {0}
   InAll (e ∷ es) = In e × InAll es
 
   abbrev pub Within : core.Statements → Type 0
-  Within ss = All U (uses_of_all ss)
+  Within ss = All U (uses_of_all runs ss)
 
-  pub only : (s : core.Statement) → Within (core.statement s core.no_statements) → All U (uses_of s)
-  only s h = front (uses_of s) [] h
+  pub only : (s : core.Statement) → Within (core.statement s core.no_statements) → All U (uses_of runs s)
+  only s h = front (uses_of runs s) [] h
 
   pub followed_parts : (a b : core.Statements) → Within (followed a b) → Within a × Within b
   followed_parts core.no_statements b h = (All-nil U, h)
-  followed_parts (core.statement s ss) b h = let p = followed_parts ss b (back (uses_of s) (uses_of_all (followed ss b)) h) in (join (uses_of s) (uses_of_all ss) (front (uses_of s) (uses_of_all (followed ss b)) h) p.0, p.1)
+  followed_parts (core.statement s ss) b h = let p = followed_parts ss b (back (uses_of runs s) (uses_of_all runs (followed ss b)) h) in (join (uses_of runs s) (uses_of_all runs ss) (front (uses_of runs s) (uses_of_all runs (followed ss b)) h) p.0, p.1)
 
   pub uncoerced : (expected own : IrType) (e : Expression) → In (coerced expected own e) → In e
   uncoerced expected own e = go (is_char own && not (is_char expected))
     where
       go : (b : Bool) → In (if b then boxed_char e else e) → In e
-      go true h = back (uses_in (boxed_char core.undefined_value)) (uses_in e) h
+      go true h = back (uses_in runs (boxed_char core.undefined_value)) (uses_in runs e) h
       go false h = h
 
-  pub arguments_in : (rs : List TypeRef) (ts : List IrType) (es : List Expression) → All U (uses_in_all (expressions_of (coerced_arguments rs ts es))) → InAll es
+  pub arguments_in : (rs : List TypeRef) (ts : List IrType) (es : List Expression) → All U (uses_in_all runs (expressions_of (coerced_arguments rs ts es))) → InAll es
   arguments_in rs ts [] h = tt
-  arguments_in (r ∷ rs) (t ∷ ts) (e ∷ es) h = let rest = coerced_arguments rs ts es in (uncoerced (reference_type r) t e (front (uses_in (coerced (reference_type r) t e)) (uses_in_all (expressions_of rest)) h), arguments_in rs ts es (back (uses_in (coerced (reference_type r) t e)) (uses_in_all (expressions_of rest)) h))
-  arguments_in [] ts (e ∷ es) h = (front (uses_in e) (uses_in_all (expressions_of es)) h, arguments_in [] ts es (back (uses_in e) (uses_in_all (expressions_of es)) h))
-  arguments_in (r ∷ rs) [] (e ∷ es) h = (front (uses_in e) (uses_in_all (expressions_of es)) h, arguments_in (r ∷ rs) [] es (back (uses_in e) (uses_in_all (expressions_of es)) h))
+  arguments_in (r ∷ rs) (t ∷ ts) (e ∷ es) h = let rest = coerced_arguments rs ts es in (uncoerced (reference_type r) t e (front (uses_in runs (coerced (reference_type r) t e)) (uses_in_all runs (expressions_of rest)) h), arguments_in rs ts es (back (uses_in runs (coerced (reference_type r) t e)) (uses_in_all runs (expressions_of rest)) h))
+  arguments_in [] ts (e ∷ es) h = (front (uses_in runs e) (uses_in_all runs (expressions_of es)) h, arguments_in [] ts es (back (uses_in runs e) (uses_in_all runs (expressions_of es)) h))
+  arguments_in (r ∷ rs) [] (e ∷ es) h = (front (uses_in runs e) (uses_in_all runs (expressions_of es)) h, arguments_in (r ∷ rs) [] es (back (uses_in runs e) (uses_in_all runs (expressions_of es)) h))
 
   pub operand_in : (o : BinaryOp) (t : IrType) (e : Expression) → In (operand_of o t e) → In e
-  operand_in o t e h = subst (All U) (operand_same o t e) h
+  operand_in o t e h = subst (All U) (operand_same runs o t e) h
 
   -- an operand's expression or its statements are within
   pub data Written (o : Operand) : Type 0 where
@@ -204,7 +204,7 @@ module _ (U : Binding → Type 0) where
   case_in : (all fixed plain : Bool) (o : Operand) (os : List Operand) (j : ℕ) → (o.plain && all_plain os) ≡ all → o.fixed ≡ fixed → o.plain ≡ plain → SpillIn os → Within (spill_case all fixed plain o os (spill os) j).statements → InAll (spill_case all fixed plain o os (spill os) j).expressions → AllWritten (o ∷ os)
   case_in true fixed plain o os j a f p rest hs he = let q = and_parts o.plain (all_plain os) a in (as_text (inl q.0) he.0, texts_in os q.1 he.1)
   case_in false true plain o os j a f p rest hs he = (as_text (inr f) he.0, rest j hs he.1)
-  case_in false false true o os j a f p rest hs he = (as_text (inl p) (front (uses_in o.text) (uses_of_all (spill os (suc j)).statements) hs), rest (suc j) (back (uses_in o.text) (uses_of_all (spill os (suc j)).statements) hs) he.1)
+  case_in false false true o os j a f p rest hs he = (as_text (inl p) (front (uses_in runs o.text) (uses_of_all runs (spill os (suc j)).statements) hs), rest (suc j) (back (uses_in runs o.text) (uses_of_all runs (spill os (suc j)).statements) hs) he.1)
   case_in false false false o os j a f p rest hs he =
       let c : Code = o.code (to_variable (core.numbered j) o.tpe) (suc j) in
       let q = followed_parts c.statements (spill os c.next).statements hs in
@@ -252,15 +252,17 @@ module _ (U : Binding → Type 0) where
   leaving_in discard p l c h = (followed_parts c.statements (core.statement (core.leave_label (Some p) l) core.no_statements) h).0
   leaving_in (to_variable x t) p l c h = (followed_parts c.statements (core.statement (core.leave_label (Some p) l) core.no_statements) h).0
 
-  pub break_in : (e : Expression) → All U (uses_of (break_unless e)) → In e
-  break_in e h = front (uses_in e) [] (front (uses_in e ++ []) [] h)
+  pub break_in : (e : Expression) → All U (uses_of runs (break_unless e)) → In e
+  break_in e h = front (uses_in runs e) [] (front (uses_in runs e ++ []) [] h)
 
   -- where what code that can use the one uses is there for the other
   module _ (from has : Usable) where
     -- a member that runs on an object is there where its function is used
     abbrev pub GivesReceived : Namespace → List ℕ → MethodName → Type 0
     GivesReceived Constructor c m = from.built (member c Constructor m) ≡ true → U (function_binding (member c Constructor m)) → has.built (member c Constructor m) ≡ true
-    GivesReceived n c m = from.received (member c n m) ≡ true → U (function_binding (member c n m)) → has.received (member c n m) ≡ true
+    GivesReceived Public c m = from.received (from.target (member c Public m)) ≡ true → U (function_binding (runs (member c Public m))) → has.received (has.target (member c Public m)) ≡ true
+    GivesReceived Private c m = from.received (member c Private m) ≡ true → U (function_binding (member c Private m)) → has.received (member c Private m) ≡ true
+    GivesReceived _ c m = Unit {0}
 
     -- what a tree uses that its code names is there
     abbrev pub Gives : Term → Type 0
@@ -338,11 +340,11 @@ module _ (U : Binding → Type 0) where
 
     received_in : (b : Bool) (e : Expression) → In (received_text b e) → In e
     received_in true e h = h
-    received_in false e h = All-tail U (object_binding check_name) (uses_in e) h
+    received_in false e h = All-tail U (object_binding check_name) (uses_in runs e) h
 
     checked_in : (b : Bool) (e : Expression) → In (received_text b e) → b ≡ false → U (object_binding check_name)
     checked_in true e h f = impossible (sym f)
-    checked_in false e h f = All-head U (object_binding check_name) (uses_in e) h
+    checked_in false e h f = All-head U (object_binding check_name) (uses_in runs e) h
 
     unreceived : (own : IrType) (e : Expression) → In (coerced_receiver own e) → In e
     unreceived own e h = uncoerced (IrType.Class (codes "java.lang.Character")) own e h
@@ -418,12 +420,12 @@ module _ (U : Binding → Type 0) where
     select_there : (c f : List ℕ) (t : IrType) (e : Term) → (from.field c f t ≡ true → has.field c f t ≡ true) → IsChecked e → (from.field c f t && checked e) ≡ true → (has.field c f t && checks e) ≡ true
     select_there c f t e g u k = let q = and_parts (from.field c f t) (checked e) k in and_from (has.field c f t) (checks e) (g q.0) (check_there e q.1 u)
 
-    method_there : (k : Member) (e : Term) → (from.received k ≡ true → U (function_binding k) → has.received k ≡ true) → IsChecked e → U (function_binding k) → (from.received k && checked e) ≡ true → (has.received k && checks e) ≡ true
-    method_there k e g u f h = let q = and_parts (from.received k) (checked e) h in and_from (has.received k) (checks e) (g q.0 f) (check_there e q.1 u)
+    method_there : (was is : Bool) (k : Member) (e : Term) → (was ≡ true → U (function_binding k) → is ≡ true) → IsChecked e → U (function_binding k) → (was && checked e) ≡ true → (is && checks e) ≡ true
+    method_there was is k e g u f h = let q = and_parts was (checked e) h in and_from is (checks e) (g q.0 f) (check_there e q.1 u)
 
-    call_there : (p : Position) (e : Term) (c : List ℕ) (n : Namespace) (m : MethodName) (ts : Terms) (t : IrType) → GivesReceived from has n c m → IsChecked e → U (function_binding (member c n m)) → stands from checked (apply_statically p e c n m ts t) ≡ true → stands has checks (apply_statically p e c n m ts t) ≡ true
-    call_there p e c Public m ts t g u f h = method_there (member c Public m) e g u f h
-    call_there p e c Private m ts t g u f h = method_there (member c Private m) e g u f h
+    call_there : (p : Position) (e : Term) (c : List ℕ) (n : Namespace) (m : MethodName) (ts : Terms) (t : IrType) → GivesReceived from has n c m → IsChecked e → U (function_binding (called_member runs n (member c n m))) → stands from checked (apply_statically p e c n m ts t) ≡ true → stands has checks (apply_statically p e c n m ts t) ≡ true
+    call_there p e c Public m ts t g u f h = method_there (from.received (from.target (member c Public m))) (has.received (has.target (member c Public m))) (runs (member c Public m)) e g u f h
+    call_there p e c Private m ts t g u f h = method_there (from.received (member c Private m)) (has.received (member c Private m)) (member c Private m) e g u f h
     call_there p e c Constructor m ts t g u f h = let q = and_parts (from.built (member c Constructor m)) (is_no_type t) h in and_from (has.built (member c Constructor m)) (is_no_type t) (g q.0 f) q.1
     call_there p e c n m ts t g u f h = impossible h
 
@@ -443,12 +445,12 @@ module _ (U : Binding → Type 0) where
           let k2 = and_parts (old a) (old b) k1.1 in
           let left = coerced t (type_of_term a) (expression_of sure a) in
           let right = coerced t (type_of_term b) (expression_of sure b) in
-          let h0 = front (uses_in (expression_of sure c) ++ uses_in left) (uses_in right) h in
+          let h0 = front (uses_in runs (expression_of sure c) ++ uses_in runs left) (uses_in runs right) h in
           let g0 = three c a b (inner (if_then p c a b t) g) in
-          and_from (new c) (new a && new b) (plain c q0.1 k1.0 g0.0 (front (uses_in (expression_of sure c)) (uses_in left) h0)) (and_from (new a) (new b) (plain a q1.1 k2.0 g0.1.0 (uncoerced t (type_of_term a) (expression_of sure a) (back (uses_in (expression_of sure c)) (uses_in left) h0))) (plain b q2.1 k2.1 g0.1.1 (uncoerced t (type_of_term b) (expression_of sure b) (back (uses_in (expression_of sure c) ++ uses_in left) (uses_in right) h))))
+          and_from (new c) (new a && new b) (plain c q0.1 k1.0 g0.0 (front (uses_in runs (expression_of sure c)) (uses_in runs left) h0)) (and_from (new a) (new b) (plain a q1.1 k2.0 g0.1.0 (uncoerced t (type_of_term a) (expression_of sure a) (back (uses_in runs (expression_of sure c)) (uses_in runs left) h0))) (plain b q2.1 k2.1 g0.1.1 (uncoerced t (type_of_term b) (expression_of sure b) (back (uses_in runs (expression_of sure c) ++ uses_in runs left) (uses_in runs right) h))))
       plain (apply_static p c n m ts t) q k g h =
           let k0 = and_parts (from.linked (member c n m)) (olds ts) k in
-          let inside = uses_in_all (expressions_of (coerced_arguments m.params (types_of ts) (all_expressions sure ts))) in
+          let inside = uses_in_all runs (expressions_of (coerced_arguments m.params (types_of ts) (all_expressions sure ts))) in
           and_from (has.linked (member c n m)) (news ts) (All-head Found (apply_static p c n m ts t) (all_below ts) g k0.0 (All-head U (function_binding (member c n m)) inside h)) (all_plain_built ts q k0.1 (inner (apply_static p c n m ts t) g) (arguments_in m.params (types_of ts) (all_expressions sure ts) (All-tail U (function_binding (member c n m)) inside h)))
       plain (apply_statically p e c n m ts t) q k g h =
           let tree = apply_statically p e c n m ts t in
@@ -457,14 +459,14 @@ module _ (U : Binding → Type 0) where
           let k1 = and_parts (old e) (olds ts) k0.1 in
           let text = received_text (is_sure sure e) (expression_of sure e) in
           let target = coerced_receiver (type_of_term e) text in
-          let inside = uses_in_all (expressions_of (coerced_arguments m.params (types_of ts) (all_expressions sure ts))) in
-          let behind = All-tail U (function_binding (member c n m)) (uses_in target ++ inside) h in
-          let own = unreceived (type_of_term e) text (front (uses_in target) inside behind) in
-          and_from (stands has checks tree) (new e && news ts) (call_there p e c n m ts t (All-head Found tree (below tree) g) (checked_in (is_sure sure e) (expression_of sure e) own) (All-head U (function_binding (member c n m)) (uses_in target ++ inside) h) k0.0) (and_from (new e) (news ts) (plain e q0.0 k1.0 (ahead Found (trees e) (all_below ts) (inner tree g)) (received_in (is_sure sure e) (expression_of sure e) own)) (all_plain_built ts q0.1 k1.1 (after Found (trees e) (all_below ts) (inner tree g)) (arguments_in m.params (types_of ts) (all_expressions sure ts) (back (uses_in target) inside behind))))
+          let inside = uses_in_all runs (expressions_of (coerced_arguments m.params (types_of ts) (all_expressions sure ts))) in
+          let behind = All-tail U (function_binding (called_member runs n (member c n m))) (uses_in runs target ++ inside) h in
+          let own = unreceived (type_of_term e) text (front (uses_in runs target) inside behind) in
+          and_from (stands has checks tree) (new e && news ts) (call_there p e c n m ts t (All-head Found tree (below tree) g) (checked_in (is_sure sure e) (expression_of sure e) own) (All-head U (function_binding (called_member runs n (member c n m))) (uses_in runs target ++ inside) h) k0.0) (and_from (new e) (news ts) (plain e q0.0 k1.0 (ahead Found (trees e) (all_below ts) (inner tree g)) (received_in (is_sure sure e) (expression_of sure e) own)) (all_plain_built ts q0.1 k1.1 (after Found (trees e) (all_below ts) (inner tree g)) (arguments_in m.params (types_of ts) (all_expressions sure ts) (back (uses_in runs target) inside behind))))
       plain (new_object p c m ts) q k g h =
           let tree = new_object p c m ts in
           let k0 = and_parts (stands from checked tree) (olds ts) k in
-          let inside = uses_in_all (expressions_of (coerced_arguments m.params (types_of ts) (all_expressions sure ts))) in
+          let inside = uses_in_all runs (expressions_of (coerced_arguments m.params (types_of ts) (all_expressions sure ts))) in
           let behind = All-tail U (function_binding (member c Constructor m)) (class_use c ∷ inside) h in
           and_from (stands has checks tree) (news ts) (new_there p c m ts (All-head Found tree (all_below ts) g) (All-head U (function_binding (member c Constructor m)) (class_use c ∷ inside) h) (All-head U (class_use c) inside behind) k0.0) (all_plain_built ts q k0.1 (inner tree g) (arguments_in m.params (types_of ts) (all_expressions sure ts) (All-tail U (class_use c) inside behind)))
       plain (select p e c f t) q k g h =
@@ -480,9 +482,9 @@ module _ (U : Binding → Type 0) where
           let left = operand_of o (type_of_term e) (expression_of sure e) in
           let right = operand_of o (type_of_term d) (expression_of sure d) in
           let helper = helper_of (is_nonzero_literal right) o in
-          let h0 = front (helper ++ uses_in left) (uses_in right) h in
+          let h0 = front (helper ++ uses_in runs left) (uses_in runs right) h in
           let g0 = two e d (inner (binary_op p o e d) g) in
-          and_from (is_operation has o d) (new e && new d) (operation_there o d (expression_of sure d) (inl (q0.1, refl)) k1.1 (All-head Found (binary_op p o e d) (trees e ++ trees d) g) (front helper (uses_in left) h0) k0.0) (and_from (new e) (new d) (plain e q0.0 k1.0 g0.0 (operand_in o (type_of_term e) (expression_of sure e) (back helper (uses_in left) h0))) (plain d q0.1 k1.1 g0.1 (operand_in o (type_of_term d) (expression_of sure d) (back (helper ++ uses_in left) (uses_in right) h))))
+          and_from (is_operation has o d) (new e && new d) (operation_there o d (expression_of sure d) (inl (q0.1, refl)) k1.1 (All-head Found (binary_op p o e d) (trees e ++ trees d) g) (front helper (uses_in runs left) h0) k0.0) (and_from (new e) (new d) (plain e q0.0 k1.0 g0.0 (operand_in o (type_of_term e) (expression_of sure e) (back helper (uses_in runs left) h0))) (plain d q0.1 k1.1 g0.1 (operand_in o (type_of_term d) (expression_of sure d) (back (helper ++ uses_in runs left) (uses_in runs right) h))))
       plain (undefined_literal p) q k g h = refl
       plain (null_literal p) q k g h = refl
       plain (boolean_literal p b) q k g h = refl
@@ -539,14 +541,14 @@ module _ (U : Binding → Type 0) where
         where
           go : (b : Bool) → is_sure sure e ≡ b → Written (received b (operand_for ts e)) → (new e ≡ true) × IsChecked e
           go true f w = (operand_built e tree ts k g w, λ n. impossible (sym n ∙ f))
-          go false f (as_text (inl p) h) = (plain e p k g (All-tail U (object_binding check_name) (uses_in (expression_of sure e)) h), λ n. All-head U (object_binding check_name) (uses_in (expression_of sure e)) h)
+          go false f (as_text (inl p) h) = (plain e p k g (All-tail U (object_binding check_name) (uses_in runs (expression_of sure e)) h), λ n. All-head U (object_binding check_name) (uses_in runs (expression_of sure e)) h)
           go false f (as_text (inr x) h) = impossible x
           go false f (as_code n x j h) =
               let s : Spilled = spill (one_of ts e) j in
               let text = first_of s.expressions in
               let parts = followed_parts s.statements (finish (to_variable x (type_of_term e)) (operand_for ts e).at (type_of_term e) false (checked_value text) s.next).statements h in
               let inside = finished (to_variable x (type_of_term e)) (operand_for ts e).at (type_of_term e) (checked_value text) s.next parts.1 in
-              (act e tree ts j k g parts.0 (All-tail U (object_binding check_name) (uses_in text) inside), λ n. All-head U (object_binding check_name) (uses_in text) inside)
+              (act e tree ts j k g parts.0 (All-tail U (object_binding check_name) (uses_in runs text) inside), λ n. All-head U (object_binding check_name) (uses_in runs text) inside)
 
       plain_there : (d : Term) → (is_plain d ≡ true) ⊎ (is_fixed is_mutable d ≡ true) → is_plain d ≡ true
       plain_there d (inl p) = p
@@ -563,13 +565,13 @@ module _ (U : Binding → Type 0) where
       while_built : (p : Position) (c b : Term) (ts : Targets) (j : ℕ) (v : Bool) → is_plain c ≡ v → old c ≡ true → old b ≡ true → Each (trees c) → Each (trees b) → TreeBuilt c → TreeBuilt b → Within (elim v as (λ v. Code) [ true ↦ wrapped (core.while_of (Some p) (expression_of sure c)) (into is_mutable sure ts discard j b) | false ↦ wrapped (core.while_of (Some p) (core.boolean_value true)) (then_use (spill (one_of ts c) j) (λ es j. put_first (break_unless (first_of es)) (into is_mutable sure ts discard j b))) ]).statements → (new c ≡ true) × (new b ≡ true)
       while_built p c b ts j true f q r g i test body h =
           let inside = only (core.while_of (Some p) (expression_of sure c) (into is_mutable sure ts discard j b).statements) h in
-          (plain c f q g (front (uses_in (expression_of sure c)) (uses_of_all (into is_mutable sure ts discard j b).statements) inside), body ts discard j r i (back (uses_in (expression_of sure c)) (uses_of_all (into is_mutable sure ts discard j b).statements) inside))
+          (plain c f q g (front (uses_in runs (expression_of sure c)) (uses_of_all runs (into is_mutable sure ts discard j b).statements) inside), body ts discard j r i (back (uses_in runs (expression_of sure c)) (uses_of_all runs (into is_mutable sure ts discard j b).statements) inside))
       while_built p c b ts j false f q r g i test body h =
           let s : Spilled = spill (one_of ts c) j in
           let first = break_unless (first_of s.expressions) in
           let rest : Code = into is_mutable sure ts discard s.next b in
           let parts = followed_parts s.statements (core.statement first rest.statements) (only (core.while_of (Some p) (core.boolean_value true) (followed s.statements (core.statement first rest.statements))) h) in
-          (act c test ts j q g parts.0 (break_in (first_of s.expressions) (front (uses_of first) (uses_of_all rest.statements) parts.1)), body ts discard s.next r i (back (uses_of first) (uses_of_all rest.statements) parts.1))
+          (act c test ts j q g parts.0 (break_in (first_of s.expressions) (front (uses_of runs first) (uses_of_all runs rest.statements) parts.1)), body ts discard s.next r i (back (uses_of runs first) (uses_of_all runs rest.statements) parts.1))
 
       mutual
         pub tree : (t : Term) → TreeBuilt t
@@ -591,7 +593,7 @@ module _ (U : Binding → Type 0) where
             let last = core.assign_field (Some p) (first_of s.expressions) c f value in
             let parts = followed_parts s.statements (core.statement last core.no_statements) h in
             let inside = only last parts.1 in
-            let written = spill_in os j parts.0 (two_in s.expressions (spill_count os j) (front (uses_in (first_of s.expressions)) (uses_in value) inside) (uncoerced t (type_of_term e) (second_of s.expressions) (back (uses_in (first_of s.expressions)) (uses_in value) inside))) in
+            let written = spill_in os j parts.0 (two_in s.expressions (spill_count os j) (front (uses_in runs (first_of s.expressions)) (uses_in runs value) inside) (uncoerced t (type_of_term e) (second_of s.expressions) (back (uses_in runs (first_of s.expressions)) (uses_in runs value) inside))) in
             let g0 = two (select v d c f t) e (inner (assign p (select v d c f t) e) g) in
             let target = receiver_built d (tree d) ts k1.0 (inner (select v d c f t) g0.0) written.0 in
             and_from (has.field c f t && checks d) (new d && new e) (select_there c f t d (All-head Found (select v d c f t) (trees d) g0.0) target.1 k0.0) (and_from (new d) (new e) target.0 (operand_built e (tree e) ts k1.1 g0.1 written.1.0))
@@ -603,8 +605,8 @@ module _ (U : Binding → Type 0) where
             let parts = followed_parts s.statements (core.statement last core.no_statements) h in
             let inside = only last parts.1 in
             let g0 = two (select_static v c f t) e (inner (assign p (select_static v c f t) e) g) in
-            let there = All-head Found (select_static v c f t) [] g0.0 r.0 (inr (All-head U (setter_use c f) (uses_in value) inside)) in
-            and_from (has.static_field c f t) (new e) there (act e (tree e) ts j r.1 g0.1 parts.0 (uncoerced t (type_of_term e) (first_of s.expressions) (All-tail U (setter_use c f) (uses_in value) inside)))
+            let there = All-head Found (select_static v c f t) [] g0.0 r.0 (inr (All-head U (setter_use c f) (uses_in runs value) inside)) in
+            and_from (has.static_field c f t) (new e) there (act e (tree e) ts j r.1 g0.1 parts.0 (uncoerced t (type_of_term e) (first_of s.expressions) (All-tail U (setter_use c f) (uses_in runs value) inside)))
         tree (return_to p e l) ts k j q g h = tree e ts (target_of ts l) j q (inner (return_to p e l) g) (leaving_in (target_of ts l) p l (into is_mutable sure ts (target_of ts l) j e) h)
         tree (if_then p c a b t) ts k j q g h =
             let k1 = and_parts (old c) (old a && old b) q in
@@ -615,9 +617,9 @@ module _ (U : Binding → Type 0) where
             let choice = core.if_of (Some p) (first_of s.expressions) one.statements two.statements in
             let parts = followed_parts s.statements (core.statement choice core.no_statements) h in
             let inside = only choice parts.1 in
-            let head = front (uses_in (first_of s.expressions) ++ uses_of_all one.statements) (uses_of_all two.statements) inside in
+            let head = front (uses_in runs (first_of s.expressions) ++ uses_of_all runs one.statements) (uses_of_all runs two.statements) inside in
             let g0 = three c a b (inner (if_then p c a b t) g) in
-            and_from (new c) (new a && new b) (act c (tree c) ts j k1.0 g0.0 parts.0 (front (uses_in (first_of s.expressions)) (uses_of_all one.statements) head)) (and_from (new a) (new b) (tree a ts k s.next k2.0 g0.1.0 (back (uses_in (first_of s.expressions)) (uses_of_all one.statements) head)) (tree b ts k one.next k2.1 g0.1.1 (back (uses_in (first_of s.expressions) ++ uses_of_all one.statements) (uses_of_all two.statements) inside)))
+            and_from (new c) (new a && new b) (act c (tree c) ts j k1.0 g0.0 parts.0 (front (uses_in runs (first_of s.expressions)) (uses_of_all runs one.statements) head)) (and_from (new a) (new b) (tree a ts k s.next k2.0 g0.1.0 (back (uses_in runs (first_of s.expressions)) (uses_of_all runs one.statements) head)) (tree b ts k one.next k2.1 g0.1.1 (back (uses_in runs (first_of s.expressions) ++ uses_of_all runs one.statements) (uses_of_all runs two.statements) inside)))
         tree (while_loop p c b) ts k j q g h = let r = and_parts (old c) (old b) q in let g0 = two c b (inner (while_loop p c b) g) in let parts = while_built p c b ts j (is_plain c) refl r.0 r.1 g0.0 g0.1 (tree c) (tree b) h in and_from (new c) (new b) parts.0 parts.1
         tree (do_while p b c) ts k j q g h =
             let r = and_parts (old b) (old c) q in
@@ -643,10 +645,10 @@ module _ (U : Binding → Type 0) where
             let switch = core.switch_of (Some p) (first_of s.expressions) bs.cases rest.statements in
             let parts = followed_parts s.statements (core.statement switch core.no_statements) h in
             let inside = only switch parts.1 in
-            let head = front (uses_in (first_of s.expressions) ++ uses_of_cases bs.cases) (uses_of_all rest.statements) inside in
+            let head = front (uses_in runs (first_of s.expressions) ++ uses_of_cases runs bs.cases) (uses_of_all runs rest.statements) inside in
             let g0 : Each (trees e ++ cases_below cs ++ trees d) = inner (match_on p e cs d t) g in
             let g1 : Each (trees e ++ cases_below cs) = ahead Found (trees e ++ cases_below cs) (trees d) g0 in
-            and_from (new e) (new_cases cs && new d) (act e (tree e) ts j k1.0 (ahead Found (trees e) (cases_below cs) g1) parts.0 (front (uses_in (first_of s.expressions)) (uses_of_cases bs.cases) head)) (and_from (new_cases cs) (new d) (cases_built cs ts k s.next k2.0 (after Found (trees e) (cases_below cs) g1) (back (uses_in (first_of s.expressions)) (uses_of_cases bs.cases) head)) (tree d ts k bs.next k2.1 (after Found (trees e ++ cases_below cs) (trees d) g0) (back (uses_in (first_of s.expressions) ++ uses_of_cases bs.cases) (uses_of_all rest.statements) inside)))
+            and_from (new e) (new_cases cs && new d) (act e (tree e) ts j k1.0 (ahead Found (trees e) (cases_below cs) g1) parts.0 (front (uses_in runs (first_of s.expressions)) (uses_of_cases runs bs.cases) head)) (and_from (new_cases cs) (new d) (cases_built cs ts k s.next k2.0 (after Found (trees e) (cases_below cs) g1) (back (uses_in runs (first_of s.expressions)) (uses_of_cases runs bs.cases) head)) (tree d ts k bs.next k2.1 (after Found (trees e ++ cases_below cs) (trees d) g0) (back (uses_in runs (first_of s.expressions) ++ uses_of_cases runs bs.cases) (uses_of_all runs rest.statements) inside)))
         tree (apply_static p c n m es t) ts k j q g h =
             let k0 = and_parts (from.linked (member c n m)) (olds es) q in
             let s : Spilled = spill (operands is_mutable sure ts es) j in
@@ -654,7 +656,7 @@ module _ (U : Binding → Type 0) where
             let call = core.static_call (member c n m) arguments in
             let parts = followed_parts s.statements (finish k p t false call s.next).statements h in
             let inside = finished k p t call s.next parts.1 in
-            and_from (has.linked (member c n m)) (news es) (All-head Found (apply_static p c n m es t) (all_below es) g k0.0 (All-head U (function_binding (member c n m)) (uses_in_all arguments) inside)) (operands_built es ts k0.1 (inner (apply_static p c n m es t) g) (spill_in (operands is_mutable sure ts es) j parts.0 (arguments_in m.params (types_of es) s.expressions (All-tail U (function_binding (member c n m)) (uses_in_all arguments) inside))))
+            and_from (has.linked (member c n m)) (news es) (All-head Found (apply_static p c n m es t) (all_below es) g k0.0 (All-head U (function_binding (member c n m)) (uses_in_all runs arguments) inside)) (operands_built es ts k0.1 (inner (apply_static p c n m es t) g) (spill_in (operands is_mutable sure ts es) j parts.0 (arguments_in m.params (types_of es) s.expressions (All-tail U (function_binding (member c n m)) (uses_in_all runs arguments) inside))))
         tree (apply_statically p e c n m es t) ts k j q g h =
             let own = apply_statically p e c n m es t in
             let k0 = and_parts (stands from checked own) (old e && olds es) q in
@@ -666,10 +668,10 @@ module _ (U : Binding → Type 0) where
             let call = core.receiver_call (member c n m) target arguments in
             let parts = followed_parts s.statements (finish k p t false call s.next).statements h in
             let inside = finished k p t call s.next parts.1 in
-            let behind = All-tail U (function_binding (member c n m)) (uses_in target ++ uses_in_all arguments) inside in
-            let written = spill_in os j parts.0 (first_and_rest s.expressions (unreceived (type_of_term e) (first_of s.expressions) (front (uses_in target) (uses_in_all arguments) behind)) (arguments_in m.params (types_of es) (rest_of s.expressions) (back (uses_in target) (uses_in_all arguments) behind))) in
+            let behind = All-tail U (function_binding (called_member runs n (member c n m))) (uses_in runs target ++ uses_in_all runs arguments) inside in
+            let written = spill_in os j parts.0 (first_and_rest s.expressions (unreceived (type_of_term e) (first_of s.expressions) (front (uses_in runs target) (uses_in_all runs arguments) behind)) (arguments_in m.params (types_of es) (rest_of s.expressions) (back (uses_in runs target) (uses_in_all runs arguments) behind))) in
             let start = receiver_built e (tree e) ts k1.0 (ahead Found (trees e) (all_below es) (inner own g)) written.0 in
-            and_from (stands has checks own) (new e && news es) (call_there p e c n m es t (All-head Found own (below own) g) start.1 (All-head U (function_binding (member c n m)) (uses_in target ++ uses_in_all arguments) inside) k0.0) (and_from (new e) (news es) start.0 (operands_built es ts k1.1 (after Found (trees e) (all_below es) (inner own g)) written.1))
+            and_from (stands has checks own) (new e && news es) (call_there p e c n m es t (All-head Found own (below own) g) start.1 (All-head U (function_binding (called_member runs n (member c n m))) (uses_in runs target ++ uses_in_all runs arguments) inside) k0.0) (and_from (new e) (news es) start.0 (operands_built es ts k1.1 (after Found (trees e) (all_below es) (inner own g)) written.1))
         tree (new_object p c m es) ts k j q g h =
             let own = new_object p c m es in
             let k0 = and_parts (stands from checked own) (olds es) q in
@@ -678,8 +680,8 @@ module _ (U : Binding → Type 0) where
             let call = core.made_of (member c Constructor m) arguments in
             let parts = followed_parts s.statements (finish k p (class_type c) false call s.next).statements h in
             let inside = finished k p (class_type c) call s.next parts.1 in
-            let behind = All-tail U (function_binding (member c Constructor m)) (class_use c ∷ uses_in_all arguments) inside in
-            and_from (stands has checks own) (news es) (new_there p c m es (All-head Found own (all_below es) g) (All-head U (function_binding (member c Constructor m)) (class_use c ∷ uses_in_all arguments) inside) (All-head U (class_use c) (uses_in_all arguments) behind) k0.0) (operands_built es ts k0.1 (inner own g) (spill_in (operands is_mutable sure ts es) j parts.0 (arguments_in m.params (types_of es) s.expressions (All-tail U (class_use c) (uses_in_all arguments) behind))))
+            let behind = All-tail U (function_binding (member c Constructor m)) (class_use c ∷ uses_in_all runs arguments) inside in
+            and_from (stands has checks own) (news es) (new_there p c m es (All-head Found own (all_below es) g) (All-head U (function_binding (member c Constructor m)) (class_use c ∷ uses_in_all runs arguments) inside) (All-head U (class_use c) (uses_in_all runs arguments) behind) k0.0) (operands_built es ts k0.1 (inner own g) (spill_in (operands is_mutable sure ts es) j parts.0 (arguments_in m.params (types_of es) s.expressions (All-tail U (class_use c) (uses_in_all runs arguments) behind))))
         tree (select p e c f t) ts k j q g h =
             let own = select p e c f t in
             let k0 = and_parts (from.field c f t && checked e) (old e) q in
@@ -706,10 +708,10 @@ module _ (U : Binding → Type 0) where
             let helper = helper_of (is_nonzero_literal right) o in
             let parts = followed_parts s.statements (finish k p (binary_result o) false (core.binary_of o left right) s.next).statements h in
             let inside = finished k p (binary_result o) (core.binary_of o left right) s.next parts.1 in
-            let head = front (helper ++ uses_in left) (uses_in right) inside in
-            let written = spill_in os j parts.0 (two_in s.expressions (spill_count os j) (operand_in o (type_of_term e) (first_of s.expressions) (back helper (uses_in left) head)) (operand_in o (type_of_term d) (second_of s.expressions) (back (helper ++ uses_in left) (uses_in right) inside))) in
+            let head = front (helper ++ uses_in runs left) (uses_in runs right) inside in
+            let written = spill_in os j parts.0 (two_in s.expressions (spill_count os j) (operand_in o (type_of_term e) (first_of s.expressions) (back helper (uses_in runs left) head)) (operand_in o (type_of_term d) (second_of s.expressions) (back (helper ++ uses_in runs left) (uses_in runs right) inside))) in
             let g0 = two e d (inner (binary_op p o e d) g) in
-            and_from (is_operation has o d) (new e && new d) (operation_there o d (second_of s.expressions) (is_right d ts (second_of s.expressions) (second_text (operand_for ts e) (operand_for ts d) j)) k1.1 (All-head Found (binary_op p o e d) (trees e ++ trees d) g) (front helper (uses_in left) head) k0.0) (and_from (new e) (new d) (operand_built e (tree e) ts k1.0 g0.0 written.0) (operand_built d (tree d) ts k1.1 g0.1 written.1.0))
+            and_from (is_operation has o d) (new e && new d) (operation_there o d (second_of s.expressions) (is_right d ts (second_of s.expressions) (second_text (operand_for ts e) (operand_for ts d) j)) k1.1 (All-head Found (binary_op p o e d) (trees e ++ trees d) g) (front helper (uses_in runs left) head) k0.0) (and_from (new e) (new d) (operand_built e (tree e) ts k1.0 g0.0 written.0) (operand_built d (tree d) ts k1.1 g0.1 written.1.0))
         tree (undefined_literal p) ts k j q g h = refl
         tree (null_literal p) ts k j q g h = refl
         tree (boolean_literal p b) ts k j q g h = refl
@@ -740,12 +742,12 @@ module _ (U : Binding → Type 0) where
         operands_built no_terms ts q g h = refl
         operands_built (more_terms t es) ts q g h = let r = and_parts (old t) (olds es) q in and_from (new t) (news es) (operand_built t (tree t) ts r.0 (ahead Found (trees t) (all_below es) g) h.0) (operands_built es ts r.1 (after Found (trees t) (all_below es) g) h.1)
 
-        cases_built : (cs : Cases) (ts : Targets) (k : Destination) (j : ℕ) → old_cases cs ≡ true → Each (cases_below cs) → All U (uses_of_cases (cases is_mutable sure ts k j cs).cases) → new_cases cs ≡ true
+        cases_built : (cs : Cases) (ts : Targets) (k : Destination) (j : ℕ) → old_cases cs ≡ true → Each (cases_below cs) → All U (uses_of_cases runs (cases is_mutable sure ts k j cs).cases) → new_cases cs ≡ true
         cases_built no_cases ts k j q g h = refl
         cases_built (more_cases [] e cs) ts k j q g h = cases_built cs ts k j q (after Found (trees e) (cases_below cs) g) h
         cases_built (more_cases (key ∷ keys) e cs) ts k j q g h =
             let k1 = and_parts (old e) (old_cases cs) q in
             let body : Code = into is_mutable sure ts k j e in
             let end = core.statement (core.break_nearest None) core.no_statements in
-            let rest = uses_of_cases (cases is_mutable sure ts k body.next cs).cases in
-            and_from (new e) (new_cases cs) (tree e ts k j k1.0 (ahead Found (trees e) (cases_below cs) g) (followed_parts body.statements end (front (uses_of_all (followed body.statements end)) rest h)).0) (cases_built cs ts k body.next k1.1 (after Found (trees e) (cases_below cs) g) (back (uses_of_all (followed body.statements end)) rest h))
+            let rest = uses_of_cases runs (cases is_mutable sure ts k body.next cs).cases in
+            and_from (new e) (new_cases cs) (tree e ts k j k1.0 (ahead Found (trees e) (cases_below cs) g) (followed_parts body.statements end (front (uses_of_all runs (followed body.statements end)) rest h)).0) (cases_built cs ts k body.next k1.1 (after Found (trees e) (cases_below cs) g) (back (uses_of_all runs (followed body.statements end)) rest h))

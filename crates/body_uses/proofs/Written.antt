@@ -1,5 +1,13 @@
 -- The bodies of an accepted folder whose classes are written are built with what is written.
-use Rattle.std.proofs.Common.{◌≡◌, Bool, true, false, List, [], ◌∷◌, inl, inr, Option, Some, refl, sym, subst, ◌∙◌, Contains, codes}
+use Rattle.accepted_folders.specs.Refusals.{IsPresent, missing_class, missing_method, abstract_target, no_class, no_target, no_target_body}
+use Rattle.sj_world.specs.Resolution.{Answer, target, abstract, missing, Resolves}
+use Rattle.ir_mean.specs.Dispatch.{resolved}
+use Rattle.resolution_laws.proofs.Resolves.{each_call_resolves}
+use Rattle.resolution_laws.specs.Laws.{HasAnswer}
+use Rattle.dispatch_laws.proofs.WorkedOut.{targets_are_worked_out}
+use Rattle.dispatch_laws.specs.Laws.{found_by}
+use Rattle.dispatch_laws.specs.Targets.{at_owner, target_in}
+use Rattle.std.proofs.Common.{◌≡◌, Bool, true, false, List, [], ◌∷◌, inl, inr, Option, Some, refl, sym, subst, ◌∙◌, Contains, codes, ap, None}
 use Rattle.std.specs.Prelude.{not, ◌&&◌}
 use Rattle.worklist.proofs.Inserted.{nothing_in}
 use Rattle.std.specs.List.{All, list_any}
@@ -16,7 +24,7 @@ use Rattle.helper_rules.specs.declared.kinds.Helper.TheVariants.{NotNull, IntQuo
 use Rattle.js_tree.specs.declared.items.Binding.{Binding}
 use Rattle.accepted_folders.proofs.Derivations.{closed}
 use Rattle.accepted_folders.specs.Reachable.{Reachable}
-use Rattle.accepted_folders.specs.Rules.{Reads, of_call, of_new, asked_body, new_made, field_needed}
+use Rattle.accepted_folders.specs.Rules.{Reads, of_call, of_new, asked_body, new_made, field_needed, resolved_class, resolved_body}
 use Rattle.sj_desugar.specs.Desugar.{member}
 use Rattle.sj_emit_expr.specs.Templates.{check_name}
 use Rattle.sj_emit_expr.specs.Uses.{object_binding, function_binding, class_use, static_use, setter_use}
@@ -24,7 +32,7 @@ use Rattle.sj_infos.specs.Infos.{asks, asked_by_body, asked_in, of_receiver}
 use Rattle.sj_infos.specs.Sure.{sure_among}
 use Rattle.sj_infos.specs.Trees.{trees}
 use Rattle.sj_infos.specs.declared.infos.Info.{Info}
-use Rattle.sj_infos.specs.declared.infos.Info.TheVariants.{New, Static, Field}
+use Rattle.sj_infos.specs.declared.infos.Info.TheVariants.{New, Static, Field, Resolved}
 use Rattle.accepted_folders.proofs.Found.{here}
 use Rattle.sj_names.proofs.Same.{text-refl}
 use Rattle.sj_names.specs.Same.{is_same_text}
@@ -50,7 +58,7 @@ use Rattle.sj_world.proofs.Searches.{contains_at}
 use Rattle.sj_world.specs.Paths.{stay}
 use Rattle.sj_world.specs.Subtypes.{equal, from_nothing, to_any, null_to_class, null_to_array, class_to_class, primitive_to_class, arrays_alike, arrays_of_arrays}
 use Rattle.sj_world.specs.declared.facts.Fact.{Fact}
-use Rattle.sj_world.specs.declared.facts.Fact.TheVariants.{Body, Made, NeededField}
+use Rattle.sj_world.specs.declared.facts.Fact.TheVariants.{Body, Made, Needed, NeededField}
 use Rattle.accepted_folders.specs.TypingRulesRules.{Fits, HasFieldType, IsStatic, OperandsFit}
 use Rattle.accepted_folders.specs.Typed.{MeetsThere}
 use Rattle.accepted_folders.specs.Accepted.{IsAccepted}
@@ -139,7 +147,7 @@ module _ (entries : List EntryPoint) (files : List SourceFile) (w : Classes) (fa
   has = used_of w facts all live helpers written
 
   abbrev used : List Binding
-  used = used_by e.definition e.its_body
+  used = used_by has.target e.definition e.its_body
 
   in_written : (b : Binding) → Contains used b → is_among written b.owner ≡ true
   in_written b u = among_names written b.owner (uses.owned e i here_written b u)
@@ -180,11 +188,34 @@ module _ (entries : List EntryPoint) (files : List SourceFile) (w : Classes) (fa
       let needs = any_of (needs_static c f) facts (NeededField c f true) needed_there (and_from (is_same_text c c) (is_same_text f f) (text-refl c) (text-refl f)) in
       and_from (is_among written c) (list_any (needs_static c f) facts && has_static_in (class_of w c) f t) here (and_from (list_any (needs_static c f) facts) (has_static_in (class_of w c) f t) needs (static_field_there w c f t h))
 
+  -- a class whose methods are called is there
+  present : (c : Name) (m : MethodName) → Reads w entries (Reachable w entries) (Resolved c m) → IsPresent w c
+  present c m r = go (class_of w c) refl
+    where
+      go : (o : Option ClassDef) → class_of w c ≡ o → IsPresent w c
+      go None none = absurd (accepted.resolved (missing_class c) (no_class c (closed w entries (Needed c) (resolved_class c m r)) none))
+      go (Some class) found = record { class = class; is_class = found }
+
+  -- the target of a public member is there where its function is used: it is a body, since the folder is accepted
+  target_there : (c : Name) (m : MethodName) → Reads w entries (Reachable w entries) (Resolved c m) → Contains used (function_binding (target_in w (member c Public m))) → has.received (target_in w (member c Public m)) ≡ true
+  target_there c m r u = go call.answer call.resolves (targets_are_worked_out w accepted.world.sorted.in_order c m call.answer call.resolves)
+    where
+      call : HasAnswer w c m
+      call = each_call_resolves w accepted.world.sorted.in_order c m
+
+      go : (a : Answer) → Resolves w c m a → resolved w c m ≡ found_by a → has.received (target_in w (member c Public m)) ≡ true
+      go (target d owner) s same =
+          let k : Member = member owner Public m in
+          let is : target_in w (member c Public m) ≡ k = ap (at_owner (member c Public m)) same in
+          subst (λ (o : Member). has.received o ≡ true) (sym is) (and_from (is_among written owner) (has_function all k) (in_written (function_binding k) (subst (λ (o : Member). Contains used (function_binding o)) is u)) (body_there k (closed w entries (Body k) (resolved_body c m d owner r s))))
+      go abstract s same = absurd (accepted.resolved (abstract_target (member c Public m)) (no_target_body c m r (present c m r) s))
+      go missing s same = absurd (accepted.resolved (missing_method (member c Public m)) (no_target c m r (present c m r) s))
+
   tree_given : (t : Term) → Contains (trees e.its_body) t → Stands (MeetsThere w e.definition.namespace) t → Given has used t
   tree_given (apply_static p c n m ts t) among s = λ u. in_used (member c n m) (is_static n) (static_there n s.asked.0) (asked (apply_static p c n m ts t) among (Static (member c n m)) (here (Static (member c n m)) [])) u
   tree_given (apply_statically p d c Private m ts t) among s = λ u. in_used (member c Private m) true refl (asked (apply_statically p d c Private m ts t) among (Static (member c Private m)) (here (Static (member c Private m)) (of_receiver (sure_among [] (trees e.its_body)) d))) u
   tree_given (apply_statically p d c Constructor m ts t) among s = λ v u. in_used (member c Constructor m) (has_no_value m.result) v (asked (apply_statically p d c Constructor m ts t) among (Static (member c Constructor m)) (here (Static (member c Constructor m)) (of_receiver (sure_among [] (trees e.its_body)) d))) u
-  tree_given (apply_statically p d c Public m ts t) among s = tt
+  tree_given (apply_statically p d c Public m ts t) among s = λ u. target_there c m (asked (apply_statically p d c Public m ts t) among (Resolved c m) (here (Resolved c m) (of_receiver (sure_among [] (trees e.its_body)) d))) u
   tree_given (apply_statically p d c PublicStatic m ts t) among s = tt
   tree_given (apply_statically p d c PrivateStatic m ts t) among s = tt
   tree_given (new_object p c m ts) among s = λ v f u. made_there c m v (asked (new_object p c m ts) among (New c m) (here (New c m) [])) f u

@@ -17,5 +17,5 @@ use Rattle.linked_pieces.specs.Pieces.{piece_of_member}
 pub record AreWrittenWith (w : Classes) (entries : List EntryPoint) (facts : List Fact) (all : List EmittedMethod) (live : List Name) (helpers : List Helper) (written : List Name) : Type 0 where
   pub are_facts : (f : Fact) → Contains facts f ↔ Reachable w entries f
   pub are_live : (c : Name) → Contains live c ↔ IsLive w facts c
-  pub owned : (e : EmittedMethod) → Contains all e → Contains written e.member.class → (b : Binding) → Contains (piece_of_member e).uses b → Contains written b.owner
-  pub helped : (e : EmittedMethod) → Contains all e → Contains written e.member.class → (h : Helper) → Contains (piece_of_member e).uses (helper (helper_name h)) → Contains helpers h
+  pub owned : (e : EmittedMethod) → Contains all e → Contains written e.member.class → (b : Binding) → Contains (piece_of_member w e).uses b → Contains written b.owner
+  pub helped : (e : EmittedMethod) → Contains all e → Contains written e.member.class → (h : Helper) → Contains (piece_of_member w e).uses (helper (helper_name h)) → Contains helpers h

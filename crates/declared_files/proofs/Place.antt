@@ -12,6 +12,7 @@ use Rattle.declared_programs.specs.Declarations.{behind}
 use Rattle.declared_programs.specs.Declared.{Running, alone as by_itself, on_receiver, completing, running, is_covered}
 use Rattle.file_tops.proofs.Run.{some_same}
 use Rattle.file_tops.specs.Tops.{literal_value, link}
+use Rattle.dispatch_laws.specs.Targets.{IsTargetOf}
 use Rattle.helper_rules.specs.Helpers.{helper_name, helper_item, used_helpers, constants, box_constructor}
 use Rattle.helper_rules.specs.Words.{class_name, constants_name}
 use Rattle.helper_rules.specs.declared.kinds.Failure.TheVariants.{NullReceiver, Division}
@@ -101,44 +102,44 @@ module _ (z : Spread) where
     parameters-are [] = refl
     parameters-are (x ∷ xs) = ap (λ ns. place.name (named x) ∷ ns) (parameters-are xs)
 
-    abbrev code_at : Namespace → MethodDef → Term → js_meaning.Code
-    code_at n d e = record { parameters = with_receiver n (parameter_names (names_of d.params)); body = statement_templates variable_name label_name (completed n (body_code (is_mutable_in d e) d.result e)) }
+    abbrev code_at : Name → Namespace → MethodDef → Term → js_meaning.Code
+    code_at f n d e = record { parameters = with_receiver n (parameter_names (names_of d.params)); body = statement_templates variable_name label_name (z.has f).target (completed n (body_code (is_mutable_in d e) d.result e)) }
 
-    alone_code : (n : Namespace) (d : MethodDef) (e : Term) → running n ≡ by_itself → code_at n d e ≡ function_of place d e
-    alone_code PublicStatic d e r = λ i. record { parameters = parameters-are (names_of d.params) i; body = (code_at PublicStatic d e).body }
-    alone_code PrivateStatic d e r = λ i. record { parameters = parameters-are (names_of d.params) i; body = (code_at PublicStatic d e).body }
-    alone_code Public d e r = cc
-    alone_code Private d e r = cc
-    alone_code Constructor d e r = cc
+    alone_code : (f : Name) (n : Namespace) (d : MethodDef) (e : Term) → running n ≡ by_itself → code_at f n d e ≡ function_of place f d e
+    alone_code f PublicStatic d e r = λ i. record { parameters = parameters-are (names_of d.params) i; body = (code_at f PublicStatic d e).body }
+    alone_code f PrivateStatic d e r = λ i. record { parameters = parameters-are (names_of d.params) i; body = (code_at f PublicStatic d e).body }
+    alone_code f Public d e r = cc
+    alone_code f Private d e r = cc
+    alone_code f Constructor d e r = cc
 
-    received_code : (n : Namespace) (d : MethodDef) (e : Term) → running n ≡ on_receiver → code_at n d e ≡ function_on place d (body_of d e)
-    received_code Public d e r = λ i. record { parameters = variable_name receiver ∷ parameters-are (names_of d.params) i; body = (code_at Public d e).body }
-    received_code Private d e r = λ i. record { parameters = variable_name receiver ∷ parameters-are (names_of d.params) i; body = (code_at Public d e).body }
-    received_code PublicStatic d e r = cc
-    received_code PrivateStatic d e r = cc
-    received_code Constructor d e r = cc
+    received_code : (f : Name) (n : Namespace) (d : MethodDef) (e : Term) → running n ≡ on_receiver → code_at f n d e ≡ function_on place f d (body_of d e)
+    received_code f Public d e r = λ i. record { parameters = variable_name receiver ∷ parameters-are (names_of d.params) i; body = (code_at f Public d e).body }
+    received_code f Private d e r = λ i. record { parameters = variable_name receiver ∷ parameters-are (names_of d.params) i; body = (code_at f Public d e).body }
+    received_code f PublicStatic d e r = cc
+    received_code f PrivateStatic d e r = cc
+    received_code f Constructor d e r = cc
 
-    completing_code : (n : Namespace) (d : MethodDef) (e : Term) → running n ≡ completing → code_at n d e ≡ function_on place d (on_objects.constructor_body d e)
-    completing_code Constructor d e r = λ i. record { parameters = variable_name receiver ∷ parameters-are (names_of d.params) i; body = (code_at Constructor d e).body }
-    completing_code Public d e r = cc
-    completing_code Private d e r = cc
-    completing_code PublicStatic d e r = cc
-    completing_code PrivateStatic d e r = cc
+    completing_code : (f : Name) (n : Namespace) (d : MethodDef) (e : Term) → running n ≡ completing → code_at f n d e ≡ function_on place f d (on_objects.constructor_body d e)
+    completing_code f Constructor d e r = λ i. record { parameters = variable_name receiver ∷ parameters-are (names_of d.params) i; body = (code_at f Constructor d e).body }
+    completing_code f Public d e r = cc
+    completing_code f Private d e r = cc
+    completing_code f PublicStatic d e r = cc
+    completing_code f PrivateStatic d e r = cc
 
-    code_there : (t : Top) (r : Running) (m : MemberName) (d : FunctionDeclared z t r m) → js_meaning.code_of z.program (z.home t) (member_name m) ≡ Some (code_at d.right.definition.namespace d.right.definition d.right.its_body)
-    code_there t r m d = let n = d.right.definition.namespace in let k = d.right.definition in let c = code_at n k d.right.its_body in function_there (z.home t) (member_name m) c.parameters c.body d.function
+    code_there : (t : Top) (r : Running) (m : MemberName) (d : FunctionDeclared z t r m) → js_meaning.code_of z.program (z.home t) (member_name m) ≡ Some (code_at (z.home t) d.right.definition.namespace d.right.definition d.right.its_body)
+    code_there t r m d = let n = d.right.definition.namespace in let k = d.right.definition in let c = code_at (z.home t) n k d.right.its_body in function_there (z.home t) (member_name m) c.parameters c.body d.function
 
     abbrev member_item : {t : Top} {r : Running} {m : MemberName} → FunctionDeclared z t r m → Item
-    member_item {t} {r} {m} d = (member_piece m (desugared_member d.right.definition d.right.its_body)).item
+    member_item {t} {r} {m} d = (member_piece (z.has (z.home t)).target m (desugared_member d.right.definition d.right.its_body)).item
 
     linked_here : (f : Name) (m : MemberName) → (z.has f).linked m ≡ true → Linked place m
-    linked_here f m l = let d = can.linked f m l in record { definition = d.right.definition; its_body = d.right.its_body; found = d.right.found; has_body = d.right.has_body; parameters = d.right.parameters; result_is = d.right.result_is; emitted = code_there (a_function m) by_itself m d ∙ ap Some (alone_code d.right.definition.namespace d.right.definition d.right.its_body d.runs); rules = d.right.rules; reaches = reaches (z.home (a_function m)) }
+    linked_here f m l = let d = can.linked f m l in record { definition = d.right.definition; its_body = d.right.its_body; found = d.right.found; has_body = d.right.has_body; parameters = d.right.parameters; result_is = d.right.result_is; emitted = code_there (a_function m) by_itself m d ∙ ap Some (alone_code (z.home (a_function m)) d.right.definition.namespace d.right.definition d.right.its_body d.runs); rules = d.right.rules; reaches = reaches (z.home (a_function m)) }
 
     runs_here : (f : Name) (m : MemberName) → (z.has f).received m ≡ true → RunsOn place m
-    runs_here f m l = let d = can.received f m l in record { definition = d.right.definition; its_body = d.right.its_body; found = d.right.found; has_body = d.right.has_body; parameters = d.right.parameters; result_is = d.right.result_is; emitted = code_there (a_method m) on_receiver m d ∙ ap Some (received_code d.right.definition.namespace d.right.definition d.right.its_body d.runs); rules = d.right.rules; reaches = reaches (z.home (a_method m)) }
+    runs_here f m l = let d = can.received f m l in record { definition = d.right.definition; its_body = d.right.its_body; found = d.right.found; has_body = d.right.has_body; parameters = d.right.parameters; result_is = d.right.result_is; emitted = code_there (a_method m) on_receiver m d ∙ ap Some (received_code (z.home (a_method m)) d.right.definition.namespace d.right.definition d.right.its_body d.runs); rules = d.right.rules; reaches = reaches (z.home (a_method m)) }
 
     constructs_here : (f : Name) (m : MemberName) → (z.has f).built m ≡ true → Constructs place m
-    constructs_here f m l = let k = can.built f m l in let d = k.0 in record { definition = d.right.definition; its_body = d.right.its_body; found = d.right.found; has_body = d.right.has_body; parameters = d.right.parameters; result_is = k.1; emitted = code_there (a_constructor m) completing m d ∙ ap Some (completing_code d.right.definition.namespace d.right.definition d.right.its_body d.runs); rules = d.right.rules; reaches = reaches (z.home (a_constructor m)) }
+    constructs_here f m l = let k = can.built f m l in let d = k.0 in record { definition = d.right.definition; its_body = d.right.its_body; found = d.right.found; has_body = d.right.has_body; parameters = d.right.parameters; result_is = k.1; emitted = code_there (a_constructor m) completing m d ∙ ap Some (completing_code (z.home (a_constructor m)) d.right.definition.namespace d.right.definition d.right.its_body d.runs); rules = d.right.rules; reaches = reaches (z.home (a_constructor m)) }
 
     -- the classes of a chain
     class_item_is : (c : Name) (superclass : Option Name) (ms : List Member) → IsClassItem (class_name c) ms (class_item_of c superclass ms)
@@ -248,8 +249,12 @@ module _ (z : Spread) where
         usable = u;
       }
 
+      -- what a call runs by what the code of a file can use, it runs by what can be used at all
+      target_here : (f : Name) (m : MemberName) → (z.has f).received ((z.has f).target m) ≡ true → IsTargetOf z.classes m ((z.has f).target m)
+      target_here f m l = let same = (laws.among f).targets m in subst (IsTargetOf z.classes m) same (laws.objects.targets m (subst (λ (o : MemberName). all.received o ≡ true) (sym same) ((laws.among f).tops (a_method ((z.has f).target m)) l)))
+
       pub has_objects : HasObjects place
-      has_objects = record { linked = linked_here; received = runs_here; built = constructs_here; made = made_here; objects = object_here; field = field_here; statics = static_here; checked = check_here; divided = divided_here; boxes = box_here; each = omega arith; beyond = omega arith }
+      has_objects = record { linked = linked_here; received = runs_here; targets = target_here; built = constructs_here; made = made_here; objects = object_here; field = field_here; statics = static_here; checked = check_here; divided = divided_here; boxes = box_here; each = omega arith; beyond = omega arith }
 
     -- the state behind the declarations
     module _ (t : js.State) (hold : AllHold z.program t 0 (all_items z)) where

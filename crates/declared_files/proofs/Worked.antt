@@ -232,7 +232,7 @@ none_among (a_helper k) h = impossible h
 
 pub lawful : IsLawful spread object_use
 lawful = record {
-  among = by_file (λ f u. IsAmong u object_use) (record { tops = main_among; fields = λ c g t h. impossible h }) (record { tops = class_among; fields = λ c g t h. h }) (λ f. record { tops = none_among; fields = λ c g t h. impossible h });
+  among = by_file (λ f u. IsAmong u object_use) (record { tops = main_among; fields = λ c g t h. impossible h; targets = λ m. refl }) (record { tops = class_among; fields = λ c g t h. h; targets = λ m. refl }) (λ f. record { tops = none_among; fields = λ c g t h. impossible h; targets = λ m. refl });
   objects = object_laws;
   linked = λ m h. subst (RightMember object_world object_use) (sym (member-same m main_member h)) main_right_at_all;
 }

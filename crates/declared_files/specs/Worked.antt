@@ -49,6 +49,7 @@ three_files = record { file = main_file; content = Some main_module } ∷ record
 abbrev pub main_use : Usable
 main_use = record {
   linked = is_member main_member;
+  target = λ m. m;
   received = is_member (member class_name Private get_name);
   built = is_member (member class_name Constructor init_name);
   made = is_same_text class_name;
@@ -61,6 +62,7 @@ main_use = record {
 abbrev pub class_use : Usable
 class_use = record {
   linked = λ m. false;
+  target = λ m. m;
   received = λ m. false;
   built = λ m. false;
   made = is_same_text object_name;

@@ -17,7 +17,7 @@ use Rattle.object_folders.specs.Emitted.{EmittedMethod}
 use Rattle.sj_split.proofs.Members.{at_first, further, cons_cases, into_map, into_filter}
 use Rattle.sj_trees.specs.declared.classes.ClassDef.{ClassDef}
 use Rattle.sj_world.proofs.OnCycles.{among}
-use Rattle.sj_world.specs.Known.{class_of}
+use Rattle.sj_world.specs.Known.{Classes, class_of}
 use Rattle.sj_world.specs.Linked.{Linked}
 use Rattle.worklist.proofs.Inserted.{nothing_in}
 
@@ -25,15 +25,15 @@ use Rattle.worklist.proofs.Inserted.{nothing_in}
 pub to_items : (written : List Name) (ps : List Piece) (q : Piece) → Contains ps q → Contains written q.owner → Contains (items_of written ps) q.item
 to_items written ps q i h = into_map item_of _ q (into_filter (is_owned written) ps q i ((among written q.owner).1 h))
 
-pub in_block : (hs : List Piece) (b : Block) (q : Piece) → Contains (pieces_of_block b) q → Contains (with_helpers hs b) q
-in_block hs b q i = go (is_object b.class)
+pub in_block : (w : Classes) (hs : List Piece) (b : Block) (q : Piece) → Contains (pieces_of_block w b) q → Contains (with_helpers w hs b) q
+in_block w hs b q i = go (is_object b.class)
   where
-    go : (t : Bool) → Contains (if t then pieces_of_block b ++ hs else pieces_of_block b) q
-    go true = Contains-append_left (pieces_of_block b) hs q i
+    go : (t : Bool) → Contains (if t then pieces_of_block w b ++ hs else pieces_of_block w b) q
+    go true = Contains-append_left (pieces_of_block w b) hs q i
     go false = i
 
-behind_object : (hs : List Piece) (b : Block) (q : Piece) → is_object b.class ≡ true → Contains hs q → Contains (with_helpers hs b) q
-behind_object hs b q e i = subst (λ (t : Bool). Contains (if t then pieces_of_block b ++ hs else pieces_of_block b) q) (sym e) (Contains-append_right (pieces_of_block b) hs q i)
+behind_object : (w : Classes) (hs : List Piece) (b : Block) (q : Piece) → is_object b.class ≡ true → Contains hs q → Contains (with_helpers w hs b) q
+behind_object w hs b q e i = subst (λ (t : Bool). Contains (if t then pieces_of_block w b ++ hs else pieces_of_block w b) q) (sym e) (Contains-append_right (pieces_of_block w b) hs q i)
 
 -- the parts of which the pieces of a class are made, where the world has it
 pub record PartsOf (l : Linked) (c : Name) (qs : List Piece) : Type 0 where
@@ -76,8 +76,8 @@ module _ (l : Linked) (all : List EmittedMethod) where
     block_of : (c : Name) (k : ClassDef) → class_of l.world c ≡ Some k → Found c p.blocks
     block_of c k e = find_block p.classes p.blocks p.are_blocks c (in_classes c k e)
 
-    whole : (b : Block) (q : Piece) → Contains p.blocks b → Contains (with_helpers its_helpers b) q → Contains ps q
-    whole b q i j = subst (λ (qs : List Piece). Contains qs q) (sym p.pieces_are) (in_all (with_helpers its_helpers) p.blocks b q i j)
+    whole : (b : Block) (q : Piece) → Contains p.blocks b → Contains (with_helpers l.world its_helpers b) q → Contains ps q
+    whole b q i j = subst (λ (qs : List Piece). Contains qs q) (sym p.pieces_are) (in_all (with_helpers l.world its_helpers) p.blocks b q i j)
 
     -- the pieces of a class's own
     pub record OwnPieces (c : Name) : Type 0 where
@@ -89,15 +89,15 @@ module _ (l : Linked) (all : List EmittedMethod) where
     own_pieces c k e =
         let f = block_of c k e in
         let r = parts_of l c f.block.own k e f.is_block.own in
-        record { parts = r.parts; are = r.are; there = λ q i. whole f.block q f.among_blocks (in_block its_helpers f.block q (Contains-append_left f.block.own (map piece_of_member f.block.methods) q (subst (λ (qs : List Piece). Contains qs q) (sym r.own) i))) }
+        record { parts = r.parts; are = r.are; there = λ q i. whole f.block q f.among_blocks (in_block l.world its_helpers f.block q (Contains-append_left f.block.own (map (piece_of_member l.world) f.block.methods) q (subst (λ (qs : List Piece). Contains qs q) (sym r.own) i))) }
 
-    pub method_there : (e : EmittedMethod) → Contains all e → (k : ClassDef) → class_of l.world e.member.class ≡ Some k → Contains ps (piece_of_member e)
+    pub method_there : (e : EmittedMethod) → Contains all e → (k : ClassDef) → class_of l.world e.member.class ≡ Some k → Contains ps (piece_of_member l.world e)
     method_there e i k found =
         let f = block_of e.member.class k found in
         let j : Contains f.block.methods e = (f.is_block.methods.exact e).1 (i, refl) in
-        whole f.block (piece_of_member e) f.among_blocks (in_block its_helpers f.block (piece_of_member e) (Contains-append_right f.block.own (map piece_of_member f.block.methods) (piece_of_member e) (into_map piece_of_member f.block.methods e j)))
+        whole f.block (piece_of_member l.world e) f.among_blocks (in_block l.world its_helpers f.block (piece_of_member l.world e) (Contains-append_right f.block.own (map (piece_of_member l.world) f.block.methods) (piece_of_member l.world e) (into_map (piece_of_member l.world) f.block.methods e j)))
 
     pub helper_there : (k : ClassDef) → class_of l.world object ≡ Some k → (h : Helper) → Contains p.helpers h → Contains ps (helper_piece p.above h)
     helper_there k found h i =
         let f = block_of object k found in
-        whole f.block (helper_piece p.above h) f.among_blocks (behind_object its_helpers f.block (helper_piece p.above h) (ap is_object f.is_block.class_is) (into_map (helper_piece p.above) p.helpers h i))
+        whole f.block (helper_piece p.above h) f.among_blocks (behind_object l.world its_helpers f.block (helper_piece p.above h) (ap is_object f.is_block.class_is) (into_map (helper_piece p.above) p.helpers h i))

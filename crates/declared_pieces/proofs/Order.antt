@@ -173,8 +173,8 @@ module _ (written : List Name) where
       tested : Piece
       tested = test_piece c p.instances (kind_of_class c all_kinds)
 
-  methods_each : (fs : List Name) (es : List EmittedMethod) → Each fs (map piece_of_member es)
-  methods_each fs es q i own = let m = from_map piece_of_member es q i in subst (λ (x : Piece). declares fs x.item ≡ true) m.is refl
+  methods_each : (w : Classes) (fs : List Name) (es : List EmittedMethod) → Each fs (map (piece_of_member w) es)
+  methods_each w fs es q i own = let m = from_map (piece_of_member w) es q i in subst (λ (x : Piece). declares fs x.item ≡ true) m.is refl
 
   helpers_each : (fs : List Name) (above : Above) (hs : List Helper) → ((h : Helper) → Contains hs h → is_covered h ≡ true) → Each fs (map (helper_piece above) hs)
   helpers_each fs above hs covered q i own = let m = from_map (helper_piece above) hs q i in subst (λ (x : Piece). declares fs x.item ≡ true) m.is (helper_declares fs above m.item (covered m.item m.among))
@@ -205,9 +205,9 @@ module _ (written : List Name) where
     abbrev Placed : List Name → List Name → Type 0
     Placed fs cs = (s : Name) → Live s → Contains written s → Contains cs s ⊎ (is_among fs (class_name s) ≡ true)
 
-    module _ (c : Name) (cs : List Name) (b : Block) (block : IsBlock l all c b) (before : (d : Name) → Contains cs d → StandsBefore w c d) (there : (q : Piece) → Contains (with_helpers its_helpers b) q → Contains ps q) (fs : List Name) (placed : Placed fs (c ∷ cs)) where
-      own_there : (q : Piece) → Contains b.own q → Contains (with_helpers its_helpers b) q
-      own_there q i = in_block its_helpers b q (Contains-append_left b.own (map piece_of_member b.methods) q i)
+    module _ (c : Name) (cs : List Name) (b : Block) (block : IsBlock l all c b) (before : (d : Name) → Contains cs d → StandsBefore w c d) (there : (q : Piece) → Contains (with_helpers w its_helpers b) q → Contains ps q) (fs : List Name) (placed : Placed fs (c ∷ cs)) where
+      own_there : (q : Piece) → Contains b.own q → Contains (with_helpers w its_helpers b) q
+      own_there q i = in_block w its_helpers b q (Contains-append_left b.own (map (piece_of_member w) b.methods) q i)
 
       -- what a class extends is declared in front of it
       extends_one : (p : Parts) → AreParts l c p → b.own ≡ pieces p → ExtendsOne fs p
@@ -239,14 +239,14 @@ module _ (written : List Name) where
       own_each_there (absent none is) = subst (Each fs) (sym is) (each_none fs)
       own_each_there (present p are is) = subst (Each fs) (sym is) (own_each fs p (extends_one p are is))
 
-      block_each : Each fs (with_helpers its_helpers b)
+      block_each : Each fs (with_helpers w its_helpers b)
       block_each = go (is_object b.class)
         where
-          block_itself : Each fs (pieces_of_block b)
-          block_itself = each_joined fs b.own (map piece_of_member b.methods) (own_each_there block.own) (methods_each fs b.methods)
+          block_itself : Each fs (pieces_of_block w b)
+          block_itself = each_joined fs b.own (map (piece_of_member w) b.methods) (own_each_there block.own) (methods_each w fs b.methods)
 
-          go : (t : Bool) → Each fs (if t then pieces_of_block b ++ its_helpers else pieces_of_block b)
-          go true = each_joined fs (pieces_of_block b) its_helpers block_itself (helpers_each fs above hs covered)
+          go : (t : Bool) → Each fs (if t then pieces_of_block w b ++ its_helpers else pieces_of_block w b)
+          go true = each_joined fs (pieces_of_block w b) its_helpers block_itself (helpers_each fs above hs covered)
           go false = block_itself
 
       declares_itself : (superclass : Option Name) (ms : List Member) → is_among (with_class (class_item_of c superclass ms) []) (class_name c) ≡ true
@@ -254,7 +254,7 @@ module _ (written : List Name) where
       declares_itself (Some s) ms = or_left (is_same_text (class_name c) (class_name c)) false (text-refl (class_name c))
 
       -- behind its block a class is declared, if it is live and owned
-      itself_given : (gs : List Name) → Gives (with_helpers its_helpers b) gs → Live c → Contains written c → is_among gs (class_name c) ≡ true
+      itself_given : (gs : List Name) → Gives (with_helpers w its_helpers b) gs → Live c → Contains written c → is_among gs (class_name c) ≡ true
       itself_given gs given live own =
           let k = live_there entries files w bytes a l.facts reached c live in
           let r = parts_of l c b.own k.0 k.1 block.own in
@@ -262,7 +262,7 @@ module _ (written : List Name) where
           let named : r.parts.class.name ≡ c = (class_found w c r.parts.class r.are.class_is).1 in
           given its_class (own_there its_class (subst (λ (qs : List Piece). Contains qs its_class) (sym r.own) (subst (λ (n : Name). Contains (pieces r.parts) (class_piece n r.parts.class.superclass r.parts.entries r.parts.fields)) named (class_there r.parts (r.are.live.1 live))))) ((among written c).1 own) (class_name c) (declares_itself r.parts.class.superclass (members c r.parts.class.superclass r.parts.entries r.parts.fields))
 
-      placed_behind : (gs : List Name) → Below fs gs → Gives (with_helpers its_helpers b) gs → Placed gs cs
+      placed_behind : (gs : List Name) → Below fs gs → Gives (with_helpers w its_helpers b) gs → Placed gs cs
       placed_behind gs below given s live own = go (placed s live own)
         where
           at_front : (c ≡ s) ⊎ Contains cs s → Contains cs s ⊎ (is_among gs (class_name s) ≡ true)
@@ -273,13 +273,13 @@ module _ (written : List Name) where
           go (inl i) = at_front (cons_cases c s cs i)
           go (inr h) = inr (below (class_name s) h)
 
-    blocks_declare : (cs : List Name) (bs : List Block) → AreBlocks l all cs bs → AreInOrder (StandsBefore w) cs → (fs : List Name) → Placed fs cs → ((q : Piece) → Contains (flat_map (with_helpers its_helpers) bs) q → Contains ps q) → declare fs (items_of written (flat_map (with_helpers its_helpers) bs)) ≡ true
+    blocks_declare : (cs : List Name) (bs : List Block) → AreBlocks l all cs bs → AreInOrder (StandsBefore w) cs → (fs : List Name) → Placed fs cs → ((q : Piece) → Contains (flat_map (with_helpers w its_helpers) bs) q → Contains ps q) → declare fs (items_of written (flat_map (with_helpers w its_helpers) bs)) ≡ true
     blocks_declare [] [] h o fs placed there = refl
     blocks_declare [] (b ∷ bs) h o fs placed there = absurd h
     blocks_declare (c ∷ cs) [] h o fs placed there = absurd h
     blocks_declare (c ∷ cs) (b ∷ bs) h o fs placed there =
-        let here = λ (q : Piece) (i : Contains (with_helpers its_helpers b) q). there q (Contains-append_left (with_helpers its_helpers b) (flat_map (with_helpers its_helpers) bs) q i) in
-        declare_joined fs (with_helpers its_helpers b) (flat_map (with_helpers its_helpers) bs) (block_each c cs b h.0 o.0 here fs placed) (λ gs below given. blocks_declare cs bs h.1 o.1 gs (placed_behind c cs b h.0 o.0 here fs placed gs below given) (λ q i. there q (Contains-append_right (with_helpers its_helpers b) (flat_map (with_helpers its_helpers) bs) q i)))
+        let here = λ (q : Piece) (i : Contains (with_helpers w its_helpers b) q). there q (Contains-append_left (with_helpers w its_helpers b) (flat_map (with_helpers w its_helpers) bs) q i) in
+        declare_joined fs (with_helpers w its_helpers b) (flat_map (with_helpers w its_helpers) bs) (block_each c cs b h.0 o.0 here fs placed) (λ gs below given. blocks_declare cs bs h.1 o.1 gs (placed_behind c cs b h.0 o.0 here fs placed gs below given) (λ q i. there q (Contains-append_right (with_helpers w its_helpers b) (flat_map (with_helpers w its_helpers) bs) q i)))
 
 pub pieces_are_declarations : PiecesAreDeclarations
 pieces_are_declarations entries files l all written ps bytes a reached p closed covered = subst (λ (qs : List Piece). declare [] (items_of written qs) ≡ true) (sym p.pieces_are) (blocks_declare written entries files l all ps bytes a reached closed p.above p.helpers covered p.classes p.blocks p.are_blocks p.are_classes.in_order [] placed (λ q i. subst (λ (qs : List Piece). Contains qs q) (sym p.pieces_are) i))

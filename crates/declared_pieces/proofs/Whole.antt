@@ -142,7 +142,7 @@ module _ (entries : List EntryPoint) (files : List SourceFile) (l : Linked) (all
     function_of = record {
       right = right_method entries files w bytes a all bodies has e i (run.are_built e i here);
       runs = ap running its_definition.first.has.namespace_is ∙ runs;
-      function = to_items written ps (piece_of_member e) (method_there l all ps p e i its_definition.class its_definition.is_class) here;
+      function = to_items written ps (piece_of_member l.world e) (method_there l all ps p e i its_definition.class its_definition.is_class) here;
     }
 
   -- a method of a class that is written, of this member

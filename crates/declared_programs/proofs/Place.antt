@@ -148,23 +148,23 @@ module _ (w : ir_world.World) (f : Name) (has : Usable) (is : List Item) (es : L
     parameters-are (x ∷ xs) = ap (λ ns. place.name (named x) ∷ ns) (parameters-are xs)
 
     abbrev code_at : Namespace → MethodDef → Term → js_meaning.Code
-    code_at n d e = record { parameters = with_receiver n (parameter_names (names_of d.params)); body = statement_templates variable_name label_name (completed n (body_code (is_mutable_in d e) d.result e)) }
+    code_at n d e = record { parameters = with_receiver n (parameter_names (names_of d.params)); body = statement_templates variable_name label_name has.target (completed n (body_code (is_mutable_in d e) d.result e)) }
 
-    alone_code : (n : Namespace) (d : MethodDef) (e : Term) → running n ≡ by_itself → code_at n d e ≡ function_of place d e
+    alone_code : (n : Namespace) (d : MethodDef) (e : Term) → running n ≡ by_itself → code_at n d e ≡ function_of place f d e
     alone_code PublicStatic d e r = λ i. record { parameters = parameters-are (names_of d.params) i; body = (code_at PublicStatic d e).body }
     alone_code PrivateStatic d e r = λ i. record { parameters = parameters-are (names_of d.params) i; body = (code_at PublicStatic d e).body }
     alone_code Public d e r = cc
     alone_code Private d e r = cc
     alone_code Constructor d e r = cc
 
-    received_code : (n : Namespace) (d : MethodDef) (e : Term) → running n ≡ on_receiver → code_at n d e ≡ function_on place d (body_of d e)
+    received_code : (n : Namespace) (d : MethodDef) (e : Term) → running n ≡ on_receiver → code_at n d e ≡ function_on place f d (body_of d e)
     received_code Public d e r = λ i. record { parameters = variable_name receiver ∷ parameters-are (names_of d.params) i; body = (code_at Public d e).body }
     received_code Private d e r = λ i. record { parameters = variable_name receiver ∷ parameters-are (names_of d.params) i; body = (code_at Public d e).body }
     received_code PublicStatic d e r = cc
     received_code PrivateStatic d e r = cc
     received_code Constructor d e r = cc
 
-    completing_code : (n : Namespace) (d : MethodDef) (e : Term) → running n ≡ completing → code_at n d e ≡ function_on place d (on_objects.constructor_body d e)
+    completing_code : (n : Namespace) (d : MethodDef) (e : Term) → running n ≡ completing → code_at n d e ≡ function_on place f d (on_objects.constructor_body d e)
     completing_code Constructor d e r = λ i. record { parameters = variable_name receiver ∷ parameters-are (names_of d.params) i; body = (code_at Constructor d e).body }
     completing_code Public d e r = cc
     completing_code Private d e r = cc
@@ -175,7 +175,7 @@ module _ (w : ir_world.World) (f : Name) (has : Usable) (is : List Item) (es : L
     code_there r m d = let n = d.right.definition.namespace in let k = d.right.definition in let c = code_at n k d.right.its_body in function_there (member_name m) c.parameters c.body d.function
 
     abbrev member_item : {r : Running} {m : MemberName} → FunctionDeclared w has is r m → Item
-    member_item {r} {m} d = (member_piece m (desugared_member d.right.definition d.right.its_body)).item
+    member_item {r} {m} d = (member_piece has.target m (desugared_member d.right.definition d.right.its_body)).item
 
     linked_here : (m : MemberName) → has.linked m ≡ true → Linked place m
     linked_here m l = let d = can.linked m l in record { definition = d.right.definition; its_body = d.right.its_body; found = d.right.found; has_body = d.right.has_body; parameters = d.right.parameters; result_is = d.right.result_is; emitted = code_there by_itself m d ∙ ap Some (alone_code d.right.definition.namespace d.right.definition d.right.its_body d.runs); rules = d.right.rules; reaches = reaches }
@@ -295,7 +295,7 @@ module _ (w : ir_world.World) (f : Name) (has : Usable) (is : List Item) (es : L
       }
 
       pub has_objects : HasObjects place
-      has_objects = record { linked = λ g m l. linked_here m l; received = λ g m l. runs_here m l; built = λ g m l. constructs_here m l; made = λ g c l. made_here c l; objects = λ g c l. object_here c l; field = λ g c x t l. field_here c x t l; statics = λ g c x t l. static_here c x t l; checked = λ g l. check_here l; divided = λ g o l. divided_here o l; boxes = λ g l. box_here l; each = omega arith; beyond = omega arith }
+      has_objects = record { linked = λ g m l. linked_here m l; received = λ g m l. runs_here m l; targets = λ g m l. laws.targets m l; built = λ g m l. constructs_here m l; made = λ g c l. made_here c l; objects = λ g c l. object_here c l; field = λ g c x t l. field_here c x t l; statics = λ g c x t l. static_here c x t l; checked = λ g l. check_here l; divided = λ g o l. divided_here o l; boxes = λ g l. box_here l; each = omega arith; beyond = omega arith }
 
     -- the state behind the declarations
     module _ (t : js.State) (hold : AllHold f t 0 is) where

@@ -44,7 +44,7 @@ running Constructor = completing
 pub record FunctionDeclared (w : World) (has : Usable) (is : List Item) (r : Running) (m : MemberName) : Type 0 where
   pub right : RightMember w has m
   pub runs : running right.definition.namespace ≡ r
-  pub function : Contains is (member_piece m (desugared_member right.definition right.its_body)).item
+  pub function : Contains is (member_piece has.target m (desugared_member right.definition right.its_body)).item
 
 -- a class whose objects can be made, its constants, and its class with the constructor of its own fields, which extends this one, if there is one
 pub record ClassDeclared (w : World) (has : Usable) (is : List Item) (c : Name) (superclass : Option Name) : Type 0 where

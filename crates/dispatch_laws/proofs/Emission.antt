@@ -2,7 +2,7 @@
 use Rattle.std.proofs.Common.{◌≡◌, Bool, true, false, List, [], ◌∷◌, Contains, Option, Some, None, Ok, if◌then◌else◌, refl, sym, ap, ◌∙◌, subst, inl, inr}
 use Rattle.std.proofs.lemmas.Bool.{cond-true}
 use Rattle.std.proofs.lemmas.List.Elements.{All-head, All-tail}
-use Rattle.emit_questions.specs.Calls.{if_public, calls_of_all}
+use Rattle.emit_questions.specs.Calls.{calls_of_all}
 use Rattle.emit_questions.specs.Task.{is_same_member, Targets, with_target, target_by, ask_targets, Emitted, emitted}
 use Rattle.emit_questions.proofs.Agree.{same_emitted}
 use Rattle.emit_questions.proofs.PublicCalls.{ArePublic, public_of_all}

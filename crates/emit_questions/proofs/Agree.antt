@@ -1,8 +1,8 @@
 -- Where calls run the same, the texts of expressions and statements are the same, and use the same.
-use Rattle.std.proofs.Common.{◌≡◌, List, [], ◌∷◌, ◌++◌, Contains, refl, sym, arith, codes}
+use Rattle.std.proofs.Common.{◌≡◌, List, [], ◌∷◌, ◌++◌, Contains, refl, arith, codes}
 use Rattle.std.proofs.lemmas.List.Elements.{Contains-append_left, Contains-append_right}
 use Rattle.js_tree.specs.Terms as js
-use Rattle.js_tree.specs.Terms.{Name, property_of, call_of, new_of, conditional_of, host_call, const_of, let_of, expression_statement, assign_name, assign_property, do_forever, switch_on}
+use Rattle.js_tree.specs.Terms.{property_of, call_of, new_of, conditional_of, host_call, const_of, let_of, expression_statement, assign_name, assign_property, do_forever, switch_on}
 use Rattle.js_tree.specs.declared.operators.HostFunction.TheVariants.{StringFromCharCode, ConsoleLog}
 use Rattle.sj_core.specs.Terms.{Expression, boxed_char, char_text, value_text, choice_of, static_call, field_of, checked_value, made_of, receiver_call, unary_of, binary_of, Expressions, no_expressions, expression, Statement, constant_of, define_of, declare_of, assign_to, evaluate_of, return_of, log_of, assign_field, assign_static, throw_of, leave_label, break_nearest, if_of, while_of, loop_of, labeled_of, switch_of, Statements, no_statements, statement, Cases, no_cases, switch_case, Method}
 use Rattle.sj_emit_expr.specs.Members.{function_parameters}

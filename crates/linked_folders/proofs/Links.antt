@@ -149,26 +149,26 @@ module _ (entries : List EntryPoint) (files : List SourceFile) (l : Linked) (all
     owner : (k : ClassDef) × (class_of w e.member.class ≡ Some k)
     owner = let d = defined w e.member e.definition (bodies.found e i).found in (d.class, d.is_class)
 
-    there : Contains ps (piece_of_member e)
+    there : Contains ps (piece_of_member l.world e)
     there = method_there l all ps p e i owner.0 owner.1
 
-    in_blocks : Contains (flat_map pieces_of_block p.blocks) (piece_of_member e)
+    in_blocks : Contains (flat_map (pieces_of_block l.world) p.blocks) (piece_of_member l.world e)
     in_blocks = search p.classes p.blocks p.are_blocks ((p.are_classes.exact e.member.class).1 (known owner.0 owner.1))
       where
         known : (k : ClassDef) → class_of w e.member.class ≡ Some k → is_some (class_of w e.member.class) ≡ true
         known k found = subst (λ (o : Option ClassDef). is_some o ≡ true) (sym found) refl
 
-        search : (cs : List Name) (bs : List Block) → AreBlocks l all cs bs → Contains cs e.member.class → Contains (flat_map pieces_of_block bs) (piece_of_member e)
+        search : (cs : List Name) (bs : List Block) → AreBlocks l all cs bs → Contains cs e.member.class → Contains (flat_map (pieces_of_block l.world) bs) (piece_of_member l.world e)
         search [] bs h j = nothing_in e.member.class j
         search (c ∷ cs) [] h j = absurd h
         search (c ∷ cs) (b ∷ bs) h j = go (cons_cases c e.member.class cs j) (search cs bs h.1)
           where
-            own : c ≡ e.member.class → Contains (pieces_of_block b) (piece_of_member e)
-            own same = Contains-append_right b.own (map piece_of_member b.methods) (piece_of_member e) (into_map piece_of_member b.methods e ((h.0.methods.exact e).1 (i, sym same)))
+            own : c ≡ e.member.class → Contains (pieces_of_block l.world b) (piece_of_member l.world e)
+            own same = Contains-append_right b.own (map (piece_of_member l.world) b.methods) (piece_of_member l.world e) (into_map (piece_of_member l.world) b.methods e ((h.0.methods.exact e).1 (i, sym same)))
 
-            go : (c ≡ e.member.class) ⊎ Contains cs e.member.class → (Contains cs e.member.class → Contains (flat_map pieces_of_block bs) (piece_of_member e)) → Contains (pieces_of_block b ++ flat_map pieces_of_block bs) (piece_of_member e)
-            go (inl same) rest = Contains-append_left (pieces_of_block b) (flat_map pieces_of_block bs) (piece_of_member e) (own same)
-            go (inr k) rest = Contains-append_right (pieces_of_block b) (flat_map pieces_of_block bs) (piece_of_member e) (rest k)
+            go : (c ≡ e.member.class) ⊎ Contains cs e.member.class → (Contains cs e.member.class → Contains (flat_map (pieces_of_block l.world) bs) (piece_of_member l.world e)) → Contains (pieces_of_block l.world b ++ flat_map (pieces_of_block l.world) bs) (piece_of_member l.world e)
+            go (inl same) rest = Contains-append_left (pieces_of_block l.world b) (flat_map (pieces_of_block l.world) bs) (piece_of_member l.world e) (own same)
+            go (inr k) rest = Contains-append_right (pieces_of_block l.world b) (flat_map (pieces_of_block l.world) bs) (piece_of_member l.world e) (rest k)
 
     its_owner : OwnerOf w e.member e.definition
     its_owner = owner_of w e.member e.definition (bodies.found e i).found
@@ -180,8 +180,8 @@ module _ (entries : List EntryPoint) (files : List SourceFile) (l : Linked) (all
   uses = record {
     are_facts = exact;
     are_live = lives;
-    owned = λ e i here b u. owned (piece_of_member e) (there e i) here b u;
-    helped = λ e i here h u. (p.are_helpers.exact h).1 (by_piece (piece_of_member e) h (in_blocks e i) u);
+    owned = λ e i here b u. owned (piece_of_member l.world e) (there e i) here b u;
+    helped = λ e i here h u. (p.are_helpers.exact h).1 (by_piece (piece_of_member l.world e) h (in_blocks e i) u);
   }
 
   thrown : (f : Failure) → Contains p.helpers (helpers.Throws f) → Contains written object → CanBeThrown all its_live written (failure_class f)

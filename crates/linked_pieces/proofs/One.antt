@@ -183,9 +183,9 @@ module _ (w : Classes) (kept : (c : ClassDef) → Contains w c → FirstBroken c
     one_list all others each ps qs one other =
         let cs : one.classes ≡ other.classes = one_classes w one.classes other.classes one.are_classes other.are_classes in
         let blocks : one.blocks ≡ other.blocks = one_blocks all others each other.classes one.blocks other.blocks (subst (λ xs. AreBlocks (with_facts known) all xs one.blocks) cs one.are_blocks) other.are_blocks in
-        let helpers : one.helpers ≡ other.helpers = one_helpers (flat_map pieces_of_block one.blocks) (flat_map pieces_of_block other.blocks) one.helpers other.helpers (ap (flat_map pieces_of_block) blocks) one.are_helpers other.are_helpers in
+        let helpers : one.helpers ≡ other.helpers = one_helpers (flat_map (pieces_of_block w) one.blocks) (flat_map (pieces_of_block w) other.blocks) one.helpers other.helpers (ap (flat_map (pieces_of_block w)) blocks) one.are_helpers other.are_helpers in
         let above : one.above ≡ other.above = (λ i k. one_ancestors w (kind_class k) (one.above k) (other.above k) (one.are_above k) (other.are_above k) i) in
-        one.pieces_are ∙ (λ i. flat_map (with_helpers (map (helper_piece (above i)) (helpers i))) (blocks i)) ∙ sym other.pieces_are
+        one.pieces_are ∙ (λ i. flat_map (with_helpers w (map (helper_piece (above i)) (helpers i))) (blocks i)) ∙ sym other.pieces_are
 
 pub are_one : LinkedPiecesAreOne
 are_one l m all more ps qs kept alike each one other =

@@ -1,6 +1,7 @@
 -- The pieces of a linked world in the order of a module: of each class its own and the functions of its methods, and behind those of `java.lang.Object` the helpers.
 use Rattle.std.specs.Prelude.{◌≡◌, ◌↔◌, List, [], ◌∷◌, ◌++◌, Contains, map, if◌then◌else◌}
 use Rattle.std.specs.List.{flat_map}
+use Rattle.dispatch_laws.specs.Targets.{target_in}
 use Rattle.helper_rules.specs.Helpers.{Above, helper_name, helper_piece, used_helpers}
 use Rattle.helper_rules.specs.Words.{helper, kind_class}
 use Rattle.helper_rules.specs.declared.kinds.Helper.{Helper}
@@ -17,9 +18,9 @@ use Rattle.sj_world.specs.Linked.{Linked}
 use Rattle.sj_world.specs.Tables.{AreAncestors}
 use Rattle.linked_pieces.specs.Order.{AreInOrder, AreClasses, AreMethodsOf}
 
--- the piece of a method
-abbrev pub piece_of_member : EmittedMethod → Piece
-piece_of_member e = member_piece e.member (desugared_member e.definition e.its_body)
+-- the piece of a method, whose calls run the targets of a world
+abbrev pub piece_of_member : Classes → EmittedMethod → Piece
+piece_of_member w e = member_piece (target_in w) e.member (desugared_member e.definition e.its_body)
 
 -- a class with its own pieces and the methods of which it has functions
 pub record Block : Type 0 where
@@ -27,8 +28,8 @@ pub record Block : Type 0 where
   pub own : List Piece
   pub methods : List EmittedMethod
 
-abbrev pub pieces_of_block : Block → List Piece
-pieces_of_block b = b.own ++ map piece_of_member b.methods
+abbrev pub pieces_of_block : Classes → Block → List Piece
+pieces_of_block w b = b.own ++ map (piece_of_member w) b.methods
 
 pub record IsBlock (l : Linked) (all : List EmittedMethod) (c : Name) (b : Block) : Type 0 where
   pub class_is : b.class ≡ c
@@ -59,8 +60,8 @@ abbrev pub AreAbove : Classes → Above → Type 0
 AreAbove w above = (k : Kind) → AreAncestors w (kind_class k) (above k)
 
 -- `java.lang.Object` has the helpers behind its own pieces
-abbrev pub with_helpers : List Piece → Block → List Piece
-with_helpers helpers b = if is_object b.class then pieces_of_block b ++ helpers else pieces_of_block b
+abbrev pub with_helpers : Classes → List Piece → Block → List Piece
+with_helpers w helpers b = if is_object b.class then pieces_of_block w b ++ helpers else pieces_of_block w b
 
 -- the pieces of a linked world, with functions of these methods
 pub record AreLinkedPieces (l : Linked) (all : List EmittedMethod) (ps : List Piece) : Type 0 where
@@ -69,7 +70,7 @@ pub record AreLinkedPieces (l : Linked) (all : List EmittedMethod) (ps : List Pi
   pub blocks : List Block
   pub are_blocks : AreBlocks l all classes blocks
   pub helpers : List Helper
-  pub are_helpers : AreHelpers (flat_map pieces_of_block blocks) helpers
+  pub are_helpers : AreHelpers (flat_map (pieces_of_block l.world) blocks) helpers
   pub above : Above
   pub are_above : AreAbove l.world above
-  pub pieces_are : ps ≡ flat_map (with_helpers (map (helper_piece above) helpers)) blocks
+  pub pieces_are : ps ≡ flat_map (with_helpers l.world (map (helper_piece above) helpers)) blocks

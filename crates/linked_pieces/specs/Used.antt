@@ -2,6 +2,7 @@
 use Rattle.std.specs.Prelude.{Bool, true, false, ◌&&◌, not, List, Option, Some, None}
 use Rattle.std.specs.List.{list_any}
 use Rattle.built_forms.specs.Built.{Usable, is_static, has_no_value}
+use Rattle.dispatch_laws.specs.Targets.{target_in}
 use Rattle.helper_rules.specs.Helpers.{helper_name}
 use Rattle.helper_rules.specs.declared.kinds.Helper.{Helper}
 use Rattle.sj_names.specs.WellKnown.{object}
@@ -55,11 +56,12 @@ abbrev pub needs_static : Name → Name → Fact → Bool
 needs_static c f (NeededField d g is_static) = is_static && (is_same_text c d && is_same_text f g)
 needs_static c f _ = false
 
--- what the code can use, of a world with these facts, methods, live classes and helpers, where the pieces of these classes are written: their members and
--- their constructors that have no value, their objects, each instance field of the world, their static fields that are needed, and the helpers
+-- what the code can use, of a world with these facts, methods, live classes and helpers, where the pieces of these classes are written: their members, a call of a public one running
+-- its target, and their constructors that have no value, their objects, each instance field of the world, their static fields that are needed, and the helpers
 abbrev pub used_of : Classes → List Fact → List EmittedMethod → List Name → List Helper → List Name → Usable
 used_of w facts all live helpers written = record {
   linked = λ m. is_static m.namespace && (is_among written m.class && has_function all m);
+  target = target_in w;
   received = λ m. is_received m.namespace && (is_among written m.class && has_function all m);
   built = λ m. is_constructor_without_value m && (is_among written m.class && has_function all m);
   made = λ c. is_among written c && is_among live c;

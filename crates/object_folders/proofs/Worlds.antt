@@ -1,4 +1,7 @@
 -- The world of an accepted folder has what the laws on objects ask.
+use Rattle.accepted_folders.proofs.Plain.{plain_world}
+use Rattle.accepted_folders.proofs.Topped.{topped}
+use Rattle.dispatch_laws.proofs.Running.{targets_run}
 use Rattle.std.proofs.Common.{◌≡◌, ◌&&◌, Bool, true, List, None, sym, subst, Contains}
 use Rattle.std.proofs.lemmas.Bool.{and_parts}
 use Rattle.std.specs.List.{list_any}
@@ -49,6 +52,7 @@ carry entries files w facts all live helpers written bytes a bodies run = record
   kept = kept;
   acyclic = a.world.no_cycle;
   received = member_right entries files w facts all live helpers written bytes a bodies run (λ m. is_received m.namespace);
+  targets = λ m h. targets_run w (topped w (plain_world w kept.superclass kept.hijacked)) m;
   built = member_right entries files w facts all live helpers written bytes a bodies run is_constructor_without_value;
   once = λ receivers. once entries files w bytes a;
   made = λ c h. let p = and_parts (is_among written c) (is_among live c) h in live_free w entries a.resolved kept facts run.reached c (run.are_live c ((among live c).0 p.1));

@@ -13,7 +13,7 @@ use Rattle.js_tree.specs.declared.items.Binding.{Binding}
 use Rattle.proper_pieces.proofs.Names.{function_rank}
 use Rattle.sj_core.specs.Terms as core
 use Rattle.sj_desugar.specs.Desugar.{member, desugared_member, body_code, completed, is_mutable_in, result_destination}
-use Rattle.sj_emit_expr.specs.Templates.{check_name}
+use Rattle.sj_emit_expr.specs.Templates.{check_name, called_member}
 use Rattle.sj_emit_expr.specs.Uses.{object_binding, function_binding, class_use, static_use, setter_use, helper_of, uses_of_all, is_same_binding, once_each, uses}
 use Rattle.sj_infos.specs.Infos.{asks, asked_in, of_receiver, of_static_call, of_division, is_other_than_zero, null_pointer, arithmetic}
 use Rattle.sj_infos.specs.Infos as infos
@@ -56,7 +56,7 @@ Only P b = (h : Helper) → b ≡ helper (helper_name h) → P h
 pub only_function : (P : Helper → Type 0) (m : Member) → Only P (function_binding m)
 only_function P m h e = no_helper (function_binding m) 9 (function_rank m.namespace m.class m.method) refl h e
 
-module _ (c : ClassDef) (d : MethodDef) (e : Term) (body : d.body ≡ Some e) (kept : KeepsTreeRules c d) where
+module _ (runs : Member → Member) (c : ClassDef) (d : MethodDef) (e : Term) (body : d.body ≡ Some e) (kept : KeepsTreeRules c d) where
   abbrev asked : List Info
   asked = asked_in e
 
@@ -102,24 +102,24 @@ module _ (c : ClassDef) (d : MethodDef) (e : Term) (body : d.body ≡ Some e) (k
   division_asks : (o : BinaryOp) (b : Term) → (infos.divides o && not (is_other_than_zero b)) ≡ true → Contains (of_division o b) (Throws (codes "java.lang.ArithmeticException"))
   division_asks o b h = subst (λ (v : Bool). Contains (if v then arithmetic else []) (Throws (codes "java.lang.ArithmeticException"))) (sym h) (here (Throws (codes "java.lang.ArithmeticException")) [])
 
-  brings : (t : Term) → Contains (trees e) t → Brings Q box sure t
+  brings : (t : Term) → Contains (trees e) t → Brings Q runs box sure t
   brings (apply_static p k n m ts t) among = only_function (UsesIt asked) (member k n m)
-  brings (apply_statically p r k n m ts t) among = (only_function (UsesIt asked) (member k n m), λ u. check (told (apply_statically p r k n m ts t) among (Throws (codes "java.lang.NullPointerException")) (Contains-append_right (of_static_call k n m) (of_receiver names r) (Throws (codes "java.lang.NullPointerException")) (receiver_asks r u))))
+  brings (apply_statically p r k n m ts t) among = (only_function (UsesIt asked) (called_member runs n (member k n m)), λ u. check (told (apply_statically p r k n m ts t) among (Throws (codes "java.lang.NullPointerException")) (Contains-append_right (of_static_call k n m) (of_receiver names r) (Throws (codes "java.lang.NullPointerException")) (receiver_asks r u))))
   brings (new_object p k m ts) among = (only_function (UsesIt asked) (member k Constructor m), λ h same. no_helper (class_use k) 1 refl refl h same)
   brings (select p r k f t) among = λ u. check (told (select p r k f t) among (Throws (codes "java.lang.NullPointerException")) (there (Field k f false) (of_receiver names r) (Throws (codes "java.lang.NullPointerException")) (receiver_asks r u)))
   brings (select_static p k f t) among = (λ h same. no_helper (static_use k f) 2 refl refl h same, λ h same. no_helper (setter_use k f) 3 refl refl h same)
   brings (binary_op p o a b) among = λ n. divided o (binary_op p o a b) a b (λ h. told (binary_op p o a b) among (Throws (codes "java.lang.ArithmeticException")) (division_asks o b h)) n
   brings _ among = tt
 
-  completed_in : (n : Namespace) (ss : core.Statements) → All Q (uses_of_all ss) → All Q (uses_of_all (completed n ss))
-  completed_in Constructor ss h = followed_in Q box ss (core.statement (core.return_of None (core.variable_use core.receiver)) core.no_statements) h (All-nil Q)
+  completed_in : (n : Namespace) (ss : core.Statements) → All Q (uses_of_all runs ss) → All Q (uses_of_all runs (completed n ss))
+  completed_in Constructor ss h = followed_in Q runs box ss (core.statement (core.return_of None (core.variable_use core.receiver)) core.no_statements) h (All-nil Q)
   completed_in Public ss h = h
   completed_in PublicStatic ss h = h
   completed_in Private ss h = h
   completed_in PrivateStatic ss h = h
 
-  pub all_used : All Q (uses (desugared_member d e).body)
-  all_used = once_in Q [] (uses_of_all (desugared_member d e).body) (completed_in d.namespace (body_code (is_mutable_in d e) d.result e) (tree Q box sure (is_mutable_in d e) e (all_from (Brings Q box sure) (trees e) brings) [] (result_destination d.result) 1))
+  pub all_used : All Q (uses runs (desugared_member d e).body)
+  all_used = once_in Q [] (uses_of_all runs (desugared_member d e).body) (completed_in d.namespace (body_code (is_mutable_in d e) d.result e) (tree Q runs box sure (is_mutable_in d e) e (all_from (Brings Q runs box sure) (trees e) brings) [] (result_destination d.result) 1))
 
 pub used : BodiesUseObjectHelpers
-used c d e h body kept i = All-contains (Only (UsesIt (asked_in e))) (uses (desugared_member d e).body) (helper (helper_name h)) (all_used c d e body kept) i h refl
+used runs c d e h body kept i = All-contains (Only (UsesIt (asked_in e))) (uses runs (desugared_member d e).body) (helper (helper_name h)) (all_used runs c d e body kept) i h refl

@@ -1,4 +1,5 @@
 -- What the code of a tree uses is what its trees bring, one by one.
+use Rattle.sj_names.specs.declared.method_names.Member.{Member}
 use Rattle.std.proofs.Common.{◌≡◌, ℕ, zero, suc, Bool, true, false, List, [], ◌∷◌, ◌++◌, ◌&&◌, Some, None, refl, sym, ap, ◌∙◌, codes, if◌then◌else◌}
 use Rattle.std.specs.Prelude.{not, pos, negsuc}
 use Rattle.std.specs.List.{All}
@@ -13,7 +14,7 @@ use Rattle.sj_desugar.specs.Desugar.{operand, receiver, received, received_text,
 use Rattle.sj_desugar.specs.Plain.{is_plain}
 use Rattle.sj_desugar.specs.Spill.{Destination, discard, to_variable, to_result, Code, one, put_first, Operand, all_plain, texts, Spilled, spill, spill_case, then_use}
 use Rattle.sj_desugar.specs.Texts.{text_of, operand_of}
-use Rattle.sj_emit_expr.specs.Templates.{check_name, is_nonzero_literal}
+use Rattle.sj_emit_expr.specs.Templates.{check_name, is_nonzero_literal, called_member}
 use Rattle.sj_emit_expr.specs.Uses.{object_binding, function_binding, class_use, static_use, setter_use, helper_of, uses_in, uses_in_all, uses_of, uses_of_all, uses_of_cases}
 use Rattle.sj_infos.specs.Infos.{is_other_than_zero}
 use Rattle.sj_infos.specs.Trees.{trees, below, all_below, cases_below}
@@ -81,12 +82,12 @@ second_case false false false a o j p = last_text o (a.code (to_variable (core.n
 second_text : (a o : Operand) (j : ℕ) → o.plain ≡ true → second_of (spill (a ∷ o ∷ []) j).expressions ≡ o.text
 second_text a o j p = second_case (a.plain && (o.plain && true)) a.fixed a.plain a o j p
 
-module _ (Q : Binding → Type 0) (box : Q (object_binding (codes "$C"))) where
+module _ (Q : Binding → Type 0) (runs : Member → Member) (box : Q (object_binding (codes "$C"))) where
   abbrev In : Expression → Type 0
-  In e = All Q (uses_in e)
+  In e = All Q (uses_in runs e)
 
   abbrev Within : core.Statements → Type 0
-  Within ss = All Q (uses_of_all ss)
+  Within ss = All Q (uses_of_all runs ss)
 
   none : All Q []
   none = All-nil Q
@@ -94,15 +95,15 @@ module _ (Q : Binding → Type 0) (box : Q (object_binding (codes "$C"))) where
   join : (xs ys : List Binding) → All Q xs → All Q ys → All Q (xs ++ ys)
   join = combine Q
 
-  alone : (s : core.Statement) → All Q (uses_of s) → Within (core.statement s core.no_statements)
-  alone s h = join (uses_of s) [] h none
+  alone : (s : core.Statement) → All Q (uses_of runs s) → Within (core.statement s core.no_statements)
+  alone s h = join (uses_of runs s) [] h none
 
   pub followed_in : (a b : core.Statements) → Within a → Within b → Within (followed a b)
   followed_in core.no_statements b h k = k
-  followed_in (core.statement s ss) b h k = join (uses_of s) (uses_of_all (followed ss b)) (ahead Q (uses_of s) (uses_of_all ss) h) (followed_in ss b (after Q (uses_of s) (uses_of_all ss) h) k)
+  followed_in (core.statement s ss) b h k = join (uses_of runs s) (uses_of_all runs (followed ss b)) (ahead Q (uses_of runs s) (uses_of_all runs ss) h) (followed_in ss b (after Q (uses_of runs s) (uses_of_all runs ss) h) k)
 
   boxed_in : (boxed : Bool) (e : Expression) → In e → In (if boxed then core.boxed_char e else e)
-  boxed_in true e h = All-cons Q (object_binding (codes "$C")) (uses_in e) box h
+  boxed_in true e h = All-cons Q (object_binding (codes "$C")) (uses_in runs e) box h
   boxed_in false e h = h
 
   coerced_in : (t u : IrType) (e : Expression) → In e → In (coerced t u e)
@@ -121,15 +122,15 @@ module _ (Q : Binding → Type 0) (box : Q (object_binding (codes "$C"))) where
   EachIn [] = Unit {0}
   EachIn (e ∷ es) = In e × EachIn es
 
-  each_in : (es : List Expression) → EachIn es → All Q (uses_in_all (expressions_of es))
+  each_in : (es : List Expression) → EachIn es → All Q (uses_in_all runs (expressions_of es))
   each_in [] h = none
-  each_in (e ∷ es) h = join (uses_in e) (uses_in_all (expressions_of es)) h.0 (each_in es h.1)
+  each_in (e ∷ es) h = join (uses_in runs e) (uses_in_all runs (expressions_of es)) h.0 (each_in es h.1)
 
-  arguments_in : (rs : List TypeRef) (ts : List IrType) (es : List Expression) → EachIn es → All Q (uses_in_all (expressions_of (coerced_arguments rs ts es)))
+  arguments_in : (rs : List TypeRef) (ts : List IrType) (es : List Expression) → EachIn es → All Q (uses_in_all runs (expressions_of (coerced_arguments rs ts es)))
   arguments_in [] ts es h = each_in es h
   arguments_in (r ∷ rs) [] es h = each_in es h
   arguments_in (r ∷ rs) (t ∷ ts) [] h = none
-  arguments_in (r ∷ rs) (t ∷ ts) (e ∷ es) h = join (uses_in (coerced (reference_type r) t e)) (uses_in_all (expressions_of (coerced_arguments rs ts es))) (coerced_in (reference_type r) t e h.0) (arguments_in rs ts es h.1)
+  arguments_in (r ∷ rs) (t ∷ ts) (e ∷ es) h = join (uses_in runs (coerced (reference_type r) t e)) (uses_in_all runs (expressions_of (coerced_arguments rs ts es))) (coerced_in (reference_type r) t e h.0) (arguments_in rs ts es h.1)
 
   first_in : (es : List Expression) → EachIn es → In (first_of es)
   first_in [] h = none
@@ -152,7 +153,7 @@ module _ (Q : Binding → Type 0) (box : Q (object_binding (codes "$C"))) where
     -- what one tree brings
     abbrev pub Brings : Term → Type 0
     Brings (apply_static p c n m ts t) = Q (function_binding (member c n m))
-    Brings (apply_statically p e c n m ts t) = Q (function_binding (member c n m)) × (is_sure sure e ≡ false → Q (object_binding check_name))
+    Brings (apply_statically p e c n m ts t) = Q (function_binding (called_member runs n (member c n m))) × (is_sure sure e ≡ false → Q (object_binding check_name))
     Brings (new_object p c m ts) = Q (function_binding (member c Constructor m)) × Q (class_use c)
     Brings (select p e c f t) = is_sure sure e ≡ false → Q (object_binding check_name)
     Brings (select_static p c f t) = Q (static_use c f) × Q (setter_use c f)
@@ -179,7 +180,7 @@ module _ (Q : Binding → Type 0) (box : Q (object_binding (codes "$C"))) where
 
     received_in : (known : Bool) (e : Expression) → (known ≡ false → Q (object_binding check_name)) → In e → In (received_text known e)
     received_in true e q h = h
-    received_in false e q h = All-cons Q (object_binding check_name) (uses_in e) (q refl) h
+    received_in false e q h = All-cons Q (object_binding check_name) (uses_in runs e) (q refl) h
 
     -- the expression of a right operand is its own, where that is a literal other than zero
     helper_in : (o : BinaryOp) (d : Term) (e : Expression) → (is_other_than_zero d ≡ true → e ≡ expression_of sure d) → (is_other_than_zero d ≡ false → All Q (helper_of false o)) → All Q (helper_of (is_nonzero_literal (operand_of o (type_of_term d) e)) o)
@@ -201,7 +202,7 @@ module _ (Q : Binding → Type 0) (box : Q (object_binding (codes "$C"))) where
         let left = operand_of o (type_of_term e) x in
         let right = operand_of o (type_of_term d) y in
         let helper = helper_of (is_nonzero_literal right) o in
-        join (helper ++ uses_in left) (uses_in right) (join helper (uses_in left) (helper_in o d y text brought) (operand_in o (type_of_term e) x h)) (operand_in o (type_of_term d) y k)
+        join (helper ++ uses_in runs left) (uses_in runs right) (join helper (uses_in runs left) (helper_in o d y text brought) (operand_in o (type_of_term e) x h)) (operand_in o (type_of_term d) y k)
 
     mutual
       expression_in : (t : Term) → Each (trees t) → In (expression_of sure t)
@@ -209,18 +210,18 @@ module _ (Q : Binding → Type 0) (box : Q (object_binding (codes "$C"))) where
           let g0 = three c a b (inner (if_then p c a b t) g) in
           let left = coerced t (type_of_term a) (expression_of sure a) in
           let right = coerced t (type_of_term b) (expression_of sure b) in
-          join (uses_in (expression_of sure c) ++ uses_in left) (uses_in right) (join (uses_in (expression_of sure c)) (uses_in left) (expression_in c g0.0) (coerced_in t (type_of_term a) (expression_of sure a) (expression_in a g0.1.0))) (coerced_in t (type_of_term b) (expression_of sure b) (expression_in b g0.1.1))
-      expression_in (apply_static p c n m ts t) g = All-cons Q (function_binding (member c n m)) (uses_in_all (expressions_of (coerced_arguments m.params (types_of ts) (all_expressions sure ts)))) (own (apply_static p c n m ts t) g) (arguments_in m.params (types_of ts) (all_expressions sure ts) (expressions_in ts (inner (apply_static p c n m ts t) g)))
+          join (uses_in runs (expression_of sure c) ++ uses_in runs left) (uses_in runs right) (join (uses_in runs (expression_of sure c)) (uses_in runs left) (expression_in c g0.0) (coerced_in t (type_of_term a) (expression_of sure a) (expression_in a g0.1.0))) (coerced_in t (type_of_term b) (expression_of sure b) (expression_in b g0.1.1))
+      expression_in (apply_static p c n m ts t) g = All-cons Q (function_binding (member c n m)) (uses_in_all runs (expressions_of (coerced_arguments m.params (types_of ts) (all_expressions sure ts)))) (own (apply_static p c n m ts t) g) (arguments_in m.params (types_of ts) (all_expressions sure ts) (expressions_in ts (inner (apply_static p c n m ts t) g)))
       expression_in (apply_statically p e c n m ts t) g =
           let tree = apply_statically p e c n m ts t in
           let g0 = call e ts (inner tree g) in
           let text = received_text (is_sure sure e) (expression_of sure e) in
           let target = coerced_receiver (type_of_term e) text in
-          let arguments = uses_in_all (expressions_of (coerced_arguments m.params (types_of ts) (all_expressions sure ts))) in
-          All-cons Q (function_binding (member c n m)) (uses_in target ++ arguments) (own tree g).0 (join (uses_in target) arguments (coerced_in (IrType.Class (codes "java.lang.Character")) (type_of_term e) text (received_in (is_sure sure e) (expression_of sure e) (own tree g).1 (expression_in e g0.0))) (arguments_in m.params (types_of ts) (all_expressions sure ts) (expressions_in ts g0.1)))
+          let arguments = uses_in_all runs (expressions_of (coerced_arguments m.params (types_of ts) (all_expressions sure ts))) in
+          All-cons Q (function_binding (called_member runs n (member c n m))) (uses_in runs target ++ arguments) (own tree g).0 (join (uses_in runs target) arguments (coerced_in (IrType.Class (codes "java.lang.Character")) (type_of_term e) text (received_in (is_sure sure e) (expression_of sure e) (own tree g).1 (expression_in e g0.0))) (arguments_in m.params (types_of ts) (all_expressions sure ts) (expressions_in ts g0.1)))
       expression_in (new_object p c m ts) g =
           let tree = new_object p c m ts in
-          let arguments = uses_in_all (expressions_of (coerced_arguments m.params (types_of ts) (all_expressions sure ts))) in
+          let arguments = uses_in_all runs (expressions_of (coerced_arguments m.params (types_of ts) (all_expressions sure ts))) in
           All-cons Q (function_binding (member c Constructor m)) (class_use c ∷ arguments) (own tree g).0 (All-cons Q (class_use c) arguments (own tree g).1 (arguments_in m.params (types_of ts) (all_expressions sure ts) (expressions_in ts (inner tree g))))
       expression_in (select p e c f t) g = received_in (is_sure sure e) (expression_of sure e) (own (select p e c f t) g) (expression_in e (inner (select p e c f t) g))
       expression_in (select_static p c f t) g = All-cons Q (static_use c f) [] (own (select_static p c f t) g).0 none
@@ -250,7 +251,7 @@ module _ (Q : Binding → Type 0) (box : Q (object_binding (codes "$C"))) where
     case_in : (all fixed plain : Bool) (o : Operand) (os : List Operand) (j : ℕ) → OperandsIn (o ∷ os) → ((j : ℕ) → SpilledIn (spill os j)) → SpilledIn (spill_case all fixed plain o os (spill os) j)
     case_in true fixed plain o os j h rest = (none, (h.0.0, texts_in os h.1))
     case_in false true plain o os j h rest = let r = rest j in (r.0, (h.0.0, r.1))
-    case_in false false true o os j h rest = let r = rest (suc j) in (join (uses_in o.text) (uses_of_all (spill os (suc j)).statements) h.0.0 r.0, (none, r.1))
+    case_in false false true o os j h rest = let r = rest (suc j) in (join (uses_in runs o.text) (uses_of_all runs (spill os (suc j)).statements) h.0.0 r.0, (none, r.1))
     case_in false false false o os j h rest =
         let c : Code = o.code (to_variable (core.numbered j) o.tpe) (suc j) in
         let r = rest c.next in
@@ -266,7 +267,7 @@ module _ (Q : Binding → Type 0) (box : Q (object_binding (codes "$C"))) where
         let s = spill_in os h j in
         followed_in r.statements (made r.expressions r.next).statements s.0 (k r.next s.1)
 
-    value_in : (quiet : Bool) (p : Position) (e : Expression) (s : core.Statement) (j : ℕ) → In e → All Q (uses_of s) → Within (elim quiet as (λ b. Code) [ true ↦ one (core.evaluate_of (Some p) e) j | false ↦ one s j ]).statements
+    value_in : (quiet : Bool) (p : Position) (e : Expression) (s : core.Statement) (j : ℕ) → In e → All Q (uses_of runs s) → Within (elim quiet as (λ b. Code) [ true ↦ one (core.evaluate_of (Some p) e) j | false ↦ one s j ]).statements
     value_in true p e s j h k = alone (core.evaluate_of (Some p) e) h
     value_in false p e s j h k = alone s k
 
@@ -278,7 +279,7 @@ module _ (Q : Binding → Type 0) (box : Q (object_binding (codes "$C"))) where
 
     receiver_in : (known : Bool) (o : Operand) → (known ≡ false → Q (object_binding check_name)) → OperandIn o → OperandIn (received known o)
     receiver_in true o q h = h
-    receiver_in false o q h = (All-cons Q (object_binding check_name) (uses_in o.text) (q refl) h.0, λ x t j. use_in (o ∷ []) (h, tt) j (λ es. finish (to_variable x t) o.at o.tpe false (core.checked_value (first_of es))) (λ i f. finish_in (to_variable x t) o.at o.tpe false (core.checked_value (first_of (spill (o ∷ []) j).expressions)) i (All-cons Q (object_binding check_name) (uses_in (first_of (spill (o ∷ []) j).expressions)) (q refl) (first_in (spill (o ∷ []) j).expressions f))))
+    receiver_in false o q h = (All-cons Q (object_binding check_name) (uses_in runs o.text) (q refl) h.0, λ x t j. use_in (o ∷ []) (h, tt) j (λ es. finish (to_variable x t) o.at o.tpe false (core.checked_value (first_of es))) (λ i f. finish_in (to_variable x t) o.at o.tpe false (core.checked_value (first_of (spill (o ∷ []) j).expressions)) i (All-cons Q (object_binding check_name) (uses_in runs (first_of (spill (o ∷ []) j).expressions)) (q refl) (first_in (spill (o ∷ []) j).expressions f))))
 
     labeled_in : (k : Destination) (p : Position) (l : List ℕ) (c : Code) → Within c.statements → Within (labeled_code k p l c).statements
     labeled_in (to_result t) p l c h = h
@@ -294,15 +295,15 @@ module _ (Q : Binding → Type 0) (box : Q (object_binding (codes "$C"))) where
     either_in true c d h k = h
     either_in false c d h k = k
 
-    break_in : (e : Expression) → In e → All Q (uses_of (break_unless e))
-    break_in e h = join (uses_in e ++ []) [] (join (uses_in e) [] h none) none
+    break_in : (e : Expression) → In e → All Q (uses_of runs (break_unless e))
+    break_in e h = join (uses_in runs e ++ []) [] (join (uses_in runs e) [] h none) none
 
     -- a branch on what is first
     branch_in : (p : Position) (e : Expression) (first second : core.Statements) → In e → Within first → Within second → Within (core.statement (core.if_of (Some p) e first second) core.no_statements)
-    branch_in p e first second h k l = alone (core.if_of (Some p) e first second) (join (uses_in e ++ uses_of_all first) (uses_of_all second) (join (uses_in e) (uses_of_all first) h k) l)
+    branch_in p e first second h k l = alone (core.if_of (Some p) e first second) (join (uses_in runs e ++ uses_of_all runs first) (uses_of_all runs second) (join (uses_in runs e) (uses_of_all runs first) h k) l)
 
-    switch_in : (p : Position) (e : Expression) (cs : core.Cases) (ss : core.Statements) → In e → All Q (uses_of_cases cs) → Within ss → Within (core.statement (core.switch_of (Some p) e cs ss) core.no_statements)
-    switch_in p e cs ss h k l = alone (core.switch_of (Some p) e cs ss) (join (uses_in e ++ uses_of_cases cs) (uses_of_all ss) (join (uses_in e) (uses_of_cases cs) h k) l)
+    switch_in : (p : Position) (e : Expression) (cs : core.Cases) (ss : core.Statements) → In e → All Q (uses_of_cases runs cs) → Within ss → Within (core.statement (core.switch_of (Some p) e cs ss) core.no_statements)
+    switch_in p e cs ss h k l = alone (core.switch_of (Some p) e cs ss) (join (uses_in runs e ++ uses_of_cases runs cs) (uses_of_all runs ss) (join (uses_in runs e) (uses_of_cases runs cs) h k) l)
 
     module _ (is_mutable : List ℕ → Bool) where
       abbrev TreeIn : Term → Type 0
@@ -339,14 +340,14 @@ module _ (Q : Binding → Type 0) (box : Q (object_binding (codes "$C"))) where
             let gd = inner target g0.0 in
             let os : List Operand = receiver_for ts d ∷ operand_for ts e ∷ [] in
             let xs = (spill os j).expressions in
-            use_in os (target_in d (own target g0.0) gd (tree d gd) ts, (part_in e g0.1 (tree e g0.1) ts, tt)) j (λ es. one (core.assign_field (Some p) (first_of es) c f (coerced t (type_of_term e) (second_of es)))) (λ i r. alone (core.assign_field (Some p) (first_of xs) c f (coerced t (type_of_term e) (second_of xs))) (join (uses_in (first_of xs)) (uses_in (coerced t (type_of_term e) (second_of xs))) (first_in xs r) (coerced_in t (type_of_term e) (second_of xs) (second_in xs r))))
-        tree (assign p (select_static q c f t) e) g ts k j = let g0 = two (select_static q c f t) e (inner (assign p (select_static q c f t) e) g) in act_in e g0.1 (tree e g0.1) ts j (λ es. one (core.assign_static (Some p) c f (coerced t (type_of_term e) (first_of es)))) (λ x i r. alone (core.assign_static (Some p) c f (coerced t (type_of_term e) (first_of x))) (All-cons Q (setter_use c f) (uses_in (coerced t (type_of_term e) (first_of x))) (own (select_static q c f t) g0.0).1 (coerced_in t (type_of_term e) (first_of x) r)))
+            use_in os (target_in d (own target g0.0) gd (tree d gd) ts, (part_in e g0.1 (tree e g0.1) ts, tt)) j (λ es. one (core.assign_field (Some p) (first_of es) c f (coerced t (type_of_term e) (second_of es)))) (λ i r. alone (core.assign_field (Some p) (first_of xs) c f (coerced t (type_of_term e) (second_of xs))) (join (uses_in runs (first_of xs)) (uses_in runs (coerced t (type_of_term e) (second_of xs))) (first_in xs r) (coerced_in t (type_of_term e) (second_of xs) (second_in xs r))))
+        tree (assign p (select_static q c f t) e) g ts k j = let g0 = two (select_static q c f t) e (inner (assign p (select_static q c f t) e) g) in act_in e g0.1 (tree e g0.1) ts j (λ es. one (core.assign_static (Some p) c f (coerced t (type_of_term e) (first_of es)))) (λ x i r. alone (core.assign_static (Some p) c f (coerced t (type_of_term e) (first_of x))) (All-cons Q (setter_use c f) (uses_in runs (coerced t (type_of_term e) (first_of x))) (own (select_static q c f t) g0.0).1 (coerced_in t (type_of_term e) (first_of x) r)))
         tree (return_to p e l) g ts k j = leaving_in (target_of ts l) p l (into is_mutable sure ts (target_of ts l) j e) (tree e (inner (return_to p e l) g) ts (target_of ts l) j)
         tree (if_then p c a b t) g ts k j = let g0 = three c a b (inner (if_then p c a b t) g) in act_in c g0.0 (tree c g0.0) ts j (λ es j. branches p (first_of es) (into is_mutable sure ts k j a) (λ j. into is_mutable sure ts k j b)) (λ x i f. branch_in p (first_of x) (into is_mutable sure ts k i a).statements (into is_mutable sure ts k (into is_mutable sure ts k i a).next b).statements f (tree a g0.1.0 ts k i) (tree b g0.1.1 ts k (into is_mutable sure ts k i a).next))
         tree (while_loop p c b) g ts k j =
             let g0 = two c b (inner (while_loop p c b) g) in
             let made : List Expression → ℕ → Code = (λ es j. put_first (break_unless (first_of es)) (into is_mutable sure ts discard j b)) in
-            either_in (is_plain c) (wrapped (core.while_of (Some p) (expression_of sure c)) (into is_mutable sure ts discard j b)) (wrapped (core.while_of (Some p) (core.boolean_value true)) (then_use (spill (operand_for ts c ∷ []) j) made)) (alone (core.while_of (Some p) (expression_of sure c) (into is_mutable sure ts discard j b).statements) (join (uses_in (expression_of sure c)) (uses_of_all (into is_mutable sure ts discard j b).statements) (expression_in c g0.0) (tree b g0.1 ts discard j))) (alone (core.while_of (Some p) (core.boolean_value true) (then_use (spill (operand_for ts c ∷ []) j) made).statements) (act_in c g0.0 (tree c g0.0) ts j made (λ x i f. join (uses_of (break_unless (first_of x))) (uses_of_all (into is_mutable sure ts discard i b).statements) (break_in (first_of x) f) (tree b g0.1 ts discard i))))
+            either_in (is_plain c) (wrapped (core.while_of (Some p) (expression_of sure c)) (into is_mutable sure ts discard j b)) (wrapped (core.while_of (Some p) (core.boolean_value true)) (then_use (spill (operand_for ts c ∷ []) j) made)) (alone (core.while_of (Some p) (expression_of sure c) (into is_mutable sure ts discard j b).statements) (join (uses_in runs (expression_of sure c)) (uses_of_all runs (into is_mutable sure ts discard j b).statements) (expression_in c g0.0) (tree b g0.1 ts discard j))) (alone (core.while_of (Some p) (core.boolean_value true) (then_use (spill (operand_for ts c ∷ []) j) made).statements) (act_in c g0.0 (tree c g0.0) ts j made (λ x i f. join (uses_of runs (break_unless (first_of x))) (uses_of_all runs (into is_mutable sure ts discard i b).statements) (break_in (first_of x) f) (tree b g0.1 ts discard i))))
         tree (do_while p b c) g ts k j =
             let g0 = two b c (inner (do_while p b c) g) in
             let body : Code = into is_mutable sure ts discard j b in
@@ -362,7 +363,7 @@ module _ (Q : Binding → Type 0) (box : Q (object_binding (codes "$C"))) where
             let os : List Operand = operands is_mutable sure ts es in
             let xs = (spill os j).expressions in
             let arguments = expressions_of (coerced_arguments m.params (types_of es) xs) in
-            use_in os (operands_in es (inner own_tree g) ts) j (λ xs. finish k p t false (core.static_call (member c n m) (expressions_of (coerced_arguments m.params (types_of es) xs)))) (λ i r. finish_in k p t false (core.static_call (member c n m) arguments) i (All-cons Q (function_binding (member c n m)) (uses_in_all arguments) (own own_tree g) (arguments_in m.params (types_of es) xs r)))
+            use_in os (operands_in es (inner own_tree g) ts) j (λ xs. finish k p t false (core.static_call (member c n m) (expressions_of (coerced_arguments m.params (types_of es) xs)))) (λ i r. finish_in k p t false (core.static_call (member c n m) arguments) i (All-cons Q (function_binding (member c n m)) (uses_in_all runs arguments) (own own_tree g) (arguments_in m.params (types_of es) xs r)))
         tree (apply_statically p e c n m es t) g ts k j =
             let own_tree = apply_statically p e c n m es t in
             let g0 = call e es (inner own_tree g) in
@@ -370,13 +371,13 @@ module _ (Q : Binding → Type 0) (box : Q (object_binding (codes "$C"))) where
             let xs = (spill os j).expressions in
             let target = coerced_receiver (type_of_term e) (first_of xs) in
             let arguments = expressions_of (coerced_arguments m.params (types_of es) (rest_of xs)) in
-            use_in os (target_in e (own own_tree g).1 g0.0 (tree e g0.0) ts, operands_in es g0.1 ts) j (λ xs. finish k p t false (core.receiver_call (member c n m) (coerced_receiver (type_of_term e) (first_of xs)) (expressions_of (coerced_arguments m.params (types_of es) (rest_of xs))))) (λ i r. finish_in k p t false (core.receiver_call (member c n m) target arguments) i (All-cons Q (function_binding (member c n m)) (uses_in target ++ uses_in_all arguments) (own own_tree g).0 (join (uses_in target) (uses_in_all arguments) (coerced_in (IrType.Class (codes "java.lang.Character")) (type_of_term e) (first_of xs) (first_in xs r)) (arguments_in m.params (types_of es) (rest_of xs) (rest_in xs r)))))
+            use_in os (target_in e (own own_tree g).1 g0.0 (tree e g0.0) ts, operands_in es g0.1 ts) j (λ xs. finish k p t false (core.receiver_call (member c n m) (coerced_receiver (type_of_term e) (first_of xs)) (expressions_of (coerced_arguments m.params (types_of es) (rest_of xs))))) (λ i r. finish_in k p t false (core.receiver_call (member c n m) target arguments) i (All-cons Q (function_binding (called_member runs n (member c n m))) (uses_in runs target ++ uses_in_all runs arguments) (own own_tree g).0 (join (uses_in runs target) (uses_in_all runs arguments) (coerced_in (IrType.Class (codes "java.lang.Character")) (type_of_term e) (first_of xs) (first_in xs r)) (arguments_in m.params (types_of es) (rest_of xs) (rest_in xs r)))))
         tree (new_object p c m es) g ts k j =
             let own_tree = new_object p c m es in
             let os : List Operand = operands is_mutable sure ts es in
             let xs = (spill os j).expressions in
             let arguments = expressions_of (coerced_arguments m.params (types_of es) xs) in
-            use_in os (operands_in es (inner own_tree g) ts) j (λ xs. finish k p (class_type c) false (core.made_of (member c Constructor m) (expressions_of (coerced_arguments m.params (types_of es) xs)))) (λ i r. finish_in k p (class_type c) false (core.made_of (member c Constructor m) arguments) i (All-cons Q (function_binding (member c Constructor m)) (class_use c ∷ uses_in_all arguments) (own own_tree g).0 (All-cons Q (class_use c) (uses_in_all arguments) (own own_tree g).1 (arguments_in m.params (types_of es) xs r))))
+            use_in os (operands_in es (inner own_tree g) ts) j (λ xs. finish k p (class_type c) false (core.made_of (member c Constructor m) (expressions_of (coerced_arguments m.params (types_of es) xs)))) (λ i r. finish_in k p (class_type c) false (core.made_of (member c Constructor m) arguments) i (All-cons Q (function_binding (member c Constructor m)) (class_use c ∷ uses_in_all runs arguments) (own own_tree g).0 (All-cons Q (class_use c) (uses_in_all runs arguments) (own own_tree g).1 (arguments_in m.params (types_of es) xs r))))
         tree (select p e c f t) g ts k j =
             let i0 = inner (select p e c f t) g in
             let os : List Operand = receiver_for ts e ∷ [] in
@@ -413,10 +414,10 @@ module _ (Q : Binding → Type 0) (box : Q (object_binding (codes "$C"))) where
         operands_in no_terms g ts = tt
         operands_in (more_terms t es) g ts = let g0 = ahead Brings (trees t) (all_below es) g in (part_in t g0 (tree t g0) ts, operands_in es (after Brings (trees t) (all_below es) g) ts)
 
-        cases_in : (cs : Cases) → Each (cases_below cs) → (ts : Targets) (k : Destination) (j : ℕ) → All Q (uses_of_cases (cases is_mutable sure ts k j cs).cases)
+        cases_in : (cs : Cases) → Each (cases_below cs) → (ts : Targets) (k : Destination) (j : ℕ) → All Q (uses_of_cases runs (cases is_mutable sure ts k j cs).cases)
         cases_in no_cases g ts k j = none
         cases_in (more_cases [] t cs) g ts k j = cases_in cs (after Brings (trees t) (cases_below cs) g) ts k j
         cases_in (more_cases (n ∷ ns) t cs) g ts k j =
             let body : Code = into is_mutable sure ts k j t in
             let end = core.statement (core.break_nearest None) core.no_statements in
-            join (uses_of_all (followed body.statements end)) (uses_of_cases (cases is_mutable sure ts k body.next cs).cases) (followed_in body.statements end (tree t (ahead Brings (trees t) (cases_below cs) g) ts k j) none) (cases_in cs (after Brings (trees t) (cases_below cs) g) ts k body.next)
+            join (uses_of_all runs (followed body.statements end)) (uses_of_cases runs (cases is_mutable sure ts k body.next cs).cases) (followed_in body.statements end (tree t (ahead Brings (trees t) (cases_below cs) g) ts k j) none) (cases_in cs (after Brings (trees t) (cases_below cs) g) ts k body.next)

@@ -1,4 +1,5 @@
 -- The helpers of the pieces of a linked world: each piece uses none but these, and what they use are these again.
+use Rattle.dispatch_laws.specs.Targets.{target_in}
 use Rattle.std.proofs.Common.{◌≡◌, Bool, true, false, List, [], ◌∷◌, ◌++◌, ◌||◌, ◌⊎◌, inl, inr, ⊎_elim, Option, Some, None, refl, sym, subst, codes, map, Contains, if◌then◌else◌}
 use Rattle.std.specs.Prelude.{is_none}
 use Rattle.std.specs.List.{All, flat_map}
@@ -224,18 +225,18 @@ module _ (entries : List EntryPoint) (files : List SourceFile) (l : Linked) (all
   of_body e i _ (a_division h d k) = good_division h d (reads e i (Throws (codes "java.lang.ArithmeticException")) k)
   of_body e i _ a_char = tt
 
-  method_good : (e : EmittedMethod) → Contains all e → All Q (piece_of_member e).uses
+  method_good : (e : EmittedMethod) → Contains all e → All Q (piece_of_member l.world e).uses
   method_good e i =
       let o = owner_of l.world e.member e.definition (bodies.found e i).found in
       let among = Contains-permutation l.world accepted.classes o.owner (IsPermutation-sym accepted.classes l.world accepted.world.sorted.same) o.in_world in
       let kept = class-keeps o.owner (accepted.kept o.owner among) e.definition o.listed in
-      weaken (piece_of_member e).uses (all_used o.owner e.definition e.its_body (bodies.found e i).has_body kept)
+      weaken (piece_of_member l.world e).uses (all_used (target_in l.world) o.owner e.definition e.its_body (bodies.found e i).has_body kept)
     where
       weaken : (bs : List Binding) → All (Only (UsesIt (asked_in e.its_body))) bs → All Q bs
       weaken bs h = All-weaker (Only (UsesIt (asked_in e.its_body))) Q (λ b f k same. of_body e i k (f k same)) bs h
 
-  methods_good : (es : List EmittedMethod) → ((e : EmittedMethod) → Contains es e → Contains all e) → EachGood (map piece_of_member es)
-  methods_good es h p i = let m = from_map piece_of_member es p i in subst (λ (x : Piece). All Q x.uses) m.is (method_good m.item (h m.item m.among))
+  methods_good : (es : List EmittedMethod) → ((e : EmittedMethod) → Contains es e → Contains all e) → EachGood (map (piece_of_member l.world) es)
+  methods_good es h p i = let m = from_map (piece_of_member l.world) es p i in subst (λ (x : Piece). All Q x.uses) m.is (method_good m.item (h m.item m.among))
 
   -- the pieces of a class
   parent_good : (s : Option Name) → All Q (parent_uses s)
@@ -305,21 +306,21 @@ module _ (entries : List EntryPoint) (files : List SourceFile) (l : Linked) (all
   class_pieces_good c ps (absent e is) = subst EachGood (sym is) no_pieces
   class_pieces_good c ps (present p are is) = subst EachGood (sym is) (own_good c p are)
 
-  block_good : (c : Name) (b : Block) → IsBlock l all c b → EachGood (pieces_of_block b)
-  block_good c b h = joined b.own (map piece_of_member b.methods) (class_pieces_good c b.own h.own) (methods_good b.methods (λ e i. ((h.methods.exact e).0 i).0))
+  block_good : (c : Name) (b : Block) → IsBlock l all c b → EachGood (pieces_of_block l.world b)
+  block_good c b h = joined b.own (map (piece_of_member l.world) b.methods) (class_pieces_good c b.own h.own) (methods_good b.methods (λ e i. ((h.methods.exact e).0 i).0))
 
-  blocks_good : (cs : List Name) (bs : List Block) → AreBlocks l all cs bs → EachGood (flat_map pieces_of_block bs)
+  blocks_good : (cs : List Name) (bs : List Block) → AreBlocks l all cs bs → EachGood (flat_map (pieces_of_block l.world) bs)
   blocks_good [] [] h = no_pieces
   blocks_good [] (b ∷ bs) h = absurd h
   blocks_good (c ∷ cs) [] h = absurd h
-  blocks_good (c ∷ cs) (b ∷ bs) h = joined (pieces_of_block b) (flat_map pieces_of_block bs) (block_good c b h.0) (blocks_good cs bs h.1)
+  blocks_good (c ∷ cs) (b ∷ bs) h = joined (pieces_of_block l.world b) (flat_map (pieces_of_block l.world) bs) (block_good c b h.0) (blocks_good cs bs h.1)
 
   used_good : (ps : List Piece) → EachGood ps → (h : Helper) → IsUsed ps h → Good h
   used_good ps each _ (by_piece p h i u) = All-contains Q p.uses (helper (helper_name h)) (each p i) u h refl
   used_good ps each _ (by_helper g h k u) = of_helper g h (used_good ps each g k) u
 
   pub linked_good : (ps : List Piece) (p : AreLinkedPieces l all ps) (h : Helper) → Contains p.helpers h → Good h
-  linked_good ps p h i = used_good (flat_map pieces_of_block p.blocks) (blocks_good p.classes p.blocks p.are_blocks) h ((p.are_helpers.exact h).0 i)
+  linked_good ps p h i = used_good (flat_map (pieces_of_block l.world) p.blocks) (blocks_good p.classes p.blocks p.are_blocks) h ((p.are_helpers.exact h).0 i)
 
   of_thrown : (c : Name) → Asked c → Reachable l.world entries (Made c) × Reachable l.world entries (Body (message_constructor c))
   of_thrown c r = (closed l.world entries (Made c) (throw_made c r), closed l.world entries (Body (message_constructor c)) (asked_body (message_constructor c) (of_throw c r)))

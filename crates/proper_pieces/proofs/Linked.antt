@@ -29,7 +29,7 @@ use Rattle.sj_split.proofs.Unique.{never_both}
 use Rattle.sj_split.specs.Orders.{IsBefore}
 use Rattle.sj_trees.specs.declared.classes.ClassDef.{ClassDef}
 use Rattle.sj_trees.specs.declared.classes.FieldDef.{FieldDef}
-use Rattle.sj_world.specs.Known.{class_of}
+use Rattle.sj_world.specs.Known.{Classes, class_of}
 use Rattle.sj_world.specs.Linked.{Linked}
 use Rattle.worklist.proofs.Inserted.{nothing_in}
 use Rattle.proper_pieces.proofs.Apart.{Differ, AreApart, order_joined, told_apart}
@@ -49,14 +49,14 @@ not_before a b h e = let k : IsBefore a a = subst (λ (n : Name). IsBefore a n) 
 each_mapped : {A : Type 0} (P : Piece → Type 0) (f : A → Piece) (xs : List A) → ((x : A) → Contains xs x → P (f x)) → (p : Piece) → Contains (map f xs) p → P p
 each_mapped P f xs h p i = let m = from_map f xs p i in subst P m.is (h m.item m.among)
 
-methods_segment : (all : List EmittedMethod) (c : Name) (fs : List EmittedMethod) → AreMethodsOf all c fs → Segment c 9 10 (map piece_of_member fs)
-methods_segment all c fs h = record {
+methods_segment : (w : Classes) (all : List EmittedMethod) (c : Name) (fs : List EmittedMethod) → AreMethodsOf all c fs → Segment c 9 10 (map (piece_of_member w) fs)
+methods_segment w all c fs h = record {
   onward = omega arith;
-  differ = order_mapped HasLesserName HaveOwnNames piece_of_member fs (λ a b k. not_before (member_name a.member) (member_name b.member) k) h.in_order;
-  from = each_mapped (λ p. 9 ≤ rank p.name) piece_of_member fs (λ e i. let r = function_rank e.member.namespace e.member.class e.member.method in omega (arith, r));
-  below = each_mapped (λ p. rank p.name < 10) piece_of_member fs (λ e i. let r = function_rank e.member.namespace e.member.class e.member.method in omega (arith, r));
-  owns = each_mapped (λ p. Owns c p.name) piece_of_member fs (λ e i. subst (λ (d : Name). Owns d (member_name e.member)) ((h.exact e).0 i).1 (owns_function e.member.namespace e.member.class e.member.method));
-  declares = each_mapped DeclaresItself piece_of_member fs (λ e i is. refl);
+  differ = order_mapped HasLesserName HaveOwnNames (piece_of_member w) fs (λ a b k. not_before (member_name a.member) (member_name b.member) k) h.in_order;
+  from = each_mapped (λ p. 9 ≤ rank p.name) (piece_of_member w) fs (λ e i. let r = function_rank e.member.namespace e.member.class e.member.method in omega (arith, r));
+  below = each_mapped (λ p. rank p.name < 10) (piece_of_member w) fs (λ e i. let r = function_rank e.member.namespace e.member.class e.member.method in omega (arith, r));
+  owns = each_mapped (λ p. Owns c p.name) (piece_of_member w) fs (λ e i. subst (λ (d : Name). Owns d (member_name e.member)) ((h.exact e).0 i).1 (owns_function e.member.namespace e.member.class e.member.method));
+  declares = each_mapped DeclaresItself (piece_of_member w) fs (λ e i is. refl);
 }
 
 helper_declares : (above : Above) (h : Helper) → DeclaresItself (helper_piece above h)
@@ -132,8 +132,8 @@ module _ (l : Linked) (all : List EmittedMethod) (named : AreNamed l.world) wher
       let f = class_found l.world c p.class parts.class_is in
       subst (Segment c 0 9) (sym is) (subst (λ (n : Name). Segment n 0 9 (pieces p)) f.1 (own_segment p (named.class_names p.class f.0) (statics_apart c p parts)))
 
-  block_segment : (c : Name) (b : Block) → IsBlock l all c b → Segment c 0 10 (pieces_of_block b)
-  block_segment c b h = joined c 0 9 10 b.own (map piece_of_member b.methods) (own_of c b.own h.own) (methods_segment all c b.methods h.methods)
+  block_segment : (c : Name) (b : Block) → IsBlock l all c b → Segment c 0 10 (pieces_of_block l.world b)
+  block_segment c b h = joined c 0 9 10 b.own (map (piece_of_member l.world) b.methods) (own_of c b.own h.own) (methods_segment l.world all c b.methods h.methods)
 
   -- the pieces of a class in front of those of others
   known_more : (c : Name) (cs : List Name) (here later : List Piece) → ((d : Name) → Contains cs d → StandsBefore l.world c d) → IsTrue (is_class_name c) → ((d : Name) → Contains cs d → IsTrue (is_class_name d)) → Segment c 0 11 here → Known cs later → Known (c ∷ cs) (here ++ later)
@@ -161,18 +161,18 @@ module _ (l : Linked) (all : List EmittedMethod) (named : AreNamed l.world) wher
     abbrev its_helpers : List Piece
     its_helpers = map (helper_piece above) hs
 
-    whole_segment : (c : Name) (b : Block) → IsBlock l all c b → Segment c 0 11 (with_helpers its_helpers b)
+    whole_segment : (c : Name) (b : Block) → IsBlock l all c b → Segment c 0 11 (with_helpers l.world its_helpers b)
     whole_segment c b h = go (is_object b.class) refl
       where
-        go : (t : Bool) → is_object b.class ≡ t → Segment c 0 11 (if t then pieces_of_block b ++ its_helpers else pieces_of_block b)
-        go true e = joined c 0 10 11 (pieces_of_block b) its_helpers (block_segment c b h) (helpers_segment above c hs (subst (λ (n : Name). is_object n ≡ true) h.class_is e) in_order)
-        go false e = wider c (pieces_of_block b) (block_segment c b h)
+        go : (t : Bool) → is_object b.class ≡ t → Segment c 0 11 (if t then pieces_of_block l.world b ++ its_helpers else pieces_of_block l.world b)
+        go true e = joined c 0 10 11 (pieces_of_block l.world b) its_helpers (block_segment c b h) (helpers_segment above c hs (subst (λ (n : Name). is_object n ≡ true) h.class_is e) in_order)
+        go false e = wider c (pieces_of_block l.world b) (block_segment c b h)
 
-    known_blocks : (cs : List Name) (bs : List Block) → AreBlocks l all cs bs → AreInOrder (StandsBefore l.world) cs → ((c : Name) → Contains cs c → IsTrue (is_class_name c)) → Known cs (flat_map (with_helpers its_helpers) bs)
+    known_blocks : (cs : List Name) (bs : List Block) → AreBlocks l all cs bs → AreInOrder (StandsBefore l.world) cs → ((c : Name) → Contains cs c → IsTrue (is_class_name c)) → Known cs (flat_map (with_helpers l.world its_helpers) bs)
     known_blocks [] [] h o n = record { differ = tt; owner = λ p i. nothing_in p i; declares = λ p i. nothing_in p i }
     known_blocks [] (b ∷ bs) h o n = absurd h
     known_blocks (c ∷ cs) [] h o n = absurd h
-    known_blocks (c ∷ cs) (b ∷ bs) h o n = known_more c cs (with_helpers its_helpers b) (flat_map (with_helpers its_helpers) bs) o.0 (n c (at_first c cs)) (λ d i. n d (further c d cs i)) (whole_segment c b h.0) (known_blocks cs bs h.1 o.1 (λ d i. n d (further c d cs i)))
+    known_blocks (c ∷ cs) (b ∷ bs) h o n = known_more c cs (with_helpers l.world its_helpers b) (flat_map (with_helpers l.world its_helpers) bs) o.0 (n c (at_first c cs)) (λ d i. n d (further c d cs i)) (whole_segment c b h.0) (known_blocks cs bs h.1 o.1 (λ d i. n d (further c d cs i)))
 
   pub linked_differ : (ps : List Piece) → AreLinkedPieces l all ps → AreInOrder HaveOwnNames ps × ((p : Piece) → Contains ps p → DeclaresItself p)
   linked_differ ps h =

@@ -59,27 +59,27 @@ module _ (l : Linked) (all : List EmittedMethod) (once : (e : EmittedMethod) →
   own_proper c ps (absent e is) = subst EachProper (sym is) (λ p i. nothing_in p i)
   own_proper c ps (present p parts is) = subst EachProper (sym is) (pieces_are_proper.of_classes p)
 
-  block_proper : (c : Name) (b : Block) → IsBlock l all c b → EachProper (pieces_of_block b)
-  block_proper c b h = joined_proper b.own (map piece_of_member b.methods) (own_proper c b.own h.own) methods
+  block_proper : (c : Name) (b : Block) → IsBlock l all c b → EachProper (pieces_of_block l.world b)
+  block_proper c b h = joined_proper b.own (map (piece_of_member l.world) b.methods) (own_proper c b.own h.own) methods
     where
-      methods : EachProper (map piece_of_member b.methods)
-      methods p i = let m = from_map piece_of_member b.methods p i in subst (λ (q : Piece). is_proper_item q.item ≡ true) m.is (pieces_are_proper.of_methods m.item (once m.item ((h.methods.exact m.item).0 m.among).0))
+      methods : EachProper (map (piece_of_member l.world) b.methods)
+      methods p i = let m = from_map (piece_of_member l.world) b.methods p i in subst (λ (q : Piece). is_proper_item q.item ≡ true) m.is (pieces_are_proper.of_methods l.world m.item (once m.item ((h.methods.exact m.item).0 m.among).0))
 
   helpers_proper : (above : Above) (hs : List Helper) → EachProper (map (helper_piece above) hs)
   helpers_proper above hs p i = let m = from_map (helper_piece above) hs p i in subst (λ (q : Piece). is_proper_item q.item ≡ true) m.is (pieces_are_proper.of_helpers above m.item)
 
-  whole_proper : (above : Above) (hs : List Helper) (c : Name) (b : Block) → IsBlock l all c b → EachProper (with_helpers (map (helper_piece above) hs) b)
+  whole_proper : (above : Above) (hs : List Helper) (c : Name) (b : Block) → IsBlock l all c b → EachProper (with_helpers l.world (map (helper_piece above) hs) b)
   whole_proper above hs c b h = go (is_object b.class)
     where
-      go : (t : Bool) → EachProper (if t then pieces_of_block b ++ map (helper_piece above) hs else pieces_of_block b)
-      go true = joined_proper (pieces_of_block b) (map (helper_piece above) hs) (block_proper c b h) (helpers_proper above hs)
+      go : (t : Bool) → EachProper (if t then pieces_of_block l.world b ++ map (helper_piece above) hs else pieces_of_block l.world b)
+      go true = joined_proper (pieces_of_block l.world b) (map (helper_piece above) hs) (block_proper c b h) (helpers_proper above hs)
       go false = block_proper c b h
 
-  blocks_proper : (above : Above) (hs : List Helper) (cs : List Name) (bs : List Block) → AreBlocks l all cs bs → EachProper (flat_map (with_helpers (map (helper_piece above) hs)) bs)
+  blocks_proper : (above : Above) (hs : List Helper) (cs : List Name) (bs : List Block) → AreBlocks l all cs bs → EachProper (flat_map (with_helpers l.world (map (helper_piece above) hs)) bs)
   blocks_proper above hs [] [] h = λ p i. nothing_in p i
   blocks_proper above hs [] (b ∷ bs) h = absurd h
   blocks_proper above hs (c ∷ cs) [] h = absurd h
-  blocks_proper above hs (c ∷ cs) (b ∷ bs) h = joined_proper (with_helpers (map (helper_piece above) hs) b) (flat_map (with_helpers (map (helper_piece above) hs)) bs) (whole_proper above hs c b h.0) (blocks_proper above hs cs bs h.1)
+  blocks_proper above hs (c ∷ cs) (b ∷ bs) h = joined_proper (with_helpers l.world (map (helper_piece above) hs) b) (flat_map (with_helpers l.world (map (helper_piece above) hs)) bs) (whole_proper above hs c b h.0) (blocks_proper above hs cs bs h.1)
 
   linked_proper : (ps : List Piece) → AreLinkedPieces l all ps → EachProper ps
   linked_proper ps h = subst EachProper (sym h.pieces_are) (blocks_proper h.above h.helpers h.classes h.blocks h.are_blocks)

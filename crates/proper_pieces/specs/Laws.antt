@@ -20,7 +20,7 @@ use Rattle.sj_world.specs.Linked.{Linked}
 pub record PiecesAreProper : Type 0 where
   pub of_classes : (p : Parts) (q : Piece) → Contains (pieces p) q → is_proper_item q.item ≡ true
   pub of_helpers : (above : Above) (h : Helper) → is_proper_item (helper_piece above h).item ≡ true
-  pub of_methods : (e : EmittedMethod) → DefinesOnce e.definition e.its_body → is_proper_item (piece_of_member e).item ≡ true
+  pub of_methods : (w : Classes) (e : EmittedMethod) → DefinesOnce e.definition e.its_body → is_proper_item (piece_of_member w e).item ≡ true
 
 -- each class of the world keeps the local rules, and its name is in the grammar
 pub record AreNamed (w : Classes) : Type 0 where

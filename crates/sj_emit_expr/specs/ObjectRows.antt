@@ -1,5 +1,5 @@
 -- Methods with objects, and the functions that are written for them.
-use Rattle.std.specs.Prelude.{ℕ, true, false, List, [], ◌∷◌, pos, codes, Some, None, if◌then◌else◌}
+use Rattle.std.specs.Prelude.{ℕ, false, List, [], ◌∷◌, pos, codes, Some, None, if◌then◌else◌}
 use Rattle.js_tree.specs.Terms.{Piece}
 use Rattle.sj_desugar.specs.Desugar.{desugared_member}
 use Rattle.sj_emit_expr.specs.Members.{member_piece}
@@ -11,7 +11,6 @@ use Rattle.sj_names.specs.declared.method_names.Namespace.TheVariants.{Public, P
 use Rattle.sj_names.specs.declared.references.TypeRef.{TypeRef}
 use Rattle.sj_trees.specs.Erase.{nowhere}
 use Rattle.sj_trees.specs.Term.{Term, Terms, no_terms, more_terms, var_def, skip, block_of, assign, throw, new_object, select, select_static, apply_statically, int_literal, long_literal, var_ref, this_ref, binary_op}
-use Rattle.sj_trees.specs.declared.classes.MethodDef.{MethodDef}
 use Rattle.sj_trees.specs.declared.classes.ParamDef.{ParamDef}
 use Rattle.sj_trees.specs.declared.operators.BinaryOp.TheVariants.{IntAdd, IntDivide, LongRemainder}
 use Rattle.sj_trees.specs.declared.types.IrType.{IrType}

@@ -5,7 +5,7 @@ ghost use Rattle.sj_ask.specs.Answers.{IsAnswer};
 ghost use Rattle.sj_ask.specs.Runs.{Ran};
 ghost use Rattle.sj_ask.specs.Tasks.{asks_target, found_member};
 ghost use Rattle.sj_emitter.specs.Targets.{target_of, Keeps, AreAsked};
-ghost use Rattle.sj_names.specs.declared.memory.NoMemory.{NoMemory as OutOfMemory};
+ghost use Rattle.sj_names.specs.declared.memory.NoMemory.{NoMemory};
 
 use indexmap::IndexMap;
 use sj_ask::{Answer, Oracle, Question};
@@ -63,7 +63,7 @@ fn ask_for_target<O: Oracle>(
     oracle: &mut O,
 ) -> Result<Answer, NoMemory>
     ensures stand { O.stand oracle.new ≡ O.stand oracle.old }
-    ensures ran { IfOk result (λ found. Ran {E = OutOfMemory} (IsAnswer (O.stand oracle.old)) (asks_target call.now.class call.now.method) (Ok (found_member found)) (O.told oracle.old) (O.told oracle.new)) }
+    ensures ran { IfOk result (λ found. Ran {E = NoMemory} (IsAnswer (O.stand oracle.old)) (asks_target call.now.class call.now.method) (Ok (found_member found)) (O.told oracle.old) (O.told oracle.new)) }
 {
     let question = target_question(call)?;
     let answer = oracle.answer(alloc, &question)?;

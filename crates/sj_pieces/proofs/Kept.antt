@@ -2,6 +2,7 @@
 use Rattle.std.proofs.Common.{Bool, true, false, List, [], ◌∷◌, ℕ, refl, arith}
 use Rattle.std.specs.Prelude.{All}
 use Rattle.std.proofs.lemmas.List.Elements.{All-nil, All-cons, All-head, All-tail}
+use Rattle.emit_questions.specs.Calls.{own_call, calls_in, calls_in_all, calls_of, calls_of_all, calls_of_cases}
 use Rattle.js_tree.specs.Rules.{IsName, IsUnit, IsExpression, IsExpressions, IsStatement, AreStatements, AreCases, IsPiece}
 use Rattle.js_tree.specs.Terms as js
 use Rattle.sj_core.specs.Terms as core
@@ -15,10 +16,12 @@ use Rattle.sj_trees.specs.declared.operators.BinaryOp.{BinaryOp}
 use Rattle.sj_trees.specs.declared.operators.BinaryOp.TheVariants.{StringConcatenate, BooleanEqual, BooleanNotEqual, BooleanOr, BooleanAnd, IntAdd, IntSubtract, IntMultiply, IntDivide, IntRemainder, IntOr, IntAnd, IntXor, IntShiftLeft, IntShiftRightLogical, IntShiftRightArithmetic, IntEqual, IntNotEqual, IntLess, IntLessOrEqual, IntGreater, IntGreaterOrEqual, LongAdd, LongSubtract, LongMultiply, LongDivide, LongRemainder, LongOr, LongAnd, LongXor, LongShiftLeft, LongShiftRightLogical, LongShiftRightArithmetic, LongEqual, LongNotEqual, LongLess, LongLessOrEqual, LongGreater, LongGreaterOrEqual}
 use Rattle.sj_trees.specs.declared.operators.UnaryOp.{UnaryOp}
 use Rattle.sj_trees.specs.declared.operators.UnaryOp.TheVariants.{BooleanNot, CharToInt, ByteToInt, ShortToInt, IntToLong, IntToChar, IntToByte, IntToShort, LongToInt}
+use Rattle.sj_pieces.specs.Fits.{RunsFit, OwnRunsFit, TargetsFit}
 use Rattle.sj_pieces.specs.Keys.{IsKeyed, AreKeyed, HaveKeys, HasKeys}
 use Rattle.sj_pieces.specs.Owners.{HasOwners, HaveOwners, IsOwned, AreOwned, CasesOwned, FieldsHaveOwners}
 use Rattle.sj_pieces.specs.Ranges.{AreBytes, FitsMember, FitsExpression, FitExpressions, FitsStatement, FitStatements, FitCases, FitsMethod}
 use Rattle.sj_pieces.proofs.Names.{variable-named, label-named, member-named, class-named, property-named, static-named, setter-named}
+use Rattle.sj_pieces.proofs.Runs.{two, three, run-fits}
 use Rattle.sj_pieces.proofs.Uses.{uses-named}
 
 unary-kept : (o : UnaryOp) (e : js.Expression) → IsExpression e → IsExpression (unary_template o e)
@@ -82,57 +85,58 @@ choice-kept : (c : js.Expression) (ss ts : js.Statements) → IsExpression c →
 choice-kept c ss js.no_statements h k l = (h, k)
 choice-kept c ss (js.statement t ts) h k l = (h, k, l)
 
-mutual
-  expression-kept : (e : core.Expression) → FitsExpression e → HasOwners e → IsExpression (expression_template variable_name label_name e)
-  expression-kept (core.number_value z) h o = h
-  expression-kept (core.long_value z) h o = h
-  expression-kept (core.text_value us) h o = h
-  expression-kept (core.variable_use x) h o = variable-named x h
-  expression-kept (core.boxed_char e) h o = (refl, (expression-kept e h o, tt))
-  expression-kept (core.char_text e) h o = expression-kept e h o
-  expression-kept (core.value_text e) h o = (All-nil IsUnit, expression-kept e h o)
-  expression-kept (core.choice_of c e g) h o = (expression-kept c h.0 o.0, expression-kept e h.1 o.1, expression-kept g h.2 o.2)
-  expression-kept (core.static_call m es) h o = (member-named m h.0, expressions-kept es h.1 o)
-  expression-kept (core.field_of e c f) h o = (o.0, expression-kept e h.0 o.1, property-named c f h.1 h.2)
-  expression-kept (core.static_of c f) h o = static-named c f h.0 h.1
-  expression-kept (core.checked_value e) h o = (refl, (expression-kept e h o, tt))
-  expression-kept (core.made_of m es) h o = (member-named m h.0, ((class-named m.class h.0.0, tt), expressions-kept es h.1 o))
-  expression-kept (core.receiver_call m e es) h o = (member-named m h.0, (expression-kept e h.1 o.0, expressions-kept es h.2 o.1))
-  expression-kept (core.unary_of u e) h o = unary-kept u (expression_template variable_name label_name e) (expression-kept e h o)
-  expression-kept (core.binary_of b e g) h o = binary-kept (is_nonzero_literal g) b (expression_template variable_name label_name e) (expression_template variable_name label_name g) (expression-kept e h.0 o.0) (expression-kept g h.1 o.1)
-  expression-kept _ h o = tt
+module _ (target : Member → Member) (own : OwnRunsFit target) where
+  mutual
+    expression-kept : (e : core.Expression) → FitsExpression e → HasOwners e → RunsFit target (calls_in e) → IsExpression (expression_template variable_name label_name target e)
+    expression-kept (core.number_value z) h o r = h
+    expression-kept (core.long_value z) h o r = h
+    expression-kept (core.text_value us) h o r = h
+    expression-kept (core.variable_use x) h o r = variable-named x h
+    expression-kept (core.boxed_char e) h o r = (refl, (expression-kept e h o r, tt))
+    expression-kept (core.char_text e) h o r = expression-kept e h o r
+    expression-kept (core.value_text e) h o r = (All-nil IsUnit, expression-kept e h o r)
+    expression-kept (core.choice_of c e g) h o r = let q = three target (calls_in c) (calls_in e) (calls_in g) r in (expression-kept c h.0 o.0 q.0, expression-kept e h.1 o.1 q.1, expression-kept g h.2 o.2 q.2)
+    expression-kept (core.static_call m es) h o r = (member-named m h.0, expressions-kept es h.1 o r)
+    expression-kept (core.field_of e c f) h o r = (o.0 target, expression-kept e h.0 o.1 r, property-named c f h.1 h.2)
+    expression-kept (core.static_of c f) h o r = static-named c f h.0 h.1
+    expression-kept (core.checked_value e) h o r = (refl, (expression-kept e h o r, tt))
+    expression-kept (core.made_of m es) h o r = (member-named m h.0, ((class-named m.class h.0.0, tt), expressions-kept es h.1 o r))
+    expression-kept (core.receiver_call m e es) h o r = let q = three target (calls_in e) (calls_in_all es) (own_call m) r in (member-named (target m) (run-fits target own m q.2 h.0), (expression-kept e h.1 o.0 q.0, expressions-kept es h.2 o.1 q.1))
+    expression-kept (core.unary_of u e) h o r = unary-kept u (expression_template variable_name label_name target e) (expression-kept e h o r)
+    expression-kept (core.binary_of b e g) h o r = let q = two target (calls_in e) (calls_in g) r in binary-kept (is_nonzero_literal g) b (expression_template variable_name label_name target e) (expression_template variable_name label_name target g) (expression-kept e h.0 o.0 q.0) (expression-kept g h.1 o.1 q.1)
+    expression-kept _ h o r = tt
 
-  expressions-kept : (es : core.Expressions) → FitExpressions es → HaveOwners es → IsExpressions (expression_templates variable_name label_name es)
-  expressions-kept core.no_expressions h o = tt
-  expressions-kept (core.expression e es) h o = (expression-kept e h.0 o.0, expressions-kept es h.1 o.1)
+    expressions-kept : (es : core.Expressions) → FitExpressions es → HaveOwners es → RunsFit target (calls_in_all es) → IsExpressions (expression_templates variable_name label_name target es)
+    expressions-kept core.no_expressions h o r = tt
+    expressions-kept (core.expression e es) h o r = let q = two target (calls_in e) (calls_in_all es) r in (expression-kept e h.0 o.0 q.0, expressions-kept es h.1 o.1 q.1)
 
-mutual
-  statement-kept : (s : core.Statement) → FitsStatement s → IsKeyed s → IsOwned s → IsStatement (statement_template variable_name label_name s)
-  statement-kept (core.constant_of p x e) h k o = (variable-named x h.0, expression-kept e h.1 o)
-  statement-kept (core.define_of p x e) h k o = (variable-named x h.0, expression-kept e h.1 o)
-  statement-kept (core.declare_of p x) h k o = variable-named x h
-  statement-kept (core.assign_to p x e) h k o = (variable-named x h.0, expression-kept e h.1 o)
-  statement-kept (core.evaluate_of p e) h k o = expression-kept e h o
-  statement-kept (core.return_of p e) h k o = expression-kept e h o
-  statement-kept (core.log_of p e) h k o = expression-kept e h o
-  statement-kept (core.assign_field p e c f g) h k o = (o.0, expression-kept e h.0 o.1, property-named c f h.1 h.2, expression-kept g h.3 o.2)
-  statement-kept (core.assign_static p c f e) h k o = (setter-named c f h.0 h.1, (expression-kept e h.2 o, tt))
-  statement-kept (core.throw_of p e) h k o = expression-kept e h o
-  statement-kept (core.leave_label p l) h k o = label-named l h
-  statement-kept (core.break_nearest p) h k o = tt
-  statement-kept (core.if_of p c ss ts) h k o = choice-kept (expression_template variable_name label_name c) (statement_templates variable_name label_name ss) (statement_templates variable_name label_name ts) (expression-kept c h.0 o.0) (statements-kept ss h.1 k.0 o.1) (statements-kept ts h.2 k.1 o.2)
-  statement-kept (core.while_of p c ss) h k o = (expression-kept c h.0 o.0, statements-kept ss h.1 k o.1)
-  statement-kept (core.loop_of p ss) h k o = statements-kept ss h k o
-  statement-kept (core.labeled_of p l ss) h k o = (label-named l h.0, statements-kept ss h.1 k o)
-  statement-kept (core.switch_of p e cs ss) h k o = (expression-kept e h.0 o.0, cases-kept cs h.1 k.0 o.1, statements-kept ss h.2 k.1 o.2)
+  mutual
+    statement-kept : (s : core.Statement) → FitsStatement s → IsKeyed s → IsOwned s → RunsFit target (calls_of s) → IsStatement (statement_template variable_name label_name target s)
+    statement-kept (core.constant_of p x e) h k o r = (variable-named x h.0, expression-kept e h.1 o r)
+    statement-kept (core.define_of p x e) h k o r = (variable-named x h.0, expression-kept e h.1 o r)
+    statement-kept (core.declare_of p x) h k o r = variable-named x h
+    statement-kept (core.assign_to p x e) h k o r = (variable-named x h.0, expression-kept e h.1 o r)
+    statement-kept (core.evaluate_of p e) h k o r = expression-kept e h o r
+    statement-kept (core.return_of p e) h k o r = expression-kept e h o r
+    statement-kept (core.log_of p e) h k o r = expression-kept e h o r
+    statement-kept (core.assign_field p e c f g) h k o r = let q = two target (calls_in e) (calls_in g) r in (o.0 target, expression-kept e h.0 o.1 q.0, property-named c f h.1 h.2, expression-kept g h.3 o.2 q.1)
+    statement-kept (core.assign_static p c f e) h k o r = (setter-named c f h.0 h.1, (expression-kept e h.2 o r, tt))
+    statement-kept (core.throw_of p e) h k o r = expression-kept e h o r
+    statement-kept (core.leave_label p l) h k o r = label-named l h
+    statement-kept (core.break_nearest p) h k o r = tt
+    statement-kept (core.if_of p c ss ts) h k o r = let q = three target (calls_in c) (calls_of_all ss) (calls_of_all ts) r in choice-kept (expression_template variable_name label_name target c) (statement_templates variable_name label_name target ss) (statement_templates variable_name label_name target ts) (expression-kept c h.0 o.0 q.0) (statements-kept ss h.1 k.0 o.1 q.1) (statements-kept ts h.2 k.1 o.2 q.2)
+    statement-kept (core.while_of p c ss) h k o r = let q = two target (calls_in c) (calls_of_all ss) r in (expression-kept c h.0 o.0 q.0, statements-kept ss h.1 k o.1 q.1)
+    statement-kept (core.loop_of p ss) h k o r = statements-kept ss h k o r
+    statement-kept (core.labeled_of p l ss) h k o r = (label-named l h.0, statements-kept ss h.1 k o r)
+    statement-kept (core.switch_of p e cs ss) h k o r = let q = three target (calls_in e) (calls_of_cases cs) (calls_of_all ss) r in (expression-kept e h.0 o.0 q.0, cases-kept cs h.1 k.0 o.1 q.1, statements-kept ss h.2 k.1 o.2 q.2)
 
-  statements-kept : (ss : core.Statements) → FitStatements ss → AreKeyed ss → AreOwned ss → AreStatements (statement_templates variable_name label_name ss)
-  statements-kept core.no_statements h k o = tt
-  statements-kept (core.statement s ss) h k o = (statement-kept s h.0 k.0 o.0, statements-kept ss h.1 k.1 o.1)
+    statements-kept : (ss : core.Statements) → FitStatements ss → AreKeyed ss → AreOwned ss → RunsFit target (calls_of_all ss) → AreStatements (statement_templates variable_name label_name target ss)
+    statements-kept core.no_statements h k o r = tt
+    statements-kept (core.statement s ss) h k o r = let q = two target (calls_of s) (calls_of_all ss) r in (statement-kept s h.0 k.0 o.0 q.0, statements-kept ss h.1 k.1 o.1 q.1)
 
-  cases-kept : (cs : core.Cases) → FitCases cs → HaveKeys cs → CasesOwned cs → AreCases (case_templates variable_name label_name cs)
-  cases-kept core.no_cases h k o = tt
-  cases-kept (core.switch_case ks ss cs) h k o = ((k.0, h.0), statements-kept ss h.1 k.1 o.0, cases-kept cs h.2 k.2 o.1)
+    cases-kept : (cs : core.Cases) → FitCases cs → HaveKeys cs → CasesOwned cs → RunsFit target (calls_of_cases cs) → AreCases (case_templates variable_name label_name target cs)
+    cases-kept core.no_cases h k o r = tt
+    cases-kept (core.switch_case ks ss cs) h k o r = let q = two target (calls_of_all ss) (calls_of_cases cs) r in ((k.0, h.0), statements-kept ss h.1 k.1 o.0 q.0, cases-kept cs h.2 k.2 o.1 q.1)
 
 parameters-kept : (xs : List (List ℕ)) → All AreBytes xs → All IsName (parameter_names xs)
 parameters-kept [] h = All-nil IsName
@@ -148,5 +152,5 @@ receiver-kept Public xs h = behind-receiver xs h
 receiver-kept Private xs h = behind-receiver xs h
 receiver-kept Constructor xs h = behind-receiver xs h
 
-pub piece-kept : (m : Member) (c : core.Method) → FitsMember m → FitsMethod c → HasKeys c → FieldsHaveOwners c → IsPiece (member_piece m c)
-piece-kept m c own fits keys owners = (member-named m own, uses-named c.body fits.1, (member-named m own, receiver-kept c.namespace (parameter_names c.params) (parameters-kept c.params fits.0), statements-kept c.body fits.1 keys owners))
+pub piece-kept : (target : Member → Member) (m : Member) (c : core.Method) → FitsMember m → FitsMethod c → HasKeys c → FieldsHaveOwners c → TargetsFit target c → IsPiece (member_piece target m c)
+piece-kept target m c named fits keys owners runs = (member-named m named, uses-named target runs.own c.body fits.1 runs.asked, (member-named m named, receiver-kept c.namespace (parameter_names c.params) (parameters-kept c.params fits.0), statements-kept target runs.own c.body fits.1 keys owners runs.asked))

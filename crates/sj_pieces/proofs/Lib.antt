@@ -3,4 +3,5 @@ pub mod Kept
 pub mod Lists
 pub mod Names
 pub mod Owned
+pub mod Runs
 pub mod Uses

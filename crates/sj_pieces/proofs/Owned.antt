@@ -105,30 +105,30 @@ binary-owns nonzero _ e g = refl
 
 module _ (sure : List ℕ → Bool) where
   may-own : (t : Term) → is_sure_type (type_of_term t) ≡ false → MayOwn (expression_of sure t)
-  may-own (if_then p c a b t) h = refl
-  may-own (apply_static p c n m ts t) h = refl
-  may-own (apply_statically p e c n m ts t) h = refl
-  may-own (this_ref p t) h = refl
-  may-own (new_object p c m ts) h = refl
-  may-own (select p e c f t) h = refl
-  may-own (select_static p c f t) h = refl
+  may-own (if_then p c a b t) h = λ target. refl
+  may-own (apply_static p c n m ts t) h = λ target. refl
+  may-own (apply_statically p e c n m ts t) h = λ target. refl
+  may-own (this_ref p t) h = λ target. refl
+  may-own (new_object p c m ts) h = λ target. refl
+  may-own (select p e c f t) h = λ target. refl
+  may-own (select_static p c f t) h = λ target. refl
   may-own (unary_op p o e) h = absurd (unary-owns o h)
-  may-own (binary_op p o e d) h = binary-owns (is_nonzero_literal (operand_of o (type_of_term d) (expression_of sure d))) o (expression_template variable_name label_name (operand_of o (type_of_term e) (expression_of sure e))) (expression_template variable_name label_name (operand_of o (type_of_term d) (expression_of sure d)))
-  may-own (undefined_literal p) h = refl
-  may-own (null_literal p) h = refl
-  may-own (boolean_literal p b) h = refl
+  may-own (binary_op p o e d) h = λ target. binary-owns (is_nonzero_literal (operand_of o (type_of_term d) (expression_of sure d))) o (expression_template variable_name label_name target (operand_of o (type_of_term e) (expression_of sure e))) (expression_template variable_name label_name target (operand_of o (type_of_term d) (expression_of sure d)))
+  may-own (undefined_literal p) h = λ target. refl
+  may-own (null_literal p) h = λ target. refl
+  may-own (boolean_literal p b) h = λ target. refl
   may-own (char_literal p u) h = impossible (sym h)
   may-own (byte_literal p z) h = impossible (sym h)
   may-own (short_literal p z) h = impossible (sym h)
   may-own (int_literal p z) h = impossible (sym h)
   may-own (long_literal p z) h = impossible (sym h)
-  may-own (string_literal p us) h = refl
-  may-own (var_ref p x t) h = refl
-  may-own _ h = refl
+  may-own (string_literal p us) h = λ target. refl
+  may-own (var_ref p x t) h = λ target. refl
+  may-own _ h = λ target. refl
 
   received-owns : (known : Bool) (e : core.Expression) → MayOwn e → MayOwn (received_text known e)
   received-owns true e h = h
-  received-owns false e h = refl
+  received-owns false e h = λ target. refl
 
   received-owned : (known : Bool) (e : core.Expression) → HasOwners e → HasOwners (received_text known e)
   received-owned true e h = h
@@ -187,8 +187,8 @@ use-owned os h j made k =
 case-owns : (all fixed plain : Bool) (o : Operand) (os : List Operand) (j : ℕ) → MayOwn o.text → MayOwn (first_of (spill_case all fixed plain o os (spill os) j).expressions)
 case-owns true fixed plain o os j h = h
 case-owns false true plain o os j h = h
-case-owns false false true o os j h = refl
-case-owns false false false o os j h = refl
+case-owns false false true o os j h = λ target. refl
+case-owns false false false o os j h = λ target. refl
 
 use-object : (o : Operand) (os : List Operand) → MayOwn o.text → OperandsOwned (o ∷ os) → (j : ℕ) (made : List core.Expression → ℕ → Code) → ((es : List core.Expression) (i : ℕ) → MayOwn (first_of es) → EachOwned es → Owned (made es i)) → Owned (then_use (spill (o ∷ os) j) made)
 use-object o os m h j made k =
@@ -212,7 +212,7 @@ receiver-owned false o h = (h.0, λ x t j. use-owned (o ∷ []) (h, tt) j (λ es
 
 receiver-owns : (known : Bool) (o : Operand) → MayOwn o.text → MayOwn (received known o).text
 receiver-owns true o h = h
-receiver-owns false o h = refl
+receiver-owns false o h = λ target. refl
 
 labeled-owned : (k : Destination) (p : Position) (l : List ℕ) (c : Code) → Owned c → Owned (labeled_code k p l c)
 labeled-owned (to_result t) p l c h = h

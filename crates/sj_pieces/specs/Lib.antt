@@ -1,3 +1,4 @@
+pub mod Fits
 pub mod Keys
 pub mod Owners
 pub mod Ranges

@@ -4,13 +4,14 @@ use Rattle.js_tree.specs.Rules.{is_receiver}
 use Rattle.sj_core.specs.Terms as core
 use Rattle.sj_emit_expr.specs.Names.{variable_name, label_name}
 use Rattle.sj_emit_expr.specs.Templates.{expression_template}
+use Rattle.sj_names.specs.declared.method_names.Member.{Member}
 use Rattle.sj_trees.specs.Term.{Term, Terms, no_terms, more_terms, Cases, no_cases, more_cases, var_def, block_of, labeled, assign, return_to, if_then, while_loop, do_while, throw, match_on, new_object, select, select_static, apply_statically, apply_static, unary_op, binary_op, var_ref, log_line}
 use Rattle.sj_trees.specs.TypeOf.{type_of_term}
 use Rattle.sure_receivers.specs.Sure.{is_sure_type}
 
--- the emitted text may stand before `.`, as that of a number can't
+-- the emitted text may stand before `.`, as that of a number can't, whatever calls run
 abbrev pub MayOwn : core.Expression → Type 0
-MayOwn e = IsTrue (is_receiver (expression_template variable_name label_name e))
+MayOwn e = (target : Member → Member) → IsTrue (is_receiver (expression_template variable_name label_name target e))
 
 abbrev mutual
   -- each field in the expression is one of what may stand before `.`

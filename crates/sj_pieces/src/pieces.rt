@@ -3,6 +3,8 @@ ghost use Rattle.std.specs.Prelude.{◌≡◌, IfOk};
 ghost use Rattle.js_tree.specs.Rules.{IsPiece};
 ghost use Rattle.js_tree.specs.Views.{body_view, piece_view};
 ghost use Rattle.sj_core.specs.Views.{method_view};
+ghost use Rattle.sj_names.specs.declared.method_names.Member.{Member};
+ghost use Rattle.sj_pieces.specs.Fits.{TargetsFit};
 ghost use Rattle.sj_pieces.specs.Keys.{HasKeys};
 ghost use Rattle.sj_pieces.specs.Owners.{FieldsHaveOwners};
 ghost use Rattle.sj_emit_expr.specs.Members as members;
@@ -19,20 +21,21 @@ use sj_names::{Member, NoMemory};
 use std::alloc::Global;
 use std::rc::Rc;
 
-/// The piece of a method, with a receiver or without one, of which this is the emitted function: the function, under the name of the member, which the
-/// member's class owns. Where each case of a switch has a key, and each field is one of what may stand before `.`, the piece keeps the rules of printing. Want
-/// of memory is the only error.
+/// The piece of a method, with a receiver or without one, of which this is the emitted function, by what calls of members on receivers run (`target`): the
+/// function, under the name of the member, which the member's class owns. Where each case of a switch has a key, each field is one of what may stand before
+/// `.`, and what calls run has names of bytes, the piece keeps the rules of printing. Want of memory is the only error.
 pub fn member_piece(
     alloc: Global,
     member: &Member,
     m: &CoreMethod,
     emitted: JsMember,
 ) -> Result<JsPiece, NoMemory>
+    ghost target: { Member → Member }
     requires params { emitted.params ≡ function_parameters (method_view m.now) }
-    requires body { body_view emitted.body ≡ body_template (method_view m.now) }
-    requires used { emitted.uses ≡ uses (method_view m.now).body }
-    ensures piece { IfOk result (λ p. piece_view p ≡ members.member_piece member.now (method_view m.now)) }
-    ensures rules { HasKeys (method_view m.now) → FieldsHaveOwners (method_view m.now) → IfOk result (λ p. IsPiece (piece_view p)) }
+    requires body { body_view emitted.body ≡ body_template target (method_view m.now) }
+    requires used { emitted.uses ≡ uses target (method_view m.now).body }
+    ensures piece { IfOk result (λ p. piece_view p ≡ members.member_piece target member.now (method_view m.now)) }
+    ensures rules { HasKeys (method_view m.now) → FieldsHaveOwners (method_view m.now) → TargetsFit target (method_view m.now) → IfOk result (λ p. IsPiece (piece_view p)) }
 {
     member_fits(member);
     method_fits(m);

@@ -22,7 +22,7 @@ use Rattle.sj_names.specs.WellKnown.{is_object}
 use Rattle.sj_proper.specs.Emitted.{EmittedMethod, HaveOwnMembers}
 use Rattle.sj_split.proofs.Members.{at_first, further, into_filter, from_filter}
 use Rattle.sj_split.specs.Orders.{IsBefore}
-use Rattle.sj_world.specs.Known.{Name, is_same}
+use Rattle.sj_world.specs.Known.{Name, Classes, is_same}
 use Rattle.sj_world.specs.Linked.{Linked}
 use Rattle.world_pieces.specs.declared.blocks.Block.{Block}
 use Rattle.world_pieces.specs.Blocks.{IsMade, AreMade, class_of_block, pieces_in, with_helpers_in}
@@ -55,22 +55,22 @@ abbrev function_name : JsPiece → Name
 function_name p = p.name
 
 -- the functions of a class are those of its methods
-same_passed : (c : Name) (fs : List JsPiece) (es : List EmittedMethod) → map piece_view fs ≡ map piece_of_member es → map piece_view (filter (is_owned c) fs) ≡ map piece_of_member (filter (is_of c) es)
-same_passed c [] [] same = refl
-same_passed c [] (e ∷ es) same = absurd (nothing _ _ same)
+same_passed : (w : Classes) (c : Name) (fs : List JsPiece) (es : List EmittedMethod) → map piece_view fs ≡ map (piece_of_member w) es → map piece_view (filter (is_owned c) fs) ≡ map (piece_of_member w) (filter (is_of c) es)
+same_passed w c [] [] same = refl
+same_passed w c [] (e ∷ es) same = absurd (nothing _ _ same)
   where
     nothing : (p : Piece) (ps : List Piece) → [] ≡ p ∷ ps → ⊥
     nothing p ps h = cc
-same_passed c (f ∷ fs) [] same = absurd (nothing _ _ same)
+same_passed w c (f ∷ fs) [] same = absurd (nothing _ _ same)
   where
     nothing : (p : Piece) (ps : List Piece) → p ∷ ps ≡ [] → ⊥
     nothing p ps h = cc
-same_passed c (f ∷ fs) (e ∷ es) same = go (is_same f.owner c) (is_same e.member.class c) (ap (λ (p : Piece). is_same p.owner c) first) (same_passed c fs es (tails (piece_view f) (piece_of_member e) (map piece_view fs) (map piece_of_member es) same))
+same_passed w c (f ∷ fs) (e ∷ es) same = go (is_same f.owner c) (is_same e.member.class c) (ap (λ (p : Piece). is_same p.owner c) first) (same_passed w c fs es (tails (piece_view f) (piece_of_member w e) (map piece_view fs) (map (piece_of_member w) es) same))
   where
-    first : piece_view f ≡ piece_of_member e
-    first = heads (piece_view f) (piece_of_member e) (map piece_view fs) (map piece_of_member es) same
+    first : piece_view f ≡ piece_of_member w e
+    first = heads (piece_view f) (piece_of_member w e) (map piece_view fs) (map (piece_of_member w) es) same
 
-    go : (b d : Bool) → b ≡ d → map piece_view (filter (is_owned c) fs) ≡ map piece_of_member (filter (is_of c) es) → map piece_view (cond b (f ∷ filter (is_owned c) fs) (filter (is_owned c) fs)) ≡ map piece_of_member (cond d (e ∷ filter (is_of c) es) (filter (is_of c) es))
+    go : (b d : Bool) → b ≡ d → map piece_view (filter (is_owned c) fs) ≡ map (piece_of_member w) (filter (is_of c) es) → map piece_view (cond b (f ∷ filter (is_owned c) fs) (filter (is_owned c) fs)) ≡ map (piece_of_member w) (cond d (e ∷ filter (is_of c) es) (filter (is_of c) es))
     go true true s rest = λ i. first i ∷ rest i
     go false false s rest = rest
     go true false s rest = cc
@@ -107,20 +107,20 @@ names_once (e ∷ es) own tell = IsDistinct-cons is_same (name_in e) (map name_i
 pub name_ranks : IsStrictWeakOrder has_lesser_name
 name_ranks = ranks_by (on_total (λ (p : JsPiece). p.name) nat_list_cmp_total) (λ (p : JsPiece). p)
 
-module _ (l : Linked) (functions : List JsPiece) (all : List EmittedMethod) (given : map piece_view functions ≡ map piece_of_member all) (own : HaveOwnMembers all) (tell : NamesTell all) where
+module _ (l : Linked) (functions : List JsPiece) (all : List EmittedMethod) (given : map piece_view functions ≡ map (piece_of_member l.world) all) (own : HaveOwnMembers all) (tell : NamesTell all) where
   -- the methods of functions
   pub record MethodsOf (c : Name) (fs : List JsPiece) : Type 0 where
     pub methods : List EmittedMethod
     pub are : AreMethodsOf all c methods
-    pub images : map piece_view fs ≡ map piece_of_member methods
+    pub images : map piece_view fs ≡ map (piece_of_member l.world) methods
 
   abbrev of_class : Name → List EmittedMethod
   of_class c = filter (is_of c) all
 
   methods_of : (c : Name) (fs : List JsPiece) → AreByName (filter (is_owned c) functions) fs → MethodsOf c fs
   methods_of c fs by =
-      let m = moved_too piece_view piece_of_member (filter (is_owned c) functions) fs (of_class c) (same_passed c functions all given) by.same in
-      let names : map function_name fs ≡ map name_in m.moved = sym (map_twice piece_view piece_name fs) ∙ ap (map piece_name) m.images ∙ map_twice piece_of_member piece_name m.moved in
+      let m = moved_too piece_view (piece_of_member l.world) (filter (is_owned c) functions) fs (of_class c) (same_passed l.world c functions all given) by.same in
+      let names : map function_name fs ≡ map name_in m.moved = sym (map_twice piece_view piece_name fs) ∙ ap (map piece_name) m.images ∙ map_twice (piece_of_member l.world) piece_name m.moved in
       let once : IsDistinct is_same (map name_in m.moved) = once_moved (map name_in (of_class c)) (map name_in m.moved) (IsPermutation-map name_in (of_class c) m.moved m.same) (names_once (of_class c) (own_passed c all own) (λ a b i j. tell a b (from_filter (is_of c) all a i).among (from_filter (is_of c) all b j).among)) in
       let stand : AreInOrder (λ (f g : JsPiece). IsBefore f.name g.name) fs = sorted_stand (λ (f g : JsPiece). IsBefore f.name g.name) has_lesser_name name_ranks function_name (λ _. Unit {0}) (λ f g _ _ differ low. before_other f.name g.name differ low) fs (λ _ _. tt) by.in_order (subst (λ (ns : List Name). IsDistinct is_same ns) (sym names) once) in
       record {
@@ -152,7 +152,7 @@ module _ (l : Linked) (functions : List JsPiece) (all : List EmittedMethod) (giv
   unfolding as_block
   same_pieces b made = ap (λ (ps : List Piece). map piece_view b.own.items ++ ps) (sym (its_methods b made).images)
 
-  same_with_helpers : (helpers : List Piece) (b : Block) (made : Made b) → with_helpers helpers (as_block b made) ≡ with_helpers_in helpers b
+  same_with_helpers : (helpers : List Piece) (b : Block) (made : Made b) → with_helpers l.world helpers (as_block b made) ≡ with_helpers_in helpers b
   unfolding as_block
   same_with_helpers helpers b made = ap (λ (ps : List Piece). if is_object b.class then ps ++ helpers else ps) (same_pieces b made)
 
@@ -165,12 +165,12 @@ module _ (l : Linked) (functions : List JsPiece) (all : List EmittedMethod) (giv
   are_blocks [] each = tt
   are_blocks (b ∷ bs) each = (is_block b (each b (at_first b bs)), are_blocks bs (λ c h. each c (further b c bs h)))
 
-  all_pieces : (bs : List Block) (each : (b : Block) → Contains bs b → Made b) → flat_map pieces_of_block (blocks bs each) ≡ flat_map pieces_in bs
+  all_pieces : (bs : List Block) (each : (b : Block) → Contains bs b → Made b) → flat_map (pieces_of_block l.world) (blocks bs each) ≡ flat_map pieces_in bs
   unfolding blocks
   all_pieces [] each = refl
   all_pieces (b ∷ bs) each = λ i. same_pieces b (each b (at_first b bs)) i ++ all_pieces bs (λ c h. each c (further b c bs h)) i
 
-  all_with_helpers : (helpers : List Piece) (bs : List Block) (each : (b : Block) → Contains bs b → Made b) → flat_map (with_helpers helpers) (blocks bs each) ≡ flat_map (with_helpers_in helpers) bs
+  all_with_helpers : (helpers : List Piece) (bs : List Block) (each : (b : Block) → Contains bs b → Made b) → flat_map (with_helpers l.world helpers) (blocks bs each) ≡ flat_map (with_helpers_in helpers) bs
   unfolding blocks
   all_with_helpers helpers [] each = refl
   all_with_helpers helpers (b ∷ bs) each = λ i. same_with_helpers helpers b (each b (at_first b bs)) i ++ all_with_helpers helpers bs (λ c h. each c (further b c bs h)) i

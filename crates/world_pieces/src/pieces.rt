@@ -31,7 +31,7 @@ pub fn world_pieces(
     functions: Vec<JsPiece>,
 ) -> Result<Vec<JsPiece>, NoMemory>
     requires { All IsPiece (map piece_view functions.items) }
-    ensures pieces { (all : List EmittedMethod) → map piece_view functions.items ≡ map piece_of_member all → HaveOwnMembers all → NamesTell all → IfOk result (λ ps. AreLinkedPieces linked.now all (map piece_view ps.items)) }
+    ensures pieces { (all : List EmittedMethod) → map piece_view functions.items ≡ map (piece_of_member linked.now.world) all → HaveOwnMembers all → NamesTell all → IfOk result (λ ps. AreLinkedPieces linked.now all (map piece_view ps.items)) }
     ensures rules { IfOk result (λ ps. All IsPiece (map piece_view ps.items)) }
 {
     let classes = classes_in_order(alloc, linked.world())?;
