@@ -2,15 +2,19 @@
 ghost use Rattle.std.specs.Prelude.{◌≡◌, true, All, IfOk, IfSome, map};
 ghost use Rattle.js_tree.specs.Rules.{IsPiece};
 ghost use Rattle.js_tree.specs.Views.{piece_view};
+ghost use Rattle.sj_core.specs.Views.{method_view};
 ghost use Rattle.sj_pieces.specs.Owners.{BodyOnObjects};
+ghost use Rattle.sj_pieces.specs.Ranges.{AreBytes};
+ghost use Rattle.world_vectors.specs.Emitted.{IsEmitted};
 
 use crate::objects::is_on_objects;
 use built_forms::not_built;
-use js_tree::JsPiece;
+use js_tree::{JsMember, JsPiece};
 use sj_ask::WorldOracle;
+use sj_core::CoreMethod;
 use sj_desugarer::desugar;
 use sj_emitter::emit_member;
-use sj_names::{Member, Meter, NoMemory};
+use sj_names::{ClassName, Member, Meter, NoMemory};
 use sj_pieces::{desugared_fields_have_owners, desugared_members_have_keys, member_piece};
 use sj_trees::MethodDef;
 use sj_world::{Fact, LinkedWorld, World, method_in};
@@ -80,7 +84,34 @@ fn emitted(
     desugared_members_have_keys();
     desugared_fields_have_owners();
     let core = desugar(alloc, method)?;
-    let mut oracle = WorldOracle::new(linked, member);
-    let function = emit_member(alloc, &core, &mut oracle, &mut Meter::new())?;
+    let function = emitted_function(alloc, linked, member, &core)?;
     member_piece(alloc, member, &core, function)
+}
+
+fn emitted_function(
+    alloc: Global,
+    linked: &LinkedWorld,
+    member: &Member,
+    core: &CoreMethod,
+) -> Result<JsMember, NoMemory>
+    ensures { IfOk result (IsEmitted (method_view core.now)) }
+{
+    class_names_fit(linked.world());
+    let mut oracle = WorldOracle::new(linked, member);
+    emit_member(alloc, core, &mut oracle, &mut Meter::new())
+}
+
+// The names of the classes are texts of bytes, as the type of each says where it is read.
+fn class_names_fit(world: &World)
+    ensures { All (λ c. AreBytes c.name) world.now }
+{
+    for class in world.classes() {
+        name_fits(&class.name);
+    }
+}
+
+fn name_fits(name: &ClassName)
+    ensures { AreBytes name.now }
+{
+    let _text = name.text();
 }
