@@ -84,7 +84,7 @@ pub fn emit_expression(
             call_on(alloc, constructor, new_object(alloc, class), arguments)
         }
         CoreExpression::ReceiverCall(member, receiver, arguments) => {
-            let function = function_name(alloc, targets.target(member))?;
+            let function = function_name(alloc, targets.called(member))?;
             let receiver = emit_expression(alloc, targets, receiver)?;
             let arguments = emit_expressions(alloc, targets, arguments)?;
             call_on(alloc, function, receiver, arguments)

@@ -4,12 +4,13 @@ ghost use Rattle.emit_questions.specs.Task.{Targets, with_target};
 ghost use Rattle.sj_ask.specs.Answers.{IsAnswer};
 ghost use Rattle.sj_ask.specs.Runs.{Ran};
 ghost use Rattle.sj_ask.specs.Tasks.{asks_target, found_member};
+ghost use Rattle.sj_emit_expr.specs.Templates.{called_member};
 ghost use Rattle.sj_emitter.specs.Targets.{target_of, Keeps, AreAsked};
 ghost use Rattle.sj_names.specs.declared.memory.NoMemory.{NoMemory};
 
 use indexmap::IndexMap;
 use sj_ask::{Answer, Oracle, Question};
-use sj_names::{Member, NoMemory};
+use sj_names::{Member, Namespace, NoMemory};
 use std::alloc::Global;
 
 /// For members that are called on receivers, the members whose functions these calls run.
@@ -29,8 +30,20 @@ impl CallTargets {
         Ok(())
     }
 
-    /// The member whose function a call of a member runs: its target, or else itself.
-    pub fn target<'t>(&'t self, member: &'t Member) -> &'t Member
+    /// The member whose function a call of a member on a receiver runs: of a public member its target, where it has one, and else the member itself.
+    pub fn called<'t>(&'t self, member: &'t Member) -> &'t Member
+        ensures { result.now ≡ called_member (target_of self.now) member.now.namespace member.now }
+    {
+        match member.namespace {
+            Namespace::Public => self.target(member),
+            Namespace::PublicStatic
+            | Namespace::Private
+            | Namespace::PrivateStatic
+            | Namespace::Constructor => member,
+        }
+    }
+
+    fn target<'t>(&'t self, member: &'t Member) -> &'t Member
         ensures { result.now ≡ target_of self.now member.now }
     {
         match self.targets.get(member) {

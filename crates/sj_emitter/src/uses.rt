@@ -138,7 +138,7 @@ fn add_uses_in(
             add_all_uses_in(alloc, targets, arguments, bindings)
         }
         CoreExpression::ReceiverCall(member, receiver, arguments) => {
-            let function = function_binding(alloc, targets.target(member))?;
+            let function = function_binding(alloc, targets.called(member))?;
             add(bindings, function)?;
             add_uses_in(alloc, targets, receiver, bindings)?;
             add_all_uses_in(alloc, targets, arguments, bindings)

@@ -8,7 +8,7 @@ use Rattle.js_tree.specs.Terms as js
 use Rattle.sj_core.specs.Terms as core
 use Rattle.sj_emit_expr.specs.Members.{with_receiver, member_piece}
 use Rattle.sj_emit_expr.specs.Names.{variable_name, label_name}
-use Rattle.sj_emit_expr.specs.Templates.{unary_template, binary_template, is_nonzero_literal, choice_template, expression_template, expression_templates, statement_template, statement_templates, case_templates, parameter_names}
+use Rattle.sj_emit_expr.specs.Templates.{unary_template, binary_template, is_nonzero_literal, choice_template, expression_template, expression_templates, statement_template, statement_templates, case_templates, parameter_names, called_member}
 use Rattle.sj_names.specs.declared.method_names.Member.{Member}
 use Rattle.sj_names.specs.declared.method_names.Namespace.{Namespace}
 use Rattle.sj_names.specs.declared.method_names.Namespace.TheVariants.{Public, PublicStatic, Private, PrivateStatic, Constructor}
@@ -16,7 +16,7 @@ use Rattle.sj_trees.specs.declared.operators.BinaryOp.{BinaryOp}
 use Rattle.sj_trees.specs.declared.operators.BinaryOp.TheVariants.{StringConcatenate, BooleanEqual, BooleanNotEqual, BooleanOr, BooleanAnd, IntAdd, IntSubtract, IntMultiply, IntDivide, IntRemainder, IntOr, IntAnd, IntXor, IntShiftLeft, IntShiftRightLogical, IntShiftRightArithmetic, IntEqual, IntNotEqual, IntLess, IntLessOrEqual, IntGreater, IntGreaterOrEqual, LongAdd, LongSubtract, LongMultiply, LongDivide, LongRemainder, LongOr, LongAnd, LongXor, LongShiftLeft, LongShiftRightLogical, LongShiftRightArithmetic, LongEqual, LongNotEqual, LongLess, LongLessOrEqual, LongGreater, LongGreaterOrEqual}
 use Rattle.sj_trees.specs.declared.operators.UnaryOp.{UnaryOp}
 use Rattle.sj_trees.specs.declared.operators.UnaryOp.TheVariants.{BooleanNot, CharToInt, ByteToInt, ShortToInt, IntToLong, IntToChar, IntToByte, IntToShort, LongToInt}
-use Rattle.sj_pieces.specs.Fits.{RunsFit, OwnRunsFit, TargetsFit}
+use Rattle.sj_pieces.specs.Fits.{RunsFit, TargetsFit}
 use Rattle.sj_pieces.specs.Keys.{IsKeyed, AreKeyed, HaveKeys, HasKeys}
 use Rattle.sj_pieces.specs.Owners.{HasOwners, HaveOwners, IsOwned, AreOwned, CasesOwned, FieldsHaveOwners}
 use Rattle.sj_pieces.specs.Ranges.{AreBytes, FitsMember, FitsExpression, FitExpressions, FitsStatement, FitStatements, FitCases, FitsMethod}
@@ -85,7 +85,7 @@ choice-kept : (c : js.Expression) (ss ts : js.Statements) → IsExpression c →
 choice-kept c ss js.no_statements h k l = (h, k)
 choice-kept c ss (js.statement t ts) h k l = (h, k, l)
 
-module _ (target : Member → Member) (own : OwnRunsFit target) where
+module _ (target : Member → Member) where
   mutual
     expression-kept : (e : core.Expression) → FitsExpression e → HasOwners e → RunsFit target (calls_in e) → IsExpression (expression_template variable_name label_name target e)
     expression-kept (core.number_value z) h o r = h
@@ -101,7 +101,7 @@ module _ (target : Member → Member) (own : OwnRunsFit target) where
     expression-kept (core.static_of c f) h o r = static-named c f h.0 h.1
     expression-kept (core.checked_value e) h o r = (refl, (expression-kept e h o r, tt))
     expression-kept (core.made_of m es) h o r = (member-named m h.0, ((class-named m.class h.0.0, tt), expressions-kept es h.1 o r))
-    expression-kept (core.receiver_call m e es) h o r = let q = three target (calls_in e) (calls_in_all es) (own_call m) r in (member-named (target m) (run-fits target own m q.2 h.0), (expression-kept e h.1 o.0 q.0, expressions-kept es h.2 o.1 q.1))
+    expression-kept (core.receiver_call m e es) h o r = let q = three target (calls_in e) (calls_in_all es) (own_call m) r in (member-named (called_member target m.namespace m) (run-fits target m.namespace m q.2 h.0), (expression-kept e h.1 o.0 q.0, expressions-kept es h.2 o.1 q.1))
     expression-kept (core.unary_of u e) h o r = unary-kept u (expression_template variable_name label_name target e) (expression-kept e h o r)
     expression-kept (core.binary_of b e g) h o r = let q = two target (calls_in e) (calls_in g) r in binary-kept (is_nonzero_literal g) b (expression_template variable_name label_name target e) (expression_template variable_name label_name target g) (expression-kept e h.0 o.0 q.0) (expression-kept g h.1 o.1 q.1)
     expression-kept _ h o r = tt
@@ -153,4 +153,4 @@ receiver-kept Private xs h = behind-receiver xs h
 receiver-kept Constructor xs h = behind-receiver xs h
 
 pub piece-kept : (target : Member → Member) (m : Member) (c : core.Method) → FitsMember m → FitsMethod c → HasKeys c → FieldsHaveOwners c → TargetsFit target c → IsPiece (member_piece target m c)
-piece-kept target m c named fits keys owners runs = (member-named m named, uses-named target runs.own c.body fits.1 runs.asked, (member-named m named, receiver-kept c.namespace (parameter_names c.params) (parameters-kept c.params fits.0), statements-kept target runs.own c.body fits.1 keys owners runs.asked))
+piece-kept target m c named fits keys owners runs = (member-named m named, uses-named target c.body fits.1 runs, (member-named m named, receiver-kept c.namespace (parameter_names c.params) (parameters-kept c.params fits.0), statements-kept target c.body fits.1 keys owners runs))

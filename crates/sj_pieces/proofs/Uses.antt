@@ -7,12 +7,12 @@ use Rattle.emit_questions.specs.Calls.{own_call, calls_in, calls_in_all, calls_o
 use Rattle.js_tree.specs.Rules.{IsBinding}
 use Rattle.js_tree.specs.declared.items.Binding.{Binding}
 use Rattle.sj_core.specs.Terms as core
-use Rattle.sj_emit_expr.specs.Templates.{check_name, is_nonzero_literal}
+use Rattle.sj_emit_expr.specs.Templates.{check_name, is_nonzero_literal, called_member}
 use Rattle.sj_emit_expr.specs.Uses.{object_binding, function_binding, class_use, static_use, setter_use, helper_of, uses_in, uses_in_all, uses_of, uses_of_all, uses_of_cases, is_same_binding, once_each, uses}
 use Rattle.sj_names.specs.declared.method_names.Member.{Member}
 use Rattle.sj_trees.specs.declared.operators.BinaryOp.{BinaryOp}
 use Rattle.sj_trees.specs.declared.operators.BinaryOp.TheVariants.{IntDivide, IntRemainder, LongDivide, LongRemainder}
-use Rattle.sj_pieces.specs.Fits.{RunsFit, OwnRunsFit}
+use Rattle.sj_pieces.specs.Fits.{RunsFit}
 use Rattle.sj_pieces.specs.Ranges.{FitsExpression, FitExpressions, FitsStatement, FitStatements, FitCases}
 use Rattle.sj_pieces.proofs.Runs.{two, three, run-fits}
 use Rattle.sj_pieces.proofs.Names.{member-named, class-named, static-named, setter-named}
@@ -33,7 +33,7 @@ helper-named false LongDivide = All-cons IsBinding (object_binding (codes "$ld")
 helper-named false LongRemainder = All-cons IsBinding (object_binding (codes "$lm")) [] refl none
 helper-named _ _ = none
 
-module _ (target : Member → Member) (own : OwnRunsFit target) where
+module _ (target : Member → Member) where
   mutual
     in-named : (e : core.Expression) → FitsExpression e → RunsFit target (calls_in e) → Named (uses_in target e)
     in-named (core.boxed_char e) h f = All-cons IsBinding (object_binding (codes "$C")) (uses_in target e) refl (in-named e h f)
@@ -45,7 +45,7 @@ module _ (target : Member → Member) (own : OwnRunsFit target) where
     in-named (core.static_of c f) h g = All-cons IsBinding (static_use c f) [] (static-named c f h.0 h.1) none
     in-named (core.checked_value e) h f = All-cons IsBinding (object_binding check_name) (uses_in target e) refl (in-named e h f)
     in-named (core.made_of m es) h f = All-cons IsBinding (function_binding m) (class_use m.class ∷ uses_in_all target es) (member-named m h.0) (All-cons IsBinding (class_use m.class) (uses_in_all target es) (class-named m.class h.0.0) (all-named es h.1 f))
-    in-named (core.receiver_call m e es) h f = let p = three target (calls_in e) (calls_in_all es) (own_call m) f in All-cons IsBinding (function_binding (target m)) (uses_in target e ++ uses_in_all target es) (member-named (target m) (run-fits target own m p.2 h.0)) (after (uses_in target e) (uses_in_all target es) (in-named e h.1 p.0) (all-named es h.2 p.1))
+    in-named (core.receiver_call m e es) h f = let p = three target (calls_in e) (calls_in_all es) (own_call m) f in All-cons IsBinding (function_binding (called_member target m.namespace m)) (uses_in target e ++ uses_in_all target es) (member-named (called_member target m.namespace m) (run-fits target m.namespace m p.2 h.0)) (after (uses_in target e) (uses_in_all target es) (in-named e h.1 p.0) (all-named es h.2 p.1))
     in-named (core.unary_of o e) h f = in-named e h f
     in-named (core.binary_of o e g) h f = let p = two target (calls_in e) (calls_in g) f in after (helper_of (is_nonzero_literal g) o ++ uses_in target e) (uses_in target g) (after (helper_of (is_nonzero_literal g) o) (uses_in target e) (helper-named (is_nonzero_literal g) o) (in-named e h.0 p.0)) (in-named g h.1 p.1)
     in-named _ h f = none
@@ -92,5 +92,5 @@ once-named seen (b ∷ bs) h =
     let rest : Named bs = All-tail IsBinding b bs h in
     either-named (list_any (is_same_binding b) seen) (once_each seen bs) (b ∷ once_each (b ∷ seen) bs) (once-named seen bs rest) (All-cons IsBinding b (once_each (b ∷ seen) bs) (All-head IsBinding b bs h) (once-named (b ∷ seen) bs rest))
 
-pub uses-named : (target : Member → Member) (own : OwnRunsFit target) (ss : core.Statements) → FitStatements ss → RunsFit target (calls_of_all ss) → Named (uses target ss)
-uses-named target own ss h f = once-named [] (uses_of_all target ss) (of-all-named target own ss h f)
+pub uses-named : (target : Member → Member) (ss : core.Statements) → FitStatements ss → RunsFit target (calls_of_all ss) → Named (uses target ss)
+uses-named target ss h f = once-named [] (uses_of_all target ss) (of-all-named target ss h f)

@@ -8,6 +8,7 @@ use Rattle.sj_emit_expr.specs.Uses.{uses_in, uses_in_all, function_binding, help
 use Rattle.sj_emitter.proofs.Collected.{more-uses}
 use Rattle.sj_emitter.proofs.uses.+expression_uses.Goals as goal
 use Rattle.sj_emitter.specs.Collecting.{with_use}
+use Rattle.sj_emit_expr.specs.Templates.{called_member}
 use Rattle.sj_emitter.specs.Targets.{target_of}
 
 pub add_uses_in-returns-in_ok-add_uses_in-in-Choice-2 : goal.add_uses_in-returns-in_ok-add_uses_in-in-Choice-2
@@ -34,8 +35,8 @@ pub add_uses_in-returns-in_ok-add_uses_in-in-ReceiverCall : goal.add_uses_in-ret
 add_uses_in-returns-in_ok-add_uses_in-in-ReceiverCall t c =
     let n = c.in-ReceiverCall in
     let v : expression_view c.args.expression.now ≡ receiver_call n.member (expression_view n.receiver.value) (expressions_view n.arguments.items) = ap expression_view (n.is ∙ sym (rolls-ReceiverCall n.member n.receiver n.arguments)) ∙ fold-roll-CoreExpression Expression expression_step (CoreExpression-F.ReceiverCall n.member n.receiver n.arguments) in
-    let first = function_binding (target_of c.args.targets.now n.member) ∷ [] in
+    let first = function_binding (called_member (target_of c.args.targets.now) n.member.namespace n.member) ∷ [] in
     let second = uses_in (target_of c.args.targets.now) (expression_view c.deref-in-ReceiverCall.result.now) in
     let third = uses_in_all (target_of c.args.targets.now) (expressions_view c.deref-in-ReceiverCall-2.result.now) in
     let parts : first ++ second ++ third ≡ uses_in (target_of c.args.targets.now) (expression_view c.args.expression.now) = rw (v, c.deref-in-ReceiverCall.ensures, c.deref-in-ReceiverCall-2.ensures.value) refl in
-    rw (← more-uses _ _ (first ++ second) third _ (c.in_ok-add_uses_in-in-ReceiverCall.ensures ∙ more-uses _ _ first second (first ++ second) (c.in_ok-add-in-ReceiverCall.ensures ∙ ap (with_use _) (c.in_ok-function-in-ReceiverCall.ensures ∙ ap function_binding c.target.ensures)) refl) parts) c.add_all_uses_in-in-ReceiverCall.ensures
+    rw (← more-uses _ _ (first ++ second) third _ (c.in_ok-add_uses_in-in-ReceiverCall.ensures ∙ more-uses _ _ first second (first ++ second) (c.in_ok-add-in-ReceiverCall.ensures ∙ ap (with_use _) (c.in_ok-function-in-ReceiverCall.ensures ∙ ap function_binding c.called.ensures)) refl) parts) c.add_all_uses_in-in-ReceiverCall.ensures
