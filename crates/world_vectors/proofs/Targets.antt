@@ -83,6 +83,6 @@ module _ (s : Stand) (names : (name : Name) (c : ClassDef) → class_of s.classe
           record {
             target = target_by found;
             is = cc;
-            fit = record { asked = λ k called h. fit k h; own = λ k none h. fit k h };
+            fit = λ k called h. fit k h;
           }
       go (stopped e first no) = let off : Ok (emitted_view f) ≡ Err e = no in cc

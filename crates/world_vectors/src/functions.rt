@@ -14,7 +14,7 @@ use sj_ask::WorldOracle;
 use sj_core::CoreMethod;
 use sj_desugarer::desugar;
 use sj_emitter::emit_member;
-use sj_names::{ClassName, Member, Meter, NoMemory};
+use sj_names::{Member, Meter, NoMemory};
 use sj_pieces::{desugared_fields_have_owners, desugared_members_have_keys, member_piece};
 use sj_trees::MethodDef;
 use sj_world::{Fact, LinkedWorld, World, method_in};
@@ -106,12 +106,10 @@ fn class_names_fit(world: &World)
     ensures { All (λ c. AreBytes c.name) world.now }
 {
     for class in world.classes() {
-        name_fits(&class.name);
+        name_fits(class.name.text());
     }
 }
 
-fn name_fits(name: &ClassName)
+fn name_fits(name: &str)
     ensures { AreBytes name.now }
-{
-    let _text = name.text();
-}
+{}
