@@ -1,7 +1,11 @@
 // The functions of methods.
-ghost use Rattle.std.specs.Prelude.{◌≡◌, IfOk};
+ghost use Rattle.std.specs.Prelude.{◌≡◌, [], IfOk};
+ghost use Rattle.code_vectors.specs.Itself.{itself};
+ghost use Rattle.emit_questions.specs.Task as task;
+ghost use Rattle.emit_questions.specs.Task.{emitted_view};
 ghost use Rattle.js_tree.specs.Rules.{IsPiece};
 ghost use Rattle.js_tree.specs.Views.{piece_view};
+ghost use Rattle.sj_core.specs.Views.{method_view};
 ghost use Rattle.sj_desugarer.specs.Methods.{method_desugared};
 ghost use Rattle.sj_emit_expr.specs.Members as members;
 ghost use Rattle.sj_pieces.specs.Owners.{BodyOnObjects};
@@ -9,13 +13,16 @@ ghost use Rattle.sj_pieces.specs.Owners.{BodyOnObjects};
 use crate::forms::is_built;
 use crate::texts::{add, add_digits, class_of};
 use js_print::print_piece;
-use js_tree::JsPiece;
+use js_tree::{JsMember, JsPiece};
+use sj_ask::WorldOracle;
+use sj_core::CoreMethod;
 use sj_desugarer::desugar;
 use sj_emitter::emit_member;
 use sj_mangling::function_name;
 use sj_names::{ClassName, Member, Meter, NameError, NoMemory};
 use sj_pieces::{desugared_fields_have_owners, desugared_members_have_keys, member_piece};
 use sj_trees::{ClassDef, MethodDef};
+use sj_world::LinkedWorld;
 use std::alloc::Global;
 
 /// Adds for each method of the class of a file `piece`, the name of its function, and the bytes of the printed function in hexadecimal digits. In place of the
@@ -80,15 +87,34 @@ fn add_printed(alloc: Global, piece: &JsPiece, text: &mut String) -> Result<(), 
     add_digits(alloc, bytes.as_slice(), text)
 }
 
-// The piece of a method whose fields are those of objects.
+// The piece of a method whose fields are those of objects, in which a call on a receiver runs the member that it names.
 fn emitted(alloc: Global, member: &Member, method: &MethodDef) -> Result<JsPiece, NoMemory>
     requires { BodyOnObjects method.now.body }
-    ensures piece { IfOk result (λ p. piece_view p ≡ members.member_piece member.now (method_desugared method.now)) }
+    ensures piece { IfOk result (λ p. piece_view p ≡ members.member_piece itself member.now (method_desugared method.now)) }
     ensures rules { IfOk result (λ p. IsPiece (piece_view p)) }
 {
     desugared_members_have_keys();
     desugared_fields_have_owners();
     let core = desugar(alloc, method)?;
-    let function = emit_member(alloc, &core, &mut Meter::new())?;
+    let function = emitted_function(alloc, member, &core)?;
     member_piece(alloc, member, &core, function)
+}
+
+// The function of a method, emitted in a world without classes: there no call on a receiver has a target.
+fn emitted_function(alloc: Global, member: &Member, core: &CoreMethod) -> Result<JsMember, NoMemory>
+    ensures { IfOk result (λ f. emitted_view f ≡ task.emitted itself (method_view core.now)) }
+{
+    let world = no_classes(alloc)?;
+    let mut oracle = WorldOracle::new(&world, member);
+    emit_member(alloc, core, &mut oracle, &mut Meter::new())
+}
+
+// The world without classes.
+fn no_classes(alloc: Global) -> Result<LinkedWorld, NoMemory>
+    ensures { IfOk result (λ w. w.world ≡ []) }
+{
+    match LinkedWorld::new(alloc, Vec::new(alloc), Vec::new(alloc), Vec::new(alloc)) {
+        Ok(world) => Ok(world),
+        Err(_) => Err(NoMemory),
+    }
 }

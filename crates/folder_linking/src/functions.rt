@@ -1,23 +1,26 @@
 // The functions of the bodies that are needed.
-ghost use Rattle.std.specs.Prelude.{◌≡◌, IfOk, length, map, true};
+ghost use Rattle.std.specs.Prelude.{◌≡◌, All, IfOk, length, map, true};
 ghost use Rattle.std.specs.List.{Contains};
-ghost use Rattle.js_tree.specs.Views.{body_view, piece_view};
+ghost use Rattle.dispatch_laws.specs.Targets.{target_in};
+ghost use Rattle.emit_questions.specs.Task.{emitted, emitted_view};
+ghost use Rattle.js_tree.specs.Views.{piece_view};
 ghost use Rattle.sj_core.specs.Views.{method_view};
 ghost use Rattle.sj_desugarer.specs.Methods.{method_desugared};
 ghost use Rattle.sj_emit_expr.specs.Members as members;
-ghost use Rattle.sj_emit_expr.specs.Members.{function_parameters};
-ghost use Rattle.sj_emit_expr.specs.Templates.{body_template};
-ghost use Rattle.sj_emit_expr.specs.Uses.{uses};
 ghost use Rattle.sj_pieces.specs.Owners.{BodyOnObjects};
+ghost use Rattle.sj_pieces.specs.Ranges.{AreBytes};
 ghost use Rattle.js_tree.specs.Rules.{IsPiece};
 ghost use Rattle.sj_names.specs.declared.method_names.Member.{Member};
+ghost use Rattle.sj_world.specs.Known.{names_of};
 ghost use Rattle.sj_world.specs.Members.{IsMethodOf};
+ghost use Rattle.sj_world.specs.Refusals.{IsInOrder};
 ghost use Rattle.linked_folders.specs.Stages.{IsDefined};
 ghost use Rattle.folder_judging.specs.Counts.{members_of, bodies_among};
 ghost use Rattle.folder_linking.specs.Counts.{Emits};
 ghost use Rattle.folder_linking.specs.Functions.{AreFunctions, IsFunction};
 
 use crate::members::needed_members;
+use class_printing::name_fits;
 use folder_judging::definition_of;
 use js_tree::{JsMember, JsPiece};
 use sj_ask::WorldOracle;
@@ -26,7 +29,7 @@ use sj_desugarer::desugar;
 use sj_names::{Member, NoMemory};
 use sj_pieces::{desugared_fields_have_owners, desugared_members_have_keys, member_piece};
 use sj_recorder::Recorder;
-use sj_trees::MethodDef;
+use sj_trees::{ClassDef, MethodDef};
 use sj_workers::Workers;
 use sj_world::{LinkedWorld, World};
 use std::alloc::Global;
@@ -48,6 +51,7 @@ pub fn functions_of_bodies<'w, W: Workers>(
     ensures functions { IfOk result (λ fs. AreFunctions linked.now.world (members_of linked.now.facts) fs.items) }
     ensures counted { Emits (bodies_among linked.now.facts) result (W.meter work.old) (W.meter work.new) }
 {
+    class_names_fit(linked.world().classes());
     let members = needed_members(alloc, linked.facts())?;
     functions_of(alloc, linked, &members, work)
 }
@@ -58,7 +62,9 @@ fn functions_of<'w, W: Workers>(
     members: &[&'w Member],
     work: &mut W,
 ) -> Result<Vec<Function<'w>>, NoMemory>
-    requires { (k : Member) → Contains (map (λ m. m.now) members.now) k → IsDefined linked.now.world k }
+    requires defined { (k : Member) → Contains (map (λ m. m.now) members.now) k → IsDefined linked.now.world k }
+    requires in_order { IsInOrder linked.now.world }
+    requires names { All AreBytes (names_of linked.now.world) }
     ensures functions { IfOk result (λ fs. AreFunctions linked.now.world (map (λ m. m.now) members.now) fs.items) }
     ensures counted { Emits (length members.now) result (W.meter work.old) (W.meter work.new) }
 {
@@ -76,7 +82,9 @@ fn function_of<'w, W: Workers>(
     member: &'w Member,
     work: &mut W,
 ) -> Result<Function<'w>, NoMemory>
-    requires { IsDefined linked.now.world member.now }
+    requires defined { IsDefined linked.now.world member.now }
+    requires in_order { IsInOrder linked.now.world }
+    requires names { All AreBytes (names_of linked.now.world) }
     ensures function { IfOk result (λ f. (f.member.now ≡ member.now) × IsFunction linked.now.world f) }
     ensures counted { Emits 1 result (W.meter work.old) (W.meter work.new) }
 {
@@ -93,7 +101,9 @@ fn emitted_piece<W: Workers>(
     definition: &MethodDef,
     work: &mut W,
 ) -> Result<JsPiece, NoMemory>
-    ensures piece { IfOk result (λ p. piece_view p ≡ members.member_piece member.now (method_desugared definition.now)) }
+    requires in_order { IsInOrder linked.now.world }
+    requires names { All AreBytes (names_of linked.now.world) }
+    ensures piece { IfOk result (λ p. piece_view p ≡ members.member_piece (target_in linked.now.world) member.now (method_desugared definition.now)) }
     ensures rules { BodyOnObjects definition.now.body → IfOk result (λ p. IsPiece (piece_view p)) }
     ensures counted { Emits 1 result (W.meter work.old) (W.meter work.new) }
 {
@@ -104,6 +114,7 @@ fn emitted_piece<W: Workers>(
     member_piece(alloc, member, &core, emitted)
 }
 
+// The emitted function of the member, whose calls run the targets of the world.
 fn emit<W: Workers>(
     alloc: Global,
     linked: &LinkedWorld,
@@ -111,13 +122,21 @@ fn emit<W: Workers>(
     core: &CoreMethod,
     work: &mut W,
 ) -> Result<JsMember, NoMemory>
-    ensures params { IfOk result (λ e. e.params ≡ function_parameters (method_view core.now)) }
-    ensures body { IfOk result (λ e. body_view e.body ≡ body_template (method_view core.now)) }
-    ensures used { IfOk result (λ e. e.uses ≡ uses (method_view core.now).body) }
+    requires { IsInOrder linked.now.world }
+    ensures emitted { IfOk result (λ e. emitted_view e ≡ emitted (target_in linked.now.world) (method_view core.now)) }
     ensures counted { Emits 1 result (W.meter work.old) (W.meter work.new) }
 {
     let mut recorder = Recorder::new(alloc, member.copied()?, WorldOracle::new(linked, member));
     work.emit_member(alloc, core, &mut recorder)
+}
+
+// The names of classes are texts of bytes.
+fn class_names_fit(classes: &[ClassDef])
+    ensures { All AreBytes (names_of classes.now) }
+{
+    for class in classes {
+        name_fits(&class.name);
+    }
 }
 
 // The definition of the member, which has one.

@@ -1,5 +1,7 @@
 // The piece of a method.
 ghost use Rattle.std.specs.Prelude.{◌≡◌, IfOk};
+ghost use Rattle.emit_questions.specs.Task as task;
+ghost use Rattle.emit_questions.specs.Task.{emitted_view};
 ghost use Rattle.js_tree.specs.Rules.{IsPiece};
 ghost use Rattle.js_tree.specs.Views.{body_view, piece_view};
 ghost use Rattle.sj_core.specs.Views.{method_view};
@@ -8,10 +10,7 @@ ghost use Rattle.sj_pieces.specs.Fits.{TargetsFit};
 ghost use Rattle.sj_pieces.specs.Keys.{HasKeys};
 ghost use Rattle.sj_pieces.specs.Owners.{FieldsHaveOwners};
 ghost use Rattle.sj_emit_expr.specs.Members as members;
-ghost use Rattle.sj_emit_expr.specs.Members.{function_parameters};
 ghost use Rattle.sj_emit_expr.specs.Pieces as pieces;
-ghost use Rattle.sj_emit_expr.specs.Templates.{body_template};
-ghost use Rattle.sj_emit_expr.specs.Uses.{uses};
 
 use crate::ranges::{member_fits, method_fits};
 use js_tree::{JsItem, JsMember, JsPiece};
@@ -21,21 +20,17 @@ use sj_names::{Member, NoMemory};
 use std::alloc::Global;
 use std::rc::Rc;
 
-/// The piece of a method, with a receiver or without one, of which this is the emitted function, by what calls of members on receivers run (`target`): the
-/// function, under the name of the member, which the member's class owns. Where each case of a switch has a key, each field is one of what may stand before
-/// `.`, and what calls run has names of bytes, the piece keeps the rules of printing. Want of memory is the only error.
+/// The piece of a method, with a receiver or without one, of which this is the emitted function by some targets of public members: the function, under the
+/// name of the member, which the member's class owns. Where each case of a switch has a key, each field is one of what may stand before `.`, and the targets
+/// have names of bytes, the piece keeps the rules of printing. Want of memory is the only error.
 pub fn member_piece(
     alloc: Global,
     member: &Member,
     m: &CoreMethod,
     emitted: JsMember,
 ) -> Result<JsPiece, NoMemory>
-    ghost target: { Member → Member }
-    requires params { emitted.params ≡ function_parameters (method_view m.now) }
-    requires body { body_view emitted.body ≡ body_template target (method_view m.now) }
-    requires used { emitted.uses ≡ uses target (method_view m.now).body }
-    ensures piece { IfOk result (λ p. piece_view p ≡ members.member_piece target member.now (method_view m.now)) }
-    ensures rules { HasKeys (method_view m.now) → FieldsHaveOwners (method_view m.now) → TargetsFit target (method_view m.now) → IfOk result (λ p. IsPiece (piece_view p)) }
+    ensures piece { (target : Member → Member) → emitted_view emitted ≡ task.emitted target (method_view m.now) → IfOk result (λ p. piece_view p ≡ members.member_piece target member.now (method_view m.now)) }
+    ensures rules { (target : Member → Member) → emitted_view emitted ≡ task.emitted target (method_view m.now) → HasKeys (method_view m.now) → FieldsHaveOwners (method_view m.now) → TargetsFit target (method_view m.now) → IfOk result (λ p. IsPiece (piece_view p)) }
 {
     member_fits(member);
     method_fits(m);

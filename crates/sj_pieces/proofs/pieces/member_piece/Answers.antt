@@ -1,23 +1,23 @@
 use Rattle.std.proofs.Common.{◌≡◌, ◌∙◌, subst, sym}
 use Rattle.std.proofs.lemmas.Result.{IfOk-weaker}
+use Rattle.emit_questions.specs.Task.{emitted, emitted_view}
 use Rattle.js_tree.specs.Rules.{IsPiece}
-use Rattle.js_tree.specs.Views.{body_view}
+use Rattle.js_tree.specs.Terms.{Piece}
+use Rattle.js_tree.specs.declared.items.JsMember.{JsMember}
+use Rattle.sj_core.specs.Terms.{Method}
 use Rattle.sj_core.specs.Views.{method_view}
 use Rattle.sj_emit_expr.specs.Members as members
 use Rattle.sj_emit_expr.specs.Pieces.{function_piece}
+use Rattle.sj_names.specs.declared.method_names.Member.{Member}
 use Rattle.sj_pieces.proofs.Kept.{piece-kept}
 use Rattle.sj_pieces.proofs.pieces.member_piece.Goals as goal
 
+-- the piece of a function by its view
+same_piece : (target : Member → Member) (m : Member) (e : JsMember) (c : Method) → emitted_view e ≡ emitted target c → function_piece m (emitted_view e).params (emitted_view e).body (emitted_view e).uses ≡ members.member_piece target m c
+same_piece target m e c same = λ i. function_piece m (same i).params (same i).body (same i).uses
+
 pub returns-clause-piece : goal.returns-clause-piece
-returns-clause-piece g c =
-    let m = c.args.member.now in
-    let r = c.requires in
-    let same : function_piece m c.args.emitted.params (body_view c.args.emitted.body) c.args.emitted.uses ≡ members.member_piece g.target m (method_view c.args.m.now) = λ i. function_piece m (r.0 i) (r.1.0 i) (r.1.1 i) in
-    IfOk-weaker c.function_piece.result _ _ (λ p h. h ∙ same) c.function_piece.ensures
+returns-clause-piece c = λ target same. IfOk-weaker c.function_piece.result _ _ (λ p h. h ∙ same_piece target c.args.member.now c.args.emitted (method_view c.args.m.now) same) c.function_piece.ensures
 
 pub returns-clause-rules : goal.returns-clause-rules
-returns-clause-rules g c keys owners runs =
-    let m = c.args.member.now in
-    let r = c.requires in
-    let same : function_piece m c.args.emitted.params (body_view c.args.emitted.body) c.args.emitted.uses ≡ members.member_piece g.target m (method_view c.args.m.now) = λ i. function_piece m (r.0 i) (r.1.0 i) (r.1.1 i) in
-    IfOk-weaker c.function_piece.result _ _ (λ p h. subst IsPiece (sym (h ∙ same)) (piece-kept g.target m (method_view c.args.m.now) c.member_fits.ensures c.method_fits.ensures keys owners runs)) c.function_piece.ensures
+returns-clause-rules c = λ target same keys owners fit. IfOk-weaker c.function_piece.result _ _ (λ p h. subst IsPiece (sym (h ∙ same_piece target c.args.member.now c.args.emitted (method_view c.args.m.now) same)) (piece-kept target c.args.member.now (method_view c.args.m.now) c.member_fits.ensures c.method_fits.ensures keys owners fit)) c.function_piece.ensures
