@@ -67,28 +67,27 @@ fn add_class(alloc: Global, file: &str, classes: &mut Vec<ClassDef>) -> Result<(
 
 fn compared(alloc: Global, number: u64, recorded: &[String], made: &[String]) -> Result<String> {
     let count = recorded.len().max(made.len());
-    let mut agree = 0;
-    let mut first = None;
-    for place in 0..count {
-        if is_met(recorded, made, place) {
-            agree += 1;
-        } else {
-            first = first.or(Some(place));
-        }
-    }
+    let agree = recorded
+        .iter()
+        .zip(made)
+        .filter(|pair| pair.0 == pair.1)
+        .count();
     let mut text = format!(in alloc; "{number}: {agree} of {count} pieces agree\n")?;
-    if let Some(place) = first {
+    if agree < count {
+        let place = place_of_difference(recorded, made);
         tell(recorded, place, "recorded ", &mut text)?;
         tell(made, place, "made ", &mut text)?;
     }
     Ok(text)
 }
 
-fn is_met(recorded: &[String], made: &[String], place: usize) -> bool {
-    match (recorded.get(place), made.get(place)) {
-        (Some(one), Some(other)) => one == other,
-        _ => false,
-    }
+// How many lines agree in front of the first that doesn't.
+fn place_of_difference(recorded: &[String], made: &[String]) -> usize {
+    recorded
+        .iter()
+        .zip(made)
+        .take_while(|pair| pair.0 == pair.1)
+        .count()
 }
 
 fn tell(lines: &[String], place: usize, word: &str, text: &mut String) -> Result<()> {

@@ -9,6 +9,7 @@ ghost use Rattle.world_vectors.specs.Emitted.{IsEmitted};
 
 use crate::objects::is_on_objects;
 use built_forms::not_built;
+use class_printing::name_fits;
 use js_tree::{JsMember, JsPiece};
 use sj_ask::WorldOracle;
 use sj_core::CoreMethod;
@@ -16,7 +17,7 @@ use sj_desugarer::desugar;
 use sj_emitter::emit_member;
 use sj_names::{Member, Meter, NoMemory};
 use sj_pieces::{desugared_fields_have_owners, desugared_members_have_keys, member_piece};
-use sj_trees::MethodDef;
+use sj_trees::{ClassDef, MethodDef};
 use sj_world::{Fact, LinkedWorld, World, method_in};
 use std::alloc::Global;
 
@@ -96,20 +97,16 @@ fn emitted_function(
 ) -> Result<JsMember, NoMemory>
     ensures { IfOk result (IsEmitted (method_view core.now)) }
 {
-    class_names_fit(linked.world());
+    class_names_fit(linked.world().classes());
     let mut oracle = WorldOracle::new(linked, member);
     emit_member(alloc, core, &mut oracle, &mut Meter::new())
 }
 
-// The names of the classes are texts of bytes, as the type of each says where it is read.
-fn class_names_fit(world: &World)
-    ensures { All (λ c. AreBytes c.name) world.now }
+// The names of classes are texts of bytes.
+fn class_names_fit(classes: &[ClassDef])
+    ensures { All (λ c. AreBytes c.name) classes.now }
 {
-    for class in world.classes() {
-        name_fits(class.name.text());
+    for class in classes {
+        name_fits(&class.name);
     }
 }
-
-fn name_fits(name: &str)
-    ensures { AreBytes name.now }
-{}
