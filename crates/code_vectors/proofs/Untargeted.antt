@@ -1,5 +1,5 @@
 -- In a world without classes no call has a target.
-use Rattle.std.proofs.Common.{◌≡◌, ◌∙◌, List, [], ◌∷◌, Option, Some, None, Result, Ok, Err, IfOk, length, refl, sym, ap, subst}
+use Rattle.std.proofs.Common.{◌≡◌, ◌∙◌, List, [], ◌∷◌, Option, Some, None, Result, Ok, Err, IfOk, length, refl, ap, subst}
 use Rattle.std.proofs.lemmas.List.{nil_from_length}
 use Rattle.std.proofs.lemmas.List.Sorted.{length_permutation}
 use Rattle.std.specs.List.Sorted.{IsPermutation}
@@ -25,7 +25,7 @@ use Rattle.sj_trees.specs.declared.classes.ClassDef.{ClassDef}
 use Rattle.sj_world.specs.Ancestors.{IsAncestor}
 use Rattle.sj_world.specs.Known.{Name, Classes}
 use Rattle.sj_world.specs.Resolution as resolution
-use Rattle.sj_world.specs.Resolution.{Resolves, ResolvesAbove, target, abstract, missing, by_chain, by_ancestors, by_default, undeclared, declared}
+use Rattle.sj_world.specs.Resolution.{Resolves, ResolvesAbove, by_chain, by_ancestors, by_default, undeclared, declared}
 
 -- no class is known there
 not-known : {A : Type 0} (c : ClassDef) → None ≡ Some c → A

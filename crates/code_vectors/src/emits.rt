@@ -25,8 +25,8 @@ use sj_trees::{ClassDef, MethodDef};
 use sj_world::LinkedWorld;
 use std::alloc::Global;
 
-/// Adds for each method of the class of a file `piece`, the name of its function, and the bytes of the printed function in hexadecimal digits. In place of the
-/// bytes it has `not built` where the method has no body or a form of its body isn't built.
+/// Adds for each method of the class of a file `piece`, the name of its function, and the bytes of the printed function in hexadecimal digits, in which a call
+/// on a receiver runs the member that it names. In place of the bytes it has `not built` where the method has no body or a form of its body isn't built.
 pub(crate) fn add_answer(alloc: Global, file: &str, text: &mut String) -> Result<(), NameError> {
     match class_of(alloc, file) {
         Some(class) => add_methods(alloc, &class, text),

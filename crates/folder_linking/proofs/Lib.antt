@@ -1,6 +1,7 @@
 pub mod Taken
 mod Bodies
 mod Counted
+mod Emission
 mod Objects
 pub mod Methods
 pub mod Linked

@@ -199,7 +199,7 @@ module _ (entries : List EntryPoint) (l : Linked) (can : IsLinkable entries l) (
   views [] = refl
   views (g ∷ gs) = ap (λ (qs : List Piece). piece_view g.piece ∷ qs) (views gs)
 
-  pub pieces_of_bodies : (ps : List JsPiece) → ps ≡ map piece fs → map piece_view ps ≡ map piece_of_member all
+  pub pieces_of_bodies : (ps : List JsPiece) → ps ≡ map piece fs → map piece_view ps ≡ map (piece_of_member l.world) all
   pieces_of_bodies ps made = ap (map piece_view) made ∙ views fs ∙ sym (pieces_are l.world fs are.each)
 
   pub bodies_keep : (ps : List JsPiece) → ps ≡ map piece fs → All IsPiece (map piece_view ps)

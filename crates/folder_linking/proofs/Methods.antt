@@ -44,11 +44,11 @@ module _ (w : Classes) where
       let rest = members_are fs (λ g i. each g (further f g fs i)) in
       (λ i. first i ∷ rest i)
 
-  pub pieces_are : (fs : List Function) (each : (f : Function) → Contains fs f → IsFunction w f) → map piece_of_member (methods fs each) ≡ map (λ (f : Function). piece_view f.piece) fs
+  pub pieces_are : (fs : List Function) (each : (f : Function) → Contains fs f → IsFunction w f) → map (piece_of_member w) (methods fs each) ≡ map (λ (f : Function). piece_view f.piece) fs
   unfolding methods
   pieces_are [] each = refl
   pieces_are (f ∷ fs) each =
-      let first : piece_of_member (each f (at_first f fs)).method ≡ piece_view f.piece = sym (each f (at_first f fs)).piece_is in
+      let first : piece_of_member w (each f (at_first f fs)).method ≡ piece_view f.piece = sym (each f (at_first f fs)).piece_is in
       let rest = pieces_are fs (λ g i. each g (further f g fs i)) in
       (λ i. first i ∷ rest i)
 

@@ -136,7 +136,7 @@ module _ (w : Classes) (entries : List EntryPoint) (pieces : List Piece) (printa
   named e i =
       let d = defined w e.member e.definition (printable.are.bodies.found e i).found in
       let known = subst (λ (u : Classes). class_of u e.member.class ≡ Some d.class) (sym printable.are.is_linked.world) d.is_class in
-      (All-contains IsPiece pieces (piece_of_member e) printable.rules (method_there printable.are.linked all pieces printable.are.are e i d.class known)).0
+      (All-contains IsPiece pieces (piece_of_member printable.are.linked.world e) printable.rules (method_there printable.are.linked all pieces printable.are.are e i d.class known)).0
 
   call_kept : (e : EntryPoint) → Contains entries e → IsItem (call_item_of e)
   call_kept e i = let f = has_function-is all (initializer_member e) (entry w entries all printable.are.bodies e i) in (subst (λ (m : Member). IsName (member_name m)) f.is (named f.method f.listed), tt)

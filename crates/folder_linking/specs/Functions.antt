@@ -17,7 +17,7 @@ pub record IsFunction (w : Classes) (f : Function) : Type 0 where
   pub method : EmittedMethod
   pub member_is : method.member ≡ f.member.now
   pub found : IsFound w method
-  pub piece_is : piece_view f.piece ≡ piece_of_member method
+  pub piece_is : piece_view f.piece ≡ piece_of_member w method
   pub rules : OnObjects method.its_body → IsPiece (piece_view f.piece)
 
 abbrev pub piece : Function → JsPiece

@@ -148,7 +148,7 @@ module _ (l : Linked) (functions : List JsPiece) (all : List EmittedMethod) (giv
   unfolding as_block
   is_block b made = record { class_is = refl; own = made.own; methods = (its_methods b made).are }
 
-  same_pieces : (b : Block) (made : Made b) → pieces_of_block (as_block b made) ≡ pieces_in b
+  same_pieces : (b : Block) (made : Made b) → pieces_of_block l.world (as_block b made) ≡ pieces_in b
   unfolding as_block
   same_pieces b made = ap (λ (ps : List Piece). map piece_view b.own.items ++ ps) (sym (its_methods b made).images)
 

@@ -3,4 +3,4 @@ use Rattle.folder_linking.proofs.Bodies.{function_is}
 use Rattle.folder_linking.proofs.functions.function_of.Goals as goal
 
 pub returns-clause-function : goal.returns-clause-function
-returns-clause-function g c = (refl, function_is c.args.linked.now.world c.args.member.now c.known_definition-definition.result.now _ c.requires (rw c.world.ensures at c.known_definition-definition.ensures) refl c.in_ok-piece.ensures.piece c.in_ok-piece.ensures.rules)
+returns-clause-function g c = (refl, function_is c.args.linked.now.world c.args.member.now c.known_definition-definition.result.now _ c.requires.defined (rw c.world.ensures at c.known_definition-definition.ensures) refl c.in_ok-piece.ensures.piece c.in_ok-piece.ensures.rules)
