@@ -1,5 +1,5 @@
 -- What the calls of a method run in a world has names of bytes, as the classes of the world have.
-use Rattle.std.proofs.Common.{◌≡◌, ◌∙◌, Bool, true, false, ◌&&◌, List, [], ◌∷◌, Option, Some, None, Result, Ok, Err, if◌then◌else◌, IfOk, refl, sym, ap, subst}
+use Rattle.std.proofs.Common.{◌≡◌, ◌∙◌, Bool, true, false, ◌&&◌, List, [], ◌∷◌, Option, Some, None, Result, Ok, Err, if◌then◌else◌, IfOk, refl, sym, subst}
 use Rattle.std.specs.Prelude.{All}
 use Rattle.std.proofs.lemmas.Bool.{and_parts}
 use Rattle.std.proofs.lemmas.List.Elements.{All-head, All-tail}
@@ -8,7 +8,7 @@ use Rattle.emit_questions.specs.Laws.{AsEmitted}
 use Rattle.emit_questions.specs.Task.{Targets, is_same_member, target_by, with_target, ask_targets, Emitted, emitted, emitted_view}
 use Rattle.js_tree.specs.declared.items.JsMember.{JsMember}
 use Rattle.sj_ask.proofs.Running.{Parted, went, stopped, comes-parted}
-use Rattle.sj_ask.specs.Answers.{IsAnswer, IsTarget, GivesMember, public_member, target_member}
+use Rattle.sj_ask.specs.Answers.{IsAnswer, IsTarget, GivesMember, target_member}
 use Rattle.sj_ask.specs.Apart.{Exchange}
 use Rattle.sj_ask.specs.Runs.{Comes}
 use Rattle.sj_ask.specs.Stands.{Stand}

@@ -1,4 +1,4 @@
-use Rattle.std.proofs.Common.{IfOk, Option, Some, None, subst, sym}
+use Rattle.std.proofs.Common.{Option, Some, None, subst, sym}
 use Rattle.sj_desugar.specs.Desugar.{desugared_member}
 use Rattle.sj_desugarer.specs.Methods.{desugared_with}
 use Rattle.sj_pieces.specs.Keys.{HasKeys}

@@ -1,4 +1,4 @@
-use Rattle.std.proofs.Common.{◌≡◌, ◌∙◌, subst, sym}
+use Rattle.std.proofs.Common.{◌∙◌, subst, sym}
 use Rattle.std.specs.Prelude.{All}
 use Rattle.sj_ask.specs.Stands.{Stand, stand_of}
 use Rattle.world_vectors.proofs.Targets.{IsNamed, emitted_there}

@@ -1,6 +1,5 @@
-use Rattle.std.proofs.Common.{◌+◌, ◌*◌, ◌<◌, arith, drop}
+use Rattle.std.proofs.Common.{arith}
 use Rattle.tree_parts.proofs.Items.{size_of_item, size_of_case}
-use Rattle.sj_trees.specs.View.{view}
 use Rattle.world_vectors.proofs.NextCase.{next_case}
 use Rattle.world_vectors.proofs.objects.+objects.Goals as goal
 
