@@ -6,7 +6,6 @@ use Rattle.sj_desugar.specs.Desugar.{desugared_member}
 use Rattle.sj_desugarer.specs.Methods.{desugared_with}
 use Rattle.sj_names.specs.declared.method_names.Member.{Member}
 use Rattle.code_vectors.specs.Itself.{itself}
-use Rattle.sj_pieces.specs.Fits.{TargetsFit}
 use Rattle.sj_pieces.specs.Keys.{HasKeys}
 use Rattle.sj_pieces.specs.Owners.{OnObjects, BodyOnObjects, FieldsHaveOwners}
 use Rattle.sj_emit_expr.specs.Members.{member_piece}
@@ -26,13 +25,10 @@ with-owners h d (Some e) objects = h d e objects
 piece_equal : {E : Type 0} (r : Result JsPiece E) (m : Member) (a b : Method) → a ≡ b → IfOk r (λ p. piece_view p ≡ member_piece itself m a) → IfOk r (λ p. piece_view p ≡ member_piece itself m b)
 piece_equal r m a b e h = subst (λ (c : Method). IfOk r (λ p. piece_view p ≡ member_piece itself m c)) e h
 
-each-itself : {m : Method} → TargetsFit itself m
-each-itself = λ k called h. h
-
 pub returns-clause-piece : goal.returns-clause-piece
 returns-clause-piece c = piece_equal c.member_piece.result c.args.member.now _ _ c.in_ok-core.ensures (c.member_piece.ensures.piece itself c.in_ok-function.ensures)
 
 pub returns-clause-rules : goal.returns-clause-rules
 returns-clause-rules c =
     let d = c.args.method.now in
-    c.member_piece.ensures.rules itself c.in_ok-function.ensures (subst HasKeys (sym c.in_ok-core.ensures) (with-keys c.desugared_members_have_keys.ensures d d.body)) (subst FieldsHaveOwners (sym c.in_ok-core.ensures) (with-owners c.desugared_fields_have_owners.ensures.members d d.body c.requires)) each-itself
+    c.member_piece.ensures.rules itself c.in_ok-function.ensures (subst HasKeys (sym c.in_ok-core.ensures) (with-keys c.desugared_members_have_keys.ensures d d.body)) (subst FieldsHaveOwners (sym c.in_ok-core.ensures) (with-owners c.desugared_fields_have_owners.ensures.members d d.body c.requires)) (λ k called h. h)

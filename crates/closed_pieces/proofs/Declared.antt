@@ -1,0 +1,111 @@
+-- What the pieces of an accepted folder declare: functions of needed bodies, live classes, static fields that are needed, and helpers.
+use Rattle.std.proofs.Common.{◌≡◌, ◌↔◌, true, List, Option, Some, refl, sym, ap, subst, ◌∙◌, Contains}
+use Rattle.std.proofs.lemmas.List.Sorted.{Contains-permutation}
+use Rattle.declared_pieces.proofs.Blocks.{OwnPieces, own_pieces, method_there, helper_there}
+use Rattle.declared_pieces.proofs.Derivations.{closed}
+use Rattle.declared_pieces.proofs.Live.{classes_kept, live_there}
+use Rattle.declared_pieces.proofs.Made as made
+use Rattle.declared_pieces.proofs.Members.{defined}
+use Rattle.declared_pieces.proofs.Parts.{class_there, statics_among, in_statics, is_reached}
+use Rattle.declared_pieces.specs.Accepted.{IsAccepted}
+use Rattle.declared_pieces.specs.Bodies.{AreBodies}
+use Rattle.declared_pieces.specs.Emitted.{EmittedMethod}
+use Rattle.declared_pieces.specs.Entries.{IsLive}
+use Rattle.declared_pieces.specs.Pieces.{piece_of_member, AreLinkedPieces}
+use Rattle.declared_pieces.specs.Reachable.{Reachable}
+use Rattle.declared_pieces.specs.Rules.{the_object}
+use Rattle.declared_pieces.specs.TypingRulesRules.{HasFieldType}
+use Rattle.file_listings.specs.Listed.{AreBytes}
+use Rattle.helper_rules.specs.Helpers.{helper_name, helper_piece}
+use Rattle.helper_rules.specs.Words.{helper, class_name}
+use Rattle.helper_rules.specs.declared.kinds.Helper.{Helper}
+use Rattle.js_tree.specs.Terms.{Piece}
+use Rattle.module_rules.specs.Laws.{IsDeclared}
+use Rattle.object_folders.proofs.Plain.{class_found}
+use Rattle.object_folders.specs.PieceRulesPieces.{Parts, class_piece, variable_piece, setter_piece, all_statics}
+use Rattle.sj_emit_expr.specs.Templates.{member_name, static_name, setter_name}
+use Rattle.sj_emit_expr.specs.Uses.{function_binding, class_use, static_use, setter_use}
+use Rattle.sj_names.specs.WellKnown.{object}
+use Rattle.sj_names.specs.declared.entry_points.EntryPoint.{EntryPoint}
+use Rattle.sj_names.specs.declared.folders.SourceFile.{SourceFile}
+use Rattle.sj_names.specs.declared.method_names.Member.{Member}
+use Rattle.sj_trees.specs.declared.classes.ClassDef.{ClassDef}
+use Rattle.sj_trees.specs.declared.classes.FieldDef.{FieldDef}
+use Rattle.sj_trees.specs.declared.types.IrType.{IrType}
+use Rattle.sj_world.proofs.Searches.{contains_at}
+use Rattle.sj_world.specs.Known.{Name, Classes}
+use Rattle.sj_world.specs.Linked.{Linked}
+use Rattle.sj_world.specs.Paths.{stay}
+use Rattle.sj_world.specs.declared.facts.Fact.{Fact}
+use Rattle.sj_world.specs.declared.facts.Fact.TheVariants.{Body, Made, Needed, NeededField}
+
+-- the pieces have what is reachable
+pub record Declares (entries : List EntryPoint) (l : Linked) (having : List Helper) (ps : List Piece) : Type 0 where
+  pub functions : (k : Member) → Reachable l.world entries (Body k) → IsDeclared ps (function_binding k)
+  pub classes : (c : Name) → IsLive l.world l.facts c → IsDeclared ps (class_use c)
+  pub made : (c : Name) → Reachable l.world entries (Made c) → IsDeclared ps (class_use c)
+  pub statics : (c f : Name) (t : IrType) → HasFieldType l.world c f true t → Reachable l.world entries (NeededField c f true) → IsDeclared ps (static_use c f) × IsDeclared ps (setter_use c f)
+  pub helpers : (h : Helper) → Contains having h → IsDeclared ps (helper (helper_name h))
+
+some_class : (a b : ClassDef) → ◌≡◌ {A = Option ClassDef} (Some a) (Some b) → a ≡ b
+some_class a b e = cc
+
+module _ (entries : List EntryPoint) (files : List SourceFile) (l : Linked) (all : List EmittedMethod) (ps : List Piece) (bytes : (file : SourceFile) → Contains files file → AreBytes file.bytes) (a : IsAccepted entries files l.world) (bodies : AreBodies l.world entries all) (exact : (f : Fact) → Contains l.facts f ↔ Reachable l.world entries f) (p : AreLinkedPieces l all ps) where
+  abbrev w : Classes
+  w = l.world
+
+  function : (k : Member) → Reachable w entries (Body k) → IsDeclared ps (function_binding k)
+  function k r =
+      let f = (bodies.exact k).1 r in
+      let d = defined w f.method.member f.method.definition (bodies.found f.method f.listed).found in
+      record { piece = piece_of_member w f.method; among = method_there l all ps p f.method f.listed d.class d.is_class; owned = ap (λ (m : Member). m.class) f.is; named = ap member_name f.is }
+
+  named : (c : Name) (own : OwnPieces l all ps p c) → own.parts.class.name ≡ c
+  named c own = (class_found w c own.parts.class own.are.class_is).1
+
+  class : (c : Name) → IsLive w l.facts c → IsDeclared ps (class_use c)
+  class c live =
+      let k = live_there entries files w bytes a l.facts (λ f. (exact f).0) c live in
+      let own = own_pieces l all ps p c k.0 k.1 in
+      let its = own.parts in
+      let its_class : Piece = class_piece its.class.name its.class.superclass its.entries its.fields in
+      record { piece = its_class; among = own.there its_class (class_there its (own.are.live.1 live)); owned = named c own; named = ap class_name (named c own) }
+
+  module _ (c f : Name) (t : IrType) (has : HasFieldType w c f true t) (need : Reachable w entries (NeededField c f true)) where
+    abbrev d : FieldDef
+    d = has.field
+
+    name_is : has.field.name ≡ f
+    name_is = has.is_field.first.has.name_is
+
+    own : OwnPieces l all ps p c
+    own = own_pieces l all ps p c has.is_field.class has.is_field.is_class
+
+    abbrev its : Parts
+    its = own.parts
+
+    among_fields : Contains its.class.fields d
+    among_fields = subst (λ (k : ClassDef). Contains k.fields d) (some_class has.is_field.class its.class (sym has.is_field.is_class ∙ own.are.class_is)) (contains_at has.is_field.class.fields has.is_field.first.place d has.is_field.first.stands)
+
+    in_reached : Contains own.are.statics.reached d
+    in_reached = is_reached l.facts c its.class.fields own.are.statics.reached own.are.statics.are_reached d among_fields has.is_field.first.has.mark_is (subst (λ (n : Name). Contains l.facts (NeededField c n true)) (sym name_is) ((exact (NeededField c f true)).1 need))
+
+    there : Contains (all_statics its.class.name its.statics) (variable_piece its.class.name d) × Contains (all_statics its.class.name its.statics) (setter_piece its.class.name d)
+    there = in_statics its.class.name its.statics d (Contains-permutation own.are.statics.reached its.statics d own.are.statics.sorted.exact in_reached)
+
+    its_static : IsDeclared ps (static_use c f) × IsDeclared ps (setter_use c f)
+    its_static = (record { piece = variable_piece its.class.name d; among = own.there (variable_piece its.class.name d) (statics_among its (variable_piece its.class.name d) there.0); owned = named c own; named = ap (λ (n : Name). static_name n d.name) (named c own) ∙ ap (static_name c) name_is }, record { piece = setter_piece its.class.name d; among = own.there (setter_piece its.class.name d) (statics_among its (setter_piece its.class.name d) there.1); owned = named c own; named = ap (λ (n : Name). setter_name n d.name) (named c own) ∙ ap (setter_name c) name_is })
+
+  a_helper : (h : Helper) → Contains p.helpers h → IsDeclared ps (helper (helper_name h))
+  a_helper h i =
+      let k = made.present w entries a.resolved (classes_kept entries files w bytes a) object (closed w entries (Needed object) the_object) in
+      record { piece = helper_piece p.above h; among = helper_there l all ps p k.0 k.1 h i; owned = refl; named = refl }
+
+  pub declares : Declares entries l p.helpers ps
+  declares = record {
+    functions = function;
+    classes = class;
+    made = λ c r. class c (record { made = c; is_made = (exact (Made c)).1 r; on_chain = stay });
+    statics = its_static;
+    helpers = a_helper;
+  }

@@ -1,0 +1,77 @@
+-- What the forms of a body tell: it asks for the modules that it loads, and a name by which it calls reflectively has no result.
+use Rattle.std.proofs.Common.{◌≡◌, Bool, true, false, List, [], ◌∷◌, Option, Some, None, refl, subst, Contains, if◌then◌else◌}
+use Rattle.std.specs.Prelude.{is_none}
+use Rattle.declared_pieces.proofs.EachTyped.{in_all}
+use Rattle.sj_infos.specs.Forms.{form_of, of_base, of_call, of_test, of_cast, forms_by_body}
+use Rattle.sj_infos.specs.Infos.{asks, asked_by_body}
+use Rattle.sj_infos.specs.Sure.{sure_among}
+use Rattle.sj_infos.specs.Trees.{trees}
+use Rattle.sj_infos.specs.declared.forms.BodyForm.{BodyForm}
+use Rattle.sj_infos.specs.declared.forms.BodyForm.TheVariants as forms
+use Rattle.sj_infos.specs.declared.infos.Info.{Info}
+use Rattle.sj_infos.specs.declared.infos.Info.TheVariants.{Load}
+use Rattle.sj_names.specs.declared.method_names.MethodName.{MethodName}
+use Rattle.sj_names.specs.declared.references.BaseRef.{BaseRef}
+use Rattle.sj_split.proofs.Members.{at_first}
+use Rattle.sj_trees.specs.Term.{Term, load_module, store_module, apply, new_array, array_value, is_instance_of, as_instance_of}
+use Rattle.sj_trees.specs.declared.types.IrType.{IrType}
+use Rattle.sj_world.specs.Known.{Name}
+use Rattle.worklist.proofs.Inserted.{nothing_in, only_one}
+use Rattle.closed_pieces.proofs.Places.{in_one}
+
+abbrev pub Told : List Info → BodyForm → Type 0
+Told asked (forms.Load c) = Contains asked (Load c)
+Told asked (forms.Reflective p) = is_none p.result ≡ true
+Told asked _ = Unit {0}
+
+abbrev Tells : List Info → List BodyForm → Type 0
+Tells asked fs = (f : BodyForm) → Contains fs f → Told asked f
+
+one_tells : (asked : List Info) (g : BodyForm) → Told asked g → Tells asked (g ∷ [])
+one_tells asked g h f i = subst (Told asked) (only_one g f i) h
+
+none_tells : (asked : List Info) → Tells asked []
+none_tells asked f i = nothing_in f i
+
+base_tells : (asked : List Info) (b : BaseRef) → Tells asked (of_base b)
+base_tells asked (BaseRef.Class c) = one_tells asked (forms.Base c) tt
+base_tells asked _ = none_tells asked
+
+test_tells : (asked : List Info) (t : IrType) → Tells asked (of_test t)
+test_tells asked (IrType.Class c) = one_tells asked (forms.Test c) tt
+test_tells asked (IrType.Array r) = base_tells asked r.base
+test_tells asked _ = none_tells asked
+
+cast_tells : (asked : List Info) (t : IrType) → Tells asked (of_cast t)
+cast_tells asked (IrType.Class c) = one_tells asked (forms.Cast c) tt
+cast_tells asked (IrType.Array r) = base_tells asked r.base
+cast_tells asked _ = none_tells asked
+
+call_tells : (asked : List Info) (m : MethodName) → Tells asked (of_call m)
+call_tells asked m = go (is_none m.result) refl
+  where
+    go : (b : Bool) → is_none m.result ≡ b → Tells asked (if b then forms.Reflective m ∷ [] else [])
+    go true e = one_tells asked (forms.Reflective m) e
+    go false e = none_tells asked
+
+tree_tells : (names : List Name) (t : Term) → Tells (asks names t) (form_of t)
+tree_tells names (load_module p c) = one_tells (asks names (load_module p c)) (forms.Load c) (at_first (Load c) [])
+tree_tells names (store_module p c e) = one_tells (asks names (store_module p c e)) (forms.Store c) tt
+tree_tells names (apply p e m ts t) = call_tells (asks names (apply p e m ts t)) m
+tree_tells names (new_array p r e) = base_tells (asks names (new_array p r e)) r.base
+tree_tells names (array_value p r ts) = base_tells (asks names (array_value p r ts)) r.base
+tree_tells names (is_instance_of p e t) = test_tells (asks names (is_instance_of p e t)) t
+tree_tells names (as_instance_of p e t) = cast_tells (asks names (as_instance_of p e t)) t
+tree_tells names t = none_tells (asks names t)
+
+told_more : (some more : List Info) → ((o : Info) → Contains some o → Contains more o) → (f : BodyForm) → Told some f → Told more f
+told_more some more h (forms.Load c) k = h (Load c) k
+told_more some more h (forms.Reflective p) k = k
+told_more some more h _ k = tt
+
+pub body_tells : (body : Option Term) → Tells (asked_by_body body) (forms_by_body body)
+body_tells None f i = nothing_in f i
+body_tells (Some e) f i =
+    let names = sure_among [] (trees e) in
+    let o = in_one form_of (trees e) f i in
+    told_more (asks names o.item) (asked_by_body (Some e)) (λ x j. in_all (asks names) (trees e) o.item x o.among j) f (tree_tells names o.item f o.within)

@@ -1,0 +1,154 @@
+-- What the function of a needed body uses is declared.
+use Rattle.std.proofs.Common.{◌≡◌, ◌∙◌, List, [], Option, Some, None, refl, sym, subst, Contains, true, false, ap, codes}
+use Rattle.std.specs.List.{All}
+use Rattle.std.proofs.lemmas.List.Elements.{All-nil, All-cons, All-contains, Contains-append_left}
+use Rattle.declared_pieces.proofs.Calls.{needed}
+use Rattle.declared_pieces.proofs.Derivations.{closed}
+use Rattle.declared_pieces.proofs.EachTyped.{in_all}
+use Rattle.declared_pieces.proofs.Found.{here}
+use Rattle.declared_pieces.proofs.Given.{all_from}
+use Rattle.declared_pieces.proofs.Members.{defined}
+use Rattle.declared_pieces.proofs.Standing.{Stands, each_stands}
+use Rattle.declared_pieces.proofs.Written.{some_same, all_at}
+use Rattle.declared_pieces.specs.Accepted.{IsAccepted}
+use Rattle.declared_pieces.specs.Bodies.{AreBodies}
+use Rattle.declared_pieces.specs.Emitted.{EmittedMethod}
+use Rattle.declared_pieces.specs.Pieces.{piece_of_member}
+use Rattle.declared_pieces.specs.Reachable.{Reachable}
+use Rattle.declared_pieces.specs.Refusals.{missing_class, missing_method, abstract_target, IsPresent, no_class, no_target, no_target_body}
+use Rattle.declared_pieces.specs.Rules.{Reads, of_call, of_new, asked_body, new_made, field_needed, resolved_class, resolved_body}
+use Rattle.declared_pieces.specs.Typed.{MeetsThere}
+use Rattle.dispatch_laws.proofs.WorkedOut.{targets_are_worked_out}
+use Rattle.dispatch_laws.specs.Laws.{found_by}
+use Rattle.dispatch_laws.specs.Targets.{at_owner, target_in}
+use Rattle.helper_rules.specs.Helpers.{helper_name}
+use Rattle.helper_rules.specs.Words.{helper}
+use Rattle.helper_rules.specs.declared.kinds.Helper.{Helper}
+use Rattle.helper_rules.specs.declared.kinds.Helper.TheVariants as helpers
+use Rattle.ir_mean.specs.Dispatch.{resolved}
+use Rattle.js_tree.specs.Terms.{Piece}
+use Rattle.js_tree.specs.declared.items.Binding.{Binding}
+use Rattle.module_rules.specs.Laws.{IsDeclared}
+use Rattle.object_helpers.proofs.Bodies.{once_in}
+use Rattle.object_helpers.proofs.Brought.{Brings, followed_in, tree}
+use Rattle.resolution_laws.proofs.Resolves.{each_call_resolves}
+use Rattle.sj_core.specs.Terms as core
+use Rattle.sj_desugar.specs.Desugar.{member, desugared_member, body_code, completed, is_mutable_in, result_destination}
+use Rattle.sj_emit_expr.specs.Templates.{called_member}
+use Rattle.sj_emit_expr.specs.Uses.{object_binding, function_binding, helper_of, uses_of_all}
+use Rattle.sj_infos.specs.Infos.{asks, asked_by_body, of_static_call, of_receiver}
+use Rattle.sj_infos.specs.Sure.{sure_among}
+use Rattle.sj_infos.specs.Trees.{trees}
+use Rattle.sj_infos.specs.declared.infos.Info.{Info}
+use Rattle.sj_infos.specs.declared.infos.Info.TheVariants.{New, Static, Field, Resolved}
+use Rattle.sj_names.specs.declared.entry_points.EntryPoint.{EntryPoint}
+use Rattle.sj_names.specs.declared.folders.SourceFile.{SourceFile}
+use Rattle.sj_names.specs.declared.method_names.Member.{Member}
+use Rattle.sj_names.specs.declared.method_names.MethodName.{MethodName}
+use Rattle.sj_names.specs.declared.method_names.Namespace.{Namespace}
+use Rattle.sj_names.specs.declared.method_names.Namespace.TheVariants.{Public, PublicStatic, Private, PrivateStatic, Constructor}
+use Rattle.sj_trees.specs.Term.{Term, new_object, select, select_static, apply_statically, apply_static, binary_op}
+use Rattle.sj_trees.specs.declared.classes.ClassDef.{ClassDef}
+use Rattle.sj_trees.specs.declared.operators.BinaryOp.{BinaryOp}
+use Rattle.sj_trees.specs.declared.operators.BinaryOp.TheVariants.{IntDivide, IntRemainder, LongDivide, LongRemainder}
+use Rattle.sj_world.specs.Known.{Name, Classes, class_of}
+use Rattle.sj_world.specs.Linked.{Linked}
+use Rattle.sj_world.specs.Resolution.{Answer, target, abstract, missing, Resolves}
+use Rattle.sj_world.specs.declared.facts.Fact.TheVariants.{Body, Made, Needed, NeededField}
+use Rattle.sure_receivers.specs.Sure.{sure_locals}
+use Rattle.closed_pieces.proofs.Declared.{Declares}
+
+module _ (entries : List EntryPoint) (files : List SourceFile) (l : Linked) (all : List EmittedMethod) (having : List Helper) (ps : List Piece) (a : IsAccepted entries files l.world) (bodies : AreBodies l.world entries all) (d : Declares entries l having ps) (e : EmittedMethod) (i : Contains all e) (helped : (h : Helper) → Contains (piece_of_member l.world e).uses (helper (helper_name h)) → IsDeclared ps (helper (helper_name h))) where
+  abbrev w : Classes
+  w = l.world
+
+  abbrev runs : Member → Member
+  runs = target_in w
+
+  abbrev used : List Binding
+  used = (piece_of_member w e).uses
+
+  -- declared, if it is used
+  abbrev Q : Binding → Type 0
+  Q b = Contains used b → IsDeclared ps b
+
+  abbrev Asked : Info → Type 0
+  Asked o = Reads w entries (Reachable w entries) o
+
+  asked : (t : Term) → Contains (trees e.its_body) t → (o : Info) → Contains (asks (sure_among [] (trees e.its_body)) t) o → Asked o
+  asked t among o h = record {
+    member = e.member;
+    needed = needed w entries all bodies e i;
+    definition = e.definition;
+    defined = defined w e.member e.definition (bodies.found e i).found;
+    asked = subst (λ (b : Option Term). Contains (asked_by_body b) o) (sym (bodies.found e i).has_body) (in_all (asks (sure_among [] (trees e.its_body))) (trees e.its_body) t o among h);
+  }
+
+  called : (k : Member) → Asked (Static k) → IsDeclared ps (function_binding k)
+  called k r = d.functions k (closed w entries (Body k) (asked_body k (of_call k r)))
+
+  -- a class whose methods are called is there
+  present : (c : Name) (m : MethodName) → Asked (Resolved c m) → IsPresent w c
+  present c m r = go (class_of w c) refl
+    where
+      go : (o : Option ClassDef) → class_of w c ≡ o → IsPresent w c
+      go None none = absurd (a.resolved (missing_class c) (no_class c (closed w entries (Needed c) (resolved_class c m r)) none))
+      go (Some class) found = record { class = class; is_class = found }
+
+  -- the target of a public member is a body, since the folder is accepted
+  target_declared : (c : Name) (m : MethodName) → Asked (Resolved c m) → IsDeclared ps (function_binding (runs (member c Public m)))
+  target_declared c m r = let call = each_call_resolves w a.world.sorted.in_order c m in go call.answer call.resolves (targets_are_worked_out w a.world.sorted.in_order c m call.answer call.resolves)
+    where
+      go : (o : Answer) → Resolves w c m o → resolved w c m ≡ found_by o → IsDeclared ps (function_binding (runs (member c Public m)))
+      go (target body owner) s same = subst (λ (k : Member). IsDeclared ps (function_binding k)) (sym (ap (at_owner (member c Public m)) same)) (d.functions (member owner Public m) (closed w entries (Body (member owner Public m)) (resolved_body c m body owner r s)))
+      go abstract s same = absurd (a.resolved (abstract_target (member c Public m)) (no_target_body c m r (present c m r) s))
+      go missing s same = absurd (a.resolved (missing_method (member c Public m)) (no_target c m r (present c m r) s))
+
+  received : (n : Namespace) (c : Name) (m : MethodName) → ((o : Info) → Contains (of_static_call c n m) o → Asked o) → IsDeclared ps (function_binding (called_member runs n (member c n m)))
+  received Public c m f = target_declared c m (f (Resolved c m) (here (Resolved c m) []))
+  received PublicStatic c m f = called (member c PublicStatic m) (f (Static (member c PublicStatic m)) (here (Static (member c PublicStatic m)) []))
+  received Private c m f = called (member c Private m) (f (Static (member c Private m)) (here (Static (member c Private m)) []))
+  received PrivateStatic c m f = called (member c PrivateStatic m) (f (Static (member c PrivateStatic m)) (here (Static (member c PrivateStatic m)) []))
+  received Constructor c m f = called (member c Constructor m) (f (Static (member c Constructor m)) (here (Static (member c Constructor m)) []))
+
+  divided : (o : BinaryOp) → All Q (helper_of false o)
+  divided IntDivide = All-cons Q (object_binding (codes "$id")) [] (helped helpers.IntQuotient) (All-nil Q)
+  divided IntRemainder = All-cons Q (object_binding (codes "$im")) [] (helped helpers.IntRemainder) (All-nil Q)
+  divided LongDivide = All-cons Q (object_binding (codes "$ld")) [] (helped helpers.LongQuotient) (All-nil Q)
+  divided LongRemainder = All-cons Q (object_binding (codes "$lm")) [] (helped helpers.LongRemainder) (All-nil Q)
+  divided _ = All-nil Q
+
+  box : Q (object_binding (codes "$C"))
+  box = helped helpers.BoxedChar
+
+  brings : (t : Term) → Contains (trees e.its_body) t → Stands (MeetsThere w e.definition.namespace) t → Brings Q runs box (sure_locals e.its_body) t
+  brings (apply_static p c n m ts t) among s = λ u. called (member c n m) (asked (apply_static p c n m ts t) among (Static (member c n m)) (here (Static (member c n m)) []))
+  brings (apply_statically p r c n m ts t) among s = (λ u. received n c m (λ o h. asked (apply_statically p r c n m ts t) among o (Contains-append_left (of_static_call c n m) (of_receiver (sure_among [] (trees e.its_body)) r) o h)), λ u. helped helpers.NotNull)
+  brings (new_object p c m ts) among s =
+      let r = asked (new_object p c m ts) among (New c m) (here (New c m) []) in
+      (λ u. d.functions (member c Constructor m) (closed w entries (Body (member c Constructor m)) (asked_body (member c Constructor m) (of_new c m r))), λ u. d.made c (closed w entries (Made c) (new_made c m r)))
+  brings (select p r c f t) among s = λ u. helped helpers.NotNull
+  brings (select_static p c f t) among s =
+      let its = d.statics c f t s.asked (closed w entries (NeededField c f true) (field_needed c f true (asked (select_static p c f t) among (Field c f true) (here (Field c f true) [])))) in
+      (λ u. its.0, λ u. its.1)
+  brings (binary_op p o x y) among s = λ n. divided o
+  brings t among s = tt
+
+  completed_in : (n : Namespace) (ss : core.Statements) → All Q (uses_of_all runs ss) → All Q (uses_of_all runs (completed n ss))
+  completed_in Constructor ss h = followed_in Q runs box ss (core.statement (core.return_of None (core.variable_use core.receiver)) core.no_statements) h (All-nil Q)
+  completed_in Public ss h = h
+  completed_in PublicStatic ss h = h
+  completed_in Private ss h = h
+  completed_in PrivateStatic ss h = h
+
+  all_declared : All Q used
+  all_declared =
+      let body = e.its_body in
+      let typed = a.typed e.member e.definition (needed w entries all bodies e i) (defined w e.member e.definition (bodies.found e i).found) in
+      let same : typed.body ≡ body = some_same typed.body body (sym typed.has_body ∙ (bodies.found e i).has_body) in
+      let stands = subst (λ (b : Term). All (Stands (MeetsThere w e.definition.namespace)) (trees b)) same (each_stands (MeetsThere w e.definition.namespace) typed.body [] 0 typed.met) in
+      let brought = all_from (Brings Q runs box (sure_locals body)) (trees body) (λ t among. brings t among (all_at (Stands (MeetsThere w e.definition.namespace)) (trees body) stands t among)) in
+      once_in Q [] (uses_of_all runs (desugared_member e.definition body).body) (completed_in e.definition.namespace (body_code (is_mutable_in e.definition body) e.definition.result body) (tree Q runs box (sure_locals body) (is_mutable_in e.definition body) body brought [] (result_destination e.definition.result) 1))
+
+  pub function_uses : (b : Binding) → Contains used b → IsDeclared ps b
+  function_uses b u = All-contains Q used b all_declared u u

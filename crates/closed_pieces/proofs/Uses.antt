@@ -1,0 +1,81 @@
+-- What the pieces of an accepted folder use they declare.
+use Rattle.std.proofs.Common.{◌≡◌, ◌↔◌, ◌∙◌, true, List, Some, sym, subst, Contains}
+use Rattle.declared_pieces.proofs.Calls.{needed}
+use Rattle.declared_pieces.proofs.Live.{next_is, live_next, live_free}
+use Rattle.declared_pieces.proofs.Members.{defined}
+use Rattle.declared_pieces.specs.Accepted.{IsAccepted}
+use Rattle.declared_pieces.specs.Bodies.{AreBodies}
+use Rattle.declared_pieces.specs.Built.{is_object_body}
+use Rattle.declared_pieces.specs.Classes.{AreParts}
+use Rattle.declared_pieces.specs.Emitted.{EmittedMethod}
+use Rattle.declared_pieces.specs.Entries.{IsLive, AreEntries}
+use Rattle.declared_pieces.specs.Pieces.{piece_of_member, by_piece, AreLinkedPieces}
+use Rattle.declared_pieces.specs.Reachable.{Reachable}
+use Rattle.file_listings.specs.Listed.{AreBytes}
+use Rattle.helper_rules.specs.Helpers.{helper_name}
+use Rattle.helper_rules.specs.Words.{helper}
+use Rattle.helper_rules.specs.declared.kinds.Helper.{Helper}
+use Rattle.js_tree.specs.Terms.{Name, Piece}
+use Rattle.js_tree.specs.declared.items.Binding.{Binding}
+use Rattle.linked_folders.proofs.Links.{body_built}
+use Rattle.linked_folders.specs.Edits.{AreBuilt}
+use Rattle.module_rules.specs.Laws.{IsDeclared}
+use Rattle.object_folders.proofs.Plain.{class_found}
+use Rattle.object_folders.specs.PieceRulesPieces.{Parts}
+use Rattle.sj_names.specs.declared.entry_points.EntryPoint.{EntryPoint}
+use Rattle.sj_names.specs.declared.folders.SourceFile.{SourceFile}
+use Rattle.sj_world.specs.Known.{Classes}
+use Rattle.sj_world.specs.Linked.{Linked}
+use Rattle.sj_world.specs.declared.facts.Fact.{Fact}
+use Rattle.closed_pieces.proofs.Classes.{class_uses_declared}
+use Rattle.closed_pieces.proofs.Declared.{Declares, declares}
+use Rattle.closed_pieces.proofs.Functions.{function_uses}
+use Rattle.closed_pieces.proofs.Helpers.{helper_uses_declared}
+use Rattle.closed_pieces.proofs.Places.{in_blocks, from_blocks, Stands, own, method, helps, stands}
+use Rattle.closed_pieces.specs.Laws.{UsesAreDeclared}
+
+module _ (entries : List EntryPoint) (files : List SourceFile) (l : Linked) (all : List EmittedMethod) (ps : List Piece) (bytes : (file : SourceFile) → Contains files file → AreBytes file.bytes) (a : IsAccepted entries files l.world) (built : AreBuilt l.world entries) (bodies : AreBodies l.world entries all) (exact : (f : Fact) → Contains l.facts f ↔ Reachable l.world entries f) (methods : AreEntries l.world l.facts l.entries) (p : AreLinkedPieces l all ps) where
+  d : Declares entries l p.helpers ps
+  d = declares entries files l all ps bytes a bodies exact p
+
+  holds : (f : Fact) → Contains l.facts f → Reachable l.world entries f
+  holds f = (exact f).0
+
+  objects : (e : EmittedMethod) → Contains all e → is_object_body e.definition e.its_body ≡ true
+  objects e i = body_built e.definition e.its_body (bodies.found e i).has_body (built e.member e.definition (needed l.world entries all bodies e i) (defined l.world e.member e.definition (bodies.found e i).found))
+
+  -- what a live class extends is live
+  superclasses : (c s : Name) (parts : Parts) → AreParts l c parts → IsLive l.world l.facts c → parts.class.superclass ≡ Some s → IsLive l.world l.facts s
+  superclasses c s parts are live super = live_next l.world l.facts c s live (next_is l.world c parts.class are.class_is (live_free entries files l.world bytes a l.facts holds c live) ∙ super)
+
+  helped : (q : Piece) → Contains (in_blocks l all ps p) q → (h : Helper) → Contains q.uses (helper (helper_name h)) → IsDeclared ps (helper (helper_name h))
+  helped q i h u = d.helpers h ((p.are_helpers.exact h).1 (by_piece q h i u))
+
+  declared : (q : Piece) → Stands l all ps p q → (b : Binding) → Contains q.uses b → IsDeclared ps b
+  declared q (own c parts are there i) b u = class_uses_declared entries l p.helpers ps d holds methods superclasses c parts (class_found l.world c parts.class are.class_is).1 are (λ r j. from_blocks l all ps p r (there r j)) q i (helped q (there q i)) b u
+  declared q (method e i j same) b u = function_uses entries files l all p.helpers ps a bodies d e i (helped (piece_of_member l.world e) (subst (Contains (in_blocks l all ps p)) (sym same) j)) b (subst (λ (r : Piece). Contains r.uses b) (sym same) u)
+  declared q (helps h i same) b u = helper_uses_declared entries files l all ps a bodies holds objects p d h i b (subst (λ (r : Piece). Contains r.uses b) (sym same) u)
+
+  pub all_declared : (q : Piece) → Contains ps q → (b : Binding) → Contains q.uses b → IsDeclared ps b
+  all_declared q i = declared q (stands l all ps p q i)
+
+pub uses_are_declared : UsesAreDeclared
+uses_are_declared entries files w ps bytes a built its = all_declared entries files its.linked its.all ps bytes accepted (subst (λ (x : Classes). AreBuilt x entries) to_world built) bodies exact methods its.are
+  where
+    to_world : w ≡ its.linked.world
+    to_world = sym its.is_linked.world
+
+    to_facts : its.facts ≡ its.linked.facts
+    to_facts = sym its.is_linked.facts_are
+
+    accepted : IsAccepted entries files its.linked.world
+    accepted = subst (IsAccepted entries files) to_world a
+
+    bodies : AreBodies its.linked.world entries its.all
+    bodies = subst (λ (x : Classes). AreBodies x entries its.all) to_world its.bodies
+
+    exact : (f : Fact) → Contains its.linked.facts f ↔ Reachable its.linked.world entries f
+    exact f = subst (λ (fs : List Fact). Contains fs f ↔ Reachable its.linked.world entries f) to_facts (subst (λ (x : Classes). Contains its.facts f ↔ Reachable x entries f) to_world (its.are_facts f))
+
+    methods : AreEntries its.linked.world its.linked.facts its.linked.entries
+    methods = subst (λ (fs : List Fact). AreEntries its.linked.world fs its.linked.entries) to_facts (subst (λ (x : Classes). AreEntries x its.facts its.linked.entries) to_world its.is_linked.entries)

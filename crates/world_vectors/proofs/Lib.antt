@@ -1,0 +1,3 @@
+mod NextCase
+mod Targets
+mod Kept
