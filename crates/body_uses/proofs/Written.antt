@@ -65,7 +65,7 @@ use Rattle.accepted_folders.specs.Accepted.{IsAccepted}
 use Rattle.accepted_folders.specs.Bodies.{AreBodies}
 use Rattle.accepted_folders.proofs.Calls.{needed}
 use Rattle.accepted_folders.proofs.Members.{has_function-from, defined}
-use Rattle.linked_pieces.specs.Used.{used_of, is_among, is_its_field, has_field_in, is_its_static, has_static_in, needs_static}
+use Rattle.linked_pieces.specs.Used.{used_of, is_among, is_its_field, has_field_in, is_its_static, has_static_in, needs_static, uses_static}
 use Rattle.body_uses.specs.Given.{Given, HelpersGiven, FitsDivision, HasType}
 use Rattle.body_uses.specs.Laws.{used_by, AcceptedBodiesUseWhatIsWritten}
 use Rattle.body_uses.specs.Written.{AreWrittenWith}
@@ -182,7 +182,7 @@ module _ (entries : List EntryPoint) (files : List SourceFile) (w : Classes) (fa
       (and_from (has_no_value m.result) (is_among written c && has_function all k) v (and_from (is_among written c) (has_function all k) (in_written (function_binding k) f) own), and_from (is_among written c) (is_among live c) (in_written (class_use c) u) (among_names live c is_live))
 
   -- a static field is there where its class is written
-  static_given : (c f : Name) (t : IrType) → HasFieldType w c f true t → Reads w entries (Reachable w entries) (Field c f true) → is_among written c ≡ true → (is_among written c && (list_any (needs_static c f) facts && has_static_in (class_of w c) f t)) ≡ true
+  static_given : (c f : Name) (t : IrType) → HasFieldType w c f true t → Reads w entries (Reachable w entries) (Field c f true) → is_among written c ≡ true → uses_static w facts written c f t ≡ true
   static_given c f t h r here =
       let needed_there = (uses.are_facts (NeededField c f true)).1 (closed w entries (NeededField c f true) (field_needed c f true r)) in
       let needs = any_of (needs_static c f) facts (NeededField c f true) needed_there (and_from (is_same_text c c) (is_same_text f f) (text-refl c) (text-refl f)) in

@@ -11,7 +11,7 @@ use Rattle.object_folders.specs.Bodies.{AreBodies}
 use Rattle.object_folders.proofs.Plain.{class_found}
 use Rattle.object_folders.specs.Standing.{call_type}
 use Rattle.object_folders.proofs.Chains.{byte_not}
-use Rattle.object_folders.specs.Built.{Usable, is_static, has_no_value}
+use Rattle.object_folders.specs.Built.{Usable, has_static, is_static, has_no_value}
 use Rattle.class_code.proofs.Markers.{marked}
 use Rattle.declared_pieces.proofs.Blocks.{to_items, OwnPieces, own_pieces, method_there, helper_there}
 use Rattle.declared_pieces.proofs.Chains.{Stands, made_declared}
@@ -29,6 +29,7 @@ use Rattle.helper_rules.specs.Words.{class_name, bound}
 use Rattle.helper_rules.specs.declared.kinds.Helper.{Helper}
 use Rattle.js_tree.specs.Terms.{Item, Piece}
 use Rattle.object_folders.specs.Pieces.{piece_of_member, AreLinkedPieces}
+use Rattle.object_folders.proofs.Statics.{static_is}
 use Rattle.object_folders.specs.Used.{used_of, is_among, is_received, is_constructor, is_constructor_without_value, has_static_in, needs_static}
 use Rattle.object_folders.specs.Settings.{IsStaticField}
 use Rattle.object_folders.proofs.Made as made
@@ -245,14 +246,14 @@ module _ (entries : List EntryPoint) (files : List SourceFile) (l : Linked) (all
     fact : Contains l.facts (NeededField c f true)
     field : IsStaticField w c f t
 
-  needed_static : (c f : Name) (t : IrType) → has.static_field c f t ≡ true → Needed c f t
+  needed_static : (c f : Name) (t : IrType) → has_static has c f t ≡ true → Needed c f t
   needed_static c f t h =
-      let q = and_parts (is_among written c) (list_any (needs_static c f) l.facts && has_static_in (class_of w c) f t) h in
+      let q = and_parts (is_among written c) (list_any (needs_static c f) l.facts && has_static_in (class_of w c) f t) (static_is w l.facts all live p.helpers written c f t h) in
       let r = and_parts (list_any (needs_static c f) l.facts) (has_static_in (class_of w c) f t) q.1 in
       let found = Any-from_list_any (needs_static c f) l.facts r.0 in
       record { here = (among written c).0 q.0; fact = subst (Contains l.facts) (need_is c f found.1 found.4) (found.0, found.2, found.3); field = static_there w c f t r.1 }
 
-  static_declared : (c f : Name) (t : IrType) → has.static_field c f t ≡ true → StaticDeclared w items c f t
+  static_declared : (c f : Name) (t : IrType) → has_static has c f t ≡ true → StaticDeclared w items c f t
   static_declared c f t h = record {
     field = need.field;
     variable = to_items written ps (variable_piece c d) (subst (λ (n : Name). Contains ps (variable_piece n d)) named (own.there (variable_piece its.class.name d) (statics_among its (variable_piece its.class.name d) there.0))) need.here;

@@ -56,6 +56,10 @@ abbrev pub needs_static : Name → Name → Fact → Bool
 needs_static c f (NeededField d g is_static) = is_static && (is_same_text c d && is_same_text f g)
 needs_static c f _ = false
 
+-- the class is written, and has this static field, which is needed
+abbrev pub uses_static : Classes → List Fact → List Name → Name → Name → IrType → Bool
+uses_static w facts written c f t = is_among written c && (list_any (needs_static c f) facts && has_static_in (class_of w c) f t)
+
 -- what the code can use, of a world with these facts, methods, live classes and helpers, where the pieces of these classes are written: their members, a call of a public one running
 -- its target, and their constructors that have no value, their objects, each instance field of the world, their static fields that are needed, and the helpers
 abbrev pub used_of : Classes → List Fact → List EmittedMethod → List Name → List Helper → List Name → Usable
@@ -66,8 +70,8 @@ used_of w facts all live helpers written = record {
   built = λ m. is_constructor_without_value m && (is_among written m.class && has_function all m);
   made = λ c. is_among written c && is_among live c;
   field = λ c f t. has_field_in (class_of w c) f t;
-  static_field = λ c f t. is_among written c && (list_any (needs_static c f) facts && has_static_in (class_of w c) f t);
-  static_setter = λ c f t. is_among written c && (list_any (needs_static c f) facts && has_static_in (class_of w c) f t);
+  static_field = uses_static w facts written;
+  static_setter = uses_static w facts written;
   helper = λ x. is_among written object && list_any (λ h. is_same_text x (helper_name h)) helpers;
   objects = true;
 }

@@ -15,6 +15,7 @@ pub use Rattle.accepted_folders.proofs.Worlds as AcceptedFoldersWorlds
 pub use Rattle.linked_pieces.proofs.Fields as LinkedPiecesFields
 pub use Rattle.accepted_folders.proofs.Found
 pub use Rattle.linked_pieces.proofs.One
+pub use Rattle.linked_pieces.proofs.Statics
 pub use Rattle.accepted_folders.proofs.Calls
 pub use Rattle.accepted_folders.proofs.Assembled
 pub use Rattle.accepted_folders.proofs.Judged

@@ -11,9 +11,10 @@ use Rattle.accepted_folders.specs.Accepted.{IsAccepted}
 use Rattle.accepted_folders.specs.Bodies.{AreBodies}
 use Rattle.accepted_folders.specs.BodySoundnessRules.{RightMember}
 use Rattle.accepted_folders.specs.Worlds.{AreClassesKept}
-use Rattle.accepted_folders.specs.Built.{is_static}
+use Rattle.accepted_folders.specs.Built.{has_static, is_static}
 use Rattle.file_listings.specs.Listed.{AreBytes}
 use Rattle.helper_rules.specs.declared.kinds.Helper.{Helper}
+use Rattle.linked_pieces.proofs.Statics.{static_is}
 use Rattle.linked_pieces.specs.Used.{used_of, is_among, is_received, is_constructor_without_value, has_static_in, needs_static}
 use Rattle.object_folders.proofs.Fields.{field_there, type_there, static_there, static_type_there}
 use Rattle.object_folders.proofs.Made.{live_free}
@@ -59,14 +60,14 @@ carry entries files w facts all live helpers written bytes a bodies run = record
   primitives = λ h is. objects.write_interfaces entries files w a h (hijacked is);
   fields = field_there w unbroken;
   one_type = type_there w unbroken;
-  statics = λ c f t h. static_there w unbroken c f t (has_static c f t h);
-  one_static = λ c f s t h k. static_type_there w unbroken c f s t (has_static c f s h) (has_static c f t k);
+  statics = λ c f t h. static_there w unbroken c f t (static_known c f t h);
+  one_static = λ c f s t h k. static_type_there w unbroken c f s t (static_known c f s h) (static_known c f t k);
   exceptions = exceptions w entries facts all live helpers written run;
   divisions = division w entries facts all live helpers written run;
 }
   where
-    has_static : (c f : Name) (t : IrType) → (is_among written c && (list_any (needs_static c f) facts && has_static_in (class_of w c) f t)) ≡ true → has_static_in (class_of w c) f t ≡ true
-    has_static c f t h = (and_parts (list_any (needs_static c f) facts) (has_static_in (class_of w c) f t) (and_parts (is_among written c) (list_any (needs_static c f) facts && has_static_in (class_of w c) f t) h).1).1
+    static_known : (c f : Name) (t : IrType) → has_static (used_of w facts all live helpers written) c f t ≡ true → has_static_in (class_of w c) f t ≡ true
+    static_known c f t h = (and_parts (list_any (needs_static c f) facts) (has_static_in (class_of w c) f t) (and_parts (is_among written c) (list_any (needs_static c f) facts && has_static_in (class_of w c) f t) (static_is w facts all live helpers written c f t h)).1).1
 
     kept : AreClassesKept w
     kept = objects.kept entries files w bytes a
