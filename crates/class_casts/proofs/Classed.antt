@@ -1,0 +1,42 @@
+-- The cast of a class.
+use Rattle.std.proofs.Common.{◌≡◌, ◌≢◌, ℕ, suc, Bool, [], ◌∷◌, Some, refl, ap, ◌∙◌, cond}
+use Rattle.js_tree.specs.Terms.{Name, no_statements, text_literal}
+use Rattle.outcomes.specs.Outcome.{Out, done, going, then_do}
+use Rattle.js_mean.specs.States.{Value, null, boolean, Scope, State, ExpressionEnd, gives, with_value, Program}
+use Rattle.js_mean.specs.Meaning.{Low, below, code_of, code_call, function_scope, evaluate, chosen, one_of}
+use Rattle.class_code.proofs.Bridge.{return_hands_on}
+use Rattle.helper_rules.specs.Words.{call1, units_of, x}
+use Rattle.piece_rules.specs.Pieces.{is_instance, null_or_instance, cast_value}
+use Rattle.class_casts.specs.Kinds.{throwing_name, failed}
+use Rattle.class_casts.specs.Classes.{class_cast_code, class_test_name, ClassCastStands, ClassCastsTell}
+use Rattle.class_casts.proofs.Kinded.{differs_from_null, choice_comes, call_on_x, throw_comes}
+
+module _ (p : Program) (n : ℕ) (g : Name) (s : State) (c : Name) (v : Value) (st : ClassCastStands p g s c) (other : v ≢ null) where
+  abbrev low : Low
+  low = below p n
+
+  abbrev sc : Scope
+  sc = function_scope g (class_cast_code c) (v ∷ [])
+
+  -- on a value other than null the test of the class decides
+  test_comes : evaluate p low (null_or_instance c) sc s ≡ code_call low st.test_home (code_of p st.test_home (class_test_name c)) (v ∷ []) s
+  test_comes =
+      ap (λ (b : Bool). one_of (evaluate p low (is_instance c)) (boolean b) sc s) (differs_from_null v other)
+      ∙ call_on_x p low (class_test_name c) st.test_home v sc s refl refl st.test
+
+  decided : (b : Bool) → code_call low st.test_home (code_of p st.test_home (class_test_name c)) (v ∷ []) s ≡ done (gives (boolean b) s) → code_call (below p (suc n)) g (Some (class_cast_code c)) (v ∷ []) s ≡ cond b (done (gives v s)) (failed p n st.throwing_home (units_of c) s)
+  decided b h =
+      return_hands_on p low (cast_value c) no_statements sc s
+      ∙ choice_comes p low (null_or_instance c) x (call1 throwing_name (text_literal (units_of c))) sc s b (test_comes ∙ h)
+      ∙ ap (λ (o : Out ExpressionEnd). cond b (done (gives v s)) o) (throw_comes p low st.throwing_home (units_of c) sc s refl st.throwing)
+
+  pub goes : code_call low st.test_home (code_of p st.test_home (class_test_name c)) (v ∷ []) s ≡ going → code_call (below p (suc n)) g (Some (class_cast_code c)) (v ∷ []) s ≡ going
+  goes h =
+      return_hands_on p low (cast_value c) no_statements sc s
+      ∙ ap (λ (o : Out ExpressionEnd). then_do o (with_value (λ w. chosen (evaluate p low x) (evaluate p low (call1 throwing_name (text_literal (units_of c)))) (w ∷ []) sc))) (test_comes ∙ h)
+
+pub class_casts_tell : ClassCastsTell
+class_casts_tell = record {
+  of_null = λ p n g s c. refl;
+  of_other = λ p n g s c v b st other h. decided p n g s c v st other b h;
+}

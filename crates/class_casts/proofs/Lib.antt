@@ -1,0 +1,4 @@
+pub mod Classed
+pub mod Kinded
+pub mod Shortly
+pub mod Worldly

@@ -1,0 +1,124 @@
+-- The cast of a class gives null and instances, by the world.
+use Rattle.std.proofs.Common.{◌≡◌, ◌≢◌, ℕ, suc, Bool, true, false, List, [], ◌∷◌, Option, Some, None, refl, sym, ap, ◌∙◌, cond, inl, inr}
+use Rattle.std.specs.Prelude.{◌↔◌, is_some}
+use Rattle.js_tree.specs.Terms.{Name}
+use Rattle.outcomes.specs.Outcome.{done}
+use Rattle.sj_world.specs.Known.{Classes, is_hijacked}
+use Rattle.sj_world.specs.Calls.{IsInstance}
+use Rattle.js_mean.specs.States.{Value, undefined, null, boolean, number, big_int, text, object, function, class, method, ClassLink, State, gives, Program}
+use Rattle.js_mean.specs.Meaning.{Code, below, code_call}
+use Rattle.helper_rules.specs.declared.kinds.Kind.{Kind}
+use Rattle.helper_rules.specs.declared.kinds.Kind.TheVariants.{Undefined, Boolean, Char, Byte, Short, Int, Long, Text}
+use Rattle.helper_rules.specs.Words.{kind_class, marker, worded_kinds, units_of}
+use Rattle.piece_rules.specs.Classes.{AreInstances}
+use Rattle.class_tests.specs.Kinds.{is_of}
+use Rattle.class_tests.specs.Tests.{HasMarker, on_object, on_undefined, on_boolean, on_number, on_big_int, on_text, class_told}
+use Rattle.class_tests.specs.Instances.{is_worded}
+use Rattle.class_tests.proofs.Instanced.{tests_tell_instances}
+use Rattle.class_tests.proofs.Marked.{markers_tell, class_tests_tell}
+use Rattle.class_casts.specs.Kinds.{failed}
+use Rattle.class_casts.specs.Classes.{class_cast_code}
+use Rattle.class_casts.specs.Worlds.{TestedCastStands, HasConstantsOf, GivesInstances, CastsAreOfTheWorld}
+use Rattle.class_casts.proofs.Classed.{class_casts_tell}
+
+-- a primitive value of a worded kind has no marker
+unmarked : (p : Program) (s : State) (boxes : List ClassLink) (c : Name) (k : Kind) (v : Value) → is_worded k ≡ true → is_of s boxes k v ≡ true → HasMarker p s c v false
+unmarked p s boxes c Undefined undefined word of_k = on_undefined
+unmarked p s boxes c Undefined null word of_k = cc
+unmarked p s boxes c Undefined (boolean b) word of_k = cc
+unmarked p s boxes c Undefined (number z) word of_k = cc
+unmarked p s boxes c Undefined (big_int z) word of_k = cc
+unmarked p s boxes c Undefined (text us) word of_k = cc
+unmarked p s boxes c Undefined (object a) word of_k = cc
+unmarked p s boxes c Undefined (function f y) word of_k = cc
+unmarked p s boxes c Undefined (class ls) word of_k = cc
+unmarked p s boxes c Undefined (method ls y) word of_k = cc
+unmarked p s boxes c Boolean undefined word of_k = cc
+unmarked p s boxes c Boolean null word of_k = cc
+unmarked p s boxes c Boolean (boolean b) word of_k = on_boolean b
+unmarked p s boxes c Boolean (number z) word of_k = cc
+unmarked p s boxes c Boolean (big_int z) word of_k = cc
+unmarked p s boxes c Boolean (text us) word of_k = cc
+unmarked p s boxes c Boolean (object a) word of_k = cc
+unmarked p s boxes c Boolean (function f y) word of_k = cc
+unmarked p s boxes c Boolean (class ls) word of_k = cc
+unmarked p s boxes c Boolean (method ls y) word of_k = cc
+unmarked p s boxes c Char v word of_k = cc
+unmarked p s boxes c Byte v word of_k = cc
+unmarked p s boxes c Short v word of_k = cc
+unmarked p s boxes c Int undefined word of_k = cc
+unmarked p s boxes c Int null word of_k = cc
+unmarked p s boxes c Int (boolean b) word of_k = cc
+unmarked p s boxes c Int (number z) word of_k = on_number z
+unmarked p s boxes c Int (big_int z) word of_k = cc
+unmarked p s boxes c Int (text us) word of_k = cc
+unmarked p s boxes c Int (object a) word of_k = cc
+unmarked p s boxes c Int (function f y) word of_k = cc
+unmarked p s boxes c Int (class ls) word of_k = cc
+unmarked p s boxes c Int (method ls y) word of_k = cc
+unmarked p s boxes c Long undefined word of_k = cc
+unmarked p s boxes c Long null word of_k = cc
+unmarked p s boxes c Long (boolean b) word of_k = cc
+unmarked p s boxes c Long (number z) word of_k = cc
+unmarked p s boxes c Long (big_int z) word of_k = on_big_int z
+unmarked p s boxes c Long (text us) word of_k = cc
+unmarked p s boxes c Long (object a) word of_k = cc
+unmarked p s boxes c Long (function f y) word of_k = cc
+unmarked p s boxes c Long (class ls) word of_k = cc
+unmarked p s boxes c Long (method ls y) word of_k = cc
+unmarked p s boxes c Text undefined word of_k = cc
+unmarked p s boxes c Text null word of_k = cc
+unmarked p s boxes c Text (boolean b) word of_k = cc
+unmarked p s boxes c Text (number z) word of_k = cc
+unmarked p s boxes c Text (big_int z) word of_k = cc
+unmarked p s boxes c Text (text us) word of_k = on_text us
+unmarked p s boxes c Text (object a) word of_k = cc
+unmarked p s boxes c Text (function f y) word of_k = cc
+unmarked p s boxes c Text (class ls) word of_k = cc
+unmarked p s boxes c Text (method ls y) word of_k = cc
+
+marker_other : (p : Program) (s : State) (c : Name) (v : Value) (b : Bool) → HasMarker p s c v b → v ≢ null
+marker_other p s c v b (on_object a d own h k) e = cc
+marker_other p s c v b on_undefined e = cc
+marker_other p s c v b (on_boolean a) e = cc
+marker_other p s c v b (on_number z) e = cc
+marker_other p s c v b (on_big_int z) e = cc
+marker_other p s c v b (on_text us) e = cc
+
+module _ (p : Program) (n : ℕ) (g : Name) (boxes : List ClassLink) (s : State) (c : Name) (kinds : List Kind) (st : TestedCastStands p g boxes s c kinds) where
+  -- what the cast comes to, by what its test tells
+  cast_told : (v : Value) (b : Bool) → HasMarker p s c v b → code_call (below p (suc (suc (suc n)))) g (Some (class_cast_code c)) (v ∷ []) s ≡ cond (class_told s boxes kinds v b) (done (gives v s)) (failed p (suc (suc n)) st.cast.throwing_home (units_of c) s)
+  cast_told v b has_it = class_casts_tell.of_other p (suc (suc n)) g s c v (class_told s boxes kinds v b) st.cast (marker_other p s c v b has_it) (ap (λ (o : Option Code). code_call (below p (suc (suc n))) st.cast.test_home o (v ∷ []) s) st.test_is ∙ class_tests_tell p n st.cast.test_home boxes s c kinds v b st.tests has_it)
+
+  gives_told : (v : Value) (b : Bool) (is_instance : Type 0) → HasMarker p s c v b → (class_told s boxes kinds v b ≡ true) ↔ is_instance → GivesInstances p n g st.cast.throwing_home s c v is_instance
+  gives_told v b is_instance has_it tells = record {
+    given = λ i. cast_told v b has_it ∙ ap (λ (z : Bool). cond z (done (gives v s)) (failed p (suc (suc n)) st.cast.throwing_home (units_of c) s)) (tells.1 i);
+    refused = λ not. go not (class_told s boxes kinds v b) refl;
+  }
+    where
+      go : (is_instance → ⊥) → (z : Bool) → class_told s boxes kinds v b ≡ z → code_call (below p (suc (suc (suc n)))) g (Some (class_cast_code c)) (v ∷ []) s ≡ failed p (suc (suc n)) st.cast.throwing_home (units_of c) s
+      go not true e = absurd (not (tells.0 e))
+      go not false e = cast_told v b has_it ∙ ap (λ (z : Bool). cond z (done (gives v s)) (failed p (suc (suc n)) st.cast.throwing_home (units_of c) s)) e
+
+  module _ (w : Classes) (free : is_hijacked c ≡ false) (are : AreInstances w c worded_kinds kinds) (a : ℕ) (d : Name) (k : HasConstantsOf w p s a d) where
+    abbrev is_marked : Bool
+    is_marked = is_some (k.own (marker c))
+
+    told : class_told s boxes kinds (object a) is_marked ≡ is_marked
+    told = (tests_tell_instances w c kinds free are).object s boxes a is_marked
+
+    instance_told : (class_told s boxes kinds (object a) is_marked ≡ true) ↔ IsInstance w d None c
+    instance_told = (λ e. inl ((markers_tell w d c k.ancestors k.own k.above k.constants_are).0 (sym told ∙ e)), to)
+      where
+        to : IsInstance w d None c → class_told s boxes kinds (object a) is_marked ≡ true
+        to (inl i) = told ∙ (markers_tell w d c k.ancestors k.own k.above k.constants_are).1 i
+        to (inr small) = absurd small
+
+    object_given : GivesInstances p n g st.cast.throwing_home s c (object a) (IsInstance w d None c)
+    object_given = gives_told (object a) is_marked (IsInstance w d None c) (on_object a k.at k.own k.constants_at k.stored) instance_told
+
+pub casts_are_of_the_world : CastsAreOfTheWorld
+casts_are_of_the_world = record {
+  of_primitive = λ w p n g boxes s c kinds st k v number free are word of_k. gives_told p n g boxes s c kinds st v false (IsInstance w (kind_class k) number c) (unmarked p s boxes c k v word of_k) ((tests_tell_instances w c kinds free are).primitive s boxes k v number word of_k);
+  of_object = λ w p n g boxes s c kinds st a d free are k. object_given p n g boxes s c kinds st w free are a d k;
+}

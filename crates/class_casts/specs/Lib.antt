@@ -1,0 +1,4 @@
+pub mod Classes
+pub mod Kinds
+pub mod Shorts
+pub mod Worlds

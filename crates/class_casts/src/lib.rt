@@ -1,0 +1,32 @@
+//! What the emitted casts do: the casts of kinds and of classes.
+//!
+//! `specs/` has what is asked of a program in which these functions stand. The functions here are laws: they do nothing when they run, and their clauses are
+//! theorems.
+#![tactic(auto)]
+
+ghost use Rattle.class_casts.specs.Kinds.{CastsTell};
+ghost use Rattle.class_casts.specs.Classes.{ClassCastsTell};
+ghost use Rattle.class_casts.specs.Worlds.{CastsAreOfTheWorld};
+ghost use Rattle.class_casts.specs.Shorts.{ShortCastsGo};
+
+/// The cast of a kind gives the zero of the kind for null and the value where it is of the kind, of a boxed char its unit; on any other value it comes to
+/// what the function that throws comes to on the word of the kind. It costs one unit, and on a value other than null one more for the test.
+pub fn casts_tell()
+    ensures { CastsTell }
+{}
+
+/// The cast of a class gives null for null and the value where the test of the class is true; on any other value it comes to what the function that throws
+/// comes to on the name of the class. It costs one unit, and on a value other than null those of the test.
+pub fn class_casts_tell()
+    ensures { ClassCastsTell }
+{}
+
+/// The cast of a class that isn't hijacked gives a value other than null exactly where the world says that it is an instance.
+pub fn casts_are_of_the_world()
+    ensures { CastsAreOfTheWorld }
+{}
+
+/// With too few units casts are going, without a line.
+pub fn short_casts_go()
+    ensures { ShortCastsGo }
+{}
