@@ -103,7 +103,7 @@ module _ (p : Program) where
   worded_tells n g boxes s Text (class ls) e = refl
   worded_tells n g boxes s Text (method ls y) e = refl
 
-  test_passes : (n : ℕ) (g : Name) (boxes : List ClassLink) (s : State) (k : Kind) (v : Value) → (k ≡ Char → BoxesStand p g boxes s) → code_call (below p (suc n)) g (Some (test_code k)) (v ∷ []) s ≡ done (gives (boolean (passes s boxes k v)) s)
+  pub test_passes : (n : ℕ) (g : Name) (boxes : List ClassLink) (s : State) (k : Kind) (v : Value) → (k ≡ Char → BoxesStand p g boxes s) → code_call (below p (suc n)) g (Some (test_code k)) (v ∷ []) s ≡ done (gives (boolean (passes s boxes k v)) s)
   test_passes n g boxes s Undefined v stand = worded_tells n g boxes s Undefined v refl
   test_passes n g boxes s Boolean v stand = worded_tells n g boxes s Boolean v refl
   test_passes n g boxes s Char v stand = tests_tell p n g boxes s Char v refl (stand refl)
@@ -167,11 +167,11 @@ module _ (p : Program) (n : ℕ) (g : Name) (boxes : List ClassLink) (s : State)
   sc = function_scope g (cast_code k) (v ∷ [])
 
   -- on a value other than null the test is called
-  pub tested : v ≢ null → code_call (below p (suc n)) g (Some (cast_code k)) (v ∷ []) s ≡ then_do (code_call (below p n) st.test_home (Some (test_code k)) (v ∷ []) s) (with_value (λ w. chosen (evaluate p (below p n) (unboxed k)) (evaluate p (below p n) (cast_failure k)) (w ∷ []) sc))
-  tested other =
+  pub asks_test : v ≢ null → code_call (below p (suc n)) g (Some (cast_code k)) (v ∷ []) s ≡ then_do (code_call (below p n) st.tested.home (Some (test_code k)) (v ∷ []) s) (with_value (λ w. chosen (evaluate p (below p n) (unboxed k)) (evaluate p (below p n) (cast_failure k)) (w ∷ []) sc))
+  asks_test other =
       return_hands_on p (below p n) (cast_of k) no_statements sc s
       ∙ choice_comes p (below p n) (is_null x) (kind_zero k) (unboxed_or_throw k) sc s false (ap (λ (b : Bool). done (gives (boolean b) s)) (differs_from_null v other))
-      ∙ ap (λ (o : Out ExpressionEnd). then_do o (with_value (λ w. chosen (evaluate p (below p n) (unboxed k)) (evaluate p (below p n) (cast_failure k)) (w ∷ []) sc))) (call_on_x p (below p n) (is_name k) st.test_home v sc s (test_name_free g k v k) refl st.test ∙ ap (λ (o : Option Code). code_call (below p n) st.test_home o (v ∷ []) s) st.test_is)
+      ∙ ap (λ (o : Out ExpressionEnd). then_do o (with_value (λ w. chosen (evaluate p (below p n) (unboxed k)) (evaluate p (below p n) (cast_failure k)) (w ∷ []) sc))) (call_on_x p (below p n) (is_name k) st.tested.home v sc s (test_name_free g k v k) refl st.tested.test ∙ ap (λ (o : Option Code). code_call (below p n) st.tested.home o (v ∷ []) s) st.tested.test_is)
 
 module _ (p : Program) (n : ℕ) (g : Name) (boxes : List ClassLink) (s : State) (k : Kind) (v : Value) (st : CastStands p g boxes s k) where
   abbrev low : Low
@@ -179,8 +179,8 @@ module _ (p : Program) (n : ℕ) (g : Name) (boxes : List ClassLink) (s : State)
 
   cast_comes : v ≢ null → (b : Bool) → passes s boxes k v ≡ b → code_call (below p (suc (suc n))) g (Some (cast_code k)) (v ∷ []) s ≡ cond b (evaluate p low (unboxed k) (sc p n g boxes s k v st) s) (evaluate p low (cast_failure k) (sc p n g boxes s k v st) s)
   cast_comes other b e =
-      tested p (suc n) g boxes s k v st other
-      ∙ ap (λ (o : Out ExpressionEnd). then_do o (with_value (λ w. chosen (evaluate p low (unboxed k)) (evaluate p low (cast_failure k)) (w ∷ []) (sc p n g boxes s k v st)))) (test_passes p n st.test_home boxes s k v st.boxes_stand ∙ ap (λ (z : Bool). done (gives (boolean z) s)) e)
+      asks_test p (suc n) g boxes s k v st other
+      ∙ ap (λ (o : Out ExpressionEnd). then_do o (with_value (λ w. chosen (evaluate p low (unboxed k)) (evaluate p low (cast_failure k)) (w ∷ []) (sc p n g boxes s k v st)))) (test_passes p n st.tested.home boxes s k v st.tested.boxes_stand ∙ ap (λ (z : Bool). done (gives (boolean z) s)) e)
       ∙ go b
     where
       go : (b : Bool) → chosen (evaluate p low (unboxed k)) (evaluate p low (cast_failure k)) (boolean b ∷ []) (sc p n g boxes s k v st) s ≡ cond b (evaluate p low (unboxed k) (sc p n g boxes s k v st) s) (evaluate p low (cast_failure k) (sc p n g boxes s k v st) s)

@@ -43,12 +43,16 @@ throwing_name = codes "$cce"
 abbrev pub failed : Program → ℕ → Name → List ℕ → State → Out ExpressionEnd
 failed p n home us s = code_call (below p n) home (code_of p home throwing_name) (text us ∷ []) s
 
--- what the cast of a kind uses: the test of the kind, which for chars uses their class, and the function that throws
+-- the test of a kind stands in the program, and that of chars where their class stands
+pub record KindTestStands (p : Program) (g : Name) (boxes : List ClassLink) (s : State) (k : Kind) : Type 0 where
+  pub home : Name
+  pub test : IsTopFunction p g (is_name k) home s
+  pub test_is : code_of p home (is_name k) ≡ Some (test_code k)
+  pub boxes_stand : k ≡ Char → BoxesStand p home boxes s
+
+-- what the cast of a kind uses: the test of the kind, and the function that throws
 pub record CastStands (p : Program) (g : Name) (boxes : List ClassLink) (s : State) (k : Kind) : Type 0 where
-  pub test_home : Name
-  pub test : IsTopFunction p g (is_name k) test_home s
-  pub test_is : code_of p test_home (is_name k) ≡ Some (test_code k)
-  pub boxes_stand : k ≡ Char → BoxesStand p test_home boxes s
+  pub tested : KindTestStands p g boxes s k
   pub throwing_home : Name
   pub throwing : IsTopFunction p g throwing_name throwing_home s
 

@@ -1,5 +1,5 @@
 -- The cast of a class gives null and instances, by the world.
-use Rattle.std.specs.Prelude.{◌≡◌, ℕ, ℤ, suc, true, false, List, [], ◌∷◌, slice_get, Option, Some, None, codes}
+use Rattle.std.specs.Prelude.{◌≡◌, ℕ, ℤ, ◌+◌, suc, true, false, List, [], ◌∷◌, slice_get, Option, Some, None, codes}
 use Rattle.js_tree.specs.Terms.{Name}
 use Rattle.outcomes.specs.Outcome.{done}
 use Rattle.sj_world.specs.Known.{Classes, is_hijacked}
@@ -35,14 +35,19 @@ pub record HasConstantsOf (w : Classes) (p : Program) (s : State) (a : ℕ) (d :
   pub above : AreAncestors w d ancestors
   pub constants_are : literal_properties (constants d ancestors) no_properties ≡ Some own
 
--- the cast costs three units at most: it gives the value where it is an instance, and where it is none it comes, at one unit more, to what `$cce` comes to on the name of the class
-pub record GivesInstances (p : Program) (n : ℕ) (g throwing_home : Name) (s : State) (c : Name) (v : Value) (is_instance : Type 0) : Type 0 where
-  pub given : is_instance → code_call (below p (suc (suc (suc n)))) g (Some (class_cast_code c)) (v ∷ []) s ≡ done (gives v s)
-  pub refused : (is_instance → ⊥) → code_call (below p (suc (suc (suc n)))) g (Some (class_cast_code c)) (v ∷ []) s ≡ failed p (suc (suc n)) throwing_home (units_of c) s
+-- what `is_C` costs on a value other than null: one unit, and one for the tests of kinds that it calls
+abbrev pub test_units : List Kind → ℕ
+test_units [] = 1
+test_units (k ∷ ks) = 2
+
+-- within one unit more than these the cast gives the value where it is an instance; where it is none it comes to what `$cce` comes to within these on the name of the class
+pub record GivesInstances (p : Program) (units : ℕ) (g throwing_home : Name) (s : State) (c : Name) (v : Value) (is_instance : Type 0) : Type 0 where
+  pub given : is_instance → code_call (below p (suc units)) g (Some (class_cast_code c)) (v ∷ []) s ≡ done (gives v s)
+  pub refused : (is_instance → ⊥) → code_call (below p (suc units)) g (Some (class_cast_code c)) (v ∷ []) s ≡ failed p units throwing_home (units_of c) s
 
 -- for a class that isn't hijacked: on a primitive value but a char, and on an object, which may be a boxed char
 pub record CastsAreOfTheWorld : Type 0 where
   pub of_primitive : (w : Classes) (p : Program) (n : ℕ) (g : Name) (boxes : List ClassLink) (s : State) (c : Name) (kinds : List Kind) (st : TestedCastStands p g boxes s c kinds) (k : Kind) (v : Value) (number : Option ℤ) →
-      is_hijacked c ≡ false → AreInstances w c worded_kinds kinds → is_worded k ≡ true → is_of s boxes k v ≡ true → GivesInstances p n g st.cast.throwing_home s c v (IsInstance w (kind_class k) number c)
+      is_hijacked c ≡ false → AreInstances w c worded_kinds kinds → is_worded k ≡ true → is_of s boxes k v ≡ true → GivesInstances p (test_units kinds + n) g st.cast.throwing_home s c v (IsInstance w (kind_class k) number c)
   pub of_object : (w : Classes) (p : Program) (n : ℕ) (g : Name) (boxes : List ClassLink) (s : State) (c : Name) (kinds : List Kind) (st : TestedCastStands p g boxes s c kinds) (a : ℕ) (d : Name) →
-      is_hijacked c ≡ false → AreInstances w c worded_kinds kinds → HasConstantsOf w p s a d → GivesInstances p n g st.cast.throwing_home s c (object a) (IsInstance w d None c)
+      is_hijacked c ≡ false → AreInstances w c worded_kinds kinds → HasConstantsOf w p s a d → GivesInstances p (test_units kinds + n) g st.cast.throwing_home s c (object a) (IsInstance w d None c)

@@ -5,7 +5,7 @@
 #![tactic(auto)]
 
 ghost use Rattle.class_casts.specs.Kinds.{CastsTell};
-ghost use Rattle.class_casts.specs.Classes.{ClassCastsTell};
+ghost use Rattle.class_casts.specs.Classes.{ClassCastsTell, HijackedCastsTell};
 ghost use Rattle.class_casts.specs.Worlds.{CastsAreOfTheWorld};
 ghost use Rattle.class_casts.specs.Shorts.{ShortCastsGo};
 
@@ -21,7 +21,13 @@ pub fn class_casts_tell()
     ensures { ClassCastsTell }
 {}
 
-/// The cast of a class that isn't hijacked gives a value other than null exactly where the world says that it is an instance.
+/// The cast of a hijacked class gives a value of the kind of the class as it is, and fails on any other value but null. On those it costs three units.
+pub fn hijacked_casts_tell()
+    ensures { HijackedCastsTell }
+{}
+
+/// The cast of a class that isn't hijacked gives a value other than null exactly where the world says that it is an instance. It costs two units, and three
+/// where the test of the class calls tests of kinds.
 pub fn casts_are_of_the_world()
     ensures { CastsAreOfTheWorld }
 {}
