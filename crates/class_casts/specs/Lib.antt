@@ -1,4 +1,5 @@
 pub mod Classes
 pub mod Kinds
 pub mod Shorts
+pub mod Worked
 pub mod Worlds

@@ -4,10 +4,15 @@
 //! theorems.
 #![tactic(auto)]
 
+ghost use Rattle.std.specs.Prelude.{◌≡◌, [], ◌∷◌, ◌++◌, codes};
 ghost use Rattle.class_casts.specs.Kinds.{CastsTell};
 ghost use Rattle.class_casts.specs.Classes.{ClassCastsTell, HijackedCastsTell};
 ghost use Rattle.class_casts.specs.Worlds.{CastsAreOfTheWorld};
 ghost use Rattle.class_casts.specs.Shorts.{ShortCastsGo};
+ghost use Rattle.class_casts.specs.Worked.{worked_lines, worked_kind_cast, worked_class_cast};
+ghost use Rattle.js_mean.specs.Shows.{js_shows};
+ghost use Rattle.outcomes.specs.Outcome.{Done, Going};
+ghost use Rattle.outcomes.specs.Shown.{uncaught, object_of};
 
 /// The cast of a kind gives the zero of the kind for null and the value where it is of the kind, of a boxed char its unit; on any other value it comes to
 /// what the function that throws comes to on the word of the kind. It costs one unit, and on a value other than null one more for the test.
@@ -35,4 +40,11 @@ pub fn casts_are_of_the_world()
 /// With too few units casts are going, without a line.
 pub fn short_casts_go()
     ensures { ShortCastsGo }
+{}
+
+/// A program made of pieces: casts of null and of values of the kind or the class; and at last a cast that throws, one of a kind and one of a class.
+pub fn worked_casts()
+    ensures within_3 { js_shows worked_kind_cast (codes "main") 3 ≡ record { lines = worked_lines; end = Going } }
+    ensures kind_within_4 { js_shows worked_kind_cast (codes "main") 4 ≡ record { lines = worked_lines ++ codes "int" ∷ []; end = Done (uncaught (object_of (codes "java.lang.ClassCastException"))) } }
+    ensures class_within_4 { js_shows worked_class_cast (codes "main") 4 ≡ record { lines = worked_lines ++ codes "A" ∷ []; end = Done (uncaught (object_of (codes "java.lang.ClassCastException"))) } }
 {}
