@@ -149,7 +149,7 @@ null_fails s boxes Long = refl
 null_fails s boxes Text = refl
 
 -- a value that passes a test is not null
-passes_other : (s : State) (boxes : List ClassLink) (k : Kind) (v : Value) → passes s boxes k v ≡ true → v ≢ null
+pub passes_other : (s : State) (boxes : List ClassLink) (k : Kind) (v : Value) → passes s boxes k v ≡ true → v ≢ null
 passes_other s boxes k v h e = let t : true ≡ false = sym h ∙ ap (passes s boxes k) e ∙ null_fails s boxes k in cc
 
 pub null_gives_zero : (p : Program) (n : ℕ) (g : Name) (s : State) (k : Kind) → code_call (below p (suc n)) g (Some (cast_code k)) (null ∷ []) s ≡ done (gives (zero_value k) s)

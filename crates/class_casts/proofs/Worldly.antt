@@ -116,20 +116,18 @@ marker_other p s c v b (on_number z) e = cc
 marker_other p s c v b (on_big_int z) e = cc
 marker_other p s c v b (on_text us) e = cc
 
+-- a cast that is decided by a test gives what the test tells
+pub gives_by : (p : Program) (units : ℕ) (g home : Name) (s : State) (c : Name) (v : Value) (is_instance : Type 0) (b : Bool) → code_call (below p (suc units)) g (Some (class_cast_code c)) (v ∷ []) s ≡ cond b (done (gives v s)) (failed p units home (units_of c) s) → (b ≡ true) ↔ is_instance → GivesInstances p units g home s c v is_instance
+gives_by p units g home s c v is_instance true runs tells = record { given = λ i. runs; refused = λ not. absurd (not (tells.0 refl)) }
+gives_by p units g home s c v is_instance false runs tells = record { given = λ i. let e : false ≡ true = tells.1 i in cc; refused = λ not. runs }
+
 module _ (p : Program) (n : ℕ) (g : Name) (boxes : List ClassLink) (s : State) (c : Name) (kinds : List Kind) (st : TestedCastStands p g boxes s c kinds) where
   -- what the cast comes to, by what its test tells
   cast_told : (v : Value) (b : Bool) → HasMarker p s c v b → code_call (below p (suc (test_units kinds + n))) g (Some (class_cast_code c)) (v ∷ []) s ≡ cond (class_told s boxes kinds v b) (done (gives v s)) (failed p (test_units kinds + n) st.cast.throwing_home (units_of c) s)
   cast_told v b has_it = class_casts_tell.of_other p (test_units kinds + n) g s c v (class_told s boxes kinds v b) st.cast (marker_other p s c v b has_it) (ap (λ (o : Option Code). code_call (below p (test_units kinds + n)) st.cast.test_home o (v ∷ []) s) st.test_is ∙ test_tells p n st.cast.test_home boxes s c kinds v b st.tests has_it)
 
   gives_told : (v : Value) (b : Bool) (is_instance : Type 0) → HasMarker p s c v b → (class_told s boxes kinds v b ≡ true) ↔ is_instance → GivesInstances p (test_units kinds + n) g st.cast.throwing_home s c v is_instance
-  gives_told v b is_instance has_it tells = record {
-    given = λ i. cast_told v b has_it ∙ ap (λ (z : Bool). cond z (done (gives v s)) (failed p (test_units kinds + n) st.cast.throwing_home (units_of c) s)) (tells.1 i);
-    refused = λ not. go not (class_told s boxes kinds v b) refl;
-  }
-    where
-      go : (is_instance → ⊥) → (z : Bool) → class_told s boxes kinds v b ≡ z → code_call (below p (suc (test_units kinds + n))) g (Some (class_cast_code c)) (v ∷ []) s ≡ failed p (test_units kinds + n) st.cast.throwing_home (units_of c) s
-      go not true e = absurd (not (tells.0 e))
-      go not false e = cast_told v b has_it ∙ ap (λ (z : Bool). cond z (done (gives v s)) (failed p (test_units kinds + n) st.cast.throwing_home (units_of c) s)) e
+  gives_told v b is_instance has_it tells = gives_by p (test_units kinds + n) g st.cast.throwing_home s c v is_instance (class_told s boxes kinds v b) (cast_told v b has_it) tells
 
   module _ (w : Classes) (free : is_hijacked c ≡ false) (are : AreInstances w c worded_kinds kinds) (a : ℕ) (d : Name) (k : HasConstantsOf w p s a d) where
     abbrev is_marked : Bool

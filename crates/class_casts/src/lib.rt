@@ -7,6 +7,7 @@
 ghost use Rattle.std.specs.Prelude.{◌≡◌, [], ◌∷◌, ◌++◌, codes};
 ghost use Rattle.class_casts.specs.Kinds.{CastsTell};
 ghost use Rattle.class_casts.specs.Classes.{ClassCastsTell, HijackedCastsTell};
+ghost use Rattle.class_casts.specs.Hijacked.{HijackedCastsAreOfTheWorld};
 ghost use Rattle.class_casts.specs.Worlds.{CastsAreOfTheWorld};
 ghost use Rattle.class_casts.specs.Shorts.{ShortCastsGo};
 ghost use Rattle.class_casts.specs.Worked.{worked_lines, worked_kind_cast, worked_class_cast};
@@ -35,6 +36,12 @@ pub fn hijacked_casts_tell()
 /// where the test of the class calls tests of kinds.
 pub fn casts_are_of_the_world()
     ensures { CastsAreOfTheWorld }
+{}
+
+/// The cast of a hijacked class gives a value other than null exactly where the world says that it is an instance, in a world where no class writes a
+/// hijacked class: a byte or a short is a number in its range.
+pub fn hijacked_casts_are_of_the_world()
+    ensures { HijackedCastsAreOfTheWorld }
 {}
 
 /// With too few units casts are going, without a line.
