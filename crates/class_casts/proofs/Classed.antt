@@ -38,23 +38,23 @@ module _ (p : Program) (n : ℕ) (g : Name) (s : State) (c : Name) (v : Value) (
       return_hands_on p low (cast_value c) no_statements sc s
       ∙ ap (λ (o : Out ExpressionEnd). then_do o (with_value (λ w. chosen (evaluate p low x) (evaluate p low (call1 throwing_name (text_literal (units_of c)))) (w ∷ []) sc))) (test_comes ∙ h)
 
-hijacked_name_free : (g c : Name) (k : Kind) (v : Value) (j : Kind) → (function_scope g (hijacked_test_code c k) (v ∷ [])).bindings (is_name j) ≡ absent
-hijacked_name_free g c k v Undefined = refl
-hijacked_name_free g c k v Boolean = refl
-hijacked_name_free g c k v Char = refl
-hijacked_name_free g c k v Byte = refl
-hijacked_name_free g c k v Short = refl
-hijacked_name_free g c k v Int = refl
-hijacked_name_free g c k v Long = refl
-hijacked_name_free g c k v Text = refl
+hijacked_name_free : (g : Name) (k : Kind) (v : Value) (j : Kind) → (function_scope g (hijacked_test_code k) (v ∷ [])).bindings (is_name j) ≡ absent
+hijacked_name_free g k v Undefined = refl
+hijacked_name_free g k v Boolean = refl
+hijacked_name_free g k v Char = refl
+hijacked_name_free g k v Byte = refl
+hijacked_name_free g k v Short = refl
+hijacked_name_free g k v Int = refl
+hijacked_name_free g k v Long = refl
+hijacked_name_free g k v Text = refl
 
 module _ (p : Program) (n : ℕ) (g : Name) (boxes : List ClassLink) (s : State) (c : Name) (k : Kind) (v : Value) (st : HijackedCastStands p g boxes s c k) where
   -- the test of a hijacked class calls that of its kind
   pub hijacked_asks : code_call (below p (suc n)) st.cast.test_home (code_of p st.cast.test_home (class_test_name c)) (v ∷ []) s ≡ code_call (below p n) st.tested.home (Some (test_code k)) (v ∷ []) s
   hijacked_asks =
       ap (λ (o : Option Code). code_call (below p (suc n)) st.cast.test_home o (v ∷ []) s) st.test_is
-      ∙ return_hands_on p (below p n) (kind_test k) no_statements (function_scope st.cast.test_home (hijacked_test_code c k) (v ∷ [])) s
-      ∙ call_on_x p (below p n) (is_name k) st.tested.home v (function_scope st.cast.test_home (hijacked_test_code c k) (v ∷ [])) s (hijacked_name_free st.cast.test_home c k v k) refl st.tested.test
+      ∙ return_hands_on p (below p n) (kind_test k) no_statements (function_scope st.cast.test_home (hijacked_test_code k) (v ∷ [])) s
+      ∙ call_on_x p (below p n) (is_name k) st.tested.home v (function_scope st.cast.test_home (hijacked_test_code k) (v ∷ [])) s (hijacked_name_free st.cast.test_home k v k) refl st.tested.test
       ∙ ap (λ (o : Option Code). code_call (below p n) st.tested.home o (v ∷ []) s) st.tested.test_is
 
 pub hijacked_casts_tell : HijackedCastsTell

@@ -2,4 +2,5 @@ pub mod Classed
 pub mod Hijacking
 pub mod Kinded
 pub mod Shortly
+pub mod Spelled
 pub mod Worldly

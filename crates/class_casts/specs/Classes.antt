@@ -9,7 +9,7 @@ use Rattle.js_mean.specs.Meaning.{Code, below, code_of, code_call}
 use Rattle.class_code.specs.Bridges.{IsTopFunction}
 use Rattle.helper_rules.specs.declared.kinds.Kind.{Kind}
 use Rattle.helper_rules.specs.Words.{units_of, only_return}
-use Rattle.piece_rules.specs.Pieces.{cast_value, instance_test}
+use Rattle.piece_rules.specs.Pieces.{kind_test, cast_value}
 use Rattle.class_casts.specs.Kinds.{passes, throwing_name, failed, KindTestStands}
 
 abbrev pub class_cast_code : Name → Code
@@ -32,13 +32,13 @@ pub record ClassCastsTell : Type 0 where
       code_call (below p n) st.test_home (code_of p st.test_home (class_test_name c)) (v ∷ []) s ≡ done (gives (boolean b) s) →
       code_call (below p (suc n)) g (Some (class_cast_code c)) (v ∷ []) s ≡ (if b then done (gives v s) else failed p n st.throwing_home (units_of c) s)
 
-abbrev pub hijacked_test_code : Name → Kind → Code
-hijacked_test_code c k = record { parameters = codes "x" ∷ []; body = only_return (instance_test c [] (Some k)) }
+abbrev pub hijacked_test_code : Kind → Code
+hijacked_test_code k = record { parameters = codes "x" ∷ []; body = only_return (kind_test k) }
 
 -- the cast of a hijacked class and its test, which is that of the kind of the class
 pub record HijackedCastStands (p : Program) (g : Name) (boxes : List ClassLink) (s : State) (c : Name) (k : Kind) : Type 0 where
   pub cast : ClassCastStands p g s c
-  pub test_is : code_of p cast.test_home (class_test_name c) ≡ Some (hijacked_test_code c k)
+  pub test_is : code_of p cast.test_home (class_test_name c) ≡ Some (hijacked_test_code k)
   pub tested : KindTestStands p cast.test_home boxes s k
 
 -- on a value other than null it costs three units, and gives a value of the kind as it is, also a boxed char

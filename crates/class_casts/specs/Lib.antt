@@ -1,4 +1,5 @@
 pub mod Classes
+pub mod Coded
 pub mod Hijacked
 pub mod Kinds
 pub mod Shorts

@@ -1,12 +1,13 @@
 //! What the emitted casts do: the casts of kinds and of classes.
 //!
-//! `specs/` has what is asked of a program in which these functions stand. The functions here are laws: they do nothing when they run, and their clauses are
-//! theorems.
+//! `specs/` has what is asked of a program in which these functions stand. The functions here are laws: they do nothing when they run, and their clauses
+//! are theorems.
 #![tactic(auto)]
 
 ghost use Rattle.std.specs.Prelude.{◌≡◌, [], ◌∷◌, ◌++◌, codes};
 ghost use Rattle.class_casts.specs.Kinds.{CastsTell};
 ghost use Rattle.class_casts.specs.Classes.{ClassCastsTell, HijackedCastsTell};
+ghost use Rattle.class_casts.specs.Coded.{PiecesHaveCodes};
 ghost use Rattle.class_casts.specs.Hijacked.{HijackedCastsAreOfTheWorld};
 ghost use Rattle.class_casts.specs.Worlds.{CastsAreOfTheWorld};
 ghost use Rattle.class_casts.specs.Shorts.{ShortCastsGo};
@@ -15,25 +16,31 @@ ghost use Rattle.js_mean.specs.Shows.{js_shows};
 ghost use Rattle.outcomes.specs.Outcome.{Done, Going};
 ghost use Rattle.outcomes.specs.Shown.{uncaught, object_of};
 
-/// The cast of a kind gives the zero of the kind for null and the value where it is of the kind, of a boxed char its unit; on any other value it comes to
-/// what the function that throws comes to on the word of the kind. It costs one unit, and on a value other than null one more for the test.
+/// The pieces of casts have the code that these laws speak of.
+pub fn pieces_have_codes()
+    ensures { PiecesHaveCodes }
+{}
+
+/// The cast of a kind gives the zero of the kind for null and the value where it is of the kind, of a boxed char its unit; on any other value it comes
+/// to what the function that throws comes to on the word of the kind. It costs one unit, and on a value other than null one more for the test.
 pub fn casts_tell()
     ensures { CastsTell }
 {}
 
-/// The cast of a class gives null for null and the value where the test of the class is true; on any other value it comes to what the function that throws
-/// comes to on the name of the class. It costs one unit, and on a value other than null those of the test.
+/// The cast of a class gives null for null and the value where the test of the class is true; on any other value it comes to what the function that
+/// throws comes to on the name of the class. It costs one unit, and on a value other than null also those of the test.
 pub fn class_casts_tell()
     ensures { ClassCastsTell }
 {}
 
-/// The cast of a hijacked class gives a value of the kind of the class as it is, and fails on any other value but null. On those it costs three units.
+/// The cast of a hijacked class gives a value of the kind of the class as it is, and fails on any other value but null. On all of these it costs three
+/// units.
 pub fn hijacked_casts_tell()
     ensures { HijackedCastsTell }
 {}
 
-/// The cast of a class that isn't hijacked gives a value other than null exactly where the world says that it is an instance. It costs two units, and three
-/// where the test of the class calls tests of kinds.
+/// The cast of a class that isn't hijacked gives a value other than null exactly where the world says that it is an instance. It costs two units, and
+/// three where the test of the class calls tests of kinds.
 pub fn casts_are_of_the_world()
     ensures { CastsAreOfTheWorld }
 {}
