@@ -1,0 +1,6 @@
+pub mod Classed
+pub mod Hijacking
+pub mod Kinded
+pub mod Shortly
+pub mod Spelled
+pub mod Worldly

@@ -1,0 +1,7 @@
+pub mod Classes
+pub mod Coded
+pub mod Hijacked
+pub mod Kinds
+pub mod Shorts
+pub mod Worked
+pub mod Worlds
