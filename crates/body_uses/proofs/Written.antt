@@ -111,7 +111,7 @@ module _ (w : Classes) where
   long_or_none d (arrays_alike a b e f g i) = absurd cc
   long_or_none d (arrays_of_arrays a b e f g i) = absurd cc
 
-  divisor : (o : BinaryOp) (e d : Term) → OperandsFit w o e d → FitsDivision o d
+  pub divisor : (o : BinaryOp) (e d : Term) → OperandsFit w o e d → FitsDivision o d
   divisor IntDivide e d h = int_or_none d h.1
   divisor IntRemainder e d h = int_or_none d h.1
   divisor LongDivide e d h = long_or_none d h.1
