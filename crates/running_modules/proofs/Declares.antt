@@ -126,7 +126,7 @@ module _ (digest_of : Key → Digest) (graph : Graph) (entries : List EntryPoint
   items_at : (m : PlannedModule) → Contains modules m → items_in (module_among program (file m)) ≡ own_items (file m) ps ++ map call_item_of m.initializers
   items_at m h = modules_have_their_items digest_of graph entries style modules ps keep is m h
 
-  item_at : (q : Piece) (f : Bytes) → Contains ps q → file_with modules q.owner ≡ Some f → Contains (items_in (module_among program f)) q.item
+  pub item_at : (q : Piece) (f : Bytes) → Contains ps q → file_with modules q.owner ≡ Some f → Contains (items_in (module_among program f)) q.item
   item_at q f h stands =
       let i = in_module modules q.owner f stands in
       let own : Contains (own_items f ps) q.item = into_map item_of (filter (owned_in f) ps) q (into_filter (owned_in f) ps q h (is_it f (file_with modules q.owner) stands)) in
