@@ -1,3 +1,5 @@
 pub mod Closed
 pub mod Running
 pub mod Whole
+pub mod Graphs
+pub mod One

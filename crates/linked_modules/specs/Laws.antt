@@ -1,5 +1,5 @@
 -- Laws of links with several public modules.
-use Rattle.std.specs.Prelude.{List, map}
+use Rattle.std.specs.Prelude.{◌≡◌, List, map}
 use Rattle.std.specs.List.{Contains}
 use Rattle.declared_pieces.specs.Accepted.{IsAccepted}
 use Rattle.file_listings.specs.Listed.{AreBytes}
@@ -27,3 +27,13 @@ LinkedModulesAgree = (entries : List EntryPoint) (files : List SourceFile) (w : 
     → AreCountable link.graph entries
     → Contains (map module_of entries) id
     → Agrees w entries links id
+
+-- the classes of an accepted folder are linked to one list of files at most
+abbrev pub LinkIsOne : Type 0
+LinkIsOne = (entries : List EntryPoint) (files : List SourceFile) (w : Classes) (style : Style) (one other : List File)
+    → IsAccepted entries files w
+    → AreEntries entries
+    → (link : IsLink w entries style one)
+    → AreCountable link.graph entries
+    → IsLink w entries style other
+    → one ≡ other
