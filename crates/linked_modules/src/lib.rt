@@ -5,9 +5,9 @@
 
 ghost use Rattle.linked_modules.specs.Laws.{LinkIsOne, LinkedModulesAgree};
 
-/// The theorem on links with several public modules. The files that an accepted folder is linked to, in either style, show of each public module what the folder's classes show,
-/// where each needed body is of the forms that are built: what the one shows within any bound the other shows within some bound, and the other way round, and neither is wrong
-/// at any bound.
+/// The theorem on links with several public modules. The files that an accepted folder is linked to, in either style, show of each public module
+/// what the folder's classes show, where each needed body is of the forms that are built: what the one shows within any bound the other shows within
+/// some bound, and the other way round, and neither is wrong at any bound.
 pub fn linked_modules_agree()
     ensures { LinkedModulesAgree }
 {}
