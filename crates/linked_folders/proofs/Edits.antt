@@ -43,18 +43,18 @@ module _ (entries : List EntryPoint) (files : List SourceFile) where
   pub world_is : (classes w u : Classes) → IsAccepted entries files w → AreRead files classes → IsWorldOf classes u → w ≡ u
   world_is classes w u a are world = one_world a.classes w u a.world (subst (λ (c : Classes). IsWorldOf c u) (same_classes classes a.classes are a.read) world)
 
-  not_accepted : (code : ℕ) (place : List ℕ) → IsVerdict entries files (refused code place) → IsVerdict entries files accepted → ⊥
+  pub not_accepted : (code : ℕ) (place : List ℕ) → IsVerdict entries files (refused code place) → IsVerdict entries files accepted → ⊥
   not_accepted code place h k = let e : refused code place ≡ accepted = one_verdict entries files (refused code place) accepted h k in cc
 
   pub accepted_by : (w : Classes) → IsAccepted entries files w → IsVerdict entries files accepted
   accepted_by w a = (have_worlds entries files).1 (w, a)
 
-  same_unbuilt : (w u : Classes) (spelled other : List ℕ) → w ≡ u → IsLeastUnbuilt w entries spelled → IsLeastUnbuilt u entries other → spelled ≡ other
+  pub same_unbuilt : (w u : Classes) (spelled other : List ℕ) → w ≡ u → IsLeastUnbuilt w entries spelled → IsLeastUnbuilt u entries other → spelled ≡ other
   same_unbuilt w u spelled other same h k =
       let moved : IsLeastUnbuilt w entries other = subst (λ (z : Classes). IsLeastUnbuilt z entries other) (sym same) k in
       least_one spelled other (h.least other moved.one) (moved.least spelled h.one)
 
-  never_both : (w u : Classes) (spelled : List ℕ) → w ≡ u → IsLeastUnbuilt w entries spelled → AreBuilt u entries → ⊥
+  pub never_both : (w u : Classes) (spelled : List ℕ) → w ≡ u → IsLeastUnbuilt w entries spelled → AreBuilt u entries → ⊥
   never_both w u spelled same h all =
       let every : AreBuilt w entries = subst (λ (z : Classes). AreBuilt z entries) (sym same) all in
       let e = every h.one.member h.one.definition h.one.needed h.one.defined in
@@ -143,7 +143,7 @@ own_differ : (es : List EmittedMethod) → HaveOwnMembers es → Differ es
 own_differ [] own = tt
 own_differ (e ∷ es) own = (λ o h same. own.0 o h (ap (λ (x : EmittedMethod). x.member) same), own_differ es own.1)
 
-as_many : (w : Classes) (entries : List EntryPoint) (all more : List EmittedMethod) → AreBodies w entries all → AreBodies w entries more → length all ≡ length more
+pub as_many : (w : Classes) (entries : List EntryPoint) (all more : List EmittedMethod) → AreBodies w entries all → AreBodies w entries more → length all ≡ length more
 as_many w entries all more one other =
     let to = no_more all more (own_differ all one.own) (same_bodies w entries all more one other) in
     let back = no_more more all (own_differ more other.own) (same_bodies w entries more all other one) in

@@ -3,3 +3,4 @@ pub mod Running
 pub mod Whole
 pub mod Graphs
 pub mod One
+pub mod Edits
