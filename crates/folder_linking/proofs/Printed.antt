@@ -67,10 +67,11 @@ module _ (modules : List PlannedModule) (ps : List Piece) where
       (subst (λ (ms : List PlannedModule). AreFilesOf modules ps ms (map as_file old ++ as_file f ∷ [])) (sym (more_taken modules which at.planned at.stands)) (more_files (take which modules) (map as_file old) at.planned (as_file f) are at.is))
 
 module _ (w : Classes) (entries : List EntryPoint) (pieces : List Piece) (printable : ArePrintable w entries pieces) where
-  pub link_is : (style : Style) (graph : Graph) (plan : List PlannedModule) (files : List File) → IsGraph pieces graph → AreCountable graph entries → IsPlan sha1_digest graph entries style plan → AreFilesOf plan pieces plan files → IsCountableLink w entries style files
-  link_is style graph plan files is_graph countable is_plan are = record {
+  pub link_is : (style : Style) (graph : Graph) (plan : List PlannedModule) (files : List File) → AreEntries entries → IsGraph pieces graph → AreCountable graph entries → IsPlan sha1_digest graph entries style plan → AreFilesOf plan pieces plan files → IsCountableLink w entries style files
+  link_is style graph plan files valid is_graph countable is_plan are = record {
     link = record { pieces = pieces; are_pieces = printable.are; graph = graph; is_graph = is_graph; plan = plan; is_plan = is_plan; files_are = are };
     countable = countable;
+    valid = valid;
   }
 
   abbrev all : List EmittedMethod

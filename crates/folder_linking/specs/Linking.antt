@@ -5,6 +5,7 @@ use Rattle.linked_folders.specs.Entries.{AreEntries}
 use Rattle.js_tree.specs.Rules.{IsPiece}
 use Rattle.js_tree.specs.Terms.{Piece}
 use Rattle.file_listings.specs.Listed.{AreBytes}
+use Rattle.sj_names.specs.EntryPoints.{AreEntries as AreValid}
 use Rattle.sj_names.specs.declared.entry_points.EntryPoint.{EntryPoint}
 use Rattle.sj_names.specs.declared.folders.SourceFile.{SourceFile}
 use Rattle.sj_world.specs.Known.{Classes}
@@ -32,7 +33,8 @@ pub record ArePrintable (w : Classes) (entries : List EntryPoint) (pieces : List
   pub are : ArePieces w entries pieces
   pub rules : All IsPiece pieces
 
--- the classes are linked to these files, of a graph that can be counted
+-- the classes are linked to these files, by the entries of a command and of a graph that can be counted
 pub record IsCountableLink (w : Classes) (entries : List EntryPoint) (style : Style) (files : List File) : Type 0 where
+  pub valid : AreValid entries
   pub link : IsLink w entries style files
   pub countable : AreCountable link.graph entries
