@@ -21,7 +21,7 @@ use Rattle.folder_judging.specs.declared.errors.JudgeError.TheVariants as judged
 use Rattle.folder_linking.proofs.Edits.{same_world, world_is}
 use Rattle.folder_linking.proofs.LinkedEdits.{linked_folders_agree}
 use Rattle.folder_linking.specs.Edits.{IsEditVerdict, IsLinkOf, by_folder, unbuilt, built}
-use Rattle.folder_linking.specs.Unbuilt.{AreBuilt}
+use Rattle.folder_linking.specs.Built.{AreBuilt}
 use Rattle.folder_linking.proofs.Linked.{bodies_many}
 use Rattle.folder_linking.specs.Counts.{with_emits, EmitsAtMost}
 use Rattle.folder_linking.specs.Linking.{IsCountableLink, IsLinkable}

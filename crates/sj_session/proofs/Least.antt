@@ -21,7 +21,7 @@ use Rattle.worklist.proofs.Inserted.{nothing_in}
 use Rattle.folder_linking.proofs.AcceptedFoldersMembers.{found-member}
 use Rattle.built_forms.specs.Built.{not_built}
 use Rattle.folder_linking.proofs.Taken.{more_taken}
-use Rattle.folder_linking.specs.Unbuilt.{IsUnbuilt}
+use Rattle.folder_linking.specs.Edits.{IsUnbuilt}
 use Rattle.sj_session.specs.Unbuilt.{IsLeast, IsUnbuiltMember, first_of, lesser, IsWithMember, built, unbuilt, IsWithFact, body, other}
 
 -- the least among facts

@@ -10,8 +10,7 @@ use Rattle.sj_split.specs.declared.plans.Style.{Style}
 use Rattle.sj_world.specs.Known.{Classes}
 use Rattle.folder_linking.specs.Verdicts.{Verdict, accepted, refused}
 use Rattle.folder_linking.specs.Accepted.{IsAccepted}
-use Rattle.folder_linking.specs.Edits.{IsEditVerdict, IsLinkOf, IsWork}
-use Rattle.folder_linking.specs.Unbuilt.{IsLeastUnbuilt, not_built_code}
+use Rattle.folder_linking.specs.Edits.{IsEditVerdict, IsLinkOf, IsWork, IsLeastUnbuilt, not_built_code}
 use Rattle.folder_linking.specs.Modules.{as_file}
 use Rattle.sj_session.specs.Sessions.{work_told}
 use Rattle.sj_session.specs.declared.editing.Edit.{Edit}

@@ -3,7 +3,7 @@ ghost use Rattle.std.specs.Prelude.{◌≡◌, IfOk, MatchResult, length};
 ghost use Rattle.folder_judging.specs.Counts.{bodies_among};
 ghost use Rattle.folder_judging.specs.Refusals.{IsRefusal};
 ghost use Rattle.folder_linking.specs.Edits.{IsEditVerdict};
-ghost use Rattle.folder_linking.specs.Unbuilt.{AreBuilt};
+ghost use Rattle.folder_linking.specs.Built.{AreBuilt};
 ghost use Rattle.sj_reach.specs.Answers.{AreReachable};
 ghost use Rattle.sj_session.specs.Editing.{IsEdit, IsRefusedUnbuilt};
 ghost use Rattle.sj_session.specs.Counts as counts;
