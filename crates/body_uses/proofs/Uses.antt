@@ -38,12 +38,6 @@ use Rattle.sj_trees.specs.declared.types.IrType.{IrType}
 use Rattle.sj_trees.specs.declared.types.IrType.TheVariants.{Any, Char, Int, Long, Nothing, String}
 use Rattle.body_uses.specs.Given.{FitsDivision, HasType, body_helpers}
 
-operand_same : (runs : Member → Member) (o : BinaryOp) (t : IrType) (e : Expression) → uses_in runs (operand_of o t e) ≡ uses_in runs e
-operand_same runs StringConcatenate String e = refl
-operand_same runs StringConcatenate Char e = refl
-operand_same runs StringConcatenate t e = refl
-operand_same runs o t e = refl
-
 pub fixed_plain : (m : List ℕ → Bool) (t : Term) → is_fixed m t ≡ true → is_plain t ≡ true
 fixed_plain m (undefined_literal p) h = refl
 fixed_plain m (null_literal p) h = refl
@@ -183,7 +177,12 @@ module _ (U : Binding → Type 0) (runs : Member → Member) where
   arguments_in (r ∷ rs) [] (e ∷ es) h = (front (uses_in runs e) (uses_in_all runs (expressions_of es)) h, arguments_in (r ∷ rs) [] es (back (uses_in runs e) (uses_in_all runs (expressions_of es)) h))
 
   pub operand_in : (o : BinaryOp) (t : IrType) (e : Expression) → In (operand_of o t e) → In e
-  operand_in o t e h = subst (All U) (operand_same runs o t e) h
+  operand_in StringConcatenate String e h = h
+  operand_in StringConcatenate Char e h = h
+  operand_in StringConcatenate t e h = h
+  operand_in StrictEqual t e h = uncoerced Any t e h
+  operand_in StrictNotEqual t e h = uncoerced Any t e h
+  operand_in o t e h = h
 
   -- an operand's expression or its statements are within
   pub data Written (o : Operand) : Type 0 where

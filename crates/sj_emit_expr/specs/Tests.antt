@@ -1,5 +1,5 @@
 -- Tests, casts and identity: the functions that they call.
-use Rattle.std.specs.Prelude.{List, ◌++◌, codes}
+use Rattle.std.specs.Prelude.{◌++◌, codes}
 use Rattle.js_tree.specs.Terms.{Name, Expression, undefined_literal, call_of, no_expressions, expression}
 use Rattle.sj_mangling.specs.Bindings.{class_binding}
 use Rattle.sj_mangling.specs.declared.bindings.ClassBinding.TheVariants.{IsInstance, AsInstance}

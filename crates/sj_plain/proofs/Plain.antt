@@ -162,7 +162,9 @@ module _ (z : Setting) (lawful : Lawful z) (scope : Scope) where
   simple_alike LongShiftLeft left right r q e d simple f g w env s sc u (more_operands _ _ _ _ _ _ h one (more_operands _ _ _ _ _ _ k other no_operands)) same = left_shift_alike z w env sc left right r q e d one other s u same f g
   simple_alike LongShiftRightLogical left right r q e d simple f g w env s sc u (more_operands _ _ _ _ _ _ h one (more_operands _ _ _ _ _ _ k other no_operands)) same = zero_shift_alike z w env sc left right r q e d one other s u same f g
   simple_alike LongShiftRightArithmetic left right r q e d simple f g w env s sc u (more_operands _ _ _ _ _ _ h one (more_operands _ _ _ _ _ _ k other no_operands)) same = right_shift_alike z w env sc left right r q e d one other s u same f g
-  simple_alike StringConcatenate left right r q e d simple f g w env s sc u operands same = impossible simple
+  simple_alike StrictEqual left right r q e d simple f g w env s sc u _ same = impossible simple
+  simple_alike StrictNotEqual left right r q e d simple f g w env s sc u _ same = impossible simple
+  simple_alike StringConcatenate left right r q e d simple f g w env s sc u _ same = impossible simple
   simple_alike o left right r q e d simple f g w env s sc u operands same = direct_alike o left right r q e d simple f g w env s sc u operands same
 
   -- an operator that takes operands of these types, but for division
