@@ -29,7 +29,7 @@ use Rattle.body_uses.specs.Laws.{BodiesUseWhatIsGiven, used_by}
 use Rattle.body_uses.proofs.Boxes.{box_used, box_among}
 use Rattle.body_uses.proofs.Uses.{Gives, GivesReceived, followed_parts, or_first, or_second, tree}
 
-same_binding : (a b : Binding) → is_same_binding a b ≡ true → a ≡ b
+pub same_binding : (a b : Binding) → is_same_binding a b ≡ true → a ≡ b
 same_binding a b h = let q = and_parts (is_same_text a.owner b.owner) (is_same_text a.name b.name) h in (λ i. record { owner = text-same a.owner b.owner q.0 i; name = text-same a.name b.name q.1 i })
 
 -- a binding is there already, or it is kept
@@ -65,7 +65,7 @@ pub all_from : {X : Type 0} (P : X → Type 0) (xs : List X) → ((x : X) → Co
 all_from P [] h = All-nil P
 all_from P (x ∷ xs) h = All-cons P x xs (h x (here x xs)) (all_from P xs (λ y i. h y (there x xs y i)))
 
-completed_uses : (U : Binding → Type 0) (runs : Member → Member) (n : Namespace) (ss : core.Statements) → All U (uses_of_all runs (completed n ss)) → All U (uses_of_all runs ss)
+pub completed_uses : (U : Binding → Type 0) (runs : Member → Member) (n : Namespace) (ss : core.Statements) → All U (uses_of_all runs (completed n ss)) → All U (uses_of_all runs ss)
 completed_uses U runs Constructor ss h = (followed_parts U runs ss (core.statement (core.return_of None (core.variable_use core.receiver)) core.no_statements) h).0
 completed_uses U runs Public ss h = h
 completed_uses U runs PublicStatic ss h = h
@@ -92,7 +92,7 @@ module _ (has : Usable) (used : List Binding) where
   gives t g = tt
 
 -- objects that hold chars can be made, or the code makes none
-may_make_those : (has : Usable) (boxed : Bool) → (boxed ≡ true → can_box has ≡ true) → may_make has boxed ≡ true
+pub may_make_those : (has : Usable) (boxed : Bool) → (boxed ≡ true → can_box has ≡ true) → may_make has boxed ≡ true
 may_make_those has true h = or_first (can_box has) false (h refl)
 may_make_those has false h = or_second (can_box has) true refl
 

@@ -47,6 +47,7 @@ use Rattle.accepted_folders.specs.Emitted.{EmittedMethod}
 use Rattle.accepted_folders.specs.Linked.{has_function}
 use Rattle.sj_trees.proofs.SameTypes.{type-refl}
 use Rattle.sj_trees.specs.SameTypes.{is_same_type}
+use Rattle.sj_trees.specs.declared.positions.Position.{Position}
 use Rattle.sj_trees.specs.Term.{Term, new_object, select, select_static, apply_statically, apply_static, binary_op}
 use Rattle.sj_trees.specs.declared.classes.ClassDef.{ClassDef}
 use Rattle.sj_trees.specs.declared.operators.BinaryOp.{BinaryOp}
@@ -141,6 +142,19 @@ static_there PrivateStatic h = refl
 static_there Public h = absurd h
 static_there Private h = absurd h
 static_there Constructor h = absurd h
+
+module _ (entries : List EntryPoint) (files : List SourceFile) (w : Classes) (all : List EmittedMethod) (accepted : IsAccepted entries files w) (bodies : AreBodies w entries all) (e : EmittedMethod) (i : Contains all e) where
+  -- each tree of a body that is needed meets what it has to
+  tree_stands : (t : Term) → Contains (trees e.its_body) t → Stands (MeetsThere w e.definition.namespace) t
+  tree_stands t among =
+      let typed = accepted.typed e.member e.definition (needed w entries all bodies e i) (defined w e.member e.definition (bodies.found e i).found) in
+      let same : typed.body ≡ e.its_body = some_same typed.body e.its_body (sym typed.has_body ∙ (bodies.found e i).has_body) in
+      let stands = subst (λ (b : Term). All (Stands (MeetsThere w e.definition.namespace)) (trees b)) same (each_stands (MeetsThere w e.definition.namespace) typed.body [] 0 typed.met) in
+      all_at (Stands (MeetsThere w e.definition.namespace)) (trees e.its_body) stands t among
+
+  -- and each divisor in it is of the type that is divided
+  pub divisors_fit : (p : Position) (o : BinaryOp) (a d : Term) → Contains (trees e.its_body) (binary_op p o a d) → FitsDivision o d
+  divisors_fit p o a d among = divisor w o a d (tree_stands (binary_op p o a d) among).asked
 
 module _ (entries : List EntryPoint) (files : List SourceFile) (w : Classes) (facts : List Fact) (all : List EmittedMethod) (live : List Name) (helpers : List Helper) (written : List Name) (accepted : IsAccepted entries files w) (bodies : AreBodies w entries all) (uses : AreWrittenWith w entries facts all live helpers written) (e : EmittedMethod) (i : Contains all e) (here_written : Contains written e.member.class) where
   abbrev has : Usable
@@ -255,11 +269,7 @@ module _ (entries : List EntryPoint) (files : List SourceFile) (w : Classes) (fa
   ]
 
   body_built : is_object_body e.definition e.its_body ≡ true → is_built_with has e.definition e.its_body ≡ true
-  body_built k =
-      let typed = accepted.typed e.member e.definition (needed w entries all bodies e i) (defined w e.member e.definition (bodies.found e i).found) in
-      let same : typed.body ≡ e.its_body = some_same typed.body e.its_body (sym typed.has_body ∙ (bodies.found e i).has_body) in
-      let stands = subst (λ (b : Term). All (Stands (MeetsThere w e.definition.namespace)) (trees b)) same (each_stands (MeetsThere w e.definition.namespace) typed.body [] 0 typed.met) in
-      given has e.definition e.its_body refl k helpers_given (λ t among. tree_given t among (all_at (Stands (MeetsThere w e.definition.namespace)) (trees e.its_body) stands t among))
+  body_built k = given has e.definition e.its_body refl k helpers_given (λ t among. tree_given t among (tree_stands entries files w all accepted bodies e i t among))
 
 pub accepted_bodies : AcceptedBodiesUseWhatIsWritten
 accepted_bodies entries files w facts all live helpers written accepted bodies uses e i here_written k = body_built entries files w facts all live helpers written accepted bodies uses e i here_written k

@@ -79,3 +79,7 @@ in_once bs b i = go (kept bs [] b i)
 -- a class uses its superclass
 pub uses_superclass : (c s : Name) (superclass : Option Name) (es : List MethodEntry) → superclass ≡ Some s → Contains (once_each [] (class_uses c superclass es)) (bound s (class_name s))
 uses_superclass c s superclass es e = in_once (class_uses c superclass es) (bound s (class_name s)) (Contains-append_left (parent_uses superclass) (own_constants c ∷ uses_of_entries es) (bound s (class_name s)) (subst (λ (o : Option Name). Contains (parent_uses o) (bound s (class_name s))) (sym e) (at_first (bound s (class_name s)) [])))
+
+-- and its constants
+pub uses_constants : (c : Name) (superclass : Option Name) (es : List MethodEntry) → Contains (once_each [] (class_uses c superclass es)) (own_constants c)
+uses_constants c superclass es = in_once (class_uses c superclass es) (own_constants c) (Contains-append_right (parent_uses superclass) (own_constants c ∷ uses_of_entries es) (own_constants c) (at_first (own_constants c) (uses_of_entries es)))

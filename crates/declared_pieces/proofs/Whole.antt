@@ -1,5 +1,5 @@
 -- The items of the pieces that some classes own declare all that code can use there.
-use Rattle.std.proofs.Common.{◌≡◌, ◌&&◌, not, Bool, true, false, List, Option, Some, None, IsTrue, codes, map, refl, sym, ap, subst, ◌∙◌}
+use Rattle.std.proofs.Common.{◌≡◌, ◌&&◌, not, Bool, true, false, List, [], ◌∷◌, Option, Some, None, IsTrue, codes, map, refl, sym, ap, subst, ◌∙◌}
 use Rattle.std.specs.Prelude.{◌↔◌}
 use Rattle.std.specs.List.{Contains, filter, list_any}
 use Rattle.std.proofs.lemmas.Bool.{and_parts, and_from}
@@ -14,14 +14,14 @@ use Rattle.object_folders.proofs.Chains.{byte_not}
 use Rattle.object_folders.specs.Built.{Usable, has_static, is_static, has_no_value}
 use Rattle.class_code.proofs.Markers.{marked}
 use Rattle.declared_pieces.proofs.Blocks.{to_items, OwnPieces, own_pieces, method_there, helper_there}
-use Rattle.declared_pieces.proofs.Chains.{Stands, made_declared}
+use Rattle.declared_pieces.proofs.Chains.{Stands, whole_chain}
 use Rattle.declared_pieces.proofs.Fields.{field_there, static_there, class_named, fields_kept}
 use Rattle.declared_pieces.proofs.HelperNames.{one_helper}
 use Rattle.declared_pieces.proofs.Live.{next_is, live_next, classes_kept, live_free, live_there}
 use Rattle.declared_pieces.proofs.Parts.{constants_there, class_there, statics_among, in_statics, is_reached, uses_superclass}
 use Rattle.declared_pieces.specs.Closed.{IsClosed, items_of}
 use Rattle.declared_pieces.specs.Laws.{PiecesDeclare}
-use Rattle.declared_programs.specs.Declared.{Running, alone, on_receiver, completing, running, FunctionDeclared, ClassDeclared, MadeDeclared, StaticDeclared}
+use Rattle.declared_programs.specs.Declared.{Running, alone, on_receiver, completing, running, FunctionDeclared, ClassDeclared, ChainDeclared, extends_none, extends_one, MadeDeclared, StaticDeclared}
 use Rattle.object_folders.specs.Entries.{IsLive}
 use Rattle.file_listings.specs.Listed.{AreBytes}
 use Rattle.helper_rules.specs.Helpers.{helper_name, helper_item, helper_piece}
@@ -66,21 +66,21 @@ use Rattle.sj_world.specs.Members.{IsMethodOf}
 use Rattle.sj_world.specs.declared.facts.Fact.{Fact}
 use Rattle.sj_world.specs.declared.facts.Fact.TheVariants.{Needed as NeededClass, NeededField}
 
-static_alone : (n : Namespace) → is_static n ≡ true → running n ≡ alone
+pub static_alone : (n : Namespace) → is_static n ≡ true → running n ≡ alone
 static_alone PublicStatic h = refl
 static_alone PrivateStatic h = refl
 static_alone Public h = impossible h
 static_alone Private h = impossible h
 static_alone Constructor h = impossible h
 
-received_runs : (n : Namespace) → is_received n ≡ true → running n ≡ on_receiver
+pub received_runs : (n : Namespace) → is_received n ≡ true → running n ≡ on_receiver
 received_runs Public h = refl
 received_runs Private h = refl
 received_runs PublicStatic h = impossible h
 received_runs PrivateStatic h = impossible h
 received_runs Constructor h = impossible h
 
-constructor_is : (n : Namespace) → is_constructor n ≡ true → n ≡ Constructor
+pub constructor_is : (n : Namespace) → is_constructor n ≡ true → n ≡ Constructor
 constructor_is Constructor h = refl
 constructor_is Public h = impossible h
 constructor_is Private h = impossible h
@@ -95,7 +95,7 @@ no_mark : (b : Bool) → not b ≡ true → b ≡ false
 no_mark true h = impossible h
 no_mark false h = refl
 
-no_value : (r : Option TypeRef) → has_no_value r ≡ true → call_type r ≡ NoType
+pub no_value : (r : Option TypeRef) → has_no_value r ≡ true → call_type r ≡ NoType
 no_value (Some References.Void) h = refl
 no_value (Some References.Boolean) h = impossible h
 no_value (Some References.Char) h = impossible h
@@ -117,10 +117,10 @@ need_is c f (NeededField d g false) h = impossible h
 need_is c f _ h = impossible h
 
 -- the fields of the parts are those of instances
-own_fields : (given sorted : List FieldDef) → AreSorted (filter is_own given) sorted → (f : FieldDef) → Contains sorted f → Contains given f × (f.is_static ≡ false)
+pub own_fields : (given sorted : List FieldDef) → AreSorted (filter is_own given) sorted → (f : FieldDef) → Contains sorted f → Contains given f × (f.is_static ≡ false)
 own_fields given sorted h f i = let p = from_filter is_own given f (Contains-permutation sorted (filter is_own given) f (IsPermutation-sym (filter is_own given) sorted h.exact) i) in (p.among, no_mark f.is_static p.passes)
 
-whole_fields : (given sorted : List FieldDef) → AreSorted (filter is_own given) sorted → (f : FieldDef) → Contains given f → f.is_static ≡ false → Contains sorted f
+pub whole_fields : (given sorted : List FieldDef) → AreSorted (filter is_own given) sorted → (f : FieldDef) → Contains given f → f.is_static ≡ false → Contains sorted f
 whole_fields given sorted h f i mark = Contains-permutation (filter is_own given) sorted f h.exact (into_filter is_own given f i (own_mark f.is_static mark))
 
 module _ (entries : List EntryPoint) (files : List SourceFile) (l : Linked) (all : List EmittedMethod) (live written : List Name) (ps : List Piece) (bytes : (file : SourceFile) → Contains files file → AreBytes file.bytes) (a : IsAccepted entries files l.world) (bodies : AreBodies l.world entries all) (p : AreLinkedPieces l all ps) (are_live : (c : Name) → Contains live c ↔ IsLive l.world l.facts c) (run : CanRun l.world entries l.facts all live p.helpers written) (owned : IsClosed ps written) where
@@ -147,13 +147,13 @@ module _ (entries : List EntryPoint) (files : List SourceFile) (l : Linked) (all
     }
 
   -- a method of a class that is written, of this member
-  record Method (m : Member) : Type 0 where
-    method : EmittedMethod
-    listed : Contains all method
-    is : method.member ≡ m
-    here : Contains written method.member.class
+  pub record Method (m : Member) : Type 0 where
+    pub method : EmittedMethod
+    pub listed : Contains all method
+    pub is : method.member ≡ m
+    pub here : Contains written method.member.class
 
-  method_of : (m : Member) → (is_among written m.class && has_function all m) ≡ true → Method m
+  pub method_of : (m : Member) → (is_among written m.class && has_function all m) ≡ true → Method m
   method_of m h =
       let q = and_parts (is_among written m.class) (has_function all m) h in
       let f = has_function-is all m q.1 in
@@ -180,36 +180,36 @@ module _ (entries : List EntryPoint) (files : List SourceFile) (l : Linked) (all
 
   -- classes
 
-  record Good (c : Name) : Type 0 where
-    is_live : Contains live c
-    is_written : Contains written c
+  pub record Good (c : Name) : Type 0 where
+    pub is_live : Contains live c
+    pub is_written : Contains written c
 
   module _ (c : Name) (good : Good c) where
     c_live : IsLive w l.facts c
     c_live = (are_live c).0 good.is_live
 
-    free : is_hijacked c ≡ false
+    pub free : is_hijacked c ≡ false
     free = live_free entries files w bytes a l.facts run.reached c c_live
 
-    own : OwnPieces l all ps p c
+    pub own : OwnPieces l all ps p c
     own = let k = live_there entries files w bytes a l.facts run.reached c c_live in own_pieces l all ps p c k.0 k.1
 
-    abbrev its : Parts
+    abbrev pub its : Parts
     its = own.parts
 
     named : its.class.name ≡ c
     named = (class_found w c its.class own.are.class_is).1
 
-    is_named : IsTrue (is_class_name c)
+    pub is_named : IsTrue (is_class_name c)
     is_named = subst (λ (n : Name). IsTrue (is_class_name n)) named (class_named entries files w bytes a its.class (class_found w c its.class own.are.class_is).0)
 
-    constants_here : Contains ps (constants_piece c its.ancestors)
+    pub constants_here : Contains ps (constants_piece c its.ancestors)
     constants_here = subst (λ (n : Name). Contains ps (constants_piece n its.ancestors)) named (own.there (constants_piece its.class.name its.ancestors) (constants_there its (own.are.live.1 c_live)))
 
-    abbrev class_of_its : Piece
+    abbrev pub class_of_its : Piece
     class_of_its = class_piece c its.class.superclass its.entries its.fields
 
-    class_here : Contains ps class_of_its
+    pub class_here : Contains ps class_of_its
     class_here = subst (λ (n : Name). Contains ps (class_piece n its.class.superclass its.entries its.fields)) named (own.there (class_piece its.class.name its.class.superclass its.entries its.fields) (class_there its (own.are.live.1 c_live)))
 
     class_declared : ClassDeclared w has items c its.class.superclass
@@ -228,87 +228,106 @@ module _ (entries : List EntryPoint) (files : List SourceFile) (l : Linked) (all
       no_char = byte_not c free (codes "java.lang.Character") refl;
     }
 
-    super_good : (d : Name) → its.class.superclass ≡ Some d → Good d
+    pub super_good : (d : Name) → its.class.superclass ≡ Some d → Good d
     super_good d super =
         let next : IsNext w c d = next_is w c its.class own.are.class_is free ∙ super in
         record { is_live = (are_live d).1 (live_next w l.facts c d c_live next); is_written = owned class_of_its class_here good.is_written (bound d (class_name d)) (uses_superclass c d its.class.superclass its.entries super) }
 
-    stands : Stands w has items Good c
-    stands = record { class = its.class; found = own.are.class_is; free = free; declared = class_declared; up = super_good }
+    abbrev stands : Stands w Good c
+    stands = record { class = its.class; found = own.are.class_is; free = free; up = super_good }
+
+  abbrev Chain : List Name → Type 0
+  Chain = ChainDeclared w has items
+
+  chain_ends : (c : Name) (good : Good c) → (its c good).class.superclass ≡ None → Chain (c ∷ [])
+  chain_ends c good e = extends_none c (subst (ClassDeclared w has items c) e (class_declared c good))
+
+  chain_goes_on : (c d : Name) (ds : List Name) (good : Good c) → (its c good).class.superclass ≡ Some d → Chain (d ∷ ds) → Chain (c ∷ d ∷ ds)
+  chain_goes_on c d ds good e rest = extends_one c d ds (subst (ClassDeclared w has items c) e (class_declared c good)) rest
+
+  pub made_good : (c : Name) → (is_among written c && is_among live c) ≡ true → Good c
+  made_good c h = let q = and_parts (is_among written c) (is_among live c) h in record { is_live = (among live c).0 q.1; is_written = (among written c).0 q.0 }
 
   class_made : (c : Name) → (is_among written c && is_among live c) ≡ true → MadeDeclared w has items c
-  class_made c h = let q = and_parts (is_among written c) (is_among live c) h in made_declared w (classes_kept entries files w bytes a) a.world.no_cycle has items Good stands c (record { is_live = (among live c).0 q.1; is_written = (among written c).0 q.0 })
+  class_made c h = let chain = whole_chain w (classes_kept entries files w bytes a) a.world.no_cycle Good stands Chain chain_ends chain_goes_on c (made_good c h) in record { above = chain.above; chain = chain.is_chain; classes = chain.classes }
 
   -- static fields
 
-  record Needed (c f : Name) (t : IrType) : Type 0 where
-    here : Contains written c
-    fact : Contains l.facts (NeededField c f true)
-    field : IsStaticField w c f t
+  pub record Needed (c f : Name) (t : IrType) : Type 0 where
+    pub here : Contains written c
+    pub fact : Contains l.facts (NeededField c f true)
+    pub field : IsStaticField w c f t
 
-  needed_static : (c f : Name) (t : IrType) → has_static has c f t ≡ true → Needed c f t
+  pub needed_static : (c f : Name) (t : IrType) → has_static has c f t ≡ true → Needed c f t
   needed_static c f t h =
       let q = and_parts (is_among written c) (list_any (needs_static c f) l.facts && has_static_in (class_of w c) f t) (static_is w l.facts all live p.helpers written c f t h) in
       let r = and_parts (list_any (needs_static c f) l.facts) (has_static_in (class_of w c) f t) q.1 in
       let found = Any-from_list_any (needs_static c f) l.facts r.0 in
       record { here = (among written c).0 q.0; fact = subst (Contains l.facts) (need_is c f found.1 found.4) (found.0, found.2, found.3); field = static_there w c f t r.1 }
 
+  module _ (c f : Name) (t : IrType) (need : Needed c f t) where
+    abbrev d : FieldDef
+    d = need.field.field
+
+    its_class : class_of w c ≡ Some need.field.definition
+    its_class = sym (same-class w c) ∙ need.field.found
+
+    pieces_of_it : OwnPieces l all ps p c
+    pieces_of_it = own_pieces l all ps p c need.field.definition its_class
+
+    abbrev parts : Parts
+    parts = pieces_of_it.parts
+
+    name_is : parts.class.name ≡ c
+    name_is = (class_found w c parts.class pieces_of_it.are.class_is).1
+
+    among_fields : Contains parts.class.fields d
+    among_fields = subst (λ (k : ClassDef). Contains k.fields d) (some_class need.field.definition parts.class (sym its_class ∙ pieces_of_it.are.class_is)) need.field.among
+
+    reached : Contains pieces_of_it.are.statics.reached d
+    reached = is_reached l.facts c parts.class.fields pieces_of_it.are.statics.reached pieces_of_it.are.statics.are_reached d among_fields need.field.of_class (subst (λ (n : Name). Contains l.facts (NeededField c n true)) (sym need.field.named) need.fact)
+
+    there : Contains (all_statics parts.class.name parts.statics) (variable_piece parts.class.name d) × Contains (all_statics parts.class.name parts.statics) (setter_piece parts.class.name d)
+    there = in_statics parts.class.name parts.statics d (Contains-permutation pieces_of_it.are.statics.reached parts.statics d pieces_of_it.are.statics.sorted.exact reached)
+
+    pub variable_there : Contains ps (variable_piece c d)
+    variable_there = subst (λ (n : Name). Contains ps (variable_piece n d)) name_is (pieces_of_it.there (variable_piece parts.class.name d) (statics_among parts (variable_piece parts.class.name d) there.0))
+
+    pub setter_there : Contains ps (setter_piece c d)
+    setter_there = subst (λ (n : Name). Contains ps (setter_piece n d)) name_is (pieces_of_it.there (setter_piece parts.class.name d) (statics_among parts (setter_piece parts.class.name d) there.1))
+
+    its_static : StaticDeclared w items c f t
+    its_static = record { field = need.field; variable = to_items written ps (variable_piece c d) variable_there need.here; setter = to_items written ps (setter_piece c d) setter_there need.here }
+
   static_declared : (c f : Name) (t : IrType) → has_static has c f t ≡ true → StaticDeclared w items c f t
-  static_declared c f t h = record {
-    field = need.field;
-    variable = to_items written ps (variable_piece c d) (subst (λ (n : Name). Contains ps (variable_piece n d)) named (own.there (variable_piece its.class.name d) (statics_among its (variable_piece its.class.name d) there.0))) need.here;
-    setter = to_items written ps (setter_piece c d) (subst (λ (n : Name). Contains ps (setter_piece n d)) named (own.there (setter_piece its.class.name d) (statics_among its (setter_piece its.class.name d) there.1))) need.here;
-  }
-    where
-      need : Needed c f t
-      need = needed_static c f t h
-
-      d : FieldDef
-      d = need.field.field
-
-      found : class_of w c ≡ Some need.field.definition
-      found = sym (same-class w c) ∙ need.field.found
-
-      own : OwnPieces l all ps p c
-      own = own_pieces l all ps p c need.field.definition found
-
-      its : Parts
-      its = own.parts
-
-      named : its.class.name ≡ c
-      named = (class_found w c its.class own.are.class_is).1
-
-      among_fields : Contains its.class.fields d
-      among_fields = subst (λ (k : ClassDef). Contains k.fields d) (some_class need.field.definition its.class (sym found ∙ own.are.class_is)) need.field.among
-
-      there : Contains (all_statics its.class.name its.statics) (variable_piece its.class.name d) × Contains (all_statics its.class.name its.statics) (setter_piece its.class.name d)
-      there = in_statics its.class.name its.statics d (Contains-permutation own.are.statics.reached its.statics d own.are.statics.sorted.exact (is_reached l.facts c its.class.fields own.are.statics.reached own.are.statics.are_reached d among_fields need.field.of_class (subst (λ (n : Name). Contains l.facts (NeededField c n true)) (sym need.field.named) need.fact)))
+  static_declared c f t h = its_static c f t (needed_static c f t h)
 
   -- helpers
 
   abbrev IsNamed : Name → Helper → Bool
   IsNamed x h = is_same_text x (helper_name h)
 
-  record IsWritten (h : Helper) : Type 0 where
-    among_helpers : Contains p.helpers h
-    with_object : Contains written object
+  pub record IsWritten (h : Helper) : Type 0 where
+    pub among_helpers : Contains p.helpers h
+    pub with_object : Contains written object
 
-  helper_written : (h : Helper) → has.helper (helper_name h) ≡ true → IsWritten h
+  pub helper_written : (h : Helper) → has.helper (helper_name h) ≡ true → IsWritten h
   helper_written h e =
       let q = and_parts (is_among written object) (list_any (IsNamed (helper_name h)) p.helpers) e in
       let found = Any-from_list_any (IsNamed (helper_name h)) p.helpers q.1 in
       let same : h ≡ found.1 = one_helper h found.1 (text-same (helper_name h) (helper_name found.1) found.4) in
       record { among_helpers = subst (Contains p.helpers) (sym same) (found.0, found.2, found.3); with_object = (among written object).0 q.0 }
 
-  helper_had : (h : Helper) → IsWritten h → has.helper (helper_name h) ≡ true
+  pub helper_had : (h : Helper) → IsWritten h → has.helper (helper_name h) ≡ true
   helper_had h i =
       let j = i.among_helpers in
       and_from (is_among written object) (list_any (IsNamed (helper_name h)) p.helpers) ((among written object).1 i.with_object) (list_any_at (IsNamed (helper_name h)) p.helpers j.0 h j.1 (subst (λ (g : Helper). IsNamed (helper_name h) g ≡ true) (sym j.2) (text-refl (helper_name h))))
 
+  pub helper_listed : (h : Helper) → IsWritten h → Contains ps (helper_piece p.above h)
+  helper_listed h i = let k = made.present w entries a.resolved (classes_kept entries files w bytes a) object (closed w entries (NeededClass object) the_object) in helper_there l all ps p k.0 k.1 h i.among_helpers
+
   helper_here : (h : Helper) → IsWritten h → Contains items (helper_item p.above h)
-  helper_here h i =
-      let k = made.present w entries a.resolved (classes_kept entries files w bytes a) object (closed w entries (NeededClass object) the_object) in
-      to_items written ps (helper_piece p.above h) (helper_there l all ps p k.0 k.1 h i.among_helpers) i.with_object
+  helper_here h i = to_items written ps (helper_piece p.above h) (helper_listed h i) i.with_object
 
 pub pieces_declare : PiecesDeclare
 pieces_declare entries files l all live written ps bytes a bodies p are_live run owned covered = record {

@@ -8,7 +8,6 @@ pub mod Linked
 mod Printed
 pub use Rattle.linked_folders.proofs.Worlds
 pub use Rattle.linked_folders.proofs.Edits
-pub use Rattle.linked_folders.proofs.Links
-pub use Rattle.linked_folders.proofs.Planned
+pub use Rattle.linked_modules.proofs.Edits as LinkedEdits
 pub use Rattle.linked_folders.proofs.Members as AcceptedFoldersMembers
 pub use Rattle.linked_folders.proofs.Firsts

@@ -5,6 +5,7 @@ use Rattle.linked_folders.specs.Entries.{AreEntries}
 use Rattle.js_tree.specs.Rules.{IsPiece}
 use Rattle.js_tree.specs.Terms.{Piece}
 use Rattle.file_listings.specs.Listed.{AreBytes}
+use Rattle.sj_names.specs.EntryPoints.{AreEntries as AreValid}
 use Rattle.sj_names.specs.declared.entry_points.EntryPoint.{EntryPoint}
 use Rattle.sj_names.specs.declared.folders.SourceFile.{SourceFile}
 use Rattle.sj_world.specs.Known.{Classes}
@@ -12,7 +13,11 @@ use Rattle.sj_world.specs.Linked.{Linked}
 use Rattle.sj_reach.specs.Answers.{AreReachable}
 use Rattle.linked_folders.specs.Accepted.{IsAccepted}
 use Rattle.linked_folders.specs.Edits.{AreBuilt}
+use Rattle.js_mean.specs.Shows.{File}
 use Rattle.linked_folders.specs.Link.{ArePieces}
+use Rattle.linked_modules.specs.Link.{IsLink}
+use Rattle.plan_laws.specs.Laws.{AreCountable}
+use Rattle.sj_split.specs.declared.plans.Style.{Style}
 
 -- the world of a folder of bytes that is accepted and whose needed bodies are built, with all that is reachable in it and its method entries
 pub record IsLinkable (entries : List EntryPoint) (l : Linked) : Type 0 where
@@ -27,3 +32,9 @@ pub record IsLinkable (entries : List EntryPoint) (l : Linked) : Type 0 where
 pub record ArePrintable (w : Classes) (entries : List EntryPoint) (pieces : List Piece) : Type 0 where
   pub are : ArePieces w entries pieces
   pub rules : All IsPiece pieces
+
+-- the classes are linked to these files, by the entries of a command and of a graph that can be counted
+pub record IsCountableLink (w : Classes) (entries : List EntryPoint) (style : Style) (files : List File) : Type 0 where
+  pub valid : AreValid entries
+  pub link : IsLink w entries style files
+  pub countable : AreCountable link.graph entries

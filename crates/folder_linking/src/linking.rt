@@ -1,18 +1,20 @@
 // A folder that is linked.
-ghost use Rattle.std.specs.Prelude.{◌≡◌, IfOk, map};
+ghost use Rattle.std.specs.Prelude.{◌≡◌, IfOk, OnOk, map};
 ghost use Rattle.js_tree.specs.Views.{piece_view};
 ghost use Rattle.folder_judging.specs.Counts.{bodies_among, members_of};
-ghost use Rattle.linked_folders.specs.Link.{IsLink};
 ghost use Rattle.folder_linking.specs.Counts.{Emits};
 ghost use Rattle.folder_linking.specs.Functions.{AreFunctions, piece};
-ghost use Rattle.folder_linking.specs.Linking.{IsLinkable, ArePrintable};
+ghost use Rattle.folder_linking.specs.Linking.{ArePrintable, IsCountableLink, IsLinkable};
 ghost use Rattle.folder_linking.specs.Modules.{as_file};
+ghost use Rattle.plan_laws.specs.Laws.{AreCountable};
+ghost use Rattle.sj_names.specs.EntryPoints.{AreEntries};
 
 use crate::ModuleFile;
 use crate::functions::{Function, functions_of_bodies};
 use crate::modules::printed_files;
 use js_tree::JsPiece;
-use sj_graph::graph;
+use module_rules::{modules_keep_rules, plans_name_files};
+use sj_graph::{Graph, graph};
 use sj_names::{Entries, NoMemory};
 use sj_split::{Style, plan};
 use sj_workers::Workers;
@@ -20,20 +22,21 @@ use sj_world::LinkedWorld;
 use std::alloc::Global;
 use world_pieces::world_pieces;
 
-/// The files of a folder that is accepted and whose needed bodies are of the forms that are built: those of the modules that are planned for the
-/// pieces of its classes, in the order of their names. Each needed body is emitted once, by `work`. Want of memory is the only error.
+/// The files of a folder that is accepted and whose needed bodies are of the forms that are built: those of the modules that are planned in the style
+/// for the pieces of its classes, in the order of their names. Each needed body is emitted once, by `work`. Want of memory is the only error.
 pub fn link<W: Workers>(
     alloc: Global,
     linked: &LinkedWorld,
     entries: &Entries,
+    style: Style,
     work: &mut W,
 ) -> Result<Vec<ModuleFile>, NoMemory>
     requires { IsLinkable entries.now linked.now }
-    ensures link { IfOk result (λ files. IsLink linked.now.world entries.now (map as_file files.items)) }
+    ensures link { IfOk result (λ files. IsCountableLink linked.now.world entries.now style (map as_file files.items)) }
     ensures counted { Emits (bodies_among linked.now.facts) result (W.meter work.old) (W.meter work.new) }
 {
     let pieces = pieces_in_order(alloc, linked, entries, work)?;
-    link_pieces(alloc, &pieces, linked, entries)
+    link_pieces(alloc, &pieces, linked, entries, style)
 }
 
 fn link_pieces(
@@ -41,13 +44,27 @@ fn link_pieces(
     pieces: &[JsPiece],
     linked: &LinkedWorld,
     entries: &Entries,
+    style: Style,
 ) -> Result<Vec<ModuleFile>, NoMemory>
     requires { ArePrintable linked.now.world entries.now (map piece_view pieces.now) }
-    ensures { IfOk result (λ files. IsLink linked.now.world entries.now (map as_file files.items)) }
+    ensures { IfOk result (λ files. IsCountableLink linked.now.world entries.now style (map as_file files.items)) }
 {
+    modules_keep_rules();
+    plans_name_files();
     let graph = graph(alloc, pieces)?;
-    let plan = plan(alloc, &graph, entries, Style::Fewest)?;
-    printed_files(alloc, plan.modules(), pieces)
+    count(&graph, entries)?;
+    let plan = plan(alloc, &graph, entries, style)?;
+    printed_files(alloc, &plan, pieces)
+}
+
+// Counts the references and the entries together. Where they can't be counted, they would be more than memory holds.
+fn count(graph: &Graph, entries: &Entries) -> Result<usize, NoMemory>
+    ensures valid { AreEntries entries.now }
+    ensures countable { OnOk result (AreCountable graph.now entries.now) }
+{
+    let references = graph.references.as_slice().len();
+    let entries = entries.as_slice().len();
+    references.checked_add(entries).ok_or(NoMemory)
 }
 
 // The pieces of the classes, in the order of a module.

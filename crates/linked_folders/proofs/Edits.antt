@@ -1,5 +1,5 @@
--- An edit has one verdict, one list of files and one amount of work.
-use Rattle.std.proofs.Common.{◌≡◌, ◌≤◌, ℕ, suc, Bool, true, false, List, [], ◌∷◌, ◌⊎◌, inl, inr, refl, sym, ap, subst, ◌∙◌, Contains, length, arith}
+-- An accepted folder has one world, and as many needed bodies however they are listed.
+use Rattle.std.proofs.Common.{◌≡◌, ◌≤◌, ℕ, suc, List, [], ◌∷◌, ◌⊎◌, inl, inr, refl, sym, ap, subst, ◌∙◌, Contains, length, arith}
 use Rattle.declared_pieces.specs.Emitted.{EmittedMethod}
 use Rattle.sj_format.proofs.ExactFiles.{one_answer}
 use Rattle.sj_names.specs.declared.entry_points.EntryPoint.{EntryPoint}
@@ -7,29 +7,17 @@ use Rattle.sj_names.specs.declared.folders.SourceFile.{SourceFile}
 use Rattle.declared_pieces.specs.Emitted.{HaveOwnMembers}
 use Rattle.sj_split.proofs.Members.{at_first, further, cons_cases}
 use Rattle.sj_world.proofs.OneWorld.{one_world}
-use Rattle.sj_world.proofs.Orders.{same_name, differs_after}
-use Rattle.sj_world.specs.Known.{Name, Classes, is_same}
-use Rattle.sj_world.specs.Refusals.{is_before, IsWorldOf}
+use Rattle.sj_world.specs.Known.{Classes}
+use Rattle.sj_world.specs.Refusals.{IsWorldOf}
 use Rattle.worklist.proofs.Inserted.{nothing_in}
 use Rattle.declared_pieces.proofs.Firsts.{standing, same_lists}
 use Rattle.declared_pieces.proofs.Verdict.{one_verdict}
 use Rattle.declared_pieces.specs.Stages.{AreRead}
-use Rattle.declared_pieces.specs.Verdicts.{Verdict, accepted, refused, IsVerdict}
+use Rattle.declared_pieces.specs.Verdicts.{accepted, refused, IsVerdict}
 use Rattle.declared_pieces.proofs.Worlds.{have_worlds}
 use Rattle.declared_pieces.specs.Accepted.{IsAccepted}
 use Rattle.declared_pieces.specs.Bodies.{AreBodies}
-use Rattle.linked_folders.proofs.One.{same_bodies, one_link}
-use Rattle.linked_folders.specs.Link.{IsLink}
-use Rattle.linked_folders.specs.Edits.{IsLeastUnbuilt, AreBuilt, IsEditVerdict, by_folder, several, unbuilt, built, not_built_code}
-use Rattle.linked_folders.specs.Laws.{EditVerdictIsOne, FolderLinkIsOne, WorkIsOne}
-
--- two least names are one
-least_one : (a b : Name) → is_before b a ≡ false → is_before a b ≡ false → a ≡ b
-least_one a b low high = go (is_same a b) refl
-  where
-    go : (t : Bool) → is_same a b ≡ t → a ≡ b
-    go true e = same_name a b e
-    go false e = let r = differs_after a b low e in cc
+use Rattle.linked_folders.proofs.One.{same_bodies}
 
 module _ (entries : List EntryPoint) (files : List SourceFile) where
   same_classes : (classes others : Classes) → AreRead files classes → AreRead files others → classes ≡ others
@@ -43,51 +31,11 @@ module _ (entries : List EntryPoint) (files : List SourceFile) where
   pub world_is : (classes w u : Classes) → IsAccepted entries files w → AreRead files classes → IsWorldOf classes u → w ≡ u
   world_is classes w u a are world = one_world a.classes w u a.world (subst (λ (c : Classes). IsWorldOf c u) (same_classes classes a.classes are a.read) world)
 
-  not_accepted : (code : ℕ) (place : List ℕ) → IsVerdict entries files (refused code place) → IsVerdict entries files accepted → ⊥
+  pub not_accepted : (code : ℕ) (place : List ℕ) → IsVerdict entries files (refused code place) → IsVerdict entries files accepted → ⊥
   not_accepted code place h k = let e : refused code place ≡ accepted = one_verdict entries files (refused code place) accepted h k in cc
 
   pub accepted_by : (w : Classes) → IsAccepted entries files w → IsVerdict entries files accepted
   accepted_by w a = (have_worlds entries files).1 (w, a)
-
-  same_unbuilt : (w u : Classes) (spelled other : List ℕ) → w ≡ u → IsLeastUnbuilt w entries spelled → IsLeastUnbuilt u entries other → spelled ≡ other
-  same_unbuilt w u spelled other same h k =
-      let moved : IsLeastUnbuilt w entries other = subst (λ (z : Classes). IsLeastUnbuilt z entries other) (sym same) k in
-      least_one spelled other (h.least other moved.one) (moved.least spelled h.one)
-
-  never_both : (w u : Classes) (spelled : List ℕ) → w ≡ u → IsLeastUnbuilt w entries spelled → AreBuilt u entries → ⊥
-  never_both w u spelled same h all =
-      let every : AreBuilt w entries = subst (λ (z : Classes). AreBuilt z entries) (sym same) all in
-      let e = every h.one.member h.one.definition h.one.needed h.one.defined in
-      let u = h.one.unbuilt in
-      impossible _ u e
-    where
-      impossible : (b : Bool) → b ≡ true → b ≡ false → ⊥
-      impossible b p q = cc
-
-  by_edits : (v u : Verdict) → IsEditVerdict entries files v → IsEditVerdict entries files u → v ≡ u
-  by_edits _ _ (by_folder code place h) (by_folder other at k) = one_verdict entries files (refused code place) (refused other at) h k
-  by_edits _ _ (by_folder code place h) (several k none) = absurd (not_accepted code place h k)
-  by_edits _ _ (by_folder code place h) (unbuilt w spelled a one least) = absurd (not_accepted code place h (accepted_by w a))
-  by_edits _ _ (by_folder code place h) (built w a one all) = absurd (not_accepted code place h (accepted_by w a))
-  by_edits _ _ (several k none) (by_folder code place h) = absurd (not_accepted code place h k)
-  by_edits _ _ (several h none) (several k none_too) = refl
-  by_edits _ _ (several h none) (unbuilt w spelled a one least) = absurd (none one)
-  by_edits _ _ (several h none) (built w a one all) = absurd (none one)
-  by_edits _ _ (unbuilt w spelled a one least) (by_folder code place h) = absurd (not_accepted code place h (accepted_by w a))
-  by_edits _ _ (unbuilt w spelled a one least) (several h none) = absurd (none one)
-  by_edits _ _ (unbuilt w spelled a one least) (unbuilt u other b one_too least_too) = ap (refused not_built_code) (same_unbuilt w u spelled other (same_world w u a b) least least_too)
-  by_edits _ _ (unbuilt w spelled a one least) (built u b one_too all) = absurd (never_both w u spelled (same_world w u a b) least all)
-  by_edits _ _ (built w a one all) (by_folder code place h) = absurd (not_accepted code place h (accepted_by w a))
-  by_edits _ _ (built w a one all) (several h none) = absurd (none one)
-  by_edits _ _ (built w a one all) (unbuilt u spelled b one_too least) = absurd (never_both u w spelled (same_world u w b a) least all)
-  by_edits _ _ (built w a one all) (built u b one_too all_too) = refl
-
-pub one_edit : EditVerdictIsOne
-one_edit entries files v u h k = by_edits entries files v u h k
-
-pub one_folder_link : FolderLinkIsOne
-one_folder_link entries files one other has h k =
-    one_link entries files h.world one other h.is_accepted has h.link (subst (λ (w : Classes). IsLink w entries other) (same_world entries files k.world h.world k.is_accepted h.is_accepted) k.link)
 
 -- a list without one of its things
 data Without {X : Type 0} (x : X) : List X → List X → Type 0 where
@@ -143,13 +91,8 @@ own_differ : (es : List EmittedMethod) → HaveOwnMembers es → Differ es
 own_differ [] own = tt
 own_differ (e ∷ es) own = (λ o h same. own.0 o h (ap (λ (x : EmittedMethod). x.member) same), own_differ es own.1)
 
-as_many : (w : Classes) (entries : List EntryPoint) (all more : List EmittedMethod) → AreBodies w entries all → AreBodies w entries more → length all ≡ length more
+pub as_many : (w : Classes) (entries : List EntryPoint) (all more : List EmittedMethod) → AreBodies w entries all → AreBodies w entries more → length all ≡ length more
 as_many w entries all more one other =
     let to = no_more all more (own_differ all one.own) (same_bodies w entries all more one other) in
     let back = no_more more all (own_differ more other.own) (same_bodies w entries more all other one) in
     omega (arith, to, back)
-
-pub one_work : WorkIsOne
-one_work entries files one other h k =
-    let moved : AreBodies h.world entries k.all = subst (λ (w : Classes). AreBodies w entries k.all) (same_world entries files k.world h.world k.is_accepted h.is_accepted) k.bodies in
-    h.is ∙ ap (λ (n : ℕ). record { read = length files; checked = n; optimised = 0; emitted = n }) (as_many h.world entries h.all k.all h.bodies moved) ∙ sym k.is

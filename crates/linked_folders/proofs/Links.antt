@@ -77,7 +77,7 @@ use Rattle.worklist.specs.Paths.{stay, on}
 use Rattle.sj_world.specs.Paths as climbs
 use Rattle.declared_pieces.proofs.Fields.{class_named}
 use Rattle.declared_pieces.proofs.Live.{classes_kept}
-use Rattle.linked_folders.specs.Link.{ArePieces, AreWritten, IsOneModule}
+use Rattle.linked_folders.specs.Link.{ArePieces, IsOneModule}
 use Rattle.linked_folders.specs.Edits.{AreBuilt}
 use Rattle.linked_folders.proofs.Live.{live, are_live}
 use Rattle.linked_folders.proofs.Planned.{one_file}
@@ -92,7 +92,7 @@ pieces_closed entries ps written are p i here b u =
 pub initializers_written : InitializersAreWritten
 initializers_written entries ps written e are i = (are.exact e.class).1 (record { entry = e; among = i; walk = stay })
 
-initializers_among : (id : List ℕ) (es : List EntryPoint) (e : EntryPoint) → Contains (initializers es id) e → Contains es e
+pub initializers_among : (id : List ℕ) (es : List EntryPoint) (e : EntryPoint) → Contains (initializers es id) e → Contains es e
 initializers_among id [] e h = nothing_in e h
 initializers_among id (d ∷ es) e h = go (is_same_text id d.module) h (initializers_among id es e)
   where
@@ -122,27 +122,24 @@ covered (helpers.ConstantsOf kinds.Text) e = impossible e
 covered helpers.ArrayClass e = impossible e
 covered h e = refl
 
-module _ (entries : List EntryPoint) (files : List SourceFile) (l : Linked) (all : List EmittedMethod) (ps : List Piece) (bytes : (file : SourceFile) → Contains files file → AreBytes file.bytes) (a : IsAccepted entries files l.world) (bodies : AreBodies l.world entries all) (exact : (f : Fact) → Contains l.facts f ↔ Reachable l.world entries f) (objects : (e : EmittedMethod) → Contains all e → is_object_body e.definition e.its_body ≡ true) (p : AreLinkedPieces l all ps) (written : List Name) (are : AreWritten entries ps written) where
+module _ (entries : List EntryPoint) (files : List SourceFile) (l : Linked) (all : List EmittedMethod) (ps : List Piece) (bytes : (file : SourceFile) → Contains files file → AreBytes file.bytes) (a : IsAccepted entries files l.world) (bodies : AreBodies l.world entries all) (exact : (f : Fact) → Contains l.facts f ↔ Reachable l.world entries f) (objects : (e : EmittedMethod) → Contains all e → is_object_body e.definition e.its_body ≡ true) (p : AreLinkedPieces l all ps) (written : List Name) (owned : IsClosed ps written) where
   abbrev w : Classes
   w = l.world
 
   holds : (f : Fact) → Contains l.facts f → Reachable w entries f
   holds f = (exact f).0
 
-  live_there : (c : Name) → IsLive w l.facts c → (k : ClassDef) × (class_of w c ≡ Some k)
+  pub live_there : (c : Name) → IsLive w l.facts c → (k : ClassDef) × (class_of w c ≡ Some k)
   live_there = made.live_there w entries a.resolved (classes_kept entries files w bytes a) l.facts holds
 
-  abbrev its_live : List Name
+  abbrev pub its_live : List Name
   its_live = live l all live_there ps p
 
-  lives : (c : Name) → Contains its_live c ↔ IsLive w l.facts c
+  pub lives : (c : Name) → Contains its_live c ↔ IsLive w l.facts c
   lives = are_live l all live_there ps p
 
-  abbrev has : Usable
+  abbrev pub has : Usable
   has = used_of w l.facts all its_live p.helpers written
-
-  owned : IsClosed ps written
-  owned = pieces_closed entries ps written are
 
   -- the function of a method stands among the pieces of its class
   module _ (e : EmittedMethod) (i : Contains all e) where
@@ -173,7 +170,7 @@ module _ (entries : List EntryPoint) (files : List SourceFile) (l : Linked) (all
     its_owner : OwnerOf w e.member e.definition
     its_owner = owner_of w e.member e.definition (bodies.found e i).found
 
-    once : DefinesOnce e.definition e.its_body
+    pub once : DefinesOnce e.definition e.its_body
     once = body_keeps its_owner.owner e.definition e.its_body (bodies.found e i).has_body (class-keeps its_owner.owner (judged entries files w bytes a its_owner.owner its_owner.in_world).unbroken e.definition its_owner.listed)
 
   uses : AreWrittenWith w entries l.facts all its_live p.helpers written
@@ -195,7 +192,7 @@ module _ (entries : List EntryPoint) (files : List SourceFile) (l : Linked) (all
         constructor = (bodies.exact (message_constructor c)).1 r.1;
       }
 
-  run : CanRun w entries l.facts all its_live p.helpers written
+  pub run : CanRun w entries l.facts all its_live p.helpers written
   run = record {
     reached = holds;
     are_live = λ c. (lives c).0;
@@ -204,25 +201,24 @@ module _ (entries : List EntryPoint) (files : List SourceFile) (l : Linked) (all
     thrown = thrown;
   }
 
-  all_covered : (h : Helper) → Contains p.helpers h → is_covered h ≡ true
+  pub all_covered : (h : Helper) → Contains p.helpers h → is_covered h ≡ true
   all_covered h i = covered h (of_objects entries files l all ps a bodies holds objects p h i)
 
-  named : AreNamed w
+  pub named : AreNamed w
   named = record { kept = λ c i. (judged entries files w bytes a c i).unbroken; class_names = class_named entries files w bytes a }
 
-  starts : (id : List ℕ) (e : EntryPoint) → Contains (initializers entries id) e → has.linked (initializer_member e) ≡ true
-  starts id e i =
-      let j = initializers_among id entries e i in
-      and_from (is_among written e.class) (has_function all (initializer_member e)) ((among written e.class).1 (initializers_written entries ps written e are j)) (entry w entries all bodies e j)
+  -- an initializer of a written class is linked
+  pub starts : (e : EntryPoint) → Contains entries e → Contains written e.class → has.linked (initializer_member e) ≡ true
+  starts e i here = and_from (is_among written e.class) (has_function all (initializer_member e)) ((among written e.class).1 here) (entry w entries all bodies e i)
 
   proper : (id : List ℕ) → is_proper_module (module_of written ps (initializers entries id)) ≡ true
   proper id = modules_of_pieces_are_proper l all ps written (initializers entries id) named once p
 
-  file_agrees : (id text : List ℕ) → Spells (module_of written ps (initializers entries id)) text → Agrees w entries (record { name = file_of id; bytes = text } ∷ []) id
-  file_agrees id text spelled = record {
+  file_agrees : ((e : EntryPoint) → Contains entries e → Contains written e.class) → (id text : List ℕ) → Spells (module_of written ps (initializers entries id)) text → Agrees w entries (record { name = file_of id; bytes = text } ∷ []) id
+  file_agrees begins id text spelled = record {
     program = program_declaring id (items_of written ps) (initializers entries id);
     read = js_showing.one_more (record { name = file_of id; bytes = text }) (Some (module_declaring (items_of written ps) (initializers entries id))) [] [] spelled js_showing.no_files;
-    agree = programs_agree w (judged_plain w (judged entries files w bytes a)) entries id has (items_of written ps) (proper id) (pieces_are_declarations entries files l all written ps bytes a holds p owned all_covered) (pieces_declare entries files l all its_live written ps bytes a bodies p lives run owned all_covered) (laws_of w has (carry entries files w l.facts all its_live p.helpers written bytes a bodies run)) (starts id);
+    agree = programs_agree w (judged_plain w (judged entries files w bytes a)) entries id has (items_of written ps) (proper id) (pieces_are_declarations entries files l all written ps bytes a holds p owned all_covered) (pieces_declare entries files l all its_live written ps bytes a bodies p lives run owned all_covered) (laws_of w has (carry entries files w l.facts all its_live p.helpers written bytes a bodies run)) (λ e i. let j = initializers_among id entries e i in starts e j (begins e j));
   }
 
 not_false : (b : Bool) → not b ≡ false → b ≡ true
@@ -244,7 +240,7 @@ module_agrees entries files w id text bytes a built link = subst (Agreed entries
     pieces = link.are_pieces
 
     at_linked : Agreed entries files id text pieces.all pieces.facts pieces.linked.world
-    at_linked accepted forms bodies facts = file_agrees entries files pieces.linked pieces.all link.pieces bytes accepted bodies (subst (λ (fs : List Fact). (f : Fact) → Contains fs f ↔ Reachable pieces.linked.world entries f) (sym pieces.is_linked.facts_are) facts) (λ e i. body_built e.definition e.its_body (bodies.found e i).has_body (forms e.member e.definition (needed pieces.linked.world entries pieces.all bodies e i) (defined pieces.linked.world e.member e.definition (bodies.found e i).found))) pieces.are link.written link.are_written id text link.spelled
+    at_linked accepted forms bodies facts = file_agrees entries files pieces.linked pieces.all link.pieces bytes accepted bodies (subst (λ (fs : List Fact). (f : Fact) → Contains fs f ↔ Reachable pieces.linked.world entries f) (sym pieces.is_linked.facts_are) facts) (λ e i. body_built e.definition e.its_body (bodies.found e i).has_body (forms e.member e.definition (needed pieces.linked.world entries pieces.all bodies e i) (defined pieces.linked.world e.member e.definition (bodies.found e i).found))) pieces.are link.written (pieces_closed entries link.pieces link.written link.are_written) (λ e i. initializers_written entries link.pieces link.written e link.are_written i) id text link.spelled
 
 pub agree : LinkedFilesAgree
 agree entries files w id links bytes a one built link =

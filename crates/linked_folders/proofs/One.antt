@@ -51,7 +51,7 @@ module _ (w : Classes) (entries : List EntryPoint) where
       subst (Contains more) (one_method w f.method e f.is (other.found f.method f.listed) (one.found e i)) f.listed
 
 -- graphs of the same pieces have the same references, and so the same walks
-same_walk : (one other : References) → ((r : Reference) → Contains one r → Contains other r) → (a b : Name) → Walk one a b → Walk other a b
+pub same_walk : (one other : References) → ((r : Reference) → Contains one r → Contains other r) → (a b : Name) → Walk one a b → Walk other a b
 same_walk one other each a b stay = stay
 same_walk one other each a b (on c _ path step) = on c b (same_walk one other each a c path) (each _ step)
 
@@ -62,7 +62,7 @@ same_written entries ps qs written more same one other c i =
     (other.exact c).1 (record { entry = h.entry; among = h.among; walk = same_walk one.graph.references other.graph.references (λ r k. (other.is_graph.references r).1 ((moved.references r).0 k)) h.entry.class c h.walk })
 
 -- a test that is passed by the same things
-same_test : (a b : Bool) → (a ≡ true → b ≡ true) → (b ≡ true → a ≡ true) → a ≡ b
+pub same_test : (a b : Bool) → (a ≡ true → b ≡ true) → (b ≡ true → a ≡ true) → a ≡ b
 same_test true b to back = sym (to refl)
 same_test false true to back = back refl
 same_test false false to back = refl
@@ -86,7 +86,7 @@ module _ (entries : List EntryPoint) (files : List SourceFile) (w : Classes) (ac
   kept : (c : ClassDef) → Contains w c → FirstBroken c None
   kept c i = accepted.kept c (Contains-permutation w accepted.classes c (IsPermutation-sym accepted.classes w accepted.world.sorted.same) i)
 
-  one_pieces : (ps qs : List Piece) → ArePieces w entries ps → ArePieces w entries qs → ps ≡ qs
+  pub one_pieces : (ps qs : List Piece) → ArePieces w entries ps → ArePieces w entries qs → ps ≡ qs
   one_pieces ps qs one other = pieces_are_one one.linked other.linked one.all other.all ps qs of_world alike (λ e. (same_bodies w entries one.all other.all one.bodies other.bodies e, same_bodies w entries other.all one.all other.bodies one.bodies e)) one.are other.are
     where
       of_world : (c : ClassDef) → Contains one.linked.world c → FirstBroken c None
@@ -102,7 +102,7 @@ module _ (entries : List EntryPoint) (files : List SourceFile) (w : Classes) (ac
         entries = entries_one entries files w accepted one.facts other.facts (λ f i. (one.are_facts f).0 i) same_facts one.linked.entries other.linked.entries one.is_linked.entries other.is_linked.entries;
       }
 
-spelled_once : (m : Module) (one other : List ℕ) → Spells m one → Spells m other → one ≡ other
+pub spelled_once : (m : Module) (one other : List ℕ) → Spells m one → Spells m other → one ≡ other
 spelled_once m one other s t = let kept : IsModule m = module_kept m one s in (module_spelled m kept one).0 s ∙ sym ((module_spelled m kept other).0 t)
 
 one_text : (entries : List EntryPoint) (files : List SourceFile) (w : Classes) (id one other : List ℕ) → IsAccepted entries files w → IsOneModule w entries id one → IsOneModule w entries id other → one ≡ other

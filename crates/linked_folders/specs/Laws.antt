@@ -6,14 +6,12 @@ use Rattle.declared_pieces.specs.Closed.{IsClosed}
 use Rattle.js_mean.specs.Shows.{File, file_of}
 use Rattle.js_tree.specs.Terms.{Piece}
 use Rattle.sj_agree.specs.Agrees.{Agrees}
-use Rattle.sj_names.specs.declared.counters.Meter.{Meter}
 use Rattle.sj_names.specs.declared.entry_points.EntryPoint.{EntryPoint}
 use Rattle.sj_names.specs.declared.folders.SourceFile.{SourceFile}
 use Rattle.sj_world.specs.Known.{Name, Classes}
-use Rattle.declared_pieces.specs.Verdicts.{Verdict}
 use Rattle.declared_pieces.specs.Accepted.{IsAccepted}
 use Rattle.linked_folders.specs.Link.{IsLink, AreOfOne, AreWritten, IsOneModule}
-use Rattle.linked_folders.specs.Edits.{AreBuilt, HaveOneModule, IsEditVerdict, IsLinkOf, IsWork}
+use Rattle.linked_folders.specs.Edits.{AreBuilt, HaveOneModule}
 
 -- what the written pieces use is written
 abbrev pub WrittenPiecesAreClosed : Type 0
@@ -40,15 +38,3 @@ LinkedFilesAgree = (entries : List EntryPoint) (files : List SourceFile) (w : Cl
 -- the classes of an accepted folder are linked to one list of files at most, where all entries are of one public module
 abbrev pub LinkIsOne : Type 0
 LinkIsOne = (entries : List EntryPoint) (files : List SourceFile) (w : Classes) (one other : List File) → IsAccepted entries files w → HaveOneModule entries → IsLink w entries one → IsLink w entries other → one ≡ other
-
--- an edit has one verdict at most
-abbrev pub EditVerdictIsOne : Type 0
-EditVerdictIsOne = (entries : List EntryPoint) (files : List SourceFile) (v u : Verdict) → IsEditVerdict entries files v → IsEditVerdict entries files u → v ≡ u
-
--- a folder is linked to one list of files at most
-abbrev pub FolderLinkIsOne : Type 0
-FolderLinkIsOne = (entries : List EntryPoint) (files : List SourceFile) (one other : List File) → HaveOneModule entries → IsLinkOf entries files one → IsLinkOf entries files other → one ≡ other
-
--- and takes one amount of work
-abbrev pub WorkIsOne : Type 0
-WorkIsOne = (entries : List EntryPoint) (files : List SourceFile) (one other : Meter) → IsWork entries files one → IsWork entries files other → one ≡ other

@@ -1,10 +1,9 @@
-//! The files that an accepted folder is linked to, what they show, and what an edit comes to.
+//! The files that an accepted folder with one public module is linked to, and what they show.
 //!
-//! `specs/` says which files those are, and what the verdict on an edit and its work are. The functions here are laws: they do nothing when they run, and
-//! their clauses are theorems.
+//! `specs/` says which files those are. The functions here are laws: they do nothing when they run, and their clauses are theorems.
 #![tactic(auto)]
 
-ghost use Rattle.linked_folders.specs.Laws.{WrittenPiecesAreClosed, InitializersAreWritten, LinksAreOneFile, LinkedFilesAgree, LinkIsOne, EditVerdictIsOne, FolderLinkIsOne, WorkIsOne};
+ghost use Rattle.linked_folders.specs.Laws.{WrittenPiecesAreClosed, InitializersAreWritten, LinksAreOneFile, LinkedFilesAgree, LinkIsOne};
 
 /// What a written piece uses is written.
 pub fn written_pieces_are_closed()
@@ -30,19 +29,4 @@ pub fn linked_files_agree()
 /// The classes of an accepted folder are linked to one list of files at most.
 pub fn link_is_one()
     ensures { LinkIsOne }
-{}
-
-/// An edit has one verdict at most.
-pub fn edit_verdict_is_one()
-    ensures { EditVerdictIsOne }
-{}
-
-/// A folder is linked to one list of files at most.
-pub fn folder_link_is_one()
-    ensures { FolderLinkIsOne }
-{}
-
-/// A folder takes one amount of work.
-pub fn work_is_one()
-    ensures { WorkIsOne }
 {}

@@ -28,7 +28,7 @@ use Rattle.module_files.proofs.Entries.{tags_of_calls, none_beside_calls}
 use Rattle.module_files.specs.Laws.{ImportsGoInNoCircle}
 
 -- modules of one name are one
-one_named : (ms : List PlannedModule) (m n : PlannedModule) → IsDistinct is_same (map name_of ms) → Contains ms m → Contains ms n → m.name ≡ n.name → m ≡ n
+pub one_named : (ms : List PlannedModule) (m n : PlannedModule) → IsDistinct is_same (map name_of ms) → Contains ms m → Contains ms n → m.name ≡ n.name → m ≡ n
 one_named [] m n d h i e = nothing_in m h
 one_named (o ∷ ms) m n d h i e = go (cons_cases o m ms h) (cons_cases o n ms i) (λ j k. one_named ms m n (apart_tail o.name (map name_of ms) d) j k e)
   where

@@ -54,7 +54,7 @@ module _ (digest_of : Key → Digest) (graph : Graph) (entries : List EntryPoint
       let s = placed (is_public o.id) is.homes a (subst (λ (x : PlannedModule). Contains x.classes a) o.is_public_module h) in
       subst (λ (n : Name). IsHome graph.references entries style n (Public o.id)) s.named (subst (λ (k : Home). IsHome graph.references entries style s.one.class k) (public_home o.id s.one.home s.passes) (is.are_homes.right s.one s.among))
 
-one_tag : (tags : List Id) (id other : Id) → home_of_tags tags ≡ Some (Public id) → Contains tags other → other ≡ id
+pub one_tag : (tags : List Id) (id other : Id) → home_of_tags tags ≡ Some (Public id) → Contains tags other → other ≡ id
 one_tag [] id other e h = cc
 one_tag (one ∷ []) id other e h = let same : one ≡ id = cc in elim (cons_cases one other [] h) [ inl s ↦ sym s ∙ same | inr none ↦ nothing_in other none ]
 one_tag (one ∷ two ∷ tags) id other e h = cc

@@ -8,7 +8,7 @@ use Rattle.js_mean.specs.Files.{Visited, enter, finish, visit, visit_all, import
 use Rattle.js_mean.specs.Proper.{is_among}
 use Rattle.js_tree.specs.Terms.{Name, Piece}
 use Rattle.js_tree.specs.declared.items.JsImport.{JsImport}
-use Rattle.module_rules.proofs.Lines.{imports_are, in_module}
+use Rattle.module_rules.proofs.Lines.{imports_are}
 use Rattle.module_rules.specs.Laws.{HasFile, IsSource, source_of}
 use Rattle.plan_laws.proofs.Apart.{apart_cons, apart_none, new_by, no_more}
 use Rattle.sj_split.proofs.Members.{at_first, further, cons_cases, into_map, from_map}
@@ -19,6 +19,7 @@ use Rattle.worklist.proofs.Inserted.{nothing_in}
 use Rattle.worklist.specs.Paths.{Path, stay, on}
 use Rattle.module_files.proofs.Circles.{imports_go_in_no_circle}
 use Rattle.module_files.proofs.Found.{is_in, program, lines_of, found, imports_found}
+use Rattle.module_files.proofs.Reached.{line_source, source_file}
 use Rattle.module_files.specs.Files as files
 use Rattle.module_files.specs.Laws.{ImportsRunFirst}
 
@@ -94,11 +95,6 @@ module _ (modules : List PlannedModule) (ps : List Piece) (no_circle : (f g : By
     there : (line : JsImport) → Contains lines line → Contains w.finished line.file
     kept : (g : Name) → Contains v.finished g → Contains w.finished g
 
-  its_line : (f : Name) → HasFile modules f → (line : JsImport) → Contains (lines_in f) line → Imports f line.file
-  its_line f h line i =
-      let j = subst (λ (ls : List JsImport). Contains ls line) (imports_found modules ps f (found modules ps h.planned f h.among h.named)) i in
-      ((imports_are modules ps f).sources.exact line.file).0 (into_map source_of (lines_of modules ps f) line j)
-
   -- a line for what is imported
   record HasLine (f g : Name) : Type 0 where
     line : JsImport
@@ -110,9 +106,6 @@ module _ (modules : List PlannedModule) (ps : List Piece) (no_circle : (f g : By
       let m = from_map source_of (lines_of modules ps f) g (((imports_are modules ps f).sources.exact g).1 source) in
       record { line = m.item; among = subst (λ (ls : List JsImport). Contains ls m.item) (sym (imports_found modules ps f (found modules ps h.planned f h.among h.named))) m.among; from = m.is }
 
-  its_file : (f g : Name) → Imports f g → HasFile modules g
-  its_file f g source = let there = in_module modules source.uses.binding.owner g source.uses.bound in record { planned = there.planned; among = there.among; named = there.named }
-
   -- the stack has no room for more files than there are
   full : (stack : List Name) (f : Name) → IsNext stack f zero → ⊥
   full stack f n =
@@ -123,7 +116,7 @@ module _ (modules : List PlannedModule) (ps : List Piece) (no_circle : (f g : By
 
   next : (k : ℕ) (stack : List Name) (f g : Name) → IsNext stack f (suc k) → Imports f g → IsNext (f ∷ stack) g k
   next k stack f g n source = record {
-    its = its_file f g source;
+    its = source_file modules ps f g source;
     files = λ s i. elim (cons_cases f s stack i) [ inl e ↦ subst (HasFile modules) e n.its | inr j ↦ n.files s j ];
     apart = apart_cons f stack (new_by f stack (λ other i e. n.new (subst (Contains stack) (sym e) i))) n.apart;
     leads = λ s i. elim (cons_cases f s stack i) [ inl e ↦ subst (λ (t : Name). Path Imports t g) e (on f g stay source) | inr j ↦ on f g (n.leads s j) source ];
@@ -176,7 +169,7 @@ module _ (modules : List PlannedModule) (ps : List Piece) (no_circle : (f g : By
 
   visit_runs : (k : ℕ) (stack : List Name) (f : Name) (v : Visited) → IsNext stack f k → Standing stack v → Visits stack f v (visit (program modules ps) k f v)
   visit_runs zero stack f v n st = absurd (full stack f n)
-  visit_runs (suc k) stack f v n st = go (is_among v.entered f) refl (visit_each k stack f (λ g w source standing. visit_runs k (f ∷ stack) g w (next k stack f g n source) standing) (lines_in f) (its_line f n.its) (enter f v) (entering stack f v st))
+  visit_runs (suc k) stack f v n st = go (is_among v.entered f) refl (visit_each k stack f (λ g w source standing. visit_runs k (f ∷ stack) g w (next k stack f g n source) standing) (lines_in f) (line_source modules ps f n.its) (enter f v) (entering stack f v st))
     where
       finished : Contains v.finished f ⊎ Contains stack f → Contains v.finished f
       finished (inl i) = i

@@ -150,17 +150,17 @@ module _ (modules : List PlannedModule) (ps : List Piece) where
   file_of = file_with modules
 
   -- what a file uses
-  abbrev used_in : Bytes → List Binding
+  abbrev pub used_in : Bytes → List Binding
   used_in f = flat_map uses_of (filter (is_owned_in file_of f) ps) ++ called_in modules f
 
-  from_own : (f : Bytes) (b : Binding) → Contains (used_in f) b → Uses modules ps f b
+  pub from_own : (f : Bytes) (b : Binding) → Contains (used_in f) b → Uses modules ps f b
   from_own f b h = go (Contains-append_cases (flat_map uses_of (filter (is_owned_in file_of f) ps)) (called_in modules f) b h)
     where
       go : Contains (flat_map uses_of (filter (is_owned_in file_of f) ps)) b ⊎ Contains (called_in modules f) b → Uses modules ps f b
       go (inl i) = let u = from_uses (filter (is_owned_in file_of f) ps) b i in let p = from_filter (is_owned_in file_of f) ps u.piece u.among in by_piece u.piece b p.among (this_is f (file_of u.piece.owner) p.passes) u.used
       go (inr i) = let c = from_calls (λ m. is_this f (Some (file m))) modules b i in subst (Uses modules ps f) c.is (by_call c.planned c.entry c.among (same_some (file c.planned) f (this_is f (Some (file c.planned)) c.passes)) c.inside)
 
-  into_own : (f : Bytes) (b : Binding) → Uses modules ps f b → Contains (used_in f) b
+  pub into_own : (f : Bytes) (b : Binding) → Uses modules ps f b → Contains (used_in f) b
   into_own f _ (by_piece p b h stands u) = Contains-append_left (flat_map uses_of (filter (is_owned_in file_of f) ps)) (called_in modules f) b (into_uses (filter (is_owned_in file_of f) ps) p b (into_filter (is_owned_in file_of f) ps p h (is_it f (file_of p.owner) stands)) u)
   into_own f _ (by_call m e h is i) = Contains-append_right (flat_map uses_of (filter (is_owned_in file_of f) ps)) (called_in modules f) (called e) (into_calls (λ n. is_this f (Some (file n))) modules m e h (is_it f (Some (file m)) (ap Some is)) i)
 

@@ -10,4 +10,5 @@ mod items;
 mod modules;
 mod orders;
 
+pub use files::file_name;
 pub use modules::module;

@@ -1,12 +1,11 @@
 -- What is made of a folder that is judged.
-use Rattle.std.proofs.Common.{◌≡◌, ℕ, Bool, true, false, List, Ok, Err, refl, sym, ap, subst, ◌∙◌, map, length, arith}
-use Rattle.std.specs.Prelude.{IsTrue, ◌↔◌, codes}
-use Rattle.std.proofs.lemmas.List.{length-map}
+use Rattle.std.proofs.Common.{◌≡◌, ℕ, List, Ok, Err, refl, sym, ap, subst, ◌∙◌, map, length, arith}
 use Rattle.sj_agree.specs.Agrees.{Agrees}
 use Rattle.sj_names.specs.declared.counters.Meter.{Meter}
 use Rattle.sj_names.specs.declared.entry_points.EntryPoint.{EntryPoint}
 use Rattle.sj_names.specs.declared.folders.SourceFile.{SourceFile}
 use Rattle.sj_reach.specs.Answers.{AreReachable}
+use Rattle.sj_split.specs.declared.plans.Style.{Style}
 use Rattle.sj_world.specs.Known.{Classes}
 use Rattle.sj_world.specs.Linked.{Linked}
 use Rattle.folder_linking.proofs.Worlds.{have_worlds}
@@ -20,13 +19,12 @@ use Rattle.folder_judging.specs.Refusals.{IsRefusal}
 use Rattle.folder_judging.specs.declared.errors.JudgeError.{JudgeError}
 use Rattle.folder_judging.specs.declared.errors.JudgeError.TheVariants as judged
 use Rattle.folder_linking.proofs.Edits.{same_world, world_is}
-use Rattle.folder_linking.proofs.Links.{agree}
-use Rattle.folder_linking.proofs.Planned.{one_file}
-use Rattle.folder_linking.specs.Edits.{AreBuilt, HaveOneModule, IsEditVerdict, by_folder, several, unbuilt, built}
-use Rattle.folder_linking.specs.Link.{IsLink}
+use Rattle.folder_linking.proofs.LinkedEdits.{linked_folders_agree}
+use Rattle.folder_linking.specs.Edits.{IsEditVerdict, IsLinkOf, by_folder, unbuilt, built}
+use Rattle.folder_linking.specs.Built.{AreBuilt}
 use Rattle.folder_linking.proofs.Linked.{bodies_many}
 use Rattle.folder_linking.specs.Counts.{with_emits, EmitsAtMost}
-use Rattle.folder_linking.specs.Linking.{IsLinkable}
+use Rattle.folder_linking.specs.Linking.{IsCountableLink, IsLinkable}
 use Rattle.folder_linking.specs.Modules.{as_file}
 use Rattle.folder_linking.specs.declared.files.ModuleFile.{ModuleFile}
 use Rattle.sj_session.specs.Counts as counts
@@ -40,13 +38,6 @@ use Rattle.sj_session.specs.declared.editing.Edit.{Edit}
 pub by_judge : (entries : List EntryPoint) (files : List SourceFile) (e : JudgeError) → IsRefusal (IsVerdict entries files) e → IsRefusal (IsEditVerdict entries files) e
 by_judge entries files (judged.Refused code place) h = by_folder code place h
 by_judge entries files judged.NoMemory h = tt
-
--- entries of several public modules are refused
-pub several_modules : (w : Classes) (entries : List EntryPoint) (b : Bool) (place : List ℕ) → IsTrue b ↔ HaveOneModule entries → b ≡ false → place ≡ codes "entries" → IsRefusedUnbuilt w entries (refused 21 place)
-several_modules w entries b place is e told = subst (λ (p : List ℕ). IsRefusedUnbuilt w entries (refused 21 p)) (sym told) (editing.several (λ has. wrong (is.1 has) e))
-  where
-    wrong : b ≡ true → b ≡ false → ⊥
-    wrong t f = cc
 
 -- what was counted by the judge where it refused
 pub counts_refused : (entries : List EntryPoint) (files : List SourceFile) (e : JudgeError) (old new : Meter) → Counts files (AreFactsIn entries files) (Err e) old new → counts.CountsEdit entries files (Err e) old new
@@ -78,12 +69,11 @@ module _ (entries : List EntryPoint) (files : List SourceFile) (l : Linked) (jud
   by_built (judged.Refused code place) h = go (refused code place) h
     where
       go : (v : Verdict) → IsRefusedUnbuilt l.world entries v → IsEditVerdict entries files v
-      go _ (editing.several none) = several judge.0 none
-      go _ (editing.unbuilt spelled one least) = unbuilt l.world spelled world_accepted one least
+      go _ (editing.unbuilt spelled least) = unbuilt l.world spelled world_accepted least
   by_built judged.NoMemory h = tt
 
-  pub linkable : HaveOneModule entries × AreBuilt l.world entries → IsLinkable entries l
-  linkable forms = record { files = files; are_bytes = bytes; is_accepted = world_accepted; reached = reached; method_entries = known.linked.linked.method_entries; built = forms.1 }
+  pub linkable : AreBuilt l.world entries → IsLinkable entries l
+  linkable forms = record { files = files; are_bytes = bytes; is_accepted = world_accepted; reached = reached; method_entries = known.linked.linked.method_entries; built = forms }
 
   all_checked : ChecksAtMost (AreFactsIn entries files) (bodies_among l.facts)
   all_checked = judging.bodies l.facts (bodies_among l.facts) facts_in (omega arith)
@@ -96,9 +86,9 @@ module _ (entries : List EntryPoint) (files : List SourceFile) (l : Linked) (jud
   judged_all : (old new : Meter) → Counts files (AreFactsIn entries files) (Ok l) old new → new ≡ with_checks (bodies_among l.facts) (with_reads (length files) old)
   judged_all old new h = h.checked ∙ ap (λ (n : ℕ). with_checks (bodies_among l.facts) (with_reads n old)) h.whole
 
-  module _ (forms : HaveOneModule entries × AreBuilt l.world entries) where
+  module _ (forms : AreBuilt l.world entries) where
     is_built : IsEditVerdict entries files accepted
-    is_built = built l.world world_accepted forms.0 forms.1
+    is_built = built l.world world_accepted forms
 
     -- and where no memory was left while its functions were emitted
     pub counts_unlinked : (old middle new : Meter) → Counts files (AreFactsIn entries files) (Ok l) old middle → EmitsAtMost (bodies_among l.facts) middle new → counts.CountsSome entries files old new
@@ -112,27 +102,31 @@ module _ (entries : List EntryPoint) (files : List SourceFile) (l : Linked) (jud
       counted = some.counted ∙ ap (with_emits some.emits) (judged_all old middle h);
     }
 
-    module _ (links : List ModuleFile) (link : IsLink l.world entries (map as_file links)) where
-      pub one_link : length links ≡ 1
-      one_link = let f = one_file l.world entries forms.0.0 (map as_file links) forms.0.1 link in sym (length-map links as_file) ∙ ap length f.1
+    -- and where it was left after all of them
+    pub counts_all : (old middle new : Meter) → Counts files (AreFactsIn entries files) (Ok l) old middle → new ≡ with_emits (bodies_among l.facts) middle → counts.CountsSome entries files old new
+    counts_all old middle new h emitted = counts_unlinked old middle new h (record { emits = bodies_among l.facts; few = omega arith; counted = emitted })
 
-      pub edited : (edit : Edit) → edit.files.items ≡ links → edit.report ≡ record { modules = length links; read = length files; checked = bodies_among l.facts; optimised = 0; emitted = bodies_among l.facts } → IsEdit entries files edit
+    module _ (style : Style) (links : List ModuleFile) (link : IsCountableLink l.world entries style (map as_file links)) where
+      abbrev linked_to : (fs : List ModuleFile) → IsCountableLink l.world entries style (map as_file fs) → IsLinkOf entries files style (map as_file fs)
+      linked_to fs its = record { world = l.world; is_accepted = world_accepted; link = its.link; countable = its.countable }
+
+      pub edited : (edit : Edit) → edit.files.items ≡ links → edit.report ≡ record { modules = length links; read = length files; checked = bodies_among l.facts; optimised = 0; emitted = bodies_among l.facts } → IsEdit entries files style edit
       edited edit made told = record {
         verdict = is_built;
-        linked = record { world = l.world; is_accepted = world_accepted; link = moved };
+        linked = linked_to edit.files.items same;
         modules = ap (λ (r : Report). r.modules) told ∙ ap length (sym made);
         work = record {
           world = l.world;
           is_accepted = world_accepted;
-          all = link.are_pieces.all;
-          bodies = link.are_pieces.bodies;
-          is = ap work_told told ∙ ap (λ (n : ℕ). record { read = length files; checked = n; optimised = 0; emitted = n }) (sym (bodies_many l.world entries l.facts link.are_pieces.all reached link.are_pieces.bodies));
+          all = link.link.are_pieces.all;
+          bodies = link.link.are_pieces.bodies;
+          is = ap work_told told ∙ ap (λ (n : ℕ). record { read = length files; checked = n; optimised = 0; emitted = n }) (sym (bodies_many l.world entries l.facts link.link.are_pieces.all reached link.link.are_pieces.bodies));
         };
-        agrees = λ w id a one. subst (λ (u : Classes). Agrees u entries (map as_file edit.files.items) id) (same_world entries files l.world w world_accepted a) (agree entries files l.world id (map as_file edit.files.items) bytes world_accepted one forms.1 moved);
+        agrees = λ w id a among. subst (λ (u : Classes). Agrees u entries (map as_file edit.files.items) id) (same_world entries files l.world w world_accepted a) (linked_folders_agree entries files style id (map as_file edit.files.items) bytes link.valid (linked_to edit.files.items same) forms among);
       }
         where
-          moved : IsLink l.world entries (map as_file edit.files.items)
-          moved = subst (λ (fs : List ModuleFile). IsLink l.world entries (map as_file fs)) (sym made) link
+          same : IsCountableLink l.world entries style (map as_file edit.files.items)
+          same = subst (λ (fs : List ModuleFile). IsCountableLink l.world entries style (map as_file fs)) (sym made) link
 
       pub counts_edited : (edit : Edit) (old middle new : Meter) → edit.report ≡ record { modules = length links; read = length files; checked = bodies_among l.facts; optimised = 0; emitted = bodies_among l.facts } → Counts files (AreFactsIn entries files) (Ok l) old middle → new ≡ with_emits (bodies_among l.facts) middle → counts.CountsMade entries files (Ok edit) old new
       counts_edited edit old middle new told h emitted = emitted ∙ ap (with_emits (bodies_among l.facts)) (judged_all old middle h) ∙ ap (λ (r : Report). counts.with_work r.read r.checked r.emitted old) (sym told)

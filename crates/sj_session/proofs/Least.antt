@@ -1,13 +1,9 @@
 -- The least body that isn't built.
 use Rattle.std.proofs.Common.{◌≡◌, ◌≤◌, ◌<◌, ◌+◌, ℕ, Bool, true, false, List, [], ◌∷◌, ◌++◌, ◌⊎◌, inl, inr, Option, Some, None, Result, Ok, Err, refl, sym, ap, subst, ◌∙◌, take, length, slice_get, get_or, Contains, if◌then◌else◌, arith}
-use Rattle.std.specs.Prelude.{IfOk, IsTrue, nat_eq, not, ◌↔◌}
-use Rattle.std.specs.Cmp.Lexicographic.{pointwise}
-use Rattle.std.specs.List.{list_all}
-use Rattle.std.proofs.lemmas.Bool.{and_from}
+use Rattle.std.specs.Prelude.{IfOk, IsTrue, not, ◌↔◌}
 use Rattle.std.proofs.lemmas.List.{take_all}
 use Rattle.std.proofs.lemmas.List.Elements.{Contains-append_left, Contains-push, Contains-push_cases}
 use Rattle.std.proofs.lemmas.Option.{slice_get_read}
-use Rattle.sj_names.proofs.Same.{text-same, text-refl}
 use Rattle.sj_names.specs.declared.entry_points.EntryPoint.{EntryPoint}
 use Rattle.sj_names.specs.declared.memory.NoMemory.{NoMemory}
 use Rattle.sj_names.specs.declared.method_names.Member.{Member}
@@ -15,9 +11,6 @@ use Rattle.sj_trees.specs.declared.classes.MethodDef.{MethodDef}
 use Rattle.sj_reach.specs.Answers.{AreReachable}
 use Rattle.folder_linking.specs.Reachable.{Reachable}
 use Rattle.folder_linking.specs.Refusals.{spelled_member}
-use Rattle.sj_split.proofs.Ids.{each_passes}
-use Rattle.sj_split.proofs.Members.{at_first, further}
-use Rattle.sj_world.proofs.Searches.{contains_at}
 use Rattle.sj_world.proofs.Orders.{not_before_itself, before_trans}
 use Rattle.sj_world.specs.Known.{Classes}
 use Rattle.sj_world.specs.Members.{IsMethodOf, HasNoMethod}
@@ -28,29 +21,8 @@ use Rattle.worklist.proofs.Inserted.{nothing_in}
 use Rattle.folder_linking.proofs.AcceptedFoldersMembers.{found-member}
 use Rattle.built_forms.specs.Built.{not_built}
 use Rattle.folder_linking.proofs.Taken.{more_taken}
-use Rattle.folder_linking.specs.Edits.{HaveOneModule, IsUnbuilt}
+use Rattle.folder_linking.specs.Edits.{IsUnbuilt}
 use Rattle.sj_session.specs.Unbuilt.{IsLeast, IsUnbuiltMember, first_of, lesser, IsWithMember, built, unbuilt, IsWithFact, body, other}
-
--- all entries are of one module
-of_module : (m : List ℕ) (es : List EntryPoint) → ((e : EntryPoint) → Contains es e → e.module ≡ m) → list_all (λ (e : EntryPoint). pointwise nat_eq e.module m) es ≡ true
-of_module m [] each = refl
-of_module m (e ∷ es) each = and_from (pointwise nat_eq e.module m) (list_all (λ (d : EntryPoint). pointwise nat_eq d.module m) es) (subst (λ (n : List ℕ). pointwise nat_eq n m ≡ true) (sym (each e (at_first e es))) (text-refl m)) (of_module m es (λ d h. each d (further e d es h)))
-
-one_module : (es : List EntryPoint) (first : EntryPoint) → Contains es first → (b : Bool) → b ≡ list_all (λ (e : EntryPoint). pointwise nat_eq e.module first.module) es → IsTrue b ↔ HaveOneModule es
-one_module es first among b is = (to, back)
-  where
-    to : IsTrue b → HaveOneModule es
-    to h = (first.module, record { first = first; among = among; each = λ e i. text-same e.module first.module (each_passes (λ (d : EntryPoint). pointwise nat_eq d.module first.module) es e (sym is ∙ h) i) })
-
-    back : HaveOneModule es → IsTrue b
-    back has = is ∙ of_module first.module es (λ e i. has.1.each e i ∙ sym (has.1.each first among))
-
--- the first entry is one of them
-first_among : (es xs : List EntryPoint) (first : EntryPoint) → xs ≡ es → 1 ≤ length es → first ≡ get_or xs 0 first → Contains es first
-first_among es xs first same some is = subst (λ (l : List EntryPoint). Contains l first) same (contains_at xs 0 first (slice_get_read xs _ 0 first refl (omega (arith, some, ap length same)) is))
-
-pub module_of_first : (es xs : List EntryPoint) (first : EntryPoint) → xs ≡ es → 1 ≤ length es → first ≡ get_or xs 0 first → (b : Bool) → b ≡ list_all (λ (e : EntryPoint). pointwise nat_eq e.module (get_or xs 0 first).module) xs → IsTrue b ↔ HaveOneModule es
-module_of_first es xs first same some at b is = one_module es first (first_among es xs first same some at) b (is ∙ ap (λ (f : EntryPoint). list_all (λ (e : EntryPoint). pointwise nat_eq e.module f.module) xs) (sym at) ∙ ap (list_all (λ (e : EntryPoint). pointwise nat_eq e.module first.module)) same)
 
 -- the least among facts
 pub record IsLeastOf (w : Classes) (facts : List Fact) (spelled : List ℕ) : Type 0 where

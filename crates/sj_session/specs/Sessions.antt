@@ -1,14 +1,16 @@
 -- Sessions, and what an edit makes of one.
-use Rattle.std.specs.Prelude.{◌≡◌, ℕ, false, List, [], Option, Some, None, Result, Ok, Err, length, map}
+use Rattle.std.specs.Prelude.{◌≡◌, false, List, [], Option, Some, None, Result, Ok, Err, length, map}
+use Rattle.std.specs.List.{Contains}
 use Rattle.sj_agree.specs.Agrees.{Agrees}
 use Rattle.sj_names.specs.declared.counters.Meter.{Meter}
 use Rattle.sj_names.specs.declared.entry_points.EntryPoint.{EntryPoint}
 use Rattle.sj_names.specs.declared.folders.Folder.{Folder}
-use Rattle.sj_split.specs.declared.plans.Style.TheVariants.{Fewest}
+use Rattle.sj_split.specs.Modules.{module_of}
+use Rattle.sj_split.specs.Walks.{Id}
+use Rattle.sj_split.specs.declared.plans.Style.{Style}
 use Rattle.sj_world.specs.Known.{Classes}
 use Rattle.folder_linking.specs.Verdicts.{accepted, refused}
 use Rattle.folder_linking.specs.Accepted.{IsAccepted}
-use Rattle.folder_linking.specs.Link.{AreOfOne}
 use Rattle.folder_linking.specs.Edits.{IsEditVerdict, IsLinkOf, IsWork}
 use Rattle.folder_linking.specs.Modules.{as_file}
 use Rattle.folder_linking.specs.declared.files.ModuleFile.{ModuleFile}
@@ -26,13 +28,12 @@ pub record Standing : Type 0 where
 
 -- the options that are built
 pub record IsBuiltOption (options : Options) : Type 0 where
-  pub style : options.style ≡ Fewest
   pub plain : options.optimize ≡ false
 
 -- the files are those that the present folder is linked to
-abbrev pub AreFilesOf : List EntryPoint → Option Folder → List ModuleFile → Type 0
-AreFilesOf entries None files = files ≡ []
-AreFilesOf entries (Some folder) files = IsLinkOf entries folder.files (map as_file files)
+abbrev pub AreFilesOf : List EntryPoint → Style → Option Folder → List ModuleFile → Type 0
+AreFilesOf entries style None files = files ≡ []
+AreFilesOf entries style (Some folder) files = IsLinkOf entries folder.files style (map as_file files)
 
 -- the work that a report tells
 abbrev pub work_told : Report → Meter
@@ -42,7 +43,7 @@ work_told r = record { read = r.read; checked = r.checked; optimised = r.optimis
 pub record IsTaken (old : Standing) (folder : Folder) (report : Report) (new : Standing) : Type 0 where
   pub verdict : IsEditVerdict old.entries folder.files accepted
   pub links : List ModuleFile
-  pub linked : IsLinkOf old.entries folder.files (map as_file links)
+  pub linked : IsLinkOf old.entries folder.files old.options.style (map as_file links)
   pub taken : new ≡ record old { present = Some folder; files = links }
   pub modules : report.modules ≡ length links
   pub work : IsWork old.entries folder.files (work_told report)
@@ -53,6 +54,6 @@ Edits old folder (Ok report) new = IsTaken old folder report new
 Edits old folder (Err (Refused code place)) new = IsEditVerdict old.entries folder.files (refused code place) × (new ≡ old)
 Edits old folder (Err NoMemory) new = new ≡ old
 
--- the files show of the public module what the folder's classes show
+-- the files show of each public module what the folder's classes show
 abbrev pub ShowTheSame : List EntryPoint → Folder → List ModuleFile → Type 0
-ShowTheSame entries folder files = (w : Classes) (id : List ℕ) → IsAccepted entries folder.files w → AreOfOne entries id → Agrees w entries (map as_file files) id
+ShowTheSame entries folder files = (w : Classes) (id : Id) → IsAccepted entries folder.files w → Contains (map module_of entries) id → Agrees w entries (map as_file files) id

@@ -10,7 +10,8 @@ use Rattle.sj_world.specs.declared.facts.Fact.{Fact}
 use Rattle.sj_world.specs.declared.facts.Fact.TheVariants.{Body}
 use Rattle.folder_linking.specs.Refusals.{spelled_member}
 use Rattle.built_forms.specs.Built.{not_built}
-use Rattle.folder_linking.specs.Edits.{AreBuilt, IsLeastUnbuilt}
+use Rattle.folder_linking.specs.Built.{AreBuilt}
+use Rattle.folder_linking.specs.Edits.{IsLeastUnbuilt}
 
 -- the least needed body that isn't built, if one isn't
 abbrev pub IsLeast : Classes → List EntryPoint → Option (List ℕ) → Type 0

@@ -1,17 +1,19 @@
 // What is made of a folder.
-ghost use Rattle.std.specs.Prelude.{◌≡◌, ◌<◌, ◌^◌, MatchResult, length};
+ghost use Rattle.std.specs.Prelude.{◌≡◌, IfOk, MatchResult, length};
 ghost use Rattle.folder_judging.specs.Counts.{bodies_among};
 ghost use Rattle.folder_judging.specs.Refusals.{IsRefusal};
-ghost use Rattle.folder_linking.specs.Edits.{HaveOneModule, AreBuilt, IsEditVerdict};
+ghost use Rattle.folder_linking.specs.Edits.{IsEditVerdict};
+ghost use Rattle.folder_linking.specs.Built.{AreBuilt};
 ghost use Rattle.sj_reach.specs.Answers.{AreReachable};
 ghost use Rattle.sj_session.specs.Editing.{IsEdit, IsRefusedUnbuilt};
 ghost use Rattle.sj_session.specs.Counts as counts;
 
-use crate::unbuilt::{have_one_module, least_unbuilt};
+use crate::unbuilt::least_unbuilt;
 use crate::{EditRefusal, ModuleFile, Report};
 use folder_judging::judge;
 use folder_linking::link;
-use sj_names::{Entries, NoMemory, SourceFile, Text};
+use sj_names::{Entries, NoMemory, SourceFile};
+use sj_split::Style;
 use sj_workers::Workers;
 use sj_world::{Fact, LinkedWorld};
 use std::alloc::Global;
@@ -30,28 +32,23 @@ pub fn linked_edit<W: Workers>(
     alloc: Global,
     files: &[SourceFile],
     entries: &Entries,
+    style: Style,
     work: &mut W,
 ) -> Result<Edit, EditRefusal>
-    ensures edit { MatchResult result (IsEdit entries.now files.now) (IsRefusal (IsEditVerdict entries.now files.now)) }
+    ensures edit { MatchResult result (IsEdit entries.now files.now style) (IsRefusal (IsEditVerdict entries.now files.now)) }
     ensures counted { counts.CountsMade entries.now files.now result (W.meter work.old) (W.meter work.new) }
 {
     let linked = judge(alloc, files, entries, work)?;
     all_built(alloc, &linked, entries)?;
-    let links = link(alloc, &linked, entries, work)?;
-    Ok(edit_of(files, &linked, links))
+    let links = link(alloc, &linked, entries, style, work)?;
+    Ok(edit_of(files, &linked, links)?)
 }
 
-// Whether the folder can be linked: `Refused` with 21 where its entries name several public modules, or a needed body isn't built.
+// Whether the folder can be linked: `Refused` with 21 where a needed body isn't built.
 fn all_built(alloc: Global, linked: &LinkedWorld, entries: &Entries) -> Result<(), EditRefusal>
     requires { AreReachable linked.now.world entries.now linked.now.facts }
-    ensures { MatchResult result (λ _. HaveOneModule entries.now × AreBuilt linked.now.world entries.now) (IsRefusal (IsRefusedUnbuilt linked.now.world entries.now)) }
+    ensures { MatchResult result (λ _. AreBuilt linked.now.world entries.now) (IsRefusal (IsRefusedUnbuilt linked.now.world entries.now)) }
 {
-    if !have_one_module(entries) {
-        return Err(EditRefusal::Refused {
-            code: NOT_BUILT,
-            place: Text::from_str(alloc, "entries")?,
-        });
-    }
     match least_unbuilt(alloc, linked, entries)? {
         Some(place) => Err(EditRefusal::Refused {
             code: NOT_BUILT,
@@ -61,22 +58,30 @@ fn all_built(alloc: Global, linked: &LinkedWorld, entries: &Entries) -> Result<(
     }
 }
 
-fn edit_of(files: &[SourceFile], linked: &LinkedWorld, links: Vec<ModuleFile>) -> Edit
-    requires { length links.items ≡ 1 }
-    ensures files { result.files ≡ links }
-    ensures report { result.report ≡ record { modules = length links.items; read = length files.now; checked = bodies_among linked.now.facts; optimised = 0; emitted = bodies_among linked.now.facts } }
+// The edit with these files. Where they are too many for a report, they would be more than memory holds.
+fn edit_of(
+    files: &[SourceFile],
+    linked: &LinkedWorld,
+    links: Vec<ModuleFile>,
+) -> Result<Edit, NoMemory>
+    ensures files { IfOk result (λ edit. edit.files ≡ links) }
+    ensures report { IfOk result (λ edit. edit.report ≡ record { modules = length links.items; read = length files.now; checked = bodies_among linked.now.facts; optimised = 0; emitted = bodies_among linked.now.facts }) }
 {
+    let modules = links.len();
+    if modules > u32::MAX as usize {
+        return Err(NoMemory);
+    }
     let bodies = count_bodies(linked.facts());
-    Edit {
+    Ok(Edit {
         report: Report {
-            modules: links.len() as u32,
+            modules: modules as u32,
             read: files.len() as u64,
             checked: bodies,
             optimised: 0,
             emitted: bodies,
         },
         files: links,
-    }
+    })
 }
 
 // How many bodies are needed.

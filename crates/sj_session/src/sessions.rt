@@ -26,12 +26,12 @@ impl Model for Session {
 
     ghost view = { λ s. record { entries = s.entries; options = s.options; present = s.present; files = s.files.items } };
 
-    ghost invariant = { λ s. AreFilesOf s.entries s.present s.files.items };
+    ghost invariant = { λ s. AreFilesOf s.entries s.options.style s.present s.files.items };
 }
 
 impl Session {
-    /// A session that has accepted no folder yet. It takes no memory. The condition is that the options are built: the style is fewest, and bodies
-    /// aren't optimised.
+    /// A session that has accepted no folder yet. It takes no memory. The condition is that the options are built: bodies aren't
+    /// optimised.
     pub fn new(alloc: Global, entries: Entries, options: Options) -> Session
         requires { IsBuiltOption options }
         ensures { result ≡ record { entries = entries; options = options; present = None; files = [] } }
@@ -46,8 +46,8 @@ impl Session {
 
     /// Judges and links the folder, and takes it with its files where it is accepted.
     ///
-    /// `Refused` exactly where the verdict is that refusal: one of the judge of folders, or 21 at `entries` where these name several public modules, or 21
-    /// at the least spelling of a needed body that isn't of the forms that are built. After it, and after `NoMemory`, the session is as before. All is
+    /// `Refused` exactly where the verdict is that refusal: one of the judge of folders, or 21 at the least spelling of a needed body that isn't of the
+    /// forms that are built. After it, and after `NoMemory`, the session is as before. All is
     /// read, checked and emitted anew by `work`: of a folder that is accepted each file is read once, and each needed body is checked and emitted once; of any
     /// other no more, and nothing is emitted where it is refused.
     pub fn edit<W: Workers>(
@@ -64,6 +64,7 @@ impl Session {
             alloc,
             folder.files.as_slice(),
             &self.entries,
+            self.options.style,
             work,
         )?;
         self.files = files;

@@ -1,32 +1,15 @@
 // The bodies that aren't built yet.
-ghost use Rattle.std.specs.Prelude.{◌≡◌, ◌↔◌, IfOk, IsTrue, nat_eq};
-ghost use Rattle.std.specs.Cmp.Lexicographic.{pointwise};
-ghost use Rattle.std.specs.List.{list_all};
-ghost use Rattle.folder_linking.specs.Edits.{HaveOneModule};
+ghost use Rattle.std.specs.Prelude.{◌≡◌, ◌↔◌, IfOk, IsTrue};
 ghost use Rattle.sj_reach.specs.Answers.{AreReachable};
 ghost use Rattle.sj_session.specs.Unbuilt as spec;
 ghost use Rattle.sj_session.specs.Unbuilt.{IsLeast, IsUnbuiltMember, IsWithFact, IsWithMember};
 
 use built_forms::not_built;
 use folder_judging::definition_of;
-use sj_names::{Entries, EntryPoint, Member, NoMemory, Text};
+use sj_names::{Entries, Member, NoMemory, Text};
 use sj_reach::spelled_member;
 use sj_world::{Fact, LinkedWorld, World};
 use std::alloc::Global;
-
-/// Whether all entries are of one public module.
-pub fn have_one_module(entries: &Entries) -> bool
-    ensures { IsTrue result ↔ HaveOneModule entries.now }
-{
-    let entries = entries.as_slice();
-    are_of_module(entries, &entries[0].module)
-}
-
-fn are_of_module(entries: &[EntryPoint], id: &Text) -> bool
-    ensures { result ≡ list_all (λ e. pointwise nat_eq e.module id.now) entries.now }
-{
-    entries.iter().all(|entry| entry.module == *id)
-}
 
 /// The least spelling of a needed body that isn't of the forms that are built, if one isn't.
 pub fn least_unbuilt(

@@ -1,4 +1,4 @@
-use Rattle.std.proofs.Common.{◌∙◌, ap, map, subst, sym, Contains}
+use Rattle.std.proofs.Common.{◌∙◌, ap, map, subst, Contains}
 use Rattle.std.specs.Prelude.{All}
 use Rattle.folder_judging.specs.Counts.{members_of}
 use Rattle.sj_pieces.specs.Ranges.{AreBytes}

@@ -1,6 +1,6 @@
 use Rattle.std.proofs.Common.{ap}
 use Rattle.std.proofs.lemmas.Result.{err_from_is_err_and}
-use Rattle.sj_session.proofs.Edited.{by_judge, counts_refused, by_built, counts_unbuilt, linkable, counts_unlinked, one_link, edited, counts_edited}
+use Rattle.sj_session.proofs.Edited.{by_judge, counts_refused, by_built, counts_unbuilt, linkable, counts_unlinked, counts_all, edited, counts_edited}
 use Rattle.sj_session.proofs.editing.linked_edit.Goals as goal
 
 pub returns-in_err-linked-clause-edit : goal.returns-in_err-linked-clause-edit
@@ -34,17 +34,18 @@ returns-in_err-links-clause-counted g c =
     let known = c.in_ok-linked.ensures in
     rw (p.1, p.2) (counts_unlinked c.args.entries.now c.args.files.now c.in_ok-linked.linked known.verdict known.bytes c.in_ok-all_built.ensures (g.W.Workers.meter c.args.work.now) (g.W.Workers.meter c.judge.new.work) (g.W.Workers.meter c.link.new.work) known.counted c.in_err-links.ensures.counted)
 
-pub edit_of-requires : goal.edit_of-requires
-edit_of-requires g c =
-    let known = c.in_ok-linked.ensures in
-    one_link c.args.entries.now c.args.files.now c.in_ok-linked.linked known.verdict known.bytes c.in_ok-all_built.ensures c.in_ok-links.links.items c.in_ok-links.ensures.link
-
 pub returns-clause-edit : goal.returns-clause-edit
 returns-clause-edit g c =
     let known = c.in_ok-linked.ensures in
-    edited c.args.entries.now c.args.files.now c.in_ok-linked.linked known.verdict known.bytes c.in_ok-all_built.ensures c.in_ok-links.links.items c.in_ok-links.ensures.link c.edit_of.result (ap (λ v. v.items) c.edit_of.ensures.files) c.edit_of.ensures.report
+    edited c.args.entries.now c.args.files.now c.in_ok-linked.linked known.verdict known.bytes c.in_ok-all_built.ensures c.args.style c.in_ok-links.links.items c.in_ok-links.ensures.link c.in_ok-edit_of.field-0 (ap (λ v. v.items) c.in_ok-edit_of.ensures.files) c.in_ok-edit_of.ensures.report
 
 pub returns-clause-counted : goal.returns-clause-counted
 returns-clause-counted g c =
     let known = c.in_ok-linked.ensures in
-    counts_edited c.args.entries.now c.args.files.now c.in_ok-linked.linked known.verdict known.bytes c.in_ok-all_built.ensures c.in_ok-links.links.items c.in_ok-links.ensures.link c.edit_of.result (g.W.Workers.meter c.args.work.now) (g.W.Workers.meter c.judge.new.work) (g.W.Workers.meter c.link.new.work) c.edit_of.ensures.report known.counted c.in_ok-links.ensures.counted
+    counts_edited c.args.entries.now c.args.files.now c.in_ok-linked.linked known.verdict known.bytes c.in_ok-all_built.ensures c.args.style c.in_ok-links.links.items c.in_ok-links.ensures.link c.in_ok-edit_of.field-0 (g.W.Workers.meter c.args.work.now) (g.W.Workers.meter c.judge.new.work) (g.W.Workers.meter c.link.new.work) c.in_ok-edit_of.ensures.report known.counted c.in_ok-links.ensures.counted
+
+pub returns-in_err-edit_of-clause-counted : goal.returns-in_err-edit_of-clause-counted
+returns-in_err-edit_of-clause-counted g c =
+    let p = err_from_is_err_and c.from_residual-in_err-edit_of.result c.from_residual-in_err-edit_of.ensures.1 in
+    let known = c.in_ok-linked.ensures in
+    rw (p.1, p.2) (counts_all c.args.entries.now c.args.files.now c.in_ok-linked.linked known.verdict known.bytes c.in_ok-all_built.ensures (g.W.Workers.meter c.args.work.now) (g.W.Workers.meter c.judge.new.work) (g.W.Workers.meter c.link.new.work) known.counted c.in_ok-links.ensures.counted)

@@ -1,0 +1,342 @@
+-- The files of a plan declare all that their code can use.
+use Rattle.std.proofs.Common.{◌≡◌, ◌&&◌, inl, inr, Bool, true, List, [], ◌∷◌, Some, None, codes, map, refl, sym, ap, subst, ◌∙◌}
+use Rattle.std.specs.Prelude.{◌↔◌}
+use Rattle.std.specs.List.{Contains}
+use Rattle.std.proofs.lemmas.Bool.{and_parts, and_from, or_cases, or_left}
+use Rattle.std.proofs.lemmas.List.Elements.{Contains-append_left, Contains-append_right}
+use Rattle.body_uses.proofs.Written.{divisors_fit}
+use Rattle.class_code.proofs.Markers.{marked}
+use Rattle.declared_files.specs.Declared.{Spread, all_items, Leads, FunctionDeclared, ClassDeclared, ChainDeclared, extends_none, extends_one, MadeDeclared, StaticDeclared, Uses as UsesTop}
+use Rattle.declared_files.specs.Placed.{placed}
+use Rattle.declared_pieces.proofs.Blocks.{method_there}
+use Rattle.declared_pieces.proofs.Chains.{Stands, whole_chain}
+use Rattle.declared_pieces.proofs.Fields.{field_there, fields_kept}
+use Rattle.declared_pieces.proofs.Live.{classes_kept}
+use Rattle.declared_pieces.proofs.Members.{same-class, defined}
+use Rattle.declared_pieces.proofs.Parts.{uses_superclass, uses_constants}
+use Rattle.declared_pieces.proofs.Whole.{static_alone, received_runs, constructor_is, no_value, own_fields, whole_fields, method_of, Good, free, own, its, is_named, constants_here, class_of_its, class_here, super_good, made_good, Needed, needed_static, variable_there, setter_there, IsWritten, helper_written, helper_had, helper_listed}
+use Rattle.declared_pieces.specs.Accepted.{IsAccepted}
+use Rattle.declared_pieces.specs.Bodies.{AreBodies}
+use Rattle.declared_pieces.specs.Built.{Usable, has_static, is_static, has_no_value, divides}
+use Rattle.declared_pieces.specs.Closed.{IsClosed}
+use Rattle.declared_pieces.specs.DeclaredProgramsDeclared.{Running, alone, on_receiver, completing, running, is_covered}
+use Rattle.declared_pieces.specs.Emitted.{EmittedMethod}
+use Rattle.declared_pieces.specs.Entries.{IsLive}
+use Rattle.declared_pieces.specs.Linked.{has_function}
+use Rattle.object_folders.specs.PieceRulesPieces.{Parts, constants_piece, entry_member, variable_piece, setter_piece}
+use Rattle.declared_pieces.specs.Pieces.{piece_of_member, AreLinkedPieces}
+use Rattle.declared_pieces.specs.Running.{CanRun}
+use Rattle.declared_pieces.specs.Used.{used_of, is_among, is_received, is_constructor, is_constructor_without_value, uses_static}
+use Rattle.file_listings.specs.Listed.{AreBytes}
+use Rattle.helper_rules.specs.Helpers.{helper_name, helper_item, helper_piece, used_helpers, used_of_classes, failure_class, of}
+use Rattle.helper_rules.specs.Words.{object_class}
+use Rattle.helper_rules.specs.declared.kinds.Failure.{Failure}
+use Rattle.helper_rules.specs.declared.kinds.Failure.TheVariants.{NullReceiver, Division}
+use Rattle.helper_rules.specs.declared.kinds.Helper.{Helper}
+use Rattle.helper_rules.specs.declared.kinds.Helper.TheVariants as helpers
+use Rattle.ir_mean.specs.Meaning.{with_message}
+use Rattle.js_tree.specs.Terms.{Name, Item, Piece}
+use Rattle.js_tree.specs.declared.items.Binding.{Binding}
+use Rattle.module_files.proofs.Found.{uses_are_owned}
+use Rattle.module_files.specs.Files.{AreWhole, StandsIn, StandTogether}
+use Rattle.module_rules.specs.Laws.{by_piece}
+use Rattle.module_rules.specs.Modules.{file_with}
+use Rattle.module_uses.proofs.Bodies.{built_here}
+use Rattle.module_uses.proofs.InFiles.{used_there}
+use Rattle.module_uses.specs.Used.{restricted, uses_in}
+use Rattle.object_folders.proofs.Chains.{byte_not}
+use Rattle.object_folders.proofs.Methods.{right_method}
+use Rattle.object_folders.proofs.Throwing.{exceptions, division}
+use Rattle.accepted_folders.specs.BodySoundnessRules.{RightMember}
+use Rattle.sj_desugar.specs.Desugar.{member}
+use Rattle.sj_emit_expr.specs.Templates.{check_name, static_name}
+use Rattle.sj_emit_expr.specs.Uses.{object_binding, function_binding, class_use, static_use, setter_use}
+use Rattle.sj_names.proofs.Same.{impossible}
+use Rattle.sj_names.specs.declared.entry_points.EntryPoint.{EntryPoint}
+use Rattle.sj_names.specs.declared.folders.SourceFile.{SourceFile}
+use Rattle.sj_names.specs.declared.method_names.Member.{Member}
+use Rattle.sj_names.specs.declared.method_names.Namespace.TheVariants.{Constructor}
+use Rattle.sj_plain.specs.Settings.{Top, a_function, a_method, a_constructor, a_class, some_constants, a_static, a_setter, a_helper, top_name, is_named as is_named_top}
+use Rattle.sj_split.proofs.Members.{at_first, further, into_map}
+use Rattle.sj_split.specs.declared.plans.PlannedModule.{PlannedModule}
+use Rattle.sj_trees.specs.declared.classes.FieldDef.{FieldDef}
+use Rattle.sj_trees.specs.declared.operators.BinaryOp.{BinaryOp}
+use Rattle.sj_trees.specs.declared.operators.BinaryOp.TheVariants.{IntDivide, IntRemainder, LongDivide, LongRemainder}
+use Rattle.sj_trees.specs.declared.types.IrType.{IrType}
+use Rattle.sj_trees.specs.declared.types.IrType.TheVariants.{NoType}
+use Rattle.sj_world.proofs.OnCycles.{among}
+use Rattle.sj_world.specs.Known.{Classes, class_of}
+use Rattle.sj_world.specs.Linked.{Linked}
+use Rattle.declared_modules.specs.Laws.{ModulesDeclare}
+use Rattle.declared_modules.specs.Spread.{owner_of, file_or_none, spread_of, AllStand}
+
+-- the binding at a top, with the class that owns it
+abbrev binding_of : Top → Binding
+binding_of t = record { owner = owner_of t; name = top_name t }
+
+-- what the code of a file names it uses
+named_used : (has : Usable) (uses : Binding → Bool) (t : Top) → is_named_top (restricted has uses) t ≡ true → uses (binding_of t) ≡ true
+named_used has uses (a_function m) h = (and_parts (has.linked m) (uses (function_binding m)) h).1
+named_used has uses (a_method m) h = (and_parts (has.received m) (uses (function_binding m)) h).1
+named_used has uses (a_constructor m) h = (and_parts (has.built m) (uses (function_binding m)) h).1
+named_used has uses (a_class c) h = (and_parts (has.made c) (uses (class_use c)) h).1
+named_used has uses (some_constants c) h = impossible h
+named_used has uses (a_static c f t) h = (and_parts (has.static_field c f t) (uses (static_use c f)) h).1
+named_used has uses (a_setter c f t) h = (and_parts (has.static_setter c f t) (uses (setter_use c f)) h).1
+named_used has uses (a_helper x) h = (and_parts (has.helper (helper_name x)) (uses (object_binding (helper_name x))) h).1
+
+module _ (entries : List EntryPoint) (files : List SourceFile) (l : Linked) (all : List EmittedMethod) (live written : List Name) (modules : List PlannedModule) (ps : List Piece) (front : List Name) (last : Name) (declared : List Item) (bytes : (file : SourceFile) → Contains files file → AreBytes file.bytes) (a : IsAccepted entries files l.world) (bodies : AreBodies l.world entries all) (p : AreLinkedPieces l all ps) (are_live : (c : Name) → Contains live c ↔ IsLive l.world l.facts c) (run : CanRun l.world entries l.facts all live p.helpers written) (owned : IsClosed ps written) (covered : (h : Helper) → Contains p.helpers h → is_covered h ≡ true) (together : StandTogether modules ps) (whole : AreWhole modules ps) (stand : AllStand modules ps written (spread_of modules ps l.world (used_of l.world l.facts all live p.helpers written) front last declared)) where
+  abbrev w : Classes
+  w = l.world
+
+  -- what is there at all
+  abbrev there : Usable
+  there = used_of w l.facts all live p.helpers written
+
+  abbrev z : Spread
+  z = spread_of modules ps w there front last declared
+
+  abbrev IsUsed : Name → Binding → Type 0
+  IsUsed f b = uses_in modules ps f b ≡ true
+
+  abbrev StandsThere : Name → Type 0
+  StandsThere c = StandsIn modules ps c
+
+  abbrev home_of : Name → Name
+  home_of c = file_or_none (file_with modules c)
+
+  -- the owner of what is used stands in a file
+  owner_stands : (f : Name) (b : Binding) → IsUsed f b → StandsThere b.owner
+  owner_stands f b h = whole f b ((used_there modules ps f b).0 h)
+
+  at_home : (c : Name) (s : StandsThere c) → home_of c ≡ s.its_file
+  at_home c s = ap file_or_none s.is
+
+  -- a file leads to what it uses
+  leads_to : (f : Name) (t : Top) → IsUsed f (binding_of t) → Leads z f t
+  leads_to f t h =
+      let s = owner_stands f (binding_of t) h in
+      uses_are_owned modules ps together f s.its_file (binding_of t) ((used_there modules ps f (binding_of t)).0 h) s.is ∙ ap Some (sym (at_home (owner_of t) s))
+
+  -- what a piece uses is used in its file
+  used_at_home : (q : Piece) → StandsThere q.owner → Contains ps q → (b : Binding) → Contains q.uses b → IsUsed (home_of q.owner) b
+  used_at_home q s i b u = subst (λ (f : Name). IsUsed f b) (sym (at_home q.owner s)) ((used_there modules ps s.its_file b).1 (by_piece q b i s.is u))
+
+  -- and its item stands there
+  stands_at_home : (q : Piece) → StandsThere q.owner → Contains ps q → Contains written q.owner → Contains (all_items z) (placed (home_of q.owner) q.item)
+  stands_at_home q s i k = subst (λ (f : Name). Contains (all_items z) (placed f q.item)) (sym (at_home q.owner s)) (stand q s.its_file i k s.is)
+
+  -- members
+
+  -- a member whose function stands in this file
+  record CodeIn (f : Name) (r : Running) (m : Member) : Type 0 where
+    right : RightMember w (restricted there (uses_in modules ps f)) m
+    runs : running right.definition.namespace ≡ r
+    function : Contains (all_items z) (placed f (piece_of_member w (record { member = m; definition = right.definition; its_body = right.its_body })).item)
+
+  code_of : (e : EmittedMethod) → Contains all e → Contains written e.member.class → StandsThere e.member.class → (r : Running) → running e.member.namespace ≡ r → CodeIn (home_of e.member.class) r e.member
+  code_of e i here s r runs =
+      let its_definition = defined w e.member e.definition (bodies.found e i).found in
+      let q : Piece = piece_of_member w e in
+      let listed : Contains ps q = method_there l all ps p e i its_definition.class its_definition.is_class in
+      let home = home_of e.member.class in
+      let built = built_here there (uses_in modules ps home) e.definition e.its_body (run.are_built e i here) (divisors_fit entries files w all a bodies e i) (used_at_home q s listed) in
+      record {
+        right = right_method entries files w bytes a all bodies (restricted there (uses_in modules ps home)) e i built;
+        runs = ap running its_definition.first.has.namespace_is ∙ runs;
+        function = stands_at_home q s listed here;
+      }
+
+  abbrev IsThere : Member → Type 0
+  IsThere m = (is_among written m.class && has_function all m) ≡ true
+
+  code_in : (m : Member) → IsThere m → StandsThere m.class → (r : Running) → running m.namespace ≡ r → CodeIn (home_of m.class) r m
+  code_in m h s r runs =
+      let f = method_of entries files l all live written ps bytes a bodies p are_live run owned m h in
+      subst (λ (k : Member). CodeIn (home_of k.class) r k) f.is (code_of f.method f.listed f.here (subst (λ (k : Member). StandsThere k.class) (sym f.is) s) r (subst (λ (k : Member). running k.namespace ≡ r) (sym f.is) runs))
+
+  linked_declared : (f : Name) (m : Member) → (z.has f).linked m ≡ true → FunctionDeclared z (a_function m) alone m
+  linked_declared f m h =
+      let q = and_parts (there.linked m) (uses_in modules ps f (function_binding m)) h in
+      let r = and_parts (is_static m.namespace) (is_among written m.class && has_function all m) q.0 in
+      let c = code_in m r.1 (owner_stands f (function_binding m) q.1) alone (static_alone m.namespace r.0) in
+      record { right = c.right; runs = c.runs; function = c.function }
+
+  received_declared : (f : Name) (m : Member) → (z.has f).received m ≡ true → FunctionDeclared z (a_method m) on_receiver m
+  received_declared f m h =
+      let q = and_parts (there.received m) (uses_in modules ps f (function_binding m)) h in
+      let r = and_parts (is_received m.namespace) (is_among written m.class && has_function all m) q.0 in
+      let c = code_in m r.1 (owner_stands f (function_binding m) q.1) on_receiver (received_runs m.namespace r.0) in
+      record { right = c.right; runs = c.runs; function = c.function }
+
+  built_declared : (f : Name) (m : Member) → (z.has f).built m ≡ true → (b : FunctionDeclared z (a_constructor m) completing m) × (b.right.definition.result ≡ NoType)
+  built_declared f m h =
+      let q = and_parts (there.built m) (uses_in modules ps f (function_binding m)) h in
+      let r = and_parts (is_constructor_without_value m) (is_among written m.class && has_function all m) q.0 in
+      let t = and_parts (is_constructor m.namespace) (has_no_value m.method.result) r.0 in
+      let c = code_in m r.1 (owner_stands f (function_binding m) q.1) completing (ap running (constructor_is m.namespace t.0)) in
+      (record { right = c.right; runs = c.runs; function = c.function }, c.right.result_is ∙ no_value m.method.result t.1)
+
+  -- classes
+
+  -- a class whose objects the code of a file can make
+  record MadeIn (c : Name) : Type 0 where
+    good : Good entries files l all live written ps bytes a bodies p are_live run owned c
+    user : Name
+    used : IsUsed user (class_use c)
+
+  module _ (c : Name) (m : MadeIn c) where
+    abbrev parts : Parts
+    parts = its entries files l all live written ps bytes a bodies p are_live run owned c m.good
+
+    stands_there : StandsThere c
+    stands_there = owner_stands m.user (class_use c) m.used
+
+    abbrev its_class : Piece
+    its_class = class_of_its entries files l all live written ps bytes a bodies p are_live run owned c m.good
+
+    class_listed : Contains ps its_class
+    class_listed = class_here entries files l all live written ps bytes a bodies p are_live run owned c m.good
+
+    own_class : class_of w c ≡ Some parts.class
+    own_class = (own entries files l all live written ps bytes a bodies p are_live run owned c m.good).are.class_is
+
+    class_declared : ClassDeclared z c parts.class.superclass
+    class_declared = record {
+      user = m.user;
+      made = and_from (there.made c) (uses_in modules ps m.user (class_use c)) (and_from (is_among written c) (is_among live c) ((among written c).1 m.good.is_written) ((among live c).1 m.good.is_live)) m.used;
+      definition = parts.class;
+      found = same-class w c ∙ own_class;
+      fields = parts.fields;
+      own = own_fields parts.class.fields parts.fields (own entries files l all live written ps bytes a bodies p are_live run owned c m.good).are.fields;
+      whole = whole_fields parts.class.fields parts.fields (own entries files l all live written ps bytes a bodies p are_live run owned c m.good).are.fields;
+      ancestors = parts.ancestors;
+      constants = stands_at_home (constants_piece c parts.ancestors) stands_there (constants_here entries files l all live written ps bytes a bodies p are_live run owned c m.good) m.good.is_written;
+      leads = leads_to (home_of c) (some_constants c) (used_at_home its_class stands_there class_listed (binding_of (some_constants c)) (uses_constants c parts.class.superclass parts.entries));
+      others = map entry_member parts.entries;
+      class = stands_at_home its_class stands_there class_listed m.good.is_written;
+      marked = marked c (is_named entries files l all live written ps bytes a bodies p are_live run owned c m.good);
+      no_char = byte_not c (free entries files l all live written ps bytes a bodies p are_live run owned c m.good) (codes "java.lang.Character") refl;
+    }
+
+    uses_above : (d : Name) → parts.class.superclass ≡ Some d → IsUsed (home_of c) (class_use d)
+    uses_above d super = used_at_home its_class stands_there class_listed (class_use d) (uses_superclass c d parts.class.superclass parts.entries super)
+
+    super_made : (d : Name) → parts.class.superclass ≡ Some d → MadeIn d
+    super_made d super = record { good = super_good entries files l all live written ps bytes a bodies p are_live run owned c m.good d super; user = home_of c; used = uses_above d super }
+
+    abbrev stands : Stands w MadeIn c
+    stands = record { class = parts.class; found = own_class; free = free entries files l all live written ps bytes a bodies p are_live run owned c m.good; up = super_made }
+
+  chain_ends : (c : Name) (m : MadeIn c) → (parts c m).class.superclass ≡ None → ChainDeclared z (c ∷ [])
+  chain_ends c m e = extends_none c (subst (ClassDeclared z c) e (class_declared c m))
+
+  chain_goes_on : (c d : Name) (ds : List Name) (m : MadeIn c) → (parts c m).class.superclass ≡ Some d → ChainDeclared z (d ∷ ds) → ChainDeclared z (c ∷ d ∷ ds)
+  chain_goes_on c d ds m e rest = extends_one c d ds (subst (ClassDeclared z c) e (class_declared c m)) (leads_to (home_of c) (a_class d) (uses_above c m d e)) rest
+
+  class_made : (f c : Name) → (z.has f).made c ≡ true → MadeDeclared z c
+  class_made f c h =
+      let q = and_parts (there.made c) (uses_in modules ps f (class_use c)) h in
+      let m : MadeIn c = record { good = made_good entries files l all live written ps bytes a bodies p are_live run owned c q.0; user = f; used = q.1 } in
+      let chain = whole_chain w (classes_kept entries files w bytes a) a.world.no_cycle MadeIn stands (ChainDeclared z) chain_ends chain_goes_on c m in
+      record { above = chain.above; chain = chain.is_chain; classes = chain.classes }
+
+  -- static fields
+
+  record StaticUsed (c g : Name) (t : IrType) : Type 0 where
+    need : Needed entries files l all live written ps bytes a bodies p are_live run owned c g t
+    in_file : StandsThere c
+
+  static_used : (f c g : Name) (t : IrType) → has_static (z.has f) c g t ≡ true → StaticUsed c g t
+  static_used f c g t h = elim (or_cases ((z.has f).static_field c g t) ((z.has f).static_setter c g t) h) [
+    | inl read ↦ let q = and_parts (there.static_field c g t) (uses_in modules ps f (static_use c g)) read in needs q.0 (owner_stands f (static_use c g) q.1)
+    | inr set ↦ let q = and_parts (there.static_setter c g t) (uses_in modules ps f (setter_use c g)) set in needs q.0 (owner_stands f (setter_use c g) q.1)
+  ]
+    where
+      needs : uses_static w l.facts written c g t ≡ true → StandsThere c → StaticUsed c g t
+      needs k s = record { need = needed_static entries files l all live written ps bytes a bodies p are_live run owned c g t (or_left (uses_static w l.facts written c g t) (uses_static w l.facts written c g t) k); in_file = s }
+
+  static_declared : (f c g : Name) (t : IrType) → has_static (z.has f) c g t ≡ true → StaticDeclared z c g t
+  static_declared f c g t h =
+      let u = static_used f c g t h in
+      let d : FieldDef = u.need.field.field in
+      let setter = setter_there entries files l all live written ps bytes a bodies p are_live run owned c g t u.need in
+      let used = used_at_home (setter_piece c d) u.in_file setter (record { owner = c; name = static_name c d.name }) (at_first (record { owner = c; name = static_name c d.name }) []) in
+      record {
+        field = u.need.field;
+        variable = stands_at_home (variable_piece c d) u.in_file (variable_there entries files l all live written ps bytes a bodies p are_live run owned c g t u.need) u.need.here;
+        setter = stands_at_home (setter_piece c d) u.in_file setter u.need.here;
+        beside = refl;
+        leads = leads_to (home_of c) (a_static c g t) (subst (λ (n : Name). IsUsed (home_of c) (static_use c n)) u.need.field.named used);
+      }
+
+  -- helpers
+
+  record HelperUsed (h : Helper) : Type 0 where
+    is_written : IsWritten entries files l all live written ps bytes a bodies p are_live run owned h
+    in_file : StandsThere object_class
+
+  helper_used : (f : Name) (h : Helper) → (z.has f).helper (helper_name h) ≡ true → HelperUsed h
+  helper_used f h e = let q = and_parts (there.helper (helper_name h)) (uses_in modules ps f (object_binding (helper_name h))) e in record { is_written = helper_written entries files l all live written ps bytes a bodies p are_live run owned h q.0; in_file = owner_stands f (object_binding (helper_name h)) q.1 }
+
+  module _ (h : Helper) (u : HelperUsed h) where
+    listed : Contains ps (helper_piece p.above h)
+    listed = helper_listed entries files l all live written ps bytes a bodies p are_live run owned h u.is_written
+
+    helper_stands : Contains (all_items z) (placed (home_of object_class) (helper_item p.above h))
+    helper_stands = stands_at_home (helper_piece p.above h) u.in_file listed u.is_written.with_object
+
+    -- what it uses is written with it
+    beside : (k : Helper) → Contains (used_helpers h) k → HelperUsed k
+    beside k i = record { is_written = record { among_helpers = run.closed h k u.is_written.among_helpers i; with_object = u.is_written.with_object }; in_file = u.in_file }
+
+    uses_helper : (k : Helper) → Contains (used_helpers h) k → UsesTop z (a_helper h) (a_helper k)
+    uses_helper k i = and_from (there.helper (helper_name k)) (uses_in modules ps (home_of object_class) (object_binding (helper_name k))) (helper_had entries files l all live written ps bytes a bodies p are_live run owned k (beside k i).is_written) (used_at_home (helper_piece p.above h) u.in_file listed (of k) (Contains-append_right (used_of_classes h) (map of (used_helpers h)) (of k) (into_map of (used_helpers h) k i)))
+
+  -- an exception of this class can be made where the helper is that throws it
+  abbrev Makes : Failure → Type 0
+  Makes x = (there.made (failure_class x) ≡ true) × (there.built (member (failure_class x) Constructor with_message) ≡ true)
+
+  abbrev Throwing : Failure → Type 0
+  Throwing x = UsesTop z (a_helper (helpers.Throws x)) (a_class (failure_class x)) × UsesTop z (a_helper (helpers.Throws x)) (a_constructor (member (failure_class x) Constructor with_message))
+
+  throwing : (x : Failure) → HelperUsed (helpers.Throws x) → Makes x → Throwing x
+  throwing x u makes =
+      let c = failure_class x in
+      let thrower : Helper = helpers.Throws x in
+      let init = function_binding (member c Constructor with_message) in
+      let used : (b : Binding) → Contains (init ∷ class_use c ∷ []) b → IsUsed (home_of object_class) b = λ b i. used_at_home (helper_piece p.above thrower) u.in_file (listed thrower u) b (Contains-append_left (init ∷ class_use c ∷ []) [] b i) in
+      (and_from (there.made c) (uses_in modules ps (home_of object_class) (class_use c)) makes.0 (used (class_use c) (further init (class_use c) (class_use c ∷ []) (at_first (class_use c) []))), and_from (there.built (member c Constructor with_message)) (uses_in modules ps (home_of object_class) init) makes.1 (used init (at_first init (class_use c ∷ []))))
+
+  thrown_by : (x : Failure) (h : Helper) → Contains (used_helpers h) (helpers.Throws x) → (there.helper (helper_name h) ≡ true → Makes x) → (f : Name) → (z.has f).helper (helper_name h) ≡ true → Throwing x
+  thrown_by x h i makes f e = throwing x (beside h (helper_used f h e) (helpers.Throws x) i) (makes (and_parts (there.helper (helper_name h)) (uses_in modules ps f (object_binding (helper_name h))) e).0)
+
+  null_thrown : (f : Name) → (z.has f).helper check_name ≡ true → Throwing NullReceiver
+  null_thrown = thrown_by NullReceiver helpers.NotNull (at_first (helpers.Throws NullReceiver) []) (exceptions w entries l.facts all live p.helpers written run)
+
+  division_thrown : (f : Name) (o : BinaryOp) → divides (z.has f) o ≡ true → Throwing Division
+  division_thrown f IntDivide e = thrown_by Division helpers.IntQuotient (at_first (helpers.Throws Division) []) (division w entries l.facts all live p.helpers written run IntDivide) f e
+  division_thrown f IntRemainder e = thrown_by Division helpers.IntRemainder (at_first (helpers.Throws Division) []) (division w entries l.facts all live p.helpers written run IntRemainder) f e
+  division_thrown f LongDivide e = thrown_by Division helpers.LongQuotient (at_first (helpers.Throws Division) []) (division w entries l.facts all live p.helpers written run LongDivide) f e
+  division_thrown f LongRemainder e = thrown_by Division helpers.LongRemainder (at_first (helpers.Throws Division) []) (division w entries l.facts all live p.helpers written run LongRemainder) f e
+  division_thrown f o e = impossible e
+
+pub modules_declare : ModulesDeclare
+modules_declare entries files l all live written modules ps front last declared bytes a bodies p are_live run owned covered together whole stand = record {
+  leads = λ f t h. leads_to entries files l all live written modules ps front last declared bytes a bodies p are_live run owned covered together whole stand f t (named_used (used_of l.world l.facts all live p.helpers written) (uses_in modules ps f) t h);
+  linked = linked_declared entries files l all live written modules ps front last declared bytes a bodies p are_live run owned covered together whole stand;
+  received = received_declared entries files l all live written modules ps front last declared bytes a bodies p are_live run owned covered together whole stand;
+  built = built_declared entries files l all live written modules ps front last declared bytes a bodies p are_live run owned covered together whole stand;
+  made = class_made entries files l all live written modules ps front last declared bytes a bodies p are_live run owned covered together whole stand;
+  field = λ f. field_there l.world;
+  static_field = static_declared entries files l all live written modules ps front last declared bytes a bodies p are_live run owned covered together whole stand;
+  kept = fields_kept entries files l.world bytes a;
+  ancestors = p.above;
+  helper = λ f h e. let u = its_helper f h e in (covered h u.is_written.among_helpers, helper_stands entries files l all live written modules ps front last declared bytes a bodies p are_live run owned covered together whole stand h u);
+  helpers = λ f h k e i. uses_helper entries files l all live written modules ps front last declared bytes a bodies p are_live run owned covered together whole stand h (its_helper f h e) k i;
+  exceptions = null_thrown entries files l all live written modules ps front last declared bytes a bodies p are_live run owned covered together whole stand;
+  divisions = division_thrown entries files l all live written modules ps front last declared bytes a bodies p are_live run owned covered together whole stand;
+}
+  where
+    its_helper : (f : Name) (h : Helper) → (restricted (used_of l.world l.facts all live p.helpers written) (uses_in modules ps f)).helper (helper_name h) ≡ true → HelperUsed entries files l all live written modules ps front last declared bytes a bodies p are_live run owned covered together whole stand h
+    its_helper f h e = helper_used entries files l all live written modules ps front last declared bytes a bodies p are_live run owned covered together whole stand f h e

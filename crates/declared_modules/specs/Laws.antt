@@ -1,0 +1,39 @@
+-- Laws of the files of a plan.
+use Rattle.std.specs.Prelude.{◌≡◌, ◌↔◌, true, List}
+use Rattle.std.specs.List.{Contains}
+use Rattle.declared_files.specs.Declared.{Declared}
+use Rattle.declared_pieces.specs.Accepted.{IsAccepted}
+use Rattle.declared_pieces.specs.Bodies.{AreBodies}
+use Rattle.declared_pieces.specs.Closed.{IsClosed}
+use Rattle.declared_pieces.specs.DeclaredProgramsDeclared.{is_covered}
+use Rattle.declared_pieces.specs.Emitted.{EmittedMethod}
+use Rattle.declared_pieces.specs.Entries.{IsLive}
+use Rattle.declared_pieces.specs.Pieces.{AreLinkedPieces}
+use Rattle.declared_pieces.specs.Running.{CanRun}
+use Rattle.declared_pieces.specs.Used.{used_of}
+use Rattle.file_listings.specs.Listed.{AreBytes}
+use Rattle.helper_rules.specs.declared.kinds.Helper.{Helper}
+use Rattle.js_tree.specs.Terms.{Name, Item, Piece}
+use Rattle.module_files.specs.Files.{AreWhole, StandTogether}
+use Rattle.sj_names.specs.declared.entry_points.EntryPoint.{EntryPoint}
+use Rattle.sj_names.specs.declared.folders.SourceFile.{SourceFile}
+use Rattle.sj_split.specs.declared.plans.PlannedModule.{PlannedModule}
+use Rattle.sj_world.specs.Linked.{Linked}
+use Rattle.declared_modules.specs.Spread.{spread_of, AllStand}
+
+-- Take the pieces of an accepted folder, in files that have what they use. Where what is written can run, uses nothing but what is written, and stands among the items that run, the
+-- files declare all that their code can use.
+abbrev pub ModulesDeclare : Type 0
+ModulesDeclare = (entries : List EntryPoint) (files : List SourceFile) (l : Linked) (all : List EmittedMethod) (live written : List Name) (modules : List PlannedModule) (ps : List Piece) (front : List Name) (last : Name) (declared : List Item)
+    → ((file : SourceFile) → Contains files file → AreBytes file.bytes)
+    → IsAccepted entries files l.world
+    → AreBodies l.world entries all
+    → (p : AreLinkedPieces l all ps)
+    → ((c : Name) → Contains live c ↔ IsLive l.world l.facts c)
+    → CanRun l.world entries l.facts all live p.helpers written
+    → IsClosed ps written
+    → ((h : Helper) → Contains p.helpers h → is_covered h ≡ true)
+    → StandTogether modules ps
+    → AreWhole modules ps
+    → AllStand modules ps written (spread_of modules ps l.world (used_of l.world l.facts all live p.helpers written) front last declared)
+    → Declared (spread_of modules ps l.world (used_of l.world l.facts all live p.helpers written) front last declared)

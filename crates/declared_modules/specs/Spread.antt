@@ -1,0 +1,50 @@
+-- The spread of a plan: in which file each binding stands, and what the code of each file can use.
+use Rattle.std.specs.Prelude.{◌≡◌, List, [], Option, Some, None}
+use Rattle.std.specs.List.{Contains}
+use Rattle.declared_files.specs.Declared.{Spread, all_items}
+use Rattle.declared_files.specs.Placed.{placed}
+use Rattle.declared_pieces.specs.Built.{Usable}
+use Rattle.helper_rules.specs.Words.{object_class}
+use Rattle.js_tree.specs.Terms.{Name, Item, Piece}
+use Rattle.module_files.specs.Files.{program_of}
+use Rattle.module_rules.specs.Modules.{file_with}
+use Rattle.module_uses.specs.Used.{restricted, uses_in}
+use Rattle.sj_plain.specs.Settings.{Top, a_function, a_method, a_constructor, a_class, some_constants, a_static, a_setter, a_helper}
+use Rattle.sj_split.specs.declared.plans.PlannedModule.{PlannedModule}
+use Rattle.sj_world.specs.Known.{Classes}
+
+-- the class that owns a binding: `java.lang.Object` owns the helpers
+abbrev pub owner_of : Top → Name
+owner_of (a_function m) = m.class
+owner_of (a_method m) = m.class
+owner_of (a_constructor m) = m.class
+owner_of (a_class c) = c
+owner_of (some_constants c) = c
+owner_of (a_static c f t) = c
+owner_of (a_setter c f t) = c
+owner_of (a_helper h) = object_class
+
+-- a file without a name stands for none
+abbrev pub file_or_none : Option Name → Name
+file_or_none None = []
+file_or_none (Some f) = f
+
+-- a binding is at home in the file in which its owner stands
+abbrev pub home_in : List PlannedModule → Top → Name
+home_in modules t = file_or_none (file_with modules (owner_of t))
+
+-- the program of a plan, where the code of a file can use what it uses of what is there, and these files run in front of the last, which declares these items
+abbrev pub spread_of : List PlannedModule → List Piece → Classes → Usable → List Name → Name → List Item → Spread
+spread_of modules ps w all front last declared = record {
+  classes = w;
+  program = program_of modules ps;
+  home = home_in modules;
+  has = λ f. restricted all (uses_in modules ps f);
+  front = front;
+  last = last;
+  declared = declared;
+}
+
+-- the pieces of these classes that stand in files stand there among the items that run
+abbrev pub AllStand : List PlannedModule → List Piece → List Name → Spread → Type 0
+AllStand modules ps written z = (q : Piece) (f : Name) → Contains ps q → Contains written q.owner → file_with modules q.owner ≡ Some f → Contains (all_items z) (placed f q.item)

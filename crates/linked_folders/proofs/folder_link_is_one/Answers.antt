@@ -1,5 +1,0 @@
-use Rattle.linked_folders.proofs.Edits.{one_folder_link}
-use Rattle.linked_folders.proofs.folder_link_is_one.Goals as goal
-
-pub returns : goal.returns
-returns c = one_folder_link

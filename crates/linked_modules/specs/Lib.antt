@@ -1,0 +1,3 @@
+pub mod Link
+pub mod Edits
+pub mod Laws

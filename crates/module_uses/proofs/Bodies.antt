@@ -1,0 +1,77 @@
+-- A body that is built with what is there is built with what of it its code uses.
+use Rattle.std.proofs.Common.{◌≡◌, Bool, true, false, List, [], refl, codes, Contains, ℕ}
+use Rattle.std.specs.Prelude.{◌||◌}
+use Rattle.std.proofs.lemmas.Bool.{and_parts, and_from}
+use Rattle.accepted_folders.specs.Typing.{may_check, is_built_with}
+use Rattle.body_uses.proofs.Boxes.{box_used}
+use Rattle.body_uses.proofs.Given.{all_from, completed_uses, in_uses, may_make_those}
+use Rattle.body_uses.proofs.Uses.{Gives, GivesReceived, tree}
+use Rattle.body_uses.specs.Built.{Usable, can_box, may_make, is_built, body_boxes}
+use Rattle.body_uses.specs.Laws.{used_by}
+use Rattle.js_tree.specs.declared.items.Binding.{Binding}
+use Rattle.sj_desugar.specs.Desugar.{desugared_member, body_code, is_mutable_in, result_destination, member}
+use Rattle.sj_emit_expr.specs.Templates.{check_name}
+use Rattle.sj_emit_expr.specs.Uses.{object_binding, function_binding, class_use, static_use, setter_use, uses_of_all}
+use Rattle.sj_infos.specs.Trees.{trees}
+use Rattle.sj_names.specs.declared.method_names.MethodName.{MethodName}
+use Rattle.sj_names.specs.declared.method_names.Namespace.{Namespace}
+use Rattle.sj_names.specs.declared.method_names.Namespace.TheVariants.{Constructor, Public, Private}
+use Rattle.sj_trees.specs.Term.{Term, new_object, select, select_static, apply_statically, apply_static, binary_op}
+use Rattle.sj_trees.specs.declared.classes.MethodDef.{MethodDef}
+use Rattle.sure_receivers.specs.Sure.{is_sure, sure_locals}
+use Rattle.module_uses.specs.Laws.{BodiesUseNoMore, DivisorsFit}
+use Rattle.module_uses.specs.Used.{restricted}
+
+module _ (has : Usable) (uses : Binding → Bool) where
+  abbrev here : Usable
+  here = restricted has uses
+
+  abbrev IsUsed : Binding → Type 0
+  IsUsed b = uses b ≡ true
+
+  received_gives : (c : List ℕ) (n : Namespace) (m : MethodName) → GivesReceived IsUsed has.target has here n c m
+  received_gives c Constructor m = and_from (has.built (member c Constructor m)) (uses (function_binding (member c Constructor m)))
+  received_gives c Public m = and_from (has.received (has.target (member c Public m))) (uses (function_binding (has.target (member c Public m))))
+  received_gives c Private m = and_from (has.received (member c Private m)) (uses (function_binding (member c Private m)))
+  received_gives c n m = tt
+
+  module _ (e : Term) (fit : DivisorsFit e) where
+    gives : (t : Term) → Contains (trees e) t → Gives IsUsed has.target has here t
+    gives (apply_static p c n m ts t) i = and_from (has.linked (member c n m)) (uses (function_binding (member c n m)))
+    gives (apply_statically p d c n m ts t) i = received_gives c n m
+    gives (new_object p c m ts) i = λ h k f u. (and_from (has.built (member c Constructor m)) (uses (function_binding (member c Constructor m))) k f, and_from (has.made c) (uses (class_use c)) h u)
+    gives (select p d c f t) i = λ h. h
+    gives (select_static p c f t) i = (and_from (has.static_field c f t) (uses (static_use c f)), and_from (has.static_setter c f t) (uses (setter_use c f)))
+    gives (binary_op p o a d) i = λ h. fit p o a d i
+    gives t i = tt
+
+  -- a receiver that isn't sure is checked by the helper
+  check_used : (sure : List ℕ → Bool) (e : Term) → may_check has sure e ≡ true → is_sure sure e ≡ false → has.helper check_name ≡ true
+  check_used sure e h n = go (is_sure sure e) n h
+    where
+      go : (b : Bool) → b ≡ false → (b || has.helper check_name) ≡ true → has.helper check_name ≡ true
+      go true n h = absurd (cc)
+      go false n h = h
+
+  -- where objects that hold chars are made they can be made
+  box_there : (boxed : Bool) → may_make has boxed ≡ true → boxed ≡ true → can_box has ≡ true
+  box_there true h k = go (can_box has) h
+    where
+      go : (b : Bool) → (b || false) ≡ true → b ≡ true
+      go true h = refl
+      go false h = h
+  box_there false h k = absurd (cc)
+
+  pub built_here : (d : MethodDef) (e : Term) → is_built_with has d e ≡ true → DivisorsFit e → ((b : Binding) → Contains (used_by has.target d e) b → uses b ≡ true) → is_built_with here d e ≡ true
+  built_here d e built fit used =
+      let sure = sure_locals e in
+      let code = body_code (is_mutable_in d e) d.result e in
+      let whole = (desugared_member d e).body in
+      let within = completed_uses IsUsed has.target d.namespace code (all_from IsUsed (uses_of_all has.target whole) (λ b i. used b (in_uses has.target whole b i))) in
+      let parts = and_parts (may_make has (body_boxes d e)) (is_built has (may_check has sure) e) built in
+      let each = all_from (Gives IsUsed has.target has here) (trees e) (gives e fit) in
+      let made = may_make_those here (body_boxes d e) (λ h. and_from (can_box has) (uses (object_binding (codes "$C"))) (box_there (body_boxes d e) parts.0 h) (box_used IsUsed has.target sure (is_mutable_in d e) e [] (result_destination d.result) 1 within h)) in
+      and_from (may_make here (body_boxes d e)) (is_built here (may_check here sure) e) made (tree IsUsed has.target has here (may_check has sure) sure (λ h. h) (λ x i. and_from (has.helper x) (uses (object_binding x))) (check_used sure) (is_mutable_in d e) e [] (result_destination d.result) 1 parts.1 each within)
+
+pub no_more : BodiesUseNoMore
+no_more = built_here
