@@ -10,7 +10,8 @@ use Rattle.sj_names.specs.declared.entry_points.EntryPoint.{EntryPoint}
 use Rattle.sj_names.specs.EntryPoints.{is_public_id, is_entry, AreEntries}
 use Rattle.sj_names.specs.Grammar.{is_class_name, is_plain_name, is_name_byte}
 use Rattle.entries_file.specs.Lines.{lines, fields, is_line_feed, IsFirstLine}
-use Rattle.entries_file.specs.EntriesFile.{entry, entry_of_line, entry_of_fields, in_front, line_says, said, most_entries}
+use Rattle.entries_file.specs.EntriesFile.{entry, entry_of_line, entry_of_fields, in_front, line_says, one_or_more, said, most_bytes, most_entries, entries_of}
+use Rattle.entries_file.specs.Laws.{EntriesAreValid}
 use Rattle.entries_file.specs.Refusals.{IsRefused, IsLineRefused}
 use Rattle.entries_file.specs.declared.errors.EntriesError.{EntriesError}
 use Rattle.entries_file.proofs.Cuts.{no_cut, cut_at}
@@ -168,3 +169,19 @@ pub are_entries : (text : List (List ℕ)) (entries : List EntryPoint) → said 
 are_entries text entries h some =
     let each = are_said 1 most_entries text entries h in
     record { some = omega (arith, some); few = each.few; each = each.each }
+
+some_said : (r : Result (List EntryPoint) ℕ) (entries : List EntryPoint) → one_or_more r ≡ Ok entries → (r ≡ Ok entries) × (0 < length entries)
+some_said (Ok []) entries h = absurd cc
+some_said (Ok (e ∷ es)) entries h =
+    let same : e ∷ es ≡ entries = cc in
+    (h, subst (λ (all : List EntryPoint). 0 < length all) same (omega arith))
+some_said (Err number) entries h = absurd cc
+
+small : (b : Bool) (r : Result (List EntryPoint) ℕ) (entries : List EntryPoint) → (if b then Err 0 else r) ≡ Ok entries → r ≡ Ok entries
+small true r entries h = absurd cc
+small false r entries h = h
+
+pub valid_entries : EntriesAreValid
+valid_entries bytes entries h =
+    let some = some_said (said 1 most_entries (lines bytes)) entries (small (nat_lt most_bytes (length bytes)) (one_or_more (said 1 most_entries (lines bytes))) entries h) in
+    are_entries (lines bytes) entries some.0 some.1

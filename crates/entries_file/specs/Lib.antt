@@ -2,3 +2,4 @@ pub mod Lines
 pub mod EntriesFile
 pub mod Refusals
 pub mod Rows
+pub mod Laws

@@ -7,5 +7,5 @@ mod lines;
 mod reading;
 
 pub use errors::EntriesError;
-pub use laws::rows_hold;
+pub use laws::{entries_are_valid, rows_hold};
 pub use reading::entries_of;

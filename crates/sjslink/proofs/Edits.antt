@@ -15,6 +15,7 @@ use Rattle.sj_outside.specs.Writing.{Event, put_in, Writes, WritesFront}
 use Rattle.sj_outside.specs.declared.answers.PutFile.{PutFile}
 use Rattle.sj_outside.proofs.Laws.{Writes-none, Writes-then}
 use Rattle.folder_files.specs.Files.{AreFilesOf, HasRead}
+use Rattle.sj_split.specs.declared.plans.Style.{Style}
 use Rattle.sjslink.specs.Editing.{PutsShown, none, links, IsShownEdit, IsEditWritten, IsEditCut, nothing, front_of, EditEnds, FirstEdits, AreWritten, AreCut}
 use Rattle.sjslink.specs.Headline.{AcceptedEdit, Shows, files_put}
 use Rattle.sjslink.specs.Output.{Edited, AreEdited, IsEdited, events_of, was_accepted, put_of}
@@ -39,18 +40,18 @@ module _ {X : Type 0} where
       go (inl f) = inl f
       go (inr p) = inr (ap suc p.0, p.1)
 
-module _ (contents : Parts) (out : List ℕ) (entries : List EntryPoint) where
-  edited_more : (paths : List (List ℕ)) (edits : List Edited) (path : List ℕ) (e : Edited) → AreEdited contents out entries paths edits → IsEdited contents out entries (length paths + 1) path e → AreEdited contents out entries (paths ++ path ∷ []) (edits ++ e ∷ [])
+module _ (contents : Parts) (out : List ℕ) (entries : List EntryPoint) (style : Style) where
+  edited_more : (paths : List (List ℕ)) (edits : List Edited) (path : List ℕ) (e : Edited) → AreEdited contents out entries style paths edits → IsEdited contents out entries style (length paths + 1) path e → AreEdited contents out entries style (paths ++ path ∷ []) (edits ++ e ∷ [])
   edited_more paths edits path e are is = record {
     whole = length-append edits (e ∷ []) ∙ ap (λ n. n + 1) are.whole ∙ sym (length-append paths (path ∷ []));
     each = λ i p f at_p at_f. go i p f (got_pushed paths path i p at_p) (got_pushed edits e i f at_f);
   }
     where
-      go : (i : ℕ) (p : List ℕ) (f : Edited) → (slice_get paths i ≡ Some p) ⊎ ((i ≡ length paths) × (path ≡ p)) → (slice_get edits i ≡ Some f) ⊎ ((i ≡ length edits) × (e ≡ f)) → IsEdited contents out entries (i + 1) p f
+      go : (i : ℕ) (p : List ℕ) (f : Edited) → (slice_get paths i ≡ Some p) ⊎ ((i ≡ length paths) × (path ≡ p)) → (slice_get edits i ≡ Some f) ⊎ ((i ≡ length edits) × (e ≡ f)) → IsEdited contents out entries style (i + 1) p f
       go i p f (inl a) (inl b) = are.each i p f a b
       go i p f (inl a) (inr b) = absurd (omega (arith, slice_get_within paths i p a, b.0, are.whole))
       go i p f (inr a) (inl b) = absurd (omega (arith, slice_get_within edits i f b, a.0, are.whole))
-      go i p f (inr a) (inr b) = subst (λ n. IsEdited contents out entries (n + 1) p f) (sym a.0) (subst (λ q. IsEdited contents out entries (length paths + 1) q f) a.1 (subst (λ g. IsEdited contents out entries (length paths + 1) path g) b.1 is))
+      go i p f (inr a) (inr b) = subst (λ n. IsEdited contents out entries style (n + 1) p f) (sym a.0) (subst (λ q. IsEdited contents out entries style (length paths + 1) q f) a.1 (subst (λ g. IsEdited contents out entries style (length paths + 1) path g) b.1 is))
 
   module _ (folders : List (List ℕ)) (k : ℕ) (path : List ℕ) (at : slice_get folders k ≡ Some path) (files : List SourceFile) (are : AreFilesOf contents path files) where
     -- those of the accepted edits that have this number
@@ -72,10 +73,10 @@ module _ (contents : Parts) (out : List ℕ) (entries : List EntryPoint) where
     events_more edits e = flat_map-append events_of edits (e ∷ []) ∙ ap (λ es. flat_map events_of edits ++ es) (append-nil e.events)
 
     -- the edits of one folder more
-    abbrev more : FirstEdits contents out entries folders k → (e : Edited) → IsShownEdit out entries (k + 1) files e → FirstEdits contents out entries folders (k + 1)
+    abbrev more : FirstEdits contents out entries style folders k → (e : Edited) → IsShownEdit out entries style (k + 1) files e → FirstEdits contents out entries style folders (k + 1)
     more first e s = record {
       edits = first.edits ++ e ∷ [];
-      are_edited = subst (λ (ps : List (List ℕ)). AreEdited contents out entries ps (first.edits ++ e ∷ [])) (sym (more_taken folders k path at)) (edited_more (take k folders) first.edits path e first.are_edited one);
+      are_edited = subst (λ (ps : List (List ℕ)). AreEdited contents out entries style ps (first.edits ++ e ∷ [])) (sym (more_taken folders k path at)) (edited_more (take k folders) first.edits path e first.are_edited one);
       accepted = first.accepted ++ accepted_of s.shown;
       shown = λ edit has. either edit (Contains-append_cases first.accepted (accepted_of s.shown) edit has);
       put = ap (flat_map put_in) (events_more first.edits e) ∙ flat_map-append put_in (flat_map events_of first.edits) e.events ∙ ap (λ ps. ps ++ flat_map put_in e.events) first.put ∙ ap (λ ps. flat_map (files_put out) first.accepted ++ ps) (puts_are _ s.shown) ∙ sym (flat_map-append (files_put out) first.accepted (accepted_of s.shown));
@@ -84,8 +85,8 @@ module _ (contents : Parts) (out : List ℕ) (entries : List EntryPoint) where
         size : length (take k folders) ≡ k
         size = length-take-le k folders (let l = slice_get_within folders k path at in omega (arith, l))
 
-        one : IsEdited contents out entries (length (take k folders) + 1) path e
-        one = subst (λ n. IsEdited contents out entries (n + 1) path e) (sym size) (record { files = files; is_folder = are; is_output = s.is_output })
+        one : IsEdited contents out entries style (length (take k folders) + 1) path e
+        one = subst (λ n. IsEdited contents out entries style (n + 1) path e) (sym size) (record { files = files; is_folder = are; is_output = s.is_output })
 
         either : (edit : AcceptedEdit) → Contains first.accepted edit ⊎ Contains (accepted_of s.shown) edit → Shows contents entries folders edit
         either edit (inl has) = first.shown edit has
@@ -94,8 +95,8 @@ module _ (contents : Parts) (out : List ℕ) (entries : List EntryPoint) where
     flags_more : (edits : List Edited) (e : Edited) (all one : Bool) → all ≡ list_all was_accepted edits → one ≡ e.is_accepted → (all && one) ≡ list_all was_accepted (edits ++ e ∷ [])
     flags_more edits e all one a b = ap (λ t. t && one) a ∙ ap (λ t. list_all was_accepted edits && t) (b ∙ sym (and_true e.is_accepted)) ∙ sym (list_all-append was_accepted edits (e ∷ []))
 
-    module _ (p0 p1 p2 : Option (List PutFile)) (t0 t1 t2 : Option (List ℕ)) (all : Bool) (w : AreWritten contents out entries folders p0 p1 t0 t1 k all) where
-      written_more : (is_accepted : Bool) → IsEditWritten out entries (k + 1) files p1 p2 t1 t2 is_accepted → AreWritten contents out entries folders p0 p2 t0 t2 (k + 1) (all && is_accepted)
+    module _ (p0 p1 p2 : Option (List PutFile)) (t0 t1 t2 : Option (List ℕ)) (all : Bool) (w : AreWritten contents out entries style folders p0 p1 t0 t1 k all) where
+      written_more : (is_accepted : Bool) → IsEditWritten out entries style (k + 1) files p1 p2 t1 t2 is_accepted → AreWritten contents out entries style folders p0 p2 t0 t2 (k + 1) (all && is_accepted)
       written_more is_accepted v = record {
         first = more w.first v.edited v.is_edit;
         all = flags v.edited v.accepted;
@@ -105,13 +106,13 @@ module _ (contents : Parts) (out : List ℕ) (entries : List EntryPoint) where
           flags : (e : Edited) → is_accepted ≡ e.is_accepted → (all && is_accepted) ≡ list_all was_accepted (w.first.edits ++ e ∷ [])
           flags e is = let h = w.all in flags_more w.first.edits e all is_accepted h is
 
-      cut_more : IsEditCut out entries (k + 1) files p1 p2 t1 t2 → AreCut contents out entries folders p0 p2 t0 t2
+      cut_more : IsEditCut out entries style (k + 1) files p1 p2 t1 t2 → AreCut contents out entries style folders p0 p2 t0 t2
       cut_more (nothing v) = record { n = k; first = w.first; front = whole_is_front p0 p2 t0 t2 (flat_map events_of w.first.edits) (subst (λ (es : List Event). Writes p0 p2 t0 t2 es) (append-nil (flat_map events_of w.first.edits)) (Writes-then p0 p1 p2 t0 t1 t2 (flat_map events_of w.first.edits) [] w.written v)) }
       cut_more (front_of e s f) = record { n = k + 1; first = more w.first e s; front = subst (λ (es : List Event). WritesFront p0 p2 t0 t2 es) (sym (events_more w.first.edits e)) (then_front p0 p1 p2 t0 t1 t2 (flat_map events_of w.first.edits) e.events w.written f) }
 
 -- before the first folder nothing is written
-pub none_written : (contents : Parts) (out : List ℕ) (entries : List EntryPoint) (folders : List (List ℕ)) (puts : Option (List PutFile)) (text : Option (List ℕ)) → AreWritten contents out entries folders puts puts text text 0 true
-none_written contents out entries folders puts text = record {
+pub none_written : (contents : Parts) (out : List ℕ) (entries : List EntryPoint) (style : Style) (folders : List (List ℕ)) (puts : Option (List PutFile)) (text : Option (List ℕ)) → AreWritten contents out entries style folders puts puts text text 0 true
+none_written contents out entries style folders puts text = record {
   first = record { edits = []; are_edited = record { whole = refl; each = λ i path e at_path at_edit. cc }; accepted = []; shown = λ edit has. absurd (omega (arith, has.1)); put = refl };
   all = refl;
   written = Writes-none puts text;
@@ -124,27 +125,27 @@ folder_at_place xs folders i x y same within is also = subst (λ fs. slice_get f
 pub among_folders : {X : Type 0} (folders : List X) (i : ℕ) (x : X) → slice_get folders i ≡ Some x → Contains folders x
 among_folders folders i x at = (i, slice_get_within folders i x at, get_or_from_slice_get folders i x x at)
 
-module _ (contents : Parts) (out : List ℕ) (entries : List EntryPoint) (folders : List (List ℕ)) (k : ℕ) (path : List ℕ) (at : slice_get folders k ≡ Some path) (read : List SourceFile) (has : HasRead contents path read) (there : List ℕ) (same_out : there ≡ out) (others : List EntryPoint) (same_entries : others ≡ entries) (p0 p1 p2 : Option (List PutFile)) (t0 t1 t2 : Option (List ℕ)) (all : Bool) (w : AreWritten contents out entries folders p0 p1 t0 t1 k all) where
-  of_folder : (e : Edited) → IsShownEdit there others (k + 1) read e → IsShownEdit out entries (k + 1) has.files e
-  of_folder e s = edit_of_read entries has.files read has.is_read out (k + 1) e (subst (λ (o : List ℕ). IsShownEdit o entries (k + 1) read e) same_out (subst (λ (es : List EntryPoint). IsShownEdit there es (k + 1) read e) same_entries s))
+module _ (contents : Parts) (out : List ℕ) (entries : List EntryPoint) (style : Style) (folders : List (List ℕ)) (k : ℕ) (path : List ℕ) (at : slice_get folders k ≡ Some path) (read : List SourceFile) (has : HasRead contents path read) (there : List ℕ) (same_out : there ≡ out) (others : List EntryPoint) (same_entries : others ≡ entries) (way : Style) (same_style : way ≡ style) (p0 p1 p2 : Option (List PutFile)) (t0 t1 t2 : Option (List ℕ)) (all : Bool) (w : AreWritten contents out entries style folders p0 p1 t0 t1 k all) where
+  of_folder : (e : Edited) → IsShownEdit there others way (k + 1) read e → IsShownEdit out entries style (k + 1) has.files e
+  of_folder e s = edit_of_read entries has.files read has.is_read out style (k + 1) e (subst (λ (o : List ℕ). IsShownEdit o entries style (k + 1) read e) same_out (subst (λ (es : List EntryPoint). IsShownEdit there es style (k + 1) read e) same_entries (subst (λ (y : Style). IsShownEdit there others y (k + 1) read e) same_style s)))
 
   -- what is written for one folder more, by what is read of it
-  pub folder_written : (is_accepted both : Bool) → (all && is_accepted) ≡ both → IsEditWritten there others (k + 1) read p1 p2 t1 t2 is_accepted → AreWritten contents out entries folders p0 p2 t0 t2 (k + 1) both
-  folder_written is_accepted both flag v = subst (λ (b : Bool). AreWritten contents out entries folders p0 p2 t0 t2 (k + 1) b) flag (written_more contents out entries folders k path at has.files has.are_files p0 p1 p2 t0 t1 t2 all w is_accepted (record { edited = v.edited; is_edit = of_folder v.edited v.is_edit; accepted = v.accepted; written = v.written }))
+  pub folder_written : (is_accepted both : Bool) → (all && is_accepted) ≡ both → IsEditWritten there others way (k + 1) read p1 p2 t1 t2 is_accepted → AreWritten contents out entries style folders p0 p2 t0 t2 (k + 1) both
+  folder_written is_accepted both flag v = subst (λ (b : Bool). AreWritten contents out entries style folders p0 p2 t0 t2 (k + 1) b) flag (written_more contents out entries style folders k path at has.files has.are_files p0 p1 p2 t0 t1 t2 all w is_accepted (record { edited = v.edited; is_edit = of_folder v.edited v.is_edit; accepted = v.accepted; written = v.written }))
 
-  cut_of_folder : IsEditCut there others (k + 1) read p1 p2 t1 t2 → IsEditCut out entries (k + 1) has.files p1 p2 t1 t2
+  cut_of_folder : IsEditCut there others way (k + 1) read p1 p2 t1 t2 → IsEditCut out entries style (k + 1) has.files p1 p2 t1 t2
   cut_of_folder (nothing v) = nothing v
   cut_of_folder (front_of e s f) = front_of e (of_folder e s) f
 
-  folder_more : IsEditCut there others (k + 1) read p1 p2 t1 t2 → AreCut contents out entries folders p0 p2 t0 t2
-  folder_more v = cut_more contents out entries folders k path at has.files has.are_files p0 p1 p2 t0 t1 t2 all w (cut_of_folder v)
+  folder_more : IsEditCut there others way (k + 1) read p1 p2 t1 t2 → AreCut contents out entries style folders p0 p2 t0 t2
+  folder_more v = cut_more contents out entries style folders k path at has.files has.are_files p0 p1 p2 t0 t1 t2 all w (cut_of_folder v)
 
   -- the same where it is cut off
-  pub folder_cut : (fault : Fault) → EditEnds there others (k + 1) read p1 p2 t1 t2 (Err fault) → AreCut contents out entries folders p0 p2 t0 t2
+  pub folder_cut : (fault : Fault) → EditEnds there others way (k + 1) read p1 p2 t1 t2 (Err fault) → AreCut contents out entries style folders p0 p2 t0 t2
   folder_cut Read v = absurd v
   folder_cut Write v = folder_more v
   folder_cut NoMemory v = folder_more v
 
 -- where nothing more is written
-pub written_cut : (contents : Parts) (out : List ℕ) (entries : List EntryPoint) (folders : List (List ℕ)) (p0 p1 : Option (List PutFile)) (t0 t1 : Option (List ℕ)) (k : ℕ) (all : Bool) → AreWritten contents out entries folders p0 p1 t0 t1 k all → AreCut contents out entries folders p0 p1 t0 t1
-written_cut contents out entries folders p0 p1 t0 t1 k all w = record { n = k; first = w.first; front = whole_is_front p0 p1 t0 t1 (flat_map events_of w.first.edits) w.written }
+pub written_cut : (contents : Parts) (out : List ℕ) (entries : List EntryPoint) (style : Style) (folders : List (List ℕ)) (p0 p1 : Option (List PutFile)) (t0 t1 : Option (List ℕ)) (k : ℕ) (all : Bool) → AreWritten contents out entries style folders p0 p1 t0 t1 k all → AreCut contents out entries style folders p0 p1 t0 t1
+written_cut contents out entries style folders p0 p1 t0 t1 k all w = record { n = k; first = w.first; front = whole_is_front p0 p1 t0 t1 (flat_map events_of w.first.edits) w.written }

@@ -13,7 +13,7 @@ use Rattle.sj_session.specs.Sessions.{Standing}
 use Rattle.sj_words.specs.declared.commands.Link.{Link}
 use Rattle.sjslink.specs.Editing.{AreWritten, AreCut, FirstEdits, RunEnds}
 use Rattle.sjslink.specs.Headline.{HasShown, ShowsFront, nothing as nothing_shown, front_of as front_shown, files_put}
-use Rattle.sjslink.specs.Input.{IsLinkCommand, HasEntries}
+use Rattle.sjslink.specs.Input.{IsLinkCommand, HasEntries, planned_style}
 use Rattle.sjslink.specs.Output.{IsOutput, edited, AreEdited, events_of, status_of, AtEnd, Ends, all_written, faulted, out_of_memory, IsWhole, nothing, front_of, of_first}
 use Rattle.sjslink.specs.declared.answers.Status.{Status}
 use Rattle.sjslink.specs.declared.answers.Status.TheVariants.{Done, SomeRefused, Usage, ReadFault, WriteFault, NoMemory, BadEntries}
@@ -53,16 +53,16 @@ module _ (words : List (List ℕ)) (contents : Parts) (p0 p1 : Option (List PutF
   nothing_ends status whole none w = record { whole = whole; front = nothing w; agrees = λ e. absurd (none e); shown = nothing_shown w.puts }
 
   module _ (link : Link) (is_command : IsLinkCommand words link) (entries : List EntryPoint) (has : HasEntries contents link.entries (Ok entries)) where
-    has_shown : {n : ℕ} (first : FirstEdits contents link.out entries link.folders n) → HasShown words contents link.out first.accepted
+    has_shown : {n : ℕ} (first : FirstEdits contents link.out entries (planned_style link.style) link.folders n) → HasShown words contents link.out first.accepted
     has_shown first = record { link = link; is_command = is_command; out_is = refl; entries = entries; has_entries = has; shown = first.shown }
 
-    front_ends : (cut : AreCut contents link.out entries link.folders p0 p1 t0 t1) → ShowsFront words contents p0 p1
+    front_ends : (cut : AreCut contents link.out entries (planned_style link.style) link.folders p0 p1 t0 t1) → ShowsFront words contents p0 p1
     front_ends cut =
         let f = cut.front in
         front_shown link.out cut.first.accepted (flat_map put_in f.front) (flat_map put_in f.rest) (has_shown cut.first) (sym (flat_map-append put_in f.front f.rest) ∙ ap (flat_map put_in) f.parts ∙ cut.first.put) f.written.puts
 
     -- a run that is cut off while folders are edited
-    pub cut_ends : (status : Status) → AtEnd status (IsWhole words contents p0 p1 t0 t1 status) → IsNoEdit status → AreCut contents link.out entries link.folders p0 p1 t0 t1 → RunEnds words contents p0 p1 t0 t1 status
+    pub cut_ends : (status : Status) → AtEnd status (IsWhole words contents p0 p1 t0 t1 status) → IsNoEdit status → AreCut contents link.out entries (planned_style link.style) link.folders p0 p1 t0 t1 → RunEnds words contents p0 p1 t0 t1 status
     cut_ends status whole none cut = record {
       whole = whole;
       front = of_first link entries cut.n cut.first.edits is_command has cut.first.are_edited cut.front;
@@ -70,11 +70,11 @@ module _ (words : List (List ℕ)) (contents : Parts) (p0 p1 : Option (List PutF
       shown = front_ends cut;
     }
 
-    whole_output : (all : Bool) (w : AreWritten contents link.out entries link.folders p0 p1 t0 t1 (length link.folders) all) → IsOutput words contents (record { status = status_of w.first.edits; events = flat_map events_of w.first.edits })
-    whole_output all w = edited link entries w.first.edits is_command has (subst (λ (ps : List (List ℕ)). AreEdited contents link.out entries ps w.first.edits) (take_all (length link.folders) link.folders (omega arith)) w.first.are_edited)
+    whole_output : (all : Bool) (w : AreWritten contents link.out entries (planned_style link.style) link.folders p0 p1 t0 t1 (length link.folders) all) → IsOutput words contents (record { status = status_of w.first.edits; events = flat_map events_of w.first.edits })
+    whole_output all w = edited link entries w.first.edits is_command has (subst (λ (ps : List (List ℕ)). AreEdited contents link.out entries (planned_style link.style) ps w.first.edits) (take_all (length link.folders) link.folders (omega arith)) w.first.are_edited)
 
     -- a run that edits all folders
-    pub all_end : (all : Bool) (status : Status) → status ≡ (if all then Done else SomeRefused) → ((P : Type 0) → P → AtEnd status P) → AreWritten contents link.out entries link.folders p0 p1 t0 t1 (length link.folders) all → RunEnds words contents p0 p1 t0 t1 status
+    pub all_end : (all : Bool) (status : Status) → status ≡ (if all then Done else SomeRefused) → ((P : Type 0) → P → AtEnd status P) → AreWritten contents link.out entries (planned_style link.style) link.folders p0 p1 t0 t1 (length link.folders) all → RunEnds words contents p0 p1 t0 t1 status
     all_end all status is at_end w = record {
       whole = at_end _ (record { output = record { status = status_of w.first.edits; events = flat_map events_of w.first.edits }; is_output = whole_output all w; is_status = is ∙ ap (λ t. if t then Done else SomeRefused) w.all; written = w.written });
       front = of_first link entries (length link.folders) w.first.edits is_command has w.first.are_edited (whole_is_front p0 p1 t0 t1 (flat_map events_of w.first.edits) w.written);

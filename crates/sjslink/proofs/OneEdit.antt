@@ -9,21 +9,18 @@ use Rattle.sj_names.specs.declared.folders.SourceFile.{SourceFile}
 use Rattle.sj_outside.specs.Writing.{Event, line, WritesFront}
 use Rattle.sj_outside.specs.declared.answers.PutFile.{PutFile}
 use Rattle.sj_session.specs.Verdicts.{accepted, refused}
-use Rattle.sj_session.specs.Edits.{HaveOneModule, IsEditVerdict, built, IsLinkOf, IsWork}
+use Rattle.sj_session.specs.Edits.{IsEditVerdict, IsLinkOf, IsWork}
 use Rattle.sj_session.specs.Modules.{as_file}
 use Rattle.sj_session.specs.ModuleFile.{ModuleFile}
 use Rattle.sj_session.specs.Sessions.{Standing, IsTaken, ShowTheSame, work_told}
 use Rattle.sj_session.specs.declared.answers.Report.{Report}
+use Rattle.sj_split.specs.declared.plans.Style.{Style}
 use Rattle.sjslink.specs.Editing.{WrittenCut, PutsShown, none, links, IsShownEdit, front_of, EditEnds}
 use Rattle.sjslink.specs.Headline.{ShowFolder}
 use Rattle.sjslink.specs.Output.{Edited, IsEditOutput, linked, refuses, accepted_line, refused_line, puts_of}
 use Rattle.sjslink.specs.declared.editing.Fault.{Fault}
 use Rattle.sjslink.specs.declared.editing.Fault.TheVariants.{Read, Write, NoMemory}
 use Rattle.sjslink.proofs.Puts.{puts_before_line}
-
--- a folder is accepted only where its entries are of one module
-pub have_one : (entries : List EntryPoint) (files : List SourceFile) → IsEditVerdict entries files accepted → HaveOneModule entries
-have_one entries files (built w a one all) = one
 
 module _ (out : List ℕ) (number : ℕ) (old new : Standing) (files : List SourceFile) (modules : List ModuleFile) (text : List ℕ) where
   -- what is written for a folder that the session takes
@@ -33,7 +30,7 @@ module _ (out : List ℕ) (number : ℕ) (old new : Standing) (files : List Sour
   abbrev pub taken_edit : Edited
   taken_edit = record { is_accepted = true; events = taken_events }
 
-  pub taken : (folder : Folder) (report : Report) → folder.files ≡ files → modules ≡ new.files → text ≡ accepted_line number report.modules (work_told report) → IsTaken old folder report new → ShowTheSame old.entries folder new.files → IsShownEdit out old.entries number files taken_edit
+  pub taken : (folder : Folder) (report : Report) → folder.files ≡ files → modules ≡ new.files → text ≡ accepted_line number report.modules (work_told report) → IsTaken old folder report new → ShowTheSame old.entries folder new.files → IsShownEdit out old.entries old.options.style number files taken_edit
   taken folder report files_are modules_are text_is is show = record { is_output = output; shown = subst (PutsShown out old.entries number files) (sym (puts_before_line out number (map as_file modules) text)) (links (map as_file modules) shows) }
     where
       same : is.links ≡ modules
@@ -42,19 +39,14 @@ module _ (out : List ℕ) (number : ℕ) (old new : Standing) (files : List Sour
       verdict : IsEditVerdict old.entries files accepted
       verdict = subst (λ (fs : List SourceFile). IsEditVerdict old.entries fs accepted) files_are is.verdict
 
-      link : IsLinkOf old.entries files (map as_file modules)
-      link = subst (λ (fs : List SourceFile). IsLinkOf old.entries fs (map as_file modules)) files_are (subst (λ (ms : List ModuleFile). IsLinkOf old.entries folder.files (map as_file ms)) same is.linked)
-
-      one : HaveOneModule old.entries
-      one = have_one old.entries files verdict
+      link : IsLinkOf old.entries files old.options.style (map as_file modules)
+      link = subst (λ (fs : List SourceFile). IsLinkOf old.entries fs old.options.style (map as_file modules)) files_are (subst (λ (ms : List ModuleFile). IsLinkOf old.entries folder.files old.options.style (map as_file ms)) same is.linked)
 
       shows : ShowFolder old.entries files (map as_file modules)
       shows = subst (λ (fs : List SourceFile). ShowFolder old.entries fs (map as_file modules)) files_are (record {
         world = is.linked.world;
         is_accepted = is.linked.is_accepted;
-        id = one.0;
-        one = one.1;
-        agrees = subst (λ (ms : List ModuleFile). Agrees is.linked.world old.entries (map as_file ms) one.0) (sym modules_are) (show is.linked.world one.0 is.linked.is_accepted one.1);
+        agrees = λ id named. subst (λ (ms : List ModuleFile). Agrees is.linked.world old.entries (map as_file ms) id) (sym modules_are) (show is.linked.world id is.linked.is_accepted named);
       })
 
       work : IsWork old.entries files (work_told report)
@@ -66,22 +58,22 @@ module _ (out : List ℕ) (number : ℕ) (old new : Standing) (files : List Sour
       text_of : accepted_line number (length (map as_file modules)) (work_told report) ≡ text
       text_of = ap (λ n. accepted_line number n (work_told report)) (sym count) ∙ sym text_is
 
-      output : IsEditOutput out old.entries number files taken_edit
-      output = subst (λ (t : List ℕ). IsEditOutput out old.entries number files (record { is_accepted = true; events = puts_of out number (map as_file modules) ++ line t ∷ [] })) text_of (linked (map as_file modules) (work_told report) verdict link work)
+      output : IsEditOutput out old.entries old.options.style number files taken_edit
+      output = subst (λ (t : List ℕ). IsEditOutput out old.entries old.options.style number files (record { is_accepted = true; events = puts_of out number (map as_file modules) ++ line t ∷ [] })) text_of (linked (map as_file modules) (work_told report) verdict link work)
 
-module _ (out : List ℕ) (entries : List EntryPoint) (number : ℕ) (files : List SourceFile) where
+module _ (out : List ℕ) (entries : List EntryPoint) (style : Style) (number : ℕ) (files : List SourceFile) where
   -- what is written for a folder that the session refuses
   abbrev pub refused_edit : List ℕ → Edited
   refused_edit text = record { is_accepted = false; events = line text ∷ [] }
 
-  pub refuses_edit : (others : List SourceFile) (code : ℕ) (place shown text : List ℕ) → others ≡ files → shown ≡ place → text ≡ refused_line number code shown → IsEditVerdict entries others (refused code place) → IsShownEdit out entries number files (refused_edit text)
+  pub refuses_edit : (others : List SourceFile) (code : ℕ) (place shown text : List ℕ) → others ≡ files → shown ≡ place → text ≡ refused_line number code shown → IsEditVerdict entries others (refused code place) → IsShownEdit out entries style number files (refused_edit text)
   refuses_edit others code place shown text files_are place_is text_is verdict =
       let of_files : IsEditVerdict entries files (refused code place) = subst (λ (fs : List SourceFile). IsEditVerdict entries fs (refused code place)) files_are verdict in
       let same : refused_line number code place ≡ text = ap (refused_line number code) (sym place_is) ∙ sym text_is in
-      record { is_output = subst (λ (t : List ℕ). IsEditOutput out entries number files (refused_edit t)) same (refuses code place of_files); shown = none }
+      record { is_output = subst (λ (t : List ℕ). IsEditOutput out entries style number files (refused_edit t)) same (refuses code place of_files); shown = none }
 
   -- an edit of which the writing was cut off
-  pub edit_cut : (p0 p1 : Option (List PutFile)) (t0 t1 : Option (List ℕ)) (e : Edited) (cause : Type 0) (fault : Fault) → IsShownEdit out entries number files e → WrittenCut (WritesFront p0 p1 t0 t1 e.events) cause fault → EditEnds out entries number files p0 p1 t0 t1 (Err fault)
+  pub edit_cut : (p0 p1 : Option (List PutFile)) (t0 t1 : Option (List ℕ)) (e : Edited) (cause : Type 0) (fault : Fault) → IsShownEdit out entries style number files e → WrittenCut (WritesFront p0 p1 t0 t1 e.events) cause fault → EditEnds out entries style number files p0 p1 t0 t1 (Err fault)
   edit_cut p0 p1 t0 t1 e cause Read s w = w
   edit_cut p0 p1 t0 t1 e cause Write s w = front_of e s w.0
   edit_cut p0 p1 t0 t1 e cause NoMemory s w = front_of e s w

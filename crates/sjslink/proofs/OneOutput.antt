@@ -14,11 +14,13 @@ use Rattle.sj_session.proofs.Firsts.{same_lists, standing}
 use Rattle.sj_session.specs.Verdicts.{Verdict, accepted, refused}
 use Rattle.sj_session.proofs.Edits.{one_edit, one_folder_link, one_work}
 use Rattle.entries_file.specs.EntriesFile.{entries_of}
+use Rattle.entries_file.proofs.Steps.{valid_entries}
+use Rattle.sj_names.specs.EntryPoints.{AreEntries}
+use Rattle.sj_split.specs.declared.plans.Style.{Style}
 use Rattle.sjslink.specs.Headline.{HasOneOutput}
-use Rattle.sjslink.specs.Input.{IsLinkCommand, HasEntries}
+use Rattle.sjslink.specs.Input.{IsLinkCommand, HasEntries, planned_style}
 use Rattle.sjslink.specs.Output.{Output, no_command, bad_entries, edited, Edited, AreEdited, IsEdited, IsEditOutput, linked, refuses, accepted_line, refused_line, puts_of, events_of, status_of, entries_line}
 use Rattle.sjslink.specs.declared.answers.Status.TheVariants.{BadEntries}
-use Rattle.sjslink.proofs.OneEdit.{have_one}
 use Rattle.sjslink.proofs.OneFolder.{one_folder}
 
 none_or_some : {X : Type 0} {o : Option X} {x : X} → o ≡ None → o ≡ Some x → ⊥
@@ -43,7 +45,7 @@ one_said contents path said other a b = sym a.says ∙ ap entries_of (inner a.by
 not_both : {code : ℕ} {place : List ℕ} → accepted ≡ refused code place → ⊥
 not_both e = cc
 
-module _ (out : List ℕ) (entries : List EntryPoint) (number : ℕ) (files : List SourceFile) where
+module _ (out : List ℕ) (entries : List EntryPoint) (valid : AreEntries entries) (style : Style) (number : ℕ) (files : List SourceFile) where
   abbrev linked_to : List File → Meter → Edited
   linked_to links work = record { is_accepted = true; events = puts_of out number links ++ line (accepted_line number (length links) work) ∷ [] }
 
@@ -52,23 +54,23 @@ module _ (out : List ℕ) (entries : List EntryPoint) (number : ℕ) (files : Li
   refused_by (refused code place) = record { is_accepted = false; events = line (refused_line number code place) ∷ [] }
 
   -- an edit has one output
-  one_edit_output : (e f : Edited) → IsEditOutput out entries number files e → IsEditOutput out entries number files f → e ≡ f
+  one_edit_output : (e f : Edited) → IsEditOutput out entries style number files e → IsEditOutput out entries style number files f → e ≡ f
   one_edit_output _ _ (linked links work v l w) (linked others more u m x) =
-      let same_links : links ≡ others = one_folder_link entries files links others (have_one entries files v) l m in
+      let same_links : links ≡ others = one_folder_link entries files style links others valid l m in
       let same_work : work ≡ more = one_work entries files work more w x in
       λ i. linked_to (same_links i) (same_work i)
   one_edit_output _ _ (linked links work v l w) (refuses code place u) = absurd (not_both (one_edit entries files accepted (refused code place) v u))
   one_edit_output _ _ (refuses code place v) (linked links work u l w) = absurd (not_both (one_edit entries files accepted (refused code place) u v))
   one_edit_output _ _ (refuses code place v) (refuses other at u) = ap refused_by (one_edit entries files (refused code place) (refused other at) v u)
 
-module _ (contents : Parts) (well : is_well contents ≡ true) (out : List ℕ) (entries : List EntryPoint) where
-  one_edited : (number : ℕ) (path : List ℕ) (e f : Edited) → IsEdited contents out entries number path e → IsEdited contents out entries number path f → e ≡ f
+module _ (contents : Parts) (well : is_well contents ≡ true) (out : List ℕ) (entries : List EntryPoint) (valid : AreEntries entries) (style : Style) where
+  one_edited : (number : ℕ) (path : List ℕ) (e f : Edited) → IsEdited contents out entries style number path e → IsEdited contents out entries style number path f → e ≡ f
   one_edited number path e f a b =
       let same : b.files ≡ a.files = one_folder contents path b.files a.files well b.is_folder a.is_folder in
-      one_edit_output out entries number a.files e f a.is_output (subst (λ (fs : List SourceFile). IsEditOutput out entries number fs f) same b.is_output)
+      one_edit_output out entries valid style number a.files e f a.is_output (subst (λ (fs : List SourceFile). IsEditOutput out entries style number fs f) same b.is_output)
 
   -- and so have the edits of folders
-  one_list_of_edits : (paths : List (List ℕ)) (edits others : List Edited) → AreEdited contents out entries paths edits → AreEdited contents out entries paths others → edits ≡ others
+  one_list_of_edits : (paths : List (List ℕ)) (edits others : List Edited) → AreEdited contents out entries style paths edits → AreEdited contents out entries style paths others → edits ≡ others
   one_list_of_edits paths edits others a b = same_lists edits others (a.whole ∙ sym b.whole) (λ i e f at_e at_f. (let path = standing paths edits i e (sym a.whole) at_e in one_edited (i + 1) path.item e f (a.each i path.item e path.at at_e) (b.each i path.item f path.at at_f)))
 
 abbrev edits_output : List Edited → Output
@@ -104,6 +106,6 @@ has_one_output words c _ _ well (edited other entries edits also has_too are) (b
 has_one_output words c _ _ well (edited link entries edits is has are) (edited other more others also has_too are_too) =
     let same : other ≡ link = same_link words other link also is in
     let said : Ok more ≡ Ok entries = one_said c link.entries (Ok more) (Ok entries) (subst (λ (l : Link). HasEntries c l.entries (Ok more)) same has_too) has in
-    let of_link : AreEdited c link.out more link.folders others = subst (λ (l : Link). AreEdited c l.out more l.folders others) same are_too in
-    let of_entries : AreEdited c link.out entries link.folders others = subst (λ (es : List EntryPoint). AreEdited c link.out es link.folders others) (ap entries_in said) of_link in
-    ap edits_output (one_list_of_edits c well link.out entries link.folders edits others are of_entries)
+    let of_link : AreEdited c link.out more (planned_style link.style) link.folders others = subst (λ (l : Link). AreEdited c l.out more (planned_style l.style) l.folders others) same are_too in
+    let of_entries : AreEdited c link.out entries (planned_style link.style) link.folders others = subst (λ (es : List EntryPoint). AreEdited c link.out es (planned_style link.style) link.folders others) (ap entries_in said) of_link in
+    ap edits_output (one_list_of_edits c well link.out entries (valid_entries has.bytes entries has.says) (planned_style link.style) link.folders edits others are of_entries)

@@ -7,8 +7,9 @@ use Rattle.sj_world.specs.Known.{Classes}
 use Rattle.folder_files.specs.Files.{IsReadOf}
 use Rattle.sj_session.specs.Verdicts.{Verdict, accepted, refused}
 use Rattle.sj_session.specs.Accepted.{IsAccepted}
-use Rattle.sj_session.specs.Edits.{IsEditVerdict, by_folder, several, unbuilt, built, IsLinkOf, IsWork}
+use Rattle.sj_session.specs.Edits.{IsEditVerdict, by_folder, unbuilt, built, IsLinkOf, IsWork}
 use Rattle.read_verdicts.proofs.Read.{same_verdict, whole_read}
+use Rattle.sj_split.specs.declared.plans.Style.{Style}
 use Rattle.sjslink.specs.Editing.{PutsShown, none, links, IsShownEdit}
 use Rattle.sjslink.specs.Headline.{ShowFolder}
 use Rattle.sjslink.specs.Output.{Edited, IsEditOutput, linked, refuses}
@@ -21,13 +22,12 @@ module _ (entries : List EntryPoint) (files read : List SourceFile) (is : IsRead
   -- the verdict on an edit
   verdict_of_read : (v : Verdict) → IsEditVerdict entries read v → IsEditVerdict entries files v
   verdict_of_read _ (by_folder code place h) = by_folder code place ((same_verdict entries files read (refused code place) is).0 h)
-  verdict_of_read _ (several h several_modules) = several ((same_verdict entries files read accepted is).0 h) several_modules
-  verdict_of_read _ (unbuilt w spelled a one least) = unbuilt w spelled (accepted_whole (λ fs. IsAccepted entries fs w) w a a) one least
-  verdict_of_read _ (built w a one all) = built w (accepted_whole (λ fs. IsAccepted entries fs w) w a a) one all
+  verdict_of_read _ (unbuilt w spelled a least) = unbuilt w spelled (accepted_whole (λ fs. IsAccepted entries fs w) w a a) least
+  verdict_of_read _ (built w a all) = built w (accepted_whole (λ fs. IsAccepted entries fs w) w a a) all
 
-  module _ (out : List ℕ) (number : ℕ) where
-    output_of_read : (e : Edited) → IsEditOutput out entries number read e → IsEditOutput out entries number files e
-    output_of_read _ (linked fs work v l k) = linked fs work (verdict_of_read accepted v) (accepted_whole (λ all. IsLinkOf entries all fs) l.world l.is_accepted l) (accepted_whole (λ all. IsWork entries all work) l.world l.is_accepted k)
+  module _ (out : List ℕ) (style : Style) (number : ℕ) where
+    output_of_read : (e : Edited) → IsEditOutput out entries style number read e → IsEditOutput out entries style number files e
+    output_of_read _ (linked fs work v l k) = linked fs work (verdict_of_read accepted v) (accepted_whole (λ all. IsLinkOf entries all style fs) l.world l.is_accepted l) (accepted_whole (λ all. IsWork entries all work) l.world l.is_accepted k)
     output_of_read _ (refuses code place v) = refuses code place (verdict_of_read (refused code place) v)
 
     puts_of_read : (puts : List PutFile) → PutsShown out entries number read puts → PutsShown out entries number files puts
@@ -35,5 +35,5 @@ module _ (entries : List EntryPoint) (files read : List SourceFile) (is : IsRead
     puts_of_read _ (links fs show) = links fs (accepted_whole (λ all. ShowFolder entries all fs) show.world show.is_accepted show)
 
     -- what is written for it
-    pub edit_of_read : (e : Edited) → IsShownEdit out entries number read e → IsShownEdit out entries number files e
+    pub edit_of_read : (e : Edited) → IsShownEdit out entries style number read e → IsShownEdit out entries style number files e
     edit_of_read e s = record { is_output = output_of_read e s.is_output; shown = puts_of_read _ s.shown }

@@ -8,6 +8,7 @@ use Rattle.sj_outside.specs.Contents.{Parts, folder_at}
 use Rattle.sj_outside.specs.Faults.{Rose}
 use Rattle.sj_outside.specs.Writing.{put_in, Writes, WritesFront}
 use Rattle.sj_outside.specs.declared.answers.PutFile.{PutFile}
+use Rattle.sj_split.specs.declared.plans.Style.{Style}
 use Rattle.sjslink.specs.Output.{Edited, IsEditOutput, AreEdited, events_of, was_accepted, put_of, AtEnd, IsWhole, IsFront}
 use Rattle.sjslink.specs.Headline.{AcceptedEdit, ShowFolder, Shows, files_put, ShowsTheSame, ShowsFront}
 use Rattle.sjslink.specs.declared.answers.Status.{Status}
@@ -45,10 +46,11 @@ module _ (out : List ℕ) (entries : List EntryPoint) (number : ℕ) (files : Li
     none : PutsShown []
     links : (links : List File) → ShowFolder entries files links → PutsShown (map (put_of out number) links)
 
+module _ (out : List ℕ) (entries : List EntryPoint) (style : Style) (number : ℕ) (files : List SourceFile) where
   -- what is written for the edit of a folder of these files
   pub record IsShownEdit (edited : Edited) : Type 0 where
-    pub is_output : IsEditOutput out entries number files edited
-    pub shown : PutsShown (flat_map put_in edited.events)
+    pub is_output : IsEditOutput out entries style number files edited
+    pub shown : PutsShown out entries number files (flat_map put_in edited.events)
 
   module _ (puts_old puts_new : Option (List PutFile)) (text_old text_new : Option (List ℕ)) where
     -- it was written, and the folder was accepted or not
@@ -74,11 +76,11 @@ module _ (out : List ℕ) (entries : List EntryPoint) (number : ℕ) (files : Li
 abbrev pub AreHeld : Parts → List (List ℕ) → Type 0
 AreHeld contents folders = (path : List ℕ) → Contains folders path → IsTrue (is_some (folder_at contents path))
 
-module _ (contents : Parts) (out : List ℕ) (entries : List EntryPoint) (folders : List (List ℕ)) where
+module _ (contents : Parts) (out : List ℕ) (entries : List EntryPoint) (style : Style) (folders : List (List ℕ)) where
   -- the edits of the first folders, and those of them that were accepted
   pub record FirstEdits (n : ℕ) : Type 0 where
     pub edits : List Edited
-    pub are_edited : AreEdited contents out entries (take n folders) edits
+    pub are_edited : AreEdited contents out entries style (take n folders) edits
     pub accepted : List AcceptedEdit
     pub shown : (edit : AcceptedEdit) → Contains accepted edit → Shows contents entries folders edit
     pub put : flat_map put_in (flat_map events_of edits) ≡ flat_map (files_put out) accepted

@@ -9,11 +9,12 @@ use Rattle.sj_names.specs.declared.folders.SourceFile.{SourceFile}
 use Rattle.sj_outside.specs.Contents.{Parts, is_well}
 use Rattle.sj_outside.specs.Writing.{Appends}
 use Rattle.sj_outside.specs.declared.answers.PutFile.{PutFile}
+use Rattle.sj_split.specs.Modules.{module_of}
+use Rattle.sj_split.specs.Walks.{Id}
 use Rattle.sj_words.specs.declared.commands.Link.{Link}
 use Rattle.sj_world.specs.Known.{Classes}
 use Rattle.folder_files.specs.Files.{AreFilesOf}
 use Rattle.sj_session.specs.Accepted.{IsAccepted}
-use Rattle.sj_session.specs.Link.{AreOfOne}
 use Rattle.sjslink.specs.Input.{IsLinkCommand, HasEntries}
 use Rattle.sjslink.specs.Output.{Output, IsOutput, put_of}
 
@@ -23,13 +24,11 @@ pub record AcceptedEdit : Type 0 where
   pub path : List ℕ
   pub links : List File
 
--- files show of the public module what the classes of an accepted folder show
+-- files show of each public module what the classes of an accepted folder show
 pub record ShowFolder (entries : List EntryPoint) (files : List SourceFile) (links : List File) : Type 0 where
   pub world : Classes
   pub is_accepted : IsAccepted entries files world
-  pub id : List ℕ
-  pub one : AreOfOne entries id
-  pub agrees : Agrees world entries links id
+  pub agrees : (id : Id) → Contains (map module_of entries) id → Agrees world entries links id
 
 -- the edit is that of a folder, numbered from 1 in their order, which is accepted, and its files show what the folder's classes show
 pub record Shows (contents : Parts) (entries : List EntryPoint) (folders : List (List ℕ)) (edit : AcceptedEdit) : Type 0 where

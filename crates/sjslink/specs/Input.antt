@@ -4,13 +4,21 @@ use Rattle.std.specs.List.{Contains}
 use Rattle.entries_file.specs.EntriesFile.{entries_of}
 use Rattle.sj_names.specs.declared.entry_points.EntryPoint.{EntryPoint}
 use Rattle.sj_outside.specs.Contents.{Parts, folder_at, file_at}
-use Rattle.sj_words.specs.Earlier.{first_command}
+use Rattle.sj_split.specs.declared.plans.Style.{Style}
+use Rattle.sj_split.specs.declared.plans.Style.TheVariants.{Fewest, Smallest}
+use Rattle.sj_words.specs.Earlier.{split_command}
 use Rattle.sj_words.specs.declared.commands.Command.{Command}
 use Rattle.sj_words.specs.declared.commands.Link.{Link}
+use Rattle.sj_words.specs.declared.commands.Style as named
 
 -- the words are this link command
 abbrev pub IsLinkCommand : List (List ℕ) → Link → Type 0
-IsLinkCommand words link = first_command words ≡ Some (Command.Link link)
+IsLinkCommand words link = split_command words ≡ Some (Command.Link link)
+
+-- the style of plans that a command names
+abbrev pub planned_style : named.Style → Style
+planned_style named.Style.Fewest = Fewest
+planned_style named.Style.Smallest = Smallest
 
 -- the entries file says this: entries, or the number of a bad line
 pub record HasEntries (contents : Parts) (path : List ℕ) (said : Result (List EntryPoint) ℕ) : Type 0 where

@@ -8,12 +8,13 @@ use Rattle.sj_names.specs.declared.folders.SourceFile.{SourceFile}
 use Rattle.sj_outside.specs.Contents.{Parts}
 use Rattle.sj_outside.specs.Writing.{Event, put, line, Writes, WritesFront}
 use Rattle.sj_outside.specs.declared.answers.PutFile.{PutFile}
-use Rattle.sj_words.specs.Earlier.{first_command}
+use Rattle.sj_split.specs.declared.plans.Style.{Style}
+use Rattle.sj_words.specs.Earlier.{split_command}
 use Rattle.sj_words.specs.declared.commands.Link.{Link}
 use Rattle.folder_files.specs.Files.{AreFilesOf}
 use Rattle.sj_session.specs.Verdicts.{accepted, refused}
 use Rattle.sj_session.specs.Edits.{IsEditVerdict, IsLinkOf, IsWork}
-use Rattle.sjslink.specs.Input.{IsLinkCommand, HasEntries}
+use Rattle.sjslink.specs.Input.{IsLinkCommand, HasEntries, planned_style}
 use Rattle.sjslink.specs.declared.answers.Status.{Status}
 use Rattle.sjslink.specs.declared.answers.Status.TheVariants.{Done, SomeRefused, Usage, ReadFault, WriteFault, NoMemory, BadEntries}
 
@@ -51,21 +52,21 @@ pub record Edited : Type 0 where
   pub is_accepted : Bool
   pub events : List Event
 
--- what is written for the edit of this number, of a folder of these files: the files that it is linked to and a line, or a line alone
-pub data IsEditOutput (out : List ℕ) (entries : List EntryPoint) (number : ℕ) (files : List SourceFile) : Edited → Type 0 where
-  linked : (links : List File) (work : Meter) → IsEditVerdict entries files accepted → IsLinkOf entries files links → IsWork entries files work → IsEditOutput out entries number files (record { is_accepted = true; events = puts_of out number links ++ line (accepted_line number (length links) work) ∷ [] })
-  refuses : (code : ℕ) (place : List ℕ) → IsEditVerdict entries files (refused code place) → IsEditOutput out entries number files (record { is_accepted = false; events = line (refused_line number code place) ∷ [] })
+-- what is written for the edit of this number, of a folder of these files: the files that it is linked to in this style and a line, or a line alone
+pub data IsEditOutput (out : List ℕ) (entries : List EntryPoint) (style : Style) (number : ℕ) (files : List SourceFile) : Edited → Type 0 where
+  linked : (links : List File) (work : Meter) → IsEditVerdict entries files accepted → IsLinkOf entries files style links → IsWork entries files work → IsEditOutput out entries style number files (record { is_accepted = true; events = puts_of out number links ++ line (accepted_line number (length links) work) ∷ [] })
+  refuses : (code : ℕ) (place : List ℕ) → IsEditVerdict entries files (refused code place) → IsEditOutput out entries style number files (record { is_accepted = false; events = line (refused_line number code place) ∷ [] })
 
 -- the same of the folder at a path
-pub record IsEdited (contents : Parts) (out : List ℕ) (entries : List EntryPoint) (number : ℕ) (path : List ℕ) (edited : Edited) : Type 0 where
+pub record IsEdited (contents : Parts) (out : List ℕ) (entries : List EntryPoint) (style : Style) (number : ℕ) (path : List ℕ) (edited : Edited) : Type 0 where
   pub files : List SourceFile
   pub is_folder : AreFilesOf contents path files
-  pub is_output : IsEditOutput out entries number files edited
+  pub is_output : IsEditOutput out entries style number files edited
 
 -- one edit for each folder, numbered from 1
-pub record AreEdited (contents : Parts) (out : List ℕ) (entries : List EntryPoint) (paths : List (List ℕ)) (edits : List Edited) : Type 0 where
+pub record AreEdited (contents : Parts) (out : List ℕ) (entries : List EntryPoint) (style : Style) (paths : List (List ℕ)) (edits : List Edited) : Type 0 where
   pub whole : length edits ≡ length paths
-  pub each : (i : ℕ) (path : List ℕ) (edited : Edited) → slice_get paths i ≡ Some path → slice_get edits i ≡ Some edited → IsEdited contents out entries (i + 1) path edited
+  pub each : (i : ℕ) (path : List ℕ) (edited : Edited) → slice_get paths i ≡ Some path → slice_get edits i ≡ Some edited → IsEdited contents out entries style (i + 1) path edited
 
 abbrev pub events_of : Edited → List Event
 events_of e = e.events
@@ -78,9 +79,9 @@ status_of edits = if list_all was_accepted edits then Done else SomeRefused
 
 -- what the words ask for, over what the folders hold
 pub data IsOutput (words : List (List ℕ)) (contents : Parts) : Output → Type 0 where
-  no_command : first_command words ≡ None → IsOutput words contents (record { status = Usage; events = line usage_line ∷ [] })
+  no_command : split_command words ≡ None → IsOutput words contents (record { status = Usage; events = line usage_line ∷ [] })
   bad_entries : (link : Link) (number : ℕ) → IsLinkCommand words link → HasEntries contents link.entries (Err number) → IsOutput words contents (record { status = BadEntries number; events = line (entries_line number) ∷ [] })
-  edited : (link : Link) (entries : List EntryPoint) (edits : List Edited) → IsLinkCommand words link → HasEntries contents link.entries (Ok entries) → AreEdited contents link.out entries link.folders edits → IsOutput words contents (record { status = status_of edits; events = flat_map events_of edits })
+  edited : (link : Link) (entries : List EntryPoint) (edits : List Edited) → IsLinkCommand words link → HasEntries contents link.entries (Ok entries) → AreEdited contents link.out entries (planned_style link.style) link.folders edits → IsOutput words contents (record { status = status_of edits; events = flat_map events_of edits })
 
 -- the fact, unless the call ended early: by a fault or for want of memory
 abbrev pub AtEnd : Status → Type 0 → Type 0
@@ -120,4 +121,4 @@ pub record IsWhole (words : List (List ℕ)) (contents : Parts) (puts_old puts_n
 pub data IsFront (words : List (List ℕ)) (contents : Parts) (puts_old puts_new : Option (List PutFile)) (text_old text_new : Option (List ℕ)) : Type 0 where
   nothing : Writes puts_old puts_new text_old text_new [] → IsFront words contents puts_old puts_new text_old text_new
   front_of : (output : Output) → IsOutput words contents output → WritesFront puts_old puts_new text_old text_new output.events → IsFront words contents puts_old puts_new text_old text_new
-  of_first : (link : Link) (entries : List EntryPoint) (n : ℕ) (edits : List Edited) → IsLinkCommand words link → HasEntries contents link.entries (Ok entries) → AreEdited contents link.out entries (take n link.folders) edits → WritesFront puts_old puts_new text_old text_new (flat_map events_of edits) → IsFront words contents puts_old puts_new text_old text_new
+  of_first : (link : Link) (entries : List EntryPoint) (n : ℕ) (edits : List Edited) → IsLinkCommand words link → HasEntries contents link.entries (Ok entries) → AreEdited contents link.out entries (planned_style link.style) (take n link.folders) edits → WritesFront puts_old puts_new text_old text_new (flat_map events_of edits) → IsFront words contents puts_old puts_new text_old text_new

@@ -3,10 +3,10 @@ ghost use Rattle.std.specs.Prelude.{◌≡◌, ◌⊎◌, ◌<◌, ◌^◌, ℕ,
 ghost use Rattle.sj_outside.specs.Contents.{Parts};
 ghost use Rattle.sj_outside.specs.Faults.{Rose};
 ghost use Rattle.sj_outside.specs.Writing.{Appends};
-ghost use Rattle.sj_words.specs.Earlier.{first_command as command};
+ghost use Rattle.sj_words.specs.Earlier.{split_command as command};
 ghost use Rattle.sjslink.specs.Editing.{AreHeld, RunEnds};
 ghost use Rattle.sjslink.specs.Headline.{ShowsTheSame, ShowsFront};
-ghost use Rattle.sjslink.specs.Input.{HasEntries, HasNamed, HoldWhatIsNamed, IsLinkCommand};
+ghost use Rattle.sjslink.specs.Input.{HasEntries, HasNamed, HoldWhatIsNamed, IsLinkCommand, planned_style as planned};
 ghost use Rattle.sjslink.specs.Output as output;
 
 use crate::Status;
@@ -18,7 +18,7 @@ use sj_names::Entries;
 use sj_outside::{Folders, Lines, Outputs};
 use sj_session::{Options, Session};
 use sj_split::Style;
-use sj_words::{Command, Link, first_command};
+use sj_words::{Command, Link, split_command};
 use std::alloc::Global;
 
 const USAGE: &str =
@@ -62,7 +62,7 @@ pub fn run<F: Folders, O: Outputs, L: Lines>(
     ensures read_fault { result ≡ Status.ReadFault → Rose (F.faults folders.old) (F.faults folders.new) }
     ensures write_fault { result ≡ Status.WriteFault → Rose (O.faults outputs.old) (O.faults outputs.new) ⊎ Rose (L.faults lines.old) (L.faults lines.new) }
 {
-    match first_command(alloc, words.as_slice()) {
+    match split_command(alloc, words.as_slice()) {
         Ok(Some(Command::Link(link))) => run_link(alloc, &link, folders, outputs, lines),
         Ok(_) => finish(alloc, Status::Usage, USAGE, lines),
         Err(_) => Status::NoMemory,
@@ -107,7 +107,7 @@ fn edit_all<F: Folders, O: Outputs, L: Lines>(
     ensures write_fault { result ≡ Status.WriteFault → Rose (O.faults outputs.old) (O.faults outputs.new) ⊎ Rose (L.faults lines.old) (L.faults lines.new) }
 {
     let options = Options {
-        style: Style::Fewest,
+        style: planned_style(link.style),
         optimize: false,
     };
     let mut session = Session::new(alloc, entries, options);
@@ -117,6 +117,15 @@ fn edit_all<F: Folders, O: Outputs, L: Lines>(
         Err(Fault::Read) => Status::ReadFault,
         Err(Fault::Write) => Status::WriteFault,
         Err(Fault::NoMemory) => Status::NoMemory,
+    }
+}
+
+fn planned_style(style: sj_words::Style) -> Style
+    ensures { result ≡ planned style }
+{
+    match style {
+        sj_words::Style::Fewest => Style::Fewest,
+        sj_words::Style::Smallest => Style::Smallest,
     }
 }
 

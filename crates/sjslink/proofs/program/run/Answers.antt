@@ -2,7 +2,7 @@ use Rattle.std.proofs.Common.{◌≡◌, map, Some, None, ap, sym, ◌∙◌}
 use Rattle.std.specs.Prelude.{string_bytes}
 use Rattle.std.proofs.Common.{arith, rules}
 use Rattle.std.proofs.lemmas.Grind.{common_steps}
-use Rattle.sj_words.specs.Earlier.{first_command as command}
+use Rattle.sj_words.specs.Earlier.{split_command as command}
 use Rattle.sjslink.specs.Input.{IsLinkCommand}
 use Rattle.sjslink.specs.Output.{no_command, usage_line}
 use Rattle.sjslink.specs.declared.answers.Status.TheVariants.{Usage}
