@@ -10,7 +10,7 @@ use Rattle.sj_names.specs.declared.entry_points.EntryPoint.{EntryPoint}
 use Rattle.sj_names.specs.EntryPoints.{is_public_id, is_entry, AreEntries}
 use Rattle.sj_names.specs.Grammar.{is_class_name, is_plain_name, is_name_byte}
 use Rattle.entries_file.specs.Lines.{lines, fields, is_line_feed, IsFirstLine}
-use Rattle.entries_file.specs.EntriesFile.{entry, entry_of_line, entry_of_fields, in_front, line_says, one_or_more, said, most_bytes, most_entries, entries_of}
+use Rattle.entries_file.specs.EntriesFile.{entry, entry_of_line, entry_of_fields, in_front, line_says, one_or_more, said, most_bytes, most_entries}
 use Rattle.entries_file.specs.Laws.{EntriesAreValid}
 use Rattle.entries_file.specs.Refusals.{IsRefused, IsLineRefused}
 use Rattle.entries_file.specs.declared.errors.EntriesError.{EntriesError}

@@ -1,6 +1,6 @@
 -- How the endings of a run follow from those of its parts.
 use Rattle.std.proofs.Common.{◌≡◌, ◌⊎◌, inl, inr, ℕ, Bool, List, [], ◌∷◌, refl, sym, ap, subst, ◌∙◌, append-nil, Option, length, arith}
-use Rattle.std.specs.Prelude.{Ok, if◌then◌else◌}
+use Rattle.std.specs.Prelude.{Result, Ok, if◌then◌else◌}
 use Rattle.std.specs.List.{flat_map}
 use Rattle.std.proofs.lemmas.Grind.{flat_map-append}
 use Rattle.std.proofs.lemmas.List.{take_all}
@@ -11,11 +11,13 @@ use Rattle.sj_outside.specs.declared.answers.PutFile.{PutFile}
 use Rattle.sj_outside.proofs.Laws.{Appends-none, Writes-line}
 use Rattle.sj_session.specs.Sessions.{Standing}
 use Rattle.sj_words.specs.declared.commands.Link.{Link}
-use Rattle.sjslink.specs.Editing.{AreWritten, AreCut, FirstEdits, RunEnds}
+use Rattle.sj_split.specs.declared.plans.Style.{Style}
+use Rattle.sjslink.specs.Editing.{AreWritten, AreCut, EditsEnd, FirstEdits, RunEnds}
 use Rattle.sjslink.specs.Headline.{HasShown, ShowsFront, nothing as nothing_shown, front_of as front_shown, files_put}
 use Rattle.sjslink.specs.Input.{IsLinkCommand, HasEntries, planned_style}
 use Rattle.sjslink.specs.Output.{IsOutput, edited, AreEdited, events_of, status_of, AtEnd, Ends, all_written, faulted, out_of_memory, IsWhole, nothing, front_of, of_first}
 use Rattle.sjslink.specs.declared.answers.Status.{Status}
+use Rattle.sjslink.specs.declared.editing.Fault.{Fault}
 use Rattle.sjslink.specs.declared.answers.Status.TheVariants.{Done, SomeRefused, Usage, ReadFault, WriteFault, NoMemory, BadEntries}
 use Rattle.sjslink.proofs.Puts.{whole_is_front}
 
@@ -42,6 +44,14 @@ memory_is_no_edit (inr e) = cc
 pub bad_is_no_edit : (number : ℕ) → IsNoEdit (BadEntries number)
 bad_is_no_edit number (inl e) = cc
 bad_is_no_edit number (inr e) = cc
+
+-- the edits of folders in one style are those in another that is the same
+pub in_style : (contents : Parts) (out : List ℕ) (entries : List EntryPoint) (style other : Style) (folders : List (List ℕ)) (p0 p1 : Option (List PutFile)) (t0 t1 : Option (List ℕ)) (result : Result Bool Fault) → style ≡ other → EditsEnd contents out entries style folders p0 p1 t0 t1 result → EditsEnd contents out entries other folders p0 p1 t0 t1 result
+in_style contents out entries style other folders p0 p1 t0 t1 result same e = subst (λ (y : Style). EditsEnd contents out entries y folders p0 p1 t0 t1 result) same e
+
+-- the style of a session is that of its options
+pub session_style : {session new : Standing} {style : Style} → session ≡ new → new.options.style ≡ style → session.options.style ≡ style
+session_style same is = ap (λ (s : Standing). s.options.style) same ∙ is
 
 -- the entries of a session are those of the file
 pub same_entries : (contents : Parts) (path : List ℕ) (session new : Standing) → session ≡ new → HasEntries contents path (Ok new.entries) → HasEntries contents path (Ok session.entries)
