@@ -66,11 +66,11 @@ case (k ∷ ks) body = match_on nowhere (number 1) (more_cases (pos k ∷ []) bo
 
 -- a field can be used, whatever its class, its name and its type are
 abbrev pub with_fields : Usable
-with_fields = record { linked = λ m. true; target = λ m. m; received = λ m. false; built = λ m. false; made = λ c. false; field = λ c f t. true; static_field = λ c f t. false; static_setter = λ c f t. false; helper = λ x. false; objects = false }
+with_fields = record { linked = λ m. true; target = λ m. m; received = λ m. false; built = λ m. false; made = λ c. false; field = λ c f t. true; static_field = λ c f t. false; static_setter = λ c f t. false; tests = λ t. false; casts = λ t. false; helper = λ x. false; objects = false }
 
 -- objects that hold chars can be made
 abbrev pub with_boxes : Usable
-with_boxes = record { linked = λ m. true; target = λ m. m; received = λ m. false; built = λ m. false; made = λ c. false; field = λ c f t. true; static_field = λ c f t. false; static_setter = λ c f t. false; helper = λ x. true; objects = false }
+with_boxes = record { linked = λ m. true; target = λ m. m; received = λ m. false; built = λ m. false; made = λ c. false; field = λ c f t. true; static_field = λ c f t. false; static_setter = λ c f t. false; tests = λ t. false; casts = λ t. false; helper = λ x. true; objects = false }
 
 -- the code of a method that gives a value of this type makes an object that holds a char
 abbrev pub makes_box : IrType → Term → Bool
