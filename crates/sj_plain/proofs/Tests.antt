@@ -37,7 +37,7 @@ use Rattle.sj_plain.proofs.Tops.{top_seen}
 use Rattle.sj_plain.proofs.Worlds.{World, grows-refl, Stands, same_boolean, value-fits, no_values, one_more}
 
 -- what identity gives of two values of any kinds
-same_is : (v w : ir.Value) → ir_operators.binary_value StrictEqual v w ≡ ir_operators.answers (ir.boolean (ir_operators.is_same_value v w))
+pub same_is : (v w : ir.Value) → ir_operators.binary_value StrictEqual v w ≡ ir_operators.answers (ir.boolean (ir_operators.is_same_value v w))
 same_is (ir.boolean a) (ir.boolean b) = refl
 same_is (ir.number a) (ir.number b) = refl
 same_is (ir.long a) (ir.long b) = refl
