@@ -22,6 +22,7 @@ use Rattle.ir_mean.specs.States as ir
 use Rattle.js_mean.specs.Meaning as js_meaning
 use Rattle.js_mean.specs.States as js
 use Rattle.js_tree.specs.Terms.{Name}
+use Rattle.sj_emit_expr.specs.Tests.{test_name}
 use Rattle.sj_names.proofs.Same.{impossible}
 use Rattle.sj_trees.specs.declared.types.IrType.{IrType}
 use Rattle.sj_trees.specs.declared.types.IrType.TheVariants.{Any, Undefined, Boolean, Char, Byte, Short, Int, Long, String, Array}
@@ -71,6 +72,21 @@ short_small (negsuc n) = and_true (leb n 32767) ∙ both_pass (leb n 32767) (int
 
     below : FitsSigned w16 (negsuc n) → n ≤ 32767
     below f = let l = f.sfits in omega arith
+
+named : (name : Name) (own k : Kind) → ◌≡◌ {A = Option Kind} (Some own) (Some k) → name ≡ helper_name (TestOf own) → name ≡ helper_name (TestOf k)
+named name own k e is = let same : own ≡ k = cc in subst (λ q. name ≡ helper_name (TestOf q)) same is
+
+-- the test of a primitive type has the name of its helper
+pub test_named : (t : IrType) (k : Kind) → kind_of t ≡ Some k → test_name t ≡ helper_name (TestOf k)
+test_named Undefined k e = named (codes "$isV") kinds.Undefined k e refl
+test_named Boolean k e = named (codes "$isZ") kinds.Boolean k e refl
+test_named Char k e = named (codes "$isC") kinds.Char k e refl
+test_named Byte k e = named (codes "$isB") kinds.Byte k e refl
+test_named Short k e = named (codes "$isS") kinds.Short k e refl
+test_named Int k e = named (codes "$isI") kinds.Int k e refl
+test_named Long k e = named (codes "$isJ") kinds.Long k e refl
+test_named String k e = named (codes "$isT") kinds.Text k e refl
+test_named _ k e = absurd (cc)
 
 -- a primitive type is neither one of arrays nor any
 pub primitive : (t : IrType) (k : Kind) → kind_of t ≡ Some k → HasFunction t
