@@ -1,8 +1,6 @@
 -- An object that holds a char is an instance of the class of such objects, and no other value is one.
-use Rattle.std.proofs.Common.{◌≡◌, ℕ, Bool, true, false, ◌&&◌, ◌||◌, List, [], ◌∷◌, map, slice_get, Option, Some, refl, sym, ap, ◌∙◌}
+use Rattle.std.proofs.Common.{◌≡◌, ℕ, Bool, true, false, ◌&&◌, ◌||◌, List, [], ◌∷◌, map, slice_get, Option, Some, refl, ap, ◌∙◌}
 use Rattle.std.proofs.lemmas.Bool.{and_from}
-use Rattle.helper_rules.specs.Helpers.{helper_name}
-use Rattle.helper_rules.specs.declared.kinds.Helper.TheVariants.{BoxedChar}
 use Rattle.ir_mean.specs.Dispatch.{chain_of}
 use Rattle.ir_mean.specs.States as ir
 use Rattle.js_mean.specs.Objects.{is_below, stored_below, is_instance}

@@ -1,5 +1,5 @@
 -- The helper that tells whether two values are the same.
-use Rattle.std.proofs.Common.{◌≡◌, ℕ, suc, Bool, true, false, ◌&&◌, ◌==◌, List, [], ◌∷◌, slice_get, Option, Some, None, refl, sym, ap, ◌∙◌, subst}
+use Rattle.std.proofs.Common.{◌≡◌, ℕ, suc, Bool, true, false, ◌&&◌, [], ◌∷◌, Option, Some, refl, sym, ap, ◌∙◌, subst}
 use Rattle.std.specs.Prelude.{codes, pos, nat_eq}
 use Rattle.std.specs.Ordering.{int_eq}
 use Rattle.std.proofs.lemmas.Bool.{eq-eqb, eqb-true}
@@ -26,8 +26,8 @@ use Rattle.sj_trees.specs.declared.types.IrType.TheVariants.{Any, Boolean}
 use Rattle.sj_plain.specs.Settings.{Place, SameState, Valued, valued, a_helper, top_call}
 use Rattle.sj_plain.proofs.Operators.{same-boolean}
 use Rattle.sj_plain.proofs.Tests.{same_is}
-use Rattle.sj_plain.proofs.Worlds.{World, grows-refl, SameValue, IsBox, Stands, same_undefined, same_null, same_boolean, same_char, same_box, same_number, same_long, same_text, same_reference}
-use Rattle.sj_calls.specs.Helpers.{helper_code, CanCompare, ReachesBoxes}
+use Rattle.sj_plain.proofs.Worlds.{World, grows-refl, SameValue, IsBox, Stands, same_boolean, same_char, same_box, same_reference}
+use Rattle.sj_calls.specs.Helpers.{helper_code, CanCompare}
 use Rattle.sj_calls.proofs.Boxed.{is_unit, boxes, box_there, told_boxed}
 
 -- two tests of which each passes where the other does

@@ -1,5 +1,5 @@
 -- The tests of primitive types, by the helpers of their kinds.
-use Rattle.std.proofs.Common.{◌≡◌, ℕ, suc, Bool, true, false, ◌||◌, ◌&&◌, ◌≤◌, List, [], ◌∷◌, Option, Some, refl, sym, ap, ◌∙◌, subst, arith}
+use Rattle.std.proofs.Common.{◌≡◌, ℕ, suc, Bool, true, false, ◌||◌, ◌&&◌, ◌≤◌, [], ◌∷◌, Option, Some, refl, sym, ap, ◌∙◌, subst, arith}
 use Rattle.std.specs.Prelude.{ℤ, pos, negsuc, FitsSigned, leb, codes}
 use Rattle.std.specs.Ordering.{int_eq}
 use Rattle.std.specs.Int.{w8, w16}
@@ -28,7 +28,7 @@ use Rattle.sj_trees.specs.declared.types.IrType.{IrType}
 use Rattle.sj_trees.specs.declared.types.IrType.TheVariants.{Any, Undefined, Boolean, Char, Byte, Short, Int, Long, String, Array}
 use Rattle.sj_plain.specs.Settings.{Place, SameState, Valued, valued, HasFunction, a_test, a_helper, top_call}
 use Rattle.sj_plain.proofs.Worlds.{World, grows-refl, SameValue, Stands, same_boolean, same_char, same_box, same_number, same_reference}
-use Rattle.sj_calls.specs.Helpers.{helper_code, kind_of, CanTest, ReachesBoxes}
+use Rattle.sj_calls.specs.Helpers.{kind_of, CanTest, ReachesBoxes}
 use Rattle.sj_calls.proofs.Boxed.{boxes, box_below, object_apart}
 use Rattle.sj_calls.proofs.Sameness.{both_pass}
 
