@@ -18,10 +18,10 @@ use Rattle.sj_names.specs.declared.entry_points.EntryPoint.{EntryPoint}
 use Rattle.sj_names.specs.declared.method_names.Member.{Member}
 use Rattle.built_forms.specs.Built.{Usable}
 use Rattle.sj_sound.specs.Linked.{has_function, have_functions, functions_of}
-use Rattle.sj_trees.specs.Term.{Term, Terms, no_terms, more_terms, Cases, no_cases, more_cases, var_def, skip, block_of, labeled, assign, return_to, if_then, while_loop, do_while, match_on, apply_statically, apply_static, unary_op, binary_op, undefined_literal, null_literal, boolean_literal, char_literal, byte_literal, short_literal, int_literal, long_literal, string_literal, var_ref, log_line}
+use Rattle.sj_trees.specs.Term.{Term, Terms, no_terms, more_terms, Cases, no_cases, more_cases, var_def, skip, block_of, labeled, assign, return_to, if_then, while_loop, do_while, match_on, apply_statically, apply_static, unary_op, binary_op, as_instance_of, undefined_literal, null_literal, boolean_literal, char_literal, byte_literal, short_literal, int_literal, long_literal, string_literal, var_ref, log_line}
 use Rattle.sj_trees.specs.declared.types.IrType.{IrType}
-use Rattle.built_forms.specs.Built.{is_operation, is_built, are_built, are_built_cases, anything, body_boxes, is_built_body}
-use Rattle.body_rules.proofs.RulesGive.{operation_kept}
+use Rattle.built_forms.specs.Built.{is_operation, can_cast, is_built, are_built, are_built_cases, anything, body_boxes, is_built_body}
+use Rattle.body_rules.proofs.RulesGive.{operation_kept, cast_kept}
 use Rattle.body_rules.specs.Typing.{may_check, is_built_with}
 use Rattle.sure_receivers.specs.Sure.{sure_locals}
 use Rattle.sj_names.specs.declared.method_names.MethodName.{MethodName}
@@ -98,6 +98,7 @@ module _ (has : Usable) (checked : Term → Bool) where
         let r = and_parts (is_built anything (λ e. true) e) (is_built anything (λ e. true) d) q.1 in
         let parts = two e d (inner (binary_op p o e d) h) in
         and_from (is_operation has o d) (is_built has checked e && is_built has checked d) (operation_kept (λ m. true) has o d q.0) (and_from (is_built has checked e) (is_built has checked d) (built e r.0 parts.0) (built d r.1 parts.1))
+    built (as_instance_of p e t) k h = let q = and_parts (can_cast anything t) (is_built anything (λ e. true) e) k in and_from (can_cast has t) (is_built has checked e) (cast_kept (λ m. true) has t q.0) (built e q.1 (inner (as_instance_of p e t) h))
     built (undefined_literal p) k h = refl
     built (null_literal p) k h = refl
     built (boolean_literal p b) k h = refl

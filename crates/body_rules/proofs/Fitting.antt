@@ -1,7 +1,8 @@
 -- A tree of the one type stands where the other is expected: what the rules say of types, as far as the kinds of values tell.
 use Rattle.std.proofs.Common.{◌≡◌, ℕ, Bool, true, false, ◌&&◌, List, codes, refl, sym, ap, ◌∙◌, subst, ◌⊎◌, inl, inr, ⊎_elim}
 use Rattle.std.specs.Prelude.{not, ◌||◌}
-use Rattle.built_forms.specs.Built.{Usable, divides}
+use Rattle.built_forms.specs.Boxes.{is_boxed, operands_are_boxed}
+use Rattle.built_forms.specs.Built.{Usable, may_make, divides}
 use Rattle.sj_desugar.specs.Coercions.{is_char}
 use Rattle.sj_desugar.specs.Desugar.{has_no_value}
 use Rattle.sj_trees.specs.Term.{Term, boolean_literal}
@@ -12,16 +13,16 @@ use Rattle.sj_trees.specs.declared.operators.UnaryOp.{UnaryOp}
 use Rattle.sj_trees.specs.declared.operators.UnaryOp.TheVariants.{BooleanNot}
 use Rattle.sj_trees.specs.declared.types.IrType.{IrType}
 use Rattle.sj_trees.specs.declared.types.IrType.TheVariants.{Any, Nothing, Undefined, Boolean, Char, Byte, Short, Int, Long, String, Class, Null, Array, NoType}
-use Rattle.body_rules.specs.Operators.{is_simple, a_quotient, a_remainder, a_long_quotient, a_long_remainder, DividesBy, by_int, by_long, Operates, of_its_types, joins, divided}
-use Rattle.typing_rules.specs.Rules.{unary_operand, left_operand, right_operand, IsText}
-use Rattle.body_rules.specs.Standing.{is_bare, Fits, NoBox}
+use Rattle.body_rules.specs.Operators.{is_simple, a_quotient, a_remainder, a_long_quotient, a_long_remainder, DividesBy, by_int, by_long, IsIdentity, a_sameness, a_difference, Operates, of_its_types, joins, divided, compared}
+use Rattle.typing_rules.specs.Rules.{unary_operand, left_operand, right_operand, IsText, IsCastType}
+use Rattle.body_rules.specs.Standing.{is_bare, Fits, MayStand, NoBox}
 use Rattle.body_rules.proofs.Standing.{fits-same}
 use Rattle.body_rules.specs.Typing.{IsTrueLiteral, true_literal}
 use Rattle.sj_names.proofs.Same.{impossible, text-refl}
 use Rattle.sj_names.specs.Same.{is_same_text}
 use Rattle.body_rules.specs.Subtyping.{is_lowest, IsSubtyping}
 use Rattle.body_rules.specs.Locals.{HasValue}
-use Rattle.body_rules.proofs.RulesGive.{Takes, its_types, texts, of_division}
+use Rattle.body_rules.proofs.RulesGive.{Takes, its_types, texts, of_division, of_identity, each_made}
 use Rattle.sj_world.specs.Known.{Classes}
 use Rattle.sj_world.specs.Subtypes.{IsSub}
 
@@ -50,6 +51,12 @@ left-operand-value _ = refl
 pub right-operand-value : (o : BinaryOp) → HasValue (right_operand o)
 right-operand-value IntAdd = refl
 right-operand-value _ = refl
+
+-- there are values of a type to which there are casts
+pub cast-value : (t : IrType) → IsCastType t → HasValue t
+cast-value Nothing h = absurd h
+cast-value NoType h = absurd h
+cast-value _ h = refl
 
 pub not_no_type : (t : IrType) → IsText t → t ≡ NoType → ⊥
 not_no_type t h e = subst IsText e h
@@ -171,7 +178,12 @@ module _ (w : Classes) (law : IsSubtyping (IsSub w)) where
   divided_lowest has LongRemainder h = (refl, refl)
   divided_lowest has _ h = impossible h
 
-  pub operates : (has : Usable) (o : BinaryOp) (e d : Term) → Takes w has o e d → Operates has o (type_of_term e) (type_of_term d)
-  operates has o e d (its_types h f g) = of_its_types o (type_of_term e) (type_of_term d) h (fits-sub (left_operand o) (type_of_term e) f (lowest-box (left_operand o) (type_of_term e) (left_lowest o h) f)) (fits-sub (right_operand o) (type_of_term d) g (lowest-box (right_operand o) (type_of_term d) (right_lowest o h) g))
-  operates has o e d (of_division h f g) = let own = divided_lowest has o h in divided o (type_of_term e) (type_of_term d) h (fits-sub (left_operand o) (type_of_term e) f (lowest-box (left_operand o) (type_of_term e) own.0 f)) (fits-sub (right_operand o) (type_of_term d) g (lowest-box (right_operand o) (type_of_term d) own.1 g))
-  operates has o e d (texts is f g) = subst (λ p. Operates has p (type_of_term e) (type_of_term d)) (sym is) (joins (type_of_term e) (type_of_term d) (text_bare (type_of_term e) f) (text_bare (type_of_term d) g))
+  identity_stands : (has : Usable) (o : BinaryOp) (e d : Term) → IsIdentity o → may_make has (operands_are_boxed o e d) ≡ true → MayStand has Any (type_of_term e) × MayStand has Any (type_of_term d)
+  identity_stands has _ e d a_sameness boxed = each_made has (is_boxed Any e) (is_boxed Any d) boxed
+  identity_stands has _ e d a_difference boxed = each_made has (is_boxed Any e) (is_boxed Any d) boxed
+
+  pub operates : (has : Usable) (o : BinaryOp) (e d : Term) → may_make has (operands_are_boxed o e d) ≡ true → Takes w has o e d → Operates has o (type_of_term e) (type_of_term d)
+  operates has o e d boxed (its_types h f g) = of_its_types o (type_of_term e) (type_of_term d) h (fits-sub (left_operand o) (type_of_term e) f (lowest-box (left_operand o) (type_of_term e) (left_lowest o h) f)) (fits-sub (right_operand o) (type_of_term d) g (lowest-box (right_operand o) (type_of_term d) (right_lowest o h) g))
+  operates has o e d boxed (of_identity i h f g) = let own = identity_stands has o e d i boxed in compared o (type_of_term e) (type_of_term d) i h own.0 own.1
+  operates has o e d boxed (of_division h f g) = let own = divided_lowest has o h in divided o (type_of_term e) (type_of_term d) h (fits-sub (left_operand o) (type_of_term e) f (lowest-box (left_operand o) (type_of_term e) own.0 f)) (fits-sub (right_operand o) (type_of_term d) g (lowest-box (right_operand o) (type_of_term d) own.1 g))
+  operates has o e d boxed (texts is f g) = subst (λ p. Operates has p (type_of_term e) (type_of_term d)) (sym is) (joins (type_of_term e) (type_of_term d) (text_bare (type_of_term e) f) (text_bare (type_of_term d) g))

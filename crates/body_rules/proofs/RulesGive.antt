@@ -4,12 +4,12 @@ use Rattle.std.specs.Prelude.{◌⊎◌, ◌≢◌, ◌||◌, ℤ, pos, not, nat
 use Rattle.std.specs.Cmp.Lexicographic.{pointwise}
 use Rattle.std.specs.Ordering.{int_eq}
 use Rattle.built_forms.specs.Boxes.{is_boxed, any_is_boxed}
-use Rattle.built_forms.specs.Built.{Usable, can_box, may_make, is_nonzero_int, is_nonzero_long, divides, is_operation, members_alone}
+use Rattle.built_forms.specs.Built.{Usable, can_box, may_make, is_nonzero_int, is_nonzero_long, divides, compares, can_cast, is_operation, members_alone}
 use Rattle.sj_desugar.specs.Desugar.{has_no_value}
 use Rattle.sj_names.proofs.Same.{impossible}
 use Rattle.sj_names.specs.declared.method_names.Member.{Member}
 use Rattle.sj_names.specs.declared.references.TypeRef.{TypeRef}
-use Rattle.body_rules.specs.Operators.{is_simple, IsDivision, a_quotient, a_remainder, IsLongDivision, a_long_quotient, a_long_remainder, DividesBy, by_int, by_long}
+use Rattle.body_rules.specs.Operators.{is_simple, IsDivision, a_quotient, a_remainder, IsLongDivision, a_long_quotient, a_long_remainder, DividesBy, by_int, by_long, IsIdentity, a_sameness, a_difference}
 use Rattle.typing_rules.specs.Rules.{left_operand, right_operand, call_type, IsText, OperandsFit}
 use Rattle.body_rules.specs.Standing.{MayStand}
 use Rattle.body_rules.specs.Typing.{Scene, IsResult, AllHaveValues, Typed}
@@ -20,15 +20,17 @@ use Rattle.sj_trees.specs.Types.{class_type, reference_type}
 use Rattle.sj_trees.specs.declared.operators.BinaryOp.{BinaryOp}
 use Rattle.sj_trees.specs.declared.operators.BinaryOp.TheVariants.{StrictEqual, StrictNotEqual, StringConcatenate, IntDivide, IntRemainder, LongDivide, LongRemainder}
 use Rattle.sj_trees.specs.declared.types.IrType.{IrType}
+use Rattle.sj_trees.specs.declared.types.IrType.TheVariants.{Any}
 use Rattle.sj_world.specs.Known.{Classes}
 use Rattle.sj_world.specs.Subtypes.{IsSub}
 use Rattle.typing_rules.specs.Rules as rules
 
--- the operands of an operator: of its own types, texts that are joined, or those of a division whose helper can be used
+-- the operands of an operator: of its own types, texts that are joined, those of a division whose helper can be used, or of any type where identity can be asked
 pub data Takes (w : Classes) (has : Usable) (o : BinaryOp) (e d : Term) : Type 0 where
   its_types : is_simple o ≡ true → IsSub w (type_of_term e) (left_operand o) → IsSub w (type_of_term d) (right_operand o) → Takes w has o e d
   texts : o ≡ StringConcatenate → IsText (type_of_term e) → IsText (type_of_term d) → Takes w has o e d
   of_division : divides has o ≡ true → IsSub w (type_of_term e) (left_operand o) → IsSub w (type_of_term d) (right_operand o) → Takes w has o e d
+  of_identity : IsIdentity o → compares has ≡ true → IsSub w (type_of_term e) (left_operand o) → IsSub w (type_of_term d) (right_operand o) → Takes w has o e d
 
 pub when_not : (b : Bool) → not b ≡ true → b ≡ false
 when_not true h = impossible h
@@ -94,6 +96,11 @@ operation_kept linked has LongDivide d h = or_true (has.helper (codes "$ld")) (i
 operation_kept linked has LongRemainder d h = or_true (has.helper (codes "$lm")) (is_nonzero_long d) h
 operation_kept linked has _ d h = refl
 
+-- and what is a cast for it is one for other code
+pub cast_kept : (linked : Member → Bool) (has : Usable) (t : IrType) → can_cast (members_alone linked) t ≡ true → can_cast has t ≡ true
+cast_kept linked has Any h = refl
+cast_kept linked has _ h = impossible h
+
 module _ (w : Classes) (has : Usable) where
   -- the tree stands where the type is expected, as an object that holds a char where it has to
   abbrev pub FitsType : Term → IrType → Type 0
@@ -134,10 +141,10 @@ module _ (w : Classes) (has : Usable) where
         go true e k = inl (of_division e f g)
         go false e k = inr (by k, f)
 
-    -- operands of an operator that is built: of its types, joined, those of a division, or a dividend in front of a literal
+    -- operands of an operator that is built: of its types, joined, those of a division or of identity, or a dividend in front of a literal
     pub operation : (o : BinaryOp) (a b : Term) → is_operation has o b ≡ true → Typed w has s b → OperandsFit w o a b → Operated o a b
-    operation StrictEqual a b h typed fits = impossible h
-    operation StrictNotEqual a b h typed fits = impossible h
+    operation StrictEqual a b h typed fits = inl (of_identity a_sameness h fits.0 fits.1)
+    operation StrictNotEqual a b h typed fits = inl (of_identity a_difference h fits.0 fits.1)
     operation IntDivide a b h typed fits = by_helper IntDivide a b (is_nonzero_int b) h (λ k. int_divisor IntDivide b a_quotient k typed) fits.0 fits.1
     operation IntRemainder a b h typed fits = by_helper IntRemainder a b (is_nonzero_int b) h (λ k. int_divisor IntRemainder b a_remainder k typed) fits.0 fits.1
     operation LongDivide a b h typed fits = by_helper LongDivide a b (is_nonzero_long b) h (λ k. long_divisor LongDivide b a_long_quotient k typed) fits.0 fits.1

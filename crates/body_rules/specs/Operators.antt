@@ -2,13 +2,14 @@
 pub use Rattle.typing_rules.specs.Rules.{unary_operand, left_operand, right_operand}
 use Rattle.std.specs.Prelude.{◌≡◌, Bool, true, false, ℤ, pos, ◌≢◌, FitsSigned}
 use Rattle.std.specs.Int.{w32, w64}
-use Rattle.body_rules.specs.Standing.{is_bare, Fits}
-use Rattle.built_forms.specs.Built.{Usable, divides}
+use Rattle.body_rules.specs.Standing.{is_bare, Fits, MayStand}
+use Rattle.built_forms.specs.Built.{Usable, divides, compares}
 use Rattle.sj_trees.specs.Term.{Term, int_literal, long_literal}
 use Rattle.sj_trees.specs.declared.operators.BinaryOp.{BinaryOp}
 use Rattle.sj_trees.specs.declared.operators.BinaryOp.TheVariants.{StrictEqual, StrictNotEqual, StringConcatenate, IntDivide, IntRemainder, LongDivide, LongRemainder}
 use Rattle.sj_trees.specs.declared.positions.Position.{Position}
 use Rattle.sj_trees.specs.declared.types.IrType.{IrType}
+use Rattle.sj_trees.specs.declared.types.IrType.TheVariants.{Any}
 
 -- the operators that are built and take two operands of types of their own, but for division
 abbrev pub is_simple : BinaryOp → Bool
@@ -29,11 +30,17 @@ pub data IsLongDivision : BinaryOp → Type 0 where
   a_long_quotient : IsLongDivision LongDivide
   a_long_remainder : IsLongDivision LongRemainder
 
--- an operator that takes operands of these types: one of its own types, texts that are joined, or a division whose helper can be used
+pub data IsIdentity : BinaryOp → Type 0 where
+  a_sameness : IsIdentity StrictEqual
+  a_difference : IsIdentity StrictNotEqual
+
+-- an operator that takes operands of these types: one of its own types, texts that are joined, a division whose helper can be used, or identity whose helper
+-- can be used, between values of any type
 pub data Operates (has : Usable) : BinaryOp → IrType → IrType → Type 0 where
   of_its_types : (o : BinaryOp) (s t : IrType) → is_simple o ≡ true → Fits (left_operand o) s → Fits (right_operand o) t → Operates has o s t
   joins : (s t : IrType) → is_bare s ≡ true → is_bare t ≡ true → Operates has StringConcatenate s t
   divided : (o : BinaryOp) (s t : IrType) → divides has o ≡ true → Fits (left_operand o) s → Fits (right_operand o) t → Operates has o s t
+  compared : (o : BinaryOp) (s t : IrType) → IsIdentity o → compares has ≡ true → MayStand has Any s → MayStand has Any t → Operates has o s t
 
 -- a division by a literal other than zero
 pub data DividesBy : BinaryOp → Term → Type 0 where

@@ -8,7 +8,7 @@ use Rattle.sj_names.specs.declared.method_names.Namespace.TheVariants.{PublicSta
 use Rattle.sure_receivers.specs.Sure.{is_sure, sure_locals}
 use Rattle.sj_names.specs.declared.references.TypeRef.{TypeRef}
 use Rattle.body_rules.specs.Locals.{Own, OwnAll, local_of, HasValue}
-use Rattle.sj_trees.specs.Term.{Term, Terms, no_terms, more_terms, Cases, no_cases, more_cases, var_def, block_of, labeled, assign, return_to, if_then, while_loop, do_while, match_on, throw, new_object, select, select_static, apply_statically, this_ref, apply_static, unary_op, binary_op, boolean_literal, char_literal, byte_literal, short_literal, int_literal, long_literal, var_ref, log_line}
+use Rattle.sj_trees.specs.Term.{Term, Terms, no_terms, more_terms, Cases, no_cases, more_cases, var_def, block_of, labeled, assign, return_to, if_then, while_loop, do_while, match_on, throw, new_object, select, select_static, apply_statically, this_ref, apply_static, unary_op, binary_op, is_instance_of, as_instance_of, boolean_literal, char_literal, byte_literal, short_literal, int_literal, long_literal, var_ref, log_line}
 use Rattle.sj_trees.specs.Types.{class_type, reference_type}
 use Rattle.sj_trees.specs.declared.classes.MethodDef.{MethodDef}
 use Rattle.sj_trees.specs.declared.classes.ParamDef.{ParamDef}
@@ -123,6 +123,8 @@ module _ (w : Classes) (has : Usable) where
     Typed s (apply_static p c n m ts t) = Here s (apply_static p c n m ts t) × TypedAll s ts
     Typed s (unary_op p o e) = Here s (unary_op p o e) × Typed s e
     Typed s (binary_op p o e d) = Here s (binary_op p o e d) × Typed s e × Typed s d
+    Typed s (is_instance_of p e t) = Here s (is_instance_of p e t) × Typed s e
+    Typed s (as_instance_of p e t) = Here s (as_instance_of p e t) × Typed s e
     Typed s (log_line p e) = Here s (log_line p e) × Typed s e
     -- a tree with none in it that is built
     Typed s t = Here s t

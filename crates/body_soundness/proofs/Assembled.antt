@@ -33,4 +33,5 @@ laws_of w has h = record {
   one_static = h.one_static;
   exceptions = h.exceptions;
   divisions = h.divisions;
+  casts = h.casts;
 }

@@ -1,6 +1,7 @@
 pub mod Assembled
 pub mod Chains
 pub mod Heaps
+pub mod Instances
 pub mod Lengths
 pub mod Modules
 pub mod Right

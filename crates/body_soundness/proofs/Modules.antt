@@ -101,4 +101,5 @@ nothing_asked w linked = record {
   one_static = λ c f s t h k. impossible h;
   exceptions = λ h. impossible h;
   divisions = λ o h. no_division (members_alone linked) (λ x. refl) o h;
+  casts = λ t h. impossible h;
 }

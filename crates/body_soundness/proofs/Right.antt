@@ -10,14 +10,15 @@ use Rattle.outcomes.specs.Outcome.{Lines, End, Done, Going, Wrong, Out, then_do,
 use Rattle.dispatch_laws.proofs.OwnTargets.{own_target}
 use Rattle.ir_mean.specs.Dispatch.{chain_of}
 use Rattle.ir_mean.specs.Meaning as ir_meaning
-use Rattle.ir_mean.specs.Operators.{Answer, unary_value, binary_value}
+use Rattle.ir_mean.specs.Operators.{Answer, answers, unary_value, binary_value}
 use Rattle.ir_mean.specs.States as ir
 use Rattle.sure_receivers.specs.Sure.{is_sure_type, is_sure, Definition, definitions, definitions_in, definitions_of_cases, sure_locals}
 use Rattle.body_soundness.proofs.Heaps.{get-end, get-front, not-past, get-set, get-set_other}
+use Rattle.body_soundness.proofs.Instances.{IsObject, an_object, tested_type, test_type}
 use Rattle.body_soundness.proofs.Sured.{Sured, sured-parts, sure-named, body-sured}
 use Rattle.dispatch_laws.specs.Targets.{IsTargetOf}
-use Rattle.body_soundness.specs.Laws.{HasReceivers, reads, calls, null_pointer, arithmetic, ObjectLaws}
-use Rattle.ir_mean.specs.World.{World, class_of, method_among, method_in, member_of, zeros_in, zero_of, new_fields}
+use Rattle.body_soundness.specs.Laws.{HasReceivers, reads, calls, null_pointer, arithmetic, class_cast, ObjectLaws}
+use Rattle.ir_mean.specs.World.{World, class_of, method_among, method_in, member_of, is_of_type, type_text, zeros_in, zero_of, new_fields}
 use Rattle.sj_desugar.specs.Desugar.{member, has_no_value}
 use Rattle.sj_emit_expr.specs.Templates.{check_name, called_member}
 use Rattle.sj_desugar.specs.Plain.{is_no_type}
@@ -27,7 +28,7 @@ use Rattle.sj_names.specs.declared.method_names.Namespace.{Namespace}
 use Rattle.sj_names.specs.declared.method_names.Namespace.TheVariants.{Constructor}
 use Rattle.sj_names.specs.declared.method_names.Member.{Member}
 use Rattle.sj_names.specs.declared.references.TypeRef.{TypeRef}
-use Rattle.sj_trees.specs.Term.{Term, Terms, no_terms, more_terms, Cases, no_cases, more_cases, var_def, skip, block_of, labeled, assign, return_to, if_then, while_loop, do_while, throw, match_on, new_object, new_array, array_value, load_module, select, select_static, apply_statically, apply_static, unary_op, binary_op, undefined_literal, null_literal, boolean_literal, char_literal, byte_literal, short_literal, int_literal, long_literal, string_literal, var_ref, this_ref, log_line}
+use Rattle.sj_trees.specs.Term.{Term, Terms, no_terms, more_terms, Cases, no_cases, more_cases, var_def, skip, block_of, labeled, assign, return_to, if_then, while_loop, do_while, throw, match_on, new_object, new_array, array_value, load_module, select, select_static, apply_statically, apply_static, unary_op, binary_op, is_instance_of, as_instance_of, undefined_literal, null_literal, boolean_literal, char_literal, byte_literal, short_literal, int_literal, long_literal, string_literal, var_ref, this_ref, log_line}
 use Rattle.sj_trees.specs.TypeOf.{type_of_term, type_of_last, loop_type, unary_result, binary_result}
 use Rattle.sj_trees.specs.Types.{class_type, reference_type}
 use Rattle.sj_trees.specs.declared.classes.ClassDef.{ClassDef}
@@ -40,7 +41,7 @@ use Rattle.sj_trees.specs.declared.types.IrType.TheVariants.{Any, Class, Array, 
 use Rattle.typing_rules.specs.Rules.{IsStatic, IsReceiver, ArgumentsFit, Yields, nothing_wanted, fitting, unary_operand, left_operand, right_operand, IsText as IsJoined}
 use Rattle.body_rules.specs.Operators.{IsDivision, a_quotient, a_remainder, IsLongDivision, a_long_quotient, a_long_remainder, DividesBy, by_int, by_long}
 use Rattle.built_forms.proofs.Statics.{read_static, set_static}
-use Rattle.built_forms.specs.Built.{Usable, has_static}
+use Rattle.built_forms.specs.Built.{Usable, has_static, can_cast}
 use Rattle.body_rules.specs.Standing.{call_type}
 use Rattle.body_rules.specs.Typing.{RunsOnObject, AllHaveValues, may_check, IsTrueLiteral, true_literal, Scene, behind, in_label, Typed, TypedBlock, TypedAll, TypedCases}
 use Rattle.body_rules.specs.Locals.{Own, OwnAll, OwnCases, IsParameter, local_of, HasValue, HaveValues}
@@ -50,7 +51,7 @@ use Rattle.body_soundness.specs.Rules.{RightMember}
 use Rattle.sj_proper.specs.Methods.{HaveTypes, scene_of}
 use Rattle.sj_proper.specs.Once.{NamesOnce}
 use Rattle.body_rules.specs.Subtyping.{IsSubtyping}
-use Rattle.body_rules.proofs.RulesGive.{class_has_value, Takes, its_types, texts, of_division, operation}
+use Rattle.body_rules.proofs.RulesGive.{class_has_value, Takes, its_types, texts, of_division, of_identity, operation}
 use Rattle.built_forms.proofs.Around.{type_inside}
 use Rattle.sj_world.specs.Ancestors.{by_path}
 use Rattle.sj_world.specs.Known as known
@@ -59,8 +60,8 @@ use Rattle.sj_world.specs.Subtypes.{IsSub, to_any, null_to_class, null_to_array,
 use Rattle.body_rules.proofs.Topped.{string_class}
 use Rattle.typing_rules.specs.Labels.{type_of_label}
 use Rattle.body_rules.proofs.Locals.{local-there, values-behind}
-use Rattle.body_rules.proofs.Fitting.{value-not, true-or-none, unary-operand-value, left-operand-value, right-operand-value, not_no_type}
-use Rattle.body_soundness.proofs.Values.{Classes, Adds, adds-refl, adds-trans, type-lift, HasType, has_type, of_undefined, of_null, of_boolean, of_byte, of_short, of_int, of_text, IsBoolean, a_boolean, IsNumber, a_number, IsText, a_text, wider, as_boolean, as_int, as_text, Gives, some_of, unary_gives, binary_gives, division_gives, divided_gives, of_char, of_long, as_long, join_gives, long_division_gives, of_object, primitive_full, Sort, is_null, is_object, is_primitive, sort_of}
+use Rattle.body_rules.proofs.Fitting.{value-not, true-or-none, unary-operand-value, left-operand-value, right-operand-value, not_no_type, cast-value}
+use Rattle.body_soundness.proofs.Values.{Classes, Adds, adds-refl, adds-trans, type-lift, HasType, has_type, of_undefined, of_null, of_boolean, of_byte, of_short, of_int, of_text, IsBoolean, a_boolean, IsNumber, a_number, IsText, a_text, wider, as_boolean, as_int, as_text, Gives, some_of, unary_gives, binary_gives, identity_gives, division_gives, divided_gives, of_char, of_long, as_long, join_gives, long_division_gives, of_object, primitive_full, Sort, is_null, is_object, is_primitive, sort_of}
 
 -- not wrong, and where it is done, with what P says
 abbrev pub Comes : {A : Type 0} → (A → Type 0) → End A → Type 0
@@ -172,6 +173,13 @@ module _ (w : World) (law : IsSubtyping (IsSub w)) (has : Usable) where
     pub record Ready (f : Frame) (ds : List ParamDef) (env : ir.Env) (st : ir.State) : Type 0 where
       pub locals : EnvTyped f ds env
       pub heap : HeapTyped st
+
+    -- an object of its class stands at each address that has one
+    objects_there : (st : ir.State) → HeapTyped st → (i : ℕ) (c : List ℕ) → at i ≡ Some c → IsObject c (slice_get st.heap i)
+    objects_there st heap i c e = go (slice_get st.heap i) (heap.objects i c e)
+      where
+        go : (o : Option ir.Stored) → ObjectTyped c o → IsObject c o
+        go _ (typed_object fields h) = an_object fields
 
     env-set : (f : Frame) (ds : List ParamDef) (d : ParamDef) (env : ir.Env) (v : ir.Value) → HasType (IsSub w) law at v d.tpe → (HasReceivers has → f.sure d.name ≡ true → v ≡ ir.null → ⊥) → EnvTyped f ds env → EnvTyped f (d ∷ ds) (ir_meaning.set_local d.name v env)
     env-set f ds d env v i n h = record { holds = λ y c e. go y c (pointwise nat_eq y d.name) e; full = λ r y c e k. not r y c (pointwise nat_eq y d.name) refl e k; this = h.this; sure = h.sure }
@@ -873,6 +881,24 @@ module _ (w : World) (law : IsSubtyping (IsSub w)) (has : Usable) where
         long_operand _ a_long_quotient e f = f
         long_operand _ a_long_remainder e f = f
 
+    -- whether a value is of a type
+    tested_value : (at : Classes) (s : Scene) (t : IrType) (v : ir.Value) (env : ir.Env) (st : ir.State) → Ready at (frame_of s) s.locals env st → Right at s Boolean (ir_meaning.test w t (v ∷ []) env st)
+    tested_value at s t v env st e = here at s s.locals Boolean (ir_meaning.is_instance_value w t st v) env st (inr (test_type w law at st (objects_there at st e.heap) v t)) e
+
+    -- a cast to a type of which the value isn't is one that can fail
+    cast_fails : (at : Classes) (s : Scene) (t : IrType) (v : ir.Value) (env : ir.Env) (st : ir.State) → can_cast has t ≡ true → is_of_type w st v t ≡ false → Ready at (frame_of s) s.locals env st → Right at s t (ir_meaning.answered w low (ir_meaning.cast_failure t) env st)
+    cast_fails at s Any v env st can isnt e = impossible (sym isnt)
+    cast_fails at s t v env st can isnt e = let there = laws.casts t can in only_right (CameRight at s s.locals t) Full (ir_meaning.raise w low class_cast (type_text t) env st).end (raise_right class_cast (type_text t) there.0 there.1 s t at env st e)
+
+    -- a value that is cast
+    cast_value : (at : Classes) (s : Scene) (t : IrType) → can_cast has t ≡ true → HasValue t → (v : ir.Value) → HasType (IsSub w) law at v Any → (env : ir.Env) (st : ir.State) → Ready at (frame_of s) s.locals env st → Right at s t (ir_meaning.cast w low t (v ∷ []) env st)
+    cast_value at s t can value ir.null i env st e = here at s s.locals t (zero_of t) env st (inr (zero_type at t value)) e
+    cast_value at s t can value v i env st e = go (is_of_type w st v t) refl
+      where
+        go : (b : Bool) → is_of_type w st v t ≡ b → Right at s t (ir_meaning.answered w low (if b then answers v else ir_meaning.cast_failure t) env st)
+        go true is = here at s s.locals t v env st (inr (tested_type w law at st (objects_there at st e.heap) v t i is)) e
+        go false isnt = cast_fails at s t v env st can isnt e
+
     -- an operand of a type that joins to a text has a value of its type
     text-type : (at : Classes) (v : ir.Value) (t : IrType) → IsJoined t → GivesType at v t → HasType (IsSub w) law at v t
     text-type at v t h (inl none) = absurd (not_no_type t h none)
@@ -881,6 +907,7 @@ module _ (w : World) (law : IsSubtyping (IsSub w)) (has : Usable) where
     two_right : (o : BinaryOp) (e d : Term) (at : Classes) (s : Scene) → Takes w has o e d → (v a : ir.Value) → GivesType at v (type_of_term e) → GivesType at a (type_of_term d) → (env : ir.Env) (st : ir.State) → Ready at (frame_of s) s.locals env st → Right at s (binary_result o) (ir_meaning.answered w low (binary_value o v a) env st)
     two_right o e d at s (its_types h f g) v a i j env st r = value_right at low s (binary_result o) (binary_value o v a) env st (binary_gives (IsSub w) law at o h v a (operand-type at v (type_of_term e) (left_operand o) i f (value-not (left_operand o) (left-operand-value o))) (operand-type at a (type_of_term d) (right_operand o) j g (value-not (right_operand o) (right-operand-value o)))) r
     two_right o e d at s (texts is f g) v a i j env st r = value_right at low s (binary_result o) (binary_value o v a) env st (subst (λ p. Gives (IsSub w) law at (binary_result p) (binary_value p v a)) (sym is) (join_gives (IsSub w) law at v a (type_of_term e) (type_of_term d) f g (text-type at v (type_of_term e) f i) (text-type at a (type_of_term d) g j))) r
+    two_right o e d at s (of_identity h k f g) v a i j env st r = value_right at low s (binary_result o) (binary_value o v a) env st (identity_gives (IsSub w) law at o h v a) r
     two_right o e d at s (of_division h f g) v a i j env st r = ⊎_elim (λ gives. value_right at low s (binary_result o) (binary_value o v a) env st gives r) (λ zero. subst (λ (q : Answer). Right at s (binary_result o) (ir_meaning.answered w low q env st)) (sym zero) thrown) (divided_gives (IsSub w) law at has o h v a (operand-type at v (type_of_term e) (left_operand o) i f (value-not (left_operand o) (left-operand-value o))) (operand-type at a (type_of_term d) (right_operand o) j g (value-not (right_operand o) (right-operand-value o))))
       where
         thrown : Right at s (binary_result o) (ir_meaning.raise w low arithmetic (codes "/ by zero") env st)
@@ -915,6 +942,8 @@ module _ (w : World) (law : IsSubtyping (IsSub w)) (has : Usable) where
       tree_right (this_ref p t) = λ s v h fresh u at env st i. only_right (CameRight at s s.locals t) Full (ir_meaning.local_value env.this_value env st).end (this_right at s t s.owner env.this_value env st h.finds.1 (i.locals.this h.finds.0) i)
       tree_right (unary_op p o e) = λ s v h fresh u at env st i. operand_right e at s (unary_result o) (unary_operand o) (ir_meaning.unary w low o) env st (tree_right e s v h.1 fresh u at env st i) h.0.meets (value-not (unary_operand o) (unary-operand-value o)) (λ y b q env st k i. value_right y low s (unary_result o) (unary_value o q) env st (unary_gives (IsSub w) law y o q k) i)
       tree_right (binary_op p o e d) = λ s v h fresh u at env st i. ⊎_elim (λ takes. binary_right o e d at s takes env st (tree_right e s v h.1 (λ x o. fresh x (inl o)) (sures-parts s (definitions e) (definitions d) u).0 at env st i) (λ k env st i. tree_right d s v h.2 (λ x o. fresh x (inr o)) (sures-parts s (definitions e) (definitions d) u).1 k env st i)) (λ divides. division_right o e d at s divides.0 divides.1 env st (tree_right e s v h.1 (λ x o. fresh x (inl o)) (sures-parts s (definitions e) (definitions d) u).0 at env st i)) (operation w has s o e d h.0.built h.2 h.0.meets)
+      tree_right (is_instance_of p e t) = λ s v h fresh u at env st i. operand_right e at s Boolean Any (ir_meaning.test w t) env st (tree_right e s v h.1 fresh u at env st i) h.0.meets.1 (value-not Any refl) (λ y b q env st k i. tested_value y s t q env st i)
+      tree_right (as_instance_of p e t) = λ s v h fresh u at env st i. operand_right e at s t Any (ir_meaning.cast w low t) env st (tree_right e s v h.1 fresh u at env st i) h.0.meets.1 (value-not Any refl) (λ y b q env st k i. cast_value y s t h.0.built (cast-value t h.0.meets.0) q k env st i)
       tree_right (undefined_literal p) = λ s v h fresh u at env st i. here at s s.locals Undefined ir.undefined env st (inr (has_type Undefined of_undefined (law.same Undefined))) i
       tree_right (null_literal p) = λ s v h fresh u at env st i. here at s s.locals Null ir.null env st (inr (has_type Null of_null (law.same Null))) i
       tree_right (boolean_literal p b) = λ s v h fresh u at env st i. here at s s.locals Boolean (ir.boolean b) env st (inr (has_type Boolean (of_boolean b) (law.same Boolean))) i

@@ -12,7 +12,7 @@ use Rattle.sj_trees.specs.declared.types.IrType.{IrType}
 use Rattle.sj_trees.specs.declared.types.IrType.TheVariants.{Undefined, Null, Boolean, Char, Byte, Short, Int, Long, String, Class, Nothing}
 use Rattle.body_soundness.specs.Laws.{arithmetic}
 use Rattle.built_forms.specs.Built.{Usable, divides}
-use Rattle.body_rules.specs.Operators.{is_simple, IsDivision, a_quotient, a_remainder, IsLongDivision, a_long_quotient, a_long_remainder}
+use Rattle.body_rules.specs.Operators.{is_simple, IsDivision, a_quotient, a_remainder, IsLongDivision, a_long_quotient, a_long_remainder, IsIdentity, a_sameness, a_difference}
 use Rattle.typing_rules.specs.Rules.{unary_operand, left_operand, right_operand, IsText as IsJoined}
 use Rattle.sj_names.proofs.Same.{impossible}
 use Rattle.body_rules.specs.Standing.{is_bare}
@@ -72,12 +72,20 @@ abbrev is_text_type : IrType → Bool
 is_text_type String = true
 is_text_type _ = false
 
+-- an operator that takes values of any kind gives the same on those of one kind
+any_is : (o : BinaryOp) → ((a b : Bool) → boolean_value o a b ≡ any_value o (ir.boolean a) (ir.boolean b)) → ((a b : ℤ) → number_value o a b ≡ any_value o (ir.number a) (ir.number b)) → ((a b : ℤ) → long_value o a b ≡ any_value o (ir.long a) (ir.long b)) → ((a b : ℤ) → shift_value o a b ≡ any_value o (ir.long a) (ir.number b)) → (v w : ir.Value) → binary_value o v w ≡ any_value o v w
+any_is o booleans numbers longs shifts (ir.boolean a) (ir.boolean b) = booleans a b
+any_is o booleans numbers longs shifts (ir.number a) (ir.number b) = numbers a b
+any_is o booleans numbers longs shifts (ir.long a) (ir.long b) = longs a b
+any_is o booleans numbers longs shifts (ir.long a) (ir.number b) = shifts a b
+any_is o booleans numbers longs shifts v w = refl
+
 join_is : (v w : ir.Value) → binary_value StringConcatenate v w ≡ any_value StringConcatenate v w
-join_is (ir.boolean a) (ir.boolean b) = refl
-join_is (ir.number a) (ir.number b) = refl
-join_is (ir.long a) (ir.long b) = refl
-join_is (ir.long a) (ir.number b) = refl
-join_is v w = refl
+join_is v w = any_is StringConcatenate (λ a b. refl) (λ a b. refl) (λ a b. refl) (λ a b. refl) v w
+
+identity_is : (o : BinaryOp) → IsIdentity o → (v w : ir.Value) → binary_value o v w ≡ any_value o v w
+identity_is _ a_sameness v w = any_is StrictEqual (λ a b. refl) (λ a b. refl) (λ a b. refl) (λ a b. refl) v w
+identity_is _ a_difference v w = any_is StrictNotEqual (λ a b. refl) (λ a b. refl) (λ a b. refl) (λ a b. refl) v w
 
 sure_lowest : (t : IrType) → is_sure_type t ≡ true → is_lowest t ≡ true
 sure_lowest Undefined h = refl
@@ -291,6 +299,14 @@ module _ (sub : IrType → IrType → Type 0) (law : IsSubtyping sub) (at : Clas
 
   pub join_gives : (v w : ir.Value) (s t : IrType) → IsJoined s → IsJoined t → HasType v s → HasType w t → Gives String (binary_value StringConcatenate v w)
   join_gives v w s t h k (has_type o i f) (has_type q j g) = subst (Gives String) (sym (join_is v w)) (joined_gives v w (text_there v o s h f i) (text_there w q t k g j))
+
+  -- identity is a boolean, whatever the values are
+  identity_any : (o : BinaryOp) → IsIdentity o → (v w : ir.Value) → Gives (binary_result o) (any_value o v w)
+  identity_any _ a_sameness v w = yes_or_no _
+  identity_any _ a_difference v w = yes_or_no _
+
+  pub identity_gives : (o : BinaryOp) → IsIdentity o → (v w : ir.Value) → Gives (binary_result o) (binary_value o v w)
+  identity_gives o i v w = subst (Gives (binary_result o)) (sym (identity_is o i v w)) (identity_any o i v w)
 
   pub division_gives : (o : BinaryOp) → IsDivision o → (v : ir.Value) → IsNumber v → (n : ℤ) → n ≢ pos 0 → Gives (binary_result o) (binary_value o v (ir.number n))
   division_gives _ a_quotient _ (a_number a) (pos zero) ne = absurd (ne refl)

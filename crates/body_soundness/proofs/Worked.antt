@@ -203,6 +203,7 @@ object_laws = record {
   one_static = λ c f s t h k. impossible h;
   exceptions = λ h. impossible h;
   divisions = λ o h. no_division object_use (λ x. refl) o h;
+  casts = λ t h. impossible h;
 }
 
 pub initializer_linked : (e : EntryPoint) → Contains (initializers once (codes "main")) e → object_use.linked (initializer_member e) ≡ true

@@ -34,10 +34,13 @@ null_pointer = codes "java.lang.NullPointerException"
 abbrev pub arithmetic : List ℕ
 arithmetic = codes "java.lang.ArithmeticException"
 
+abbrev pub class_cast : List ℕ
+class_cast = codes "java.lang.ClassCastException"
+
 -- Members that run on an object and constructors keep the rules, and what a call of a member runs is its target; where there are receivers, bodies define no local twice; objects of a class that is made
 -- stand at no bare type. A field that can be read has one type, with values, and is an instance field of its class, which stands on the chain of
 -- superclasses of each class that is made below it; no primitive type is below it. A static field that can be used has one type, with values, and is one of its class. Where the null check can be used, its exception is
--- made, and so is that of a division whose helper can be used.
+-- made, and so are that of a division whose helper can be used and that of a cast that can be used.
 pub record ObjectLaws (w : World) (has : Usable) : Type 0 where
   pub received : (m : Member) → has.received m ≡ true → RightMember w has m
   pub targets : (m : Member) → has.received (has.target m) ≡ true → IsTargetOf w m (has.target m)
@@ -52,3 +55,4 @@ pub record ObjectLaws (w : World) (has : Usable) : Type 0 where
   pub one_static : (c f : List ℕ) (s t : IrType) → has_static has c f s ≡ true → has_static has c f t ≡ true → s ≡ t
   pub exceptions : has.helper check_name ≡ true → (has.made null_pointer ≡ true) × (has.built (member null_pointer Constructor with_message) ≡ true)
   pub divisions : (o : BinaryOp) → divides has o ≡ true → (has.made arithmetic ≡ true) × (has.built (member arithmetic Constructor with_message) ≡ true)
+  pub casts : (t : IrType) → has.casts t ≡ true → (has.made class_cast ≡ true) × (has.built (member class_cast Constructor with_message) ≡ true)

@@ -2,7 +2,7 @@
 use Rattle.std.specs.Prelude.{◌≡◌, true, false, Some}
 use Rattle.std.specs.List.{Contains}
 use Rattle.body_rules.specs.Locals.{HasValue}
-use Rattle.body_soundness.specs.Laws.{HasReceivers, null_pointer, arithmetic}
+use Rattle.body_soundness.specs.Laws.{HasReceivers, null_pointer, arithmetic, class_cast}
 use Rattle.body_soundness.specs.Rules.{RightMember}
 use Rattle.built_forms.specs.Built.{Usable, has_static, divides}
 use Rattle.dispatch_laws.specs.Targets.{IsTargetOf}
@@ -61,3 +61,4 @@ pub record ObjectWorld (w : Classes) (has : Usable) : Type 0 where
   pub one_static : (c f : Name) (s t : IrType) → has_static has c f s ≡ true → has_static has c f t ≡ true → s ≡ t
   pub exceptions : has.helper check_name ≡ true → (has.made null_pointer ≡ true) × (has.built (member null_pointer Constructor with_message) ≡ true)
   pub divisions : (o : BinaryOp) → divides has o ≡ true → (has.made arithmetic ≡ true) × (has.built (member arithmetic Constructor with_message) ≡ true)
+  pub casts : (t : IrType) → has.casts t ≡ true → (has.made class_cast ≡ true) × (has.built (member class_cast Constructor with_message) ≡ true)

@@ -1,13 +1,12 @@
 -- Code that makes an object for a char uses the class of such objects.
 use Rattle.sj_names.specs.declared.method_names.Member.{Member}
-use Rattle.std.proofs.Common.{◌≡◌, ℕ, Bool, true, false, List, [], ◌∷◌, ◌++◌, ◌||◌, inl, inr, Some, None, refl, sym, subst, length, arith, codes, Contains}
+use Rattle.std.proofs.Common.{◌≡◌, ℕ, Bool, true, false, List, [], ◌∷◌, ◌++◌, ◌||◌, inl, inr, Some, None, refl, sym, subst, length, arith, codes}
 use Rattle.std.specs.Prelude.{if◌then◌else◌, not, ◌&&◌, pos}
 use Rattle.std.specs.List.{All}
 use Rattle.std.proofs.lemmas.Bool.{and_parts}
 use Rattle.std.proofs.lemmas.List.Elements.{All-head, All-tail}
-use Rattle.accepted_folders.proofs.Found.{here, there}
 use Rattle.accepted_folders.proofs.Targets.{target_goal}
-use Rattle.accepted_folders.specs.Boxes.{Goal, goal_of, goals_of, is_boxed, any_is_boxed, is_boxed_at, boxes_as_text, any_boxes_as_text, boxes, last_boxes, operand_boxes, operands_box, cases_box}
+use Rattle.accepted_folders.specs.Boxes.{Goal, goal_of, goals_of, is_boxed, any_is_boxed, operands_are_boxed, is_boxed_at, boxes_as_text, any_boxes_as_text, boxes, last_boxes, operand_boxes, operands_box, cases_box}
 use Rattle.js_tree.specs.declared.items.Binding.{Binding}
 use Rattle.sj_core.specs.Terms as core
 use Rattle.sj_core.specs.Terms.{Expression, boxed_char, checked_value, followed}
@@ -18,27 +17,20 @@ use Rattle.sj_desugar.specs.Plain.{is_no_type, is_plain, are_plain}
 use Rattle.sj_desugar.specs.Spill.{Destination, discard, to_variable, to_result, Code, one, put_first, Operand, Spilled, spill, then_use}
 use Rattle.sj_desugar.specs.Texts.{operand_of}
 use Rattle.sj_emit_expr.specs.Templates.{check_name, is_nonzero_literal, called_member}
-use Rattle.sj_emit_expr.specs.Uses.{object_binding, function_binding, class_use, setter_use, helper_of, uses_in, uses_in_all, uses_of, uses_of_all, uses_of_cases}
+use Rattle.sj_emit_expr.specs.Uses.{object_binding, function_binding, class_use, setter_use, helper_of, test_uses, cast_uses, uses_in, uses_in_all, uses_of, uses_of_all, uses_of_cases}
 use Rattle.sj_names.proofs.Same.{impossible}
 use Rattle.sj_names.specs.declared.method_names.Namespace.TheVariants.{Constructor}
 use Rattle.sj_names.specs.declared.references.TypeRef.{TypeRef}
-use Rattle.sj_trees.specs.Term.{Term, Terms, no_terms, more_terms, Cases, no_cases, more_cases, var_def, block_of, labeled, assign, return_to, if_then, while_loop, do_while, match_on, throw, new_object, select, select_static, apply_statically, apply_static, unary_op, binary_op, char_literal, var_ref, this_ref, log_line}
+use Rattle.sj_trees.specs.Term.{Term, Terms, no_terms, more_terms, Cases, no_cases, more_cases, var_def, block_of, labeled, assign, return_to, if_then, while_loop, do_while, match_on, throw, new_object, select, select_static, apply_statically, apply_static, unary_op, binary_op, is_instance_of, as_instance_of, char_literal, var_ref, this_ref, log_line}
 use Rattle.sj_trees.specs.TypeOf.{type_of_term, unary_result, binary_result}
 use Rattle.sj_trees.specs.Types.{class_type, reference_type}
+use Rattle.sj_trees.specs.declared.operators.BinaryOp.{BinaryOp}
+use Rattle.sj_trees.specs.declared.operators.BinaryOp.TheVariants.{StrictEqual, StrictNotEqual}
 use Rattle.sj_trees.specs.declared.positions.Position.{Position}
 use Rattle.sj_trees.specs.declared.types.IrType.{IrType}
-use Rattle.sj_trees.specs.declared.types.IrType.TheVariants.{Any, Char}
+use Rattle.sj_trees.specs.declared.types.IrType.TheVariants.{Any, Boolean, Char}
 use Rattle.sure_receivers.specs.Sure.{is_sure}
-use Rattle.body_uses.specs.Given.{body_helpers}
 use Rattle.body_uses.proofs.Uses.{fixed_plain, spill_count, front, back, In, InAll, Within, only, followed_parts, uncoerced, arguments_in, operand_in, Written, as_text, as_code, AllWritten, spill_in, one_in, two_in, first_and_rest, finished, labeled_in, leaving_in, break_in}
-
-pub box_among : Contains body_helpers (codes "$C")
-box_among =
-    let last = here (codes "$C") [] in
-    let third = there (codes "$lm") (codes "$C" ∷ []) (codes "$C") last in
-    let second = there (codes "$ld") (codes "$lm" ∷ codes "$C" ∷ []) (codes "$C") third in
-    let first = there (codes "$im") (codes "$ld" ∷ codes "$lm" ∷ codes "$C" ∷ []) (codes "$C") second in
-    there check_name (codes "$id" ∷ codes "$im" ∷ codes "$ld" ∷ codes "$lm" ∷ codes "$C" ∷ []) (codes "$C") (there (codes "$id") (codes "$im" ∷ codes "$ld" ∷ codes "$lm" ∷ codes "$C" ∷ []) (codes "$C") first)
 
 either : {A : Type 0} (a b : Bool) → (a || b) ≡ true → (a ≡ true → A) → (b ≡ true → A) → A
 either true b h f g = f refl
@@ -75,6 +67,12 @@ module _ (U : Binding → Type 0) (runs : Member → Member) where
       let own = coerced (reference_type r) (type_of_term t) e in
       let rest = uses_in_all runs (expressions_of (coerced_arguments rs (types_of ts) es)) in
       either (is_boxed (reference_type r) t) (any_is_boxed rs ts) k (coerced_box (reference_type r) (type_of_term t) e (front U runs (uses_in runs own) rest h)) (arguments_box rs ts es m (back U runs (uses_in runs own) rest h))
+
+  -- operands of identity, as values of any type
+  same_box : (o : BinaryOp) (e d : Term) (x y : Expression) → In U runs (operand_of o (type_of_term e) x) → In U runs (operand_of o (type_of_term d) y) → operands_are_boxed o e d ≡ true → Boxed
+  same_box StrictEqual e d x y h g k = either (is_boxed Any e) (is_boxed Any d) k (coerced_box Any (type_of_term e) x h) (coerced_box Any (type_of_term d) y g)
+  same_box StrictNotEqual e d x y h g k = either (is_boxed Any e) (is_boxed Any d) k (coerced_box Any (type_of_term e) x h) (coerced_box Any (type_of_term d) y g)
+  same_box _ e d x y h g k = impossible k
 
   finish_box : (k : Destination) (p : Position) (t : IrType) (quiet : Bool) (e : Expression) (j : ℕ) → Within U runs (finish k p t quiet e j).statements → is_boxed_at (goal_of k) t ≡ true → Boxed
   finish_box discard p t quiet e j h b = impossible b
@@ -129,7 +127,11 @@ module _ (U : Binding → Type 0) (runs : Member → Member) where
           let right = operand_of o (type_of_term d) (expression_of sure d) in
           let helper = helper_of (is_nonzero_literal right) o in
           let h0 = front U runs (helper ++ uses_in runs left) (uses_in runs right) h in
-          either (boxes_as_text e) (boxes_as_text d) k (text_box e q0.0 (operand_in U runs o (type_of_term e) (expression_of sure e) (back U runs helper (uses_in runs left) h0))) (text_box d q0.1 (operand_in U runs o (type_of_term d) (expression_of sure d) (back U runs (helper ++ uses_in runs left) (uses_in runs right) h)))
+          let of_left = back U runs helper (uses_in runs left) h0 in
+          let of_right = back U runs (helper ++ uses_in runs left) (uses_in runs right) h in
+          either (operands_are_boxed o e d) (boxes_as_text e || boxes_as_text d) k (same_box o e d (expression_of sure e) (expression_of sure d) of_left of_right) (λ k. either (boxes_as_text e) (boxes_as_text d) k (text_box e q0.0 (operand_in U runs o (type_of_term e) (expression_of sure e) of_left)) (text_box d q0.1 (operand_in U runs o (type_of_term d) (expression_of sure d) of_right)))
+      text_box (is_instance_of p e t) q h k = let value = back U runs (test_uses t) (uses_in runs (coerced Any (type_of_term e) (expression_of sure e))) h in either (is_boxed Any e) (boxes_as_text e) k (coerced_box Any (type_of_term e) (expression_of sure e) value) (text_box e q (uncoerced U runs Any (type_of_term e) (expression_of sure e) value))
+      text_box (as_instance_of p e t) q h k = let value = back U runs (cast_uses t) (uses_in runs (coerced Any (type_of_term e) (expression_of sure e))) h in either (is_boxed Any e) (boxes_as_text e) k (coerced_box Any (type_of_term e) (expression_of sure e) value) (text_box e q (uncoerced U runs Any (type_of_term e) (expression_of sure e) value))
       text_box _ q h k = impossible k
 
       texts_box : (ts : Terms) → are_plain ts ≡ true → InAll U runs (all_expressions sure ts) → any_boxes_as_text ts ≡ true → Boxed
@@ -312,8 +314,24 @@ module _ (U : Binding → Type 0) (runs : Member → Member) where
             let parts = followed_parts U runs s.statements (finish k p (binary_result o) false made s.next).statements h in
             let inside = finished U runs k p (binary_result o) made s.next parts.1 in
             let head = front U runs (helper ++ uses_in runs left) (uses_in runs right) inside in
-            let written = spill_in U runs os j parts.0 (two_in U runs s.expressions (spill_count os j) (operand_in U runs o (type_of_term e) (first_of s.expressions) (back U runs helper (uses_in runs left) head)) (operand_in U runs o (type_of_term d) (second_of s.expressions) (back U runs (helper ++ uses_in runs left) (uses_in runs right) inside))) in
-            either (is_boxed_at (goal_of k) (binary_result o)) (operand_boxes (goals_of ts) e || operand_boxes (goals_of ts) d) i (finish_box k p (binary_result o) false made s.next parts.1) (λ i. either (operand_boxes (goals_of ts) e) (operand_boxes (goals_of ts) d) i (operand_box e (tree e) ts written.0) (operand_box d (tree d) ts written.1.0))
+            let of_left = back U runs helper (uses_in runs left) head in
+            let of_right = back U runs (helper ++ uses_in runs left) (uses_in runs right) inside in
+            let written = spill_in U runs os j parts.0 (two_in U runs s.expressions (spill_count os j) (operand_in U runs o (type_of_term e) (first_of s.expressions) of_left) (operand_in U runs o (type_of_term d) (second_of s.expressions) of_right)) in
+            either (is_boxed_at (goal_of k) (binary_result o) || operands_are_boxed o e d) (operand_boxes (goals_of ts) e || operand_boxes (goals_of ts) d) i (λ i. either (is_boxed_at (goal_of k) (binary_result o)) (operands_are_boxed o e d) i (finish_box k p (binary_result o) false made s.next parts.1) (same_box o e d (first_of s.expressions) (second_of s.expressions) of_left of_right)) (λ i. either (operand_boxes (goals_of ts) e) (operand_boxes (goals_of ts) d) i (operand_box e (tree e) ts written.0) (operand_box d (tree d) ts written.1.0))
+        tree (is_instance_of p e t) ts k j h i =
+            let s : Spilled = spill (one_of ts e) j in
+            let value = coerced Any (type_of_term e) (first_of s.expressions) in
+            let made = core.test_of t value in
+            let parts = followed_parts U runs s.statements (finish k p Boolean false made s.next).statements h in
+            let of_value = back U runs (test_uses t) (uses_in runs value) (finished U runs k p Boolean made s.next parts.1) in
+            either (is_boxed_at (goal_of k) Boolean) (is_boxed Any e || operand_boxes (goals_of ts) e) i (finish_box k p Boolean false made s.next parts.1) (λ i. either (is_boxed Any e) (operand_boxes (goals_of ts) e) i (coerced_box Any (type_of_term e) (first_of s.expressions) of_value) (act e (tree e) ts j parts.0 (uncoerced U runs Any (type_of_term e) (first_of s.expressions) of_value)))
+        tree (as_instance_of p e t) ts k j h i =
+            let s : Spilled = spill (one_of ts e) j in
+            let value = coerced Any (type_of_term e) (first_of s.expressions) in
+            let made = core.cast_of t value in
+            let parts = followed_parts U runs s.statements (finish k p t false made s.next).statements h in
+            let of_value = back U runs (cast_uses t) (uses_in runs value) (finished U runs k p t made s.next parts.1) in
+            either (is_boxed_at (goal_of k) t) (is_boxed Any e || operand_boxes (goals_of ts) e) i (finish_box k p t false made s.next parts.1) (λ i. either (is_boxed Any e) (operand_boxes (goals_of ts) e) i (coerced_box Any (type_of_term e) (first_of s.expressions) of_value) (act e (tree e) ts j parts.0 (uncoerced U runs Any (type_of_term e) (first_of s.expressions) of_value)))
         tree (char_literal p u) ts k j h i = finish_box k p Char true (core.number_value (pos u)) j h i
         tree (var_ref p x t) ts k j h i = finish_box k p t true (core.variable_use (core.named x)) j h i
         tree (this_ref p t) ts k j h i = finish_box k p t true (core.variable_use core.receiver) j h i

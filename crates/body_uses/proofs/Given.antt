@@ -17,7 +17,7 @@ use Rattle.sj_names.specs.declared.method_names.Namespace.{Namespace}
 use Rattle.sj_names.specs.declared.method_names.Namespace.TheVariants.{Public, PublicStatic, Private, PrivateStatic, Constructor}
 use Rattle.accepted_folders.specs.Typing.{may_check, is_built_with}
 use Rattle.accepted_folders.specs.Built.{Usable, can_box, may_make, is_built, any_object, body_boxes, is_object_body}
-use Rattle.sj_trees.specs.Term.{Term, Terms, new_object, select, select_static, apply_statically, apply_static, binary_op}
+use Rattle.sj_trees.specs.Term.{Term, Terms, new_object, select, select_static, apply_statically, apply_static, is_instance_of, as_instance_of, binary_op}
 use Rattle.sj_trees.specs.declared.classes.MethodDef.{MethodDef}
 use Rattle.sj_trees.specs.declared.positions.Position.{Position}
 use Rattle.sj_trees.specs.declared.types.IrType.{IrType}
@@ -26,8 +26,8 @@ use Rattle.worklist.proofs.Inserted.{nothing_in}
 use Rattle.accepted_folders.proofs.Undenied.{first_or_later}
 use Rattle.body_uses.specs.Given.{Given, HelpersGiven}
 use Rattle.body_uses.specs.Laws.{BodiesUseWhatIsGiven, used_by}
-use Rattle.body_uses.proofs.Boxes.{box_used, box_among}
-use Rattle.body_uses.proofs.Uses.{Gives, GivesReceived, followed_parts, or_first, or_second, tree}
+use Rattle.body_uses.proofs.Boxes.{box_used}
+use Rattle.body_uses.proofs.Uses.{Gives, GivesReceived, in_helpers, followed_parts, or_first, or_second, tree}
 
 pub same_binding : (a b : Binding) → is_same_binding a b ≡ true → a ≡ b
 same_binding a b h = let q = and_parts (is_same_text a.owner b.owner) (is_same_text a.name b.name) h in (λ i. record { owner = text-same a.owner b.owner q.0 i; name = text-same a.name b.name q.1 i })
@@ -88,6 +88,8 @@ module _ (has : Usable) (used : List Binding) where
   gives (new_object p c m ts) g = λ h k f u. g k f u
   gives (select p e c f t) g = λ h. g
   gives (select_static p c f t) g = (λ h u. g.0 u, λ h u. g.1 u)
+  gives (is_instance_of p e t) g = λ h u. impossible h
+  gives (as_instance_of p e t) g = λ h u. impossible h
   gives (binary_op p o e d) g = λ h. g
   gives t g = tt
 
@@ -103,7 +105,7 @@ body_given has d e objects k helpers given =
     let code = body_code (is_mutable_in d e) d.result e in
     let within = completed_uses (Contains used) has.target d.namespace code (all_from (Contains used) (uses_of_all has.target (desugared_member d e).body) (in_uses has.target (desugared_member d e).body)) in
     let each = all_from (Gives (Contains used) has.target any_object has) (trees e) (λ t i. gives has used t (given t i)) in
-    let made = may_make_those has (body_boxes d e) (λ h. helpers (codes "$C") box_among (box_used (Contains used) has.target sure (is_mutable_in d e) e [] (result_destination d.result) 1 within h)) in
+    let made = may_make_those has (body_boxes d e) (λ h. helpers (codes "$C") (in_helpers (codes "$C") refl) (box_used (Contains used) has.target sure (is_mutable_in d e) e [] (result_destination d.result) 1 within h)) in
     and_from (may_make has (body_boxes d e)) (is_built has (may_check has sure) e) made (tree (Contains used) has.target any_object has (λ e. true) sure (λ h. objects) (λ x i f u. helpers x i u) (λ e h n. refl) (is_mutable_in d e) e [] (result_destination d.result) 1 k each within)
 
 pub given : BodiesUseWhatIsGiven

@@ -2,10 +2,11 @@
 use Rattle.std.proofs.Common.{◌≡◌, ℕ, suc, Bool, true, false, List, [], ◌∷◌, ◌++◌, ◌&&◌, ◌||◌, ◌⊎◌, inl, inr, Some, None, refl, sym, ◌∙◌, ap, subst, length, arith, codes, Contains}
 use Rattle.std.specs.Prelude.{not, if◌then◌else◌, ℤ, pos}
 use Rattle.std.specs.Ordering.{int_eq}
-use Rattle.std.specs.List.{All}
+use Rattle.std.specs.List.{All, list_any}
 use Rattle.std.proofs.lemmas.Bool.{and_parts, and_from}
 use Rattle.std.proofs.lemmas.Bool.Decides.{Decides-int_eq}
 use Rattle.std.proofs.lemmas.List.Elements.{All-nil, All-cons, All-head, All-tail}
+use Rattle.std.proofs.lemmas.List.Folds.{Any-from_list_any}
 use Rattle.js_tree.specs.declared.items.Binding.{Binding}
 use Rattle.sj_core.specs.Terms as core
 use Rattle.sj_core.specs.Terms.{Expression, boxed_char, checked_value, static_call, receiver_call, made_of, field_of, unary_of, binary_of, followed}
@@ -16,33 +17,28 @@ use Rattle.sj_desugar.specs.Plain.{is_no_type, is_plain, are_plain, is_fixed}
 use Rattle.sj_desugar.specs.Spill.{Destination, discard, to_variable, to_result, Code, one, put_first, Operand, all_plain, texts, Spilled, spill, spill_case, then_use}
 use Rattle.sj_desugar.specs.Texts.{operand_of}
 use Rattle.sj_emit_expr.specs.Templates.{check_name, is_nonzero_literal, called_member}
-use Rattle.sj_emit_expr.specs.Uses.{object_binding, function_binding, class_use, static_use, setter_use, helper_of, uses_in, uses_in_all, uses_of, uses_of_all, uses_of_cases}
+use Rattle.sj_emit_expr.specs.Tests.{same_name}
+use Rattle.sj_emit_expr.specs.Uses.{object_binding, function_binding, class_use, static_use, setter_use, helper_of, test_uses, cast_uses, uses_in, uses_in_all, uses_of, uses_of_all, uses_of_cases}
 use Rattle.sj_infos.specs.Trees.{trees, below, all_below, cases_below}
-use Rattle.accepted_folders.proofs.Found.{here, there}
-use Rattle.sj_names.proofs.Same.{impossible}
+use Rattle.sj_names.proofs.Same.{impossible, text-same}
+use Rattle.sj_names.specs.Same.{is_same_text}
 use Rattle.sj_names.specs.declared.method_names.Member.{Member}
 use Rattle.sj_names.specs.declared.references.TypeRef.{TypeRef}
 use Rattle.accepted_folders.specs.Typing.{may_check}
-use Rattle.accepted_folders.specs.Built.{Usable, is_nonzero_int, is_nonzero_long, divides, is_operation, stands, is_built, are_built, are_built_cases}
+use Rattle.accepted_folders.specs.Built.{Usable, is_nonzero_int, is_nonzero_long, divides, is_operation, can_cast, stands, is_built, are_built, are_built_cases}
 use Rattle.sj_names.specs.declared.method_names.MethodName.{MethodName}
 use Rattle.sj_names.specs.declared.method_names.Namespace.{Namespace}
 use Rattle.sj_names.specs.declared.method_names.Namespace.TheVariants.{Public, Private, Constructor}
 use Rattle.sure_receivers.specs.Sure.{is_sure}
-use Rattle.sj_trees.specs.Term.{Term, Terms, no_terms, more_terms, Cases, no_cases, more_cases, var_def, skip, block_of, labeled, assign, return_to, if_then, while_loop, do_while, match_on, throw, new_object, select, select_static, apply_statically, apply_static, unary_op, binary_op, undefined_literal, null_literal, boolean_literal, char_literal, byte_literal, short_literal, int_literal, long_literal, string_literal, var_ref, this_ref, log_line}
+use Rattle.sj_trees.specs.Term.{Term, Terms, no_terms, more_terms, Cases, no_cases, more_cases, var_def, skip, block_of, labeled, assign, return_to, if_then, while_loop, do_while, match_on, throw, new_object, select, select_static, apply_statically, apply_static, unary_op, binary_op, is_instance_of, as_instance_of, undefined_literal, null_literal, boolean_literal, char_literal, byte_literal, short_literal, int_literal, long_literal, string_literal, var_ref, this_ref, log_line}
 use Rattle.sj_trees.specs.TypeOf.{type_of_term, unary_result, binary_result}
 use Rattle.sj_trees.specs.Types.{class_type, reference_type}
 use Rattle.sj_trees.specs.declared.operators.BinaryOp.{BinaryOp}
 use Rattle.sj_trees.specs.declared.operators.BinaryOp.TheVariants.{StringConcatenate, StrictEqual, StrictNotEqual, IntDivide, IntRemainder, LongDivide, LongRemainder}
 use Rattle.sj_trees.specs.declared.positions.Position.{Position}
 use Rattle.sj_trees.specs.declared.types.IrType.{IrType}
-use Rattle.sj_trees.specs.declared.types.IrType.TheVariants.{Any, Char, Int, Long, Nothing, String}
+use Rattle.sj_trees.specs.declared.types.IrType.TheVariants.{Any, Boolean, Char, Int, Long, Nothing, String}
 use Rattle.body_uses.specs.Given.{FitsDivision, HasType, body_helpers}
-
-operand_same : (runs : Member → Member) (o : BinaryOp) (t : IrType) (e : Expression) → uses_in runs (operand_of o t e) ≡ uses_in runs e
-operand_same runs StringConcatenate String e = refl
-operand_same runs StringConcatenate Char e = refl
-operand_same runs StringConcatenate t e = refl
-operand_same runs o t e = refl
 
 pub fixed_plain : (m : List ℕ → Bool) (t : Term) → is_fixed m t ≡ true → is_plain t ≡ true
 fixed_plain m (undefined_literal p) h = refl
@@ -72,6 +68,10 @@ case_count false false false o os j rest = ap suc (rest (o.code (to_variable (co
 pub spill_count : (os : List Operand) (j : ℕ) → length (spill os j).expressions ≡ length os
 spill_count [] j = refl
 spill_count (o ∷ os) j = case_count (o.plain && all_plain os) o.fixed o.plain o os j (spill_count os)
+
+-- a helper that bodies use, by its name
+pub in_helpers : (x : List ℕ) → list_any (is_same_text x) body_helpers ≡ true → Contains body_helpers x
+in_helpers x h = let at = Any-from_list_any (is_same_text x) body_helpers h in subst (Contains body_helpers) (sym (text-same x at.1 at.4)) (at.0, at.2, at.3)
 
 pub or_first : (a b : Bool) → a ≡ true → (a || b) ≡ true
 or_first true b h = refl
@@ -183,7 +183,12 @@ module _ (U : Binding → Type 0) (runs : Member → Member) where
   arguments_in (r ∷ rs) [] (e ∷ es) h = (front (uses_in runs e) (uses_in_all runs (expressions_of es)) h, arguments_in (r ∷ rs) [] es (back (uses_in runs e) (uses_in_all runs (expressions_of es)) h))
 
   pub operand_in : (o : BinaryOp) (t : IrType) (e : Expression) → In (operand_of o t e) → In e
-  operand_in o t e h = subst (All U) (operand_same runs o t e) h
+  operand_in StringConcatenate String e h = h
+  operand_in StringConcatenate Char e h = h
+  operand_in StringConcatenate t e h = h
+  operand_in StrictEqual t e h = uncoerced Any t e h
+  operand_in StrictNotEqual t e h = uncoerced Any t e h
+  operand_in o t e h = h
 
   -- an operand's expression or its statements are within
   pub data Written (o : Operand) : Type 0 where
@@ -271,6 +276,8 @@ module _ (U : Binding → Type 0) (runs : Member → Member) where
     Gives (new_object p c m ts) = from.made c ≡ true → from.built (member c Constructor m) ≡ true → U (function_binding (member c Constructor m)) → U (class_use c) → (has.built (member c Constructor m) ≡ true) × (has.made c ≡ true)
     Gives (select p e c f t) = from.field c f t ≡ true → has.field c f t ≡ true
     Gives (select_static p c f t) = (from.static_field c f t ≡ true → U (static_use c f) → has.static_field c f t ≡ true) × (from.static_setter c f t ≡ true → U (setter_use c f) → has.static_setter c f t ≡ true)
+    Gives (is_instance_of p e t) = from.tests t ≡ true → All U (test_uses t) → has.tests t ≡ true
+    Gives (as_instance_of p e t) = from.casts t ≡ true → All U (cast_uses t) → has.casts t ≡ true
     Gives (binary_op p o e d) = divides from o ≡ true → FitsDivision o d
     Gives _ = Unit {0}
 
@@ -312,21 +319,6 @@ module _ (U : Binding → Type 0) (runs : Member → Member) where
     three : (a b c : Term) → Each (trees a ++ trees b ++ trees c) → Each (trees a) × (Each (trees b) × Each (trees c))
     three a b c g = let first = two a b (ahead Found (trees a ++ trees b) (trees c) g) in (first.0, (first.1, after Found (trees a ++ trees b) (trees c) g))
 
-    in_check : Contains body_helpers check_name
-    in_check = here check_name (codes "$id" ∷ codes "$im" ∷ codes "$ld" ∷ codes "$lm" ∷ codes "$C" ∷ [])
-
-    in_int_quotient : Contains body_helpers (codes "$id")
-    in_int_quotient = there check_name (codes "$id" ∷ codes "$im" ∷ codes "$ld" ∷ codes "$lm" ∷ codes "$C" ∷ []) (codes "$id") (here (codes "$id") (codes "$im" ∷ codes "$ld" ∷ codes "$lm" ∷ codes "$C" ∷ []))
-
-    in_int_remainder : Contains body_helpers (codes "$im")
-    in_int_remainder = there check_name (codes "$id" ∷ codes "$im" ∷ codes "$ld" ∷ codes "$lm" ∷ codes "$C" ∷ []) (codes "$im") (there (codes "$id") (codes "$im" ∷ codes "$ld" ∷ codes "$lm" ∷ codes "$C" ∷ []) (codes "$im") (here (codes "$im") (codes "$ld" ∷ codes "$lm" ∷ codes "$C" ∷ [])))
-
-    in_long_quotient : Contains body_helpers (codes "$ld")
-    in_long_quotient = there check_name (codes "$id" ∷ codes "$im" ∷ codes "$ld" ∷ codes "$lm" ∷ codes "$C" ∷ []) (codes "$ld") (there (codes "$id") (codes "$im" ∷ codes "$ld" ∷ codes "$lm" ∷ codes "$C" ∷ []) (codes "$ld") (there (codes "$im") (codes "$ld" ∷ codes "$lm" ∷ codes "$C" ∷ []) (codes "$ld") (here (codes "$ld") (codes "$lm" ∷ codes "$C" ∷ []))))
-
-    in_long_remainder : Contains body_helpers (codes "$lm")
-    in_long_remainder = there check_name (codes "$id" ∷ codes "$im" ∷ codes "$ld" ∷ codes "$lm" ∷ codes "$C" ∷ []) (codes "$lm") (there (codes "$id") (codes "$im" ∷ codes "$ld" ∷ codes "$lm" ∷ codes "$C" ∷ []) (codes "$lm") (there (codes "$im") (codes "$ld" ∷ codes "$lm" ∷ codes "$C" ∷ []) (codes "$lm") (there (codes "$ld") (codes "$lm" ∷ codes "$C" ∷ []) (codes "$lm") (here (codes "$lm") (codes "$C" ∷ [])))))
-
     -- the check of null is used unless the receiver is sure
     abbrev IsChecked : Term → Type 0
     IsChecked e = is_sure sure e ≡ false → U (object_binding check_name)
@@ -336,7 +328,7 @@ module _ (U : Binding → Type 0) (runs : Member → Member) where
       where
         go : (b : Bool) → is_sure sure e ≡ b → (is_sure sure e || has.helper check_name) ≡ true
         go true f = or_first (is_sure sure e) (has.helper check_name) f
-        go false f = or_second (is_sure sure e) (has.helper check_name) (helpers check_name in_check (nulls e h f) (u f))
+        go false f = or_second (is_sure sure e) (has.helper check_name) (helpers check_name (in_helpers check_name refl) (nulls e h f) (u f))
 
     received_in : (b : Bool) (e : Expression) → In (received_text b e) → In e
     received_in true e h = h
@@ -368,6 +360,8 @@ module _ (U : Binding → Type 0) (runs : Member → Member) where
     literal (select_static p c f t) q k l = impossible l
     literal (unary_op p o e) q k l = impossible l
     literal (binary_op p o e d) q k l = impossible l
+    literal (is_instance_of p e t) q k l = impossible l
+    literal (as_instance_of p e t) q k l = impossible l
     literal (var_ref p x t) q k l = impossible l
     literal (this_ref p t) q k l = impossible l
     literal (var_def p x t b e) q k l = impossible q
@@ -407,13 +401,27 @@ module _ (U : Binding → Type 0) (runs : Member → Member) where
     first_used : (b : Bool) (f : Bool → List Binding) (y : Binding) → f false ≡ y ∷ [] → All U (f b) → b ≡ false → U y
     first_used b f y is h e = All-head U y [] (subst (All U) is (subst (λ (c : Bool). All U (f c)) e h))
 
+    -- identity calls its helper, whatever the right operand is
+    same_used : (b : Bool) → All U (helper_of b StrictEqual) → U (object_binding same_name)
+    same_used true h = All-head U (object_binding same_name) [] h
+    same_used false h = All-head U (object_binding same_name) [] h
+
+    differs_used : (b : Bool) → All U (helper_of b StrictNotEqual) → U (object_binding same_name)
+    differs_used true h = All-head U (object_binding same_name) [] h
+    differs_used false h = All-head U (object_binding same_name) [] h
+
+    -- a cast to any is there everywhere
+    cast_there : (t : IrType) → (from.casts t ≡ true → All U (cast_uses t) → has.casts t ≡ true) → All U (cast_uses t) → can_cast from t ≡ true → can_cast has t ≡ true
+    cast_there Any g u h = refl
+    cast_there _ g u h = g h u
+
     operation_there : (o : BinaryOp) (d : Term) (e : Expression) → IsRight d e → old d ≡ true → (divides from o ≡ true → FitsDivision o d) → All U (helper_of (is_nonzero_literal (operand_of o (type_of_term d) e)) o) → is_operation from o d ≡ true → is_operation has o d ≡ true
-    operation_there StrictEqual d e r k g h q = impossible q
-    operation_there StrictNotEqual d e r k g h q = impossible q
-    operation_there IntDivide d e r k g h q = division (codes "$id") in_int_quotient (is_nonzero_int d) (is_nonzero_literal e) (λ l f. int_divisor d e r k (g f) l) (first_used (is_nonzero_literal e) (λ c. helper_of c IntDivide) (object_binding (codes "$id")) refl h) q
-    operation_there IntRemainder d e r k g h q = division (codes "$im") in_int_remainder (is_nonzero_int d) (is_nonzero_literal e) (λ l f. int_divisor d e r k (g f) l) (first_used (is_nonzero_literal e) (λ c. helper_of c IntRemainder) (object_binding (codes "$im")) refl h) q
-    operation_there LongDivide d e r k g h q = division (codes "$ld") in_long_quotient (is_nonzero_long d) (is_nonzero_literal e) (λ l f. long_divisor d e r k (g f) l) (first_used (is_nonzero_literal e) (λ c. helper_of c LongDivide) (object_binding (codes "$ld")) refl h) q
-    operation_there LongRemainder d e r k g h q = division (codes "$lm") in_long_remainder (is_nonzero_long d) (is_nonzero_literal e) (λ l f. long_divisor d e r k (g f) l) (first_used (is_nonzero_literal e) (λ c. helper_of c LongRemainder) (object_binding (codes "$lm")) refl h) q
+    operation_there StrictEqual d e r k g h q = helpers same_name (in_helpers same_name refl) q (same_used (is_nonzero_literal (operand_of StrictEqual (type_of_term d) e)) h)
+    operation_there StrictNotEqual d e r k g h q = helpers same_name (in_helpers same_name refl) q (differs_used (is_nonzero_literal (operand_of StrictNotEqual (type_of_term d) e)) h)
+    operation_there IntDivide d e r k g h q = division (codes "$id") (in_helpers (codes "$id") refl) (is_nonzero_int d) (is_nonzero_literal e) (λ l f. int_divisor d e r k (g f) l) (first_used (is_nonzero_literal e) (λ c. helper_of c IntDivide) (object_binding (codes "$id")) refl h) q
+    operation_there IntRemainder d e r k g h q = division (codes "$im") (in_helpers (codes "$im") refl) (is_nonzero_int d) (is_nonzero_literal e) (λ l f. int_divisor d e r k (g f) l) (first_used (is_nonzero_literal e) (λ c. helper_of c IntRemainder) (object_binding (codes "$im")) refl h) q
+    operation_there LongDivide d e r k g h q = division (codes "$ld") (in_helpers (codes "$ld") refl) (is_nonzero_long d) (is_nonzero_literal e) (λ l f. long_divisor d e r k (g f) l) (first_used (is_nonzero_literal e) (λ c. helper_of c LongDivide) (object_binding (codes "$ld")) refl h) q
+    operation_there LongRemainder d e r k g h q = division (codes "$lm") (in_helpers (codes "$lm") refl) (is_nonzero_long d) (is_nonzero_literal e) (λ l f. long_divisor d e r k (g f) l) (first_used (is_nonzero_literal e) (λ c. helper_of c LongRemainder) (object_binding (codes "$lm")) refl h) q
     operation_there _ d e r k g h q = refl
 
     -- a field is there and its receiver is checked
@@ -485,6 +493,16 @@ module _ (U : Binding → Type 0) (runs : Member → Member) where
           let h0 = front (helper ++ uses_in runs left) (uses_in runs right) h in
           let g0 = two e d (inner (binary_op p o e d) g) in
           and_from (is_operation has o d) (new e && new d) (operation_there o d (expression_of sure d) (inl (q0.1, refl)) k1.1 (All-head Found (binary_op p o e d) (trees e ++ trees d) g) (front helper (uses_in runs left) h0) k0.0) (and_from (new e) (new d) (plain e q0.0 k1.0 g0.0 (operand_in o (type_of_term e) (expression_of sure e) (back helper (uses_in runs left) h0))) (plain d q0.1 k1.1 g0.1 (operand_in o (type_of_term d) (expression_of sure d) (back (helper ++ uses_in runs left) (uses_in runs right) h))))
+      plain (is_instance_of p e t) q k g h =
+          let tree = is_instance_of p e t in
+          let k0 = and_parts (from.tests t) (old e) k in
+          let value = coerced Any (type_of_term e) (expression_of sure e) in
+          and_from (has.tests t) (new e) (All-head Found tree (below tree) g k0.0 (front (test_uses t) (uses_in runs value) h)) (plain e q k0.1 (inner tree g) (uncoerced Any (type_of_term e) (expression_of sure e) (back (test_uses t) (uses_in runs value) h)))
+      plain (as_instance_of p e t) q k g h =
+          let tree = as_instance_of p e t in
+          let k0 = and_parts (can_cast from t) (old e) k in
+          let value = coerced Any (type_of_term e) (expression_of sure e) in
+          and_from (can_cast has t) (new e) (cast_there t (All-head Found tree (below tree) g) (front (cast_uses t) (uses_in runs value) h) k0.0) (plain e q k0.1 (inner tree g) (uncoerced Any (type_of_term e) (expression_of sure e) (back (cast_uses t) (uses_in runs value) h)))
       plain (undefined_literal p) q k g h = refl
       plain (null_literal p) q k g h = refl
       plain (boolean_literal p b) q k g h = refl
@@ -712,6 +730,22 @@ module _ (U : Binding → Type 0) (runs : Member → Member) where
             let written = spill_in os j parts.0 (two_in s.expressions (spill_count os j) (operand_in o (type_of_term e) (first_of s.expressions) (back helper (uses_in runs left) head)) (operand_in o (type_of_term d) (second_of s.expressions) (back (helper ++ uses_in runs left) (uses_in runs right) inside))) in
             let g0 = two e d (inner (binary_op p o e d) g) in
             and_from (is_operation has o d) (new e && new d) (operation_there o d (second_of s.expressions) (is_right d ts (second_of s.expressions) (second_text (operand_for ts e) (operand_for ts d) j)) k1.1 (All-head Found (binary_op p o e d) (trees e ++ trees d) g) (front helper (uses_in runs left) head) k0.0) (and_from (new e) (new d) (operand_built e (tree e) ts k1.0 g0.0 written.0) (operand_built d (tree d) ts k1.1 g0.1 written.1.0))
+        tree (is_instance_of p e t) ts k j q g h =
+            let own = is_instance_of p e t in
+            let k0 = and_parts (from.tests t) (old e) q in
+            let s : Spilled = spill (one_of ts e) j in
+            let value = coerced Any (type_of_term e) (first_of s.expressions) in
+            let parts = followed_parts s.statements (finish k p Boolean false (core.test_of t value) s.next).statements h in
+            let inside = finished k p Boolean (core.test_of t value) s.next parts.1 in
+            and_from (has.tests t) (new e) (All-head Found own (below own) g k0.0 (front (test_uses t) (uses_in runs value) inside)) (act e (tree e) ts j k0.1 (inner own g) parts.0 (uncoerced Any (type_of_term e) (first_of s.expressions) (back (test_uses t) (uses_in runs value) inside)))
+        tree (as_instance_of p e t) ts k j q g h =
+            let own = as_instance_of p e t in
+            let k0 = and_parts (can_cast from t) (old e) q in
+            let s : Spilled = spill (one_of ts e) j in
+            let value = coerced Any (type_of_term e) (first_of s.expressions) in
+            let parts = followed_parts s.statements (finish k p t false (core.cast_of t value) s.next).statements h in
+            let inside = finished k p t (core.cast_of t value) s.next parts.1 in
+            and_from (can_cast has t) (new e) (cast_there t (All-head Found own (below own) g) (front (cast_uses t) (uses_in runs value) inside) k0.0) (act e (tree e) ts j k0.1 (inner own g) parts.0 (uncoerced Any (type_of_term e) (first_of s.expressions) (back (cast_uses t) (uses_in runs value) inside)))
         tree (undefined_literal p) ts k j q g h = refl
         tree (null_literal p) ts k j q g h = refl
         tree (boolean_literal p b) ts k j q g h = refl

@@ -20,13 +20,14 @@ use Rattle.accepted_folders.proofs.EachTyped.{in_all}
 use Rattle.accepted_folders.proofs.Undenied.{first_or_later}
 use Rattle.helper_rules.specs.Helpers.{helper_name}
 use Rattle.helper_rules.specs.declared.kinds.Helper.{Helper}
-use Rattle.helper_rules.specs.declared.kinds.Helper.TheVariants.{NotNull, IntQuotient, IntRemainder as IntRest, LongQuotient, LongRemainder as LongRest, BoxedChar}
+use Rattle.helper_rules.specs.declared.kinds.Helper.TheVariants.{NotNull, IntQuotient, IntRemainder as IntRest, LongQuotient, LongRemainder as LongRest, BoxedChar, Equal}
 use Rattle.js_tree.specs.declared.items.Binding.{Binding}
 use Rattle.accepted_folders.proofs.Derivations.{closed}
 use Rattle.accepted_folders.specs.Reachable.{Reachable}
 use Rattle.accepted_folders.specs.Rules.{Reads, of_call, of_new, asked_body, new_made, field_needed, resolved_class, resolved_body}
 use Rattle.sj_desugar.specs.Desugar.{member}
 use Rattle.sj_emit_expr.specs.Templates.{check_name}
+use Rattle.sj_emit_expr.specs.Tests.{same_name}
 use Rattle.sj_emit_expr.specs.Uses.{object_binding, function_binding, class_use, static_use, setter_use}
 use Rattle.sj_infos.specs.Infos.{asks, asked_by_body, asked_in, of_receiver}
 use Rattle.sj_infos.specs.Sure.{sure_among}
@@ -248,19 +249,22 @@ module _ (entries : List EntryPoint) (files : List SourceFile) (w : Classes) (fa
   is_helper h x same u = subst (λ (y : Name). has.helper y ≡ true) same (helper_there h (subst (λ (y : Name). Contains used (object_binding y)) (sym same) u))
 
   helpers_given : HelpersGiven has used
-  helpers_given x among u = elim (first_or_later check_name (codes "$id" ∷ codes "$im" ∷ codes "$ld" ∷ codes "$lm" ∷ codes "$C" ∷ []) x among) [
+  helpers_given x among u = elim (first_or_later check_name (codes "$id" ∷ codes "$im" ∷ codes "$ld" ∷ codes "$lm" ∷ codes "$C" ∷ same_name ∷ []) x among) [
     | inl same ↦ is_helper NotNull x same u
-    | inr more ↦ elim (first_or_later (codes "$id") (codes "$im" ∷ codes "$ld" ∷ codes "$lm" ∷ codes "$C" ∷ []) x more) [
+    | inr more ↦ elim (first_or_later (codes "$id") (codes "$im" ∷ codes "$ld" ∷ codes "$lm" ∷ codes "$C" ∷ same_name ∷ []) x more) [
       | inl same ↦ is_helper IntQuotient x same u
-      | inr more ↦ elim (first_or_later (codes "$im") (codes "$ld" ∷ codes "$lm" ∷ codes "$C" ∷ []) x more) [
+      | inr more ↦ elim (first_or_later (codes "$im") (codes "$ld" ∷ codes "$lm" ∷ codes "$C" ∷ same_name ∷ []) x more) [
         | inl same ↦ is_helper IntRest x same u
-        | inr more ↦ elim (first_or_later (codes "$ld") (codes "$lm" ∷ codes "$C" ∷ []) x more) [
+        | inr more ↦ elim (first_or_later (codes "$ld") (codes "$lm" ∷ codes "$C" ∷ same_name ∷ []) x more) [
           | inl same ↦ is_helper LongQuotient x same u
-          | inr more ↦ elim (first_or_later (codes "$lm") (codes "$C" ∷ []) x more) [
+          | inr more ↦ elim (first_or_later (codes "$lm") (codes "$C" ∷ same_name ∷ []) x more) [
             | inl same ↦ is_helper LongRest x same u
-            | inr more ↦ elim (first_or_later (codes "$C") [] x more) [
+            | inr more ↦ elim (first_or_later (codes "$C") (same_name ∷ []) x more) [
               | inl same ↦ is_helper BoxedChar x same u
-              | inr more ↦ nothing_in x more
+              | inr more ↦ elim (first_or_later same_name [] x more) [
+                | inl same ↦ is_helper Equal x same u
+                | inr more ↦ nothing_in x more
+              ]
             ]
           ]
         ]

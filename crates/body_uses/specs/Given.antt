@@ -4,6 +4,7 @@ use Rattle.accepted_folders.specs.Built.{Usable, has_no_value}
 use Rattle.js_tree.specs.declared.items.Binding.{Binding}
 use Rattle.sj_desugar.specs.Desugar.{member}
 use Rattle.sj_emit_expr.specs.Templates.{check_name}
+use Rattle.sj_emit_expr.specs.Tests.{same_name}
 use Rattle.sj_emit_expr.specs.Uses.{object_binding, function_binding, class_use, static_use, setter_use}
 use Rattle.sj_names.specs.declared.method_names.Namespace.TheVariants.{Private, Constructor, Public}
 use Rattle.sj_trees.specs.Term.{Term, new_object, select, select_static, apply_statically, apply_static, binary_op}
@@ -25,9 +26,9 @@ FitsDivision LongDivide d = HasType Long d
 FitsDivision LongRemainder d = HasType Long d
 FitsDivision _ d = Unit {0}
 
--- the check of null, the divisions, and the class of objects that hold chars
+-- the check of null, the divisions, the class of objects that hold chars, and identity
 abbrev pub body_helpers : List (List ℕ)
-body_helpers = check_name ∷ codes "$id" ∷ codes "$im" ∷ codes "$ld" ∷ codes "$lm" ∷ codes "$C" ∷ []
+body_helpers = check_name ∷ codes "$id" ∷ codes "$im" ∷ codes "$ld" ∷ codes "$lm" ∷ codes "$C" ∷ same_name ∷ []
 
 -- where these bindings are used
 module _ (has : Usable) (used : List Binding) where

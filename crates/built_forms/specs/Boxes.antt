@@ -6,11 +6,13 @@ use Rattle.sj_desugar.specs.Desugar.{Targets}
 use Rattle.sj_desugar.specs.Plain.{is_plain}
 use Rattle.sj_desugar.specs.Spill.{Destination, discard, to_variable, to_result}
 use Rattle.sj_names.specs.declared.references.TypeRef.{TypeRef}
-use Rattle.sj_trees.specs.Term.{Term, Terms, no_terms, more_terms, Cases, no_cases, more_cases, var_def, block_of, labeled, assign, return_to, if_then, while_loop, do_while, match_on, throw, new_object, select, select_static, apply_statically, this_ref, apply_static, unary_op, binary_op, char_literal, var_ref, log_line}
+use Rattle.sj_trees.specs.Term.{Term, Terms, no_terms, more_terms, Cases, no_cases, more_cases, var_def, block_of, labeled, assign, return_to, if_then, while_loop, do_while, match_on, throw, new_object, select, select_static, apply_statically, this_ref, apply_static, unary_op, binary_op, is_instance_of, as_instance_of, char_literal, var_ref, log_line}
 use Rattle.sj_trees.specs.TypeOf.{type_of_term, unary_result, binary_result}
 use Rattle.sj_trees.specs.Types.{class_type, reference_type}
+use Rattle.sj_trees.specs.declared.operators.BinaryOp.{BinaryOp}
+use Rattle.sj_trees.specs.declared.operators.BinaryOp.TheVariants.{StrictEqual, StrictNotEqual}
 use Rattle.sj_trees.specs.declared.types.IrType.{IrType}
-use Rattle.sj_trees.specs.declared.types.IrType.TheVariants.{Any, Char}
+use Rattle.sj_trees.specs.declared.types.IrType.TheVariants.{Any, Boolean, Char}
 
 -- a char stands where another type is expected: there an object has to be made that holds it
 abbrev pub is_boxed : IrType → Term → Bool
@@ -20,6 +22,12 @@ is_boxed expected e = is_char (type_of_term e) && not (is_char expected)
 abbrev pub any_is_boxed : List TypeRef → Terms → Bool
 any_is_boxed (r ∷ rs) (more_terms e es) = is_boxed (reference_type r) e || any_is_boxed rs es
 any_is_boxed _ _ = false
+
+-- one of the operands of an operator is a char where identity takes any value
+abbrev pub operands_are_boxed : BinaryOp → Term → Term → Bool
+operands_are_boxed StrictEqual e d = is_boxed Any e || is_boxed Any d
+operands_are_boxed StrictNotEqual e d = is_boxed Any e || is_boxed Any d
+operands_are_boxed _ e d = false
 
 -- where the value of a tree goes: it is given up, or brought to a place of this type
 pub data Goal : Type 0 where
@@ -60,7 +68,9 @@ abbrev mutual
   boxes_as_text (apply_statically p e c n m ts t) = (is_boxed Any e || any_is_boxed m.params ts) || (boxes_as_text e || any_boxes_as_text ts)
   boxes_as_text (apply_static p c n m ts t) = any_is_boxed m.params ts || any_boxes_as_text ts
   boxes_as_text (unary_op p o e) = boxes_as_text e
-  boxes_as_text (binary_op p o e d) = boxes_as_text e || boxes_as_text d
+  boxes_as_text (binary_op p o e d) = operands_are_boxed o e d || (boxes_as_text e || boxes_as_text d)
+  boxes_as_text (is_instance_of p e t) = is_boxed Any e || boxes_as_text e
+  boxes_as_text (as_instance_of p e t) = is_boxed Any e || boxes_as_text e
   boxes_as_text _ = false
 
   pub any_boxes_as_text : Terms → Bool
@@ -89,7 +99,9 @@ abbrev mutual
   boxes ls k (apply_statically p e c n m ts t) = is_boxed_at k t || ((is_boxed Any e || any_is_boxed m.params ts) || ((if is_plain e then boxes_as_text e else boxes ls (brought_to (type_of_term e)) e) || operands_box ls ts))
   boxes ls k (apply_static p c n m ts t) = is_boxed_at k t || (any_is_boxed m.params ts || operands_box ls ts)
   boxes ls k (unary_op p o e) = is_boxed_at k (unary_result o) || (if is_plain e then boxes_as_text e else boxes ls (brought_to (type_of_term e)) e)
-  boxes ls k (binary_op p o e d) = is_boxed_at k (binary_result o) || ((if is_plain e then boxes_as_text e else boxes ls (brought_to (type_of_term e)) e) || (if is_plain d then boxes_as_text d else boxes ls (brought_to (type_of_term d)) d))
+  boxes ls k (binary_op p o e d) = (is_boxed_at k (binary_result o) || operands_are_boxed o e d) || ((if is_plain e then boxes_as_text e else boxes ls (brought_to (type_of_term e)) e) || (if is_plain d then boxes_as_text d else boxes ls (brought_to (type_of_term d)) d))
+  boxes ls k (is_instance_of p e t) = is_boxed_at k Boolean || (is_boxed Any e || (if is_plain e then boxes_as_text e else boxes ls (brought_to (type_of_term e)) e))
+  boxes ls k (as_instance_of p e t) = is_boxed_at k t || (is_boxed Any e || (if is_plain e then boxes_as_text e else boxes ls (brought_to (type_of_term e)) e))
   boxes ls k (char_literal p u) = is_boxed_at k Char
   boxes ls k (var_ref p x t) = is_boxed_at k t
   boxes ls k (this_ref p t) = is_boxed_at k t

@@ -8,11 +8,13 @@ use Rattle.sj_names.specs.declared.method_names.Namespace.TheVariants.{Public, P
 use Rattle.sj_names.specs.declared.references.TypeRef.{TypeRef}
 use Rattle.sj_names.specs.declared.references.TypeRef.TheVariants.{Void}
 use Rattle.sj_names.specs.declared.method_names.Member.{Member}
-use Rattle.sj_trees.specs.Term.{Term, Terms, no_terms, more_terms, Cases, no_cases, more_cases, var_def, skip, block_of, labeled, assign, return_to, if_then, while_loop, do_while, match_on, throw, new_object, select, select_static, apply_statically, this_ref, apply_static, unary_op, binary_op, undefined_literal, null_literal, boolean_literal, char_literal, byte_literal, short_literal, int_literal, long_literal, string_literal, var_ref, log_line}
+use Rattle.sj_trees.specs.Term.{Term, Terms, no_terms, more_terms, Cases, no_cases, more_cases, var_def, skip, block_of, labeled, assign, return_to, if_then, while_loop, do_while, match_on, throw, new_object, select, select_static, apply_statically, this_ref, apply_static, unary_op, binary_op, is_instance_of, as_instance_of, undefined_literal, null_literal, boolean_literal, char_literal, byte_literal, short_literal, int_literal, long_literal, string_literal, var_ref, log_line}
 use Rattle.sj_trees.specs.declared.classes.MethodDef.{MethodDef}
 use Rattle.sj_trees.specs.declared.operators.BinaryOp.{BinaryOp}
 use Rattle.sj_trees.specs.declared.operators.BinaryOp.TheVariants.{StrictEqual, StrictNotEqual, IntDivide, IntRemainder, LongDivide, LongRemainder}
 use Rattle.sj_trees.specs.declared.types.IrType.{IrType}
+use Rattle.sj_trees.specs.declared.types.IrType.TheVariants.{Any}
+use Rattle.sj_names.specs.Same.{is_same_text}
 use Rattle.built_forms.specs.Boxes.{boxes, goal_of}
 
 -- a literal other than zero
@@ -25,8 +27,8 @@ is_nonzero_long (long_literal p z) = not (int_eq z (pos 0))
 is_nonzero_long _ = false
 
 -- what a body can use: the static members that are linked, and those that run on a receiver, with what a call of a public one runs; the constructors that
--- are linked; the classes of which objects are made; their fields and the static fields that can be read and those that can be set, with their types; helpers, by their names; and whether it can throw,
--- and name the object that it runs on
+-- are linked; the classes of which objects are made; their fields and the static fields that can be read and those that can be set, with their types; the types for which
+-- there is a test, and those for which there is a cast; helpers, by their names; and whether it can throw, and name the object that it runs on
 pub record Usable : Type 0 where
   pub linked : Member → Bool
   pub target : Member → Member
@@ -36,6 +38,8 @@ pub record Usable : Type 0 where
   pub field : List ℕ → List ℕ → IrType → Bool
   pub static_field : List ℕ → List ℕ → IrType → Bool
   pub static_setter : List ℕ → List ℕ → IrType → Bool
+  pub tests : IrType → Bool
+  pub casts : IrType → Bool
   pub helper : List ℕ → Bool
   pub objects : Bool
 
@@ -49,7 +53,7 @@ may_make has boxed = can_box has || not boxed
 
 -- these static members and nothing else
 abbrev pub members_alone : (Member → Bool) → Usable
-members_alone linked = record { linked = linked; target = λ m. m; received = λ m. false; built = λ m. false; made = λ c. false; field = λ c f t. false; static_field = λ c f t. false; static_setter = λ c f t. false; helper = λ x. false; objects = false }
+members_alone linked = record { linked = linked; target = λ m. m; received = λ m. false; built = λ m. false; made = λ c. false; field = λ c f t. false; static_field = λ c f t. false; static_setter = λ c f t. false; tests = λ t. false; casts = λ t. false; helper = λ x. false; objects = false }
 
 -- a static field can be read or set
 abbrev pub has_static : Usable → List ℕ → List ℕ → IrType → Bool
@@ -63,10 +67,19 @@ divides has LongDivide = has.helper (codes "$ld")
 divides has LongRemainder = has.helper (codes "$lm")
 divides has _ = false
 
--- an operator with this right operand: any but those of identity; a divisor is a literal other than zero where the helper of the division can't be used
+-- identity can be asked
+abbrev pub compares : Usable → Bool
+compares has = has.helper (codes "$eq")
+
+-- a cast to this type: one to any calls nothing
+abbrev pub can_cast : Usable → IrType → Bool
+can_cast has Any = true
+can_cast has t = has.casts t
+
+-- an operator with this right operand: its helper can be used, or it needs none; a division by a literal other than zero needs none
 abbrev pub is_operation : Usable → BinaryOp → Term → Bool
-is_operation has StrictEqual d = false
-is_operation has StrictNotEqual d = false
+is_operation has StrictEqual d = compares has
+is_operation has StrictNotEqual d = compares has
 is_operation has IntDivide d = divides has IntDivide || is_nonzero_int d
 is_operation has IntRemainder d = divides has IntRemainder || is_nonzero_int d
 is_operation has LongDivide d = divides has LongDivide || is_nonzero_long d
@@ -100,6 +113,8 @@ module _ (has : Usable) (checked : Term → Bool) where
   stands (apply_static p c n m ts t) = has.linked (member c n m)
   stands (unary_op p o e) = true
   stands (binary_op p o e d) = is_operation has o d
+  stands (is_instance_of p e t) = has.tests t
+  stands (as_instance_of p e t) = can_cast has t
   stands (undefined_literal p) = true
   stands (null_literal p) = true
   stands (boolean_literal p b) = true
@@ -135,6 +150,8 @@ module _ (has : Usable) (checked : Term → Bool) where
     is_built (apply_static p c n m ts t) = stands (apply_static p c n m ts t) && are_built ts
     is_built (unary_op p o e) = is_built e
     is_built (binary_op p o e d) = stands (binary_op p o e d) && (is_built e && is_built d)
+    is_built (is_instance_of p e t) = stands (is_instance_of p e t) && is_built e
+    is_built (as_instance_of p e t) = stands (as_instance_of p e t) && is_built e
     is_built (log_line p e) = is_built e
     is_built t = stands t
 
@@ -165,9 +182,9 @@ abbrev pub has_no_value : Option TypeRef → Bool
 has_no_value (Some Void) = true
 has_no_value _ = false
 
--- whatever is made and used of objects, but for constructors with a value
+-- whatever is made and used of objects, but for constructors with a value, tests, casts and identity
 abbrev pub any_object : Usable
-any_object = record { linked = λ m. true; target = λ m. m; received = λ m. true; built = λ m. has_no_value m.method.result; made = λ c. true; field = λ c f t. true; static_field = λ c f t. true; static_setter = λ c f t. true; helper = λ x. true; objects = true }
+any_object = record { linked = λ m. true; target = λ m. m; received = λ m. true; built = λ m. has_no_value m.method.result; made = λ c. true; field = λ c f t. true; static_field = λ c f t. true; static_setter = λ c f t. true; tests = λ t. false; casts = λ t. false; helper = λ x. not (is_same_text x (codes "$eq")); objects = true }
 
 -- the body is of these forms, whatever it calls, makes and reads
 abbrev pub is_object_body : MethodDef → Term → Bool

@@ -5,12 +5,12 @@ use Rattle.sj_names.specs.declared.method_names.Namespace.{Namespace}
 use Rattle.sj_names.specs.declared.method_names.Namespace.TheVariants.{Public, PublicStatic, Private, PrivateStatic, Constructor}
 use Rattle.sj_names.specs.declared.references.TypeRef.{TypeRef}
 use Rattle.sj_trees.specs.Erase.{nowhere}
-use Rattle.sj_trees.specs.Term.{Term, no_terms, more_terms, no_cases, more_cases, var_def, skip, block_of, labeled, assign, return_to, if_then, match_on, throw, new_object, select, select_static, apply, apply_statically, apply_static, this_ref, binary_op, char_literal, int_literal, long_literal, var_ref}
+use Rattle.sj_trees.specs.Term.{Term, no_terms, more_terms, no_cases, more_cases, var_def, skip, block_of, labeled, assign, return_to, if_then, match_on, throw, new_object, select, select_static, apply, apply_statically, apply_static, this_ref, binary_op, is_instance_of, as_instance_of, char_literal, int_literal, long_literal, var_ref}
 use Rattle.sj_trees.specs.declared.classes.MethodDef.{MethodDef}
 use Rattle.sj_trees.specs.declared.operators.BinaryOp.{BinaryOp}
-use Rattle.sj_trees.specs.declared.operators.BinaryOp.TheVariants.{StrictEqual, IntDivide, LongRemainder}
+use Rattle.sj_trees.specs.declared.operators.BinaryOp.TheVariants.{StrictEqual, StrictNotEqual, IntDivide, IntEqual, LongRemainder}
 use Rattle.sj_trees.specs.declared.types.IrType.{IrType}
-use Rattle.sj_trees.specs.declared.types.IrType.TheVariants.{Any, Boolean, Char, Int, Long, NoType}
+use Rattle.sj_trees.specs.declared.types.IrType.TheVariants.{Any, Boolean, Char, Int, Long, String, NoType}
 use Rattle.built_forms.specs.Built.{Usable, is_built, is_built_method, not_built, body_boxes}
 
 abbrev pub method_name : TypeRef → MethodName
@@ -42,6 +42,13 @@ object = new_object nowhere (codes "A") (method_name TypeRef.Int) no_terms
 abbrev pub unbuilt : Term
 unbuilt = apply nowhere object (method_name TypeRef.Int) (more_terms (number 1) no_terms) NoType
 
+-- a test and a cast of a value
+abbrev pub tested : IrType → Term → Term
+tested t value = is_instance_of nowhere value t
+
+abbrev pub casted : IrType → Term → Term
+casted t value = as_instance_of nowhere value t
+
 -- a call that isn't looked up
 abbrev pub direct : Namespace → Term → IrType → Term
 direct namespace receiver t = apply_statically nowhere receiver (codes "A") namespace (method_name TypeRef.Int) (more_terms (number 1) no_terms) t
@@ -66,11 +73,18 @@ case (k ∷ ks) body = match_on nowhere (number 1) (more_cases (pos k ∷ []) bo
 
 -- a field can be used, whatever its class, its name and its type are
 abbrev pub with_fields : Usable
-with_fields = record { linked = λ m. true; target = λ m. m; received = λ m. false; built = λ m. false; made = λ c. false; field = λ c f t. true; static_field = λ c f t. false; static_setter = λ c f t. false; helper = λ x. false; objects = false }
+with_fields = record { linked = λ m. true; target = λ m. m; received = λ m. false; built = λ m. false; made = λ c. false; field = λ c f t. true; static_field = λ c f t. false; static_setter = λ c f t. false; tests = λ t. false; casts = λ t. false; helper = λ x. false; objects = false }
+
+-- there is a test for each type, and there is a cast to each
+abbrev pub with_tests : Usable
+with_tests = record with_fields { tests = λ t. true }
+
+abbrev pub with_casts : Usable
+with_casts = record with_fields { casts = λ t. true }
 
 -- objects that hold chars can be made
 abbrev pub with_boxes : Usable
-with_boxes = record { linked = λ m. true; target = λ m. m; received = λ m. false; built = λ m. false; made = λ c. false; field = λ c f t. true; static_field = λ c f t. false; static_setter = λ c f t. false; helper = λ x. true; objects = false }
+with_boxes = record { linked = λ m. true; target = λ m. m; received = λ m. false; built = λ m. false; made = λ c. false; field = λ c f t. true; static_field = λ c f t. false; static_setter = λ c f t. false; tests = λ t. false; casts = λ t. false; helper = λ x. true; objects = false }
 
 -- the code of a method that gives a value of this type makes an object that holds a char
 abbrev pub makes_box : IrType → Term → Bool
@@ -128,6 +142,18 @@ pub record WorkedForms : Type 0 where
   pub field_set_by_a_call : is_built with_fields (λ e. true) (setting Int (apply_static nowhere (codes "A") PublicStatic (method_name TypeRef.Int) (more_terms (number 1) no_terms) Int)) ≡ true
   pub field_of_an_unchecked_object : is_built with_fields (λ e. false) (setting Int (number 1)) ≡ false
   pub identity : not_built (static (operation StrictEqual Any (number 1))) ≡ true
+  pub no_identity : not_built (static (operation StrictNotEqual Any (number 1))) ≡ true
+  pub identity_it_can_use : is_built with_boxes (λ e. true) (operation StrictEqual Any (number 1)) ≡ true
+  pub test : not_built (static (tested String object)) ≡ true
+  pub test_it_can_use : is_built with_tests (λ e. true) (tested String (number 1)) ≡ true
+  pub test_of_what_is_not_built : is_built with_tests (λ e. true) (tested String unbuilt) ≡ false
+  pub cast : not_built (static (casted String object)) ≡ true
+  pub cast_to_any : not_built (static (casted Any object)) ≡ false
+  pub cast_of_a_char_to_any : not_built (static (casted Any letter)) ≡ false
+  pub cast_to_any_of_what_is_not_built : not_built (static (casted Any unbuilt)) ≡ true
+  pub cast_it_can_use : is_built with_casts (λ e. true) (casted String (number 1)) ≡ true
+  pub cast_with_tests_alone : is_built with_tests (λ e. true) (casted String (number 1)) ≡ false
+  pub test_with_casts_alone : is_built with_casts (λ e. true) (tested String (number 1)) ≡ false
   pub by_two : not_built (static (operation IntDivide Int (number 2))) ≡ false
   pub by_zero : not_built (static (operation IntDivide Int (number 0))) ≡ false
   pub by_a_local : not_built (static (operation IntDivide Int (var_ref nowhere (codes "y") Int))) ≡ false
@@ -177,3 +203,14 @@ pub record WorkedForms : Type 0 where
   pub leaves_no_block : makes_box Any (leave letter) ≡ false
   pub case_with_a_char : makes_box Any (case (1 ∷ []) letter) ≡ true
   pub case_with_a_char_without_keys : makes_box Any (case [] letter) ≡ false
+  pub char_that_is_tested : makes_box NoType (tested String letter) ≡ true
+  pub number_that_is_tested : makes_box NoType (tested String (number 1)) ≡ false
+  pub char_that_is_cast : makes_box NoType (casted String letter) ≡ true
+  pub char_that_is_cast_to_any : makes_box NoType (casted Any letter) ≡ true
+  pub value_that_is_cast_to_a_char : makes_box Char (casted Char (number 1)) ≡ false
+  pub value_that_is_cast_to_a_char_at_any : makes_box Any (casted Char (number 1)) ≡ true
+  pub char_at_identity : makes_box NoType (operation StrictEqual Int letter) ≡ true
+  pub char_before_identity : makes_box NoType (operation StrictNotEqual Char (number 1)) ≡ true
+  pub numbers_at_identity : makes_box NoType (operation StrictEqual Int (number 1)) ≡ false
+  pub char_at_another_operator : makes_box NoType (operation IntEqual Char letter) ≡ false
+  pub char_tested_in_an_expression : makes_box NoType (operation IntEqual Int (choice Int (tested String letter) (number 1))) ≡ true

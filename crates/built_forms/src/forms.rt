@@ -60,6 +60,7 @@ pub fn is_built(tree: &Tree) -> bool
         Tree::BinaryOp(_, op, left, right) => {
             is_operation(*op, right) && is_built(left) && is_built(right)
         }
+        Tree::AsInstanceOf(_, value, tpe) => matches!(tpe, IrType::Any) && is_built(value),
         Tree::TryCatch(_, _, _, _, _)
         | Tree::TryFinally(_, _, _)
         | Tree::LoadModule(_, _)
@@ -69,8 +70,7 @@ pub fn is_built(tree: &Tree) -> bool
         | Tree::ArrayValue(_, _, _)
         | Tree::ArrayLength(_, _)
         | Tree::ArraySelect(_, _, _, _)
-        | Tree::IsInstanceOf(_, _, _)
-        | Tree::AsInstanceOf(_, _, _) => false,
+        | Tree::IsInstanceOf(_, _, _) => false,
     }
 }
 

@@ -37,7 +37,7 @@ use Rattle.sj_world.specs.declared.facts.Fact.{Fact}
 use Rattle.sj_world.specs.declared.facts.Fact.TheVariants.{Body, Made}
 use Rattle.sj_world.specs.declared.linked.MethodEntry.{MethodEntry}
 use Rattle.worklist.proofs.Inserted.{nothing_in, only_one}
-use Rattle.closed_pieces.proofs.Declared.{Declares}
+use Rattle.closed_pieces.proofs.Declared.{Declares, test_among}
 use Rattle.closed_pieces.proofs.Forms.{body_tells}
 use Rattle.closed_pieces.proofs.Places.{in_one, from_once}
 
@@ -145,7 +145,7 @@ module _ (entries : List EntryPoint) (l : Linked) (having : List Helper) (ps : L
         go None i = let m = from_map test_binding p.instances b i in of_kind m.item m.is
 
     test_there : (p.is_tested || p.is_cast) ≡ true → Is (bound p.class.name (class_binding IsInstance p.class.name))
-    test_there h = own test refl (Contains-append_right (constants_of p ++ class_pieces_of p ++ all_statics p.class.name p.statics ++ module_of p) (tests_of p) test (Contains-append_left (when (p.is_tested || p.is_cast) (test ∷ [])) (when p.is_cast (cast_piece p.class.name ∷ [])) test (subst (λ (t : Bool). Contains (when t (test ∷ [])) test) (sym h) (at_first test []))))
+    test_there h = own test refl (test_among p h)
 
     cast_ready : p.is_cast ≡ true → Ready (cast_piece p.class.name)
     cast_ready e h b u = elim (cons_cases (bound p.class.name (class_binding IsInstance p.class.name)) b (helper (codes "$cce") ∷ []) u) [

@@ -1,5 +1,6 @@
--- What the pieces of an accepted folder declare: functions of needed bodies, live classes, static fields that are needed, and helpers.
-use Rattle.std.proofs.Common.{◌≡◌, ◌↔◌, true, List, Option, Some, refl, sym, ap, subst, ◌∙◌, Contains}
+-- What the pieces of an accepted folder declare: functions of needed bodies, live classes, static fields that are needed, tests of classes and casts to them, and helpers.
+use Rattle.std.proofs.Common.{◌≡◌, ◌↔◌, ◌++◌, ◌||◌, Bool, true, List, [], ◌∷◌, Option, Some, refl, sym, ap, subst, ◌∙◌, Contains}
+use Rattle.std.proofs.lemmas.List.Elements.{Contains-append_left, Contains-append_right}
 use Rattle.std.proofs.lemmas.List.Sorted.{Contains-permutation}
 use Rattle.declared_pieces.proofs.Blocks.{OwnPieces, own_pieces, method_there, helper_there}
 use Rattle.declared_pieces.proofs.Derivations.{closed}
@@ -9,6 +10,7 @@ use Rattle.declared_pieces.proofs.Members.{defined}
 use Rattle.declared_pieces.proofs.Parts.{class_there, statics_among, in_statics, is_reached}
 use Rattle.declared_pieces.specs.Accepted.{IsAccepted}
 use Rattle.declared_pieces.specs.Bodies.{AreBodies}
+use Rattle.declared_pieces.specs.Classes.{HasForm}
 use Rattle.declared_pieces.specs.Emitted.{EmittedMethod}
 use Rattle.declared_pieces.specs.Entries.{IsLive}
 use Rattle.declared_pieces.specs.Pieces.{piece_of_member, AreLinkedPieces}
@@ -17,18 +19,22 @@ use Rattle.declared_pieces.specs.Rules.{the_object}
 use Rattle.declared_pieces.specs.TypingRulesRules.{HasFieldType}
 use Rattle.file_listings.specs.Listed.{AreBytes}
 use Rattle.helper_rules.specs.Helpers.{helper_name, helper_piece}
-use Rattle.helper_rules.specs.Words.{helper, class_name}
+use Rattle.helper_rules.specs.Words.{bound, helper, all_kinds, class_name}
 use Rattle.helper_rules.specs.declared.kinds.Helper.{Helper}
 use Rattle.js_tree.specs.Terms.{Piece}
 use Rattle.module_rules.specs.Laws.{IsDeclared}
 use Rattle.object_folders.proofs.Plain.{class_found}
-use Rattle.object_folders.specs.PieceRulesPieces.{Parts, class_piece, variable_piece, setter_piece, all_statics}
+use Rattle.object_folders.specs.PieceRulesPieces.{Parts, pieces, when, constants_of, class_of, module_of, tests_of, class_piece, variable_piece, setter_piece, all_statics, test_piece, cast_piece, kind_of_class}
 use Rattle.sj_emit_expr.specs.Templates.{member_name, static_name, setter_name}
 use Rattle.sj_emit_expr.specs.Uses.{function_binding, class_use, static_use, setter_use}
+use Rattle.sj_infos.specs.declared.forms.BodyForm.TheVariants as forms
+use Rattle.sj_mangling.specs.Bindings.{class_binding}
+use Rattle.sj_mangling.specs.declared.bindings.ClassBinding.TheVariants.{IsInstance, AsInstance}
 use Rattle.sj_names.specs.WellKnown.{object}
 use Rattle.sj_names.specs.declared.entry_points.EntryPoint.{EntryPoint}
 use Rattle.sj_names.specs.declared.folders.SourceFile.{SourceFile}
 use Rattle.sj_names.specs.declared.method_names.Member.{Member}
+use Rattle.sj_split.proofs.Members.{at_first}
 use Rattle.sj_trees.specs.declared.classes.ClassDef.{ClassDef}
 use Rattle.sj_trees.specs.declared.classes.FieldDef.{FieldDef}
 use Rattle.sj_trees.specs.declared.types.IrType.{IrType}
@@ -45,7 +51,25 @@ pub record Declares (entries : List EntryPoint) (l : Linked) (having : List Help
   pub classes : (c : Name) → IsLive l.world l.facts c → IsDeclared ps (class_use c)
   pub made : (c : Name) → Reachable l.world entries (Made c) → IsDeclared ps (class_use c)
   pub statics : (c f : Name) (t : IrType) → HasFieldType l.world c f true t → Reachable l.world entries (NeededField c f true) → IsDeclared ps (static_use c f) × IsDeclared ps (setter_use c f)
+  pub listed : (f : Fact) → Reachable l.world entries f → Contains l.facts f
+  pub tests : (c : Name) → HasForm l.world l.facts (forms.Test c) → Reachable l.world entries (Needed c) → IsDeclared ps (bound c (class_binding IsInstance c))
+  pub casts : (c : Name) → HasForm l.world l.facts (forms.Cast c) → Reachable l.world entries (Needed c) → IsDeclared ps (bound c (class_binding AsInstance c))
   pub helpers : (h : Helper) → Contains having h → IsDeclared ps (helper (helper_name h))
+
+-- the test of a class, and the cast to it, among its pieces
+abbrev before_tests : Parts → List Piece
+before_tests p = constants_of p ++ class_of p ++ all_statics p.class.name p.statics ++ module_of p
+
+pub test_among : (p : Parts) → (p.is_tested || p.is_cast) ≡ true → Contains (pieces p) (test_piece p.class.name p.instances (kind_of_class p.class.name all_kinds))
+test_among p h =
+    let test : Piece = test_piece p.class.name p.instances (kind_of_class p.class.name all_kinds) in
+    Contains-append_right (before_tests p) (tests_of p) test (Contains-append_left (when (p.is_tested || p.is_cast) (test ∷ [])) (when p.is_cast (cast_piece p.class.name ∷ [])) test (subst (λ (t : Bool). Contains (when t (test ∷ [])) test) (sym h) (at_first test [])))
+
+cast_among : (p : Parts) → p.is_cast ≡ true → Contains (pieces p) (cast_piece p.class.name)
+cast_among p h =
+    let test : Piece = test_piece p.class.name p.instances (kind_of_class p.class.name all_kinds) in
+    let casts : Piece = cast_piece p.class.name in
+    Contains-append_right (before_tests p) (tests_of p) casts (Contains-append_right (when (p.is_tested || p.is_cast) (test ∷ [])) (when p.is_cast (casts ∷ [])) casts (subst (λ (t : Bool). Contains (when t (casts ∷ [])) casts) (sym h) (at_first casts [])))
 
 some_class : (a b : ClassDef) → ◌≡◌ {A = Option ClassDef} (Some a) (Some b) → a ≡ b
 some_class a b e = cc
@@ -96,6 +120,23 @@ module _ (entries : List EntryPoint) (files : List SourceFile) (l : Linked) (all
     its_static : IsDeclared ps (static_use c f) × IsDeclared ps (setter_use c f)
     its_static = (record { piece = variable_piece its.class.name d; among = own.there (variable_piece its.class.name d) (statics_among its (variable_piece its.class.name d) there.0); owned = named c own; named = ap (λ (n : Name). static_name n d.name) (named c own) ∙ ap (static_name c) name_is }, record { piece = setter_piece its.class.name d; among = own.there (setter_piece its.class.name d) (statics_among its (setter_piece its.class.name d) there.1); owned = named c own; named = ap (λ (n : Name). setter_name n d.name) (named c own) ∙ ap (setter_name c) name_is })
 
+  own_of : (c : Name) → Reachable w entries (Needed c) → OwnPieces l all ps p c
+  own_of c r = let k = made.present w entries a.resolved (classes_kept entries files w bytes a) c r in own_pieces l all ps p c k.0 k.1
+
+  its_test : (c : Name) → HasForm w l.facts (forms.Test c) → Reachable w entries (Needed c) → IsDeclared ps (bound c (class_binding IsInstance c))
+  its_test c form r =
+      let own = own_of c r in
+      let its = own.parts in
+      let test : Piece = test_piece its.class.name its.instances (kind_of_class its.class.name all_kinds) in
+      record { piece = test; among = own.there test (test_among its (ap (λ (t : Bool). t || its.is_cast) (own.are.tested.1 form))); owned = named c own; named = ap (class_binding IsInstance) (named c own) }
+
+  its_cast : (c : Name) → HasForm w l.facts (forms.Cast c) → Reachable w entries (Needed c) → IsDeclared ps (bound c (class_binding AsInstance c))
+  its_cast c form r =
+      let own = own_of c r in
+      let its = own.parts in
+      let casts : Piece = cast_piece its.class.name in
+      record { piece = casts; among = own.there casts (cast_among its (own.are.cast.1 form)); owned = named c own; named = ap (class_binding AsInstance) (named c own) }
+
   a_helper : (h : Helper) → Contains p.helpers h → IsDeclared ps (helper (helper_name h))
   a_helper h i =
       let k = made.present w entries a.resolved (classes_kept entries files w bytes a) object (closed w entries (Needed object) the_object) in
@@ -107,5 +148,8 @@ module _ (entries : List EntryPoint) (files : List SourceFile) (l : Linked) (all
     classes = class;
     made = λ c r. class c (record { made = c; is_made = (exact (Made c)).1 r; on_chain = stay });
     statics = its_static;
+    listed = λ f. (exact f).1;
+    tests = its_test;
+    casts = its_cast;
     helpers = a_helper;
   }

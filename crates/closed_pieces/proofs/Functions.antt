@@ -1,5 +1,5 @@
 -- What the function of a needed body uses is declared.
-use Rattle.std.proofs.Common.{◌≡◌, ◌∙◌, List, [], Option, Some, None, refl, sym, subst, Contains, true, false, ap, codes}
+use Rattle.std.proofs.Common.{◌≡◌, ◌∙◌, List, [], ◌∷◌, Option, Some, None, refl, sym, subst, Contains, true, false, ap, codes, if◌then◌else◌}
 use Rattle.std.specs.List.{All}
 use Rattle.std.proofs.lemmas.List.Elements.{All-nil, All-cons, All-contains, Contains-append_left}
 use Rattle.declared_pieces.proofs.Calls.{needed}
@@ -12,19 +12,22 @@ use Rattle.declared_pieces.proofs.Standing.{Stands, each_stands}
 use Rattle.declared_pieces.proofs.Written.{some_same, all_at}
 use Rattle.declared_pieces.specs.Accepted.{IsAccepted}
 use Rattle.declared_pieces.specs.Bodies.{AreBodies}
+use Rattle.declared_pieces.specs.Classes.{HasForm}
 use Rattle.declared_pieces.specs.Emitted.{EmittedMethod}
 use Rattle.declared_pieces.specs.Pieces.{piece_of_member}
 use Rattle.declared_pieces.specs.Reachable.{Reachable}
 use Rattle.declared_pieces.specs.Refusals.{missing_class, missing_method, abstract_target, IsPresent, no_class, no_target, no_target_body}
-use Rattle.declared_pieces.specs.Rules.{Reads, of_call, of_new, asked_body, new_made, field_needed, resolved_class, resolved_body}
+use Rattle.declared_pieces.specs.Rules.{Reads, of_call, of_new, asked_body, new_made, field_needed, resolved_class, resolved_body, class_named}
 use Rattle.declared_pieces.specs.Typed.{MeetsThere}
 use Rattle.dispatch_laws.proofs.WorkedOut.{targets_are_worked_out}
 use Rattle.dispatch_laws.specs.Laws.{found_by}
 use Rattle.dispatch_laws.specs.Targets.{at_owner, target_in}
 use Rattle.helper_rules.specs.Helpers.{helper_name}
-use Rattle.helper_rules.specs.Words.{helper}
+use Rattle.helper_rules.specs.Words.{bound, helper, is_name, as_name}
 use Rattle.helper_rules.specs.declared.kinds.Helper.{Helper}
 use Rattle.helper_rules.specs.declared.kinds.Helper.TheVariants as helpers
+use Rattle.helper_rules.specs.declared.kinds.Kind.{Kind}
+use Rattle.helper_rules.specs.declared.kinds.Kind.TheVariants as kinds
 use Rattle.ir_mean.specs.Dispatch.{resolved}
 use Rattle.js_tree.specs.Terms.{Piece}
 use Rattle.js_tree.specs.declared.items.Binding.{Binding}
@@ -35,22 +38,30 @@ use Rattle.resolution_laws.proofs.Resolves.{each_call_resolves}
 use Rattle.sj_core.specs.Terms as core
 use Rattle.sj_desugar.specs.Desugar.{member, desugared_member, body_code, completed, is_mutable_in, result_destination}
 use Rattle.sj_emit_expr.specs.Templates.{called_member}
-use Rattle.sj_emit_expr.specs.Uses.{object_binding, function_binding, helper_of, uses_of_all}
-use Rattle.sj_infos.specs.Infos.{asks, asked_by_body, of_static_call, of_receiver}
+use Rattle.sj_emit_expr.specs.Tests.{same_name}
+use Rattle.sj_emit_expr.specs.Uses.{object_binding, function_binding, helper_of, test_uses, cast_uses, uses_of_all}
+use Rattle.sj_infos.specs.Forms.{form_of, of_test, forms_by_body}
+use Rattle.sj_infos.specs.Forms as of_form
+use Rattle.sj_infos.specs.Infos.{asks, asked_by_body, of_static_call, of_receiver, of_type, is_any, class_cast}
 use Rattle.sj_infos.specs.Sure.{sure_among}
 use Rattle.sj_infos.specs.Trees.{trees}
+use Rattle.sj_infos.specs.declared.forms.BodyForm.{BodyForm}
+use Rattle.sj_infos.specs.declared.forms.BodyForm.TheVariants as forms
 use Rattle.sj_infos.specs.declared.infos.Info.{Info}
-use Rattle.sj_infos.specs.declared.infos.Info.TheVariants.{New, Static, Field, Resolved}
+use Rattle.sj_infos.specs.declared.infos.Info.TheVariants.{New, Static, Field, Resolved, Class}
+use Rattle.sj_mangling.specs.Bindings.{class_binding}
+use Rattle.sj_mangling.specs.declared.bindings.ClassBinding.TheVariants.{IsInstance, AsInstance}
 use Rattle.sj_names.specs.declared.entry_points.EntryPoint.{EntryPoint}
 use Rattle.sj_names.specs.declared.folders.SourceFile.{SourceFile}
 use Rattle.sj_names.specs.declared.method_names.Member.{Member}
 use Rattle.sj_names.specs.declared.method_names.MethodName.{MethodName}
 use Rattle.sj_names.specs.declared.method_names.Namespace.{Namespace}
 use Rattle.sj_names.specs.declared.method_names.Namespace.TheVariants.{Public, PublicStatic, Private, PrivateStatic, Constructor}
-use Rattle.sj_trees.specs.Term.{Term, new_object, select, select_static, apply_statically, apply_static, binary_op}
+use Rattle.sj_trees.specs.Term.{Term, new_object, select, select_static, apply_statically, apply_static, binary_op, is_instance_of, as_instance_of}
 use Rattle.sj_trees.specs.declared.classes.ClassDef.{ClassDef}
 use Rattle.sj_trees.specs.declared.operators.BinaryOp.{BinaryOp}
-use Rattle.sj_trees.specs.declared.operators.BinaryOp.TheVariants.{IntDivide, IntRemainder, LongDivide, LongRemainder}
+use Rattle.sj_trees.specs.declared.operators.BinaryOp.TheVariants.{StrictEqual, StrictNotEqual, IntDivide, IntRemainder, LongDivide, LongRemainder}
+use Rattle.sj_trees.specs.declared.types.IrType.{IrType}
 use Rattle.sj_world.specs.Known.{Name, Classes, class_of}
 use Rattle.sj_world.specs.Linked.{Linked}
 use Rattle.sj_world.specs.Resolution.{Answer, target, abstract, missing, Resolves}
@@ -111,12 +122,66 @@ module _ (entries : List EntryPoint) (files : List SourceFile) (l : Linked) (all
   received PrivateStatic c m f = called (member c PrivateStatic m) (f (Static (member c PrivateStatic m)) (here (Static (member c PrivateStatic m)) []))
   received Constructor c m f = called (member c Constructor m) (f (Static (member c Constructor m)) (here (Static (member c Constructor m)) []))
 
+  identity : All Q (object_binding same_name ∷ [])
+  identity = All-cons Q (object_binding same_name) [] (helped helpers.Equal) (All-nil Q)
+
   divided : (o : BinaryOp) → All Q (helper_of false o)
   divided IntDivide = All-cons Q (object_binding (codes "$id")) [] (helped helpers.IntQuotient) (All-nil Q)
   divided IntRemainder = All-cons Q (object_binding (codes "$im")) [] (helped helpers.IntRemainder) (All-nil Q)
   divided LongDivide = All-cons Q (object_binding (codes "$ld")) [] (helped helpers.LongQuotient) (All-nil Q)
   divided LongRemainder = All-cons Q (object_binding (codes "$lm")) [] (helped helpers.LongRemainder) (All-nil Q)
+  divided StrictEqual = identity
+  divided StrictNotEqual = identity
   divided _ = All-nil Q
+
+  always : (o : BinaryOp) → All Q (helper_of true o)
+  always StrictEqual = identity
+  always StrictNotEqual = identity
+  always _ = All-nil Q
+
+  -- a form of the body is one of a needed body
+  formed : (t : Term) → Contains (trees e.its_body) t → (f : BodyForm) → Contains (form_of t) f → HasForm w l.facts f
+  formed t among f h = record {
+    member = e.member;
+    needed = d.listed (Body e.member) (needed w entries all bodies e i);
+    definition = e.definition;
+    defined = defined w e.member e.definition (bodies.found e i).found;
+    has = subst (λ (b : Option Term). Contains (forms_by_body b) f) (sym (bodies.found e i).has_body) (in_all form_of (trees e.its_body) t f among h);
+  }
+
+  class_needed : (c : Name) → Asked (Class c) → Reachable w entries (Needed c)
+  class_needed c r = closed w entries (Needed c) (class_named c r)
+
+  test_kind : (k : Kind) → All Q (helper (is_name k) ∷ [])
+  test_kind k = All-cons Q (helper (is_name k)) [] (helped (helpers.TestOf k)) (All-nil Q)
+
+  tested : (t : IrType) → ((o : Info) → Contains (of_type t) o → Asked o) → ((f : BodyForm) → Contains (of_test t) f → HasForm w l.facts f) → All Q (test_uses t)
+  tested (IrType.Class c) f g = All-cons Q (bound c (class_binding IsInstance c)) [] (λ u. d.tests c (g (forms.Test c) (here (forms.Test c) [])) (class_needed c (f (Class c) (here (Class c) [])))) (All-nil Q)
+  tested (IrType.Array r) f g = All-nil Q
+  tested IrType.Undefined f g = test_kind kinds.Undefined
+  tested IrType.Boolean f g = test_kind kinds.Boolean
+  tested IrType.Char f g = test_kind kinds.Char
+  tested IrType.Byte f g = test_kind kinds.Byte
+  tested IrType.Short f g = test_kind kinds.Short
+  tested IrType.Int f g = test_kind kinds.Int
+  tested IrType.Long f g = test_kind kinds.Long
+  tested _ f g = test_kind kinds.Text
+
+  cast_kind : (k : Kind) → All Q (helper (as_name k) ∷ [])
+  cast_kind k = All-cons Q (helper (as_name k)) [] (helped (helpers.CastTo k)) (All-nil Q)
+
+  casted : (t : IrType) → ((o : Info) → Contains (of_type t) o → Asked o) → ((f : BodyForm) → Contains (of_form.of_cast t) f → HasForm w l.facts f) → All Q (cast_uses t)
+  casted IrType.Any f g = All-nil Q
+  casted (IrType.Class c) f g = All-cons Q (bound c (class_binding AsInstance c)) [] (λ u. d.casts c (g (forms.Cast c) (here (forms.Cast c) [])) (class_needed c (f (Class c) (here (Class c) [])))) (All-nil Q)
+  casted (IrType.Array r) f g = All-nil Q
+  casted IrType.Undefined f g = cast_kind kinds.Undefined
+  casted IrType.Boolean f g = cast_kind kinds.Boolean
+  casted IrType.Char f g = cast_kind kinds.Char
+  casted IrType.Byte f g = cast_kind kinds.Byte
+  casted IrType.Short f g = cast_kind kinds.Short
+  casted IrType.Int f g = cast_kind kinds.Int
+  casted IrType.Long f g = cast_kind kinds.Long
+  casted _ f g = cast_kind kinds.Text
 
   box : Q (object_binding (codes "$C"))
   box = helped helpers.BoxedChar
@@ -131,7 +196,9 @@ module _ (entries : List EntryPoint) (files : List SourceFile) (l : Linked) (all
   brings (select_static p c f t) among s =
       let its = d.statics c f t s.asked (closed w entries (NeededField c f true) (field_needed c f true (asked (select_static p c f t) among (Field c f true) (here (Field c f true) [])))) in
       (λ u. its.0, λ u. its.1)
-  brings (binary_op p o x y) among s = λ n. divided o
+  brings (is_instance_of p r t) among s = tested t (asked (is_instance_of p r t) among) (formed (is_instance_of p r t) among)
+  brings (as_instance_of p r t) among s = casted t (λ o h. asked (as_instance_of p r t) among o (Contains-append_left (of_type t) (if is_any t then [] else class_cast) o h)) (formed (as_instance_of p r t) among)
+  brings (binary_op p o x y) among s = (λ n. divided o, always o)
   brings t among s = tt
 
   completed_in : (n : Namespace) (ss : core.Statements) → All Q (uses_of_all runs ss) → All Q (uses_of_all runs (completed n ss))

@@ -5,7 +5,7 @@ use Rattle.std.specs.Cmp.Lexicographic.{pointwise}
 use Rattle.body_rules.proofs.Lists.{nothing_in, in_front_or_behind, at_front, further_on}
 use Rattle.body_rules.specs.Standing.{is_bare}
 use Rattle.built_forms.proofs.Statics.{set_static, static_among}
-use Rattle.built_forms.specs.Built.{has_static, can_box, divides}
+use Rattle.built_forms.specs.Built.{has_static, can_box, divides, compares}
 use Rattle.declared_programs.proofs.Fields.{fields_differ, begins, statics_differ, static_begins}
 use Rattle.declared_programs.proofs.Items.{IsClassItem, alone as class_alone, extending, code_found, members_found}
 use Rattle.declared_programs.proofs.Place.{marker_held, same_classes, chain_length, zero_literal_is}
@@ -34,7 +34,8 @@ use Rattle.outcomes.specs.Shown as shown_ends
 use Rattle.piece_rules.specs.Pieces.{class_item_of, constructor_body, setter, zero_of as zero_literal}
 use Rattle.sj_calls.proofs.Shapes.{stands_there, zero_alike}
 use Rattle.sj_calls.specs.Chains as chains
-use Rattle.sj_calls.specs.Helpers.{HelperStands, BoxStands, failing_code, checking_code, division_code}
+use Rattle.sj_calls.proofs.Testing.{test_named}
+use Rattle.sj_calls.specs.Helpers.{ReachesBoxes, CanTest, CanCompare, helper_code, HelperStands, BoxStands, failing_code, checking_code, division_code}
 use Rattle.sj_calls.specs.Made.{zero_value}
 use Rattle.sj_calls.specs.Methods.{Linked, parameters_in, function_of}
 use Rattle.sj_calls.specs.Names.{emitted_in}
@@ -46,11 +47,12 @@ use Rattle.sj_desugar.specs.Desugar.{is_mutable_in, names_of, body_code, complet
 use Rattle.sj_emit_expr.specs.Members.{with_receiver, member_piece}
 use Rattle.sj_emit_expr.specs.Names.{variable_name, label_name}
 use Rattle.sj_emit_expr.specs.Templates.{check_name, member_name, static_name, setter_name, parameter_names, statement_templates}
+use Rattle.sj_emit_expr.specs.Tests.{test_name}
 use Rattle.sj_names.proofs.Same.{impossible}
 use Rattle.sj_names.specs.declared.method_names.Member.{Member as MemberName}
 use Rattle.sj_names.specs.declared.method_names.Namespace.{Namespace}
 use Rattle.sj_names.specs.declared.method_names.Namespace.TheVariants.{Public, PublicStatic, Private, PrivateStatic, Constructor}
-use Rattle.sj_plain.specs.Settings.{Place, Top, a_function, a_method, a_constructor, a_class, some_constants, a_static, a_setter, a_helper, top_name, is_usable, IsField, HasField, Holding, holding, HoldsConstants, TopHolds, SameHeap, SameState, Reaches, link_of, division_helper}
+use Rattle.sj_plain.specs.Settings.{Place, Top, a_function, a_method, a_constructor, a_class, some_constants, a_static, a_setter, a_test, a_cast, a_helper, top_name, is_usable, IsField, HasField, Holding, holding, HoldsConstants, TopHolds, SameHeap, SameState, Reaches, link_of, box_link, division_helper}
 use Rattle.sj_plain.specs.Worlds.{World}
 use Rattle.sj_trees.specs.Term.{Term}
 use Rattle.sj_trees.specs.Types.{class_type}
@@ -250,12 +252,30 @@ module _ (z : Spread) where
         usable = u;
       }
 
+      -- the file of a helper that uses the class of objects that hold chars
+      boxes_here : (g : Name) → (z.has g).helper (helper_name helpers.BoxedChar) ≡ true → ReachesBoxes place g
+      boxes_here g l = record { reached = reaches g (a_helper helpers.BoxedChar) l; user = g; usable = l }
+
+      tested_here : (f : Name) (t : IrType) → (z.has f).tests t ≡ true → CanTest place t
+      tested_here f t l = let d = can.tests f t l in let g = z.home (a_helper (helpers.TestOf d.kind)) in record {
+        kind = d.kind;
+        its_kind = d.its_kind;
+        test = ap (js_meaning.code_of z.program (z.home (a_test t))) (test_named t d.kind d.its_kind) ∙ ap (λ x. js_meaning.code_of z.program x (helper_name (helpers.TestOf d.kind))) d.home ∙ function_there g (helper_name (helpers.TestOf d.kind)) (helper_code (helpers.TestOf d.kind)).parameters (helper_code (helpers.TestOf d.kind)).body (helper_there f (helpers.TestOf d.kind) d.helper);
+        boxes = λ e. subst (ReachesBoxes place) (sym d.home) (boxes_here g (can.helpers f (helpers.TestOf d.kind) helpers.BoxedChar d.helper (subst (λ k. Contains (used_helpers (helpers.TestOf k)) helpers.BoxedChar) (sym e) (at_front helpers.BoxedChar []))));
+      }
+
+      compared_here : (f : Name) → compares (z.has f) ≡ true → CanCompare place
+      compared_here f l = let g = z.home (a_helper helpers.Equal) in record {
+        equality = function_there g (helper_name helpers.Equal) (helper_code helpers.Equal).parameters (helper_code helpers.Equal).body (helper_there f helpers.Equal l);
+        boxes = boxes_here g (can.helpers f helpers.Equal helpers.BoxedChar l (at_front helpers.BoxedChar []));
+      }
+
       -- what a call runs by what the code of a file can use, it runs by what can be used at all
       target_here : (f : Name) (m : MemberName) → (z.has f).received ((z.has f).target m) ≡ true → IsTargetOf z.classes m ((z.has f).target m)
       target_here f m l = let same = (laws.among f).targets m in subst (IsTargetOf z.classes m) same (laws.objects.targets m (subst (λ (o : MemberName). all.received o ≡ true) (sym same) ((laws.among f).tops (a_method ((z.has f).target m)) l)))
 
       pub has_objects : HasObjects place
-      has_objects = record { linked = linked_here; received = runs_here; targets = target_here; built = constructs_here; made = made_here; objects = object_here; field = field_here; statics = static_here; checked = check_here; divided = divided_here; boxes = box_here; each = omega arith; beyond = omega arith }
+      has_objects = record { linked = linked_here; received = runs_here; targets = target_here; built = constructs_here; made = made_here; objects = object_here; field = field_here; statics = static_here; checked = check_here; divided = divided_here; boxes = box_here; tested = tested_here; no_cast = can.casts; compared = compared_here; each = omega arith; beyond = omega arith }
 
     -- the state behind the declarations
     module _ (t : js.State) (hold : AllHold z.program t 0 (all_items z)) where
@@ -264,7 +284,7 @@ module _ (z : Spread) where
 
       -- nothing is made, and what stands on the heap is the emitted code's own
       abbrev pub begun : World
-      begun = record { place = λ i. None; owned = λ a. slice_get t.heap a; pending = λ a. None }
+      begun = record { place = λ i. None; owned = λ a. slice_get t.heap a; pending = λ a. None; boxes = box_link place ∷ [] }
 
       none_there : {A : Type 0} (o : A) → None ≡ Some o → ⊥
       none_there o e = cc
@@ -278,6 +298,7 @@ module _ (z : Spread) where
         apart = λ i a o e g. none_there a e;
         unborn = λ i a o e g. none_there a e;
         separate = λ a o b e g. none_there b g;
+        boxes = refl;
       }
 
       class_held : (c : Name) (cs : List Name) → ChainDeclared z (c ∷ cs) → t.tops (z.home (a_class c)) (class_name c) ≡ js.holds false (js.class (map (link_of place) (c ∷ cs)))
@@ -315,6 +336,8 @@ module _ (z : Spread) where
       top_held f (some_constants c) l = let k = can.made f c l in first_constants c k.above k.classes
       top_held f (a_static c g k) l = tt
       top_held f (a_setter c g k) l = let its = can.static_field f c g k (set_static (z.has f) c g k l) in (held_in (z.home (a_setter c g k)) (setter (setter_name c g) (static_name c g)) (subst (λ n. Stands z (a_setter c g k) (setter (setter_name c n) (static_name c n))) its.field.named its.setter)).1
+      top_held f (a_test k) l = let d = can.tests f k l in let h = can.helper f (helpers.TestOf d.kind) d.helper in subst (λ g. t.tops g (test_name k) ≡ js.holds false (js.function g (test_name k))) (sym d.home) (subst (λ x. t.tops (z.home (a_helper (helpers.TestOf d.kind))) x ≡ js.holds false (js.function (z.home (a_helper (helpers.TestOf d.kind))) x)) (sym (test_named k d.kind d.its_kind)) (helper_held (helpers.TestOf d.kind) h.0 h.1))
+      top_held f (a_cast k) l = impossible (sym (can.casts f k) ∙ l)
       top_held f (a_helper h) l = let k = can.helper f h l in helper_held h k.0 k.1
 
       -- the variable of a static field holds the zero of its type

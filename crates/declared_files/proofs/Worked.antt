@@ -30,7 +30,7 @@ use Rattle.sj_names.proofs.Same.{impossible}
 use Rattle.sj_names.specs.declared.entry_points.EntryPoint.{EntryPoint}
 use Rattle.sj_names.specs.declared.method_names.Member.{Member}
 use Rattle.sj_names.specs.declared.method_names.Namespace.TheVariants.{Private, Constructor}
-use Rattle.sj_plain.specs.Settings.{Top, a_function, a_method, a_constructor, a_class, some_constants, a_static, a_setter, a_helper, is_named, is_usable, IsField}
+use Rattle.sj_plain.specs.Settings.{Top, a_function, a_method, a_constructor, a_class, some_constants, a_static, a_setter, a_test, a_cast, a_helper, is_named, is_usable, IsField}
 use Rattle.sj_proper.specs.Emitted.{initializer_member}
 use Rattle.sj_proper.specs.Methods.{KeepsRules}
 use Rattle.sj_trees.specs.Term.{skip}
@@ -40,7 +40,7 @@ use Rattle.sj_trees.specs.declared.types.IrType.{IrType}
 use Rattle.sj_trees.specs.declared.types.IrType.TheVariants.{Int, NoType}
 use Rattle.sj_world.specs.Subtypes.{equal}
 use Rattle.typing_rules.specs.Rules.{nothing_wanted, fitting, HasFieldType}
-use Rattle.declared_files.specs.Declared.{Leads, Stands, Uses, FunctionDeclared, ClassDeclared, extends_none, extends_one, MadeDeclared, StaticDeclared, Declared, IsAmong, IsPublic, IsLawful, all_items}
+use Rattle.declared_files.specs.Declared.{Leads, Stands, Uses, FunctionDeclared, ClassDeclared, extends_none, extends_one, MadeDeclared, StaticDeclared, Declared, IsAmong, IsPublic, IsLawful, all_items, TestDeclared}
 use Rattle.declared_files.specs.Placed.{Placed, placed}
 use Rattle.declared_files.specs.Worked.{main_file, class_file, object_file, main_use, class_use, use_of, three_files, spread}
 use Rattle.declared_files.proofs.Whole.{files_agree}
@@ -66,6 +66,8 @@ main_leads (a_class c) h = subst (λ k. Leads spread main_file (a_class k)) (is-
 main_leads (some_constants c) h = impossible h
 main_leads (a_static c g t) h = impossible h
 main_leads (a_setter c g t) h = impossible h
+main_leads (a_test t) h = impossible h
+main_leads (a_cast t) h = impossible h
 main_leads (a_helper k) h = impossible h
 
 class_leads : (t : Top) → is_named class_use t ≡ true → Leads spread class_file t
@@ -76,6 +78,8 @@ class_leads (a_class c) h = subst (λ k. Leads spread class_file (a_class k)) (i
 class_leads (some_constants c) h = impossible h
 class_leads (a_static c g t) h = impossible h
 class_leads (a_setter c g t) h = impossible h
+class_leads (a_test t) h = impossible h
+class_leads (a_cast t) h = impossible h
 class_leads (a_helper k) h = impossible h
 
 nothing_leads : (f : Name) (t : Top) → is_named nothing t ≡ true → Leads spread f t
@@ -86,6 +90,8 @@ nothing_leads f (a_class c) h = impossible h
 nothing_leads f (some_constants c) h = impossible h
 nothing_leads f (a_static c g t) h = impossible h
 nothing_leads f (a_setter c g t) h = impossible h
+nothing_leads f (a_test t) h = impossible h
+nothing_leads f (a_cast t) h = impossible h
 nothing_leads f (a_helper k) h = impossible h
 
 -- the field of the class
@@ -191,6 +197,8 @@ all_declared = record {
   made = by_file (λ f u. (c : Name) → u.made c ≡ true → MadeDeclared spread c) (λ c h. main_makes c (is-equal class_name c h)) (λ c h. class_makes c (is-equal object_name c h)) (λ f c h. impossible h);
   field = by_file (λ f u. (c g : Name) (t : IrType) → u.field c g t ≡ true → IsField object_world c g t) (λ c g t h. impossible h) (λ c g t h. declared_alone.field c g t h) (λ f c g t h. impossible h);
   static_field = by_file (λ f u. (c g : Name) (t : IrType) → has_static u c g t ≡ true → StaticDeclared spread c g t) (λ c g t h. impossible h) (λ c g t h. impossible h) (λ f c g t h. impossible h);
+  tests = by_file (λ f u. (t : IrType) → u.tests t ≡ true → TestDeclared spread f t) (λ t h. impossible h) (λ t h. impossible h) (λ f t h. impossible h);
+  casts = by_file (λ f u. (t : IrType) → u.casts t ≡ false) (λ t. refl) (λ t. refl) (λ f t. refl);
   kept = declared_alone.kept;
   ancestors = λ k. [];
   helper = by_file (λ f u. (h : Helper) → u.helper (helper_name h) ≡ true → (is_covered h ≡ true) × Stands spread (a_helper h) (helper_item (λ k. []) h)) (λ h l. impossible l) (λ h l. impossible l) (λ f h l. impossible l);
@@ -208,6 +216,8 @@ main_among (a_class c) h = subst (λ k. object_use.made k ≡ true) (is-equal cl
 main_among (some_constants c) h = subst (λ k. object_use.made k ≡ true) (is-equal class_name c h) refl
 main_among (a_static c g t) h = impossible h
 main_among (a_setter c g t) h = impossible h
+main_among (a_test t) h = impossible h
+main_among (a_cast t) h = impossible h
 main_among (a_helper k) h = impossible h
 
 class_among : (t : Top) → is_usable class_use t ≡ true → is_usable object_use t ≡ true
@@ -218,6 +228,8 @@ class_among (a_class c) h = subst (λ k. object_use.made k ≡ true) (is-equal o
 class_among (some_constants c) h = subst (λ k. object_use.made k ≡ true) (is-equal object_name c h) refl
 class_among (a_static c g t) h = impossible h
 class_among (a_setter c g t) h = impossible h
+class_among (a_test t) h = impossible h
+class_among (a_cast t) h = impossible h
 class_among (a_helper k) h = impossible h
 
 none_among : (t : Top) → is_usable nothing t ≡ true → is_usable object_use t ≡ true
@@ -228,6 +240,8 @@ none_among (a_class c) h = impossible h
 none_among (some_constants c) h = impossible h
 none_among (a_static c g t) h = impossible h
 none_among (a_setter c g t) h = impossible h
+none_among (a_test t) h = impossible h
+none_among (a_cast t) h = impossible h
 none_among (a_helper k) h = impossible h
 
 pub lawful : IsLawful spread object_use

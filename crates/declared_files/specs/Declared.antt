@@ -9,7 +9,9 @@ use Rattle.helper_rules.specs.Helpers.{Above, helper_name, helper_item, used_hel
 use Rattle.helper_rules.specs.Words.{marker}
 use Rattle.helper_rules.specs.declared.kinds.Failure.TheVariants.{NullReceiver, Division}
 use Rattle.helper_rules.specs.declared.kinds.Helper.{Helper}
-use Rattle.helper_rules.specs.declared.kinds.Helper.TheVariants.{Throws}
+use Rattle.helper_rules.specs.declared.kinds.Kind.{Kind}
+use Rattle.sj_calls.specs.Helpers.{kind_of}
+use Rattle.helper_rules.specs.declared.kinds.Helper.TheVariants.{Throws, TestOf}
 use Rattle.ir_mean.specs.Dispatch.{chain_of}
 use Rattle.ir_mean.specs.Meaning.{with_message}
 use Rattle.ir_mean.specs.World.{World, class_of}
@@ -26,7 +28,7 @@ use Rattle.sj_names.specs.Same.{is_same_text}
 use Rattle.sj_names.specs.declared.entry_points.EntryPoint.{EntryPoint}
 use Rattle.sj_names.specs.declared.method_names.Member.{Member as MemberName}
 use Rattle.sj_names.specs.declared.method_names.Namespace.TheVariants.{Constructor}
-use Rattle.sj_plain.specs.Settings.{Top, a_function, a_method, a_constructor, a_class, some_constants, a_static, a_setter, a_helper, top_name, is_usable, is_named, IsField, IsStaticField}
+use Rattle.sj_plain.specs.Settings.{Top, a_function, a_method, a_constructor, a_class, some_constants, a_static, a_setter, a_test, a_helper, top_name, is_usable, is_named, IsField, IsStaticField}
 use Rattle.sj_proper.specs.Emitted.{initializer_member, call_item_of}
 use Rattle.sj_trees.specs.declared.classes.ClassDef.{ClassDef}
 use Rattle.sj_trees.specs.declared.classes.FieldDef.{FieldDef}
@@ -103,8 +105,16 @@ pub record StaticDeclared (z : Spread) (c f : Name) (t : IrType) : Type 0 where
   pub beside : z.home (a_static c f t) ≡ z.home (a_setter c f t)
   pub leads : Leads z (z.home (a_setter c f t)) (a_static c f t)
 
+-- a primitive type whose test the code of this file can use: it is the helper of its kind
+pub record TestDeclared (z : Spread) (f : Name) (t : IrType) : Type 0 where
+  pub kind : Kind
+  pub its_kind : kind_of t ≡ Some kind
+  pub helper : (z.has f).helper (helper_name (TestOf kind)) ≡ true
+  pub home : z.home (a_test t) ≡ z.home (a_helper (TestOf kind))
+
 -- all that the code of some file can use is declared, and its file leads to what it names: each member as it runs, a constructor without a value; each class that is
--- made; each field and each static field; and each helper, whose file can use those that it uses, and that of a failure the exception of it
+-- made; each field and each static field; tests of primitive types, and no cast that calls a function; and each helper, whose file can use those that it uses, and that of
+-- a failure the exception of it
 pub record Declared (z : Spread) : Type 0 where
   pub leads : (f : Name) (t : Top) → is_named (z.has f) t ≡ true → Leads z f t
   pub linked : (f : Name) (m : MemberName) → (z.has f).linked m ≡ true → FunctionDeclared z (a_function m) alone m
@@ -113,6 +123,8 @@ pub record Declared (z : Spread) : Type 0 where
   pub made : (f c : Name) → (z.has f).made c ≡ true → MadeDeclared z c
   pub field : (f c g : Name) (t : IrType) → (z.has f).field c g t ≡ true → IsField z.classes c g t
   pub static_field : (f c g : Name) (t : IrType) → has_static (z.has f) c g t ≡ true → StaticDeclared z c g t
+  pub tests : (f : Name) (t : IrType) → (z.has f).tests t ≡ true → TestDeclared z f t
+  pub casts : (f : Name) (t : IrType) → (z.has f).casts t ≡ false
   pub kept : FieldsAreKept z.classes
   pub ancestors : Above
   pub helper : (f : Name) (h : Helper) → (z.has f).helper (helper_name h) ≡ true → (is_covered h ≡ true) × Stands z (a_helper h) (helper_item ancestors h)

@@ -56,6 +56,8 @@ main_use = record {
   field = λ c f t. false;
   static_field = λ c f t. false;
   static_setter = λ c f t. false;
+  tests = λ t. false;
+  casts = λ t. false;
   helper = λ x. false;
   objects = true;
 }
@@ -70,6 +72,8 @@ class_use = record {
   field = λ c f t. is_same_text c class_name && (is_same_text f field_name && is_same_type t Int);
   static_field = λ c f t. false;
   static_setter = λ c f t. false;
+  tests = λ t. false;
+  casts = λ t. false;
   helper = λ x. false;
   objects = true;
 }

@@ -1,7 +1,7 @@
 -- The files of a plan declare all that their code can use.
-use Rattle.std.proofs.Common.{◌≡◌, ◌&&◌, inl, inr, Bool, true, List, [], ◌∷◌, Some, None, codes, map, refl, sym, ap, subst, ◌∙◌}
+use Rattle.std.proofs.Common.{◌≡◌, ◌&&◌, inl, inr, Bool, true, false, List, [], ◌∷◌, Some, None, codes, map, refl, sym, ap, subst, ◌∙◌}
 use Rattle.std.specs.Prelude.{◌↔◌}
-use Rattle.std.specs.List.{Contains}
+use Rattle.std.specs.List.{Contains, list_all}
 use Rattle.std.proofs.lemmas.Bool.{and_parts, and_from, or_cases, or_left}
 use Rattle.std.proofs.lemmas.List.Elements.{Contains-append_left, Contains-append_right}
 use Rattle.body_uses.proofs.Written.{divisors_fit}
@@ -50,13 +50,13 @@ use Rattle.object_folders.proofs.Throwing.{exceptions, division}
 use Rattle.accepted_folders.specs.BodySoundnessRules.{RightMember}
 use Rattle.sj_desugar.specs.Desugar.{member}
 use Rattle.sj_emit_expr.specs.Templates.{check_name, static_name}
-use Rattle.sj_emit_expr.specs.Uses.{object_binding, function_binding, class_use, static_use, setter_use}
+use Rattle.sj_emit_expr.specs.Uses.{object_binding, function_binding, class_use, static_use, setter_use, test_uses, cast_uses}
 use Rattle.sj_names.proofs.Same.{impossible}
 use Rattle.sj_names.specs.declared.entry_points.EntryPoint.{EntryPoint}
 use Rattle.sj_names.specs.declared.folders.SourceFile.{SourceFile}
 use Rattle.sj_names.specs.declared.method_names.Member.{Member}
 use Rattle.sj_names.specs.declared.method_names.Namespace.TheVariants.{Constructor}
-use Rattle.sj_plain.specs.Settings.{Top, a_function, a_method, a_constructor, a_class, some_constants, a_static, a_setter, a_helper, top_name, is_named as is_named_top}
+use Rattle.sj_plain.specs.Settings.{Top, a_function, a_method, a_constructor, a_class, some_constants, a_static, a_setter, a_test, a_cast, a_helper, top_name, is_named as is_named_top}
 use Rattle.sj_split.proofs.Members.{at_first, further, into_map}
 use Rattle.sj_split.specs.declared.plans.PlannedModule.{PlannedModule}
 use Rattle.sj_trees.specs.declared.classes.FieldDef.{FieldDef}
@@ -74,16 +74,18 @@ use Rattle.declared_modules.specs.Spread.{owner_of, file_or_none, spread_of, All
 abbrev binding_of : Top → Binding
 binding_of t = record { owner = owner_of t; name = top_name t }
 
--- what the code of a file names it uses
-named_used : (has : Usable) (uses : Binding → Bool) (t : Top) → is_named_top (restricted has uses) t ≡ true → uses (binding_of t) ≡ true
-named_used has uses (a_function m) h = (and_parts (has.linked m) (uses (function_binding m)) h).1
-named_used has uses (a_method m) h = (and_parts (has.received m) (uses (function_binding m)) h).1
-named_used has uses (a_constructor m) h = (and_parts (has.built m) (uses (function_binding m)) h).1
-named_used has uses (a_class c) h = (and_parts (has.made c) (uses (class_use c)) h).1
-named_used has uses (some_constants c) h = impossible h
-named_used has uses (a_static c f t) h = (and_parts (has.static_field c f t) (uses (static_use c f)) h).1
-named_used has uses (a_setter c f t) h = (and_parts (has.static_setter c f t) (uses (setter_use c f)) h).1
-named_used has uses (a_helper x) h = (and_parts (has.helper (helper_name x)) (uses (object_binding (helper_name x))) h).1
+-- what the code of a file names it uses, where it can use no test and no cast
+named_used : (has : Usable) → ((t : IrType) → has.tests t ≡ false) → ((t : IrType) → has.casts t ≡ false) → (uses : Binding → Bool) (t : Top) → is_named_top (restricted has uses) t ≡ true → uses (binding_of t) ≡ true
+named_used has no_test no_cast uses (a_function m) h = (and_parts (has.linked m) (uses (function_binding m)) h).1
+named_used has no_test no_cast uses (a_method m) h = (and_parts (has.received m) (uses (function_binding m)) h).1
+named_used has no_test no_cast uses (a_constructor m) h = (and_parts (has.built m) (uses (function_binding m)) h).1
+named_used has no_test no_cast uses (a_class c) h = (and_parts (has.made c) (uses (class_use c)) h).1
+named_used has no_test no_cast uses (some_constants c) h = impossible h
+named_used has no_test no_cast uses (a_static c f t) h = (and_parts (has.static_field c f t) (uses (static_use c f)) h).1
+named_used has no_test no_cast uses (a_setter c f t) h = (and_parts (has.static_setter c f t) (uses (setter_use c f)) h).1
+named_used has no_test no_cast uses (a_test k) h = impossible (sym (no_test k) ∙ (and_parts (has.tests k) (list_all uses (test_uses k)) h).0)
+named_used has no_test no_cast uses (a_cast k) h = impossible (sym (no_cast k) ∙ (and_parts (has.casts k) (list_all uses (cast_uses k)) h).0)
+named_used has no_test no_cast uses (a_helper x) h = (and_parts (has.helper (helper_name x)) (uses (object_binding (helper_name x))) h).1
 
 module _ (entries : List EntryPoint) (files : List SourceFile) (l : Linked) (all : List EmittedMethod) (live written : List Name) (modules : List PlannedModule) (ps : List Piece) (front : List Name) (last : Name) (declared : List Item) (bytes : (file : SourceFile) → Contains files file → AreBytes file.bytes) (a : IsAccepted entries files l.world) (bodies : AreBodies l.world entries all) (p : AreLinkedPieces l all ps) (are_live : (c : Name) → Contains live c ↔ IsLive l.world l.facts c) (run : CanRun l.world entries l.facts all live p.helpers written) (owned : IsClosed ps written) (covered : (h : Helper) → Contains p.helpers h → is_covered h ≡ true) (together : StandTogether modules ps) (whole : AreWhole modules ps) (stand : AllStand modules ps written (spread_of modules ps l.world (used_of l.world l.facts all live p.helpers written) front last declared)) where
   abbrev w : Classes
@@ -323,13 +325,15 @@ module _ (entries : List EntryPoint) (files : List SourceFile) (l : Linked) (all
 
 pub modules_declare : ModulesDeclare
 modules_declare entries files l all live written modules ps front last declared bytes a bodies p are_live run owned covered together whole stand = record {
-  leads = λ f t h. leads_to entries files l all live written modules ps front last declared bytes a bodies p are_live run owned covered together whole stand f t (named_used (used_of l.world l.facts all live p.helpers written) (uses_in modules ps f) t h);
+  leads = λ f t h. leads_to entries files l all live written modules ps front last declared bytes a bodies p are_live run owned covered together whole stand f t (named_used (used_of l.world l.facts all live p.helpers written) (λ k. refl) (λ k. refl) (uses_in modules ps f) t h);
   linked = linked_declared entries files l all live written modules ps front last declared bytes a bodies p are_live run owned covered together whole stand;
   received = received_declared entries files l all live written modules ps front last declared bytes a bodies p are_live run owned covered together whole stand;
   built = built_declared entries files l all live written modules ps front last declared bytes a bodies p are_live run owned covered together whole stand;
   made = class_made entries files l all live written modules ps front last declared bytes a bodies p are_live run owned covered together whole stand;
   field = λ f. field_there l.world;
   static_field = static_declared entries files l all live written modules ps front last declared bytes a bodies p are_live run owned covered together whole stand;
+  tests = λ f t h. impossible h;
+  casts = λ f t. refl;
   kept = fields_kept entries files l.world bytes a;
   ancestors = p.above;
   helper = λ f h e. let u = its_helper f h e in (covered h u.is_written.among_helpers, helper_stands entries files l all live written modules ps front last declared bytes a bodies p are_live run owned covered together whole stand h u);

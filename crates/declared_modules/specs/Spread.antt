@@ -9,11 +9,12 @@ use Rattle.js_tree.specs.Terms.{Name, Item, Piece}
 use Rattle.module_files.specs.Files.{program_of}
 use Rattle.module_rules.specs.Modules.{file_with}
 use Rattle.module_uses.specs.Used.{restricted, uses_in}
-use Rattle.sj_plain.specs.Settings.{Top, a_function, a_method, a_constructor, a_class, some_constants, a_static, a_setter, a_helper}
+use Rattle.sj_plain.specs.Settings.{Top, a_function, a_method, a_constructor, a_class, some_constants, a_static, a_setter, a_test, a_cast, a_helper}
+use Rattle.sj_trees.specs.declared.types.IrType.TheVariants.{Class}
 use Rattle.sj_split.specs.declared.plans.PlannedModule.{PlannedModule}
 use Rattle.sj_world.specs.Known.{Classes}
 
--- the class that owns a binding: `java.lang.Object` owns the helpers
+-- the class that owns a binding: `java.lang.Object` owns the helpers, and so the tests and casts of types other than classes
 abbrev pub owner_of : Top → Name
 owner_of (a_function m) = m.class
 owner_of (a_method m) = m.class
@@ -22,6 +23,10 @@ owner_of (a_class c) = c
 owner_of (some_constants c) = c
 owner_of (a_static c f t) = c
 owner_of (a_setter c f t) = c
+owner_of (a_test (Class c)) = c
+owner_of (a_test t) = object_class
+owner_of (a_cast (Class c)) = c
+owner_of (a_cast t) = object_class
 owner_of (a_helper h) = object_class
 
 -- a file without a name stands for none

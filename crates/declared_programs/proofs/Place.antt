@@ -11,7 +11,7 @@ use Rattle.body_rules.proofs.Lists.{nothing_in, in_front_or_behind, at_front, fu
 use Rattle.body_rules.specs.Standing.{is_bare}
 use Rattle.body_soundness.specs.Laws.{ObjectLaws}
 use Rattle.built_forms.proofs.Statics.{set_static}
-use Rattle.built_forms.specs.Built.{Usable, has_static, can_box, divides}
+use Rattle.built_forms.specs.Built.{Usable, has_static, can_box, divides, compares}
 use Rattle.file_tops.proofs.Run.{some_same}
 use Rattle.file_tops.specs.Tops.{literal_value, literal_properties, link}
 use Rattle.helper_rules.specs.Helpers.{helper_name, helper_item, used_helpers, constants, marker_property, box_constructor}
@@ -36,7 +36,8 @@ use Rattle.piece_rules.specs.Pieces.{class_item_of, constructor_body, setter, ze
 use Rattle.sj_calls.proofs.Shapes.{stands_there, zero_alike}
 use Rattle.sj_calls.proofs.Whole.{module_there, own_name, alone, place_of}
 use Rattle.sj_calls.specs.Chains as chains
-use Rattle.sj_calls.specs.Helpers.{HelperStands, BoxStands, failing_code, checking_code, division_code}
+use Rattle.sj_calls.proofs.Testing.{test_named}
+use Rattle.sj_calls.specs.Helpers.{HelperStands, BoxStands, ReachesBoxes, CanTest, CanCompare, helper_code, failing_code, checking_code, division_code}
 use Rattle.sj_calls.specs.Methods.{Linked, parameters_in, function_of}
 use Rattle.sj_calls.specs.Objects.{RunsOn, Constructs, function_on, body_of}
 use Rattle.sj_calls.specs.Objects as on_objects
@@ -54,7 +55,7 @@ use Rattle.sj_names.specs.declared.entry_points.EntryPoint.{EntryPoint}
 use Rattle.sj_names.specs.declared.method_names.Member.{Member as MemberName}
 use Rattle.sj_names.specs.declared.method_names.Namespace.{Namespace}
 use Rattle.sj_names.specs.declared.method_names.Namespace.TheVariants.{Public, PublicStatic, Private, PrivateStatic, Constructor}
-use Rattle.sj_plain.specs.Settings.{Place, Top, a_function, a_method, a_constructor, a_class, some_constants, a_static, a_setter, a_helper, top_name, is_usable, IsField, HasField, Holding, holding, HoldsConstants, TopHolds, SameHeap, SameState, Reaches, link_of, division_helper}
+use Rattle.sj_plain.specs.Settings.{Place, Top, a_function, a_method, a_constructor, a_class, some_constants, a_static, a_setter, a_test, a_cast, a_helper, top_name, is_usable, IsField, HasField, Holding, holding, HoldsConstants, TopHolds, SameHeap, SameState, Reaches, link_of, box_link, division_helper}
 use Rattle.sj_plain.specs.Worlds.{World}
 use Rattle.sj_proper.specs.Emitted.{call_item_of}
 use Rattle.sj_trees.specs.Term.{Term}
@@ -295,8 +296,26 @@ module _ (w : ir_world.World) (f : Name) (has : Usable) (is : List Item) (es : L
         usable = can.helpers helpers.BoxedChar (helpers.ConstantsOf kinds.Char) l (at_front (helpers.ConstantsOf kinds.Char) []);
       }
 
+      -- the file of a helper that uses the class of objects that hold chars is the one file, which has it
+      boxes_here : has.helper (helper_name helpers.BoxedChar) ≡ true → ReachesBoxes place f
+      boxes_here l = record { reached = own_name f module_here (helper_name helpers.BoxedChar) refl; user = f; usable = l }
+
+      tested_here : (t : IrType) → has.tests t ≡ true → CanTest place t
+      tested_here t l = let d = can.tests t l in record {
+        kind = d.kind;
+        its_kind = d.its_kind;
+        test = ap (js_meaning.code_of program f) (test_named t d.kind d.its_kind) ∙ function_there (helper_name (helpers.TestOf d.kind)) (helper_code (helpers.TestOf d.kind)).parameters (helper_code (helpers.TestOf d.kind)).body (failing_here (helpers.TestOf d.kind) d.helper);
+        boxes = λ e. boxes_here (can.helpers (helpers.TestOf d.kind) helpers.BoxedChar d.helper (subst (λ k. Contains (used_helpers (helpers.TestOf k)) helpers.BoxedChar) (sym e) (at_front helpers.BoxedChar [])));
+      }
+
+      compared_here : compares has ≡ true → CanCompare place
+      compared_here l = record {
+        equality = function_there (helper_name helpers.Equal) (helper_code helpers.Equal).parameters (helper_code helpers.Equal).body (failing_here helpers.Equal l);
+        boxes = boxes_here (can.helpers helpers.Equal helpers.BoxedChar l (at_front helpers.BoxedChar []));
+      }
+
       pub has_objects : HasObjects place
-      has_objects = record { linked = λ g m l. linked_here m l; received = λ g m l. runs_here m l; targets = λ g m l. laws.targets m l; built = λ g m l. constructs_here m l; made = λ g c l. made_here c l; objects = λ g c l. object_here c l; field = λ g c x t l. field_here c x t l; statics = λ g c x t l. static_here c x t l; checked = λ g l. check_here l; divided = λ g o l. divided_here o l; boxes = λ g l. box_here l; each = omega arith; beyond = omega arith }
+      has_objects = record { linked = λ g m l. linked_here m l; received = λ g m l. runs_here m l; targets = λ g m l. laws.targets m l; built = λ g m l. constructs_here m l; made = λ g c l. made_here c l; objects = λ g c l. object_here c l; field = λ g c x t l. field_here c x t l; statics = λ g c x t l. static_here c x t l; checked = λ g l. check_here l; divided = λ g o l. divided_here o l; boxes = λ g l. box_here l; tested = λ g t l. tested_here t l; no_cast = λ g t. can.casts t; compared = λ g l. compared_here l; each = omega arith; beyond = omega arith }
 
     -- the state behind the declarations
     module _ (t : js.State) (hold : AllHold f t 0 is) where
@@ -305,7 +324,7 @@ module _ (w : ir_world.World) (f : Name) (has : Usable) (is : List Item) (es : L
 
       -- nothing is made, and what stands on the heap is the emitted code's own
       abbrev pub begun : World
-      begun = record { place = λ i. None; owned = λ a. slice_get t.heap a; pending = λ a. None }
+      begun = record { place = λ i. None; owned = λ a. slice_get t.heap a; pending = λ a. None; boxes = box_link place ∷ [] }
 
       none_there : {A : Type 0} (o : A) → None ≡ Some o → ⊥
       none_there o e = cc
@@ -319,6 +338,7 @@ module _ (w : ir_world.World) (f : Name) (has : Usable) (is : List Item) (es : L
         apart = λ i a o e g. none_there a e;
         unborn = λ i a o e g. none_there a e;
         separate = λ a o b e g. none_there b g;
+        boxes = refl;
       }
 
       class_held : (c : Name) (cs : List Name) → ChainDeclared w has is (c ∷ cs) → t.tops f (class_name c) ≡ js.holds false (js.class (map (link_of place) (c ∷ cs)))
@@ -353,6 +373,8 @@ module _ (w : ir_world.World) (f : Name) (has : Usable) (is : List Item) (es : L
       top_held (some_constants c) l = let k = can.made c l in first_constants c k.above k.classes
       top_held (a_static c g k) l = tt
       top_held (a_setter c g k) l = let its = can.static_field c g k (set_static has c g k l) in (held_in (setter (setter_name c g) (static_name c g)) (subst (λ n. Contains is (setter (setter_name c n) (static_name c n))) its.field.named its.setter)).1
+      top_held (a_test k) l = let d = can.tests k l in let h = can.helper (helpers.TestOf d.kind) d.helper in subst (λ x. t.tops f x ≡ js.holds false (js.function f x)) (sym (test_named k d.kind d.its_kind)) (helper_held (helpers.TestOf d.kind) h.0 h.1)
+      top_held (a_cast k) l = impossible (sym (can.casts k) ∙ l)
       top_held (a_helper h) l = let k = can.helper h l in helper_held h k.0 k.1
 
       -- the variable of a static field holds the zero of its type

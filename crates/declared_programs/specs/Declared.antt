@@ -6,7 +6,8 @@ use Rattle.built_forms.specs.Built.{Usable, has_static}
 use Rattle.helper_rules.specs.Helpers.{Above, helper_name, helper_item, used_helpers}
 use Rattle.helper_rules.specs.Words.{marker}
 use Rattle.helper_rules.specs.declared.kinds.Helper.{Helper}
-use Rattle.helper_rules.specs.declared.kinds.Helper.TheVariants.{ConstantsOf, ArrayClass}
+use Rattle.helper_rules.specs.declared.kinds.Helper.TheVariants.{ConstantsOf, ArrayClass, TestOf}
+use Rattle.helper_rules.specs.declared.kinds.Kind.{Kind}
 use Rattle.helper_rules.specs.declared.kinds.Kind.TheVariants as kinds
 use Rattle.ir_mean.specs.Dispatch.{chain_of}
 use Rattle.ir_mean.specs.World.{World, class_of}
@@ -21,6 +22,7 @@ use Rattle.sj_names.specs.Same.{is_same_text}
 use Rattle.sj_names.specs.declared.method_names.Member.{Member as MemberName}
 use Rattle.sj_names.specs.declared.method_names.Namespace.{Namespace}
 use Rattle.sj_names.specs.declared.method_names.Namespace.TheVariants.{Public, PublicStatic, Private, PrivateStatic, Constructor}
+use Rattle.sj_calls.specs.Helpers.{kind_of}
 use Rattle.sj_plain.specs.Settings.{IsField, IsStaticField}
 use Rattle.sj_trees.specs.declared.classes.ClassDef.{ClassDef}
 use Rattle.sj_trees.specs.declared.classes.FieldDef.{FieldDef}
@@ -92,8 +94,14 @@ pub record StaticDeclared (w : World) (is : List Item) (c f : Name) (t : IrType)
   pub variable : Contains is (variable_piece c field.field).item
   pub setter : Contains is (setter_piece c field.field).item
 
--- all that can be used is declared by these items: each member as it runs, a constructor without a value; each class that is made; each field and each static field; and each
--- helper, with those that it uses
+-- a primitive type whose test can be used: it is the helper of its kind
+pub record TestDeclared (has : Usable) (t : IrType) : Type 0 where
+  pub kind : Kind
+  pub its_kind : kind_of t ≡ Some kind
+  pub helper : has.helper (helper_name (TestOf kind)) ≡ true
+
+-- all that can be used is declared by these items: each member as it runs, a constructor without a value; each class that is made; each field and each static field; tests
+-- of primitive types, and no cast that calls a function; and each helper, with those that it uses
 pub record Declared (w : World) (has : Usable) (is : List Item) : Type 0 where
   pub linked : (m : MemberName) → has.linked m ≡ true → FunctionDeclared w has is alone m
   pub received : (m : MemberName) → has.received m ≡ true → FunctionDeclared w has is on_receiver m
@@ -101,6 +109,8 @@ pub record Declared (w : World) (has : Usable) (is : List Item) : Type 0 where
   pub made : (c : Name) → has.made c ≡ true → MadeDeclared w has is c
   pub field : (c f : Name) (t : IrType) → has.field c f t ≡ true → IsField w c f t
   pub static_field : (c f : Name) (t : IrType) → has_static has c f t ≡ true → StaticDeclared w is c f t
+  pub tests : (t : IrType) → has.tests t ≡ true → TestDeclared has t
+  pub casts : (t : IrType) → has.casts t ≡ false
   pub kept : FieldsAreKept w
   pub ancestors : Above
   pub helper : (h : Helper) → has.helper (helper_name h) ≡ true → (is_covered h ≡ true) × Contains is (helper_item ancestors h)

@@ -4,11 +4,12 @@ use Rattle.std.proofs.lemmas.List.Elements.{Contains-append_left, Contains-appen
 use Rattle.js_tree.specs.Terms as js
 use Rattle.js_tree.specs.Terms.{property_of, call_of, new_of, conditional_of, host_call, const_of, let_of, expression_statement, assign_name, assign_property, do_forever, switch_on}
 use Rattle.js_tree.specs.declared.operators.HostFunction.TheVariants.{StringFromCharCode, ConsoleLog}
-use Rattle.sj_core.specs.Terms.{Expression, boxed_char, char_text, value_text, choice_of, static_call, field_of, checked_value, made_of, receiver_call, unary_of, binary_of, Expressions, no_expressions, expression, Statement, constant_of, define_of, declare_of, assign_to, evaluate_of, return_of, log_of, assign_field, assign_static, throw_of, leave_label, break_nearest, if_of, while_of, loop_of, labeled_of, switch_of, Statements, no_statements, statement, Cases, no_cases, switch_case, Method}
+use Rattle.sj_core.specs.Terms.{Expression, boxed_char, char_text, value_text, choice_of, static_call, field_of, checked_value, made_of, receiver_call, test_of, cast_of, unary_of, binary_of, Expressions, no_expressions, expression, Statement, constant_of, define_of, declare_of, assign_to, evaluate_of, return_of, log_of, assign_field, assign_static, throw_of, leave_label, break_nearest, if_of, while_of, loop_of, labeled_of, switch_of, Statements, no_statements, statement, Cases, no_cases, switch_case, Method}
 use Rattle.sj_emit_expr.specs.Members.{function_parameters}
 use Rattle.sj_emit_expr.specs.Names.{variable_name, label_name}
 use Rattle.sj_emit_expr.specs.Templates.{called_member, as_text, unary_template, binary_template, is_nonzero_literal, member_name, class_name, property_name, setter_name, check_name, choice_template, expression_template, expression_templates, statement_template, statement_templates, case_templates}
-use Rattle.sj_emit_expr.specs.Uses.{object_binding, function_binding, class_use, setter_use, helper_of, uses_in, uses_in_all, uses_of, uses_of_all, uses_of_cases, once_each}
+use Rattle.sj_emit_expr.specs.Tests.{test_template, cast_template}
+use Rattle.sj_emit_expr.specs.Uses.{object_binding, function_binding, class_use, setter_use, helper_of, test_uses, cast_uses, uses_in, uses_in_all, uses_of, uses_of_all, uses_of_cases, once_each}
 use Rattle.sj_names.specs.declared.method_names.Member.{Member}
 use Rattle.sj_names.specs.declared.method_names.Namespace.{Namespace}
 use Rattle.sj_names.specs.declared.method_names.Namespace.TheVariants.{Public}
@@ -58,6 +59,8 @@ module _ (f g : Member → Member) where
         let y = same_in_all es (back (calls_in e) (calls_in_all es) former) in
         let z : called_member f m.namespace m ≡ called_member g m.namespace m = own_agrees m.namespace m (back (calls_in e ++ calls_in_all es) (own_call m) h) in
         (λ i. call_of (member_name (z i)) (js.expression (x.0 i) (y.0 i)), λ i. function_binding (z i) ∷ x.1 i ++ y.1 i)
+    same_in (test_of t e) h = let a = same_in e h in (λ i. test_template t (a.0 i), λ i. test_uses t ++ a.1 i)
+    same_in (cast_of t e) h = let a = same_in e h in (λ i. cast_template t (a.0 i), λ i. cast_uses t ++ a.1 i)
     same_in (unary_of o e) h = let a = same_in e h in (λ i. unary_template o (a.0 i), a.1)
     same_in (binary_of o e d) h =
         let x = same_in e (front (calls_in e) (calls_in d) h) in

@@ -2,7 +2,7 @@
 use Rattle.std.proofs.Common.{◌≡◌, List, [], ◌++◌, refl}
 use Rattle.std.specs.List.{All}
 use Rattle.std.proofs.lemmas.List.Elements.{All-nil, All-cons, All-append}
-use Rattle.sj_core.specs.Terms.{Expression, boxed_char, char_text, value_text, choice_of, static_call, field_of, checked_value, made_of, receiver_call, unary_of, binary_of, Expressions, no_expressions, expression, Statement, constant_of, define_of, declare_of, assign_to, evaluate_of, return_of, log_of, assign_field, assign_static, throw_of, leave_label, break_nearest, if_of, while_of, loop_of, labeled_of, switch_of, Statements, no_statements, statement, Cases, no_cases, switch_case}
+use Rattle.sj_core.specs.Terms.{Expression, boxed_char, char_text, value_text, choice_of, static_call, field_of, checked_value, made_of, receiver_call, test_of, cast_of, unary_of, binary_of, Expressions, no_expressions, expression, Statement, constant_of, define_of, declare_of, assign_to, evaluate_of, return_of, log_of, assign_field, assign_static, throw_of, leave_label, break_nearest, if_of, while_of, loop_of, labeled_of, switch_of, Statements, no_statements, statement, Cases, no_cases, switch_case}
 use Rattle.sj_names.specs.declared.method_names.Member.{Member}
 use Rattle.sj_names.specs.declared.method_names.Namespace.{Namespace}
 use Rattle.sj_names.specs.declared.method_names.Namespace.TheVariants.{Public}
@@ -35,6 +35,8 @@ mutual
   public_in (checked_value e) = public_in e
   public_in (made_of m es) = public_in_all es
   public_in (receiver_call m e es) = both (calls_in e ++ calls_in_all es) (own_call m) (both (calls_in e) (calls_in_all es) (public_in e) (public_in_all es)) (own_public m)
+  public_in (test_of t e) = public_in e
+  public_in (cast_of t e) = public_in e
   public_in (unary_of o e) = public_in e
   public_in (binary_of o e g) = both (calls_in e) (calls_in g) (public_in e) (public_in g)
   public_in _ = none

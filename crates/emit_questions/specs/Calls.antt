@@ -1,6 +1,6 @@
 -- The calls of a body whose targets have to be asked for.
 use Rattle.std.specs.Prelude.{List, [], ◌∷◌, ◌++◌}
-use Rattle.sj_core.specs.Terms.{Expression, boxed_char, char_text, value_text, choice_of, static_call, field_of, checked_value, made_of, receiver_call, unary_of, binary_of, Expressions, no_expressions, expression, Statement, constant_of, define_of, declare_of, assign_to, evaluate_of, return_of, log_of, assign_field, assign_static, throw_of, leave_label, break_nearest, if_of, while_of, loop_of, labeled_of, switch_of, Statements, no_statements, statement, Cases, no_cases, switch_case}
+use Rattle.sj_core.specs.Terms.{Expression, boxed_char, char_text, value_text, choice_of, static_call, field_of, checked_value, made_of, receiver_call, test_of, cast_of, unary_of, binary_of, Expressions, no_expressions, expression, Statement, constant_of, define_of, declare_of, assign_to, evaluate_of, return_of, log_of, assign_field, assign_static, throw_of, leave_label, break_nearest, if_of, while_of, loop_of, labeled_of, switch_of, Statements, no_statements, statement, Cases, no_cases, switch_case}
 use Rattle.sj_names.specs.declared.method_names.Member.{Member}
 use Rattle.sj_names.specs.declared.method_names.Namespace.{Namespace}
 use Rattle.sj_names.specs.declared.method_names.Namespace.TheVariants.{Public}
@@ -25,6 +25,8 @@ abbrev mutual
   calls_in (checked_value e) = calls_in e
   calls_in (made_of m es) = calls_in_all es
   calls_in (receiver_call m e es) = calls_in e ++ calls_in_all es ++ own_call m
+  calls_in (test_of t e) = calls_in e
+  calls_in (cast_of t e) = calls_in e
   calls_in (unary_of o e) = calls_in e
   calls_in (binary_of o e g) = calls_in e ++ calls_in g
   calls_in _ = []

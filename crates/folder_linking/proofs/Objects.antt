@@ -26,7 +26,7 @@ use Rattle.sj_names.specs.declared.folders.SourceFile.{SourceFile}
 use Rattle.sj_pieces.specs.Keys.{HasKeys}
 use Rattle.sj_pieces.specs.Owners.{OnObjects, AllOnObjects, CasesOnObjects, BodyOnObjects, FieldsHaveOwners}
 use Rattle.linked_folders.specs.Emitted.{EmittedMethod}
-use Rattle.sj_trees.specs.Term.{Term, Terms, no_terms, more_terms, Cases, no_cases, more_cases, var_def, block_of, labeled, assign, return_to, if_then, while_loop, do_while, throw, match_on, new_object, select, select_static, apply_statically, apply_static, unary_op, binary_op, var_ref, log_line}
+use Rattle.sj_trees.specs.Term.{Term, Terms, no_terms, more_terms, Cases, no_cases, more_cases, var_def, block_of, labeled, assign, return_to, if_then, while_loop, do_while, throw, match_on, new_object, select, select_static, apply_statically, apply_static, unary_op, binary_op, is_instance_of, as_instance_of, var_ref, log_line}
 use Rattle.sj_trees.specs.TypeOf.{type_of_term}
 use Rattle.sj_trees.specs.Types.{class_type}
 use Rattle.sj_trees.specs.declared.classes.ClassDef.{ClassDef}
@@ -77,6 +77,8 @@ mutual
   on_objects (apply_statically p e c n m ts t) h = let all = All-tail IsOfObject (apply_statically p e c n m ts t) (trees e ++ all_below ts) h in (on_objects e (ahead IsOfObject (trees e) (all_below ts) all), all_on_objects ts (after IsOfObject (trees e) (all_below ts) all))
   on_objects (apply_static p c n m ts t) h = all_on_objects ts (All-tail IsOfObject (apply_static p c n m ts t) (all_below ts) h)
   on_objects (unary_op p o e) h = on_objects e (All-tail IsOfObject (unary_op p o e) (trees e) h)
+  on_objects (is_instance_of p e t) h = on_objects e (All-tail IsOfObject (is_instance_of p e t) (trees e) h)
+  on_objects (as_instance_of p e t) h = on_objects e (All-tail IsOfObject (as_instance_of p e t) (trees e) h)
   on_objects (binary_op p o e d) h = let all = All-tail IsOfObject (binary_op p o e d) (trees e ++ trees d) h in (on_objects e (ahead IsOfObject (trees e) (trees d) all), on_objects d (after IsOfObject (trees e) (trees d) all))
   on_objects (log_line p e) h = on_objects e (All-tail IsOfObject (log_line p e) (trees e) h)
   on_objects _ h = tt

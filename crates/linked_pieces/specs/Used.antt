@@ -72,6 +72,8 @@ used_of w facts all live helpers written = record {
   field = λ c f t. has_field_in (class_of w c) f t;
   static_field = uses_static w facts written;
   static_setter = uses_static w facts written;
+  tests = λ t. false;
+  casts = λ t. false;
   helper = λ x. is_among written object && list_any (λ h. is_same_text x (helper_name h)) helpers;
   objects = true;
 }

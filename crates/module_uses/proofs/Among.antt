@@ -1,11 +1,12 @@
 -- What is used of what is there is among it.
 use Rattle.std.proofs.Common.{◌≡◌, true, refl}
+use Rattle.std.specs.List.{list_all}
 use Rattle.std.proofs.lemmas.Bool.{and_parts}
 use Rattle.body_uses.specs.Built.{Usable}
 use Rattle.helper_rules.specs.Helpers.{helper_name}
 use Rattle.js_tree.specs.declared.items.Binding.{Binding}
-use Rattle.sj_emit_expr.specs.Uses.{object_binding, function_binding, class_use, static_use, setter_use}
-use Rattle.sj_plain.specs.Settings.{Top, a_function, a_method, a_constructor, a_class, some_constants, a_static, a_setter, a_helper, is_usable}
+use Rattle.sj_emit_expr.specs.Uses.{object_binding, function_binding, class_use, static_use, setter_use, test_uses, cast_uses}
+use Rattle.sj_plain.specs.Settings.{Top, a_function, a_method, a_constructor, a_class, some_constants, a_static, a_setter, a_test, a_cast, a_helper, is_usable}
 use Rattle.module_uses.specs.Laws.{RestrictedIsAmong}
 use Rattle.module_uses.specs.Used.{restricted}
 use Rattle.std.specs.Prelude.{Bool}
@@ -18,6 +19,8 @@ tops has uses (a_class c) h = (and_parts (has.made c) (uses (class_use c)) h).0
 tops has uses (some_constants c) h = (and_parts (has.made c) (uses (class_use c)) h).0
 tops has uses (a_static c f t) h = (and_parts (has.static_field c f t) (uses (static_use c f)) h).0
 tops has uses (a_setter c f t) h = (and_parts (has.static_setter c f t) (uses (setter_use c f)) h).0
+tops has uses (a_test t) h = (and_parts (has.tests t) (list_all uses (test_uses t)) h).0
+tops has uses (a_cast t) h = (and_parts (has.casts t) (list_all uses (cast_uses t)) h).0
 tops has uses (a_helper x) h = (and_parts (has.helper (helper_name x)) (uses (object_binding (helper_name x))) h).0
 
 pub among_all : RestrictedIsAmong

@@ -1,7 +1,9 @@
 -- A body that is built with what is there is built with what of it its code uses.
-use Rattle.std.proofs.Common.{◌≡◌, Bool, true, false, List, [], refl, codes, Contains, ℕ}
+use Rattle.std.proofs.Common.{◌≡◌, Bool, true, false, List, [], ◌∷◌, refl, codes, Contains, ℕ}
 use Rattle.std.specs.Prelude.{◌||◌}
 use Rattle.std.proofs.lemmas.Bool.{and_parts, and_from}
+use Rattle.std.proofs.lemmas.List.Elements.{All-head, All-tail}
+use Rattle.std.specs.List.{All, list_all}
 use Rattle.accepted_folders.specs.Typing.{may_check, is_built_with}
 use Rattle.body_uses.proofs.Boxes.{box_used}
 use Rattle.body_uses.proofs.Given.{all_from, completed_uses, in_uses, may_make_those}
@@ -11,12 +13,12 @@ use Rattle.body_uses.specs.Laws.{used_by}
 use Rattle.js_tree.specs.declared.items.Binding.{Binding}
 use Rattle.sj_desugar.specs.Desugar.{desugared_member, body_code, is_mutable_in, result_destination, member}
 use Rattle.sj_emit_expr.specs.Templates.{check_name}
-use Rattle.sj_emit_expr.specs.Uses.{object_binding, function_binding, class_use, static_use, setter_use, uses_of_all}
+use Rattle.sj_emit_expr.specs.Uses.{object_binding, function_binding, class_use, static_use, setter_use, test_uses, cast_uses, uses_of_all}
 use Rattle.sj_infos.specs.Trees.{trees}
 use Rattle.sj_names.specs.declared.method_names.MethodName.{MethodName}
 use Rattle.sj_names.specs.declared.method_names.Namespace.{Namespace}
 use Rattle.sj_names.specs.declared.method_names.Namespace.TheVariants.{Constructor, Public, Private}
-use Rattle.sj_trees.specs.Term.{Term, new_object, select, select_static, apply_statically, apply_static, binary_op}
+use Rattle.sj_trees.specs.Term.{Term, new_object, select, select_static, apply_statically, apply_static, is_instance_of, as_instance_of, binary_op}
 use Rattle.sj_trees.specs.declared.classes.MethodDef.{MethodDef}
 use Rattle.sure_receivers.specs.Sure.{is_sure, sure_locals}
 use Rattle.module_uses.specs.Laws.{BodiesUseNoMore, DivisorsFit}
@@ -35,6 +37,11 @@ module _ (has : Usable) (uses : Binding → Bool) where
   received_gives c Private m = and_from (has.received (member c Private m)) (uses (function_binding (member c Private m)))
   received_gives c n m = tt
 
+  -- all that these name is used
+  all_used : (bs : List Binding) → All IsUsed bs → list_all uses bs ≡ true
+  all_used [] h = refl
+  all_used (b ∷ bs) h = and_from (uses b) (list_all uses bs) (All-head IsUsed b bs h) (all_used bs (All-tail IsUsed b bs h))
+
   module _ (e : Term) (fit : DivisorsFit e) where
     gives : (t : Term) → Contains (trees e) t → Gives IsUsed has.target has here t
     gives (apply_static p c n m ts t) i = and_from (has.linked (member c n m)) (uses (function_binding (member c n m)))
@@ -42,6 +49,8 @@ module _ (has : Usable) (uses : Binding → Bool) where
     gives (new_object p c m ts) i = λ h k f u. (and_from (has.built (member c Constructor m)) (uses (function_binding (member c Constructor m))) k f, and_from (has.made c) (uses (class_use c)) h u)
     gives (select p d c f t) i = λ h. h
     gives (select_static p c f t) i = (and_from (has.static_field c f t) (uses (static_use c f)), and_from (has.static_setter c f t) (uses (setter_use c f)))
+    gives (is_instance_of p d t) i = λ h u. and_from (has.tests t) (list_all uses (test_uses t)) h (all_used (test_uses t) u)
+    gives (as_instance_of p d t) i = λ h u. and_from (has.casts t) (list_all uses (cast_uses t)) h (all_used (cast_uses t) u)
     gives (binary_op p o a d) i = λ h. fit p o a d i
     gives t i = tt
 

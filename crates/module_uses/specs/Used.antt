@@ -1,11 +1,11 @@
 -- What the code of one file of a plan can use: of what is there, what the pieces of the file use.
 use Rattle.std.specs.Prelude.{Bool, ◌&&◌, List, ◌++◌, filter}
-use Rattle.std.specs.List.{list_any, flat_map}
+use Rattle.std.specs.List.{list_all, list_any, flat_map}
 use Rattle.body_uses.specs.Built.{Usable}
 use Rattle.js_tree.specs.Terms.{Piece}
 use Rattle.js_tree.specs.declared.items.Binding.{Binding}
 use Rattle.module_rules.specs.Modules.{file_with, is_owned_in, uses_of, called_in}
-use Rattle.sj_emit_expr.specs.Uses.{object_binding, function_binding, class_use, static_use, setter_use, is_same_binding}
+use Rattle.sj_emit_expr.specs.Uses.{object_binding, function_binding, class_use, static_use, setter_use, test_uses, cast_uses, is_same_binding}
 use Rattle.sj_split.specs.Orders.{Bytes}
 use Rattle.sj_split.specs.declared.plans.PlannedModule.{PlannedModule}
 
@@ -20,6 +20,8 @@ restricted has uses = record {
   field = has.field;
   static_field = λ c f t. has.static_field c f t && uses (static_use c f);
   static_setter = λ c f t. has.static_setter c f t && uses (setter_use c f);
+  tests = λ t. has.tests t && list_all uses (test_uses t);
+  casts = λ t. has.casts t && list_all uses (cast_uses t);
   helper = λ x. has.helper x && uses (object_binding x);
   objects = has.objects;
 }

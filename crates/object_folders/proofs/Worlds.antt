@@ -24,6 +24,7 @@ use Rattle.object_folders.specs.Laws.{AcceptedFoldersCarryObjects, AcceptedFolde
 use Rattle.object_folders.specs.Running.{CanRun}
 use Rattle.accepted_folders.specs.Refusals.{hijacked}
 use Rattle.sj_local.specs.Broken.{FirstBroken}
+use Rattle.sj_names.proofs.Same.{impossible}
 use Rattle.sj_names.specs.declared.entry_points.EntryPoint.{EntryPoint}
 use Rattle.sj_names.specs.declared.folders.SourceFile.{SourceFile}
 use Rattle.sj_names.specs.declared.method_names.Member.{Member}
@@ -64,6 +65,7 @@ carry entries files w facts all live helpers written bytes a bodies run = record
   one_static = λ c f s t h k. static_type_there w unbroken c f s t (static_known c f s h) (static_known c f t k);
   exceptions = exceptions w entries facts all live helpers written run;
   divisions = division w entries facts all live helpers written run;
+  casts = λ t h. impossible h;
 }
   where
     static_known : (c f : Name) (t : IrType) → has_static (used_of w facts all live helpers written) c f t ≡ true → has_static_in (class_of w c) f t ≡ true

@@ -6,16 +6,19 @@ use Rattle.std.proofs.lemmas.List.Elements.{All-nil, All-cons, All-head, All-tai
 use Rattle.body_uses.proofs.Given.{all_from}
 use Rattle.body_uses.proofs.EachTyped.{in_all}
 use Rattle.helper_rules.specs.Helpers.{helper_name}
-use Rattle.helper_rules.specs.Words.{helper}
+use Rattle.helper_rules.specs.Words.{bound, helper, is_name, as_name}
 use Rattle.helper_rules.specs.declared.kinds.Helper.{Helper}
+use Rattle.helper_rules.specs.declared.kinds.Kind.{Kind}
+use Rattle.helper_rules.specs.declared.kinds.Kind.TheVariants as kinds
 use Rattle.js_tree.specs.Terms.{Name}
 use Rattle.js_tree.specs.declared.items.Binding.{Binding}
 use Rattle.proper_pieces.proofs.Names.{function_rank}
 use Rattle.sj_core.specs.Terms as core
 use Rattle.sj_desugar.specs.Desugar.{member, desugared_member, body_code, completed, is_mutable_in, result_destination}
 use Rattle.sj_emit_expr.specs.Templates.{check_name, called_member}
-use Rattle.sj_emit_expr.specs.Uses.{object_binding, function_binding, class_use, static_use, setter_use, helper_of, uses_of_all, is_same_binding, once_each, uses}
-use Rattle.sj_infos.specs.Infos.{asks, asked_in, of_receiver, of_static_call, of_division, is_other_than_zero, null_pointer, arithmetic}
+use Rattle.sj_emit_expr.specs.Tests.{same_name}
+use Rattle.sj_emit_expr.specs.Uses.{object_binding, function_binding, class_use, static_use, setter_use, helper_of, test_uses, cast_uses, uses_of_all, is_same_binding, once_each, uses}
+use Rattle.sj_infos.specs.Infos.{asks, asked_in, of_receiver, of_static_call, of_division, of_type, of_cast, is_any, is_other_than_zero, null_pointer, arithmetic, class_cast}
 use Rattle.sj_infos.specs.Infos as infos
 use Rattle.sj_infos.specs.Sure.{sure_among}
 use Rattle.sj_infos.specs.Sure as infos_sure
@@ -24,21 +27,28 @@ use Rattle.sj_infos.specs.declared.infos.Info.{Info}
 use Rattle.sj_infos.specs.declared.infos.Info.TheVariants.{Field, Throws}
 use Rattle.body_uses.proofs.Found.{here, there}
 use Rattle.body_uses.specs.Kept.{KeepsTreeRules}
+use Rattle.sj_mangling.specs.Bindings.{class_binding}
+use Rattle.sj_mangling.specs.declared.bindings.ClassBinding.TheVariants.{IsInstance, AsInstance}
 use Rattle.sj_names.proofs.Same.{impossible}
 use Rattle.sj_names.specs.declared.method_names.Member.{Member}
 use Rattle.sj_names.specs.declared.method_names.Namespace.{Namespace}
 use Rattle.sj_names.specs.declared.method_names.Namespace.TheVariants.{Public, PublicStatic, Private, PrivateStatic, Constructor}
-use Rattle.sj_trees.specs.Term.{Term, new_object, select, select_static, apply_statically, apply_static, binary_op}
+use Rattle.sj_trees.specs.Term.{Term, new_object, select, select_static, apply_statically, apply_static, binary_op, is_instance_of, as_instance_of}
 use Rattle.sj_trees.specs.declared.classes.ClassDef.{ClassDef}
 use Rattle.sj_trees.specs.declared.classes.MethodDef.{MethodDef}
 use Rattle.sj_trees.specs.declared.operators.BinaryOp.{BinaryOp}
-use Rattle.sj_trees.specs.declared.operators.BinaryOp.TheVariants.{IntDivide, IntRemainder, LongDivide, LongRemainder}
+use Rattle.sj_trees.specs.declared.operators.BinaryOp.TheVariants.{StrictEqual, StrictNotEqual, IntDivide, IntRemainder, LongDivide, LongRemainder}
+use Rattle.sj_trees.specs.declared.types.IrType.{IrType}
 use Rattle.sure_receivers.specs.Sure.{is_sure, sure_locals}
-use Rattle.object_helpers.specs.Helpers.{UsesIt, a_check, a_division, a_char}
+use Rattle.object_helpers.specs.Helpers.{UsesIt, a_check, a_division, a_char, a_test, a_cast, an_identity}
 use Rattle.object_helpers.specs.Laws.{BodiesUseObjectHelpers}
 use Rattle.object_helpers.proofs.Brought.{Brings, followed_in, tree}
-use Rattle.object_helpers.proofs.Named.{no_helper, named_check, named_division, named_box}
+use Rattle.object_helpers.proofs.Named.{no_helper, named_check, named_division, named_box, named_test, named_cast_to, named_identity}
 use Rattle.object_helpers.proofs.Sures.{sure_tree, sure_kept}
+
+-- what a cast that fails throws
+abbrev pub cast_exception : Info
+cast_exception = Throws (codes "java.lang.ClassCastException")
 
 -- each once
 pub once_in : (Q : Binding → Type 0) (seen bs : List Binding) → All Q bs → All Q (once_each seen bs)
@@ -92,15 +102,61 @@ module _ (runs : Member → Member) (c : ClassDef) (d : MethodDef) (e : Term) (b
   division : (x : Name) → ((h : Helper) → helper x ≡ helper (helper_name h) → UsesIt asked h) → All Q (object_binding x ∷ [])
   division x f = All-cons Q (object_binding x) [] f (All-nil Q)
 
+  same : All Q (object_binding same_name ∷ [])
+  same = All-cons Q (object_binding same_name) [] (λ h named. subst (UsesIt asked) (sym (named_identity h named)) an_identity) (All-nil Q)
+
   divided : (o : BinaryOp) (t a b : Term) → ((infos.divides o && not (is_other_than_zero b)) ≡ true → Contains asked (Throws (codes "java.lang.ArithmeticException"))) → is_other_than_zero b ≡ false → All Q (helper_of false o)
   divided IntDivide t a b f n = division (codes "$id") (λ h same. a_division h (named_division (codes "$id") refl h same) (f (ap not n)))
   divided IntRemainder t a b f n = division (codes "$im") (λ h same. a_division h (named_division (codes "$im") refl h same) (f (ap not n)))
   divided LongDivide t a b f n = division (codes "$ld") (λ h same. a_division h (named_division (codes "$ld") refl h same) (f (ap not n)))
   divided LongRemainder t a b f n = division (codes "$lm") (λ h same. a_division h (named_division (codes "$lm") refl h same) (f (ap not n)))
+  divided StrictEqual t a b f n = same
+  divided StrictNotEqual t a b f n = same
   divided _ t a b f n = All-nil Q
 
   division_asks : (o : BinaryOp) (b : Term) → (infos.divides o && not (is_other_than_zero b)) ≡ true → Contains (of_division o b) (Throws (codes "java.lang.ArithmeticException"))
   division_asks o b h = subst (λ (v : Bool). Contains (if v then arithmetic else []) (Throws (codes "java.lang.ArithmeticException"))) (sym h) (here (Throws (codes "java.lang.ArithmeticException")) [])
+
+  -- the functions of tests and casts
+  test_kind : (k : Kind) → All Q (helper (is_name k) ∷ [])
+  test_kind k = All-cons Q (helper (is_name k)) [] (λ h same. named_test (UsesIt asked) (λ j. a_test j) k h same) (All-nil Q)
+
+  tested : (t : IrType) → All Q (test_uses t)
+  tested (IrType.Class k) = All-cons Q (bound k (class_binding IsInstance k)) [] (λ h same. no_helper (bound k (class_binding IsInstance k)) 7 refl refl h same) (All-nil Q)
+  tested (IrType.Array r) = All-nil Q
+  tested IrType.Undefined = test_kind kinds.Undefined
+  tested IrType.Boolean = test_kind kinds.Boolean
+  tested IrType.Char = test_kind kinds.Char
+  tested IrType.Byte = test_kind kinds.Byte
+  tested IrType.Short = test_kind kinds.Short
+  tested IrType.Int = test_kind kinds.Int
+  tested IrType.Long = test_kind kinds.Long
+  tested _ = test_kind kinds.Text
+
+  cast_kind : (k : Kind) → Contains asked cast_exception → All Q (helper (as_name k) ∷ [])
+  cast_kind k i = All-cons Q (helper (as_name k)) [] (λ h same. named_cast_to (UsesIt asked) (λ j. a_cast j i) k h same) (All-nil Q)
+
+  casted : (t : IrType) → ((is_any t ≡ false) → Contains asked cast_exception) → All Q (cast_uses t)
+  casted IrType.Any f = All-nil Q
+  casted (IrType.Class k) f = All-cons Q (bound k (class_binding AsInstance k)) [] (λ h same. no_helper (bound k (class_binding AsInstance k)) 8 refl refl h same) (All-nil Q)
+  casted (IrType.Array r) f = All-nil Q
+  casted IrType.Undefined f = cast_kind kinds.Undefined (f refl)
+  casted IrType.Boolean f = cast_kind kinds.Boolean (f refl)
+  casted IrType.Char f = cast_kind kinds.Char (f refl)
+  casted IrType.Byte f = cast_kind kinds.Byte (f refl)
+  casted IrType.Short f = cast_kind kinds.Short (f refl)
+  casted IrType.Int f = cast_kind kinds.Int (f refl)
+  casted IrType.Long f = cast_kind kinds.Long (f refl)
+  casted _ f = cast_kind kinds.Text (f refl)
+
+  cast_asks : (t : IrType) → is_any t ≡ false → Contains (of_cast t) cast_exception
+  cast_asks t n = Contains-append_right (of_type t) (if is_any t then [] else class_cast) cast_exception (subst (λ (b : Bool). Contains (if b then [] else class_cast) cast_exception) (sym n) (here cast_exception []))
+
+  -- identity, whatever its operands are
+  always : (o : BinaryOp) → All Q (helper_of true o)
+  always StrictEqual = same
+  always StrictNotEqual = same
+  always _ = All-nil Q
 
   brings : (t : Term) → Contains (trees e) t → Brings Q runs box sure t
   brings (apply_static p k n m ts t) among = only_function (UsesIt asked) (member k n m)
@@ -108,7 +164,9 @@ module _ (runs : Member → Member) (c : ClassDef) (d : MethodDef) (e : Term) (b
   brings (new_object p k m ts) among = (only_function (UsesIt asked) (member k Constructor m), λ h same. no_helper (class_use k) 1 refl refl h same)
   brings (select p r k f t) among = λ u. check (told (select p r k f t) among (Throws (codes "java.lang.NullPointerException")) (there (Field k f false) (of_receiver names r) (Throws (codes "java.lang.NullPointerException")) (receiver_asks r u)))
   brings (select_static p k f t) among = (λ h same. no_helper (static_use k f) 2 refl refl h same, λ h same. no_helper (setter_use k f) 3 refl refl h same)
-  brings (binary_op p o a b) among = λ n. divided o (binary_op p o a b) a b (λ h. told (binary_op p o a b) among (Throws (codes "java.lang.ArithmeticException")) (division_asks o b h)) n
+  brings (is_instance_of p a t) among = tested t
+  brings (as_instance_of p a t) among = casted t (λ n. told (as_instance_of p a t) among cast_exception (cast_asks t n))
+  brings (binary_op p o a b) among = (λ n. divided o (binary_op p o a b) a b (λ h. told (binary_op p o a b) among (Throws (codes "java.lang.ArithmeticException")) (division_asks o b h)) n, always o)
   brings _ among = tt
 
   completed_in : (n : Namespace) (ss : core.Statements) → All Q (uses_of_all runs ss) → All Q (uses_of_all runs (completed n ss))

@@ -15,17 +15,17 @@ use Rattle.sj_desugar.specs.Plain.{is_plain}
 use Rattle.sj_desugar.specs.Spill.{Destination, discard, to_variable, to_result, Code, one, put_first, Operand, all_plain, texts, Spilled, spill, spill_case, then_use}
 use Rattle.sj_desugar.specs.Texts.{text_of, operand_of}
 use Rattle.sj_emit_expr.specs.Templates.{check_name, is_nonzero_literal, called_member}
-use Rattle.sj_emit_expr.specs.Uses.{object_binding, function_binding, class_use, static_use, setter_use, helper_of, uses_in, uses_in_all, uses_of, uses_of_all, uses_of_cases}
+use Rattle.sj_emit_expr.specs.Uses.{object_binding, function_binding, class_use, static_use, setter_use, helper_of, test_uses, cast_uses, uses_in, uses_in_all, uses_of, uses_of_all, uses_of_cases}
 use Rattle.sj_infos.specs.Infos.{is_other_than_zero}
 use Rattle.sj_infos.specs.Trees.{trees, below, all_below, cases_below}
 use Rattle.sj_names.proofs.Same.{impossible}
 use Rattle.sj_names.specs.declared.method_names.Namespace.TheVariants.{Constructor}
 use Rattle.sj_names.specs.declared.references.TypeRef.{TypeRef}
-use Rattle.sj_trees.specs.Term.{Term, Terms, no_terms, more_terms, Cases, no_cases, more_cases, var_def, block_of, labeled, assign, return_to, if_then, while_loop, do_while, match_on, throw, new_object, select, select_static, apply_statically, apply_static, unary_op, binary_op, undefined_literal, null_literal, boolean_literal, char_literal, byte_literal, short_literal, int_literal, long_literal, string_literal, var_ref, this_ref, log_line}
+use Rattle.sj_trees.specs.Term.{Term, Terms, no_terms, more_terms, Cases, no_cases, more_cases, var_def, block_of, labeled, assign, return_to, if_then, while_loop, do_while, match_on, throw, new_object, select, select_static, apply_statically, apply_static, unary_op, binary_op, is_instance_of, as_instance_of, undefined_literal, null_literal, boolean_literal, char_literal, byte_literal, short_literal, int_literal, long_literal, string_literal, var_ref, this_ref, log_line}
 use Rattle.sj_trees.specs.TypeOf.{type_of_term, unary_result, binary_result}
 use Rattle.sj_trees.specs.Types.{class_type, reference_type}
 use Rattle.sj_trees.specs.declared.operators.BinaryOp.{BinaryOp}
-use Rattle.sj_trees.specs.declared.operators.BinaryOp.TheVariants.{StringConcatenate, IntDivide, IntRemainder, LongDivide, LongRemainder}
+use Rattle.sj_trees.specs.declared.operators.BinaryOp.TheVariants.{StringConcatenate, StrictEqual, StrictNotEqual, IntDivide, IntRemainder, LongDivide, LongRemainder}
 use Rattle.sj_trees.specs.declared.positions.Position.{Position}
 use Rattle.sj_trees.specs.declared.types.IrType.{IrType}
 use Rattle.sj_trees.specs.declared.types.IrType.TheVariants.{Any, Undefined, Null, Boolean, Char, Byte, Short, Int, Long, String}
@@ -116,6 +116,8 @@ module _ (Q : Binding → Type 0) (runs : Member → Member) (box : Q (object_bi
 
   operand_in : (o : BinaryOp) (t : IrType) (e : Expression) → In e → In (operand_of o t e)
   operand_in StringConcatenate t e h = text_in t e h
+  operand_in StrictEqual t e h = coerced_in Any t e h
+  operand_in StrictNotEqual t e h = coerced_in Any t e h
   operand_in _ t e h = h
 
   abbrev EachIn : List Expression → Type 0
@@ -144,10 +146,10 @@ module _ (Q : Binding → Type 0) (runs : Member → Member) (box : Q (object_bi
   rest_in [] h = tt
   rest_in (e ∷ es) h = h.1
 
-  -- the helper of an operator is used where its right operand is no literal other than zero
-  helper_part : (b : Bool) (o : BinaryOp) → (b ≡ false → All Q (helper_of false o)) → All Q (helper_of b o)
-  helper_part true o f = none
-  helper_part false o f = f refl
+  -- the helper of a division is used where its right operand is no literal other than zero, that of identity always
+  helper_part : (b : Bool) (o : BinaryOp) → (b ≡ false → All Q (helper_of false o)) → All Q (helper_of true o) → All Q (helper_of b o)
+  helper_part true o f always = always
+  helper_part false o f always = f refl
 
   module _ (sure : List ℕ → Bool) where
     -- what one tree brings
@@ -157,7 +159,9 @@ module _ (Q : Binding → Type 0) (runs : Member → Member) (box : Q (object_bi
     Brings (new_object p c m ts) = Q (function_binding (member c Constructor m)) × Q (class_use c)
     Brings (select p e c f t) = is_sure sure e ≡ false → Q (object_binding check_name)
     Brings (select_static p c f t) = Q (static_use c f) × Q (setter_use c f)
-    Brings (binary_op p o e d) = is_other_than_zero d ≡ false → All Q (helper_of false o)
+    Brings (is_instance_of p e t) = All Q (test_uses t)
+    Brings (as_instance_of p e t) = All Q (cast_uses t)
+    Brings (binary_op p o e d) = (is_other_than_zero d ≡ false → All Q (helper_of false o)) × All Q (helper_of true o)
     Brings _ = Unit {0}
 
     abbrev Each : List Term → Type 0
@@ -183,26 +187,28 @@ module _ (Q : Binding → Type 0) (runs : Member → Member) (box : Q (object_bi
     received_in false e q h = All-cons Q (object_binding check_name) (uses_in runs e) (q refl) h
 
     -- the expression of a right operand is its own, where that is a literal other than zero
-    helper_in : (o : BinaryOp) (d : Term) (e : Expression) → (is_other_than_zero d ≡ true → e ≡ expression_of sure d) → (is_other_than_zero d ≡ false → All Q (helper_of false o)) → All Q (helper_of (is_nonzero_literal (operand_of o (type_of_term d) e)) o)
-    helper_in o d e text brought = helper_part (is_nonzero_literal (operand_of o (type_of_term d) e)) o (λ f. go (is_other_than_zero d) refl o f brought)
+    helper_in : (o : BinaryOp) (d : Term) (e : Expression) → (is_other_than_zero d ≡ true → e ≡ expression_of sure d) → (is_other_than_zero d ≡ false → All Q (helper_of false o)) → All Q (helper_of true o) → All Q (helper_of (is_nonzero_literal (operand_of o (type_of_term d) e)) o)
+    helper_in o d e text brought always = helper_part (is_nonzero_literal (operand_of o (type_of_term d) e)) o (λ f. go (is_other_than_zero d) refl o f brought always) always
       where
         clash : {A : Type 0} → is_other_than_zero d ≡ true → is_nonzero_literal e ≡ false → A
         clash is f = impossible (sym f ∙ ap is_nonzero_literal (text is) ∙ literal_text sure d is)
 
-        go : (b : Bool) → is_other_than_zero d ≡ b → (o : BinaryOp) → is_nonzero_literal (operand_of o (type_of_term d) e) ≡ false → (is_other_than_zero d ≡ false → All Q (helper_of false o)) → All Q (helper_of false o)
-        go false is o f brought = brought is
-        go true is IntDivide f brought = clash is f
-        go true is IntRemainder f brought = clash is f
-        go true is LongDivide f brought = clash is f
-        go true is LongRemainder f brought = clash is f
-        go true is _ f brought = none
+        go : (b : Bool) → is_other_than_zero d ≡ b → (o : BinaryOp) → is_nonzero_literal (operand_of o (type_of_term d) e) ≡ false → (is_other_than_zero d ≡ false → All Q (helper_of false o)) → All Q (helper_of true o) → All Q (helper_of false o)
+        go false is o f brought always = brought is
+        go true is IntDivide f brought always = clash is f
+        go true is IntRemainder f brought always = clash is f
+        go true is LongDivide f brought always = clash is f
+        go true is LongRemainder f brought always = clash is f
+        go true is StrictEqual f brought always = always
+        go true is StrictNotEqual f brought always = always
+        go true is _ f brought always = none
 
-    binary_in : (o : BinaryOp) (e d : Term) (x y : Expression) → (is_other_than_zero d ≡ false → All Q (helper_of false o)) → (is_other_than_zero d ≡ true → y ≡ expression_of sure d) → In x → In y → In (core.binary_of o (operand_of o (type_of_term e) x) (operand_of o (type_of_term d) y))
+    binary_in : (o : BinaryOp) (e d : Term) (x y : Expression) → (is_other_than_zero d ≡ false → All Q (helper_of false o)) × All Q (helper_of true o) → (is_other_than_zero d ≡ true → y ≡ expression_of sure d) → In x → In y → In (core.binary_of o (operand_of o (type_of_term e) x) (operand_of o (type_of_term d) y))
     binary_in o e d x y brought text h k =
         let left = operand_of o (type_of_term e) x in
         let right = operand_of o (type_of_term d) y in
         let helper = helper_of (is_nonzero_literal right) o in
-        join (helper ++ uses_in runs left) (uses_in runs right) (join helper (uses_in runs left) (helper_in o d y text brought) (operand_in o (type_of_term e) x h)) (operand_in o (type_of_term d) y k)
+        join (helper ++ uses_in runs left) (uses_in runs right) (join helper (uses_in runs left) (helper_in o d y text brought.0 brought.1) (operand_in o (type_of_term e) x h)) (operand_in o (type_of_term d) y k)
 
     mutual
       expression_in : (t : Term) → Each (trees t) → In (expression_of sure t)
@@ -226,6 +232,8 @@ module _ (Q : Binding → Type 0) (runs : Member → Member) (box : Q (object_bi
       expression_in (select p e c f t) g = received_in (is_sure sure e) (expression_of sure e) (own (select p e c f t) g) (expression_in e (inner (select p e c f t) g))
       expression_in (select_static p c f t) g = All-cons Q (static_use c f) [] (own (select_static p c f t) g).0 none
       expression_in (unary_op p o e) g = expression_in e (inner (unary_op p o e) g)
+      expression_in (is_instance_of p e t) g = join (test_uses t) (uses_in runs (coerced Any (type_of_term e) (expression_of sure e))) (own (is_instance_of p e t) g) (coerced_in Any (type_of_term e) (expression_of sure e) (expression_in e (inner (is_instance_of p e t) g)))
+      expression_in (as_instance_of p e t) g = join (cast_uses t) (uses_in runs (coerced Any (type_of_term e) (expression_of sure e))) (own (as_instance_of p e t) g) (coerced_in Any (type_of_term e) (expression_of sure e) (expression_in e (inner (as_instance_of p e t) g)))
       expression_in (binary_op p o e d) g = let g0 = two e d (inner (binary_op p o e d) g) in binary_in o e d (expression_of sure e) (expression_of sure d) (own (binary_op p o e d) g) (λ h. refl) (expression_in e g0.0) (expression_in d g0.1)
       expression_in _ g = none
 
@@ -387,6 +395,12 @@ module _ (Q : Binding → Type 0) (runs : Member → Member) (box : Q (object_bi
         tree (this_ref p t) g ts k j = finish_in k p t true (core.variable_use core.receiver) j none
         tree (throw p e) g ts k j = let i0 = inner (throw p e) g in act_in e i0 (tree e i0) ts j (λ es. one (core.throw_of (Some p) (coerced Any (type_of_term e) (first_of es)))) (λ x i f. alone (core.throw_of (Some p) (coerced Any (type_of_term e) (first_of x))) (coerced_in Any (type_of_term e) (first_of x) f))
         tree (unary_op p o e) g ts k j = let i0 = inner (unary_op p o e) g in act_in e i0 (tree e i0) ts j (λ es. finish k p (unary_result o) false (core.unary_of o (first_of es))) (λ x i f. finish_in k p (unary_result o) false (core.unary_of o (first_of x)) i f)
+        tree (is_instance_of p e t) g ts k j =
+            let i0 = inner (is_instance_of p e t) g in
+            act_in e i0 (tree e i0) ts j (λ es. finish k p Boolean false (core.test_of t (coerced Any (type_of_term e) (first_of es)))) (λ x i f. finish_in k p Boolean false (core.test_of t (coerced Any (type_of_term e) (first_of x))) i (join (test_uses t) (uses_in runs (coerced Any (type_of_term e) (first_of x))) (own (is_instance_of p e t) g) (coerced_in Any (type_of_term e) (first_of x) f)))
+        tree (as_instance_of p e t) g ts k j =
+            let i0 = inner (as_instance_of p e t) g in
+            act_in e i0 (tree e i0) ts j (λ es. finish k p t false (core.cast_of t (coerced Any (type_of_term e) (first_of es)))) (λ x i f. finish_in k p t false (core.cast_of t (coerced Any (type_of_term e) (first_of x))) i (join (cast_uses t) (uses_in runs (coerced Any (type_of_term e) (first_of x))) (own (as_instance_of p e t) g) (coerced_in Any (type_of_term e) (first_of x) f)))
         tree (binary_op p o e d) g ts k j =
             let g0 = two e d (inner (binary_op p o e d) g) in
             let os : List Operand = operand_for ts e ∷ operand_for ts d ∷ [] in

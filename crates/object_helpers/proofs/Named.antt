@@ -3,7 +3,7 @@ use Rattle.std.proofs.Common.{◌≡◌, ℕ, Bool, true, false, List, [], ◌�
 use Rattle.std.specs.Prelude.{◌==◌}
 use Rattle.std.specs.List.{list_any}
 use Rattle.helper_rules.specs.Helpers.{helper_name}
-use Rattle.helper_rules.specs.Words.{helper, is_name}
+use Rattle.helper_rules.specs.Words.{helper, is_name, as_name}
 use Rattle.helper_rules.specs.declared.kinds.Failure.{Failure}
 use Rattle.helper_rules.specs.declared.kinds.Failure.TheVariants as failures
 use Rattle.helper_rules.specs.declared.kinds.Helper.{Helper}
@@ -143,6 +143,51 @@ told_test P f _ e = impossible e
 
 pub named_test : (P : Helper → Type 0) → ((k : Kind) → P (helpers.TestOf k)) → (k : Kind) (h : Helper) → helper (is_name k) ≡ helper (helper_name h) → P h
 named_test P f k h same = told_test P f h (subst (λ (b : Binding). is_test_name b.name ≡ true) same (kind_tested k))
+
+-- the casts to kinds
+abbrev cast_names : List Name
+cast_names = codes "$asV" ∷ codes "$asZ" ∷ codes "$asC" ∷ codes "$asB" ∷ codes "$asS" ∷ codes "$asI" ∷ codes "$asJ" ∷ codes "$asT" ∷ []
+
+abbrev is_cast_name : Name → Bool
+is_cast_name x = list_any (is_same_text x) cast_names
+
+kind_cast : (k : Kind) → is_cast_name (as_name k) ≡ true
+kind_cast kinds.Undefined = refl
+kind_cast kinds.Boolean = refl
+kind_cast kinds.Char = refl
+kind_cast kinds.Byte = refl
+kind_cast kinds.Short = refl
+kind_cast kinds.Int = refl
+kind_cast kinds.Long = refl
+kind_cast kinds.Text = refl
+
+told_cast : (P : Helper → Type 0) → ((k : Kind) → P (helpers.CastTo k)) → (h : Helper) → is_cast_name (helper_name h) ≡ true → P h
+told_cast P f (helpers.CastTo k) e = f k
+told_cast P f (helpers.Throws failures.NullReceiver) e = impossible e
+told_cast P f (helpers.Throws failures.Division) e = impossible e
+told_cast P f (helpers.Throws failures.Cast) e = impossible e
+told_cast P f (helpers.Throws failures.Index) e = impossible e
+told_cast P f (helpers.Throws failures.Store) e = impossible e
+told_cast P f (helpers.Throws failures.Size) e = impossible e
+told_cast P f (helpers.Throws failures.Method) e = impossible e
+told_cast P f _ e = impossible e
+
+pub named_cast_to : (P : Helper → Type 0) → ((k : Kind) → P (helpers.CastTo k)) → (k : Kind) (h : Helper) → helper (as_name k) ≡ helper (helper_name h) → P h
+named_cast_to P f k h same = told_cast P f h (subst (λ (b : Binding). is_cast_name b.name ≡ true) same (kind_cast k))
+
+is_identity : (h : Helper) → is_same_text (codes "$eq") (helper_name h) ≡ true → h ≡ helpers.Equal
+is_identity helpers.Equal e = refl
+is_identity (helpers.Throws failures.NullReceiver) e = impossible e
+is_identity (helpers.Throws failures.Division) e = impossible e
+is_identity (helpers.Throws failures.Cast) e = impossible e
+is_identity (helpers.Throws failures.Index) e = impossible e
+is_identity (helpers.Throws failures.Store) e = impossible e
+is_identity (helpers.Throws failures.Size) e = impossible e
+is_identity (helpers.Throws failures.Method) e = impossible e
+is_identity _ e = impossible e
+
+pub named_identity : (h : Helper) → helper (codes "$eq") ≡ helper (helper_name h) → h ≡ helpers.Equal
+named_identity h same = is_identity h (subst (λ (b : Binding). is_same_text (codes "$eq") b.name ≡ true) same refl)
 
 is_cast : (h : Helper) → is_same_text (codes "$cce") (helper_name h) ≡ true → h ≡ helpers.Throws failures.Cast
 is_cast (helpers.Throws failures.Cast) e = refl

@@ -60,9 +60,9 @@ use Rattle.sj_world.specs.declared.facts.Fact.{Fact}
 use Rattle.sj_world.specs.declared.facts.Fact.TheVariants.{Made, Body}
 use Rattle.sj_world.specs.declared.linked.MethodEntry.{MethodEntry}
 use Rattle.worklist.proofs.Inserted.{nothing_in, only_one}
-use Rattle.object_helpers.specs.Helpers.{is_division, is_object_helper, UsesIt, a_check, a_division, a_char}
+use Rattle.object_helpers.specs.Helpers.{is_division, is_object_helper, UsesIt, a_check, a_division, a_char, a_test, a_cast, an_identity}
 use Rattle.object_helpers.specs.Laws.{HelpersAreOfObjects, ThrownClassesAreReached}
-use Rattle.object_helpers.proofs.Bodies.{Only, only_function, once_in, all_used}
+use Rattle.object_helpers.proofs.Bodies.{cast_exception, Only, only_function, once_in, all_used}
 use Rattle.object_helpers.proofs.Named.{no_helper, named_box, named_test, named_cast}
 
 -- what a list that is made of lists has is in one of them
@@ -83,9 +83,6 @@ in_one {X} {Y} f (x ∷ xs) y h = go (Contains-append_cases (f x) (flat_map f xs
     go (inr i) k = later (k i)
 
 -- a cast to a class asks for the exception that it throws
-abbrev cast_exception : Info
-cast_exception = Throws (codes "java.lang.ClassCastException")
-
 not_base : {A : Type 0} (c : Name) (b : BaseRef) → Contains (of_base b) (forms.Cast c) → A
 not_base c (BaseRef.Class d) h = let e : forms.Base d ≡ forms.Cast c = only_one (forms.Base d) (forms.Cast c) h in absurd cc
 not_base c _ h = nothing_in (forms.Cast c) h
@@ -134,7 +131,9 @@ module _ (entries : List EntryPoint) (files : List SourceFile) (l : Linked) (all
   Good helpers.LongRemainder = Asked (codes "java.lang.ArithmeticException")
   Good helpers.BoxedChar = Unit {0}
   Good (helpers.ConstantsOf kinds.Char) = Unit {0}
+  Good helpers.Equal = Unit {0}
   Good (helpers.TestOf k) = Unit {0}
+  Good (helpers.CastTo k) = Asked (codes "java.lang.ClassCastException")
   Good (helpers.Throws failures.NullReceiver) = Asked (codes "java.lang.NullPointerException")
   Good (helpers.Throws failures.Division) = Asked (codes "java.lang.ArithmeticException")
   Good (helpers.Throws failures.Cast) = Asked (codes "java.lang.ClassCastException")
@@ -148,7 +147,9 @@ module _ (entries : List EntryPoint) (files : List SourceFile) (l : Linked) (all
   good_helper helpers.LongRemainder g = refl
   good_helper helpers.BoxedChar g = refl
   good_helper (helpers.ConstantsOf kinds.Char) g = refl
+  good_helper helpers.Equal g = refl
   good_helper (helpers.TestOf k) g = refl
+  good_helper (helpers.CastTo k) g = refl
   good_helper (helpers.Throws failures.NullReceiver) g = refl
   good_helper (helpers.Throws failures.Division) g = refl
   good_helper (helpers.Throws failures.Cast) g = refl
@@ -175,6 +176,8 @@ module _ (entries : List EntryPoint) (files : List SourceFile) (l : Linked) (all
   of_helper (helpers.ConstantsOf k) h r i = nothing_in h i
   of_helper (helpers.TestOf kinds.Char) h r i = only_good helpers.BoxedChar h tt i
   of_helper (helpers.TestOf k) h r i = nothing_in h i
+  of_helper (helpers.CastTo k) h r i = All-contains Good (helpers.TestOf k ∷ helpers.Throws failures.Cast ∷ []) h (All-cons Good (helpers.TestOf k) (helpers.Throws failures.Cast ∷ []) tt (All-cons Good (helpers.Throws failures.Cast) [] r (All-nil Good))) i
+  of_helper helpers.Equal h r i = only_good helpers.BoxedChar h tt i
   of_helper (helpers.Throws f) h r i = nothing_in h i
   of_helper _ h r i = absurd r
 
@@ -224,6 +227,9 @@ module _ (entries : List EntryPoint) (files : List SourceFile) (l : Linked) (all
   of_body e i _ (a_check k) = reads e i (Throws (codes "java.lang.NullPointerException")) k
   of_body e i _ (a_division h d k) = good_division h d (reads e i (Throws (codes "java.lang.ArithmeticException")) k)
   of_body e i _ a_char = tt
+  of_body e i _ (a_test k) = tt
+  of_body e i _ (a_cast k j) = reads e i (Throws (codes "java.lang.ClassCastException")) j
+  of_body e i _ an_identity = tt
 
   method_good : (e : EmittedMethod) → Contains all e → All Q (piece_of_member l.world e).uses
   method_good e i =

@@ -64,6 +64,14 @@ pub fn expression_of(
             let right = operand(alloc, sure, *op, right)?;
             Ok(CoreExpression::Binary(*op, left, right))
         }
+        Tree::IsInstanceOf(_, value, tpe) => {
+            let value = branch(alloc, sure, &IrType::Any, value)?;
+            tested(tpe, value)
+        }
+        Tree::AsInstanceOf(_, value, tpe) => {
+            let value = branch(alloc, sure, &IrType::Any, value)?;
+            cast(tpe, value)
+        }
         Tree::Null(_) => Ok(CoreExpression::Null),
         Tree::BooleanLiteral(_, value) => Ok(CoreExpression::Boolean(*value)),
         Tree::CharLiteral(_, unit) => Ok(CoreExpression::Number(i32::from(*unit))),
@@ -92,8 +100,6 @@ pub fn expression_of(
         | Tree::ArrayValue(_, _, _)
         | Tree::ArrayLength(_, _)
         | Tree::ArraySelect(_, _, _, _)
-        | Tree::IsInstanceOf(_, _, _)
-        | Tree::AsInstanceOf(_, _, _)
         | Tree::Undefined(_)
         | Tree::Log(_, _) => Ok(CoreExpression::Undefined),
     }
@@ -144,7 +150,7 @@ fn called(alloc: Global, sure: &[LocalName], tree: &Tree) -> Result<Box<CoreExpr
     coerced_receiver(alloc, &own, value)
 }
 
-// A branch of a choice of this type.
+// A branch of a choice of this type, or an operand where it is expected.
 #[cycle(expression)]
 fn branch(
     alloc: Global,
@@ -223,6 +229,20 @@ pub fn static_call(
         },
         arguments,
     ))
+}
+
+/// Whether a value is an instance of the type.
+pub fn tested(tpe: &IrType, value: Box<CoreExpression>) -> Result<CoreExpression, NoMemory>
+    ensures { IfOk result (λ e. expression_view e ≡ terms.test_of tpe.now (expression_view value.value)) }
+{
+    Ok(CoreExpression::Test(tpe.copied()?, value))
+}
+
+/// A value that is cast to the type.
+pub fn cast(tpe: &IrType, value: Box<CoreExpression>) -> Result<CoreExpression, NoMemory>
+    ensures { IfOk result (λ e. expression_view e ≡ terms.cast_of tpe.now (expression_view value.value)) }
+{
+    Ok(CoreExpression::Cast(tpe.copied()?, value))
 }
 
 /// A receiver with its null check, unless it is never null.

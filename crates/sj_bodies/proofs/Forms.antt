@@ -20,7 +20,7 @@ use Rattle.sj_trees.specs.declared.types.IrType.{IrType}
 use Rattle.body_rules.specs.Locals.{Scope, with_local}
 use Rattle.sj_trees.specs.declared.types.IrType.TheVariants.{NoType}
 use Rattle.sj_plain.specs.Settings.{Receiving, Setting, shown, run, SameState, Inside, Valued, valued, Lawful, Holding, holding, Sees, usable}
-use Rattle.sj_plain.proofs.Boxes.{StandsFor, stood, stood-fits, stood_alike, stood_told, operand_coerced}
+use Rattle.sj_plain.proofs.Boxes.{StandsFor, stood, stood-fits, operand_stood, operand_coerced}
 use Rattle.sj_bodies.proofs.Blocks.{Outside, Undeclared, block_alike}
 use Rattle.sj_bodies.proofs.Contexts.{Context, Writes, Sound, Ahead, IsOpen, Ready, ready-lift, Keeps, Goes, Less, keeps-less, less-trans, keeps-fewer, keeps-refl, keeps-trans, Arrives, let_go, stored, Came, gave, left, threw, stopped, started-here, started-other, started-inside, started-ready, started-keeps}
 use Rattle.body_rules.proofs.Equal.{equals, is-equal}
@@ -145,12 +145,8 @@ module _ (z : Setting) (lawful : Lawful z) where
   act_alike F w env s sc u own r e act g (more_operands _ _ _ _ _ _ told operand no_operands) same through goes = act_once F w env s sc u own r e act g operand same through goes
 
   -- an assignment to a local in scope that isn't kept
-  -- an operand as it is coerced
-  one_stands : (t : IrType) (i : IrType) (fits : StandsFor z t i) (w : World) (env : ir.Env) (sc : js.Scope) → Inside z.place z.code sc → (r : ir.Run) (e : core.Expression) → OperandsAlike z w env sc (i ∷ []) (r ∷ []) (e ∷ []) → OperandsAlike z w env sc (stood t i fits.0 ∷ []) (r ∷ []) (coerced t i e ∷ [])
-  one_stands t _ fits w env sc inside _ _ (more_operands i r e _ _ _ told one no_operands) = more_operands (stood t i fits.0) r (coerced t i e) [] [] [] (stood_told z lawful.base w env sc inside t i fits.0 e told) (stood_alike z lawful.base w env sc inside t i fits.0 fits.1 r e one) no_operands
-
   pub assign_final : (c : Context) (p : Position) (x : List ℕ) (t i : IrType) (j : ℕ) → Sound z.is_mutable c → c.scope x t → z.is_mutable x ≡ true → StandsFor z t i → (w : World) (sc : js.Scope) → OneFinal c discard w sc j i (ir_meaning.define x) (λ es. one (core.assign_to (Some p) (core.named x) (coerced t i (first_of es))))
-  assign_final c p x t i j sound inside mutable fits from before n r e w env s sc u ahead l g ready ks same operand = ends-one z lawful c c.scope discard from before (ir_meaning.in_order (r ∷ []) (ir_meaning.define x) env s) (core.assign_to (Some p) (core.named x) (coerced t i e)) sc u (act_alike (Came z.place z.code c c.scope discard from before) w env s sc u (stood t i fits.0) r (coerced t i e) (ir_meaning.define x) (λ v. js_meaning.assign z.place.program (z.place.name (core.named x)) v (sc.bindings (z.place.name (core.named x))) sc) (one_stands t i fits w env sc ready.sees.inside r e operand) same (throws-on z lawful c c.scope discard from w before env sc g ks ready) goes)
+  assign_final c p x t i j sound inside mutable fits from before n r e w env s sc u ahead l g ready ks same operand = ends-one z lawful c c.scope discard from before (ir_meaning.in_order (r ∷ []) (ir_meaning.define x) env s) (core.assign_to (Some p) (core.named x) (coerced t i e)) sc u (act_alike (Came z.place z.code c c.scope discard from before) w env s sc u (stood t i fits.0) r (coerced t i e) (ir_meaning.define x) (λ v. js_meaning.assign z.place.program (z.place.name (core.named x)) v (sc.bindings (z.place.name (core.named x))) sc) (operand_stood z lawful.base w env sc ready.sees.inside t i fits.0 fits.1 r e operand) same (throws-on z lawful c c.scope discard from w before env sc g ks ready) goes)
     where
       open_here : (o : Option ir.Value) (cell : js.Cell) → Holding w t o cell → IsOpen cell
       open_here _ _ (holding v q a) = record { value = q; is = refl }

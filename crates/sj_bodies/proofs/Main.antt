@@ -12,7 +12,7 @@ use Rattle.sj_core.specs.Terms as core
 use Rattle.sj_desugar.specs.Coercions.{is_char, coerced}
 use Rattle.sj_desugar.specs.Desugar.{target_of, member, into, block, first_of, second_of, finish, branches, cases, switch_code}
 use Rattle.sj_desugar.specs.Spill.{Destination, discard, to_variable, to_result, Code, one}
-use Rattle.sj_trees.specs.Term.{Term, Terms, no_terms, more_terms, Cases, no_cases, more_cases, var_def, skip, block_of, labeled, assign, return_to, if_then, while_loop, do_while, throw, match_on, new_object, select, select_static, apply_statically, this_ref, apply_static, unary_op, binary_op, undefined_literal, null_literal, boolean_literal, char_literal, byte_literal, short_literal, int_literal, long_literal, string_literal, var_ref, log_line}
+use Rattle.sj_trees.specs.Term.{Term, Terms, no_terms, more_terms, Cases, no_cases, more_cases, var_def, skip, block_of, labeled, assign, return_to, if_then, while_loop, do_while, throw, match_on, new_object, select, select_static, apply_statically, this_ref, apply_static, unary_op, binary_op, is_instance_of, as_instance_of, undefined_literal, null_literal, boolean_literal, char_literal, byte_literal, short_literal, int_literal, long_literal, string_literal, var_ref, log_line}
 use Rattle.sj_trees.specs.TypeOf.{type_of_term, type_of_last, unary_result, binary_result}
 use Rattle.sj_trees.specs.declared.operators.BinaryOp.{BinaryOp}
 use Rattle.sj_trees.specs.declared.operators.UnaryOp.{UnaryOp}
@@ -26,12 +26,13 @@ use Rattle.sj_plain.specs.Settings.{Setting, run, SameState, Lawful, usable}
 use Rattle.sj_bodies.proofs.Blocks.{Outside, undeclared}
 use Rattle.sj_bodies.proofs.Contexts.{around, Context, Writes, Sound, Ahead, Ready, Keeps, keeps-refl, Came}
 use Rattle.sj_bodies.specs.Fine.{IsDiscard, is_discard, FitsIn, FineOperand, Amid, Asks}
-use Rattle.sj_plain.proofs.Boxes.{StandsFor, stands-for, stand-for-all}
+use Rattle.sj_plain.proofs.Boxes.{StandsFor, stood, stood-fits, operand_stood, stands-for, stand-for-all}
+use Rattle.sj_plain.proofs.Tests.{test_alike, cast_alike}
 use Rattle.sj_plain.proofs.Received.{may_be_checked, value_or_nothing, Received, received, Constructed, constructed}
 use Rattle.built_forms.proofs.Statics.{read_static, set_static}
 use Rattle.built_forms.proofs.Targets.{target_goal}
-use Rattle.built_forms.specs.Boxes.{Goal, goal_of, goals_of, is_boxed, any_is_boxed, is_boxed_at, boxes_as_text, boxes, last_boxes, operand_boxes, operands_box, cases_box}
-use Rattle.built_forms.specs.Built.{can_box, may_make}
+use Rattle.built_forms.specs.Boxes.{Goal, goal_of, goals_of, is_boxed, any_is_boxed, operands_are_boxed, is_boxed_at, boxes_as_text, boxes, last_boxes, operand_boxes, operands_box, cases_box}
+use Rattle.built_forms.specs.Built.{can_box, may_make, can_cast}
 use Rattle.std.proofs.lemmas.Bool.{and_parts}
 use Rattle.sure_receivers.specs.Sure.{is_sure}
 use Rattle.sj_names.specs.declared.method_names.MethodName.{MethodName}
@@ -42,14 +43,14 @@ use Rattle.body_rules.proofs.Mutable.{of_first, of_second, of_definition, front,
 use Rattle.sj_plain.specs.Conditions.{IsNoConstruction, Plain}
 use Rattle.sj_desugar.specs.Plain.{is_plain, mutable_in, mutable_in_all, mutable_in_cases}
 use Rattle.sj_bodies.proofs.Parts.{plain_at, tree_in, operand_in, operand_by, amid-behind, amid-inside, one_mutable, other_mutable, given_up, fits, fits-value, yields, asks-left, asks-right}
-use Rattle.body_rules.proofs.Fitting.{fits-unary, fits-dividend, operates, unary-value, binary-value, unary-operand-value, left-operand-value}
+use Rattle.body_rules.proofs.Fitting.{fits-unary, fits-dividend, operates, unary-value, binary-value, cast-value, unary-operand-value, left-operand-value}
 use Rattle.body_rules.proofs.Locals.{there, typed-there, local-value}
 use Rattle.body_rules.proofs.RulesGive.{Takes, FitsType, ArgumentsFit, class_has_value, each_made, fits_there, arguments_there, operation, result_is}
 use Rattle.sj_names.specs.declared.references.TypeRef.{TypeRef}
 use Rattle.sj_trees.specs.Types.{class_type, reference_type}
 use Rattle.sj_trees.specs.declared.types.IrType.TheVariants.{Any, NoType, Undefined, Null, Boolean, Char, Byte, Short, Int, Long, String}
 use Rattle.sj_world.specs.Subtypes.{IsSub}
-use Rattle.sj_bodies.proofs.Forms.{of_operands, one_final, two_final, silent, assign_final, log_final, if_final, came-narrow, rebased, ahead-later, TwoFinal}
+use Rattle.sj_bodies.proofs.Forms.{of_operands, one_final, two_final, silent, assign_final, log_final, if_final, came-narrow, rebased, ahead-later, OneFinal, TwoFinal}
 use Rattle.sj_bodies.proofs.Jumps.{labelling, sound-labelling, labeled_alike, return_alike}
 use Rattle.sj_bodies.proofs.Matches.{settled, sound-settled, ahead-settled, outside-settled, undeclared-settled, undeclared-case, CasesAlike, no_case, without_keys, with_keys, match_final}
 use Rattle.sj_proper.specs.Once.{Once, OnceAll, OnceCases}
@@ -165,8 +166,11 @@ module _ (z : Setting) (lawful : Lawful z) (low : LowAlike z) where
   binary_does : (p : Position) (o : BinaryOp) (e d : Term) → TreeDoes z lawful low e → TreeDoes z lawful low d → TreeDoes z lawful low (binary_op p o e d)
   binary_does p o e d does_e does_d c k j sound ahead out wr fine = by (operation z.place.classes (usable z) fine.scene o e d fine.typed.0.built fine.typed.2 fine.typed.0.meets)
     where
-      parts : Makes (is_boxed_at (goal_of k) (binary_result o)) × Makes (operand_boxes (goals_of c.targets) e || operand_boxes (goals_of c.targets) d)
-      parts = each (is_boxed_at (goal_of k) (binary_result o)) (operand_boxes (goals_of c.targets) e || operand_boxes (goals_of c.targets) d) fine.boxed
+      parts : Makes (is_boxed_at (goal_of k) (binary_result o) || operands_are_boxed o e d) × Makes (operand_boxes (goals_of c.targets) e || operand_boxes (goals_of c.targets) d)
+      parts = each (is_boxed_at (goal_of k) (binary_result o) || operands_are_boxed o e d) (operand_boxes (goals_of c.targets) e || operand_boxes (goals_of c.targets) d) fine.boxed
+
+      own : Makes (is_boxed_at (goal_of k) (binary_result o)) × Makes (operands_are_boxed o e d)
+      own = each (is_boxed_at (goal_of k) (binary_result o)) (operands_are_boxed o e d) parts.0
 
       both : Makes (operand_boxes (goals_of c.targets) e) × Makes (operand_boxes (goals_of c.targets) d)
       both = each (operand_boxes (goals_of c.targets) e) (operand_boxes (goals_of c.targets) d) parts.1
@@ -178,11 +182,39 @@ module _ (z : Setting) (lawful : Lawful z) (low : LowAlike z) where
       out_d = outside-part c (Own (binary_op p o e d)) (Own d) (λ x i. inr i) out
 
       fits_here : FitsIn (usable z) k (binary_result o)
-      fits_here = fits-value z.place.classes lawful.base.ordered (usable z) k (binary_result o) fine.asks (binary-value o) parts.0
+      fits_here = fits-value z.place.classes lawful.base.ordered (usable z) k (binary_result o) fine.asks (binary-value o) own.0
 
       by : Takes z.place.classes (usable z) o e d ⊎ (DividesBy o d × IsSub z.place.classes (type_of_term e) (left_operand o)) → Does z lawful c k j (binary_op p o e d)
-      by (inl h) = of_operands z lawful c k (piece z lawful low c.targets e ∷ piece z lawful low c.targets d ∷ []) j (ir_meaning.binary z.place.classes z.low o) (λ es. finish k p (binary_result o) false (core.binary_of o (operand_of o (type_of_term e) (first_of es)) (operand_of o (type_of_term d) (second_of es)))) sound ahead (operand_does z lawful low c j e does_e out_e (operand_by z.place.classes lawful.base.ordered z.is_mutable (usable z) z.code c.scope (around c) fine.scene fine.amid e (one_mutable z.is_mutable e d fine.written) (λ y. asks-left z.place.classes lawful.base.ordered (usable z) y o e d h) fine.typed.1 both.0 fine.around fine.once.0), (operand_does z lawful low c j d does_d out_d (operand_by z.place.classes lawful.base.ordered z.is_mutable (usable z) z.code c.scope (around c) fine.scene fine.amid d (other_mutable z.is_mutable e d fine.written) (λ y. asks-right z.place.classes lawful.base.ordered (usable z) y o e d h) fine.typed.2 both.1 fine.around fine.once.1), tt)) (two_final z lawful c k j (type_of_term e) (type_of_term d) (ir_meaning.binary z.place.classes z.low o) (λ es. finish k p (binary_result o) false (core.binary_of o (operand_of o (type_of_term e) (first_of es)) (operand_of o (type_of_term d) (second_of es)))) (binary_final p o (type_of_term e) (type_of_term d) c k j (operates z.place.classes lawful.base.ordered (usable z) o e d h) sound wr fits_here))
+      by (inl h) = of_operands z lawful c k (piece z lawful low c.targets e ∷ piece z lawful low c.targets d ∷ []) j (ir_meaning.binary z.place.classes z.low o) (λ es. finish k p (binary_result o) false (core.binary_of o (operand_of o (type_of_term e) (first_of es)) (operand_of o (type_of_term d) (second_of es)))) sound ahead (operand_does z lawful low c j e does_e out_e (operand_by z.place.classes lawful.base.ordered z.is_mutable (usable z) z.code c.scope (around c) fine.scene fine.amid e (one_mutable z.is_mutable e d fine.written) (λ y. asks-left z.place.classes lawful.base.ordered (usable z) y o e d h) fine.typed.1 both.0 fine.around fine.once.0), (operand_does z lawful low c j d does_d out_d (operand_by z.place.classes lawful.base.ordered z.is_mutable (usable z) z.code c.scope (around c) fine.scene fine.amid d (other_mutable z.is_mutable e d fine.written) (λ y. asks-right z.place.classes lawful.base.ordered (usable z) y o e d h) fine.typed.2 both.1 fine.around fine.once.1), tt)) (two_final z lawful c k j (type_of_term e) (type_of_term d) (ir_meaning.binary z.place.classes z.low o) (λ es. finish k p (binary_result o) false (core.binary_of o (operand_of o (type_of_term e) (first_of es)) (operand_of o (type_of_term d) (second_of es)))) (binary_final p o (type_of_term e) (type_of_term d) c k j (operates z.place.classes lawful.base.ordered (usable z) o e d own.1 h) sound wr fits_here))
       by (inr h) = division_does z lawful low p c k j o e d h.0 (fits-dividend z.place.classes lawful.base.ordered o d (type_of_term e) h.0 h.1) sound ahead wr fits_here (operand_does z lawful low c j e does_e out_e (part_of c fine.scene fine.amid e (one_mutable z.is_mutable e d fine.written) (left_operand o) h.1 (left-operand-value o) fine.typed.1 both.0 fine.around fine.once.0))
+
+  test_final : (p : Position) (own t : IrType) (c : Context) (k : Destination) (j : ℕ) → (usable z).tests t ≡ true → StandsFor z Any own → Sound z.is_mutable c → Writes c.writable k → FitsIn (usable z) k Boolean → (w : World) (sc : js.Scope) → OneFinal z lawful c k w sc j own (ir_meaning.test z.place.classes t) (λ es. finish k p Boolean false (core.test_of t (coerced Any own (first_of es))))
+  test_final p own t c k j has f sound wr fits from before i r e w env s sc u ahead l g ready ks same operand = finish_alike z lawful c k p Boolean (core.test_of t (coerced Any own e)) i sound wr fits w from before env (ir_meaning.in_order (r ∷ []) (ir_meaning.test z.place.classes t) env s) sc u g ks ready s same (test_alike z lawful t (stood Any own f.0) has (stood-fits Any own f.0) r (coerced Any own e) w env s sc u ready.sees.inside (operand_stood z lawful.base w env sc ready.sees.inside Any own f.0 f.1 r e operand) same)
+
+  cast_final : (p : Position) (own t : IrType) (c : Context) (k : Destination) (j : ℕ) → can_cast (usable z) t ≡ true → StandsFor z Any own → Sound z.is_mutable c → Writes c.writable k → FitsIn (usable z) k t → (w : World) (sc : js.Scope) → OneFinal z lawful c k w sc j own (ir_meaning.cast z.place.classes z.low t) (λ es. finish k p t false (core.cast_of t (coerced Any own (first_of es))))
+  cast_final p own t c k j has f sound wr fits from before i r e w env s sc u ahead l g ready ks same operand = finish_alike z lawful c k p t (core.cast_of t (coerced Any own e)) i sound wr fits w from before env (ir_meaning.in_order (r ∷ []) (ir_meaning.cast z.place.classes z.low t) env s) sc u g ks ready s same (cast_alike z lawful t (stood Any own f.0) has (stood-fits Any own f.0) r (coerced Any own e) w env s sc u ready.sees.inside (operand_stood z lawful.base w env sc ready.sees.inside Any own f.0 f.1 r e operand) same)
+
+  -- the operand of a test or a cast, which is brought to any
+  any_operand : (e : Term) → TreeDoes z lawful low e → (c : Context) (j : ℕ) → Outside c (Own e) → (s : Scene) → AmidHere c s → Mutable z.is_mutable (mutable_in e) → IsSub z.place.classes (type_of_term e) Any → Typed z.place.classes (usable z) s e → Makes (operand_boxes (goals_of c.targets) e) → (labels : List (List ℕ)) → Once labels e → OperandsDo z lawful c j (piece z lawful low c.targets e ∷ [])
+  any_operand e does c j out s amid written below typed boxed labels once = (operand_does z lawful low c j e does out (part_of c s amid e written Any below refl typed boxed labels once), tt)
+
+  test_does : (p : Position) (e : Term) (t : IrType) → TreeDoes z lawful low e → TreeDoes z lawful low (is_instance_of p e t)
+  test_does p e t does c k j sound ahead out wr fine = of_operands z lawful c k (piece z lawful low c.targets e ∷ []) j (ir_meaning.test z.place.classes t) (λ es. finish k p Boolean false (core.test_of t (coerced Any (type_of_term e) (first_of es)))) sound ahead (any_operand e does c j out fine.scene fine.amid fine.written fine.typed.0.meets.1 fine.typed.1 operand.1 fine.around fine.once) (one_final z lawful c k j (type_of_term e) (ir_meaning.test z.place.classes t) (λ es. finish k p Boolean false (core.test_of t (coerced Any (type_of_term e) (first_of es)))) (test_final p (type_of_term e) t c k j fine.typed.0.built (stands-for z lawful Any (type_of_term e) fine.typed.0.meets.1 operand.0) sound wr (fits-value z.place.classes lawful.base.ordered (usable z) k Boolean fine.asks refl parts.0)))
+    where
+      parts : Makes (is_boxed_at (goal_of k) Boolean) × Makes (is_boxed Any e || operand_boxes (goals_of c.targets) e)
+      parts = each (is_boxed_at (goal_of k) Boolean) (is_boxed Any e || operand_boxes (goals_of c.targets) e) fine.boxed
+
+      operand : Makes (is_boxed Any e) × Makes (operand_boxes (goals_of c.targets) e)
+      operand = each (is_boxed Any e) (operand_boxes (goals_of c.targets) e) parts.1
+
+  cast_does : (p : Position) (e : Term) (t : IrType) → TreeDoes z lawful low e → TreeDoes z lawful low (as_instance_of p e t)
+  cast_does p e t does c k j sound ahead out wr fine = of_operands z lawful c k (piece z lawful low c.targets e ∷ []) j (ir_meaning.cast z.place.classes z.low t) (λ es. finish k p t false (core.cast_of t (coerced Any (type_of_term e) (first_of es)))) sound ahead (any_operand e does c j out fine.scene fine.amid fine.written fine.typed.0.meets.1 fine.typed.1 operand.1 fine.around fine.once) (one_final z lawful c k j (type_of_term e) (ir_meaning.cast z.place.classes z.low t) (λ es. finish k p t false (core.cast_of t (coerced Any (type_of_term e) (first_of es)))) (cast_final p (type_of_term e) t c k j fine.typed.0.built (stands-for z lawful Any (type_of_term e) fine.typed.0.meets.1 operand.0) sound wr (fits-value z.place.classes lawful.base.ordered (usable z) k t fine.asks (cast-value t fine.typed.0.meets.0) parts.0)))
+    where
+      parts : Makes (is_boxed_at (goal_of k) t) × Makes (is_boxed Any e || operand_boxes (goals_of c.targets) e)
+      parts = each (is_boxed_at (goal_of k) t) (is_boxed Any e || operand_boxes (goals_of c.targets) e) fine.boxed
+
+      operand : Makes (is_boxed Any e) × Makes (operand_boxes (goals_of c.targets) e)
+      operand = each (is_boxed Any e) (operand_boxes (goals_of c.targets) e) parts.1
 
   abbrev OperandsFine : Terms → Type 1
   OperandsFine ts = (c : Context) (j : ℕ) → Outside c (OwnAll ts) → (s : Scene) → AmidHere c s → Mutable z.is_mutable (mutable_in_all ts) → (rs : List TypeRef) → ArgumentsFit z.place.classes (usable z) ts rs → TypedAll z.place.classes (usable z) s ts → Makes (operands_box (goals_of c.targets) ts) → (labels : List (List ℕ)) → OnceAll labels ts → OperandsDo z lawful c j (list_of z lawful low c.targets ts)
@@ -361,6 +393,8 @@ module _ (z : Setting) (lawful : Lawful z) (low : LowAlike z) where
         call_does z lawful low p c k j m cn n ts t sound ahead wr (fits z.place.classes lawful.base.ordered (usable z) k t fine.asks (result_is m.result t fine.typed.0.meets.1) parts.0) fine.typed.0.built fine.typed.0.meets.1 (stand-for-all z lawful ts m.params arguments) (operands_do ts c j out fine.scene fine.amid fine.written m.params arguments fine.typed.1 passed.1 fine.around fine.once)
     does (unary_op p o e) = unary_does p o e (does e)
     does (binary_op p o e d) = binary_does p o e d (does e) (does d)
+    does (is_instance_of p e t) = test_does p e t (does e)
+    does (as_instance_of p e t) = cast_does p e t (does e)
     does (undefined_literal p) = λ c k j sound ahead out wr fine. quiet z lawful low (undefined_literal p) c k p core.undefined_value j (λ env. ir.undefined) sound wr (fits-value z.place.classes lawful.base.ordered (usable z) k Undefined fine.asks refl (none_at k Undefined refl)) (plain_here c k fine none_made refl tt) refl (λ w env s sc r. refl)
     does (null_literal p) = λ c k j sound ahead out wr fine. quiet z lawful low (null_literal p) c k p core.null_value j (λ env. ir.null) sound wr (fits-value z.place.classes lawful.base.ordered (usable z) k Null fine.asks refl (none_at k Null refl)) (plain_here c k fine none_made refl tt) refl (λ w env s sc r. refl)
     does (boolean_literal p b) = λ c k j sound ahead out wr fine. quiet z lawful low (boolean_literal p b) c k p (core.boolean_value b) j (λ env. ir.boolean b) sound wr (fits-value z.place.classes lawful.base.ordered (usable z) k Boolean fine.asks refl (none_at k Boolean refl)) (plain_here c k fine none_made refl tt) refl (λ w env s sc r. refl)

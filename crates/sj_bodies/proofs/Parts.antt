@@ -29,7 +29,7 @@ use Rattle.sj_bodies.specs.Fine.{Around, with_label, IsDiscard, is_discard, Fits
 use Rattle.sj_names.proofs.Same.{impossible}
 use Rattle.body_rules.specs.Subtyping.{IsSubtyping}
 use Rattle.body_rules.specs.Typing.{Scene, IsResult, in_label, Typed}
-use Rattle.body_rules.proofs.RulesGive.{Takes, its_types, texts, of_division, each_made}
+use Rattle.body_rules.proofs.RulesGive.{Takes, its_types, texts, of_division, of_identity, each_made}
 use Rattle.sj_world.specs.Known.{Classes}
 use Rattle.sj_world.specs.Subtypes.{IsSub}
 use Rattle.typing_rules.specs.declared.labels.Label.{Label}
@@ -111,11 +111,13 @@ module _ (w : Classes) (law : IsSubtyping (IsSub w)) where
     pub asks-left : (y : core.Variable) (o : BinaryOp) (e d : Term) → Takes w has o e d → Asks w (to_variable y (type_of_term e)) (type_of_term e)
     asks-left y o e d (its_types h f g) = asks-own y (type_of_term e) (left_operand o) f (value-not (left_operand o) (left-operand-value o))
     asks-left y o e d (of_division h f g) = asks-own y (type_of_term e) (left_operand o) f (value-not (left_operand o) (left-operand-value o))
+    asks-left y o e d (of_identity i h f g) = asks-own y (type_of_term e) (left_operand o) f (value-not (left_operand o) (left-operand-value o))
     asks-left y o e d (texts is f g) = asks-text y (type_of_term e) f
 
     pub asks-right : (y : core.Variable) (o : BinaryOp) (e d : Term) → Takes w has o e d → Asks w (to_variable y (type_of_term d)) (type_of_term d)
     asks-right y o e d (its_types h f g) = asks-own y (type_of_term d) (right_operand o) g (value-not (right_operand o) (right-operand-value o))
     asks-right y o e d (of_division h f g) = asks-own y (type_of_term d) (right_operand o) g (value-not (right_operand o) (right-operand-value o))
+    asks-right y o e d (of_identity i h f g) = asks-own y (type_of_term d) (right_operand o) g (value-not (right_operand o) (right-operand-value o))
     asks-right y o e d (texts is f g) = asks-text y (type_of_term d) g
 
 -- of two trees one after the other

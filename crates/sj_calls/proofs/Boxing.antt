@@ -71,11 +71,10 @@ module _ (p : Place) (stands : BoxStands p) where
 
       holds_it : IsBox (more_owned p w s u same box) c (next_address u)
       holds_it = record {
-        links = box_link p ∷ [];
         properties = box_properties held.address (js.number (pos c));
         address = held.address;
         constants = held.constants;
-        owned = owned-there p w s u same box;
+        owned = owned-there p w s u same box ∙ ap (λ ls. Some (js.plain ls (box_properties held.address (js.number (pos c))))) (sym same.heaps.boxes);
         char = refl;
         held = refl;
         constants_owned = owned-still p w s.heap u.heap same.heaps box held.address (js.plain [] held.constants) held.owned_there;

@@ -1,3 +1,4 @@
+pub mod Boxed
 pub mod Boxing
 pub mod Calls
 pub mod Chains
@@ -10,6 +11,8 @@ pub mod Names
 pub mod News
 pub mod ObjectLevels
 pub mod Receivers
+pub mod Sameness
+pub mod Testing
 pub mod Setters
 pub mod Shapes
 pub mod Whole

@@ -12,8 +12,10 @@ use Rattle.js_tree.specs.Terms.{Name}
 use Rattle.sj_core.specs.Terms.{Variable, named, numbered, receiver}
 use Rattle.sj_emit_expr.specs.Names.{variable_name}
 use Rattle.sj_emit_expr.specs.Templates.{member_name, static_name, setter_name}
+use Rattle.sj_emit_expr.specs.Tests.{test_name, cast_name}
 use Rattle.sj_mangling.specs.Bindings.{function_name, class_binding}
-use Rattle.sj_mangling.specs.declared.bindings.ClassBinding.TheVariants.{Class, Constants}
+use Rattle.sj_mangling.specs.declared.bindings.ClassBinding.TheVariants.{Constants}
+use Rattle.sj_mangling.specs.declared.bindings.ClassBinding.TheVariants as class_bindings
 use Rattle.sj_mangling.specs.Mangling.{mangled}
 use Rattle.sj_mangling.specs.Numerals.{number_text}
 use Rattle.sj_names.proofs.Same.{impossible}
@@ -21,7 +23,9 @@ use Rattle.sj_names.specs.declared.method_names.Member.{Member}
 use Rattle.sj_names.specs.declared.method_names.MethodName.{MethodName}
 use Rattle.sj_names.specs.declared.method_names.Namespace.{Namespace}
 use Rattle.sj_names.specs.declared.method_names.Namespace.TheVariants.{Public, PublicStatic, Private, PrivateStatic, Constructor}
-use Rattle.sj_plain.specs.Settings.{Top, a_function, a_method, a_constructor, a_class, some_constants, a_static, a_setter, a_helper, top_name, NamesDiffer}
+use Rattle.sj_plain.specs.Settings.{Top, a_function, a_method, a_constructor, a_class, some_constants, a_static, a_setter, a_test, a_cast, a_helper, top_name, NamesDiffer}
+use Rattle.sj_trees.specs.declared.types.IrType.{IrType}
+use Rattle.sj_trees.specs.declared.types.IrType.TheVariants.{Class}
 use Rattle.sj_proper.proofs.Names.{first, heads, tails, low-numeral, variables-differ, labels-differ}
 use Rattle.sj_calls.specs.Names.{emitted_in}
 use Rattle.built_forms.specs.Built.{Usable}
@@ -40,7 +44,7 @@ no_function m receiver e = let h = begins m.namespace m.class m.method 36 (codes
 no_function m (numbered n) e = let h = begins m.namespace m.class m.method 36 (number_text n) e in let k : 99 ≤ 36 = h.0 in omega arith
 
 -- the name of a class begins with `c`
-no_class : (c : List ℕ) (x : Variable) → variable_name x ≡ class_binding Class c → ⊥
+no_class : (c : List ℕ) (x : Variable) → variable_name x ≡ class_binding class_bindings.Class c → ⊥
 no_class c (named x) e = let h : ◌≡◌ {A = ℕ} 118 99 = ap first e in absurd (omega arith)
 no_class c receiver e = let h : ◌≡◌ {A = ℕ} 36 99 = ap first e in absurd (omega arith)
 no_class c (numbered n) e = let h : ◌≡◌ {A = ℕ} 36 99 = ap first e in absurd (omega arith)
@@ -100,10 +104,23 @@ helper-begins (helpers.Throws failures.Store) = record { letter = 97; rest = _; 
 helper-begins (helpers.Throws failures.Size) = record { letter = 110; rest = _; is = refl; high = omega arith; other = λ e. omega arith }
 helper-begins (helpers.Throws failures.Method) = record { letter = 110; rest = _; is = refl; high = omega arith; other = λ e. omega arith }
 
-no_helper : (h : Helper) (x : Variable) → variable_name x ≡ helper_name h → ⊥
-no_helper h (named x) e = let b = helper-begins h in let k : ◌≡◌ {A = ℕ} 118 36 = heads 118 36 (95 ∷ mangled x) (b.letter ∷ b.rest) (e ∙ b.is) in absurd (omega arith)
-no_helper h (numbered n) e = let b = helper-begins h in low-numeral n b.letter b.rest (sym (tails 36 36 (number_text n) (b.letter ∷ b.rest) (e ∙ b.is))) b.high
-no_helper h receiver e = let b = helper-begins h in b.other (sym (heads 116 b.letter (codes "his") b.rest (tails 36 36 (codes "this") (b.letter ∷ b.rest) (e ∙ b.is))))
+no_letter : (name : List ℕ) → BeginsSo name → (x : Variable) → variable_name x ≡ name → ⊥
+no_letter name b (named x) e = let k : ◌≡◌ {A = ℕ} 118 36 = heads 118 36 (95 ∷ mangled x) (b.letter ∷ b.rest) (e ∙ b.is) in absurd (omega arith)
+no_letter name b (numbered n) e = low-numeral n b.letter b.rest (sym (tails 36 36 (number_text n) (b.letter ∷ b.rest) (e ∙ b.is))) b.high
+no_letter name b receiver e = b.other (sym (heads 116 b.letter (codes "his") b.rest (tails 36 36 (codes "this") (b.letter ∷ b.rest) (e ∙ b.is))))
+
+-- the name of the test of a class begins with `i`, and that of its cast with `a`; those of other types are names of helpers
+no_test : (t : IrType) (x : Variable) → variable_name x ≡ test_name t → ⊥
+no_test (Class c) (named x) e = let h : ◌≡◌ {A = ℕ} 118 105 = ap first e in absurd (omega arith)
+no_test (Class c) receiver e = let h : ◌≡◌ {A = ℕ} 36 105 = ap first e in absurd (omega arith)
+no_test (Class c) (numbered n) e = let h : ◌≡◌ {A = ℕ} 36 105 = ap first e in absurd (omega arith)
+no_test t x e = no_letter (test_name t) (record { letter = 105; rest = _; is = refl; high = omega arith; other = λ e. omega arith }) x e
+
+no_cast : (t : IrType) (x : Variable) → variable_name x ≡ cast_name t → ⊥
+no_cast (Class c) (named x) e = let h : ◌≡◌ {A = ℕ} 118 97 = ap first e in absurd (omega arith)
+no_cast (Class c) receiver e = let h : ◌≡◌ {A = ℕ} 36 97 = ap first e in absurd (omega arith)
+no_cast (Class c) (numbered n) e = let h : ◌≡◌ {A = ℕ} 36 97 = ap first e in absurd (omega arith)
+no_cast t x e = no_letter (cast_name t) (record { letter = 97; rest = _; is = refl; high = omega arith; other = λ e. omega arith }) x e
 
 no_top : (t : Top) (x : Variable) → variable_name x ≡ top_name t → ⊥
 no_top (a_function m) = no_function m
@@ -113,7 +130,9 @@ no_top (a_class c) = no_class c
 no_top (some_constants c) = no_constants c
 no_top (a_static c f t) = no_static c f
 no_top (a_setter c f t) = no_setter c f
-no_top (a_helper h) = no_helper h
+no_top (a_test t) = no_test t
+no_top (a_cast t) = no_cast t
+no_top (a_helper h) = no_letter (helper_name h) (helper-begins h)
 
 pub emitted_names_differ : (classes : ir_world.World) (program : js.Program) (home : Top → Name) (has : Name → Usable) (room : Room) → NamesDiffer (emitted_in classes program home has room)
 emitted_names_differ classes program home has room = record { variables = variables-differ; labels = labels-differ; tops = no_top }
@@ -135,4 +154,8 @@ static_apart (a_class d) c f h e = let k : ◌≡◌ {A = ℕ} 99 116 = ap first
 static_apart (some_constants d) c f h e = let k : ◌≡◌ {A = ℕ} 107 116 = ap first e in absurd (omega arith)
 static_apart (a_static d g t) c f h e = impossible (sym h)
 static_apart (a_setter d g t) c f h e = let k : ◌≡◌ {A = ℕ} 117 116 = ap first e in absurd (omega arith)
+static_apart (a_test (Class d)) c f h e = let k : ◌≡◌ {A = ℕ} 105 116 = ap first e in absurd (omega arith)
+static_apart (a_test t) c f h e = let k : ◌≡◌ {A = ℕ} 36 116 = ap first e in absurd (omega arith)
+static_apart (a_cast (Class d)) c f h e = let k : ◌≡◌ {A = ℕ} 97 116 = ap first e in absurd (omega arith)
+static_apart (a_cast t) c f h e = let k : ◌≡◌ {A = ℕ} 36 116 = ap first e in absurd (omega arith)
 static_apart (a_helper k) c f h e = let b = helper-begins k in let n : ◌≡◌ {A = ℕ} 36 116 = heads 36 116 (b.letter ∷ b.rest) _ (sym b.is ∙ e) in absurd (omega arith)

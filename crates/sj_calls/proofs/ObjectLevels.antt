@@ -1,11 +1,12 @@
 -- All levels, where code makes objects and uses them: trees and calls are alike at bounds that stand to each other as the direction says.
 use Rattle.std.specs.Prelude.{◌+◌, ◌*◌, ◌≤◌, ◌&&◌, not, codes}
-use Rattle.std.proofs.Common.{◌≡◌, ℕ, zero, suc, Bool, true, false, List, [], ◌∷◌, Some, length, refl, sym, ap, subst, arith}
+use Rattle.std.proofs.Common.{◌≡◌, ℕ, zero, suc, Bool, true, false, List, [], ◌∷◌, Some, length, refl, sym, ap, ◌∙◌, subst, arith}
+use Rattle.sj_names.proofs.Same.{impossible}
 use Rattle.outcomes.specs.Agreement.{Direction, forward, backward, Enough, Sim}
 use Rattle.outcomes.proofs.Simulation.{sim_over, sim_going}
 use Rattle.helper_rules.specs.declared.kinds.Failure.TheVariants.{NullReceiver, Division}
 use Rattle.helper_rules.specs.declared.kinds.Helper.{Helper}
-use Rattle.helper_rules.specs.declared.kinds.Helper.TheVariants.{NotNull, Throws}
+use Rattle.helper_rules.specs.declared.kinds.Helper.TheVariants.{Equal, NotNull, Throws}
 use Rattle.dispatch_laws.proofs.OwnTargets.{called_target}
 use Rattle.dispatch_laws.specs.Targets.{IsTargetOf}
 use Rattle.ir_mean.specs.Dispatch.{chain_of}
@@ -23,7 +24,7 @@ use Rattle.sj_desugar.specs.Coercions.{is_char}
 use Rattle.body_rules.proofs.Fitting.{fits-sub}
 use Rattle.sj_plain.proofs.Boxes.{class-no-char}
 use Rattle.sure_receivers.specs.Sure.{sure_locals}
-use Rattle.sj_plain.specs.Settings.{Place, Code, a_function, a_method, a_constructor, a_setter, a_helper, division_helper, Setting, SameState, Valued, Built, NamesDiffer, Reaches, Based, Lawful, BuildsAlike, ReceivesAlike, SetsAlike, ChecksAlike, DividesAlike, IsReceiver, top_call}
+use Rattle.sj_plain.specs.Settings.{Place, Code, a_function, a_method, a_constructor, a_setter, a_helper, division_helper, Setting, SameState, Valued, Built, NamesDiffer, Reaches, Based, Lawful, BuildsAlike, ReceivesAlike, SetsAlike, ChecksAlike, DividesAlike, TestsAlike, ComparesAlike, IsReceiver, a_test, top_call}
 use Rattle.body_rules.specs.Standing.{is_bare, Fits, types_referred, call_type}
 use Rattle.built_forms.proofs.Statics.{set_static}
 use Rattle.built_forms.specs.Built.{divides}
@@ -33,15 +34,16 @@ use Rattle.sj_names.specs.declared.method_names.Namespace.TheVariants.{Construct
 use Rattle.sj_trees.specs.TypeOf.{binary_result}
 use Rattle.sj_trees.specs.Types.{class_type}
 use Rattle.sj_trees.specs.declared.operators.BinaryOp.{BinaryOp}
+use Rattle.sj_trees.specs.declared.operators.BinaryOp.TheVariants.{StrictEqual}
 use Rattle.sj_trees.specs.declared.types.IrType.{IrType}
-use Rattle.sj_trees.specs.declared.types.IrType.TheVariants.{Any, NoType}
+use Rattle.sj_trees.specs.declared.types.IrType.TheVariants.{Any, Boolean, NoType}
 use Rattle.sj_plain.proofs.Worlds.{World, SameValues, value-fits}
 use Rattle.sj_bodies.proofs.Contexts.{Came}
 use Rattle.sj_bodies.proofs.Main.{does}
 use Rattle.sj_bodies.proofs.Trees.{LowAlike}
 use Rattle.body_rules.specs.Subtyping.{IsSubtyping}
 use Rattle.sj_world.specs.Subtypes.{IsSub}
-use Rattle.sj_calls.specs.Helpers.{HelperStands, failing_code, Failed}
+use Rattle.sj_calls.specs.Helpers.{HelperStands, failing_code, Failed, CanTest, CanCompare}
 use Rattle.sj_calls.specs.Methods.{Linked, CallsAgree, ir_call, js_call}
 use Rattle.sj_calls.specs.Objects.{RunsOn, Constructs}
 use Rattle.sj_calls.specs.Worlds.{IsMade, CanCheck, CanDivide, HasObjects}
@@ -51,7 +53,9 @@ use Rattle.sj_calls.proofs.Dividing.{divides_alike}
 use Rattle.sj_calls.proofs.Helps.{FailsAt, fails_alike, checks_alike, in_helper}
 use Rattle.sj_calls.proofs.News.{made_alike}
 use Rattle.sj_calls.proofs.Receivers.{receive_alike, build_alike}
+use Rattle.sj_calls.proofs.Sameness.{compares_alike}
 use Rattle.sj_calls.proofs.Setters.{sets_alike}
+use Rattle.sj_calls.proofs.Testing.{primitive, tests_alike}
 
 module _ (p : Place) (ordered : IsSubtyping (IsSub p.classes)) (names : NamesDiffer p) (has : HasObjects p) where
   -- a body in a file of the place, with what the levels of these bounds give
@@ -139,13 +143,23 @@ module _ (p : Place) (ordered : IsSubtyping (IsSub p.classes)) (names : NamesDif
   divides_at f is_mutable o i can forward n zero levels h = let e = has.beyond in absurd (omega (arith, e, h))
   divides_at f is_mutable o i can backward n zero levels h = λ w v v' x x' env s u a b same. subst (λ q. Sim backward (Valued p w env (binary_result o)) (ir_meaning.answered p.classes (ir_meaning.below p.classes n) (binary_value o v v') env s) q) (sym (ap (λ c. js_meaning.code_call (js_meaning.below p.program 0) (p.home (a_helper (division_helper o))) c (x ∷ x' ∷ []) u) can.division)) (sim_going (Valued p w env (binary_result o)) (ir_meaning.answered p.classes (ir_meaning.below p.classes n) (binary_value o v v') env s))
 
+  tests_at : (f : Code) (is_mutable : List ℕ → Bool) (t : IrType) → CanTest p t → (d : Direction) (n k : ℕ) → Enough p.room p.room.each d n k → TestsAlike (within f d is_mutable n k) t
+  tests_at f is_mutable t can d n (suc m) h = λ w v x env s u a same. tests_alike p w s u same t can d m env v x a
+  tests_at f is_mutable t can forward n zero h = let e = has.beyond in absurd (omega (arith, e, h))
+  tests_at f is_mutable t can backward n zero h = λ w v x env s u a same. subst (λ q. Sim backward (Valued p w env Boolean) (ir.given (ir_meaning.is_instance_value p.classes t s v) env s) q) (sym (ap (λ c. js_meaning.code_call (js_meaning.below p.program 0) (p.home (a_test t)) c (x ∷ []) u) can.test)) (sim_going (Valued p w env Boolean) (ir.given (ir_meaning.is_instance_value p.classes t s v) env s))
+
+  compares_at : (f : Code) (is_mutable : List ℕ → Bool) → CanCompare p → (d : Direction) (n k : ℕ) → Enough p.room p.room.each d n k → ComparesAlike (within f d is_mutable n k)
+  compares_at f is_mutable can d n (suc m) h = λ w v v' x x' env s u a b same. compares_alike p can w s u same m d (ir_meaning.below p.classes n) env v v' x x' a b
+  compares_at f is_mutable can forward n zero h = let e = has.beyond in absurd (omega (arith, e, h))
+  compares_at f is_mutable can backward n zero h = λ w v v' x x' env s u a b same. subst (λ q. Sim backward (Valued p w env Boolean) (ir_meaning.answered p.classes (ir_meaning.below p.classes n) (binary_value StrictEqual v v') env s) q) (sym (ap (λ c. js_meaning.code_call (js_meaning.below p.program 0) (p.home (a_helper Equal)) c (x ∷ x' ∷ []) u) can.equality)) (sim_going (Valued p w env Boolean) (ir_meaning.answered p.classes (ir_meaning.below p.classes n) (binary_value StrictEqual v v') env s))
+
   -- an object that holds a char takes a unit
   box_room : (d : Direction) (n k : ℕ) → Enough p.room p.room.each d n k → d ≡ forward → 1 ≤ k
   box_room forward n k h e = let b = has.beyond in omega (arith, b, h)
   box_room backward n k h e = absurd (cc)
 
   lawful : (d : Direction) (n k : ℕ) → Levels d n → Enough p.room p.room.each d n k → (f : Code) → Reaches p f.file → (is_mutable : List ℕ → Bool) → Lawful (within f d is_mutable n k)
-  lawful d n k levels h f reaches is_mutable = record { base = based d n k levels (fewer d p.room.each n k h) f reaches is_mutable; checks = λ i. checks_at (has.checked f.file i) f is_mutable d n k levels h; divisions = λ o i. divides_at f is_mutable o i (has.divided f.file o i) d n k levels h; boxes = λ i. boxes_alike (within f d is_mutable n k) k (has.boxes f.file i) refl (box_room d n k h) }
+  lawful d n k levels h f reaches is_mutable = record { base = based d n k levels (fewer d p.room.each n k h) f reaches is_mutable; checks = λ i. checks_at (has.checked f.file i) f is_mutable d n k levels h; divisions = λ o i. divides_at f is_mutable o i (has.divided f.file o i) d n k levels h; boxes = λ i. boxes_alike (within f d is_mutable n k) k (has.boxes f.file i) refl (box_room d n k h); tests = λ t i. let can = has.tested f.file t i in (primitive t can.kind can.its_kind, tests_at f is_mutable t can d n k h); casts = λ t i. impossible (sym (has.no_cast f.file t) ∙ i); compares = λ i. compares_at f is_mutable (has.compared f.file i) d n k h }
 
   next : (d : Direction) (n k : ℕ) → Levels d n → Enough p.room p.room.each d n k → Level d (suc n) (suc k)
   next d n k levels h f reaches is_mutable c q j t sound ahead out wr fine w env s sc u ready same = does (within f d is_mutable n k) (lawful d n k levels h f reaches is_mutable) (levels k (fewer d p.room.each n k h) f reaches is_mutable) t c q j sound ahead out wr fine w env s sc u ready same

@@ -28,7 +28,7 @@ use Rattle.sj_desugar.specs.Desugar.{desugared}
 use Rattle.sj_emit_expr.specs.Templates.{member_name, parameter_names}
 use Rattle.sj_names.specs.declared.entry_points.EntryPoint.{EntryPoint}
 use Rattle.sj_names.specs.declared.method_names.Member.{Member}
-use Rattle.sj_plain.specs.Settings.{some_constants, a_static, a_setter, links_of, SameStored, same_object, a_method, a_constructor, a_helper, Place, Top, a_function, a_class, top_name, is_usable, TopHolds, SameHeap, SameState, Valued, valued, thrown, NamesDiffer, Reaches}
+use Rattle.sj_plain.specs.Settings.{some_constants, a_static, a_setter, a_test, a_cast, links_of, box_link, SameStored, same_object, a_method, a_constructor, a_helper, Place, Top, a_function, a_class, top_name, is_usable, TopHolds, SameHeap, SameState, Valued, valued, thrown, NamesDiffer, Reaches}
 use Rattle.sj_plain.specs.Worlds.{World, nothing_made, Stands, same_undefined, same_null, same_boolean, same_char, same_box, IsBox, same_number, same_long, same_text, same_reference, no_values}
 use Rattle.sj_plain.specs.Standing.{suits}
 use Rattle.sj_names.proofs.Same.{impossible}
@@ -111,7 +111,7 @@ box_alike p q d w s u n a heaps below box = subst (λ o. Sim d ◌≡◌ (done (
 
     -- a property of the object itself
     own : Option js.Value → Name → Option js.Value
-    own v x = js_objects.value_on (js_objects.or_value v (js_objects.method_on q box.links x)) x
+    own v x = js_objects.value_on (js_objects.or_value v (js_objects.method_on q w.boxes x)) x
 
     by_constants : Option js.Stored → Option js.Value
     by_constants o = js_objects.stored_property q o (codes "s")
@@ -123,7 +123,7 @@ box_alike p q d w s u n a heaps below box = subst (λ o. Sim d ◌≡◌ (done (
     marker_is = ap (λ v. js_showing.marker_in q u (own v (codes "k"))) box.held ∙ ap by_constants (heaps.owned box.address (js.plain [] box.constants) box.constants_owned) ∙ ap by_marker box.marked
 
     is : js_showing.thrown q u (js.object a) ≡ Some (shown.char n)
-    is = ap by_stored (heaps.owned a (js.plain box.links box.properties) box.owned) ∙ ap (λ m. js_showing.object_shown (js_showing.class_shown m) (own (box.properties (codes "c")) (codes "c"))) marker_is ∙ ap (λ v. js_showing.char_shown (own v (codes "c"))) box.char ∙ ap (λ (t : Bool). if t then Some (shown.char n) else None) (char_below n below)
+    is = ap by_stored (heaps.owned a (js.plain w.boxes box.properties) box.owned) ∙ ap (λ m. js_showing.object_shown (js_showing.class_shown m) (own (box.properties (codes "c")) (codes "c"))) marker_is ∙ ap (λ v. js_showing.char_shown (own v (codes "c"))) box.char ∙ ap (λ (t : Bool). if t then Some (shown.char n) else None) (char_below n below)
 
 uncaught_alike : (place : Place) (p : js.Program) (d : Direction) (w : World) (v : ir.Value) (x : js.Value) (s : ir.State) (u : js.State) → SameState place w s u → Stands w false v x → suits Any v ≡ true → Sim d ◌≡◌ (ir_showing.uncaught_or_wrong (ir_showing.thrown s v)) (js_showing.uncaught_or_wrong (js_showing.thrown p u x))
 uncaught_alike place p d w _ _ s u same same_undefined h = sim_done d ◌≡◌ (uncaught shown.undefined) (uncaught shown.undefined) refl
@@ -228,7 +228,7 @@ past_functions p k f (g ∷ gs) is u = past_functions p k f gs is u
 nothing_there : {A : Type 0} (o : A) → None ≡ Some o → ⊥
 nothing_there o e = cc
 
-no_heaps : (p : Place) → SameHeap p nothing_made [] []
+no_heaps : (p : Place) → SameHeap p (nothing_made (box_link p ∷ [])) [] []
 no_heaps p = record {
   objects = λ i a e. absurd (nothing_there a e);
   differ = λ i j a e g. absurd (nothing_there a e);
@@ -237,6 +237,7 @@ no_heaps p = record {
   apart = λ i a o e g. nothing_there a e;
   unborn = λ i a o e g. nothing_there a e;
   separate = λ a o b e g. nothing_there o e;
+  boxes = refl;
 }
 
 module _ (w : ir_world.World) (id : List ℕ) (fs : List EmittedMethod) (es : List EntryPoint) (linked_here : Member → Bool) where
@@ -282,10 +283,10 @@ module _ (w : ir_world.World) (id : List ℕ) (fs : List EmittedMethod) (es : Li
     linked : (m : Member) → has.linked m ≡ true → Linked place m
     linked m l = let h = functions m l in subst (Linked place) h.is (linked_by proper h.method h.listed (emitted h.method h.listed))
 
-    opening_same : SameState place nothing_made (ir_world.opening w) (js_meaning.opening program)
+    opening_same : SameState place (nothing_made (box_link place ∷ [])) (ir_world.opening w) (js_meaning.opening program)
     opening_same = record { heaps = no_heaps place; tops = λ f t h. top_there t h; statics = λ f c g t h. impossible h }
       where
-        top_there : (t : Top) → is_usable has t ≡ true → TopHolds place nothing_made.owned t ((js_meaning.opening program).tops file (top_name t))
+        top_there : (t : Top) → is_usable has t ≡ true → TopHolds place (nothing_made (box_link place ∷ [])).owned t ((js_meaning.opening program).tops file (top_name t))
         top_there (a_function m) l = let h = functions m l in ap (λ o. js_meaning.module_cell file o (member_name m)) (module_there file (module_with fs es)) ∙ subst (λ x. js_meaning.items_cell file (map function_item_of fs ++ map call_item_of es) (member_name x) ≡ js.holds false (js.function file (member_name x))) h.is (cell_found file fs (map call_item_of es) h.method h.listed)
         top_there (a_method m) l = impossible l
         top_there (a_constructor m) l = impossible l
@@ -293,10 +294,12 @@ module _ (w : ir_world.World) (id : List ℕ) (fs : List EmittedMethod) (es : Li
         top_there (some_constants c) l = impossible l
         top_there (a_static c g t) l = impossible l
         top_there (a_setter c g t) l = impossible l
+        top_there (a_test t) l = impossible l
+        top_there (a_cast t) l = impossible l
         top_there (a_helper h) l = impossible l
 
     no_objects : CallsAlone place
-    no_objects = record { received = λ f m. refl; built = λ f m. refl; made = λ f c. refl; field = λ f c g t. refl; static_field = λ f c g t. refl; static_setter = λ f c g t. refl; helper = λ f x. refl }
+    no_objects = record { received = λ f m. refl; built = λ f m. refl; made = λ f c. refl; field = λ f c g t. refl; static_field = λ f c g t. refl; static_setter = λ f c g t. refl; tests = λ f t. refl; casts = λ f t. refl; helper = λ f x. refl }
 
     names : NamesDiffer place
     names = emitted_names_differ w program (λ t. file) (λ f. has) no_room
@@ -305,7 +308,7 @@ module _ (w : ir_world.World) (id : List ℕ) (fs : List EmittedMethod) (es : Li
     initializers_agree e l y s u same = calls_agree place (in_world w plain) names (λ f m l. linked m l) no_objects file (initializer_member e) l y [] [] ir_showing.outside s u no_values same
 
     pub shows_alike : ((e : EntryPoint) → Contains es e → has.linked (initializer_member e) ≡ true) → (d : Direction) (n k : ℕ) → Enough place.room 0 d n k → Sim d ◌≡◌ (ir_showing.all_show w n es (ir_world.opening w)) (js_showing.js_shows program id k)
-    shows_alike all d n k h = file_alike w file (module_with fs es) refl has no_room initializers_agree proper es nothing_made (js_meaning.opening program) (λ k. past_functions program k file fs (map call_item_of es) (js_meaning.opening program)) opening_same all d n k h
+    shows_alike all d n k h = file_alike w file (module_with fs es) refl has no_room initializers_agree proper es (nothing_made (box_link place ∷ [])) (js_meaning.opening program) (λ k. past_functions program k file fs (map call_item_of es) (js_meaning.opening program)) opening_same all d n k h
 
 pub file_agrees : (w : ir_world.World) → IsPlain w → (entries : List EntryPoint) (id : List ℕ) (fs : List EmittedMethod) (linked_here : Member → Bool) → is_proper_module (module_with fs (ir_showing.initializers entries id)) ≡ true → ((e : EmittedMethod) → Contains fs e → IsEmitted w (members_alone linked_here) e) → ((m : Member) → linked_here m ≡ true → HasFunction fs m) → ((e : EntryPoint) → Contains (ir_showing.initializers entries id) e → linked_here (initializer_member e) ≡ true) → ((n : ℕ) → IsNotWrong (ir_showing.ir_shows w entries id n).end) → Agree (ir_showing.ir_shows w entries id) (js_showing.js_shows (program_with id fs (ir_showing.initializers entries id)) id)
 file_agrees w plain entries id fs linked_here proper emitted functions all right = agree-from_sim no_room (ir_showing.ir_shows w entries id) (js_showing.js_shows (program_with id fs (ir_showing.initializers entries id)) id) (shows_alike w id fs (ir_showing.initializers entries id) linked_here plain proper emitted functions all) right

@@ -1,5 +1,5 @@
--- Helpers that fail: what each does, and its function; and the class of objects that hold chars.
-use Rattle.std.specs.Prelude.{◌≡◌, ℕ, true, List, [], ◌∷◌, Option, Some, codes}
+-- Helpers that fail: what each does, and its function; the class of objects that hold chars; and helpers that tell values apart.
+use Rattle.std.specs.Prelude.{◌≡◌, ℕ, true, List, [], ◌∷◌, Option, Some, None, codes}
 use Rattle.ir_mean.specs.States as ir
 use Rattle.js_mean.specs.Classes.{members_of}
 use Rattle.js_mean.specs.Files.{owner}
@@ -10,12 +10,15 @@ use Rattle.js_tree.specs.Terms.{Name, Expression, Item, function_item, throw_of,
 use Rattle.js_tree.specs.Views.{statements_of}
 use Rattle.helper_rules.specs.Helpers.{raise, zero_check, helper_name, helper_item, box_constructor}
 use Rattle.helper_rules.specs.declared.kinds.Helper.{Helper}
-use Rattle.helper_rules.specs.declared.kinds.Helper.TheVariants.{BoxedChar, ConstantsOf, NotNull}
+use Rattle.helper_rules.specs.declared.kinds.Helper.TheVariants.{BoxedChar, ConstantsOf, Equal, NotNull, TestOf}
+use Rattle.helper_rules.specs.declared.kinds.Kind.{Kind}
 use Rattle.helper_rules.specs.declared.kinds.Kind.TheVariants as kinds
-use Rattle.sj_plain.specs.Settings.{Place, a_helper, box_link, division_helper, SameState}
+use Rattle.sj_emit_expr.specs.Tests.{test_name}
+use Rattle.sj_plain.specs.Settings.{Place, a_test, a_helper, box_link, division_helper, SameState}
 use Rattle.sj_plain.specs.Worlds.{World, Grows, SameValue}
 use Rattle.sj_trees.specs.declared.operators.BinaryOp.{BinaryOp}
-use Rattle.sj_trees.specs.declared.types.IrType.TheVariants.{Any}
+use Rattle.sj_trees.specs.declared.types.IrType.{IrType}
+use Rattle.sj_trees.specs.declared.types.IrType.TheVariants.{Any, Undefined, Boolean, Char, Byte, Short, Int, Long, String}
 
 -- the code of an item that declares a function
 abbrev pub code_of_item : Item → js_meaning.Code
@@ -51,6 +54,36 @@ pub record BoxStands (p : Place) : Type 0 where
   pub reached : owner p.program (p.home (a_helper BoxedChar)) (helper_name (ConstantsOf kinds.Char)) ≡ Some (p.home (a_helper (ConstantsOf kinds.Char)))
   pub user : Name
   pub usable : (p.has user).helper (helper_name (ConstantsOf kinds.Char)) ≡ true
+
+-- this file reaches the class of objects that hold chars, and the code of some file can use it
+pub record ReachesBoxes (p : Place) (f : Name) : Type 0 where
+  pub reached : owner p.program f (helper_name BoxedChar) ≡ Some (p.home (a_helper BoxedChar))
+  pub user : Name
+  pub usable : (p.has user).helper (helper_name BoxedChar) ≡ true
+
+-- the helper that tells whether two values are the same stands in its file, which reaches the class of objects that hold chars
+pub record CanCompare (p : Place) : Type 0 where
+  pub equality : HelperStands p Equal (helper_code Equal)
+  pub boxes : ReachesBoxes p (p.home (a_helper Equal))
+
+-- the kind of the values of a primitive type, by whose helper they are told
+abbrev pub kind_of : IrType → Option Kind
+kind_of Undefined = Some kinds.Undefined
+kind_of Boolean = Some kinds.Boolean
+kind_of Char = Some kinds.Char
+kind_of Byte = Some kinds.Byte
+kind_of Short = Some kinds.Short
+kind_of Int = Some kinds.Int
+kind_of Long = Some kinds.Long
+kind_of String = Some kinds.Text
+kind_of _ = None
+
+-- the test of a primitive type stands in its file, as the helper of its kind; that of chars reaches the class of objects that hold them
+pub record CanTest (p : Place) (t : IrType) : Type 0 where
+  pub kind : Kind
+  pub its_kind : kind_of t ≡ Some kind
+  pub test : js_meaning.code_of p.program (p.home (a_test t)) (test_name t) ≡ Some (helper_code (TestOf kind))
+  pub boxes : kind ≡ kinds.Char → ReachesBoxes p (p.home (a_test t))
 
 -- the properties of an object that holds this value, with its constants at this address
 abbrev pub box_properties : ℕ → js.Value → Name → Option js.Value

@@ -1,7 +1,7 @@
--- What the code of a program has of objects: members that run on receivers, constructors, classes, fields, static fields, the null check, divisions and objects that hold chars,
--- each where code can use it.
+-- What the code of a program has of objects: members that run on receivers, constructors, classes, fields, static fields, the null check, divisions, objects that hold chars, tests
+-- of primitive types and identity, each where code can use it.
 use Rattle.std.specs.Prelude.{◌≡◌, ℕ, ◌≤◌, true, false, List, length, codes, Option, Some}
-use Rattle.built_forms.specs.Built.{has_static, can_box, divides}
+use Rattle.built_forms.specs.Built.{has_static, can_box, divides, compares}
 use Rattle.dispatch_laws.specs.Targets.{IsTargetOf}
 use Rattle.helper_rules.specs.Helpers.{helper_name}
 use Rattle.helper_rules.specs.declared.kinds.Failure.TheVariants.{NullReceiver, Division}
@@ -24,7 +24,7 @@ use Rattle.sj_plain.specs.Settings.{Place, SameState, SameStored, HasField, HasS
 use Rattle.body_rules.specs.Standing.{is_bare}
 use Rattle.sj_plain.specs.Worlds.{World}
 use Rattle.sj_trees.specs.Types.{class_type}
-use Rattle.sj_calls.specs.Helpers.{HelperStands, BoxStands, code_of_item, helper_code, checking_code, division_code}
+use Rattle.sj_calls.specs.Helpers.{HelperStands, BoxStands, CanTest, CanCompare, code_of_item, helper_code, checking_code, division_code}
 use Rattle.sj_calls.specs.Made.{Makers}
 use Rattle.sj_calls.specs.Methods.{Linked}
 use Rattle.sj_calls.specs.Objects.{RunsOn, Constructs}
@@ -84,5 +84,8 @@ pub record HasObjects (p : Place) : Type 0 where
   pub checked : (f : Name) → (p.has f).helper check_name ≡ true → CanCheck p
   pub divided : (f : Name) (o : BinaryOp) → divides (p.has f) o ≡ true → CanDivide p o
   pub boxes : (f : Name) → can_box (p.has f) ≡ true → BoxStands p
+  pub tested : (f : Name) (t : IrType) → (p.has f).tests t ≡ true → CanTest p t
+  pub no_cast : (f : Name) (t : IrType) → (p.has f).casts t ≡ false
+  pub compared : (f : Name) → compares (p.has f) ≡ true → CanCompare p
   pub each : 2 ≤ p.room.each
   pub beyond : 1 ≤ p.room.beyond

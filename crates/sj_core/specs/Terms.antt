@@ -5,6 +5,7 @@ use Rattle.sj_names.specs.declared.method_names.Namespace.{Namespace}
 use Rattle.sj_trees.specs.declared.operators.BinaryOp.{BinaryOp}
 use Rattle.sj_trees.specs.declared.operators.UnaryOp.{UnaryOp}
 use Rattle.sj_trees.specs.declared.positions.Position.{Position}
+use Rattle.sj_trees.specs.declared.types.IrType.{IrType}
 
 -- a variable of the IR by its name, one by its number, which holds an operand, or the one that holds This
 pub data Variable : Type 0 where
@@ -13,8 +14,8 @@ pub data Variable : Type 0 where
   receiver : Variable
 
 mutual
-  -- among them a field of an object, a static field, a value that isn't null, an object of the member's class on which that constructor ran, and a call
-  -- of the member on a receiver
+  -- among them a field of an object, a static field, a value that isn't null, an object of the member's class on which that constructor ran, a call of the
+  -- member on a receiver, whether a value is of a type, and a value cast to a type
   pub data Expression : Type 0 where
     undefined_value : Expression
     null_value : Expression
@@ -33,6 +34,8 @@ mutual
     checked_value : Expression → Expression
     made_of : Member → Expressions → Expression
     receiver_call : Member → Expression → Expressions → Expression
+    test_of : IrType → Expression → Expression
+    cast_of : IrType → Expression → Expression
     unary_of : UnaryOp → Expression → Expression
     binary_of : BinaryOp → Expression → Expression → Expression
 

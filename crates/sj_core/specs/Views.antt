@@ -1,6 +1,6 @@
 -- The terms that expressions, statements and methods of the core stand for.
 use Rattle.std.specs.Prelude.{List, [], ◌∷◌, ℤ, map}
-use Rattle.sj_core.specs.Terms.{Variable, named, numbered, receiver, Expression, field_of, static_of, checked_value, made_of, receiver_call, assign_field, assign_static, throw_of, undefined_value, null_value, boolean_value, number_value, long_value, text_value, variable_use, boxed_char, char_text, value_text, choice_of, static_call, unary_of, binary_of, Expressions, no_expressions, expression, Statement, constant_of, define_of, declare_of, assign_to, evaluate_of, return_of, log_of, leave_label, break_nearest, if_of, while_of, loop_of, labeled_of, switch_of, Statements, no_statements, statement, Cases, no_cases, switch_case, Method}
+use Rattle.sj_core.specs.Terms.{Variable, named, numbered, receiver, Expression, field_of, static_of, checked_value, made_of, receiver_call, test_of, cast_of, assign_field, assign_static, throw_of, undefined_value, null_value, boolean_value, number_value, long_value, text_value, variable_use, boxed_char, char_text, value_text, choice_of, static_call, unary_of, binary_of, Expressions, no_expressions, expression, Statement, constant_of, define_of, declare_of, assign_to, evaluate_of, return_of, log_of, leave_label, break_nearest, if_of, while_of, loop_of, labeled_of, switch_of, Statements, no_statements, statement, Cases, no_cases, switch_case, Method}
 use Rattle.sj_core.specs.declared.expressions.CoreVariable.{CoreVariable}
 use Rattle.sj_core.specs.declared.expressions.CoreVariable.TheVariants as Variables
 use Rattle.sj_core.specs.declared.expressions.CoreExpression.{CoreExpression, fold-CoreExpression}
@@ -43,6 +43,8 @@ expression_step (CoreExpression-F.StaticField c f) = static_of c f
 expression_step (CoreExpression-F.Checked e) = checked_value e.value
 expression_step (CoreExpression-F.Made m es) = made_of m (expressions_of es.items)
 expression_step (CoreExpression-F.ReceiverCall m e es) = receiver_call m e.value (expressions_of es.items)
+expression_step (CoreExpression-F.Test t e) = test_of t e.value
+expression_step (CoreExpression-F.Cast t e) = cast_of t e.value
 expression_step (CoreExpression-F.Unary op e) = unary_of op e.value
 expression_step (CoreExpression-F.Binary op a b) = binary_of op a.value b.value
 

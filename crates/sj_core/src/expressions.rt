@@ -1,6 +1,6 @@
 // Expressions of the core.
 use sj_names::{ClassName, FieldName, LocalName, Member};
-use sj_trees::{BinaryOp, UnaryOp};
+use sj_trees::{BinaryOp, IrType, UnaryOp};
 use sj_units::Units;
 
 /// A variable of a method: one of the IR, one that holds an operand, or the one that holds This.
@@ -45,6 +45,10 @@ pub enum CoreExpression {
     Made(Member, Vec<CoreExpression>),
     /// A call of the member on a receiver, with these arguments.
     ReceiverCall(Member, Box<CoreExpression>, Vec<CoreExpression>),
+    /// Whether a value is an instance of the type.
+    Test(IrType, Box<CoreExpression>),
+    /// A value that is cast to the type.
+    Cast(IrType, Box<CoreExpression>),
     Unary(UnaryOp, Box<CoreExpression>),
     Binary(BinaryOp, Box<CoreExpression>, Box<CoreExpression>),
 }
@@ -70,6 +74,8 @@ impl Drop for CoreExpression {
             CoreExpression::Checked(_one) => {}
             CoreExpression::Made(_one, _two) => {}
             CoreExpression::ReceiverCall(_one, _two, _three) => {}
+            CoreExpression::Test(_one, _two) => {}
+            CoreExpression::Cast(_one, _two) => {}
             CoreExpression::Unary(_, _one) => {}
             CoreExpression::Binary(_, _one, _two) => {}
         }

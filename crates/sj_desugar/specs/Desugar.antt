@@ -16,7 +16,7 @@ use Rattle.sj_trees.specs.declared.positions.Position.{Position}
 use Rattle.sj_trees.specs.declared.types.IrType.{IrType}
 use Rattle.sj_trees.specs.declared.types.IrType.TheVariants.{Any, Nothing, Undefined, Boolean, Char, Byte, Short, Int, Long, String, Null, NoType}
 use Rattle.sj_core.specs.Terms as core
-use Rattle.sj_core.specs.Terms.{named, Expression, field_of, static_of, made_of, receiver_call, checked_value, undefined_value, null_value, boolean_value, number_value, long_value, text_value, variable_use, choice_of, static_call, unary_of, binary_of, Statement, define_of, declare_of, assign_to, evaluate_of, return_of, log_of, assign_field, assign_static, throw_of, leave_label, break_nearest, if_of, while_of, loop_of, labeled_of, switch_of, Statements, no_statements, statement, followed, Method}
+use Rattle.sj_core.specs.Terms.{named, Expression, field_of, static_of, made_of, receiver_call, test_of, cast_of, checked_value, undefined_value, null_value, boolean_value, number_value, long_value, text_value, variable_use, choice_of, static_call, unary_of, binary_of, Statement, define_of, declare_of, assign_to, evaluate_of, return_of, log_of, assign_field, assign_static, throw_of, leave_label, break_nearest, if_of, while_of, loop_of, labeled_of, switch_of, Statements, no_statements, statement, followed, Method}
 use Rattle.sj_core.specs.Views.{expressions_of}
 use Rattle.sj_desugar.specs.Coercions.{coerced, coerced_arguments, coerced_receiver}
 use Rattle.sj_desugar.specs.Plain.{is_no_type, is_plain, is_fixed, is_among, mutable_in, mutable_params}
@@ -113,6 +113,8 @@ module _ (sure : List ℕ → Bool) where
     expression_of (select p e c f t) = field_of (received_text (is_sure sure e) (expression_of e)) c f
     expression_of (select_static p c f t) = static_of c f
     expression_of (unary_op p o e) = unary_of o (expression_of e)
+    expression_of (is_instance_of p e t) = test_of t (coerced Any (type_of_term e) (expression_of e))
+    expression_of (as_instance_of p e t) = cast_of t (coerced Any (type_of_term e) (expression_of e))
     expression_of (binary_op p o e d) = binary_of o (operand_of o (type_of_term e) (expression_of e)) (operand_of o (type_of_term d) (expression_of d))
     expression_of (undefined_literal p) = undefined_value
     expression_of (null_literal p) = null_value
@@ -228,6 +230,8 @@ module _ (is_mutable sure : List ℕ → Bool) where
     into ls k j (select p e c f t) = then_use (spill (receiver e (λ k j. into ls k j e) ∷ []) j) (λ es. finish k p t false (field_of (first_of es) c f))
     into ls k j (select_static p c f t) = finish k p t false (static_of c f) j
     into ls k j (unary_op p o e) = then_use (spill (operand e (λ k j. into ls k j e) ∷ []) j) (λ es. finish k p (unary_result o) false (unary_of o (first_of es)))
+    into ls k j (is_instance_of p e t) = then_use (spill (operand e (λ k j. into ls k j e) ∷ []) j) (λ es. finish k p Boolean false (test_of t (coerced Any (type_of_term e) (first_of es))))
+    into ls k j (as_instance_of p e t) = then_use (spill (operand e (λ k j. into ls k j e) ∷ []) j) (λ es. finish k p t false (cast_of t (coerced Any (type_of_term e) (first_of es))))
     into ls k j (binary_op p o e d) = then_use (spill (operand e (λ k j. into ls k j e) ∷ operand d (λ k j. into ls k j d) ∷ []) j) (λ es. finish k p (binary_result o) false (binary_of o (operand_of o (type_of_term e) (first_of es)) (operand_of o (type_of_term d) (second_of es))))
     into ls k j (undefined_literal p) = finish k p Undefined true undefined_value j
     into ls k j (null_literal p) = finish k p Null true null_value j

@@ -13,11 +13,11 @@ ghost use Rattle.sj_trees.specs.View.{view, terms_view, cases_view};
 use sj_core::CoreExpression;
 use sj_desugaring::{
     Callee, Destination, FieldPlace, Operation, Placed, PlacedAll, SwitchCases, Target, Written,
-    are_plain, assigned, binary_value, branched, brought, call_value, case_of, checked,
+    are_plain, assigned, binary_value, branched, brought, call_value, case_of, cast_value, checked,
     checked_operand, coerced_argument, declared, defined, expression_of, field_set, field_value,
     in_place, is_fixed, is_plain, is_sure, joined, kept, labeled, leaving, local_destination,
     logged, looped, looped_behind, made_value, nothing, number_behind, operand_destination,
-    position_of, receiver_value, static_set, switched, target_of, tested_loop, thrown, unary_value,
+    position_of, receiver_value, static_set, switched, target_of, tested_loop, tested_value, thrown, unary_value,
     value_of, with_label, without_first,
 };
 use sj_names::{LocalName, NoMemory, TypeRef};
@@ -152,6 +152,14 @@ pub fn statements_of(
             let operand = operand_of(alloc, locals, targets, true, next, value)?;
             unary_value(alloc, destination, *position, *op, operand)
         }
+        Tree::IsInstanceOf(position, value, tpe) => {
+            let operand = operand_of(alloc, locals, targets, true, next, value)?;
+            tested_value(alloc, destination, *position, tpe, value, operand)
+        }
+        Tree::AsInstanceOf(position, value, tpe) => {
+            let operand = operand_of(alloc, locals, targets, true, next, value)?;
+            cast_value(alloc, destination, *position, tpe, value, operand)
+        }
         Tree::BinaryOp(position, op, left, right) => {
             let second_plain = is_plain(right);
             let one = operand_of(alloc, locals, targets, second_plain, next, left)?;
@@ -188,9 +196,7 @@ pub fn statements_of(
         | Tree::NewArray(_, _, _)
         | Tree::ArrayValue(_, _, _)
         | Tree::ArrayLength(_, _)
-        | Tree::ArraySelect(_, _, _, _)
-        | Tree::IsInstanceOf(_, _, _)
-        | Tree::AsInstanceOf(_, _, _) => Ok(nothing(alloc, next)),
+        | Tree::ArraySelect(_, _, _, _) => Ok(nothing(alloc, next)),
     }
 }
 

@@ -18,8 +18,8 @@ pub use forms::{
 };
 pub use jumps::{labeled, leaving};
 pub use objects::{
-    FieldPlace, checked_operand, field_set, field_value, made_value, receiver_value, static_set,
-    thrown,
+    FieldPlace, cast_value, checked_operand, field_set, field_value, made_value, receiver_value,
+    static_set, tested_value, thrown,
 };
 pub use placing::{
     Placed, PlacedAll, brought, in_place, kept, local_destination, number_behind,

@@ -1,4 +1,4 @@
-// What is written for objects behind their operands.
+// What is written for objects, tests and casts behind their operands.
 ghost use Rattle.std.specs.Prelude.{◌≡◌, true, false, Some, IfOk};
 ghost use Rattle.sj_core.specs.Terms as terms;
 ghost use Rattle.sj_core.specs.Views.{expression_view, expressions_of};
@@ -10,7 +10,7 @@ ghost use Rattle.sj_names.specs.declared.method_names.Namespace.TheVariants.{Con
 ghost use Rattle.sj_trees.specs.TypeOf.{type_of_term};
 ghost use Rattle.sj_trees.specs.Types.{class_type};
 ghost use Rattle.sj_trees.specs.View.{view};
-ghost use Rattle.sj_trees.specs.declared.types.IrType.TheVariants.{Any};
+ghost use Rattle.sj_trees.specs.declared.types.IrType.TheVariants.{Any, Boolean};
 ghost use Rattle.sj_desugaring.specs.Views.{destination_view, code_view, placed_view, all_view};
 
 use crate::destinations::Destination;
@@ -18,7 +18,7 @@ use crate::forms::{Callee, finish};
 use crate::placing::{Placed, PlacedAll};
 use crate::writing::{Written, joined, one};
 use plain_desugaring::{
-    checked, coerced, coerced_receiver, field_of, made, position_of, receiver_call,
+    cast, checked, coerced, coerced_receiver, field_of, made, position_of, receiver_call, tested,
 };
 use sj_core::{CoreExpression, CoreStatement};
 use sj_names::{ClassName, FieldName, MethodName, NoMemory};
@@ -139,6 +139,76 @@ pub fn field_value(
     let front = Written {
         statements: object.statements,
         next: object.next,
+    };
+    joined(front, back)
+}
+
+// What this tree comes to as an operand, where any value is expected.
+fn any_value(
+    alloc: Global,
+    tree: &Tree,
+    value: CoreExpression,
+) -> Result<Box<CoreExpression>, NoMemory>
+    ensures { IfOk result (λ e. expression_view e.value ≡ coercions.coerced Any (type_of_term (view tree.now)) (expression_view value)) }
+{
+    Ok(Box::new(
+        alloc,
+        coerced_value(alloc, &IrType::Any, tree, value)?,
+    )?)
+}
+
+/// Whether what this tree comes to as an operand is an instance of the type. That goes to a destination.
+pub fn tested_value(
+    alloc: Global,
+    destination: &Destination,
+    position: Position,
+    tpe: &IrType,
+    tree: &Tree,
+    operand: Placed,
+) -> Result<Written, NoMemory>
+    ensures { IfOk result (λ w. code_view w ≡ behind (placed_view operand) (λ e. desugar.finish (destination_view destination.now) position Boolean false (terms.test_of tpe.now (coercions.coerced Any (type_of_term (view tree.now)) e)))) }
+{
+    let value = tested(tpe, any_value(alloc, tree, operand.expression)?)?;
+    let back = finish(
+        alloc,
+        destination,
+        position,
+        &IrType::Boolean,
+        false,
+        value,
+        operand.next,
+    )?;
+    let front = Written {
+        statements: operand.statements,
+        next: operand.next,
+    };
+    joined(front, back)
+}
+
+/// What this tree comes to as an operand, cast to the type. It goes to a destination.
+pub fn cast_value(
+    alloc: Global,
+    destination: &Destination,
+    position: Position,
+    tpe: &IrType,
+    tree: &Tree,
+    operand: Placed,
+) -> Result<Written, NoMemory>
+    ensures { IfOk result (λ w. code_view w ≡ behind (placed_view operand) (λ e. desugar.finish (destination_view destination.now) position tpe.now false (terms.cast_of tpe.now (coercions.coerced Any (type_of_term (view tree.now)) e)))) }
+{
+    let value = cast(tpe, any_value(alloc, tree, operand.expression)?)?;
+    let back = finish(
+        alloc,
+        destination,
+        position,
+        tpe,
+        false,
+        value,
+        operand.next,
+    )?;
+    let front = Written {
+        statements: operand.statements,
+        next: operand.next,
     };
     joined(front, back)
 }

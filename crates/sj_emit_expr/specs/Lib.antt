@@ -3,5 +3,6 @@ pub mod Names
 pub mod ObjectRows
 pub mod Pieces
 pub mod Rows
+pub mod Tests
 pub mod Templates
 pub mod Uses

@@ -9,6 +9,7 @@ use Rattle.js_tree.specs.declared.operators.UnaryOperator.TheVariants.{Not}
 use Rattle.sj_core.specs.Terms as core
 use Rattle.sj_core.specs.Terms.{Variable, undefined_value, null_value, boolean_value, number_value, long_value, text_value, variable_use, boxed_char, char_text, value_text, choice_of, static_call, field_of, static_of, checked_value, made_of, receiver_call, constant_of, define_of, assign_to, assign_field, assign_static, evaluate_of, log_of, leave_label, if_of, loop_of, switch_of, Method}
 use Rattle.sj_emit_expr.specs.Names.{variable_name, label_name}
+use Rattle.sj_emit_expr.specs.Tests.{test_template, cast_template, same_template}
 use Rattle.sj_mangling.specs.Bindings.{function_name, class_binding, field_binding}
 use Rattle.sj_mangling.specs.declared.bindings.ClassBinding.TheVariants.{Class}
 use Rattle.sj_mangling.specs.declared.bindings.FieldBinding.TheVariants.{Property, Variable as StaticField, Setter}
@@ -16,6 +17,7 @@ use Rattle.sj_names.specs.declared.method_names.Member.{Member}
 use Rattle.sj_names.specs.declared.method_names.Namespace.{Namespace}
 use Rattle.sj_names.specs.declared.method_names.Namespace.TheVariants.{Public}
 use Rattle.sj_trees.specs.declared.operators.BinaryOp.{BinaryOp}
+use Rattle.sj_trees.specs.declared.operators.BinaryOp.TheVariants as binary
 use Rattle.sj_trees.specs.declared.operators.BinaryOp.TheVariants.{StringConcatenate, BooleanEqual, BooleanNotEqual, BooleanOr, BooleanAnd, IntAdd, IntSubtract, IntMultiply, IntDivide, IntRemainder, IntOr, IntAnd, IntXor, IntShiftLeft, IntShiftRightLogical, IntShiftRightArithmetic, IntEqual, IntNotEqual, IntLess, IntLessOrEqual, IntGreater, IntGreaterOrEqual, LongAdd, LongSubtract, LongMultiply, LongDivide, LongRemainder, LongOr, LongAnd, LongXor, LongShiftLeft, LongShiftRightLogical, LongShiftRightArithmetic, LongEqual, LongNotEqual, LongLess, LongLessOrEqual, LongGreater, LongGreaterOrEqual}
 use Rattle.sj_trees.specs.declared.operators.UnaryOp.{UnaryOp}
 use Rattle.sj_trees.specs.declared.operators.UnaryOp.TheVariants.{BooleanNot, CharToInt, ByteToInt, ShortToInt, IntToLong, IntToChar, IntToByte, IntToShort, LongToInt}
@@ -69,7 +71,7 @@ is_nonzero_literal (long_value z) = true
 is_nonzero_literal (text_value us) = true
 is_nonzero_literal _ = false
 
--- by whether the right operand is a literal other than zero; an operator that isn't built yet stands as undefined
+-- by whether the right operand is a literal other than zero
 abbrev pub binary_template : Bool → BinaryOp → js.Expression → js.Expression → js.Expression
 binary_template nonzero StringConcatenate e g = binary_of e Add g
 binary_template nonzero BooleanEqual e g = binary_of e StrictEqual g
@@ -114,7 +116,8 @@ binary_template nonzero LongLess e g = binary_of e Less g
 binary_template nonzero LongLessOrEqual e g = binary_of e LessOrEqual g
 binary_template nonzero LongGreater e g = binary_of e Greater g
 binary_template nonzero LongGreaterOrEqual e g = binary_of e GreaterOrEqual g
-binary_template nonzero _ e g = undefined_literal
+binary_template nonzero binary.StrictEqual e g = same_template e g
+binary_template nonzero binary.StrictNotEqual e g = negated (same_template e g)
 
 abbrev pub member_name : Member → Name
 member_name m = function_name m.namespace m.class m.method
@@ -167,6 +170,8 @@ module _ (name : Variable → Name) (label : List ℕ → Name) (target : Member
     expression_template (checked_value e) = call_of check_name (js.expression (expression_template e) js.no_expressions)
     expression_template (made_of m es) = call_of (member_name m) (js.expression (new_of (class_name m.class) js.no_expressions) (expression_templates es))
     expression_template (receiver_call m e es) = call_of (member_name (called_member target m.namespace m)) (js.expression (expression_template e) (expression_templates es))
+    expression_template (core.test_of t e) = test_template t (expression_template e)
+    expression_template (core.cast_of t e) = cast_template t (expression_template e)
     expression_template (core.unary_of o e) = unary_template o (expression_template e)
     expression_template (core.binary_of o e g) = binary_template (is_nonzero_literal g) o (expression_template e) (expression_template g)
 

@@ -3,11 +3,14 @@ use Rattle.std.specs.Prelude.{ℕ, Bool, false, ◌&&◌, List, [], ◌∷◌, �
 use Rattle.std.specs.Cmp.Lexicographic.{pointwise}
 use Rattle.std.specs.List.{list_any}
 use Rattle.js_tree.specs.declared.items.Binding.{Binding}
-use Rattle.sj_core.specs.Terms.{Expression, boxed_char, char_text, value_text, choice_of, static_call, field_of, static_of, checked_value, made_of, receiver_call, unary_of, binary_of, Expressions, no_expressions, expression, Statement, constant_of, define_of, declare_of, assign_to, evaluate_of, return_of, log_of, assign_field, assign_static, throw_of, leave_label, break_nearest, if_of, while_of, loop_of, labeled_of, switch_of, Statements, no_statements, statement, Cases, no_cases, switch_case}
+use Rattle.sj_core.specs.Terms.{Expression, boxed_char, char_text, value_text, choice_of, static_call, field_of, static_of, checked_value, made_of, receiver_call, test_of, cast_of, unary_of, binary_of, Expressions, no_expressions, expression, Statement, constant_of, define_of, declare_of, assign_to, evaluate_of, return_of, log_of, assign_field, assign_static, throw_of, leave_label, break_nearest, if_of, while_of, loop_of, labeled_of, switch_of, Statements, no_statements, statement, Cases, no_cases, switch_case}
+use Rattle.sj_emit_expr.specs.Tests.{test_name, cast_name, same_name}
 use Rattle.sj_emit_expr.specs.Templates.{called_member, member_name, class_name, static_name, setter_name, check_name, is_nonzero_literal}
 use Rattle.sj_names.specs.declared.method_names.Member.{Member}
 use Rattle.sj_trees.specs.declared.operators.BinaryOp.{BinaryOp}
-use Rattle.sj_trees.specs.declared.operators.BinaryOp.TheVariants.{IntDivide, IntRemainder, LongDivide, LongRemainder}
+use Rattle.sj_trees.specs.declared.operators.BinaryOp.TheVariants.{StrictEqual, StrictNotEqual, IntDivide, IntRemainder, LongDivide, LongRemainder}
+use Rattle.sj_trees.specs.declared.types.IrType.{IrType}
+use Rattle.sj_trees.specs.declared.types.IrType.TheVariants.{Any, Class, Array}
 
 abbrev pub object_binding : List ℕ → Binding
 object_binding x = record { owner = codes "java.lang.Object"; name = x }
@@ -30,7 +33,21 @@ helper_of false IntDivide = object_binding (codes "$id") ∷ []
 helper_of false IntRemainder = object_binding (codes "$im") ∷ []
 helper_of false LongDivide = object_binding (codes "$ld") ∷ []
 helper_of false LongRemainder = object_binding (codes "$lm") ∷ []
+helper_of _ StrictEqual = object_binding same_name ∷ []
+helper_of _ StrictNotEqual = object_binding same_name ∷ []
 helper_of _ _ = []
+
+-- the function that a test calls, and the one that a cast calls
+abbrev pub test_uses : IrType → List Binding
+test_uses (Class c) = record { owner = c; name = test_name (Class c) } ∷ []
+test_uses (Array r) = []
+test_uses t = object_binding (test_name t) ∷ []
+
+abbrev pub cast_uses : IrType → List Binding
+cast_uses Any = []
+cast_uses (Class c) = record { owner = c; name = cast_name (Class c) } ∷ []
+cast_uses (Array r) = []
+cast_uses t = object_binding (cast_name t) ∷ []
 
 -- by the targets of public members
 module _ (target : Member → Member) where
@@ -47,6 +64,8 @@ module _ (target : Member → Member) where
     uses_in (checked_value e) = object_binding check_name ∷ uses_in e
     uses_in (made_of m es) = function_binding m ∷ class_use m.class ∷ uses_in_all es
     uses_in (receiver_call m e es) = function_binding (called_member target m.namespace m) ∷ uses_in e ++ uses_in_all es
+    uses_in (test_of t e) = test_uses t ++ uses_in e
+    uses_in (cast_of t e) = cast_uses t ++ uses_in e
     uses_in (unary_of o e) = uses_in e
     uses_in (binary_of o e g) = helper_of (is_nonzero_literal g) o ++ uses_in e ++ uses_in g
     uses_in _ = []

@@ -12,6 +12,7 @@ use crate::operators::{
     as_text, binary_template, boxed_char, host_call, is_nonzero_literal, unary_template,
 };
 use crate::targets::CallTargets;
+use crate::tests::{cast_template, test_template};
 use js_tree::{HostFunction, JsExpr};
 use sj_core::CoreExpression;
 use sj_mangling::{ClassBinding, FieldBinding, class_binding, field_binding, function_name};
@@ -88,6 +89,14 @@ pub fn emit_expression(
             let receiver = emit_expression(alloc, targets, receiver)?;
             let arguments = emit_expressions(alloc, targets, arguments)?;
             call_on(alloc, function, receiver, arguments)
+        }
+        CoreExpression::Test(tpe, operand) => {
+            let operand = emit_expression(alloc, targets, operand)?;
+            test_template(alloc, tpe, operand)
+        }
+        CoreExpression::Cast(tpe, operand) => {
+            let operand = emit_expression(alloc, targets, operand)?;
+            cast_template(alloc, tpe, operand)
         }
         CoreExpression::Unary(op, operand) => {
             let operand = emit_expression(alloc, targets, operand)?;

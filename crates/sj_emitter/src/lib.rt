@@ -12,6 +12,7 @@ mod operators;
 mod receivers;
 mod statements;
 mod targets;
+mod tests;
 mod uses;
 
 pub use members::emit_member;

@@ -303,7 +303,7 @@ pub fn is_nonzero_literal(expression: &CoreExpression) -> bool
     }
 }
 
-/// An operator on two operands, by whether the right one is a literal other than zero. One that isn't built stands as undefined.
+/// An operator on two operands, by whether the right one is a literal other than zero.
 pub fn binary_template(
     alloc: Global,
     nonzero: bool,
@@ -376,6 +376,7 @@ pub fn binary_template(
         BinaryOp::LongShiftRightArithmetic => {
             shifted(alloc, left, BinaryOperator::ShiftRight, right)
         }
-        BinaryOp::StrictEqual | BinaryOp::StrictNotEqual => Ok(JsExpr::Undefined),
+        BinaryOp::StrictEqual => helper_call(alloc, "$eq", left, right),
+        BinaryOp::StrictNotEqual => negated(alloc, helper_call(alloc, "$eq", left, right)?),
     }
 }

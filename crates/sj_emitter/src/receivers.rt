@@ -30,6 +30,8 @@ fn add_calls_in(expression: &CoreExpression, members: &mut Vec<Member>) -> Resul
         | CoreExpression::ValueText(operand)
         | CoreExpression::Field(operand, _, _)
         | CoreExpression::Checked(operand)
+        | CoreExpression::Test(_, operand)
+        | CoreExpression::Cast(_, operand)
         | CoreExpression::Unary(_, operand) => add_calls_in(operand, members),
         CoreExpression::Choice(test, yes, no) => {
             add_calls_in(test, members)?;

@@ -8,11 +8,12 @@ ghost use Rattle.sj_emitter.specs.Targets.{target_of};
 
 use crate::operators::is_nonzero_literal;
 use crate::targets::CallTargets;
+use crate::tests::{cast_name, test_name};
 use js_tree::Binding;
 use sj_core::{CoreCase, CoreExpression, CoreStatement};
 use sj_mangling::{ClassBinding, FieldBinding, class_binding, field_binding, function_name};
 use sj_names::{ClassName, FieldName, Items, Member, NoMemory, Text};
-use sj_trees::BinaryOp;
+use sj_trees::{BinaryOp, IrType};
 use std::alloc::Global;
 
 const OBJECT: &str = "java.lang.Object";
@@ -45,6 +46,17 @@ fn object_binding(alloc: Global, name: &str) -> Result<Binding, NoMemory>
 {
     let owner = Text::from_str(alloc, OBJECT)?;
     let name = Text::from_str(alloc, name)?;
+    Ok(Binding {
+        owner: ClassName::of_text(owner),
+        name,
+    })
+}
+
+// A binding of `java.lang.Object` with this name.
+fn helper_binding(alloc: Global, name: Text) -> Result<Binding, NoMemory>
+    ensures { IfOk result (λ b. b ≡ uses.object_binding name) }
+{
+    let owner = Text::from_str(alloc, OBJECT)?;
     Ok(Binding {
         owner: ClassName::of_text(owner),
         name,
@@ -93,11 +105,44 @@ fn add_helper(
     ensures { OnOk result (bindings.new.items ≡ with_uses bindings.old.items (uses.helper_of nonzero op)) }
 {
     match op {
+        BinaryOp::StrictEqual | BinaryOp::StrictNotEqual => {
+            add(bindings, object_binding(alloc, "$eq")?)
+        }
         BinaryOp::IntDivide if !nonzero => add(bindings, object_binding(alloc, "$id")?),
         BinaryOp::IntRemainder if !nonzero => add(bindings, object_binding(alloc, "$im")?),
         BinaryOp::LongDivide if !nonzero => add(bindings, object_binding(alloc, "$ld")?),
         BinaryOp::LongRemainder if !nonzero => add(bindings, object_binding(alloc, "$lm")?),
         _ => Ok(()),
+    }
+}
+
+// Adds the function that a test calls.
+fn add_test(alloc: Global, tpe: &IrType, bindings: &mut Vec<Binding>) -> Result<(), NoMemory>
+    ensures { OnOk result (bindings.new.items ≡ with_uses bindings.old.items (uses.test_uses tpe.now)) }
+{
+    match tpe {
+        IrType::Array(_) => Ok(()),
+        IrType::Class(class) => {
+            let name = test_name(alloc, tpe)?;
+            let owner = class.copied()?;
+            add(bindings, Binding { owner, name })
+        }
+        _ => add(bindings, helper_binding(alloc, test_name(alloc, tpe)?)?),
+    }
+}
+
+// Adds the function that a cast calls.
+fn add_cast(alloc: Global, tpe: &IrType, bindings: &mut Vec<Binding>) -> Result<(), NoMemory>
+    ensures { OnOk result (bindings.new.items ≡ with_uses bindings.old.items (uses.cast_uses tpe.now)) }
+{
+    match tpe {
+        IrType::Any | IrType::Array(_) => Ok(()),
+        IrType::Class(class) => {
+            let name = cast_name(alloc, tpe)?;
+            let owner = class.copied()?;
+            add(bindings, Binding { owner, name })
+        }
+        _ => add(bindings, helper_binding(alloc, cast_name(alloc, tpe)?)?),
     }
 }
 
@@ -142,6 +187,14 @@ fn add_uses_in(
             add(bindings, function)?;
             add_uses_in(alloc, targets, receiver, bindings)?;
             add_all_uses_in(alloc, targets, arguments, bindings)
+        }
+        CoreExpression::Test(tpe, operand) => {
+            add_test(alloc, tpe, bindings)?;
+            add_uses_in(alloc, targets, operand, bindings)
+        }
+        CoreExpression::Cast(tpe, operand) => {
+            add_cast(alloc, tpe, bindings)?;
+            add_uses_in(alloc, targets, operand, bindings)
         }
         CoreExpression::CharText(operand)
         | CoreExpression::Field(operand, _, _)

@@ -8,7 +8,7 @@ use Rattle.sj_local.specs.declared.walks.Declaration.TheVariants as declaration
 use Rattle.sj_local.specs.Nodes.{Context, Node, node, inside, in_a_block, with_label, behind, below, statements_below, all_below, cases_below}
 use Rattle.sj_local.specs.TreeRules.{declarations}
 use Rattle.sj_names.specs.declared.method_names.Namespace.{Namespace}
-use Rattle.sj_trees.specs.Term.{Term, Terms, no_terms, more_terms, Cases, no_cases, more_cases, var_def, skip, block_of, labeled, assign, return_to, if_then, while_loop, do_while, throw, match_on, new_object, select, apply_statically, apply_static, unary_op, binary_op, log_line}
+use Rattle.sj_trees.specs.Term.{Term, Terms, no_terms, more_terms, Cases, no_cases, more_cases, var_def, skip, block_of, labeled, assign, return_to, if_then, while_loop, do_while, throw, match_on, new_object, select, apply_statically, apply_static, unary_op, binary_op, is_instance_of, as_instance_of, log_line}
 use Rattle.body_rules.specs.Locals.{Own, OwnAll, OwnCases}
 use Rattle.body_rules.proofs.Equal.{is-equal}
 use Rattle.sj_names.proofs.Same.{impossible}
@@ -89,6 +89,8 @@ mutual
   own-declares (apply_statically p e c n m ts t) x y (inr o) = in-right (At x e) (all_below x ts) (declaration.Local y) (own-all ts x y o)
   own-declares (apply_static p c n m ts t) x y o = own-all ts x y o
   own-declares (unary_op p q e) x y o = own-declares e x y o
+  own-declares (is_instance_of p e t) x y o = own-declares e x y o
+  own-declares (as_instance_of p e t) x y o = own-declares e x y o
   own-declares (binary_op p q e d) x y (inl o) = in-left (At x e) (At x d) (declaration.Local y) (own-declares e x y o)
   own-declares (binary_op p q e d) x y (inr o) = in-right (At x e) (At x d) (declaration.Local y) (own-declares d x y o)
   own-declares (log_line p e) x y o = own-declares e x y o
@@ -207,6 +209,8 @@ module _ (owner : List ℕ) (space : Namespace) where
         (once e x x a refl l v.0 v.1 g.0 (out-left a (At x e) (all_below x ts) o), once_all ts x a l (keep-behind owner space (At x e) (all_below x ts) h) g.1 (out-right a (At x e) (all_below x ts) o), apart (Own e) (OwnAll ts) (At x e) (all_below x ts) (own-declares e x) (own-all ts x) g.2)
     once (apply_static p c n m ts t) x y a z l k h f o = once_all ts x a l h f o
     once (unary_op p q e) x y a z l k h f o = once e x x a refl l h.0 h.1 f o
+    once (is_instance_of p e t) x y a z l k h f o = once e x x a refl l h.0 h.1 f o
+    once (as_instance_of p e t) x y a z l k h f o = once e x x a refl l h.0 h.1 f o
     once (binary_op p q e d) x y a z l k h f o = two_by e d x a (once e x x a refl l) (once d x x a refl l) h f o
     once (log_line p e) x y a z l k h f o = once e x x a refl l h.0 h.1 f o
     once _ x y a z l k h f o = tt

@@ -9,18 +9,22 @@ use Rattle.sj_core.specs.Terms as core
 use Rattle.sj_emit_expr.specs.Members.{with_receiver, member_piece}
 use Rattle.sj_emit_expr.specs.Names.{variable_name, label_name}
 use Rattle.sj_emit_expr.specs.Templates.{unary_template, binary_template, is_nonzero_literal, choice_template, expression_template, expression_templates, statement_template, statement_templates, case_templates, parameter_names, called_member}
+use Rattle.sj_emit_expr.specs.Tests.{test_template, cast_template}
 use Rattle.sj_names.specs.declared.method_names.Member.{Member}
 use Rattle.sj_names.specs.declared.method_names.Namespace.{Namespace}
 use Rattle.sj_names.specs.declared.method_names.Namespace.TheVariants.{Public, PublicStatic, Private, PrivateStatic, Constructor}
 use Rattle.sj_trees.specs.declared.operators.BinaryOp.{BinaryOp}
+use Rattle.sj_trees.specs.declared.operators.BinaryOp.TheVariants as binary
 use Rattle.sj_trees.specs.declared.operators.BinaryOp.TheVariants.{StringConcatenate, BooleanEqual, BooleanNotEqual, BooleanOr, BooleanAnd, IntAdd, IntSubtract, IntMultiply, IntDivide, IntRemainder, IntOr, IntAnd, IntXor, IntShiftLeft, IntShiftRightLogical, IntShiftRightArithmetic, IntEqual, IntNotEqual, IntLess, IntLessOrEqual, IntGreater, IntGreaterOrEqual, LongAdd, LongSubtract, LongMultiply, LongDivide, LongRemainder, LongOr, LongAnd, LongXor, LongShiftLeft, LongShiftRightLogical, LongShiftRightArithmetic, LongEqual, LongNotEqual, LongLess, LongLessOrEqual, LongGreater, LongGreaterOrEqual}
 use Rattle.sj_trees.specs.declared.operators.UnaryOp.{UnaryOp}
 use Rattle.sj_trees.specs.declared.operators.UnaryOp.TheVariants.{BooleanNot, CharToInt, ByteToInt, ShortToInt, IntToLong, IntToChar, IntToByte, IntToShort, LongToInt}
+use Rattle.sj_trees.specs.declared.types.IrType.{IrType}
+use Rattle.sj_trees.specs.declared.types.IrType.TheVariants.{Any, Array}
 use Rattle.sj_pieces.specs.Fits.{RunsFit, TargetsFit}
 use Rattle.sj_pieces.specs.Keys.{IsKeyed, AreKeyed, HaveKeys, HasKeys}
 use Rattle.sj_pieces.specs.Owners.{HasOwners, HaveOwners, IsOwned, AreOwned, CasesOwned, FieldsHaveOwners}
-use Rattle.sj_pieces.specs.Ranges.{AreBytes, FitsMember, FitsExpression, FitExpressions, FitsStatement, FitStatements, FitCases, FitsMethod}
-use Rattle.sj_pieces.proofs.Names.{variable-named, label-named, member-named, class-named, property-named, static-named, setter-named}
+use Rattle.sj_pieces.specs.Ranges.{AreBytes, FitsType, FitsMember, FitsExpression, FitExpressions, FitsStatement, FitStatements, FitCases, FitsMethod}
+use Rattle.sj_pieces.proofs.Names.{variable-named, label-named, member-named, class-named, test-named, cast-named, property-named, static-named, setter-named}
 use Rattle.sj_pieces.proofs.Runs.{two, three, run-fits}
 use Rattle.sj_pieces.proofs.Uses.{uses-named}
 
@@ -79,7 +83,17 @@ binary-kept nonzero LongLess e g h k = (h, k)
 binary-kept nonzero LongLessOrEqual e g h k = (h, k)
 binary-kept nonzero LongGreater e g h k = (h, k)
 binary-kept nonzero LongGreaterOrEqual e g h k = (h, k)
-binary-kept nonzero _ e g h k = tt
+binary-kept nonzero binary.StrictEqual e g h k = (refl, (h, (k, tt)))
+binary-kept nonzero binary.StrictNotEqual e g h k = (refl, (h, (k, tt)))
+
+test-kept : (t : IrType) (e : js.Expression) → FitsType t → IsExpression e → IsExpression (test_template t e)
+test-kept (Array r) e h k = tt
+test-kept t e h k = (test-named t h, (k, tt))
+
+cast-kept : (t : IrType) (e : js.Expression) → FitsType t → IsExpression e → IsExpression (cast_template t e)
+cast-kept Any e h k = k
+cast-kept (Array r) e h k = tt
+cast-kept t e h k = (cast-named t h, (k, tt))
 
 choice-kept : (c : js.Expression) (ss ts : js.Statements) → IsExpression c → AreStatements ss → AreStatements ts → IsStatement (choice_template c ss ts)
 choice-kept c ss js.no_statements h k l = (h, k)
@@ -102,6 +116,8 @@ module _ (target : Member → Member) where
     expression-kept (core.checked_value e) h o r = (refl, (expression-kept e h o r, tt))
     expression-kept (core.made_of m es) h o r = (member-named m h.0, ((class-named m.class h.0.0, tt), expressions-kept es h.1 o r))
     expression-kept (core.receiver_call m e es) h o r = let q = three target (calls_in e) (calls_in_all es) (own_call m) r in (member-named (called_member target m.namespace m) (run-fits target m.namespace m q.2 h.0), (expression-kept e h.1 o.0 q.0, expressions-kept es h.2 o.1 q.1))
+    expression-kept (core.test_of t e) h o r = test-kept t (expression_template variable_name label_name target e) h.0 (expression-kept e h.1 o r)
+    expression-kept (core.cast_of t e) h o r = cast-kept t (expression_template variable_name label_name target e) h.0 (expression-kept e h.1 o r)
     expression-kept (core.unary_of u e) h o r = unary-kept u (expression_template variable_name label_name target e) (expression-kept e h o r)
     expression-kept (core.binary_of b e g) h o r = let q = two target (calls_in e) (calls_in g) r in binary-kept (is_nonzero_literal g) b (expression_template variable_name label_name target e) (expression_template variable_name label_name target g) (expression-kept e h.0 o.0 q.0) (expression-kept g h.1 o.1 q.1)
     expression-kept _ h o r = tt

@@ -8,7 +8,7 @@ use Rattle.sj_desugar.specs.Desugar.{operand, into, block, operands, cases, fini
 use Rattle.sj_desugar.specs.Plain.{is_plain}
 use Rattle.sj_desugar.specs.Spill.{Destination, discard, to_variable, to_result, Code, one, put_first, Operand, all_plain, Spilled, spill, spill_case, then_use}
 use Rattle.sj_desugar.specs.Texts.{operand_of}
-use Rattle.sj_trees.specs.Term.{Term, Terms, no_terms, more_terms, Cases, no_cases, more_cases, var_def, block_of, labeled, assign, return_to, if_then, while_loop, do_while, match_on, throw, new_object, select, select_static, apply_statically, apply_static, unary_op, binary_op, undefined_literal, null_literal, boolean_literal, char_literal, byte_literal, short_literal, int_literal, long_literal, string_literal, var_ref, this_ref, log_line}
+use Rattle.sj_trees.specs.Term.{Term, Terms, no_terms, more_terms, Cases, no_cases, more_cases, var_def, block_of, labeled, assign, return_to, if_then, while_loop, do_while, match_on, throw, new_object, select, select_static, apply_statically, apply_static, unary_op, binary_op, is_instance_of, as_instance_of, undefined_literal, null_literal, boolean_literal, char_literal, byte_literal, short_literal, int_literal, long_literal, string_literal, var_ref, this_ref, log_line}
 use Rattle.sj_trees.specs.TypeOf.{type_of_term, unary_result, binary_result}
 use Rattle.sj_trees.specs.declared.classes.MethodDef.{MethodDef}
 use Rattle.sj_trees.specs.Types.{class_type}
@@ -113,6 +113,8 @@ module _ (is_mutable sure : List ℕ → Bool) where
     keyed (select p e c f t) = λ ts k j. use-keyed (owner_of ts e ∷ []) (owner_keyed e (keyed e) ts, tt) j (λ es. finish k p t false (core.field_of (first_of es) c f)) (λ es i. finish-keyed k p t false (core.field_of (first_of es) c f) i)
     keyed (select_static p c f t) = λ ts k j. finish-keyed k p t false (core.static_of c f) j
     keyed (unary_op p o e) = λ ts k j. act_keyed e (keyed e) ts j (λ es. finish k p (unary_result o) false (core.unary_of o (first_of es))) (λ es i. finish-keyed k p (unary_result o) false (core.unary_of o (first_of es)) i)
+    keyed (is_instance_of p e t) = λ ts k j. act_keyed e (keyed e) ts j (λ es. finish k p Boolean false (core.test_of t (coerced Any (type_of_term e) (first_of es)))) (λ es i. finish-keyed k p Boolean false (core.test_of t (coerced Any (type_of_term e) (first_of es))) i)
+    keyed (as_instance_of p e t) = λ ts k j. act_keyed e (keyed e) ts j (λ es. finish k p t false (core.cast_of t (coerced Any (type_of_term e) (first_of es)))) (λ es i. finish-keyed k p t false (core.cast_of t (coerced Any (type_of_term e) (first_of es))) i)
     keyed (binary_op p o e b) = λ ts k j. use-keyed (operand is_mutable sure e (λ k j. into is_mutable sure ts k j e) ∷ one_of ts b) ((λ x t i. keyed e ts (to_variable x t) i), ((λ x t i. keyed b ts (to_variable x t) i), tt)) j (λ es. finish k p (binary_result o) false (core.binary_of o (operand_of o (type_of_term e) (first_of es)) (operand_of o (type_of_term b) (second_of es)))) (λ es i. finish-keyed k p (binary_result o) false (core.binary_of o (operand_of o (type_of_term e) (first_of es)) (operand_of o (type_of_term b) (second_of es))) i)
     keyed (undefined_literal p) = λ ts k j. finish-keyed k p Undefined true core.undefined_value j
     keyed (null_literal p) = λ ts k j. finish-keyed k p Null true core.null_value j

@@ -13,6 +13,7 @@ use Rattle.js_tree.specs.Rules.{IsName, IsProperty}
 use Rattle.sj_core.specs.Terms.{Variable, named, numbered, receiver}
 use Rattle.sj_emit_expr.specs.Names.{variable_name, label_name}
 use Rattle.sj_emit_expr.specs.Templates.{member_name, class_name, property_name, static_name, setter_name}
+use Rattle.sj_emit_expr.specs.Tests.{test_name, cast_name}
 use Rattle.sj_mangling.specs.Bindings.{function_name}
 use Rattle.sj_mangling.specs.Mangling.{is_alphanumeric, mangled_byte, mangled}
 use Rattle.sj_mangling.specs.Numerals.{number_text}
@@ -27,7 +28,9 @@ use Rattle.sj_names.specs.declared.method_names.Member.{Member}
 use Rattle.sj_names.specs.declared.method_names.MethodName.{MethodName}
 use Rattle.sj_names.specs.declared.method_names.Namespace.{Namespace}
 use Rattle.sj_names.specs.declared.method_names.Namespace.TheVariants.{Public, PublicStatic, Private, PrivateStatic, Constructor}
-use Rattle.sj_pieces.specs.Ranges.{AreBytes, FitsBase, FitsReference, FitsMethodName, FitsMember, FitsVariable}
+use Rattle.sj_trees.specs.declared.types.IrType.{IrType}
+use Rattle.sj_trees.specs.declared.types.IrType.TheVariants.{Undefined, Boolean, Char, Byte, Short, Int, Long, Class}
+use Rattle.sj_pieces.specs.Ranges.{AreBytes, FitsBase, FitsReference, FitsType, FitsMethodName, FitsMember, FitsVariable}
 
 -- spellings are texts of bytes
 abbrev IsByte : ℕ → Type 0
@@ -130,6 +133,28 @@ function-named Constructor class method bytes others = rw (function-rest class m
 
 pub class-named : (c : List ℕ) → AreBytes c → IsName (class_name c)
 class-named c bytes = rw (mangled-characters c bytes) refl
+
+pub test-named : (t : IrType) → FitsType t → IsName (test_name t)
+test-named Undefined h = refl
+test-named Boolean h = refl
+test-named Char h = refl
+test-named Byte h = refl
+test-named Short h = refl
+test-named Int h = refl
+test-named Long h = refl
+test-named (Class c) h = rw (mangled-characters c h) refl
+test-named _ h = refl
+
+pub cast-named : (t : IrType) → FitsType t → IsName (cast_name t)
+cast-named Undefined h = refl
+cast-named Boolean h = refl
+cast-named Char h = refl
+cast-named Byte h = refl
+cast-named Short h = refl
+cast-named Int h = refl
+cast-named Long h = refl
+cast-named (Class c) h = rw (mangled-characters c h) refl
+cast-named _ h = refl
 
 field-rest : (c f : List ℕ) → AreBytes c → AreBytes f → AreCharacters ((mangled c ++ codes "__") ++ mangled f)
 field-rest c f bytes others = both (mangled c ++ codes "__") (mangled f) (both (mangled c) (codes "__") (mangled-characters c bytes) refl) (mangled-characters f others)

@@ -1,5 +1,5 @@
 -- What desugaring gives has fields of what may stand before `.` alone, where no field in the tree is one of a primitive value.
-use Rattle.std.proofs.Common.{◌≡◌, ℕ, pos, suc, Bool, true, false, ◌&&◌, List, [], ◌∷◌, Some, None, refl, sym, if◌then◌else◌}
+use Rattle.std.proofs.Common.{◌≡◌, ℕ, pos, suc, Bool, true, false, ◌&&◌, List, [], ◌∷◌, Some, None, refl, sym, ◌∙◌, if◌then◌else◌}
 use Rattle.std.specs.Prelude.{IsTrue}
 use Rattle.js_tree.specs.Rules.{is_receiver}
 use Rattle.js_tree.specs.Terms as js
@@ -17,12 +17,12 @@ use Rattle.sj_names.proofs.Same.{impossible}
 use Rattle.sj_names.specs.declared.method_names.Namespace.{Namespace}
 use Rattle.sj_names.specs.declared.method_names.Namespace.TheVariants.{Public, PublicStatic, Private, PrivateStatic, Constructor}
 use Rattle.sj_names.specs.declared.references.TypeRef.{TypeRef}
-use Rattle.sj_trees.specs.Term.{Term, Terms, no_terms, more_terms, Cases, no_cases, more_cases, var_def, block_of, labeled, assign, return_to, if_then, while_loop, do_while, match_on, throw, new_object, select, select_static, apply_statically, apply_static, unary_op, binary_op, undefined_literal, null_literal, boolean_literal, char_literal, byte_literal, short_literal, int_literal, long_literal, string_literal, var_ref, this_ref, log_line}
+use Rattle.sj_trees.specs.Term.{Term, Terms, no_terms, more_terms, Cases, no_cases, more_cases, var_def, block_of, labeled, assign, return_to, if_then, while_loop, do_while, match_on, throw, new_object, select, select_static, apply_statically, apply_static, unary_op, binary_op, is_instance_of, as_instance_of, undefined_literal, null_literal, boolean_literal, char_literal, byte_literal, short_literal, int_literal, long_literal, string_literal, var_ref, this_ref, log_line}
 use Rattle.sj_trees.specs.TypeOf.{type_of_term, unary_result, binary_result}
 use Rattle.sj_trees.specs.Types.{class_type, reference_type}
 use Rattle.sj_trees.specs.declared.classes.MethodDef.{MethodDef}
 use Rattle.sj_trees.specs.declared.operators.BinaryOp.{BinaryOp}
-use Rattle.sj_trees.specs.declared.operators.BinaryOp.TheVariants.{StringConcatenate, IntDivide, IntRemainder, LongDivide, LongRemainder}
+use Rattle.sj_trees.specs.declared.operators.BinaryOp.TheVariants.{StringConcatenate, StrictEqual, StrictNotEqual, IntDivide, IntRemainder, LongDivide, LongRemainder}
 use Rattle.sj_trees.specs.declared.operators.UnaryOp.{UnaryOp}
 use Rattle.sj_trees.specs.declared.operators.UnaryOp.TheVariants.{BooleanNot, CharToInt, ByteToInt, ShortToInt, IntToLong, IntToChar, IntToByte, IntToShort, LongToInt}
 use Rattle.sj_trees.specs.declared.positions.Position.{Position}
@@ -57,6 +57,8 @@ text-owned _ e h = h
 
 operand-owned : (o : BinaryOp) (t : IrType) (e : core.Expression) → HasOwners e → HasOwners (operand_of o t e)
 operand-owned StringConcatenate t e h = text-owned t e h
+operand-owned StrictEqual t e h = coerced-owned Any t e h
+operand-owned StrictNotEqual t e h = coerced-owned Any t e h
 operand-owned _ t e h = h
 
 each-owned : (es : List core.Expression) → EachOwned es → HaveOwners (expressions_of es)
@@ -104,30 +106,32 @@ binary-owns false LongRemainder e g = refl
 binary-owns nonzero _ e g = refl
 
 module _ (sure : List ℕ → Bool) where
-  may-own : (t : Term) → is_sure_type (type_of_term t) ≡ false → MayOwn (expression_of sure t)
-  may-own (if_then p c a b t) h = λ target. refl
-  may-own (apply_static p c n m ts t) h = λ target. refl
-  may-own (apply_statically p e c n m ts t) h = λ target. refl
-  may-own (this_ref p t) h = λ target. refl
-  may-own (new_object p c m ts) h = λ target. refl
-  may-own (select p e c f t) h = λ target. refl
-  may-own (select_static p c f t) h = λ target. refl
-  may-own (unary_op p o e) h = absurd (unary-owns o h)
-  may-own (binary_op p o e d) h = λ target. binary-owns (is_nonzero_literal (operand_of o (type_of_term d) (expression_of sure d))) o (expression_template variable_name label_name target (operand_of o (type_of_term e) (expression_of sure e))) (expression_template variable_name label_name target (operand_of o (type_of_term d) (expression_of sure d)))
-  may-own (undefined_literal p) h = λ target. refl
-  may-own (null_literal p) h = λ target. refl
-  may-own (boolean_literal p b) h = λ target. refl
-  may-own (char_literal p u) h = impossible (sym h)
-  may-own (byte_literal p z) h = impossible (sym h)
-  may-own (short_literal p z) h = impossible (sym h)
-  may-own (int_literal p z) h = impossible (sym h)
-  may-own (long_literal p z) h = impossible (sym h)
-  may-own (string_literal p us) h = λ target. refl
-  may-own (var_ref p x t) h = λ target. refl
-  may-own _ h = λ target. refl
+  may-own : (t : Term) → is_sure sure t ≡ true → is_sure_type (type_of_term t) ≡ false → MayOwn (expression_of sure t)
+  may-own (if_then p c a b t) k h = λ target. refl
+  may-own (apply_static p c n m ts t) k h = λ target. refl
+  may-own (apply_statically p e c n m ts t) k h = λ target. refl
+  may-own (this_ref p t) k h = λ target. refl
+  may-own (new_object p c m ts) k h = λ target. refl
+  may-own (select p e c f t) k h = λ target. refl
+  may-own (select_static p c f t) k h = λ target. refl
+  may-own (unary_op p o e) k h = absurd (unary-owns o h)
+  may-own (is_instance_of p e t) k h = impossible (sym h)
+  may-own (as_instance_of p e t) k h = impossible (sym h ∙ k)
+  may-own (binary_op p o e d) k h = λ target. binary-owns (is_nonzero_literal (operand_of o (type_of_term d) (expression_of sure d))) o (expression_template variable_name label_name target (operand_of o (type_of_term e) (expression_of sure e))) (expression_template variable_name label_name target (operand_of o (type_of_term d) (expression_of sure d)))
+  may-own (undefined_literal p) k h = λ target. refl
+  may-own (null_literal p) k h = λ target. refl
+  may-own (boolean_literal p b) k h = λ target. refl
+  may-own (char_literal p u) k h = impossible (sym h)
+  may-own (byte_literal p z) k h = impossible (sym h)
+  may-own (short_literal p z) k h = impossible (sym h)
+  may-own (int_literal p z) k h = impossible (sym h)
+  may-own (long_literal p z) k h = impossible (sym h)
+  may-own (string_literal p us) k h = λ target. refl
+  may-own (var_ref p x t) k h = λ target. refl
+  may-own _ k h = λ target. refl
 
-  received-owns : (known : Bool) (e : core.Expression) → MayOwn e → MayOwn (received_text known e)
-  received-owns true e h = h
+  received-owns : (known : Bool) (e : core.Expression) → (known ≡ true → MayOwn e) → MayOwn (received_text known e)
+  received-owns true e h = h refl
   received-owns false e h = λ target. refl
 
   received-owned : (known : Bool) (e : core.Expression) → HasOwners e → HasOwners (received_text known e)
@@ -140,8 +144,10 @@ module _ (sure : List ℕ → Bool) where
     expression-owned (apply_static p c n m ts t) h = arguments-owned m.params (types_of ts) (all_expressions sure ts) (expressions-owned ts h)
     expression-owned (apply_statically p e c n m ts t) h = (boxed-owned _ (received_text (is_sure sure e) (expression_of sure e)) (received-owned (is_sure sure e) (expression_of sure e) (expression-owned e h.0)), arguments-owned m.params (types_of ts) (all_expressions sure ts) (expressions-owned ts h.1))
     expression-owned (new_object p c m ts) h = arguments-owned m.params (types_of ts) (all_expressions sure ts) (expressions-owned ts h)
-    expression-owned (select p e c f t) h = (received-owns (is_sure sure e) (expression_of sure e) (may-own e h.0), received-owned (is_sure sure e) (expression_of sure e) (expression-owned e h.1))
+    expression-owned (select p e c f t) h = (received-owns (is_sure sure e) (expression_of sure e) (λ k. may-own e k h.0), received-owned (is_sure sure e) (expression_of sure e) (expression-owned e h.1))
     expression-owned (unary_op p o e) h = expression-owned e h
+    expression-owned (is_instance_of p e t) h = coerced-owned Any (type_of_term e) (expression_of sure e) (expression-owned e h)
+    expression-owned (as_instance_of p e t) h = coerced-owned Any (type_of_term e) (expression_of sure e) (expression-owned e h)
     expression-owned (binary_op p o e d) h = (operand-owned o (type_of_term e) (expression_of sure e) (expression-owned e h.0), operand-owned o (type_of_term d) (expression_of sure d) (expression-owned d h.1))
     expression-owned _ h = tt
 
@@ -210,8 +216,8 @@ receiver-owned : (known : Bool) (o : Operand) → OperandOwned o → OperandOwne
 receiver-owned true o h = h
 receiver-owned false o h = (h.0, λ x t j. use-owned (o ∷ []) (h, tt) j (λ es. finish (to_variable x t) o.at o.tpe false (core.checked_value (first_of es))) (λ es i f. finish-owned (to_variable x t) o.at o.tpe false (core.checked_value (first_of es)) i (first-owned es f)))
 
-receiver-owns : (known : Bool) (o : Operand) → MayOwn o.text → MayOwn (received known o).text
-receiver-owns true o h = h
+receiver-owns : (known : Bool) (o : Operand) → (known ≡ true → MayOwn o.text) → MayOwn (received known o).text
+receiver-owns true o h = h refl
 receiver-owns false o h = λ target. refl
 
 labeled-owned : (k : Destination) (p : Position) (l : List ℕ) (c : Code) → Owned c → Owned (labeled_code k p l c)
@@ -245,7 +251,7 @@ module _ (is_mutable sure : List ℕ → Bool) where
   owner_owned e h owned ts = receiver-owned (is_sure sure e) (operand_in ts e) (part_owned e h owned ts)
 
   owner_owns : (e : Term) → is_sure_type (type_of_term e) ≡ false → (ts : Targets) → MayOwn (owner_in ts e).text
-  owner_owns e h ts = receiver-owns (is_sure sure e) (operand_in ts e) (may-own sure e h)
+  owner_owns e h ts = receiver-owns (is_sure sure e) (operand_in ts e) (λ k. may-own sure e k h)
 
   -- one operand
   act_owned : (e : Term) → OnObjects e → TreeOwned e → (ts : Targets) (j : ℕ) (made : List core.Expression → ℕ → Code) → ((es : List core.Expression) (i : ℕ) → HasOwners (first_of es) → Owned (made es i)) → Owned (then_use (spill (operand_in ts e ∷ []) j) made)
@@ -272,6 +278,8 @@ module _ (is_mutable sure : List ℕ → Bool) where
     owned (select p e c f t) h = λ ts k j. use-object (owner_in ts e) [] (owner_owns e h.0 ts) (owner_owned e h.1 (owned e h.1) ts, tt) j (λ es. finish k p t false (core.field_of (first_of es) c f)) (λ es i m g. finish-owned k p t false (core.field_of (first_of es) c f) i (m, first-owned es g))
     owned (select_static p c f t) h = λ ts k j. finish-owned k p t false (core.static_of c f) j tt
     owned (unary_op p o e) h = λ ts k j. act_owned e h (owned e h) ts j (λ es. finish k p (unary_result o) false (core.unary_of o (first_of es))) (λ es i f. finish-owned k p (unary_result o) false (core.unary_of o (first_of es)) i f)
+    owned (is_instance_of p e t) h = λ ts k j. act_owned e h (owned e h) ts j (λ es. finish k p Boolean false (core.test_of t (coerced Any (type_of_term e) (first_of es)))) (λ es i f. finish-owned k p Boolean false (core.test_of t (coerced Any (type_of_term e) (first_of es))) i (coerced-owned Any (type_of_term e) (first_of es) f))
+    owned (as_instance_of p e t) h = λ ts k j. act_owned e h (owned e h) ts j (λ es. finish k p t false (core.cast_of t (coerced Any (type_of_term e) (first_of es)))) (λ es i f. finish-owned k p t false (core.cast_of t (coerced Any (type_of_term e) (first_of es))) i (coerced-owned Any (type_of_term e) (first_of es) f))
     owned (binary_op p o e b) h = λ ts k j. use-owned (operand_in ts e ∷ operand_in ts b ∷ []) (part_owned e h.0 (owned e h.0) ts, (part_owned b h.1 (owned b h.1) ts, tt)) j (λ es. finish k p (binary_result o) false (core.binary_of o (operand_of o (type_of_term e) (first_of es)) (operand_of o (type_of_term b) (second_of es)))) (λ es i f. finish-owned k p (binary_result o) false (core.binary_of o (operand_of o (type_of_term e) (first_of es)) (operand_of o (type_of_term b) (second_of es))) i (operand-owned o (type_of_term e) (first_of es) (first-owned es f), operand-owned o (type_of_term b) (second_of es) (second-owned es f)))
     owned (undefined_literal p) h = λ ts k j. finish-owned k p Undefined true core.undefined_value j tt
     owned (null_literal p) h = λ ts k j. finish-owned k p Null true core.null_value j tt

@@ -8,14 +8,17 @@ use Rattle.js_tree.specs.Rules.{IsBinding}
 use Rattle.js_tree.specs.declared.items.Binding.{Binding}
 use Rattle.sj_core.specs.Terms as core
 use Rattle.sj_emit_expr.specs.Templates.{check_name, is_nonzero_literal, called_member}
-use Rattle.sj_emit_expr.specs.Uses.{object_binding, function_binding, class_use, static_use, setter_use, helper_of, uses_in, uses_in_all, uses_of, uses_of_all, uses_of_cases, is_same_binding, once_each, uses}
+use Rattle.sj_emit_expr.specs.Tests.{test_name, cast_name, same_name}
+use Rattle.sj_emit_expr.specs.Uses.{object_binding, function_binding, class_use, static_use, setter_use, helper_of, test_uses, cast_uses, uses_in, uses_in_all, uses_of, uses_of_all, uses_of_cases, is_same_binding, once_each, uses}
 use Rattle.sj_names.specs.declared.method_names.Member.{Member}
 use Rattle.sj_trees.specs.declared.operators.BinaryOp.{BinaryOp}
-use Rattle.sj_trees.specs.declared.operators.BinaryOp.TheVariants.{IntDivide, IntRemainder, LongDivide, LongRemainder}
+use Rattle.sj_trees.specs.declared.operators.BinaryOp.TheVariants.{StrictEqual, StrictNotEqual, IntDivide, IntRemainder, LongDivide, LongRemainder}
+use Rattle.sj_trees.specs.declared.types.IrType.{IrType}
+use Rattle.sj_trees.specs.declared.types.IrType.TheVariants.{Any, Class, Array}
 use Rattle.sj_pieces.specs.Fits.{RunsFit}
-use Rattle.sj_pieces.specs.Ranges.{FitsExpression, FitExpressions, FitsStatement, FitStatements, FitCases}
+use Rattle.sj_pieces.specs.Ranges.{FitsType, FitsExpression, FitExpressions, FitsStatement, FitStatements, FitCases}
 use Rattle.sj_pieces.proofs.Runs.{two, three, run-fits}
-use Rattle.sj_pieces.proofs.Names.{member-named, class-named, static-named, setter-named}
+use Rattle.sj_pieces.proofs.Names.{member-named, class-named, test-named, cast-named, static-named, setter-named}
 
 abbrev Named : List Binding → Type 0
 Named bs = All IsBinding bs
@@ -31,7 +34,20 @@ helper-named false IntDivide = All-cons IsBinding (object_binding (codes "$id"))
 helper-named false IntRemainder = All-cons IsBinding (object_binding (codes "$im")) [] refl none
 helper-named false LongDivide = All-cons IsBinding (object_binding (codes "$ld")) [] refl none
 helper-named false LongRemainder = All-cons IsBinding (object_binding (codes "$lm")) [] refl none
+helper-named _ StrictEqual = All-cons IsBinding (object_binding same_name) [] refl none
+helper-named _ StrictNotEqual = All-cons IsBinding (object_binding same_name) [] refl none
 helper-named _ _ = none
+
+test-uses-named : (t : IrType) → FitsType t → Named (test_uses t)
+test-uses-named (Class c) h = All-cons IsBinding (record { owner = c; name = test_name (Class c) }) [] (test-named (Class c) h) none
+test-uses-named (Array r) h = none
+test-uses-named t h = All-cons IsBinding (object_binding (test_name t)) [] (test-named t h) none
+
+cast-uses-named : (t : IrType) → FitsType t → Named (cast_uses t)
+cast-uses-named Any h = none
+cast-uses-named (Class c) h = All-cons IsBinding (record { owner = c; name = cast_name (Class c) }) [] (cast-named (Class c) h) none
+cast-uses-named (Array r) h = none
+cast-uses-named t h = All-cons IsBinding (object_binding (cast_name t)) [] (cast-named t h) none
 
 module _ (target : Member → Member) where
   mutual
@@ -46,6 +62,8 @@ module _ (target : Member → Member) where
     in-named (core.checked_value e) h f = All-cons IsBinding (object_binding check_name) (uses_in target e) refl (in-named e h f)
     in-named (core.made_of m es) h f = All-cons IsBinding (function_binding m) (class_use m.class ∷ uses_in_all target es) (member-named m h.0) (All-cons IsBinding (class_use m.class) (uses_in_all target es) (class-named m.class h.0.0) (all-named es h.1 f))
     in-named (core.receiver_call m e es) h f = let p = three target (calls_in e) (calls_in_all es) (own_call m) f in All-cons IsBinding (function_binding (called_member target m.namespace m)) (uses_in target e ++ uses_in_all target es) (member-named (called_member target m.namespace m) (run-fits target m.namespace m p.2 h.0)) (after (uses_in target e) (uses_in_all target es) (in-named e h.1 p.0) (all-named es h.2 p.1))
+    in-named (core.test_of t e) h f = after (test_uses t) (uses_in target e) (test-uses-named t h.0) (in-named e h.1 f)
+    in-named (core.cast_of t e) h f = after (cast_uses t) (uses_in target e) (cast-uses-named t h.0) (in-named e h.1 f)
     in-named (core.unary_of o e) h f = in-named e h f
     in-named (core.binary_of o e g) h f = let p = two target (calls_in e) (calls_in g) f in after (helper_of (is_nonzero_literal g) o ++ uses_in target e) (uses_in target g) (after (helper_of (is_nonzero_literal g) o) (uses_in target e) (helper-named (is_nonzero_literal g) o) (in-named e h.0 p.0)) (in-named g h.1 p.1)
     in-named _ h f = none

@@ -5,7 +5,7 @@ use Rattle.sj_core.specs.Terms as core
 use Rattle.sj_emit_expr.specs.Names.{variable_name, label_name}
 use Rattle.sj_emit_expr.specs.Templates.{expression_template}
 use Rattle.sj_names.specs.declared.method_names.Member.{Member}
-use Rattle.sj_trees.specs.Term.{Term, Terms, no_terms, more_terms, Cases, no_cases, more_cases, var_def, block_of, labeled, assign, return_to, if_then, while_loop, do_while, throw, match_on, new_object, select, select_static, apply_statically, apply_static, unary_op, binary_op, var_ref, log_line}
+use Rattle.sj_trees.specs.Term.{Term, Terms, no_terms, more_terms, Cases, no_cases, more_cases, var_def, block_of, labeled, assign, return_to, if_then, while_loop, do_while, throw, match_on, new_object, select, select_static, apply_statically, apply_static, unary_op, binary_op, is_instance_of, as_instance_of, var_ref, log_line}
 use Rattle.sj_trees.specs.TypeOf.{type_of_term}
 use Rattle.sure_receivers.specs.Sure.{is_sure_type}
 
@@ -25,6 +25,8 @@ abbrev mutual
   HasOwners (core.checked_value e) = HasOwners e
   HasOwners (core.made_of m es) = HaveOwners es
   HasOwners (core.receiver_call m e es) = HasOwners e × HaveOwners es
+  HasOwners (core.test_of t e) = HasOwners e
+  HasOwners (core.cast_of t e) = HasOwners e
   HasOwners (core.unary_of o e) = HasOwners e
   HasOwners (core.binary_of o e g) = HasOwners e × HasOwners g
   HasOwners _ = Unit {0}
@@ -85,6 +87,8 @@ abbrev mutual
   OnObjects (apply_statically p e c n m ts t) = OnObjects e × AllOnObjects ts
   OnObjects (apply_static p c n m ts t) = AllOnObjects ts
   OnObjects (unary_op p o e) = OnObjects e
+  OnObjects (is_instance_of p e t) = OnObjects e
+  OnObjects (as_instance_of p e t) = OnObjects e
   OnObjects (binary_op p o e d) = OnObjects e × OnObjects d
   OnObjects (log_line p e) = OnObjects e
   OnObjects _ = Unit {0}

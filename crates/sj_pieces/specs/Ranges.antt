@@ -1,13 +1,15 @@
 -- What the types of the parts of a method say: names are texts of bytes, numbers have 32 bits, longs 64 and units 16.
 use Rattle.std.specs.Prelude.{◌<◌, ◌^◌, ℕ, List, All, IfSome}
 use Rattle.js_tree.specs.Rules.{IsNumber, IsBig, IsUnit}
-use Rattle.sj_core.specs.Terms.{Variable, named, numbered, receiver, Expression, number_value, long_value, text_value, variable_use, boxed_char, char_text, value_text, choice_of, static_call, field_of, static_of, checked_value, made_of, receiver_call, unary_of, binary_of, Expressions, no_expressions, expression, Statement, constant_of, define_of, declare_of, assign_to, evaluate_of, return_of, log_of, assign_field, assign_static, throw_of, leave_label, break_nearest, if_of, while_of, loop_of, labeled_of, switch_of, Statements, no_statements, statement, Cases, no_cases, switch_case, Method}
+use Rattle.sj_core.specs.Terms.{Variable, named, numbered, receiver, Expression, number_value, long_value, text_value, variable_use, boxed_char, char_text, value_text, choice_of, static_call, field_of, static_of, checked_value, made_of, receiver_call, test_of, cast_of, unary_of, binary_of, Expressions, no_expressions, expression, Statement, constant_of, define_of, declare_of, assign_to, evaluate_of, return_of, log_of, assign_field, assign_static, throw_of, leave_label, break_nearest, if_of, while_of, loop_of, labeled_of, switch_of, Statements, no_statements, statement, Cases, no_cases, switch_case, Method}
 use Rattle.sj_names.specs.declared.method_names.Member.{Member}
 use Rattle.sj_names.specs.declared.method_names.MethodName.{MethodName}
 use Rattle.sj_names.specs.declared.references.BaseRef.{BaseRef}
 use Rattle.sj_names.specs.declared.references.BaseRef.TheVariants as bases
 use Rattle.sj_names.specs.declared.references.TypeRef.{TypeRef}
 use Rattle.sj_names.specs.declared.references.TypeRef.TheVariants as types
+use Rattle.sj_trees.specs.declared.types.IrType.{IrType}
+use Rattle.sj_trees.specs.declared.types.IrType.TheVariants.{Class, Array}
 
 abbrev pub AreBytes : List ℕ → Type 0
 AreBytes text = All (λ byte. byte < 2 ^ 8) text
@@ -20,6 +22,11 @@ abbrev pub FitsReference : TypeRef → Type 0
 FitsReference (types.Class name) = AreBytes name
 FitsReference (types.Array array) = FitsBase array.base
 FitsReference _ = Unit {0}
+
+abbrev pub FitsType : IrType → Type 0
+FitsType (Class name) = AreBytes name
+FitsType (Array array) = FitsBase array.base
+FitsType _ = Unit {0}
 
 abbrev pub FitsMethodName : MethodName → Type 0
 FitsMethodName m = AreBytes m.simple × All FitsReference m.params × IfSome m.result FitsReference
@@ -48,6 +55,8 @@ abbrev mutual
   FitsExpression (checked_value e) = FitsExpression e
   FitsExpression (made_of m es) = FitsMember m × FitExpressions es
   FitsExpression (receiver_call m e es) = FitsMember m × FitsExpression e × FitExpressions es
+  FitsExpression (test_of t e) = FitsType t × FitsExpression e
+  FitsExpression (cast_of t e) = FitsType t × FitsExpression e
   FitsExpression (unary_of o e) = FitsExpression e
   FitsExpression (binary_of o e g) = FitsExpression e × FitsExpression g
   FitsExpression _ = Unit {0}

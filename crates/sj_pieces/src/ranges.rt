@@ -2,10 +2,11 @@
 ghost use Rattle.std.specs.Prelude.{All, IfSome};
 ghost use Rattle.js_tree.specs.Rules.{IsNumber, IsBig};
 ghost use Rattle.sj_core.specs.Views as core;
-ghost use Rattle.sj_pieces.specs.Ranges.{AreBytes, FitsBase, FitsReference, FitsMethodName, FitsMember, FitsVariable, FitsExpression, FitExpressions, FitsStatement, FitStatements, FitCases, FitsMethod};
+ghost use Rattle.sj_pieces.specs.Ranges.{AreBytes, FitsBase, FitsReference, FitsType, FitsMethodName, FitsMember, FitsVariable, FitsExpression, FitExpressions, FitsStatement, FitStatements, FitCases, FitsMethod};
 
 use sj_core::{CoreCase, CoreExpression, CoreMethod, CoreStatement, CoreVariable};
 use sj_names::{BaseRef, LocalName, Member, MethodName, TypeRef};
+use sj_trees::IrType;
 
 fn text_fits(text: &str)
     ensures { AreBytes text.now }
@@ -42,6 +43,16 @@ fn result_fits(reference: &Option<TypeRef>)
 {
     if let Some(reference) = reference {
         reference_fits(reference);
+    }
+}
+
+fn type_fits(tpe: &IrType)
+    ensures { FitsType tpe.now }
+{
+    match tpe {
+        IrType::Class(name) => text_fits(name.text()),
+        IrType::Array(array) => base_fits(&array.base),
+        _ => {}
     }
 }
 
@@ -116,6 +127,10 @@ fn expression_fits(expression: &CoreExpression)
             member_fits(member);
             expression_fits(object);
             expressions_fit(arguments);
+        }
+        CoreExpression::Test(tpe, operand) | CoreExpression::Cast(tpe, operand) => {
+            type_fits(tpe);
+            expression_fits(operand);
         }
         CoreExpression::Binary(_, left, right) => {
             expression_fits(left);

@@ -57,10 +57,10 @@ module _ (p : Place) (w : World) (s : ir.State) (u : js.State) (same : SameState
   more_owned = with_owned (js_objects.next_address u) o w
 
   pub state-owns : SameState p more_owned s (js_objects.with_stored o u)
-  state-owns = record { heaps = owns p w s.heap u.heap same.heaps o; tops = λ f t h. top-carry p w.owned more_owned.owned (owned-still p w s.heap u.heap same.heaps o) t (u.tops (p.home t) (top_name t)) (same.tops f t h); statics = λ f c n t h. holding-carry w more_owned t (λ i a e. e) (owned-still p w s.heap u.heap same.heaps o) (s.statics c n) (u.tops (p.home (a_static c n t)) (static_name c n)) (same.statics f c n t h) }
+  state-owns = record { heaps = owns p w s.heap u.heap same.heaps o; tops = λ f t h. top-carry p w.owned more_owned.owned (owned-still p w s.heap u.heap same.heaps o) t (u.tops (p.home t) (top_name t)) (same.tops f t h); statics = λ f c n t h. holding-carry w more_owned t (λ i a e. e) (owned-still p w s.heap u.heap same.heaps o) refl (s.statics c n) (u.tops (p.home (a_static c n t)) (static_name c n)) (same.statics f c n t h) }
 
   pub grows-owned : Grows w more_owned
-  grows-owned = record { places = λ i a e. e; owns = owned-still p w s.heap u.heap same.heaps o; pends = λ a b e. e }
+  grows-owned = record { places = λ i a e. e; owns = owned-still p w s.heap u.heap same.heaps o; pends = λ a b e. e; boxes = refl }
 
   pub owned-there : more_owned.owned (js_objects.next_address u) ≡ Some o
   owned-there = ap (λ b. if b then Some o else w.owned (js_objects.next_address u)) (eq-eqb (js_objects.next_address u) (js_objects.next_address u) refl)
@@ -123,6 +123,11 @@ pub stood-fits : (expected own : IrType) (h : Takes expected own) → Fits expec
 stood-fits expected own (inl f) = f
 stood-fits expected own (inr h) = fits-same expected
 
+-- any type may stand where any is expected
+pub takes-any : (own : IrType) → Takes Any own
+takes-any Char = inr (refl, refl)
+takes-any own = inl refl
+
 -- arguments are as many as the parameters, and may stand for them
 abbrev pub TakeAll : List IrType → List IrType → Type 0
 TakeAll [] [] = Unit {0}
@@ -153,6 +158,13 @@ module _ (z : Setting) (law : Based z) (from : World) (env : ir.Env) (sc : js.Sc
   pub stood_told : (expected own : IrType) (h : Takes expected own) (e : core.Expression) → tells own (text_of z e) ≡ true → tells (stood expected own h) (text_of z (coerced expected own e)) ≡ true
   stood_told expected own (inl f) e told = subst (λ x. tells own (text_of z x) ≡ true) (sym (coerced-same expected own e f)) told
   stood_told expected own (inr h) e told = subst (λ x. tells expected (text_of z x) ≡ true) (sym (boxed-is expected own e h)) refl
+
+  -- one operand as it is coerced, and two
+  pub operand_stood : (expected own : IrType) (h : Takes expected own) → MayBox z expected own → (r : ir.Run) (e : core.Expression) → OperandsAlike z from env sc (own ∷ []) (r ∷ []) (e ∷ []) → OperandsAlike z from env sc (stood expected own h ∷ []) (r ∷ []) (coerced expected own e ∷ [])
+  operand_stood expected _ h may _ _ (more_operands own r e _ _ _ told one no_operands) = more_operands (stood expected own h) r (coerced expected own e) [] [] [] (stood_told expected own h e told) (stood_alike expected own h may r e one) no_operands
+
+  pub both_stood : (expected left right : IrType) (f : Takes expected left) (g : Takes expected right) → MayBox z expected left → MayBox z expected right → (r q : ir.Run) (e d : core.Expression) → OperandsAlike z from env sc (left ∷ right ∷ []) (r ∷ q ∷ []) (e ∷ d ∷ []) → OperandsAlike z from env sc (stood expected left f ∷ stood expected right g ∷ []) (r ∷ q ∷ []) (coerced expected left e ∷ coerced expected right d ∷ [])
+  both_stood expected _ right f g may also _ q _ d (more_operands left r e _ _ _ told one others) = more_operands (stood expected left f) r (coerced expected left e) (stood expected right g ∷ []) (q ∷ []) (coerced expected right d ∷ []) (stood_told expected left f e told) (stood_alike expected left f may r e one) (operand_stood expected right g also q d others)
 
   -- arguments as they are coerced, each at a type that fits that of its parameter
   pub operands_coerced : (rs : List TypeRef) (owns : List IrType) (runs : List ir.Run) (es : List core.Expression) (h : TakeAll (types_referred rs) owns) → MayBoxAll z (types_referred rs) owns → OperandsAlike z from env sc owns runs es → OperandsAlike z from env sc (all_stood (types_referred rs) owns h) runs (coerced_arguments rs owns es)

@@ -48,19 +48,19 @@ pub numbers-apart : (a b : ℕ) → (a == b) ≡ false → a ≡ b → ⊥
 numbers-apart a b f e = grind arith
 
 -- what stands for a field, an object or its class in a world does so in one that has what that one has
-pub field-carry : (w y : World) (t : IrType) → ((i a : ℕ) → w.place i ≡ Some a → y.place i ≡ Some a) → ((a : ℕ) (o : js.Stored) → w.owned a ≡ Some o → y.owned a ≡ Some o) → (o : Option ir.Value) (q : Option js.Value) → SameField w t o q → SameField y t o q
-field-carry w y t g h _ _ (same_field v x a) = same_field v x (value-carry w y t v x g h a)
-field-carry w y t g h _ _ (no_field x) = no_field x
+pub field-carry : (w y : World) (t : IrType) → ((i a : ℕ) → w.place i ≡ Some a → y.place i ≡ Some a) → ((a : ℕ) (o : js.Stored) → w.owned a ≡ Some o → y.owned a ≡ Some o) → w.boxes ≡ y.boxes → (o : Option ir.Value) (q : Option js.Value) → SameField w t o q → SameField y t o q
+field-carry w y t g h k _ _ (same_field v x a) = same_field v x (value-carry w y t v x g h k a)
+field-carry w y t g h k _ _ (no_field x) = no_field x
 
 -- what a variable holds
-pub holding-carry : (w y : World) (t : IrType) → ((i a : ℕ) → w.place i ≡ Some a → y.place i ≡ Some a) → ((a : ℕ) (o : js.Stored) → w.owned a ≡ Some o → y.owned a ≡ Some o) → (o : Option ir.Value) (cell : js.Cell) → Holding w t o cell → Holding y t o cell
-holding-carry w y t g h _ _ (holding v x a) = holding v x (value-carry w y t v x g h a)
+pub holding-carry : (w y : World) (t : IrType) → ((i a : ℕ) → w.place i ≡ Some a → y.place i ≡ Some a) → ((a : ℕ) (o : js.Stored) → w.owned a ≡ Some o → y.owned a ≡ Some o) → w.boxes ≡ y.boxes → (o : Option ir.Value) (cell : js.Cell) → Holding w t o cell → Holding y t o cell
+holding-carry w y t g h k _ _ (holding v x a) = holding v x (value-carry w y t v x g h k a)
 
 tells-carry : (w y : World) (c : List ℕ) (properties : Name → Option js.Value) → ((a : ℕ) (o : js.Stored) → w.owned a ≡ Some o → y.owned a ≡ Some o) → TellsClass w c properties → TellsClass y c properties
 tells-carry w y c properties g h = record { address = h.address; constants = h.constants; held = h.held; owned = g h.address (js.plain [] h.constants) h.owned; marked = h.marked; known = h.known }
 
-pub stored-carry : (p : Place) (w y : World) → ((i a : ℕ) → w.place i ≡ Some a → y.place i ≡ Some a) → ((a : ℕ) (o : js.Stored) → w.owned a ≡ Some o → y.owned a ≡ Some o) → (o : Option ir.Stored) (q : Option js.Stored) → SameStored p w o q → SameStored p y o q
-stored-carry p w y g h _ _ (same_object c fields properties k f) = same_object c fields properties (tells-carry w y c properties h k) (λ d n t i. field-carry w y t g h (fields d n) (properties (field_binding Property d n)) (f d n t i))
+pub stored-carry : (p : Place) (w y : World) → ((i a : ℕ) → w.place i ≡ Some a → y.place i ≡ Some a) → ((a : ℕ) (o : js.Stored) → w.owned a ≡ Some o → y.owned a ≡ Some o) → w.boxes ≡ y.boxes → (o : Option ir.Stored) (q : Option js.Stored) → SameStored p w o q → SameStored p y o q
+stored-carry p w y g h b _ _ (same_object c fields properties k f) = same_object c fields properties (tells-carry w y c properties h k) (λ d n t i. field-carry w y t g h b (fields d n) (properties (field_binding Property d n)) (f d n t i))
 
 pub record There {A : Type 0} (o : Option A) : Type 0 where
   pub what : A
@@ -83,8 +83,9 @@ module _ (p : Place) (w : World) (s : List ir.Stored) (u : List js.Stored) (h : 
   -- an object of the emitted code that the IR hasn't made yet
   pub pends : (o : js.Stored) → SameHeap p (with_pending (length u) o w) s (u ++ o ∷ [])
   pends o = record {
-    objects = λ i a e. subst (λ q. SameStored p (with_pending (length u) o w) (slice_get s i) q) (sym (front-there i a o e)) (stored-carry p w (with_pending (length u) o w) (λ i a e. e) (λ a o e. e) (slice_get s i) (slice_get u a) (h.objects i a e));
+    objects = λ i a e. subst (λ q. SameStored p (with_pending (length u) o w) (slice_get s i) q) (sym (front-there i a o e)) (stored-carry p w (with_pending (length u) o w) (λ i a e. e) (λ a o e. e) refl (slice_get s i) (slice_get u a) (h.objects i a e));
     differ = h.differ;
+    boxes = h.boxes;
     owned = λ a b e. get-front u (o ∷ []) a b (h.owned a b e);
     pending = λ a b e. here a b (a == length u) refl e;
     apart = h.apart;
@@ -118,8 +119,9 @@ module _ (p : Place) (w : World) (s : List ir.Stored) (u : List js.Stored) (h : 
   -- an object that the emitted code makes for itself
   pub owns : (o : js.Stored) → SameHeap p (with_owned (length u) o w) s (u ++ o ∷ [])
   owns o = record {
-    objects = λ i a e. subst (λ q. SameStored p (with_owned (length u) o w) (slice_get s i) q) (sym (front-there i a o e)) (stored-carry p w (with_owned (length u) o w) (λ i a e. e) (owned-still o) (slice_get s i) (slice_get u a) (h.objects i a e));
+    objects = λ i a e. subst (λ q. SameStored p (with_owned (length u) o w) (slice_get s i) q) (sym (front-there i a o e)) (stored-carry p w (with_owned (length u) o w) (λ i a e. e) (owned-still o) refl (slice_get s i) (slice_get u a) (h.objects i a e));
     differ = h.differ;
+    boxes = h.boxes;
     owned = λ a b e. here a b (a == length u) refl e;
     pending = λ a b e. get-front u (o ∷ []) a b (h.pending a b e);
     apart = λ i a b e k. away i a b e (a == length u) refl k;
@@ -144,6 +146,7 @@ module _ (p : Place) (w : World) (s : List ir.Stored) (u : List js.Stored) (h : 
   births a o q there alike = record {
     objects = λ i b e. object i b (i == length s) refl e;
     differ = λ i j b e k. two i j b (i == length s) (j == length s) refl refl e k;
+    boxes = h.boxes;
     owned = h.owned;
     pending = λ b d e. other b d (b == a) refl e;
     apart = λ i b d e k. owns i b d (i == length s) refl e k;
@@ -165,8 +168,8 @@ module _ (p : Place) (w : World) (s : List ir.Stored) (u : List js.Stored) (h : 
       some-same c d e = cc
 
       object : (i b : ℕ) (t : Bool) → (i == length s) ≡ t → (if t then Some a else w.place i) ≡ Some b → SameStored p y (slice_get (s ++ q ∷ []) i) (slice_get u b)
-      object i b true k e = subst (λ x. SameStored p y (slice_get (s ++ q ∷ []) x) (slice_get u b)) (sym (numbers-same i (length s) k)) (subst (λ x. SameStored p y x (slice_get u b)) (sym (get-end s q)) (subst (λ x. SameStored p y (Some q) (slice_get u x)) (some-same a b e) (subst (λ x. SameStored p y (Some q) x) (sym (h.pending a o there)) (stored-carry p w y placed (λ a o e. e) (Some q) (Some o) alike))))
-      object i b false k e = let r = (stored-there p w (slice_get s i) (slice_get u b) (h.objects i b e)).0 in subst (λ x. SameStored p y x (slice_get u b)) (r.is ∙ sym (get-front s (q ∷ []) i r.what r.is)) (stored-carry p w y placed (λ a o e. e) (slice_get s i) (slice_get u b) (h.objects i b e))
+      object i b true k e = subst (λ x. SameStored p y (slice_get (s ++ q ∷ []) x) (slice_get u b)) (sym (numbers-same i (length s) k)) (subst (λ x. SameStored p y x (slice_get u b)) (sym (get-end s q)) (subst (λ x. SameStored p y (Some q) (slice_get u x)) (some-same a b e) (subst (λ x. SameStored p y (Some q) x) (sym (h.pending a o there)) (stored-carry p w y placed (λ a o e. e) refl (Some q) (Some o) alike))))
+      object i b false k e = let r = (stored-there p w (slice_get s i) (slice_get u b) (h.objects i b e)).0 in subst (λ x. SameStored p y x (slice_get u b)) (r.is ∙ sym (get-front s (q ∷ []) i r.what r.is)) (stored-carry p w y placed (λ a o e. e) refl (slice_get s i) (slice_get u b) (h.objects i b e))
 
       two : (i j b : ℕ) (t v : Bool) → (i == length s) ≡ t → (j == length s) ≡ v → (if t then Some a else w.place i) ≡ Some b → (if v then Some a else w.place j) ≡ Some b → i ≡ j
       two i j b true true k l e f = numbers-same i (length s) k ∙ sym (numbers-same j (length s) l)
@@ -196,6 +199,7 @@ module _ (p : Place) (w : World) (s : List ir.Stored) (u : List js.Stored) (h : 
   writes i a q o there alike = record {
     objects = λ j b e. object j b (j == i) refl e;
     differ = h.differ;
+    boxes = h.boxes;
     owned = λ b d e. get-set_other u b a o (λ k. h.apart i a d there (subst (λ x. w.owned x ≡ Some d) k e)) ∙ h.owned b d e;
     pending = λ b d e. get-set_other u b a o (λ k. h.unborn i a d there (subst (λ x. w.pending x ≡ Some d) k e)) ∙ h.pending b d e;
     apart = h.apart;

@@ -11,6 +11,7 @@ pub mod Tops
 pub mod Divided
 pub mod Objects
 pub mod Received
+pub mod Tests
 pub mod Plain
 pub mod Runs
 pub mod Boxes

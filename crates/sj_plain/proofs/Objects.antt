@@ -132,13 +132,13 @@ module _ (z : Setting) (law : Based z) where
   placed-still y s u h i b a e true k = absurd (place-there z.place y s u h i b e (numbers-same i (length s) k))
   placed-still y s u h i b a e false k = e
 
-  values-carry : (u w : World) (ts : List IrType) (vs : List ir.Value) (xs : List js.Value) → ((i a : ℕ) → u.place i ≡ Some a → w.place i ≡ Some a) → ((a : ℕ) (o : js.Stored) → u.owned a ≡ Some o → w.owned a ≡ Some o) → SameValues u ts vs xs → SameValues w ts vs xs
-  values-carry u w _ _ _ g h no_values = no_values
-  values-carry u w _ _ _ g h (one_more t v x ts vs xs a others) = one_more t v x ts vs xs (value-carry u w t v x g h a) (values-carry u w ts vs xs g h others)
+  values-carry : (u w : World) (ts : List IrType) (vs : List ir.Value) (xs : List js.Value) → ((i a : ℕ) → u.place i ≡ Some a → w.place i ≡ Some a) → ((a : ℕ) (o : js.Stored) → u.owned a ≡ Some o → w.owned a ≡ Some o) → u.boxes ≡ w.boxes → SameValues u ts vs xs → SameValues w ts vs xs
+  values-carry u w _ _ _ g h k no_values = no_values
+  values-carry u w _ _ _ g h k (one_more t v x ts vs xs a others) = one_more t v x ts vs xs (value-carry u w t v x g h k a) (values-carry u w ts vs xs g h k others)
 
   -- the constructor runs on the object that the emitted code has made before the arguments, and the IR behind them
   construct_acts : (c : List ℕ) (m : MethodName) (ts : List IrType) (w : World) (env : ir.Env) (sc : js.Scope) (a : ℕ) (o : js.Stored) → (usable z).built (member c Constructor m) ≡ true → is_bare (class_type c) ≡ false → FitAll (types_referred m.params) ts → ((b : js.Stored) → w.pending a ≡ Some b → ⊥) → SameStored z.place w (Some (zeroed z.place c)) (Some o) → ActsAlike z w (with_pending a o w) env ts (class_type c) (ir_meaning.construct z.place.classes z.low c m) (λ xs. js_meaning.call z.place.program z.js_low (top_function z.place (a_constructor (member c Constructor m))) (js.object a ∷ xs)) sc
-  construct_acts c m ts w env sc a o linked bare fit fresh shape y vs xs s u g alike same = subst (λ q. Sim z.direction (Valued z.place w env (class_type c)) (ir_meaning.construct z.place.classes z.low c m vs env s) q) (then_do-right (js_call u)) (sim_then z.direction (Built z.place born env (js.object a)) (Valued z.place w env (class_type c)) (ir_meaning.call z.low (ir_world.member_of z.place.classes c Constructor m) (Some (ir.reference i)) vs env (ir.with_stored (zeroed z.place c) s)) (js_call u) (ir.onward (λ v. ir.given (ir.reference i))) done (law.builds (member c Constructor m) linked born (ir.reference i) (js.object a) vs xs env (ir.with_stored (zeroed z.place c) s) u (record { stands = record { stands = same_reference i a (here-some i a (y.place i)); suits = open-refers (class_type c) i bare }; there = λ e. cc }) (values-carry y born (types_referred m.params) vs xs placed (λ b d e. e) (values-fit y (types_referred m.params) ts vs xs fit alike)) states) each)
+  construct_acts c m ts w env sc a o linked bare fit fresh shape y vs xs s u g alike same = subst (λ q. Sim z.direction (Valued z.place w env (class_type c)) (ir_meaning.construct z.place.classes z.low c m vs env s) q) (then_do-right (js_call u)) (sim_then z.direction (Built z.place born env (js.object a)) (Valued z.place w env (class_type c)) (ir_meaning.call z.low (ir_world.member_of z.place.classes c Constructor m) (Some (ir.reference i)) vs env (ir.with_stored (zeroed z.place c) s)) (js_call u) (ir.onward (λ v. ir.given (ir.reference i))) done (law.builds (member c Constructor m) linked born (ir.reference i) (js.object a) vs xs env (ir.with_stored (zeroed z.place c) s) u (record { stands = record { stands = same_reference i a (here-some i a (y.place i)); suits = open-refers (class_type c) i bare }; there = λ e. cc }) (values-carry y born (types_referred m.params) vs xs placed (λ b d e. e) refl (values-fit y (types_referred m.params) ts vs xs fit alike)) states) each)
     where
       i : ℕ
       i = ir.next_address s
@@ -153,10 +153,10 @@ module _ (z : Setting) (law : Based z) where
       placed j b e = placed-still y s.heap u.heap same.heaps j b a e (j == i) refl
 
       states : SameState z.place born (ir.with_stored (zeroed z.place c) s) u
-      states = record { heaps = births z.place y s.heap u.heap same.heaps a o (zeroed z.place c) (g.pends a o (here-some a o (w.pending a))) (stored-carry z.place w y g.places g.owns (Some (zeroed z.place c)) (Some o) shape); tops = same.tops; statics = λ q d n t l. holding-carry y born t placed (λ b d e. e) (s.statics d n) (u.tops (z.place.home (a_static d n t)) (static_name d n)) (same.statics q d n t l) }
+      states = record { heaps = births z.place y s.heap u.heap same.heaps a o (zeroed z.place c) (g.pends a o (here-some a o (w.pending a))) (stored-carry z.place w y g.places g.owns g.boxes (Some (zeroed z.place c)) (Some o) shape); tops = same.tops; statics = λ q d n t l. holding-carry y born t placed (λ b d e. e) refl (s.statics d n) (u.tops (z.place.home (a_static d n t)) (static_name d n)) (same.statics q d n t l) }
 
       grown : Grows w born
-      grown = record { places = λ j b e. placed j b (g.places j b e); owns = g.owns; pends = λ b d e. pending-left w y a b d fresh e (g.pends b d (pending-kept w a b o d fresh e (b == a) refl)) (b == a) refl }
+      grown = record { places = λ j b e. placed j b (g.places j b e); owns = g.owns; boxes = g.boxes; pends = λ b d e. pending-left w y a b d fresh e (g.pends b d (pending-kept w a b o d fresh e (b == a) refl)) (b == a) refl }
 
       each : (e : ir.Ended) (b : js.ExpressionEnd) → Built z.place born env (js.object a) e b → Sim z.direction (Valued z.place w env (class_type c)) (ir.onward (λ v. ir.given (ir.reference i)) e) (done b)
       each _ _ (built w2 v s2 u2 h states) = sim_done z.direction (Valued z.place w env (class_type c)) (ir.ends (ir.gives (ir.reference i)) env s2) (js.gives (js.object a) u2) (valued w2 (ir.reference i) (js.object a) s2 u2 (grows-trans w born w2 grown h) (record { stands = same_reference i a (h.places i a (here-some i a (y.place i))); suits = open-refers (class_type c) i bare }) states)
@@ -188,7 +188,7 @@ module _ (z : Setting) (law : Based z) where
       each _ _ (makes a o u2 fresh shape states) = in_order_alike z w w env sc (with_pending a o w) ts (class_type c) rs es' act (λ xs. js_meaning.call z.place.program z.js_low fun (js.object a ∷ xs)) operands (construct_acts c m ts w env sc a o linked bare fit fresh shape) (with_pending a o w) s u2 (grown a o fresh) (grown a o fresh) (grows-refl (with_pending a o w)) states
         where
           grown : (a : ℕ) (o : js.Stored) → ((b : js.Stored) → w.pending a ≡ Some b → ⊥) → Grows w (with_pending a o w)
-          grown a o fresh = record { places = λ j b e. e; owns = λ b d e. e; pends = λ b d e. pending-kept w a b o d fresh e (b == a) refl }
+          grown a o fresh = record { places = λ j b e. e; owns = λ b d e. e; boxes = refl; pends = λ b d e. pending-kept w a b o d fresh e (b == a) refl }
 
   -- a member runs on a receiver
   receive_acts : (m : Member) (own : IrType) (ts : List IrType) (w : World) (env : ir.Env) (sc : js.Scope) → (usable z).received (called_member (usable z).target m.namespace m) ≡ true → Fits (class_type m.class) own → FitAll (types_referred m.method.params) ts → ActsAlike z w w env (own ∷ ts) (call_type m.method.result) (ir_meaning.call_on z.place.classes z.low (ir_meaning.static_target z.place.classes m.class m.namespace m.method)) (js_meaning.call z.place.program z.js_low (top_function z.place (a_method (called_member (usable z).target m.namespace m)))) sc

@@ -4,10 +4,10 @@ use Rattle.std.specs.Prelude.{ℤ, pos, negsuc, FitsSigned, ℕ, ◌&&◌, ◌||
 use Rattle.std.proofs.lemmas.Bool.{and_parts}
 use Rattle.body_rules.proofs.Fitting.{fits-unary, fits-dividend, operates, not_no_type, unary-operand-value, left-operand-value, right-operand-value}
 use Rattle.body_rules.proofs.Locals.{there}
-use Rattle.body_rules.proofs.RulesGive.{when_not, ArgumentsFit, Takes, its_types, texts, of_division, each_made, arguments_there, operation}
+use Rattle.body_rules.proofs.RulesGive.{when_not, ArgumentsFit, Takes, its_types, texts, of_division, of_identity, each_made, arguments_there, operation}
 use Rattle.body_rules.specs.Subtyping.{IsSubtyping}
 use Rattle.body_rules.specs.Typing.{Scene, Typed, TypedAll, may_check}
-use Rattle.built_forms.specs.Boxes.{is_boxed, any_is_boxed, boxes_as_text, any_boxes_as_text}
+use Rattle.built_forms.specs.Boxes.{is_boxed, any_is_boxed, operands_are_boxed, boxes_as_text, any_boxes_as_text}
 use Rattle.built_forms.specs.Built.{Usable, may_make, divides}
 use Rattle.sj_desugar.specs.Plain.{is_plain, are_plain, is_no_type}
 use Rattle.sj_names.specs.declared.method_names.Namespace.{Namespace}
@@ -34,7 +34,7 @@ use Rattle.sj_desugar.specs.Texts.{operand_of}
 use Rattle.sj_emit_expr.specs.Templates.{check_name, member_name, expression_template, expression_templates, binary_template, unary_template, is_nonzero_literal}
 use Rattle.sj_names.proofs.Same.{impossible}
 use Rattle.sj_names.specs.declared.method_names.Member.{Member}
-use Rattle.sj_trees.specs.Term.{Term, Terms, no_terms, more_terms, var_def, skip, block_of, labeled, assign, return_to, if_then, while_loop, do_while, throw, match_on, new_object, select, select_static, apply_statically, this_ref, apply_static, unary_op, binary_op, log_line, undefined_literal, null_literal, boolean_literal, char_literal, byte_literal, short_literal, int_literal, long_literal, string_literal, var_ref}
+use Rattle.sj_trees.specs.Term.{Term, Terms, no_terms, more_terms, var_def, skip, block_of, labeled, assign, return_to, if_then, while_loop, do_while, throw, match_on, new_object, select, select_static, apply_statically, this_ref, apply_static, unary_op, binary_op, is_instance_of, as_instance_of, log_line, undefined_literal, null_literal, boolean_literal, char_literal, byte_literal, short_literal, int_literal, long_literal, string_literal, var_ref}
 use Rattle.sj_trees.specs.TypeOf.{type_of_term, unary_result, binary_result}
 use Rattle.sj_trees.specs.declared.operators.BinaryOp.{BinaryOp}
 use Rattle.sj_trees.specs.declared.operators.BinaryOp.TheVariants.{StrictEqual, StrictNotEqual, StringConcatenate, IntDivide, IntRemainder, LongDivide, LongRemainder, LongShiftLeft, LongShiftRightLogical, LongShiftRightArithmetic}
@@ -44,7 +44,7 @@ use Rattle.sj_trees.specs.declared.positions.Position.{Position}
 use Rattle.sj_trees.specs.declared.types.IrType.{IrType}
 use Rattle.sj_trees.specs.Types.{class_type, reference_type}
 use Rattle.sj_trees.specs.declared.types.IrType.TheVariants.{Any, Undefined, Null, Boolean, Char, Byte, Short, Int, Long, String}
-use Rattle.body_rules.specs.Operators.{is_simple, Operates, of_its_types, joins, divided, a_quotient, a_remainder, a_long_quotient, a_long_remainder, DividesBy, by_int, by_long}
+use Rattle.body_rules.specs.Operators.{is_simple, Operates, of_its_types, joins, divided, compared, a_quotient, a_remainder, a_long_quotient, a_long_remainder, DividesBy, by_int, by_long}
 use Rattle.typing_rules.specs.Rules.{left_operand, right_operand, unary_operand, Yields, nothing_wanted, fitting}
 use Rattle.sj_plain.specs.Conditions.{InScope, IsNoConstruction, Plain}
 use Rattle.body_rules.specs.Locals.{Scope}
@@ -60,9 +60,10 @@ use Rattle.sj_names.specs.declared.method_names.Namespace.TheVariants.{Public, P
 use Rattle.sj_plain.proofs.Received.{value_none, not_none, class_value, value_below, value_apart, may_be_checked, Received, received}
 use Rattle.sj_plain.proofs.Orders.{ActsAlike, OperandAlike, OperandsAlike, no_operands, more_operands, all_shown, valued-weaken, in_order_alike}
 use Rattle.sj_plain.proofs.Shifts.{left_shift_alike, right_shift_alike, zero_shift_alike, joined_alike}
-use Rattle.sj_plain.proofs.Boxes.{operand_coerced, operands_coerced, stood, stood-fits, stood_alike, stood_told, all_stood, all-stood-fit, StandsFor, StandForAll, stands-for, stand-for-all, receiver-coerced}
+use Rattle.sj_plain.proofs.Boxes.{operand_coerced, operands_coerced, stood, stood-fits, operand_stood, all_stood, all-stood-fit, StandsFor, StandForAll, stands-for, stand-for-all, receiver-coerced}
 use Rattle.sj_plain.proofs.Templates.{fits-exact, unit_is_int, by_value, by_one_value, one_template_value, binary_shown, binary_acts, unary_shown, unary_acts}
-use Rattle.sj_plain.proofs.Told.{is_long, is_narrow, tells, tells-narrow, no_ratio}
+use Rattle.sj_plain.proofs.Tests.{test_alike, cast_alike, compared_alike, test_told, cast_told, identity_told}
+use Rattle.sj_plain.proofs.Told.{may_be_long, tells, tells-narrow, no_ratio}
 use Rattle.sj_plain.proofs.Worlds.{World, Grows, grows-refl, SameValue, Stands, same_undefined, same_null, same_boolean, same_char, same_number, same_long, same_text, value-lift, values-fit, no_values, one_more}
 
 pub holding-lift : (u w : World) (t : IrType) (o : Option ir.Value) (cell : js.Cell) → Grows u w → Holding u t o cell → Holding w t o cell
@@ -74,6 +75,13 @@ receiving-lift u w c _ _ g (on_receiver v x a) = on_receiver v x (record { stand
 
 pub sees-lift : (z : Setting) (scope : Scope) (u w : World) (env : ir.Env) (sc : js.Scope) → Grows u w → Sees z.place z.code scope u env sc → Sees z.place z.code scope w env sc
 sees-lift z scope u w env sc g h = record { inside = h.inside; this = receiving-lift u w z.code.owner env.this_value (sc.bindings (z.place.name core.receiver)) g h.this; sure = h.sure; locals = λ x t i. holding-lift u w t (env.locals x) (sc.bindings (z.place.name (core.named x))) g (h.locals x t i) }
+
+-- an operator whose value is that of its operand
+abbrev is_widening : UnaryOp → Bool
+is_widening CharToInt = true
+is_widening ByteToInt = true
+is_widening ShortToInt = true
+is_widening _ = false
 
 -- a division takes its operands as they are
 taken_as_they_are : (has : Usable) (o : BinaryOp) → divides has o ≡ true → (s t : IrType) (e g : core.Expression) → core.binary_of o (operand_of o s e) (operand_of o t g) ≡ core.binary_of o e g
@@ -162,7 +170,9 @@ module _ (z : Setting) (lawful : Lawful z) (scope : Scope) where
   simple_alike LongShiftLeft left right r q e d simple f g w env s sc u (more_operands _ _ _ _ _ _ h one (more_operands _ _ _ _ _ _ k other no_operands)) same = left_shift_alike z w env sc left right r q e d one other s u same f g
   simple_alike LongShiftRightLogical left right r q e d simple f g w env s sc u (more_operands _ _ _ _ _ _ h one (more_operands _ _ _ _ _ _ k other no_operands)) same = zero_shift_alike z w env sc left right r q e d one other s u same f g
   simple_alike LongShiftRightArithmetic left right r q e d simple f g w env s sc u (more_operands _ _ _ _ _ _ h one (more_operands _ _ _ _ _ _ k other no_operands)) same = right_shift_alike z w env sc left right r q e d one other s u same f g
-  simple_alike StringConcatenate left right r q e d simple f g w env s sc u operands same = impossible simple
+  simple_alike StrictEqual left right r q e d simple f g w env s sc u _ same = impossible simple
+  simple_alike StrictNotEqual left right r q e d simple f g w env s sc u _ same = impossible simple
+  simple_alike StringConcatenate left right r q e d simple f g w env s sc u _ same = impossible simple
   simple_alike o left right r q e d simple f g w env s sc u operands same = direct_alike o left right r q e d simple f g w env s sc u operands same
 
   -- an operator that takes operands of these types, but for division
@@ -170,23 +180,27 @@ module _ (z : Setting) (lawful : Lawful z) (scope : Scope) where
   binary_alike _ _ _ r q e d (of_its_types o left right is f g) w env s sc u inside operands same = simple_alike o left right r q e d is f g w env s sc u operands same
   binary_alike _ _ _ r q e d (joins left right bare other_bare) w env s sc u inside (more_operands _ _ _ _ _ _ h one (more_operands _ _ _ _ _ _ k other no_operands)) same = joined_alike z w env sc left right r q e d one other s u same bare other_bare
   binary_alike _ _ _ r q e d (divided o left right h f g) w env s sc u inside operands same = by_equal w env (binary_result o) _ _ _ _ refl (λ i. shown z (taken_as_they_are (usable z) o h left right e d i) sc u) (divided_operands z lawful o h left right r q e d f g w env s sc u inside operands same)
+  binary_alike _ _ _ r q e d (compared o left right i has f g) w env s sc u inside operands same = compared_alike z lawful o i has left right f g r q e d w env s sc u inside operands same
 
   abbrev text_of_tree : Term → tree.Expression
   text_of_tree t = expression_template z.place.name z.place.label (usable z).target (expression_of z.code.sure t)
 
   -- what the text of a plain tree tells of its type
-  not_long : (expected own : IrType) → is_narrow expected ≡ true → Fits expected own → is_long own ≡ false
-  not_long Char Long n f = impossible f
-  not_long Byte Long n f = impossible f
-  not_long Short Long n f = impossible f
-  not_long Int Long n f = impossible f
-  not_long expected Long n f = impossible n
-  not_long expected own n f = refl
+  not_long : (o : UnaryOp) (own : IrType) → is_widening o ≡ true → Fits (unary_operand o) own → may_be_long own ≡ false
+  not_long CharToInt Any n f = impossible f
+  not_long CharToInt Long n f = impossible f
+  not_long ByteToInt Any n f = impossible f
+  not_long ByteToInt Long n f = impossible f
+  not_long ShortToInt Any n f = impossible f
+  not_long ShortToInt Long n f = impossible f
+  not_long o Any n f = impossible n
+  not_long o Long n f = impossible n
+  not_long o own n f = refl
 
   unary_tells : (o : UnaryOp) (own : IrType) (e : tree.Expression) → Fits (unary_operand o) own → tells own e ≡ true → tells (unary_result o) (unary_template o e) ≡ true
-  unary_tells CharToInt own e f h = tells-narrow own e (not_long Char own refl f) h
-  unary_tells ByteToInt own e f h = tells-narrow own e (not_long Byte own refl f) h
-  unary_tells ShortToInt own e f h = tells-narrow own e (not_long Short own refl f) h
+  unary_tells CharToInt own e f h = tells-narrow own e (not_long CharToInt own refl f) h
+  unary_tells ByteToInt own e f h = tells-narrow own e (not_long ByteToInt own refl f) h
+  unary_tells ShortToInt own e f h = tells-narrow own e (not_long ShortToInt own refl f) h
   unary_tells _ own e f h = refl
 
   simple_tells : (o : BinaryOp) → is_simple o ≡ true → (b : Bool) (e g : tree.Expression) → tells (binary_result o) (binary_template b o e g) ≡ true
@@ -214,6 +228,7 @@ module _ (z : Setting) (lawful : Lawful z) (scope : Scope) where
   binary_tells _ _ _ (of_its_types o left right h f g) b e x = simple_tells o h b e x
   binary_tells _ _ _ (joins left right bare other) b e g = refl
   binary_tells _ _ _ (divided o left right h f g) b e x = divided_tells o h b e x
+  binary_tells _ _ _ (compared o left right i h f g) b e x = identity_told z lawful o i b e x
 
   division_tells : (o : BinaryOp) (d : Term) → DividesBy o d → (e : tree.Expression) → tells (binary_result o) (binary_template (is_nonzero_literal (expression_of z.code.sure d)) o e (text_of_tree d)) ≡ true
   division_tells _ _ (by_int _ i p (pos zero) f ne) e = absurd (ne refl)
@@ -342,7 +357,7 @@ module _ (z : Setting) (lawful : Lawful z) (scope : Scope) where
 
     -- a receiver as it is coerced
     receiver_stood : (c : List ℕ) (own : IrType) (h : StandsFor z (class_type c) own) (r : ir.Run) (e : core.Expression) (w : World) (env : ir.Env) (sc : js.Scope) → Inside z.place z.code sc → OperandsAlike z w env sc (own ∷ []) (r ∷ []) (e ∷ []) → OperandsAlike z w env sc (stood (class_type c) own h.0 ∷ []) (r ∷ []) (coerced (class_type c) own e ∷ [])
-    receiver_stood c _ h _ _ w env sc inside (more_operands own r e _ _ _ told one no_operands) = more_operands (stood (class_type c) own h.0) r (coerced (class_type c) own e) [] [] [] (stood_told z lawful.base w env sc inside (class_type c) own h.0 e told) (stood_alike z lawful.base w env sc inside (class_type c) own h.0 h.1 r e one) no_operands
+    receiver_stood c own h r e w env sc inside operand = operand_stood z lawful.base w env sc inside (class_type c) own h.0 h.1 r e operand
 
     receive_tree : (p : Position) (e : Term) (c : List ℕ) (n : Namespace) (m : MethodName) (ts : Terms) (t : IrType) → Received z.place.classes (usable z) (may_check (usable z) scene.sure) e c n m ts → Kept (apply_statically p e c n m ts t) → TreeAlike e → RowAlike ts → TreeAlike (apply_statically p e c n m ts t)
     receive_tree p e c n m ts t its h one operands = record {
@@ -363,18 +378,39 @@ module _ (z : Setting) (lawful : Lawful z) (scope : Scope) where
     }
 
     -- both operands of an operator, where it takes them, have values
-    operation_tree : (p : Position) (o : BinaryOp) (e d : Term) → Kept (binary_op p o e d) → (IsValue e → TreeAlike e) → (IsValue d → TreeAlike d) → TreeAlike (binary_op p o e d)
-    operation_tree p o e d h one other = ⊎_elim (λ takes. binary_tree p o e d (operates z.place.classes law (usable z) o e d takes) (one (left_value takes)) (other (right_value takes))) (λ divides. division_tree p o e d divides.0 (fits-dividend z.place.classes law o d (type_of_term e) divides.0 divides.1) (one (value_below z.place.classes law (type_of_term e) (left_operand o) divides.1 (value_none (left_operand o) (left-operand-value o))))) (operation z.place.classes (usable z) scene o e d h.0.built h.2 h.0.meets)
+    operation_tree : (p : Position) (o : BinaryOp) (e d : Term) → Kept (binary_op p o e d) → Makes (operands_are_boxed o e d) → (IsValue e → TreeAlike e) → (IsValue d → TreeAlike d) → TreeAlike (binary_op p o e d)
+    operation_tree p o e d h may one other = ⊎_elim (λ takes. binary_tree p o e d (operates z.place.classes law (usable z) o e d may takes) (one (left_value takes)) (other (right_value takes))) (λ divides. division_tree p o e d divides.0 (fits-dividend z.place.classes law o d (type_of_term e) divides.0 divides.1) (one (value_below z.place.classes law (type_of_term e) (left_operand o) divides.1 (value_none (left_operand o) (left-operand-value o))))) (operation z.place.classes (usable z) scene o e d h.0.built h.2 h.0.meets)
       where
         left_value : Takes z.place.classes (usable z) o e d → IsValue e
         left_value (its_types simple f g) = value_below z.place.classes law (type_of_term e) (left_operand o) f (value_none (left_operand o) (left-operand-value o))
         left_value (of_division is f g) = value_below z.place.classes law (type_of_term e) (left_operand o) f (value_none (left_operand o) (left-operand-value o))
+        left_value (of_identity i is f g) = value_below z.place.classes law (type_of_term e) (left_operand o) f (value_none (left_operand o) (left-operand-value o))
         left_value (texts is f g) = not_none (type_of_term e) (not_no_type (type_of_term e) f)
 
         right_value : Takes z.place.classes (usable z) o e d → IsValue d
         right_value (its_types simple f g) = value_below z.place.classes law (type_of_term d) (right_operand o) g (value_none (right_operand o) (right-operand-value o))
         right_value (of_division is f g) = value_below z.place.classes law (type_of_term d) (right_operand o) g (value_none (right_operand o) (right-operand-value o))
+        right_value (of_identity i is f g) = value_below z.place.classes law (type_of_term d) (right_operand o) g (value_none (right_operand o) (right-operand-value o))
         right_value (texts is f g) = not_none (type_of_term d) (not_no_type (type_of_term d) g)
+
+    -- the operand of a test or a cast, as it is coerced
+    standing_any : (e : Term) → Makes (is_boxed Any e) → IsSub z.place.classes (type_of_term e) Any → StandsFor z Any (type_of_term e)
+    standing_any e may f = stands-for z lawful Any (type_of_term e) f may
+
+    brought : (e : Term) (f : StandsFor z Any (type_of_term e)) → TreeAlike e → (w : World) (env : ir.Env) (sc : js.Scope) → Sees z.place z.code scope w env sc → OperandsAlike z w env sc (stood Any (type_of_term e) f.0 ∷ []) (ir_meaning.step z.place.classes z.low e ∷ []) (coerced Any (type_of_term e) (expression_of z.code.sure e) ∷ [])
+    brought e f one w env sc sees = operand_stood z lawful.base w env sc sees.inside Any (type_of_term e) f.0 f.1 (ir_meaning.step z.place.classes z.low e) (expression_of z.code.sure e) (with_tree e one w env sc sees [] [] [] no_operands)
+
+    test_tree : (p : Position) (e : Term) (t : IrType) → Kept (is_instance_of p e t) → StandsFor z Any (type_of_term e) → TreeAlike e → TreeAlike (is_instance_of p e t)
+    test_tree p e t h f one = record {
+      alike = λ w env s sc u sees same. test_alike z lawful t (stood Any (type_of_term e) f.0) h.0.built (stood-fits Any (type_of_term e) f.0) (ir_meaning.step z.place.classes z.low e) (coerced Any (type_of_term e) (expression_of z.code.sure e)) w env s sc u sees.inside (brought e f one w env sc sees) same;
+      told = test_told z lawful t (coerced Any (type_of_term e) (expression_of z.code.sure e));
+    }
+
+    cast_tree : (p : Position) (e : Term) (t : IrType) → Kept (as_instance_of p e t) → StandsFor z Any (type_of_term e) → TreeAlike e → TreeAlike (as_instance_of p e t)
+    cast_tree p e t h f one = record {
+      alike = λ w env s sc u sees same. cast_alike z lawful t (stood Any (type_of_term e) f.0) h.0.built (stood-fits Any (type_of_term e) f.0) (ir_meaning.step z.place.classes z.low e) (coerced Any (type_of_term e) (expression_of z.code.sure e)) w env s sc u sees.inside (brought e f one w env sc sees) same;
+      told = cast_told z lawful t (type_of_term e) (expression_of z.code.sure e) one.told;
+    }
 
     -- a call on a receiver: of a private or a public member, as that of a constructor has no value
     receiving_tree : (p : Position) (e : Term) (c : List ℕ) (n : Namespace) (m : MethodName) (ts : Terms) (t : IrType) → Kept (apply_statically p e c n m ts t) → Makes (is_boxed Any e || any_is_boxed m.params ts) → IsNoConstruction (apply_statically p e c n m ts t) → TreeAlike e → (ArgumentsFit z.place.classes (usable z) ts m.params → RowAlike ts) → TreeAlike (apply_statically p e c n m ts t)
@@ -406,7 +442,9 @@ module _ (z : Setting) (lawful : Lawful z) (scope : Scope) where
       tree_alike (this_ref p t) h boxed k v = this_tree p t h
       tree_alike (apply_static p c n m ts t) h boxed k v = let parts = each_made (usable z) (any_is_boxed m.params ts) (any_boxes_as_text ts) boxed in call_tree p c n m ts t h parts.0 (trees_alike ts m.params h.1 parts.1 k (arguments_there z.place.classes (usable z) ts m.params parts.0 h.0.finds h.0.meets.2))
       tree_alike (unary_op p o e) h boxed k v = unary_tree p o e (fits-unary z.place.classes law o (type_of_term e) h.0.meets) (tree_alike e h.1 boxed k (value_apart z.place.classes (usable z) scene e h.1 (value_below z.place.classes law (type_of_term e) (unary_operand o) h.0.meets (value_none (unary_operand o) (unary-operand-value o)))))
-      tree_alike (binary_op p o e d) h boxed k v = let x = and_parts (is_plain e) (is_plain d) k in let parts = each_made (usable z) (boxes_as_text e) (boxes_as_text d) boxed in operation_tree p o e d h (λ v. tree_alike e h.1 parts.0 x.0 (value_apart z.place.classes (usable z) scene e h.1 v)) (λ v. tree_alike d h.2 parts.1 x.1 (value_apart z.place.classes (usable z) scene d h.2 v))
+      tree_alike (binary_op p o e d) h boxed k v = let x = and_parts (is_plain e) (is_plain d) k in let whole = each_made (usable z) (operands_are_boxed o e d) (boxes_as_text e || boxes_as_text d) boxed in let parts = each_made (usable z) (boxes_as_text e) (boxes_as_text d) whole.1 in operation_tree p o e d h whole.0 (λ v. tree_alike e h.1 parts.0 x.0 (value_apart z.place.classes (usable z) scene e h.1 v)) (λ v. tree_alike d h.2 parts.1 x.1 (value_apart z.place.classes (usable z) scene d h.2 v))
+      tree_alike (is_instance_of p e t) h boxed k v = let parts = each_made (usable z) (is_boxed Any e) (boxes_as_text e) boxed in test_tree p e t h (standing_any e parts.0 h.0.meets.1) (tree_alike e h.1 parts.1 k (value_apart z.place.classes (usable z) scene e h.1 (value_below z.place.classes law (type_of_term e) Any h.0.meets.1 refl)))
+      tree_alike (as_instance_of p e t) h boxed k v = let parts = each_made (usable z) (is_boxed Any e) (boxes_as_text e) boxed in cast_tree p e t h (standing_any e parts.0 h.0.meets.1) (tree_alike e h.1 parts.1 k (value_apart z.place.classes (usable z) scene e h.1 (value_below z.place.classes law (type_of_term e) Any h.0.meets.1 refl)))
       tree_alike (undefined_literal p) h boxed k v = record { alike = λ w env s sc u sees same. literal_alike w env Undefined s u ir.undefined js.undefined same_undefined refl same; told = refl }
       tree_alike (null_literal p) h boxed k v = record { alike = λ w env s sc u sees same. literal_alike w env Null s u ir.null js.null same_null refl same; told = refl }
       tree_alike (boolean_literal p b) h boxed k v = record { alike = λ w env s sc u sees same. literal_alike w env Boolean s u (ir.boolean b) (js.boolean b) (same_boolean b) refl same; told = refl }

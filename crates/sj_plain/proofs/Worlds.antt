@@ -1,5 +1,5 @@
 -- Worlds grow, and what stands for each other goes on to do so.
-use Rattle.std.proofs.Common.{◌≡◌, ℕ, Bool, List, [], ◌∷◌, Some, subst}
+use Rattle.std.proofs.Common.{◌≡◌, ℕ, Bool, List, [], ◌∷◌, Some, refl, ◌∙◌, subst}
 use Rattle.ir_mean.specs.States as ir
 use Rattle.js_mean.specs.States as js
 pub use Rattle.sj_plain.specs.Worlds.{World, nothing_made, Grows, Stands, same_undefined, same_null, IsBox, same_boolean, same_char, same_box, same_number, same_long, same_text, same_reference, SameValue, SameValues, no_values, one_more}
@@ -9,32 +9,32 @@ use Rattle.sj_desugar.specs.Coercions.{is_char}
 use Rattle.sj_trees.specs.declared.types.IrType.{IrType}
 
 pub grows-refl : (w : World) → Grows w w
-grows-refl w = record { places = λ i a e. e; owns = λ a o e. e; pends = λ a o e. e }
+grows-refl w = record { places = λ i a e. e; owns = λ a o e. e; pends = λ a o e. e; boxes = refl }
 
 pub grows-trans : (u v w : World) → Grows u v → Grows v w → Grows u w
-grows-trans u v w g h = record { places = λ i a e. h.places i a (g.places i a e); owns = λ a o e. h.owns a o (g.owns a o e); pends = λ a o e. h.pends a o (g.pends a o e) }
+grows-trans u v w g h = record { places = λ i a e. h.places i a (g.places i a e); owns = λ a o e. h.owns a o (g.owns a o e); pends = λ a o e. h.pends a o (g.pends a o e); boxes = g.boxes ∙ h.boxes }
 
 -- an object holds a char wherever the emitted code has for itself what it had
-box-carry : (u w : World) (c a : ℕ) → ((a : ℕ) (o : js.Stored) → u.owned a ≡ Some o → w.owned a ≡ Some o) → IsBox u c a → IsBox w c a
-box-carry u w c a h b = record { links = b.links; properties = b.properties; address = b.address; constants = b.constants; owned = h a (js.plain b.links b.properties) b.owned; char = b.char; held = b.held; constants_owned = h b.address (js.plain [] b.constants) b.constants_owned; marked = b.marked }
+box-carry : (u w : World) (c a : ℕ) → ((a : ℕ) (o : js.Stored) → u.owned a ≡ Some o → w.owned a ≡ Some o) → u.boxes ≡ w.boxes → IsBox u c a → IsBox w c a
+box-carry u w c a h k b = record { properties = b.properties; address = b.address; constants = b.constants; owned = subst (λ ls. w.owned a ≡ Some (js.plain ls b.properties)) k (h a (js.plain u.boxes b.properties) b.owned); char = b.char; held = b.held; constants_owned = h b.address (js.plain [] b.constants) b.constants_owned; marked = b.marked }
 
 -- a value stands for another wherever each address has its address, too
-pub stands-carry : (u w : World) (raw : Bool) (v : ir.Value) (x : js.Value) → ((i a : ℕ) → u.place i ≡ Some a → w.place i ≡ Some a) → ((a : ℕ) (o : js.Stored) → u.owned a ≡ Some o → w.owned a ≡ Some o) → Stands u raw v x → Stands w raw v x
-stands-carry u w raw _ _ g h same_undefined = same_undefined
-stands-carry u w raw _ _ g h same_null = same_null
-stands-carry u w raw _ _ g h (same_boolean b) = same_boolean b
-stands-carry u w raw _ _ g h (same_char r c f) = same_char r c f
-stands-carry u w raw _ _ g h (same_box r c a f b) = same_box r c a f (box-carry u w c a h b)
-stands-carry u w raw _ _ g h (same_number z f) = same_number z f
-stands-carry u w raw _ _ g h (same_long z f) = same_long z f
-stands-carry u w raw _ _ g h (same_text us) = same_text us
-stands-carry u w raw _ _ g h (same_reference i a e) = same_reference i a (g i a e)
+pub stands-carry : (u w : World) (raw : Bool) (v : ir.Value) (x : js.Value) → ((i a : ℕ) → u.place i ≡ Some a → w.place i ≡ Some a) → ((a : ℕ) (o : js.Stored) → u.owned a ≡ Some o → w.owned a ≡ Some o) → u.boxes ≡ w.boxes → Stands u raw v x → Stands w raw v x
+stands-carry u w raw _ _ g h k same_undefined = same_undefined
+stands-carry u w raw _ _ g h k same_null = same_null
+stands-carry u w raw _ _ g h k (same_boolean b) = same_boolean b
+stands-carry u w raw _ _ g h k (same_char r c f) = same_char r c f
+stands-carry u w raw _ _ g h k (same_box r c a f b) = same_box r c a f (box-carry u w c a h k b)
+stands-carry u w raw _ _ g h k (same_number z f) = same_number z f
+stands-carry u w raw _ _ g h k (same_long z f) = same_long z f
+stands-carry u w raw _ _ g h k (same_text us) = same_text us
+stands-carry u w raw _ _ g h k (same_reference i a e) = same_reference i a (g i a e)
 
-pub value-carry : (u w : World) (t : IrType) (v : ir.Value) (x : js.Value) → ((i a : ℕ) → u.place i ≡ Some a → w.place i ≡ Some a) → ((a : ℕ) (o : js.Stored) → u.owned a ≡ Some o → w.owned a ≡ Some o) → SameValue u t v x → SameValue w t v x
-value-carry u w t v x g h a = record { stands = stands-carry u w (is_char t) v x g h a.stands; suits = a.suits }
+pub value-carry : (u w : World) (t : IrType) (v : ir.Value) (x : js.Value) → ((i a : ℕ) → u.place i ≡ Some a → w.place i ≡ Some a) → ((a : ℕ) (o : js.Stored) → u.owned a ≡ Some o → w.owned a ≡ Some o) → u.boxes ≡ w.boxes → SameValue u t v x → SameValue w t v x
+value-carry u w t v x g h k a = record { stands = stands-carry u w (is_char t) v x g h k a.stands; suits = a.suits }
 
 pub value-lift : (u w : World) (t : IrType) (v : ir.Value) (x : js.Value) → Grows u w → SameValue u t v x → SameValue w t v x
-value-lift u w t v x g a = value-carry u w t v x g.places g.owns a
+value-lift u w t v x g a = value-carry u w t v x g.places g.owns g.boxes a
 
 pub values-lift : (u w : World) (ts : List IrType) (vs : List ir.Value) (xs : List js.Value) → Grows u w → SameValues u ts vs xs → SameValues w ts vs xs
 values-lift u w _ _ _ g no_values = no_values

@@ -22,6 +22,7 @@ use Rattle.js_mean.specs.Shows.{object_shown, class_marked}
 use Rattle.outcomes.specs.Shown as shown_ends
 use Rattle.sj_core.specs.Terms as core
 use Rattle.sj_desugar.specs.Coercions.{is_char}
+use Rattle.sj_emit_expr.specs.Tests.{test_name, cast_name}
 use Rattle.sj_emit_expr.specs.Templates.{called_member, check_name, member_name, static_name, setter_name, expression_template, statement_templates}
 use Rattle.sj_mangling.specs.Bindings.{class_binding, field_binding}
 use Rattle.sj_mangling.specs.declared.bindings.ClassBinding.TheVariants.{Class, Constants, Marker}
@@ -32,7 +33,7 @@ use Rattle.body_rules.specs.Subtyping.{IsSubtyping}
 use Rattle.sj_plain.specs.Standing.{suits}
 use Rattle.sj_plain.specs.Worlds.{World, with_pending, Grows, SameValue, SameValues}
 use Rattle.sj_world.specs.Subtypes.{IsSub}
-use Rattle.built_forms.specs.Built.{Usable, has_static, can_box, divides}
+use Rattle.built_forms.specs.Built.{Usable, has_static, can_box, divides, compares}
 use Rattle.body_rules.specs.Locals.{Scope, HasValue}
 use Rattle.body_rules.specs.Standing.{is_bare, types_referred, call_type}
 use Rattle.sj_trees.specs.declared.classes.ClassDef.{ClassDef}
@@ -40,13 +41,13 @@ use Rattle.sj_trees.specs.declared.classes.FieldDef.{FieldDef}
 use Rattle.sj_trees.specs.TypeOf.{binary_result}
 use Rattle.sj_trees.specs.Types.{class_type}
 use Rattle.sj_trees.specs.declared.operators.BinaryOp.{BinaryOp}
-use Rattle.sj_trees.specs.declared.operators.BinaryOp.TheVariants.{IntDivide, IntRemainder, LongDivide}
+use Rattle.sj_trees.specs.declared.operators.BinaryOp.TheVariants.{IntDivide, IntRemainder, LongDivide, StrictEqual}
 use Rattle.typing_rules.specs.Rules.{left_operand, right_operand}
 use Rattle.sj_trees.specs.declared.types.IrType.{IrType}
-use Rattle.sj_trees.specs.declared.types.IrType.TheVariants.{Any, NoType}
+use Rattle.sj_trees.specs.declared.types.IrType.TheVariants.{Any, Boolean, Array, NoType}
 
 -- a binding at the top of a file of the emitted code: the function of a static member, of one that runs on a receiver, and of a constructor; a class, and
--- its constants; the variable of a static field of this type, and the function that sets it; and a helper
+-- its constants; the variable of a static field of this type, and the function that sets it; the test of a type, and the cast to it; and a helper
 pub data Top : Type 0 where
   a_function : Member → Top
   a_method : Member → Top
@@ -55,6 +56,8 @@ pub data Top : Type 0 where
   some_constants : List ℕ → Top
   a_static : List ℕ → List ℕ → IrType → Top
   a_setter : List ℕ → List ℕ → IrType → Top
+  a_test : IrType → Top
+  a_cast : IrType → Top
   a_helper : Helper → Top
 
 abbrev pub top_name : Top → Name
@@ -65,6 +68,8 @@ top_name (a_class c) = class_binding Class c
 top_name (some_constants c) = class_binding Constants c
 top_name (a_static c f t) = static_name c f
 top_name (a_setter c f t) = setter_name c f
+top_name (a_test t) = test_name t
+top_name (a_cast t) = cast_name t
 top_name (a_helper h) = helper_name h
 
 -- the code that can use this can use the binding
@@ -76,6 +81,8 @@ is_usable has (a_class c) = has.made c
 is_usable has (some_constants c) = has.made c
 is_usable has (a_static c f t) = has.static_field c f t
 is_usable has (a_setter c f t) = has.static_setter c f t
+is_usable has (a_test t) = has.tests t
+is_usable has (a_cast t) = has.casts t
 is_usable has (a_helper h) = has.helper (helper_name h)
 
 -- and names it: any but the constants of a class, which the class alone names
@@ -178,13 +185,17 @@ link_of p c = record { file = p.home (a_class c); name = top_name (a_class c) }
 abbrev pub links_of : Place → List ℕ → List js.ClassLink
 links_of p c = map (link_of p) (chain_of p.classes c)
 
+-- where the class of objects that hold chars is declared
+abbrev pub box_link : Place → js.ClassLink
+box_link p = record { file = p.home (a_helper BoxedChar); name = helper_name BoxedChar }
+
 -- what stands at an address of the IR, and what stands at the address that it has in the world: an object of a class, made by the class that stands for
 -- it and by those that this one extends, with a property for each field
 pub data SameStored (p : Place) (w : World) : Option ir.Stored → Option js.Stored → Type 0 where
   same_object : (c : List ℕ) (fields : ir.Fields) (properties : Name → Option js.Value) → TellsClass w c properties → ((d f : List ℕ) (t : IrType) → IsField p.classes d f t → SameField w t (fields d f) (properties (field_binding Property d f))) → SameStored p w (Some (ir.object c fields)) (Some (js.plain (links_of p c) properties))
 
--- the heaps stand for each other: what has an address in the world stands on both; two addresses of the IR have two; and what the emitted code has for
--- itself, or has made before the IR, stands where it stood, at no address of the world
+-- the heaps stand for each other: what has an address in the world stands on both; two addresses of the IR have two; what the emitted code has for
+-- itself, or has made before the IR, stands where it stood, at no address of the world; and objects that hold chars are of their class
 pub record SameHeap (p : Place) (w : World) (s : List ir.Stored) (u : List js.Stored) : Type 0 where
   pub objects : (i a : ℕ) → w.place i ≡ Some a → SameStored p w (slice_get s i) (slice_get u a)
   pub differ : (i j a : ℕ) → w.place i ≡ Some a → w.place j ≡ Some a → i ≡ j
@@ -193,6 +204,7 @@ pub record SameHeap (p : Place) (w : World) (s : List ir.Stored) (u : List js.St
   pub apart : (i a : ℕ) (o : js.Stored) → w.place i ≡ Some a → w.owned a ≡ Some o → ⊥
   pub unborn : (i a : ℕ) (o : js.Stored) → w.place i ≡ Some a → w.pending a ≡ Some o → ⊥
   pub separate : (a : ℕ) (o b : js.Stored) → w.owned a ≡ Some o → w.pending a ≡ Some b → ⊥
+  pub boxes : w.boxes ≡ box_link p ∷ []
 
 -- the constants of a class, which the emitted code has for itself at an address, and which tell its marker
 pub record HoldsConstants (owned : ℕ → Option js.Stored) (c : List ℕ) (cell : js.Cell) : Type 0 where
@@ -210,10 +222,6 @@ pub record HoldsCharConstants (owned : ℕ → Option js.Stored) (cell : js.Cell
   pub held : cell ≡ js.holds true (js.object address)
   pub owned_there : owned address ≡ Some (js.plain [] constants)
   pub marked : constants (codes "s") ≡ Some (js.text (class_binding Marker (codes "java.lang.Character")))
-
--- where the class of objects that hold chars is declared
-abbrev pub box_link : Place → js.ClassLink
-box_link p = record { file = p.home (a_helper BoxedChar); name = helper_name BoxedChar }
 
 -- what a local or a static field of this type holds, and the binding that stands for it
 pub data Holding (w : World) (t : IrType) : Option ir.Value → js.Cell → Type 0 where
@@ -349,6 +357,24 @@ division_helper _ = helpers.LongRemainder
 abbrev pub DividesAlike : Setting → BinaryOp → Type 0
 DividesAlike z o = (w : World) (v v' : ir.Value) (x x' : js.Value) (env : ir.Env) (s : ir.State) (u : js.State) → SameValue w (left_operand o) v x → SameValue w (right_operand o) v' x' → SameState z.place w s u → Sim z.direction (Valued z.place w env (binary_result o)) (ir_meaning.answered z.place.classes z.low (binary_value o v v') env s) (top_call z.place z.js_low (a_helper (division_helper o)) (x ∷ x' ∷ []) u)
 
+-- a type whose test and whose cast call a function: that of arrays isn't built, and one to any calls nothing
+abbrev pub HasFunction : IrType → Type 0
+HasFunction Any = ⊥
+HasFunction (Array r) = ⊥
+HasFunction _ = Unit {0}
+
+-- a test of a value, and its function
+abbrev pub TestsAlike : Setting → IrType → Type 0
+TestsAlike z t = (w : World) (v : ir.Value) (x : js.Value) (env : ir.Env) (s : ir.State) (u : js.State) → SameValue w Any v x → SameState z.place w s u → Sim z.direction (Valued z.place w env Boolean) (ir.given (ir_meaning.is_instance_value z.place.classes t s v) env s) (top_call z.place z.js_low (a_test t) (x ∷ []) u)
+
+-- a cast of a value, and its function
+abbrev pub CastsAlike : Setting → IrType → Type 0
+CastsAlike z t = (w : World) (v : ir.Value) (x : js.Value) (env : ir.Env) (s : ir.State) (u : js.State) → SameValue w Any v x → SameState z.place w s u → Sim z.direction (Valued z.place w env t) (ir_meaning.answered z.place.classes z.low (ir_meaning.cast_answer z.place.classes t s v) env s) (top_call z.place z.js_low (a_cast t) (x ∷ []) u)
+
+-- whether two values are the same, and the helper that tells
+abbrev pub ComparesAlike : Setting → Type 0
+ComparesAlike z = (w : World) (v v' : ir.Value) (x x' : js.Value) (env : ir.Env) (s : ir.State) (u : js.State) → SameValue w Any v x → SameValue w Any v' x' → SameState z.place w s u → Sim z.direction (Valued z.place w env Boolean) (ir_meaning.answered z.place.classes z.low (binary_value StrictEqual v v') env s) (top_call z.place z.js_low (a_helper helpers.Equal) (x ∷ x' ∷ []) u)
+
 -- `new $C` of a char: the emitted code makes an object that holds it, and the IR does nothing
 abbrev pub BoxesAlike : Setting → Type 0
 BoxesAlike z = (t : IrType) (c : ℕ) (w : World) (env : ir.Env) (s : ir.State) (u : js.State) → is_char t ≡ false → suits t (ir.char c) ≡ true → c < 2 ^ 16 → SameState z.place w s u → Sim z.direction (Valued z.place w env t) (done (ir.ends (ir.gives (ir.char c)) env s)) (js_meaning.construct z.place.program z.js_low (box_link z.place ∷ []) (box_link z.place ∷ []) (js.number (pos c) ∷ []) u)
@@ -363,6 +389,9 @@ pub record Lawful (z : Setting) : Type 0 where
   pub checks : (usable z).helper check_name ≡ true → ChecksAlike z
   pub divisions : (o : BinaryOp) → divides (usable z) o ≡ true → DividesAlike z o
   pub boxes : can_box (usable z) ≡ true → BoxesAlike z
+  pub tests : (t : IrType) → (usable z).tests t ≡ true → HasFunction t × TestsAlike z t
+  pub casts : (t : IrType) → (usable z).casts t ≡ true → HasFunction t × CastsAlike z t
+  pub compares : compares (usable z) ≡ true → ComparesAlike z
 
 -- This, in a method of the class, if there is one, and the binding that stands for it
 pub data Receiving (w : World) (c : List ℕ) : Option ir.Value → js.Cell → Type 0 where

@@ -11,42 +11,42 @@ use Rattle.sj_plain.specs.Standing.{suits}
 use Rattle.sj_trees.specs.declared.types.IrType.{IrType}
 
 -- the address that the emitted code has for each address of the IR; what it has for itself at other addresses (constants of classes, and objects that hold
--- chars), which stays as it is; and the objects
--- that it has already made and the IR hasn't yet, as they stand.
+-- chars), which stays as it is; the objects that it has already made and the IR hasn't yet, as they stand; and the class of objects that hold chars
 pub record World : Type 0 where
   pub place : ℕ → Option ℕ
   pub owned : ℕ → Option js.Stored
   pub pending : ℕ → Option js.Stored
+  pub boxes : List js.ClassLink
 
 -- the world of a program that begins
-abbrev pub nothing_made : World
-nothing_made = record { place = λ i. None; owned = λ a. None; pending = λ a. None }
+abbrev pub nothing_made : List js.ClassLink → World
+nothing_made boxes = record { place = λ i. None; owned = λ a. None; pending = λ a. None; boxes = boxes }
 
 -- the world in which the emitted code has made this object at this address, and the IR hasn't yet
 abbrev pub with_pending : ℕ → js.Stored → World → World
-with_pending a o w = record { place = w.place; owned = w.owned; pending = λ b. if b == a then Some o else w.pending b }
+with_pending a o w = record { place = w.place; owned = w.owned; pending = λ b. if b == a then Some o else w.pending b; boxes = w.boxes }
 
 -- the world in which the emitted code has made this object for itself at this address
 abbrev pub with_owned : ℕ → js.Stored → World → World
-with_owned a o w = record { place = w.place; owned = λ b. if b == a then Some o else w.owned b; pending = w.pending }
+with_owned a o w = record { place = w.place; owned = λ b. if b == a then Some o else w.owned b; pending = w.pending; boxes = w.boxes }
 
 -- the world in which the IR has made its own, at this address, for the one that was pending there
 abbrev pub with_born : ℕ → ℕ → World → World
-with_born i a w = record { place = λ j. if j == i then Some a else w.place j; owned = w.owned; pending = λ b. if b == a then None else w.pending b }
+with_born i a w = record { place = λ j. if j == i then Some a else w.place j; owned = w.owned; pending = λ b. if b == a then None else w.pending b; boxes = w.boxes }
 
 pub record Grows (old new : World) : Type 0 where
   pub places : (i a : ℕ) → old.place i ≡ Some a → new.place i ≡ Some a
   pub owns : (a : ℕ) (o : js.Stored) → old.owned a ≡ Some o → new.owned a ≡ Some o
   pub pends : (a : ℕ) (o : js.Stored) → old.pending a ≡ Some o → new.pending a ≡ Some o
+  pub boxes : old.boxes ≡ new.boxes
 
--- an object that holds a char, as the emitted code has it for itself and never changes it: its property `c` is the char, and its constants have the marker of
--- `java.lang.Character`
+-- an object of the class of those that hold chars, as the emitted code has it for itself and never changes it: its property `c` is the char, and its constants
+-- have the marker of `java.lang.Character`
 pub record IsBox (w : World) (u a : ℕ) : Type 0 where
-  pub links : List js.ClassLink
   pub properties : Name → Option js.Value
   pub address : ℕ
   pub constants : Name → Option js.Value
-  pub owned : w.owned a ≡ Some (js.plain links properties)
+  pub owned : w.owned a ≡ Some (js.plain w.boxes properties)
   pub char : properties (codes "c") ≡ Some (js.number (pos u))
   pub held : properties (codes "k") ≡ Some (js.object address)
   pub constants_owned : w.owned address ≡ Some (js.plain [] constants)

@@ -9,7 +9,7 @@ use Rattle.sj_desugar.specs.Desugar.{receiver, received, rest_of, operand, into,
 use Rattle.sj_desugar.specs.Plain.{is_plain}
 use Rattle.sj_desugar.specs.Texts.{operand_of}
 use Rattle.sj_desugar.specs.Spill.{Destination, discard, to_variable, to_result, Code, Operand, no_code, one, put_first, then_code, spill, then_use}
-use Rattle.sj_trees.specs.Term.{Term, Terms, no_terms, more_terms, Cases, no_cases, more_cases, var_def, block_of, labeled, assign, return_to, if_then, while_loop, do_while, throw, match_on, new_object, select, select_static, apply_statically, apply_static, unary_op, binary_op, undefined_literal, null_literal, boolean_literal, char_literal, byte_literal, short_literal, int_literal, long_literal, string_literal, var_ref, this_ref, log_line}
+use Rattle.sj_trees.specs.Term.{Term, Terms, no_terms, more_terms, Cases, no_cases, more_cases, var_def, block_of, labeled, assign, return_to, if_then, while_loop, do_while, throw, match_on, new_object, select, select_static, apply_statically, apply_static, unary_op, binary_op, is_instance_of, as_instance_of, undefined_literal, null_literal, boolean_literal, char_literal, byte_literal, short_literal, int_literal, long_literal, string_literal, var_ref, this_ref, log_line}
 use Rattle.sj_names.specs.declared.method_names.Namespace.TheVariants.{Constructor}
 use Rattle.sj_trees.specs.Types.{class_type}
 use Rattle.sure_receivers.specs.Sure.{is_sure}
@@ -151,6 +151,8 @@ module _ (is_mutable sure : List ℕ → Bool) where
     good (select_static p c f t) = λ around ts ls b k j h em. finish-good no_name ls b k p t false (core.static_of c f) j
     good (this_ref p t) = λ around ts ls b k j h em. finish-good no_name ls b k p t true (core.variable_use core.receiver) j
     good (unary_op p o e) = λ around ts ls b k j h em. act_good e (good e) (Own e) (all_part (Own e)) around ts ls b j (λ es. finish k p (unary_result o) false (core.unary_of o (first_of es))) h em (λ es i. finish-good no_name ls b k p (unary_result o) false (core.unary_of o (first_of es)) i)
+    good (is_instance_of p e t) = λ around ts ls b k j h em. act_good e (good e) (Own e) (all_part (Own e)) around ts ls b j (λ es. finish k p Boolean false (core.test_of t (coerced Any (type_of_term e) (first_of es)))) h em (λ es i. finish-good no_name ls b k p Boolean false (core.test_of t (coerced Any (type_of_term e) (first_of es))) i)
+    good (as_instance_of p e t) = λ around ts ls b k j h em. act_good e (good e) (Own e) (all_part (Own e)) around ts ls b j (λ es. finish k p t false (core.cast_of t (coerced Any (type_of_term e) (first_of es)))) h em (λ es i. finish-good no_name ls b k p t false (core.cast_of t (coerced Any (type_of_term e) (first_of es))) i)
     good (binary_op p o e d) = λ around ts ls b k j h em. good-use (Own (binary_op p o e d)) no_name (Own (binary_op p o e d)) ls b (operand is_mutable sure e (λ k j. into is_mutable sure ts k j e) ∷ operand is_mutable sure d (λ k j. into is_mutable sure ts k j d) ∷ []) (λ es. finish k p (binary_result o) false (core.binary_of o (operand_of o (type_of_term e) (first_of es)) (operand_of o (type_of_term d) (second_of es)))) j (operand-good (Own e) (Own d) (Own (binary_op p o e d)) ls b (operand is_mutable sure e (λ k j. into is_mutable sure ts k j e)) (operand is_mutable sure d (λ k j. into is_mutable sure ts k j d) ∷ []) (λ k j. good e around ts ls b k j h.0 em) (each_one d (good d) around ts ls b h.1 em) h.2 (λ x o. inl o) (λ x o. inr o) j) (λ es i. finish-good no_name ls b k p (binary_result o) false (core.binary_of o (operand_of o (type_of_term e) (first_of es)) (operand_of o (type_of_term d) (second_of es))) i) (nothing_apart (Own (binary_op p o e d))) (all_part (Own (binary_op p o e d))) (no_part (Own (binary_op p o e d)))
     good (undefined_literal p) = λ around ts ls b k j h em. finish-good no_name ls b k p Undefined true core.undefined_value j
     good (null_literal p) = λ around ts ls b k j h em. finish-good no_name ls b k p Null true core.null_value j

@@ -2,7 +2,7 @@
 use Rattle.std.specs.Prelude.{◌≡◌, ℕ, List, [], ◌∷◌, ◌⊎◌}
 use Rattle.sj_desugar.specs.Desugar.{names_of}
 use Rattle.sj_trees.specs.declared.classes.MethodDef.{MethodDef}
-use Rattle.sj_trees.specs.Term.{Term, Terms, no_terms, more_terms, Cases, no_cases, more_cases, var_def, block_of, labeled, assign, return_to, if_then, while_loop, do_while, throw, match_on, new_object, select, apply_statically, apply_static, unary_op, binary_op, log_line}
+use Rattle.sj_trees.specs.Term.{Term, Terms, no_terms, more_terms, Cases, no_cases, more_cases, var_def, block_of, labeled, assign, return_to, if_then, while_loop, do_while, throw, match_on, new_object, select, apply_statically, apply_static, unary_op, binary_op, is_instance_of, as_instance_of, log_line}
 use Rattle.body_rules.specs.Locals.{Own, OwnAll, OwnCases, IsParameter}
 use Rattle.sure_receivers.specs.Sure.{Definition, definitions}
 
@@ -33,6 +33,8 @@ abbrev mutual
   Once ls (apply_statically p e c n m ts t) = Once ls e × OnceAll ls ts × Apart (Own e) (OwnAll ts)
   Once ls (apply_static p c n m ts t) = OnceAll ls ts
   Once ls (unary_op p o e) = Once ls e
+  Once ls (is_instance_of p e t) = Once ls e
+  Once ls (as_instance_of p e t) = Once ls e
   Once ls (binary_op p o e d) = Once ls e × Once ls d × Apart (Own e) (Own d)
   Once ls (log_line p e) = Once ls e
   Once ls _ = Unit {0}

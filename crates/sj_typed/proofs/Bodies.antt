@@ -3,7 +3,7 @@ use Rattle.std.proofs.Common.{◌≡◌, ℕ, ◌+◌, ◌^◌, arith, Bool, tru
 use Rattle.std.specs.List.{All}
 use Rattle.std.proofs.lemmas.Bool.{and_parts, and_from}
 use Rattle.std.proofs.lemmas.List.Elements.{All-nil, All-cons, All-head, All-tail}
-use Rattle.built_forms.specs.Built.{Usable, stands, may_make, is_operation, is_built, are_built, are_built_cases, body_boxes, is_built_method}
+use Rattle.built_forms.specs.Built.{Usable, stands, may_make, is_operation, can_cast, is_built, are_built, are_built_cases, body_boxes, is_built_method}
 use Rattle.listing_spelling.specs.Rules.{IsListedTree, AreListedTrees, AreListedCases}
 use Rattle.sj_ask.specs.Sizes.{size, size_of_cases}
 use Rattle.sj_desugar.specs.Desugar.{member, has_no_value}
@@ -22,7 +22,7 @@ use Rattle.body_rules.specs.Locals.{local_of, HasValue}
 use Rattle.body_rules.specs.Typing as scenes
 use Rattle.sj_proper.specs.Once.{Once, OnceAll, OnceCases}
 use Rattle.sj_proper.specs.Methods.{scene_of, KeepsRules}
-use Rattle.sj_trees.specs.Term.{Term, Terms, no_terms, more_terms, Cases, no_cases, more_cases, var_def, skip, block_of, labeled, assign, return_to, if_then, while_loop, do_while, throw, match_on, new_object, select, select_static, apply_statically, apply_static, unary_op, binary_op, undefined_literal, null_literal, boolean_literal, char_literal, byte_literal, short_literal, int_literal, long_literal, string_literal, var_ref, this_ref, log_line}
+use Rattle.sj_trees.specs.Term.{Term, Terms, no_terms, more_terms, Cases, no_cases, more_cases, var_def, skip, block_of, labeled, assign, return_to, if_then, while_loop, do_while, throw, match_on, new_object, select, select_static, apply_statically, apply_static, unary_op, binary_op, is_instance_of, as_instance_of, undefined_literal, null_literal, boolean_literal, char_literal, byte_literal, short_literal, int_literal, long_literal, string_literal, var_ref, this_ref, log_line}
 use Rattle.sj_trees.specs.declared.classes.ClassDef.{ClassDef}
 use Rattle.sj_trees.specs.declared.classes.MethodDef.{MethodDef}
 use Rattle.sj_trees.specs.declared.classes.ParamDef.{ParamDef}
@@ -149,6 +149,12 @@ module _ (w : Classes) (has : Usable) where
         let q = and_parts (is_operation has op e) (is_built has (may_check has s.sure) d && is_built has (may_check has s.sure) e) built in
         let parts = and_parts (is_built has (may_check has s.sure) d) (is_built has (may_check has s.sure) e) q.1 in
         (record { meets = own s.space s.labels n (binary_op p op d e) all; built = q.0; finds = tt }, typed d x x s a (n + 1) refl c h.0 (keep-front s.owner s.space (below x d) (At x e) h.1) o.0 parts.0 listed.0 (one s.space s.labels (n + 1) d e met), typed e x x s a (n + 1 + size d) refl c later.0 later.1 o.1 parts.1 listed.1 (other s.space s.labels (n + 1) d e met))
+    typed (is_instance_of p e t) x y s a n z c k h o built listed all =
+        let q = and_parts (has.tests t) (is_built has (may_check has s.sure) e) built in
+        (record { meets = own s.space s.labels n (is_instance_of p e t) all; built = q.0; finds = tt }, typed e x x s a (n + 1) refl c h.0 h.1 o q.1 listed.0 (inner s.space s.labels n (is_instance_of p e t) all))
+    typed (as_instance_of p e t) x y s a n z c k h o built listed all =
+        let q = and_parts (can_cast has t) (is_built has (may_check has s.sure) e) built in
+        (record { meets = own s.space s.labels n (as_instance_of p e t) all; built = q.0; finds = tt }, typed e x x s a (n + 1) refl c h.0 h.1 o q.1 listed.0 (inner s.space s.labels n (as_instance_of p e t) all))
     typed (undefined_literal p) x y s a n z c k h o built listed all = record { meets = tt; built = refl; finds = tt }
     typed (null_literal p) x y s a n z c k h o built listed all = record { meets = tt; built = refl; finds = tt }
     typed (boolean_literal p b) x y s a n z c k h o built listed all = record { meets = tt; built = refl; finds = tt }

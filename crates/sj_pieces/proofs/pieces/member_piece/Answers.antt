@@ -2,7 +2,6 @@ use Rattle.std.proofs.Common.{◌≡◌, ◌∙◌, subst, sym}
 use Rattle.std.proofs.lemmas.Result.{IfOk-weaker}
 use Rattle.emit_questions.specs.Task.{emitted, emitted_view}
 use Rattle.js_tree.specs.Rules.{IsPiece}
-use Rattle.js_tree.specs.Terms.{Piece}
 use Rattle.js_tree.specs.declared.items.JsMember.{JsMember}
 use Rattle.sj_core.specs.Terms.{Method}
 use Rattle.sj_core.specs.Views.{method_view}

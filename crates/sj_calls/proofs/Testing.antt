@@ -1,0 +1,164 @@
+-- The tests of primitive types, by the helpers of their kinds.
+use Rattle.std.proofs.Common.{◌≡◌, ℕ, suc, Bool, true, false, ◌||◌, ◌&&◌, ◌≤◌, [], ◌∷◌, Option, Some, refl, sym, ap, ◌∙◌, subst, arith}
+use Rattle.std.specs.Prelude.{ℤ, pos, negsuc, FitsSigned, leb, codes}
+use Rattle.std.specs.Ordering.{int_eq}
+use Rattle.std.specs.Int.{w8, w16}
+use Rattle.std.proofs.lemmas.Bool.{leb-true, le-leb}
+use Rattle.int_arithmetic.specs.Signed.{wrapped_to_byte, wrapped_to_short}
+use Rattle.outcomes.specs.Outcome.{done}
+use Rattle.outcomes.specs.Agreement.{Direction, Sim}
+use Rattle.outcomes.proofs.Simulation.{sim_done}
+use Rattle.class_casts.proofs.Kinded.{test_passes}
+use Rattle.class_casts.specs.Kinds.{passes}
+use Rattle.class_tests.proofs.Smallest.{small_tests_tell}
+use Rattle.class_tests.specs.Kinds.{BoxesStand}
+use Rattle.helper_rules.specs.Helpers.{helper_name}
+use Rattle.helper_rules.specs.declared.kinds.Helper.TheVariants.{BoxedChar, TestOf}
+use Rattle.helper_rules.specs.declared.kinds.Kind.{Kind}
+use Rattle.helper_rules.specs.declared.kinds.Kind.TheVariants as kinds
+use Rattle.ir_mean.specs.Dispatch.{is_small}
+use Rattle.ir_mean.specs.Meaning as ir_meaning
+use Rattle.ir_mean.specs.States as ir
+use Rattle.js_mean.specs.Meaning as js_meaning
+use Rattle.js_mean.specs.States as js
+use Rattle.js_tree.specs.Terms.{Name}
+use Rattle.sj_emit_expr.specs.Tests.{test_name}
+use Rattle.sj_names.proofs.Same.{impossible}
+use Rattle.sj_trees.specs.declared.types.IrType.{IrType}
+use Rattle.sj_trees.specs.declared.types.IrType.TheVariants.{Any, Undefined, Boolean, Char, Byte, Short, Int, Long, String, Array}
+use Rattle.sj_plain.specs.Settings.{Place, SameState, Valued, valued, HasFunction, a_test, a_helper, top_call}
+use Rattle.sj_plain.proofs.Worlds.{World, grows-refl, SameValue, Stands, same_boolean, same_char, same_box, same_number, same_reference}
+use Rattle.sj_calls.specs.Helpers.{kind_of, CanTest, ReachesBoxes}
+use Rattle.sj_calls.proofs.Boxed.{boxes, box_below, object_apart}
+use Rattle.sj_calls.proofs.Sameness.{both_pass}
+
+-- the range of bytes and that of shorts, by both meanings
+or_false : (b : Bool) → (b || false) ≡ b
+or_false true = refl
+or_false false = refl
+
+and_true : (b : Bool) → (b && true) ≡ b
+and_true true = refl
+and_true false = refl
+
+byte_small : (z : ℤ) → is_small z (codes "java.lang.Byte") ≡ int_eq (wrapped_to_byte z) z
+byte_small (pos n) = or_false (leb n 127) ∙ both_pass (leb n 127) (int_eq (wrapped_to_byte (pos n)) (pos n)) (λ h. (small_tests_tell.byte_range (pos n)).1 (fits (leb-true n 127 h))) (λ h. le-leb n 127 (below ((small_tests_tell.byte_range (pos n)).0 h)))
+  where
+    fits : n ≤ 127 → FitsSigned w8 (pos n)
+    fits l = record { sfits = omega arith }
+
+    below : FitsSigned w8 (pos n) → n ≤ 127
+    below f = let l = f.sfits in omega arith
+byte_small (negsuc n) = or_false (leb n 127 && true) ∙ and_true (leb n 127) ∙ both_pass (leb n 127) (int_eq (wrapped_to_byte (negsuc n)) (negsuc n)) (λ h. (small_tests_tell.byte_range (negsuc n)).1 (fits (leb-true n 127 h))) (λ h. le-leb n 127 (below ((small_tests_tell.byte_range (negsuc n)).0 h)))
+  where
+    fits : n ≤ 127 → FitsSigned w8 (negsuc n)
+    fits l = record { sfits = omega arith }
+
+    below : FitsSigned w8 (negsuc n) → n ≤ 127
+    below f = let l = f.sfits in omega arith
+
+short_small : (z : ℤ) → is_small z (codes "java.lang.Short") ≡ int_eq (wrapped_to_short z) z
+short_small (pos n) = both_pass (leb n 32767) (int_eq (wrapped_to_short (pos n)) (pos n)) (λ h. (small_tests_tell.short_range (pos n)).1 (fits (leb-true n 32767 h))) (λ h. le-leb n 32767 (below ((small_tests_tell.short_range (pos n)).0 h)))
+  where
+    fits : n ≤ 32767 → FitsSigned w16 (pos n)
+    fits l = record { sfits = omega arith }
+
+    below : FitsSigned w16 (pos n) → n ≤ 32767
+    below f = let l = f.sfits in omega arith
+short_small (negsuc n) = and_true (leb n 32767) ∙ both_pass (leb n 32767) (int_eq (wrapped_to_short (negsuc n)) (negsuc n)) (λ h. (small_tests_tell.short_range (negsuc n)).1 (fits (leb-true n 32767 h))) (λ h. le-leb n 32767 (below ((small_tests_tell.short_range (negsuc n)).0 h)))
+  where
+    fits : n ≤ 32767 → FitsSigned w16 (negsuc n)
+    fits l = record { sfits = omega arith }
+
+    below : FitsSigned w16 (negsuc n) → n ≤ 32767
+    below f = let l = f.sfits in omega arith
+
+named : (name : Name) (own k : Kind) → ◌≡◌ {A = Option Kind} (Some own) (Some k) → name ≡ helper_name (TestOf own) → name ≡ helper_name (TestOf k)
+named name own k e is = let same : own ≡ k = cc in subst (λ q. name ≡ helper_name (TestOf q)) same is
+
+-- the test of a primitive type has the name of its helper
+pub test_named : (t : IrType) (k : Kind) → kind_of t ≡ Some k → test_name t ≡ helper_name (TestOf k)
+test_named Undefined k e = named (codes "$isV") kinds.Undefined k e refl
+test_named Boolean k e = named (codes "$isZ") kinds.Boolean k e refl
+test_named Char k e = named (codes "$isC") kinds.Char k e refl
+test_named Byte k e = named (codes "$isB") kinds.Byte k e refl
+test_named Short k e = named (codes "$isS") kinds.Short k e refl
+test_named Int k e = named (codes "$isI") kinds.Int k e refl
+test_named Long k e = named (codes "$isJ") kinds.Long k e refl
+test_named String k e = named (codes "$isT") kinds.Text k e refl
+test_named _ k e = absurd (cc)
+
+-- a primitive type is neither one of arrays nor any
+pub primitive : (t : IrType) (k : Kind) → kind_of t ≡ Some k → HasFunction t
+primitive Any k e = absurd (cc)
+primitive (Array r) k e = absurd (cc)
+primitive _ k e = tt
+
+module _ (p : Place) (w : World) (s : ir.State) (u : js.State) (same : SameState p w s u) where
+  -- what the IR's test gives of a value, the test of the kind tells of what stands for it
+  abbrev TellsKind : IrType → Kind → Type 0
+  TellsKind t k = (v : ir.Value) (x : js.Value) → Stands w false v x → ir_meaning.is_instance_value p.classes t s v ≡ ir.boolean (passes u (boxes p) k x)
+
+  undefined_told : TellsKind Undefined kinds.Undefined
+  undefined_told _ _ (same_char r c f) = impossible r
+  undefined_told _ _ _ = refl
+
+  boolean_told : TellsKind Boolean kinds.Boolean
+  boolean_told _ _ (same_char r c f) = impossible r
+  boolean_told _ _ _ = refl
+
+  char_told : TellsKind Char kinds.Char
+  char_told _ _ (same_char r c f) = impossible r
+  char_told _ _ (same_box r c a f b) = ap ir.boolean (sym (box_below p w s u same c a b))
+  char_told _ _ (same_reference i a e) = ap ir.boolean (sym (object_apart p w s u same i a e))
+  char_told _ _ _ = refl
+
+  byte_told : TellsKind Byte kinds.Byte
+  byte_told _ _ (same_char r c f) = impossible r
+  byte_told _ _ (same_number z f) = ap ir.boolean (byte_small z)
+  byte_told _ _ _ = refl
+
+  short_told : TellsKind Short kinds.Short
+  short_told _ _ (same_char r c f) = impossible r
+  short_told _ _ (same_number z f) = ap ir.boolean (short_small z)
+  short_told _ _ _ = refl
+
+  int_told : TellsKind Int kinds.Int
+  int_told _ _ (same_char r c f) = impossible r
+  int_told _ _ _ = refl
+
+  long_told : TellsKind Long kinds.Long
+  long_told _ _ (same_char r c f) = impossible r
+  long_told _ _ _ = refl
+
+  text_told : TellsKind String kinds.Text
+  text_told _ _ (same_char r c f) = impossible r
+  text_told _ _ _ = refl
+
+  by_kind : (t : IrType) (own k : Kind) → ◌≡◌ {A = Option Kind} (Some own) (Some k) → TellsKind t own → TellsKind t k
+  by_kind t own k e told = let is : own ≡ k = cc in subst (TellsKind t) is told
+
+  kind_told : (t : IrType) (k : Kind) → kind_of t ≡ Some k → TellsKind t k
+  kind_told Undefined k e = by_kind Undefined kinds.Undefined k e undefined_told
+  kind_told Boolean k e = by_kind Boolean kinds.Boolean k e boolean_told
+  kind_told Char k e = by_kind Char kinds.Char k e char_told
+  kind_told Byte k e = by_kind Byte kinds.Byte k e byte_told
+  kind_told Short k e = by_kind Short kinds.Short k e short_told
+  kind_told Int k e = by_kind Int kinds.Int k e int_told
+  kind_told Long k e = by_kind Long kinds.Long k e long_told
+  kind_told String k e = by_kind String kinds.Text k e text_told
+  kind_told _ k e = absurd (cc)
+
+  -- the test of chars finds their class
+  boxes_there : (g : Name) → ReachesBoxes p g → BoxesStand p.program g (boxes p) u
+  boxes_there g r = record { const = false; cell_is = ap (λ (o : Option Name). js_meaning.top_cell o (helper_name BoxedChar) u) r.reached ∙ same.tops r.user (a_helper BoxedChar) r.usable }
+
+  -- a test of a value, and its function
+  pub tests_alike : (t : IrType) → CanTest p t → (d : Direction) (m : ℕ) (env : ir.Env) (v : ir.Value) (x : js.Value) → SameValue w Any v x → Sim d (Valued p w env Boolean) (ir.given (ir_meaning.is_instance_value p.classes t s v) env s) (top_call p (js_meaning.below p.program (suc m)) (a_test t) (x ∷ []) u)
+  tests_alike t can d m env v x a = subst (λ o. Sim d (Valued p w env Boolean) (ir.given o env s) (top_call p (js_meaning.below p.program (suc m)) (a_test t) (x ∷ []) u)) (sym (kind_told t can.kind can.its_kind v x a.stands)) (subst (Sim d (Valued p w env Boolean) (done (ir.ends (ir.gives (ir.boolean passed)) env s))) (sym js_is) (sim_done d (Valued p w env Boolean) (ir.ends (ir.gives (ir.boolean passed)) env s) (js.gives (js.boolean passed) u) (valued w (ir.boolean passed) (js.boolean passed) s u (grows-refl w) (record { stands = same_boolean passed; suits = refl }) same)))
+    where
+      passed : Bool
+      passed = passes u (boxes p) can.kind x
+
+      js_is : top_call p (js_meaning.below p.program (suc m)) (a_test t) (x ∷ []) u ≡ done (js.gives (js.boolean passed) u)
+      js_is = ap (λ c. js_meaning.code_call (js_meaning.below p.program (suc m)) (p.home (a_test t)) c (x ∷ []) u) can.test ∙ test_passes p.program m (p.home (a_test t)) (boxes p) u can.kind x (λ e. boxes_there (p.home (a_test t)) (can.boxes e))
