@@ -17,7 +17,7 @@ use Rattle.sj_names.specs.Same.{is_same_text}
 use Rattle.sj_names.specs.declared.entry_points.EntryPoint.{EntryPoint}
 use Rattle.sj_names.specs.declared.method_names.Member.{Member}
 use Rattle.built_forms.specs.Built.{Usable}
-use Rattle.sj_sound.specs.Linked.{has_function, have_functions, functions_of}
+use Rattle.sj_judged.specs.Linked.{has_function, have_functions, functions_of}
 use Rattle.sj_trees.specs.Term.{Term, Terms, no_terms, more_terms, Cases, no_cases, more_cases, var_def, skip, block_of, labeled, assign, return_to, if_then, while_loop, do_while, match_on, apply_statically, apply_static, unary_op, binary_op, as_instance_of, undefined_literal, null_literal, boolean_literal, char_literal, byte_literal, short_literal, int_literal, long_literal, string_literal, var_ref, log_line}
 use Rattle.sj_trees.specs.declared.types.IrType.{IrType}
 use Rattle.built_forms.specs.Built.{is_operation, can_cast, is_built, are_built, are_built_cases, anything, body_boxes, is_built_body}

@@ -13,7 +13,7 @@ pub use Rattle.sj_kept.proofs.Classes
 pub use Rattle.sj_kept.proofs.Methods
 pub use Rattle.sj_judged.proofs.Bodies
 pub use Rattle.sj_judged.proofs.Values
-pub use Rattle.sj_sound.proofs.Same
+pub use Rattle.sj_judged.proofs.Same
 pub use Rattle.body_rules.proofs.Lists
 pub use Rattle.body_rules.proofs.Plain
 pub use Rattle.body_soundness.proofs.Chains

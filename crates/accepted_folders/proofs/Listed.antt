@@ -3,15 +3,15 @@ use Rattle.std.proofs.Common.{◌≡◌, Bool, true, false, List, [], ◌∷◌,
 use Rattle.std.specs.Prelude.{◌⊎◌}
 use Rattle.std.proofs.lemmas.List.Sorted.{Contains-permutation, IsPermutation-sym}
 use Rattle.sj_proper.specs.Emitted.{EmittedMethod}
-use Rattle.sj_calls.specs.Files.{HasFunction}
+use Rattle.sj_judged.specs.Files.{HasFunction}
 use Rattle.sj_judged.proofs.Found.{here, there}
 use Rattle.sj_local.specs.Broken.{FirstBroken}
 use Rattle.sj_names.proofs.Same.{impossible}
 use Rattle.sj_names.specs.declared.entry_points.EntryPoint.{EntryPoint}
 use Rattle.sj_names.specs.declared.method_names.Member.{Member}
 use Rattle.sj_proper.specs.Emitted.{HaveOwnMembers}
-use Rattle.sj_sound.proofs.Same.{has_function-is}
-use Rattle.sj_sound.specs.Linked.{has_function}
+use Rattle.sj_judged.proofs.Same.{has_function-is}
+use Rattle.sj_judged.specs.Linked.{has_function}
 use Rattle.sj_trees.specs.Term.{Term}
 use Rattle.sj_trees.specs.declared.classes.ClassDef.{ClassDef}
 use Rattle.sj_trees.specs.declared.classes.MethodDef.{MethodDef}

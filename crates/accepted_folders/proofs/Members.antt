@@ -16,9 +16,9 @@ use Rattle.sj_world.specs.Known.{Name, Classes, class_of}
 use Rattle.sj_world.specs.Members.{IsMethod, IsMethodOf}
 use Rattle.sj_world.specs.Paths.{IsFirst}
 use Rattle.sj_proper.specs.Emitted.{EmittedMethod}
-use Rattle.sj_calls.specs.Files.{HasFunction}
+use Rattle.sj_judged.specs.Files.{HasFunction}
 use Rattle.folder_verdicts.proofs.Firsts.{same_first}
-use Rattle.sj_sound.specs.Linked.{is_same_member, has_function}
+use Rattle.sj_judged.specs.Linked.{is_same_member, has_function}
 
 reference-refl : (r : TypeRef) → is_same_reference r r ≡ true
 reference-refl TypeRef.Void = refl

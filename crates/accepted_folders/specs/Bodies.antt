@@ -8,7 +8,7 @@ use Rattle.sj_world.specs.Known.{Classes}
 use Rattle.sj_world.specs.declared.facts.Fact.TheVariants.{Body}
 use Rattle.reach_rules.specs.Reachable.{Reachable}
 use Rattle.sj_proper.specs.Emitted.{EmittedMethod}
-use Rattle.sj_calls.specs.Files.{HasFunction}
+use Rattle.sj_judged.specs.Files.{HasFunction}
 use Rattle.sj_proper.specs.Emitted.{HaveOwnMembers}
 
 -- the definition is that of its member in the classes, and the body is its body

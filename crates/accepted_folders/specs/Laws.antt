@@ -9,7 +9,7 @@ use Rattle.sj_agree.specs.Agrees.{Agrees}
 use Rattle.sj_proper.specs.Emitted.{EmittedMethod, module_with}
 use Rattle.sj_names.specs.declared.entry_points.EntryPoint.{EntryPoint}
 use Rattle.sj_names.specs.declared.folders.SourceFile.{SourceFile}
-use Rattle.sj_sound.specs.Linked.{functions_of, have_functions}
+use Rattle.sj_judged.specs.Linked.{functions_of, have_functions}
 use Rattle.built_forms.specs.Built.{is_built_body}
 use Rattle.body_rules.specs.Typing.{is_built_with}
 use Rattle.sj_world.specs.Known.{Classes}

@@ -10,12 +10,12 @@ pub use Rattle.built_forms.specs.Built
 pub use Rattle.built_forms.specs.Boxes
 pub use Rattle.typing_rules.specs.declared.labels.Label
 pub use Rattle.reach_rules.specs.Rules
-pub use Rattle.sj_sound.specs.Linked
+pub use Rattle.sj_judged.specs.Linked
 pub use Rattle.typing_rules.specs.Rules as TypingRulesRules
 pub use Rattle.typing_rules.specs.Typed
 pub use Rattle.typing_rules.specs.Nodes
 pub use Rattle.typing_rules.specs.Labels
-pub use Rattle.sj_calls.specs.Files
+pub use Rattle.sj_judged.specs.Files
 pub use Rattle.body_soundness.specs.Rules as BodySoundnessRules
 pub use Rattle.body_soundness.specs.Worlds
 pub use Rattle.body_rules.specs.Standing

@@ -4,7 +4,7 @@ use Rattle.js_tree.specs.Terms.{Name, no_statements, text_literal}
 use Rattle.outcomes.specs.Outcome.{Out, done, going, then_do}
 use Rattle.js_mean.specs.States.{Value, null, boolean, ClassLink, absent, Scope, State, ExpressionEnd, gives, with_value, Program}
 use Rattle.js_mean.specs.Meaning.{Low, Code, below, code_of, code_call, function_scope, evaluate, chosen, one_of}
-use Rattle.class_code.proofs.Bridge.{return_hands_on}
+use Rattle.class_tests.proofs.Bridge.{return_hands_on}
 use Rattle.helper_rules.specs.declared.kinds.Kind.{Kind}
 use Rattle.helper_rules.specs.declared.kinds.Kind.TheVariants.{Undefined, Boolean, Char, Byte, Short, Int, Long, Text}
 use Rattle.helper_rules.specs.Words.{is_name, call1, units_of, x}

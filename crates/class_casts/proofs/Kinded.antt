@@ -6,8 +6,8 @@ use Rattle.outcomes.specs.Outcome.{Out, done, then_do}
 use Rattle.js_mean.specs.Operators.{is_strictly_equal}
 use Rattle.js_mean.specs.States.{Value, undefined, null, boolean, number, big_int, text, object, function, class, method, ClassLink, absent, holds, Scope, State, ExpressionEnd, gives, with_value, Program}
 use Rattle.js_mean.specs.Meaning.{Low, Code, below, code_of, code_call, call, function_scope, evaluate, chosen, read_property, value_or_wrong}
-use Rattle.class_code.specs.Bridges.{IsTopFunction}
-use Rattle.class_code.proofs.Bridge.{name_held, call_given, return_hands_on}
+use Rattle.class_tests.specs.Bridges.{IsTopFunction}
+use Rattle.class_tests.proofs.Bridge.{name_held, call_given, return_hands_on}
 use Rattle.helper_rules.specs.declared.kinds.Kind.{Kind}
 use Rattle.helper_rules.specs.declared.kinds.Kind.TheVariants.{Undefined, Boolean, Char, Byte, Short, Int, Long, Text}
 use Rattle.helper_rules.specs.Helpers.{kind_zero, kind_word, unboxed, cast_failure, unboxed_or_throw, cast_of}

@@ -4,3 +4,5 @@ pub mod Kinded
 pub mod Shortly
 pub mod Spelled
 pub mod Worldly
+pub use Rattle.class_tests.proofs.Bridge
+pub use Rattle.class_tests.proofs.Smallest

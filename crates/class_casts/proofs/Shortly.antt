@@ -5,7 +5,7 @@ use Rattle.js_tree.specs.Terms.{Name, Expression, no_statements}
 use Rattle.outcomes.specs.Outcome.{Out, going, then_do}
 use Rattle.js_mean.specs.States.{Value, null, boolean, ClassLink, absent, Scope, State, ExpressionEnd, with_value, Program}
 use Rattle.js_mean.specs.Meaning.{Code, below, code_call, function_scope, evaluate, both_of, one_of}
-use Rattle.class_code.proofs.Bridge.{return_hands_on}
+use Rattle.class_tests.proofs.Bridge.{return_hands_on}
 use Rattle.helper_rules.specs.declared.kinds.Kind.{Kind}
 use Rattle.helper_rules.specs.declared.kinds.Kind.TheVariants.{Undefined, Boolean, Char, Byte, Short, Int, Long, Text}
 use Rattle.helper_rules.specs.Words.{is_name, either}

@@ -4,7 +4,7 @@ use Rattle.js_tree.specs.Terms.{Item}
 use Rattle.sj_mangling.specs.Bindings.{class_binding}
 use Rattle.sj_mangling.specs.declared.bindings.ClassBinding.TheVariants.{AsInstance}
 use Rattle.js_mean.specs.Meaning.{code_among}
-use Rattle.class_code.proofs.Bridge.{same_text}
+use Rattle.class_tests.proofs.Bridge.{same_text}
 use Rattle.helper_rules.specs.declared.kinds.Kind.{Kind}
 use Rattle.helper_rules.specs.declared.kinds.Kind.TheVariants.{Undefined, Boolean, Char, Byte, Short, Int, Long, Text}
 use Rattle.helper_rules.specs.declared.kinds.Helper.TheVariants.{CastTo}

@@ -8,7 +8,7 @@ use Rattle.sj_world.specs.Calls.{IsInstance}
 use Rattle.js_mean.specs.Objects.{property, or_value, stored_has}
 use Rattle.js_mean.specs.States.{Value, undefined, null, boolean, number, big_int, text, object, function, class, method, ClassLink, Stored, plain, Scope, State, gives, with_value, Program}
 use Rattle.js_mean.specs.Meaning.{Code, below, code_call, function_scope, value_or_wrong, truth_or_wrong, has}
-use Rattle.class_code.proofs.Bridge.{return_hands_on}
+use Rattle.class_tests.proofs.Bridge.{return_hands_on}
 use Rattle.helper_rules.specs.declared.kinds.Kind.{Kind}
 use Rattle.helper_rules.specs.declared.kinds.Kind.TheVariants.{Undefined, Boolean, Char, Byte, Short, Int, Long, Text}
 use Rattle.helper_rules.specs.Words.{kind_class, marker, worded_kinds, units_of}

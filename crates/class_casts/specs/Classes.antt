@@ -6,7 +6,7 @@ use Rattle.sj_mangling.specs.Bindings.{class_binding}
 use Rattle.sj_mangling.specs.declared.bindings.ClassBinding.TheVariants.{IsInstance}
 use Rattle.js_mean.specs.States.{Value, null, boolean, ClassLink, State, gives, Program}
 use Rattle.js_mean.specs.Meaning.{Code, below, code_of, code_call}
-use Rattle.class_code.specs.Bridges.{IsTopFunction}
+use Rattle.class_tests.specs.Bridges.{IsTopFunction}
 use Rattle.helper_rules.specs.declared.kinds.Kind.{Kind}
 use Rattle.helper_rules.specs.Words.{units_of, only_return}
 use Rattle.piece_rules.specs.Pieces.{kind_test, cast_value}

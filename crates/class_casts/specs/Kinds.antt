@@ -6,7 +6,7 @@ use Rattle.outcomes.specs.Outcome.{Out, done}
 use Rattle.js_mean.specs.Objects.{property}
 use Rattle.js_mean.specs.States.{Value, undefined, null, boolean, number, big_int, text, ClassLink, State, ExpressionEnd, gives, Program}
 use Rattle.js_mean.specs.Meaning.{Code, below, code_of, code_call}
-use Rattle.class_code.specs.Bridges.{IsTopFunction}
+use Rattle.class_tests.specs.Bridges.{IsTopFunction}
 use Rattle.helper_rules.specs.declared.kinds.Kind.{Kind}
 use Rattle.helper_rules.specs.declared.kinds.Kind.TheVariants.{Undefined, Boolean, Char, Byte, Short, Long, Text}
 use Rattle.helper_rules.specs.Words.{is_name, only_return}

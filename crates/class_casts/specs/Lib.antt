@@ -5,3 +5,4 @@ pub mod Kinds
 pub mod Shorts
 pub mod Worked
 pub mod Worlds
+pub use Rattle.class_tests.specs.Kinds as ClassTestsKinds

@@ -3,3 +3,4 @@ pub mod Marked
 pub mod Shortly
 pub mod Smallest
 pub mod Telling
+pub use Rattle.class_code.proofs.Bridge

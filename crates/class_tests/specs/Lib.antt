@@ -4,3 +4,4 @@ pub mod Shorts
 pub mod Small
 pub mod Tests
 pub mod Worked
+pub use Rattle.class_code.specs.Bridges

@@ -3,8 +3,8 @@ use Rattle.std.proofs.Common.{◌≡◌, ◌↔◌, ◌++◌, ◌⊎◌, true, L
 use Rattle.std.specs.Prelude.{filter}
 use Rattle.std.proofs.lemmas.Bool.{and_from}
 use Rattle.std.proofs.lemmas.List.Elements.{Contains-push, Contains-push_cases}
-use Rattle.closed_pieces.proofs.Declared.{declares}
-use Rattle.closed_pieces.proofs.Uses.{uses_are_declared}
+use Rattle.running_modules.proofs.Declared.{declares}
+use Rattle.running_modules.proofs.Uses.{uses_are_declared}
 use Rattle.declared_files.proofs.Once.{files_run_last}
 use Rattle.declared_files.proofs.Whole.{files_agree}
 use Rattle.declared_files.specs.Declared.{Spread, all_items, Declared, IsPublic, IsLawful}

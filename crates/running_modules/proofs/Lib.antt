@@ -4,3 +4,6 @@ pub mod Sources
 pub mod Superclasses
 pub mod Splits
 pub mod Declares
+pub use Rattle.closed_pieces.proofs.Declared
+pub use Rattle.closed_pieces.proofs.Places
+pub use Rattle.closed_pieces.proofs.Uses

@@ -7,7 +7,7 @@ use Rattle.std.proofs.lemmas.Bool.Decides.{Decides-int_eq}
 use Rattle.outcomes.specs.Outcome.{Out, done, then_do}
 use Rattle.outcomes.specs.Agreement.{Direction, Sim}
 use Rattle.outcomes.proofs.Simulation.{sim_done}
-use Rattle.class_code.proofs.Bridge.{return_hands_on}
+use Rattle.class_casts.proofs.Bridge.{return_hands_on}
 use Rattle.helper_rules.specs.Helpers.{helper_name, equality, both_boxed, is_boxed, same_units, same_values}
 use Rattle.helper_rules.specs.declared.kinds.Helper.TheVariants.{BoxedChar, Equal}
 use Rattle.ir_mean.specs.Meaning as ir_meaning

@@ -10,8 +10,8 @@ use Rattle.outcomes.specs.Agreement.{Direction, Sim}
 use Rattle.outcomes.proofs.Simulation.{sim_done}
 use Rattle.class_casts.proofs.Kinded.{test_passes}
 use Rattle.class_casts.specs.Kinds.{passes}
-use Rattle.class_tests.proofs.Smallest.{small_tests_tell}
-use Rattle.class_tests.specs.Kinds.{BoxesStand}
+use Rattle.class_casts.proofs.Smallest.{small_tests_tell}
+use Rattle.class_casts.specs.ClassTestsKinds.{BoxesStand}
 use Rattle.helper_rules.specs.Helpers.{helper_name}
 use Rattle.helper_rules.specs.declared.kinds.Helper.TheVariants.{BoxedChar, TestOf}
 use Rattle.helper_rules.specs.declared.kinds.Kind.{Kind}

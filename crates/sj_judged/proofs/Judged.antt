@@ -13,7 +13,7 @@ use Rattle.sj_trees.specs.declared.classes.ClassDef.{ClassDef}
 use Rattle.listing_spelling.specs.Rules.{HasListing, IsListedMethod, IsListedTree}
 use Rattle.file_listings.proofs.ListedClasses.{file_is_listed}
 use Rattle.sj_proper.specs.Emitted.{EmittedMethod, HaveOwnMembers}
-use Rattle.sj_calls.specs.Files.{program_with}
+use Rattle.sj_sound.specs.Files.{program_with}
 use Rattle.sj_sound.specs.Linked.{have_functions, functions_of}
 use Rattle.sj_judged.specs.Programs.{IsAccepted}
 use Rattle.sj_kept.proofs.Classes.{class-keeps, keeps-superclass, keeps-hijacked, signature-keeps}

@@ -5,3 +5,5 @@ pub use Rattle.sj_sound.specs.Entries
 pub use Rattle.sj_sound.specs.Classes
 pub use Rattle.sj_sound.specs.Pieces
 pub use Rattle.sj_sound.specs.Settings
+pub use Rattle.sj_sound.specs.Files
+pub use Rattle.sj_sound.specs.Linked

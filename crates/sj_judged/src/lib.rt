@@ -17,7 +17,7 @@ ghost use Rattle.sj_agree.specs.Agrees.{Agrees};
 ghost use Rattle.sj_names.specs.declared.entry_points.EntryPoint.{EntryPoint};
 ghost use Rattle.sj_trees.specs.declared.classes.ClassDef.{ClassDef};
 ghost use Rattle.sj_proper.specs.Emitted.{EmittedMethod, piece_of_method, module_with, HaveOwnMembers};
-ghost use Rattle.sj_calls.specs.Files.{program_with};
+ghost use Rattle.sj_sound.specs.Files.{program_with};
 ghost use Rattle.sj_sound.specs.Linked.{have_functions};
 ghost use Rattle.sj_judged.specs.Programs.{IsAccepted};
 ghost use Rattle.sj_world.specs.Laws.{IsPlain};
