@@ -14,7 +14,7 @@ use Rattle.sj_trees.specs.declared.operators.UnaryOp.TheVariants.{BooleanNot}
 use Rattle.sj_trees.specs.declared.types.IrType.{IrType}
 use Rattle.sj_trees.specs.declared.types.IrType.TheVariants.{Any, Nothing, Undefined, Boolean, Char, Byte, Short, Int, Long, String, Class, Null, Array, NoType}
 use Rattle.body_rules.specs.Operators.{is_simple, a_quotient, a_remainder, a_long_quotient, a_long_remainder, DividesBy, by_int, by_long, IsIdentity, a_sameness, a_difference, Operates, of_its_types, joins, divided, compared}
-use Rattle.typing_rules.specs.Rules.{unary_operand, left_operand, right_operand, IsText, IsCastType}
+use Rattle.built_forms.specs.Rules.{unary_operand, left_operand, right_operand, IsText, IsCastType}
 use Rattle.body_rules.specs.Standing.{is_bare, Fits, MayStand, NoBox}
 use Rattle.body_rules.proofs.Standing.{fits-same}
 use Rattle.body_rules.specs.Typing.{IsTrueLiteral, true_literal}

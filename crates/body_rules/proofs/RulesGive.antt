@@ -10,7 +10,7 @@ use Rattle.sj_names.proofs.Same.{impossible}
 use Rattle.sj_names.specs.declared.method_names.Member.{Member}
 use Rattle.sj_names.specs.declared.references.TypeRef.{TypeRef}
 use Rattle.body_rules.specs.Operators.{is_simple, IsDivision, a_quotient, a_remainder, IsLongDivision, a_long_quotient, a_long_remainder, DividesBy, by_int, by_long, IsIdentity, a_sameness, a_difference}
-use Rattle.typing_rules.specs.Rules.{left_operand, right_operand, call_type, IsText, OperandsFit}
+use Rattle.built_forms.specs.Rules.{left_operand, right_operand, call_type, IsText, OperandsFit}
 use Rattle.body_rules.specs.Standing.{MayStand}
 use Rattle.body_rules.specs.Typing.{Scene, IsResult, AllHaveValues, Typed}
 use Rattle.body_rules.specs.Locals.{HasValue}
@@ -23,7 +23,7 @@ use Rattle.sj_trees.specs.declared.types.IrType.{IrType}
 use Rattle.sj_trees.specs.declared.types.IrType.TheVariants.{Any}
 use Rattle.sj_world.specs.Known.{Classes}
 use Rattle.sj_world.specs.Subtypes.{IsSub}
-use Rattle.typing_rules.specs.Rules as rules
+use Rattle.built_forms.specs.Rules as rules
 
 -- the operands of an operator: of its own types, texts that are joined, those of a division whose helper can be used, or of any type where identity can be asked
 pub data Takes (w : Classes) (has : Usable) (o : BinaryOp) (e d : Term) : Type 0 where

@@ -3,3 +3,4 @@ pub mod Operators
 pub mod Standing
 pub mod Subtyping
 pub mod Typing
+pub use Rattle.built_forms.specs.Built

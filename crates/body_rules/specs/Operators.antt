@@ -1,5 +1,5 @@
 -- The operators that are built, and the operands that they take.
-pub use Rattle.typing_rules.specs.Rules.{unary_operand, left_operand, right_operand}
+pub use Rattle.built_forms.specs.Rules.{unary_operand, left_operand, right_operand}
 use Rattle.std.specs.Prelude.{◌≡◌, Bool, true, false, ℤ, pos, ◌≢◌, FitsSigned}
 use Rattle.std.specs.Int.{w32, w64}
 use Rattle.body_rules.specs.Standing.{is_bare, Fits, MayStand}

@@ -1,6 +1,6 @@
 -- Which types stand where another is expected, as far as the kind of a value tells: the types that tell chars, texts and objects from other values are told
 -- apart. A char that stands where another type is expected becomes an object that holds it, where one can be made.
-pub use Rattle.typing_rules.specs.Rules.{call_type}
+pub use Rattle.built_forms.specs.Rules.{call_type}
 use Rattle.std.specs.Prelude.{◌≡◌, Bool, true, false, ◌&&◌, ◌||◌, not, List, [], ◌∷◌, codes}
 use Rattle.built_forms.specs.Built.{Usable, may_make}
 use Rattle.sj_desugar.specs.Coercions.{is_char}

@@ -16,9 +16,9 @@ use Rattle.sj_trees.specs.declared.positions.Position.{Position}
 use Rattle.sj_trees.specs.declared.types.IrType.{IrType}
 use Rattle.sj_trees.specs.declared.types.IrType.TheVariants.{NoType}
 use Rattle.sj_world.specs.Known.{Classes}
-use Rattle.typing_rules.specs.declared.labels.Label.{Label}
-use Rattle.typing_rules.specs.Nodes.{inside}
-use Rattle.typing_rules.specs.Rules.{Meets, Yields}
+use Rattle.built_forms.specs.Label.{Label}
+use Rattle.built_forms.specs.Nodes.{inside}
+use Rattle.built_forms.specs.Rules.{Meets, Yields}
 
 -- what a tree stands in: the class and the namespace of its method, the locals of the body that are never null, the locals in scope, the innermost first, and
 -- the labels around it, the innermost last

@@ -12,3 +12,4 @@ pub use Rattle.accepted_folders.specs.Emitted
 pub use Rattle.accepted_folders.specs.Classes
 pub use Rattle.accepted_folders.specs.Pieces as PieceRulesPieces
 pub use Rattle.accepted_folders.specs.Once
+pub use Rattle.accepted_folders.specs.Typing

@@ -20,7 +20,7 @@ use Rattle.helper_rules.specs.declared.kinds.Kind.{Kind}
 use Rattle.js_tree.specs.Terms.{Name, Piece}
 use Rattle.js_tree.specs.declared.items.Binding.{Binding}
 use Rattle.module_rules.specs.Laws.{IsDeclared}
-use Rattle.object_folders.specs.PieceRulesPieces.{Parts, pieces, when, constants_piece, class_piece, class_uses, parent_uses, own_constants, uses_of_entries, entry_uses, box_uses, is_char, all_statics, variable_piece, setter_piece, cell_piece, cell_pieces, load_piece, store_piece, init_name, test_piece, test_uses, test_binding, cast_piece, kind_of_class, constants_of, class_of as class_pieces_of, module_of, tests_of}
+use Rattle.declared_pieces.specs.PieceRulesPieces.{Parts, pieces, when, constants_piece, class_piece, class_uses, parent_uses, own_constants, uses_of_entries, entry_uses, box_uses, is_char, all_statics, variable_piece, setter_piece, cell_piece, cell_pieces, load_piece, store_piece, init_name, test_piece, test_uses, test_binding, cast_piece, kind_of_class, constants_of, class_of as class_pieces_of, module_of, tests_of}
 use Rattle.sj_emit_expr.specs.Templates.{member_name}
 use Rattle.sj_emit_expr.specs.Uses.{function_binding}
 use Rattle.sj_infos.specs.declared.forms.BodyForm.TheVariants as forms

@@ -23,8 +23,8 @@ use Rattle.helper_rules.specs.Words.{bound, helper, all_kinds, class_name}
 use Rattle.helper_rules.specs.declared.kinds.Helper.{Helper}
 use Rattle.js_tree.specs.Terms.{Piece}
 use Rattle.module_rules.specs.Laws.{IsDeclared}
-use Rattle.object_folders.proofs.Plain.{class_found}
-use Rattle.object_folders.specs.PieceRulesPieces.{Parts, pieces, when, constants_of, class_of, module_of, tests_of, class_piece, variable_piece, setter_piece, all_statics, test_piece, cast_piece, kind_of_class}
+use Rattle.declared_pieces.proofs.Plain.{class_found}
+use Rattle.declared_pieces.specs.PieceRulesPieces.{Parts, pieces, when, constants_of, class_of, module_of, tests_of, class_piece, variable_piece, setter_piece, all_statics, test_piece, cast_piece, kind_of_class}
 use Rattle.sj_emit_expr.specs.Templates.{member_name, static_name, setter_name}
 use Rattle.sj_emit_expr.specs.Uses.{function_binding, class_use, static_use, setter_use}
 use Rattle.sj_infos.specs.declared.forms.BodyForm.TheVariants as forms

@@ -32,8 +32,8 @@ use Rattle.ir_mean.specs.Dispatch.{resolved}
 use Rattle.js_tree.specs.Terms.{Piece}
 use Rattle.js_tree.specs.declared.items.Binding.{Binding}
 use Rattle.module_rules.specs.Laws.{IsDeclared}
-use Rattle.object_helpers.proofs.Bodies.{once_in}
-use Rattle.object_helpers.proofs.Brought.{Brings, followed_in, tree}
+use Rattle.linked_folders.proofs.Bodies.{once_in}
+use Rattle.linked_folders.proofs.Brought.{Brings, followed_in, tree}
 use Rattle.resolution_laws.proofs.Resolves.{each_call_resolves}
 use Rattle.sj_core.specs.Terms as core
 use Rattle.sj_desugar.specs.Desugar.{member, desugared_member, body_code, completed, is_mutable_in, result_destination}

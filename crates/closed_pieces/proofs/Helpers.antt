@@ -15,8 +15,8 @@ use Rattle.helper_rules.specs.declared.kinds.Helper.TheVariants as helpers
 use Rattle.js_tree.specs.Terms.{Piece}
 use Rattle.js_tree.specs.declared.items.Binding.{Binding}
 use Rattle.module_rules.specs.Laws.{IsDeclared}
-use Rattle.object_helpers.proofs.Pieces.{of_objects, reached}
-use Rattle.object_helpers.specs.Helpers.{is_object_helper}
+use Rattle.linked_folders.proofs.Pieces.{of_objects, reached}
+use Rattle.linked_folders.specs.Helpers.{is_object_helper}
 use Rattle.sj_names.proofs.Same.{impossible}
 use Rattle.sj_names.specs.declared.entry_points.EntryPoint.{EntryPoint}
 use Rattle.sj_names.specs.declared.folders.SourceFile.{SourceFile}

@@ -5,3 +5,8 @@ pub mod Forms
 pub mod Classes
 pub mod Helpers
 pub mod Uses
+pub use Rattle.declared_pieces.proofs.EachTyped
+pub use Rattle.declared_pieces.proofs.Fields
+pub use Rattle.declared_pieces.proofs.Order
+pub use Rattle.declared_pieces.proofs.Parts
+pub use Rattle.declared_pieces.proofs.Worlds

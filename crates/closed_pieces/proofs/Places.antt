@@ -12,8 +12,8 @@ use Rattle.helper_rules.specs.Helpers.{helper_piece}
 use Rattle.helper_rules.specs.declared.kinds.Helper.{Helper}
 use Rattle.js_tree.specs.Terms.{Name, Piece}
 use Rattle.js_tree.specs.declared.items.Binding.{Binding}
-use Rattle.object_helpers.proofs.Bodies.{once_in}
-use Rattle.object_folders.specs.PieceRulesPieces.{Parts, pieces}
+use Rattle.linked_folders.proofs.Bodies.{once_in}
+use Rattle.declared_pieces.specs.PieceRulesPieces.{Parts, pieces}
 use Rattle.sj_emit_expr.specs.Uses.{once_each}
 use Rattle.sj_names.specs.WellKnown.{is_object}
 use Rattle.sj_split.proofs.Members.{at_first, further, cons_cases, from_map}

@@ -20,8 +20,8 @@ use Rattle.js_tree.specs.declared.items.Binding.{Binding}
 use Rattle.linked_folders.proofs.Links.{body_built}
 use Rattle.linked_folders.specs.Edits.{AreBuilt}
 use Rattle.module_rules.specs.Laws.{IsDeclared}
-use Rattle.object_folders.proofs.Plain.{class_found}
-use Rattle.object_folders.specs.PieceRulesPieces.{Parts}
+use Rattle.declared_pieces.proofs.Plain.{class_found}
+use Rattle.declared_pieces.specs.PieceRulesPieces.{Parts}
 use Rattle.sj_names.specs.declared.entry_points.EntryPoint.{EntryPoint}
 use Rattle.sj_names.specs.declared.folders.SourceFile.{SourceFile}
 use Rattle.sj_world.specs.Known.{Classes}

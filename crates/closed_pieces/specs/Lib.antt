@@ -1,1 +1,2 @@
 pub mod Laws
+pub use Rattle.declared_pieces.specs.Closed

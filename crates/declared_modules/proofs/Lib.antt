@@ -1,1 +1,3 @@
 pub mod Whole
+pub use Rattle.module_uses.proofs.Among
+pub use Rattle.module_uses.proofs.InFiles

@@ -26,3 +26,4 @@ pub use Rattle.object_folders.specs.Linked
 pub use Rattle.object_folders.specs.Stages
 pub use Rattle.object_folders.specs.TypingRulesRules
 pub use Rattle.object_folders.specs.Typed
+pub use Rattle.object_folders.specs.PieceRulesPieces

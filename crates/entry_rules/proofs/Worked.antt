@@ -22,7 +22,7 @@ use Rattle.sj_world.specs.declared.linked.MethodEntry.{MethodEntry}
 use Rattle.sj_trees.specs.Erase.{nowhere}
 use Rattle.sj_world.specs.Refusals.{is_before}
 use Rattle.sj_world.proofs.Searches.{contains_at}
-use Rattle.sj_ask.proofs.One.{one_method}
+use Rattle.reach_rules.proofs.One.{one_method}
 use Rattle.worklist.proofs.Inserted.{nothing_in, only_one}
 use Rattle.reach_rules.specs.Rows.{proxy, call_by_proxy}
 use Rattle.reach_rules.specs.Rules.{public_member}

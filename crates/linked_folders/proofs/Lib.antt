@@ -17,3 +17,6 @@ pub use Rattle.declared_pieces.proofs.Written
 pub use Rattle.declared_pieces.proofs.ObjectFoldersFields as Fields
 pub use Rattle.declared_pieces.proofs.Defined
 pub use Rattle.declared_pieces.proofs.Firsts
+pub use Rattle.object_helpers.proofs.Bodies
+pub use Rattle.object_helpers.proofs.Brought
+pub use Rattle.object_helpers.proofs.Pieces

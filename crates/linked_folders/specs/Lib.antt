@@ -15,3 +15,4 @@ pub use Rattle.declared_pieces.specs.Typed
 pub use Rattle.declared_pieces.specs.Files
 pub use Rattle.declared_pieces.specs.Reachable
 pub use Rattle.declared_pieces.specs.Verdicts
+pub use Rattle.object_helpers.specs.Helpers

@@ -5,10 +5,10 @@ use Rattle.std.proofs.lemmas.Bool.{and_from}
 use Rattle.std.proofs.lemmas.List.Elements.{Contains-push, Contains-push_cases}
 use Rattle.running_modules.proofs.Declared.{declares}
 use Rattle.running_modules.proofs.Uses.{uses_are_declared}
-use Rattle.declared_files.proofs.Once.{files_run_last}
-use Rattle.declared_files.proofs.Whole.{files_agree}
-use Rattle.declared_files.specs.Declared.{Spread, all_items, Declared, IsPublic, IsLawful}
-use Rattle.declared_files.specs.Placed.{RunsLast, placed}
+use Rattle.running_modules.proofs.Once.{files_run_last}
+use Rattle.running_modules.proofs.Whole.{files_agree}
+use Rattle.running_modules.specs.Declared.{Spread, all_items, Declared, IsPublic, IsLawful}
+use Rattle.running_modules.specs.Placed.{RunsLast, placed}
 use Rattle.declared_modules.proofs.Whole.{modules_declare}
 use Rattle.declared_modules.specs.Spread.{spread_of, AllStand}
 use Rattle.declared_pieces.proofs.Assembled.{laws_of}
@@ -49,9 +49,9 @@ use Rattle.module_rules.proofs.Lines.{files_are_those_of_plans}
 use Rattle.module_rules.specs.Calls.{called, call_item_of}
 use Rattle.module_rules.specs.Laws.{AreClosed, IsDeclared, IsIn, IsSource, Uses, by_call}
 use Rattle.module_rules.specs.Modules.{file_with, is_owned_in, item_of}
-use Rattle.module_uses.proofs.Among.{among_all}
-use Rattle.module_uses.proofs.InFiles.{used_there}
-use Rattle.module_uses.specs.Used.{uses_in}
+use Rattle.declared_modules.proofs.Among.{among_all}
+use Rattle.declared_modules.proofs.InFiles.{used_there}
+use Rattle.declared_modules.specs.Used.{uses_in}
 use Rattle.plan_laws.proofs.Digests.{digests_have_one_length}
 use Rattle.plan_laws.proofs.Names.{ids_are_not_internal}
 use Rattle.plan_laws.specs.Laws.{AreCountable, KeepsNamesApart}

@@ -6,9 +6,9 @@ use Rattle.std.proofs.lemmas.List.Elements.{Contains-append_left}
 use Rattle.std.proofs.lemmas.Bool.{and_parts}
 use Rattle.js_mean.specs.Proper.{is_proper_item}
 use Rattle.js_tree.specs.Terms.{Item, Piece}
-use Rattle.linked_pieces.specs.Emitted.{EmittedMethod, call_item_of}
-use Rattle.linked_pieces.specs.Once.{DefinesOnce}
-use Rattle.linked_pieces.specs.Pieces.{AreLinkedPieces}
+use Rattle.proper_pieces.specs.Emitted.{EmittedMethod, call_item_of}
+use Rattle.proper_pieces.specs.Once.{DefinesOnce}
+use Rattle.proper_pieces.specs.Pieces.{AreLinkedPieces}
 use Rattle.proper_pieces.proofs.Apart.{told_apart}
 use Rattle.proper_pieces.proofs.Linked.{linked_differ, names_distinct}
 use Rattle.proper_pieces.proofs.Modules.{modules_of_pieces_are_proper}

@@ -4,7 +4,7 @@ use Rattle.std.specs.Prelude.{◌||◌}
 use Rattle.std.proofs.lemmas.Bool.{and_parts, and_from}
 use Rattle.std.proofs.lemmas.List.Elements.{All-head, All-tail}
 use Rattle.std.specs.List.{All, list_all}
-use Rattle.accepted_folders.specs.Typing.{may_check, is_built_with}
+use Rattle.body_uses.specs.Typing.{may_check, is_built_with}
 use Rattle.body_uses.proofs.Boxes.{box_used}
 use Rattle.body_uses.proofs.Given.{all_from, completed_uses, in_uses, may_make_those}
 use Rattle.body_uses.proofs.Uses.{Gives, GivesReceived, tree}

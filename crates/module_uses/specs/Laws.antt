@@ -4,7 +4,7 @@ use Rattle.body_uses.specs.Given.{FitsDivision}
 use Rattle.body_uses.specs.Laws.{used_by}
 use Rattle.body_uses.specs.Built.{Usable}
 use Rattle.declared_files.specs.Declared.{IsAmong}
-use Rattle.accepted_folders.specs.Typing.{is_built_with}
+use Rattle.body_uses.specs.Typing.{is_built_with}
 use Rattle.js_tree.specs.Terms.{Piece}
 use Rattle.js_tree.specs.declared.items.Binding.{Binding}
 use Rattle.module_rules.specs.Laws.{Uses}

@@ -12,7 +12,7 @@ use Rattle.sj_trees.specs.declared.classes.FieldDef.{FieldDef}
 use Rattle.sj_trees.specs.declared.types.IrType.{IrType}
 use Rattle.sj_trees.specs.declared.types.IrType.TheVariants as Types
 use Rattle.sj_world.specs.declared.linked.MethodEntry.{MethodEntry}
-use Rattle.reach_rules.specs.Rules.{public_member}
+use Rattle.entry_rules.specs.Rules.{public_member}
 use Rattle.piece_rules.specs.Dispatch.{dispatch_piece, reflective_piece}
 use Rattle.piece_rules.specs.Pieces.{all_statics, cast_piece, cell_pieces, class_piece, constants_piece, kind_of_class, test_piece}
 use Rattle.helper_rules.specs.Words.{all_kinds, bound, object_class}

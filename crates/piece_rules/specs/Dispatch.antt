@@ -17,7 +17,7 @@ use Rattle.piece_rules.specs.Pieces.{boxed_result, box_uses}
 use Rattle.sj_emit_expr.specs.Uses.{once_each}
 use Rattle.sj_names.specs.MethodNames.{spelled_method}
 use Rattle.entry_rules.specs.Entries.{IsTarget}
-use Rattle.reach_rules.specs.Rules.{public_member}
+use Rattle.entry_rules.specs.Rules.{public_member}
 use Rattle.helper_rules.specs.Words.{kind_class, is_name, told_kinds, entry_name, public_function, parameters_of, units_of, uses, x, call1, only_return, has_word, both, bound, helper, object_class}
 use Rattle.helper_rules.specs.declared.kinds.Kind.{Kind}
 

@@ -1,2 +1,5 @@
 pub mod Laws
 pub mod Modules
+pub use Rattle.linked_pieces.specs.Emitted
+pub use Rattle.linked_pieces.specs.Once
+pub use Rattle.linked_pieces.specs.Pieces

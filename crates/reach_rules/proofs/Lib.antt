@@ -6,3 +6,4 @@ pub mod Rows
 pub mod Unreached
 pub mod Bodiless
 pub mod Alone
+pub use Rattle.sj_ask.proofs.One

@@ -9,11 +9,11 @@ use Rattle.closed_pieces.proofs.Places.{in_one}
 use Rattle.declared_files.proofs.Once.{files_run_last}
 use Rattle.declared_files.proofs.Order.{files_declare_in_order}
 use Rattle.declared_files.specs.Placed.{IsInFront, in_a_file, in_this_file, DeclaresBehind}
-use Rattle.declared_pieces.proofs.EachTyped.{in_all}
-use Rattle.declared_pieces.proofs.Fields.{class_named}
-use Rattle.declared_pieces.proofs.Order.{pieces_are_declarations}
-use Rattle.declared_pieces.proofs.Worlds.{judged}
-use Rattle.declared_pieces.specs.Closed.{IsClosed, items_of}
+use Rattle.closed_pieces.proofs.EachTyped.{in_all}
+use Rattle.closed_pieces.proofs.Fields.{class_named}
+use Rattle.closed_pieces.proofs.Order.{pieces_are_declarations}
+use Rattle.closed_pieces.proofs.Worlds.{judged}
+use Rattle.closed_pieces.specs.Closed.{IsClosed, items_of}
 use Rattle.declared_programs.specs.Declarations.{declare}
 use Rattle.declared_programs.specs.Declared.{is_covered}
 use Rattle.file_listings.specs.Listed.{AreBytes}

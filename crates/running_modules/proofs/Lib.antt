@@ -7,3 +7,5 @@ pub mod Declares
 pub use Rattle.closed_pieces.proofs.Declared
 pub use Rattle.closed_pieces.proofs.Places
 pub use Rattle.closed_pieces.proofs.Uses
+pub use Rattle.declared_files.proofs.Once
+pub use Rattle.declared_files.proofs.Whole

@@ -7,3 +7,4 @@ pub mod Told
 pub mod Tasks
 pub mod Runs
 pub mod Laws
+pub use Rattle.tree_sameness.specs.Apart as TreeSamenessApart

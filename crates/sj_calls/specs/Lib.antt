@@ -9,3 +9,4 @@ pub mod Worlds
 pub use Rattle.entry_rules.specs.Entries
 pub use Rattle.piece_rules.specs.Classes
 pub use Rattle.piece_rules.specs.Pieces
+pub use Rattle.sj_plain.specs.Settings

@@ -16,7 +16,7 @@ use Rattle.sj_proper.specs.Emitted.{EmittedMethod, HaveOwnMembers}
 use Rattle.sj_sound.specs.Files.{program_with}
 use Rattle.sj_sound.specs.Linked.{have_functions, functions_of}
 use Rattle.sj_judged.specs.Programs.{IsAccepted}
-use Rattle.sj_kept.proofs.Classes.{class-keeps, keeps-superclass, keeps-hijacked, signature-keeps}
+use Rattle.sj_typed.proofs.Classes.{class-keeps, keeps-superclass, keeps-hijacked, signature-keeps}
 use Rattle.sj_judged.proofs.Programs.{classes_agree}
 use Rattle.body_rules.proofs.Plain.{plain_world}
 use Rattle.sj_proper.specs.Methods.{KeepsRules}

@@ -14,7 +14,7 @@ use Rattle.sj_world.specs.Laws.{IsPlain}
 use Rattle.body_rules.specs.Standing.{call_type}
 use Rattle.sj_sound.proofs.Whole.{linked_agrees}
 use Rattle.sj_judged.specs.Programs.{IsAccepted}
-use Rattle.sj_kept.proofs.Classes.{signature-keeps}
+use Rattle.sj_typed.proofs.Classes.{signature-keeps}
 
 module _ (w : World) (fs : List EmittedMethod) (e : EmittedMethod) (h : IsAccepted w fs e) where
   types : HaveTypes e.definition.params e.definition.name.params × (e.definition.result ≡ call_type e.definition.name.result)

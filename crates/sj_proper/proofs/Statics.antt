@@ -1,7 +1,7 @@
 -- The function of a static method is that of any method, without a receiver.
 use Rattle.std.proofs.Common.{◌≡◌, true, ◌∙◌, List, refl, ap}
 use Rattle.js_tree.specs.Terms.{Name}
-use Rattle.built_forms.specs.Built.{is_static}
+use Rattle.body_rules.specs.Built.{is_static}
 use Rattle.sj_core.specs.Terms.{Method, Statements}
 use Rattle.sj_desugar.specs.Desugar.{names_of, body_code, is_mutable_in, completed, desugared, desugared_member}
 use Rattle.sj_emit_expr.specs.Members.{with_receiver, member_piece}

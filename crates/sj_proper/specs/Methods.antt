@@ -3,7 +3,7 @@ use Rattle.std.specs.Prelude.{◌≡◌, ℕ, true, List, [], ◌∷◌}
 use Rattle.body_rules.specs.Locals.{HaveValues}
 use Rattle.sj_proper.specs.Once.{DefinesOnce}
 use Rattle.body_rules.specs.Typing.{Scene, IsResult, Typed}
-use Rattle.built_forms.specs.Built.{Usable, may_make, body_boxes}
+use Rattle.body_rules.specs.Built.{Usable, may_make, body_boxes}
 use Rattle.sure_receivers.specs.Sure.{sure_locals}
 use Rattle.sj_names.specs.declared.references.TypeRef.{TypeRef}
 use Rattle.sj_trees.specs.Term.{Term}

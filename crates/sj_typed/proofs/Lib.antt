@@ -1,2 +1,3 @@
 pub mod Bodies
 pub mod Values
+pub use Rattle.sj_kept.proofs.Classes

@@ -1,7 +1,7 @@
 -- Laws of the check.
 use Rattle.std.specs.Prelude.{◌≡◌, Bool, List, Result}
 use Rattle.sj_trees.specs.declared.classes.MethodDef.{MethodDef}
-use Rattle.tree_sameness.specs.Apart.{method_apart}
+use Rattle.sj_ask.specs.TreeSamenessApart.{method_apart}
 use Rattle.sj_ask.specs.declared.errors.TypeError.{TypeError}
 use Rattle.sj_ask.specs.Stands.{Stand}
 use Rattle.sj_ask.specs.Answers.{IsAnswer}
