@@ -3,4 +3,4 @@ mod Edited
 mod Counted
 pub use Rattle.folder_linking.proofs.Taken
 pub use Rattle.folder_linking.proofs.Firsts
-pub use Rattle.folder_linking.proofs.Edits
+pub use Rattle.folder_linking.proofs.LinkedEdits

@@ -6,3 +6,4 @@ pub mod OneEdit
 pub mod Ends
 pub mod OneFolder
 pub mod OneOutput
+pub mod Words

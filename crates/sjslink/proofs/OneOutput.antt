@@ -12,7 +12,7 @@ use Rattle.sj_words.specs.declared.commands.Command.{Command}
 use Rattle.sj_words.specs.declared.commands.Link.{Link}
 use Rattle.sj_session.proofs.Firsts.{same_lists, standing}
 use Rattle.sj_session.specs.Verdicts.{Verdict, accepted, refused}
-use Rattle.sj_session.proofs.Edits.{one_edit, one_folder_link, one_work}
+use Rattle.sj_session.proofs.LinkedEdits.{one_edit, one_folder_link, one_work}
 use Rattle.entries_file.specs.EntriesFile.{entries_of}
 use Rattle.entries_file.proofs.Steps.{valid_entries}
 use Rattle.sj_names.specs.EntryPoints.{AreEntries}

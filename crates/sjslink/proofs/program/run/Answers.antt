@@ -1,12 +1,14 @@
 use Rattle.std.proofs.Common.{◌≡◌, map, Some, None, ap, sym, ◌∙◌}
 use Rattle.std.specs.Prelude.{string_bytes}
-use Rattle.std.proofs.Common.{arith, rules}
+use Rattle.std.proofs.Common.{arith}
 use Rattle.std.proofs.lemmas.Grind.{common_steps}
 use Rattle.sj_words.specs.Earlier.{split_command as command}
 use Rattle.sjslink.specs.Input.{IsLinkCommand}
 use Rattle.sjslink.specs.Output.{no_command, usage_line}
 use Rattle.sjslink.specs.declared.answers.Status.TheVariants.{Usage}
 use Rattle.sjslink.proofs.Ends.{line_ends_run, usage_is_no_edit}
+use Rattle.sjslink.proofs.Words.{none_generates, few_folders}
+use Rattle.std.proofs.lemmas.List.{length-map}
 use Rattle.sjslink.proofs.program.run.Goals as goal
 
 pub returns-in-Ok-Some-Link-clause-front : goal.returns-in-Ok-Some-Link-clause-front
@@ -21,10 +23,29 @@ returns-in-Ok-Some-Link-clause-shown g c contents tells =
 
 pub returns-in-Ok-clause-whole : goal.returns-in-Ok-clause-whole
 returns-in-Ok-clause-whole g c contents tells =
-    let none : command (map string_bytes c.args.words.items) ≡ None = grind (arith, common_steps) in
+    let none : command (map string_bytes c.args.words.items) ≡ None = grind (arith, common_steps, none_generates) in
     (line_ends_run (map string_bytes c.args.words.items) contents _ _ _ Usage usage_line _ c.finish.result (no_command none) (λ P p. p) usage_is_no_edit c.finish.ensures).whole
 
 pub returns-in-Ok-clause-front : goal.returns-in-Ok-clause-front
 returns-in-Ok-clause-front g c contents tells =
-    let none : command (map string_bytes c.args.words.items) ≡ None = search rules in
+    let none : command (map string_bytes c.args.words.items) ≡ None = grind (arith, common_steps, none_generates) in
     (line_ends_run (map string_bytes c.args.words.items) contents _ _ _ Usage usage_line _ c.finish.result (no_command none) (λ P p. p) usage_is_no_edit c.finish.ensures).front
+
+pub run_link-requires : goal.run_link-requires
+run_link-requires g c =
+    let is : IsLinkCommand (map string_bytes c.args.words.items) c.in-Ok-Some-Link.link = ap (λ ws. command (map string_bytes ws)) (sym c.as_slice.ensures.value) ∙ sym c.in-Ok-Some-Link.ensures ∙ c.in-Ok-Some-Link.field-0-is ∙ ap Some c.in-Ok-Some-Link.field-0-0-is in
+    let few = few_folders (map string_bytes c.args.words.items) c.in-Ok-Some-Link.link is in
+    omega (arith, few, length-map c.args.words.items string_bytes, c.requires)
+
+pub returns-in-Ok-Some-Link-clause-agrees : goal.returns-in-Ok-Some-Link-clause-agrees
+returns-in-Ok-Some-Link-clause-agrees g c contents tells ended =
+    let is : IsLinkCommand (map string_bytes c.args.words.items) c.in-Ok-Some-Link.link = ap (λ ws. command (map string_bytes ws)) (sym c.as_slice.ensures.value) ∙ sym c.in-Ok-Some-Link.ensures ∙ c.in-Ok-Some-Link.field-0-is ∙ ap Some c.in-Ok-Some-Link.field-0-0-is in
+    (c.run_link.ensures.ends (map string_bytes c.args.words.items) contents is tells).agrees ended
+
+pub returns-in-Ok-Some-Link-clause-missing : goal.returns-in-Ok-Some-Link-clause-missing
+returns-in-Ok-Some-Link-clause-missing g c contents tells held =
+    let is : IsLinkCommand (map string_bytes c.args.words.items) c.in-Ok-Some-Link.link = ap (λ ws. command (map string_bytes ws)) (sym c.as_slice.ensures.value) ∙ sym c.in-Ok-Some-Link.ensures ∙ c.in-Ok-Some-Link.field-0-is ∙ ap Some c.in-Ok-Some-Link.field-0-0-is in
+    c.run_link.ensures.missing contents tells (held c.in-Ok-Some-Link.link is)
+
+pub returns-in-Ok-clause-usage : goal.returns-in-Ok-clause-usage
+returns-in-Ok-clause-usage g c ended = grind (arith, common_steps, none_generates)
