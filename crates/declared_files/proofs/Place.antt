@@ -24,7 +24,7 @@ use Rattle.helper_rules.specs.declared.kinds.Kind.TheVariants as kinds
 use Rattle.ir_mean.specs.Dispatch.{chain_of, longest}
 use Rattle.ir_mean.specs.World as ir_world
 use Rattle.js_mean.specs.Classes.{members_in, members_of}
-use Rattle.js_mean.specs.Files.{items_in}
+use Rattle.js_mean.specs.Files.{items_in, owner}
 use Rattle.js_mean.specs.Meaning as js_meaning
 use Rattle.js_mean.specs.Shows.{object_shown, char_shown}
 use Rattle.js_mean.specs.States as js
